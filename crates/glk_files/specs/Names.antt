@@ -1,0 +1,40 @@
+-- Names of files (Glk 0.7.5, "File References").
+use Rattle.std.specs.Prelude.{ℕ, ◌%◌, ◌==◌, Bool, not, ◌&&◌, ◌||◌, List, [], ◌∷◌, length, take, filter, take_while, codes, Option, Some, None, if◌then◌else◌}
+use Rattle.std.specs.List.{list_any}
+use Rattle.std.specs.Str.{encode_utf8_all}
+use Rattle.glk_text.specs.Characters.{is_printable}
+
+-- the characters that mean something to a file system: / \ < > : " | ? *
+abbrev pub is_reserved : ℕ → Bool
+is_reserved v = list_any (λ c. c == v) (0x2F ∷ 0x5C ∷ 0x3C ∷ 0x3E ∷ 0x3A ∷ 0x22 ∷ 0x7C ∷ 0x3F ∷ 0x2A ∷ [])
+
+-- a name may have this character
+abbrev pub is_allowed : ℕ → Bool
+is_allowed v = is_printable v && not (is_reserved v)
+
+abbrev pub allowed_of : ℕ → Option ℕ
+allowed_of v = if is_allowed v then Some v else None
+
+abbrev pub is_period : ℕ → Bool
+is_period v = v == 0x2E
+
+-- so many allowed characters at most, up to the first period
+abbrev pub stem_within : ℕ → List ℕ → List ℕ
+stem_within room chars = take room (take_while (λ v. not (is_period v)) (filter is_allowed chars))
+
+abbrev pub stem_of : List ℕ → List ℕ
+stem_of chars = stem_within 64 chars
+
+-- the base of the name, in UTF-8
+abbrev pub base_of : List ℕ → List ℕ
+base_of chars =
+    let name = encode_utf8_all (stem_of chars) in
+    if length name == 0 then codes "null" else name
+
+-- the suffix by the low four bits of the usage: a saved game, a transcript or a record of commands, and data
+abbrev pub suffix_of : ℕ → List ℕ
+suffix_of usage =
+    let kind = usage % 16 in
+    if kind == 1 then codes ".glksave" else
+    if kind == 2 || kind == 3 then codes ".txt" else
+    codes ".glkdata"

@@ -1,0 +1,30 @@
+-- What is done with one character (Glk 0.7.5, "Character Encoding").
+use Rattle.std.specs.Prelude.{ℕ, ◌+◌, ◌-◌, ◌==◌, Bool, ◌||◌, nat_lt, if◌then◌else◌}
+use Rattle.std.specs.Int.{is_in_range}
+
+-- a character that is shown as itself
+abbrev pub is_printable : ℕ → Bool
+is_printable v = is_in_range 0x20 0x7E v || is_in_range 0xA0 0xD7FF v || is_in_range 0xE000 0x10FFFF v
+
+-- the character that is shown for it: itself, also where it is LF, else a question mark
+abbrev pub shown : ℕ → ℕ
+shown v = if v == 0x0A || is_printable v then v else 0x3F
+
+-- its byte in Latin-1
+abbrev pub latin_of : ℕ → ℕ
+latin_of v = if nat_lt v 0x100 then v else 0x3F
+
+-- the capital letters of Latin-1, which leave out the multiplication sign
+abbrev pub is_capital : ℕ → Bool
+is_capital v = is_in_range 0x41 0x5A v || is_in_range 0xC0 0xD6 v || is_in_range 0xD8 0xDE v
+
+-- the small letters of Latin-1 whose capitals stand there too, which leave out the division sign
+abbrev pub is_small : ℕ → Bool
+is_small v = is_in_range 0x61 0x7A v || is_in_range 0xE0 0xF6 v || is_in_range 0xF8 0xFE v
+
+-- the change of case
+abbrev pub lower_of : ℕ → ℕ
+lower_of v = if is_capital v then v + 0x20 else v
+
+abbrev pub upper_of : ℕ → ℕ
+upper_of v = if is_small v then v - 0x20 else v

@@ -1,0 +1,6 @@
+pub mod Machine
+pub mod Rows
+pub mod Step
+pub mod Answer
+pub mod Start
+pub mod Views

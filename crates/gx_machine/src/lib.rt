@@ -1,0 +1,22 @@
+//! The machine: one step is the instruction at PC, within a budget (Glulx 3.1.2).
+//!
+//! - `machine` has the machine, its step and the answers to what a step asks.
+//! - `rows` does the row of an instruction, class by class.
+//! - `engine` has the trait that a session runs on.
+//!
+//! `Machine::step` is `stepped` of specs/Step for every machine, word and budget: each fault comes
+//! exactly where the definition has it, an asking leaves the state as it is, and the budget is lowered
+//! by the cost, but not after a fault. After want of memory everything is as before the step.
+#![tactic(auto)]
+
+mod askings;
+mod engine;
+mod machine;
+mod rows;
+
+pub use askings::Asking;
+pub use engine::Engine;
+pub use machine::Machine;
+
+#[cfg(test)]
+mod tests;

@@ -1,0 +1,204 @@
+-- How an instruction is read (Glulx 3.1.2, "Instruction Format"): its number, and its operands from left to
+-- right. The first fault on the way is the instruction's.
+use Rattle.std.specs.Prelude.{◌≡◌, ℕ, ◌+◌, ◌-◌, ◌*◌, ◌/◌, ◌%◌, ◌^◌, ◌≤◌, List, [], ◌∷◌, ◌++◌, length, nat_le, nat_lt, ◌==◌, Bool, true, false, zero, suc, if◌then◌else◌, slice_index, Result, Ok, Err}
+use Rattle.std.specs.Option.{ok_or}
+use Rattle.gx_words.specs.declared.faults.Fault.{Fault}
+use Rattle.gx_words.specs.declared.faults.Fault.TheVariants.{BadMode, BadAddress, BadOpcode}
+use Rattle.gx_words.specs.Numbers.{IsWidth, byte, low, extended}
+use Rattle.gx_words.specs.Results.{◌>>=◌}
+use Rattle.gx_pages.specs.Memory.{number_in}
+use Rattle.gx_stack.specs.Faults.{lifted}
+use Rattle.gx_stack.specs.Values.{count, peeked, local_at}
+use Rattle.gx_rows.specs.declared.instructions.Row.{Row}
+use Rattle.gx_rows.specs.Table.{row_of}
+use Rattle.gx_state.specs.declared.modes.Dest.{Dest}
+use Rattle.gx_state.specs.declared.modes.Dest.TheVariants as dest
+use Rattle.gx_state.specs.Flat.{FlatState, frame_of, sp_of}
+use Rattle.gx_operands.specs.declared.addressing.Addressing.{Addressing}
+use Rattle.gx_operands.specs.declared.addressing.Addressing.TheVariants.{Zero, Constant, Memory, Top, Local, Ram}
+use Rattle.gx_operands.specs.declared.addressing.Kind.{Kind}
+use Rattle.gx_operands.specs.declared.addressing.Kind.TheVariants.{Load, Store}
+use Rattle.gx_operands.specs.declared.addressing.Place.{Place}
+
+-- the number at PC in one, two or four bytes, and the address after them
+unfoldable pub opcode : FlatState → Result (ℕ × ℕ) Fault
+opcode f = do
+  first ← number_in 1 f.memory f.pc
+  if nat_lt first 0x80 then Ok (first, f.pc + 1) else
+      if nat_lt first 0xC0 then (do
+        number ← number_in 2 f.memory f.pc
+        Ok (number - 0x8000, f.pc + 2)) else (do
+          number ← number_in 4 f.memory f.pc
+          Ok (number - 0xC0000000, f.pc + 4))
+
+-- the addressing mode of a nibble
+unfoldable pub addressing : ℕ → Result Addressing Fault
+addressing nibble =
+    if nibble == 0x0 then Ok Zero else
+    if nibble == 0x1 then Ok (Constant 1) else
+    if nibble == 0x2 then Ok (Constant 2) else
+    if nibble == 0x3 then Ok (Constant 4) else
+    if nibble == 0x5 then Ok (Memory 1) else
+    if nibble == 0x6 then Ok (Memory 2) else
+    if nibble == 0x7 then Ok (Memory 4) else
+    if nibble == 0x8 then Ok Top else
+    if nibble == 0x9 then Ok (Local 1) else
+    if nibble == 0xA then Ok (Local 2) else
+    if nibble == 0xB then Ok (Local 4) else
+    if nibble == 0xD then Ok (Ram 1) else
+    if nibble == 0xE then Ok (Ram 2) else
+    if nibble == 0xF then Ok (Ram 4) else
+    Err BadMode
+
+-- the data of an operand is 1, 2 or 4 bytes
+abbrev pub HasWidth : Addressing → Type 0
+HasWidth Zero = Unit {0}
+HasWidth (Constant n) = IsWidth n
+HasWidth (Memory n) = IsWidth n
+HasWidth Top = Unit {0}
+HasWidth (Local n) = IsWidth n
+HasWidth (Ram n) = IsWidth n
+
+-- the frame has so many values
+abbrev pub Has : FlatState → ℕ → Type 0
+Has f values = values ≤ count f.stack.bytes (frame_of f)
+
+-- the address in RAM that an offset means
+abbrev pub ram_address : FlatState → ℕ → ℕ
+ram_address f offset = (f.story.ramstart + offset) % 2 ^ 32
+
+-- a place behind so many bytes of data
+abbrev pub past : Place → ℕ → Place
+past p n = record p { at = p.at + n }
+
+-- the number of so many bytes of data at a place, and the place after it
+unfoldable pub datum : List ℕ → Place → ℕ → Result (ℕ × Place) Fault
+datum memory p n = do
+  v ← number_in n memory p.at
+  Ok (v, past p n)
+
+-- What a load operand gives, and the place after it. Constants and popped values keep the low bytes
+-- of the operand's width.
+unfoldable pub load_by : FlatState → ℕ → Addressing → Place → Result (ℕ × Place) Fault
+load_by f width Zero p = Ok (0, p)
+load_by f width (Constant n) p = do
+  d ← datum f.memory p n
+  Ok (low width (extended n d.0), d.1)
+load_by f width (Memory n) p = do
+  d ← datum f.memory p n
+  v ← number_in width f.memory d.0
+  Ok (v, d.1)
+load_by f width Top p = do
+  v ← lifted (peeked f.stack.bytes (frame_of f) p.popped)
+  Ok (low width v, record p { popped = p.popped + 1 })
+load_by f width (Local n) p = do
+  d ← datum f.memory p n
+  v ← lifted (local_at f.stack.bytes (frame_of f) d.0 width)
+  Ok (v, d.1)
+load_by f width (Ram n) p = do
+  d ← datum f.memory p n
+  v ← number_in width f.memory (ram_address f d.0)
+  Ok (v, d.1)
+
+unfoldable pub load : FlatState → ℕ → ℕ → Place → Result (ℕ × Place) Fault
+load f width nibble p = do
+  mode ← addressing nibble
+  load_by f width mode p
+
+-- Where a store operand points, and the place after it.
+unfoldable pub destination_by : FlatState → Addressing → Place → Result (Dest × Place) Fault
+destination_by f Zero p = Ok (dest.Nowhere, p)
+destination_by f (Constant n) p = Err BadMode
+destination_by f (Memory n) p = do
+  d ← datum f.memory p n
+  Ok (dest.Memory d.0, d.1)
+destination_by f Top p = Ok (dest.Push, p)
+destination_by f (Local n) p = do
+  d ← datum f.memory p n
+  Ok (dest.Local d.0, d.1)
+destination_by f (Ram n) p = do
+  d ← datum f.memory p n
+  Ok (dest.Memory (ram_address f d.0), d.1)
+
+unfoldable pub destination : FlatState → ℕ → Place → Result (Dest × Place) Fault
+destination f nibble p = do
+  mode ← addressing nibble
+  destination_by f mode p
+
+-- What the operands so far gave.
+pub record Operands : Type 0 where
+  pub loads : List ℕ
+  pub dest : Dest
+  pub second : Dest
+  pub stored : Bool
+  pub place : Place
+
+abbrev pub no_operands : Place → Operands
+no_operands p = record { loads = []; dest = dest.Nowhere; second = dest.Nowhere; stored = false; place = p }
+
+abbrev pub with_load : Operands → ℕ → Place → Operands
+with_load o v p = record o { loads = o.loads ++ v ∷ []; place = p }
+
+abbrev pub with_destination : Operands → Dest → Place → Operands
+with_destination o d p = if o.stored then record o { second = d; place = p } else record o { dest = d; stored = true; place = p }
+
+-- one operand more
+unfoldable pub with_operand : FlatState → ℕ → Kind → ℕ → Operands → Result Operands Fault
+with_operand f width Load nibble o = do
+  v ← load f width nibble o.place
+  Ok (with_load o v.0 v.1)
+with_operand f width Store nibble o = do
+  d ← destination f nibble o.place
+  Ok (with_destination o d.0 d.1)
+
+-- the loads of a row stand before its stores, but for one whose store stands first
+abbrev pub kind_of : Row → ℕ → Kind
+kind_of row i = if row.store_first then (if nat_lt i row.stores then Store else Load) else (if nat_lt i row.loads then Load else Store)
+
+-- the nibble of an operand's mode: two in a byte, the low one first
+abbrev pub nibble : List ℕ → ℕ → ℕ → ℕ
+nibble memory modes i = if i % 2 == 0 then byte memory (modes + i / 2) % 16 else byte memory (modes + i / 2) / 16
+
+-- the operand of an index
+unfoldable pub operand : FlatState → Row → ℕ → ℕ → Operands → Result Operands Fault
+operand f row modes i o = with_operand f row.width (kind_of row i) (nibble f.memory modes i) o
+
+-- so many operands, from an index on
+unfoldable pub operands : FlatState → Row → ℕ → ℕ → ℕ → Operands → Result Operands Fault
+operands f row modes zero i o = Ok o
+operands f row modes (suc n) i o = do
+  o ← operand f row modes i o
+  operands f row modes n (i + 1) o
+
+-- all operands of a row whose modes stand at an address
+unfoldable pub all_operands : FlatState → Row → ℕ → Result Operands Fault
+all_operands f row modes =
+    let count = row.loads + row.stores in
+    let data_at = modes + (count + 1) / 2 in
+    if nat_le data_at (length f.memory) then operands f row modes count 0 (no_operands (record { at = data_at; popped = 0 })) else Err BadAddress
+
+-- An instruction: its row, the values that it loads, where its results go, the address after it, and
+-- the stack pointer that its pops leave.
+pub record Instruction : Type 0 where
+  pub row : Row
+  pub loads : List ℕ
+  pub dest : Dest
+  pub second : Dest
+  pub next : ℕ
+  pub sp : ℕ
+
+-- The instruction at PC.
+unfoldable pub instruction : FlatState → Result Instruction Fault
+instruction f = do
+  number ← opcode f
+  row ← ok_or (row_of number.0) BadOpcode
+  o ← all_operands f row number.1
+  Ok (record { row = row; loads = o.loads; dest = o.dest; second = o.second; next = o.place.at; sp = sp_of f - 4 * o.place.popped })
+
+-- a value that an instruction loads, 0 where it loads fewer
+abbrev pub operand_at : Instruction → ℕ → ℕ
+operand_at i n = slice_index i.loads n
+
+-- the next instruction is at an address
+abbrev pub going_to : FlatState → ℕ → FlatState
+going_to f pc = record f { pc = pc }

@@ -1,0 +1,3 @@
+pub mod Instructions
+pub mod Plans
+pub mod Stores

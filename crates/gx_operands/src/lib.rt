@@ -1,0 +1,21 @@
+//! The instruction at PC: its row, its operands, and how its results are stored (Glulx 3.1.2,
+//! "Instruction Format").
+//!
+//! - `decoding` reads an instruction into a plan, and changes nothing: the plan is `instruction` of
+//!   specs/Instructions, or its first fault.
+//! - `addressing` has the addressing modes.
+//! - `stores` makes one store, or tells its fault in advance.
+//!
+//! Only a store to memory may want memory, and nothing has changed then.
+#![tactic(auto)]
+
+mod addressing;
+mod decoding;
+mod stores;
+
+pub use addressing::{Addressing, Kind, Place};
+pub use decoding::{Plan, decode};
+pub use stores::{can_store, settle, store};
+
+#[cfg(test)]
+mod tests;

@@ -1,0 +1,142 @@
+//! One store, made or looked at.
+ghost use Rattle.std.specs.Prelude.{◌≡◌, ◌+◌, ◌≤◌, ◌<◌, ◌^◌, length, IsErrOf};
+ghost use Rattle.gx_words.specs.declared.faults.Fault.TheVariants.{NoMemory};
+ghost use Rattle.gx_words.specs.Numbers.{IsWidth};
+ghost use Rattle.gx_words.specs.Faults.{Changes, TakesNone};
+ghost use Rattle.gx_state.specs.Flat.{IsHeight, frame_of, sp_of};
+ghost use Rattle.gx_operands.specs.Stores.{IsMemory, store_fault, stored, settled};
+
+use gx_state::{Dest, State};
+use gx_words::{Fault, word_bytes};
+use std::alloc::Allocator;
+
+/// Looks whether a store of 1, 2 or 4 bytes would have a fault on the stack cut to `sp`.
+#[tactic(auto, unfolding(crate::specs::Stores::store_fault))]
+pub fn can_store<A: Allocator + Clone>(
+    state: &State<A>,
+    dest: &Dest,
+    width: u32,
+    sp: u32,
+) -> Result<(), Fault>
+    requires width { IsWidth width }
+    requires sp { IsHeight state.now.flat sp }
+    ensures value { result ≡ store_fault state.now.flat width dest.now sp }
+    ensures memory { TakesNone result }
+{
+    match *dest {
+        Dest::Nowhere => Ok(()),
+        Dest::Memory(at) => {
+            if u64::from(at) + u64::from(width) > u64::from(state.memory().size()) {
+                return Err(Fault::BadAddress);
+            }
+            if at < state.ramstart() {
+                return Err(Fault::ReadOnly);
+            }
+            Ok(())
+        }
+        Dest::Local(at) => {
+            let frame = state.frame();
+            if u64::from(at) + u64::from(width) > u64::from(frame.values - frame.locals) {
+                return Err(Fault::BadLocal);
+            }
+            Ok(())
+        }
+        Dest::Push => {
+            let limit = state.stack().limit();
+            let _size = state.stack().size();
+            if sp + 4 > limit {
+                return Err(Fault::Overflow);
+            }
+            Ok(())
+        }
+    }
+}
+
+/// Stores the low 1, 2 or 4 bytes of a value.
+#[tactic(auto, unfolding(crate::specs::Stores::stored, crate::specs::Stores::store_fault, gx_state::specs::Flat::pushed, gx_state::specs::Flat::with_local, gx_stack::specs::Values::pushed, gx_stack::specs::Values::with_local))]
+pub fn store<A: Allocator + Clone>(
+    state: &mut State<A>,
+    dest: &Dest,
+    width: u32,
+    value: u32,
+) -> Result<(), Fault>
+    requires live { 0 < sp_of state.old.flat }
+    requires width { IsWidth width }
+    ensures value { Changes result state.old.flat state.new.flat (stored state.old.flat width dest.now value) }
+    ensures memory { IsErrOf result NoMemory → IsMemory dest.now }
+{
+    match *dest {
+        Dest::Nowhere => Ok(()),
+        Dest::Memory(at) => write(state, at, width, value),
+        Dest::Local(at) => state.set_local(at, width, value),
+        Dest::Push => state.push(value),
+    }
+}
+
+/// Writes the low bytes of a number to RAM.
+#[tactic(auto, unfolding(crate::specs::Stores::stored, crate::specs::Stores::store_fault))]
+fn write<A: Allocator + Clone>(
+    state: &mut State<A>,
+    at: u32,
+    width: u32,
+    value: u32,
+) -> Result<(), Fault>
+    requires { IsWidth width }
+    ensures value { Changes result state.old.flat state.new.flat (stored state.old.flat width (Dest.Memory at) value) }
+    ensures frame { (frame_of state.new.flat ≡ frame_of state.old.flat) × (sp_of state.new.flat ≡ sp_of state.old.flat) }
+{
+    let size = state.memory().size();
+    if u64::from(at) + u64::from(width) > u64::from(size) {
+        return Err(Fault::BadAddress);
+    }
+    if at < state.ramstart() {
+        return Err(Fault::ReadOnly);
+    }
+    let bytes = word_bytes(value);
+    let written = match width {
+        1 => state.write(at, &[bytes[3]]),
+        2 => state.write(at, &[bytes[2], bytes[3]]),
+        _ => state.write(at, &bytes),
+    };
+    match written {
+        Ok(()) => Ok(()),
+        Err(_) => Err(Fault::NoMemory),
+    }
+}
+
+/// Stores the low 1, 2 or 4 bytes of a value after the stack was cut to `sp`.
+#[tactic(auto, unfolding(crate::specs::Stores::settled, crate::specs::Stores::stored, crate::specs::Stores::store_fault, gx_state::specs::Flat::pushed, gx_state::specs::Flat::with_local, gx_stack::specs::Values::pushed, gx_stack::specs::Values::with_local))]
+pub fn settle<A: Allocator + Clone>(
+    state: &mut State<A>,
+    sp: u32,
+    dest: &Dest,
+    width: u32,
+    value: u32,
+) -> Result<(), Fault>
+    requires width { IsWidth width }
+    requires sp { IsHeight state.old.flat sp }
+    ensures value { Changes result state.old.flat state.new.flat (settled state.old.flat sp width dest.now value) }
+    ensures memory { IsErrOf result NoMemory → IsMemory dest.now }
+{
+    match *dest {
+        Dest::Nowhere => state.cut_stack(sp),
+        Dest::Memory(at) => {
+            write(state, at, width, value)?;
+            state.cut_stack(sp);
+        }
+        Dest::Local(at) => {
+            state.set_local(at, width, value)?;
+            state.cut_stack(sp);
+        }
+        Dest::Push => {
+            let limit = state.stack().limit();
+            let _size = state.stack().size();
+            if sp + 4 > limit {
+                return Err(Fault::Overflow);
+            }
+            state.cut_stack(sp);
+            return state.push(value);
+        }
+    }
+    Ok(())
+}

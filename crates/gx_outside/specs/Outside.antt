@@ -1,0 +1,90 @@
+-- What the calls of a source, a sink and a shelf do to what they hold, and to their counts.
+use Rattle.std.specs.Prelude.{◌≡◌, ℕ, ◌+◌, ◌-◌, ◌^◌, ◌≤◌, ◌<◌, min, List, ◌++◌, take, length, Bool, true, false, Result, Ok, Err, Option, Some, None, OnOk, [], List}
+use Rattle.gx_outside.specs.declared.devices.SendFault.{SendFault}
+use Rattle.gx_outside.specs.declared.devices.SendFault.TheVariants as of_send
+use Rattle.gx_outside.specs.declared.devices.ShelfFault.{ShelfFault}
+use Rattle.gx_outside.specs.declared.devices.ShelfFault.TheVariants as of_shelf
+use Rattle.gx_outside.specs.declared.devices.Load.{Load}
+use Rattle.gx_outside.specs.declared.devices.Load.TheVariants as of_load
+use Rattle.gx_outside.specs.Files.{Files, same_name}
+
+-- What contracts see of a source: how often it has failed, whether its last call failed, whether it
+-- tells what is left, and the bytes that are left.
+pub record FlatSource : Type 0 where
+  pub faults : ℕ
+  pub failing : Bool
+  pub tells : Bool
+  pub left : List ℕ
+
+-- the same of a sink, with the bytes that it has taken
+pub record FlatSink : Type 0 where
+  pub faults : ℕ
+  pub failing : Bool
+  pub tells : Bool
+  pub taken : List ℕ
+
+-- the same of a shelf, with its files
+pub record FlatShelf : Type 0 where
+  pub faults : ℕ
+  pub failing : Bool
+  pub tells : Bool
+  pub files : Files
+
+-- a count one higher, which stands still at 2^64 - 1
+abbrev pub raised : ℕ → ℕ
+raised count = min (count + 1) (2 ^ 64 - 1)
+
+-- the count rose, or stands at its end
+abbrev pub Rose : ℕ → ℕ → Type 0
+Rose before now = raised before ≤ now
+
+-- The count of faults doesn't fall, it rose where the call failed, and the device knows whether it failed.
+pub record HasCause (before now : ℕ) (failing failed : Bool) : Type 0 where
+  pub later : before ≤ now
+  pub rose : failed ≡ true → Rose before now
+  pub last : failing ≡ failed
+
+-- whether a call of a sink or a shelf failed; want of memory is no failure of the device
+abbrev pub send_failed : {T : Type 0} → Result T SendFault → Bool
+send_failed (Ok x) = false
+send_failed (Err of_send.Failed) = true
+send_failed (Err of_send.NoMemory) = false
+
+abbrev pub shelf_failed : {T : Type 0} → Result T ShelfFault → Bool
+shelf_failed (Ok x) = false
+shelf_failed (Err of_shelf.Failed) = true
+shelf_failed (Err of_shelf.NoMemory) = false
+
+-- A front of the slice is what was next. Nothing in a slice that isn't empty says that nothing is left.
+pub record Reads (before after into : List ℕ) (count : ℕ) : Type 0 where
+  pub bytes : before ≡ take count into ++ after
+  pub end : count ≡ 0 → 0 < length into → before ≡ []
+
+-- what a read does to the bytes left, which stand where it failed
+abbrev pub ReadGives : {E : Type 0} → List ℕ → List ℕ → List ℕ → Result ℕ E → Type 0
+ReadGives before after into (Ok count) = Reads before after into count
+ReadGives before after into (Err e) = after ≡ before
+
+-- A front of the bytes was taken, and all of them at Ok.
+pub record Sends {T E : Type 0} (tells : Bool) (before after bytes : List ℕ) (result : Result T E) : Type 0 where
+  pub more : List ℕ
+  pub rest : List ℕ
+  pub front : bytes ≡ more ++ rest
+  pub whole : OnOk result (more ≡ bytes)
+  pub taken : tells ≡ true → after ≡ before ++ more
+
+-- what `load` says of what stands under the name
+abbrev pub Loads : Option (List ℕ) → ℕ → Load → Type 0
+Loads file most of_load.Missing = file ≡ None
+Loads file most of_load.TooLong = (bytes : List ℕ) × (file ≡ Some bytes) × (most < length bytes)
+Loads file most (of_load.Found bytes) = (file ≡ Some bytes) × (length bytes ≤ most)
+
+-- what `load` hands out is within the bound, whatever stands on the shelf
+abbrev pub IsWithin : ℕ → Load → Type 0
+IsWithin most of_load.Missing = Unit {0}
+IsWithin most of_load.TooLong = Unit {0}
+IsWithin most (of_load.Found bytes) = length bytes ≤ most
+
+-- the files of other names stand
+abbrev pub KeepsOthers : Files → Files → List ℕ → Type 0
+KeepsOthers before after name = (other : List ℕ) → same_name other name ≡ false → after other ≡ before other

@@ -1,0 +1,139 @@
+//! A source of input, a sink for output, and a shelf of files.
+//!
+//! Contracts see each device as a record: how often it has failed, whether its last call failed,
+//! whether it tells what it holds, and, where it tells, what that is. The count never falls, and a
+//! call answers `Failed` only where it rose; a count at 2^64 - 1, which no run reaches, is said to
+//! have risen. A device that tells goes on telling, whatever it answers, and one that doesn't never
+//! begins to.
+//!
+//! Want of memory may come at any call that has an answer for it.
+ghost use Rattle.std.specs.Prelude.{◌≡◌, ◌≤◌, true, length, is_err, is_some, IfOk, OnOk};
+ghost use Rattle.gx_outside.specs.Files.{with_file};
+ghost use Rattle.gx_outside.specs.Outside.{FlatSource, FlatSink, FlatShelf, HasCause, ReadGives, Sends, Loads, IsWithin, KeepsOthers, send_failed, shelf_failed};
+
+use gx_words::Bytes;
+use std::alloc::{AllocError, AllocFailed};
+use thiserror::Error;
+
+/// The source can't be read.
+#[derive(Clone, Copy, Debug, PartialEq, Eq, Error)]
+#[error("the input can't be read")]
+pub struct Failed;
+
+/// Why bytes were not sent.
+#[derive(Clone, Copy, Debug, PartialEq, Eq, Error)]
+pub enum SendFault {
+    /// The sink didn't take them all.
+    #[error("the output can't be written")]
+    Failed,
+    /// Memory ran out.
+    #[error("out of memory")]
+    NoMemory,
+}
+
+/// Why the shelf didn't do what it was asked.
+#[derive(Clone, Copy, Debug, PartialEq, Eq, Error)]
+pub enum ShelfFault {
+    /// The file can't be read, written, removed or looked for.
+    #[error("the file can't be used")]
+    Failed,
+    /// Memory ran out.
+    #[error("out of memory")]
+    NoMemory,
+}
+
+impl From<AllocError> for SendFault {
+    ghost use Rattle.gx_outside.specs.declared.devices.SendFault.TheVariants.{NoMemory};
+
+    ghost from_gives = { λ _ fault. fault ≡ NoMemory };
+
+    fn from(_refused: AllocError) -> SendFault {
+        SendFault::NoMemory
+    }
+}
+
+impl From<AllocError> for ShelfFault {
+    ghost use Rattle.gx_outside.specs.declared.devices.ShelfFault.TheVariants.{NoMemory};
+
+    ghost from_gives = { λ _ fault. fault ≡ NoMemory };
+
+    fn from(_refused: AllocError) -> ShelfFault {
+        ShelfFault::NoMemory
+    }
+}
+
+/// What a shelf has under a name.
+#[derive(Drop)]
+pub enum Load {
+    /// No file.
+    Missing,
+    /// A file of more bytes than were asked for.
+    TooLong,
+    /// A file, with its bytes.
+    Found(Bytes),
+}
+
+/// Where input comes from. Contracts see the bytes that are left.
+pub trait Source {
+    ghost seen: { Self → FlatSource };
+
+    /// Fills a front of the slice with the next bytes, and answers its length.
+    ///
+    /// 0 for a slice that isn't empty means that nothing is left.
+    fn read(&mut self, into: &mut [u8]) -> Result<usize, Failed>
+        ensures bound { IfOk result (λ count. count ≤ length into.old) }
+        ensures cause { HasCause (seen self.old).faults (seen self.new).faults (seen self.new).failing (is_err result) }
+        ensures tells { (seen self.new).tells ≡ (seen self.old).tells }
+        ensures bytes { (seen self.old).tells ≡ true
+            → ReadGives (seen self.old).left (seen self.new).left into.new result };
+}
+
+/// Where output goes. Contracts see the bytes that were taken.
+pub trait Sink {
+    ghost seen: { Self → FlatSink };
+
+    /// Adds all the bytes; after a refusal it has added a front of them, none or all of them too.
+    fn send(&mut self, bytes: &[u8]) -> Result<(), SendFault>
+        ensures cause { HasCause (seen self.old).faults (seen self.new).faults (seen self.new).failing (send_failed result) }
+        ensures tells { (seen self.new).tells ≡ (seen self.old).tells }
+        ensures bytes { Sends (seen self.old).tells (seen self.old).taken (seen self.new).taken bytes.now result };
+}
+
+/// Where files stand, each under a name. Contracts see a map from names to bytes.
+pub trait Shelf {
+    ghost seen: { Self → FlatShelf };
+
+    /// The file of a name, if it has at most `most` bytes. No file changes.
+    fn load(&mut self, name: &str, most: usize) -> Result<Load, ShelfFault>
+        ensures cause { HasCause (seen self.old).faults (seen self.new).faults (seen self.new).failing (shelf_failed result) }
+        ensures tells { (seen self.new).tells ≡ (seen self.old).tells }
+        ensures bound { IfOk result (IsWithin most) }
+        ensures found { (seen self.old).tells ≡ true → IfOk result (Loads ((seen self.old).files name.now) most) }
+        ensures same { (seen self.old).tells ≡ true → (seen self.new).files ≡ (seen self.old).files };
+
+    /// Makes the name hold the bytes. After a refusal the file of this one name is open: it may
+    /// be the old one, the new one, a part of the new one, or gone.
+    fn store(&mut self, name: &str, bytes: &[u8]) -> Result<(), ShelfFault>
+        ensures cause { HasCause (seen self.old).faults (seen self.new).faults (seen self.new).failing (shelf_failed result) }
+        ensures tells { (seen self.new).tells ≡ (seen self.old).tells }
+        ensures stored { (seen self.old).tells ≡ true
+            → OnOk result ((seen self.new).files ≡ with_file (seen self.old).files name.now (Some bytes.now)) }
+        ensures others { (seen self.old).tells ≡ true → KeepsOthers (seen self.old).files (seen self.new).files name.now };
+
+    /// Removes the file of a name, and answers whether there was one. After a refusal the file of
+    /// this one name is open.
+    fn remove(&mut self, name: &str) -> Result<bool, ShelfFault>
+        ensures cause { HasCause (seen self.old).faults (seen self.new).faults (seen self.new).failing (shelf_failed result) }
+        ensures tells { (seen self.new).tells ≡ (seen self.old).tells }
+        ensures was { (seen self.old).tells ≡ true → IfOk result (λ was. was ≡ is_some ((seen self.old).files name.now)) }
+        ensures removed { (seen self.old).tells ≡ true
+            → OnOk result ((seen self.new).files ≡ with_file (seen self.old).files name.now None) }
+        ensures others { (seen self.old).tells ≡ true → KeepsOthers (seen self.old).files (seen self.new).files name.now };
+
+    /// Whether the name has a file. No file changes.
+    fn has(&mut self, name: &str) -> Result<bool, ShelfFault>
+        ensures cause { HasCause (seen self.old).faults (seen self.new).faults (seen self.new).failing (shelf_failed result) }
+        ensures tells { (seen self.new).tells ≡ (seen self.old).tells }
+        ensures was { (seen self.old).tells ≡ true → IfOk result (λ was. was ≡ is_some ((seen self.old).files name.now)) }
+        ensures same { (seen self.old).tells ≡ true → (seen self.new).files ≡ (seen self.old).files };
+}

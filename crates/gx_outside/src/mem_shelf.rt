@@ -1,0 +1,155 @@
+//! A shelf in memory.
+ghost use Rattle.std.specs.Prelude.{◌≡◌, true, is_err, is_some, IfOk, IsErrOf, IsSome, OnOk, OnErr};
+ghost use Rattle.std.specs.Option.{option_copied};
+ghost use Rattle.std.specs.FinMap.{empty, insert, remove};
+ghost use Rattle.gx_outside.specs.Files.{with_file, no_files};
+ghost use Rattle.gx_outside.specs.Fakes.{no_calls, fails_next, after_call, seen_shelf, files_of};
+ghost use Rattle.gx_outside.specs.Outside.{HasCause, Loads, IsWithin, KeepsOthers, shelf_failed};
+
+use crate::numbered::NumberedCalls;
+use crate::{Load, Shelf, ShelfFault};
+use gx_words::Bytes;
+use std::alloc::{AllocError, Global};
+use std::collections::BTreeMap;
+use std::marker::Model;
+
+/// A shelf that keeps its files. The calls of the trait are numbered from 1, and those whose
+/// numbers it was given fail and change nothing.
+#[derive(Drop)]
+pub struct MemShelf {
+    alloc: Global,
+    files: BTreeMap<String, Bytes>,
+    calls: NumberedCalls,
+}
+
+impl Model for MemShelf {
+    ghost use Rattle.gx_outside.specs.Fakes.{HeldShelf, shelf_code, by_name};
+
+    ghost Value = { HeldShelf };
+
+    ghost coded = { shelf_code };
+
+    ghost view = { λ s. record { files = by_name s.files; calls = s.calls } };
+}
+
+impl MemShelf {
+    /// A shelf with no files.
+    pub fn new(alloc: Global, fails: &[u64]) -> Result<MemShelf, AllocError>
+        ensures ok { IfOk result (λ shelf. shelf ≡ record { files = empty; calls = no_calls fails.now }) }
+        ensures none { IfOk result (λ shelf. files_of shelf.files ≡ no_files) }
+    {
+        Ok(MemShelf {
+            alloc,
+            files: BTreeMap::new(alloc),
+            calls: NumberedCalls::new(alloc, fails)?,
+        })
+    }
+
+    /// Makes the name hold the bytes. This is no numbered call, and never fails but for memory.
+    pub fn put(&mut self, name: &str, bytes: &[u8]) -> Result<(), AllocError>
+        ensures ok { OnOk result (self.new
+            ≡ record self.old { files = insert self.old.files name.now bytes.now }) }
+        ensures stored { OnOk result (files_of self.new.files
+            ≡ with_file (files_of self.old.files) name.now (Some bytes.now)) }
+        ensures err { OnErr result (self.new ≡ self.old) }
+    {
+        let name = String::from_str(self.alloc, name)?;
+        let bytes = Bytes::from_slice(self.alloc, bytes)?;
+        self.files.insert(name, bytes)?;
+        Ok(())
+    }
+
+    /// The bytes of a name; None where it has no file. This is no numbered call.
+    pub fn get(&self, name: &str) -> Option<&[u8]>
+        ensures { option_copied result ≡ files_of self.now.files name.now }
+    {
+        match self.files.get(name) {
+            None => None,
+            Some(bytes) => Some(bytes.as_slice()),
+        }
+    }
+
+    /// Takes the file of a name away, and says whether there was one.
+    fn take_away(&mut self, name: &str) -> bool
+        ensures was { result ≡ is_some (files_of self.old.files name.now) }
+        ensures after { self.new ≡ record self.old { files = remove self.old.files name.now } }
+        ensures removed { files_of self.new.files ≡ with_file (files_of self.old.files) name.now None }
+    {
+        self.files.remove(name).is_some()
+    }
+}
+
+impl Shelf for MemShelf {
+    ghost seen = { seen_shelf };
+
+    fn load(&mut self, name: &str, most: usize) -> Result<Load, ShelfFault>
+        ensures fails { shelf_failed result ≡ fails_next self.old.calls }
+        ensures calls { self.new ≡ record self.old { calls = after_call self.old.calls } }
+        ensures bound { IfOk result (IsWithin most) }
+        ensures cause { HasCause self.old.calls.faults self.new.calls.faults
+            self.new.calls.failing (shelf_failed result) }
+        ensures found { IfOk result (Loads (files_of self.old.files name.now) most) }
+        ensures memory { IsErrOf result ShelfFault.NoMemory
+            → IsSome (files_of self.old.files name.now) }
+    {
+        if self.calls.begin() {
+            return Err(ShelfFault::Failed);
+        }
+        match self.get(name) {
+            None => Ok(Load::Missing),
+            Some(bytes) if bytes.len() > most => Ok(Load::TooLong),
+            Some(bytes) => Ok(Load::Found(Bytes::from_slice(self.alloc, bytes)?)),
+        }
+    }
+
+    #[tactic(auto, using(crate::proofs::ByName::changes))]
+    fn store(&mut self, name: &str, bytes: &[u8]) -> Result<(), ShelfFault>
+        ensures fails { shelf_failed result ≡ fails_next self.old.calls }
+        ensures calls { self.new.calls ≡ after_call self.old.calls }
+        ensures ok { OnOk result (self.new.files ≡ insert self.old.files name.now bytes.now) }
+        ensures err { OnErr result (self.new.files ≡ self.old.files) }
+        ensures cause { HasCause self.old.calls.faults self.new.calls.faults
+            self.new.calls.failing (shelf_failed result) }
+        ensures stored { OnOk result (files_of self.new.files
+            ≡ with_file (files_of self.old.files) name.now (Some bytes.now)) }
+        ensures others { KeepsOthers (files_of self.old.files) (files_of self.new.files) name.now }
+    {
+        if self.calls.begin() {
+            return Err(ShelfFault::Failed);
+        }
+        self.put(name, bytes)?;
+        Ok(())
+    }
+
+    #[tactic(auto, using(crate::proofs::ByName::changes))]
+    fn remove(&mut self, name: &str) -> Result<bool, ShelfFault>
+        ensures fails { is_err result ≡ fails_next self.old.calls }
+        ensures calls { self.new.calls ≡ after_call self.old.calls }
+        ensures ok { OnOk result (self.new.files ≡ remove self.old.files name.now) }
+        ensures err { OnErr result (self.new.files ≡ self.old.files) }
+        ensures cause { HasCause self.old.calls.faults self.new.calls.faults
+            self.new.calls.failing (shelf_failed result) }
+        ensures was { IfOk result (λ was. was ≡ is_some (files_of self.old.files name.now)) }
+        ensures removed { OnOk result (files_of self.new.files
+            ≡ with_file (files_of self.old.files) name.now None) }
+        ensures others { KeepsOthers (files_of self.old.files) (files_of self.new.files) name.now }
+    {
+        if self.calls.begin() {
+            return Err(ShelfFault::Failed);
+        }
+        Ok(self.take_away(name))
+    }
+
+    fn has(&mut self, name: &str) -> Result<bool, ShelfFault>
+        ensures fails { is_err result ≡ fails_next self.old.calls }
+        ensures calls { self.new ≡ record self.old { calls = after_call self.old.calls } }
+        ensures cause { HasCause self.old.calls.faults self.new.calls.faults
+            self.new.calls.failing (shelf_failed result) }
+        ensures was { IfOk result (λ was. was ≡ is_some (files_of self.old.files name.now)) }
+    {
+        if self.calls.begin() {
+            return Err(ShelfFault::Failed);
+        }
+        Ok(self.get(name).is_some())
+    }
+}

@@ -1,0 +1,80 @@
+//! A source in memory.
+ghost use Rattle.std.specs.Prelude.{◌≡◌, ◌≤◌, ◌++◌, min, length, take, drop, is_err, IfOk, OnErr};
+ghost use Rattle.gx_outside.specs.Fakes.{no_calls, fails_next, after_call, seen_source};
+ghost use Rattle.gx_outside.specs.Outside.{HasCause, ReadGives};
+
+use crate::numbered::NumberedCalls;
+use crate::{Failed, Source};
+use gx_words::Bytes;
+use std::alloc::{AllocError, Global};
+use std::marker::Model;
+
+/// A source that gives its bytes in pieces. Its calls are numbered from 1, and those whose numbers
+/// it was given fail and give nothing.
+#[derive(Drop)]
+pub struct MemSource {
+    bytes: Bytes,
+    at: usize,
+    piece: usize,
+    calls: NumberedCalls,
+}
+
+impl Model for MemSource {
+    ghost use Rattle.std.specs.Prelude.{drop, length, ◌≤◌};
+    ghost use Rattle.gx_outside.specs.Fakes.{HeldSource};
+
+    ghost Value = { HeldSource };
+
+    ghost view = { λ s. record { left = drop s.at s.bytes; piece = s.piece; calls = s.calls } };
+
+    ghost invariant = { λ s. (s.at ≤ length s.bytes) × (1 ≤ s.piece) };
+}
+
+impl MemSource {
+    /// A source of these bytes, of which a call gives at most `piece`.
+    pub fn new(
+        alloc: Global,
+        bytes: &[u8],
+        piece: usize,
+        fails: &[u64],
+    ) -> Result<MemSource, AllocError>
+        requires { 1 ≤ piece }
+        ensures { IfOk result (λ source. source
+            ≡ record { left = bytes.now; piece = piece; calls = no_calls fails.now }) }
+    {
+        Ok(MemSource {
+            bytes: Bytes::from_slice(alloc, bytes)?,
+            at: 0,
+            piece,
+            calls: NumberedCalls::new(alloc, fails)?,
+        })
+    }
+}
+
+impl Source for MemSource {
+    ghost seen = { seen_source };
+
+    fn read(&mut self, into: &mut [u8]) -> Result<usize, Failed>
+        ensures fails { is_err result ≡ fails_next self.old.calls }
+        ensures calls { self.new.calls ≡ after_call self.old.calls }
+        ensures piece { self.new.piece ≡ self.old.piece }
+        ensures count { IfOk result (λ count. count
+            ≡ min (min (length into.old) self.old.piece) (length self.old.left)) }
+        ensures given { IfOk result (λ count. into.new ≡ take count self.old.left ++ drop count into.old) }
+        ensures left { IfOk result (λ count. self.new.left ≡ drop count self.old.left) }
+        ensures err { OnErr result ((self.new.left ≡ self.old.left) × (into.new ≡ into.old)) }
+        ensures bound { IfOk result (λ count. count ≤ length into.old) }
+        ensures cause { HasCause self.old.calls.faults self.new.calls.faults
+            self.new.calls.failing (is_err result) }
+        ensures bytes { ReadGives self.old.left self.new.left into.new result }
+    {
+        if self.calls.begin() {
+            return Err(Failed);
+        }
+        let left = &self.bytes.as_slice()[self.at..];
+        let count = into.len().min(self.piece).min(left.len());
+        into[..count].copy_from_slice(&left[..count]);
+        self.at += count;
+        Ok(count)
+    }
+}

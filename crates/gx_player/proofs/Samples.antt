@@ -1,0 +1,78 @@
+-- Command lines and story files with what they come to.
+use Rattle.std.proofs.Common.{◌≡◌, ℕ, List, [], ◌∷◌, ◌++◌, replicate, take, Some, None, Err, is_ok, true, refl}
+use Rattle.std.specs.Prelude.{codes}
+use Rattle.gx_story.specs.Stories.{accepted, bare, header}
+use Rattle.gx_outside.specs.Files.{no_files}
+use Rattle.gx_session.specs.Devices.{Devices}
+use Rattle.gx_player.specs.Commands.{command_of, usual_steps}
+use Rattle.gx_player.specs.Headline.{outcome_of, refused, story_in}
+
+-- after the program's name
+abbrev words : List (List ℕ) → List (List ℕ)
+words rest = codes "gx_player" ∷ rest
+
+story-alone : command_of (words (codes "hall.ulx" ∷ [])) ≡ Some (record { story = codes "hall.ulx"; steps = usual_steps })
+story-alone = refl
+
+with-steps : command_of (words (codes "hall.ulx" ∷ codes "--steps" ∷ codes "0011" ∷ [])) ≡ Some (record { story = codes "hall.ulx"; steps = 11 })
+with-steps = refl
+
+most-steps : command_of (words ([] ∷ codes "--steps" ∷ codes "18446744073709551615" ∷ [])) ≡ Some (record { story = []; steps = 18446744073709551615 })
+most-steps = refl
+
+too-many-steps : command_of (words (codes "hall.ulx" ∷ codes "--steps" ∷ codes "18446744073709551616" ∷ [])) ≡ None
+too-many-steps = refl
+
+not-a-number : command_of (words (codes "hall.ulx" ∷ codes "--steps" ∷ codes "+5" ∷ [])) ≡ None
+not-a-number = refl
+
+no-number : command_of (words (codes "hall.ulx" ∷ codes "--steps" ∷ [] ∷ [])) ≡ None
+no-number = refl
+
+other-option : command_of (words (codes "hall.ulx" ∷ codes "--step" ∷ codes "5" ∷ [])) ≡ None
+other-option = refl
+
+no-story : command_of (words []) ≡ None
+no-story = refl
+
+bad-words : (d : Devices) → outcome_of None d ≡ refused 1 0
+bad-words d = refl
+
+no-such-file : (d : Devices) → d.shelf.files ≡ no_files → outcome_of (command_of (words (codes "hall.ulx" ∷ []))) d ≡ refused 2 0
+no-such-file d none = rw none refl
+
+-- a story of one page with this magic and version
+abbrev page : List ℕ → List ℕ → List ℕ
+page magic version =
+    magic ++ version ++ (0 ∷ 0 ∷ 1 ∷ 0 ∷ 0 ∷ 0 ∷ 1 ∷ 0 ∷ 0 ∷ 0 ∷ 1 ∷ 0 ∷ 0 ∷ 0 ∷ 1 ∷ 0 ∷ 0 ∷ 0 ∷ 0 ∷ 0x24 ∷ 0 ∷ 0 ∷ 0 ∷ 0 ∷ []) ++ replicate 224 0
+
+abbrev glul : List ℕ
+glul = 0x47 ∷ 0x6C ∷ 0x75 ∷ 0x6C ∷ []
+
+empty-file : story_in (Some []) ≡ Err 1
+unfolding accepted bare header
+empty-file = refl
+
+short-file : story_in (Some (take 35 (page glul (0 ∷ 3 ∷ 1 ∷ 2 ∷ [])))) ≡ Err 1
+unfolding accepted bare header
+short-file = refl
+
+other-magic : story_in (Some (page (0x48 ∷ 0x6C ∷ 0x75 ∷ 0x6C ∷ []) (0 ∷ 3 ∷ 1 ∷ 2 ∷ []))) ≡ Err 2
+unfolding accepted bare header
+other-magic = refl
+
+old-version : story_in (Some (page glul (0 ∷ 1 ∷ 0xFF ∷ 0xFF ∷ []))) ≡ Err 3
+unfolding accepted bare header
+old-version = refl
+
+first-version : is_ok (story_in (Some (page glul (0 ∷ 2 ∷ 0 ∷ 0 ∷ [])))) ≡ true
+unfolding accepted bare header
+first-version = refl
+
+last-version : is_ok (story_in (Some (page glul (0 ∷ 3 ∷ 1 ∷ 0xFF ∷ [])))) ≡ true
+unfolding accepted bare header
+last-version = refl
+
+new-version : story_in (Some (page glul (0 ∷ 3 ∷ 2 ∷ 0 ∷ []))) ≡ Err 3
+unfolding accepted bare header
+new-version = refl

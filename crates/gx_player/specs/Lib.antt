@@ -1,0 +1,4 @@
+pub mod Commands
+pub mod Headline
+pub mod Loading
+pub mod Statuses

@@ -1,0 +1,85 @@
+//! `gx_player STORY [--steps N]`: plays a Glulx story over standard input, standard output and the
+//! files of the current folder.
+//!
+//! - `command` reads the command line.
+//! - `play` does all that the program does, over objects that are handed in; its contract is the
+//!   headline of the whole repository, and stands in specs/Headline.
+//! - `real` has the objects that the program hands in.
+//!
+//! How the run ended is the status of the program, with a line on standard error.
+#![tactic(auto)]
+
+mod command;
+mod play;
+mod real;
+
+pub use play::play;
+use rand_chacha::ChaCha20Rng;
+use rand_core::SeedableRng;
+use real::{FolderShelf, StdSink, StdSource};
+use std::io::ErrorKind;
+use std::process::ExitCode;
+use std::random::RandomSource;
+use std::{env, io};
+
+/// The status where memory runs out before anything is done.
+const NO_MEMORY: u8 = 11;
+
+/// A seed from the system's random source, and 32 zero bytes where that fails.
+fn seed(rt: &impl RandomSource) -> [u8; 32] {
+    let mut seed = [0; 32];
+    match rt.fill_bytes(&mut seed) {
+        Ok(()) => seed,
+        Err(_) => [0; 32],
+    }
+}
+
+/// Plays the story that the words name; the status.
+fn play_words(rt: &HostRuntime, words: &[&str]) -> u8 {
+    let alloc = rt.alloc();
+    let mut source = StdSource::new(rt.reader());
+    let mut sink = StdSink::new(rt);
+    let mut shelf = FolderShelf::new(alloc, rt);
+    let mut dice = ChaCha20Rng::from_seed(seed(rt));
+    let ended = play(
+        alloc,
+        alloc,
+        words,
+        &mut source,
+        &mut sink,
+        &mut shelf,
+        &mut dice,
+    );
+    if let Ok(line) = ended.line(alloc) {
+        if !line.is_empty() {
+            let _ = eprintln!(rt; "{line}");
+        }
+    }
+    ended.status
+}
+
+/// Plays the story that the command line names; the status. It is an error where a word isn't UTF-8
+/// or where memory runs out before anything is done.
+fn play_args(rt: &HostRuntime) -> io::Result<u8> {
+    let mut texts = Vec::new(rt.alloc());
+    for text in env::args(rt)? {
+        texts.push(text)?;
+    }
+    let mut words = Vec::new(rt.alloc());
+    for text in &texts {
+        words.push(text.as_str())?;
+    }
+    Ok(play_words(rt, words.as_slice()))
+}
+
+fn main(rt: HostRuntime) -> ExitCode {
+    let status = match play_args(&rt) {
+        Ok(status) => status,
+        Err(error) if error.kind() == ErrorKind::OutOfMemory => NO_MEMORY,
+        Err(_) => play_words(&rt, &[]),
+    };
+    ExitCode::from(status)
+}
+
+#[cfg(test)]
+mod tests;

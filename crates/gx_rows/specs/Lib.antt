@@ -1,0 +1,4 @@
+pub mod Keys
+pub mod Table
+pub mod Opcodes
+pub mod Gestalts

@@ -1,0 +1,40 @@
+use Rattle.std.proofs.Common.{◌≡◌, refl, arith}
+use Rattle.gx_session.specs.Devices.{Devices}
+use Rattle.gx_session.specs.Playing.{Held, held}
+use Rattle.gx_session.proofs.Asking.{step-follows, step-faults, fault-gives}
+use Rattle.gx_session.proofs.Events.{step-answers, same-machine}
+use Rattle.gx_session.proofs.Playing.{redrawn, stands}
+use Rattle.gx_session.proofs.running.event.Goals as goal
+
+pub follow-requires-clause-asks : goal.follow-requires-clause-asks
+follow-requires-clause-asks g c = (step-answers _ _ _ _ _ _ c.requires.none c.in-Ok.ensures.step).asks
+
+pub follow-requires-clause-fewer : goal.follow-requires-clause-fewer
+follow-requires-clause-fewer g c = (step-answers _ _ _ _ _ _ c.requires.none c.in-Ok.ensures.step).no_more
+
+pub returns-in-Ok-clause-nearer : goal.returns-in-Ok-clause-nearer
+returns-in-Ok-clause-nearer g c goes =
+    omega (arith, c.follow.ensures.left goes, (step-answers _ _ _ _ _ _ c.requires.none c.in-Ok.ensures.step).nearer (c.follow.ensures.goes goes))
+
+pub returns-in-Err-clause-plays : goal.returns-in-Err-clause-plays
+returns-in-Err-clause-plays g c start entry d f =
+    let before : Devices = record d { words = g.R.Rng.stream c.args.dice.now } in
+    let now : Devices = record d { words = g.R.Rng.stream c.draw-word.new.dice } in
+    let h : Held = held g.E.Engine.whole c.args.run.now in
+    let drawn : Held = record h { word = c.draw-word.new.word } in
+    let going = redrawn start entry h before c.draw-word.new.word (g.R.Rng.stream c.draw-word.new.dice) f c.draw-word.ensures.is in
+    let same : (g.E.Engine.whole c.step.new.self).machine ≡ drawn.machine = same-machine (g.E.Engine.whole c.step.new.self) (g.E.Engine.whole c.args.run.now.engine) c.step.new.budget c.args.run.now.left c.in-Err.ensures.step.0 in
+    fault-gives start entry (record drawn { machine = (g.E.Engine.whole c.step.new.self).machine }) now c.in-Err.fault _ c.faulted.ensures.gives
+    (stands start entry drawn now _ going same refl)
+    (λ other. step-faults start entry drawn now (g.E.Engine.whole c.args.run.now.engine).asking c.draw-word.result c.draw-word.ensures.in_hand going
+    (g.E.Engine.whole c.step.new.self).machine c.in-Err.fault same (c.in-Err.ensures.step.1 other))
+
+pub returns-in-Ok-clause-plays : goal.returns-in-Ok-clause-plays
+returns-in-Ok-clause-plays g c start entry d f =
+    let before : Devices = record d { words = g.R.Rng.stream c.args.dice.now } in
+    let now : Devices = record d { words = g.R.Rng.stream c.draw-word.new.dice } in
+    let h : Held = held g.E.Engine.whole c.args.run.now in
+    let drawn : Held = record h { word = c.draw-word.new.word } in
+    let going = redrawn start entry h before c.draw-word.new.word (g.R.Rng.stream c.draw-word.new.dice) f c.draw-word.ensures.is in
+    c.follow.ensures.plays start entry now
+    (step-follows start entry drawn now (g.E.Engine.whole c.args.run.now.engine).asking c.draw-word.result c.draw-word.ensures.in_hand going (g.E.Engine.whole c.step.new.self) c.step.new.budget c.in-Ok.effect c.in-Ok.ensures.step c.in-Ok.ensures.stands)

@@ -1,0 +1,19 @@
+-- What contracts see of the four objects that a run is handed.
+use Rattle.std.specs.Prelude.{◌≡◌, true}
+use Rattle.gx_outside.specs.Outside.{FlatSource, FlatSink, FlatShelf}
+use Rattle.rand_core.specs.Stream.{Stream}
+
+-- The source of input, the sink of text, the shelf of files, and the random words to come.
+pub record Devices : Type 0 where
+  pub source : FlatSource
+  pub sink : FlatSink
+  pub shelf : FlatShelf
+  pub words : Stream
+
+abbrev pub devices : FlatSource → FlatSink → FlatShelf → Stream → Devices
+devices source sink shelf words = record { source = source; sink = sink; shelf = shelf; words = words }
+
+-- The source and the shelf tell what they hold.
+pub record Told (d : Devices) : Type 0 where
+  pub source : d.source.tells ≡ true
+  pub shelf : d.shelf.tells ≡ true

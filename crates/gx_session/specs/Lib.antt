@@ -1,0 +1,5 @@
+pub mod Devices
+pub mod Session
+pub mod Runs
+pub mod Lines
+pub mod Playing

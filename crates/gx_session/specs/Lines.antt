@@ -1,0 +1,34 @@
+-- The line that says how a run ended.
+use Rattle.std.specs.Prelude.{ℕ, ◌+◌, ◌/◌, ◌%◌, ◌^◌, ◌==◌, suc, zero, nat_lt, if◌then◌else◌, List, [], ◌∷◌, ◌++◌, decimal, codes}
+
+-- a hexadecimal digit in lower case
+abbrev pub hex_digit : ℕ → ℕ
+hex_digit d = if nat_lt d 10 then 48 + d else 87 + d
+
+-- the low digits of a number, the highest of them first
+abbrev pub hex_of : ℕ → ℕ → List ℕ
+hex_of zero v = []
+hex_of (suc n) v = hex_digit (v / 16 ^ n % 16) ∷ hex_of n v
+
+-- the line of a fault; a checksum that differs is a fault with no number
+abbrev pub fault_line : ℕ → ℕ → ℕ → List ℕ
+fault_line fault at steps =
+    if fault == 0 then codes "gx_player: the checksum differs" else
+    codes "gx_player: fault " ++ decimal fault ++ codes " at " ++ hex_of 8 at ++ codes " after " ++ decimal steps ++ codes " steps"
+
+-- The line of a status with its fault, place and steps. The end of the program has an empty one, and
+-- so has a status in no row.
+unfoldable pub line_of : ℕ → ℕ → ℕ → ℕ → List ℕ
+line_of status fault at steps =
+    if status == 1 then codes "gx_player: the command line is not understood" else
+    if status == 2 then codes "gx_player: no story (" ++ decimal fault ++ codes ")" else
+    if status == 3 then fault_line fault at steps else
+    if status == 4 then codes "gx_player: budget spent after " ++ decimal steps ++ codes " steps" else
+    if status == 5 then codes "gx_player: input ended" else
+    if status == 6 then codes "gx_player: nothing to wait for" else
+    if status == 7 then codes "gx_player: input line too long" else
+    if status == 8 then codes "gx_player: file fault" else
+    if status == 9 then codes "gx_player: input fault" else
+    if status == 10 then codes "gx_player: output fault" else
+    if status == 11 then codes "gx_player: out of memory" else
+    []

@@ -1,0 +1,114 @@
+//! How a run ended, and the line that says so.
+ghost use Rattle.std.specs.Prelude.{◌≡◌, ◌<◌, ◌++◌, ◌∷◌, [], OnOk, IfOk, string_bytes, codes, decimal};
+ghost use Rattle.gx_session.specs.Lines.{line_of, fault_line, hex_digit, hex_of};
+
+use gx_machine::Machine;
+use itoa::Buffer;
+use std::alloc::{AllocError, Allocator, Global};
+
+/// How a run ended.
+#[derive(Drop)]
+pub struct Ended<A: Allocator + Clone> {
+    /// 0 the program ended, 3 a fault, 4 the budget is spent, 10 the sink failed, 11 memory ran out;
+    /// the other rows of `line` are those of a command line.
+    pub status: u8,
+    /// The fault's number at status 2 and 3, else 0.
+    pub fault: u8,
+    /// The PC before the faulting step at status 3, else 0.
+    pub at: u32,
+    /// The units of the budget that were used.
+    pub steps: u64,
+    /// The machine as the run left it, where one was started.
+    pub machine: Option<Machine<A>>,
+}
+
+impl<A: Allocator + Clone> Ended<A> {
+    /// The line that says how the run ended, without a line feed; empty where nothing is to be said.
+    #[tactic(auto, unfolding(crate::specs::Lines::line_of))]
+    pub fn line(&self, alloc: Global) -> Result<String, AllocError>
+        ensures { IfOk result (λ line.
+            string_bytes line ≡ line_of self.now.status self.now.fault self.now.at self.now.steps) }
+    {
+        match self.status {
+            1 => String::from_str(alloc, "gx_player: the command line is not understood"),
+            2 => self.story_line(alloc),
+            3 => self.fault_line(alloc),
+            4 => self.spent_line(alloc),
+            5 => String::from_str(alloc, "gx_player: input ended"),
+            6 => String::from_str(alloc, "gx_player: nothing to wait for"),
+            7 => String::from_str(alloc, "gx_player: input line too long"),
+            8 => String::from_str(alloc, "gx_player: file fault"),
+            9 => String::from_str(alloc, "gx_player: input fault"),
+            10 => String::from_str(alloc, "gx_player: output fault"),
+            11 => String::from_str(alloc, "gx_player: out of memory"),
+            _ => Ok(String::new(alloc)),
+        }
+    }
+
+    fn story_line(&self, alloc: Global) -> Result<String, AllocError>
+        ensures { IfOk result (λ line.
+            string_bytes line ≡ codes "gx_player: no story (" ++ decimal self.now.fault ++ codes ")") }
+    {
+        let mut line = String::from_str(alloc, "gx_player: no story (")?;
+        push_number(&mut line, u64::from(self.fault))?;
+        line.push_str(")")?;
+        Ok(line)
+    }
+
+    fn fault_line(&self, alloc: Global) -> Result<String, AllocError>
+        ensures { IfOk result (λ line. string_bytes line ≡ fault_line self.now.fault self.now.at self.now.steps) }
+    {
+        if self.fault == 0 {
+            return String::from_str(alloc, "gx_player: the checksum differs");
+        }
+        let mut line = String::from_str(alloc, "gx_player: fault ")?;
+        push_number(&mut line, u64::from(self.fault))?;
+        line.push_str(" at ")?;
+        push_hex(&mut line, self.at)?;
+        line.push_str(" after ")?;
+        push_number(&mut line, self.steps)?;
+        line.push_str(" steps")?;
+        Ok(line)
+    }
+
+    fn spent_line(&self, alloc: Global) -> Result<String, AllocError>
+        ensures { IfOk result (λ line.
+            string_bytes line ≡ codes "gx_player: budget spent after " ++ decimal self.now.steps ++ codes " steps") }
+    {
+        let mut line = String::from_str(alloc, "gx_player: budget spent after ")?;
+        push_number(&mut line, self.steps)?;
+        line.push_str(" steps")?;
+        Ok(line)
+    }
+}
+
+/// Adds a number in decimal.
+fn push_number(line: &mut String, n: u64) -> Result<(), AllocError>
+    ensures { OnOk result (string_bytes line.new ≡ string_bytes line.old ++ decimal n) }
+{
+    let mut buffer = Buffer::new();
+    line.push_str(buffer.format(n))
+}
+
+/// Adds one hexadecimal digit.
+fn push_digit(line: &mut String, digit: u32) -> Result<(), AllocError>
+    requires { digit < 16 }
+    ensures { OnOk result (string_bytes line.new ≡ string_bytes line.old ++ hex_digit digit ∷ []) }
+{
+    let code = if digit < 10 { 48 + digit } else { 87 + digit };
+    line.push(code as u8 as char)
+}
+
+/// Adds a number as eight hexadecimal digits.
+fn push_hex(line: &mut String, v: u32) -> Result<(), AllocError>
+    ensures { OnOk result (string_bytes line.new ≡ string_bytes line.old ++ hex_of 8 v) }
+{
+    push_digit(line, v / 0x1000_0000 % 16)?;
+    push_digit(line, v / 0x100_0000 % 16)?;
+    push_digit(line, v / 0x10_0000 % 16)?;
+    push_digit(line, v / 0x1_0000 % 16)?;
+    push_digit(line, v / 0x1000 % 16)?;
+    push_digit(line, v / 0x100 % 16)?;
+    push_digit(line, v / 0x10 % 16)?;
+    push_digit(line, v % 16)
+}

@@ -1,0 +1,5 @@
+pub mod Turns
+pub mod Pieces
+pub mod Kept
+pub mod Lists
+pub mod Locals

@@ -1,0 +1,151 @@
+-- One turn of each recursion and loop, by a number that is not 0.
+use Rattle.std.proofs.Common.{◌≡◌, ◌<◌, ◌≤◌, ◌+◌, ◌-◌, ◌*◌, replicate, ℕ, zero, suc, List, [], ◌∷◌, ◌++◌, append_assoc, length, drop, get_or, refl, sym, arith, drop-cons, length-append}
+use Rattle.std.proofs.lemmas.List.{append-nil}
+use Rattle.std.proofs.lemmas.Grind.{common_steps}
+use Rattle.gx_words.specs.Numbers.{IsWidth, bytes_of_word, bytes_of_number}
+use Rattle.gx_stack.specs.declared.stubs.Stub.{Stub}
+use Rattle.gx_stack.specs.Formats.{ArePairs, gap, filled, locals, locals_len}
+use Rattle.gx_stack.specs.Frames.{topmost_first}
+use Rattle.gx_stack.specs.Stubs.{stubs_bytes, stub_bytes}
+use Rattle.gx_stack.specs.Values.{in_order}
+
+-- locals of one size
+pub filled_none : (t n : ℕ) (args out : List ℕ) → n ≡ 0 → out ≡ out ++ filled t n args
+unfolding filled
+filled_none t zero args out h = sym (append-nil out)
+filled_none t (suc n) args out h = absurd (omega arith)
+
+filled_more : (t n : ℕ) (args : List ℕ) → 0 < n → filled t n args ≡ bytes_of_number t (get_or args 0 0) ++ filled t (n - 1) (drop 1 args)
+unfolding filled
+filled_more t zero args h = absurd (omega arith)
+filled_more t (suc n) [] h = let less : suc n - 1 ≡ n = omega arith in rw less refl
+filled_more t (suc n) (a ∷ args) h = let less : suc n - 1 ≡ n = omega arith in rw less refl
+
+pub filled_pushed : (t n : ℕ) (args out : List ℕ) → 0 < n → (out ++ bytes_of_number t (get_or args 0 0)) ++ filled t (n - 1) (drop 1 args) ≡ out ++ filled t n args
+filled_pushed t n args out h = rw (append_assoc, filled_more t n args h) refl
+
+pub ruleset filled_turns = (filled_none, filled_pushed)
+
+-- the locals of pairs
+pub locals_none : (at : ℕ) (pairs args out : List ℕ) → length pairs < 2 → out ≡ out ++ locals at pairs args
+unfolding locals
+locals_none at [] args out h = sym (append-nil out)
+locals_none at (t ∷ []) args out h = sym (append-nil out)
+locals_none at (t ∷ n ∷ pairs) args out h = absurd (grind (arith, common_steps))
+
+pub locals_pushed : (at : ℕ) (pairs args out : List ℕ) → 2 ≤ length pairs → ((out ++ replicate (gap (get_or pairs 0 0) at) 0) ++ filled (get_or pairs 0 0) (get_or pairs 1 0) args) ++ locals (at + gap (get_or pairs 0 0) at + get_or pairs 0 0 * get_or pairs 1 0) (drop 2 pairs) (drop (get_or pairs 1 0) args) ≡ out ++ locals at pairs args
+unfolding locals
+locals_pushed at [] args out h = absurd (grind (arith, common_steps))
+locals_pushed at (x ∷ []) args out h = absurd (grind (arith, common_steps))
+locals_pushed at (x ∷ y ∷ pairs) args out h = simp append_assoc
+
+pub locals_len_none : (at : ℕ) (pairs : List ℕ) → length pairs < 2 → locals_len at pairs ≡ 0
+unfolding locals_len
+locals_len_none at [] h = refl
+locals_len_none at (t ∷ []) h = refl
+locals_len_none at (t ∷ n ∷ pairs) h = absurd (grind (arith, common_steps))
+
+pub locals_len_more : (at : ℕ) (pairs : List ℕ) → 2 ≤ length pairs → locals_len at pairs ≡ gap (get_or pairs 0 0) at + get_or pairs 0 0 * get_or pairs 1 0 + locals_len (at + gap (get_or pairs 0 0) at + get_or pairs 0 0 * get_or pairs 1 0) (drop 2 pairs)
+unfolding locals_len
+locals_len_more at [] h = absurd (grind (arith, common_steps))
+locals_len_more at (x ∷ []) h = absurd (grind (arith, common_steps))
+locals_len_more at (x ∷ y ∷ pairs) h = refl
+
+pub pairs_head : (pairs : List ℕ) → ArePairs pairs → 2 ≤ length pairs → IsWidth (get_or pairs 0 0) × ArePairs (drop 2 pairs)
+pairs_head [] f h = absurd (grind (arith, common_steps))
+pairs_head (t ∷ []) f h = absurd f
+pairs_head (t ∷ n ∷ pairs) f h = f
+
+pub ruleset locals_turns = (locals_none, locals_pushed, locals_len_none, locals_len_more, pairs_head)
+
+-- stubs
+no_stubs : (stubs : List Stub) (n : ℕ) → length stubs ≤ n → stubs_bytes (drop n stubs) ≡ []
+unfolding stubs_bytes
+no_stubs [] zero h = refl
+no_stubs [] (suc n) h = refl
+no_stubs (p ∷ stubs) zero h = absurd (grind (arith, common_steps))
+no_stubs (p ∷ stubs) (suc n) h = no_stubs stubs n (omega (arith, h))
+
+one_stub : (stubs : List Stub) (n : ℕ) (d : Stub) → n < length stubs → stubs_bytes (drop n stubs) ≡ stub_bytes (get_or stubs n d) ++ stubs_bytes (drop (n + 1) stubs)
+unfolding stubs_bytes
+one_stub stubs n d within =
+    let next : n + 1 ≡ suc n = omega arith in
+    rw (next, drop-cons stubs n d) refl
+
+pub stub_pushed : (out : List ℕ) (stubs : List Stub) (n : ℕ) (d : Stub) → n < length stubs → (out ++ stub_bytes (get_or stubs n d)) ++ stubs_bytes (drop (n + 1) stubs) ≡ out ++ stubs_bytes (drop n stubs)
+stub_pushed out stubs n d within = rw (one_stub stubs n d within, append_assoc) refl
+
+pub stubs_pushed : (out : List ℕ) (stubs : List Stub) (n : ℕ) → length stubs ≤ n → out ++ stubs_bytes (drop n stubs) ≡ out
+stubs_pushed out stubs n h = rw (no_stubs stubs n h) (append-nil out)
+
+pub length-stubs : (stubs : List Stub) → length (stubs_bytes stubs) ≡ 16 * length stubs
+unfolding stubs_bytes stub_bytes
+length-stubs [] = refl
+length-stubs (p ∷ stubs) = omega (arith, length-stubs stubs)
+
+pub ruleset stub_turns = (stub_pushed, stubs_pushed, length-stubs)
+
+-- arguments
+no_args : (args : List ℕ) (n : ℕ) → length args ≤ n → topmost_first (drop n args) ≡ []
+unfolding topmost_first
+no_args [] zero h = refl
+no_args [] (suc n) h = refl
+no_args (a ∷ args) zero h = absurd (grind (arith, common_steps))
+no_args (a ∷ args) (suc n) h = no_args args n (omega (arith, h))
+
+one_arg : (args : List ℕ) (n : ℕ) → n < length args → topmost_first (drop n args) ≡ topmost_first (drop (n + 1) args) ++ bytes_of_word (get_or args n 0)
+unfolding topmost_first
+one_arg args n within =
+    let next : n + 1 ≡ suc n = omega arith in
+    rw (next, drop-cons args n 0) refl
+
+-- the argument in front of those that were pushed
+arg_before : (args : List ℕ) (i : ℕ) → i < length args → topmost_first (drop (length args - (i + 1)) args) ≡ topmost_first (drop (length args - i) args) ++ bytes_of_word (get_or args (length args - 1 - i) 0)
+arg_before args i within =
+    let here : length args - (i + 1) ≡ length args - 1 - i = omega arith in
+    let next : length args - i ≡ length args - 1 - i + 1 = omega arith in
+    let there : length args - 1 - i < length args = omega arith in
+    rw (here, next) (one_arg args (length args - 1 - i) there)
+
+pub all_args : (args : List ℕ) → topmost_first (drop (length args - length args) args) ≡ topmost_first args
+all_args args = let none : length args - length args ≡ 0 = omega arith in rw none refl
+
+pub arg_pushed : (out args : List ℕ) (i : ℕ) → i < length args → (out ++ topmost_first (drop (length args - i) args)) ++ bytes_of_word (get_or args (length args - 1 - i) 0) ≡ out ++ topmost_first (drop (length args - (i + 1)) args)
+arg_pushed out args i h = rw (arg_before args i h, append_assoc) refl
+
+pub no_arg_yet : (out args : List ℕ) (n : ℕ) → length args ≤ n → out ≡ out ++ topmost_first (drop n args)
+no_arg_yet out args n h = rw (no_args args n h) (sym (append-nil out))
+
+pub length-args : (args : List ℕ) → length (topmost_first args) ≡ 4 * length args
+unfolding topmost_first
+length-args [] = refl
+length-args (a ∷ args) = omega (arith, length-append (topmost_first args) (bytes_of_word a), length-args args)
+
+pub ruleset arg_turns = (arg_pushed, no_arg_yet, all_args, length-args)
+
+-- values in order
+no_values : (values : List ℕ) (n : ℕ) → length values ≤ n → in_order (drop n values) ≡ []
+unfolding in_order
+no_values [] zero h = refl
+no_values [] (suc n) h = refl
+no_values (v ∷ values) zero h = absurd (grind (arith, common_steps))
+no_values (v ∷ values) (suc n) h = no_values values n (omega (arith, h))
+
+one_value : (values : List ℕ) (n : ℕ) → n < length values → in_order (drop n values) ≡ bytes_of_word (get_or values n 0) ++ in_order (drop (n + 1) values)
+unfolding in_order
+one_value values n within =
+    let next : n + 1 ≡ suc n = omega arith in
+    rw (next, drop-cons values n 0) refl
+
+pub value_pushed : (out : List ℕ) (values : List ℕ) (n : ℕ) → n < length values → (out ++ bytes_of_word (get_or values n 0)) ++ in_order (drop (n + 1) values) ≡ out ++ in_order (drop n values)
+value_pushed out values n within = rw (one_value values n within, append_assoc) refl
+
+pub values_pushed : (out : List ℕ) (values : List ℕ) (n : ℕ) → length values ≤ n → out ++ in_order (drop n values) ≡ out
+values_pushed out values n h = rw (no_values values n h) (append-nil out)
+
+pub length-values : (values : List ℕ) → length (in_order values) ≡ 4 * length values
+unfolding in_order
+length-values [] = refl
+length-values (v ∷ values) = omega (arith, length-values values)
+
+pub ruleset value_turns = (value_pushed, values_pushed, length-values)

@@ -1,0 +1,87 @@
+-- Locals formats and the frames that they make (Glulx 3.1.2, "Call Frames" and "Functions").
+--
+-- A format is the pairs of type and count and an ending pair, as they stand in memory. The type is
+-- the size of each of the pair's locals in bytes.
+use Rattle.std.specs.Prelude.{ℕ, zero, suc, ◌≡◌, ◌+◌, ◌-◌, ◌*◌, ◌%◌, ◌≤◌, ◌==◌, if◌then◌else◌, List, [], ◌∷◌, ◌++◌, length, take, drop, replicate, ◌^◌, map}
+use Rattle.gx_words.specs.Numbers.{IsWidth, byte, number, bytes_of_word, bytes_of_number}
+
+-- pairs of types 1, 2 and 4
+abbrev pub ArePairs : List ℕ → Type 0
+ArePairs [] = Unit {0}
+ArePairs (t ∷ []) = ⊥
+ArePairs (t ∷ n ∷ pairs) = IsWidth t × ArePairs pairs
+
+-- the pairs of a format in front of its ending pair
+abbrev pub pairs_of : List ℕ → List ℕ
+pairs_of format = take (length format - 2) format
+
+-- at most 64 pairs and an ending pair, whose type is 0
+pub record IsFormat (format : List ℕ) : Type 0 where
+  pub pairs : ArePairs (pairs_of format)
+  pub ending : 2 ≤ length format
+  pub ends : byte format (length format - 2) ≡ 0
+  pub few : length format ≤ 130
+
+-- how far it is from an offset to the least multiple of 1, 2 or 4 at or after it
+abbrev pub gap : ℕ → ℕ → ℕ
+gap t at = if t == 1 then 0 else if t == 2 then at % 2 else (4 - at % 4) % 4
+
+-- bytes with zeros up to a multiple of 4
+abbrev pub padded : List ℕ → List ℕ
+padded bytes = bytes ++ replicate (gap 4 (length bytes)) 0
+
+abbrev pub padded_len : ℕ → ℕ
+padded_len n = n + gap 4 n
+
+-- so many locals of t bytes: the arguments in order, each cut to its local, then zeros
+unfoldable pub filled : ℕ → ℕ → List ℕ → List ℕ
+filled t zero args = []
+filled t (suc n) [] = bytes_of_number t 0 ++ filled t n []
+filled t (suc n) (a ∷ args) = bytes_of_number t a ++ filled t n args
+
+-- the locals of pairs from an offset on, each pair's at the least multiple of its type
+unfoldable pub locals : ℕ → List ℕ → List ℕ → List ℕ
+locals at [] args = []
+locals at (t ∷ []) args = []
+locals at (t ∷ n ∷ pairs) args = replicate (gap t at) 0 ++ filled t n args ++ locals (at + gap t at + t * n) pairs (drop n args)
+
+-- how many bytes they are
+unfoldable pub locals_len : ℕ → List ℕ → ℕ
+locals_len at [] = 0
+locals_len at (t ∷ []) = 0
+locals_len at (t ∷ n ∷ pairs) = gap t at + t * n + locals_len (at + gap t at + t * n) pairs
+
+-- LocalsPos and FrameLen
+abbrev pub locals_pos : List ℕ → ℕ
+locals_pos format = 8 + padded_len (length format)
+
+abbrev pub frame_len : List ℕ → ℕ
+frame_len format = locals_pos format + padded_len (locals_len 0 (pairs_of format))
+
+-- The frame of a format with these arguments in its locals: FrameLen, LocalsPos, the pairs and an
+-- ending pair of zeros, the locals.
+unfoldable pub frame : List ℕ → List ℕ → List ℕ
+frame format args =
+    bytes_of_word (frame_len format) ++ bytes_of_word (locals_pos format)
+    ++ padded (pairs_of format ++ 0 ∷ 0 ∷ []) ++ padded (locals 0 (pairs_of format) args)
+
+-- the offset and the size of each of n locals of t bytes that stand from an offset on
+unfoldable pub group : ℕ → ℕ → ℕ → List (ℕ × ℕ)
+group at t zero = []
+group at t (suc n) = (at, t) ∷ group (at + t) t n
+
+-- the offset and the size of each local of pairs, in order
+unfoldable pub local_places : ℕ → List ℕ → List (ℕ × ℕ)
+local_places at [] = []
+local_places at (t ∷ []) = []
+local_places at (t ∷ n ∷ pairs) = group (at + gap t at) t n ++ local_places (at + gap t at + t * n) pairs
+
+-- what locals hold of arguments: each its own, cut to its size, and 0 where there is none left
+unfoldable pub held : List (ℕ × ℕ) → List ℕ → List ℕ
+held [] args = []
+held (local ∷ places) [] = 0 ∷ held places []
+held (local ∷ places) (a ∷ args) = a % 256 ^ local.1 ∷ held places args
+
+-- the numbers that stand at these offsets behind a place
+abbrev pub numbers_at : List ℕ → ℕ → List (ℕ × ℕ) → List ℕ
+numbers_at s place locals = map (λ local. number local.1 s (place + local.0)) locals

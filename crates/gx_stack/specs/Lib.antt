@@ -1,0 +1,7 @@
+pub mod Faults
+pub mod Flat
+pub mod Formats
+pub mod Frames
+pub mod Stubs
+pub mod Values
+pub mod Sound

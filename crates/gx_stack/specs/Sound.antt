@@ -1,0 +1,14 @@
+-- What holds of every stack.
+use Rattle.std.specs.Prelude.{◌≡◌, ◌^◌, ◌%◌, ◌≤◌, length, vec_capacity}
+use Rattle.gx_stack.specs.Flat.{FlatStack}
+use Rattle.gx_stack.specs.declared.Stack.TheInside.{Inside}
+
+abbrev pub flat_of : Inside → FlatStack
+flat_of s = record { bytes = s.bytes.items; limit = s.limit }
+
+-- all that the limit allows has its room already, so nothing that is pushed wants memory
+pub record IsSound (s : Inside) : Type 0 where
+  pub size : length s.bytes.items ≤ s.limit
+  pub words : length s.bytes.items % 4 ≡ 0
+  pub limit : s.limit ≤ 2 ^ 24
+  pub room : s.limit ≤ vec_capacity s.bytes

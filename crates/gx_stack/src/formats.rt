@@ -1,0 +1,143 @@
+//! The frame of a locals format (Glulx 3.1.2, "Call Frames" and "Functions").
+//!
+//! Each group of locals begins at the least multiple of its size at or after the end of the group
+//! before, a group of no locals too. The frame is pushed onto a Vec that has the room for it.
+ghost use Rattle.std.specs.Prelude.{◌≡◌, ◌+◌, ◌*◌, ◌%◌, ◌≤◌, ◌<◌, ◌^◌, ◌++◌, length, drop, replicate, slice_index, vec_len, vec_capacity};
+ghost use Rattle.gx_words.specs.Numbers.{IsWidth};
+ghost use Rattle.gx_stack.specs.Formats.{ArePairs, IsFormat, pairs_of, gap, filled, locals, locals_len, locals_pos, frame_len, frame};
+
+use crate::room::{push_bytes, push_number, push_word, push_zeros};
+
+/// How far it is to the least multiple of 1, 2 or 4 at or after an offset.
+fn gap(width: u32, at: u32) -> u32
+    requires { IsWidth width }
+    ensures value { result ≡ gap width at }
+    ensures multiple { (at + result) % width ≡ 0 }
+    ensures least { result < width }
+{
+    match width {
+        1 => 0,
+        2 => at % 2,
+        _ => (4 - at % 4) % 4,
+    }
+}
+
+/// What stands behind the first n.
+fn behind<T>(items: &[T], n: usize) -> &[T]
+    ensures { result.now ≡ drop n items.now }
+{
+    if n <= items.len() {
+        items.split_at(n).1
+    } else {
+        &[]
+    }
+}
+
+/// The first argument, or 0.
+fn first_of(args: &[u32]) -> u32
+    ensures { result ≡ slice_index args.now 0 }
+{
+    if args.is_empty() { 0 } else { args[0] }
+}
+
+/// Pushes so many locals of one size: the arguments in order, then zeros.
+#[tactic(auto, using(crate::proofs::Turns::filled_turns))]
+fn push_filled(out: &mut Vec<u8>, width: u32, count: u32, args: &[u32])
+    requires width { IsWidth width }
+    requires room { vec_len out.old + width * count ≤ vec_capacity out.old }
+    ensures items { out.new.items ≡ out.old.items ++ filled width count args.now }
+    ensures len { vec_len out.new ≡ vec_len out.old + width * count }
+    ensures room { vec_capacity out.old ≤ vec_capacity out.new }
+{
+    if count == 0 {
+        return;
+    }
+    push_number(out, width, first_of(args));
+    push_filled(out, width, count - 1, behind(args, 1));
+}
+
+/// Pushes the locals of pairs, from an offset on.
+#[tactic(auto, using(crate::proofs::Turns::locals_turns))]
+fn push_locals(out: &mut Vec<u8>, at: u32, pairs: &[u8], args: &[u32])
+    requires pairs { ArePairs pairs.now }
+    requires at { at + locals_len at pairs.now < 2 ^ 32 }
+    requires room { vec_len out.old + locals_len at pairs.now ≤ vec_capacity out.old }
+    ensures items { out.new.items ≡ out.old.items ++ locals at pairs.now args.now }
+    ensures len { vec_len out.new ≡ vec_len out.old + locals_len at pairs.now }
+    ensures room { vec_capacity out.old ≤ vec_capacity out.new }
+{
+    if pairs.len() < 2 {
+        return;
+    }
+    let width = u32::from(pairs[0]);
+    let count = u32::from(pairs[1]);
+    let before = gap(width, at);
+    push_zeros(out, before);
+    push_filled(out, width, count, args);
+    push_locals(
+        out,
+        at + before + width * count,
+        behind(pairs, 2),
+        behind(args, count as usize),
+    );
+}
+
+/// How many bytes the locals of pairs are, from an offset on.
+#[tactic(auto, using(crate::proofs::Turns::locals_turns))]
+fn locals_len(at: u32, pairs: &[u8]) -> u32
+    requires pairs { ArePairs pairs.now }
+    requires at { at + 1023 * length pairs.now < 2 ^ 31 }
+    ensures value { result ≡ locals_len at pairs.now }
+    ensures bound { result ≤ 1023 * length pairs.now }
+{
+    if pairs.len() < 2 {
+        return 0;
+    }
+    let width = u32::from(pairs[0]);
+    let count = u32::from(pairs[1]);
+    let here = gap(width, at) + width * count;
+    here + locals_len(at + here, behind(pairs, 2))
+}
+
+/// LocalsPos: how far the locals stand from the frame's begin.
+fn locals_pos(format: &[u8]) -> u32
+    requires { IsFormat format.now }
+    ensures value { result ≡ locals_pos format.now }
+    ensures fits { result ≤ 144 }
+{
+    let len = format.len() as u32;
+    8 + len + gap(4, len)
+}
+
+/// FrameLen: how many bytes the frame of a format is.
+///
+/// The format is that of a function in memory: at most 64 pairs, and its ending pair.
+pub fn frame_len(format: &[u8]) -> u32
+    requires { IsFormat format.now }
+    ensures value { result ≡ frame_len format.now }
+    ensures words { result % 4 ≡ 0 }
+    ensures fits { result < 2 ^ 18 }
+{
+    let body = locals_len(0, &format[..format.len() - 2]);
+    locals_pos(format) + body + gap(4, body)
+}
+
+/// Pushes the frame of a format, with arguments in its locals.
+#[tactic(auto, using(crate::proofs::Pieces::frame_pieces))]
+pub fn push_frame(out: &mut Vec<u8>, format: &[u8], args: &[u32])
+    requires format { IsFormat format.now }
+    requires room { vec_len out.old + frame_len format.now ≤ vec_capacity out.old }
+    ensures items { out.new.items ≡ out.old.items ++ frame format.now args.now }
+    ensures len { vec_len out.new ≡ vec_len out.old + frame_len format.now }
+    ensures room { vec_capacity out.old ≤ vec_capacity out.new }
+{
+    let pairs = &format[..format.len() - 2];
+    let body = locals_len(0, pairs);
+    push_word(out, frame_len(format));
+    push_word(out, locals_pos(format));
+    push_bytes(out, pairs);
+    push_bytes(out, &[0, 0]);
+    push_zeros(out, gap(4, format.len() as u32));
+    push_locals(out, 0, pairs, args);
+    push_zeros(out, gap(4, body));
+}

@@ -1,0 +1,133 @@
+//! Call frames on the stack (Glulx 3.1.2, "Call Frames"): finding, entering and leaving them.
+ghost use Rattle.std.specs.Prelude.{◌≡◌, ◌+◌, ◌*◌, ◌%◌, ◌≤◌, ◌++◌, [], length, take, IfOk, OnOk};
+ghost use Rattle.gx_words.specs.Results.{Alters};
+ghost use Rattle.gx_stack.specs.Formats.{IsFormat, pairs_of, locals_pos, frame_len, local_places, held, numbers_at};
+ghost use Rattle.gx_stack.specs.Frames.{IsGood, IsFrame, KeepsFrames, parts, frame_in, entered, with_args};
+
+use crate::formats::{frame_len, push_frame};
+use crate::room::push_word;
+use crate::{Stack, StackFault};
+use gx_words::word_at;
+
+/// Where the parts of a good frame stand on the stack.
+#[derive(Clone, Copy, Debug, PartialEq, Eq)]
+pub struct Frame {
+    /// Its begin, which is FramePtr while its function runs.
+    pub fp: u32,
+    /// The begin of its locals.
+    pub locals: u32,
+    /// The begin of its values.
+    pub values: u32,
+}
+
+impl Stack {
+    /// The frame at a place.
+    pub fn frame(&self, fp: u32) -> Result<Frame, StackFault>
+        ensures value { result ≡ frame_in self.now.bytes fp }
+        ensures good { IfOk result (λ frame. IsFrame self.now.bytes frame) }
+        ensures place { IfOk result (λ frame. frame.fp ≡ fp) }
+    {
+        self.frame_at(fp, self.size())
+    }
+
+    /// The frame at a place of the stack cut to `sp`.
+    #[tactic(auto, unfolding(crate::specs::Frames::frame_in), using(crate::proofs::Kept::cuts))]
+    pub fn frame_at(&self, fp: u32, sp: u32) -> Result<Frame, StackFault>
+        requires there { sp ≤ length self.now.bytes }
+        requires words { sp % 4 ≡ 0 }
+        ensures value { result ≡ frame_in (take sp self.now.bytes) fp }
+        ensures good { IfOk result (λ frame. IsFrame (take sp self.now.bytes) frame) }
+        ensures place { IfOk result (λ frame. frame.fp ≡ fp) }
+    {
+        let _size = self.size();
+        if u64::from(fp) + 8 > u64::from(sp) || fp % 4 != 0 {
+            return Err(StackFault::BadFrame);
+        }
+        let len = word_at(&self.bytes, fp as usize);
+        let locals = word_at(&self.bytes, fp as usize + 4);
+        if len % 4 != 0
+            || locals < 8
+            || len < locals
+            || u64::from(fp) + u64::from(len) > u64::from(sp)
+        {
+            return Err(StackFault::BadFrame);
+        }
+        Ok(Frame {
+            fp,
+            locals: fp + locals,
+            values: fp + len,
+        })
+    }
+
+    /// The frame at a place where one is known to be good.
+    pub fn parts(&self, fp: u32) -> Frame
+        requires { IsGood self.now.bytes fp }
+        ensures value { result ≡ parts self.now.bytes fp }
+        ensures frame { IsFrame self.now.bytes result }
+    {
+        let _size = self.size();
+        Frame {
+            fp,
+            locals: fp + word_at(&self.bytes, fp as usize + 4),
+            values: fp + word_at(&self.bytes, fp as usize),
+        }
+    }
+
+    /// Pushes the frame of a format, with all locals zero.
+    pub fn enter_frame(&mut self, format: &[u8]) -> Result<Frame, StackFault>
+        requires { IsFormat format.now }
+        ensures value { Alters result self.old self.new (entered self.old format.now []) }
+        ensures parts { IfOk result (λ frame. frame ≡ parts self.new.bytes (length self.old.bytes)) }
+        ensures good { IfOk result (λ frame. IsFrame self.new.bytes frame) }
+        ensures keeps { KeepsFrames self.old.bytes self.new.bytes }
+        ensures size { OnOk result (length self.new.bytes ≡ length self.old.bytes + frame_len format.now) }
+    {
+        self.enter_with(format, &[])
+    }
+
+    /// Pushes the frame of a function of type C1: the arguments stand in its locals in order, each
+    /// cut to the local's size. Arguments without a local are dropped, locals without one are zero.
+    #[tactic(auto, unfolding(crate::specs::Frames::entered), using(crate::proofs::Kept::entered_frames, crate::proofs::Locals::locals_read))]
+    pub fn enter_with(&mut self, format: &[u8], args: &[u32]) -> Result<Frame, StackFault>
+        requires { IsFormat format.now }
+        ensures value { Alters result self.old self.new (entered self.old format.now args.now) }
+        ensures parts { IfOk result (λ frame. frame ≡ parts self.new.bytes (length self.old.bytes)) }
+        ensures good { IfOk result (λ frame. IsFrame self.new.bytes frame) }
+        ensures keeps { KeepsFrames self.old.bytes self.new.bytes }
+        ensures size { OnOk result (length self.new.bytes ≡ length self.old.bytes + frame_len format.now) }
+        ensures locals { OnOk result (let places = local_places 0 (pairs_of format.now) in let at = length self.old.bytes + locals_pos format.now in numbers_at self.new.bytes at places ≡ held places args.now) }
+        ensures place { IfOk result (λ frame. frame.locals ≡ length self.old.bytes + locals_pos format.now) }
+    {
+        let fp = self.size();
+        if fp + frame_len(format) > self.limit {
+            return Err(StackFault::Overflow);
+        }
+        push_frame(&mut self.bytes, format, args);
+        Ok(self.parts(fp))
+    }
+
+    /// Pushes the arguments of a function of type C0, the first topmost, and their count on top.
+    #[tactic(auto, using(crate::proofs::Turns::arg_turns, crate::proofs::Kept::frame_after_push))]
+    pub fn push_args(&mut self, args: &[u32])
+        requires room { length self.old.bytes + 4 * (length args.now + 1) ≤ self.old.limit }
+        ensures value { self.new ≡ record self.old { bytes = with_args self.old.bytes args.now } }
+        ensures keeps { KeepsFrames self.old.bytes self.new.bytes }
+        ensures size { length self.new.bytes ≡ length self.old.bytes + 4 * (length args.now + 1) }
+    {
+        let count = args.len();
+        for i in 0..count {
+            push_word(&mut self.bytes, args[count - 1 - i]);
+        }
+        push_word(&mut self.bytes, count as u32);
+    }
+
+    /// Cuts the stack to the begin of a frame, or to any other place.
+    pub fn leave_frame(&mut self, fp: u32)
+        requires whole { fp ≤ length self.old.bytes }
+        requires words { fp % 4 ≡ 0 }
+        ensures value { self.new ≡ record self.old { bytes = take fp self.old.bytes } }
+        ensures size { length self.new.bytes ≡ fp }
+    {
+        self.bytes.truncate(fp as usize);
+    }
+}

@@ -1,0 +1,108 @@
+//! The stack of the machine: frames, call stubs and values on one list of bytes of fixed room.
+//!
+//! The stack grows upward from 0, and its numbers stand big-endian (Glulx 3.1.2, "The Stack").
+//! - `frames` finds, enters and leaves call frames, whose bytes `formats` makes.
+//! - `stubs` pushes and pops call stubs.
+//! - `values` has the values of a frame and its locals.
+//!
+//! Contracts see a stack as its bytes and its limit. The whole limit is asked for at once, so that
+//! only `new` and `copy` may want memory. After a refusal the stack is as before.
+//!
+//! A call that is given a frame wants a good one: one that `frame` or an entry answered, as long as
+//! the stack wasn't cut below its values since. A format has at most 64 pairs.
+#![tactic(auto)]
+
+ghost use Rattle.std.specs.Prelude.{◌≡◌, ◌%◌, ◌≤◌, ◌^◌, [], length, IfOk};
+
+mod faults;
+mod formats;
+mod frames;
+mod room;
+mod stubs;
+mod values;
+
+pub use faults::StackFault;
+pub use formats::frame_len;
+pub use frames::Frame;
+use gx_words::Bytes;
+use room::push_bytes;
+use std::alloc::{AllocError, Global};
+use std::marker::Model;
+pub use stubs::Stub;
+
+/// A stack of bytes. Its size is at every time a multiple of 4.
+#[derive(Drop)]
+pub struct Stack {
+    bytes: Vec<u8>,
+    limit: u32,
+}
+
+impl Model for Stack {
+    ghost use Rattle.gx_stack.specs.Flat.{FlatStack};
+
+    ghost Value = { FlatStack };
+
+    ghost use Rattle.gx_stack.specs.Sound.{flat_of, IsSound};
+
+    ghost view = { flat_of };
+
+    ghost invariant = { IsSound };
+}
+
+impl Stack {
+    /// An empty stack that has the room for `limit` bytes.
+    pub fn new(alloc: Global, limit: u32) -> Result<Stack, AllocError>
+        requires { limit ≤ 2 ^ 24 }
+        ensures { IfOk result (λ stack. stack ≡ record { bytes = []; limit = limit }) }
+    {
+        let bytes = Vec::with_capacity(alloc, limit as usize)?;
+        Ok(Stack { bytes, limit })
+    }
+
+    /// All bytes, the oldest first.
+    pub fn bytes(&self) -> &[u8]
+        ensures value { result.now ≡ self.now.bytes }
+        ensures fits { length result.now ≤ self.now.limit }
+        ensures words { length result.now % 4 ≡ 0 }
+    {
+        &self.bytes
+    }
+
+    /// How many bytes there are: the stack pointer.
+    pub fn size(&self) -> u32
+        ensures value { result ≡ length self.now.bytes }
+        ensures fits { result ≤ self.now.limit }
+        ensures words { result % 4 ≡ 0 }
+    {
+        self.bytes.len() as u32
+    }
+
+    /// How many bytes there may be.
+    pub fn limit(&self) -> u32
+        ensures value { result ≡ self.now.limit }
+        ensures fits { result ≤ 2 ^ 24 }
+    {
+        let _bytes = &self.bytes;
+        self.limit
+    }
+
+    /// The bytes as a list of their own.
+    pub fn copy(&self, alloc: Global) -> Result<Bytes, AllocError>
+        ensures { IfOk result (λ copy. copy ≡ self.now.bytes) }
+    {
+        Bytes::from_slice(alloc, &self.bytes)
+    }
+
+    /// Makes these the bytes of the stack.
+    pub fn put_back(&mut self, bytes: &[u8])
+        requires words { length bytes.now % 4 ≡ 0 }
+        requires fits { length bytes.now ≤ self.old.limit }
+        ensures { self.new ≡ record self.old { bytes = bytes.now } }
+    {
+        self.bytes.clear();
+        push_bytes(&mut self.bytes, bytes);
+    }
+}
+
+#[cfg(test)]
+mod tests;

@@ -1,0 +1,73 @@
+-- Entry of a function (Glulx 3.1.2, "Call Frames" and "Functions"), and the state in which a story starts.
+--
+-- The faults of an entry are looked for in this order: room for the stubs, the function's type, the
+-- count of arguments, its locals format, room for the frame.
+use Rattle.std.specs.Prelude.{ℕ, ◌+◌, ◌-◌, ◌*◌, ◌/◌, ◌%◌, ◌==◌, ◌||◌, nat_lt, nat_le, if◌then◌else◌, List, [], ◌∷◌, ◌++◌, length, take, replicate, Result, Ok, Err}
+use Rattle.gx_words.specs.declared.faults.Fault.{Fault}
+use Rattle.gx_words.specs.declared.faults.Fault.TheVariants.{BadFunction, Overflow}
+use Rattle.gx_words.specs.Results.{◌>>=◌}
+use Rattle.gx_pages.specs.Memory.{number_in}
+use Rattle.gx_stack.specs.declared.stubs.Stub.{Stub}
+use Rattle.gx_stack.specs.Formats.{frame, frame_len}
+use Rattle.gx_stack.specs.Frames.{with_args}
+use Rattle.gx_stack.specs.Stubs.{stubs_bytes}
+use Rattle.heap_blocks.specs.Heap.{inactive}
+use Rattle.ops_calc.specs.declared.random.Generator.TheVariants.{Outside}
+use Rattle.gx_story.specs.Stories.{FlatStory}
+use Rattle.gx_state.specs.declared.modes.Mode.TheVariants.{Running}
+use Rattle.gx_state.specs.Flat.{FlatState}
+
+-- the type of a function
+unfoldable pub kind_at : List ℕ → ℕ → Result ℕ Fault
+kind_at memory at = do
+  kind ← number_in 1 memory at
+  if kind == 0xC0 || kind == 0xC1 then Ok kind else Err BadFunction
+
+-- the locals format at an address: so far only the ending pair, whose type is 0
+unfoldable pub format_at : List ℕ → ℕ → Result (List ℕ) Fault
+format_at memory at = do
+  pair ← number_in 2 memory at
+  if pair / 256 == 0 then Ok (0 ∷ pair % 256 ∷ []) else Err BadFunction
+
+-- what an entry pushes: a function of type C0 has its arguments on the stack and their count on top,
+-- one of type C1 has them in its locals
+abbrev pub entry_bytes : ℕ → List ℕ → List ℕ → List ℕ
+entry_bytes kind format args = if kind == 0xC0 then with_args (frame format []) args else frame format args
+
+abbrev pub entry_len : ℕ → List ℕ → ℕ → ℕ
+entry_len kind format count = if kind == 0xC0 then frame_len format + 4 * (count + 1) else frame_len format
+
+-- The stack is cut, stubs are pushed, and the function at an address is entered with arguments.
+unfoldable pub entered : FlatState → ℕ → List Stub → ℕ → List ℕ → Result FlatState Fault
+entered f sp stubs at args =
+    let fp = sp + 16 * length stubs in
+    if nat_lt f.stack.limit fp then Err Overflow else (do
+      kind ← kind_at f.memory at
+      if nat_lt 255 (length args) then Err BadFunction else (do
+        format ← format_at f.memory (at + 1)
+        if nat_lt f.stack.limit (fp + entry_len kind format (length args)) then Err Overflow else
+            Ok (record f {
+              stack = record f.stack { bytes = (take sp f.stack.bytes ++ stubs_bytes stubs) ++ entry_bytes kind format args };
+              fp = fp;
+              pc = at + 1 + length format;
+            })))
+
+-- the state before the start function is entered: the stored part and zeros up to ENDMEM
+abbrev pub initial : FlatStory → FlatState
+initial story = record {
+  memory = story.bytes ++ replicate (story.endmem - length story.bytes) 0;
+  stack = record { bytes = []; limit = story.stack_size };
+  fp = 0;
+  pc = 0;
+  table = story.table;
+  iosys = (0, 0);
+  protected = (0, 0);
+  heap = inactive;
+  generator = Outside;
+  mode = Running;
+  story = story;
+}
+
+-- The state in which a story starts: its start function is entered without arguments.
+unfoldable pub started : FlatStory → Result FlatState Fault
+started story = entered (initial story) 0 [] story.start_function []

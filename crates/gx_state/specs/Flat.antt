@@ -1,0 +1,80 @@
+-- The state of the machine as numbers and lists (Glulx 3.1.2, "The Machine").
+use Rattle.std.specs.Prelude.{◌≡◌, ℕ, ◌+◌, ◌%◌, ◌<◌, ◌≤◌, List, length, take, Result, Ok, Err}
+use Rattle.gx_words.specs.declared.faults.Fault.{Fault}
+use Rattle.gx_words.specs.Numbers.{spliced}
+use Rattle.gx_words.specs.Results.{◌>>=◌}
+use Rattle.gx_stack.specs.declared.frames.Frame.{Frame}
+use Rattle.gx_stack.specs.Faults.{lifted}
+use Rattle.gx_stack.specs.Flat.{FlatStack}
+use Rattle.gx_stack.specs.Frames.{parts}
+use Rattle.gx_stack.specs.Values as values
+use Rattle.heap_blocks.specs.Heap.{FlatHeap}
+use Rattle.ops_calc.specs.declared.random.Generator.{Generator}
+use Rattle.gx_story.specs.Stories.{FlatStory}
+use Rattle.gx_state.specs.declared.modes.Mode.{Mode}
+
+-- Memory and the stack are lists of bytes. The iosystem is a system and its rock, the protected range
+-- an address and a count. The story is what the file said: its header and its stored bytes.
+pub record FlatState : Type 0 where
+  pub memory : List ℕ
+  pub stack : FlatStack
+  pub fp : ℕ
+  pub pc : ℕ
+  pub table : ℕ
+  pub iosys : ℕ × ℕ
+  pub protected : ℕ × ℕ
+  pub heap : FlatHeap
+  pub generator : Generator
+  pub mode : Mode
+  pub story : FlatStory
+
+-- What contracts see of a State: the flat state, and beside it the room in its list of heap blocks,
+-- of which no rule speaks.
+pub record HeldState : Type 0 where
+  pub flat : FlatState
+  pub spare : ℕ
+
+-- the state and its stack pointer
+abbrev pub sp_of : FlatState → ℕ
+sp_of f = length f.stack.bytes
+
+-- the present frame
+abbrev pub frame_of : FlatState → Frame
+frame_of f = parts f.stack.bytes f.fp
+
+-- a stack pointer of the frame: a multiple of 4 between the begin of its values and the top
+pub record IsHeight (f : FlatState) (sp : ℕ) : Type 0 where
+  pub live : 0 < sp_of f
+  pub values : (frame_of f).values ≤ sp
+  pub there : sp ≤ sp_of f
+  pub words : sp % 4 ≡ 0
+
+-- all that is written lies in RAM; nothing may be written anywhere
+abbrev pub InRam : FlatState → ℕ → ℕ → Type 0
+InRam f at count = 0 < count → (f.story.ramstart ≤ at) × (at + count ≤ length f.memory)
+
+-- the stack cut to a stack pointer
+abbrev pub cut : FlatState → ℕ → FlatState
+cut f sp = record f { stack = record f.stack { bytes = take sp f.stack.bytes } }
+
+-- bytes written over those of memory from an address on
+abbrev pub written : FlatState → ℕ → List ℕ → FlatState
+written f at bytes = record f { memory = spliced f.memory at bytes }
+
+-- a value pushed
+unfoldable pub pushed : FlatState → ℕ → Result FlatState Fault
+pushed f v = do
+  s ← lifted (values.pushed f.stack v)
+  Ok (record f { stack = s })
+
+-- values pushed, the first deepest
+unfoldable pub pushed_all : FlatState → List ℕ → Result FlatState Fault
+pushed_all f vs = do
+  s ← lifted (values.pushed_all f.stack vs)
+  Ok (record f { stack = s })
+
+-- the low bytes of a number put into a local of the frame
+unfoldable pub with_local : FlatState → ℕ → ℕ → ℕ → Result FlatState Fault
+with_local f at width v = do
+  s ← lifted (values.with_local f.stack (frame_of f) at width v)
+  Ok (record f { stack = s })

@@ -1,0 +1,5 @@
+pub mod Flat
+pub mod Sound
+pub mod Views
+pub mod Entry
+pub mod Replies

@@ -1,0 +1,29 @@
+-- Answers to what a step asks.
+use Rattle.std.specs.Prelude.{ℕ, ◌+◌, ◌<◌, ◌≤◌, List, [], ◌∷◌, length}
+use Rattle.gx_state.specs.declared.effects.Effect.{Effect}
+use Rattle.gx_state.specs.declared.effects.Effect.TheVariants.{Went, Drew, Put, Glk, Quit, Spent}
+use Rattle.gx_state.specs.declared.effects.Reply.{Reply}
+use Rattle.gx_state.specs.Flat.{FlatState}
+
+-- each write lies between two addresses; no bytes may be written anywhere
+abbrev pub AllBetween : ℕ → ℕ → List (ℕ × List ℕ) → Type 0
+AllBetween low high [] = Unit {0}
+AllBetween low high (w ∷ ws) = (0 < length w.1 → (low ≤ w.0) × (w.0 + length w.1 ≤ high)) × AllBetween low high ws
+
+-- each write lies in RAM
+abbrev pub AllInRam : FlatState → List (ℕ × List ℕ) → Type 0
+AllInRam f ws = AllBetween f.story.ramstart (length f.memory) ws
+
+-- A reply to an asking with so much room on the stack.
+pub record IsReply (f : FlatState) (room : ℕ) (reply : Reply) : Type 0 where
+  pub writes : AllInRam f reply.writes
+  pub pushes : length reply.pushes ≤ room
+
+-- an effect that asks nothing
+abbrev pub IsDone : Effect → Type 0
+IsDone Went = Unit {0}
+IsDone Drew = Unit {0}
+IsDone (Put c) = ⊥
+IsDone (Glk selector args room) = ⊥
+IsDone Quit = Unit {0}
+IsDone Spent = Unit {0}

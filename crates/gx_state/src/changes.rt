@@ -1,0 +1,106 @@
+//! Writes to memory, and changes of the present frame.
+ghost use Rattle.std.specs.Prelude.{◌≡◌, ◌+◌, ◌*◌, ◌<◌, ◌≤◌, length, OnOk, OnErr};
+ghost use Rattle.gx_words.specs.Numbers.{IsWidth};
+ghost use Rattle.gx_words.specs.Faults.{TakesNone};
+ghost use Rattle.gx_words.specs.Results.{Alters};
+ghost use Rattle.gx_pages.specs.Memory.{all_spliced};
+ghost use Rattle.gx_state.specs.Flat.{IsHeight, InRam, cut, frame_of, sp_of, written, pushed, pushed_all, with_local};
+ghost use Rattle.gx_state.specs.Replies.{AllInRam};
+
+use crate::State;
+use gx_words::{Fault, Writes};
+use std::alloc::{AllocError, Allocator};
+
+impl<A: Allocator + Clone> State<A> {
+    /// Writes bytes to RAM. No bytes may be written at any address.
+    #[tactic(auto, using(crate::proofs::Kept::rom_written, crate::proofs::Kept::heap_again))]
+    pub fn write(&mut self, at: u32, bytes: &[u8]) -> Result<(), AllocError>
+        requires { InRam self.old.flat at (length bytes.now) }
+        ensures ok { OnOk result (self.new ≡ record self.old { flat = written self.old.flat at bytes.now }) }
+        ensures err { OnErr result (self.new ≡ self.old) }
+        ensures size { length self.new.flat.memory ≡ length self.old.flat.memory }
+    {
+        self.memory.write(at, bytes)
+    }
+
+    /// Makes each write to RAM, the first of them first, or none.
+    #[tactic(auto, using(crate::proofs::Kept::writes))]
+    pub fn write_all(&mut self, writes: &Writes) -> Result<(), AllocError>
+        requires { AllInRam self.old.flat writes.now }
+        ensures ok { OnOk result (self.new ≡ record self.old { flat = record self.old.flat { memory = all_spliced self.old.flat.memory writes.now } }) }
+        ensures err { OnErr result (self.new ≡ self.old) }
+        ensures size { length self.new.flat.memory ≡ length self.old.flat.memory }
+    {
+        self.memory.write_all(writes)
+    }
+
+    /// Makes each write to RAM, the first of them first, and then one more; all of them or none.
+    #[tactic(auto, using(crate::proofs::Kept::writes))]
+    pub fn write_all_and(
+        &mut self,
+        writes: &Writes,
+        at: u32,
+        bytes: &[u8],
+    ) -> Result<(), AllocError>
+        requires writes { AllInRam self.old.flat writes.now }
+        requires last { InRam self.old.flat at (length bytes.now) }
+        ensures ok { OnOk result (self.new ≡ record self.old { flat = written (record self.old.flat { memory = all_spliced self.old.flat.memory writes.now }) at bytes.now }) }
+        ensures err { OnErr result (self.new ≡ self.old) }
+        ensures size { length self.new.flat.memory ≡ length self.old.flat.memory }
+    {
+        self.memory.write_all_and(writes, at, bytes)
+    }
+
+    /// Pushes values, the first deepest; `Overflow` exactly where they don't all fit.
+    #[tactic(auto, unfolding(crate::specs::Flat::pushed_all, gx_stack::specs::Values::pushed_all), using(crate::proofs::Kept::framed))]
+    pub fn push_all(&mut self, values: &[u32]) -> Result<(), Fault>
+        requires { 0 < sp_of self.old.flat }
+        ensures value { Alters result self.old.flat self.new.flat (pushed_all self.old.flat values.now) }
+        ensures size { OnOk result (sp_of self.new.flat ≡ sp_of self.old.flat + 4 * length values.now) }
+        ensures limit { self.new.flat.stack.limit ≡ self.old.flat.stack.limit }
+        ensures spare { self.new.spare ≡ self.old.spare }
+        ensures memory { TakesNone result }
+    {
+        self.stack.push_all(values)?;
+        Ok(())
+    }
+
+    /// Pushes a value; `Overflow` exactly where it doesn't fit.
+    #[tactic(auto, unfolding(crate::specs::Flat::pushed, gx_stack::specs::Values::pushed), using(crate::proofs::Kept::framed))]
+    pub fn push(&mut self, v: u32) -> Result<(), Fault>
+        requires { 0 < sp_of self.old.flat }
+        ensures value { Alters result self.old.flat self.new.flat (pushed self.old.flat v) }
+        ensures spare { self.new.spare ≡ self.old.spare }
+        ensures memory { TakesNone result }
+    {
+        self.stack.push(v)?;
+        Ok(())
+    }
+
+    /// Cuts the stack, which keeps its frame.
+    #[tactic(auto, using(crate::proofs::Kept::framed))]
+    pub fn cut_stack(&mut self, sp: u32)
+        requires { IsHeight self.old.flat sp }
+        ensures value { self.new ≡ record self.old { flat = cut self.old.flat sp } }
+        ensures height { IsHeight self.new.flat sp }
+    {
+        self.stack.leave_frame(sp);
+    }
+
+    /// Puts the low 1, 2 or 4 bytes of a number into the local at an offset; `BadLocal` exactly where
+    /// the frame has no such local.
+    #[tactic(auto, unfolding(crate::specs::Flat::with_local, gx_stack::specs::Values::with_local), using(crate::proofs::Kept::framed))]
+    pub fn set_local(&mut self, at: u32, width: u32, v: u32) -> Result<(), Fault>
+        requires live { 0 < sp_of self.old.flat }
+        requires width { IsWidth width }
+        ensures value { Alters result self.old.flat self.new.flat (with_local self.old.flat at width v) }
+        ensures frame { frame_of self.new.flat ≡ frame_of self.old.flat }
+        ensures height { sp_of self.new.flat ≡ sp_of self.old.flat }
+        ensures spare { self.new.spare ≡ self.old.spare }
+        ensures memory { TakesNone result }
+    {
+        let frame = self.frame();
+        self.stack.set_local(&frame, at, width, v)?;
+        Ok(())
+    }
+}

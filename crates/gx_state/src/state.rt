@@ -1,0 +1,195 @@
+//! The state, its readers, and the calls that set one part.
+ghost use Rattle.std.specs.Prelude.{◌≡◌, ◌<◌, ◌≤◌, length};
+ghost use Rattle.gx_stack.specs.Frames.{IsFrame};
+ghost use Rattle.gx_story.specs.Stories.{IsStory, is_checked};
+ghost use Rattle.gx_state.specs.Flat.{frame_of, sp_of};
+
+use crate::Mode;
+use gx_pages::Pages;
+use gx_stack::{Frame, Stack};
+use gx_story::Story;
+use heap_blocks::Heap;
+use ops_calc::Generator;
+use std::alloc::Allocator;
+use std::marker::Model;
+
+/// The state of a machine.
+#[derive(Drop)]
+pub struct State<A: Allocator + Clone> {
+    pub(crate) story: Story,
+    pub(crate) memory: Pages<A>,
+    pub(crate) stack: Stack,
+    pub(crate) fp: u32,
+    pub(crate) pc: u32,
+    pub(crate) table: u32,
+    pub(crate) iosys: (u32, u32),
+    pub(crate) protected: (u32, u32),
+    pub(crate) heap: Heap,
+    pub(crate) generator: Generator,
+    pub(crate) mode: Mode,
+}
+
+impl<A: Allocator + Clone> Model for State<A> {
+    ghost use Rattle.gx_state.specs.Flat.{HeldState};
+
+    ghost Value = { HeldState };
+
+    ghost use Rattle.gx_state.specs.Views.{held_of, IsKept};
+
+    ghost view = { held_of };
+
+    ghost invariant = { IsKept };
+}
+
+impl<A: Allocator + Clone> State<A> {
+    /// Memory.
+    pub fn memory(&self) -> &Pages<A>
+        ensures { result.now ≡ self.now.flat.memory }
+    {
+        &self.memory
+    }
+
+    /// The stack.
+    pub fn stack(&self) -> &Stack
+        ensures { result.now ≡ self.now.flat.stack }
+    {
+        &self.stack
+    }
+
+    /// The memory allocation heap.
+    pub fn heap(&self) -> &Heap
+        ensures { result.now.heap ≡ self.now.flat.heap }
+    {
+        &self.heap
+    }
+
+    /// The story that the state began with.
+    pub fn story(&self) -> &Story
+        ensures { result.now ≡ self.now.flat.story }
+    {
+        &self.story
+    }
+
+    /// The address of the next instruction.
+    pub fn pc(&self) -> u32
+        ensures { result ≡ self.now.flat.pc }
+    {
+        self.pc
+    }
+
+    /// FramePtr: where the present frame begins on the stack.
+    pub fn fp(&self) -> u32
+        ensures { result ≡ self.now.flat.fp }
+    {
+        self.fp
+    }
+
+    /// The present frame.
+    pub fn frame(&self) -> Frame
+        requires { 0 < sp_of self.now.flat }
+        ensures value { result ≡ frame_of self.now.flat }
+        ensures good { IsFrame self.now.flat.stack.bytes result }
+    {
+        self.stack.parts(self.fp)
+    }
+
+    /// The address of the string decoding table, 0 for none.
+    pub fn table(&self) -> u32
+        ensures { result ≡ self.now.flat.table }
+    {
+        self.table
+    }
+
+    /// The iosystem and its rock.
+    pub fn iosys(&self) -> (u32, u32)
+        ensures { result ≡ self.now.flat.iosys }
+    {
+        self.iosys
+    }
+
+    /// The protected range: its address and how many bytes it has.
+    pub fn protected(&self) -> (u32, u32)
+        ensures { result ≡ self.now.flat.protected }
+    {
+        self.protected
+    }
+
+    /// Where random words come from.
+    pub fn generator(&self) -> &Generator
+        ensures { result.now ≡ self.now.flat.generator }
+    {
+        &self.generator
+    }
+
+    /// Whether the machine runs code or prints.
+    pub fn mode(&self) -> Mode
+        ensures { result ≡ self.now.flat.mode }
+    {
+        self.mode
+    }
+
+    /// The first address that the story may write to.
+    pub fn ramstart(&self) -> u32
+        ensures value { result ≡ self.now.flat.story.ramstart }
+        ensures sound { IsStory self.now.flat.story }
+    {
+        self.story.ramstart()
+    }
+
+    /// The first size of memory, which it never falls below.
+    pub fn endmem(&self) -> u32
+        ensures value { result ≡ self.now.flat.story.endmem }
+        ensures within { result ≤ length self.now.flat.memory }
+    {
+        self.story.endmem()
+    }
+
+    /// Whether the stored part has the checksum that the header states.
+    pub fn checksum_ok(&self) -> bool
+        ensures { result ≡ is_checked self.now.flat.story }
+    {
+        self.story.checksum_ok()
+    }
+
+    /// Sets the address of the next instruction.
+    pub fn set_pc(&mut self, pc: u32)
+        ensures { self.new ≡ record self.old { flat = record self.old.flat { pc = pc } } }
+    {
+        self.pc = pc;
+    }
+
+    /// Sets the address of the string decoding table.
+    pub fn set_table(&mut self, at: u32)
+        ensures { self.new ≡ record self.old { flat = record self.old.flat { table = at } } }
+    {
+        self.table = at;
+    }
+
+    /// Sets the iosystem and its rock.
+    pub fn set_iosys(&mut self, system: u32, rock: u32)
+        ensures { self.new ≡ record self.old { flat = record self.old.flat { iosys = (system, rock) } } }
+    {
+        self.iosys = (system, rock);
+    }
+
+    /// Sets the protected range.
+    pub fn set_protected(&mut self, at: u32, count: u32)
+        ensures { self.new ≡ record self.old { flat = record self.old.flat { protected = (at, count) } } }
+    {
+        self.protected = (at, count);
+    }
+
+    /// Sets whether the machine runs code or prints.
+    pub fn set_mode(&mut self, mode: Mode)
+        ensures { self.new ≡ record self.old { flat = record self.old.flat { mode = mode } } }
+    {
+        self.mode = mode;
+    }
+
+    /// Sets where random words come from.
+    pub fn set_generator(&mut self, generator: Generator)
+        ensures { self.new ≡ record self.old { flat = record self.old.flat { generator = generator } } }
+    {
+        self.generator = generator;
+    }
+}

@@ -1,0 +1,27 @@
+-- What the tests of a header say.
+use Rattle.std.proofs.Common.{◌≡◌, ◌≤◌, ℕ, true, List, length}
+use Rattle.std.proofs.lemmas.Bool.{leb-true, and_parts, eqb-true}
+use Rattle.std.proofs.lemmas.List.{length-take-le}
+use Rattle.gx_story.specs.declared.headers.Header.{Header}
+use Rattle.gx_story.specs.Stories.{IsStory, has_sizes, memory_limit, stack_limit, stored_story}
+
+pub is_story : (header : Header) (bytes : List ℕ) → has_sizes header ≡ true → header.endmem ≤ memory_limit → header.stack_size ≤ stack_limit → header.extstart ≤ length bytes → IsStory (stored_story header bytes)
+is_story header bytes sizes memory stack stored =
+    let g = and_parts _ _ sizes in
+    let f = and_parts _ _ g.0 in
+    let e = and_parts _ _ f.0 in
+    let d = and_parts _ _ e.0 in
+    let c = and_parts _ _ d.0 in
+    let b = and_parts _ _ c.0 in
+    record {
+      ramstart_whole = eqb-true _ _ b.0;
+      extstart_whole = eqb-true _ _ b.1;
+      endmem_whole = eqb-true _ _ c.1;
+      stack_whole = eqb-true _ _ d.1;
+      header_first = leb-true _ _ e.1;
+      ramstart_first = leb-true _ _ f.1;
+      extstart_first = leb-true _ _ g.1;
+      memory_limited = memory;
+      stack_limited = stack;
+      stored_whole = length-take-le header.extstart bytes stored;
+    }

@@ -1,0 +1,4 @@
+pub mod Blorbs
+pub mod Faults
+pub mod Stories
+pub mod Views

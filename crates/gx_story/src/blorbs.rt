@@ -1,0 +1,99 @@
+//! The story in a Blorb (Blorb 2.0.4: the resource index and executable resources).
+//!
+//! A Blorb is a form of kind `IFRS`. Its index, the chunk `RIdx`, names the resources; the first of
+//! them that is executable and has number 0 is the story, in a chunk `GLUL`. Pictures and sounds are
+//! passed over unread.
+//!
+//! `story_in` is the definition of that name in specs/Blorbs for every list of bytes.
+ghost use Rattle.std.specs.Prelude.{◌≡◌, ◌+◌, ◌*◌, ◌≤◌, length, IsErrOf, IsOk};
+ghost use Rattle.std.specs.List.{find};
+ghost use Rattle.gx_words.specs.Results.{Gives};
+ghost use Rattle.iff_chunks.specs.Chunks.{form_in};
+ghost use Rattle.gx_story.specs.Blorbs.{entries_from, entry_at, ifrs, is_story, story_entry, story_in};
+
+use crate::StoryFault;
+use gx_words::word_at;
+use iff_chunks::read_form;
+use std::alloc::Global;
+
+/// The length of the count with which an index begins, and of an entry.
+const COUNT_LEN: usize = 4;
+
+const ENTRY_LEN: usize = 12;
+
+/// An entry of the index: what a resource is for, its number, and the place of its chunk's header
+/// from the first byte of the file.
+#[derive(Clone, Copy)]
+pub(crate) struct Entry {
+    pub usage: [u8; 4],
+    pub number: u32,
+    pub start: u32,
+}
+
+impl Entry {
+    /// The entry at a place of an index.
+    fn read(index: &[u8], at: usize) -> Entry
+        requires { at + 12 ≤ length index.now }
+        ensures { result ≡ entry_at index.now at }
+    {
+        Entry {
+            usage: [index[at], index[at + 1], index[at + 2], index[at + 3]],
+            number: word_at(index, at + 4),
+            start: word_at(index, at + 8),
+        }
+    }
+
+    /// Whether it names the story: the executable resource with number 0.
+    fn is_story(&self) -> bool
+        ensures { result ≡ is_story self.now }
+    {
+        self.usage == *b"Exec" && self.number == 0
+    }
+}
+
+/// The bare story in a Blorb.
+#[tactic(auto, unfolding(crate::specs::Blorbs::story_in))]
+pub(crate) fn story_in<'a>(alloc: Global, file: &'a [u8]) -> Result<&'a [u8], StoryFault>
+    ensures value { Gives StoryFault.NoMemory (λ story. story.now) result (story_in file.now) }
+    ensures memory { IsErrOf result StoryFault.NoMemory → IsOk (form_in file.now ifrs) }
+{
+    let form = read_form(alloc, file, *b"IFRS")?;
+    let index = form.first(*b"RIdx").ok_or(StoryFault::Blorb)?;
+    let entry = story_entry(index.body(file)).ok_or(StoryFault::Blorb)?;
+    let chunk = form.at(entry.start as usize).ok_or(StoryFault::Blorb)?;
+    if chunk.id != *b"GLUL" {
+        return Err(StoryFault::Blorb);
+    }
+    Ok(chunk.body(file))
+}
+
+/// The first entry of an index that names the story; None too where the index is shorter than its
+/// count says.
+#[tactic(auto, unfolding(crate::specs::Blorbs::story_entry))]
+fn story_entry(index: &[u8]) -> Option<Entry>
+    ensures { result ≡ story_entry index.now }
+{
+    if index.len() < COUNT_LEN {
+        return None;
+    }
+    let count = word_at(index, 0) as usize;
+    if index.len() < COUNT_LEN + ENTRY_LEN * count {
+        return None;
+    }
+    first_story(index, count)
+}
+
+/// The first of so many entries that names the story.
+#[tactic(auto, using(crate::proofs::Entries::entry_turns))]
+fn first_story(index: &[u8], count: usize) -> Option<Entry>
+    requires { 4 + 12 * count ≤ length index.now }
+    ensures { result ≡ find is_story (entries_from count index.now 4) }
+{
+    for number in 0..count {
+        let entry = Entry::read(index, COUNT_LEN + ENTRY_LEN * number);
+        if entry.is_story() {
+            return Some(entry);
+        }
+    }
+    None
+}

@@ -1,0 +1,149 @@
+//! Lists that grow at their end and keep their allocator.
+//!
+//! Contracts see each as the list of its items. `new` takes no memory; after a refusal a list is
+//! as it was.
+ghost use Rattle.std.specs.Prelude.{◌≡◌, ◌++◌, ◌∷◌, [], length, take, encode_utf8, OnOk, OnErr, IfOk};
+
+use std::alloc::{AllocError, Global};
+use std::marker::Model;
+
+/// A list of items.
+#[derive(Drop)]
+pub struct Items<T> {
+    all: Vec<T>,
+}
+
+/// A list of bytes.
+pub type Bytes = Items<u8>;
+
+/// A list of 32-bit numbers.
+pub type Numbers = Items<u32>;
+
+/// A list of pairs of an address and the bytes to be written there.
+pub type Writes = Items<(u32, Bytes)>;
+
+/// A list of pairs of an address and a length.
+pub type Blocks = Items<(u32, u32)>;
+
+impl<T> Model for Items<T> {
+    ghost use Rattle.std.specs.Prelude.{List};
+
+    ghost Value = { List T };
+
+    ghost view = { λ items. items.all.items };
+}
+
+impl<T> Items<T> {
+    /// An empty list.
+    pub fn new(alloc: Global) -> Self
+        ensures { result ≡ [] }
+    {
+        Items {
+            all: Vec::new(alloc),
+        }
+    }
+
+    pub fn len(&self) -> usize
+        ensures { result ≡ length self.now }
+    {
+        self.all.len()
+    }
+
+    pub fn as_slice(&self) -> &[T]
+        ensures { result.now ≡ self.now }
+    {
+        self.all.as_slice()
+    }
+}
+
+impl<T: Drop> Items<T> {
+    /// Adds an item at the end.
+    pub fn push(&mut self, item: T) -> Result<(), AllocError>
+        ensures ok { OnOk result (self.new ≡ self.old ++ item ∷ []) }
+        ensures err { OnErr result (self.new ≡ self.old) }
+    {
+        self.all.push(item)?;
+        Ok(())
+    }
+
+    /// Keeps the first `count` items.
+    pub fn truncate(&mut self, count: usize)
+        ensures { self.new ≡ take count self.old }
+    {
+        self.all.truncate(count);
+    }
+}
+
+impl Bytes {
+    /// The bytes of a slice.
+    pub fn from_slice(alloc: Global, bytes: &[u8]) -> Result<Self, AllocError>
+        ensures { IfOk result (λ copy. copy ≡ bytes.now) }
+    {
+        Ok(Items {
+            all: Vec::from_slice(alloc, bytes)?,
+        })
+    }
+
+    /// Adds the bytes of a slice at the end.
+    pub fn extend_from_slice(&mut self, bytes: &[u8]) -> Result<(), AllocError>
+        ensures ok { OnOk result (self.new ≡ self.old ++ bytes.now) }
+        ensures err { OnErr result (self.new ≡ self.old) }
+    {
+        self.all.extend_from_slice(bytes)
+    }
+}
+
+/// The name of a file, as text. Contracts see its bytes in UTF-8.
+#[derive(Drop)]
+pub struct Name {
+    text: String,
+}
+
+impl Model for Name {
+    ghost use Rattle.std.specs.Prelude.{ℕ, List, string_bytes};
+
+    ghost Value = { List ℕ };
+
+    ghost view = { λ name. string_bytes name.text };
+}
+
+impl Name {
+    /// An empty name.
+    pub fn new(alloc: Global) -> Self
+        ensures { result ≡ [] }
+    {
+        Name {
+            text: String::new(alloc),
+        }
+    }
+
+    /// The name that a text spells.
+    pub fn from_str(alloc: Global, text: &str) -> Result<Self, AllocError>
+        ensures { IfOk result (λ name. name ≡ text.now) }
+    {
+        Ok(Name {
+            text: String::from_str(alloc, text)?,
+        })
+    }
+
+    /// Its length in bytes.
+    pub fn len(&self) -> usize
+        ensures { result ≡ length self.now }
+    {
+        self.text.len()
+    }
+
+    /// Adds a character at the end.
+    pub fn push(&mut self, item: char) -> Result<(), AllocError>
+        ensures ok { OnOk result (self.new ≡ self.old ++ encode_utf8 item) }
+        ensures err { OnErr result (self.new ≡ self.old) }
+    {
+        self.text.push(item)
+    }
+
+    pub fn as_str(&self) -> &str
+        ensures { result.now ≡ self.now }
+    {
+        self.text.as_str()
+    }
+}

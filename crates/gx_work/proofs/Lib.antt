@@ -1,0 +1,4 @@
+pub mod Turns
+pub mod Words
+pub mod Pages
+pub mod Stories

@@ -1,0 +1,77 @@
+-- The story of a number (Glulx 3.1.2, "The Memory Map"): a page with header and code, and RAM.
+use Rattle.std.specs.Prelude.{◌≡◌, ℕ, zero, suc, ◌+◌, ◌*◌, ◌%◌, ◌^◌, ◌==◌, if◌then◌else◌, List, [], ◌∷◌, ◌++◌, length, replicate}
+use Rattle.std.specs.List.{flat_map}
+use Rattle.gx_words.specs.Numbers.{word, bytes_of_word}
+
+-- RAM has from 64 to 262,144 words
+abbrev pub ram_count : ℕ → ℕ
+ram_count number = 64 * (1 + number % 4096)
+
+abbrev pub ram_word : ℕ → ℕ → ℕ
+ram_word number index = (number + index) * 0x9E3779B1 % 2 ^ 32
+
+-- the bytes of the first words of RAM
+unfoldable pub ram : ℕ → ℕ → List ℕ
+ram zero number = []
+ram (suc n) number = ram n number ++ bytes_of_word (ram_word number n)
+
+-- the sum of the first words of RAM
+unfoldable pub ram_sum : ℕ → ℕ → ℕ
+ram_sum zero number = 0
+ram_sum (suc n) number = ram_sum n number + ram_word number n
+
+-- magic, version 3.1.2, RAMSTART, EXTSTART, ENDMEM, stack size, start function, no table, checksum
+abbrev pub header : ℕ → ℕ → List ℕ
+header size checksum =
+    flat_map bytes_of_word (0x476C756C ∷ 0x00030102 ∷ 0x100 ∷ size ∷ size ∷ 0x100 ∷ 0x24 ∷ 0 ∷ checksum ∷ [])
+
+-- sends output to Glk and opens a text window for it
+abbrev pub opening : List ℕ
+opening =
+    (0x81 ∷ 0x49 ∷ 0x01 ∷ 0x02 ∷ []) ++  -- setiosys 2 0
+    (0x40 ∷ 0x80 ∷ 0x40 ∷ 0x81 ∷ 0x03 ∷ []) ++  -- copy 0 sp, copy 3 sp
+    (0x40 ∷ 0x80 ∷ 0x40 ∷ 0x80 ∷ 0x40 ∷ 0x80 ∷ []) ++  -- copy 0 sp, three times
+    (0x81 ∷ 0x30 ∷ 0x11 ∷ 0x08 ∷ 0x23 ∷ 0x05 ∷ []) ++  -- glk window_open 5 sp
+    (0x81 ∷ 0x30 ∷ 0x11 ∷ 0x00 ∷ 0x2F ∷ 0x01 ∷ [])  -- glk set_window 1
+
+-- a function that sums up so many words of RAM in place and prints the last sum
+abbrev pub code : ℕ → List ℕ
+code count =
+    (0xC1 ∷ 0x04 ∷ 0x02 ∷ 0x00 ∷ 0x00 ∷ []) ++  -- two locals: the index of a word, the sum
+    opening ++
+    (0x48 ∷ 0x92 ∷ 0x08 ∷ 0x01 ∷ 0x00 ∷ 0x00 ∷ []) ++  -- aload 0x100 index sp
+    (0x10 ∷ 0x98 ∷ 0x09 ∷ 0x04 ∷ 0x04 ∷ []) ++  -- add sp sum sum
+    (0x4C ∷ 0x92 ∷ 0x09 ∷ 0x01 ∷ 0x00 ∷ 0x00 ∷ 0x04 ∷ []) ++  -- astore 0x100 index sum
+    (0x10 ∷ 0x19 ∷ 0x09 ∷ 0x00 ∷ 0x01 ∷ 0x00 ∷ []) ++  -- add index 1 index
+    (0x2A ∷ 0x39 ∷ 0x01 ∷ 0x00 ∷ []) ++ bytes_of_word count ++ (0xE1 ∷ []) ++  -- jltu index count, to the aload
+    (0x71 ∷ 0x09 ∷ 0x04 ∷ []) ++  -- streamnum sum
+    (0x70 ∷ 0x01 ∷ 0x0A ∷ []) ++  -- streamchar 10
+    (0x81 ∷ 0x20 ∷ [])  -- quit
+
+-- the bytes before RAM, for so many words of RAM
+unfoldable pub page : ℕ → ℕ → List ℕ
+page count checksum = header (0x100 + 4 * count) checksum ++ code count ++ replicate 147 0
+
+-- the sum of the first words, that at 0x20 taken as zero
+unfoldable pub sum_of_words : ℕ → List ℕ → ℕ
+sum_of_words zero bytes = 0
+sum_of_words (suc n) bytes = sum_of_words n bytes + (if n == 8 then 0 else word bytes (4 * n))
+
+-- the story with a checksum
+unfoldable pub story_with : ℕ → ℕ → List ℕ
+story_with number checksum = page (ram_count number) checksum ++ ram (ram_count number) number
+
+-- the story whose checksum is the sum modulo 2^32 of its words with that word zero
+unfoldable pub work_story : ℕ → List ℕ
+work_story number = story_with number (sum_of_words (64 + ram_count number) (story_with number 0) % 2 ^ 32)
+
+-- what the header says of the story
+pub record HasHeader (story : List ℕ) : Type 0 where
+  pub magic : word story 0x00 ≡ 0x476C756C
+  pub version : word story 0x04 ≡ 0x00030102
+  pub ramstart : word story 0x08 ≡ 0x100
+  pub extstart : word story 0x0C ≡ length story
+  pub endmem : word story 0x10 ≡ length story
+  pub stack_size : word story 0x14 ≡ 0x100
+  pub start_function : word story 0x18 ≡ 0x24
+  pub table : word story 0x1C ≡ 0

@@ -1,0 +1,119 @@
+-- The blocks of the memory allocation heap, and where the next one goes (Glulx 3.1.2,
+-- "Memory Allocation Heap").
+use Rattle.std.specs.Prelude.{◌≡◌, ℕ, ◌+◌, ◌^◌, ◌<◌, ◌≤◌, ◌⊎◌, Bool, ◌==◌, nat_le, nat_lt, if◌then◌else◌, List, [], ◌∷◌, length, All, AllPairs, Option, Some, None, MatchOption}
+use Rattle.std.specs.Option.{option_map}
+
+-- a block is its address and its length
+abbrev pub Block : Type 0
+Block = ℕ × ℕ
+
+abbrev pub end_of : Block → ℕ
+end_of b = b.0 + b.1
+
+-- where the heap begins, and its blocks in rising order
+pub record FlatHeap : Type 0 where
+  pub start : ℕ
+  pub blocks : List Block
+
+-- a heap beside the number of blocks that it has room for
+pub record HeldHeap : Type 0 where
+  pub heap : FlatHeap
+  pub spare : ℕ
+
+-- a heap is inactive as long as it has no block
+abbrev pub inactive : FlatHeap
+inactive = record { start = 0; blocks = [] }
+
+abbrev pub is_inactive : FlatHeap → Bool
+is_inactive h = length h.blocks == 0
+
+-- blocks that aren't empty, the first at or after an address and each other at or after the end
+-- of the one before: so they rise, and no two of them meet
+abbrev pub Rises : ℕ → List Block → Type 0
+Rises from [] = Unit {0}
+Rises from (b ∷ bs) = (from ≤ b.0) × (0 < b.1) × Rises (end_of b) bs
+
+-- no block goes past an address
+abbrev pub EndsBy : ℕ → List Block → Type 0
+EndsBy limit [] = Unit {0}
+EndsBy limit (b ∷ bs) = (end_of b ≤ limit) × EndsBy limit bs
+
+-- what holds of every heap; each block ends below 2^32
+pub record IsSound (h : FlatHeap) : Type 0 where
+  pub rises : Rises h.start h.blocks
+  pub ends : EndsBy 0xFFFFFFFF h.blocks
+  pub none : length h.blocks ≡ 0 → h.start ≡ 0
+
+-- the same in plain words: each block isn't empty and lies between the start and 2^32, and of any
+-- two the one ends before the other begins
+pub record AreApart (h : FlatHeap) : Type 0 where
+  pub each : All (λ b. (h.start ≤ b.0) × (0 < b.1) × (end_of b < 2 ^ 32)) h.blocks
+  pub apart : AllPairs (λ a b. end_of a ≤ b.0) h.blocks
+
+-- nothing of a heap lies past an address
+pub record LiesBelow (limit : ℕ) (h : FlatHeap) : Type 0 where
+  pub start : h.start ≤ limit
+  pub ends : EndsBy limit h.blocks
+
+-- no block has one of the n bytes at an address
+abbrev pub IsFree : List Block → ℕ → ℕ → Type 0
+IsFree [] at n = Unit {0}
+IsFree (b ∷ bs) at n = ((at + n ≤ b.0) ⊎ (end_of b ≤ at)) × IsFree bs at n
+
+-- the address at which the heap begins, or would begin with its first block
+abbrev pub low : FlatHeap → ℕ → ℕ
+low h end = if is_inactive h then end else h.start
+
+-- n bytes at an address are a block that the heap can get
+pub record IsPlace (h : FlatHeap) (end n ceiling at : ℕ) : Type 0 where
+  pub start : low h end ≤ at
+  pub ends : at + n ≤ ceiling
+  pub free : IsFree h.blocks at n
+
+-- The standard leaves the address open. It is the least one at which n bytes fit, or none where they
+-- fit nowhere, so that it depends on the live blocks alone.
+abbrev pub IsLeast : FlatHeap → ℕ → ℕ → ℕ → Option ℕ → Type 0
+IsLeast h end n ceiling found =
+    MatchOption found
+    ((at : ℕ) → IsPlace h end n ceiling at → ⊥)
+    (λ least. IsPlace h end n ceiling least × ((at : ℕ) → IsPlace h end n ceiling at → least ≤ at))
+
+-- the first gap of n bytes from an address on, among blocks in rising order
+abbrev pub gap : ℕ → ℕ → List Block → ℕ
+gap n at [] = at
+gap n at (b ∷ bs) = if nat_le (at + n) b.0 then at else gap n (end_of b) bs
+
+-- malloc: the address of a block of n bytes that ends at or below a ceiling
+abbrev pub place : FlatHeap → ℕ → ℕ → ℕ → Option ℕ
+place h end n ceiling =
+    if nat_le (gap n (low h end) h.blocks + n) ceiling
+    then Some (gap n (low h end) h.blocks)
+    else None
+
+-- a block put in order among the others
+unfoldable pub inserted : Block → List Block → List Block
+inserted x [] = x ∷ []
+inserted x (b ∷ bs) = if nat_lt b.0 x.0 then b ∷ inserted x bs else x ∷ b ∷ bs
+
+-- malloc: the heap with one more block, which begins at `end` where it was inactive
+abbrev pub added : FlatHeap → ℕ → Block → FlatHeap
+added h end x = record { start = low h end; blocks = inserted x h.blocks }
+
+-- the other blocks, where one begins at an address
+unfoldable pub without : ℕ → List Block → Option (List Block)
+without at [] = None
+without at (b ∷ bs) = if b.0 == at then Some bs else option_map (λ rest. b ∷ rest) (without at bs)
+
+-- mfree: the heap without that block, inactive where it was the last
+abbrev pub left_by : FlatHeap → List Block → FlatHeap
+left_by h rest = record { start = if length rest == 0 then 0 else h.start; blocks = rest }
+
+abbrev pub freed : FlatHeap → ℕ → Option FlatHeap
+freed h at = option_map (left_by h) (without at h.blocks)
+
+-- what a call that frees a block answers and leaves: nothing changes where no block begins at the
+-- address; else the answer says whether it was the last, and no room is lost
+abbrev pub Frees : HeldHeap → HeldHeap → Option FlatHeap → Option Bool → Type 0
+Frees old new None answer = (answer ≡ None) × (new ≡ old)
+Frees old new (Some left) answer =
+    (answer ≡ Some (is_inactive left)) × (new.heap ≡ left) × (old.spare ≤ new.spare)

@@ -1,0 +1,76 @@
+//! One chunk of a form: its letters, and where its body lies.
+ghost use Rattle.std.specs.Prelude.{◌≡◌, ◌+◌, ◌≤◌, ◌<◌, ◌^◌, length, IfOk, IfErr, ◌≢◌};
+ghost use Rattle.iff_chunks.specs.Chunks.{Is, body, id_at, part_at, word};
+
+use crate::IffFault;
+use byteorder::{BigEndian, ByteOrder};
+
+/// The length of a chunk's header: its letters and its body's length.
+pub(crate) const HEADER_LEN: usize = 8;
+
+/// A chunk of a form. `at` is the place of its body from the first byte of the form, `len` the
+/// length of the body, without the byte that may fill it up.
+#[derive(Clone, Copy, Debug, PartialEq, Eq)]
+pub struct Part {
+    pub id: [u8; 4],
+    pub at: usize,
+    pub len: usize,
+}
+
+impl Part {
+    /// The chunk whose header begins at a place of the form.
+    #[tactic(auto, unfolding(crate::specs::Chunks::part_at))]
+    pub(crate) fn read(form: &[u8], place: usize) -> Result<Part, IffFault>
+        requires { place < length form.now }
+        ensures value { Is (λ part. part) result (part_at form.now place) }
+        ensures memory { IfErr result (λ fault. fault ≢ IffFault.NoMemory) }
+        ensures within { IfOk result (λ part. part.at + part.len ≤ length form.now) }
+        ensures start { IfOk result (λ part. part.at ≡ place + 8) }
+    {
+        let rest = form.len() - place;
+        if rest < HEADER_LEN {
+            return Err(IffFault::Cut);
+        }
+        let len = word_at(form, place + 4);
+        if rest - HEADER_LEN < len {
+            return Err(IffFault::Cut);
+        }
+        Ok(Part {
+            id: id_at(form, place),
+            at: place + HEADER_LEN,
+            len,
+        })
+    }
+
+    /// The body, given the bytes that the form was read from.
+    pub fn body(self, bytes: &[u8]) -> &[u8]
+        ensures { result.now ≡ body bytes.now self }
+    {
+        let start = self.at.min(bytes.len());
+        let rest = &bytes[start..];
+        let len = self.len.min(rest.len());
+        &rest[..len]
+    }
+}
+
+/// The number in the four bytes from a place on.
+pub(crate) fn word_at(bytes: &[u8], place: usize) -> usize
+    requires { place + 4 ≤ length bytes.now }
+    ensures value { result ≡ word bytes.now place }
+    ensures fits { result < 2 ^ 32 }
+{
+    BigEndian::read_u32(&bytes[place..]) as usize
+}
+
+/// The four letters from a place on.
+pub(crate) fn id_at(bytes: &[u8], place: usize) -> [u8; 4]
+    requires { place + 4 ≤ length bytes.now }
+    ensures { result ≡ id_at bytes.now place }
+{
+    [
+        bytes[place],
+        bytes[place + 1],
+        bytes[place + 2],
+        bytes[place + 3],
+    ]
+}

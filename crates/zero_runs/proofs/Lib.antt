@@ -1,0 +1,3 @@
+pub mod PackingTurns
+pub mod UnpackingTurns
+pub mod RoundTrip

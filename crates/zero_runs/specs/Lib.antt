@@ -1,0 +1,3 @@
+pub mod Faults
+pub mod Packing
+pub mod Unpacking
