@@ -20,7 +20,7 @@ ghost use Rattle.glk_dispatch.specs.Turns.{TurnFits};
 use glk_text::show;
 use glk_world::World;
 use gx_state::{Reply, State};
-use gx_words::{Fault, Numbers, Writes};
+use gx_words::Fault;
 use std::alloc::Allocator;
 
 /// What a call asks next, or its answer.
@@ -36,8 +36,8 @@ fn reply(world: &World, value: u32) -> Reply
 {
     Reply {
         value,
-        pushes: Numbers::new(world.allocator()),
-        writes: Writes::new(world.allocator()),
+        pushes: world.numbers(),
+        writes: world.writes(),
     }
 }
 
@@ -75,7 +75,7 @@ fn window_open(world: &mut World, args: &[u32]) -> Result<Turn, Fault>
 {
     match args {
         [0, _, _, 3, _, ..] if !world.is_open() => {
-            world.open();
+            world.open_window();
             Ok(Turn::Answer(reply(world, 1)))
         }
         _ => Err(Fault::BadGlk),

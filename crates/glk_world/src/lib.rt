@@ -10,6 +10,7 @@ mod tests;
 ghost use Rattle.std.specs.Prelude.{◌≡◌, ◌≤◌, ◌==◌, [], ◌++◌, length, true, encode_utf8, OnOk};
 ghost use Rattle.glk_world.specs.World.{empty_world};
 
+use gx_words::{Numbers, Writes};
 use std::alloc::{AllocError, Global};
 use std::marker::Model;
 
@@ -48,9 +49,18 @@ impl World {
         }
     }
 
-    /// The allocator that the world was made with.
-    pub fn allocator(&self) -> Global {
-        self.alloc
+    /// An empty list of numbers, which the world's allocator would fill.
+    pub fn numbers(&self) -> Numbers
+        ensures { result ≡ [] }
+    {
+        Numbers::new(self.alloc)
+    }
+
+    /// An empty list of writes, likewise.
+    pub fn writes(&self) -> Writes
+        ensures { result ≡ [] }
+    {
+        Writes::new(self.alloc)
     }
 
     /// The text that wasn't sent yet, as UTF-8.
@@ -75,7 +85,7 @@ impl World {
     }
 
     /// Opens the text window.
-    pub fn open(&mut self)
+    pub fn open_window(&mut self)
         ensures { self.new ≡ record self.old { scene = record self.old.scene { open_ = true } } }
     {
         self.open = true;

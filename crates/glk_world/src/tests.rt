@@ -6,7 +6,7 @@ use std::test::Fail;
 fn calls(rt: HostRuntime) -> Result<(), Fail> {
     let mut world = World::new(rt.alloc(), 80, 24);
     assert_eq!(rt; (world.is_open(), world.current()), (false, 0));
-    world.open();
+    world.open_window();
     world.set_current(2);
     assert_eq!(rt; (world.is_open(), world.current()), (true, 2));
     world.show('H')?;
@@ -16,5 +16,6 @@ fn calls(rt: HostRuntime) -> Result<(), Fail> {
     world.sent();
     assert_eq!(rt; world.pending(), b"".as_slice());
     assert_eq!(rt; world.current(), 2);
+    assert_eq!(rt; (world.numbers().len(), world.writes().len()), (0, 0));
     Ok(())
 }

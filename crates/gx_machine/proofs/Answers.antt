@@ -53,16 +53,11 @@ print_pends f g i same decoded is height fits =
     })
 
 -- what is pending after a Glk call
-pub glk_pends : (f : FlatState) (i : Instruction) (count room : ℕ) → instruction f ≡ Ok i → i.row.class ≡ class.Glk → IsHeight f i.sp → count ≡ operand_at i 1
-    → count ≤ (i.sp - (frame_of f).values) / 4 → store_fault f 4 i.dest (i.sp - 4 * count) ≡ Ok tt → i.sp - 4 * count + 4 * room + result_len i.dest ≤ f.stack.limit
+pub glk_pends : (f : FlatState) (i : Instruction) (count room : ℕ) → instruction f ≡ Ok i → i.row.class ≡ class.Glk → count ≡ operand_at i 1
+    → IsHeight f (i.sp - 4 * count) → store_fault f 4 i.dest (i.sp - 4 * count) ≡ Ok tt → i.sp - 4 * count + 4 * room + result_len i.dest ≤ f.stack.limit
     → Pends f (record { asking = asking.Glk room; sp = i.sp - 4 * count; dest = i.dest; next = i.next })
-glk_pends f i count room decoded is height counted enough stores fits = record {
-  height = record {
-    live = height.live;
-    values = omega (arith, height.values, enough);
-    there = omega (arith, height.there);
-    words = omega (arith, height.words, height.values, enough);
-  };
+glk_pends f i count room decoded is counted height stores fits = record {
+  height = height;
   stores = stores;
   room = fits;
   answers = λ reply. rw counted (glk_answers f i reply decoded is);

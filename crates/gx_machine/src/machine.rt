@@ -6,8 +6,9 @@ ghost use Rattle.gx_words.specs.Results.{Gives};
 ghost use Rattle.gx_state.specs.Flat.{IsHeight, sp_of};
 ghost use Rattle.gx_state.specs.Replies.{AllInRam, IsReply};
 ghost use Rattle.gx_operands.specs.Instructions.{instruction};
-ghost use Rattle.gx_operands.specs.Stores.{IsMemory, store_fault};
+ghost use Rattle.gx_operands.specs.Stores.{store_fault};
 ghost use Rattle.gx_machine.specs.Answer.{answered, answered_state, with_writes, with_pushes, CanAnswer};
+ghost use Rattle.gx_machine.specs.Rows.{Writes};
 ghost use Rattle.gx_machine.specs.Start.{begun};
 ghost use Rattle.gx_machine.specs.Step.{asking_of, stepped};
 ghost use Rattle.gx_machine.specs.Views.{Pends, told_room, result_len};
@@ -87,7 +88,7 @@ impl<A: Allocator + Clone> Machine<A> {
         requires { self.old.asking ≡ None }
         ensures step { Does (λ effect. effect) result (self.old, budget.old) (self.new, budget.new) (stepped self.old word budget.old) }
         ensures stands { IfOk result (λ effect. IsSome (asking_of effect) → self.new.machine ≡ self.old.machine) }
-        ensures memory { IsErrOf result NoMemory → IfOk (instruction self.old.machine.flat) (λ i. IsMemory i.dest) }
+        ensures memory { IsErrOf result NoMemory → IfOk (instruction self.old.machine.flat) (λ i. Writes i.row.class self.old.machine.flat i) }
     {
         let _word = word;
         if *budget == 0 {

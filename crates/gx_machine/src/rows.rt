@@ -7,8 +7,7 @@ ghost use Rattle.gx_rows.specs.Table.{row_at, RowFits};
 ghost use Rattle.gx_state.specs.Flat.{FlatState, IsHeight};
 ghost use Rattle.gx_operands.specs.Instructions.{instruction};
 ghost use Rattle.gx_operands.specs.Plans.{instruction_of};
-ghost use Rattle.gx_operands.specs.Stores.{IsMemory};
-ghost use Rattle.gx_machine.specs.Rows.{values_below, room_above, glk, row};
+ghost use Rattle.gx_machine.specs.Rows.{room_above, glk, row, Writes};
 ghost use Rattle.gx_machine.specs.Step.{asking_of};
 ghost use Rattle.gx_machine.specs.Views.{Pends, result_len};
 ghost use Rattle.ops_print.specs.Rows.{streamchar};
@@ -16,27 +15,11 @@ ghost use Rattle.std.specs.Option.{option_map};
 
 use crate::Asking;
 use crate::machine::Pending;
-use arrayvec::ArrayVec;
-use gx_operands::{Plan, can_store};
+use gx_operands::{Plan, arguments, can_store};
 use gx_rows::{Class, row_at};
 use gx_state::{Dest, Effect, State};
-use gx_words::{Fault, word_at};
+use gx_words::Fault;
 use std::alloc::Allocator;
-
-/// At most eight values below a stack pointer, the topmost first.
-#[tactic(auto, using(crate::proofs::Arguments::values))]
-fn values_below(stack: &[u8], sp: u32, count: u32) -> ArrayVec<u32, 8>
-    requires there { sp ≤ length stack.now }
-    requires count { 4 * count ≤ sp }
-    requires few { count ≤ 8 }
-    ensures { result.items ≡ values_below stack.now sp count }
-{
-    let mut values = ArrayVec::new();
-    for i in 0..count {
-        values.push(word_at(stack, (sp - 4 * (i + 1)) as usize));
-    }
-    values
-}
 
 /// How many words fit above a stack pointer, beside a result that is pushed.
 fn room_above(limit: u32, sp: u32, dest: &Dest) -> u32
@@ -62,18 +45,15 @@ fn glk<A: Allocator + Clone>(state: &State<A>, plan: &Plan) -> Result<(Effect, P
     ensures memory { TakesNone result }
 {
     let count = plan.load(1);
-    let frame = state.frame();
     let limit = state.stack().limit();
     let _size = state.stack().size();
-    if count > (plan.sp - frame.values) / 4 {
-        return Err(Fault::Underflow);
-    }
+    let args = arguments(state, plan.sp, count)?;
     let sp = plan.sp - 4 * count;
     can_store(state, &plan.dest, 4, sp)?;
     let room = room_above(limit, sp, &plan.dest);
     let effect = Effect::Glk {
         selector: plan.load(0),
-        args: values_below(state.stack().bytes(), plan.sp, count.min(8)),
+        args,
         room,
     };
     let pending = Pending {
@@ -131,11 +111,14 @@ pub(crate) fn row<A: Allocator + Clone>(
     ensures stands { IfOk result (λ r. IsSome r.1 → state.new.flat ≡ state.old.flat) }
     ensures pends { IfOk result (λ r. IfSome r.1 (Pends state.new.flat)) }
     ensures budget { left.new ≡ left.old }
-    ensures memory { IsErrOf result NoMemory → IsMemory plan.now.dest }
+    ensures memory { IsErrOf result NoMemory → Writes (row_at plan.now.row).class state.old.flat (instruction_of plan.now) }
 {
     let row = row_at(plan.row);
     match row.class {
-        Class::Copy => Ok((ops_memory::act(state, plan, left)?, None)),
+        Class::Calc | Class::Branch | Class::Flow | Class::Stack => {
+            Ok((ops_flow::act(state, plan)?, None))
+        }
+        Class::Copy | Class::Memory => Ok((ops_memory::act(state, plan, left)?, None)),
         Class::Print if row.number == 0x70 => print(state, plan),
         Class::Game => Ok((ops_game::act(state, plan)?, None)),
         Class::Glk => {

@@ -1,5 +1,5 @@
 -- One operand of those that are left.
-use Rattle.std.proofs.Common.{◌≡◌, ◌≤◌, ◌<◌, ◌+◌, ◌-◌, ◌*◌, ◌%◌, ℕ, suc, refl, arith, Result, Ok, Err}
+use Rattle.std.proofs.Common.{◌≡◌, ◌≤◌, ◌<◌, ◌+◌, ◌-◌, ◌*◌, ◌%◌, ℕ, suc, refl, arith, Ok, Err}
 use Rattle.gx_words.specs.declared.faults.Fault.{Fault}
 use Rattle.gx_rows.specs.declared.instructions.Row.{Row}
 use Rattle.gx_stack.specs.Frames.{IsFrame}

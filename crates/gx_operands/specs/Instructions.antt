@@ -1,6 +1,6 @@
 -- How an instruction is read (Glulx 3.1.2, "Instruction Format"): its number, and its operands from left to
 -- right. The first fault on the way is the instruction's.
-use Rattle.std.specs.Prelude.{◌≡◌, ℕ, ◌+◌, ◌-◌, ◌*◌, ◌/◌, ◌%◌, ◌^◌, ◌≤◌, List, [], ◌∷◌, ◌++◌, length, nat_le, nat_lt, ◌==◌, Bool, true, false, zero, suc, if◌then◌else◌, slice_index, Result, Ok, Err}
+use Rattle.std.specs.Prelude.{ℕ, ◌+◌, ◌-◌, ◌*◌, ◌/◌, ◌%◌, ◌^◌, ◌≤◌, List, [], ◌∷◌, ◌++◌, length, nat_le, nat_lt, ◌==◌, Bool, true, false, zero, suc, if◌then◌else◌, slice_index, Result, Ok, Err}
 use Rattle.std.specs.Option.{ok_or}
 use Rattle.gx_words.specs.declared.faults.Fault.{Fault}
 use Rattle.gx_words.specs.declared.faults.Fault.TheVariants.{BadMode, BadAddress, BadOpcode}

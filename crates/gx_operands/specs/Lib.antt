@@ -1,3 +1,4 @@
 pub mod Instructions
 pub mod Plans
 pub mod Stores
+pub mod Arguments

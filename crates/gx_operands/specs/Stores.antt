@@ -2,7 +2,7 @@
 --
 -- A store after pops changes memory or the local first, then cuts the stack, then pushes: what is
 -- popped lies apart from memory and locals.
-use Rattle.std.specs.Prelude.{ℕ, ◌+◌, ◌-◌, List, ◌++◌, length, nat_le, nat_lt, if◌then◌else◌, Result, Ok, Err}
+use Rattle.std.specs.Prelude.{ℕ, ◌+◌, ◌-◌, ◌++◌, length, nat_le, nat_lt, if◌then◌else◌, Result, Ok, Err}
 use Rattle.gx_words.specs.declared.faults.Fault.{Fault}
 use Rattle.gx_words.specs.declared.faults.Fault.TheVariants.{BadAddress, ReadOnly, Overflow, BadLocal}
 use Rattle.gx_words.specs.Numbers.{bytes_of_number, bytes_of_word, spliced}

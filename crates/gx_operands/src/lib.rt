@@ -4,6 +4,7 @@
 //! - `decoding` reads an instruction into a plan, and changes nothing: the plan is `instruction` of
 //!   specs/Instructions, or its first fault.
 //! - `addressing` has the addressing modes.
+//! - `popped` reads what an instruction pops beside its operands.
 //! - `stores` makes one store, or tells its fault in advance.
 //!
 //! Only a store to memory may want memory, and nothing has changed then.
@@ -11,10 +12,12 @@
 
 mod addressing;
 mod decoding;
+mod popped;
 mod stores;
 
 pub use addressing::{Addressing, Kind, Place};
 pub use decoding::{Plan, decode};
+pub use popped::{arguments, values_to};
 pub use stores::{can_store, settle, store};
 
 #[cfg(test)]

@@ -84,6 +84,7 @@ fn write<A: Allocator + Clone>(
     requires { IsWidth width }
     ensures value { Changes result state.old.flat state.new.flat (stored state.old.flat width (Dest.Memory at) value) }
     ensures frame { (frame_of state.new.flat ≡ frame_of state.old.flat) × (sp_of state.new.flat ≡ sp_of state.old.flat) }
+    ensures spare { state.new.spare ≡ state.old.spare }
 {
     let size = state.memory().size();
     if u64::from(at) + u64::from(width) > u64::from(size) {
@@ -116,6 +117,7 @@ pub fn settle<A: Allocator + Clone>(
     requires width { IsWidth width }
     requires sp { IsHeight state.old.flat sp }
     ensures value { Changes result state.old.flat state.new.flat (settled state.old.flat sp width dest.now value) }
+    ensures spare { state.new.spare ≡ state.old.spare }
     ensures memory { IsErrOf result NoMemory → IsMemory dest.now }
 {
     match *dest {

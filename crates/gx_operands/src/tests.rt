@@ -1,103 +1,129 @@
 //! Every public call, on instructions written by the standard's section on their format.
-use crate::{can_store, decode, settle, store};
+use crate::{arguments, can_store, decode, settle, store};
+use arrayvec::ArrayVec;
 use gx_rows::row_at;
 use gx_state::{Dest, State};
 use gx_story::Story;
 use gx_words::Fault;
 use std::alloc::Global;
-use std::process::Abort;
 use std::test::Fail;
 
-/// A story of two pages, of which the second can be written: a function without locals at 0x24, and
-/// its instructions from 0x27 on.
-fn started(alloc: Global) -> Result<State<Global>, Fail> {
+/// A state before the first instruction of this code, which stands at 0x29 in a function with two
+/// locals of four bytes. There is a page of ROM, a page of RAM and a stack of 256 bytes.
+fn started(alloc: Global, code: &[u8]) -> Result<State<Global>, Fail> {
     let mut file = [0; 256];
-    let start = [
+    let head = [
         0x47, 0x6C, 0x75, 0x6C, 0x00, 0x03, 0x01, 0x02, 0x00, 0x00, 0x01, 0x00, 0x00, 0x00, 0x01,
         0x00, 0x00, 0x00, 0x02, 0x00, 0x00, 0x00, 0x01, 0x00, 0x00, 0x00, 0x00, 0x24, 0x00, 0x00,
-        0x00, 0x00, 0x00, 0x00, 0x00, 0x00, 0xC1, 0x00, 0x00, // the header and the function
-        0x40, 0x61, 0x12, 0x01, 0x40, // copy 0x12 to the word at 0x140
-        0x40, 0x86, 0x01, 0x40, // copy that word to the stack
-        0x42, 0xD1, 0xFF, 0x43, // copyb -1 to RAM at 0x43
-        0x11, 0x28, 0x08, 0x80, 0x00, // sub the popped value, -0x8000 to the stack
-        0x81, 0x20, // quit
-        0x40, 0x04, // copy from a mode that isn't there
-        0x40, 0x09, 0x00, // copy from a local that isn't there
-        0x7F, // no instruction
+        0x00, 0x00, 0x00, 0x00, 0x00, 0x00, 0xC1, 0x04, 0x02, 0x00, 0x00,
     ];
-    file[..start.len()].copy_from_slice(&start);
+    file[..head.len()].copy_from_slice(&head);
+    for (to, from) in file[head.len()..].iter_mut().zip(code) {
+        *to = *from;
+    }
     Ok(State::start_with(alloc, alloc, Story::read(alloc, &file)?)?)
 }
 
-/// The instruction at PC has this number, these loads, this destination and this stack pointer.
-/// Its first load is stored, and the next instruction is gone to.
-fn copies(
-    rt: &impl Abort,
-    state: &mut State<Global>,
-    number: u32,
-    loads: &[u32],
-    dest: Dest,
-    sp: u32,
-) -> Result<(), Fail> {
+/// Does the copy at PC, and goes to the next instruction.
+fn copied(state: &mut State<Global>) -> Result<(), Fault> {
     if state.stack().size() == 0 {
-        return Err("there is no frame".into());
+        return Err(Fault::BadFrame);
     }
     let plan = decode(state)?;
-    let row = row_at(plan.row);
-    assert_eq!(rt; (row.number, plan.dest, plan.sp), (number, dest, sp));
-    assert_eq!(rt; plan.loads.as_slice(), loads);
-    let width = u32::from(row.width);
+    let width = u32::from(row_at(plan.row).width);
     can_store(state, &plan.dest, width, plan.sp)?;
     settle(state, plan.sp, &plan.dest, width, plan.load(0))?;
     state.set_pc(plan.next);
     Ok(())
 }
 
+/// What the second instruction loads once the first, a copy, is done; or the first fault.
+fn loaded(alloc: Global, code: &[u8]) -> Result<Result<u32, Fault>, Fail> {
+    let mut state = started(alloc, code)?;
+    if let Err(fault) = copied(&mut state) {
+        return Ok(Err(fault));
+    }
+    if state.stack().size() == 0 {
+        return Err("there is no frame".into());
+    }
+    match decode(&state) {
+        Ok(plan) => Ok(Ok(plan.load(0))),
+        Err(fault) => Ok(Err(fault)),
+    }
+}
+
+/// Each addressing mode as a store, where it is one, and then as a load.
 #[test]
-fn instructions(rt: HostRuntime) -> Result<(), Fail> {
-    let mut state = started(rt.alloc())?;
-    copies(&rt, &mut state, 0x40, &[0x12], Dest::Memory(0x140), 12)?;
-    copies(&rt, &mut state, 0x40, &[0x12], Dest::Push, 12)?;
-    assert_eq!(rt;
-        state.stack().bytes().get(12..),
-        Some([0, 0, 0, 0x12].as_slice())
-    );
-    copies(&rt, &mut state, 0x42, &[0xFF], Dest::Memory(0x143), 16)?;
-    assert_eq!(rt; state.memory().try_number(4, 0x140), Ok(0xFF));
-    copies(&rt, &mut state, 0x11, &[0x12, 0xFFFF_8000], Dest::Push, 12)?;
-    assert_eq!(rt; state.stack().size(), 16);
-    copies(&rt, &mut state, 0x120, &[], Dest::Nowhere, 16)?;
-    assert_eq!(rt; state.pc(), 0x3B);
+fn modes(rt: HostRuntime) -> Result<(), Fail> {
+    let rows: [(&[u8], Result<u32, Fault>); 25] = [
+        (&[0x40, 0x01, 7, 0x40, 0x00], Ok(0)),
+        (&[0x40, 0x00, 0x40, 0x01, 0xFF], Ok(0xFFFF_FFFF)),
+        (&[0x40, 0x00, 0x40, 0x02, 0x80, 0], Ok(0xFFFF_8000)),
+        (
+            &[0x40, 0x00, 0x40, 0x03, 0x12, 0x34, 0x56, 0x78],
+            Ok(0x1234_5678),
+        ),
+        (&[0x40, 0x00, 0x40, 0x04], Err(Fault::BadMode)),
+        (&[0x40, 0x00, 0x40, 0x05, 0], Ok(0x476C_756C)),
+        (&[0x40, 0x61, 7, 1, 8, 0x40, 0x06, 1, 8], Ok(7)),
+        (&[0x40, 0x71, 7, 0, 0, 1, 8, 0x40, 0x07, 0, 0, 1, 8], Ok(7)),
+        (&[0x40, 0x81, 7, 0x40, 0x08], Ok(7)),
+        (&[0x40, 0x91, 7, 4, 0x40, 0x09, 4], Ok(7)),
+        (&[0x40, 0xA1, 7, 0, 4, 0x40, 0x0A, 0, 4], Ok(7)),
+        (&[0x40, 0xB1, 7, 0, 0, 0, 4, 0x40, 0x0B, 0, 0, 0, 4], Ok(7)),
+        (&[0x40, 0x00, 0x40, 0x0C], Err(Fault::BadMode)),
+        (&[0x40, 0xD1, 7, 16, 0x40, 0x06, 1, 16], Ok(7)),
+        (&[0x40, 0xE1, 7, 0, 16, 0x40, 0x0D, 16], Ok(7)),
+        (&[0x40, 0xF1, 7, 0, 0, 0, 16, 0x40, 0x0E, 0, 16], Ok(7)),
+        (
+            &[0x40, 0x00, 0x40, 0x0F, 0xFF, 0xFF, 0xFF, 4],
+            Ok(0x0003_0102),
+        ),
+        (&[0x42, 0x91, 0x55, 4, 0x40, 0x09, 4], Ok(0x5500_0000)),
+        (&[0x40, 0x11, 7, 7], Err(Fault::BadMode)),
+        (&[0x40, 0x41, 7], Err(Fault::BadMode)),
+        (&[0x40, 0x51, 7, 0x40], Err(Fault::ReadOnly)),
+        (&[0x40, 0x61, 7, 1, 0xFD], Err(Fault::BadAddress)),
+        (&[0x40, 0x91, 7, 8], Err(Fault::BadLocal)),
+        (&[0x40, 0x08], Err(Fault::Underflow)),
+        (&[0x7F], Err(Fault::BadOpcode)),
+    ];
+    for (code, wanted) in rows {
+        assert_eq!(rt; loaded(rt.alloc(), code)?, wanted);
+    }
     Ok(())
 }
 
+/// Two loads from left to right, one of them popped, and what the pop leaves.
 #[test]
-fn faults(rt: HostRuntime) -> Result<(), Fail> {
-    let mut state = started(rt.alloc())?;
-    let rows = [
-        (0x3B, Fault::BadMode),
-        (0x3D, Fault::BadLocal),
-        (0x40, Fault::BadOpcode),
-        (0x200, Fault::BadAddress),
-    ];
-    for (pc, fault) in rows {
-        state.set_pc(pc);
-        if state.stack().size() == 0 {
-            return Err("there is no frame".into());
-        }
-        assert_eq!(rt; decode(&state).err(), Some(fault));
+fn operands(rt: HostRuntime) -> Result<(), Fail> {
+    let mut state = started(rt.alloc(), &[0x11, 0x28, 0x06, 0x80, 0, 1, 4])?;
+    if state.stack().size() == 0 {
+        return Err("there is no frame".into());
     }
+    state.push_all(&[9, 5])?;
+    if state.stack().size() == 0 {
+        return Err("there is no frame".into());
+    }
+    let plan = decode(&state)?;
+    assert_eq!(rt; plan.loads.as_slice(), [5, 0xFFFF_8000].as_slice());
+    assert_eq!(rt;
+        (plan.dest, plan.next, plan.sp),
+        (Dest::Memory(0x104), 0x30, 24)
+    );
+    let args: ArrayVec<u32, 8> = arguments(&state, plan.sp, 1)?;
+    assert_eq!(rt; args.as_slice(), [9].as_slice());
     Ok(())
 }
 
 #[test]
 fn stores(rt: HostRuntime) -> Result<(), Fail> {
-    let mut state = started(rt.alloc())?;
+    let mut state = started(rt.alloc(), &[])?;
     let rows = [
         (Dest::Memory(0xFF), 1_u8, Err(Fault::ReadOnly)),
         (Dest::Memory(0x1FD), 4, Err(Fault::BadAddress)),
         (Dest::Memory(0x1FD), 2, Ok(())),
-        (Dest::Local(0), 1, Err(Fault::BadLocal)),
+        (Dest::Local(8), 1, Err(Fault::BadLocal)),
         (Dest::Push, 2, Ok(())),
         (Dest::Nowhere, 1, Ok(())),
     ];
@@ -112,7 +138,7 @@ fn stores(rt: HostRuntime) -> Result<(), Fail> {
     }
     assert_eq!(rt; state.memory().try_number(4, 0x1FC), Ok(0x0002_0300));
     assert_eq!(rt;
-        state.stack().bytes().get(12..),
+        state.stack().bytes().get(20..),
         Some([0, 1, 2, 3].as_slice())
     );
     Ok(())

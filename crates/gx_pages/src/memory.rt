@@ -182,6 +182,25 @@ impl<A: Allocator + Clone> Pages<A> {
         Ok(())
     }
 
+    /// Puts bytes over those from `at` on, and then others over those from `then` on; both or none.
+    pub fn write_both(
+        &mut self,
+        at: u32,
+        bytes: &[u8],
+        then: u32,
+        others: &[u8],
+    ) -> Result<(), AllocError>
+        requires first { IsInside at (length bytes.now) (length self.old) }
+        requires second { IsInside then (length others.now) (length self.old) }
+        ensures ok { OnOk result (self.new ≡ spliced (spliced self.old at bytes.now) then others.now) }
+        ensures err { OnErr result (self.new ≡ self.old) }
+        ensures size { length self.new ≡ length self.old }
+    {
+        self.write(at, bytes)?;
+        write_over(self.bytes.as_mut_slice(), then as usize, others);
+        Ok(())
+    }
+
     /// Puts zeros over `count` bytes from `at` on. A `count` of 0 may have any address.
     pub fn fill_zero(&mut self, at: u32, count: u32) -> Result<(), AllocError>
         requires { IsInside at count (length self.old) }

@@ -49,6 +49,15 @@ fn writes_in_order(rt: HostRuntime) -> Result<(), Fail> {
 }
 
 #[test]
+fn writes_both(rt: HostRuntime) -> Result<(), Fail> {
+    let alloc = rt.alloc();
+    let mut pages = Pages::from_bytes(alloc, alloc, &[], 0x200)?;
+    pages.write_both(0xFF, &[1, 2], 0x100, &[3])?;
+    assert_eq!(rt; pages.try_number(4, 0xFE), Ok(0x0001_0300));
+    Ok(())
+}
+
+#[test]
 fn sizes(rt: HostRuntime) -> Result<(), Fail> {
     let alloc = rt.alloc();
     let mut pages = Pages::from_bytes(alloc, alloc, &[9; 0x200], 0x200)?;

@@ -51,7 +51,10 @@ pub struct StdSource<I> {
 }
 
 impl<I: Read> StdSource<I> {
-    pub fn new(reader: I) -> StdSource<I> {
+    pub fn new(reader: I) -> StdSource<I>
+        ensures reader { result.reader ≡ reader }
+        ensures failures { result.failures ≡ record { faults = 0; failing = false } }
+    {
         StdSource {
             reader,
             failures: Failures::new(),
@@ -77,7 +80,9 @@ pub struct StdSink<'a, P> {
 }
 
 impl<'a, P: Print> StdSink<'a, P> {
-    pub fn new(rt: &'a P) -> StdSink<'a, P> {
+    pub fn new(rt: &'a P) -> StdSink<'a, P>
+        ensures { result.failures ≡ record { faults = 0; failing = false } }
+    {
         StdSink {
             rt,
             failures: Failures::new(),
@@ -108,7 +113,9 @@ pub struct FolderShelf<'a, R> {
 
 impl<'a, R: Files> FolderShelf<'a, R> {
     /// The shelf takes the bytes that it loads from the allocator.
-    pub fn new(alloc: Global, rt: &'a R) -> FolderShelf<'a, R> {
+    pub fn new(alloc: Global, rt: &'a R) -> FolderShelf<'a, R>
+        ensures { result.failures ≡ record { faults = 0; failing = false } }
+    {
         FolderShelf {
             rt,
             alloc,

@@ -1,13 +1,22 @@
 -- What calls keep: the story's bytes below RAMSTART, and the present frame.
-use Rattle.std.proofs.Common.{◌≡◌, ◌≤◌, ◌<◌, ◌+◌, ◌-◌, ◌%◌, ℕ, List, [], ◌∷◌, ◌++◌, length, take, drop, replicate, refl, ap, subst, sym, ◌∙◌, arith, length-append}
+use Rattle.std.proofs.Common.{◌≡◌, ◌≤◌, ◌<◌, ◌+◌, ℕ, List, [], ◌∷◌, length, take, Option, Some, None, IfSome, ℤ, Bool, true, false, nat_lt, ◌==◌, if◌then◌else◌, Result, Ok, Err, refl, ap, subst, sym, ◌∙◌, arith}
 use Rattle.std.proofs.lemmas.Grind.{common_steps}
-use Rattle.gx_words.specs.Numbers.{spliced}
+use Rattle.std.proofs.lemmas.List.{take-take}
+use Rattle.std.proofs.lemmas.Bool.Decides.{nat_tests}
+use Rattle.gx_words.specs.Numbers.{word, spliced, bytes_of_word}
+use Rattle.gx_words.specs.Results.{Alters}
 use Rattle.gx_pages.specs.Memory.{AllInside, all_spliced}
 use Rattle.gx_stack.specs.declared.frames.Frame.{Frame}
+use Rattle.gx_stack.specs.declared.faults.StackFault.{StackFault}
+use Rattle.gx_stack.specs.declared.faults.StackFault.TheVariants.{Underflow}
+use Rattle.gx_stack.specs.Flat.{FlatStack}
 use Rattle.gx_stack.specs.Frames.{IsGood, IsFrame, KeepsFrames, parts}
+use Rattle.gx_stack.specs.Stubs.{top_stub}
+use Rattle.gx_stack.specs.Values.{count, places, rolled, turned_top}
 use Rattle.gx_stack.proofs.Kept.{frame_after_cut, word-take}
 use Rattle.heap_blocks.specs.Heap.{FlatHeap}
 use Rattle.gx_state.specs.Replies.{AllBetween}
+use Rattle.gx_state.specs.Returns.{wrote}
 use Rattle.gx_state.specs.Sound.{IsFramed, HeapFits}
 
 -- memory below RAMSTART
@@ -78,12 +87,56 @@ values_cut bytes fp n live framed values there =
     let header : fp + 8 ≤ n = omega (arith, good.locals, good.order) in
     grind (arith, word-take, header)
 
+pub framed_none : (bytes : List ℕ) (fp : ℕ) → length bytes ≡ 0 → IsFramed bytes fp
+framed_none bytes fp none = record { good = λ some. absurd (omega arith) }
+
 pub ruleset writes = (all_inside, rom_writes, rom_writes_and, heap_again)
 
-pub ruleset framed = (framed_kept, framed_cut, framed_again, values_cut, heap_again)
+pub ruleset framed = (framed_kept, framed_cut, framed_again, framed_none, values_cut, heap_again)
 
 pub good_at : (bytes : List ℕ) (at fp : ℕ) → IsGood bytes at → at ≡ fp → IsGood bytes fp
 good_at bytes at fp good same = subst (IsGood bytes) same good
 
 pub framed_good : (bytes : List ℕ) (fp : ℕ) → IsGood bytes fp → IsFramed bytes fp
 framed_good bytes fp good = record { good = λ _. good }
+
+-- what lies below a cut
+pub word_below : (bytes : List ℕ) (n a : ℕ) → a + 4 ≤ n → word (take n bytes) a ≡ word bytes a
+word_below bytes n a below = word-take bytes n a below
+
+pub take_below : (bytes : List ℕ) (n a : ℕ) → a ≤ n → take a (take n bytes) ≡ take a bytes
+take_below bytes n a below = take-take a n bytes below
+
+pub no_stub : (bytes : List ℕ) (sp : ℕ) (fault : StackFault) → top_stub (take sp bytes) ≡ Err fault → sp ≤ length bytes → sp < 16
+unfolding top_stub
+no_stub bytes sp fault none there = grind (arith, common_steps, nat_tests)
+
+pub ruleset below = (word_below, take_below, no_stub)
+
+-- memory with words written in RAM
+pub size_word : (m : List ℕ) (w : Option (ℕ × ℕ)) → IfSome w (λ x. x.0 + 4 ≤ length m) → length (wrote m w) ≡ length m
+size_word m None there = refl
+size_word m (Some w) there = put_over m (bytes_of_word w.1) w.0 there
+
+pub rom_both : (m rom : List ℕ) (n at later v w : ℕ) → take n m ≡ rom → (n ≤ at) × (at + 4 ≤ length m) → (n ≤ later) × (later + 4 ≤ length m)
+    → take n (spliced (spliced m at (bytes_of_word v)) later (bytes_of_word w)) ≡ rom
+rom_both m rom n at later v w same first second =
+    let size = put_over m (bytes_of_word v) at first.1 in
+    rom_written (spliced m at (bytes_of_word v)) rom (bytes_of_word w) n later (rom_written m rom (bytes_of_word v) n at same (λ some. first)) (λ some. (second.0, omega (arith, second.1, size)))
+
+pub ruleset words = (size_word, rom_both, rom_written, heap_again)
+
+-- a roll leaves the limit
+by_tests : (s t : FlatStack) (f : Frame) (n : ℕ) (by : ℤ) (few none : Bool)
+    → (let r : Result FlatStack StackFault = if few then Err Underflow else if none then Ok s else Ok (record s { bytes = turned_top s.bytes n (places n by) }) in r ≡ Ok t) → t.limit ≡ s.limit
+by_tests s t f n by true none is = cc
+by_tests s t f n by false true is = cc
+by_tests s t f n by false false is = cc
+
+roll_kept : (s t : FlatStack) (f : Frame) (n : ℕ) (by : ℤ) → rolled s f n by ≡ Ok t → t.limit ≡ s.limit
+unfolding rolled
+roll_kept s t f n by is = by_tests s t f n by (nat_lt (count s.bytes f) n) (n == 0) is
+
+pub roll_limit : (s t : FlatStack) (f : Frame) (n : ℕ) (by : ℤ) (r : Result (Unit {0}) StackFault) → Alters r s t (rolled s f n by) → t.limit ≡ s.limit
+roll_limit s t f n by (Ok x) is = roll_kept s t f n by is
+roll_limit s t f n by (Err fault) is = ap (λ (u : FlatStack). u.limit) is.0

@@ -2,7 +2,7 @@
 --
 -- The faults of an entry are looked for in this order: room for the stubs, the function's type, the
 -- count of arguments, its locals format, room for the frame.
-use Rattle.std.specs.Prelude.{ℕ, ◌+◌, ◌-◌, ◌*◌, ◌/◌, ◌%◌, ◌==◌, ◌||◌, nat_lt, nat_le, if◌then◌else◌, List, [], ◌∷◌, ◌++◌, length, take, replicate, Result, Ok, Err}
+use Rattle.std.specs.Prelude.{ℕ, zero, suc, Bool, ◌+◌, ◌-◌, ◌*◌, ◌/◌, ◌%◌, ◌==◌, ◌||◌, nat_lt, if◌then◌else◌, List, [], ◌∷◌, ◌++◌, length, take, replicate, Result, Ok, Err}
 use Rattle.gx_words.specs.declared.faults.Fault.{Fault}
 use Rattle.gx_words.specs.declared.faults.Fault.TheVariants.{BadFunction, Overflow}
 use Rattle.gx_words.specs.Results.{◌>>=◌}
@@ -23,11 +23,31 @@ kind_at memory at = do
   kind ← number_in 1 memory at
   if kind == 0xC0 || kind == 0xC1 then Ok kind else Err BadFunction
 
--- the locals format at an address: so far only the ending pair, whose type is 0
-unfoldable pub format_at : List ℕ → ℕ → Result (List ℕ) Fault
-format_at memory at = do
+-- the types of locals
+abbrev pub is_type : ℕ → Bool
+is_type t = t == 1 || t == 2 || t == 4
+
+-- The locals format from an address on, with at most so many pairs before its ending pair, whose type
+-- is 0. Of each pair in turn its bytes have to be in memory, then its type has to be right.
+unfoldable pub format_from : List ℕ → ℕ → ℕ → Result (List ℕ) Fault
+format_from memory at zero = do
   pair ← number_in 2 memory at
   if pair / 256 == 0 then Ok (0 ∷ pair % 256 ∷ []) else Err BadFunction
+format_from memory at (suc left) = do
+  pair ← number_in 2 memory at
+  if pair / 256 == 0 then Ok (0 ∷ pair % 256 ∷ []) else
+      if is_type (pair / 256) then (do
+        rest ← format_from memory (at + 2) left
+        Ok (pair / 256 ∷ pair % 256 ∷ rest)) else Err BadFunction
+
+-- a format behind pairs that were read of it
+abbrev pub behind : List ℕ → Result (List ℕ) Fault → Result (List ℕ) Fault
+behind pairs (Ok rest) = Ok (pairs ++ rest)
+behind pairs (Err fault) = Err fault
+
+-- the locals format of a function has at most 64 pairs, which the standard leaves open
+abbrev pub format_at : List ℕ → ℕ → Result (List ℕ) Fault
+format_at memory at = format_from memory at 64
 
 -- what an entry pushes: a function of type C0 has its arguments on the stack and their count on top,
 -- one of type C1 has them in its locals

@@ -1,5 +1,5 @@
 -- The state of the machine as numbers and lists (Glulx 3.1.2, "The Machine").
-use Rattle.std.specs.Prelude.{◌≡◌, ℕ, ◌+◌, ◌%◌, ◌<◌, ◌≤◌, List, length, take, Result, Ok, Err}
+use Rattle.std.specs.Prelude.{◌≡◌, ℕ, ℤ, ◌+◌, ◌%◌, ◌<◌, ◌≤◌, List, length, take, Result, Ok}
 use Rattle.gx_words.specs.declared.faults.Fault.{Fault}
 use Rattle.gx_words.specs.Numbers.{spliced}
 use Rattle.gx_words.specs.Results.{◌>>=◌}
@@ -77,4 +77,22 @@ pushed_all f vs = do
 unfoldable pub with_local : FlatState → ℕ → ℕ → ℕ → Result FlatState Fault
 with_local f at width v = do
   s ← lifted (values.with_local f.stack (frame_of f) at width v)
+  Ok (record f { stack = s })
+
+-- the top two values exchanged
+unfoldable pub swapped : FlatState → Result FlatState Fault
+swapped f = do
+  s ← lifted (values.swapped f.stack (frame_of f))
+  Ok (record f { stack = s })
+
+-- the top n values moved up by so many places, cyclically
+unfoldable pub rolled : FlatState → ℕ → ℤ → Result FlatState Fault
+rolled f n by = do
+  s ← lifted (values.rolled f.stack (frame_of f) n by)
+  Ok (record f { stack = s })
+
+-- the top n values pushed again
+unfoldable pub copied : FlatState → ℕ → Result FlatState Fault
+copied f n = do
+  s ← lifted (values.copied f.stack (frame_of f) n)
   Ok (record f { stack = s })

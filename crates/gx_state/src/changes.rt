@@ -4,7 +4,7 @@ ghost use Rattle.gx_words.specs.Numbers.{IsWidth};
 ghost use Rattle.gx_words.specs.Faults.{TakesNone};
 ghost use Rattle.gx_words.specs.Results.{Alters};
 ghost use Rattle.gx_pages.specs.Memory.{all_spliced};
-ghost use Rattle.gx_state.specs.Flat.{IsHeight, InRam, cut, frame_of, sp_of, written, pushed, pushed_all, with_local};
+ghost use Rattle.gx_state.specs.Flat.{IsHeight, InRam, cut, frame_of, sp_of, written, pushed, pushed_all, with_local, swapped, rolled, copied};
 ghost use Rattle.gx_state.specs.Replies.{AllInRam};
 
 use crate::State;
@@ -83,8 +83,50 @@ impl<A: Allocator + Clone> State<A> {
         requires { IsHeight self.old.flat sp }
         ensures value { self.new ≡ record self.old { flat = cut self.old.flat sp } }
         ensures height { IsHeight self.new.flat sp }
+        ensures frame { frame_of self.new.flat ≡ frame_of self.old.flat }
     {
         self.stack.leave_frame(sp);
+    }
+
+    /// Exchanges the top two values; `Underflow` exactly where the frame has fewer.
+    #[tactic(auto, unfolding(crate::specs::Flat::swapped, gx_stack::specs::Values::swapped), using(crate::proofs::Kept::framed))]
+    pub fn swap(&mut self) -> Result<(), Fault>
+        requires { 0 < sp_of self.old.flat }
+        ensures value { Alters result self.old.flat self.new.flat (swapped self.old.flat) }
+        ensures spare { self.new.spare ≡ self.old.spare }
+        ensures memory { TakesNone result }
+    {
+        let frame = self.frame();
+        self.stack.swap(&frame)?;
+        Ok(())
+    }
+
+    /// Moves the top n values up by so many places, cyclically, or down where `by` is negative;
+    /// `Underflow` exactly where the frame has fewer.
+    #[tactic(auto, unfolding(crate::specs::Flat::rolled), using(crate::proofs::Kept::framed, crate::proofs::Kept::roll_limit))]
+    pub fn roll(&mut self, n: u32, by: i32) -> Result<(), Fault>
+        requires { 0 < sp_of self.old.flat }
+        ensures value { Alters result self.old.flat self.new.flat (rolled self.old.flat n by) }
+        ensures spare { self.new.spare ≡ self.old.spare }
+        ensures memory { TakesNone result }
+    {
+        let frame = self.stack.parts(self.fp);
+        self.stack.roll(&frame, n, by)?;
+        Ok(())
+    }
+
+    /// Pushes the top n values again; `Underflow` exactly where the frame has fewer, else `Overflow`
+    /// exactly where they don't fit.
+    #[tactic(auto, unfolding(crate::specs::Flat::copied, gx_stack::specs::Values::copied), using(crate::proofs::Kept::framed))]
+    pub fn copy_top(&mut self, n: u32) -> Result<(), Fault>
+        requires { 0 < sp_of self.old.flat }
+        ensures value { Alters result self.old.flat self.new.flat (copied self.old.flat n) }
+        ensures spare { self.new.spare ≡ self.old.spare }
+        ensures memory { TakesNone result }
+    {
+        let frame = self.frame();
+        self.stack.copy_top(&frame, n)?;
+        Ok(())
     }
 
     /// Puts the low 1, 2 or 4 bytes of a number into the local at an offset; `BadLocal` exactly where

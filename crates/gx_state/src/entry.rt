@@ -2,15 +2,15 @@
 ghost use Rattle.std.specs.Prelude.{◌≡◌, ◌+◌, ◌*◌, ◌%◌, ◌≤◌, ◌<◌, ◌^◌, ◌++◌, length, take, IfOk, IfErr, OnOk};
 ghost use Rattle.gx_words.specs.declared.faults.Fault.TheVariants.{NoMemory};
 ghost use Rattle.gx_words.specs.Faults.{TakesNone};
-ghost use Rattle.gx_words.specs.Results.{Alters, Gives, Is};
+ghost use Rattle.gx_words.specs.Results.{Alters, Gives};
 ghost use Rattle.gx_stack.specs.Formats.{IsFormat};
 ghost use Rattle.gx_stack.specs.Frames.{IsGood};
 ghost use Rattle.gx_stack.specs.Stubs.{stubs_bytes};
 ghost use Rattle.gx_state.specs.Flat.{sp_of};
-ghost use Rattle.gx_state.specs.Entry.{kind_at, format_at, entry_bytes, entry_len, entered, initial, started};
+ghost use Rattle.gx_state.specs.Entry.{kind_at, entry_bytes, entry_len, entered, initial, started};
 
+use crate::formats::format_at;
 use crate::{Mode, State};
-use arrayvec::ArrayVec;
 use gx_pages::Pages;
 use gx_stack::{Stack, Stub, frame_len};
 use gx_story::Story;
@@ -31,24 +31,6 @@ fn kind_at<A: Allocator + Clone>(memory: &Pages<A>, at: u32) -> Result<u32, Faul
         0xC0 | 0xC1 => Ok(kind),
         _ => Err(Fault::BadFunction),
     }
-}
-
-/// The locals format at an address: so far only one with no locals.
-#[tactic(auto, unfolding(crate::specs::Entry::format_at, gx_pages::specs::Memory::number_in))]
-fn format_at<A: Allocator + Clone>(memory: &Pages<A>, at: u32) -> Result<ArrayVec<u8, 130>, Fault>
-    ensures value { Is (λ format. format.items) result (format_at memory.now at) }
-    ensures format { IfOk result (λ format. IsFormat format.items) }
-    ensures there { IfOk result (λ format. at + length format.items ≤ length memory.now) }
-    ensures memory { TakesNone result }
-{
-    let pair = memory.try_number(2, at)?;
-    if pair >= 0x100 {
-        return Err(Fault::BadFunction);
-    }
-    let mut format = ArrayVec::new();
-    format.push(0);
-    format.push(pair as u8);
-    Ok(format)
 }
 
 /// How many bytes an entry pushes.

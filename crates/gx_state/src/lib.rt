@@ -5,15 +5,21 @@
 //! only what its clause names, and nothing after a refusal; every state is sound (specs/Sound).
 //!
 //! - `state` has the readers, and the calls that set one part.
-//! - `entry` starts a story and enters its functions.
+//! - `entry` starts a story and enters its functions, whose locals formats `formats` reads.
+//! - `returns` has call stubs, and returns to them.
 //! - `changes` writes to memory and changes the present frame.
+//! - `resizing` zeros, copies and resizes memory, and `blocks` enters and frees blocks of its heap.
 //! - `effects` and `modes` have what a step did or asks, and where a result goes.
 #![tactic(auto)]
 
+mod blocks;
 mod changes;
 mod effects;
 mod entry;
+mod formats;
 mod modes;
+mod resizing;
+mod returns;
 mod state;
 
 pub use effects::{Effect, Reply};

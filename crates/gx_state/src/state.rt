@@ -1,6 +1,7 @@
 //! The state, its readers, and the calls that set one part.
 ghost use Rattle.std.specs.Prelude.{◌≡◌, ◌<◌, ◌≤◌, length};
 ghost use Rattle.gx_stack.specs.Frames.{IsFrame};
+ghost use Rattle.heap_blocks.specs.Heap.{LiesBelow};
 ghost use Rattle.gx_story.specs.Stories.{IsStory, is_checked};
 ghost use Rattle.gx_state.specs.Flat.{frame_of, sp_of};
 
@@ -58,7 +59,8 @@ impl<A: Allocator + Clone> State<A> {
 
     /// The memory allocation heap.
     pub fn heap(&self) -> &Heap
-        ensures { result.now.heap ≡ self.now.flat.heap }
+        ensures value { result.now.heap ≡ self.now.flat.heap }
+        ensures within { LiesBelow (length self.now.flat.memory) self.now.flat.heap }
     {
         &self.heap
     }

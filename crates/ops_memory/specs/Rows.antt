@@ -1,18 +1,217 @@
--- The rows of the classes Copy and Memory (Glulx 3.1.2, "Moving Data" and "Array Data"), in the
--- order of their numbers. So far the rows of Copy.
-use Rattle.std.specs.Prelude.{ℕ, slice_index, Result, Ok, Err}
+-- The rows of the classes Copy and Memory (Glulx 3.1.2, "Moving Data", "Array Data", "Memory Map", "Block Copy
+-- and Clear" and "Memory Allocation Heap"), in the order of their numbers. The searches aren't built yet.
+--
+-- An instruction's pops are made in its `sp`, and PC becomes `next`. A fault in any line leaves the state as
+-- it is. Addresses are sums modulo 2^32.
+use Rattle.std.specs.Prelude.{ℕ, ℤ, ◌+◌, ◌-◌, ◌*◌, ◌/◌, ◌%◌, ◌^◌, ◌==◌, ◌||◌, Bool, not, nat_lt, nat_le, if◌then◌else◌, length, Option, Some, None, Result, Ok, Err, pos, unsigned_abs, bit_and, bit_or}
+use Rattle.std.specs.Int.{w32, cast_signed, cast_unsigned, int_div_euclid, int_rem_euclid}
+use Rattle.std.specs.Option.{ok_or}
 use Rattle.gx_words.specs.declared.faults.Fault.{Fault}
-use Rattle.gx_words.specs.declared.faults.Fault.TheVariants.{BadOpcode}
+use Rattle.gx_words.specs.declared.faults.Fault.TheVariants.{BadOpcode, BadAddress, ReadOnly, MemSize, HeapUse}
 use Rattle.gx_words.specs.Results.{◌>>=◌}
-use Rattle.gx_rows.specs.declared.instructions.Class.TheVariants.{Copy}
+use Rattle.gx_pages.specs.Memory.{ceiling, number_in}
+use Rattle.gx_rows.specs.declared.instructions.Class.{Class}
+use Rattle.gx_rows.specs.declared.instructions.Class.TheVariants as class
+use Rattle.heap_blocks.specs.Heap.{is_inactive, place}
 use Rattle.gx_state.specs.declared.effects.Effect.{Effect}
 use Rattle.gx_state.specs.declared.effects.Effect.TheVariants.{Went}
-use Rattle.gx_state.specs.Flat.{FlatState}
+use Rattle.gx_state.specs.declared.modes.Dest.TheVariants as dest
+use Rattle.gx_state.specs.Flat.{FlatState, cut}
+use Rattle.gx_state.specs.Space.{zeroed, moved, with_size, with_block, without_block}
 use Rattle.gx_operands.specs.Instructions.{Instruction, operand_at, going_to}
 use Rattle.gx_operands.specs.Stores.{settled}
+
+-- WHAT ROWS SHARE
+
+-- S1 = a value
+abbrev pub stores : FlatState → Instruction → ℕ → Result (FlatState × Effect) Fault
+stores f i v = do
+  g ← settled f i.sp 4 i.dest v
+  Ok (going_to g i.next, Went)
+
+-- on with the next instruction
+abbrev pub goes : FlatState → Instruction → Result (FlatState × Effect) Fault
+goes f i = Ok (going_to (cut f i.sp) i.next, Went)
+
+-- S1 = the number of so many bytes at an address
+abbrev pub loads : FlatState → Instruction → ℕ → ℕ → Result (FlatState × Effect) Fault
+loads f i width at = do
+  v ← number_in width f.memory at
+  stores f i v
+
+-- the low bytes of a number are written at an address
+abbrev pub puts : FlatState → Instruction → ℕ → ℕ → ℕ → Result (FlatState × Effect) Fault
+puts f i width at v = do
+  g ← settled f i.sp width (dest.Memory at) v
+  Ok (going_to g i.next, Went)
+
+-- the address of the element L2 of an array at L1, whose elements have so many bytes
+abbrev pub element : Instruction → ℕ → ℕ
+element i width = (operand_at i 0 + width * operand_at i 1) % 2 ^ 32
+
+-- The bit L2 of an array of bits at L1, eight to a byte, from the lowest on; L2 is signed. The address of its
+-- byte, and its number there.
+abbrev pub bit_index : Instruction → ℤ
+bit_index i = cast_signed w32 (operand_at i 1)
+
+abbrev pub byte_of_bit : Instruction → ℕ
+byte_of_bit i = (operand_at i 0 + cast_unsigned w32 (int_div_euclid (bit_index i) (pos 8))) % 2 ^ 32
+
+abbrev pub bit_in_byte : Instruction → ℕ
+bit_in_byte i = unsigned_abs (int_rem_euclid (bit_index i) (pos 8))
+
+-- a byte whose bit k is 0 if v = 0, else 1
+abbrev pub with_bit : ℕ → ℕ → ℕ → ℕ
+with_bit byte k v = if v == 0 then bit_and byte (0xFFFFFFFF - 2 ^ k) else bit_or byte (2 ^ k)
+
+-- The fault of a read of so many bytes from an address on, and that of a write. None of either touches no
+-- address.
+unfoldable pub read_fault : FlatState → ℕ → ℕ → Result (Unit {0}) Fault
+read_fault f at count =
+    if count == 0 then Ok tt else
+    if nat_lt (length f.memory) (at + count) then Err BadAddress else
+    Ok tt
+
+unfoldable pub write_fault : FlatState → ℕ → ℕ → Result (Unit {0}) Fault
+write_fault f at count =
+    if count == 0 then Ok tt else
+    if nat_lt (length f.memory) (at + count) then Err BadAddress else
+    if nat_lt at f.story.ramstart then Err ReadOnly else
+    Ok tt
+
+-- MOVING DATA
 
 -- 40 copy, 41 copys, 42 copyb (L1 S1): S1 = L1, in the width of the row
 unfoldable pub copy : FlatState → Instruction → Result (FlatState × Effect) Fault
 copy f i = do
   g ← settled f i.sp i.row.width i.dest (operand_at i 0)
   Ok (going_to g i.next, Went)
+
+-- ARRAY DATA
+
+-- 48 aload (L1 L2 S1): S1 = the word L2 of the array at L1
+unfoldable pub aload : FlatState → Instruction → Result (FlatState × Effect) Fault
+aload f i = loads f i 4 (element i 4)
+
+-- 49 aloads (L1 L2 S1): S1 = the half word L2 of the array at L1
+unfoldable pub aloads : FlatState → Instruction → Result (FlatState × Effect) Fault
+aloads f i = loads f i 2 (element i 2)
+
+-- 4A aloadb (L1 L2 S1): S1 = the byte L2 of the array at L1
+unfoldable pub aloadb : FlatState → Instruction → Result (FlatState × Effect) Fault
+aloadb f i = loads f i 1 (element i 1)
+
+-- 4B aloadbit (L1 L2 S1): S1 = the bit L2 of the array at L1
+unfoldable pub aloadbit : FlatState → Instruction → Result (FlatState × Effect) Fault
+aloadbit f i = do
+  byte ← number_in 1 f.memory (byte_of_bit i)
+  stores f i (byte / 2 ^ bit_in_byte i % 2)
+
+-- 4C astore (L1 L2 L3): the word L2 of the array at L1 = L3
+unfoldable pub astore : FlatState → Instruction → Result (FlatState × Effect) Fault
+astore f i = puts f i 4 (element i 4) (operand_at i 2)
+
+-- 4D astores (L1 L2 L3): the half word L2 of the array at L1 = the low 16 bits of L3
+unfoldable pub astores : FlatState → Instruction → Result (FlatState × Effect) Fault
+astores f i = puts f i 2 (element i 2) (operand_at i 2)
+
+-- 4E astoreb (L1 L2 L3): the byte L2 of the array at L1 = the low 8 bits of L3
+unfoldable pub astoreb : FlatState → Instruction → Result (FlatState × Effect) Fault
+astoreb f i = puts f i 1 (element i 1) (operand_at i 2)
+
+-- 4F astorebit (L1 L2 L3): the bit L2 of the array at L1 = 0 if L3 = 0, else 1
+unfoldable pub astorebit : FlatState → Instruction → Result (FlatState × Effect) Fault
+astorebit f i = do
+  byte ← number_in 1 f.memory (byte_of_bit i)
+  puts f i 1 (byte_of_bit i) (with_bit byte (bit_in_byte i) (operand_at i 2))
+
+-- THE SIZE OF MEMORY
+
+-- 102 getmemsize (S1): S1 = the size of memory
+unfoldable pub getmemsize : FlatState → Instruction → Result (FlatState × Effect) Fault
+getmemsize f i = stores f i (length f.memory)
+
+-- memory can't be so large, or its size can't be set since the heap is active
+abbrev pub is_refused : FlatState → ℕ → Bool
+is_refused f size = nat_lt ceiling size || not (is_inactive f.heap)
+
+-- 103 setmemsize (L1 S1): sets the size of memory to L1; S1 = 0, or 1 where it is refused and stays. S1 is
+-- stored in memory of the new size.
+unfoldable pub setmemsize : FlatState → Instruction → Result (FlatState × Effect) Fault
+setmemsize f i =
+    if nat_lt (operand_at i 0) f.story.endmem || not (operand_at i 0 % 256 == 0) then Err MemSize else
+    if is_refused f (operand_at i 0) then stores f i 1 else
+    stores (with_size f (operand_at i 0)) i 0
+
+-- BLOCK COPY AND CLEAR
+
+-- 170 mzero (L1 L2): L1 zeros are written at L2
+unfoldable pub mzero : FlatState → Instruction → Result (FlatState × Effect) Fault
+mzero f i = do
+  _ ← write_fault f (operand_at i 1) (operand_at i 0)
+  goes (zeroed f (operand_at i 1) (operand_at i 0)) i
+
+-- 171 mcopy (L1 L2 L3): the L1 bytes at L2 are written at L3, as if through a copy
+unfoldable pub mcopy : FlatState → Instruction → Result (FlatState × Effect) Fault
+mcopy f i = do
+  _ ← read_fault f (operand_at i 1) (operand_at i 0)
+  _ ← write_fault f (operand_at i 2) (operand_at i 0)
+  goes (moved f (operand_at i 1) (operand_at i 2) (operand_at i 0)) i
+
+-- MEMORY ALLOCATION HEAP
+
+-- the size of memory that covers all below an address: the least multiple of 256, or the size that it has
+abbrev pub covering : ℕ → ℕ → ℕ
+covering size end = if nat_le end size then size else (end + 255) / 256 * 256
+
+-- the state with a block of n bytes at an address, which memory covers
+abbrev pub allocated : FlatState → ℕ → ℕ → FlatState
+allocated f at n = with_block (with_size f (covering (length f.memory) (at + n))) (length f.memory) at n
+
+abbrev pub allocates : FlatState → Instruction → Option ℕ → Result (FlatState × Effect) Fault
+allocates f i None = stores f i 0
+allocates f i (Some at) = stores (allocated f at (operand_at i 0)) i at
+
+-- 178 malloc (L1 S1): S1 = the address of a new block of L1 bytes, or 0 where there is no place for it. S1 may
+-- be stored in the block.
+unfoldable pub malloc : FlatState → Instruction → Result (FlatState × Effect) Fault
+malloc f i =
+    if operand_at i 0 == 0 then Err HeapUse else
+    allocates f i (place f.heap (length f.memory) (operand_at i 0) ceiling)
+
+-- 179 mfree (L1): frees the block at L1
+unfoldable pub mfree : FlatState → Instruction → Result (FlatState × Effect) Fault
+mfree f i = do
+  g ← ok_or (without_block f (operand_at i 0)) HeapUse
+  goes g i
+
+-- THE ROW OF AN INSTRUCTION
+
+unfoldable pub memory : FlatState → Instruction → Result (FlatState × Effect) Fault
+memory f i =
+    if i.row.number == 0x48 then aload f i else
+    if i.row.number == 0x49 then aloads f i else
+    if i.row.number == 0x4A then aloadb f i else
+    if i.row.number == 0x4B then aloadbit f i else
+    if i.row.number == 0x4C then astore f i else
+    if i.row.number == 0x4D then astores f i else
+    if i.row.number == 0x4E then astoreb f i else
+    if i.row.number == 0x4F then astorebit f i else
+    if i.row.number == 0x102 then getmemsize f i else
+    if i.row.number == 0x103 then setmemsize f i else
+    if i.row.number == 0x170 then mzero f i else
+    if i.row.number == 0x171 then mcopy f i else
+    if i.row.number == 0x178 then malloc f i else
+    if i.row.number == 0x179 then mfree f i else
+    Err BadOpcode
+
+abbrev pub row : Class → FlatState → Instruction → Result (FlatState × Effect) Fault
+row class.Calc f i = Err BadOpcode
+row class.Branch f i = Err BadOpcode
+row class.Flow f i = Err BadOpcode
+row class.Copy f i = copy f i
+row class.Memory f i = memory f i
+row class.Stack f i = Err BadOpcode
+row class.Print f i = Err BadOpcode
+row class.Game f i = Err BadOpcode
+row class.Glk f i = Err BadOpcode

@@ -10,10 +10,9 @@ pub returns-clause-pends : goal.returns-clause-pends
 returns-clause-pends g c =
     let f = c.args.state.now.flat in
     let sp = c.args.plan.now.sp - 4 * c.load-count.result in
-    let enough = rw c.frame-frame.ensures.value at c.if-count-plan.false in
     let stores : store_fault f 4 c.args.plan.now.dest sp ≡ Ok tt = sym c.in_ok-can_store.ensures.value in
-    let height = rw (c.size-size.ensures.value, c.stack-2.ensures) at c.size-size.ensures.fits in
+    let size = rw (c.size-size.ensures.value, c.stack-2.ensures) at c.size-size.ensures.fits in
     let limit : c.limit-limit.result ≡ f.stack.limit = c.limit-limit.ensures.value ∙ ap (λ (s : FlatStack). s.limit) c.stack.ensures in
-    let below : sp ≤ f.stack.limit = omega (arith, c.requires.sp.there, height) in
+    let below : sp ≤ f.stack.limit = omega (arith, c.in_ok-args.ensures.below.there, size) in
     let fits = (rw limit at c.room_above-room.ensures.fits) (store_fits f c.args.plan.now.dest sp stores below) in
-    glk_pends f (instruction_of c.args.plan.now) c.load-count.result c.room_above-room.result c.requires.decoded c.requires.class c.requires.sp c.load-count.ensures enough stores fits
+    glk_pends f (instruction_of c.args.plan.now) c.load-count.result c.room_above-room.result c.requires.decoded c.requires.class c.load-count.ensures c.in_ok-args.ensures.below stores fits

@@ -1,4 +1,4 @@
-use Rattle.std.proofs.Common.{arith, refl}
+use Rattle.std.proofs.Common.{arith}
 use Rattle.gx_state.proofs.Kept.{framed_good}
 use Rattle.gx_state.proofs.state.State.enter.Goals as goal
 

@@ -1,0 +1,5 @@
+pub mod Comparing
+pub mod Steps
+pub mod Halvings
+pub mod Laws
+pub mod RowLaws

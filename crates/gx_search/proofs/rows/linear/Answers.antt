@@ -1,0 +1,7 @@
+-- with a larger bound the search goes the same way
+use Rattle.std.proofs.Common.{rules}
+use Rattle.gx_search.proofs.Laws.{linear_settled}
+use Rattle.gx_search.proofs.rows.linear.Goals as goal
+
+pub returns-then-has_size-clause-settled : goal.returns-then-has_size-clause-settled
+returns-then-has_size-clause-settled g c = linear_settled c.args.memory.now c.args.ask.now c.args.bound c.search_row.result (search rules) (search rules)

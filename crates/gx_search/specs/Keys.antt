@@ -1,0 +1,66 @@
+-- The key of a search, and how a struct's key compares with it (Glulx 3.1.2, "Searching").
+use Rattle.std.specs.Prelude.{ℕ, ◌+◌, ◌/◌, ◌%◌, ◌^◌, Bool, not, ◌==◌, ◌&&◌, ◌||◌, nat_le, if◌then◌else◌, List, length, take, drop, Result, Ok, Err}
+use Rattle.std.specs.List.{list_all}
+use Rattle.std.specs.Str.{bytes_eq}
+use Rattle.std.specs.Ordering.{nat_cmp}
+use Rattle.std.specs.declared.cmp.Ordering.{Ordering}
+use Rattle.std.specs.Cmp.Lexicographic.{slice_cmp}
+use Rattle.gx_words.specs.declared.faults.Fault.{Fault}
+use Rattle.gx_words.specs.declared.faults.Fault.TheVariants.{BadAddress}
+use Rattle.gx_words.specs.Numbers.{bytes_of_number}
+use Rattle.gx_search.specs.declared.asks.Ask.{Ask}
+use Rattle.gx_search.specs.declared.keys.Seen.{Seen}
+use Rattle.gx_search.specs.declared.keys.Seen.TheVariants.{Match, Zero, Other}
+
+-- KeyIndirect: the key is the bytes at an address
+abbrev pub is_indirect : Ask → Bool
+is_indirect ask = ask.options % 2 == 1
+
+-- ZeroKeyTerminates: a key of zeros ends the search
+abbrev pub stops_at_zero : Ask → Bool
+stops_at_zero ask = ask.options / 2 % 2 == 1
+
+-- a key that isn't at an address has 1, 2 or 4 bytes
+abbrev pub has_size : Ask → Bool
+has_size ask = is_indirect ask || (ask.key_size == 1 || ask.key_size == 2 || ask.key_size == 4)
+
+-- so many bytes from an address on lie in memory; where they are none, any address will do
+abbrev pub is_there : List ℕ → ℕ → ℕ → Bool
+is_there memory at count = count == 0 || nat_le (at + count) (length memory)
+
+abbrev pub bytes_at : List ℕ → ℕ → ℕ → List ℕ
+bytes_at memory at count = take count (drop at memory)
+
+-- the key that is looked for
+abbrev pub sought : List ℕ → Ask → List ℕ
+sought memory ask =
+    if is_indirect ask then bytes_at memory ask.key ask.key_size else bytes_of_number ask.key_size ask.key
+
+-- the address of the key of the struct at an address, and its bytes
+abbrev pub key_place : Ask → ℕ → ℕ
+key_place ask at = (at + ask.key_offset) % 2 ^ 32
+
+abbrev pub stored : List ℕ → Ask → ℕ → List ℕ
+stored memory ask at = bytes_at memory (key_place ask at) ask.key_size
+
+-- all bytes that a probe of the struct at an address looks at are in memory
+abbrev pub can_probe : List ℕ → Ask → ℕ → Bool
+can_probe memory ask at =
+    (not (is_indirect ask) || is_there memory ask.key ask.key_size) && is_there memory (key_place ask at) ask.key_size
+
+-- what a probe sees of a key: a match counts first
+abbrev pub seen : Ask → List ℕ → List ℕ → Seen
+seen ask key there =
+    if bytes_eq key there then Match else
+    if stops_at_zero ask && list_all (λ b. b == 0) there then Zero else
+    Other
+
+-- the probe of the struct at an address
+unfoldable pub probe : List ℕ → Ask → ℕ → Result Seen Fault
+probe memory ask at =
+    if can_probe memory ask at then Ok (seen ask (sought memory ask) (stored memory ask at)) else Err BadAddress
+
+-- the same for an order of keys, which is that of their first bytes that differ, read as unsigned
+unfoldable pub compared : List ℕ → Ask → ℕ → Result Ordering Fault
+compared memory ask at =
+    if can_probe memory ask at then Ok (slice_cmp nat_cmp (sought memory ask) (stored memory ask at)) else Err BadAddress

@@ -1,0 +1,250 @@
+//! Call stubs, and returns to them (Glulx 3.1.2, "Call Stubs" and "Calling and Returning Within
+//! Glulx").
+//!
+//! A return looks for all its faults first, then writes memory where its stub says so, and then goes
+//! back to the stub's frame. Nothing has changed after a refusal.
+ghost use Rattle.std.specs.Prelude.{◌≡◌, ◌⊎◌, ◌+◌, ◌-◌, ◌*◌, ◌%◌, ◌<◌, ◌≤◌, ◌==◌, length, take, IfOk, OnOk, OnErr, IsErrOf, IsSome};
+ghost use Rattle.gx_words.specs.declared.faults.Fault.TheVariants.{NoMemory};
+ghost use Rattle.gx_words.specs.Faults.{Changes, Does, TakesNone};
+ghost use Rattle.gx_words.specs.Results.{Alters, Is, Turns};
+ghost use Rattle.gx_stack.specs.Frames.{IsFrame, IsGood};
+ghost use Rattle.gx_stack.specs.Stubs.{stub_below};
+ghost use Rattle.gx_state.specs.Flat.{cut, frame_of, sp_of};
+ghost use Rattle.gx_state.specs.Returns.{pushed_stubs, popped_stub, stub_to, back, with_word, IsPlace, delivered, returned};
+
+use crate::State;
+use gx_stack::{Frame, Stub};
+use gx_words::{Fault, word_bytes};
+use std::alloc::{AllocError, Allocator};
+
+impl<A: Allocator + Clone> State<A> {
+    /// Pushes stubs, the first deepest; `Overflow` exactly where they don't all fit.
+    #[tactic(auto, unfolding(crate::specs::Returns::pushed_stubs, gx_stack::specs::Stubs::pushed_stubs), using(crate::proofs::Kept::framed))]
+    pub fn push_stubs(&mut self, stubs: &[Stub]) -> Result<(), Fault>
+        requires { 0 < sp_of self.old.flat }
+        ensures value { Alters result self.old.flat self.new.flat (pushed_stubs self.old.flat stubs.now) }
+        ensures spare { self.new.spare ≡ self.old.spare }
+        ensures live { 0 < sp_of self.new.flat }
+        ensures memory { TakesNone result }
+    {
+        self.stack.push_stubs(stubs)?;
+        Ok(())
+    }
+
+    /// Takes the stub off the top, and goes back to its frame; `BadFrame` exactly where fewer than 16
+    /// bytes are there, or the stub's frame isn't good. PC stays.
+    #[tactic(auto, unfolding(crate::specs::Returns::popped_stub))]
+    pub fn pop_stub(&mut self) -> Result<Stub, Fault>
+        ensures value { Turns (λ stub. stub) result self.old.flat self.new.flat (popped_stub self.old.flat) }
+        ensures spare { self.new.spare ≡ self.old.spare }
+        ensures memory { TakesNone result }
+    {
+        let sp = self.stack.size();
+        let (stub, _) = self.resumed(sp)?;
+        self.go_back(sp, &stub);
+        Ok(stub)
+    }
+
+    /// Makes the return of a value with `sp` for FramePtr, after a word was written where `before`
+    /// gives its address and value. True exactly where `sp` is 0: the program ends, and the stack is
+    /// empty.
+    #[tactic(auto, unfolding(crate::specs::Returns::returned, crate::specs::Returns::delivered), using(crate::proofs::Kept::below))]
+    pub fn deliver(
+        &mut self,
+        sp: u32,
+        value: u32,
+        before: Option<(u32, u32)>,
+    ) -> Result<bool, Fault>
+        requires there { sp ≤ sp_of self.old.flat }
+        requires words { sp % 4 ≡ 0 }
+        requires before { IsPlace self.old.flat before }
+        ensures value { Does (λ ended. ended) result self.old.flat self.new.flat (returned self.old.flat sp value before) }
+        ensures ended { IfOk result (λ ended. ended ≡ (sp == 0)) }
+        ensures spare { self.new.spare ≡ self.old.spare }
+        ensures memory { IsErrOf result NoMemory → IsSome before ⊎ ((stub_below self.old.flat.stack.bytes sp).kind ≡ 1) }
+    {
+        if sp == 0 {
+            self.write_words(before, None)?;
+            self.empty();
+            return Ok(true);
+        }
+        let (stub, frame) = self.resumed(sp)?;
+        match stub.kind {
+            0 => {
+                self.write_words(before, None)?;
+                self.resume(sp, &stub);
+            }
+            1 => self.give_memory(sp, value, before, &stub)?,
+            2 => self.give_local(sp, value, before, &stub, &frame)?,
+            3 => self.give_push(sp, value, before, &stub)?,
+            _ => return Err(Fault::BadFrame),
+        }
+        Ok(false)
+    }
+
+    /// Writes up to two words to RAM, both or none.
+    #[tactic(auto, using(crate::proofs::Kept::words))]
+    fn write_words(
+        &mut self,
+        first: Option<(u32, u32)>,
+        second: Option<(u32, u32)>,
+    ) -> Result<(), AllocError>
+        requires first { IsPlace self.old.flat first }
+        requires second { IsPlace self.old.flat second }
+        ensures ok { OnOk result (self.new ≡ record self.old { flat = with_word (with_word self.old.flat first) second }) }
+        ensures err { OnErr result (self.new ≡ self.old) }
+        ensures memory { OnErr result (IsSome first ⊎ IsSome second) }
+    {
+        match (first, second) {
+            (None, None) => Ok(()),
+            (Some((at, v)), None) | (None, Some((at, v))) => self.write(at, &word_bytes(v)),
+            (Some((at, v)), Some((then, w))) => {
+                self.memory
+                    .write_both(at, &word_bytes(v), then, &word_bytes(w))
+            }
+        }
+    }
+
+    /// The stub that ends at `sp`, and its frame.
+    #[tactic(auto, unfolding(crate::specs::Returns::stub_to), using(crate::proofs::Kept::below))]
+    fn resumed(&self, sp: u32) -> Result<(Stub, Frame), Fault>
+        requires there { sp ≤ sp_of self.now.flat }
+        requires words { sp % 4 ≡ 0 }
+        ensures value { Is (λ r. r.0) result (stub_to self.now.flat.stack.bytes sp) }
+        ensures there { OnOk result (16 ≤ sp) }
+        ensures frame { IfOk result (λ r. IsFrame (take (sp - 16) self.now.flat.stack.bytes) r.1) }
+        ensures fp { IfOk result (λ r. r.1.fp ≡ r.0.fp) }
+        ensures stub { IfOk result (λ r. r.0 ≡ stub_below self.now.flat.stack.bytes sp) }
+        ensures memory { TakesNone result }
+    {
+        let Ok(stub) = self.stack.stub_at(sp) else {
+            return Err(Fault::BadFrame);
+        };
+        let frame = self.stack.frame_at(stub.fp, sp - 16)?;
+        Ok((stub, frame))
+    }
+
+    /// Goes back to the frame of the stub that ends at `sp`.
+    #[tactic(auto, using(crate::proofs::Kept::framed, crate::proofs::Kept::framed_good))]
+    fn go_back(&mut self, sp: u32, stub: &Stub)
+        requires there { 16 ≤ sp }
+        requires within { sp ≤ sp_of self.old.flat }
+        requires words { sp % 4 ≡ 0 }
+        requires good { IsGood (take (sp - 16) self.old.flat.stack.bytes) stub.now.fp }
+        ensures value { self.new ≡ record self.old { flat = back self.old.flat sp stub.now } }
+        ensures live { 0 < sp_of self.new.flat }
+    {
+        self.stack.leave_frame(sp - 16);
+        self.fp = stub.fp;
+    }
+
+    /// The same, and goes on at the stub's PC.
+    fn resume(&mut self, sp: u32, stub: &Stub)
+        requires there { 16 ≤ sp }
+        requires within { sp ≤ sp_of self.old.flat }
+        requires words { sp % 4 ≡ 0 }
+        requires good { IsGood (take (sp - 16) self.old.flat.stack.bytes) stub.now.fp }
+        ensures value { self.new ≡ record self.old { flat = record (back self.old.flat sp stub.now) { pc = stub.now.pc } } }
+        ensures live { 0 < sp_of self.new.flat }
+    {
+        self.go_back(sp, stub);
+        self.pc = stub.pc;
+    }
+
+    /// The start function has returned.
+    #[tactic(auto, using(crate::proofs::Kept::framed))]
+    fn empty(&mut self)
+        ensures { self.new ≡ record self.old { flat = cut self.old.flat 0 } }
+    {
+        self.stack.leave_frame(0);
+    }
+
+    /// Delivers a value that is stored in memory.
+    #[tactic(auto, unfolding(crate::specs::Returns::delivered, crate::specs::Returns::stored_word), using(crate::proofs::Kept::words))]
+    fn give_memory(
+        &mut self,
+        sp: u32,
+        value: u32,
+        before: Option<(u32, u32)>,
+        stub: &Stub,
+    ) -> Result<(), Fault>
+        requires there { 16 ≤ sp }
+        requires within { sp ≤ sp_of self.old.flat }
+        requires words { sp % 4 ≡ 0 }
+        requires before { IsPlace self.old.flat before }
+        requires good { IsGood (take (sp - 16) self.old.flat.stack.bytes) stub.now.fp }
+        requires kind { stub.now.kind ≡ 1 }
+        ensures value { Changes result self.old.flat self.new.flat (delivered (record (back (with_word self.old.flat before) sp stub.now) { pc = stub.now.pc }) stub.now value) }
+        ensures spare { self.new.spare ≡ self.old.spare }
+    {
+        if u64::from(stub.addr) + 4 > u64::from(self.memory.size()) {
+            return Err(Fault::BadAddress);
+        }
+        if stub.addr < self.story.ramstart() {
+            return Err(Fault::ReadOnly);
+        }
+        self.write_words(before, Some((stub.addr, value)))?;
+        self.resume(sp, stub);
+        Ok(())
+    }
+
+    /// Delivers a value that is stored in a local.
+    #[tactic(auto, unfolding(crate::specs::Returns::delivered, crate::specs::Flat::with_local, gx_stack::specs::Values::with_local), using(crate::proofs::Kept::words, crate::proofs::Kept::below))]
+    fn give_local(
+        &mut self,
+        sp: u32,
+        value: u32,
+        before: Option<(u32, u32)>,
+        stub: &Stub,
+        frame: &Frame,
+    ) -> Result<(), Fault>
+        requires there { 16 ≤ sp }
+        requires within { sp ≤ sp_of self.old.flat }
+        requires words { sp % 4 ≡ 0 }
+        requires before { IsPlace self.old.flat before }
+        requires frame { IsFrame (take (sp - 16) self.old.flat.stack.bytes) frame.now }
+        requires fp { frame.now.fp ≡ stub.now.fp }
+        requires kind { stub.now.kind ≡ 2 }
+        ensures value { Changes result self.old.flat self.new.flat (delivered (record (back (with_word self.old.flat before) sp stub.now) { pc = stub.now.pc }) stub.now value) }
+        ensures spare { self.new.spare ≡ self.old.spare }
+        ensures memory { IsErrOf result NoMemory → IsSome before }
+    {
+        if u64::from(stub.addr) + 4 > u64::from(frame.values - frame.locals) {
+            return Err(Fault::BadLocal);
+        }
+        self.write_words(before, None)?;
+        self.resume(sp, stub);
+        match self.set_local(stub.addr, 4, value) {
+            Ok(()) => Ok(()),
+            Err(_) => unreachable!(),
+        }
+    }
+
+    /// Delivers a value that is pushed.
+    #[tactic(auto, unfolding(crate::specs::Returns::delivered, crate::specs::Flat::pushed, gx_stack::specs::Values::pushed), using(crate::proofs::Kept::words))]
+    fn give_push(
+        &mut self,
+        sp: u32,
+        value: u32,
+        before: Option<(u32, u32)>,
+        stub: &Stub,
+    ) -> Result<(), Fault>
+        requires there { 16 ≤ sp }
+        requires within { sp ≤ sp_of self.old.flat }
+        requires words { sp % 4 ≡ 0 }
+        requires before { IsPlace self.old.flat before }
+        requires good { IsGood (take (sp - 16) self.old.flat.stack.bytes) stub.now.fp }
+        requires kind { stub.now.kind ≡ 3 }
+        ensures value { Changes result self.old.flat self.new.flat (delivered (record (back (with_word self.old.flat before) sp stub.now) { pc = stub.now.pc }) stub.now value) }
+        ensures spare { self.new.spare ≡ self.old.spare }
+        ensures memory { IsErrOf result NoMemory → IsSome before }
+    {
+        let _size = self.stack.size();
+        self.write_words(before, None)?;
+        self.resume(sp, stub);
+        match self.push(value) {
+            Ok(()) => Ok(()),
+            Err(_) => unreachable!(),
+        }
+    }
+}

@@ -1,0 +1,140 @@
+-- A return looks only at what lies below its stack pointer.
+use Rattle.std.proofs.Common.{◌≡◌, ◌≤◌, ◌<◌, ◌+◌, ◌-◌, ◌*◌, ◌==◌, ℕ, Bool, true, false, nat_lt, nat_le, if◌then◌else◌, List, [], ◌∷◌, ◌++◌, length, take, drop, Option, Some, None, IfSome, Result, Ok, Err, refl, arith, ap, sym, ◌∙◌, length-append}
+use Rattle.std.proofs.lemmas.List.{take-take, take-append-le, append-nil}
+use Rattle.std.proofs.lemmas.Grind.{common_steps}
+use Rattle.std.proofs.lemmas.Bool.Decides.{nat_tests}
+use Rattle.gx_words.specs.declared.faults.Fault.{Fault}
+use Rattle.gx_words.specs.declared.faults.Fault.TheVariants.{BadLocal}
+use Rattle.gx_words.specs.Results.{◌>>=◌}
+use Rattle.gx_words.specs.Numbers.{word, spliced, bytes_of_word, bytes_of_number}
+use Rattle.gx_stack.specs.declared.stubs.Stub.{Stub}
+use Rattle.gx_stack.specs.declared.frames.Frame.{Frame}
+use Rattle.gx_stack.specs.Frames.{IsFrame}
+use Rattle.gx_stack.specs.Stubs.{stub_bytes, stubs_bytes, stub_below}
+use Rattle.gx_stack.proofs.Kept.{word-take}
+use Rattle.gx_state.specs.declared.modes.Dest.{Dest}
+use Rattle.gx_state.specs.declared.modes.Dest.TheVariants.{Nowhere, Memory, Local, Push}
+use Rattle.gx_state.specs.Flat.{FlatState, IsHeight, cut, written, frame_of, sp_of}
+use Rattle.gx_state.specs.Returns.{returned, stub_to, IsPlace}
+use Rattle.gx_operands.specs.Instructions.{Instruction}
+use Rattle.gx_operands.specs.Stores.{store_fault, with_value, stored}
+use Rattle.ops_flow.specs.Rows.{with_stub, stub_of, lasting}
+
+with_bytes : FlatState → List ℕ → FlatState
+with_bytes f xs = record f { stack = record f.stack { bytes = xs } }
+
+-- the stub that ends at a stack pointer
+by_size : (xs : List ℕ) (sp : ℕ) (few : Bool) → nat_lt sp 16 ≡ few → stub_to (take sp xs) sp ≡ stub_to xs sp
+unfolding stub_to
+by_size xs sp true e = rw e refl
+by_size xs sp false e =
+    let some : 16 ≤ sp = grind (arith, nat_tests) in
+    rw (word-take xs sp (sp - 16) (omega arith), word-take xs sp (sp - 12) (omega arith), word-take xs sp (sp - 8) (omega arith), word-take xs sp (sp - 4) (omega arith), take-take (sp - 16) sp xs (omega arith)) refl
+
+stub_cut : (xs : List ℕ) (sp : ℕ) → stub_to (take sp xs) sp ≡ stub_to xs sp
+stub_cut xs sp = by_size xs sp (nat_lt sp 16) refl
+
+stub_same : (xs ys : List ℕ) (sp : ℕ) → take sp xs ≡ take sp ys → stub_to xs sp ≡ stub_to ys sp
+stub_same xs ys sp same = sym (stub_cut xs sp) ∙ ap (λ (zs : List ℕ). stub_to zs sp) same ∙ stub_cut ys sp
+
+-- the return to it
+returned_same : (f : FlatState) (xs ys : List ℕ) (sp v : ℕ) (w : Option (ℕ × ℕ)) → take sp xs ≡ take sp ys → returned (with_bytes f xs) sp v w ≡ returned (with_bytes f ys) sp v w
+unfolding returned with_bytes
+returned_same f xs ys sp v w same =
+    let stub = stub_same xs ys sp same in
+    let least : sp - 16 ≤ sp = omega arith in
+    let below : take (sp - 16) xs ≡ take (sp - 16) ys = sym (take-take (sp - 16) sp xs least) ∙ ap (take (sp - 16)) same ∙ take-take (sp - 16) sp ys least in
+    rw (stub, below) refl
+
+pub returned_cut : (f : FlatState) (sp v : ℕ) → f.fp ≤ sp → returned (cut f sp) f.fp v None ≡ returned f f.fp v None
+unfolding with_bytes
+returned_cut f sp v below = returned_same f (take sp f.stack.bytes) f.stack.bytes f.fp v None (take-take f.fp sp f.stack.bytes below)
+
+pub ruleset cuts = (returned_cut)
+
+-- what a catch leaves below FramePtr
+take_front : (xs ys : List ℕ) (n : ℕ) → n ≤ length xs → take n (xs ++ ys) ≡ take n xs
+take_front xs ys n within = take-append-le n xs ys within
+
+take_kept : (xs ys : List ℕ) (sp fp : ℕ) → fp ≤ sp → sp ≤ length xs → take fp (take sp xs ++ ys) ≡ take fp xs
+take_kept xs ys sp fp below there =
+    let long : fp ≤ length (take sp xs) = grind (arith, common_steps) in
+    take_front (take sp xs) ys fp long ∙ take-take fp sp xs below
+
+take_put : (xs bytes : List ℕ) (at n : ℕ) → n ≤ at → n ≤ length xs → take n (spliced xs at bytes) ≡ take n xs
+take_put xs bytes at n below there = grind (arith, common_steps)
+
+pub caught : (f : FlatState) (i : Instruction) (d : Dest) (token v : ℕ) → f.fp ≤ i.sp → i.sp ≤ sp_of f
+    → returned (with_value (with_stub f i) 4 d token) (with_value (with_stub f i) 4 d token).fp v None ≡ returned f f.fp v (lasting d token)
+unfolding returned with_bytes with_stub
+caught f i Nowhere token v below there =
+    returned_same f (with_stub f i).stack.bytes f.stack.bytes f.fp v None (take_kept f.stack.bytes _ i.sp f.fp below there)
+caught f i (Memory at) token v below there =
+    returned_same f (with_stub f i).stack.bytes f.stack.bytes f.fp v (Some (at, token)) (take_kept f.stack.bytes _ i.sp f.fp below there)
+caught f i (Local at) token v below there =
+    let long : f.fp ≤ length (with_stub f i).stack.bytes = grind (arith, common_steps) in
+    let kept = take_put (with_stub f i).stack.bytes (bytes_of_number 4 token) ((frame_of (with_stub f i)).locals + at) f.fp (omega arith) long in
+    returned_same f (with_value (with_stub f i) 4 (Local at) token).stack.bytes f.stack.bytes f.fp v None (kept ∙ take_kept f.stack.bytes _ i.sp f.fp below there)
+caught f i Push token v below there =
+    let long : f.fp ≤ length (with_stub f i).stack.bytes = grind (arith, common_steps) in
+    let kept = take_front (with_stub f i).stack.bytes (bytes_of_word token) f.fp long in
+    returned_same f (with_value (with_stub f i) 4 Push token).stack.bytes f.stack.bytes f.fp v None (kept ∙ take_kept f.stack.bytes _ i.sp f.fp below there)
+
+-- the stack with a stub on top
+stub_length : (p : Stub) → length (stub_bytes p) ≡ 16
+unfolding stub_bytes
+stub_length p = refl
+
+pub one_stub : (p : Stub) → stubs_bytes (p ∷ []) ≡ stub_bytes p
+unfolding stubs_bytes
+one_stub p = append-nil (stub_bytes p)
+
+pub top_length : (xs : List ℕ) (p : Stub) (n : ℕ) → n ≤ length xs → length (take n xs ++ stub_bytes p) ≡ n + 16
+top_length xs p n there = grind (arith, common_steps, stub_length)
+
+word_kept : (xs ys : List ℕ) (n a : ℕ) → n ≤ length xs → a + 4 ≤ n → word (take n xs ++ ys) a ≡ word xs a
+word_kept xs ys n a there below = grind (arith, common_steps)
+
+frame_kept : (f : FlatState) (i : Instruction) → IsFrame f.stack.bytes (frame_of f) → IsHeight f i.sp → frame_of (with_stub f i) ≡ frame_of f
+unfolding with_stub
+frame_kept f i frame height =
+    let header : f.fp + 8 ≤ i.sp = omega (arith, frame.good.locals, frame.good.order, height.values) in
+    rw (word_kept f.stack.bytes (stub_bytes (stub_of f i.dest i.next)) i.sp f.fp height.there (omega arith), word_kept f.stack.bytes (stub_bytes (stub_of f i.dest i.next)) i.sp (f.fp + 4) height.there (omega arith)) refl
+
+same_fault : (f : FlatState) (i : Instruction) (d : Dest) (n : ℕ) → IsFrame f.stack.bytes (frame_of f) → IsHeight f i.sp → store_fault (with_stub f i) 4 d n ≡ store_fault f 4 d n
+unfolding store_fault with_stub
+same_fault f i Nowhere n frame height = refl
+same_fault f i (Memory at) n frame height = refl
+same_fault f i (Local at) n frame height =
+    ap (λ (p : Frame). let r : Result (Unit {0}) Fault = if nat_le (at + 4) (p.values - p.locals) then Ok tt else Err BadLocal in r) (frame_kept f i frame height)
+same_fault f i Push n frame height = refl
+
+pub stub_stored : (f : FlatState) (i : Instruction) (d : Dest) (v : ℕ) → IsFrame f.stack.bytes (frame_of f) → IsHeight f i.sp
+    → stored (with_stub f i) 4 d v ≡ (store_fault f 4 d (i.sp + 16) >>= (λ (done : Unit {0}). Ok (with_value (with_stub f i) 4 d v)))
+unfolding stored with_stub
+stub_stored f i d v frame height =
+    rw (top_length f.stack.bytes (stub_of f i.dest i.next) i.sp height.there, same_fault f i d (i.sp + 16) frame height) refl
+
+pub token_stored : (f : FlatState) (i : Instruction) (d : Dest) (v : ℕ) → IsFrame f.stack.bytes (frame_of f) → IsHeight f i.sp
+    → store_fault f 4 d (i.sp + 16) ≡ Ok tt → stored (with_stub f i) 4 d v ≡ Ok (with_value (with_stub f i) 4 d v)
+token_stored f i d v frame height fits = stub_stored f i d v frame height ∙ ap (λ (r : Result (Unit {0}) Fault). r >>= (λ (done : Unit {0}). Ok (with_value (with_stub f i) 4 d v))) fits
+
+pub stub_over : (f : FlatState) (i : Instruction) (at : ℕ) (bytes : List ℕ) → with_stub (written f at bytes) i ≡ written (with_stub f i) at bytes
+unfolding with_stub
+stub_over f i at bytes = refl
+
+pub in_ram : (f : FlatState) (at n : ℕ) → store_fault f 4 (Memory at) n ≡ Ok tt → (f.story.ramstart ≤ at) × (at + 4 ≤ length f.memory)
+unfolding store_fault
+in_ram f at n is = (grind (arith, nat_tests), grind (arith, nat_tests))
+
+pub ruleset stubs = (one_stub, top_length, token_stored, stub_over, in_ram)
+
+-- a token that has no fault is stored in RAM
+pub lasting_place : (f : FlatState) (d : Dest) (n token : ℕ) → store_fault f 4 d n ≡ Ok tt → IsPlace f (lasting d token)
+unfolding store_fault
+lasting_place f Nowhere n token is = (tt, tt)
+lasting_place f (Memory at) n token is = in_ram f at n is
+lasting_place f (Local at) n token is = (tt, tt)
+lasting_place f Push n token is = (tt, tt)
+
+pub ruleset catches = (caught, stub_stored)

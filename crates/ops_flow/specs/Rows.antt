@@ -1,0 +1,212 @@
+-- The rows of the classes Calc, Branch, Flow and Stack (Glulx 3.1.2, "Integer Math", "Branches", "Functions and
+-- Continuations", "Stack Manipulation"), in the order of their numbers.
+--
+-- An instruction's pops are made in its `sp`, its results are words, and PC becomes `next` where nothing
+-- else is said. A fault in any line leaves the state as it is.
+use Rattle.std.specs.Prelude.{ℕ, ◌+◌, ◌-◌, ◌*◌, ◌%◌, ◌^◌, ◌==◌, ◌&&◌, nat_lt, nat_le, if◌then◌else◌, Bool, List, [], ◌∷◌, ◌++◌, drop, take, Option, Some, None, Result, Ok, Err}
+use Rattle.std.specs.Option.{ok_or}
+use Rattle.gx_words.specs.declared.faults.Fault.{Fault}
+use Rattle.gx_words.specs.declared.faults.Fault.TheVariants.{BadOpcode, Divide, Overflow, Underflow, BadToken}
+use Rattle.gx_words.specs.Numbers.{word}
+use Rattle.gx_words.specs.Results.{◌>>=◌}
+use Rattle.gx_rows.specs.declared.instructions.Class.{Class}
+use Rattle.gx_rows.specs.declared.instructions.Class.TheVariants as class
+use Rattle.gx_stack.specs.declared.stubs.Stub.{Stub}
+use Rattle.gx_stack.specs.Stubs.{stub_bytes}
+use Rattle.ops_calc.specs.Arithmetic.{calc, signed}
+use Rattle.ops_calc.specs.Branches.{test}
+use Rattle.gx_state.specs.declared.effects.Effect.{Effect}
+use Rattle.gx_state.specs.declared.effects.Effect.TheVariants.{Went, Quit}
+use Rattle.gx_state.specs.declared.modes.Dest.{Dest}
+use Rattle.gx_state.specs.declared.modes.Dest.TheVariants.{Nowhere, Memory, Local, Push}
+use Rattle.gx_state.specs.Flat.{FlatState, cut, swapped, rolled, copied}
+use Rattle.gx_state.specs.Entry.{entered}
+use Rattle.gx_state.specs.Returns.{returned}
+use Rattle.gx_operands.specs.Arguments.{arguments, values_to}
+use Rattle.gx_operands.specs.Instructions.{Instruction, operand_at, going_to}
+use Rattle.gx_operands.specs.Stores.{settled, stored}
+
+-- WHAT ROWS SHARE
+
+-- S1 = a value
+abbrev pub stores : FlatState → Instruction → ℕ → Result (FlatState × Effect) Fault
+stores f i v = do
+  g ← settled f i.sp 4 i.dest v
+  Ok (going_to g i.next, Went)
+
+-- on at an address
+abbrev pub goes : FlatState → ℕ → Result (FlatState × Effect) Fault
+goes f pc = Ok (going_to f pc, Went)
+
+-- a return of a value from the present function; that of the start function ends the program, with PC at
+-- the next instruction
+abbrev pub ends : ℕ → FlatState × Bool → FlatState × Effect
+ends next r = if r.1 then (going_to r.0 next, Quit) else (r.0, Went)
+
+abbrev pub returns : FlatState → ℕ → ℕ → Result (FlatState × Effect) Fault
+returns f next v = do
+  r ← returned f f.fp v None
+  Ok (ends next r)
+
+-- a branch by an offset: those of 0 and 1 return this value from the present function
+abbrev pub branches : FlatState → ℕ → ℕ → Result (FlatState × Effect) Fault
+branches f next offset = if nat_lt offset 2 then returns f next offset else goes f ((next + (offset - 2)) % 2 ^ 32)
+
+-- the stub of a store operand: DestType, DestAddr, the next instruction, the present frame
+abbrev pub stub_of : FlatState → Dest → ℕ → Stub
+stub_of f Nowhere next = record { kind = 0; addr = 0; pc = next; fp = f.fp }
+stub_of f (Memory at) next = record { kind = 1; addr = at; pc = next; fp = f.fp }
+stub_of f (Local at) next = record { kind = 2; addr = at; pc = next; fp = f.fp }
+stub_of f Push next = record { kind = 3; addr = 0; pc = next; fp = f.fp }
+
+-- a call of L1 with arguments, whose result goes to S1
+abbrev pub calls : FlatState → Instruction → ℕ → List ℕ → Result (FlatState × Effect) Fault
+calls f i sp args = do
+  g ← entered f sp (stub_of f i.dest i.next ∷ []) (operand_at i 0) args
+  Ok (g, Went)
+
+-- INTEGER MATH, AND THE SIGN EXTENSIONS
+
+-- 10 add, 11 sub, 12 mul, 13 div, 14 mod, 18 bitand, 19 bitor, 1A bitxor, 1C shiftl, 1D sshiftr, 1E ushiftr
+-- (L1 L2 S1), 15 neg, 1B bitnot, 44 sexs, 45 sexb (L1 S1): S1 is what ops_calc's definition of that name
+-- makes of L1 and L2
+unfoldable pub computes : FlatState → Instruction → Result (FlatState × Effect) Fault
+computes f i = do
+  v ← ok_or (calc i.row.act (operand_at i 0) (operand_at i 1)) Divide
+  stores f i v
+
+-- BRANCHES
+
+-- 20 jump (L1), 22 jz, 23 jnz (L1 L2), 24 jeq, 25 jne, 26 jlt, 27 jge, 28 jgt, 29 jle, 2A jltu, 2B jgeu,
+-- 2C jgtu, 2D jleu (L1 L2 L3): a branch by the last operand where ops_calc's test of that name holds of L1 and L2
+unfoldable pub jumps : FlatState → Instruction → Result (FlatState × Effect) Fault
+jumps f i =
+    if test i.row.act (operand_at i 0) (operand_at i 1) then branches (cut f i.sp) i.next (operand_at i (i.row.loads - 1))
+    else goes (cut f i.sp) i.next
+
+-- FUNCTIONS AND CONTINUATIONS
+
+-- 00 nop
+unfoldable pub nop : FlatState → Instruction → Result (FlatState × Effect) Fault
+nop f i = goes (cut f i.sp) i.next
+
+-- 30 call (L1 L2 S1): pops L2 arguments, the first topmost, and calls L1. No more than 256 are told apart,
+-- since more than 255 are a fault of the entry.
+unfoldable pub call : FlatState → Instruction → Result (FlatState × Effect) Fault
+call f i = do
+  args ← arguments f i.sp (operand_at i 1) 256
+  calls f i (i.sp - 4 * operand_at i 1) args
+
+-- 31 return (L1): returns L1
+unfoldable pub return_ : FlatState → Instruction → Result (FlatState × Effect) Fault
+return_ f i = returns f i.next (operand_at i 0)
+
+-- the stack with the stub of a catch on top
+unfoldable pub with_stub : FlatState → Instruction → FlatState
+with_stub f i = record f { stack = record f.stack { bytes = take i.sp f.stack.bytes ++ stub_bytes (stub_of f i.dest i.next) } }
+
+-- the word of a catch that outlasts a return from its function
+abbrev pub lasting : Dest → ℕ → Option (ℕ × ℕ)
+lasting Nowhere token = None
+lasting (Memory at) token = Some (at, token)
+lasting (Local at) token = None
+lasting Push token = None
+
+-- 32 catch (S1 L1): pushes the stub of S1; S1 = the stack pointer above it, which is the token; then
+-- branches by L1
+unfoldable pub catch : FlatState → Instruction → Result (FlatState × Effect) Fault
+catch f i =
+    if nat_lt f.stack.limit (i.sp + 16) then Err Overflow else (do
+      g ← stored (with_stub f i) 4 i.dest (i.sp + 16)
+      branches g i.next (operand_at i 0))
+
+-- a token is the end of a stub on the stack
+abbrev pub is_token : ℕ → ℕ → Bool
+is_token token sp = nat_le 16 token && nat_le token sp && token % 4 == 0
+
+-- 33 throw (L1 L2): the stack is cut to the token L2, and L1 is returned to the stub there
+unfoldable pub throw : FlatState → Instruction → Result (FlatState × Effect) Fault
+throw f i =
+    if is_token (operand_at i 1) i.sp then (do
+      r ← returned f (operand_at i 1) (operand_at i 0) None
+      Ok (r.0, Went)) else Err BadToken
+
+-- 34 tailcall (L1 L2): pops L2 arguments, and calls L1 in place of the present function
+unfoldable pub tailcall : FlatState → Instruction → Result (FlatState × Effect) Fault
+tailcall f i = do
+  args ← arguments f i.sp (operand_at i 1) 256
+  g ← entered f f.fp [] (operand_at i 0) args
+  Ok (g, Went)
+
+-- 104 jumpabs (L1): PC = L1
+unfoldable pub jumpabs : FlatState → Instruction → Result (FlatState × Effect) Fault
+jumpabs f i = goes (cut f i.sp) (operand_at i 0)
+
+-- 160 callf (L1 S1), 161 callfi (L1 L2 S1), 162 callfii (L1 L2 L3 S1), 163 callfiii (L1 L2 L3 L4 S1): calls L1
+-- with the other operands as arguments
+unfoldable pub callf : FlatState → Instruction → Result (FlatState × Effect) Fault
+callf f i = calls f i i.sp (drop 1 i.loads)
+
+-- THE STACK
+
+-- 50 stkcount (S1): S1 = how many values the frame has
+unfoldable pub stkcount : FlatState → Instruction → Result (FlatState × Effect) Fault
+stkcount f i = stores f i (values_to f i.sp)
+
+-- 51 stkpeek (L1 S1): S1 = the value L1 from the top, which is number 0
+unfoldable pub stkpeek : FlatState → Instruction → Result (FlatState × Effect) Fault
+stkpeek f i =
+    let n = operand_at i 0 in
+    if nat_lt n (values_to f i.sp) then stores f i (word f.stack.bytes (i.sp - 4 * (n + 1))) else Err Underflow
+
+-- 52 stkswap: exchanges the top two values
+unfoldable pub stkswap : FlatState → Instruction → Result (FlatState × Effect) Fault
+stkswap f i = do
+  g ← swapped (cut f i.sp)
+  goes g i.next
+
+-- 53 stkroll (L1 L2): moves the top L1 values up by L2 places, cyclically, or down where L2 is negative
+unfoldable pub stkroll : FlatState → Instruction → Result (FlatState × Effect) Fault
+stkroll f i = do
+  g ← rolled (cut f i.sp) (operand_at i 0) (signed (operand_at i 1))
+  goes g i.next
+
+-- 54 stkcopy (L1): pushes the top L1 values again
+unfoldable pub stkcopy : FlatState → Instruction → Result (FlatState × Effect) Fault
+stkcopy f i = do
+  g ← copied (cut f i.sp) (operand_at i 0)
+  goes g i.next
+
+-- THE ROW OF AN INSTRUCTION
+
+unfoldable pub flow : FlatState → Instruction → Result (FlatState × Effect) Fault
+flow f i =
+    if i.row.number == 0x00 then nop f i else
+    if i.row.number == 0x30 then call f i else
+    if i.row.number == 0x31 then return_ f i else
+    if i.row.number == 0x32 then catch f i else
+    if i.row.number == 0x33 then throw f i else
+    if i.row.number == 0x34 then tailcall f i else
+    if i.row.number == 0x104 then jumpabs f i else
+    if nat_le 0x160 i.row.number && nat_le i.row.number 0x163 then callf f i else
+    Err BadOpcode
+
+unfoldable pub stack : FlatState → Instruction → Result (FlatState × Effect) Fault
+stack f i =
+    if i.row.number == 0x50 then stkcount f i else
+    if i.row.number == 0x51 then stkpeek f i else
+    if i.row.number == 0x52 then stkswap f i else
+    if i.row.number == 0x53 then stkroll f i else
+    if i.row.number == 0x54 then stkcopy f i else
+    Err BadOpcode
+
+abbrev pub row : Class → FlatState → Instruction → Result (FlatState × Effect) Fault
+row class.Calc f i = computes f i
+row class.Branch f i = jumps f i
+row class.Flow f i = flow f i
+row class.Copy f i = Err BadOpcode
+row class.Memory f i = Err BadOpcode
+row class.Stack f i = stack f i
+row class.Print f i = Err BadOpcode
+row class.Game f i = Err BadOpcode
+row class.Glk f i = Err BadOpcode

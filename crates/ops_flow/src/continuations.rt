@@ -1,0 +1,139 @@
+//! catch and throw (Glulx 3.1.2, "Continuations").
+ghost use Rattle.std.specs.Prelude.{◌≡◌, ◌⊎◌, ◌<◌, ◌≤◌, ◌+◌, ◌++◌, ◌*◌, take, Ok, Some, IsErrOf, IsSome, IfOk};
+ghost use Rattle.gx_words.specs.declared.faults.Fault.TheVariants.{NoMemory};
+ghost use Rattle.gx_words.specs.Faults.{Changes, Does, TakesNone};
+ghost use Rattle.gx_stack.specs.Stubs.{stub_bytes};
+ghost use Rattle.gx_state.specs.Flat.{IsHeight, sp_of};
+ghost use Rattle.gx_state.specs.Replies.{IsDone};
+ghost use Rattle.gx_operands.specs.Instructions.{operand_at};
+ghost use Rattle.gx_operands.specs.Plans.{instruction_of};
+ghost use Rattle.gx_operands.specs.Stores.{IsMemory, store_fault, with_value};
+ghost use Rattle.ops_flow.specs.Rows.{with_stub, lasting, is_token, catch, throw};
+ghost use Rattle.ops_flow.specs.Writes.{EndsInMemory, left_by};
+
+use crate::branches::ends;
+use crate::calls::stub_of;
+use gx_operands::{Plan, can_store, store};
+use gx_state::{Dest, Effect, State};
+use gx_words::{Fault, word_bytes};
+use std::alloc::Allocator;
+
+/// Looks whether the token of a catch can be stored once its stub is pushed.
+#[tactic(auto, unfolding(gx_operands::specs::Stores::store_fault))]
+fn can_catch<A: Allocator + Clone>(state: &State<A>, plan: &Plan) -> Result<(), Fault>
+    requires height { IsHeight state.now.flat plan.now.sp }
+    requires room { plan.now.sp + 16 ≤ state.now.flat.stack.limit }
+    ensures value { result ≡ store_fault state.now.flat 4 plan.now.dest (plan.now.sp + 16) }
+    ensures memory { TakesNone result }
+{
+    if plan.dest == Dest::Push {
+        let limit = state.stack().limit();
+        if plan.sp + 20 > limit {
+            return Err(Fault::Overflow);
+        }
+        return Ok(());
+    }
+    can_store(state, &plan.dest, 4, plan.sp)
+}
+
+/// The word of a catch that outlasts a return from its function.
+fn lasting(dest: &Dest, token: u32) -> Option<(u32, u32)>
+    ensures value { result ≡ lasting dest.now token }
+    ensures memory { IsSome result → IsMemory dest.now }
+{
+    match *dest {
+        Dest::Memory(at) => Some((at, token)),
+        _ => None,
+    }
+}
+
+/// Pushes the stub of a catch.
+#[tactic(auto, unfolding(crate::specs::Rows::with_stub, gx_state::specs::Returns::pushed_stubs, gx_stack::specs::Stubs::pushed_stubs), using(crate::proofs::Cuts::stubs))]
+fn push_stub<A: Allocator + Clone>(state: &mut State<A>, plan: &Plan)
+    requires height { IsHeight state.old.flat plan.now.sp }
+    requires room { plan.now.sp + 16 ≤ state.old.flat.stack.limit }
+    ensures value { state.new.flat ≡ with_stub state.old.flat (instruction_of plan.now) }
+    ensures live { 0 < sp_of state.new.flat }
+{
+    let stub = stub_of(state, &plan.dest, plan.next);
+    state.cut_stack(plan.sp);
+    match state.push_stubs(&[stub]) {
+        Ok(()) => {}
+        Err(_) => unreachable!(),
+    }
+}
+
+/// Pushes the stub of a catch and stores its token, which was found to have no fault.
+#[tactic(auto, using(crate::proofs::Cuts::stubs))]
+fn store_token<A: Allocator + Clone>(
+    state: &mut State<A>,
+    plan: &Plan,
+    token: u32,
+) -> Result<(), Fault>
+    requires height { IsHeight state.old.flat plan.now.sp }
+    requires room { plan.now.sp + 16 ≤ state.old.flat.stack.limit }
+    requires stores { store_fault state.old.flat 4 plan.now.dest (plan.now.sp + 16) ≡ Ok tt }
+    ensures value { Changes result state.old.flat state.new.flat (Ok (with_value (with_stub state.old.flat (instruction_of plan.now)) 4 plan.now.dest token)) }
+    ensures memory { IsErrOf result NoMemory → IsMemory plan.now.dest }
+{
+    let _size = state.stack().size();
+    let _frame = state.frame();
+    match plan.dest {
+        Dest::Memory(at) => {
+            state.write(at, &word_bytes(token))?;
+            push_stub(state, plan);
+            Ok(())
+        }
+        _ => {
+            push_stub(state, plan);
+            match store(state, &plan.dest, 4, token) {
+                Ok(()) => Ok(()),
+                Err(_) => unreachable!(),
+            }
+        }
+    }
+}
+
+/// catch: all faults come first, then the stub and the token, then the branch. A return by the offset
+/// 0 or 1 forgets all of it but a token in memory.
+#[tactic(auto, unfolding(crate::specs::Rows::catch), using(crate::proofs::Cuts::catches))]
+pub fn catch<A: Allocator + Clone>(state: &mut State<A>, plan: &Plan) -> Result<Effect, Fault>
+    requires { IsHeight state.old.flat plan.now.sp }
+    ensures value { Does (λ effect. effect) result state.old.flat state.new.flat (catch state.old.flat (instruction_of plan.now)) }
+    ensures done { IfOk result IsDone }
+    ensures memory { IsErrOf result NoMemory → IsMemory plan.now.dest ⊎ EndsInMemory state.old.flat (left_by state.old.flat (operand_at (instruction_of plan.now) 0)) }
+{
+    let offset = plan.load(0);
+    let limit = state.stack().limit();
+    let _size = state.stack().size();
+    let _frame = state.frame();
+    let token = plan.sp + 16;
+    if token > limit {
+        return Err(Fault::Overflow);
+    }
+    can_catch(state, plan)?;
+    if offset < 2 {
+        let fp = state.fp();
+        let over = state.deliver(fp, offset, lasting(&plan.dest, token))?;
+        return Ok(ends(state, over, plan.next));
+    }
+    store_token(state, plan, token)?;
+    state.set_pc(plan.next.wrapping_add(offset - 2));
+    Ok(Effect::Went)
+}
+
+/// throw: the token is looked at on the stack that the pops leave.
+#[tactic(auto, unfolding(crate::specs::Rows::throw))]
+pub fn throw<A: Allocator + Clone>(state: &mut State<A>, plan: &Plan) -> Result<Effect, Fault>
+    requires { IsHeight state.old.flat plan.now.sp }
+    ensures value { Does (λ effect. effect) result state.old.flat state.new.flat (throw state.old.flat (instruction_of plan.now)) }
+    ensures done { IfOk result IsDone }
+    ensures memory { IsErrOf result NoMemory → EndsInMemory state.old.flat (Some (operand_at (instruction_of plan.now) 1)) }
+{
+    let token = plan.load(1);
+    if token < 16 || token > plan.sp || token % 4 != 0 {
+        return Err(Fault::BadToken);
+    }
+    state.deliver(token, plan.load(0), None)?;
+    Ok(Effect::Went)
+}

@@ -1,0 +1,113 @@
+//! The rows of Stack (Glulx 3.1.2, "Stack Manipulation").
+//!
+//! Each looks for its fault before its operands are popped.
+ghost use Rattle.std.specs.Prelude.{◌≡◌, ◌<◌, ◌+◌, ◌*◌, IsErrOf, IfOk};
+ghost use Rattle.gx_words.specs.declared.faults.Fault.TheVariants.{NoMemory};
+ghost use Rattle.gx_words.specs.Faults.{Does, TakesNone};
+ghost use Rattle.gx_words.specs.Results.{Turns};
+ghost use Rattle.gx_state.specs.Flat.{IsHeight};
+ghost use Rattle.gx_state.specs.Replies.{IsDone};
+ghost use Rattle.gx_operands.specs.Plans.{instruction_of};
+ghost use Rattle.gx_operands.specs.Stores.{IsMemory};
+ghost use Rattle.ops_flow.specs.Rows.{stkcount, stkpeek, stkswap, stkroll, stkcopy};
+
+use crate::computing::stores;
+use gx_operands::{Plan, values_to};
+use gx_state::{Effect, State};
+use gx_words::{Fault, signed, word_at};
+use std::alloc::Allocator;
+
+/// stkcount
+#[tactic(auto, unfolding(crate::specs::Rows::stkcount))]
+pub fn stkcount<A: Allocator + Clone>(state: &mut State<A>, plan: &Plan) -> Result<Effect, Fault>
+    requires { IsHeight state.old.flat plan.now.sp }
+    ensures value { Does (λ effect. effect) result state.old.flat state.new.flat (stkcount state.old.flat (instruction_of plan.now)) }
+    ensures done { IfOk result IsDone }
+    ensures memory { IsErrOf result NoMemory → IsMemory plan.now.dest }
+{
+    let count = values_to(state, plan.sp);
+    stores(state, plan, count)
+}
+
+/// stkpeek
+#[tactic(auto, unfolding(crate::specs::Rows::stkpeek))]
+pub fn stkpeek<A: Allocator + Clone>(state: &mut State<A>, plan: &Plan) -> Result<Effect, Fault>
+    requires { IsHeight state.old.flat plan.now.sp }
+    ensures value { Does (λ effect. effect) result state.old.flat state.new.flat (stkpeek state.old.flat (instruction_of plan.now)) }
+    ensures done { IfOk result IsDone }
+    ensures memory { IsErrOf result NoMemory → IsMemory plan.now.dest }
+{
+    let n = plan.load(0);
+    if n >= values_to(state, plan.sp) {
+        return Err(Fault::Underflow);
+    }
+    let value = word_at(state.stack().bytes(), (plan.sp - 4 * (n + 1)) as usize);
+    stores(state, plan, value)
+}
+
+/// stkswap
+#[tactic(auto, unfolding(crate::specs::Rows::stkswap, gx_state::specs::Flat::swapped, gx_stack::specs::Values::swapped))]
+pub fn stkswap<A: Allocator + Clone>(state: &mut State<A>, plan: &Plan) -> Result<Effect, Fault>
+    requires { IsHeight state.old.flat plan.now.sp }
+    ensures value { Turns (λ effect. effect) result state.old.flat state.new.flat (stkswap state.old.flat (instruction_of plan.now)) }
+    ensures done { IfOk result IsDone }
+    ensures memory { TakesNone result }
+{
+    if values_to(state, plan.sp) < 2 {
+        return Err(Fault::Underflow);
+    }
+    state.cut_stack(plan.sp);
+    match state.swap() {
+        Ok(()) => {}
+        Err(_) => unreachable!(),
+    }
+    state.set_pc(plan.next);
+    Ok(Effect::Went)
+}
+
+/// stkroll
+#[tactic(auto, unfolding(crate::specs::Rows::stkroll, gx_state::specs::Flat::rolled, gx_stack::specs::Values::rolled))]
+pub fn stkroll<A: Allocator + Clone>(state: &mut State<A>, plan: &Plan) -> Result<Effect, Fault>
+    requires { IsHeight state.old.flat plan.now.sp }
+    ensures value { Turns (λ effect. effect) result state.old.flat state.new.flat (stkroll state.old.flat (instruction_of plan.now)) }
+    ensures done { IfOk result IsDone }
+    ensures memory { TakesNone result }
+{
+    let n = plan.load(0);
+    if n > values_to(state, plan.sp) {
+        return Err(Fault::Underflow);
+    }
+    state.cut_stack(plan.sp);
+    match state.roll(n, signed(plan.load(1))) {
+        Ok(()) => {}
+        Err(_) => unreachable!(),
+    }
+    state.set_pc(plan.next);
+    Ok(Effect::Went)
+}
+
+/// stkcopy
+#[tactic(auto, unfolding(crate::specs::Rows::stkcopy, gx_state::specs::Flat::copied, gx_stack::specs::Values::copied))]
+pub fn stkcopy<A: Allocator + Clone>(state: &mut State<A>, plan: &Plan) -> Result<Effect, Fault>
+    requires { IsHeight state.old.flat plan.now.sp }
+    ensures value { Turns (λ effect. effect) result state.old.flat state.new.flat (stkcopy state.old.flat (instruction_of plan.now)) }
+    ensures done { IfOk result IsDone }
+    ensures memory { TakesNone result }
+{
+    let n = plan.load(0);
+    if n > values_to(state, plan.sp) {
+        return Err(Fault::Underflow);
+    }
+    let limit = state.stack().limit();
+    let _size = state.stack().size();
+    if plan.sp + 4 * n > limit {
+        return Err(Fault::Overflow);
+    }
+    state.cut_stack(plan.sp);
+    match state.copy_top(n) {
+        Ok(()) => {}
+        Err(_) => unreachable!(),
+    }
+    state.set_pc(plan.next);
+    Ok(Effect::Went)
+}
