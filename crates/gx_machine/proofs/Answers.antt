@@ -1,5 +1,5 @@
 -- What answers the instruction that asked.
-use Rattle.std.proofs.Common.{◌≡◌, ◌≤◌, ◌+◌, ◌-◌, ◌*◌, ◌/◌, ℕ, Bool, true, false, nat_le, if◌then◌else◌, refl, ap, subst, sym, ◌∙◌, arith, Result, Ok, Err, None}
+use Rattle.std.proofs.Common.{◌≡◌, ◌≤◌, ◌+◌, ◌-◌, ◌*◌, ◌%◌, ◌<◌, ℕ, Bool, true, false, nat_le, if◌then◌else◌, refl, ap, subst, sym, ◌∙◌, arith, Result, Ok, Err, None}
 use Rattle.std.proofs.lemmas.Bool.{leb-true}
 use Rattle.gx_words.specs.declared.faults.Fault.{Fault}
 use Rattle.gx_words.specs.declared.faults.Fault.TheVariants.{Overflow}
@@ -10,24 +10,54 @@ use Rattle.gx_state.specs.declared.effects.Effect.TheVariants.{Went, Drew, Put, 
 use Rattle.gx_state.specs.declared.effects.Reply.{Reply}
 use Rattle.gx_state.specs.declared.modes.Dest.{Dest}
 use Rattle.gx_state.specs.declared.modes.Dest.TheVariants.{Nowhere, Memory, Local, Push}
+use Rattle.gx_state.specs.declared.modes.Mode.{Mode}
+use Rattle.gx_state.specs.declared.modes.Mode.TheVariants.{Running, Printing}
 use Rattle.gx_state.specs.Flat.{FlatState, IsHeight, frame_of, sp_of}
 use Rattle.gx_state.specs.Replies.{IsDone}
 use Rattle.gx_operands.specs.Instructions.{Instruction, instruction, operand_at, going_to}
-use Rattle.gx_machine.specs.Answer.{answered_state, answered_by, answered_row, replied}
-use Rattle.gx_operands.specs.Stores.{store_fault}
+use Rattle.gx_machine.specs.Answer.{answered_state, answered_in, answered_by, answered_row, replied, StoresAnswer, StoresIn, StoresBy, StoresRow}
+use Rattle.ops_memory.specs.Costs.{EndsWithin}
+use Rattle.ops_print.specs.Items.{mode_after}
+use Rattle.ops_print.specs.Rows.{AsksAtMostPut}
+use Rattle.gx_operands.specs.Stores.{store_fault, IsMemory}
 use Rattle.gx_machine.specs.declared.askings.Asking.TheVariants as asking
 use Rattle.gx_machine.specs.Step.{asking_of}
-use Rattle.gx_machine.specs.Views.{Pends, result_len}
+use Rattle.gx_machine.specs.Views.{Pends, result_len, resumed}
 
-by_class : (f : FlatState) (i : Instruction) (c : Class) → instruction f ≡ Ok i → i.row.class ≡ c → (reply : Reply) → answered_state f reply ≡ answered_row c f i reply
+by_class : (f : FlatState) (i : Instruction) (c : Class) → f.mode ≡ Running → instruction f ≡ Ok i → i.row.class ≡ c → (reply : Reply) → answered_state f reply ≡ answered_row c f i reply
 unfolding answered_state
-by_class f i c decoded is reply = ap (answered_by f reply) decoded ∙ ap (λ (x : Class). answered_row x f i reply) is
+by_class f i c running decoded is reply =
+    ap (answered_in f reply) running ∙ ap (answered_by f reply) decoded ∙ ap (λ (x : Class). answered_row x f i reply) is
 
-pub print_answers : (f : FlatState) (i : Instruction) (reply : Reply) → instruction f ≡ Ok i → i.row.class ≡ class.Print → answered_state f reply ≡ going_to (replied f i.sp Nowhere reply) i.next
-print_answers f i reply decoded is = by_class f i class.Print decoded is reply
+-- an answer to code leaves the mode
+on_with : (f : FlatState) (sp : ℕ) (dest : Dest) (next : ℕ) (reply : Reply) → f.mode ≡ Running → going_to (replied f sp dest reply) next ≡ resumed (replied f sp dest reply) next Running
+on_with f sp Nowhere next reply running = ap (resumed (replied f sp Nowhere reply) next) running
+on_with f sp (Memory at) next reply running = ap (resumed (replied f sp (Memory at) reply) next) running
+on_with f sp (Local at) next reply running = ap (resumed (replied f sp (Local at) reply) next) running
+on_with f sp Push next reply running = ap (resumed (replied f sp Push reply) next) running
 
-pub glk_answers : (f : FlatState) (i : Instruction) (reply : Reply) → instruction f ≡ Ok i → i.row.class ≡ class.Glk → answered_state f reply ≡ going_to (replied f (i.sp - 4 * operand_at i 1) i.dest reply) i.next
-glk_answers f i reply decoded is = by_class f i class.Glk decoded is reply
+pub print_answers : (f : FlatState) (i : Instruction) (reply : Reply) → f.mode ≡ Running → instruction f ≡ Ok i → i.row.class ≡ class.Print
+    → answered_state f reply ≡ resumed (replied f i.sp Nowhere reply) i.next Running
+print_answers f i reply running decoded is = by_class f i class.Print running decoded is reply ∙ on_with f i.sp Nowhere i.next reply running
+
+pub glk_answers : (f : FlatState) (i : Instruction) (reply : Reply) → f.mode ≡ Running → instruction f ≡ Ok i → i.row.class ≡ class.Glk
+    → answered_state f reply ≡ resumed (replied f (i.sp - 4 * operand_at i 1) i.dest reply) i.next Running
+glk_answers f i reply running decoded is = by_class f i class.Glk running decoded is reply ∙ on_with f (i.sp - 4 * operand_at i 1) i.dest i.next reply running
+
+-- the answer to a character of what is printed
+item_answered : (f : FlatState) (reply : Reply) (m : Mode) → f.mode ≡ m → (m ≡ Running → ⊥) → answered_in f reply m ≡ resumed (replied f (sp_of f) Nowhere reply) f.pc (mode_after f)
+item_answered f reply Running is printing = absurd (printing refl)
+item_answered f reply (Printing p) is printing = refl
+
+pub item_answers : (f : FlatState) (reply : Reply) → (f.mode ≡ Running → ⊥) → answered_state f reply ≡ resumed (replied f (sp_of f) Nowhere reply) f.pc (mode_after f)
+unfolding answered_state
+item_answers f reply printing = item_answered f reply f.mode refl printing
+
+-- the result of a Glk call is stored where its operand says
+pub glk_stores : (f : FlatState) (i : Instruction) → f.mode ≡ Running → instruction f ≡ Ok i → i.row.class ≡ class.Glk → IsMemory i.dest → StoresAnswer f
+unfolding StoresAnswer
+glk_stores f i running decoded is memory =
+    subst (StoresIn f) (sym running) (subst StoresBy (sym decoded) (subst (λ (c : Class). StoresRow c i) (sym is) memory))
 
 pub done_asks : (e : Effect) → IsDone e → asking_of e ≡ None
 done_asks Went h = refl
@@ -35,32 +65,67 @@ done_asks Drew h = refl
 done_asks (Put c) h = absurd h
 done_asks (Glk selector args room) h = absurd h
 done_asks Quit h = refl
-done_asks Spent h = refl
+done_asks Spent h = absurd h
 
-pub ruleset answers = (print_answers, glk_answers, done_asks)
+-- only a search is spent, and only where it begins more probes than the budget has
+pub spent_within : (left probes : ℕ) (e : Effect) → EndsWithin left probes e → e ≡ Spent → left < probes
+spent_within left probes e ends spent = subst (EndsWithin left probes) spent ends
 
--- what is pending after a character was put
-pub print_pends : (f g : FlatState) (i : Instruction) → g ≡ f → instruction f ≡ Ok i → i.row.class ≡ class.Print → IsHeight f i.sp → sp_of f ≤ f.stack.limit
-    → Pends g (record { asking = asking.Put; sp = i.sp; dest = Nowhere; next = i.next })
+pub never_spent : (left probes : ℕ) (e : Effect) → IsDone e → e ≡ Spent → left < probes
+never_spent left probes e done spent = absurd (subst IsDone spent done)
+
+pub put_or_done : (e : Effect) (A : Type 0) → AsksAtMostPut e A → e ≡ Spent → ⊥
+put_or_done e A asks spent = absurd (subst (λ (x : Effect). AsksAtMostPut x A) spent asks)
+
+-- what is done within the budget asks nothing
+pub within_asks : (left probes : ℕ) (e : Effect) → EndsWithin left probes e → asking_of e ≡ None
+within_asks left probes Went h = refl
+within_asks left probes Drew h = refl
+within_asks left probes (Put c) h = absurd h
+within_asks left probes (Glk selector args room) h = absurd h
+within_asks left probes Quit h = refl
+within_asks left probes Spent h = refl
+
+pub ruleset answers = (print_answers, glk_answers, done_asks, within_asks, spent_within, never_spent, put_or_done)
+
+-- what is pending after a character was put by code
+pub print_pends : (f g : FlatState) (i : Instruction) → g ≡ f → f.mode ≡ Running → instruction f ≡ Ok i → i.row.class ≡ class.Print → IsHeight f i.sp → sp_of f ≤ f.stack.limit
+    → Pends g (record { asking = asking.Put; sp = i.sp; dest = Nowhere; next = i.next; mode = Running })
 unfolding store_fault
-print_pends f g i same decoded is height fits =
-    subst (λ (h : FlatState). Pends h (record { asking = asking.Put; sp = i.sp; dest = Nowhere; next = i.next })) (sym same)
+print_pends f g i same running decoded is height fits =
+    subst (λ (h : FlatState). Pends h (record { asking = asking.Put; sp = i.sp; dest = Nowhere; next = i.next; mode = Running })) (sym same)
     (record {
       height = height;
       stores = refl;
+      memory = λ none. absurd none;
       room = omega (arith, height.there);
-      answers = λ reply. print_answers f i reply decoded is;
+      answers = λ reply. print_answers f i reply running decoded is;
+    })
+
+-- and by what is printed
+pub item_pends : (f g : FlatState) → g ≡ f → (f.mode ≡ Running → ⊥) → 0 < sp_of f → (frame_of f).values ≤ sp_of f → sp_of f % 4 ≡ 0 → sp_of f ≤ f.stack.limit
+    → Pends g (record { asking = asking.Put; sp = sp_of f; dest = Nowhere; next = f.pc; mode = mode_after f })
+unfolding store_fault
+item_pends f g same printing live values words fits =
+    subst (λ (h : FlatState). Pends h (record { asking = asking.Put; sp = sp_of f; dest = Nowhere; next = f.pc; mode = mode_after f })) (sym same)
+    (record {
+      height = record { live = live; values = values; there = omega arith; words = words };
+      stores = refl;
+      memory = λ none. absurd none;
+      room = omega arith;
+      answers = λ reply. item_answers f reply printing;
     })
 
 -- what is pending after a Glk call
-pub glk_pends : (f : FlatState) (i : Instruction) (count room : ℕ) → instruction f ≡ Ok i → i.row.class ≡ class.Glk → count ≡ operand_at i 1
+pub glk_pends : (f : FlatState) (i : Instruction) (count room : ℕ) → f.mode ≡ Running → instruction f ≡ Ok i → i.row.class ≡ class.Glk → count ≡ operand_at i 1
     → IsHeight f (i.sp - 4 * count) → store_fault f 4 i.dest (i.sp - 4 * count) ≡ Ok tt → i.sp - 4 * count + 4 * room + result_len i.dest ≤ f.stack.limit
-    → Pends f (record { asking = asking.Glk room; sp = i.sp - 4 * count; dest = i.dest; next = i.next })
-glk_pends f i count room decoded is counted height stores fits = record {
+    → Pends f (record { asking = asking.Glk room; sp = i.sp - 4 * count; dest = i.dest; next = i.next; mode = Running })
+glk_pends f i count room running decoded is counted height stores fits = record {
   height = height;
   stores = stores;
+  memory = glk_stores f i running decoded is;
   room = fits;
-  answers = λ reply. rw counted (glk_answers f i reply decoded is);
+  answers = λ reply. rw counted (glk_answers f i reply running decoded is);
 }
 
 -- a store that has no fault has its room

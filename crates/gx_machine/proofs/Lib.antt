@@ -1,2 +1,4 @@
 pub mod Answers
+pub mod Charges
 pub mod Costs
+pub mod Steps

@@ -1,5 +1,5 @@
 -- The machine after what it asked is answered.
-use Rattle.std.specs.Prelude.{ℕ, ◌-◌, ◌*◌, ◌++◌, IsSome, Option, Some, None, Result, Ok, Err}
+use Rattle.std.specs.Prelude.{ℕ, ◌-◌, ◌*◌, ◌++◌, IsSome, None, Result, Ok, Err}
 use Rattle.gx_words.specs.declared.faults.Fault.{Fault}
 use Rattle.gx_words.specs.Numbers.{bytes_of_word}
 use Rattle.gx_pages.specs.Memory.{all_spliced}
@@ -9,10 +9,13 @@ use Rattle.gx_rows.specs.declared.instructions.Class.TheVariants as class
 use Rattle.gx_state.specs.declared.effects.Reply.{Reply}
 use Rattle.gx_state.specs.declared.modes.Dest.{Dest}
 use Rattle.gx_state.specs.declared.modes.Dest.TheVariants.{Nowhere, Memory, Local, Push}
-use Rattle.gx_state.specs.Flat.{FlatState, cut, written}
+use Rattle.gx_state.specs.declared.modes.Mode.{Mode}
+use Rattle.gx_state.specs.declared.modes.Mode.TheVariants as mode
+use Rattle.gx_state.specs.Flat.{FlatState, sp_of, cut, written}
 use Rattle.gx_state.specs.Replies.{IsReply}
 use Rattle.gx_operands.specs.Instructions.{Instruction, instruction, operand_at, going_to}
-use Rattle.gx_operands.specs.Stores.{with_value}
+use Rattle.gx_operands.specs.Stores.{with_value, IsMemory}
+use Rattle.ops_print.specs.Items.{mode_after}
 use Rattle.gx_machine.specs.Machine.{FlatMachine, Whole}
 use Rattle.gx_machine.specs.Step.{room_of}
 
@@ -52,9 +55,14 @@ abbrev pub answered_by : FlatState → Reply → Result Instruction Fault → Fl
 answered_by f r (Ok i) = answered_row i.row.class f i r
 answered_by f r (Err fault) = f
 
+-- A character of what is printed that was put: the next item follows.
+abbrev pub answered_in : FlatState → Reply → Mode → FlatState
+answered_in f r mode.Running = answered_by f r (instruction f)
+answered_in f r (mode.Printing p) = record (replied f (sp_of f) Nowhere r) { mode = mode_after f }
+
 -- The state after an asking is answered.
 unfoldable pub answered_state : FlatState → Reply → FlatState
-answered_state f r = answered_by f r (instruction f)
+answered_state f r = answered_in f r f.mode
 
 unfoldable pub answer_of : FlatMachine → Reply → FlatMachine
 answer_of m r = record m { flat = answered_state m.flat r }
@@ -67,3 +75,26 @@ answered m r = record { machine = answer_of m.machine r; asking = None }
 pub record CanAnswer (m : Whole) (reply : Reply) : Type 0 where
   pub pending : IsSome m.asking
   pub fits : IsReply m.machine.flat (room_of m.asking) reply
+
+-- The value of an answer is stored in memory: that of a Glk call may be.
+abbrev pub StoresRow : Class → Instruction → Type 0
+StoresRow class.Glk i = IsMemory i.dest
+StoresRow class.Print i = ⊥
+StoresRow class.Calc i = ⊥
+StoresRow class.Branch i = ⊥
+StoresRow class.Flow i = ⊥
+StoresRow class.Copy i = ⊥
+StoresRow class.Memory i = ⊥
+StoresRow class.Stack i = ⊥
+StoresRow class.Game i = ⊥
+
+abbrev pub StoresBy : Result Instruction Fault → Type 0
+StoresBy (Ok i) = StoresRow i.row.class i
+StoresBy (Err fault) = ⊥
+
+abbrev pub StoresIn : FlatState → Mode → Type 0
+StoresIn f mode.Running = StoresBy (instruction f)
+StoresIn f (mode.Printing p) = ⊥
+
+unfoldable pub StoresAnswer : FlatState → Type 0
+StoresAnswer f = StoresIn f f.mode

@@ -1,7 +1,6 @@
 -- What the row of an instruction does: each class by its own definitions, and the row of Glk.
-use Rattle.std.specs.Prelude.{ℕ, ◌-◌, ◌*◌, ◌/◌, ◌==◌, if◌then◌else◌, Result, Ok, Err}
+use Rattle.std.specs.Prelude.{ℕ, ◌-◌, ◌*◌, ◌/◌, Result, Ok, Err}
 use Rattle.gx_words.specs.declared.faults.Fault.{Fault}
-use Rattle.gx_words.specs.declared.faults.Fault.TheVariants.{BadOpcode}
 use Rattle.gx_words.specs.Results.{◌>>=◌}
 use Rattle.gx_rows.specs.declared.instructions.Class.{Class}
 use Rattle.gx_rows.specs.declared.instructions.Class.TheVariants as class
@@ -17,8 +16,11 @@ use Rattle.ops_flow.specs.Rows as flow
 use Rattle.ops_flow.specs.Writes as flow_writes
 use Rattle.ops_memory.specs.Rows as memory
 use Rattle.ops_memory.specs.Writes as memory_writes
-use Rattle.ops_print.specs.Rows.{streamchar}
+use Rattle.ops_print.specs.Rows as print
 use Rattle.ops_game.specs.Rows as game
+use Rattle.ops_game.specs.Writes as game_writes
+use Rattle.gx_undo.specs.Undo.{FlatUndo}
+use Rattle.gx_machine.specs.Machine.{FlatMachine}
 
 -- how many words fit above a stack pointer, beside a result that is pushed
 abbrev pub room_above : FlatState → ℕ → Dest → ℕ
@@ -35,26 +37,36 @@ glk f i = do
   _ ← store_fault f 4 i.dest (i.sp - 4 * operand_at i 1)
   Ok (f, Glk (operand_at i 0) (record { items = args }) (room_above f (i.sp - 4 * operand_at i 1) i.dest))
 
--- the row of a class; a row that isn't built yet has a bad opcode
-abbrev pub row : Class → FlatState → Instruction → Result (FlatState × Effect) Fault
-row class.Calc f i = flow.row class.Calc f i
-row class.Branch f i = flow.row class.Branch f i
-row class.Flow f i = flow.row class.Flow f i
-row class.Copy f i = memory.row class.Copy f i
-row class.Memory f i = memory.row class.Memory f i
-row class.Stack f i = flow.row class.Stack f i
-row class.Print f i = if i.row.number == 0x70 then streamchar f i else Err BadOpcode
-row class.Game f i = game.row f i
-row class.Glk f i = glk f i
+-- what a row makes of a machine, whose copies stay
+abbrev pub with_copies : FlatUndo → Result (FlatState × Effect) Fault → Result (FlatMachine × Effect) Fault
+with_copies u (Ok r) = Ok (record { flat = r.0; undo = u }, r.1)
+with_copies u (Err fault) = Err fault
 
--- the rows whose step writes memory, and so may want some
-abbrev pub Writes : Class → FlatState → Instruction → Type 0
-Writes class.Calc f i = flow_writes.Writes class.Calc f i
-Writes class.Branch f i = flow_writes.Writes class.Branch f i
-Writes class.Flow f i = flow_writes.Writes class.Flow f i
-Writes class.Copy f i = memory_writes.Writes class.Copy i
-Writes class.Memory f i = memory_writes.Writes class.Memory i
-Writes class.Stack f i = flow_writes.Writes class.Stack f i
-Writes class.Print f i = ⊥
-Writes class.Game f i = ⊥
-Writes class.Glk f i = ⊥
+-- the same for a row that may change them
+abbrev pub with_both : Result ((FlatState × FlatUndo) × Effect) Fault → Result (FlatMachine × Effect) Fault
+with_both (Ok r) = Ok (record { flat = r.0.0; undo = r.0.1 }, r.1)
+with_both (Err fault) = Err fault
+
+-- the row of a class, with a random word that it may use
+abbrev pub row : Class → FlatMachine → ℕ → Instruction → Result (FlatMachine × Effect) Fault
+row class.Calc m word i = with_copies m.undo (flow.row class.Calc m.flat i)
+row class.Branch m word i = with_copies m.undo (flow.row class.Branch m.flat i)
+row class.Flow m word i = with_copies m.undo (flow.row class.Flow m.flat i)
+row class.Copy m word i = with_copies m.undo (memory.row class.Copy m.flat i)
+row class.Memory m word i = with_copies m.undo (memory.row class.Memory m.flat i)
+row class.Stack m word i = with_copies m.undo (flow.row class.Stack m.flat i)
+row class.Print m word i = with_copies m.undo (print.row m.flat i)
+row class.Game m word i = with_both (game.row m.flat m.undo word i)
+row class.Glk m word i = with_copies m.undo (glk m.flat i)
+
+-- the rows whose step writes memory, resizes it or copies it, and so may want some
+abbrev pub Writes : Class → FlatMachine → Instruction → Type 0
+Writes class.Calc m i = flow_writes.Writes class.Calc m.flat i
+Writes class.Branch m i = flow_writes.Writes class.Branch m.flat i
+Writes class.Flow m i = flow_writes.Writes class.Flow m.flat i
+Writes class.Copy m i = memory_writes.Writes class.Copy i
+Writes class.Memory m i = memory_writes.Writes class.Memory i
+Writes class.Stack m i = flow_writes.Writes class.Stack m.flat i
+Writes class.Print m i = ⊥
+Writes class.Game m i = game_writes.Writes m.undo i
+Writes class.Glk m i = ⊥

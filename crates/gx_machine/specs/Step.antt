@@ -1,30 +1,47 @@
 -- One step of the machine (Glulx 3.1.2, "Instruction Format"), and what it takes of a budget.
-use Rattle.std.specs.Prelude.{ℕ, ◌-◌, ◌==◌, nat_lt, if◌then◌else◌, IsSome, Option, Some, None, Result, Ok, Err}
+use Rattle.std.specs.Prelude.{ℕ, ◌+◌, ◌-◌, ◌==◌, nat_lt, if◌then◌else◌, Option, Some, None, Result, Ok, Err}
 use Rattle.gx_words.specs.declared.faults.Fault.{Fault}
 use Rattle.gx_words.specs.declared.faults.Fault.TheVariants.{BadFrame}
 use Rattle.gx_words.specs.Results.{◌>>=◌}
 use Rattle.gx_state.specs.declared.effects.Effect.{Effect}
 use Rattle.gx_state.specs.declared.effects.Effect.TheVariants.{Went, Drew, Put, Glk, Quit, Spent}
-use Rattle.gx_state.specs.Flat.{sp_of}
-use Rattle.gx_operands.specs.Instructions.{instruction}
+use Rattle.gx_state.specs.declared.modes.Mode.{Mode}
+use Rattle.gx_state.specs.declared.modes.Mode.TheVariants as mode
+use Rattle.gx_state.specs.Flat.{FlatState, sp_of}
+use Rattle.gx_operands.specs.Instructions.{Instruction, instruction}
+use Rattle.ops_memory.specs.Costs.{probes_of}
+use Rattle.ops_print.specs.Items.{item}
 use Rattle.gx_machine.specs.declared.askings.Asking.{Asking}
 use Rattle.gx_machine.specs.declared.askings.Asking.TheVariants as asking
 use Rattle.gx_machine.specs.Machine.{FlatMachine, Whole}
-use Rattle.gx_machine.specs.Rows.{row}
+use Rattle.gx_machine.specs.Rows.{row, with_copies, Writes}
 
--- what a step takes of the budget
+-- the probes that an instruction begins; only a search has some
+abbrev pub probes_by : FlatState → Result Instruction Fault → ℕ
+probes_by f (Ok i) = probes_of i.row.class f i
+probes_by f (Err fault) = 0
+
+abbrev pub probes_in : FlatState → Mode → ℕ
+probes_in f mode.Running = probes_by f (instruction f)
+probes_in f (mode.Printing p) = 0
+
+-- What a step takes of the budget: one unit, and one for each probe. A search without an end takes more
+-- than any budget has.
 unfoldable pub cost_of : FlatMachine → ℕ
-cost_of m = 1
+cost_of m = 1 + (if sp_of m.flat == 0 then 0 else probes_in m.flat m.flat.mode)
+
+-- the step of a machine that runs code is an instruction, and that of one that prints is an item
+abbrev pub moved : FlatMachine → ℕ → Mode → Result (FlatMachine × Effect) Fault
+moved m word mode.Running = do
+  i ← instruction m.flat
+  row i.row.class m word i
+moved m word (mode.Printing p) = with_copies m.undo (item m.flat p)
 
 -- What a step does with a random word: a fault after which the machine stands, or the new machine
 -- and what was done or is asked; a machine that asks stands. The stack is empty only once the start
 -- function has returned, and then no step is made.
 unfoldable pub step_of : FlatMachine → ℕ → Result (FlatMachine × Effect) Fault
-step_of m word =
-    if sp_of m.flat == 0 then Err BadFrame else (do
-      i ← instruction m.flat
-      r ← row i.row.class m.flat i
-      Ok (record m { flat = r.0 }, r.1))
+step_of m word = if sp_of m.flat == 0 then Err BadFrame else moved m word m.flat.mode
 
 -- the effects that are askings
 abbrev pub asking_of : Effect → Option Asking
@@ -47,3 +64,12 @@ stepped m word budget =
     if nat_lt budget (cost_of m.machine) then Ok ((m, budget), Spent) else (do
       r ← step_of m.machine word
       Ok ((record { machine = r.0; asking = asking_of r.1 }, budget - cost_of m.machine), r.1))
+
+-- the steps that write memory, resize it or copy it: those of certain instructions, and no item
+abbrev pub WritesBy : FlatMachine → Result Instruction Fault → Type 0
+WritesBy m (Ok i) = Writes i.row.class m i
+WritesBy m (Err fault) = ⊥
+
+abbrev pub StepWrites : FlatMachine → Mode → Type 0
+StepWrites m mode.Running = WritesBy m (instruction m.flat)
+StepWrites m (mode.Printing p) = ⊥

@@ -1,42 +1,42 @@
 //! The machine: one step, and the answer to what it asks.
-ghost use Rattle.std.specs.Prelude.{◌≡◌, ◌+◌, ◌*◌, ◌<◌, ◌≤◌, length, Ok, None, IfOk, IsSome, OnOk, OnErr, IsErrOf};
+ghost use Rattle.std.specs.Prelude.{◌≡◌, ◌≢◌, ◌⊎◌, ◌+◌, ◌*◌, ◌<◌, ◌≤◌, length, Ok, None, IfOk, IsSome, OnOk, OnErr, IsErrOf};
 ghost use Rattle.gx_words.specs.declared.faults.Fault.TheVariants.{NoMemory};
-ghost use Rattle.gx_words.specs.Faults.{Does};
+ghost use Rattle.gx_words.specs.Faults.{Does, TakesNone};
 ghost use Rattle.gx_words.specs.Results.{Gives};
 ghost use Rattle.gx_state.specs.Flat.{IsHeight, sp_of};
 ghost use Rattle.gx_state.specs.Replies.{AllInRam, IsReply};
-ghost use Rattle.gx_operands.specs.Instructions.{instruction};
-ghost use Rattle.gx_operands.specs.Stores.{store_fault};
-ghost use Rattle.gx_machine.specs.Answer.{answered, answered_state, with_writes, with_pushes, CanAnswer};
-ghost use Rattle.gx_machine.specs.Rows.{Writes};
+ghost use Rattle.gx_pages.specs.Memory.{all_spliced};
+ghost use Rattle.gx_operands.specs.Stores.{store_fault, IsMemory};
+ghost use Rattle.gx_machine.specs.Answer.{answered, answered_state, with_writes, with_pushes, CanAnswer, StoresAnswer};
 ghost use Rattle.gx_machine.specs.Start.{begun};
-ghost use Rattle.gx_machine.specs.Step.{asking_of, stepped};
+ghost use Rattle.gx_machine.specs.Step.{asking_of, stepped, StepWrites};
 ghost use Rattle.gx_machine.specs.Views.{Pends, told_room, result_len};
 
-use crate::rows::row;
+use crate::rows::{print, run};
 use crate::{Asking, Engine};
-use gx_operands::{Plan, decode};
-use gx_state::{Dest, Effect, Reply, State};
+use gx_state::{Dest, Effect, Mode, Reply, State};
 use gx_story::Story;
-use gx_words::{Fault, word_bytes};
+use gx_undo::Undo;
+use gx_words::{Fault, Writes, word_bytes};
 use std::alloc::{AllocError, Allocator, Global};
 use std::marker::Model;
 
 /// What the machine waits for, and what its answer does: the stack pointer that the pops leave, where
-/// the value goes, and the next address.
+/// the value goes, and the address and the mode that follow.
 #[derive(Clone, Copy, Debug)]
 pub(crate) struct Pending {
     pub(crate) asking: Asking,
     pub(crate) sp: u32,
     pub(crate) dest: Dest,
     pub(crate) next: u32,
+    pub(crate) mode: Mode,
 }
 
 /// A machine.
 #[derive(Drop)]
 pub struct Machine<A: Allocator + Clone> {
     state: State<A>,
-    depth: usize,
+    undo: Undo<A>,
     pending: Option<Pending>,
 }
 
@@ -60,10 +60,11 @@ impl<A: Allocator + Clone> Machine<A> {
         ensures value { Gives NoMemory (λ machine. machine) result (begun story depth) }
         ensures asks { IfOk result (λ machine. machine.asking ≡ None) }
     {
+        let undo = Undo::new(alloc, depth)?;
         let state = State::start_with(alloc, pages, story)?;
         Ok(Machine {
             state,
-            depth,
+            undo,
             pending: None,
         })
     }
@@ -82,27 +83,78 @@ impl<A: Allocator + Clone> Machine<A> {
         self.state.story()
     }
 
+    /// How many copies it keeps for undo.
+    pub fn undo_len(&self) -> usize
+        ensures { result ≡ length self.now.machine.undo.copies }
+    {
+        self.undo.len()
+    }
+
     /// One step within the budget, with a random word that it may use.
-    #[tactic(auto, unfolding(crate::specs::Step::stepped, crate::specs::Step::step_of, crate::specs::Step::cost_of))]
+    #[tactic(auto, using(crate::proofs::Steps::steps))]
     pub fn step(&mut self, word: u32, budget: &mut u64) -> Result<Effect, Fault>
         requires { self.old.asking ≡ None }
         ensures step { Does (λ effect. effect) result (self.old, budget.old) (self.new, budget.new) (stepped self.old word budget.old) }
         ensures stands { IfOk result (λ effect. IsSome (asking_of effect) → self.new.machine ≡ self.old.machine) }
-        ensures memory { IsErrOf result NoMemory → IfOk (instruction self.old.machine.flat) (λ i. Writes i.row.class self.old.machine.flat i) }
+        ensures memory { IsErrOf result NoMemory → StepWrites self.old.machine self.old.machine.flat.mode }
     {
-        let _word = word;
         if *budget == 0 {
             return Ok(Effect::Spent);
         }
         if self.state.stack().size() == 0 {
             return Err(Fault::BadFrame);
         }
-        let plan = decode(&self.state)?;
+        match self.state.mode() {
+            Mode::Running => self.run(word, budget),
+            Mode::Printing(_) => self.print(word, budget),
+        }
+    }
+
+    /// The same for a machine that runs code, with a unit at least.
+    #[tactic(auto, using(crate::proofs::Steps::steps))]
+    fn run(&mut self, word: u32, budget: &mut u64) -> Result<Effect, Fault>
+        requires asks { self.old.asking ≡ None }
+        requires some { 1 ≤ budget.old }
+        requires live { 0 < sp_of self.old.machine.flat }
+        requires running { self.old.machine.flat.mode ≡ Mode.Running }
+        ensures step { Does (λ effect. effect) result (self.old, budget.old) (self.new, budget.new) (stepped self.old word budget.old) }
+        ensures stands { IfOk result (λ effect. IsSome (asking_of effect) → self.new.machine ≡ self.old.machine) }
+        ensures memory { IsErrOf result NoMemory → StepWrites self.old.machine Mode.Running }
+    {
         let mut left = *budget - 1;
-        let (effect, pending) = row(&mut self.state, &plan, &mut left)?;
-        self.pending = pending;
-        *budget = left;
-        Ok(effect)
+        match run(&mut self.state, &mut self.undo, word, &mut left) {
+            Err(fault) => Err(fault),
+            Ok((effect, pending)) => {
+                if let Effect::Spent = effect {
+                    return Ok(Effect::Spent);
+                }
+                self.pending = pending;
+                *budget = left;
+                Ok(effect)
+            }
+        }
+    }
+
+    /// The same for a machine that prints.
+    #[tactic(auto, using(crate::proofs::Steps::steps))]
+    fn print(&mut self, word: u32, budget: &mut u64) -> Result<Effect, Fault>
+        requires asks { self.old.asking ≡ None }
+        requires some { 1 ≤ budget.old }
+        requires live { 0 < sp_of self.old.machine.flat }
+        requires printing { self.old.machine.flat.mode ≢ Mode.Running }
+        ensures step { Does (λ effect. effect) result (self.old, budget.old) (self.new, budget.new) (stepped self.old word budget.old) }
+        ensures stands { IfOk result (λ effect. IsSome (asking_of effect) → self.new.machine ≡ self.old.machine) }
+        ensures memory { TakesNone result }
+    {
+        let _word = word;
+        match print(&mut self.state) {
+            Err(fault) => Err(fault),
+            Ok((effect, pending)) => {
+                self.pending = pending;
+                *budget -= 1;
+                Ok(effect)
+            }
+        }
     }
 
     /// Answers what the last step asked: the pops are made, the writes and the pushes follow in order,
@@ -112,6 +164,7 @@ impl<A: Allocator + Clone> Machine<A> {
         requires { CanAnswer self.old reply.now }
         ensures ok { OnOk result (self.new ≡ answered self.old reply.now) }
         ensures err { OnErr result (self.new ≡ self.old) }
+        ensures memory { OnErr result (0 < length reply.now.writes ⊎ StoresAnswer self.old.machine.flat) }
     {
         if let Some(pending) = self.pending {
             answer(&mut self.state, &pending, reply)?;
@@ -119,6 +172,20 @@ impl<A: Allocator + Clone> Machine<A> {
         self.pending = None;
         Ok(())
     }
+}
+
+/// Makes writes, which takes memory only where there are some.
+fn make<A: Allocator + Clone>(state: &mut State<A>, writes: &Writes) -> Result<(), AllocError>
+    requires { AllInRam state.old.flat writes.now }
+    ensures ok { OnOk result (state.new ≡ record state.old { flat = record state.old.flat { memory = all_spliced state.old.flat.memory writes.now } }) }
+    ensures err { OnErr result (state.new ≡ state.old) }
+    ensures size { length state.new.flat.memory ≡ length state.old.flat.memory }
+    ensures memory { OnErr result (0 < length writes.now) }
+{
+    if writes.as_slice().is_empty() {
+        return Ok(());
+    }
+    state.write_all(writes)
 }
 
 /// Makes the writes of a reply, and stores its value where that goes to memory or a local.
@@ -134,17 +201,18 @@ fn write_all<A: Allocator + Clone>(
     ensures ok { OnOk result (state.new.flat ≡ with_writes state.old.flat pending.now.dest reply.now) }
     ensures err { OnErr result (state.new.flat ≡ state.old.flat) }
     ensures height { IsHeight state.new.flat pending.now.sp }
+    ensures memory { OnErr result (0 < length reply.now.writes ⊎ IsMemory pending.now.dest) }
 {
     match pending.dest {
         Dest::Memory(at) => state.write_all_and(&reply.writes, at, &word_bytes(reply.value)),
         Dest::Local(at) => {
-            state.write_all(&reply.writes)?;
+            make(state, &reply.writes)?;
             match state.set_local(at, 4, reply.value) {
                 Ok(()) => Ok(()),
                 Err(_) => unreachable!(),
             }
         }
-        _ => state.write_all(&reply.writes),
+        _ => make(state, &reply.writes),
     }
 }
 
@@ -177,11 +245,13 @@ fn answer<A: Allocator + Clone>(
     requires fits { IsReply state.old.flat (told_room pending.now.asking) reply.now }
     ensures ok { OnOk result (state.new.flat ≡ answered_state state.old.flat reply.now) }
     ensures err { OnErr result (state.new.flat ≡ state.old.flat) }
+    ensures memory { OnErr result (0 < length reply.now.writes ⊎ StoresAnswer state.old.flat) }
 {
     write_all(state, pending, reply)?;
     state.cut_stack(pending.sp);
     push_all(state, pending, reply);
     state.set_pc(pending.next);
+    state.set_mode(pending.mode);
     Ok(())
 }
 

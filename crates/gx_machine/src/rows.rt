@@ -1,23 +1,30 @@
 //! The row of an instruction, class by class.
-ghost use Rattle.std.specs.Prelude.{◌≡◌, ◌<◌, ◌≤◌, ◌*◌, ◌+◌, length, Ok, Some, IsErrOf, IsSome, IfOk, IfSome};
+ghost use Rattle.std.specs.Prelude.{◌≡◌, ◌≢◌, ◌<◌, ◌≤◌, ◌*◌, ◌+◌, length, Ok, Some, IsErrOf, IsSome, IfOk, IfSome};
 ghost use Rattle.gx_words.specs.declared.faults.Fault.TheVariants.{NoMemory};
 ghost use Rattle.gx_words.specs.Faults.{Does, TakesNone};
 ghost use Rattle.gx_words.specs.Results.{Is, Turns};
 ghost use Rattle.gx_rows.specs.Table.{row_at, RowFits};
-ghost use Rattle.gx_state.specs.Flat.{FlatState, IsHeight};
+ghost use Rattle.gx_state.specs.declared.effects.Effect.TheVariants.{Spent};
+ghost use Rattle.gx_state.specs.declared.modes.Mode.TheVariants.{Running};
+ghost use Rattle.gx_state.specs.Flat.{FlatState, IsHeight, sp_of};
 ghost use Rattle.gx_operands.specs.Instructions.{instruction};
 ghost use Rattle.gx_operands.specs.Plans.{instruction_of};
+ghost use Rattle.gx_undo.specs.Undo.{AllFor};
+ghost use Rattle.ops_memory.specs.Costs.{probes_of, acted};
+ghost use Rattle.ops_memory.specs.Writes.{Writes as WritesHere};
+ghost use Rattle.ops_print.specs.Rows as print;
+ghost use Rattle.ops_print.specs.Items.{printed};
 ghost use Rattle.gx_machine.specs.Rows.{room_above, glk, row, Writes};
-ghost use Rattle.gx_machine.specs.Step.{asking_of};
-ghost use Rattle.gx_machine.specs.Views.{Pends, result_len};
-ghost use Rattle.ops_print.specs.Rows.{streamchar};
+ghost use Rattle.gx_machine.specs.Step.{asking_of, moved, probes_in, StepWrites};
+ghost use Rattle.gx_machine.specs.Views.{Pends, result_len, machine_of, taken};
 ghost use Rattle.std.specs.Option.{option_map};
 
 use crate::Asking;
 use crate::machine::Pending;
-use gx_operands::{Plan, arguments, can_store};
+use gx_operands::{Plan, arguments, can_store, decode};
 use gx_rows::{Class, row_at};
-use gx_state::{Dest, Effect, State};
+use gx_state::{Dest, Effect, Mode, State};
+use gx_undo::Undo;
 use gx_words::Fault;
 use std::alloc::Allocator;
 
@@ -36,12 +43,14 @@ fn room_above(limit: u32, sp: u32, dest: &Dest) -> u32
 /// glk: asks for a call.
 #[tactic(auto, unfolding(crate::specs::Rows::glk), using(crate::proofs::Answers::answers))]
 fn glk<A: Allocator + Clone>(state: &State<A>, plan: &Plan) -> Result<(Effect, Pending), Fault>
+    requires running { state.now.flat.mode ≡ Running }
     requires sp { IsHeight state.now.flat plan.now.sp }
     requires decoded { instruction state.now.flat ≡ Ok (instruction_of plan.now) }
     requires class { (instruction_of plan.now).row.class ≡ Class.Glk }
     ensures value { Is (λ r. (state.now.flat, r.0)) result (glk state.now.flat (instruction_of plan.now)) }
     ensures asks { IfOk result (λ r. asking_of r.0 ≡ Some r.1.asking) }
     ensures pends { IfOk result (λ r. Pends state.now.flat r.1) }
+    ensures spent { IfOk result (λ r. r.0 ≢ Spent) }
     ensures memory { TakesNone result }
 {
     let count = plan.load(1);
@@ -61,43 +70,14 @@ fn glk<A: Allocator + Clone>(state: &State<A>, plan: &Plan) -> Result<(Effect, P
         sp,
         dest: plan.dest,
         next: plan.next,
+        mode: Mode::Running,
     };
     Ok((effect, pending))
 }
 
-/// A row of Print.
-#[tactic(auto, unfolding(gx_operands::specs::Stores::store_fault), using(crate::proofs::Answers::answers))]
-fn print<A: Allocator + Clone>(
-    state: &mut State<A>,
-    plan: &Plan,
-) -> Result<(Effect, Option<Pending>), Fault>
-    requires sp { IsHeight state.old.flat plan.now.sp }
-    requires decoded { instruction state.old.flat ≡ Ok (instruction_of plan.now) }
-    requires class { (instruction_of plan.now).row.class ≡ Class.Print }
-    ensures value { Turns (λ r. r.0) result state.old.flat state.new.flat (streamchar state.old.flat (instruction_of plan.now)) }
-    ensures asks { IfOk result (λ r. asking_of r.0 ≡ option_map (λ p. p.asking) r.1) }
-    ensures stands { IfOk result (λ r. IsSome r.1 → state.new.flat ≡ state.old.flat) }
-    ensures pends { IfOk result (λ r. IfSome r.1 (Pends state.new.flat)) }
-    ensures memory { TakesNone result }
-{
-    let _size = state.stack().size();
-    match ops_print::act(state, plan)? {
-        Effect::Put(c) => {
-            let pending = Pending {
-                asking: Asking::Put,
-                sp: plan.sp,
-                dest: Dest::Nowhere,
-                next: plan.next,
-            };
-            Ok((Effect::Put(c), Some(pending)))
-        }
-        effect => Ok((effect, None)),
-    }
-}
-
-/// Does the row of a plan that `decode` made of this state.
+/// A row of Copy or Memory, within what is left of the budget.
 #[tactic(auto, using(crate::proofs::Answers::answers))]
-pub(crate) fn row<A: Allocator + Clone>(
+fn memory_row<A: Allocator + Clone>(
     state: &mut State<A>,
     plan: &Plan,
     left: &mut u64,
@@ -105,26 +85,143 @@ pub(crate) fn row<A: Allocator + Clone>(
     requires sp { IsHeight state.old.flat plan.now.sp }
     requires row { plan.now.row < 87 }
     requires fits { RowFits (row_at plan.now.row) }
-    requires decoded { instruction state.old.flat ≡ Ok (instruction_of plan.now) }
-    ensures value { Does (λ r. r.0) result state.old.flat state.new.flat (row (row_at plan.now.row).class state.old.flat (instruction_of plan.now)) }
+    ensures value { Does (λ r. r.0) result (state.old.flat, left.old) (state.new.flat, left.new) (acted (row_at plan.now.row).class state.old.flat (instruction_of plan.now) left.old) }
     ensures asks { IfOk result (λ r. asking_of r.0 ≡ option_map (λ p. p.asking) r.1) }
     ensures stands { IfOk result (λ r. IsSome r.1 → state.new.flat ≡ state.old.flat) }
     ensures pends { IfOk result (λ r. IfSome r.1 (Pends state.new.flat)) }
-    ensures budget { left.new ≡ left.old }
-    ensures memory { IsErrOf result NoMemory → Writes (row_at plan.now.row).class state.old.flat (instruction_of plan.now) }
+    ensures spent { IfOk result (λ r. r.0 ≡ Spent → left.old < probes_of (row_at plan.now.row).class state.old.flat (instruction_of plan.now)) }
+    ensures story { state.new.flat.story ≡ state.old.flat.story }
+    ensures memory { IsErrOf result NoMemory → WritesHere (row_at plan.now.row).class (instruction_of plan.now) }
 {
-    let row = row_at(plan.row);
-    match row.class {
+    Ok((ops_memory::act(state, plan, left)?, None))
+}
+
+/// What is pending after a character was put, with the mode that follows.
+fn put_pending(sp: u32, next: u32, mode: Mode) -> Pending
+    ensures { result ≡ record { asking = Asking.Put; sp = sp; dest = Dest.Nowhere; next = next; mode = mode } }
+{
+    Pending {
+        asking: Asking::Put,
+        sp,
+        dest: Dest::Nowhere,
+        next,
+        mode,
+    }
+}
+
+/// A row of Print.
+#[tactic(auto, unfolding(gx_operands::specs::Stores::store_fault), using(crate::proofs::Answers::answers))]
+fn print_row<A: Allocator + Clone>(
+    state: &mut State<A>,
+    plan: &Plan,
+) -> Result<(Effect, Option<Pending>), Fault>
+    requires running { state.old.flat.mode ≡ Running }
+    requires sp { IsHeight state.old.flat plan.now.sp }
+    requires row { plan.now.row < 87 }
+    requires decoded { instruction state.old.flat ≡ Ok (instruction_of plan.now) }
+    requires class { (instruction_of plan.now).row.class ≡ Class.Print }
+    ensures value { Turns (λ r. r.0) result state.old.flat state.new.flat (print.row state.old.flat (instruction_of plan.now)) }
+    ensures asks { IfOk result (λ r. asking_of r.0 ≡ option_map (λ p. p.asking) r.1) }
+    ensures stands { IfOk result (λ r. IsSome r.1 → state.new.flat ≡ state.old.flat) }
+    ensures pends { IfOk result (λ r. IfSome r.1 (Pends state.new.flat)) }
+    ensures spent { IfOk result (λ r. r.0 ≢ Spent) }
+    ensures story { state.new.flat.story ≡ state.old.flat.story }
+    ensures memory { TakesNone result }
+{
+    let _size = state.stack().size();
+    match ops_print::act(state, plan)? {
+        Effect::Put(c) => {
+            let pending = put_pending(plan.sp, plan.next, Mode::Running);
+            Ok((Effect::Put(c), Some(pending)))
+        }
+        effect => Ok((effect, None)),
+    }
+}
+
+/// One step of printing.
+#[tactic(auto, unfolding(gx_operands::specs::Stores::store_fault), using(crate::proofs::Answers::answers))]
+pub(crate) fn print<A: Allocator + Clone>(
+    state: &mut State<A>,
+) -> Result<(Effect, Option<Pending>), Fault>
+    requires live { 0 < sp_of state.old.flat }
+    requires printing { state.old.flat.mode ≢ Running }
+    ensures value { Turns (λ r. r.0) result state.old.flat state.new.flat (printed state.old.flat) }
+    ensures asks { IfOk result (λ r. asking_of r.0 ≡ option_map (λ p. p.asking) r.1) }
+    ensures stands { IfOk result (λ r. IsSome r.1 → state.new.flat ≡ state.old.flat) }
+    ensures pends { IfOk result (λ r. IfSome r.1 (Pends state.new.flat)) }
+    ensures spent { IfOk result (λ r. r.0 ≢ Spent) }
+    ensures story { state.new.flat.story ≡ state.old.flat.story }
+    ensures memory { TakesNone result }
+{
+    let _frame = state.frame();
+    let sp = state.stack().size();
+    let pc = state.pc();
+    let (effect, mode) = ops_print::item_and_mode(state)?;
+    match effect {
+        Effect::Put(c) => Ok((Effect::Put(c), Some(put_pending(sp, pc, mode)))),
+        effect => Ok((effect, None)),
+    }
+}
+
+/// Does the row of a plan that `decode` made of this state.
+#[tactic(auto, using(crate::proofs::Answers::answers))]
+fn row<A: Allocator + Clone>(
+    state: &mut State<A>,
+    undo: &mut Undo<A>,
+    plan: &Plan,
+    word: u32,
+    left: &mut u64,
+) -> Result<(Effect, Option<Pending>), Fault>
+    requires running { state.old.flat.mode ≡ Running }
+    requires sp { IsHeight state.old.flat plan.now.sp }
+    requires row { plan.now.row < 87 }
+    requires fits { RowFits (row_at plan.now.row) }
+    requires decoded { instruction state.old.flat ≡ Ok (instruction_of plan.now) }
+    requires copies { AllFor state.old.flat.story undo.old.copies }
+    ensures value { Does (λ r. r.0) result (machine_of state.old undo.old, left.old) (machine_of state.new undo.new, left.new)
+        (taken (machine_of state.old undo.old) left.old (probes_of (row_at plan.now.row).class state.old.flat (instruction_of plan.now)) (row (row_at plan.now.row).class (machine_of state.old undo.old) word (instruction_of plan.now))) }
+    ensures asks { IfOk result (λ r. asking_of r.0 ≡ option_map (λ p. p.asking) r.1) }
+    ensures stands { IfOk result (λ r. IsSome r.1 → machine_of state.new undo.new ≡ machine_of state.old undo.old) }
+    ensures pends { IfOk result (λ r. IfSome r.1 (Pends state.new.flat)) }
+    ensures spent { IfOk result (λ r. r.0 ≡ Spent → left.old < probes_of (row_at plan.now.row).class state.old.flat (instruction_of plan.now)) }
+    ensures story { state.new.flat.story ≡ state.old.flat.story }
+    ensures copies { AllFor state.new.flat.story undo.new.copies }
+    ensures memory { IsErrOf result NoMemory → Writes (row_at plan.now.row).class (machine_of state.old undo.old) (instruction_of plan.now) }
+{
+    match row_at(plan.row).class {
         Class::Calc | Class::Branch | Class::Flow | Class::Stack => {
             Ok((ops_flow::act(state, plan)?, None))
         }
-        Class::Copy | Class::Memory => Ok((ops_memory::act(state, plan, left)?, None)),
-        Class::Print if row.number == 0x70 => print(state, plan),
-        Class::Game => Ok((ops_game::act(state, plan)?, None)),
+        Class::Copy | Class::Memory => memory_row(state, plan, left),
+        Class::Print => print_row(state, plan),
+        Class::Game => Ok((ops_game::act(state, plan, undo, word)?, None)),
         Class::Glk => {
             let (effect, pending) = glk(state, plan)?;
             Ok((effect, Some(pending)))
         }
-        _ => Err(Fault::BadOpcode),
     }
+}
+
+/// Does the instruction at PC. `left` is the budget after the instruction's own step.
+#[tactic(auto)]
+pub(crate) fn run<A: Allocator + Clone>(
+    state: &mut State<A>,
+    undo: &mut Undo<A>,
+    word: u32,
+    left: &mut u64,
+) -> Result<(Effect, Option<Pending>), Fault>
+    requires live { 0 < sp_of state.old.flat }
+    requires running { state.old.flat.mode ≡ Running }
+    requires copies { AllFor state.old.flat.story undo.old.copies }
+    ensures value { Does (λ r. r.0) result (machine_of state.old undo.old, left.old) (machine_of state.new undo.new, left.new)
+        (taken (machine_of state.old undo.old) left.old (probes_in state.old.flat Running) (moved (machine_of state.old undo.old) word Running)) }
+    ensures asks { IfOk result (λ r. asking_of r.0 ≡ option_map (λ p. p.asking) r.1) }
+    ensures stands { IfOk result (λ r. IsSome r.1 → machine_of state.new undo.new ≡ machine_of state.old undo.old) }
+    ensures pends { IfOk result (λ r. IfSome r.1 (Pends state.new.flat)) }
+    ensures spent { IfOk result (λ r. r.0 ≡ Spent → left.old < probes_in state.old.flat Running) }
+    ensures copies { AllFor state.new.flat.story undo.new.copies }
+    ensures memory { IsErrOf result NoMemory → StepWrites (machine_of state.old undo.old) Running }
+{
+    let plan = decode(state)?;
+    row(state, undo, &plan, word, left)
 }

@@ -27,7 +27,7 @@ fn story(alloc: Global, code: &[u8]) -> Result<Story, Fail> {
 }
 
 /// A step, which asks what its effect says.
-#[tactic(auto, unfolding(crate::specs::Step::stepped, crate::specs::Step::step_of, crate::specs::Step::cost_of))]
+#[tactic(auto, unfolding(crate::specs::Step::stepped))]
 fn step(machine: &mut Machine<Global>, budget: &mut u64) -> Result<Effect, Fault>
     requires { machine.old.asking ≡ None }
     ensures { IfOk result (λ effect. machine.new.asking ≡ asking_of effect) }
@@ -282,11 +282,12 @@ fn forged(rt: HostRuntime) -> Result<(), Fail> {
         (2, 0, 0, 28, Some(Fault::BadLocal)),
         (3, 0, 0, 28, None),
         (4, 0, 0, 28, Some(Fault::BadFrame)),
-        (0x10, 0, 0, 28, Some(Fault::BadFrame)),
+        (0x10, 7, 0, 28, None),
+        (0x10, 8, 0, 28, Some(Fault::BadFrame)),
         (0x11, 0, 0, 28, Some(Fault::BadFrame)),
-        (0x12, 0, 0, 28, Some(Fault::BadFrame)),
-        (0x13, 0, 0, 28, Some(Fault::BadFrame)),
-        (0x14, 0, 0, 28, Some(Fault::BadFrame)),
+        (0x12, 8, 0, 28, None),
+        (0x13, 8, 0, 28, None),
+        (0x14, 8, 0, 28, None),
         (0, 0, 4, 28, Some(Fault::BadFrame)),
         (0, 0, 0, 12, Some(Fault::BadToken)),
         (0, 0, 0, 30, Some(Fault::BadToken)),

@@ -64,6 +64,7 @@ pub fn store<A: Allocator + Clone>(
     requires width { IsWidth width }
     ensures value { Changes result state.old.flat state.new.flat (stored state.old.flat width dest.now value) }
     ensures memory { IsErrOf result NoMemory → IsMemory dest.now }
+    ensures story { state.new.flat.story ≡ state.old.flat.story }
 {
     match *dest {
         Dest::Nowhere => Ok(()),
@@ -85,6 +86,7 @@ fn write<A: Allocator + Clone>(
     ensures value { Changes result state.old.flat state.new.flat (stored state.old.flat width (Dest.Memory at) value) }
     ensures frame { (frame_of state.new.flat ≡ frame_of state.old.flat) × (sp_of state.new.flat ≡ sp_of state.old.flat) }
     ensures spare { state.new.spare ≡ state.old.spare }
+    ensures story { state.new.flat.story ≡ state.old.flat.story }
 {
     let size = state.memory().size();
     if u64::from(at) + u64::from(width) > u64::from(size) {
@@ -119,6 +121,7 @@ pub fn settle<A: Allocator + Clone>(
     ensures value { Changes result state.old.flat state.new.flat (settled state.old.flat sp width dest.now value) }
     ensures spare { state.new.spare ≡ state.old.spare }
     ensures memory { IsErrOf result NoMemory → IsMemory dest.now }
+    ensures story { state.new.flat.story ≡ state.old.flat.story }
 {
     match *dest {
         Dest::Nowhere => state.cut_stack(sp),

@@ -262,12 +262,36 @@ impl<A: Allocator + Clone> Pages<A> {
     {
         let alloc = self.bytes.allocator().clone()?;
         let mut all = Vec::from_slice(alloc, kept.bytes.as_slice())?;
-        put_back_over(
-            all.as_mut_slice(),
-            self.bytes.as_slice(),
-            skip.0 as usize,
-            skip.1 as usize,
-        );
+        self.keep_present(all.as_mut_slice(), skip);
         Ok(Pages { bytes: all })
+    }
+
+    /// Another memory, placed as this one is: these bytes and zeros up to `size`, but for the `skip.1`
+    /// addresses from `skip.0` on, as `protect` sets them. They have the byte that is there now, or 0
+    /// where the present memory doesn't reach.
+    pub fn begin_again(
+        &self,
+        bytes: &[u8],
+        size: u32,
+        skip: (u32, u32),
+    ) -> Result<Pages<A>, AllocError>
+        requires whole { IsSize size }
+        requires room { length bytes.now ≤ size }
+        ensures value { IfOk result (λ all. all ≡ put_back_of self.now (bytes.now ++ replicate (size - length bytes.now) 0) skip.0 skip.1) }
+        ensures size { IfOk result (λ all. length all ≡ size) }
+    {
+        let alloc = self.bytes.allocator().clone()?;
+        let mut all = Vec::from_slice(alloc, bytes)?;
+        all.resize(size as usize, 0)?;
+        self.keep_present(all.as_mut_slice(), skip);
+        Ok(Pages { bytes: all })
+    }
+
+    /// Gives other memory the bytes that are there now at `skip.1` addresses from `skip.0` on.
+    fn keep_present(&self, all: &mut [u8], skip: (u32, u32))
+        ensures value { all.new ≡ put_back_of self.now all.old skip.0 skip.1 }
+        ensures all_back { skip.1 ≡ 0 → all.new ≡ all.old }
+    {
+        put_back_over(all, self.bytes.as_slice(), skip.0 as usize, skip.1 as usize);
     }
 }

@@ -87,6 +87,9 @@ fn copies(rt: HostRuntime) -> Result<(), Fail> {
     assert_eq!(rt; back.try_number(1, 0), Ok(0));
     assert_eq!(rt; back.try_number(1, 0x100), Ok(1));
     assert_eq!(rt; back.try_number(1, 0xFFFF), Ok(2));
+    let first = pages.begin_again(&[7, 8], 0x100, (0, 1))?;
+    assert_eq!(rt; first.size(), 0x100);
+    assert_eq!(rt; first.try_number(4, 0), Ok(0x0108_0000));
     pages.cut(0x100);
     let back = pages.put_back(&kept, (1, 0xFFFF_FFFF))?;
     assert_eq!(rt; back.size(), 0x1_0000);

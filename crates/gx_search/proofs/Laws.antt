@@ -10,12 +10,12 @@ use Rattle.gx_search.specs.Keys.{has_size, probe}
 use Rattle.gx_search.specs.Searches.{Structs, PassedBelow, IsFound, IsWithin, IsSettled, in_row, in_list, search_from, linear, linked}
 use Rattle.gx_search.proofs.Steps.{ended, faulted, spent, matched, zeroed, passed, refused}
 
-place_cases : (r : Result (Option ℕ) Fault) → (r ≡ Ok None) ⊎ (((at : ℕ) × (r ≡ Ok (Some at))) ⊎ ((e : Fault) × (r ≡ Err e)))
+pub place_cases : (r : Result (Option ℕ) Fault) → (r ≡ Ok None) ⊎ (((at : ℕ) × (r ≡ Ok (Some at))) ⊎ ((e : Fault) × (r ≡ Err e)))
 place_cases (Ok None) = inl refl
 place_cases (Ok (Some at)) = inr (inl (at, refl))
 place_cases (Err e) = inr (inr (e, refl))
 
-seen_cases : (r : Result Seen Fault) → ((r ≡ Ok Match) ⊎ (r ≡ Ok Zero)) ⊎ ((r ≡ Ok Other) ⊎ ((e : Fault) × (r ≡ Err e)))
+pub seen_cases : (r : Result Seen Fault) → ((r ≡ Ok Match) ⊎ (r ≡ Ok Zero)) ⊎ ((r ≡ Ok Other) ⊎ ((e : Fault) × (r ≡ Err e)))
 seen_cases (Ok Match) = inl (inl refl)
 seen_cases (Ok Zero) = inl (inr refl)
 seen_cases (Ok Other) = inr (inl refl)

@@ -3,3 +3,4 @@ pub mod Steps
 pub mod Halvings
 pub mod Laws
 pub mod RowLaws
+pub mod Counts

@@ -20,7 +20,7 @@ use Rattle.gx_search.specs.Searches.{IsWithin, IsSettled, struct_at}
 use Rattle.gx_search.specs.Halving.{has_all_keys, halving, binary, middle, stored_at, Rises, IsFoundInRow}
 use Rattle.gx_search.proofs.Halvings.{half_ended, half_spent, half_less, half_equal, half_greater, half_refused}
 
-order_cases : (r : Result Ordering Fault) → ((r ≡ Ok Less) ⊎ (r ≡ Ok Equal)) ⊎ ((r ≡ Ok Greater) ⊎ ((e : Fault) × (r ≡ Err e)))
+pub order_cases : (r : Result Ordering Fault) → ((r ≡ Ok Less) ⊎ (r ≡ Ok Equal)) ⊎ ((r ≡ Ok Greater) ⊎ ((e : Fault) × (r ≡ Err e)))
 order_cases (Ok Less) = inl (inl refl)
 order_cases (Ok Equal) = inl (inr refl)
 order_cases (Ok Greater) = inr (inl refl)

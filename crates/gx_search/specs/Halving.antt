@@ -1,6 +1,7 @@
 -- The search that halves a row of rising keys: binarysearch (Glulx 3.1.2, "Searching").
-use Rattle.std.specs.Prelude.{◌≡◌, ◌≢◌, ℕ, zero, suc, ◌+◌, ◌-◌, ◌*◌, ◌/◌, ◌<◌, Bool, ◌==◌, ◌||◌, nat_lt, nat_le, if◌then◌else◌, List, length, Result, Ok, Err}
+use Rattle.std.specs.Prelude.{◌≡◌, ◌≢◌, ℕ, zero, suc, ◌+◌, ◌-◌, ◌*◌, ◌/◌, ◌<◌, Bool, ◌^◌, ◌==◌, ◌&&◌, ◌||◌, nat_lt, nat_le, if◌then◌else◌, List, length, Result, Ok, Err}
 use Rattle.std.specs.Ordering.{nat_cmp, is_lt, is_eq, is_gt}
+use Rattle.std.specs.declared.cmp.Ordering.{Ordering}
 use Rattle.std.specs.declared.cmp.Ordering.TheVariants.{Less}
 use Rattle.std.specs.Cmp.Lexicographic.{slice_cmp}
 use Rattle.gx_words.specs.declared.faults.Fault.{Fault}
@@ -37,6 +38,24 @@ halving memory ask (suc left) made low high =
 unfoldable pub binary : List ℕ → Ask → ℕ → Result Found Fault
 binary memory ask bound =
     if has_size ask then (if has_all_keys memory ask then halving memory ask bound 0 0 ask.count else Err BadAddress) else Err BadMode
+
+-- the probe of the middle, and those after it where the search goes on; one that meets a fault counts
+abbrev pub begun_by : (Ordering → ℕ) → Result Ordering Fault → ℕ
+begun_by rest (Ok order) = if is_eq order then 1 else rest order + 1
+begun_by rest (Err e) = 1
+
+-- how many probes that search begins; of those after so many, only the first counts
+unfoldable pub halving_begun : List ℕ → Ask → ℕ → ℕ → ℕ → ℕ
+halving_begun memory ask zero low high = if nat_lt low high then 1 else 0
+halving_begun memory ask (suc left) low high =
+    if nat_lt low high
+    then begun_by (λ order. halving_begun memory ask left (if is_gt order then middle low high + 1 else low) (if is_lt order then middle low high else high)) (compared memory ask (struct_at ask (middle low high)))
+    else 0
+
+-- how many probes binarysearch begins
+unfoldable pub binary_begun : List ℕ → Ask → ℕ
+binary_begun memory ask =
+    if has_size ask && has_all_keys memory ask then halving_begun memory ask (2 ^ 64) 0 ask.count else 0
 
 -- the key of the struct of an index
 abbrev pub stored_at : List ℕ → Ask → ℕ → List ℕ

@@ -62,6 +62,24 @@ search_from structs memory ask (suc left) i = do
   place ← structs i
   at_struct memory ask i (search_from structs memory ask left (i + 1)) place
 
+-- the probe of an index, and those after it where the search goes on; one that meets a fault counts
+abbrev pub begun_with : ℕ → Result Seen Fault → ℕ
+begun_with rest (Ok Match) = 1
+begun_with rest (Ok Zero) = 1
+begun_with rest (Ok Other) = rest + 1
+begun_with rest (Err e) = 1
+
+-- no probe begins where there is no struct, or where the links to it meet a fault
+abbrev pub begun_at : List ℕ → Ask → ℕ → Result (Option ℕ) Fault → ℕ
+begun_at memory ask rest (Ok None) = 0
+begun_at memory ask rest (Ok (Some at)) = begun_with rest (probe memory ask at)
+begun_at memory ask rest (Err e) = 0
+
+-- how many probes the search begins from an index on; of those after so many, only the first counts
+unfoldable pub begun_from : Structs → List ℕ → Ask → ℕ → ℕ → ℕ
+begun_from structs memory ask zero i = begun_at memory ask 0 (structs i)
+begun_from structs memory ask (suc left) i = begun_at memory ask (begun_from structs memory ask left (i + 1)) (structs i)
+
 -- linearsearch, with so many probes at most
 unfoldable pub linear : List ℕ → Ask → ℕ → Result Found Fault
 linear memory ask bound = if has_size ask then search_from (in_row ask) memory ask bound 0 else Err BadMode
@@ -69,6 +87,13 @@ linear memory ask bound = if has_size ask then search_from (in_row ask) memory a
 -- linkedsearch, with so many probes at most
 unfoldable pub linked : List ℕ → Ask → ℕ → Result Found Fault
 linked memory ask bound = if has_size ask then search_from (in_list memory ask) memory ask bound 0 else Err BadMode
+
+-- How many probes linearsearch and linkedsearch begin. A search without end begins more than 2 ^ 64.
+unfoldable pub linear_begun : List ℕ → Ask → ℕ
+linear_begun memory ask = if has_size ask then begun_from (in_row ask) memory ask (2 ^ 64) 0 else 0
+
+unfoldable pub linked_begun : List ℕ → Ask → ℕ
+linked_begun memory ask = if has_size ask then begun_from (in_list memory ask) memory ask (2 ^ 64) 0 else 0
 
 -- the struct of an index is at an address, and its probe sees this
 abbrev pub Sees : Structs → List ℕ → Ask → ℕ → ℕ → Seen → Type 0
@@ -101,3 +126,11 @@ IsWithin bound (Err e) = Unit {0}
 -- a search that ended answers the same with any larger bound
 unfoldable pub IsSettled : (ℕ → Result Found Fault) → ℕ → Result Found Fault → Type 0
 IsSettled search bound result = result ≢ Ok More → (more : ℕ) → bound ≤ more → search more ≡ result
+
+-- The answer of a search that begins so many probes, with a bound, beside its answer with a bound of
+-- 2 ^ 64: it is More exactly where the bound is below the probes, and else the same answer.
+abbrev pub IsCounted : ℕ → Result Found Fault → ℕ → Result Found Fault → Type 0
+IsCounted begun whole bound (Ok (At address index probes)) = (begun ≤ bound) × (probes ≡ begun) × (whole ≡ Ok (At address index probes))
+IsCounted begun whole bound (Ok (Nothing probes)) = (begun ≤ bound) × (probes ≡ begun) × (whole ≡ Ok (Nothing probes))
+IsCounted begun whole bound (Ok More) = bound < begun
+IsCounted begun whole bound (Err e) = (begun ≤ bound) × (whole ≡ Err e)

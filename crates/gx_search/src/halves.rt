@@ -1,9 +1,9 @@
 //! The search of a row of rising keys, which halves it each time.
-ghost use Rattle.std.specs.Prelude.{◌≡◌, ◌≢◌, ◌≤◌, IsTrue, Ok};
+ghost use Rattle.std.specs.Prelude.{◌≡◌, ◌≢◌, ◌≤◌, ◌^◌, IsTrue, Ok};
 ghost use Rattle.gx_words.specs.Faults.{TakesNone};
 ghost use Rattle.gx_search.specs.Keys.{has_size};
-ghost use Rattle.gx_search.specs.Searches.{struct_at, IsWithin, IsSettled};
-ghost use Rattle.gx_search.specs.Halving.{has_all_keys, middle, halving, binary, IsFoundInRow};
+ghost use Rattle.gx_search.specs.Searches.{struct_at, IsWithin, IsSettled, IsCounted};
+ghost use Rattle.gx_search.specs.Halving.{has_all_keys, middle, halving, binary, binary_begun, IsFoundInRow};
 ghost use Rattle.gx_search.specs.declared.asks.Found.TheVariants.{More};
 
 use crate::keys::{compared, has_size};
@@ -83,7 +83,7 @@ fn halving<A: Allocator + Clone>(
 /// the key, are in memory.
 ///
 /// It is `More` exactly where more than `bound` probes would begin.
-#[tactic(auto, unfolding(crate::specs::Halving::binary, crate::specs::Halving::IsFoundInRow, crate::specs::Searches::IsSettled), using(crate::proofs::RowLaws::row_laws))]
+#[tactic(auto, unfolding(crate::specs::Halving::binary, crate::specs::Halving::binary_begun, crate::specs::Halving::IsFoundInRow, crate::specs::Searches::IsSettled), using(crate::proofs::RowLaws::row_laws))]
 pub fn binary<A: Allocator + Clone>(
     memory: &Pages<A>,
     ask: &Ask,
@@ -94,6 +94,7 @@ pub fn binary<A: Allocator + Clone>(
     ensures enough { 32 ≤ bound → result ≢ Ok More }
     ensures within { IsWithin bound result }
     ensures settled { IsSettled (binary memory.now ask.now) bound result }
+    ensures counted { IsCounted (binary_begun memory.now ask.now) (binary memory.now ask.now (2 ^ 64)) bound result }
     ensures memory { TakesNone result }
 {
     if !has_size(ask) {

@@ -7,7 +7,8 @@
 //!
 //! The files of specs/ define each search by the list of its probes. A search has a bound of
 //! probes, since a row or a list may be without end. Each call is its definition for all
-//! arguments, and a further clause says of what was found what it is. Nothing takes memory.
+//! arguments; further clauses say of what was found what it is, and how many probes the whole search
+//! begins. Nothing takes memory.
 #![tactic(auto)]
 
 mod asks;

@@ -1,8 +1,8 @@
 //! The search of a list, whose structs hold the address of the next one.
-ghost use Rattle.std.specs.Prelude.{◌≡◌, IsTrue};
+ghost use Rattle.std.specs.Prelude.{◌≡◌, ◌^◌, IsTrue};
 ghost use Rattle.gx_words.specs.Faults.{TakesNone};
 ghost use Rattle.gx_search.specs.Keys.{has_size};
-ghost use Rattle.gx_search.specs.Searches.{in_list, search_from, linked, IsFound, IsWithin, IsSettled};
+ghost use Rattle.gx_search.specs.Searches.{in_list, search_from, linked, linked_begun, IsFound, IsWithin, IsSettled, IsCounted};
 
 use crate::keys::{Seen, has_size, probe};
 use crate::{Ask, Found};
@@ -55,7 +55,7 @@ fn search_list<A: Allocator + Clone>(
 /// isn't in memory.
 ///
 /// It is `More` exactly where more than `bound` probes would begin.
-#[tactic(auto, unfolding(crate::specs::Searches::linked, crate::specs::Searches::IsSettled), using(crate::proofs::Laws::laws))]
+#[tactic(auto, unfolding(crate::specs::Searches::linked, crate::specs::Searches::linked_begun, crate::specs::Searches::IsSettled), using(crate::proofs::Laws::laws))]
 pub fn linked<A: Allocator + Clone>(
     memory: &Pages<A>,
     ask: &Ask,
@@ -66,6 +66,7 @@ pub fn linked<A: Allocator + Clone>(
         → IsFound (in_list memory.now ask.now) memory.now ask.now bound result }
     ensures within { IsWithin bound result }
     ensures settled { IsSettled (linked memory.now ask.now) bound result }
+    ensures counted { IsCounted (linked_begun memory.now ask.now) (linked memory.now ask.now (2 ^ 64)) bound result }
     ensures memory { TakesNone result }
 {
     if has_size(ask) {

@@ -1,8 +1,8 @@
 //! The search of a row, one struct after another.
-ghost use Rattle.std.specs.Prelude.{◌≡◌, IsTrue};
+ghost use Rattle.std.specs.Prelude.{◌≡◌, ◌^◌, IsTrue};
 ghost use Rattle.gx_words.specs.Faults.{TakesNone};
 ghost use Rattle.gx_search.specs.Keys.{has_size};
-ghost use Rattle.gx_search.specs.Searches.{is_past, in_row, search_from, linear, IsFound, IsWithin, IsSettled};
+ghost use Rattle.gx_search.specs.Searches.{is_past, in_row, search_from, linear, linear_begun, IsFound, IsWithin, IsSettled, IsCounted};
 
 use crate::keys::{Seen, has_size, probe};
 use crate::{Ask, Found};
@@ -57,7 +57,7 @@ fn search_row<A: Allocator + Clone>(
 /// size that isn't allowed, and `BadAddress` where a probe looks at a byte that isn't in memory.
 ///
 /// It is `More` exactly where more than `bound` probes would begin.
-#[tactic(auto, unfolding(crate::specs::Searches::linear, crate::specs::Searches::IsSettled), using(crate::proofs::Laws::laws))]
+#[tactic(auto, unfolding(crate::specs::Searches::linear, crate::specs::Searches::linear_begun, crate::specs::Searches::IsSettled), using(crate::proofs::Laws::laws))]
 pub fn linear<A: Allocator + Clone>(
     memory: &Pages<A>,
     ask: &Ask,
@@ -68,6 +68,7 @@ pub fn linear<A: Allocator + Clone>(
         → IsFound (in_row ask.now) memory.now ask.now bound result }
     ensures within { IsWithin bound result }
     ensures settled { IsSettled (linear memory.now ask.now) bound result }
+    ensures counted { IsCounted (linear_begun memory.now ask.now) (linear memory.now ask.now (2 ^ 64)) bound result }
     ensures memory { TakesNone result }
 {
     if has_size(ask) {

@@ -4,3 +4,4 @@ pub mod Events
 pub mod Playing
 pub mod Asking
 pub mod Ending
+pub mod Undoing

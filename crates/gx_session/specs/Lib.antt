@@ -3,3 +3,4 @@ pub mod Session
 pub mod Runs
 pub mod Lines
 pub mod Playing
+pub mod Undoing

@@ -4,6 +4,7 @@ ghost use Rattle.glk_world.specs.World.{empty_world};
 ghost use Rattle.gx_session.specs.Devices.{devices, Told};
 ghost use Rattle.gx_session.specs.Session.{start_of, fault_place};
 ghost use Rattle.gx_session.specs.Runs.{Runs, Counts, IsAnswer};
+ghost use Rattle.gx_session.specs.Undoing.{LastsUndo};
 
 use crate::Ended;
 use crate::ends::Stop;
@@ -39,13 +40,15 @@ fn place<A: Allocator + Clone, E: Engine<A>>(engine: &E, stop: Stop) -> u32
     }
 }
 
-/// Runs an engine within a budget of units.
+/// Runs an engine within a budget of units. Where it keeps no copy at first, each restoreundo goes back to the
+/// copy of the newest saveundo that is neither used nor dropped.
 ///
 /// After a fault or a spent budget the engine stands before the step, which isn't counted; at the
 /// program's end the last step is counted. At status 10 and 11 it stands at a moment of the session,
 /// and nothing more is sent.
 ///
 /// `alloc` and `echo` are for lines of input, which no session takes so far.
+#[tactic(auto, using(crate::proofs::Undoing::lasts_undo))]
 pub fn run_on<A: Allocator + Clone, E: Engine<A>, S: Source, K: Sink, F: Shelf, R: Rng>(
     alloc: Global,
     engine: E,
@@ -66,6 +69,8 @@ pub fn run_on<A: Allocator + Clone, E: Engine<A>, S: Source, K: Sink, F: Shelf, 
     ensures counts { Counts (devices (S.seen input.old) (K.seen output.old) (F.seen shelf.old) (R.stream dice.old))
         (devices (S.seen input.new) (K.seen output.new) (F.seen shelf.new) (R.stream dice.new)) result.status }
     ensures answer { IsAnswer result.status result.fault result.at }
+    ensures undo { let entry = devices (S.seen input.old) (K.seen output.old) (F.seen shelf.old) (R.stream dice.old) in
+        LastsUndo (start_of (E.whole engine).machine world entry steps) }
 {
     let mut run = Running {
         engine,
@@ -121,6 +126,8 @@ pub fn run<A: Allocator + Clone, S: Source, K: Sink, F: Shelf, R: Rng>(
     ensures counts { Counts (devices (S.seen input.old) (K.seen output.old) (F.seen shelf.old) (R.stream dice.old))
         (devices (S.seen input.new) (K.seen output.new) (F.seen shelf.new) (R.stream dice.new)) result.status }
     ensures answer { IsAnswer result.status result.fault result.at }
+    ensures undo { let entry = devices (S.seen input.old) (K.seen output.old) (F.seen shelf.old) (R.stream dice.old) in
+        LastsUndo (start_of machine.machine world entry steps) }
 {
     let ended = run_on(
         alloc, machine, world, echo, steps, input, output, shelf, dice,

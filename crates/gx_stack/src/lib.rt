@@ -86,6 +86,11 @@ impl Stack {
         self.limit
     }
 
+    /// The allocator that gave the stack its room.
+    pub fn allocator(&self) -> Global {
+        *self.bytes.allocator()
+    }
+
     /// The bytes as a list of their own.
     pub fn copy(&self, alloc: Global) -> Result<Bytes, AllocError>
         ensures { IfOk result (λ copy. copy ≡ self.now.bytes) }

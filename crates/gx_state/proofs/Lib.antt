@@ -1,3 +1,4 @@
+pub mod Backs
 pub mod Kept
 pub mod Pairs
 pub mod Space

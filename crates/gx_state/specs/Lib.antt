@@ -5,3 +5,5 @@ pub mod Entry
 pub mod Returns
 pub mod Replies
 pub mod Space
+pub mod Copies
+pub mod Moments

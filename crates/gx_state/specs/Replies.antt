@@ -19,11 +19,11 @@ pub record IsReply (f : FlatState) (room : ℕ) (reply : Reply) : Type 0 where
   pub writes : AllInRam f reply.writes
   pub pushes : length reply.pushes ≤ room
 
--- an effect that asks nothing
+-- an effect that asks nothing, of a step that was done
 abbrev pub IsDone : Effect → Type 0
 IsDone Went = Unit {0}
 IsDone Drew = Unit {0}
 IsDone (Put c) = ⊥
 IsDone (Glk selector args room) = ⊥
 IsDone Quit = Unit {0}
-IsDone Spent = Unit {0}
+IsDone Spent = ⊥

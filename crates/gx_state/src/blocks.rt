@@ -33,7 +33,8 @@ impl<A: Allocator + Clone> State<A> {
     ///
     /// With its last block the heap ends, and memory goes back to the size at which the heap began.
     pub fn free_block(&mut self, at: u32) -> bool
-        ensures { FreesBlock self.old self.new (without_block self.old.flat at) result }
+        ensures value { FreesBlock self.old self.new (without_block self.old.flat at) result }
+        ensures story { self.new.flat.story ≡ self.old.flat.story }
     {
         let start = self.heap.start();
         match self.heap.free(at) {

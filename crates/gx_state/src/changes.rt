@@ -60,6 +60,7 @@ impl<A: Allocator + Clone> State<A> {
         ensures limit { self.new.flat.stack.limit ≡ self.old.flat.stack.limit }
         ensures spare { self.new.spare ≡ self.old.spare }
         ensures memory { TakesNone result }
+        ensures story { self.new.flat.story ≡ self.old.flat.story }
     {
         self.stack.push_all(values)?;
         Ok(())
@@ -72,6 +73,7 @@ impl<A: Allocator + Clone> State<A> {
         ensures value { Alters result self.old.flat self.new.flat (pushed self.old.flat v) }
         ensures spare { self.new.spare ≡ self.old.spare }
         ensures memory { TakesNone result }
+        ensures story { self.new.flat.story ≡ self.old.flat.story }
     {
         self.stack.push(v)?;
         Ok(())
@@ -95,6 +97,7 @@ impl<A: Allocator + Clone> State<A> {
         ensures value { Alters result self.old.flat self.new.flat (swapped self.old.flat) }
         ensures spare { self.new.spare ≡ self.old.spare }
         ensures memory { TakesNone result }
+        ensures story { self.new.flat.story ≡ self.old.flat.story }
     {
         let frame = self.frame();
         self.stack.swap(&frame)?;
@@ -109,6 +112,7 @@ impl<A: Allocator + Clone> State<A> {
         ensures value { Alters result self.old.flat self.new.flat (rolled self.old.flat n by) }
         ensures spare { self.new.spare ≡ self.old.spare }
         ensures memory { TakesNone result }
+        ensures story { self.new.flat.story ≡ self.old.flat.story }
     {
         let frame = self.stack.parts(self.fp);
         self.stack.roll(&frame, n, by)?;
@@ -123,6 +127,7 @@ impl<A: Allocator + Clone> State<A> {
         ensures value { Alters result self.old.flat self.new.flat (copied self.old.flat n) }
         ensures spare { self.new.spare ≡ self.old.spare }
         ensures memory { TakesNone result }
+        ensures story { self.new.flat.story ≡ self.old.flat.story }
     {
         let frame = self.frame();
         self.stack.copy_top(&frame, n)?;
@@ -140,6 +145,7 @@ impl<A: Allocator + Clone> State<A> {
         ensures height { sp_of self.new.flat ≡ sp_of self.old.flat }
         ensures spare { self.new.spare ≡ self.old.spare }
         ensures memory { TakesNone result }
+        ensures story { self.new.flat.story ≡ self.old.flat.story }
     {
         let frame = self.frame();
         self.stack.set_local(&frame, at, width, v)?;

@@ -21,7 +21,7 @@ use std::alloc::{Allocator, Global};
 
 /// The type of a function.
 #[tactic(auto, unfolding(crate::specs::Entry::kind_at))]
-fn kind_at<A: Allocator + Clone>(memory: &Pages<A>, at: u32) -> Result<u32, Fault>
+pub fn kind_at<A: Allocator + Clone>(memory: &Pages<A>, at: u32) -> Result<u32, Fault>
     ensures value { result ≡ kind_at memory.now at }
     ensures there { OnOk result (at + 1 ≤ length memory.now) }
     ensures memory { TakesNone result }
@@ -34,7 +34,7 @@ fn kind_at<A: Allocator + Clone>(memory: &Pages<A>, at: u32) -> Result<u32, Faul
 }
 
 /// How many bytes an entry pushes.
-fn entry_len(kind: u32, format: &[u8], count: usize) -> u32
+pub fn entry_len(kind: u32, format: &[u8], count: usize) -> u32
     requires format { IsFormat format.now }
     requires count { count ≤ 255 }
     ensures value { result ≡ entry_len kind format.now count }
@@ -73,7 +73,7 @@ fn push_entry(stack: &mut Stack, kind: u32, format: &[u8], args: &[u32])
 
 /// Cuts a stack, pushes stubs, and pushes what an entry pushes.
 #[tactic(auto, unfolding(gx_stack::specs::Stubs::pushed_stubs), using(crate::proofs::Kept::good_at))]
-fn push_call(stack: &mut Stack, sp: u32, stubs: &[Stub], kind: u32, format: &[u8], args: &[u32])
+pub fn push_call(stack: &mut Stack, sp: u32, stubs: &[Stub], kind: u32, format: &[u8], args: &[u32])
     requires there { sp ≤ length stack.old.bytes }
     requires words { sp % 4 ≡ 0 }
     requires format { IsFormat format.now }
@@ -142,6 +142,7 @@ impl<A: Allocator + Clone> State<A> {
         ensures value { Alters result self.old.flat self.new.flat (entered self.old.flat sp stubs.now at args.now) }
         ensures spare { self.new.spare ≡ self.old.spare }
         ensures memory { TakesNone result }
+        ensures story { self.new.flat.story ≡ self.old.flat.story }
     {
         let limit = self.stack.limit();
         let _size = self.stack.size();

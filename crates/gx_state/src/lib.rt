@@ -8,12 +8,14 @@
 //! - `entry` starts a story and enters its functions, whose locals formats `formats` reads.
 //! - `returns` has call stubs, and returns to them.
 //! - `changes` writes to memory and changes the present frame.
+//! - `copies` keeps copies of the state, goes back to them, and starts a story again.
 //! - `resizing` zeros, copies and resizes memory, and `blocks` enters and frees blocks of its heap.
 //! - `effects` and `modes` have what a step did or asks, and where a result goes.
 #![tactic(auto)]
 
 mod blocks;
 mod changes;
+mod copies;
 mod effects;
 mod entry;
 mod formats;
@@ -22,6 +24,7 @@ mod resizing;
 mod returns;
 mod state;
 
+pub use copies::Moment;
 pub use effects::{Effect, Reply};
 pub use modes::{Dest, Mode};
 pub use state::State;

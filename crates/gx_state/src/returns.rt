@@ -10,14 +10,53 @@ ghost use Rattle.gx_words.specs.Results.{Alters, Is, Turns};
 ghost use Rattle.gx_stack.specs.Frames.{IsFrame, IsGood};
 ghost use Rattle.gx_stack.specs.Stubs.{stub_below};
 ghost use Rattle.gx_state.specs.Flat.{cut, frame_of, sp_of};
-ghost use Rattle.gx_state.specs.Returns.{pushed_stubs, popped_stub, stub_to, back, with_word, IsPlace, delivered, returned};
+ghost use Rattle.gx_state.specs.Returns.{stub_of, pushed_stubs, popped_stub, stub_to, back, with_word, IsPlace, printing_of, printing_on, delivered, returned};
 
-use crate::State;
+use crate::{Dest, Mode, State};
 use gx_stack::{Frame, Stub};
-use gx_words::{Fault, word_bytes};
+use gx_words::{Fault, PrintKind, Printing, word_bytes};
 use std::alloc::{AllocError, Allocator};
 
+/// What goes on being printed at a stub; `None` exactly where its type isn't one of strings and
+/// numbers, or its bit isn't below 8.
+#[tactic(auto, unfolding(crate::specs::Returns::printing_of))]
+fn printing_of(stub: &Stub) -> Option<Printing>
+    ensures { result ≡ printing_of stub.now }
+{
+    let (kind, bit) = match stub.kind {
+        0x10 if stub.addr < 8 => (PrintKind::E1, stub.addr),
+        0x12 => (PrintKind::Number, stub.addr),
+        0x13 => (PrintKind::E0, 0),
+        0x14 => (PrintKind::E2, 0),
+        _ => return None,
+    };
+    Some(Printing {
+        kind,
+        at: stub.pc,
+        bit,
+        started: true,
+    })
+}
+
 impl<A: Allocator + Clone> State<A> {
+    /// The stub of a store operand, with the address of the next instruction.
+    pub fn stub(&self, dest: &Dest, next: u32) -> Stub
+        ensures { result ≡ stub_of self.now.flat dest.now next }
+    {
+        let (kind, addr) = match *dest {
+            Dest::Nowhere => (0, 0),
+            Dest::Memory(at) => (1, at),
+            Dest::Local(at) => (2, at),
+            Dest::Push => (3, 0),
+        };
+        Stub {
+            kind,
+            addr,
+            pc: next,
+            fp: self.fp,
+        }
+    }
+
     /// Pushes stubs, the first deepest; `Overflow` exactly where they don't all fit.
     #[tactic(auto, unfolding(crate::specs::Returns::pushed_stubs, gx_stack::specs::Stubs::pushed_stubs), using(crate::proofs::Kept::framed))]
     pub fn push_stubs(&mut self, stubs: &[Stub]) -> Result<(), Fault>
@@ -26,6 +65,7 @@ impl<A: Allocator + Clone> State<A> {
         ensures spare { self.new.spare ≡ self.old.spare }
         ensures live { 0 < sp_of self.new.flat }
         ensures memory { TakesNone result }
+        ensures story { self.new.flat.story ≡ self.old.flat.story }
     {
         self.stack.push_stubs(stubs)?;
         Ok(())
@@ -38,6 +78,7 @@ impl<A: Allocator + Clone> State<A> {
         ensures value { Turns (λ stub. stub) result self.old.flat self.new.flat (popped_stub self.old.flat) }
         ensures spare { self.new.spare ≡ self.old.spare }
         ensures memory { TakesNone result }
+        ensures story { self.new.flat.story ≡ self.old.flat.story }
     {
         let sp = self.stack.size();
         let (stub, _) = self.resumed(sp)?;
@@ -48,6 +89,8 @@ impl<A: Allocator + Clone> State<A> {
     /// Makes the return of a value with `sp` for FramePtr, after a word was written where `before`
     /// gives its address and value. True exactly where `sp` is 0: the program ends, and the stack is
     /// empty.
+    ///
+    /// PC stays where the program ends, and where a string or number goes on being printed.
     #[tactic(auto, unfolding(crate::specs::Returns::returned, crate::specs::Returns::delivered), using(crate::proofs::Kept::below))]
     pub fn deliver(
         &mut self,
@@ -62,6 +105,7 @@ impl<A: Allocator + Clone> State<A> {
         ensures ended { IfOk result (λ ended. ended ≡ (sp == 0)) }
         ensures spare { self.new.spare ≡ self.old.spare }
         ensures memory { IsErrOf result NoMemory → IsSome before ⊎ ((stub_below self.old.flat.stack.bytes sp).kind ≡ 1) }
+        ensures story { self.new.flat.story ≡ self.old.flat.story }
     {
         if sp == 0 {
             self.write_words(before, None)?;
@@ -77,14 +121,14 @@ impl<A: Allocator + Clone> State<A> {
             1 => self.give_memory(sp, value, before, &stub)?,
             2 => self.give_local(sp, value, before, &stub, &frame)?,
             3 => self.give_push(sp, value, before, &stub)?,
-            _ => return Err(Fault::BadFrame),
+            _ => self.give_printing(sp, before, &stub)?,
         }
         Ok(false)
     }
 
     /// Writes up to two words to RAM, both or none.
     #[tactic(auto, using(crate::proofs::Kept::words))]
-    fn write_words(
+    pub fn write_words(
         &mut self,
         first: Option<(u32, u32)>,
         second: Option<(u32, u32)>,
@@ -174,8 +218,9 @@ impl<A: Allocator + Clone> State<A> {
         requires before { IsPlace self.old.flat before }
         requires good { IsGood (take (sp - 16) self.old.flat.stack.bytes) stub.now.fp }
         requires kind { stub.now.kind ≡ 1 }
-        ensures value { Changes result self.old.flat self.new.flat (delivered (record (back (with_word self.old.flat before) sp stub.now) { pc = stub.now.pc }) stub.now value) }
+        ensures value { Changes result self.old.flat self.new.flat (delivered (back (with_word self.old.flat before) sp stub.now) stub.now value) }
         ensures spare { self.new.spare ≡ self.old.spare }
+        ensures story { self.new.flat.story ≡ self.old.flat.story }
     {
         if u64::from(stub.addr) + 4 > u64::from(self.memory.size()) {
             return Err(Fault::BadAddress);
@@ -205,9 +250,10 @@ impl<A: Allocator + Clone> State<A> {
         requires frame { IsFrame (take (sp - 16) self.old.flat.stack.bytes) frame.now }
         requires fp { frame.now.fp ≡ stub.now.fp }
         requires kind { stub.now.kind ≡ 2 }
-        ensures value { Changes result self.old.flat self.new.flat (delivered (record (back (with_word self.old.flat before) sp stub.now) { pc = stub.now.pc }) stub.now value) }
+        ensures value { Changes result self.old.flat self.new.flat (delivered (back (with_word self.old.flat before) sp stub.now) stub.now value) }
         ensures spare { self.new.spare ≡ self.old.spare }
         ensures memory { IsErrOf result NoMemory → IsSome before }
+        ensures story { self.new.flat.story ≡ self.old.flat.story }
     {
         if u64::from(stub.addr) + 4 > u64::from(frame.values - frame.locals) {
             return Err(Fault::BadLocal);
@@ -235,9 +281,10 @@ impl<A: Allocator + Clone> State<A> {
         requires before { IsPlace self.old.flat before }
         requires good { IsGood (take (sp - 16) self.old.flat.stack.bytes) stub.now.fp }
         requires kind { stub.now.kind ≡ 3 }
-        ensures value { Changes result self.old.flat self.new.flat (delivered (record (back (with_word self.old.flat before) sp stub.now) { pc = stub.now.pc }) stub.now value) }
+        ensures value { Changes result self.old.flat self.new.flat (delivered (back (with_word self.old.flat before) sp stub.now) stub.now value) }
         ensures spare { self.new.spare ≡ self.old.spare }
         ensures memory { IsErrOf result NoMemory → IsSome before }
+        ensures story { self.new.flat.story ≡ self.old.flat.story }
     {
         let _size = self.stack.size();
         self.write_words(before, None)?;
@@ -246,5 +293,32 @@ impl<A: Allocator + Clone> State<A> {
             Ok(()) => Ok(()),
             Err(_) => unreachable!(),
         }
+    }
+
+    /// Drops a value, and goes on printing a string or number.
+    #[tactic(auto, unfolding(crate::specs::Returns::printing_on), using(crate::proofs::Kept::words))]
+    fn give_printing(
+        &mut self,
+        sp: u32,
+        before: Option<(u32, u32)>,
+        stub: &Stub,
+    ) -> Result<(), Fault>
+        requires there { 16 ≤ sp }
+        requires within { sp ≤ sp_of self.old.flat }
+        requires words { sp % 4 ≡ 0 }
+        requires before { IsPlace self.old.flat before }
+        requires good { IsGood (take (sp - 16) self.old.flat.stack.bytes) stub.now.fp }
+        ensures value { Changes result self.old.flat self.new.flat (printing_on (back (with_word self.old.flat before) sp stub.now) stub.now) }
+        ensures spare { self.new.spare ≡ self.old.spare }
+        ensures memory { IsErrOf result NoMemory → IsSome before }
+        ensures story { self.new.flat.story ≡ self.old.flat.story }
+    {
+        let Some(printing) = printing_of(stub) else {
+            return Err(Fault::BadFrame);
+        };
+        self.write_words(before, None)?;
+        self.go_back(sp, stub);
+        self.mode = Mode::Printing(printing);
+        Ok(())
     }
 }

@@ -2,6 +2,7 @@
 ghost use Rattle.std.specs.Prelude.{◌≡◌, ◌<◌, ◌≤◌, length};
 ghost use Rattle.gx_stack.specs.Frames.{IsFrame};
 ghost use Rattle.heap_blocks.specs.Heap.{LiesBelow};
+ghost use Rattle.ops_calc.specs.Generator.{word_from, after_word};
 ghost use Rattle.gx_story.specs.Stories.{IsStory, is_checked};
 ghost use Rattle.gx_state.specs.Flat.{frame_of, sp_of};
 
@@ -186,6 +187,14 @@ impl<A: Allocator + Clone> State<A> {
         ensures { self.new ≡ record self.old { flat = record self.old.flat { mode = mode } } }
     {
         self.mode = mode;
+    }
+
+    /// The next random word; `outside` is the one to be used where words come from outside.
+    pub fn draw(&mut self, outside: u32) -> u32
+        ensures word { result ≡ word_from self.old.flat.generator outside }
+        ensures rest { self.new ≡ record self.old { flat = record self.old.flat { generator = after_word self.old.flat.generator } } }
+    {
+        self.generator.word(outside)
     }
 
     /// Sets where random words come from.

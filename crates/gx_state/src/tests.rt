@@ -1,9 +1,12 @@
 //! Each public call that enters, returns, writes or rearranges, compared with the standard's
 //! description of frames and call stubs.
-use crate::State;
+ghost use Rattle.std.specs.Prelude.{IfOk};
+ghost use Rattle.gx_state.specs.Copies.{IsCopyFor};
+
+use crate::{Dest, Mode, Moment, State};
 use gx_stack::Stub;
 use gx_story::Story;
-use gx_words::{Bytes, Fault, Writes};
+use gx_words::{Bytes, Fault, PrintKind, Printing, Writes};
 use std::alloc::Global;
 use std::test::Fail;
 
@@ -99,10 +102,51 @@ fn returns(rt: HostRuntime) -> Result<(), Fail> {
         (2, 0, Err(Fault::BadLocal)),
         (3, 0, Ok((20, 0x29, 5))),
         (4, 0, Err(Fault::BadFrame)),
-        (0x10, 0, Err(Fault::BadFrame)),
+        (0x10, 7, Ok((16, 0x31, 5))),
+        (0x10, 8, Err(Fault::BadFrame)),
+        (0x11, 0, Err(Fault::BadFrame)),
     ];
     for (kind, addr, wanted) in rows {
         assert_eq!(rt; returned(rt.alloc(), kind, addr)?, wanted);
+    }
+    Ok(())
+}
+
+/// What goes on being printed after a return to a stub of this type.
+fn printed(alloc: Global, kind: u32) -> Result<Mode, Fail> {
+    let mut state = State::start_with(alloc, alloc, story(alloc)?)?;
+    let sp = state.stack().size();
+    let stub = Stub {
+        kind,
+        addr: 6,
+        pc: 0x180,
+        fp: 0,
+    };
+    state.enter(sp, &[stub], 0x2C, &[])?;
+    let fp = state.fp();
+    if fp > state.stack().size() || fp % 4 != 0 {
+        return Err("the frame is nowhere".into());
+    }
+    state.deliver(fp, 7, None)?;
+    Ok(state.mode())
+}
+
+#[test]
+fn goes_on_printing(rt: HostRuntime) -> Result<(), Fail> {
+    let rows = [
+        (0x10, PrintKind::E1, 6),
+        (0x12, PrintKind::Number, 6),
+        (0x13, PrintKind::E0, 0),
+        (0x14, PrintKind::E2, 0),
+    ];
+    for (stub, kind, bit) in rows {
+        let wanted = Mode::Printing(Printing {
+            kind,
+            at: 0x180,
+            bit,
+            started: true,
+        });
+        assert_eq!(rt; printed(rt.alloc(), stub)?, wanted);
     }
     Ok(())
 }
@@ -242,5 +286,49 @@ fn blocks_come_and_go(rt: HostRuntime) -> Result<(), Fail> {
         (state.free_block(0x200), state.memory().size()),
         (true, 0x200)
     );
+    Ok(())
+}
+
+/// A copy of a state whose frame has a value, made for a result that is pushed, and the state after
+/// memory, the stack and the protected range were changed.
+fn kept(alloc: Global) -> Result<(State<Global>, Moment<Global>), Fail>
+    ensures { IfOk result (λ r. IsCopyFor r.0.flat.story r.1) }
+{
+    let mut state = State::start_with(alloc, alloc, story(alloc)?)?;
+    let limit = state.stack().limit();
+    let size = state.stack().size();
+    if size == 0 || size + 16 > limit {
+        return Err("there is no room".into());
+    }
+    let copy = state.keep(&Dest::Push, 0x29)?;
+    if state.ramstart() > 0x100 || state.memory().size() < 0x200 {
+        return Err("there is no such word".into());
+    }
+    state.write(0x100, &[1, 2, 3, 4])?;
+    state.set_protected(0x101, 2);
+    state.set_iosys(2, 5);
+    Ok((state, copy))
+}
+
+#[test]
+fn goes_back(rt: HostRuntime) -> Result<(), Fail> {
+    let (mut state, copy) = kept(rt.alloc())?;
+    state.put_back(&copy)?;
+    assert_eq!(rt; state.memory().try_number(4, 0x100), Ok(0x0002_0300));
+    assert_eq!(rt; (state.pc(), state.iosys()), (0x29, (2, 5)));
+    assert_eq!(rt;
+        state.stack().bytes().get(16..),
+        Some([0xFF, 0xFF, 0xFF, 0xFF].as_slice())
+    );
+    Ok(())
+}
+
+#[test]
+fn restarts(rt: HostRuntime) -> Result<(), Fail> {
+    let (mut state, _copy) = kept(rt.alloc())?;
+    state.restart()?;
+    assert_eq!(rt; state.memory().try_number(4, 0x100), Ok(0x0002_0300));
+    assert_eq!(rt; (state.pc(), state.iosys()), (0x27, (0, 0)));
+    assert_eq!(rt; (state.protected(), state.stack().size()), ((0x101, 2), 16));
     Ok(())
 }

@@ -1,5 +1,5 @@
 -- A return looks only at what lies below its stack pointer.
-use Rattle.std.proofs.Common.{◌≡◌, ◌≤◌, ◌<◌, ◌+◌, ◌-◌, ◌*◌, ◌==◌, ℕ, Bool, true, false, nat_lt, nat_le, if◌then◌else◌, List, [], ◌∷◌, ◌++◌, length, take, drop, Option, Some, None, IfSome, Result, Ok, Err, refl, arith, ap, sym, ◌∙◌, length-append}
+use Rattle.std.proofs.Common.{◌≡◌, ◌≤◌, ◌<◌, ◌+◌, ◌-◌, ℕ, Bool, true, false, nat_lt, nat_le, if◌then◌else◌, List, [], ◌∷◌, ◌++◌, length, take, Option, Some, None, Result, Ok, Err, refl, arith, ap, sym, ◌∙◌}
 use Rattle.std.proofs.lemmas.List.{take-take, take-append-le, append-nil}
 use Rattle.std.proofs.lemmas.Grind.{common_steps}
 use Rattle.std.proofs.lemmas.Bool.Decides.{nat_tests}
@@ -10,15 +10,15 @@ use Rattle.gx_words.specs.Numbers.{word, spliced, bytes_of_word, bytes_of_number
 use Rattle.gx_stack.specs.declared.stubs.Stub.{Stub}
 use Rattle.gx_stack.specs.declared.frames.Frame.{Frame}
 use Rattle.gx_stack.specs.Frames.{IsFrame}
-use Rattle.gx_stack.specs.Stubs.{stub_bytes, stubs_bytes, stub_below}
+use Rattle.gx_stack.specs.Stubs.{stub_bytes, stubs_bytes}
 use Rattle.gx_stack.proofs.Kept.{word-take}
 use Rattle.gx_state.specs.declared.modes.Dest.{Dest}
 use Rattle.gx_state.specs.declared.modes.Dest.TheVariants.{Nowhere, Memory, Local, Push}
 use Rattle.gx_state.specs.Flat.{FlatState, IsHeight, cut, written, frame_of, sp_of}
-use Rattle.gx_state.specs.Returns.{returned, stub_to, IsPlace}
-use Rattle.gx_operands.specs.Instructions.{Instruction}
+use Rattle.gx_state.specs.Returns.{stub_of, returned, stub_to, IsPlace}
+use Rattle.gx_operands.specs.Instructions.{Instruction, going_to, operand_at}
 use Rattle.gx_operands.specs.Stores.{store_fault, with_value, stored}
-use Rattle.ops_flow.specs.Rows.{with_stub, stub_of, lasting}
+use Rattle.ops_flow.specs.Rows.{with_stub, lasting, ends, catch}
 
 with_bytes : FlatState → List ℕ → FlatState
 with_bytes f xs = record f { stack = record f.stack { bytes = xs } }
@@ -46,9 +46,9 @@ returned_same f xs ys sp v w same =
     let below : take (sp - 16) xs ≡ take (sp - 16) ys = sym (take-take (sp - 16) sp xs least) ∙ ap (take (sp - 16)) same ∙ take-take (sp - 16) sp ys least in
     rw (stub, below) refl
 
-pub returned_cut : (f : FlatState) (sp v : ℕ) → f.fp ≤ sp → returned (cut f sp) f.fp v None ≡ returned f f.fp v None
+pub returned_cut : (f : FlatState) (next sp v : ℕ) → f.fp ≤ sp → returned (going_to (cut f sp) next) f.fp v None ≡ returned (going_to f next) f.fp v None
 unfolding with_bytes
-returned_cut f sp v below = returned_same f (take sp f.stack.bytes) f.stack.bytes f.fp v None (take-take f.fp sp f.stack.bytes below)
+returned_cut f next sp v below = returned_same (going_to f next) (take sp f.stack.bytes) f.stack.bytes f.fp v None (take-take f.fp sp f.stack.bytes below)
 
 pub ruleset cuts = (returned_cut)
 
@@ -65,20 +65,20 @@ take_put : (xs bytes : List ℕ) (at n : ℕ) → n ≤ at → n ≤ length xs �
 take_put xs bytes at n below there = grind (arith, common_steps)
 
 pub caught : (f : FlatState) (i : Instruction) (d : Dest) (token v : ℕ) → f.fp ≤ i.sp → i.sp ≤ sp_of f
-    → returned (with_value (with_stub f i) 4 d token) (with_value (with_stub f i) 4 d token).fp v None ≡ returned f f.fp v (lasting d token)
+    → returned (going_to (with_value (with_stub f i) 4 d token) i.next) (with_value (with_stub f i) 4 d token).fp v None ≡ returned (going_to f i.next) f.fp v (lasting d token)
 unfolding returned with_bytes with_stub
 caught f i Nowhere token v below there =
-    returned_same f (with_stub f i).stack.bytes f.stack.bytes f.fp v None (take_kept f.stack.bytes _ i.sp f.fp below there)
+    returned_same (going_to f i.next) (with_stub f i).stack.bytes f.stack.bytes f.fp v None (take_kept f.stack.bytes _ i.sp f.fp below there)
 caught f i (Memory at) token v below there =
-    returned_same f (with_stub f i).stack.bytes f.stack.bytes f.fp v (Some (at, token)) (take_kept f.stack.bytes _ i.sp f.fp below there)
+    returned_same (going_to f i.next) (with_stub f i).stack.bytes f.stack.bytes f.fp v (Some (at, token)) (take_kept f.stack.bytes _ i.sp f.fp below there)
 caught f i (Local at) token v below there =
     let long : f.fp ≤ length (with_stub f i).stack.bytes = grind (arith, common_steps) in
     let kept = take_put (with_stub f i).stack.bytes (bytes_of_number 4 token) ((frame_of (with_stub f i)).locals + at) f.fp (omega arith) long in
-    returned_same f (with_value (with_stub f i) 4 (Local at) token).stack.bytes f.stack.bytes f.fp v None (kept ∙ take_kept f.stack.bytes _ i.sp f.fp below there)
+    returned_same (going_to f i.next) (with_value (with_stub f i) 4 (Local at) token).stack.bytes f.stack.bytes f.fp v None (kept ∙ take_kept f.stack.bytes _ i.sp f.fp below there)
 caught f i Push token v below there =
     let long : f.fp ≤ length (with_stub f i).stack.bytes = grind (arith, common_steps) in
     let kept = take_front (with_stub f i).stack.bytes (bytes_of_word token) f.fp long in
-    returned_same f (with_value (with_stub f i) 4 Push token).stack.bytes f.stack.bytes f.fp v None (kept ∙ take_kept f.stack.bytes _ i.sp f.fp below there)
+    returned_same (going_to f i.next) (with_value (with_stub f i) 4 Push token).stack.bytes f.stack.bytes f.fp v None (kept ∙ take_kept f.stack.bytes _ i.sp f.fp below there)
 
 -- the stack with a stub on top
 stub_length : (p : Stub) → length (stub_bytes p) ≡ 16
@@ -138,3 +138,13 @@ lasting_place f (Local at) n token is = (tt, tt)
 lasting_place f Push n token is = (tt, tt)
 
 pub ruleset catches = (caught, stub_stored)
+
+-- a catch whose branch returns
+pub catch_returns : (f : FlatState) (i : Instruction) → IsFrame f.stack.bytes (frame_of f) → IsHeight f i.sp → i.sp + 16 ≤ f.stack.limit → store_fault f 4 i.dest (i.sp + 16) ≡ Ok tt → f.fp ≤ i.sp → operand_at i 0 < 2
+    → catch f i ≡ (returned (going_to f i.next) f.fp (operand_at i 0) (lasting i.dest (i.sp + 16)) >>= (λ (r : FlatState × Bool). Ok (ends r)))
+unfolding catch
+catch_returns f i frame height room fits below few =
+    let inside : nat_lt f.stack.limit (i.sp + 16) ≡ false = grind (arith, nat_tests) in
+    let left : nat_lt (operand_at i 0) 2 ≡ true = grind (arith, nat_tests) in
+    rw (inside, token_stored f i i.dest (i.sp + 16) frame height fits, left)
+    (ap (λ (r : Result (FlatState × Bool) Fault). r >>= (λ (r : FlatState × Bool). Ok (ends r))) (caught f i i.dest (i.sp + 16) (operand_at i 0) below height.there))

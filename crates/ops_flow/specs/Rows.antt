@@ -11,7 +11,6 @@ use Rattle.gx_words.specs.Numbers.{word}
 use Rattle.gx_words.specs.Results.{◌>>=◌}
 use Rattle.gx_rows.specs.declared.instructions.Class.{Class}
 use Rattle.gx_rows.specs.declared.instructions.Class.TheVariants as class
-use Rattle.gx_stack.specs.declared.stubs.Stub.{Stub}
 use Rattle.gx_stack.specs.Stubs.{stub_bytes}
 use Rattle.ops_calc.specs.Arithmetic.{calc, signed}
 use Rattle.ops_calc.specs.Branches.{test}
@@ -21,7 +20,7 @@ use Rattle.gx_state.specs.declared.modes.Dest.{Dest}
 use Rattle.gx_state.specs.declared.modes.Dest.TheVariants.{Nowhere, Memory, Local, Push}
 use Rattle.gx_state.specs.Flat.{FlatState, cut, swapped, rolled, copied}
 use Rattle.gx_state.specs.Entry.{entered}
-use Rattle.gx_state.specs.Returns.{returned}
+use Rattle.gx_state.specs.Returns.{stub_of, returned}
 use Rattle.gx_operands.specs.Arguments.{arguments, values_to}
 use Rattle.gx_operands.specs.Instructions.{Instruction, operand_at, going_to}
 use Rattle.gx_operands.specs.Stores.{settled, stored}
@@ -38,26 +37,19 @@ stores f i v = do
 abbrev pub goes : FlatState → ℕ → Result (FlatState × Effect) Fault
 goes f pc = Ok (going_to f pc, Went)
 
--- a return of a value from the present function; that of the start function ends the program, with PC at
--- the next instruction
-abbrev pub ends : ℕ → FlatState × Bool → FlatState × Effect
-ends next r = if r.1 then (going_to r.0 next, Quit) else (r.0, Went)
+-- a return of a value from the present function; PC is at the next instruction, where nothing else takes it
+-- away. That of the start function ends the program.
+abbrev pub ends : FlatState × Bool → FlatState × Effect
+ends r = (r.0, if r.1 then Quit else Went)
 
 abbrev pub returns : FlatState → ℕ → ℕ → Result (FlatState × Effect) Fault
 returns f next v = do
-  r ← returned f f.fp v None
-  Ok (ends next r)
+  r ← returned (going_to f next) f.fp v None
+  Ok (ends r)
 
 -- a branch by an offset: those of 0 and 1 return this value from the present function
 abbrev pub branches : FlatState → ℕ → ℕ → Result (FlatState × Effect) Fault
 branches f next offset = if nat_lt offset 2 then returns f next offset else goes f ((next + (offset - 2)) % 2 ^ 32)
-
--- the stub of a store operand: DestType, DestAddr, the next instruction, the present frame
-abbrev pub stub_of : FlatState → Dest → ℕ → Stub
-stub_of f Nowhere next = record { kind = 0; addr = 0; pc = next; fp = f.fp }
-stub_of f (Memory at) next = record { kind = 1; addr = at; pc = next; fp = f.fp }
-stub_of f (Local at) next = record { kind = 2; addr = at; pc = next; fp = f.fp }
-stub_of f Push next = record { kind = 3; addr = 0; pc = next; fp = f.fp }
 
 -- a call of L1 with arguments, whose result goes to S1
 abbrev pub calls : FlatState → Instruction → ℕ → List ℕ → Result (FlatState × Effect) Fault
@@ -124,11 +116,12 @@ catch f i =
 abbrev pub is_token : ℕ → ℕ → Bool
 is_token token sp = nat_le 16 token && nat_le token sp && token % 4 == 0
 
--- 33 throw (L1 L2): the stack is cut to the token L2, and L1 is returned to the stub there
+-- 33 throw (L1 L2): the stack is cut to the token L2, and L1 is returned to the stub there, with PC at the next
+-- instruction
 unfoldable pub throw : FlatState → Instruction → Result (FlatState × Effect) Fault
 throw f i =
     if is_token (operand_at i 1) i.sp then (do
-      r ← returned f (operand_at i 1) (operand_at i 0) None
+      r ← returned (going_to f i.next) (operand_at i 1) (operand_at i 0) None
       Ok (r.0, Went)) else Err BadToken
 
 -- 34 tailcall (L1 L2): pops L2 arguments, and calls L1 in place of the present function

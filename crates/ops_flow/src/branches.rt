@@ -1,13 +1,14 @@
 //! The rows of Branch, and the return from a function (Glulx 3.1.2, "Branches").
-ghost use Rattle.std.specs.Prelude.{◌≡◌, ◌<◌, Some, IsErrOf, IfOk};
+ghost use Rattle.std.specs.Prelude.{◌≡◌, ◌⊎◌, ◌%◌, ◌<◌, ◌≤◌, ◌==◌, if◌then◌else◌, Some, IsErrOf, IsSome, IfOk};
 ghost use Rattle.gx_words.specs.declared.faults.Fault.TheVariants.{NoMemory};
 ghost use Rattle.gx_words.specs.Faults.{Does};
 ghost use Rattle.gx_rows.specs.Table.{row_at};
 ghost use Rattle.gx_state.specs.Flat.{IsHeight, cut, sp_of};
 ghost use Rattle.gx_state.specs.Replies.{IsDone};
-ghost use Rattle.gx_operands.specs.Instructions.{operand_at};
+ghost use Rattle.gx_state.specs.Returns.{IsPlace, returned};
+ghost use Rattle.gx_operands.specs.Instructions.{going_to, operand_at};
 ghost use Rattle.gx_operands.specs.Plans.{instruction_of};
-ghost use Rattle.ops_flow.specs.Rows.{ends, returns, branches, return_, jumps};
+ghost use Rattle.ops_flow.specs.Rows.{returns, branches, return_, jumps};
 ghost use Rattle.ops_flow.specs.Writes.{EndsInMemory, left_by, returns_to};
 
 use crate::goes;
@@ -19,15 +20,38 @@ use ops_calc::test;
 use std::alloc::Allocator;
 
 /// What follows a return: where the start function has returned, the program ends.
-pub fn ends<A: Allocator + Clone>(state: &mut State<A>, over: bool, next: u32) -> Effect
-    ensures value { ends next (state.old.flat, over) ≡ (state.new.flat, result) }
+pub fn ends(over: bool) -> Effect
+    ensures value { result ≡ (if over then Effect.Quit else Effect.Went) }
     ensures done { IsDone result }
 {
-    if over {
-        state.set_pc(next);
-        Effect::Quit
-    } else {
-        Effect::Went
+    if over { Effect::Quit } else { Effect::Went }
+}
+
+/// Makes the return of a value to the stub that ends at `sp`, with PC at the next instruction where
+/// nothing else takes it away.
+pub fn deliver<A: Allocator + Clone>(
+    state: &mut State<A>,
+    next: u32,
+    sp: u32,
+    value: u32,
+    before: Option<(u32, u32)>,
+) -> Result<bool, Fault>
+    requires there { sp ≤ sp_of state.old.flat }
+    requires words { sp % 4 ≡ 0 }
+    requires before { IsPlace state.old.flat before }
+    ensures value { Does (λ over. over) result state.old.flat state.new.flat (returned (going_to state.old.flat next) sp value before) }
+    ensures over { IfOk result (λ over. over ≡ (sp == 0)) }
+    ensures memory { IsErrOf result NoMemory → IsSome before ⊎ EndsInMemory state.old.flat (Some sp) }
+    ensures story { state.new.flat.story ≡ state.old.flat.story }
+{
+    let pc = state.pc();
+    state.set_pc(next);
+    match state.deliver(sp, value, before) {
+        Ok(over) => Ok(over),
+        Err(fault) => {
+            state.set_pc(pc);
+            Err(fault)
+        }
     }
 }
 
@@ -41,12 +65,13 @@ pub fn leave<A: Allocator + Clone>(
     ensures value { Does (λ effect. effect) result state.old.flat state.new.flat (returns state.old.flat next value) }
     ensures done { IfOk result IsDone }
     ensures memory { IsErrOf result NoMemory → EndsInMemory state.old.flat (Some state.old.flat.fp) }
+    ensures story { state.new.flat.story ≡ state.old.flat.story }
 {
     let fp = state.fp();
     let _frame = state.frame();
     let _size = state.stack().size();
-    let over = state.deliver(fp, value, None)?;
-    Ok(ends(state, over, next))
+    let over = deliver(state, next, fp, value, None)?;
+    Ok(ends(over))
 }
 
 /// Branches by an offset, once the pops are made.
@@ -60,6 +85,7 @@ fn branch<A: Allocator + Clone>(
     ensures value { Does (λ effect. effect) result state.old.flat state.new.flat (branches (cut state.old.flat plan.now.sp) plan.now.next offset) }
     ensures done { IfOk result IsDone }
     ensures memory { IsErrOf result NoMemory → EndsInMemory state.old.flat (left_by state.old.flat offset) }
+    ensures story { state.new.flat.story ≡ state.old.flat.story }
 {
     if offset < 2 {
         return leave(state, offset, plan.next);
@@ -76,6 +102,7 @@ pub fn jumps<A: Allocator + Clone>(state: &mut State<A>, plan: &Plan) -> Result<
     ensures value { Does (λ effect. effect) result state.old.flat state.new.flat (jumps state.old.flat (instruction_of plan.now)) }
     ensures done { IfOk result IsDone }
     ensures memory { IsErrOf result NoMemory → EndsInMemory state.old.flat (returns_to Class.Branch state.old.flat (instruction_of plan.now)) }
+    ensures story { state.new.flat.story ≡ state.old.flat.story }
 {
     let row = row_at(plan.row);
     if test(row.act, plan.load(0), plan.load(1)) {

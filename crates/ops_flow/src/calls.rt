@@ -5,32 +5,13 @@ ghost use Rattle.gx_words.specs.Results.{Turns};
 ghost use Rattle.gx_state.specs.Flat.{IsHeight};
 ghost use Rattle.gx_state.specs.Replies.{IsDone};
 ghost use Rattle.gx_operands.specs.Plans.{instruction_of};
-ghost use Rattle.ops_flow.specs.Rows.{stub_of, calls, call, callf, tailcall};
+ghost use Rattle.ops_flow.specs.Rows.{calls, call, callf, tailcall};
 
 use arrayvec::ArrayVec;
 use gx_operands::{Plan, arguments};
-use gx_stack::Stub;
-use gx_state::{Dest, Effect, State};
+use gx_state::{Effect, State};
 use gx_words::Fault;
 use std::alloc::Allocator;
-
-/// The stub of a store operand.
-pub fn stub_of<A: Allocator + Clone>(state: &State<A>, dest: &Dest, next: u32) -> Stub
-    ensures { result ≡ stub_of state.now.flat dest.now next }
-{
-    let (kind, addr) = match *dest {
-        Dest::Nowhere => (0, 0),
-        Dest::Memory(at) => (1, at),
-        Dest::Local(at) => (2, at),
-        Dest::Push => (3, 0),
-    };
-    Stub {
-        kind,
-        addr,
-        pc: next,
-        fp: state.fp(),
-    }
-}
 
 /// Calls the function of the first operand, whose result goes to the store operand.
 fn calls<A: Allocator + Clone>(
@@ -43,8 +24,9 @@ fn calls<A: Allocator + Clone>(
     ensures value { Turns (λ effect. effect) result state.old.flat state.new.flat (calls state.old.flat (instruction_of plan.now) sp args.now) }
     ensures done { IfOk result IsDone }
     ensures memory { TakesNone result }
+    ensures story { state.new.flat.story ≡ state.old.flat.story }
 {
-    let stub = stub_of(state, &plan.dest, plan.next);
+    let stub = state.stub(&plan.dest, plan.next);
     state.enter(sp, &[stub], plan.load(0), args)?;
     Ok(Effect::Went)
 }
@@ -56,6 +38,7 @@ pub fn call<A: Allocator + Clone>(state: &mut State<A>, plan: &Plan) -> Result<E
     ensures value { Turns (λ effect. effect) result state.old.flat state.new.flat (call state.old.flat (instruction_of plan.now)) }
     ensures done { IfOk result IsDone }
     ensures memory { TakesNone result }
+    ensures story { state.new.flat.story ≡ state.old.flat.story }
 {
     let count = plan.load(1);
     let args: ArrayVec<u32, 256> = arguments(state, plan.sp, count)?;
@@ -69,6 +52,7 @@ pub fn callf<A: Allocator + Clone>(state: &mut State<A>, plan: &Plan) -> Result<
     ensures value { Turns (λ effect. effect) result state.old.flat state.new.flat (callf state.old.flat (instruction_of plan.now)) }
     ensures done { IfOk result IsDone }
     ensures memory { TakesNone result }
+    ensures story { state.new.flat.story ≡ state.old.flat.story }
 {
     let args = plan.loads.as_slice().get(1..).unwrap_or(&[]);
     calls(state, plan, plan.sp, args)
@@ -81,6 +65,7 @@ pub fn tailcall<A: Allocator + Clone>(state: &mut State<A>, plan: &Plan) -> Resu
     ensures value { Turns (λ effect. effect) result state.old.flat state.new.flat (tailcall state.old.flat (instruction_of plan.now)) }
     ensures done { IfOk result IsDone }
     ensures memory { TakesNone result }
+    ensures story { state.new.flat.story ≡ state.old.flat.story }
 {
     let args: ArrayVec<u32, 256> = arguments(state, plan.sp, plan.load(1))?;
     let fp = state.fp();

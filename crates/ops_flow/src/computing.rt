@@ -26,6 +26,7 @@ pub fn stores<A: Allocator + Clone>(
     ensures value { Does (λ effect. effect) result state.old.flat state.new.flat (stores state.old.flat (instruction_of plan.now) value) }
     ensures done { IfOk result IsDone }
     ensures memory { IsErrOf result NoMemory → IsMemory plan.now.dest }
+    ensures story { state.new.flat.story ≡ state.old.flat.story }
 {
     settle(state, plan.sp, &plan.dest, 4, value)?;
     state.set_pc(plan.next);
@@ -41,6 +42,7 @@ pub fn computes<A: Allocator + Clone>(state: &mut State<A>, plan: &Plan) -> Resu
     ensures value { Does (λ effect. effect) result state.old.flat state.new.flat (computes state.old.flat (instruction_of plan.now)) }
     ensures done { IfOk result IsDone }
     ensures memory { IsErrOf result NoMemory → IsMemory plan.now.dest }
+    ensures story { state.new.flat.story ≡ state.old.flat.story }
 {
     match calc(row_at(plan.row).act, plan.load(0), plan.load(1)) {
         Some(value) => stores(state, plan, value),

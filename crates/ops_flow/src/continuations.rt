@@ -11,8 +11,7 @@ ghost use Rattle.gx_operands.specs.Stores.{IsMemory, store_fault, with_value};
 ghost use Rattle.ops_flow.specs.Rows.{with_stub, lasting, is_token, catch, throw};
 ghost use Rattle.ops_flow.specs.Writes.{EndsInMemory, left_by};
 
-use crate::branches::ends;
-use crate::calls::stub_of;
+use crate::branches::{deliver, ends};
 use gx_operands::{Plan, can_store, store};
 use gx_state::{Dest, Effect, State};
 use gx_words::{Fault, word_bytes};
@@ -53,9 +52,10 @@ fn push_stub<A: Allocator + Clone>(state: &mut State<A>, plan: &Plan)
     requires height { IsHeight state.old.flat plan.now.sp }
     requires room { plan.now.sp + 16 ≤ state.old.flat.stack.limit }
     ensures value { state.new.flat ≡ with_stub state.old.flat (instruction_of plan.now) }
+    ensures story { state.new.flat.story ≡ state.old.flat.story }
     ensures live { 0 < sp_of state.new.flat }
 {
-    let stub = stub_of(state, &plan.dest, plan.next);
+    let stub = state.stub(&plan.dest, plan.next);
     state.cut_stack(plan.sp);
     match state.push_stubs(&[stub]) {
         Ok(()) => {}
@@ -75,6 +75,7 @@ fn store_token<A: Allocator + Clone>(
     requires stores { store_fault state.old.flat 4 plan.now.dest (plan.now.sp + 16) ≡ Ok tt }
     ensures value { Changes result state.old.flat state.new.flat (Ok (with_value (with_stub state.old.flat (instruction_of plan.now)) 4 plan.now.dest token)) }
     ensures memory { IsErrOf result NoMemory → IsMemory plan.now.dest }
+    ensures story { state.new.flat.story ≡ state.old.flat.story }
 {
     let _size = state.stack().size();
     let _frame = state.frame();
@@ -102,6 +103,7 @@ pub fn catch<A: Allocator + Clone>(state: &mut State<A>, plan: &Plan) -> Result<
     ensures value { Does (λ effect. effect) result state.old.flat state.new.flat (catch state.old.flat (instruction_of plan.now)) }
     ensures done { IfOk result IsDone }
     ensures memory { IsErrOf result NoMemory → IsMemory plan.now.dest ⊎ EndsInMemory state.old.flat (left_by state.old.flat (operand_at (instruction_of plan.now) 0)) }
+    ensures story { state.new.flat.story ≡ state.old.flat.story }
 {
     let offset = plan.load(0);
     let limit = state.stack().limit();
@@ -114,8 +116,8 @@ pub fn catch<A: Allocator + Clone>(state: &mut State<A>, plan: &Plan) -> Result<
     can_catch(state, plan)?;
     if offset < 2 {
         let fp = state.fp();
-        let over = state.deliver(fp, offset, lasting(&plan.dest, token))?;
-        return Ok(ends(state, over, plan.next));
+        let over = deliver(state, plan.next, fp, offset, lasting(&plan.dest, token))?;
+        return Ok(ends(over));
     }
     store_token(state, plan, token)?;
     state.set_pc(plan.next.wrapping_add(offset - 2));
@@ -129,11 +131,12 @@ pub fn throw<A: Allocator + Clone>(state: &mut State<A>, plan: &Plan) -> Result<
     ensures value { Does (λ effect. effect) result state.old.flat state.new.flat (throw state.old.flat (instruction_of plan.now)) }
     ensures done { IfOk result IsDone }
     ensures memory { IsErrOf result NoMemory → EndsInMemory state.old.flat (Some (operand_at (instruction_of plan.now) 1)) }
+    ensures story { state.new.flat.story ≡ state.old.flat.story }
 {
     let token = plan.load(1);
     if token < 16 || token > plan.sp || token % 4 != 0 {
         return Err(Fault::BadToken);
     }
-    state.deliver(token, plan.load(0), None)?;
+    deliver(state, plan.next, token, plan.load(0), None)?;
     Ok(Effect::Went)
 }

@@ -46,6 +46,7 @@ fn goes<A: Allocator + Clone>(state: &mut State<A>, sp: u32, pc: u32) -> Effect
     requires { IsHeight state.old.flat sp }
     ensures value { goes (cut state.old.flat sp) pc ≡ Ok (state.new.flat, result) }
     ensures done { IsDone result }
+    ensures story { state.new.flat.story ≡ state.old.flat.story }
 {
     state.cut_stack(sp);
     state.set_pc(pc);
@@ -60,6 +61,7 @@ fn flow<A: Allocator + Clone>(state: &mut State<A>, plan: &Plan) -> Result<Effec
     ensures value { Does (λ effect. effect) result state.old.flat state.new.flat (flow state.old.flat (instruction_of plan.now)) }
     ensures done { IfOk result IsDone }
     ensures memory { IsErrOf result NoMemory → Writes Class.Flow state.old.flat (instruction_of plan.now) }
+    ensures story { state.new.flat.story ≡ state.old.flat.story }
 {
     match row_at(plan.row).number {
         0x00 => Ok(goes(state, plan.sp, plan.next)),
@@ -82,6 +84,7 @@ fn stack<A: Allocator + Clone>(state: &mut State<A>, plan: &Plan) -> Result<Effe
     ensures value { Does (λ effect. effect) result state.old.flat state.new.flat (stack state.old.flat (instruction_of plan.now)) }
     ensures done { IfOk result IsDone }
     ensures memory { IsErrOf result NoMemory → IsMemory plan.now.dest }
+    ensures story { state.new.flat.story ≡ state.old.flat.story }
 {
     match row_at(plan.row).number {
         0x50 => stkcount(state, plan),
@@ -100,6 +103,7 @@ pub fn act<A: Allocator + Clone>(state: &mut State<A>, plan: &Plan) -> Result<Ef
     ensures value { Does (λ effect. effect) result state.old.flat state.new.flat (row (row_at plan.now.row).class state.old.flat (instruction_of plan.now)) }
     ensures done { IfOk result IsDone }
     ensures memory { IsErrOf result NoMemory → Writes (row_at plan.now.row).class state.old.flat (instruction_of plan.now) }
+    ensures story { state.new.flat.story ≡ state.old.flat.story }
 {
     match row_at(plan.row).class {
         Class::Calc => computes(state, plan),

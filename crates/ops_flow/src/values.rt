@@ -24,6 +24,7 @@ pub fn stkcount<A: Allocator + Clone>(state: &mut State<A>, plan: &Plan) -> Resu
     ensures value { Does (λ effect. effect) result state.old.flat state.new.flat (stkcount state.old.flat (instruction_of plan.now)) }
     ensures done { IfOk result IsDone }
     ensures memory { IsErrOf result NoMemory → IsMemory plan.now.dest }
+    ensures story { state.new.flat.story ≡ state.old.flat.story }
 {
     let count = values_to(state, plan.sp);
     stores(state, plan, count)
@@ -36,6 +37,7 @@ pub fn stkpeek<A: Allocator + Clone>(state: &mut State<A>, plan: &Plan) -> Resul
     ensures value { Does (λ effect. effect) result state.old.flat state.new.flat (stkpeek state.old.flat (instruction_of plan.now)) }
     ensures done { IfOk result IsDone }
     ensures memory { IsErrOf result NoMemory → IsMemory plan.now.dest }
+    ensures story { state.new.flat.story ≡ state.old.flat.story }
 {
     let n = plan.load(0);
     if n >= values_to(state, plan.sp) {
@@ -52,6 +54,7 @@ pub fn stkswap<A: Allocator + Clone>(state: &mut State<A>, plan: &Plan) -> Resul
     ensures value { Turns (λ effect. effect) result state.old.flat state.new.flat (stkswap state.old.flat (instruction_of plan.now)) }
     ensures done { IfOk result IsDone }
     ensures memory { TakesNone result }
+    ensures story { state.new.flat.story ≡ state.old.flat.story }
 {
     if values_to(state, plan.sp) < 2 {
         return Err(Fault::Underflow);
@@ -72,6 +75,7 @@ pub fn stkroll<A: Allocator + Clone>(state: &mut State<A>, plan: &Plan) -> Resul
     ensures value { Turns (λ effect. effect) result state.old.flat state.new.flat (stkroll state.old.flat (instruction_of plan.now)) }
     ensures done { IfOk result IsDone }
     ensures memory { TakesNone result }
+    ensures story { state.new.flat.story ≡ state.old.flat.story }
 {
     let n = plan.load(0);
     if n > values_to(state, plan.sp) {
@@ -93,6 +97,7 @@ pub fn stkcopy<A: Allocator + Clone>(state: &mut State<A>, plan: &Plan) -> Resul
     ensures value { Turns (λ effect. effect) result state.old.flat state.new.flat (stkcopy state.old.flat (instruction_of plan.now)) }
     ensures done { IfOk result IsDone }
     ensures memory { TakesNone result }
+    ensures story { state.new.flat.story ≡ state.old.flat.story }
 {
     let n = plan.load(0);
     if n > values_to(state, plan.sp) {

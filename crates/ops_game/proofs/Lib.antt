@@ -1,0 +1,4 @@
+pub mod Stores
+pub mod Generators
+pub mod Copies
+pub mod Pairs

@@ -1,9 +1,9 @@
--- The rows of the classes Copy and Memory (Glulx 3.1.2, "Moving Data", "Array Data", "Memory Map", "Block Copy
--- and Clear" and "Memory Allocation Heap"), in the order of their numbers. The searches aren't built yet.
+-- The rows of the classes Copy and Memory (Glulx 3.1.2, "Moving Data", "Array Data", "Memory Map", "Searching",
+-- "Block Copy and Clear" and "Memory Allocation Heap"), in the order of their numbers.
 --
 -- An instruction's pops are made in its `sp`, and PC becomes `next`. A fault in any line leaves the state as
 -- it is. Addresses are sums modulo 2^32.
-use Rattle.std.specs.Prelude.{ℕ, ℤ, ◌+◌, ◌-◌, ◌*◌, ◌/◌, ◌%◌, ◌^◌, ◌==◌, ◌||◌, Bool, not, nat_lt, nat_le, if◌then◌else◌, length, Option, Some, None, Result, Ok, Err, pos, unsigned_abs, bit_and, bit_or}
+use Rattle.std.specs.Prelude.{ℕ, ℤ, ◌+◌, ◌-◌, ◌*◌, ◌/◌, ◌%◌, ◌^◌, ◌==◌, ◌||◌, Bool, false, not, nat_lt, nat_le, if◌then◌else◌, length, Option, Some, None, Result, Ok, Err, pos, unsigned_abs, bit_and, bit_or}
 use Rattle.std.specs.Int.{w32, cast_signed, cast_unsigned, int_div_euclid, int_rem_euclid}
 use Rattle.std.specs.Option.{ok_or}
 use Rattle.gx_words.specs.declared.faults.Fault.{Fault}
@@ -12,9 +12,14 @@ use Rattle.gx_words.specs.Results.{◌>>=◌}
 use Rattle.gx_pages.specs.Memory.{ceiling, number_in}
 use Rattle.gx_rows.specs.declared.instructions.Class.{Class}
 use Rattle.gx_rows.specs.declared.instructions.Class.TheVariants as class
+use Rattle.gx_search.specs.declared.asks.Ask.{Ask}
+use Rattle.gx_search.specs.declared.asks.Found.{Found}
+use Rattle.gx_search.specs.declared.asks.Found.TheVariants.{At, Nothing, More}
+use Rattle.gx_search.specs.Searches.{linear, linked}
+use Rattle.gx_search.specs.Halving.{binary}
 use Rattle.heap_blocks.specs.Heap.{is_inactive, place}
 use Rattle.gx_state.specs.declared.effects.Effect.{Effect}
-use Rattle.gx_state.specs.declared.effects.Effect.TheVariants.{Went}
+use Rattle.gx_state.specs.declared.effects.Effect.TheVariants.{Went, Spent}
 use Rattle.gx_state.specs.declared.modes.Dest.TheVariants as dest
 use Rattle.gx_state.specs.Flat.{FlatState, cut}
 use Rattle.gx_state.specs.Space.{zeroed, moved, with_size, with_block, without_block}
@@ -143,6 +148,47 @@ setmemsize f i =
     if is_refused f (operand_at i 0) then stores f i 1 else
     stores (with_size f (operand_at i 0)) i 0
 
+-- SEARCHING
+
+-- what is asked of a row of structs: L1 to L7 are the key, its size, the start, the size of a struct, the count,
+-- the offset of keys and the options
+abbrev pub row_ask : Instruction → Ask
+row_ask i = record { key = operand_at i 0; key_size = operand_at i 1; start = operand_at i 2; struct_size = operand_at i 3; count = operand_at i 4; key_offset = operand_at i 5; next_offset = 0; options = operand_at i 6 }
+
+-- and of a list of structs: L1 to L6 are the key, its size, the start, the offset of keys, that of links, and
+-- the options
+abbrev pub list_ask : Instruction → Ask
+list_ask i = record { key = operand_at i 0; key_size = operand_at i 1; start = operand_at i 2; struct_size = 0; count = 0; key_offset = operand_at i 3; next_offset = operand_at i 4; options = operand_at i 5 }
+
+-- ReturnIndex: S1 is an index
+abbrev pub returns_index : Ask → Bool
+returns_index ask = ask.options / 4 % 2 == 1
+
+-- S1 = the address of what was found, or 0; as an index, or FFFFFFFF. A search without end costs more than any
+-- budget has, and is never done: the last line isn't reached.
+abbrev pub finds : FlatState → Instruction → Bool → Found → Result (FlatState × Effect) Fault
+finds f i indexed (At address index probes) = stores f i (if indexed then index else address)
+finds f i indexed (Nothing probes) = stores f i (if indexed then 0xFFFFFFFF else 0)
+finds f i indexed More = Ok (f, Spent)
+
+-- 150 linearsearch (L1 L2 L3 L4 L5 L6 L7 S1): S1 = the first struct of a row that has the key
+unfoldable pub linearsearch : FlatState → Instruction → Result (FlatState × Effect) Fault
+linearsearch f i = do
+  found ← linear f.memory (row_ask i) (2 ^ 64)
+  finds f i (returns_index (row_ask i)) found
+
+-- 151 binarysearch (L1 L2 L3 L4 L5 L6 L7 S1): S1 = a struct that has the key in a row whose keys rise
+unfoldable pub binarysearch : FlatState → Instruction → Result (FlatState × Effect) Fault
+binarysearch f i = do
+  found ← binary f.memory (row_ask i) (2 ^ 64)
+  finds f i (returns_index (row_ask i)) found
+
+-- 152 linkedsearch (L1 L2 L3 L4 L5 L6 S1): S1 = the first struct of a list that has the key, always its address
+unfoldable pub linkedsearch : FlatState → Instruction → Result (FlatState × Effect) Fault
+linkedsearch f i = do
+  found ← linked f.memory (list_ask i) (2 ^ 64)
+  finds f i false found
+
 -- BLOCK COPY AND CLEAR
 
 -- 170 mzero (L1 L2): L1 zeros are written at L2
@@ -199,6 +245,9 @@ memory f i =
     if i.row.number == 0x4F then astorebit f i else
     if i.row.number == 0x102 then getmemsize f i else
     if i.row.number == 0x103 then setmemsize f i else
+    if i.row.number == 0x150 then linearsearch f i else
+    if i.row.number == 0x151 then binarysearch f i else
+    if i.row.number == 0x152 then linkedsearch f i else
     if i.row.number == 0x170 then mzero f i else
     if i.row.number == 0x171 then mcopy f i else
     if i.row.number == 0x178 then malloc f i else

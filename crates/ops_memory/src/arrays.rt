@@ -41,6 +41,7 @@ pub fn loads<A: Allocator + Clone>(
     ensures value { Does (λ effect. effect) result state.old.flat state.new.flat (loads state.old.flat (instruction_of plan.now) width at) }
     ensures done { IfOk result IsDone }
     ensures memory { IsErrOf result NoMemory → IsMemory plan.now.dest }
+    ensures story { state.new.flat.story ≡ state.old.flat.story }
 {
     let value = state.memory().try_number(width, at)?;
     stores(state, plan, value)
@@ -58,6 +59,7 @@ pub fn puts<A: Allocator + Clone>(
     requires sp { IsHeight state.old.flat plan.now.sp }
     ensures value { Does (λ effect. effect) result state.old.flat state.new.flat (puts state.old.flat (instruction_of plan.now) width at value) }
     ensures done { IfOk result IsDone }
+    ensures story { state.new.flat.story ≡ state.old.flat.story }
 {
     settle(state, plan.sp, &Dest::Memory(at), width, value)?;
     state.set_pc(plan.next);

@@ -59,6 +59,7 @@ pub fn aloadbit<A: Allocator + Clone>(state: &mut State<A>, plan: &Plan) -> Resu
     ensures value { Does (λ effect. effect) result state.old.flat state.new.flat (aloadbit state.old.flat (instruction_of plan.now)) }
     ensures done { IfOk result IsDone }
     ensures memory { IsErrOf result NoMemory → IsMemory plan.now.dest }
+    ensures story { state.new.flat.story ≡ state.old.flat.story }
 {
     let byte = state.memory().try_number(1, byte_of_bit(plan))?;
     stores(state, plan, bit_of(byte, bit_in_byte(plan)))
@@ -70,6 +71,7 @@ pub fn astorebit<A: Allocator + Clone>(state: &mut State<A>, plan: &Plan) -> Res
     requires { IsHeight state.old.flat plan.now.sp }
     ensures value { Does (λ effect. effect) result state.old.flat state.new.flat (astorebit state.old.flat (instruction_of plan.now)) }
     ensures done { IfOk result IsDone }
+    ensures story { state.new.flat.story ≡ state.old.flat.story }
 {
     let at = byte_of_bit(plan);
     let byte = state.memory().try_number(1, at)?;

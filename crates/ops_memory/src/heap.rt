@@ -48,6 +48,7 @@ fn allocate<A: Allocator + Clone>(
     requires place { IsPlace state.old.flat.heap (length state.old.flat.memory) (operand_at (instruction_of plan.now) 0) ceiling at }
     ensures value { Does (λ effect. effect) result state.old.flat state.new.flat (stores (allocated state.old.flat at (operand_at (instruction_of plan.now) 0)) (instruction_of plan.now) at) }
     ensures done { IfOk result IsDone }
+    ensures story { state.new.flat.story ≡ state.old.flat.story }
 {
     let count = plan.load(0);
     let end = state.memory().size();
@@ -67,6 +68,7 @@ pub fn malloc<A: Allocator + Clone>(state: &mut State<A>, plan: &Plan) -> Result
     requires { IsHeight state.old.flat plan.now.sp }
     ensures value { Does (λ effect. effect) result state.old.flat state.new.flat (malloc state.old.flat (instruction_of plan.now)) }
     ensures done { IfOk result IsDone }
+    ensures story { state.new.flat.story ≡ state.old.flat.story }
 {
     let count = plan.load(0);
     if count == 0 {
@@ -86,6 +88,7 @@ pub fn mfree<A: Allocator + Clone>(state: &mut State<A>, plan: &Plan) -> Result<
     ensures value { Turns (λ effect. effect) result state.old.flat state.new.flat (mfree state.old.flat (instruction_of plan.now)) }
     ensures done { IfOk result IsDone }
     ensures memory { TakesNone result }
+    ensures story { state.new.flat.story ≡ state.old.flat.story }
 {
     if !state.free_block(plan.load(0)) {
         return Err(Fault::HeapUse);

@@ -57,6 +57,7 @@ pub fn mzero<A: Allocator + Clone>(state: &mut State<A>, plan: &Plan) -> Result<
     ensures value { Does (λ effect. effect) result state.old.flat state.new.flat (mzero state.old.flat (instruction_of plan.now)) }
     ensures done { IfOk result IsDone }
     ensures memory { IsErrOf result NoMemory → 0 < operand_at (instruction_of plan.now) 0 }
+    ensures story { state.new.flat.story ≡ state.old.flat.story }
 {
     let count = plan.load(0);
     let at = plan.load(1);
@@ -74,6 +75,7 @@ pub fn mcopy<A: Allocator + Clone>(state: &mut State<A>, plan: &Plan) -> Result<
     ensures value { Does (λ effect. effect) result state.old.flat state.new.flat (mcopy state.old.flat (instruction_of plan.now)) }
     ensures done { IfOk result IsDone }
     ensures memory { IsErrOf result NoMemory → 0 < operand_at (instruction_of plan.now) 0 }
+    ensures story { state.new.flat.story ≡ state.old.flat.story }
 {
     let count = plan.load(0);
     let from = plan.load(1);

@@ -58,6 +58,7 @@ pub fn grow_with<A: Allocator + Clone>(
     requires size { MayGrow state.old.flat size }
     ensures value { Changes result state.old.flat state.new.flat (settled (with_size state.old.flat size) plan.now.sp 4 plan.now.dest value) }
     ensures spare { state.new.spare ≡ state.old.spare }
+    ensures story { state.new.flat.story ≡ state.old.flat.story }
 {
     let before = state.memory().size();
     let _endmem = state.endmem();
@@ -84,6 +85,7 @@ fn shrink_with<A: Allocator + Clone>(
     requires size { MayShrink state.old.flat size }
     requires fits { store_fault (with_size state.old.flat size) 4 plan.now.dest plan.now.sp ≡ Ok tt }
     ensures value { Changes result state.old.flat state.new.flat (settled (with_size state.old.flat size) plan.now.sp 4 plan.now.dest value) }
+    ensures story { state.new.flat.story ≡ state.old.flat.story }
 {
     settle(state, plan.sp, &plan.dest, 4, value)?;
     state.shrink(size);
@@ -103,6 +105,7 @@ fn resize_with<A: Allocator + Clone>(
     requires endmem { state.old.flat.story.endmem ≤ size }
     requires heap { LiesBelow size state.old.flat.heap }
     ensures value { Changes result state.old.flat state.new.flat (settled (with_size state.old.flat size) plan.now.sp 4 plan.now.dest value) }
+    ensures story { state.new.flat.story ≡ state.old.flat.story }
 {
     can_store_in(state, &plan.dest, plan.sp, size)?;
     if size < state.memory().size() {
@@ -118,6 +121,7 @@ pub fn setmemsize<A: Allocator + Clone>(state: &mut State<A>, plan: &Plan) -> Re
     requires { IsHeight state.old.flat plan.now.sp }
     ensures value { Does (λ effect. effect) result state.old.flat state.new.flat (setmemsize state.old.flat (instruction_of plan.now)) }
     ensures done { IfOk result IsDone }
+    ensures story { state.new.flat.story ≡ state.old.flat.story }
 {
     let size = plan.load(0);
     if size < state.endmem() || size % 256 != 0 {

@@ -23,6 +23,7 @@ pub fn stores<A: Allocator + Clone>(
     ensures value { Does (λ effect. effect) result state.old.flat state.new.flat (stores state.old.flat (instruction_of plan.now) value) }
     ensures done { IfOk result IsDone }
     ensures memory { IsErrOf result NoMemory → IsMemory plan.now.dest }
+    ensures story { state.new.flat.story ≡ state.old.flat.story }
 {
     settle(state, plan.sp, &plan.dest, 4, value)?;
     state.set_pc(plan.next);
@@ -34,6 +35,7 @@ pub fn goes<A: Allocator + Clone>(state: &mut State<A>, plan: &Plan) -> Effect
     requires { IsHeight state.old.flat plan.now.sp }
     ensures value { goes state.old.flat (instruction_of plan.now) ≡ Ok (state.new.flat, result) }
     ensures done { IsDone result }
+    ensures story { state.new.flat.story ≡ state.old.flat.story }
 {
     state.cut_stack(plan.sp);
     state.set_pc(plan.next);

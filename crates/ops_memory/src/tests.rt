@@ -9,7 +9,7 @@ use std::test::Fail;
 
 /// A state before the first instruction of this code, which begins at 0x27 in a function that has no
 /// locals. There are so many pages of memory, of which the first is ROM, and a stack of 256 bytes.
-fn started(alloc: Global, pages: u8, code: &[u8]) -> Result<State<Global>, Fail> {
+pub fn started(alloc: Global, pages: u8, code: &[u8]) -> Result<State<Global>, Fail> {
     let mut file = [0; 256];
     let head = [
         0x47, 0x6C, 0x75, 0x6C, 0x00, 0x03, 0x01, 0x02, 0x00, 0x00, 0x01, 0x00, 0x00, 0x00, 0x01,

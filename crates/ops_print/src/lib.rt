@@ -1,7 +1,13 @@
-//! The instructions of the class Print (Glulx 3.1.2, "Output").
+//! The instructions of the class Print, and the steps by which strings and numbers are printed (Glulx
+//! 3.1.2, "Output", "Strings" and "Calling and Returning During Output Filtering").
 //!
-//! `act` does the row of a plan, by its definition of specs/Rows. So far streamchar is built, under
-//! the iosystems 0 and 2. Nothing here takes memory.
+//! `act` does the row of a plan, by its definition of specs/Rows. `item` makes one step of printing,
+//! by specs/Items: one character, one reference or the end. Both go by the iosystem: the null system
+//! drops each character, the filter is called with it, and under Glk it is asked to be put. After
+//! every fault the state is as before, and nothing here takes memory.
+//! - `rows` has the rows.
+//! - `items` has the steps of printing.
+//! - `stubs` has the call stubs of strings and numbers, and `arguments` those of a reference.
 #![tactic(auto)]
 
 #[cfg(test)]
@@ -12,25 +18,38 @@ ghost use Rattle.gx_words.specs.Faults.{TakesNone};
 ghost use Rattle.gx_words.specs.Results.{Turns};
 ghost use Rattle.gx_state.specs.Flat.{IsHeight};
 ghost use Rattle.gx_operands.specs.Plans.{instruction_of};
-ghost use Rattle.ops_print.specs.Rows.{streamchar, AsksAtMostPut};
+ghost use Rattle.ops_print.specs.Rows.{row, AsksAtMostPut};
+
+mod arguments;
+mod items;
+mod rows;
+mod stubs;
 
 use gx_operands::Plan;
+use gx_rows::row_at;
 use gx_state::{Effect, State};
 use gx_words::Fault;
+pub use items::{item, item_and_mode};
+use rows::{streamchar, streamnum, streamstr, streamunichar};
 use std::alloc::Allocator;
 
 /// Does the row of a plan that `decode` made of this state.
-#[tactic(auto, unfolding(crate::specs::Rows::streamchar))]
+///
+/// `BadAddress` or `BadString` by the type of streamstr's string; under the filter a character has the
+/// faults of `State::enter`.
 pub fn act<A: Allocator + Clone>(state: &mut State<A>, plan: &Plan) -> Result<Effect, Fault>
     requires sp { IsHeight state.old.flat plan.now.sp }
-    ensures value { Turns (λ effect. effect) result state.old.flat state.new.flat (streamchar state.old.flat (instruction_of plan.now)) }
+    requires row { plan.now.row < 87 }
+    ensures value { Turns (λ effect. effect) result state.old.flat state.new.flat (row state.old.flat (instruction_of plan.now)) }
     ensures asks { IfOk result (λ effect. AsksAtMostPut effect (state.new.flat ≡ state.old.flat)) }
     ensures memory { TakesNone result }
+    ensures story { state.new.flat.story ≡ state.old.flat.story }
 {
-    if state.iosys().0 == 2 {
-        return Ok(Effect::Put(plan.load(0) % 256));
+    match row_at(plan.row).number {
+        0x70 => streamchar(state, plan),
+        0x71 => Ok(streamnum(state, plan)),
+        0x72 => streamstr(state, plan),
+        0x73 => streamunichar(state, plan),
+        _ => Err(Fault::BadOpcode),
     }
-    state.cut_stack(plan.sp);
-    state.set_pc(plan.next);
-    Ok(Effect::Went)
 }

@@ -15,4 +15,4 @@ returns-clause-pends g c =
     let limit : c.limit-limit.result ≡ f.stack.limit = c.limit-limit.ensures.value ∙ ap (λ (s : FlatStack). s.limit) c.stack.ensures in
     let below : sp ≤ f.stack.limit = omega (arith, c.in_ok-args.ensures.below.there, size) in
     let fits = (rw limit at c.room_above-room.ensures.fits) (store_fits f c.args.plan.now.dest sp stores below) in
-    glk_pends f (instruction_of c.args.plan.now) c.load-count.result c.room_above-room.result c.requires.decoded c.requires.class c.load-count.ensures c.in_ok-args.ensures.below stores fits
+    glk_pends f (instruction_of c.args.plan.now) c.load-count.result c.room_above-room.result c.requires.running c.requires.decoded c.requires.class c.load-count.ensures c.in_ok-args.ensures.below stores fits

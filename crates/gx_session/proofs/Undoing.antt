@@ -1,0 +1,321 @@
+-- The copies of each moment of a run are those of the saveundos that are alive there.
+use Rattle.std.proofs.Common.{◌≡◌, ℕ, suc, zero, ◌+◌, ◌-◌, ◌==◌, nat_lt, if◌then◌else◌, List, [], ◌∷◌, take, drop, Bool, true, false, Option, Some, None, option_and_then, Result, Ok, Err, refl, ap, subst, sym, ◌∙◌}
+use Rattle.std.proofs.lemmas.Bool.{eqb-true}
+use Rattle.gx_words.specs.declared.faults.Fault.{Fault}
+use Rattle.gx_words.specs.declared.faults.Fault.TheVariants.{BadOpcode, BadFrame, Overflow}
+use Rattle.gx_words.specs.Results.{◌>>=◌}
+use Rattle.gx_rows.specs.declared.instructions.Class.{Class}
+use Rattle.gx_rows.specs.declared.instructions.Class.TheVariants as class
+use Rattle.gx_state.specs.declared.effects.Effect.{Effect}
+use Rattle.gx_state.specs.declared.effects.Effect.TheVariants as effect
+use Rattle.gx_state.specs.declared.effects.Reply.{Reply}
+use Rattle.gx_state.specs.declared.modes.Mode.{Mode}
+use Rattle.gx_state.specs.declared.modes.Mode.TheVariants as mode
+use Rattle.gx_state.specs.Flat.{FlatState, sp_of}
+use Rattle.gx_state.specs.Copies.{Copy, copy_of, gone_back}
+use Rattle.gx_undo.specs.Undo.{FlatUndo, with_newest, without_newest}
+use Rattle.gx_operands.specs.Instructions.{Instruction, instruction, going_to}
+use Rattle.gx_operands.specs.Stores.{settled}
+use Rattle.ops_print.specs.Items.{item}
+use Rattle.ops_flow.specs.Rows as flow
+use Rattle.ops_memory.specs.Rows as memory
+use Rattle.ops_print.specs.Rows as print
+use Rattle.gx_machine.specs.Machine.{FlatMachine}
+use Rattle.gx_machine.specs.Answer.{answer_of}
+use Rattle.gx_machine.specs.Rows.{row, glk, with_copies, with_both}
+use Rattle.gx_machine.specs.Step.{cost_of, step_of, moved}
+use Rattle.ops_game.specs.Rows as game
+use Rattle.glk_world.specs.World.{Said}
+use Rattle.glk_dispatch.specs.declared.Turn.{Turn}
+use Rattle.glk_dispatch.specs.declared.Turn.TheVariants.{Answer}
+use Rattle.glk_dispatch.specs.Calls.{called, putting}
+use Rattle.gx_session.specs.declared.ends.Stop.TheVariants as stop
+use Rattle.gx_session.specs.Session.{Moment, Verdict, goes, stops, replied, turned, effected, stepped_on, event_of, next_of, run_of}
+use Rattle.gx_session.specs.Undoing.{Undoing, saves, restores, neither, undoing, undoing_row, undoing_by, undoing_in, alive, alive_by, alive_from, IsTaken, AreTaken, LastsUndo}
+use Rattle.gx_session.proofs.Events.{ok-is}
+use Rattle.rand_core.specs.Stream.{next_u32}
+
+-- what a step makes of the copies, by what it is to them
+abbrev Undone : FlatMachine → FlatUndo → Effect → Undoing → Type 0
+Undone m u e saves = (i : Instruction) × (instruction m.flat ≡ Ok i) × (u ≡ with_newest m.undo (copy_of m.flat i.dest i.next)) × (e ≡ effect.Went)
+Undone m u e restores = (u ≡ without_newest m.undo) × (e ≡ effect.Went)
+Undone m u e neither = u ≡ m.undo
+
+-- THE ROWS OF GAME
+
+-- what a row makes leaves the copies
+record Stays (u : FlatUndo) (r : Result ((FlatState × FlatUndo) × Effect) Fault) : Type 0 where
+  stays : (p : (FlatState × FlatUndo) × Effect) → r ≡ Ok p → p.0.1 ≡ u
+
+lifted-stays : (u : FlatUndo) (r : Result (FlatState × Effect) Fault) (p : (FlatState × FlatUndo) × Effect) → game.stays u r ≡ Ok p → p.0.1 ≡ u
+lifted-stays u (Ok x) p h = sym (ap (λ (y : (FlatState × FlatUndo) × Effect). y.0.1) (ok-is {A = (FlatState × FlatUndo) × Effect} ((x.0, u), x.1) p h))
+lifted-stays u (Err fault) p h = absurd cc
+
+stays-lifted : (u : FlatUndo) (r : Result (FlatState × Effect) Fault) → Stays u (game.stays u r)
+stays-lifted u r = record { stays = lifted-stays u r }
+
+stays-faulted : (u : FlatUndo) (fault : Fault) → Stays u (Err fault)
+stays-faulted u fault = record { stays = λ p h. absurd cc }
+
+stays-if : (u : FlatUndo) (b : Bool) (x y : Result ((FlatState × FlatUndo) × Effect) Fault) → Stays u x → Stays u y → Stays u (if b then x else y)
+stays-if u true x y is other = is
+stays-if u false x y is other = other
+
+stays-unless : (u : FlatUndo) (b : Bool) (x y : Result ((FlatState × FlatUndo) × Effect) Fault) → b ≡ false → Stays u y → Stays u (if b then x else y)
+stays-unless u true x y isnt other = absurd cc
+stays-unless u false x y isnt other = other
+
+-- every row but saveundo and restoreundo
+others-stay : (f : FlatState) (u : FlatUndo) (word : ℕ) (i : Instruction) → (i.row.number == 0x125) ≡ false → (i.row.number == 0x126) ≡ false → Stays u (game.row f u word i)
+unfolding game.row
+others-stay f u word i not-saves not-restores =
+    stays-if u _ _ _ (stays-lifted u (game.gestalt f i)) (
+    stays-if u _ _ _ (stays-lifted u (game.debugtrap f i)) (
+    stays-if u _ _ _ (stays-lifted u (game.random f word i)) (
+    stays-if u _ _ _ (stays-lifted u (game.setrandom f i)) (
+    stays-if u _ _ _ (stays-lifted u (game.quit f i)) (
+    stays-if u _ _ _ (stays-lifted u (game.verify f i)) (
+    stays-if u _ _ _ (stays-lifted u (game.restart f i)) (
+    stays-unless u _ _ _ not-saves (
+    stays-unless u _ _ _ not-restores (
+    stays-if u _ _ _ (stays-lifted u (game.protect f i)) (
+    stays-if u _ _ _ (stays-lifted u (game.getstringtbl f i)) (
+    stays-if u _ _ _ (stays-lifted u (game.setstringtbl f i)) (
+    stays-if u _ _ _ (stays-lifted u (game.getiosys f i)) (
+    stays-if u _ _ _ (stays-lifted u (game.setiosys f i)) (
+    stays-if u _ _ _ (stays-lifted u (game.accelerate f i)) (
+    stays-if u _ _ _ (stays-lifted u (game.accelerate f i)) (
+    stays-faulted u BadOpcode))))))))))))))))
+
+saves-row : (f : FlatState) (u : FlatUndo) (word : ℕ) (i : Instruction) → i.row.number ≡ 0x125 → game.row f u word i ≡ game.saveundo f u i
+unfolding game.row
+saves-row f u word i is = rw is refl
+
+restores-row : (f : FlatState) (u : FlatUndo) (word : ℕ) (i : Instruction) → i.row.number ≡ 0x126 → game.row f u word i ≡ game.restoreundo f u i
+unfolding game.row
+restores-row f u word i is = rw is refl
+
+-- saveundo keeps one more copy
+record Saved (f : FlatState) (u : FlatUndo) (i : Instruction) (p : (FlatState × FlatUndo) × Effect) : Type 0 where
+  copies : p.0.1 ≡ with_newest u (copy_of f i.dest i.next)
+  went : p.1 ≡ effect.Went
+
+saved-by : (f : FlatState) (u : FlatUndo) (i : Instruction) (b : Bool) (r : Result FlatState Fault) (p : (FlatState × FlatUndo) × Effect)
+    → (let done : Result ((FlatState × FlatUndo) × Effect) Fault = if b then Err Overflow else (r >>= (λ (g : FlatState). Ok ((going_to g i.next, with_newest u (copy_of f i.dest i.next)), effect.Went))) in done ≡ Ok p) → Saved f u i p
+saved-by f u i true r p h = absurd cc
+saved-by f u i false (Ok g) p h =
+    let same : ((going_to g i.next, with_newest u (copy_of f i.dest i.next)), effect.Went) ≡ p = ok-is {A = (FlatState × FlatUndo) × Effect} ((going_to g i.next, with_newest u (copy_of f i.dest i.next)), effect.Went) p h in
+    record { copies = sym (ap (λ (y : (FlatState × FlatUndo) × Effect). y.0.1) same); went = sym (ap (λ (y : (FlatState × FlatUndo) × Effect). y.1) same) }
+saved-by f u i false (Err fault) p h = absurd cc
+
+saved : (f : FlatState) (u : FlatUndo) (i : Instruction) (p : (FlatState × FlatUndo) × Effect) → game.saveundo f u i ≡ Ok p → Saved f u i p
+unfolding game.saveundo
+saved f u i p h = saved-by f u i (nat_lt f.stack.limit (sp_of f + 16)) (settled f i.sp 4 i.dest 0) p h
+
+-- restoreundo drops the newest copy, where there is one
+record Restored (u : FlatUndo) (p : (FlatState × FlatUndo) × Effect) : Type 0 where
+  copies : p.0.1 ≡ without_newest u
+  went : p.1 ≡ effect.Went
+
+stored-by : (u : FlatUndo) (i : Instruction) (r : Result FlatState Fault) (p : (FlatState × FlatUndo) × Effect) → u.copies ≡ []
+    → game.stays u (r >>= (λ (g : FlatState). Ok (going_to g i.next, effect.Went))) ≡ Ok p → Restored u p
+stored-by u i (Ok g) p none h =
+    let same : ((going_to g i.next, u), effect.Went) ≡ p = ok-is {A = (FlatState × FlatUndo) × Effect} ((going_to g i.next, u), effect.Went) p h in
+    let empty : u ≡ without_newest u = ap (λ (cs : List Copy). record u { copies = cs }) (none ∙ sym (ap (drop 1) none)) in
+    record { copies = sym (ap (λ (y : (FlatState × FlatUndo) × Effect). y.0.1) same) ∙ empty; went = sym (ap (λ (y : (FlatState × FlatUndo) × Effect). y.1) same) }
+stored-by u i (Err fault) p none h = absurd cc
+
+restored-by : (f : FlatState) (u : FlatUndo) (i : Instruction) (copies : List Copy) (p : (FlatState × FlatUndo) × Effect) → u.copies ≡ copies → game.restores f u i copies ≡ Ok p → Restored u p
+restored-by f u i [] p is h = stored-by u i (settled f i.sp 4 i.dest 1) p is h
+restored-by f u i (c ∷ older) p is h =
+    let same : ((gone_back f c, without_newest u), effect.Went) ≡ p = ok-is {A = (FlatState × FlatUndo) × Effect} ((gone_back f c, without_newest u), effect.Went) p h in
+    record { copies = sym (ap (λ (y : (FlatState × FlatUndo) × Effect). y.0.1) same); went = sym (ap (λ (y : (FlatState × FlatUndo) × Effect). y.1) same) }
+
+restored : (f : FlatState) (u : FlatUndo) (i : Instruction) (p : (FlatState × FlatUndo) × Effect) → game.restoreundo f u i ≡ Ok p → Restored u p
+unfolding game.restoreundo
+restored f u i p h = restored-by f u i u.copies p refl h
+
+-- each row of Game, by its number
+game-rows : (m : FlatMachine) (word : ℕ) (i : Instruction) (p : (FlatState × FlatUndo) × Effect) (saving restoring : Bool) → (i.row.number == 0x125) ≡ saving → (i.row.number == 0x126) ≡ restoring
+    → instruction m.flat ≡ Ok i → game.row m.flat m.undo word i ≡ Ok p → Undone m p.0.1 p.1 (if saving then saves else if restoring then restores else neither)
+game-rows m word i p true restoring saving-is restoring-is decoded h =
+    let done : Saved m.flat m.undo i p = saved m.flat m.undo i p (sym (saves-row m.flat m.undo word i (eqb-true i.row.number 0x125 saving-is)) ∙ h) in
+    (i, decoded, done.copies, done.went)
+game-rows m word i p false true saving-is restoring-is decoded h =
+    let done : Restored m.undo p = restored m.flat m.undo i p (sym (restores-row m.flat m.undo word i (eqb-true i.row.number 0x126 restoring-is)) ∙ h) in
+    (done.copies, done.went)
+game-rows m word i p false false saving-is restoring-is decoded h = (others-stay m.flat m.undo word i saving-is restoring-is).stays p h
+
+game-both : (m : FlatMachine) (word : ℕ) (i : Instruction) (r : Result ((FlatState × FlatUndo) × Effect) Fault) (m' : FlatMachine) (e : Effect) → game.row m.flat m.undo word i ≡ r
+    → instruction m.flat ≡ Ok i → with_both r ≡ Ok (m', e) → Undone m m'.undo e (undoing_row class.Game i.row.number)
+game-both m word i (Ok p) m' e is decoded h =
+    let done : Undone m p.0.1 p.1 (undoing_row class.Game i.row.number) = game-rows m word i p (i.row.number == 0x125) (i.row.number == 0x126) refl refl decoded is in
+    let same : (record { flat = p.0.0; undo = p.0.1 }, p.1) ≡ (m', e) = ok-is {A = FlatMachine × Effect} (record { flat = p.0.0; undo = p.0.1 }, p.1) (m', e) h in
+    subst (λ (y : FlatMachine × Effect). Undone m y.0.undo y.1 (undoing_row class.Game i.row.number)) same done
+game-both m word i (Err fault) m' e is decoded h = absurd cc
+
+game-undone : (m : FlatMachine) (word : ℕ) (i : Instruction) (m' : FlatMachine) (e : Effect) → instruction m.flat ≡ Ok i
+    → with_both (game.row m.flat m.undo word i) ≡ Ok (m', e) → Undone m m'.undo e (undoing_row class.Game i.row.number)
+game-undone m word i m' e decoded h = game-both m word i (game.row m.flat m.undo word i) m' e refl decoded h
+
+-- EVERY STEP
+
+copies-stay : (u : FlatUndo) (r : Result (FlatState × Effect) Fault) (m' : FlatMachine) (e : Effect) → with_copies u r ≡ Ok (m', e) → m'.undo ≡ u
+copies-stay u (Ok x) m' e h = sym (ap (λ (y : FlatMachine × Effect). y.0.undo) (ok-is {A = FlatMachine × Effect} (record { flat = x.0; undo = u }, x.1) (m', e) h))
+copies-stay u (Err fault) m' e h = cc
+
+row-undone : (m : FlatMachine) (word : ℕ) (c : Class) (i : Instruction) (m' : FlatMachine) (e : Effect) → instruction m.flat ≡ Ok i → row c m word i ≡ Ok (m', e) → Undone m m'.undo e (undoing_row c i.row.number)
+row-undone m word class.Calc i m' e decoded h = copies-stay m.undo (flow.row class.Calc m.flat i) m' e h
+row-undone m word class.Branch i m' e decoded h = copies-stay m.undo (flow.row class.Branch m.flat i) m' e h
+row-undone m word class.Flow i m' e decoded h = copies-stay m.undo (flow.row class.Flow m.flat i) m' e h
+row-undone m word class.Copy i m' e decoded h = copies-stay m.undo (memory.row class.Copy m.flat i) m' e h
+row-undone m word class.Memory i m' e decoded h = copies-stay m.undo (memory.row class.Memory m.flat i) m' e h
+row-undone m word class.Stack i m' e decoded h = copies-stay m.undo (flow.row class.Stack m.flat i) m' e h
+row-undone m word class.Print i m' e decoded h = copies-stay m.undo (print.row m.flat i) m' e h
+row-undone m word class.Game i m' e decoded h = game-undone m word i m' e decoded h
+row-undone m word class.Glk i m' e decoded h = copies-stay m.undo (glk m.flat i) m' e h
+
+decoded-undone : (m : FlatMachine) (word : ℕ) (r : Result Instruction Fault) (m' : FlatMachine) (e : Effect) → instruction m.flat ≡ r
+    → (let done : Result (FlatMachine × Effect) Fault = r >>= (λ i. row i.row.class m word i) in done ≡ Ok (m', e)) → Undone m m'.undo e (undoing_by r)
+decoded-undone m word (Ok i) m' e is h = row-undone m word i.row.class i m' e is h
+decoded-undone m word (Err fault) m' e is h = cc
+
+moved-undone : (m : FlatMachine) (word : ℕ) (d : Mode) (m' : FlatMachine) (e : Effect) → moved m word d ≡ Ok (m', e) → Undone m m'.undo e (undoing_in m.flat d)
+moved-undone m word mode.Running m' e h = decoded-undone m word (instruction m.flat) m' e refl h
+moved-undone m word (mode.Printing p) m' e h = copies-stay m.undo (item m.flat p) m' e h
+
+tested-undone : (m : FlatMachine) (word : ℕ) (m' : FlatMachine) (e : Effect) (b : Bool)
+    → (let done : Result (FlatMachine × Effect) Fault = if b then Err BadFrame else moved m word m.flat.mode in done ≡ Ok (m', e)) → Undone m m'.undo e (undoing_in m.flat m.flat.mode)
+tested-undone m word m' e true h = cc
+tested-undone m word m' e false h = moved-undone m word m.flat.mode m' e h
+
+step-undone : (m : FlatMachine) (word : ℕ) (m' : FlatMachine) (e : Effect) → step_of m word ≡ Ok (m', e) → Undone m m'.undo e (undoing m.flat)
+unfolding step_of undoing
+step-undone m word m' e h = tested-undone m word m' e (sp_of m.flat == 0) h
+
+-- an asking leaves the copies
+asks-neither : (m : FlatMachine) (u : FlatUndo) (e : Effect) (kind : Undoing) → (e ≡ effect.Went → ⊥) → Undone m u e kind → Undone m m.undo e kind
+asks-neither m u e saves asks is = absurd (asks is.3)
+asks-neither m u e restores asks is = absurd (asks is.1)
+asks-neither m u e neither asks is = refl
+
+-- the moment that an event comes to
+abbrev moment_in : Verdict → Moment
+moment_in (goes m) = m
+moment_in (stops s m) = m
+
+replied-undo : (m : Moment) (left : ℕ) (r : Result (Said × Reply) Fault) (m' : Moment) → replied m left r ≡ goes m' → m.machine.undo ≡ m'.machine.undo
+unfolding answer_of
+replied-undo m left (Ok r) m' e = ap (λ (v : Verdict). (moment_in v).machine.undo) e
+replied-undo m left (Err f) m' e = cc
+
+turned-undo : (m : Moment) (left : ℕ) (r : Result (Said × Turn) Fault) (m' : Moment) → turned m left r ≡ goes m' → m.machine.undo ≡ m'.machine.undo
+turned-undo m left (Ok (said, Answer reply)) m' e = replied-undo m left (Ok (said, reply)) m' e
+turned-undo m left (Err f) m' e = replied-undo m left (Err f) m' e
+
+effected-undone : (m : Moment) (left : ℕ) (machine : FlatMachine) (does : Effect) (m' : Moment) → effected m left machine does ≡ goes m'
+    → Undone m.machine machine.undo does (undoing m.machine.flat) → Undone m.machine m'.machine.undo does (undoing m.machine.flat)
+effected-undone m left machine effect.Went m' e is =
+    let same : machine.undo ≡ m'.machine.undo = cc in
+    subst (λ (u : FlatUndo). Undone m.machine u effect.Went (undoing m.machine.flat)) same is
+effected-undone m left machine effect.Drew m' e is =
+    let same : machine.undo ≡ m'.machine.undo = cc in
+    subst (λ (u : FlatUndo). Undone m.machine u effect.Drew (undoing m.machine.flat)) same is
+effected-undone m left machine (effect.Put c) m' e is =
+    subst (λ (u : FlatUndo). Undone m.machine u (effect.Put c) (undoing m.machine.flat)) (replied-undo m left (putting m.world.scene m.machine.flat c) m' e)
+    (asks-neither m.machine machine.undo (effect.Put c) (undoing m.machine.flat) (λ went. cc) is)
+effected-undone m left machine (effect.Glk selector args room) m' e is =
+    subst (λ (u : FlatUndo). Undone m.machine u (effect.Glk selector args room) (undoing m.machine.flat)) (turned-undo m left (called m.world.scene m.machine.flat room selector args.items) m' e)
+    (asks-neither m.machine machine.undo (effect.Glk selector args room) (undoing m.machine.flat) (λ went. cc) is)
+effected-undone m left machine effect.Quit m' e is = cc
+effected-undone m left machine effect.Spent m' e is = cc
+
+-- what an event makes of the copies, whatever its effect
+record Undid (m : FlatMachine) (u : FlatUndo) (kind : Undoing) : Type 0 where
+  does : Effect
+  undone : Undone m u does kind
+
+stepped-undid : (m : Moment) (left word : ℕ) (r : Result (FlatMachine × Effect) Fault) (m' : Moment) → step_of m.machine word ≡ r → stepped_on m left r ≡ goes m' → Undid m.machine m'.machine.undo (undoing m.machine.flat)
+stepped-undid m left word (Ok r) m' is e = record { does = r.1; undone = effected-undone m left r.0 r.1 m' e (step-undone m.machine word r.0 r.1 is) }
+stepped-undid m left word (Err f) m' is e = cc
+
+tested-undid : (m : Moment) (left word : ℕ) (m' : Moment) (b : Bool) → (if b then stops stop.Spent m else stepped_on m left (step_of m.machine word)) ≡ goes m' → Undid m.machine m'.machine.undo (undoing m.machine.flat)
+tested-undid m left word m' true e = cc
+tested-undid m left word m' false e = stepped-undid m left word (step_of m.machine word) m' refl e
+
+event-undid : (m m' : Moment) → event_of m ≡ goes m' → Undid m.machine m'.machine.undo (undoing m.machine.flat)
+unfolding event_of
+event-undid m m' e = tested-undid m (m.left - cost_of m.machine) (next_u32 m.words).0 m' (nat_lt m.left (cost_of m.machine)) e
+
+-- the copies of fewer saveundos
+taken-take : (start : Moment) (n : ℕ) (cs : List Copy) (js : List ℕ) → AreTaken start cs js → AreTaken start (take n cs) (take n js)
+taken-take start zero cs js t = tt
+taken-take start (suc n) [] [] t = tt
+taken-take start (suc n) (c ∷ cs) (j ∷ js) t = (t.0, taken-take start n cs js t.1)
+taken-take start (suc n) [] (j ∷ js) t = absurd t
+taken-take start (suc n) (c ∷ cs) [] t = absurd t
+
+taken-drop : (start : Moment) (cs : List Copy) (js : List ℕ) → AreTaken start cs js → AreTaken start (drop 1 cs) (drop 1 js)
+taken-drop start [] [] t = tt
+taken-drop start (c ∷ cs) (j ∷ js) t = t.1
+taken-drop start [] (j ∷ js) t = absurd t
+taken-drop start (c ∷ cs) [] t = absurd t
+
+-- what holds of a moment: its copies are those of the saveundos that are alive
+record Lasts (start : Moment) (j : ℕ) (u : FlatUndo) (live : List ℕ) : Type 0 where
+  depth : u.depth ≡ start.machine.undo.depth
+  taken : AreTaken start u.copies live
+
+-- one more event
+lasts-on : (start m m' : Moment) (j : ℕ) (live : List ℕ) (does : Effect) (kind : Undoing) → run_of start j ≡ Some m → Lasts start j m.machine.undo live → Undone m.machine m'.machine.undo does kind
+    → Lasts start (suc j) m'.machine.undo (alive_by start.machine.undo.depth j live kind)
+lasts-on start m m' j live does saves reached now is =
+    let c : Copy = copy_of m.machine.flat is.0.dest is.0.next in
+    let first : IsTaken start j c = record { moment = m; i = is.0; reached = reached; decoded = is.1; copy = refl } in
+    let all : AreTaken start (take m.machine.undo.depth (c ∷ m.machine.undo.copies)) (take m.machine.undo.depth (j ∷ live)) =
+    taken-take start m.machine.undo.depth (c ∷ m.machine.undo.copies) (j ∷ live) (first, now.taken) in
+    let deep : AreTaken start (take m.machine.undo.depth (c ∷ m.machine.undo.copies)) (take start.machine.undo.depth (j ∷ live)) =
+    subst (λ (n : ℕ). AreTaken start (take m.machine.undo.depth (c ∷ m.machine.undo.copies)) (take n (j ∷ live))) now.depth all in
+    record {
+      depth = ap (λ (u : FlatUndo). u.depth) is.2 ∙ now.depth;
+      taken = subst (λ (u : FlatUndo). AreTaken start u.copies (take start.machine.undo.depth (j ∷ live))) (sym is.2) deep;
+    }
+lasts-on start m m' j live does restores reached now is =
+    record {
+      depth = ap (λ (u : FlatUndo). u.depth) is.0 ∙ now.depth;
+      taken = subst (λ (u : FlatUndo). AreTaken start u.copies (drop 1 live)) (sym is.0) (taken-drop start m.machine.undo.copies live now.taken);
+    }
+lasts-on start m m' j live does neither reached now is =
+    record {
+      depth = ap (λ (u : FlatUndo). u.depth) is ∙ now.depth;
+      taken = subst (λ (u : FlatUndo). AreTaken start u.copies live) (sym is) now.taken;
+    }
+
+next-goes : (v : Verdict) (m : Moment) → next_of v ≡ Some m → v ≡ goes m
+next-goes (goes m') m e = cc
+next-goes (stops s m') m e = cc
+
+start-is : (start m : Moment) → Some start ≡ Some m → start ≡ m
+start-is start m e = cc
+
+-- the moment after one more event
+module _ (start : Moment) (j : ℕ) (m' : Moment) where
+  lasts-next : (o : Option Moment) → run_of start j ≡ o → ((m : Moment) → run_of start j ≡ Some m → Lasts start j m.machine.undo (alive start j))
+      → option_and_then (λ m. next_of (event_of m)) o ≡ Some m' → Lasts start (suc j) m'.machine.undo (alive_from start.machine.undo.depth j (alive start j) o)
+  lasts-next None is before e = cc
+  lasts-next (Some m) is before e =
+      let did : Undid m.machine m'.machine.undo (undoing m.machine.flat) = event-undid m m' (next-goes (event_of m) m' e) in
+      lasts-on start m m' j (alive start j) did.does (undoing m.machine.flat) is (before m is) did.undone
+
+lasts : (start : Moment) → start.machine.undo.copies ≡ [] → (j : ℕ) (m : Moment) → run_of start j ≡ Some m → Lasts start j m.machine.undo (alive start j)
+unfolding alive
+lasts start none zero m e =
+    let none-taken : AreTaken start start.machine.undo.copies [] = subst (λ (cs : List Copy). AreTaken start cs []) (sym none) tt in
+    let first : Lasts start zero start.machine.undo [] = record { depth = refl; taken = none-taken } in
+    subst (λ (x : Moment). Lasts start zero x.machine.undo []) (start-is start m e) first
+lasts start none (suc j) m e = lasts-next start j m (run_of start j) refl (lasts start none j) e
+
+-- The law.
+pub lasts_undo : (start : Moment) → LastsUndo start
+unfolding LastsUndo
+lasts_undo start none j m e = (lasts start none j m e).taken

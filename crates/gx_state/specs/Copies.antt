@@ -1,0 +1,95 @@
+-- Copies of the state and the way back to them, and the restart of a story (Glulx 3.1.2, "Game State").
+use Rattle.std.specs.Prelude.{◌≡◌, ℕ, Bool, ◌+◌, ◌-◌, ◌%◌, ◌≤◌, List, [], ◌++◌, length, take, None, Result, Ok, Err}
+use Rattle.gx_words.specs.declared.faults.Fault.{Fault}
+use Rattle.gx_pages.specs.Memory.{IsSize, put_back_of}
+use Rattle.gx_stack.specs.declared.stubs.Stub.{Stub}
+use Rattle.gx_stack.specs.Frames.{IsGood, parts}
+use Rattle.gx_stack.specs.Stubs.{stub_bytes, stub_below}
+use Rattle.heap_blocks.specs.Heap.{FlatHeap}
+use Rattle.gx_story.specs.Stories.{FlatStory}
+use Rattle.gx_state.specs.declared.modes.Dest.{Dest}
+use Rattle.gx_state.specs.declared.modes.Dest.TheVariants.{Nowhere, Memory, Local, Push}
+use Rattle.gx_state.specs.declared.modes.Mode.TheVariants.{Running}
+use Rattle.gx_state.specs.Flat.{FlatState, frame_of}
+use Rattle.gx_state.specs.Entry.{initial, entered}
+use Rattle.gx_state.specs.Returns.{stub_of, returned}
+use Rattle.gx_state.specs.Sound.{HeapFits}
+
+-- what a copy has: memory, the stack with a stub on top, and the heap
+pub record Copy : Type 0 where
+  pub memory : List ℕ
+  pub stack : List ℕ
+  pub heap : FlatHeap
+
+-- A copy of the state, with the stub of a store operand on top of its stack.
+abbrev pub copy_of : FlatState → Dest → ℕ → Copy
+copy_of f dest next = record {
+  memory = f.memory;
+  stack = f.stack.bytes ++ stub_bytes (stub_of f dest next);
+  heap = f.heap;
+}
+
+-- the stub on top of a copy's stack
+abbrev pub stub_in : Copy → Stub
+stub_in c = stub_below c.stack (length c.stack)
+
+-- what lies below it
+abbrev pub below_stub : Copy → List ℕ
+below_stub c = take (length c.stack - 16) c.stack
+
+-- A copy laid over the state: its stack, its heap, and its memory but for the protected range. The decoding
+-- table, the iosystem, the generator and the protected range stay, which the standard leaves open of the
+-- generator.
+abbrev pub laid : FlatState → Copy → FlatState
+laid f c = record f {
+  memory = put_back_of f.memory c.memory f.protected.0 f.protected.1;
+  stack = record f.stack { bytes = c.stack };
+  heap = c.heap;
+  mode = Running;
+}
+
+-- what a return leaves, where it has no fault
+abbrev pub left_or : FlatState → Result (FlatState × Bool) Fault → FlatState
+left_or f (Ok r) = r.0
+left_or f (Err fault) = f
+
+-- Back at a copy: it is laid over the state, its stub is popped, and -1 is delivered. A copy that is fit for the
+-- story has no fault in this.
+unfoldable pub gone_back : FlatState → Copy → FlatState
+gone_back f c = left_or f (returned (laid f c) (length c.stack) 0xFFFFFFFF None)
+
+-- A copy is fit for a story: its memory is one of the story's, with the same bytes below RAMSTART; its stack is
+-- within the story's limit and has on top a stub of the types 0 to 3, with a good frame below it, and with its
+-- word in RAM or its local in the frame; its heap lies in its memory.
+pub record IsCopyFor (story : FlatStory) (c : Copy) : Type 0 where
+  pub size : IsSize (length c.memory)
+  pub endmem : story.endmem ≤ length c.memory
+  pub rom : take story.ramstart c.memory ≡ take story.ramstart story.bytes
+  pub words : length c.stack % 4 ≡ 0
+  pub height : length c.stack ≤ story.stack_size
+  pub stub : 16 ≤ length c.stack
+  pub kind : (stub_in c).kind ≤ 3
+  pub framed : IsGood (below_stub c) (stub_in c).fp
+  pub word : (stub_in c).kind ≡ 1 → (story.ramstart ≤ (stub_in c).addr) × ((stub_in c).addr + 4 ≤ length c.memory)
+  pub local : (stub_in c).kind ≡ 2 → (stub_in c).addr + 4 ≤ (parts (below_stub c) (stub_in c).fp).values - (parts (below_stub c) (stub_in c).fp).locals
+  pub heap : HeapFits story.endmem (length c.memory) c.heap
+
+-- a word can be stored there: in RAM or in a local of the frame
+abbrev pub TakesWord : FlatState → Dest → Type 0
+TakesWord f Nowhere = Unit {0}
+TakesWord f (Memory at) = (f.story.ramstart ≤ at) × (at + 4 ≤ length f.memory)
+TakesWord f (Local at) = at + 4 ≤ (frame_of f).values - (frame_of f).locals
+TakesWord f Push = Unit {0}
+
+-- the state before a restart enters the start function: that of a story which starts, but for the bytes of the
+-- protected range, the range itself and the generator
+abbrev pub cleared : FlatState → FlatState
+cleared f = record (initial f.story) {
+  memory = put_back_of f.memory (initial f.story).memory f.protected.0 f.protected.1;
+  protected = f.protected;
+  generator = f.generator;
+}
+
+-- A restart: the start function is entered without arguments.
+unfoldable pub restarted : FlatState → Result FlatState Fault
+restarted f = entered (cleared f) 0 [] f.story.start_function []

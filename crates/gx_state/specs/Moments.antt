@@ -1,0 +1,6 @@
+-- The copy that the fields of a Moment stand for.
+use Rattle.gx_state.specs.Copies.{Copy}
+use Rattle.gx_state.specs.declared.copies.Moment.TheInside.{Inside}
+
+abbrev pub copy_in : {A : Type 0} → Inside A → Copy
+copy_in m = record { memory = m.memory; stack = m.stack; heap = m.heap.heap }

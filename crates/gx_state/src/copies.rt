@@ -1,0 +1,199 @@
+//! Copies of the state, the way back to them, and the restart of a story (Glulx 3.1.2, "Game State").
+//!
+//! A copy has memory, the stack with the stub of a store operand on top, and the heap. What may be
+//! refused comes first, so that the state is as before after every refusal.
+ghost use Rattle.std.specs.Prelude.{◌≡◌, ◌≢◌, ◌+◌, ◌-◌, ◌<◌, ◌≤◌, ◌==◌, if◌then◌else◌, Some, None, Ok, length, take, IfOk, OnOk, OnErr};
+ghost use Rattle.gx_words.specs.Faults.{Changes};
+ghost use Rattle.gx_pages.specs.Memory.{put_back_of};
+ghost use Rattle.gx_state.specs.Flat.{frame_of, sp_of};
+ghost use Rattle.gx_state.specs.Copies.{IsCopyFor, TakesWord, below_stub, copy_of, gone_back, restarted, stub_in};
+ghost use Rattle.gx_state.specs.Returns.{delivered, wrote};
+
+use crate::entry::{entry_len, kind_at, push_call};
+use crate::formats::format_at;
+use crate::{Dest, Mode, State};
+use gx_pages::{Kept, Pages};
+use gx_stack::Stub;
+use gx_words::{Bytes, Fault, word_at, word_bytes};
+use heap_blocks::Heap;
+use std::alloc::{AllocError, Allocator};
+use std::marker::Model;
+
+/// What is delivered to the stub of a copy: -1.
+const MINUS_ONE: u32 = 0xFFFF_FFFF;
+
+/// A copy of memory, the stack and the heap.
+#[derive(Drop)]
+pub struct Moment<A: Allocator + Clone> {
+    memory: Kept<A>,
+    stack: Bytes,
+    heap: Heap,
+}
+
+impl<A: Allocator + Clone> Model for Moment<A> {
+    ghost use Rattle.gx_state.specs.Copies.{Copy};
+
+    ghost Value = { Copy };
+
+    ghost use Rattle.gx_state.specs.Moments.{copy_in};
+
+    ghost view = { copy_in };
+}
+
+impl<A: Allocator + Clone> Moment<A> {
+    /// The stub on top of its stack.
+    fn stub(&self) -> Stub
+        requires { 16 ≤ length self.now.stack }
+        ensures { result ≡ stub_in self.now }
+    {
+        let bytes = self.stack.as_slice();
+        let sp = bytes.len();
+        Stub {
+            kind: word_at(bytes, sp - 16),
+            addr: word_at(bytes, sp - 12),
+            pc: word_at(bytes, sp - 8),
+            fp: word_at(bytes, sp - 4),
+        }
+    }
+
+    /// What lies below it.
+    fn below_stub(&self) -> &[u8]
+        requires { 16 ≤ length self.now.stack }
+        ensures { result.now ≡ below_stub self.now }
+    {
+        let bytes = self.stack.as_slice();
+        &bytes[..bytes.len() - 16]
+    }
+}
+
+impl<A: Allocator + Clone> State<A> {
+    /// A copy of the state, with the stub of a store operand on top of its stack; `next` is the
+    /// address at which the machine goes on. It is fit for the story where the operand takes a word.
+    pub fn keep(&self, dest: &Dest, next: u32) -> Result<Moment<A>, AllocError>
+        requires live { 0 < sp_of self.now.flat }
+        requires room { sp_of self.now.flat + 16 ≤ self.now.flat.stack.limit }
+        ensures value { IfOk result (λ copy. copy ≡ copy_of self.now.flat dest.now next) }
+        ensures fit { TakesWord self.now.flat dest.now → IfOk result (λ copy. IsCopyFor self.now.flat.story copy) }
+    {
+        let alloc = self.stack.allocator();
+        let memory = self.memory.keep()?;
+        let mut stack = self.stack.copy(alloc)?;
+        stack.extend_from_slice(&self.stub(dest, next).bytes())?;
+        let heap = self.heap.copy(alloc)?;
+        Ok(Moment {
+            memory,
+            stack,
+            heap,
+        })
+    }
+
+    /// Goes back to a copy, and delivers -1 to its stub. The protected range keeps its bytes, and the
+    /// decoding table, the iosystem and the generator stay.
+    pub fn put_back(&mut self, copy: &Moment<A>) -> Result<(), AllocError>
+        requires { IsCopyFor self.old.flat.story copy.now }
+        ensures ok { OnOk result (self.new.flat ≡ gone_back self.old.flat copy.now) }
+        ensures err { OnErr result (self.new ≡ self.old) }
+        ensures story { self.new.flat.story ≡ self.old.flat.story }
+        ensures live { OnOk result (0 < sp_of self.new.flat) }
+    {
+        let stub = copy.stub();
+        let memory = self.memory_of(copy, &stub)?;
+        let heap = copy.heap.copy(self.stack.allocator())?;
+        self.lay(memory, heap, copy, &stub);
+        self.answer(&stub);
+        Ok(())
+    }
+
+    /// The memory of a copy but for the protected range, with -1 where the stub has its result stored
+    /// in memory.
+    #[tactic(auto, using(crate::proofs::Backs::memories))]
+    fn memory_of(&self, copy: &Moment<A>, stub: &Stub) -> Result<Pages<A>, AllocError>
+        requires fit { IsCopyFor self.now.flat.story copy.now }
+        requires stub { stub.now ≡ stub_in copy.now }
+        ensures value { IfOk result (λ all. all ≡ wrote (put_back_of self.now.flat.memory copy.now.memory self.now.flat.protected.0 self.now.flat.protected.1) (if stub.now.kind == 1 then Some (stub.now.addr, 0xFFFFFFFF) else None)) }
+        ensures size { IfOk result (λ all. length all ≡ length copy.now.memory) }
+        ensures rom { IfOk result (λ all. take self.now.flat.story.ramstart all ≡ take self.now.flat.story.ramstart self.now.flat.story.bytes) }
+    {
+        let mut memory = self.memory.put_back(&copy.memory, self.protected)?;
+        if stub.kind != 1 {
+            return Ok(memory);
+        }
+        memory.write(stub.addr, &word_bytes(MINUS_ONE))?;
+        Ok(memory)
+    }
+
+    /// Lays a copy over the state, with a memory for it, and goes back to the stub's frame.
+    fn lay(&mut self, memory: Pages<A>, heap: Heap, copy: &Moment<A>, stub: &Stub)
+        requires fit { IsCopyFor self.old.flat.story copy.now }
+        requires stub { stub.now ≡ stub_in copy.now }
+        requires size { length memory ≡ length copy.now.memory }
+        requires rom { take self.old.flat.story.ramstart memory ≡ take self.old.flat.story.ramstart self.old.flat.story.bytes }
+        requires heap { heap.heap ≡ copy.now.heap }
+        ensures value { self.new.flat ≡ record self.old.flat { memory = memory; stack = record self.old.flat.stack { bytes = below_stub copy.now }; fp = stub.now.fp; pc = stub.now.pc; heap = copy.now.heap; mode = Mode.Running } }
+        ensures live { 0 < sp_of self.new.flat }
+        ensures room { sp_of self.new.flat + 16 ≤ self.new.flat.stack.limit }
+    {
+        self.memory = memory;
+        self.stack.put_back(copy.below_stub());
+        self.fp = stub.fp;
+        self.pc = stub.pc;
+        self.heap = heap;
+        self.mode = Mode::Running;
+    }
+
+    /// Stores -1 in the local or on the stack, where the stub says so.
+    #[tactic(auto, unfolding(crate::specs::Returns::delivered, crate::specs::Flat::with_local, crate::specs::Flat::pushed, gx_stack::specs::Values::with_local, gx_stack::specs::Values::pushed))]
+    fn answer(&mut self, stub: &Stub)
+        requires live { 0 < sp_of self.old.flat }
+        requires kind { stub.now.kind ≤ 3 }
+        requires pc { self.old.flat.pc ≡ stub.now.pc }
+        requires local { stub.now.kind ≡ 2 → stub.now.addr + 4 ≤ (frame_of self.old.flat).values - (frame_of self.old.flat).locals }
+        requires room { sp_of self.old.flat + 4 ≤ self.old.flat.stack.limit }
+        ensures other { stub.now.kind ≢ 1 → delivered self.old.flat stub.now 0xFFFFFFFF ≡ Ok self.new.flat }
+        ensures memory { stub.now.kind ≡ 1 → self.new ≡ self.old }
+        ensures story { self.new.flat.story ≡ self.old.flat.story }
+        ensures live { 0 < sp_of self.new.flat }
+    {
+        match stub.kind {
+            2 => match self.set_local(stub.addr, 4, MINUS_ONE) {
+                Ok(()) => {}
+                Err(_) => unreachable!(),
+            },
+            3 => match self.push(MINUS_ONE) {
+                Ok(()) => {}
+                Err(_) => unreachable!(),
+            },
+            _ => {}
+        }
+    }
+
+    /// Starts the story again: memory as at first but for the protected range, an empty stack, no heap,
+    /// and the start function entered. The protected range and the generator stay.
+    #[tactic(auto, unfolding(crate::specs::Copies::restarted, crate::specs::Entry::entered), using(crate::proofs::Backs::restarts))]
+    pub fn restart(&mut self) -> Result<(), Fault>
+        ensures value { Changes result self.old.flat self.new.flat (restarted self.old.flat) }
+        ensures story { self.new.flat.story ≡ self.old.flat.story }
+        ensures live { OnOk result (0 < sp_of self.new.flat) }
+    {
+        let memory = self
+            .memory
+            .begin_again(self.story.bytes(), self.story.endmem(), self.protected)?;
+        let limit = self.stack.limit();
+        let at = self.story.start_function();
+        let kind = kind_at(&memory, at)?;
+        let format = format_at(&memory, at + 1)?;
+        if entry_len(kind, format.as_slice(), 0) > limit {
+            return Err(Fault::Overflow);
+        }
+        push_call(&mut self.stack, 0, &[], kind, format.as_slice(), &[]);
+        let _size = self.stack.size();
+        self.memory = memory;
+        self.fp = 0;
+        self.pc = at + 1 + format.len() as u32;
+        self.table = self.story.table();
+        self.iosys = (0, 0);
+        self.heap = Heap::new(self.stack.allocator());
+        self.mode = Mode::Running;
+        Ok(())
+    }
+}

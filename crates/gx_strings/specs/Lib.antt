@@ -1,0 +1,4 @@
+pub mod Bits
+pub mod Objects
+pub mod Nodes
+pub mod Items

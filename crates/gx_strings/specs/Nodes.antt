@@ -1,0 +1,63 @@
+-- The nodes of a decoding table (Glulx 3.1.2, "The String-Decoding Table").
+use Rattle.std.specs.Prelude.{ℕ, ◌+◌, Bool, ◌==◌, if◌then◌else◌, List, [], ◌∷◌, Some, None, Result, Ok, Err}
+use Rattle.gx_words.specs.declared.faults.Fault.{Fault}
+use Rattle.gx_words.specs.declared.faults.Fault.TheVariants.{BadAddress, BadString}
+use Rattle.gx_words.specs.declared.strings.Printing.{Printing}
+use Rattle.gx_words.specs.declared.strings.PrintKind.TheVariants.{E0, E2}
+use Rattle.gx_words.specs.Results.{◌>>=◌}
+use Rattle.gx_pages.specs.Memory.{number_in}
+use Rattle.gx_strings.specs.declared.items.Item.{Item}
+use Rattle.gx_strings.specs.declared.items.Item.TheVariants.{Char, Sub, End}
+use Rattle.gx_strings.specs.Objects.{from_start, as_inner, reference}
+
+-- the node to which a bit leads from a branch: 0 to the left address, 1 to the right one
+unfoldable pub child : List ℕ → ℕ → Bool → Result ℕ Fault
+child memory node one = number_in 4 memory (if one then node + 5 else node + 1)
+
+-- The walk from a node, a bit at each branch, after so many bits: the first node that is no branch,
+-- and the bits that led there.
+unfoldable pub walk : List ℕ → ℕ → ℕ → List Bool → Result (ℕ × ℕ) Fault
+walk memory node used [] = do
+  type_byte ← number_in 1 memory node
+  if type_byte == 0x00 then Err BadAddress else Ok (node, used)
+walk memory node used (one ∷ rest) = do
+  type_byte ← number_in 1 memory node
+  if type_byte == 0x00 then (do
+    next ← child memory node one
+    walk memory next (used + 1) rest) else Ok (node, used)
+
+-- the address in a node, and the one that stands at that address
+abbrev pub direct : List ℕ → ℕ → Result ℕ Fault
+direct memory node = number_in 4 memory (node + 1)
+
+abbrev pub indirect : List ℕ → ℕ → Result ℕ Fault
+indirect memory node = do
+  at ← direct memory node
+  number_in 4 memory at
+
+-- what a node that is no branch gives; `next` is the place after the bits that led there
+unfoldable pub node_item : List ℕ → ℕ → Printing → Result Item Fault
+node_item memory node next = do
+  type_byte ← number_in 1 memory node
+  if type_byte == 0x01 then Ok End else
+      if type_byte == 0x02 then (do
+        value ← number_in 1 memory (node + 1)
+        Ok (Char value next)) else
+      if type_byte == 0x03 then Ok (Sub next (as_inner (from_start E0 (node + 1)))) else
+      if type_byte == 0x04 then (do
+        value ← number_in 4 memory (node + 1)
+        Ok (Char value next)) else
+      if type_byte == 0x05 then Ok (Sub next (as_inner (from_start E2 (node + 1)))) else
+      if type_byte == 0x08 then (do
+        object ← direct memory node
+        reference memory next object None) else
+      if type_byte == 0x09 then (do
+        object ← indirect memory node
+        reference memory next object None) else
+      if type_byte == 0x0A then (do
+        object ← direct memory node
+        reference memory next object (Some (node + 5))) else
+      if type_byte == 0x0B then (do
+        object ← indirect memory node
+        reference memory next object (Some (node + 5))) else
+      Err BadString

@@ -1,0 +1,125 @@
+//! The next item of a string or number.
+ghost use Rattle.std.specs.Prelude.{◌≡◌, ◌<◌, IfOk};
+ghost use Rattle.gx_words.specs.Faults.{TakesNone};
+ghost use Rattle.gx_words.specs.declared.strings.PrintKind.TheVariants.{Number};
+ghost use Rattle.gx_strings.specs.Items.{byte_item, compressed_item, word_item, number_item, next_item, HasBit, HasBits};
+
+use crate::Item;
+use crate::nodes::{node_item, walk};
+use gx_pages::Pages;
+use gx_words::{Fault, PrintKind, Printing};
+use itoa::Buffer;
+use std::alloc::Allocator;
+
+/// The byte at the place, where a zero byte is the end.
+#[tactic(auto, unfolding(crate::specs::Items::byte_item))]
+fn byte_item<A: Allocator + Clone>(memory: &Pages<A>, printing: &Printing) -> Result<Item, Fault>
+    requires { HasBit printing.now }
+    ensures value { result ≡ byte_item memory.now printing.now }
+    ensures bits { IfOk result HasBits }
+    ensures memory { TakesNone result }
+{
+    let _size = memory.size();
+    let value = memory.try_number(1, printing.at)?;
+    if value == 0 {
+        return Ok(Item::End);
+    }
+    let next = Printing {
+        at: printing.at + 1,
+        ..*printing
+    };
+    Ok(Item::Char { value, next })
+}
+
+/// What the node gives to which the bits lead from the root of the table.
+#[tactic(auto, unfolding(crate::specs::Items::compressed_item))]
+fn compressed_item<A: Allocator + Clone>(
+    memory: &Pages<A>,
+    table: u32,
+    printing: &Printing,
+) -> Result<Item, Fault>
+    requires { printing.now.bit < 8 }
+    ensures value { result ≡ compressed_item memory.now table printing.now }
+    ensures bits { IfOk result HasBits }
+    ensures memory { TakesNone result }
+{
+    if table == 0 {
+        return Err(Fault::BadString);
+    }
+    let _size = memory.size();
+    let root = memory.try_number(4, table.wrapping_add(8))?;
+    let from = 8 * u64::from(printing.at) + u64::from(printing.bit);
+    let end = walk(memory, root, from)?;
+    let place = from + end.used;
+    let next = Printing {
+        at: (place / 8) as u32,
+        bit: (place % 8) as u32,
+        ..*printing
+    };
+    node_item(memory, end.node, next)
+}
+
+/// The word at the place, where a zero word is the end.
+#[tactic(auto, unfolding(crate::specs::Items::word_item))]
+fn word_item<A: Allocator + Clone>(memory: &Pages<A>, printing: &Printing) -> Result<Item, Fault>
+    requires { HasBit printing.now }
+    ensures value { result ≡ word_item memory.now printing.now }
+    ensures bits { IfOk result HasBits }
+    ensures memory { TakesNone result }
+{
+    let _size = memory.size();
+    let value = memory.try_number(4, printing.at)?;
+    if value == 0 {
+        return Ok(Item::End);
+    }
+    let next = Printing {
+        at: printing.at + 4,
+        ..*printing
+    };
+    Ok(Item::Char { value, next })
+}
+
+/// The character of the number's decimal text at the index; past the text is the end.
+#[tactic(auto, unfolding(crate::specs::Items::number_item))]
+fn number_item(printing: &Printing) -> Item
+    requires { printing.now.kind ≡ Number }
+    ensures value { result ≡ number_item printing.now }
+    ensures bits { HasBits result }
+{
+    let mut buffer = Buffer::new();
+    let text = buffer.format(printing.at.cast_signed()).as_bytes();
+    match text.get(printing.bit as usize) {
+        None => Item::End,
+        Some(digit) => Item::Char {
+            value: u32::from(*digit),
+            next: Printing {
+                bit: printing.bit + 1,
+                ..*printing
+            },
+        },
+    }
+}
+
+/// The next item of what is printed, under the decoding table at `table`.
+///
+/// `BadAddress` where a byte that is looked at isn't in memory, or where a compressed string has no
+/// bit left; `BadFunction` where a reference is to a function of no known type; `BadString` where
+/// it is to neither a string nor a function, or the table is 0 or has a node of no known type.
+#[tactic(auto, unfolding(crate::specs::Items::next_item))]
+pub fn next_item<A: Allocator + Clone>(
+    memory: &Pages<A>,
+    table: u32,
+    printing: &Printing,
+) -> Result<Item, Fault>
+    requires bit { HasBit printing.now }
+    ensures value { result ≡ next_item memory.now table printing.now }
+    ensures bits { IfOk result HasBits }
+    ensures memory { TakesNone result }
+{
+    match printing.kind {
+        PrintKind::E0 => byte_item(memory, printing),
+        PrintKind::E1 => compressed_item(memory, table, printing),
+        PrintKind::E2 => word_item(memory, printing),
+        PrintKind::Number => Ok(number_item(printing)),
+    }
+}

@@ -1,0 +1,117 @@
+//! The rows of random words (Glulx 3.1.2, "Random Number Generator").
+//!
+//! The generator moves on only where the word was stored: a result in memory is drawn from a copy of a
+//! seeded generator, and any other store is looked at before.
+ghost use Rattle.std.specs.Prelude.{◌≡◌, Ok, IsErrOf, IfOk};
+ghost use Rattle.gx_words.specs.declared.faults.Fault.TheVariants.{NoMemory};
+ghost use Rattle.gx_words.specs.Faults.{Changes, Does, TakesNone};
+ghost use Rattle.gx_state.specs.Flat.{IsHeight};
+ghost use Rattle.gx_state.specs.Replies.{IsDone};
+ghost use Rattle.gx_operands.specs.Plans.{instruction_of};
+ghost use Rattle.gx_operands.specs.Stores.{IsMemory};
+ghost use Rattle.ops_game.specs.Rows.{drawing, drawn, random, setrandom};
+
+use crate::storing::goes;
+use gx_operands::{Plan, can_store, settle};
+use gx_state::{Dest, Effect, State};
+use gx_words::Fault;
+use ops_calc::{Generator, pick};
+use std::alloc::Allocator;
+
+/// What a step says that draws a word: whether it is the one handed in.
+fn effect_of(generator: &Generator) -> Effect
+    ensures value { result ≡ drawing generator.now }
+    ensures done { IsDone result }
+{
+    if generator.is_outside() {
+        Effect::Drew
+    } else {
+        Effect::Went
+    }
+}
+
+/// Draws a word that goes to memory.
+#[tactic(auto, using(crate::proofs::Stores::story_settled))]
+fn draw_to_memory<A: Allocator + Clone>(
+    state: &mut State<A>,
+    plan: &Plan,
+    word: u32,
+) -> Result<(), Fault>
+    requires { IsHeight state.old.flat plan.now.sp }
+    ensures value { Changes result state.old.flat state.new.flat (drawn state.old.flat word (instruction_of plan.now)) }
+    ensures story { state.new.flat.story ≡ state.old.flat.story }
+{
+    let mut generator = state.generator().copy()?;
+    let drawn = generator.word(word);
+    settle(state, plan.sp, &plan.dest, 4, pick(plan.load(0), drawn))?;
+    state.set_generator(generator);
+    Ok(())
+}
+
+/// Draws a word that goes elsewhere.
+#[tactic(auto, unfolding(gx_operands::specs::Stores::settled), using(crate::proofs::Generators::generators, crate::proofs::Stores::story_settled))]
+fn draw_elsewhere<A: Allocator + Clone>(
+    state: &mut State<A>,
+    plan: &Plan,
+    word: u32,
+) -> Result<(), Fault>
+    requires sp { IsHeight state.old.flat plan.now.sp }
+    requires elsewhere { IsMemory plan.now.dest → ⊥ }
+    ensures value { Changes result state.old.flat state.new.flat (drawn state.old.flat word (instruction_of plan.now)) }
+    ensures story { state.new.flat.story ≡ state.old.flat.story }
+    ensures memory { TakesNone result }
+{
+    can_store(state, &plan.dest, 4, plan.sp)?;
+    let drawn = state.draw(word);
+    settle(state, plan.sp, &plan.dest, 4, pick(plan.load(0), drawn))
+}
+
+/// Draws a word, or moves nothing.
+fn draw_word<A: Allocator + Clone>(
+    state: &mut State<A>,
+    plan: &Plan,
+    word: u32,
+) -> Result<(), Fault>
+    requires { IsHeight state.old.flat plan.now.sp }
+    ensures value { Changes result state.old.flat state.new.flat (drawn state.old.flat word (instruction_of plan.now)) }
+    ensures story { state.new.flat.story ≡ state.old.flat.story }
+    ensures memory { IsErrOf result NoMemory → IsMemory plan.now.dest }
+{
+    match plan.dest {
+        Dest::Memory(_) => draw_to_memory(state, plan, word),
+        _ => draw_elsewhere(state, plan, word),
+    }
+}
+
+/// random
+#[tactic(auto, unfolding(crate::specs::Rows::random))]
+pub fn random<A: Allocator + Clone>(
+    state: &mut State<A>,
+    plan: &Plan,
+    word: u32,
+) -> Result<Effect, Fault>
+    requires { IsHeight state.old.flat plan.now.sp }
+    ensures value { Does (λ effect. effect) result state.old.flat state.new.flat (random state.old.flat word (instruction_of plan.now)) }
+    ensures done { IfOk result IsDone }
+    ensures story { state.new.flat.story ≡ state.old.flat.story }
+    ensures memory { IsErrOf result NoMemory → IsMemory plan.now.dest }
+{
+    let effect = effect_of(state.generator());
+    draw_word(state, plan, word)?;
+    state.set_pc(plan.next);
+    Ok(effect)
+}
+
+/// setrandom
+#[tactic(auto, unfolding(crate::specs::Rows::setrandom))]
+pub fn setrandom<A: Allocator + Clone>(state: &mut State<A>, plan: &Plan) -> Effect
+    requires { IsHeight state.old.flat plan.now.sp }
+    ensures value { setrandom state.old.flat (instruction_of plan.now) ≡ Ok (state.new.flat, result) }
+    ensures done { IsDone result }
+    ensures story { state.new.flat.story ≡ state.old.flat.story }
+{
+    let mut generator = Generator::fresh();
+    generator.seed(plan.load(0));
+    state.set_generator(generator);
+    goes(state, plan)
+}

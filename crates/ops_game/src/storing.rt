@@ -1,0 +1,44 @@
+//! What the rows share: a result, and the next instruction.
+ghost use Rattle.std.specs.Prelude.{◌≡◌, Ok, IsErrOf, IfOk};
+ghost use Rattle.gx_words.specs.declared.faults.Fault.TheVariants.{NoMemory};
+ghost use Rattle.gx_words.specs.Faults.{Does};
+ghost use Rattle.gx_state.specs.Flat.{IsHeight};
+ghost use Rattle.gx_state.specs.Replies.{IsDone};
+ghost use Rattle.gx_operands.specs.Plans.{instruction_of};
+ghost use Rattle.gx_operands.specs.Stores.{IsMemory};
+ghost use Rattle.ops_game.specs.Rows.{stores, goes};
+
+use gx_operands::{Plan, settle};
+use gx_state::{Effect, State};
+use gx_words::Fault;
+use std::alloc::Allocator;
+
+/// Stores a result, and goes on with the next instruction.
+#[tactic(auto, using(crate::proofs::Stores::story_settled))]
+pub fn stores<A: Allocator + Clone>(
+    state: &mut State<A>,
+    plan: &Plan,
+    value: u32,
+) -> Result<Effect, Fault>
+    requires { IsHeight state.old.flat plan.now.sp }
+    ensures value { Does (λ effect. effect) result state.old.flat state.new.flat (stores state.old.flat (instruction_of plan.now) value) }
+    ensures done { IfOk result IsDone }
+    ensures story { state.new.flat.story ≡ state.old.flat.story }
+    ensures memory { IsErrOf result NoMemory → IsMemory plan.now.dest }
+{
+    settle(state, plan.sp, &plan.dest, 4, value)?;
+    state.set_pc(plan.next);
+    Ok(Effect::Went)
+}
+
+/// Goes on with the next instruction, once the pops are made.
+pub fn goes<A: Allocator + Clone>(state: &mut State<A>, plan: &Plan) -> Effect
+    requires { IsHeight state.old.flat plan.now.sp }
+    ensures value { goes state.old.flat (instruction_of plan.now) ≡ Ok (state.new.flat, result) }
+    ensures done { IsDone result }
+    ensures story { state.new.flat.story ≡ state.old.flat.story }
+{
+    state.cut_stack(plan.sp);
+    state.set_pc(plan.next);
+    Effect::Went
+}

@@ -1,0 +1,115 @@
+-- One step of printing: the next item of a string or number under each iosystem (Glulx 3.1.2, "Strings", "Output"
+-- and "Calling and Returning During Output Filtering").
+--
+-- A fault in any line leaves the state as it is.
+use Rattle.std.specs.Prelude.{ℕ, zero, suc, ◌+◌, ◌==◌, nat_lt, min, if◌then◌else◌, Bool, true, List, [], ◌∷◌, Result, Ok, Err}
+use Rattle.gx_words.specs.declared.faults.Fault.{Fault}
+use Rattle.gx_words.specs.declared.faults.Fault.TheVariants.{BadFrame}
+use Rattle.gx_words.specs.declared.strings.Printing.{Printing}
+use Rattle.gx_words.specs.declared.strings.PrintKind.{PrintKind}
+use Rattle.gx_words.specs.declared.strings.PrintKind.TheVariants.{E0, E1, E2, Number}
+use Rattle.gx_words.specs.Results.{◌>>=◌}
+use Rattle.gx_pages.specs.Memory.{number_in}
+use Rattle.gx_strings.specs.declared.items.Item.{Item}
+use Rattle.gx_strings.specs.declared.items.Item.TheVariants.{Char, Sub, Call, End}
+use Rattle.gx_strings.specs.Items.{next_item}
+use Rattle.gx_state.specs.declared.effects.Effect.{Effect}
+use Rattle.gx_state.specs.declared.effects.Effect.TheVariants.{Went, Put}
+use Rattle.gx_state.specs.declared.modes.Mode.{Mode}
+use Rattle.gx_state.specs.declared.modes.Mode.TheVariants as mode
+use Rattle.gx_state.specs.Flat.{FlatState, sp_of}
+use Rattle.gx_state.specs.Entry.{entered}
+use Rattle.gx_state.specs.Returns.{pushed_stubs}
+use Rattle.ops_print.specs.Stubs.{ways_back, inner_ended}
+
+-- so many words of memory from an address on
+unfoldable pub words_in : List ℕ → ℕ → ℕ → Result (List ℕ) Fault
+words_in memory at zero = Ok []
+words_in memory at (suc count) = do
+  first ← number_in 4 memory at
+  rest ← words_in memory (at + 4) count
+  Ok (first ∷ rest)
+
+-- The arguments of a reference to a function. No more than 256 are read, since more than 255 are a fault of the
+-- entry.
+abbrev pub arguments_in : List ℕ → ℕ → ℕ → Result (List ℕ) Fault
+arguments_in memory at count = words_in memory at (min count 256)
+
+-- a function is called in the midst of printing, whose result is dropped
+unfoldable pub called : FlatState → Bool → Printing → ℕ → List ℕ → Result (FlatState × Effect) Fault
+called f started back at args = do
+  g ← entered f (sp_of f) (ways_back f started back) at args
+  Ok (record g { mode = mode.Running }, Went)
+
+-- A character under each iosystem: under 1, the filter, the function at the rock is called with it; under 2 it
+-- is asked to be put to the current Glk stream, with the state standing; under 0 it is dropped.
+unfoldable pub char_done : FlatState → Bool → ℕ → Printing → Result (FlatState × Effect) Fault
+char_done f started c next =
+    if f.iosys.0 == 1 then called f started next f.iosys.1 (c ∷ []) else
+    if f.iosys.0 == 2 then Ok (f, Put c) else
+    Ok (record f { mode = mode.Printing next }, Went)
+
+-- an inner string is begun
+unfoldable pub sub_done : FlatState → Bool → Printing → Printing → Result (FlatState × Effect) Fault
+sub_done f started back inner = do
+  g ← pushed_stubs f (ways_back f started back)
+  Ok (record g { mode = mode.Printing inner }, Went)
+
+-- a function is called with the arguments of a reference
+unfoldable pub call_done : FlatState → Bool → Printing → ℕ → ℕ → ℕ → Result (FlatState × Effect) Fault
+call_done f started back at args_at count = do
+  args ← arguments_in f.memory args_at count
+  called f started back at args
+
+-- the end of a string or number
+unfoldable pub end_done : FlatState → Bool → Result (FlatState × Effect) Fault
+end_done f started =
+    if started then (do
+      g ← inner_ended f
+      Ok (g, Went)) else
+    Ok (record f { mode = mode.Running }, Went)
+
+-- what an item of a string or number does; `started` is the mark of the present one
+unfoldable pub done : FlatState → Bool → Item → Result (FlatState × Effect) Fault
+done f started (Char value next) = char_done f started value next
+done f started (Sub back inner) = sub_done f started back inner
+done f started (Call back at args_at count) = call_done f started back at args_at count
+done f started End = end_done f started
+
+-- a compressed string stands at one of the eight bits of a byte
+abbrev pub is_place : PrintKind → ℕ → Bool
+is_place E0 bit = true
+is_place E1 bit = nat_lt bit 8
+is_place E2 bit = true
+is_place Number bit = true
+
+-- One step of printing. A place that no string has is the fault of a stub with it.
+unfoldable pub item : FlatState → Printing → Result (FlatState × Effect) Fault
+item f p =
+    if is_place p.kind p.bit then (do
+      i ← next_item f.memory f.table p
+      done f p.started i) else
+    Err BadFrame
+
+-- the same by the mode; where code runs there is nothing to print
+abbrev pub item_by : FlatState → Mode → Result (FlatState × Effect) Fault
+item_by f mode.Running = Err BadFrame
+item_by f (mode.Printing p) = item f p
+
+abbrev pub printed : FlatState → Result (FlatState × Effect) Fault
+printed f = item_by f f.mode
+
+-- The mode after a character that was put: on behind it.
+abbrev pub behind : Mode → Result Item Fault → Mode
+behind m (Ok (Char value next)) = mode.Printing next
+behind m (Ok (Sub back inner)) = m
+behind m (Ok (Call back at args_at count)) = m
+behind m (Ok End) = m
+behind m (Err fault) = m
+
+abbrev pub mode_by : FlatState → Mode → Mode
+mode_by f mode.Running = mode.Running
+mode_by f (mode.Printing p) = behind f.mode (next_item f.memory f.table p)
+
+unfoldable pub mode_after : FlatState → Mode
+mode_after f = mode_by f f.mode

@@ -1,0 +1,42 @@
+//! The arguments of a reference to a function (Glulx 3.1.2, "The String-Decoding Table").
+ghost use Rattle.std.specs.Prelude.{◌≡◌, ◌≤◌};
+ghost use Rattle.gx_words.specs.Faults.{TakesNone};
+ghost use Rattle.gx_words.specs.Results.{Is};
+ghost use Rattle.ops_print.specs.Items.{words_in, arguments_in};
+
+use arrayvec::ArrayVec;
+use gx_pages::Pages;
+use gx_words::Fault;
+use std::alloc::Allocator;
+
+/// So many words from an address on; `BadAddress` exactly where one of them isn't in memory.
+#[tactic(auto, using(crate::proofs::Words::words))]
+fn words_in<A: Allocator + Clone>(
+    memory: &Pages<A>,
+    at: u32,
+    count: u32,
+) -> Result<ArrayVec<u32, 256>, Fault>
+    requires { count ≤ 256 }
+    ensures value { Is (λ words. words.items) result (words_in memory.now at count) }
+    ensures memory { TakesNone result }
+{
+    let _size = memory.size();
+    let mut words = ArrayVec::new();
+    for i in 0..count {
+        words.push(memory.try_number(4, at + 4 * i)?);
+    }
+    Ok(words)
+}
+
+/// At most the first 256 of so many arguments from an address on, a word each; `BadAddress` exactly
+/// where one of these isn't in memory.
+pub fn arguments_in<A: Allocator + Clone>(
+    memory: &Pages<A>,
+    at: u32,
+    count: u32,
+) -> Result<ArrayVec<u32, 256>, Fault>
+    ensures value { Is (λ args. args.items) result (arguments_in memory.now at count) }
+    ensures memory { TakesNone result }
+{
+    words_in(memory, at, count.min(256))
+}

@@ -1,0 +1,188 @@
+//! One step of printing: the next item of a string or number, by the iosystem.
+ghost use Rattle.std.specs.Prelude.{◌≡◌, ◌<◌, IfOk};
+ghost use Rattle.gx_words.specs.Faults.{TakesNone};
+ghost use Rattle.gx_words.specs.Results.{Alters, Turns};
+ghost use Rattle.gx_state.specs.Flat.{sp_of};
+ghost use Rattle.ops_print.specs.Rows.{AsksAtMostPut};
+ghost use Rattle.ops_print.specs.Items.{called, char_done, sub_done, call_done, end_done, is_place, printed, mode_after};
+
+use crate::arguments::arguments_in;
+use crate::stubs::{end_inner, resuming, to_code};
+use gx_state::{Effect, Mode, State};
+use gx_strings::{Item, next_item};
+use gx_words::{Fault, PrintKind, Printing};
+use std::alloc::Allocator;
+
+/// Calls a function in the midst of printing.
+#[tactic(auto, unfolding(crate::specs::Items::called))]
+fn called<A: Allocator + Clone>(
+    state: &mut State<A>,
+    started: bool,
+    back: &Printing,
+    at: u32,
+    args: &[u32],
+) -> Result<Effect, Fault>
+    ensures value { Turns (λ effect. effect) result state.old.flat state.new.flat (called state.old.flat started back.now at args.now) }
+    ensures asks { IfOk result (λ effect. AsksAtMostPut effect (state.new.flat ≡ state.old.flat)) }
+    ensures memory { TakesNone result }
+    ensures story { state.new.flat.story ≡ state.old.flat.story }
+{
+    let sp = state.stack().size();
+    let stub = resuming(state, back);
+    if started {
+        state.enter(sp, &[stub], at, args)?;
+    } else {
+        let code = to_code(state);
+        state.enter(sp, &[code, stub], at, args)?;
+    }
+    state.set_mode(Mode::Running);
+    Ok(Effect::Went)
+}
+
+/// Prints a character of a string or number.
+#[tactic(auto, unfolding(crate::specs::Items::char_done))]
+fn char_done<A: Allocator + Clone>(
+    state: &mut State<A>,
+    started: bool,
+    value: u32,
+    next: &Printing,
+) -> Result<Effect, Fault>
+    ensures value { Turns (λ effect. effect) result state.old.flat state.new.flat (char_done state.old.flat started value next.now) }
+    ensures asks { IfOk result (λ effect. AsksAtMostPut effect (state.new.flat ≡ state.old.flat)) }
+    ensures memory { TakesNone result }
+    ensures story { state.new.flat.story ≡ state.old.flat.story }
+{
+    let (system, rock) = state.iosys();
+    match system {
+        1 => called(state, started, next, rock, &[value]),
+        2 => Ok(Effect::Put(value)),
+        _ => {
+            state.set_mode(Mode::Printing(*next));
+            Ok(Effect::Went)
+        }
+    }
+}
+
+/// Begins the string that a reference names.
+#[tactic(auto, unfolding(crate::specs::Items::sub_done))]
+fn sub_done<A: Allocator + Clone>(
+    state: &mut State<A>,
+    started: bool,
+    back: &Printing,
+    inner: &Printing,
+) -> Result<Effect, Fault>
+    requires { 0 < sp_of state.old.flat }
+    ensures value { Turns (λ effect. effect) result state.old.flat state.new.flat (sub_done state.old.flat started back.now inner.now) }
+    ensures asks { IfOk result (λ effect. AsksAtMostPut effect (state.new.flat ≡ state.old.flat)) }
+    ensures memory { TakesNone result }
+    ensures story { state.new.flat.story ≡ state.old.flat.story }
+{
+    let stub = resuming(state, back);
+    if started {
+        state.push_stubs(&[stub])?;
+    } else {
+        let code = to_code(state);
+        state.push_stubs(&[code, stub])?;
+    }
+    state.set_mode(Mode::Printing(*inner));
+    Ok(Effect::Went)
+}
+
+/// Calls the function that a reference names.
+#[tactic(auto, unfolding(crate::specs::Items::call_done))]
+fn call_done<A: Allocator + Clone>(
+    state: &mut State<A>,
+    started: bool,
+    back: &Printing,
+    at: u32,
+    args_at: u32,
+    count: u32,
+) -> Result<Effect, Fault>
+    ensures value { Turns (λ effect. effect) result state.old.flat state.new.flat (call_done state.old.flat started back.now at args_at count) }
+    ensures asks { IfOk result (λ effect. AsksAtMostPut effect (state.new.flat ≡ state.old.flat)) }
+    ensures memory { TakesNone result }
+    ensures story { state.new.flat.story ≡ state.old.flat.story }
+{
+    let args = arguments_in(state.memory(), args_at, count)?;
+    called(state, started, back, at, args.as_slice())
+}
+
+/// Ends a string or number.
+#[tactic(auto, unfolding(crate::specs::Items::end_done))]
+fn end_done<A: Allocator + Clone>(state: &mut State<A>, started: bool) -> Result<Effect, Fault>
+    ensures value { Turns (λ effect. effect) result state.old.flat state.new.flat (end_done state.old.flat started) }
+    ensures asks { IfOk result (λ effect. AsksAtMostPut effect (state.new.flat ≡ state.old.flat)) }
+    ensures memory { TakesNone result }
+    ensures story { state.new.flat.story ≡ state.old.flat.story }
+{
+    if started {
+        end_inner(state)?;
+    } else {
+        state.set_mode(Mode::Running);
+    }
+    Ok(Effect::Went)
+}
+
+/// Whether a string or number may stand at a bit.
+fn is_place(printing: &Printing) -> bool
+    ensures { result ≡ is_place printing.now.kind printing.now.bit }
+{
+    match printing.kind {
+        PrintKind::E1 => printing.bit < 8,
+        _ => true,
+    }
+}
+
+/// Makes one step of printing like `item`, and answers with it the mode behind the character, where the
+/// item is one: the state stands while a character is to be put, and this is its mode once that is done.
+/// For any other item it is the mode before the step.
+#[tactic(auto, unfolding(crate::specs::Items::item, crate::specs::Items::done, crate::specs::Items::mode_after))]
+pub fn item_and_mode<A: Allocator + Clone>(state: &mut State<A>) -> Result<(Effect, Mode), Fault>
+    requires { 0 < sp_of state.old.flat }
+    ensures value { Turns (λ r. r.0) result state.old.flat state.new.flat (printed state.old.flat) }
+    ensures asks { IfOk result (λ r. AsksAtMostPut r.0 (state.new.flat ≡ state.old.flat)) }
+    ensures mode { IfOk result (λ r. r.1 ≡ mode_after state.old.flat) }
+    ensures memory { TakesNone result }
+    ensures story { state.new.flat.story ≡ state.old.flat.story }
+{
+    let mode = state.mode();
+    let Mode::Printing(printing) = mode else {
+        return Err(Fault::BadFrame);
+    };
+    if !is_place(&printing) {
+        return Err(Fault::BadFrame);
+    }
+    let started = printing.started;
+    match next_item(state.memory(), state.table(), &printing)? {
+        Item::Char { value, next } => {
+            let effect = char_done(state, started, value, &next)?;
+            Ok((effect, Mode::Printing(next)))
+        }
+        Item::Sub { back, inner } => Ok((sub_done(state, started, &back, &inner)?, mode)),
+        Item::Call {
+            back,
+            at,
+            args_at,
+            args,
+        } => Ok((call_done(state, started, &back, at, args_at, args)?, mode)),
+        Item::End => Ok((end_done(state, started)?, mode)),
+    }
+}
+
+/// Makes one step of printing: prints a character, begins the string or calls the function that a
+/// reference names, or ends the string or number.
+///
+/// The faults are those of `next_item`; `BadAddress` where an argument of a reference isn't in memory;
+/// `Overflow` where the stubs don't fit, and the other faults of `State::enter`; `BadFrame` where code
+/// runs, where a compressed string stands at a bit above 7, and where no stub that a string or number
+/// may end by is there at its end.
+pub fn item<A: Allocator + Clone>(state: &mut State<A>) -> Result<Effect, Fault>
+    requires { 0 < sp_of state.old.flat }
+    ensures value { Turns (λ effect. effect) result state.old.flat state.new.flat (printed state.old.flat) }
+    ensures asks { IfOk result (λ effect. AsksAtMostPut effect (state.new.flat ≡ state.old.flat)) }
+    ensures memory { TakesNone result }
+    ensures story { state.new.flat.story ≡ state.old.flat.story }
+{
+    let (effect, _) = item_and_mode(state)?;
+    Ok(effect)
+}

@@ -1,0 +1,78 @@
+//! The call stubs of strings and numbers (Glulx 3.1.2, "Call Stubs" and "Calling and Returning During
+//! Output Filtering").
+ghost use Rattle.std.specs.Prelude.{◌≡◌, ◌<◌};
+ghost use Rattle.gx_words.specs.Faults.{TakesNone};
+ghost use Rattle.gx_words.specs.Results.{Alters};
+ghost use Rattle.gx_state.specs.Flat.{sp_of};
+ghost use Rattle.ops_print.specs.Stubs.{resuming, to_code, inner_ended};
+
+use gx_stack::Stub;
+use gx_state::{Mode, State};
+use gx_words::{Fault, PrintKind, Printing};
+use std::alloc::Allocator;
+
+/// The stub that resumes a string or number.
+#[tactic(auto, unfolding(crate::specs::Stubs::resuming_by))]
+pub fn resuming<A: Allocator + Clone>(state: &State<A>, printing: &Printing) -> Stub
+    ensures { result ≡ resuming state.now.flat printing.now }
+{
+    let (kind, addr) = match printing.kind {
+        PrintKind::E0 => (0x13, 0),
+        PrintKind::E1 => (0x10, printing.bit),
+        PrintKind::E2 => (0x14, 0),
+        PrintKind::Number => (0x12, printing.bit),
+    };
+    Stub {
+        kind,
+        addr,
+        pc: printing.at,
+        fp: state.fp(),
+    }
+}
+
+/// The stub that goes back to the code.
+#[tactic(auto, unfolding(crate::specs::Stubs::to_code))]
+pub fn to_code<A: Allocator + Clone>(state: &State<A>) -> Stub
+    ensures { result ≡ to_code state.now.flat }
+{
+    Stub {
+        kind: 0x11,
+        addr: 0,
+        pc: state.pc(),
+        fp: state.fp(),
+    }
+}
+
+/// Ends a string or number that a reference began or a stub resumed, and goes on by the stub on top, which
+/// is looked at before it is popped. `BadFrame` exactly where no stub is there, its frame is not good, or
+/// it resumes neither code nor a compressed string at one of the eight bits of a byte.
+#[tactic(auto, unfolding(crate::specs::Stubs::inner_ended, crate::specs::Stubs::gone_on, gx_state::specs::Returns::popped_stub, gx_state::specs::Returns::stub_to, gx_stack::specs::Frames::frame_in))]
+pub fn end_inner<A: Allocator + Clone>(state: &mut State<A>) -> Result<(), Fault>
+    ensures value { Alters result state.old.flat state.new.flat (inner_ended state.old.flat) }
+    ensures memory { TakesNone result }
+    ensures story { state.new.flat.story ≡ state.old.flat.story }
+{
+    let sp = state.stack().size();
+    let Ok(stub) = state.stack().stub_at(sp) else {
+        return Err(Fault::BadFrame);
+    };
+    match stub.kind {
+        0x10 if stub.addr < 8 => {
+            state.pop_stub()?;
+            state.set_mode(Mode::Printing(Printing {
+                kind: PrintKind::E1,
+                at: stub.pc,
+                bit: stub.addr,
+                started: true,
+            }));
+            Ok(())
+        }
+        0x11 => {
+            state.pop_stub()?;
+            state.set_pc(stub.pc);
+            state.set_mode(Mode::Running);
+            Ok(())
+        }
+        _ => Err(Fault::BadFrame),
+    }
+}
