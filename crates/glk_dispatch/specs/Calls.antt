@@ -29,14 +29,14 @@ putting s f c = Ok (put_of s c, replies 0)
 -- and stream 2
 unfoldable pub window_open : Scene → List ℕ → Result (Said × Turn) Fault
 window_open s (split ∷ method ∷ size ∷ kind ∷ rock ∷ spare) =
-    if split == 0 && kind == 3 && not s.open_ then Ok ((record s { open_ = true }, []), Answer (replies 1)) else Err BadGlk
+    if split == 0 && kind == 3 && not s.has_window then Ok ((record s { has_window = true }, []), Answer (replies 1)) else Err BadGlk
 window_open s _ = Err BadGlk
 
 -- 2F set_window (win): the current stream is the window's, or none
 unfoldable pub set_window : Scene → List ℕ → Result (Said × Turn) Fault
 set_window s (win ∷ spare) =
     if win == 0 then Ok ((record s { current = 0 }, []), Answer (replies 0)) else
-    if win == 1 && s.open_ then Ok ((record s { current = 2 }, []), Answer (replies 0)) else
+    if win == 1 && s.has_window then Ok ((record s { current = 2 }, []), Answer (replies 0)) else
     Err BadGlk
 set_window s [] = Err BadGlk
 

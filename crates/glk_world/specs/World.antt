@@ -4,7 +4,7 @@ use Rattle.std.specs.Prelude.{ℕ, List, [], ◌++◌, Bool, true, false}
 -- What Glk calls look at: whether the text window is open, the current stream or 0, and whether the
 -- text since the last line feed is empty.
 pub record Scene : Type 0 where
-  pub open_ : Bool
+  pub has_window : Bool
   pub current : ℕ
   pub fresh : Bool
 
@@ -23,4 +23,4 @@ after w said = record { scene = said.0; text = w.text ++ said.1 }
 
 -- the world before any call
 abbrev pub empty_world : FlatWorld
-empty_world = record { scene = record { open_ = false; current = 0; fresh = true }; text = [] }
+empty_world = record { scene = record { has_window = false; current = 0; fresh = true }; text = [] }

@@ -18,7 +18,7 @@ use std::marker::Model;
 #[derive(Drop)]
 pub struct World {
     alloc: Global,
-    open: bool,
+    has_window: bool,
     current: u32,
     fresh: bool,
     text: String,
@@ -30,7 +30,7 @@ impl Model for World {
 
     ghost Value = { FlatWorld };
 
-    ghost view = { λ w. record { scene = record { open_ = w.open; current = w.current; fresh = w.fresh }; text = string_bytes w.text } };
+    ghost view = { λ w. record { scene = record { has_window = w.has_window; current = w.current; fresh = w.fresh }; text = string_bytes w.text } };
 }
 
 impl World {
@@ -42,7 +42,7 @@ impl World {
     {
         World {
             alloc,
-            open: false,
+            has_window: false,
             current: 0,
             fresh: true,
             text: String::new(alloc),
@@ -79,16 +79,16 @@ impl World {
 
     /// Whether the text window is open.
     pub fn is_open(&self) -> bool
-        ensures { result ≡ self.now.scene.open_ }
+        ensures { result ≡ self.now.scene.has_window }
     {
-        self.open
+        self.has_window
     }
 
     /// Opens the text window.
     pub fn open_window(&mut self)
-        ensures { self.new ≡ record self.old { scene = record self.old.scene { open_ = true } } }
+        ensures { self.new ≡ record self.old { scene = record self.old.scene { has_window = true } } }
     {
-        self.open = true;
+        self.has_window = true;
     }
 
     /// The current stream, 0 for none.

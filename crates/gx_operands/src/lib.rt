@@ -5,7 +5,8 @@
 //!   specs/Instructions, or its first fault.
 //! - `addressing` has the addressing modes.
 //! - `popped` reads what an instruction pops beside its operands.
-//! - `stores` makes one store, or tells its fault in advance.
+//! - `storing` makes one store, or tells its fault in advance.
+//! - `rows` has what the rows of all classes share: a result, and the next instruction.
 //!
 //! Only a store to memory may want memory, and nothing has changed then.
 #![tactic(auto)]
@@ -13,12 +14,14 @@
 mod addressing;
 mod decoding;
 mod popped;
-mod stores;
+mod rows;
+mod storing;
 
 pub use addressing::{Addressing, Kind, Place};
 pub use decoding::{Plan, decode};
 pub use popped::{arguments, values_to};
-pub use stores::{can_store, settle, store};
+pub use rows::{goes, stores};
+pub use storing::{can_store, settle, store};
 
 #[cfg(test)]
 mod tests;

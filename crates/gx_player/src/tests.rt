@@ -7,6 +7,14 @@ use rand_core::SeedableRng;
 use std::alloc::Global;
 use std::test::Fail;
 
+mod ends;
+mod filters;
+mod game;
+mod memory;
+mod searches;
+mod stories;
+mod strings;
+
 /// A story of one page, whose code stands from 0x24 on: it selects Glk, opens a window, and puts
 /// three characters to it in twelve steps.
 fn hello() -> [u8; 256] {
@@ -127,103 +135,6 @@ fn bad_words(rt: HostRuntime) -> Result<(), Fail> {
     for words in rows {
         let (ended, _) = played(rt.alloc(), words, &hello(), &[], &[])?;
         assert_eq!(rt; ended.status, 1);
-    }
-    Ok(())
-}
-
-/// A story of a page of ROM, a page of RAM and a stack of 256 bytes, whose code stands from 0x27 on.
-fn coded(code: &[u8]) -> [u8; 256] {
-    let mut file = [0; 256];
-    let head = [
-        0x47, 0x6C, 0x75, 0x6C, 0x00, 0x03, 0x01, 0x02, 0x00, 0x00, 0x01, 0x00, 0x00, 0x00, 0x01,
-        0x00, 0x00, 0x00, 0x02, 0x00, 0x00, 0x00, 0x01, 0x00, 0x00, 0x00, 0x00, 0x24, 0x00, 0x00,
-        0x00, 0x00, 0x00, 0x00, 0x00, 0x00, 0xC1, 0x00, 0x00,
-    ];
-    file[..head.len()].copy_from_slice(&head);
-    for (to, from) in file[head.len()..].iter_mut().zip(code) {
-        *to = *from;
-    }
-    file
-}
-
-/// How a story ends by its own code: with the return of its start function, or with each fault that
-/// its instructions have so far.
-#[test]
-fn ends(rt: HostRuntime) -> Result<(), Fail> {
-    let rows: [(&[u8], u64, &str); 16] = [
-        (&[0x31, 0x01, 7], 1, ""),
-        (&[0x20, 0x01, 1], 1, ""),
-        (&[0x7F], 0, "gx_player: fault 1 at 00000027 after 0 steps"),
-        (
-            &[0x00, 0x40, 0x04],
-            1,
-            "gx_player: fault 2 at 00000028 after 1 steps",
-        ),
-        (
-            &[0x40, 0x06, 2, 0],
-            0,
-            "gx_player: fault 3 at 00000027 after 0 steps",
-        ),
-        (
-            &[0x40, 0x51, 7, 0x40],
-            0,
-            "gx_player: fault 4 at 00000027 after 0 steps",
-        ),
-        (
-            &[0x00, 0x13, 0x01, 0x00, 1],
-            1,
-            "gx_player: fault 5 at 00000028 after 1 steps",
-        ),
-        (
-            &[0x40, 0x81, 1, 0x20, 0x01, 0xFC],
-            122,
-            "gx_player: fault 6 at 00000027 after 122 steps",
-        ),
-        (
-            &[0x81, 0x60, 0x01, 0x24],
-            8,
-            "gx_player: fault 6 at 00000027 after 8 steps",
-        ),
-        (
-            &[0x40, 0x08],
-            0,
-            "gx_player: fault 7 at 00000027 after 0 steps",
-        ),
-        (
-            &[0x40, 0x80, 0x33, 0x11, 7, 16],
-            1,
-            "gx_player: fault 8 at 00000029 after 1 steps",
-        ),
-        (
-            &[0x40, 0x09, 0],
-            0,
-            "gx_player: fault 9 at 00000027 after 0 steps",
-        ),
-        (
-            &[0x81, 0x60, 0x01, 0x10],
-            0,
-            "gx_player: fault 10 at 00000027 after 0 steps",
-        ),
-        (
-            &[0x33, 0x11, 7, 16],
-            0,
-            "gx_player: fault 12 at 00000027 after 0 steps",
-        ),
-        (
-            &[0x81, 0x03, 0x02, 2, 0x80],
-            0,
-            "gx_player: fault 13 at 00000027 after 0 steps",
-        ),
-        (
-            &[0x81, 0x78, 0x00],
-            0,
-            "gx_player: fault 14 at 00000027 after 0 steps",
-        ),
-    ];
-    for (code, steps, wanted) in rows {
-        let (ended, _) = played(rt.alloc(), &["gx_player", "hello"], &coded(code), &[], &[])?;
-        assert_eq!(rt; ended.steps, steps);
-        assert_eq!(rt; ended.line(rt.alloc())?.as_str(), wanted);
     }
     Ok(())
 }

@@ -1,6 +1,7 @@
 -- The state of the machine as numbers and lists (Glulx 3.1.2, "The Machine").
-use Rattle.std.specs.Prelude.{◌≡◌, ℕ, ℤ, ◌+◌, ◌%◌, ◌<◌, ◌≤◌, List, length, take, Result, Ok}
+use Rattle.std.specs.Prelude.{◌≡◌, ℕ, ℤ, ◌+◌, ◌%◌, ◌<◌, ◌≤◌, nat_lt, if◌then◌else◌, List, length, take, Result, Ok, Err}
 use Rattle.gx_words.specs.declared.faults.Fault.{Fault}
+use Rattle.gx_words.specs.declared.faults.Fault.TheVariants.{BadAddress, ReadOnly}
 use Rattle.gx_words.specs.Numbers.{spliced}
 use Rattle.gx_words.specs.Results.{◌>>=◌}
 use Rattle.gx_stack.specs.declared.frames.Frame.{Frame}
@@ -52,6 +53,13 @@ pub record IsHeight (f : FlatState) (sp : ℕ) : Type 0 where
 -- all that is written lies in RAM; nothing may be written anywhere
 abbrev pub InRam : FlatState → ℕ → ℕ → Type 0
 InRam f at count = 0 < count → (f.story.ramstart ≤ at) × (at + count ≤ length f.memory)
+
+-- the fault of a write of so many bytes, one at least, from an address on
+abbrev pub write_fault : FlatState → ℕ → ℕ → Result (Unit {0}) Fault
+write_fault f at count =
+    if nat_lt (length f.memory) (at + count) then Err BadAddress else
+    if nat_lt at f.story.ramstart then Err ReadOnly else
+    Ok tt
 
 -- the stack cut to a stack pointer
 abbrev pub cut : FlatState → ℕ → FlatState

@@ -4,7 +4,7 @@ use Rattle.std.specs.Option.{ok_or}
 use Rattle.gx_words.specs.declared.strings.PrintKind.TheVariants.{E0, E1, E2, Number}
 use Rattle.gx_words.specs.declared.strings.Printing.{Printing}
 use Rattle.gx_words.specs.declared.faults.Fault.{Fault}
-use Rattle.gx_words.specs.declared.faults.Fault.TheVariants.{BadAddress, ReadOnly, BadFrame}
+use Rattle.gx_words.specs.declared.faults.Fault.TheVariants.{BadFrame}
 use Rattle.gx_words.specs.Numbers.{bytes_of_word, spliced}
 use Rattle.gx_words.specs.Results.{◌>>=◌}
 use Rattle.gx_stack.specs.declared.stubs.Stub.{Stub}
@@ -15,7 +15,7 @@ use Rattle.gx_stack.specs.Stubs.{stub_below}
 use Rattle.gx_state.specs.declared.modes.Dest.{Dest}
 use Rattle.gx_state.specs.declared.modes.Dest.TheVariants.{Nowhere, Memory, Local, Push}
 use Rattle.gx_state.specs.declared.modes.Mode.TheVariants as mode
-use Rattle.gx_state.specs.Flat.{FlatState, sp_of, cut, written, pushed, with_local}
+use Rattle.gx_state.specs.Flat.{FlatState, sp_of, write_fault, cut, written, pushed, with_local}
 
 -- the stub of a store operand: DestType, DestAddr, the next instruction, the present frame
 abbrev pub stub_of : FlatState → Dest → ℕ → Stub
@@ -61,10 +61,9 @@ IsPlace f w = IfSome w (λ x. f.story.ramstart ≤ x.0) × IfSome w (λ x. x.0 +
 
 -- a word stored in memory
 unfoldable pub stored_word : FlatState → ℕ → ℕ → Result FlatState Fault
-stored_word f at v =
-    if nat_lt (length f.memory) (at + 4) then Err BadAddress else
-    if nat_lt at f.story.ramstart then Err ReadOnly else
-    Ok (written f at (bytes_of_word v))
+stored_word f at v = do
+  _ ← write_fault f at 4
+  Ok (written f at (bytes_of_word v))
 
 -- What goes on being printed at a stub of the types 10, 12, 13 and 14 (hexadecimal): an E1 string at a bit, a
 -- number at a digit, an E0 or an E2 string. A bit is below 8.

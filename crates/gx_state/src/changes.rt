@@ -4,7 +4,7 @@ ghost use Rattle.gx_words.specs.Numbers.{IsWidth};
 ghost use Rattle.gx_words.specs.Faults.{TakesNone};
 ghost use Rattle.gx_words.specs.Results.{Alters};
 ghost use Rattle.gx_pages.specs.Memory.{all_spliced};
-ghost use Rattle.gx_state.specs.Flat.{IsHeight, InRam, cut, frame_of, sp_of, written, pushed, pushed_all, with_local, swapped, rolled, copied};
+ghost use Rattle.gx_state.specs.Flat.{IsHeight, InRam, write_fault, cut, frame_of, sp_of, written, pushed, pushed_all, with_local, swapped, rolled, copied};
 ghost use Rattle.gx_state.specs.Replies.{AllInRam};
 
 use crate::State;
@@ -12,6 +12,22 @@ use gx_words::{Fault, Writes};
 use std::alloc::{AllocError, Allocator};
 
 impl<A: Allocator + Clone> State<A> {
+    /// Looks whether a write of `count` bytes, one at least, would have a fault: `BadAddress` where one of
+    /// them isn't in memory, else `ReadOnly` where one lies below RAMSTART.
+    pub fn can_write(&self, at: u32, count: u32) -> Result<(), Fault>
+        ensures value { result ≡ write_fault self.now.flat at count }
+        ensures there { OnOk result (InRam self.now.flat at count) }
+        ensures memory { TakesNone result }
+    {
+        if u64::from(at) + u64::from(count) > u64::from(self.memory.size()) {
+            return Err(Fault::BadAddress);
+        }
+        if at < self.story.ramstart() {
+            return Err(Fault::ReadOnly);
+        }
+        Ok(())
+    }
+
     /// Writes bytes to RAM. No bytes may be written at any address.
     #[tactic(auto, using(crate::proofs::Kept::rom_written, crate::proofs::Kept::heap_again))]
     pub fn write(&mut self, at: u32, bytes: &[u8]) -> Result<(), AllocError>

@@ -27,6 +27,7 @@ mod state;
 pub use copies::Moment;
 pub use effects::{Effect, Reply};
 pub use modes::{Dest, Mode};
+pub use returns::printing_of;
 pub use state::State;
 
 #[cfg(test)]

@@ -20,7 +20,7 @@ use std::alloc::{AllocError, Allocator};
 /// What goes on being printed at a stub; `None` exactly where its type isn't one of strings and
 /// numbers, or its bit isn't below 8.
 #[tactic(auto, unfolding(crate::specs::Returns::printing_of))]
-fn printing_of(stub: &Stub) -> Option<Printing>
+pub fn printing_of(stub: &Stub) -> Option<Printing>
     ensures { result ≡ printing_of stub.now }
 {
     let (kind, bit) = match stub.kind {
@@ -222,12 +222,7 @@ impl<A: Allocator + Clone> State<A> {
         ensures spare { self.new.spare ≡ self.old.spare }
         ensures story { self.new.flat.story ≡ self.old.flat.story }
     {
-        if u64::from(stub.addr) + 4 > u64::from(self.memory.size()) {
-            return Err(Fault::BadAddress);
-        }
-        if stub.addr < self.story.ramstart() {
-            return Err(Fault::ReadOnly);
-        }
+        self.can_write(stub.addr, 4)?;
         self.write_words(before, Some((stub.addr, value)))?;
         self.resume(sp, stub);
         Ok(())

@@ -23,19 +23,9 @@ use Rattle.gx_state.specs.Entry.{entered}
 use Rattle.gx_state.specs.Returns.{stub_of, returned}
 use Rattle.gx_operands.specs.Arguments.{arguments, values_to}
 use Rattle.gx_operands.specs.Instructions.{Instruction, operand_at, going_to}
-use Rattle.gx_operands.specs.Stores.{settled, stored}
+use Rattle.gx_operands.specs.Stores.{stored, stores, goes_to, goes}
 
 -- WHAT ROWS SHARE
-
--- S1 = a value
-abbrev pub stores : FlatState → Instruction → ℕ → Result (FlatState × Effect) Fault
-stores f i v = do
-  g ← settled f i.sp 4 i.dest v
-  Ok (going_to g i.next, Went)
-
--- on at an address
-abbrev pub goes : FlatState → ℕ → Result (FlatState × Effect) Fault
-goes f pc = Ok (going_to f pc, Went)
 
 -- a return of a value from the present function; PC is at the next instruction, where nothing else takes it
 -- away. That of the start function ends the program.
@@ -49,7 +39,7 @@ returns f next v = do
 
 -- a branch by an offset: those of 0 and 1 return this value from the present function
 abbrev pub branches : FlatState → ℕ → ℕ → Result (FlatState × Effect) Fault
-branches f next offset = if nat_lt offset 2 then returns f next offset else goes f ((next + (offset - 2)) % 2 ^ 32)
+branches f next offset = if nat_lt offset 2 then returns f next offset else goes_to f ((next + (offset - 2)) % 2 ^ 32)
 
 -- a call of L1 with arguments, whose result goes to S1
 abbrev pub calls : FlatState → Instruction → ℕ → List ℕ → Result (FlatState × Effect) Fault
@@ -74,13 +64,13 @@ computes f i = do
 unfoldable pub jumps : FlatState → Instruction → Result (FlatState × Effect) Fault
 jumps f i =
     if test i.row.act (operand_at i 0) (operand_at i 1) then branches (cut f i.sp) i.next (operand_at i (i.row.loads - 1))
-    else goes (cut f i.sp) i.next
+    else goes f i
 
 -- FUNCTIONS AND CONTINUATIONS
 
 -- 00 nop
 unfoldable pub nop : FlatState → Instruction → Result (FlatState × Effect) Fault
-nop f i = goes (cut f i.sp) i.next
+nop f i = goes f i
 
 -- 30 call (L1 L2 S1): pops L2 arguments, the first topmost, and calls L1. No more than 256 are told apart,
 -- since more than 255 are a fault of the entry.
@@ -133,7 +123,7 @@ tailcall f i = do
 
 -- 104 jumpabs (L1): PC = L1
 unfoldable pub jumpabs : FlatState → Instruction → Result (FlatState × Effect) Fault
-jumpabs f i = goes (cut f i.sp) (operand_at i 0)
+jumpabs f i = goes_to (cut f i.sp) (operand_at i 0)
 
 -- 160 callf (L1 S1), 161 callfi (L1 L2 S1), 162 callfii (L1 L2 L3 S1), 163 callfiii (L1 L2 L3 L4 S1): calls L1
 -- with the other operands as arguments
@@ -156,19 +146,19 @@ stkpeek f i =
 unfoldable pub stkswap : FlatState → Instruction → Result (FlatState × Effect) Fault
 stkswap f i = do
   g ← swapped (cut f i.sp)
-  goes g i.next
+  goes_to g i.next
 
 -- 53 stkroll (L1 L2): moves the top L1 values up by L2 places, cyclically, or down where L2 is negative
 unfoldable pub stkroll : FlatState → Instruction → Result (FlatState × Effect) Fault
 stkroll f i = do
   g ← rolled (cut f i.sp) (operand_at i 0) (signed (operand_at i 1))
-  goes g i.next
+  goes_to g i.next
 
 -- 54 stkcopy (L1): pushes the top L1 values again
 unfoldable pub stkcopy : FlatState → Instruction → Result (FlatState × Effect) Fault
 stkcopy f i = do
   g ← copied (cut f i.sp) (operand_at i 0)
-  goes g i.next
+  goes_to g i.next
 
 -- THE ROW OF AN INSTRUCTION
 

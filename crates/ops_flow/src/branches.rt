@@ -11,8 +11,8 @@ ghost use Rattle.gx_operands.specs.Plans.{instruction_of};
 ghost use Rattle.ops_flow.specs.Rows.{returns, branches, return_, jumps};
 ghost use Rattle.ops_flow.specs.Writes.{EndsInMemory, left_by, returns_to};
 
-use crate::goes;
-use gx_operands::Plan;
+use crate::goes_to;
+use gx_operands::{Plan, goes};
 use gx_rows::{Class, row_at};
 use gx_state::{Effect, State};
 use gx_words::Fault;
@@ -90,7 +90,7 @@ fn branch<A: Allocator + Clone>(
     if offset < 2 {
         return leave(state, offset, plan.next);
     }
-    Ok(goes(state, plan.sp, plan.next.wrapping_add(offset - 2)))
+    Ok(goes_to(state, plan.sp, plan.next.wrapping_add(offset - 2)))
 }
 
 /// A row of Branch.
@@ -112,6 +112,6 @@ pub fn jumps<A: Allocator + Clone>(state: &mut State<A>, plan: &Plan) -> Result<
             plan.load(usize::from(row.loads).saturating_sub(1)),
         )
     } else {
-        Ok(goes(state, plan.sp, plan.next))
+        Ok(goes(state, plan))
     }
 }

@@ -7,31 +7,14 @@ ghost use Rattle.gx_state.specs.Flat.{IsHeight};
 ghost use Rattle.gx_state.specs.Replies.{IsDone};
 ghost use Rattle.gx_operands.specs.Plans.{instruction_of};
 ghost use Rattle.gx_operands.specs.Stores.{IsMemory};
-ghost use Rattle.ops_flow.specs.Rows.{stores, computes};
+ghost use Rattle.ops_flow.specs.Rows.{computes};
 
-use gx_operands::{Plan, settle};
+use gx_operands::{Plan, stores};
 use gx_rows::{Class, row_at};
 use gx_state::{Effect, State};
 use gx_words::Fault;
 use ops_calc::calc;
 use std::alloc::Allocator;
-
-/// Stores a result, and goes on with the next instruction.
-pub fn stores<A: Allocator + Clone>(
-    state: &mut State<A>,
-    plan: &Plan,
-    value: u32,
-) -> Result<Effect, Fault>
-    requires { IsHeight state.old.flat plan.now.sp }
-    ensures value { Does (λ effect. effect) result state.old.flat state.new.flat (stores state.old.flat (instruction_of plan.now) value) }
-    ensures done { IfOk result IsDone }
-    ensures memory { IsErrOf result NoMemory → IsMemory plan.now.dest }
-    ensures story { state.new.flat.story ≡ state.old.flat.story }
-{
-    settle(state, plan.sp, &plan.dest, 4, value)?;
-    state.set_pc(plan.next);
-    Ok(Effect::Went)
-}
 
 /// A row of Calc: arithmetic, bits, sign extensions.
 #[tactic(auto, unfolding(crate::specs::Rows::computes), using(crate::proofs::Acts::acts))]

@@ -4,7 +4,7 @@
 //!
 //! `act` does the row of a plan, by its definition of specs/Rows; after every fault the state is as
 //! before. Only the rows of specs/Writes may want memory.
-//! - `computing` has the rows of Calc, and how a result is stored.
+//! - `computing` has the rows of Calc.
 //! - `branches` has those of Branch, and the return from a function.
 //! - `calls` and `continuations` have those of Flow.
 //! - `values` has those of Stack.
@@ -20,8 +20,8 @@ ghost use Rattle.gx_rows.specs.Table.{row_at};
 ghost use Rattle.gx_state.specs.Flat.{IsHeight, cut};
 ghost use Rattle.gx_state.specs.Replies.{IsDone};
 ghost use Rattle.gx_operands.specs.Plans.{instruction_of};
-ghost use Rattle.gx_operands.specs.Stores.{IsMemory};
-ghost use Rattle.ops_flow.specs.Rows.{goes, flow, stack, row};
+ghost use Rattle.gx_operands.specs.Stores.{IsMemory, goes_to};
+ghost use Rattle.ops_flow.specs.Rows.{flow, stack, row};
 ghost use Rattle.ops_flow.specs.Writes.{Writes};
 
 mod branches;
@@ -34,7 +34,7 @@ use branches::{jumps, leave};
 use calls::{call, callf, tailcall};
 use computing::computes;
 use continuations::{catch, throw};
-use gx_operands::Plan;
+use gx_operands::{Plan, goes};
 use gx_rows::{Class, row_at};
 use gx_state::{Effect, State};
 use gx_words::Fault;
@@ -42,9 +42,9 @@ use std::alloc::Allocator;
 use values::{stkcopy, stkcount, stkpeek, stkroll, stkswap};
 
 /// Goes on at an address, once the pops are made.
-fn goes<A: Allocator + Clone>(state: &mut State<A>, sp: u32, pc: u32) -> Effect
+fn goes_to<A: Allocator + Clone>(state: &mut State<A>, sp: u32, pc: u32) -> Effect
     requires { IsHeight state.old.flat sp }
-    ensures value { goes (cut state.old.flat sp) pc ≡ Ok (state.new.flat, result) }
+    ensures value { goes_to (cut state.old.flat sp) pc ≡ Ok (state.new.flat, result) }
     ensures done { IsDone result }
     ensures story { state.new.flat.story ≡ state.old.flat.story }
 {
@@ -64,13 +64,13 @@ fn flow<A: Allocator + Clone>(state: &mut State<A>, plan: &Plan) -> Result<Effec
     ensures story { state.new.flat.story ≡ state.old.flat.story }
 {
     match row_at(plan.row).number {
-        0x00 => Ok(goes(state, plan.sp, plan.next)),
+        0x00 => Ok(goes(state, plan)),
         0x30 => call(state, plan),
         0x31 => leave(state, plan.load(0), plan.next),
         0x32 => catch(state, plan),
         0x33 => throw(state, plan),
         0x34 => tailcall(state, plan),
-        0x104 => Ok(goes(state, plan.sp, plan.load(0))),
+        0x104 => Ok(goes_to(state, plan.sp, plan.load(0))),
         0x160..=0x163 => callf(state, plan),
         _ => Err(Fault::BadOpcode),
     }

@@ -11,8 +11,7 @@ ghost use Rattle.gx_operands.specs.Plans.{instruction_of};
 ghost use Rattle.gx_operands.specs.Stores.{IsMemory};
 ghost use Rattle.ops_flow.specs.Rows.{stkcount, stkpeek, stkswap, stkroll, stkcopy};
 
-use crate::computing::stores;
-use gx_operands::{Plan, values_to};
+use gx_operands::{Plan, stores, values_to};
 use gx_state::{Effect, State};
 use gx_words::{Fault, signed, word_at};
 use std::alloc::Allocator;

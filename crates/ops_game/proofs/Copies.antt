@@ -5,11 +5,11 @@ use Rattle.std.proofs.lemmas.Bool.Decides.{nat_tests}
 use Rattle.gx_state.specs.declared.modes.Dest.{Dest}
 use Rattle.gx_state.specs.declared.modes.Dest.TheVariants.{Nowhere, Memory, Local, Push}
 use Rattle.gx_state.specs.Flat.{FlatState}
-use Rattle.gx_operands.specs.Stores.{store_fault}
+use Rattle.gx_operands.specs.Stores.{store_fault, stores}
 use Rattle.gx_state.specs.Copies.{Copy, TakesWord, gone_back}
 use Rattle.gx_state.specs.declared.effects.Effect.TheVariants.{Went}
 use Rattle.gx_operands.specs.Instructions.{Instruction}
-use Rattle.ops_game.specs.Rows.{stays, stores, restores}
+use Rattle.ops_game.specs.Rows.{stays, restores}
 use Rattle.gx_undo.specs.Undo.{FlatUndo, with_newest, without_newest}
 
 -- a store that has no fault takes a word

@@ -19,19 +19,9 @@ use Rattle.gx_state.specs.Flat.{FlatState, sp_of, cut}
 use Rattle.gx_state.specs.Copies.{Copy, copy_of, gone_back, restarted}
 use Rattle.gx_undo.specs.Undo.{FlatUndo, with_newest, without_newest}
 use Rattle.gx_operands.specs.Instructions.{Instruction, operand_at, going_to}
-use Rattle.gx_operands.specs.Stores.{store_fault, stored, with_settled, settled}
+use Rattle.gx_operands.specs.Stores.{store_fault, stored, with_settled, settled, stores, goes}
 
 -- WHAT ROWS SHARE
-
--- S1 = a value
-abbrev pub stores : FlatState → Instruction → ℕ → Result (FlatState × Effect) Fault
-stores f i v = do
-  g ← settled f i.sp 4 i.dest v
-  Ok (going_to g i.next, Went)
-
--- on with the next instruction
-abbrev pub goes : FlatState → Instruction → Result (FlatState × Effect) Fault
-goes f i = Ok (going_to (cut f i.sp) i.next, Went)
 
 -- a row that leaves the copies
 abbrev pub stays : FlatUndo → Result (FlatState × Effect) Fault → Result ((FlatState × FlatUndo) × Effect) Fault

@@ -11,8 +11,7 @@ ghost use Rattle.gx_operands.specs.Plans.{instruction_of};
 ghost use Rattle.gx_operands.specs.Stores.{IsMemory};
 ghost use Rattle.ops_game.specs.Rows.{drawing, drawn, random, setrandom};
 
-use crate::storing::goes;
-use gx_operands::{Plan, can_store, settle};
+use gx_operands::{Plan, can_store, goes, settle};
 use gx_state::{Dest, Effect, State};
 use gx_words::Fault;
 use ops_calc::{Generator, pick};

@@ -27,18 +27,16 @@ ghost use Rattle.ops_game.specs.Writes.{Writes};
 
 mod chances;
 mod outputs;
-mod storing;
 mod undos;
 
 use chances::{random, setrandom};
-use gx_operands::Plan;
+use gx_operands::{Plan, goes, stores};
 use gx_rows::{gestalt as answer_to, row_at};
 use gx_state::{Effect, State};
 use gx_undo::Undo;
 use gx_words::Fault;
 use outputs::{getiosys, getstringtbl, setiosys, setstringtbl};
 use std::alloc::Allocator;
-use storing::{goes, stores};
 use undos::{restoreundo, saveundo};
 
 /// gestalt

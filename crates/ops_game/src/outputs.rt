@@ -10,8 +10,7 @@ ghost use Rattle.gx_operands.specs.Plans.{instruction_of};
 ghost use Rattle.gx_operands.specs.Stores.{IsMemory, store_fault};
 ghost use Rattle.ops_game.specs.Rows.{getstringtbl, setstringtbl, both, TakesBoth, pushes, getiosys, setiosys};
 
-use crate::storing::{goes, stores};
-use gx_operands::{Plan, can_store, settle, store};
+use gx_operands::{Plan, can_store, goes, settle, store, stores};
 use gx_state::{Dest, Effect, State};
 use gx_words::Fault;
 use std::alloc::Allocator;

@@ -11,8 +11,7 @@ ghost use Rattle.gx_operands.specs.Stores.{IsMemory};
 ghost use Rattle.gx_undo.specs.Undo.{AllFor};
 ghost use Rattle.ops_game.specs.Rows.{saveundo, restoreundo};
 
-use crate::storing::stores;
-use gx_operands::{Plan, can_store, settle};
+use gx_operands::{Plan, can_store, settle, stores};
 use gx_state::{Effect, State};
 use gx_undo::Undo;
 use gx_words::Fault;

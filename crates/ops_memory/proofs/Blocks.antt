@@ -8,8 +8,8 @@ use Rattle.gx_state.specs.declared.modes.Dest.TheVariants.{Nowhere, Memory, Loca
 use Rattle.gx_state.specs.Flat.{FlatState}
 use Rattle.gx_state.specs.Space.{MayEnter, with_block, with_size}
 use Rattle.gx_operands.specs.Instructions.{Instruction, operand_at}
-use Rattle.gx_operands.specs.Stores.{store_fault, settled, with_settled}
-use Rattle.ops_memory.specs.Rows.{stores, covering, allocated}
+use Rattle.gx_operands.specs.Stores.{store_fault, settled, with_settled, stores}
+use Rattle.ops_memory.specs.Rows.{covering, allocated}
 use Rattle.ops_memory.proofs.Spaces.{settled_keeps, size_set}
 
 with_heap : FlatState → FlatHeap → FlatState

@@ -43,6 +43,12 @@ abbrev pub EndsWithin : ℕ → ℕ → Effect → Type 0
 EndsWithin left probes Spent = left < probes
 EndsWithin left probes e = IsDone e
 
+-- The row of an instruction, with the budget that its own step left.
+unfoldable pub acted : Class → FlatState → Instruction → ℕ → Result ((FlatState × ℕ) × Effect) Fault
+acted c f i left = charged left (probes_of c f i) f (row c f i)
+
+-- FOR THE CODE OF THE SEARCHES ALONE
+
 -- how a search ends that went on within the budget
 unfoldable pub ended : FlatState → Instruction → ℕ → Bool → Found → Result ((FlatState × ℕ) × Effect) Fault
 ended f i left indexed (At address index probes) = lowered left probes (finds f i indexed (At address index probes))
@@ -54,7 +60,3 @@ abbrev pub EndsAs : Found → Effect → Type 0
 EndsAs (At address index probes) e = IsDone e
 EndsAs (Nothing probes) e = IsDone e
 EndsAs More e = e ≡ Spent
-
--- The row of an instruction, with the budget that its own step left.
-unfoldable pub acted : Class → FlatState → Instruction → ℕ → Result ((FlatState × ℕ) × Effect) Fault
-acted c f i left = charged left (probes_of c f i) f (row c f i)

@@ -7,7 +7,7 @@ use Rattle.std.specs.Prelude.{ℕ, ℤ, ◌+◌, ◌-◌, ◌*◌, ◌/◌, ◌%
 use Rattle.std.specs.Int.{w32, cast_signed, cast_unsigned, int_div_euclid, int_rem_euclid}
 use Rattle.std.specs.Option.{ok_or}
 use Rattle.gx_words.specs.declared.faults.Fault.{Fault}
-use Rattle.gx_words.specs.declared.faults.Fault.TheVariants.{BadOpcode, BadAddress, ReadOnly, MemSize, HeapUse}
+use Rattle.gx_words.specs.declared.faults.Fault.TheVariants.{BadOpcode, BadAddress, MemSize, HeapUse}
 use Rattle.gx_words.specs.Results.{◌>>=◌}
 use Rattle.gx_pages.specs.Memory.{ceiling, number_in}
 use Rattle.gx_rows.specs.declared.instructions.Class.{Class}
@@ -21,22 +21,12 @@ use Rattle.heap_blocks.specs.Heap.{is_inactive, place}
 use Rattle.gx_state.specs.declared.effects.Effect.{Effect}
 use Rattle.gx_state.specs.declared.effects.Effect.TheVariants.{Went, Spent}
 use Rattle.gx_state.specs.declared.modes.Dest.TheVariants as dest
-use Rattle.gx_state.specs.Flat.{FlatState, cut}
+use Rattle.gx_state.specs.Flat.{FlatState, write_fault}
 use Rattle.gx_state.specs.Space.{zeroed, moved, with_size, with_block, without_block}
 use Rattle.gx_operands.specs.Instructions.{Instruction, operand_at, going_to}
-use Rattle.gx_operands.specs.Stores.{settled}
+use Rattle.gx_operands.specs.Stores.{settled, stores, goes}
 
 -- WHAT ROWS SHARE
-
--- S1 = a value
-abbrev pub stores : FlatState → Instruction → ℕ → Result (FlatState × Effect) Fault
-stores f i v = do
-  g ← settled f i.sp 4 i.dest v
-  Ok (going_to g i.next, Went)
-
--- on with the next instruction
-abbrev pub goes : FlatState → Instruction → Result (FlatState × Effect) Fault
-goes f i = Ok (going_to (cut f i.sp) i.next, Went)
 
 -- S1 = the number of so many bytes at an address
 abbrev pub loads : FlatState → Instruction → ℕ → ℕ → Result (FlatState × Effect) Fault
@@ -69,20 +59,15 @@ bit_in_byte i = unsigned_abs (int_rem_euclid (bit_index i) (pos 8))
 abbrev pub with_bit : ℕ → ℕ → ℕ → ℕ
 with_bit byte k v = if v == 0 then bit_and byte (0xFFFFFFFF - 2 ^ k) else bit_or byte (2 ^ k)
 
--- The fault of a read of so many bytes from an address on, and that of a write. None of either touches no
--- address.
-unfoldable pub read_fault : FlatState → ℕ → ℕ → Result (Unit {0}) Fault
-read_fault f at count =
+-- The fault of a range that is read, and that of one that is written. A range without a byte touches no address.
+unfoldable pub source_fault : FlatState → ℕ → ℕ → Result (Unit {0}) Fault
+source_fault f at count =
     if count == 0 then Ok tt else
     if nat_lt (length f.memory) (at + count) then Err BadAddress else
     Ok tt
 
-unfoldable pub write_fault : FlatState → ℕ → ℕ → Result (Unit {0}) Fault
-write_fault f at count =
-    if count == 0 then Ok tt else
-    if nat_lt (length f.memory) (at + count) then Err BadAddress else
-    if nat_lt at f.story.ramstart then Err ReadOnly else
-    Ok tt
+unfoldable pub target_fault : FlatState → ℕ → ℕ → Result (Unit {0}) Fault
+target_fault f at count = if count == 0 then Ok tt else write_fault f at count
 
 -- MOVING DATA
 
@@ -194,14 +179,14 @@ linkedsearch f i = do
 -- 170 mzero (L1 L2): L1 zeros are written at L2
 unfoldable pub mzero : FlatState → Instruction → Result (FlatState × Effect) Fault
 mzero f i = do
-  _ ← write_fault f (operand_at i 1) (operand_at i 0)
+  _ ← target_fault f (operand_at i 1) (operand_at i 0)
   goes (zeroed f (operand_at i 1) (operand_at i 0)) i
 
 -- 171 mcopy (L1 L2 L3): the L1 bytes at L2 are written at L3, as if through a copy
 unfoldable pub mcopy : FlatState → Instruction → Result (FlatState × Effect) Fault
 mcopy f i = do
-  _ ← read_fault f (operand_at i 1) (operand_at i 0)
-  _ ← write_fault f (operand_at i 2) (operand_at i 0)
+  _ ← source_fault f (operand_at i 1) (operand_at i 0)
+  _ ← target_fault f (operand_at i 2) (operand_at i 0)
   goes (moved f (operand_at i 1) (operand_at i 2) (operand_at i 0)) i
 
 -- MEMORY ALLOCATION HEAP

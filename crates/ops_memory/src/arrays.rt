@@ -9,8 +9,7 @@ ghost use Rattle.gx_operands.specs.Plans.{instruction_of};
 ghost use Rattle.gx_operands.specs.Stores.{IsMemory};
 ghost use Rattle.ops_memory.specs.Rows.{element, loads, puts};
 
-use crate::storing::stores;
-use gx_operands::{Plan, settle};
+use gx_operands::{Plan, settle, stores};
 use gx_state::{Dest, Effect, State};
 use gx_words::Fault;
 use std::alloc::Allocator;

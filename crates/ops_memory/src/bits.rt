@@ -9,8 +9,7 @@ ghost use Rattle.gx_operands.specs.Stores.{IsMemory};
 ghost use Rattle.ops_memory.specs.Rows.{aloadbit, astorebit, byte_of_bit, bit_in_byte, with_bit};
 
 use crate::arrays::puts;
-use crate::storing::stores;
-use gx_operands::Plan;
+use gx_operands::{Plan, stores};
 use gx_state::{Effect, State};
 use gx_words::{Fault, signed};
 use std::alloc::Allocator;

@@ -10,11 +10,11 @@ ghost use Rattle.gx_state.specs.Flat.{IsHeight};
 ghost use Rattle.gx_state.specs.Replies.{IsDone};
 ghost use Rattle.gx_operands.specs.Instructions.{operand_at};
 ghost use Rattle.gx_operands.specs.Plans.{instruction_of};
-ghost use Rattle.ops_memory.specs.Rows.{stores, allocated, covering, malloc, mfree};
+ghost use Rattle.gx_operands.specs.Stores.{stores};
+ghost use Rattle.ops_memory.specs.Rows.{allocated, covering, malloc, mfree};
 
 use crate::sizes::{can_store_in, grow_with};
-use crate::storing::{goes, stores};
-use gx_operands::Plan;
+use gx_operands::{Plan, goes, stores};
 use gx_pages::CEILING;
 use gx_state::{Effect, State};
 use gx_words::Fault;

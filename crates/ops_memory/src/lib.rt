@@ -3,7 +3,6 @@
 //!
 //! `act` does the row of a plan, by its definition of specs/Rows, at the cost of specs/Costs; after
 //! every fault the state and the budget are as before. Only the rows of specs/Writes may want memory.
-//! - `storing` has what the rows share.
 //! - `arrays` and `bits` have the rows of arrays.
 //! - `searches` has the searches, the only rows that cost more than their step.
 //! - `ranges` has mzero and mcopy.
@@ -33,11 +32,10 @@ mod heap;
 mod ranges;
 mod searches;
 mod sizes;
-mod storing;
 
 use arrays::{element, loads, puts};
 use bits::{aloadbit, astorebit};
-use gx_operands::{Plan, settle};
+use gx_operands::{Plan, settle, stores};
 use gx_rows::{Class, row_at};
 use gx_state::{Effect, State};
 use gx_words::Fault;
@@ -46,7 +44,6 @@ use ranges::{mcopy, mzero};
 use searches::{binarysearch, linearsearch, linkedsearch};
 use sizes::setmemsize;
 use std::alloc::Allocator;
-use storing::stores;
 
 /// A row of Copy.
 #[tactic(auto, unfolding(crate::specs::Rows::copy))]

@@ -7,18 +7,17 @@ ghost use Rattle.gx_state.specs.Space.{InMemory};
 ghost use Rattle.gx_state.specs.Replies.{IsDone};
 ghost use Rattle.gx_operands.specs.Instructions.{operand_at};
 ghost use Rattle.gx_operands.specs.Plans.{instruction_of};
-ghost use Rattle.ops_memory.specs.Rows.{read_fault, write_fault, mzero, mcopy};
+ghost use Rattle.ops_memory.specs.Rows.{source_fault, target_fault, mzero, mcopy};
 
-use crate::storing::goes;
-use gx_operands::Plan;
+use gx_operands::{Plan, goes};
 use gx_state::{Effect, State};
 use gx_words::Fault;
 use std::alloc::Allocator;
 
-/// Looks whether so many bytes can be read.
-#[tactic(auto, unfolding(crate::specs::Rows::read_fault))]
+/// Looks whether a range can be read.
+#[tactic(auto, unfolding(crate::specs::Rows::source_fault))]
 fn can_read<A: Allocator + Clone>(state: &State<A>, at: u32, count: u32) -> Result<(), Fault>
-    ensures value { result ≡ read_fault state.now.flat at count }
+    ensures value { result ≡ source_fault state.now.flat at count }
     ensures there { OnOk result (InMemory state.now.flat at count) }
     ensures memory { TakesNone result }
 {
@@ -31,23 +30,17 @@ fn can_read<A: Allocator + Clone>(state: &State<A>, at: u32, count: u32) -> Resu
     Ok(())
 }
 
-/// Looks whether so many bytes can be written.
-#[tactic(auto, unfolding(crate::specs::Rows::write_fault))]
+/// Looks whether a range can be written.
+#[tactic(auto, unfolding(crate::specs::Rows::target_fault))]
 fn can_write<A: Allocator + Clone>(state: &State<A>, at: u32, count: u32) -> Result<(), Fault>
-    ensures value { result ≡ write_fault state.now.flat at count }
+    ensures value { result ≡ target_fault state.now.flat at count }
     ensures there { OnOk result (InRam state.now.flat at count) }
     ensures memory { TakesNone result }
 {
     if count == 0 {
         return Ok(());
     }
-    if u64::from(at) + u64::from(count) > u64::from(state.memory().size()) {
-        return Err(Fault::BadAddress);
-    }
-    if at < state.ramstart() {
-        return Err(Fault::ReadOnly);
-    }
-    Ok(())
+    state.can_write(at, count)
 }
 
 /// mzero

@@ -13,8 +13,7 @@ ghost use Rattle.gx_operands.specs.Stores.{IsMemory};
 ghost use Rattle.ops_memory.specs.Rows.{row_ask, list_ask, returns_index, linearsearch, binarysearch, linkedsearch};
 ghost use Rattle.ops_memory.specs.Costs.{charged, ended, EndsAs, EndsWithin};
 
-use crate::storing::stores;
-use gx_operands::Plan;
+use gx_operands::{Plan, stores};
 use gx_search::{Ask, Found, binary, linear, linked};
 use gx_state::{Effect, State};
 use gx_words::Fault;

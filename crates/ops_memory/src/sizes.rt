@@ -13,8 +13,7 @@ ghost use Rattle.gx_operands.specs.Plans.{instruction_of};
 ghost use Rattle.gx_operands.specs.Stores.{store_fault, settled};
 ghost use Rattle.ops_memory.specs.Rows.{setmemsize};
 
-use crate::storing::stores;
-use gx_operands::{Plan, can_store, settle};
+use gx_operands::{Plan, can_store, settle, stores};
 use gx_pages::CEILING;
 use gx_state::{Dest, Effect, State};
 use gx_words::Fault;

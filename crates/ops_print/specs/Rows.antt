@@ -17,6 +17,7 @@ use Rattle.gx_state.specs.declared.modes.Mode.TheVariants as mode
 use Rattle.gx_state.specs.Flat.{FlatState, cut}
 use Rattle.gx_state.specs.Entry.{entered}
 use Rattle.gx_operands.specs.Instructions.{Instruction, operand_at, going_to}
+use Rattle.gx_operands.specs.Stores.{goes}
 
 -- WHAT ROWS SHARE
 
@@ -32,7 +33,7 @@ puts f i c =
       g ← entered f i.sp (stub_of f i.next ∷ []) f.iosys.1 (c ∷ [])
       Ok (g, Went)) else
     if f.iosys.0 == 2 then Ok (f, Put c) else
-    Ok (going_to (cut f i.sp) i.next, Went)
+    goes f i
 
 -- a string or number is printed from now on, and then the next instruction follows
 abbrev pub prints : FlatState → Instruction → Printing → FlatState × Effect

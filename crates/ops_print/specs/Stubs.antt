@@ -1,7 +1,7 @@
 -- The call stubs of strings and numbers (Glulx 3.1.2, "Call Stubs" and "Calling and Returning During Output
 -- Filtering"): what is pushed before an inner string is begun or a function is called in the midst of
 -- printing, and what follows once the stub on top is popped at an end.
-use Rattle.std.specs.Prelude.{◌==◌, nat_lt, if◌then◌else◌, Bool, true, List, [], ◌∷◌, Result, Ok, Err}
+use Rattle.std.specs.Prelude.{◌==◌, if◌then◌else◌, Bool, List, [], ◌∷◌, Result, Ok, Err}
 use Rattle.gx_words.specs.declared.faults.Fault.{Fault}
 use Rattle.gx_words.specs.declared.faults.Fault.TheVariants.{BadFrame}
 use Rattle.gx_words.specs.declared.strings.Printing.{Printing}
@@ -11,7 +11,7 @@ use Rattle.gx_words.specs.Results.{◌>>=◌}
 use Rattle.gx_stack.specs.declared.stubs.Stub.{Stub}
 use Rattle.gx_state.specs.declared.modes.Mode.TheVariants as mode
 use Rattle.gx_state.specs.Flat.{FlatState}
-use Rattle.gx_state.specs.Returns.{popped_stub}
+use Rattle.gx_state.specs.Returns.{popped_stub, printing_on}
 
 -- The stub that resumes a string or number: type 10 at a bit of a compressed string, 12 at a digit of a number,
 -- 13 and 14 at the next character of a string of bytes or words.
@@ -36,8 +36,7 @@ ways_back f started back = if started then resuming f back ∷ [] else to_code f
 -- The stub was popped at the end of a string or number: code goes on, or the compressed string around it.
 unfoldable pub gone_on : FlatState → Stub → Result FlatState Fault
 gone_on f p =
-    if p.kind == 0x10 then
-    (if nat_lt 7 p.addr then Err BadFrame else Ok (record f { mode = mode.Printing (record { kind = E1; at = p.pc; bit = p.addr; started = true }) })) else
+    if p.kind == 0x10 then printing_on f p else
     if p.kind == 0x11 then Ok (record f { pc = p.pc; mode = mode.Running }) else
     Err BadFrame
 

@@ -6,7 +6,7 @@ ghost use Rattle.gx_state.specs.Flat.{IsHeight};
 ghost use Rattle.gx_operands.specs.Plans.{instruction_of};
 ghost use Rattle.ops_print.specs.Rows.{stub_of, puts, prints, streamchar, streamnum, streamstr, streamunichar, AsksAtMostPut};
 
-use gx_operands::Plan;
+use gx_operands::{Plan, goes};
 use gx_stack::Stub;
 use gx_state::{Effect, Mode, State};
 use gx_strings::begin;
@@ -46,11 +46,7 @@ fn puts<A: Allocator + Clone>(
             Ok(Effect::Went)
         }
         2 => Ok(Effect::Put(value)),
-        _ => {
-            state.cut_stack(plan.sp);
-            state.set_pc(plan.next);
-            Ok(Effect::Went)
-        }
+        _ => Ok(goes(state, plan)),
     }
 }
 

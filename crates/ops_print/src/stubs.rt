@@ -7,7 +7,7 @@ ghost use Rattle.gx_state.specs.Flat.{sp_of};
 ghost use Rattle.ops_print.specs.Stubs.{resuming, to_code, inner_ended};
 
 use gx_stack::Stub;
-use gx_state::{Mode, State};
+use gx_state::{Mode, State, printing_of};
 use gx_words::{Fault, PrintKind, Printing};
 use std::alloc::Allocator;
 
@@ -46,7 +46,7 @@ pub fn to_code<A: Allocator + Clone>(state: &State<A>) -> Stub
 /// Ends a string or number that a reference began or a stub resumed, and goes on by the stub on top, which
 /// is looked at before it is popped. `BadFrame` exactly where no stub is there, its frame is not good, or
 /// it resumes neither code nor a compressed string at one of the eight bits of a byte.
-#[tactic(auto, unfolding(crate::specs::Stubs::inner_ended, crate::specs::Stubs::gone_on, gx_state::specs::Returns::popped_stub, gx_state::specs::Returns::stub_to, gx_stack::specs::Frames::frame_in))]
+#[tactic(auto, unfolding(crate::specs::Stubs::inner_ended, crate::specs::Stubs::gone_on, gx_state::specs::Returns::popped_stub, gx_state::specs::Returns::stub_to, gx_state::specs::Returns::printing_on, gx_stack::specs::Frames::frame_in))]
 pub fn end_inner<A: Allocator + Clone>(state: &mut State<A>) -> Result<(), Fault>
     ensures value { Alters result state.old.flat state.new.flat (inner_ended state.old.flat) }
     ensures memory { TakesNone result }
@@ -57,14 +57,10 @@ pub fn end_inner<A: Allocator + Clone>(state: &mut State<A>) -> Result<(), Fault
         return Err(Fault::BadFrame);
     };
     match stub.kind {
-        0x10 if stub.addr < 8 => {
+        0x10 => {
+            let printing = printing_of(&stub).ok_or(Fault::BadFrame)?;
             state.pop_stub()?;
-            state.set_mode(Mode::Printing(Printing {
-                kind: PrintKind::E1,
-                at: stub.pc,
-                bit: stub.addr,
-                started: true,
-            }));
+            state.set_mode(Mode::Printing(printing));
             Ok(())
         }
         0x11 => {

@@ -25,15 +25,7 @@ pub fn can_store<A: Allocator + Clone>(
 {
     match *dest {
         Dest::Nowhere => Ok(()),
-        Dest::Memory(at) => {
-            if u64::from(at) + u64::from(width) > u64::from(state.memory().size()) {
-                return Err(Fault::BadAddress);
-            }
-            if at < state.ramstart() {
-                return Err(Fault::ReadOnly);
-            }
-            Ok(())
-        }
+        Dest::Memory(at) => state.can_write(at, width),
         Dest::Local(at) => {
             let frame = state.frame();
             if u64::from(at) + u64::from(width) > u64::from(frame.values - frame.locals) {
@@ -88,13 +80,7 @@ fn write<A: Allocator + Clone>(
     ensures spare { state.new.spare ≡ state.old.spare }
     ensures story { state.new.flat.story ≡ state.old.flat.story }
 {
-    let size = state.memory().size();
-    if u64::from(at) + u64::from(width) > u64::from(size) {
-        return Err(Fault::BadAddress);
-    }
-    if at < state.ramstart() {
-        return Err(Fault::ReadOnly);
-    }
+    state.can_write(at, width)?;
     let bytes = word_bytes(value);
     let written = match width {
         1 => state.write(at, &[bytes[3]]),

@@ -1,14 +1,14 @@
-//! What the rows share: a result, and the next instruction.
+//! What the rows of all classes share: a result, and the next instruction.
 ghost use Rattle.std.specs.Prelude.{◌≡◌, Ok, IsErrOf, IfOk};
 ghost use Rattle.gx_words.specs.declared.faults.Fault.TheVariants.{NoMemory};
 ghost use Rattle.gx_words.specs.Faults.{Does};
 ghost use Rattle.gx_state.specs.Flat.{IsHeight};
 ghost use Rattle.gx_state.specs.Replies.{IsDone};
 ghost use Rattle.gx_operands.specs.Plans.{instruction_of};
-ghost use Rattle.gx_operands.specs.Stores.{IsMemory};
-ghost use Rattle.ops_memory.specs.Rows.{stores, goes};
+ghost use Rattle.gx_operands.specs.Stores.{IsMemory, stores, goes};
 
-use gx_operands::{Plan, settle};
+use crate::decoding::Plan;
+use crate::storing::settle;
 use gx_state::{Effect, State};
 use gx_words::Fault;
 use std::alloc::Allocator;
