@@ -105,6 +105,12 @@ code 81 10 18 07                   ; random sp 7
 stack 00000005
 ends fault 2 at 0000002a after 1 steps
 
+story random to a word that ends past memory
+at 1FD 01 02 03
+code 81 10 60 01 FD                ; random 0 *0x1FD
+memory 1FD 01 02 03
+ends fault 3 at 00000027 after 0 steps
+
 story random to a word that begins below RAMSTART
 at 100 01
 code 40 81 05                      ; copy 5 sp
@@ -128,6 +134,6 @@ ends fault 9 at 00000027 after 0 steps
 
 #[test]
 fn random_words(rt: HostRuntime) -> Result<(), Fail> {
-    assert_eq!(rt; play_all(&rt, rt.alloc(), RANDOM_WORDS)?, 13);
+    assert_eq!(rt; play_all(&rt, rt.alloc(), RANDOM_WORDS)?, 14);
     Ok(())
 }

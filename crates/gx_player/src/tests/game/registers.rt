@@ -28,6 +28,13 @@ code 81 40 06 01 FD                ; getstringtbl *0x1FD
 memory 1FD 01 02 03
 ends fault 3 at 00000027 after 0 steps
 
+story getstringtbl to a word that begins below RAMSTART
+at 1C 12 34 56 78
+at 100 01
+code 81 40 05 FD                   ; getstringtbl *0xFD
+memory FD 00 00 00 01
+ends fault 4 at 00000027 after 0 steps
+
 story getstringtbl to a local that isn't there
 code 81 40 09 00                   ; getstringtbl loc0
 ends fault 9 at 00000027 after 0 steps
@@ -211,6 +218,6 @@ ends fault 9 at 00000027 after 0 steps
 
 #[test]
 fn registers(rt: HostRuntime) -> Result<(), Fail> {
-    assert_eq!(rt; play_all(&rt, rt.alloc(), REGISTERS)?, 25);
+    assert_eq!(rt; play_all(&rt, rt.alloc(), REGISTERS)?, 26);
     Ok(())
 }

@@ -62,6 +62,12 @@ story verify to a constant
 code 81 21 01 07                   ; verify 7
 ends fault 2 at 00000027 after 0 steps
 
+story verify to a word that ends past memory
+at 1FD 01 02 03
+code 81 21 06 01 FD                ; verify *0x1FD
+memory 1FD 01 02 03
+ends fault 3 at 00000027 after 0 steps
+
 story verify to a word that begins below RAMSTART
 at 100 01
 code 81 21 05 FD                   ; verify *0xFD
@@ -273,6 +279,6 @@ ends fault 2 at 00000027 after 0 steps
 
 #[test]
 fn restarts(rt: HostRuntime) -> Result<(), Fail> {
-    assert_eq!(rt; play_all(&rt, rt.alloc(), RESTARTS)?, 27);
+    assert_eq!(rt; play_all(&rt, rt.alloc(), RESTARTS)?, 28);
     Ok(())
 }

@@ -46,6 +46,12 @@ stack 00000007 00000007 00000007 00000007 00000007 00000007 00000007 00000007 00
 copies 1
 ends fault 6 at 00000045 after 10 steps
 
+story saveundo to a word that ends past memory
+at 1FD 01 02 03
+code 81 25 06 01 FD                ; saveundo *0x1FD
+memory 1FD 01 02 03
+ends fault 3 at 00000027 after 0 steps
+
 story saveundo to a word that begins below RAMSTART
 at 100 01
 code 40 81 05                      ; copy 5 sp
@@ -314,6 +320,12 @@ stack 00000000
 copies 1
 ends fault 2 at 0000002a after 1 steps
 
+story restoreundo without a copy to a word that ends past memory
+at 1FD 01 02 03
+code 81 26 06 01 FD                ; restoreundo *0x1FD
+memory 1FD 01 02 03
+ends fault 3 at 00000027 after 0 steps
+
 story restoreundo without a copy to a word that begins below RAMSTART
 at 100 01
 code 40 81 05                      ; copy 5 sp
@@ -350,6 +362,6 @@ ends fault 9 at 00000027 after 0 steps
 
 #[test]
 fn undos(rt: HostRuntime) -> Result<(), Fail> {
-    assert_eq!(rt; play_all(&rt, rt.alloc(), UNDOS)?, 25);
+    assert_eq!(rt; play_all(&rt, rt.alloc(), UNDOS)?, 27);
     Ok(())
 }

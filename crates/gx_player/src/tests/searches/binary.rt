@@ -287,10 +287,17 @@ stack 00000005 00000005 00000005 00000005 00000005 00000005 00000005 00000005 00
       00000005 00000005 00000005 00000005 00000005 00000005 00000005 00000005 00000005 00000005 \
       00000005 00000005 00000005 00000005 00000005 00000005 00000005 00000005 00000005 00000005 00000005
 ends fault 6 at 0000003c after 7 steps
+
+story an answer for a local that isn't there
+at 110 0A 0B
+code 40 81 0B                      ; copy 0x0B sp
+code 81 51 18 12 01 90 01 01 10 01 02 00 ; binarysearch sp 1 0x110 1 2 0 0 loc0
+stack 0000000B
+ends fault 9 at 0000002a after 1 steps
 ";
 
 #[test]
 fn binary(rt: HostRuntime) -> Result<(), Fail> {
-    assert_eq!(rt; play_all(&rt, rt.alloc(), BINARY)?, 29);
+    assert_eq!(rt; play_all(&rt, rt.alloc(), BINARY)?, 30);
     Ok(())
 }

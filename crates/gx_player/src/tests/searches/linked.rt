@@ -312,10 +312,17 @@ stack 00000005 00000005 00000005 00000005 00000005 00000005 00000005 00000005 00
       00000005 00000005 00000005 00000005 00000005 00000005 00000005 00000005 00000005 00000005 \
       00000005 00000005 00000005 00000005 00000005 00000005 00000005 00000005 00000005 00000005 00000005
 ends fault 6 at 0000003c after 7 steps
+
+story an answer for a local that isn't there
+at 110 00 00 00 00 0B
+code 40 81 0B                      ; copy 0x0B sp
+code 81 52 18 12 00 09 01 01 10 04 00 ; linkedsearch sp 1 0x110 4 0 0 loc0
+stack 0000000B
+ends fault 9 at 0000002a after 1 steps
 ";
 
 #[test]
 fn linked(rt: HostRuntime) -> Result<(), Fail> {
-    assert_eq!(rt; play_all(&rt, rt.alloc(), LINKED)?, 31);
+    assert_eq!(rt; play_all(&rt, rt.alloc(), LINKED)?, 32);
     Ok(())
 }
