@@ -469,10 +469,29 @@ code 70 01 66                      ; streamchar 0x66
 code 81 20                         ; quit
 text acf
 ends well after 22 steps
+
+story streamunichar with no room for its stub
+at 14 00 00 01 00
+code 81 49 01 01                   ; setiosys 1 0
+code 40 81 07                      ; copy 7 sp
+code 54 01 01                      ; stkcopy 1
+code 54 01 02                      ; stkcopy 2
+code 54 01 04                      ; stkcopy 4
+code 54 01 08                      ; stkcopy 8
+code 54 01 10                      ; stkcopy 16
+code 54 01 1A                      ; stkcopy 26
+code 73 01 61                      ; streamunichar 0x61
+stack 00000007 00000007 00000007 00000007 00000007 00000007 00000007 00000007 00000007 00000007 \
+      00000007 00000007 00000007 00000007 00000007 00000007 00000007 00000007 00000007 00000007 \
+      00000007 00000007 00000007 00000007 00000007 00000007 00000007 00000007 00000007 00000007 \
+      00000007 00000007 00000007 00000007 00000007 00000007 00000007 00000007 00000007 00000007 \
+      00000007 00000007 00000007 00000007 00000007 00000007 00000007 00000007 00000007 00000007 \
+      00000007 00000007 00000007 00000007 00000007 00000007 00000007 00000007
+ends fault 6 at 00000040 after 8 steps
 ";
 
 #[test]
 fn filtered(rt: HostRuntime) -> Result<(), Fail> {
-    assert_eq!(rt; play_all(&rt, rt.alloc(), FILTERED)?, 38);
+    assert_eq!(rt; play_all(&rt, rt.alloc(), FILTERED)?, 39);
     Ok(())
 }

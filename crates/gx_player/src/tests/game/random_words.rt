@@ -119,6 +119,24 @@ stack 00000005
 memory 100 01
 ends fault 4 at 0000002a after 1 steps
 
+story random onto a full stack
+at 14 00 00 01 00
+code 40 81 07                      ; copy 7 sp
+code 54 01 01                      ; stkcopy 1
+code 54 01 02                      ; stkcopy 2
+code 54 01 04                      ; stkcopy 4
+code 54 01 08                      ; stkcopy 8
+code 54 01 10                      ; stkcopy 16
+code 54 01 1D                      ; stkcopy 29
+code 81 10 81 01                   ; random 1 sp
+stack 00000007 00000007 00000007 00000007 00000007 00000007 00000007 00000007 00000007 00000007 \
+      00000007 00000007 00000007 00000007 00000007 00000007 00000007 00000007 00000007 00000007 \
+      00000007 00000007 00000007 00000007 00000007 00000007 00000007 00000007 00000007 00000007 \
+      00000007 00000007 00000007 00000007 00000007 00000007 00000007 00000007 00000007 00000007 \
+      00000007 00000007 00000007 00000007 00000007 00000007 00000007 00000007 00000007 00000007 \
+      00000007 00000007 00000007 00000007 00000007 00000007 00000007 00000007 00000007 00000007 00000007
+ends fault 6 at 0000003c after 7 steps
+
 story random to a local that isn't there
 code 81 10 90 00                   ; random 0 loc0
 ends fault 9 at 00000027 after 0 steps
@@ -134,6 +152,6 @@ ends fault 9 at 00000027 after 0 steps
 
 #[test]
 fn random_words(rt: HostRuntime) -> Result<(), Fail> {
-    assert_eq!(rt; play_all(&rt, rt.alloc(), RANDOM_WORDS)?, 14);
+    assert_eq!(rt; play_all(&rt, rt.alloc(), RANDOM_WORDS)?, 15);
     Ok(())
 }

@@ -35,6 +35,24 @@ code 81 40 05 FD                   ; getstringtbl *0xFD
 memory FD 00 00 00 01
 ends fault 4 at 00000027 after 0 steps
 
+story getstringtbl onto a full stack
+at 14 00 00 01 00
+code 40 81 07                      ; copy 7 sp
+code 54 01 01                      ; stkcopy 1
+code 54 01 02                      ; stkcopy 2
+code 54 01 04                      ; stkcopy 4
+code 54 01 08                      ; stkcopy 8
+code 54 01 10                      ; stkcopy 16
+code 54 01 1D                      ; stkcopy 29
+code 81 40 08                      ; getstringtbl sp
+stack 00000007 00000007 00000007 00000007 00000007 00000007 00000007 00000007 00000007 00000007 \
+      00000007 00000007 00000007 00000007 00000007 00000007 00000007 00000007 00000007 00000007 \
+      00000007 00000007 00000007 00000007 00000007 00000007 00000007 00000007 00000007 00000007 \
+      00000007 00000007 00000007 00000007 00000007 00000007 00000007 00000007 00000007 00000007 \
+      00000007 00000007 00000007 00000007 00000007 00000007 00000007 00000007 00000007 00000007 \
+      00000007 00000007 00000007 00000007 00000007 00000007 00000007 00000007 00000007 00000007 00000007
+ends fault 6 at 0000003c after 7 steps
+
 story getstringtbl to a local that isn't there
 code 81 40 09 00                   ; getstringtbl loc0
 ends fault 9 at 00000027 after 0 steps
@@ -218,6 +236,6 @@ ends fault 9 at 00000027 after 0 steps
 
 #[test]
 fn registers(rt: HostRuntime) -> Result<(), Fail> {
-    assert_eq!(rt; play_all(&rt, rt.alloc(), REGISTERS)?, 26);
+    assert_eq!(rt; play_all(&rt, rt.alloc(), REGISTERS)?, 27);
     Ok(())
 }

@@ -74,6 +74,24 @@ code 81 21 05 FD                   ; verify *0xFD
 memory 100 01
 ends fault 4 at 00000027 after 0 steps
 
+story verify onto a full stack
+at 14 00 00 01 00
+code 40 81 07                      ; copy 7 sp
+code 54 01 01                      ; stkcopy 1
+code 54 01 02                      ; stkcopy 2
+code 54 01 04                      ; stkcopy 4
+code 54 01 08                      ; stkcopy 8
+code 54 01 10                      ; stkcopy 16
+code 54 01 1D                      ; stkcopy 29
+code 81 21 08                      ; verify sp
+stack 00000007 00000007 00000007 00000007 00000007 00000007 00000007 00000007 00000007 00000007 \
+      00000007 00000007 00000007 00000007 00000007 00000007 00000007 00000007 00000007 00000007 \
+      00000007 00000007 00000007 00000007 00000007 00000007 00000007 00000007 00000007 00000007 \
+      00000007 00000007 00000007 00000007 00000007 00000007 00000007 00000007 00000007 00000007 \
+      00000007 00000007 00000007 00000007 00000007 00000007 00000007 00000007 00000007 00000007 \
+      00000007 00000007 00000007 00000007 00000007 00000007 00000007 00000007 00000007 00000007 00000007
+ends fault 6 at 0000003c after 7 steps
+
 story verify to a local that isn't there
 code 81 21 09 00                   ; verify loc0
 ends fault 9 at 00000027 after 0 steps
@@ -279,6 +297,6 @@ ends fault 2 at 00000027 after 0 steps
 
 #[test]
 fn restarts(rt: HostRuntime) -> Result<(), Fail> {
-    assert_eq!(rt; play_all(&rt, rt.alloc(), RESTARTS)?, 28);
+    assert_eq!(rt; play_all(&rt, rt.alloc(), RESTARTS)?, 29);
     Ok(())
 }

@@ -64,6 +64,18 @@ code 70 08                         ; streamchar sp
 text A
 ends fault 7 at 00000045 after 9 steps
 
+story streamchar of a mode that no operand has
+code 40 81 05                      ; copy 5 sp
+code 70 04
+stack 00000005
+ends fault 2 at 0000002a after 1 steps
+
+story streamchar of a local that isn't there
+code 40 81 05                      ; copy 5 sp
+code 70 09 00                      ; streamchar loc0
+stack 00000005
+ends fault 9 at 0000002a after 1 steps
+
 story all 32 bits of a number as a character
 window
 code 40 81 05                      ; copy 5 sp
@@ -92,10 +104,32 @@ code 73 00                         ; streamunichar 0
 code 81 20                         ; quit
 text \u{D7FF}??\u{E000}\u{10FFFF}?????
 ends well after 19 steps
+
+story streamunichar of a mode that no operand has
+code 40 81 05                      ; copy 5 sp
+code 73 0C
+stack 00000005
+ends fault 2 at 0000002a after 1 steps
+
+story streamunichar of a word that ends past memory
+code 40 81 05                      ; copy 5 sp
+code 73 06 01 FD                   ; streamunichar *0x1FD
+stack 00000005
+ends fault 3 at 0000002a after 1 steps
+
+story streamunichar from an empty stack
+code 73 08                         ; streamunichar sp
+ends fault 7 at 00000027 after 0 steps
+
+story streamunichar of a local that isn't there
+code 40 81 05                      ; copy 5 sp
+code 73 09 00                      ; streamunichar loc0
+stack 00000005
+ends fault 9 at 0000002a after 1 steps
 ";
 
 #[test]
 fn characters(rt: HostRuntime) -> Result<(), Fail> {
-    assert_eq!(rt; play_all(&rt, rt.alloc(), CHARACTERS)?, 7);
+    assert_eq!(rt; play_all(&rt, rt.alloc(), CHARACTERS)?, 13);
     Ok(())
 }

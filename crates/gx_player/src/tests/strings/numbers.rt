@@ -62,10 +62,28 @@ code 71 01 01                      ; streamnum 1
 code 71 08                         ; streamnum sp
 text 1
 ends fault 7 at 00000045 after 11 steps
+
+story streamnum of a mode that no operand has
+code 40 81 05                      ; copy 5 sp
+code 71 04
+stack 00000005
+ends fault 2 at 0000002a after 1 steps
+
+story streamnum of a word that ends past memory
+code 40 81 05                      ; copy 5 sp
+code 71 06 01 FD                   ; streamnum *0x1FD
+stack 00000005
+ends fault 3 at 0000002a after 1 steps
+
+story streamnum of a local that isn't there
+code 40 81 05                      ; copy 5 sp
+code 71 09 00                      ; streamnum loc0
+stack 00000005
+ends fault 9 at 0000002a after 1 steps
 ";
 
 #[test]
 fn numbers(rt: HostRuntime) -> Result<(), Fail> {
-    assert_eq!(rt; play_all(&rt, rt.alloc(), NUMBERS)?, 5);
+    assert_eq!(rt; play_all(&rt, rt.alloc(), NUMBERS)?, 8);
     Ok(())
 }

@@ -268,6 +268,17 @@ code 72 02 01 00                   ; streamstr 0x100
 stack 00000005
 ends fault 10 at 0000002e after 2 steps
 
+story a reference of type 0A to an object of type C2, the count of which isn't in memory
+at 1C 00 00 00 80
+at 80 00 00 00 30 00 00 00 03 00 00 00 8C 00 00 00 00 95 00 00 01 FA 01
+at 1FA 0A 00 00 01 40 00
+at 100 E1 01
+at 140 C2 00 00
+code 40 81 05                      ; copy 5 sp
+code 72 02 01 00                   ; streamstr 0x100
+stack 00000005
+ends fault 10 at 0000002e after 2 steps
+
 story a reference of type 0B to an object of type C8
 at 1C 00 00 00 80
 at 80 00 00 00 30 00 00 00 03 00 00 00 8C 00 00 00 00 95 00 00 00 96 01
@@ -353,6 +364,6 @@ ends fault 11 at 0000002e after 2 steps
 
 #[test]
 fn objects(rt: HostRuntime) -> Result<(), Fail> {
-    assert_eq!(rt; play_all(&rt, rt.alloc(), OBJECTS)?, 25);
+    assert_eq!(rt; play_all(&rt, rt.alloc(), OBJECTS)?, 26);
     Ok(())
 }

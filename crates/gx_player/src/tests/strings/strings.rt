@@ -186,6 +186,22 @@ code 72 01 24                      ; streamstr 0x24
 stack 00000005
 ends fault 11 at 0000002a after 1 steps
 
+story streamstr of a mode that no operand has
+code 40 81 05                      ; copy 5 sp
+code 72 0C
+stack 00000005
+ends fault 2 at 0000002a after 1 steps
+
+story streamstr from an empty stack
+code 72 08                         ; streamstr sp
+ends fault 7 at 00000027 after 0 steps
+
+story streamstr of a local that isn't there
+code 40 81 05                      ; copy 5 sp
+code 72 09 00                      ; streamstr loc0
+stack 00000005
+ends fault 9 at 0000002a after 1 steps
+
 story a string of bytes that memory's end cuts off
 at 1FE E0 41
 window
@@ -245,6 +261,6 @@ ends fault 11 at 0000002f after 2 steps
 
 #[test]
 fn strings(rt: HostRuntime) -> Result<(), Fail> {
-    assert_eq!(rt; play_all(&rt, rt.alloc(), STRINGS)?, 21);
+    assert_eq!(rt; play_all(&rt, rt.alloc(), STRINGS)?, 24);
     Ok(())
 }
