@@ -6,5 +6,5 @@ use Rattle.glk_dispatch.specs.declared.Turn.{Turn}
 use Rattle.glk_dispatch.specs.declared.Turn.TheVariants.{Answer}
 
 -- an answer fits the asking
-abbrev pub TurnFits : FlatState → ℕ → Turn → Type 0
-TurnFits f room (Answer reply) = IsReply f room reply
+abbrev pub IsTurnFor : FlatState → ℕ → Turn → Type 0
+IsTurnFor f room (Answer reply) = IsReply f room reply

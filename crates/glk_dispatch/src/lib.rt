@@ -1,27 +1,28 @@
 //! One Glk call on the world (Glk 0.7.5), by the selector of its dispatch layer.
 //!
 //! `call` and `put` are their definitions of specs/Calls: a fault leaves the world as it was, except
-//! want of memory, after which it can only be dropped. A reply writes in RAM alone and pushes no
-//! more than there is room for.
+//! want of memory, after which it can only be dropped. Memory is wanted only where text is added. A
+//! reply writes in RAM alone and pushes no more than there is room for.
 #![tactic(auto)]
 
-#[cfg(test)]
-mod tests;
+mod selectors;
+mod windows;
 
-ghost use Rattle.std.specs.Prelude.{◌≡◌, ℕ, IfOk, IfErr, OnOk, ◌%◌, Ok};
-ghost use Rattle.gx_words.specs.Faults.{MayLose, TakesNone};
-ghost use Rattle.gx_words.specs.declared.faults.Fault.TheVariants.{NoMemory};
+ghost use Rattle.std.specs.Prelude.{◌≡◌, ℕ, IfOk, ◌%◌, Ok};
+ghost use Rattle.gx_words.specs.Faults.{MayLose};
 ghost use Rattle.gx_state.specs.Flat.{FlatState};
 ghost use Rattle.gx_state.specs.Replies.{IsReply};
 ghost use Rattle.glk_world.specs.World.{after};
-ghost use Rattle.glk_dispatch.specs.Calls.{replies, put_of, putting, window_open, set_window, put_char, called, on_world};
-ghost use Rattle.glk_dispatch.specs.Turns.{TurnFits};
+ghost use Rattle.glk_dispatch.specs.Calls.{HasStream, IsAdding, replies, put_of, putting, window_open, set_window, put_char, glk_call, on_world};
+ghost use Rattle.glk_dispatch.specs.Turns.{IsTurnFor};
 
 use glk_text::show;
 use glk_world::World;
 use gx_state::{Reply, State};
 use gx_words::Fault;
+pub use selectors::{PUT_CHAR, SET_WINDOW, WINDOW_OPEN};
 use std::alloc::Allocator;
+pub use windows::{FIRST_STREAM, FIRST_WINDOW, TEXT_BUFFER};
 
 /// What a call asks next, or its answer.
 #[derive(Drop)]
@@ -42,12 +43,11 @@ fn reply(world: &World, value: u32) -> Reply
 }
 
 /// Puts a character to the current stream.
-fn put_char(world: &mut World, c: u32) -> Result<(), Fault>
-    ensures ok { OnOk result (world.new ≡ after world.old (put_of world.old.scene c)) }
-    ensures err { IfErr result (λ fault. fault ≡ NoMemory) }
+fn put_to_stream(world: &mut World, ch: u32) -> Result<(), Fault>
+    ensures { MayLose (HasStream world.old.scene) (λ done. done) result world.old world.new (Ok (after world.old (put_of world.old.scene ch), tt)) }
 {
     if world.current() != 0 {
-        world.show(show(c))?;
+        world.show(show(ch))?;
     }
     Ok(())
 }
@@ -59,24 +59,23 @@ pub fn put<A: Allocator + Clone>(
     state: &State<A>,
     value: u32,
 ) -> Result<Reply, Fault>
-    ensures value { MayLose (λ reply. reply) result world.old world.new (on_world world.old (putting world.old.scene state.now.flat value)) }
+    ensures value { MayLose (HasStream world.old.scene) (λ reply. reply) result world.old world.new (on_world world.old (putting world.old.scene state.now.flat value)) }
     ensures fits { IfOk result (IsReply state.now.flat 0) }
 {
-    put_char(world, value)?;
+    put_to_stream(world, value)?;
     Ok(reply(world, 0))
 }
 
 /// window_open: the first window, a text buffer.
 #[tactic(auto, unfolding(crate::specs::Calls::window_open))]
 fn window_open(world: &mut World, args: &[u32]) -> Result<Turn, Fault>
-    ensures value { MayLose (λ turn. turn) result world.old world.new (on_world world.old (window_open world.old.scene args.now)) }
-    ensures fits { IfOk result (λ turn. (f : FlatState) (room : ℕ) → TurnFits f room turn) }
-    ensures memory { TakesNone result }
+    ensures value { MayLose ⊥ (λ turn. turn) result world.old world.new (on_world world.old (window_open world.old.scene args.now)) }
+    ensures fits { IfOk result (λ turn. (f : FlatState) (room : ℕ) → IsTurnFor f room turn) }
 {
     match args {
-        [0, _, _, 3, _, ..] if !world.is_open() => {
+        [0, _, _, TEXT_BUFFER, _, ..] if !world.is_open() => {
             world.open_window();
-            Ok(Turn::Answer(reply(world, 1)))
+            Ok(Turn::Answer(reply(world, FIRST_WINDOW)))
         }
         _ => Err(Fault::BadGlk),
     }
@@ -85,17 +84,16 @@ fn window_open(world: &mut World, args: &[u32]) -> Result<Turn, Fault>
 /// set_window: the current stream is the window's, or none.
 #[tactic(auto, unfolding(crate::specs::Calls::set_window))]
 fn set_window(world: &mut World, args: &[u32]) -> Result<Turn, Fault>
-    ensures value { MayLose (λ turn. turn) result world.old world.new (on_world world.old (set_window world.old.scene args.now)) }
-    ensures fits { IfOk result (λ turn. (f : FlatState) (room : ℕ) → TurnFits f room turn) }
-    ensures memory { TakesNone result }
+    ensures value { MayLose ⊥ (λ turn. turn) result world.old world.new (on_world world.old (set_window world.old.scene args.now)) }
+    ensures fits { IfOk result (λ turn. (f : FlatState) (room : ℕ) → IsTurnFor f room turn) }
 {
     match args {
         [0, ..] => {
             world.set_current(0);
             Ok(Turn::Answer(reply(world, 0)))
         }
-        [1, ..] if world.is_open() => {
-            world.set_current(2);
+        [FIRST_WINDOW, ..] if world.is_open() => {
+            world.set_current(FIRST_STREAM);
             Ok(Turn::Answer(reply(world, 0)))
         }
         _ => Err(Fault::BadGlk),
@@ -104,19 +102,19 @@ fn set_window(world: &mut World, args: &[u32]) -> Result<Turn, Fault>
 
 /// put_char: the low eight bits as a character.
 #[tactic(auto, unfolding(crate::specs::Calls::put_char))]
-fn put_low(world: &mut World, args: &[u32]) -> Result<Turn, Fault>
-    ensures value { MayLose (λ turn. turn) result world.old world.new (on_world world.old (put_char world.old.scene args.now)) }
-    ensures fits { IfOk result (λ turn. (f : FlatState) (room : ℕ) → TurnFits f room turn) }
+fn put_char(world: &mut World, args: &[u32]) -> Result<Turn, Fault>
+    ensures value { MayLose (HasStream world.old.scene) (λ turn. turn) result world.old world.new (on_world world.old (put_char world.old.scene args.now)) }
+    ensures fits { IfOk result (λ turn. (f : FlatState) (room : ℕ) → IsTurnFor f room turn) }
 {
-    let Some(c) = args.first() else {
+    let Some(ch) = args.first() else {
         return Err(Fault::BadGlk);
     };
-    put_char(world, *c % 256)?;
+    put_to_stream(world, *ch % 256)?;
     Ok(Turn::Answer(reply(world, 0)))
 }
 
 /// Makes the Glk call of a selector, whose reply may push so many values beside its own store.
-#[tactic(auto, unfolding(crate::specs::Calls::called))]
+#[tactic(auto, unfolding(crate::specs::Calls::glk_call))]
 pub fn call<A: Allocator + Clone>(
     world: &mut World,
     state: &State<A>,
@@ -124,14 +122,13 @@ pub fn call<A: Allocator + Clone>(
     selector: u32,
     args: &[u32],
 ) -> Result<Turn, Fault>
-    ensures value { MayLose (λ turn. turn) result world.old world.new (on_world world.old (called world.old.scene state.now.flat room selector args.now)) }
-    ensures fits { IfOk result (TurnFits state.now.flat room) }
+    ensures value { MayLose (IsAdding world.old.scene selector) (λ turn. turn) result world.old world.new (on_world world.old (glk_call world.old.scene state.now.flat room selector args.now)) }
+    ensures fits { IfOk result (IsTurnFor state.now.flat room) }
 {
-    let _state = state;
     match selector {
-        0x23 => window_open(world, args),
-        0x2F => set_window(world, args),
-        0x80 => put_low(world, args),
+        WINDOW_OPEN => window_open(world, args),
+        SET_WINDOW => set_window(world, args),
+        PUT_CHAR => put_char(world, args),
         _ => Err(Fault::BadGlk),
     }
 }

@@ -7,7 +7,7 @@
 
 mod names;
 
-pub use names::{base_name, full_name};
+pub use names::{INPUT_RECORD, SAVED_GAME, TRANSCRIPT, base_name, full_name};
 
 #[cfg(test)]
 mod tests;

@@ -14,6 +14,13 @@ use std::alloc::{AllocError, Global};
 /// The most characters of a base.
 const LONGEST: u32 = 64;
 
+/// What is stored in a file, by the low four bits of its usage; in any other it is data.
+pub const SAVED_GAME: u32 = 1;
+
+pub const TRANSCRIPT: u32 = 2;
+
+pub const INPUT_RECORD: u32 = 3;
+
 /// The base of a file's name that a story asks for: without `/ \ < > : " | ? *` and characters
 /// that aren't printable, cut at its first period and after 64 characters, and `null` if empty.
 pub fn base_name(alloc: Global, chars: &[u32]) -> Result<Name, AllocError>
@@ -27,8 +34,7 @@ pub fn base_name(alloc: Global, chars: &[u32]) -> Result<Name, AllocError>
     }
 }
 
-/// The name on the shelf: the base with the suffix for the usage, of which the low four bits say
-/// what is stored: 1 a saved game, 2 a transcript, 3 a record of commands, others data.
+/// The name on the shelf: the base with the suffix for the usage.
 pub fn full_name(alloc: Global, base: &Name, usage: u32) -> Result<Name, AllocError>
     ensures { IfOk result (λ name. name ≡ base.now ++ suffix_of usage) }
 {
@@ -72,8 +78,8 @@ fn suffix(usage: u32) -> &'static str
     ensures { result.now ≡ suffix_of usage }
 {
     match usage % 16 {
-        1 => ".glksave",
-        2 | 3 => ".txt",
+        SAVED_GAME => ".glksave",
+        TRANSCRIPT | INPUT_RECORD => ".txt",
         _ => ".glkdata",
     }
 }

@@ -12,6 +12,8 @@ use Rattle.bstr.specs.Utf8.{Decoded, decoded, good}
 use Rattle.bstr.proofs.lemmas.EncodeLemmas.{decoded-encode}
 use Rattle.bstr.proofs.lemmas.PieceLemmas.{size-within}
 use Rattle.bstr.proofs.lemmas.SoundLemmas.{SpellsChar-decoded}
+use Rattle.glk_text.specs.Characters.{question_mark}
+use Rattle.glk_text.specs.declared.utf8.TheConstants.{REPLACEMENT}
 use Rattle.glk_text.specs.Utf8.{as_scalar, written, taken_at, read, IsWellFormed, IsReading}
 
 -- where nothing decodes, no character begins
@@ -44,7 +46,7 @@ module _ (bytes : List ℕ) (at : ℕ) (char : Option ℕ) (size : ℕ) (char_is
       let end : at + size ≡ at + (decoded (drop at bytes)).size = ap (λ (n : ℕ). at + n) (size_is ∙ ap (λ (xs : List ℕ). (decoded xs).size) (rest_is at bytes)) in
       rw (same, end) (inl (well_formed bytes at c (here ∙ is)))
 
-  pub reading_none : char ≡ None → IsReading bytes at 0xFFFD (at + 1)
+  pub reading_none : char ≡ None → IsReading bytes at REPLACEMENT (at + 1)
   reading_none is = inr (record { none = no_char (drop at bytes) (here ∙ is); replaced = refl; size = refl })
 
   pub reading_within : at ≤ length bytes → at + size ≤ length bytes
@@ -53,7 +55,7 @@ module _ (bytes : List ℕ) (at : ℕ) (char : Option ℕ) (size : ℕ) (char_is
       omega (arith, length-drop at bytes)
 
 as_scalar_is : (v : ℕ) → scalar (as_scalar v) ≡ true
-as_scalar_is v = elim (scalar v) as (λ b. scalar v ≡ b → scalar (if b then v else 0x3F) ≡ true) [ true ↦ λ e. e | false ↦ λ e. refl ] refl
+as_scalar_is v = elim (scalar v) as (λ b. scalar v ≡ b → scalar (if b then v else question_mark) ≡ true) [ true ↦ λ e. e | false ↦ λ e. refl ] refl
 
 some_byte : (c : ℕ) → 0 < len_utf8 c
 some_byte c = grind (arith, nat_tests)

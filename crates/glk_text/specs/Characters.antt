@@ -1,18 +1,23 @@
 -- What is done with one character (Glk 0.7.5, "Character Encoding").
 use Rattle.std.specs.Prelude.{ℕ, ◌+◌, ◌-◌, ◌==◌, Bool, ◌||◌, nat_lt, if◌then◌else◌}
 use Rattle.std.specs.Int.{is_in_range}
+use Rattle.glk_text.specs.declared.characters.TheConstants.{LINE_FEED}
+
+-- what stands for a character that has no place
+abbrev pub question_mark : ℕ
+question_mark = 0x3F
 
 -- a character that is shown as itself
 abbrev pub is_printable : ℕ → Bool
 is_printable v = is_in_range 0x20 0x7E v || is_in_range 0xA0 0xD7FF v || is_in_range 0xE000 0x10FFFF v
 
--- the character that is shown for it: itself, also where it is LF, else a question mark
+-- the character that is shown for it: itself, also where it is a line feed, else a question mark
 abbrev pub shown : ℕ → ℕ
-shown v = if v == 0x0A || is_printable v then v else 0x3F
+shown v = if v == LINE_FEED || is_printable v then v else question_mark
 
 -- its byte in Latin-1
 abbrev pub latin_of : ℕ → ℕ
-latin_of v = if nat_lt v 0x100 then v else 0x3F
+latin_of v = if nat_lt v 0x100 then v else question_mark
 
 -- the capital letters of Latin-1, which leave out the multiplication sign
 abbrev pub is_capital : ℕ → Bool

@@ -5,6 +5,9 @@
 ghost use Rattle.std.specs.Prelude.{◌≡◌, ◌≢◌};
 ghost use Rattle.glk_text.specs.Characters.{is_printable, shown, latin_of, lower_of, upper_of};
 
+/// A line feed.
+pub const LINE_FEED: u32 = 0x0A;
+
 /// Whether a character is shown as itself: 20 to 7E, A0 to D7FF and E000 to 10FFFF.
 pub fn printable(v: u32) -> bool
     ensures { result ≡ is_printable v }
@@ -12,12 +15,12 @@ pub fn printable(v: u32) -> bool
     matches!(v, 0x20..=0x7E | 0xA0..=0xD7FF | 0xE000..=0x10_FFFF)
 }
 
-/// The character as it is shown: itself where it is printable or LF, else `?`.
+/// The character as it is shown: itself where it is printable or a line feed, else `?`.
 pub fn show(v: u32) -> char
     ensures { result ≡ shown v }
 {
     match char::from_u32(v) {
-        Some(c) if v == 0x0A || printable(v) => c,
+        Some(c) if v == LINE_FEED || printable(v) => c,
         _ => '?',
     }
 }

@@ -10,8 +10,8 @@
 mod characters;
 mod utf8;
 
-pub use characters::{latin, lower, printable, show, upper};
-pub use utf8::{push_utf8, read_utf8};
+pub use characters::{LINE_FEED, latin, lower, printable, show, upper};
+pub use utf8::{REPLACEMENT, push_utf8, read_utf8};
 
 #[cfg(test)]
 mod tests;

@@ -1,4 +1,4 @@
-//! Every public call, with expected values from Latin-1 and from the Unicode Standard.
+//! Expected values from Latin-1 and from the Unicode Standard.
 use crate::{latin, lower, printable, push_utf8, read_utf8, show, upper};
 use gx_words::Bytes;
 use std::test::Fail;

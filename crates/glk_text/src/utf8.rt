@@ -9,6 +9,9 @@ use bstr::decode_utf8;
 use gx_words::Bytes;
 use std::alloc::AllocError;
 
+/// What is read where no well-formed character begins.
+pub const REPLACEMENT: u32 = 0xFFFD;
+
 /// Adds a character to bytes.
 ///
 /// Whatever is added after it, it is read back from where it was added.
@@ -39,6 +42,6 @@ pub fn read_utf8(bytes: &[u8], at: usize) -> Option<(u32, usize)>
     }
     Some(match decode_utf8(&bytes[at..]) {
         (Some(c), size) => (u32::from(c), at + size),
-        (None, _) => (0xFFFD, at + 1),
+        (None, _) => (REPLACEMENT, at + 1),
     })
 }

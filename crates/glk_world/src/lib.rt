@@ -4,11 +4,8 @@
 //! After want of memory a world can only be dropped.
 #![tactic(auto)]
 
-#[cfg(test)]
-mod tests;
-
-ghost use Rattle.std.specs.Prelude.{◌≡◌, ◌≤◌, ◌==◌, [], ◌++◌, length, true, encode_utf8, OnOk};
-ghost use Rattle.glk_world.specs.World.{empty_world};
+ghost use Rattle.std.specs.Prelude.{◌≡◌, ◌≤◌, [], true, OnOk};
+ghost use Rattle.glk_world.specs.World.{said_char, after, empty_world};
 
 use gx_words::{Numbers, Writes};
 use std::alloc::{AllocError, Global};
@@ -106,7 +103,7 @@ impl World {
 
     /// Adds a character to the text.
     pub fn show(&mut self, c: char) -> Result<(), AllocError>
-        ensures { OnOk result (self.new ≡ record { scene = record self.old.scene { fresh = c == 10 }; text = self.old.text ++ encode_utf8 c }) }
+        ensures { OnOk result (self.new ≡ after self.old (said_char self.old.scene c)) }
     {
         self.text.push(c)?;
         self.fresh = c == '\n';

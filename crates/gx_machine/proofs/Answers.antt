@@ -1,5 +1,5 @@
 -- What answers the instruction that asked.
-use Rattle.std.proofs.Common.{◌≡◌, ◌≤◌, ◌+◌, ◌-◌, ◌*◌, ◌%◌, ◌<◌, ℕ, Bool, true, false, nat_le, if◌then◌else◌, refl, ap, subst, sym, ◌∙◌, arith, Result, Ok, Err, None}
+use Rattle.std.proofs.Common.{◌≡◌, ◌≤◌, ◌+◌, ◌-◌, ◌*◌, ◌%◌, ◌<◌, ℕ, Bool, true, false, nat_le, if◌then◌else◌, refl, ap, subst, sym, ◌∙◌, arith, Result, Ok, Err, IsOkAnd, None}
 use Rattle.std.proofs.lemmas.Bool.{leb-true}
 use Rattle.gx_words.specs.declared.faults.Fault.{Fault}
 use Rattle.gx_words.specs.declared.faults.Fault.TheVariants.{Overflow}
@@ -14,15 +14,15 @@ use Rattle.gx_state.specs.declared.modes.Mode.{Mode}
 use Rattle.gx_state.specs.declared.modes.Mode.TheVariants.{Running, Printing}
 use Rattle.gx_state.specs.Flat.{FlatState, IsHeight, frame_of, sp_of}
 use Rattle.gx_state.specs.Replies.{IsDone}
-use Rattle.gx_operands.specs.Instructions.{Instruction, instruction, operand_at, going_to}
-use Rattle.gx_machine.specs.Answer.{answered_state, answered_in, answered_by, answered_row, replied, StoresAnswer, StoresIn, StoresBy, StoresRow}
+use Rattle.gx_operands.specs.Instructions.{Instruction, instruction, L2, going_to}
+use Rattle.gx_machine.specs.Answer.{answered_state, answered_in, answered_by, answered_row, replied, IsStoredAnswer, IsStoredIn, IsStoredBy}
 use Rattle.ops_memory.specs.Costs.{EndsWithin}
 use Rattle.ops_print.specs.Items.{mode_after}
-use Rattle.ops_print.specs.Rows.{AsksAtMostPut}
-use Rattle.gx_operands.specs.Stores.{store_fault, IsMemory}
+use Rattle.ops_print.specs.Rows.{IsPutAtMost}
+use Rattle.gx_state.specs.Stores.{store_fault, IsMemory}
 use Rattle.gx_machine.specs.declared.askings.Asking.TheVariants as asking
 use Rattle.gx_machine.specs.Step.{asking_of}
-use Rattle.gx_machine.specs.Views.{Pends, result_len, resumed}
+use Rattle.gx_machine.specs.Views.{IsPending, result_len, resumed}
 
 by_class : (f : FlatState) (i : Instruction) (c : Class) → f.mode ≡ Running → instruction f ≡ Ok i → i.row.class ≡ c → (reply : Reply) → answered_state f reply ≡ answered_row c f i reply
 unfolding answered_state
@@ -41,8 +41,8 @@ pub print_answers : (f : FlatState) (i : Instruction) (reply : Reply) → f.mode
 print_answers f i reply running decoded is = by_class f i class.Print running decoded is reply ∙ on_with f i.sp Nowhere i.next reply running
 
 pub glk_answers : (f : FlatState) (i : Instruction) (reply : Reply) → f.mode ≡ Running → instruction f ≡ Ok i → i.row.class ≡ class.Glk
-    → answered_state f reply ≡ resumed (replied f (i.sp - 4 * operand_at i 1) i.dest reply) i.next Running
-glk_answers f i reply running decoded is = by_class f i class.Glk running decoded is reply ∙ on_with f (i.sp - 4 * operand_at i 1) i.dest i.next reply running
+    → answered_state f reply ≡ resumed (replied f (i.sp - 4 * L2 i) i.dest reply) i.next Running
+glk_answers f i reply running decoded is = by_class f i class.Glk running decoded is reply ∙ on_with f (i.sp - 4 * L2 i) i.dest i.next reply running
 
 -- the answer to a character of what is printed
 item_answered : (f : FlatState) (reply : Reply) (m : Mode) → f.mode ≡ m → (m ≡ Running → ⊥) → answered_in f reply m ≡ resumed (replied f (sp_of f) Nowhere reply) f.pc (mode_after f)
@@ -54,10 +54,11 @@ unfolding answered_state
 item_answers f reply printing = item_answered f reply f.mode refl printing
 
 -- the result of a Glk call is stored where its operand says
-pub glk_stores : (f : FlatState) (i : Instruction) → f.mode ≡ Running → instruction f ≡ Ok i → i.row.class ≡ class.Glk → IsMemory i.dest → StoresAnswer f
-unfolding StoresAnswer
+pub glk_stores : (f : FlatState) (i : Instruction) → f.mode ≡ Running → instruction f ≡ Ok i → i.row.class ≡ class.Glk → IsMemory i.dest → IsStoredAnswer f
+unfolding IsStoredAnswer
 glk_stores f i running decoded is memory =
-    subst (StoresIn f) (sym running) (subst StoresBy (sym decoded) (subst (λ (c : Class). StoresRow c i) (sym is) memory))
+    subst (IsStoredIn f) (sym running)
+    (subst (λ (r : Result Instruction Fault). IsOkAnd r (λ x. IsStoredBy x.row.class x)) (sym decoded) (subst (λ (c : Class). IsStoredBy c i) (sym is) memory))
 
 pub done_asks : (e : Effect) → IsDone e → asking_of e ≡ None
 done_asks Went h = refl
@@ -74,8 +75,8 @@ spent_within left probes e ends spent = subst (EndsWithin left probes) spent end
 pub never_spent : (left probes : ℕ) (e : Effect) → IsDone e → e ≡ Spent → left < probes
 never_spent left probes e done spent = absurd (subst IsDone spent done)
 
-pub put_or_done : (e : Effect) (A : Type 0) → AsksAtMostPut e A → e ≡ Spent → ⊥
-put_or_done e A asks spent = absurd (subst (λ (x : Effect). AsksAtMostPut x A) spent asks)
+pub put_or_done : (e : Effect) (A : Type 0) → IsPutAtMost e A → e ≡ Spent → ⊥
+put_or_done e A asks spent = absurd (subst (λ (x : Effect). IsPutAtMost x A) spent asks)
 
 -- what is done within the budget asks nothing
 pub within_asks : (left probes : ℕ) (e : Effect) → EndsWithin left probes e → asking_of e ≡ None
@@ -90,10 +91,10 @@ pub ruleset answers = (print_answers, glk_answers, done_asks, within_asks, spent
 
 -- what is pending after a character was put by code
 pub print_pends : (f g : FlatState) (i : Instruction) → g ≡ f → f.mode ≡ Running → instruction f ≡ Ok i → i.row.class ≡ class.Print → IsHeight f i.sp → sp_of f ≤ f.stack.limit
-    → Pends g (record { asking = asking.Put; sp = i.sp; dest = Nowhere; next = i.next; mode = Running })
+    → IsPending g (record { asking = asking.Put; sp = i.sp; dest = Nowhere; next = i.next; mode = Running })
 unfolding store_fault
 print_pends f g i same running decoded is height fits =
-    subst (λ (h : FlatState). Pends h (record { asking = asking.Put; sp = i.sp; dest = Nowhere; next = i.next; mode = Running })) (sym same)
+    subst (λ (h : FlatState). IsPending h (record { asking = asking.Put; sp = i.sp; dest = Nowhere; next = i.next; mode = Running })) (sym same)
     (record {
       height = height;
       stores = refl;
@@ -104,12 +105,12 @@ print_pends f g i same running decoded is height fits =
 
 -- and by what is printed
 pub item_pends : (f g : FlatState) → g ≡ f → (f.mode ≡ Running → ⊥) → 0 < sp_of f → (frame_of f).values ≤ sp_of f → sp_of f % 4 ≡ 0 → sp_of f ≤ f.stack.limit
-    → Pends g (record { asking = asking.Put; sp = sp_of f; dest = Nowhere; next = f.pc; mode = mode_after f })
+    → IsPending g (record { asking = asking.Put; sp = sp_of f; dest = Nowhere; next = f.pc; mode = mode_after f })
 unfolding store_fault
-item_pends f g same printing live values words fits =
-    subst (λ (h : FlatState). Pends h (record { asking = asking.Put; sp = sp_of f; dest = Nowhere; next = f.pc; mode = mode_after f })) (sym same)
+item_pends f g same printing live values aligned fits =
+    subst (λ (h : FlatState). IsPending h (record { asking = asking.Put; sp = sp_of f; dest = Nowhere; next = f.pc; mode = mode_after f })) (sym same)
     (record {
-      height = record { live = live; values = values; there = omega arith; words = words };
+      height = record { live = live; values = values; there = omega arith; aligned = aligned };
       stores = refl;
       memory = λ none. absurd none;
       room = omega arith;
@@ -117,9 +118,9 @@ item_pends f g same printing live values words fits =
     })
 
 -- what is pending after a Glk call
-pub glk_pends : (f : FlatState) (i : Instruction) (count room : ℕ) → f.mode ≡ Running → instruction f ≡ Ok i → i.row.class ≡ class.Glk → count ≡ operand_at i 1
+pub glk_pends : (f : FlatState) (i : Instruction) (count room : ℕ) → f.mode ≡ Running → instruction f ≡ Ok i → i.row.class ≡ class.Glk → count ≡ L2 i
     → IsHeight f (i.sp - 4 * count) → store_fault f 4 i.dest (i.sp - 4 * count) ≡ Ok tt → i.sp - 4 * count + 4 * room + result_len i.dest ≤ f.stack.limit
-    → Pends f (record { asking = asking.Glk room; sp = i.sp - 4 * count; dest = i.dest; next = i.next; mode = Running })
+    → IsPending f (record { asking = asking.Glk room; sp = i.sp - 4 * count; dest = i.dest; next = i.next; mode = Running })
 glk_pends f i count room running decoded is counted height stores fits = record {
   height = height;
   stores = stores;

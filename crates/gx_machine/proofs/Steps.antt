@@ -1,23 +1,24 @@
 -- A step within a budget is one within what its own unit leaves.
-use Rattle.std.proofs.Common.{◌≡◌, ◌≢◌, ◌≤◌, ◌<◌, ◌+◌, ◌-◌, ◌==◌, ℕ, nat_lt, if◌then◌else◌, Bool, true, false, Option, Some, None, IsSome, Result, Ok, Err, refl, ap, sym, ◌∙◌, arith}
+use Rattle.std.proofs.Common.{◌≡◌, ◌≢◌, ◌≤◌, ◌<◌, ◌+◌, ◌-◌, ◌==◌, ℕ, nat_lt, if◌then◌else◌, Bool, true, false, Option, Some, None, IsSome, Result, Ok, Err, IsOk, refl, ap, subst, sym, ◌∙◌, arith}
 use Rattle.std.proofs.lemmas.Bool.{lt-ltb, le-ltb, ltb-true, ltb-false, eq-eqb}
 use Rattle.std.proofs.lemmas.Bool.Decides.{nat_tests}
 use Rattle.gx_words.specs.declared.faults.Fault.{Fault}
-use Rattle.gx_words.specs.declared.faults.Fault.TheVariants.{BadFrame, NoMemory}
+use Rattle.gx_words.specs.declared.faults.Fault.TheVariants.{BadFrame}
+use Rattle.gx_words.specs.Faults.{IsRefused}
 use Rattle.gx_words.specs.Results.{◌>>=◌}
 use Rattle.gx_state.specs.declared.effects.Effect.{Effect}
 use Rattle.gx_state.specs.declared.effects.Effect.TheVariants.{Spent}
 use Rattle.gx_state.specs.declared.modes.Mode.{Mode}
 use Rattle.gx_state.specs.declared.modes.Mode.TheVariants.{Running, Printing}
 use Rattle.gx_state.specs.Flat.{FlatState, sp_of}
+use Rattle.ops_memory.specs.Costs.{lowered, charged}
 use Rattle.ops_print.specs.Items.{item_by, printed}
 use Rattle.std.specs.Option.{option_map}
 use Rattle.gx_machine.specs.declared.askings.Asking.{Asking}
 use Rattle.gx_machine.specs.declared.machine.Pending.{Pending}
 use Rattle.gx_machine.specs.Machine.{FlatMachine, Whole}
 use Rattle.gx_machine.specs.Rows.{with_copies}
-use Rattle.gx_machine.specs.Step.{asking_of, cost_of, moved, probes_in, step_of, stepped}
-use Rattle.gx_machine.specs.Views.{taken}
+use Rattle.gx_machine.specs.Step.{asking_of, cost_of, mode_step, probes_in, step_of, stepped}
 
 -- what a step makes of a machine and its budget, where that has the step's cost
 abbrev paid : ℕ → ℕ → Result (FlatMachine × Effect) Fault → Result ((Whole × ℕ) × Effect) Fault
@@ -29,8 +30,8 @@ tested w budget cost b r = if b then Ok ((w, budget), Spent) else paid budget co
 -- a step of a machine with a stack, that costs its own unit and the probes
 by_cost : (w : Whole) (word budget : ℕ) (b : Bool) → b ≡ false
     → tested w budget (1 + (if b then 0 else probes_in w.machine.flat w.machine.flat.mode)) (nat_lt budget (1 + (if b then 0 else probes_in w.machine.flat w.machine.flat.mode)))
-    (if b then Err BadFrame else moved w.machine word w.machine.flat.mode)
-    ≡ tested w budget (1 + probes_in w.machine.flat w.machine.flat.mode) (nat_lt budget (1 + probes_in w.machine.flat w.machine.flat.mode)) (moved w.machine word w.machine.flat.mode)
+    (if b then Err BadFrame else mode_step w.machine word w.machine.flat.mode)
+    ≡ tested w budget (1 + probes_in w.machine.flat w.machine.flat.mode) (nat_lt budget (1 + probes_in w.machine.flat w.machine.flat.mode)) (mode_step w.machine word w.machine.flat.mode)
 by_cost w word budget true has = absurd cc
 by_cost w word budget false has = refl
 
@@ -38,11 +39,11 @@ not-zero : (n : ℕ) → 0 < n → (n == 0) ≡ false
 not-zero n some = grind (arith, nat_tests)
 
 by_mode : (w : Whole) (word budget : ℕ) (mode : Mode) → 0 < sp_of w.machine.flat → w.machine.flat.mode ≡ mode
-    → stepped w word budget ≡ tested w budget (1 + probes_in w.machine.flat mode) (nat_lt budget (1 + probes_in w.machine.flat mode)) (moved w.machine word mode)
+    → stepped w word budget ≡ tested w budget (1 + probes_in w.machine.flat mode) (nat_lt budget (1 + probes_in w.machine.flat mode)) (mode_step w.machine word mode)
 unfolding stepped step_of cost_of
 by_mode w word budget mode live is =
     by_cost w word budget (sp_of w.machine.flat == 0) (not-zero (sp_of w.machine.flat) live)
-    ∙ ap (λ (m : Mode). tested w budget (1 + probes_in w.machine.flat m) (nat_lt budget (1 + probes_in w.machine.flat m)) (moved w.machine word m)) is
+    ∙ ap (λ (m : Mode). tested w budget (1 + probes_in w.machine.flat m) (nat_lt budget (1 + probes_in w.machine.flat m)) (mode_step w.machine word m)) is
 
 -- no budget
 pub step_none : (w : Whole) (word budget : ℕ) → budget ≡ 0 → stepped w word budget ≡ Ok ((w, budget), Spent)
@@ -52,7 +53,7 @@ step_none w word budget none = let less : nat_lt budget (cost_of w.machine) ≡ 
 -- no frame
 no-frame : (w : Whole) (word budget : ℕ) (b : Bool) → b ≡ true → 1 ≤ budget
     → tested w budget (1 + (if b then 0 else probes_in w.machine.flat w.machine.flat.mode)) (nat_lt budget (1 + (if b then 0 else probes_in w.machine.flat w.machine.flat.mode)))
-    (if b then Err BadFrame else moved w.machine word w.machine.flat.mode) ≡ Err BadFrame
+    (if b then Err BadFrame else mode_step w.machine word w.machine.flat.mode) ≡ Err BadFrame
 no-frame w word budget true is some = let enough : nat_lt budget 1 ≡ false = le-ltb budget 1 some in rw enough refl
 no-frame w word budget false is some = absurd cc
 
@@ -66,8 +67,8 @@ same-test budget probes true some is = let less : budget - 1 < probes = ltb-true
 same-test budget probes false some is = let enough : probes ≤ budget - 1 = ltb-false (budget - 1) probes is in le-ltb budget (1 + probes) (omega (arith, some))
 
 -- the same step, by what the unit leaves
-abbrev lowered : FlatMachine → ℕ → ℕ → Bool → Result (FlatMachine × Effect) Fault → Result ((FlatMachine × ℕ) × Effect) Fault
-lowered m left probes b r = if b then Ok ((m, left), Spent) else (r >>= (λ (x : FlatMachine × Effect). Ok ((x.0, left - probes), x.1)))
+abbrev left_by : FlatMachine → ℕ → ℕ → Bool → Result (FlatMachine × Effect) Fault → Result ((FlatMachine × ℕ) × Effect) Fault
+left_by m left probes b r = if b then Ok ((m, left), Spent) else lowered left probes r
 
 abbrev value_or : {A : Type 0} → A → Result A Fault → A
 value_or d (Ok x) = x
@@ -76,15 +77,20 @@ value_or d (Err f) = d
 ok-is : {A : Type 0} (x y : A) → (let a : Result A Fault = Ok x in a ≡ Ok y) → x ≡ y
 ok-is x y e = ap (value_or x) e
 
-err-by : (w : Whole) (budget probes : ℕ) (r : Result (FlatMachine × Effect) Fault) (fault : Fault) (b : Bool) → lowered w.machine (budget - 1) probes b r ≡ Err fault → tested w budget (1 + probes) b r ≡ Err fault
+err-by : (w : Whole) (budget probes : ℕ) (r : Result (FlatMachine × Effect) Fault) (fault : Fault) (b : Bool) → left_by w.machine (budget - 1) probes b r ≡ Err fault → tested w budget (1 + probes) b r ≡ Err fault
 err-by w budget probes (Ok x) fault true h = absurd cc
 err-by w budget probes (Err f) fault true h = absurd cc
 err-by w budget probes (Ok x) fault false h = absurd cc
 err-by w budget probes (Err f) fault false h = cc
 
+can-by : (w : Whole) (budget probes : ℕ) (r : Result (FlatMachine × Effect) Fault) (b : Bool) → IsOk (left_by w.machine (budget - 1) probes b r) → IsOk (tested w budget (1 + probes) b r)
+can-by w budget probes r true ok = ok
+can-by w budget probes (Ok x) false ok = ok
+can-by w budget probes (Err f) false ok = ok
+
 -- a step that is done: it isn't spent, or it would have been before
 ok-by : (w : Whole) (budget probes left : ℕ) (r : Result (FlatMachine × Effect) Fault) (m' : FlatMachine) (e : Effect) (asking : Option Asking) (b : Bool) → 1 ≤ budget → e ≢ Spent → asking_of e ≡ asking
-    → lowered w.machine (budget - 1) probes b r ≡ Ok ((m', left), e) → tested w budget (1 + probes) b r ≡ Ok ((record { machine = m'; asking = asking }, left), e)
+    → left_by w.machine (budget - 1) probes b r ≡ Ok ((m', left), e) → tested w budget (1 + probes) b r ≡ Ok ((record { machine = m'; asking = asking }, left), e)
 ok-by w budget probes left r m' e asking true some done asks h =
     absurd (done (sym (ap (λ (y : (FlatMachine × ℕ) × Effect). y.1) (ok-is {A = (FlatMachine × ℕ) × Effect} ((w.machine, budget - 1), Spent) ((m', left), e) h))))
 ok-by w budget probes left (Ok x) m' e asking false some done asks h =
@@ -96,24 +102,31 @@ ok-by w budget probes left (Ok x) m' e asking false some done asks h =
     all ∙ ap (λ (a : Option Asking). Ok ((record { machine = m'; asking = a }, left), e)) asks
 ok-by w budget probes left (Err f) m' e asking false some done asks h = absurd cc
 
+by_left : (w : Whole) (word budget : ℕ) → 1 ≤ budget → 0 < sp_of w.machine.flat → w.machine.flat.mode ≡ Running
+    → stepped w word budget ≡ tested w budget (1 + probes_in w.machine.flat Running) (nat_lt (budget - 1) (probes_in w.machine.flat Running)) (mode_step w.machine word Running)
+by_left w word budget some live running =
+    let probes : ℕ = probes_in w.machine.flat Running in
+    by_mode w word budget Running live running
+    ∙ ap (λ (t : Bool). tested w budget (1 + probes) t (mode_step w.machine word Running)) (same-test budget probes (nat_lt (budget - 1) probes) some refl)
+
 pub step_err : (w : Whole) (word budget : ℕ) (fault : Fault) → 1 ≤ budget → 0 < sp_of w.machine.flat → w.machine.flat.mode ≡ Running
-    → taken w.machine (budget - 1) (probes_in w.machine.flat Running) (moved w.machine word Running) ≡ Err fault → stepped w word budget ≡ Err fault
+    → charged (budget - 1) (probes_in w.machine.flat Running) w.machine (mode_step w.machine word Running) ≡ Err fault → stepped w word budget ≡ Err fault
 step_err w word budget fault some live running h =
     let probes : ℕ = probes_in w.machine.flat Running in
-    let b : Bool = nat_lt (budget - 1) probes in
-    by_mode w word budget Running live running
-    ∙ ap (λ (t : Bool). tested w budget (1 + probes) t (moved w.machine word Running)) (same-test budget probes b some refl)
-    ∙ err-by w budget probes (moved w.machine word Running) fault b h
+    by_left w word budget some live running ∙ err-by w budget probes (mode_step w.machine word Running) fault (nat_lt (budget - 1) probes) h
+
+step_can : (w : Whole) (word budget : ℕ) → 1 ≤ budget → 0 < sp_of w.machine.flat → w.machine.flat.mode ≡ Running
+    → IsOk (charged (budget - 1) (probes_in w.machine.flat Running) w.machine (mode_step w.machine word Running)) → IsOk (stepped w word budget)
+step_can w word budget some live running ok =
+    let probes : ℕ = probes_in w.machine.flat Running in
+    subst IsOk (sym (by_left w word budget some live running)) (can-by w budget probes (mode_step w.machine word Running) (nat_lt (budget - 1) probes) ok)
 
 pub step_ok : (w : Whole) (word budget left : ℕ) (m' : FlatMachine) (e : Effect) (asking : Option Asking) → 1 ≤ budget → 0 < sp_of w.machine.flat → w.machine.flat.mode ≡ Running → e ≢ Spent → asking_of e ≡ asking
-    → taken w.machine (budget - 1) (probes_in w.machine.flat Running) (moved w.machine word Running) ≡ Ok ((m', left), e)
+    → charged (budget - 1) (probes_in w.machine.flat Running) w.machine (mode_step w.machine word Running) ≡ Ok ((m', left), e)
     → stepped w word budget ≡ Ok ((record { machine = m'; asking = asking }, left), e)
 step_ok w word budget left m' e asking some live running done asks h =
     let probes : ℕ = probes_in w.machine.flat Running in
-    let b : Bool = nat_lt (budget - 1) probes in
-    by_mode w word budget Running live running
-    ∙ ap (λ (t : Bool). tested w budget (1 + probes) t (moved w.machine word Running)) (same-test budget probes b some refl)
-    ∙ ok-by w budget probes left (moved w.machine word Running) m' e asking b some done asks h
+    by_left w word budget some live running ∙ ok-by w budget probes left (mode_step w.machine word Running) m' e asking (nat_lt (budget - 1) probes) some done asks h
 
 -- a step that isn't done: the budget is less than its cost
 pub step_spent : (w : Whole) (word budget : ℕ) → 1 ≤ budget → 0 < sp_of w.machine.flat → w.machine.flat.mode ≡ Running
@@ -121,20 +134,20 @@ pub step_spent : (w : Whole) (word budget : ℕ) → 1 ≤ budget → 0 < sp_of 
 step_spent w word budget some live running less =
     let probes : ℕ = probes_in w.machine.flat Running in
     let is : nat_lt budget (1 + probes) ≡ true = same-test budget probes true some (lt-ltb (budget - 1) probes less) in
-    by_mode w word budget Running live running ∙ ap (λ (t : Bool). tested w budget (1 + probes) t (moved w.machine word Running)) is
+    by_mode w word budget Running live running ∙ ap (λ (t : Bool). tested w budget (1 + probes) t (mode_step w.machine word Running)) is
 
 -- and it leaves the machine
-spent-by : (m m' : FlatMachine) (left left' probes : ℕ) (r : Result (FlatMachine × Effect) Fault) (b : Bool) → b ≡ true → lowered m left probes b r ≡ Ok ((m', left'), Spent) → m' ≡ m
+spent-by : (m m' : FlatMachine) (left left' probes : ℕ) (r : Result (FlatMachine × Effect) Fault) (b : Bool) → b ≡ true → left_by m left probes b r ≡ Ok ((m', left'), Spent) → m' ≡ m
 spent-by m m' left left' probes r true is h = sym (ap (λ (y : (FlatMachine × ℕ) × Effect). y.0.0) (ok-is {A = (FlatMachine × ℕ) × Effect} ((m, left), Spent) ((m', left'), Spent) h))
 spent-by m m' left left' probes r false is h = absurd cc
 
-pub spent_stands : (m m' : FlatMachine) (left left' probes : ℕ) (r : Result (FlatMachine × Effect) Fault) (e : Effect) → e ≡ Spent → left < probes → taken m left probes r ≡ Ok ((m', left'), e) → m' ≡ m
+pub spent_stands : (m m' : FlatMachine) (left left' probes : ℕ) (r : Result (FlatMachine × Effect) Fault) (e : Effect) → e ≡ Spent → left < probes → charged left probes m r ≡ Ok ((m', left'), e) → m' ≡ m
 spent_stands m m' left left' probes r e spent less h =
-    let is : taken m left probes r ≡ Ok ((m', left'), Spent) = h ∙ ap (λ (x : Effect). Ok ((m', left'), x)) spent in
+    let is : charged left probes m r ≡ Ok ((m', left'), Spent) = h ∙ ap (λ (x : Effect). Ok ((m', left'), x)) spent in
     spent-by m m' left left' probes r (nat_lt left probes) (lt-ltb left probes less) is
 
 -- a step of printing
-printing-is : (w : Whole) (word : ℕ) (mode : Mode) → (mode ≡ Running → ⊥) → moved w.machine word mode ≡ with_copies w.machine.undo (item_by w.machine.flat mode)
+printing-is : (w : Whole) (word : ℕ) (mode : Mode) → (mode ≡ Running → ⊥) → mode_step w.machine word mode ≡ with_copies w.machine.undo (item_by w.machine.flat mode)
 printing-is w word Running printing = absurd (printing refl)
 printing-is w word (Printing p) printing = refl
 
@@ -148,8 +161,8 @@ printed-is w word budget some live printing =
     let f : FlatState = w.machine.flat in
     let enough : nat_lt budget 1 ≡ false = le-ltb budget 1 (omega (arith, some)) in
     by_mode w word budget f.mode live refl
-    ∙ ap (λ (n : ℕ). tested w budget (1 + n) (nat_lt budget (1 + n)) (moved w.machine word f.mode)) (no-probes f f.mode printing)
-    ∙ ap (λ (t : Bool). tested w budget 1 t (moved w.machine word f.mode)) enough
+    ∙ ap (λ (n : ℕ). tested w budget (1 + n) (nat_lt budget (1 + n)) (mode_step w.machine word f.mode)) (no-probes f f.mode printing)
+    ∙ ap (λ (t : Bool). tested w budget 1 t (mode_step w.machine word f.mode)) enough
     ∙ ap (paid budget 1) (printing-is w word f.mode printing)
 
 pub print_err : (w : Whole) (word budget : ℕ) (fault : Fault) → 1 ≤ budget → 0 < sp_of w.machine.flat → (w.machine.flat.mode ≡ Running → ⊥) → printed w.machine.flat ≡ Err fault → stepped w word budget ≡ Err fault
@@ -162,18 +175,28 @@ print_ok w word budget g e asking some live printing asks h =
     printed-is w word budget some live printing ∙ ap (λ (r : Result (FlatState × Effect) Fault). paid budget 1 (with_copies w.machine.undo r)) h
     ∙ ap (λ (a : Option Asking). Ok ((record { machine = record { flat = g; undo = w.machine.undo }; asking = a }, budget - 1), e)) asks
 
--- a fault leaves the machine and its budget
-pub run_err : (w : Whole) (word budget left : ℕ) (m' : FlatMachine) (fault : Fault) → 1 ≤ budget → 0 < sp_of w.machine.flat → w.machine.flat.mode ≡ Running
+-- a fault leaves the machine and its budget, and so does want of memory
+pub run_err : (wants : Type 0) (w : Whole) (word budget left : ℕ) (m' : FlatMachine) (fault : Fault) → 1 ≤ budget → 0 < sp_of w.machine.flat → w.machine.flat.mode ≡ Running
     → ◌≡◌ {A = FlatMachine × ℕ} (m', left) (w.machine, budget - 1)
-    → (fault ≢ NoMemory → taken w.machine (budget - 1) (probes_in w.machine.flat Running) (moved w.machine word Running) ≡ Err fault)
-    → ◌≡◌ {A = Whole × ℕ} (record { machine = m'; asking = w.asking }, budget) (w, budget) × (fault ≢ NoMemory → stepped w word budget ≡ Err fault)
-run_err w word budget left m' fault some live running same does =
-    (ap (λ (x : FlatMachine × ℕ). (record { machine = x.0; asking = w.asking }, budget)) same, λ given. step_err w word budget fault some live running (does given))
+    → IsRefused wants fault (charged (budget - 1) (probes_in w.machine.flat Running) w.machine (mode_step w.machine word Running))
+    → ◌≡◌ {A = Whole × ℕ} (record { machine = m'; asking = w.asking }, budget) (w, budget) × IsRefused wants fault (stepped w word budget)
+run_err wants w word budget left m' fault some live running same does = (
+  ap (λ (x : FlatMachine × ℕ). (record { machine = x.0; asking = w.asking }, budget)) same,
+  (
+    (λ given. step_err w word budget fault some live running (does.0 given)),
+    (λ none. let free = does.1 none in (free.0, step_can w word budget some live running free.1)),
+  ),
+)
 
-pub print_stands : (w : Whole) (word budget : ℕ) (g : FlatState) (fault : Fault) → 1 ≤ budget → 0 < sp_of w.machine.flat → (w.machine.flat.mode ≡ Running → ⊥) → g ≡ w.machine.flat → printed w.machine.flat ≡ Err fault
-    → ◌≡◌ {A = Whole × ℕ} (record { machine = record { flat = g; undo = w.machine.undo }; asking = w.asking }, budget) (w, budget) × (fault ≢ NoMemory → stepped w word budget ≡ Err fault)
-print_stands w word budget g fault some live printing same does =
-    (ap (λ (f : FlatState). (record { machine = record { flat = f; undo = w.machine.undo }; asking = w.asking }, budget)) same, λ given. print_err w word budget fault some live printing does)
+pub print_stands : (w : Whole) (word budget : ℕ) (g : FlatState) (fault : Fault) → 1 ≤ budget → 0 < sp_of w.machine.flat → (w.machine.flat.mode ≡ Running → ⊥) → g ≡ w.machine.flat → IsRefused ⊥ fault (printed w.machine.flat)
+    → ◌≡◌ {A = Whole × ℕ} (record { machine = record { flat = g; undo = w.machine.undo }; asking = w.asking }, budget) (w, budget) × IsRefused ⊥ fault (stepped w word budget)
+print_stands w word budget g fault some live printing same does = (
+  ap (λ (f : FlatState). (record { machine = record { flat = f; undo = w.machine.undo }; asking = w.asking }, budget)) same,
+  (
+    (λ given. print_err w word budget fault some live printing (does.0 given)),
+    (λ none. absurd (does.1 none).0),
+  ),
+)
 
 -- what is asked is pending
 pub some_of : (o : Option Pending) → IsSome (option_map (λ (p : Pending). p.asking) o) → IsSome o

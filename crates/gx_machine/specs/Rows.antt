@@ -7,11 +7,11 @@ use Rattle.gx_rows.specs.declared.instructions.Class.TheVariants as class
 use Rattle.gx_state.specs.declared.effects.Effect.{Effect}
 use Rattle.gx_state.specs.declared.effects.Effect.TheVariants.{Glk}
 use Rattle.gx_state.specs.declared.modes.Dest.{Dest}
-use Rattle.gx_state.specs.declared.modes.Dest.TheVariants.{Nowhere, Memory, Local, Push}
+use Rattle.gx_state.specs.declared.modes.Dest.TheVariants.{Push}
 use Rattle.gx_state.specs.Flat.{FlatState}
-use Rattle.gx_operands.specs.Instructions.{Instruction, operand_at}
+use Rattle.gx_state.specs.Stores.{store_fault}
+use Rattle.gx_operands.specs.Instructions.{Instruction, L1, L2}
 use Rattle.gx_operands.specs.Arguments.{arguments}
-use Rattle.gx_operands.specs.Stores.{store_fault}
 use Rattle.ops_flow.specs.Rows as flow
 use Rattle.ops_flow.specs.Writes as flow_writes
 use Rattle.ops_memory.specs.Rows as memory
@@ -24,18 +24,16 @@ use Rattle.gx_machine.specs.Machine.{FlatMachine}
 
 -- how many words fit above a stack pointer, beside a result that is pushed
 abbrev pub room_above : FlatState → ℕ → Dest → ℕ
-room_above f sp Nowhere = (f.stack.limit - sp) / 4
-room_above f sp (Memory at) = (f.stack.limit - sp) / 4
-room_above f sp (Local at) = (f.stack.limit - sp) / 4
 room_above f sp Push = (f.stack.limit - sp) / 4 - 1
+room_above f sp dest = (f.stack.limit - sp) / 4
 
 -- 130 glk (L1 L2 S1): pops L2 arguments, the first topmost, and asks for the Glk call of selector L1,
 -- with the state standing; S1 is its answer
 unfoldable pub glk : FlatState → Instruction → Result (FlatState × Effect) Fault
 glk f i = do
-  args ← arguments f i.sp (operand_at i 1) 8
-  _ ← store_fault f 4 i.dest (i.sp - 4 * operand_at i 1)
-  Ok (f, Glk (operand_at i 0) (record { items = args }) (room_above f (i.sp - 4 * operand_at i 1) i.dest))
+  args ← arguments f i.sp (L2 i) 8
+  _ ← store_fault f 4 i.dest (i.sp - 4 * L2 i)
+  Ok (f, Glk (L1 i) (record { items = args }) (room_above f (i.sp - 4 * L2 i) i.dest))
 
 -- what a row makes of a machine, whose copies stay
 abbrev pub with_copies : FlatUndo → Result (FlatState × Effect) Fault → Result (FlatMachine × Effect) Fault
@@ -47,26 +45,20 @@ abbrev pub with_both : Result ((FlatState × FlatUndo) × Effect) Fault → Resu
 with_both (Ok r) = Ok (record { flat = r.0.0; undo = r.0.1 }, r.1)
 with_both (Err fault) = Err fault
 
--- the row of a class, with a random word that it may use
-abbrev pub row : Class → FlatMachine → ℕ → Instruction → Result (FlatMachine × Effect) Fault
-row class.Calc m word i = with_copies m.undo (flow.row class.Calc m.flat i)
-row class.Branch m word i = with_copies m.undo (flow.row class.Branch m.flat i)
-row class.Flow m word i = with_copies m.undo (flow.row class.Flow m.flat i)
-row class.Copy m word i = with_copies m.undo (memory.row class.Copy m.flat i)
-row class.Memory m word i = with_copies m.undo (memory.row class.Memory m.flat i)
-row class.Stack m word i = with_copies m.undo (flow.row class.Stack m.flat i)
-row class.Print m word i = with_copies m.undo (print.row m.flat i)
-row class.Game m word i = with_both (game.row m.flat m.undo word i)
-row class.Glk m word i = with_copies m.undo (glk m.flat i)
+-- the row of a class, with a random word that it may use; the classes that aren't named are ops_flow's
+abbrev pub row_effect : Class → FlatMachine → ℕ → Instruction → Result (FlatMachine × Effect) Fault
+row_effect class.Copy m word i = with_copies m.undo (memory.row_effect class.Copy m.flat i)
+row_effect class.Memory m word i = with_copies m.undo (memory.row_effect class.Memory m.flat i)
+row_effect class.Print m word i = with_copies m.undo (print.row_effect m.flat i)
+row_effect class.Game m word i = with_both (game.row_effect m.flat m.undo word i)
+row_effect class.Glk m word i = with_copies m.undo (glk m.flat i)
+row_effect c m word i = with_copies m.undo (flow.row_effect c m.flat i)
 
 -- the rows whose step writes memory, resizes it or copies it, and so may want some
-abbrev pub Writes : Class → FlatMachine → Instruction → Type 0
-Writes class.Calc m i = flow_writes.Writes class.Calc m.flat i
-Writes class.Branch m i = flow_writes.Writes class.Branch m.flat i
-Writes class.Flow m i = flow_writes.Writes class.Flow m.flat i
-Writes class.Copy m i = memory_writes.Writes class.Copy i
-Writes class.Memory m i = memory_writes.Writes class.Memory i
-Writes class.Stack m i = flow_writes.Writes class.Stack m.flat i
-Writes class.Print m i = ⊥
-Writes class.Game m i = game_writes.Writes m.undo i
-Writes class.Glk m i = ⊥
+abbrev pub IsWriting : Class → FlatMachine → Instruction → Type 0
+IsWriting class.Copy m i = memory_writes.IsWriting class.Copy m.flat i
+IsWriting class.Memory m i = memory_writes.IsWriting class.Memory m.flat i
+IsWriting class.Print m i = ⊥
+IsWriting class.Game m i = game_writes.IsWriting m.undo i
+IsWriting class.Glk m i = ⊥
+IsWriting c m i = flow_writes.IsWriting c m.flat i

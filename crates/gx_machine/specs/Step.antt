@@ -1,5 +1,5 @@
 -- One step of the machine (Glulx 3.1.2, "Instruction Format"), and what it takes of a budget.
-use Rattle.std.specs.Prelude.{ℕ, ◌+◌, ◌-◌, ◌==◌, nat_lt, if◌then◌else◌, Option, Some, None, Result, Ok, Err}
+use Rattle.std.specs.Prelude.{ℕ, ◌+◌, ◌-◌, ◌==◌, nat_lt, if◌then◌else◌, Option, Some, None, Result, Ok, Err, IsOkAnd}
 use Rattle.gx_words.specs.declared.faults.Fault.{Fault}
 use Rattle.gx_words.specs.declared.faults.Fault.TheVariants.{BadFrame}
 use Rattle.gx_words.specs.Results.{◌>>=◌}
@@ -14,7 +14,7 @@ use Rattle.ops_print.specs.Items.{item}
 use Rattle.gx_machine.specs.declared.askings.Asking.{Asking}
 use Rattle.gx_machine.specs.declared.askings.Asking.TheVariants as asking
 use Rattle.gx_machine.specs.Machine.{FlatMachine, Whole}
-use Rattle.gx_machine.specs.Rows.{row, with_copies, Writes}
+use Rattle.gx_machine.specs.Rows.{row_effect, with_copies, IsWriting}
 
 -- the probes that an instruction begins; only a search has some
 abbrev pub probes_by : FlatState → Result Instruction Fault → ℕ
@@ -31,17 +31,17 @@ unfoldable pub cost_of : FlatMachine → ℕ
 cost_of m = 1 + (if sp_of m.flat == 0 then 0 else probes_in m.flat m.flat.mode)
 
 -- the step of a machine that runs code is an instruction, and that of one that prints is an item
-abbrev pub moved : FlatMachine → ℕ → Mode → Result (FlatMachine × Effect) Fault
-moved m word mode.Running = do
+abbrev pub mode_step : FlatMachine → ℕ → Mode → Result (FlatMachine × Effect) Fault
+mode_step m word mode.Running = do
   i ← instruction m.flat
-  row i.row.class m word i
-moved m word (mode.Printing p) = with_copies m.undo (item m.flat p)
+  row_effect i.row.class m word i
+mode_step m word (mode.Printing p) = with_copies m.undo (item m.flat p)
 
 -- What a step does with a random word: a fault after which the machine stands, or the new machine
 -- and what was done or is asked; a machine that asks stands. The stack is empty only once the start
 -- function has returned, and then no step is made.
 unfoldable pub step_of : FlatMachine → ℕ → Result (FlatMachine × Effect) Fault
-step_of m word = if sp_of m.flat == 0 then Err BadFrame else moved m word m.flat.mode
+step_of m word = if sp_of m.flat == 0 then Err BadFrame else mode_step m word m.flat.mode
 
 -- the effects that are askings
 abbrev pub asking_of : Effect → Option Asking
@@ -66,10 +66,9 @@ stepped m word budget =
       Ok ((record { machine = r.0; asking = asking_of r.1 }, budget - cost_of m.machine), r.1))
 
 -- the steps that write memory, resize it or copy it: those of certain instructions, and no item
-abbrev pub WritesBy : FlatMachine → Result Instruction Fault → Type 0
-WritesBy m (Ok i) = Writes i.row.class m i
-WritesBy m (Err fault) = ⊥
+abbrev pub IsModeWriting : FlatMachine → Mode → Type 0
+IsModeWriting m mode.Running = IsOkAnd (instruction m.flat) (λ i. IsWriting i.row.class m i)
+IsModeWriting m (mode.Printing p) = ⊥
 
-abbrev pub StepWrites : FlatMachine → Mode → Type 0
-StepWrites m mode.Running = WritesBy m (instruction m.flat)
-StepWrites m (mode.Printing p) = ⊥
+abbrev pub IsStepWriting : FlatMachine → Type 0
+IsStepWriting m = IsModeWriting m m.flat.mode

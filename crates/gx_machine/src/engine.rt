@@ -2,7 +2,7 @@
 ghost use Rattle.std.specs.Prelude.{◌≡◌, None, IsSome, IfOk, OnOk, OnErr};
 ghost use Rattle.gx_words.specs.Faults.{Does};
 ghost use Rattle.gx_machine.specs.Machine.{Whole};
-ghost use Rattle.gx_machine.specs.Answer.{answered, CanAnswer};
+ghost use Rattle.gx_machine.specs.Answer.{answered, IsAnswer};
 ghost use Rattle.gx_machine.specs.Step.{stepped, asking_of};
 
 use gx_state::{Effect, Reply, State};
@@ -11,19 +11,19 @@ use std::alloc::{AllocError, Allocator};
 
 /// Steps and the answers to what they ask.
 ///
-/// Every step may want memory, and so may every answer; nothing has changed then.
+/// Every step that has no fault may want memory, and so may every answer; nothing has changed then.
 pub trait Engine<A: Allocator + Clone> {
     ghost whole: { Self → Whole };
 
     /// One step within the budget, with a random word that it may use.
     fn step(&mut self, word: u32, budget: &mut u64) -> Result<Effect, Fault>
         requires { (whole self.old).asking ≡ None }
-        ensures step { Does (λ effect. effect) result (whole self.old, budget.old) (whole self.new, budget.new) (stepped (whole self.old) word budget.old) }
+        ensures step { Does (Unit {0}) (λ effect. effect) result (whole self.old, budget.old) (whole self.new, budget.new) (stepped (whole self.old) word budget.old) }
         ensures stands { IfOk result (λ effect. IsSome (asking_of effect) → (whole self.new).machine ≡ (whole self.old).machine) };
 
     /// Answers what the last step asked.
     fn finish(&mut self, reply: &Reply) -> Result<(), AllocError>
-        requires { CanAnswer (whole self.old) reply.now }
+        requires { IsAnswer (whole self.old) reply.now }
         ensures ok { OnOk result (whole self.new ≡ answered (whole self.old) reply.now) }
         ensures err { OnErr result (whole self.new ≡ whole self.old) };
 

@@ -6,7 +6,8 @@
 //!
 //! `Machine::step` is `stepped` of specs/Step for every machine, word and budget: each fault comes
 //! exactly where the definition has it, an asking leaves the state as it is, and the budget is lowered
-//! by the cost, but not after a fault. After want of memory everything is as before the step.
+//! by the cost, but not after a fault. Want of memory comes only where the definition has no fault and
+//! the step writes, resizes or copies memory, and then everything is as before the step.
 #![tactic(auto)]
 
 mod askings;
@@ -17,6 +18,3 @@ mod rows;
 pub use askings::Asking;
 pub use engine::Engine;
 pub use machine::Machine;
-
-#[cfg(test)]
-mod tests;

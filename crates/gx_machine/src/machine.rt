@@ -1,23 +1,21 @@
 //! The machine: one step, and the answer to what it asks.
-ghost use Rattle.std.specs.Prelude.{◌≡◌, ◌≢◌, ◌⊎◌, ◌+◌, ◌*◌, ◌<◌, ◌≤◌, length, Ok, None, IfOk, IsSome, OnOk, OnErr, IsErrOf};
-ghost use Rattle.gx_words.specs.declared.faults.Fault.TheVariants.{NoMemory};
-ghost use Rattle.gx_words.specs.Faults.{Does, TakesNone};
-ghost use Rattle.gx_words.specs.Results.{Gives};
+ghost use Rattle.std.specs.Prelude.{◌≡◌, ◌≢◌, ◌⊎◌, ◌+◌, ◌*◌, ◌<◌, ◌≤◌, ℕ, length, Ok, Some, None, IfOk, IsSome, OnOk, OnErr};
+ghost use Rattle.gx_words.specs.Faults.{Does, Makes};
 ghost use Rattle.gx_state.specs.Flat.{IsHeight, sp_of};
-ghost use Rattle.gx_state.specs.Replies.{AllInRam, IsReply};
-ghost use Rattle.gx_pages.specs.Memory.{all_spliced};
-ghost use Rattle.gx_operands.specs.Stores.{store_fault, IsMemory};
-ghost use Rattle.gx_machine.specs.Answer.{answered, answered_state, with_writes, with_pushes, CanAnswer, StoresAnswer};
-ghost use Rattle.gx_machine.specs.Start.{begun};
-ghost use Rattle.gx_machine.specs.Step.{asking_of, stepped, StepWrites};
-ghost use Rattle.gx_machine.specs.Views.{Pends, told_room, result_len};
+ghost use Rattle.gx_state.specs.Replies.{AreInRam, IsReply};
+ghost use Rattle.gx_state.specs.Stores.{store_fault, IsMemory};
+ghost use Rattle.gx_pages.specs.Memory.{HasBytes};
+ghost use Rattle.gx_machine.specs.Answer.{answered, answered_state, with_writes, with_pushes, IsAnswer, IsStoredAnswer};
+ghost use Rattle.gx_machine.specs.Start.{first_machine};
+ghost use Rattle.gx_machine.specs.Step.{asking_of, room_of, stepped, IsModeWriting, IsStepWriting};
+ghost use Rattle.gx_machine.specs.Views.{IsPending, result_len};
 
 use crate::rows::{print, run};
 use crate::{Asking, Engine};
 use gx_state::{Dest, Effect, Mode, Reply, State};
 use gx_story::Story;
 use gx_undo::Undo;
-use gx_words::{Fault, Writes, word_bytes};
+use gx_words::{Fault, word_bytes};
 use std::alloc::{AllocError, Allocator, Global};
 use std::marker::Model;
 
@@ -54,14 +52,14 @@ impl<A: Allocator + Clone> Model for Machine<A> {
 
 impl<A: Allocator + Clone> Machine<A> {
     /// A machine that starts a story, and keeps at most `depth` copies for undo.
-    #[tactic(auto, unfolding(crate::specs::Start::begun))]
+    #[tactic(auto, unfolding(crate::specs::Start::first_machine))]
     pub fn start(alloc: Global, pages: A, story: Story, depth: usize) -> Result<Machine<A>, Fault>
         requires { (1 ≤ depth) × (depth ≤ 64) }
-        ensures value { Gives NoMemory (λ machine. machine) result (begun story depth) }
+        ensures value { Makes (λ machine. machine) result (first_machine story depth) }
         ensures asks { IfOk result (λ machine. machine.asking ≡ None) }
     {
-        let undo = Undo::new(alloc, depth)?;
         let state = State::start_with(alloc, pages, story)?;
+        let undo = Undo::new(alloc, depth)?;
         Ok(Machine {
             state,
             undo,
@@ -94,9 +92,8 @@ impl<A: Allocator + Clone> Machine<A> {
     #[tactic(auto, using(crate::proofs::Steps::steps))]
     pub fn step(&mut self, word: u32, budget: &mut u64) -> Result<Effect, Fault>
         requires { self.old.asking ≡ None }
-        ensures step { Does (λ effect. effect) result (self.old, budget.old) (self.new, budget.new) (stepped self.old word budget.old) }
+        ensures step { Does (IsStepWriting self.old.machine) (λ effect. effect) result (self.old, budget.old) (self.new, budget.new) (stepped self.old word budget.old) }
         ensures stands { IfOk result (λ effect. IsSome (asking_of effect) → self.new.machine ≡ self.old.machine) }
-        ensures memory { IsErrOf result NoMemory → StepWrites self.old.machine self.old.machine.flat.mode }
     {
         if *budget == 0 {
             return Ok(Effect::Spent);
@@ -106,7 +103,7 @@ impl<A: Allocator + Clone> Machine<A> {
         }
         match self.state.mode() {
             Mode::Running => self.run(word, budget),
-            Mode::Printing(_) => self.print(word, budget),
+            Mode::Printing(_) => self.print(budget),
         }
     }
 
@@ -117,9 +114,8 @@ impl<A: Allocator + Clone> Machine<A> {
         requires some { 1 ≤ budget.old }
         requires live { 0 < sp_of self.old.machine.flat }
         requires running { self.old.machine.flat.mode ≡ Mode.Running }
-        ensures step { Does (λ effect. effect) result (self.old, budget.old) (self.new, budget.new) (stepped self.old word budget.old) }
+        ensures step { Does (IsModeWriting self.old.machine Mode.Running) (λ effect. effect) result (self.old, budget.old) (self.new, budget.new) (stepped self.old word budget.old) }
         ensures stands { IfOk result (λ effect. IsSome (asking_of effect) → self.new.machine ≡ self.old.machine) }
-        ensures memory { IsErrOf result NoMemory → StepWrites self.old.machine Mode.Running }
     {
         let mut left = *budget - 1;
         match run(&mut self.state, &mut self.undo, word, &mut left) {
@@ -135,18 +131,16 @@ impl<A: Allocator + Clone> Machine<A> {
         }
     }
 
-    /// The same for a machine that prints.
+    /// The same for a machine that prints, whatever the word is.
     #[tactic(auto, using(crate::proofs::Steps::steps))]
-    fn print(&mut self, word: u32, budget: &mut u64) -> Result<Effect, Fault>
+    fn print(&mut self, budget: &mut u64) -> Result<Effect, Fault>
         requires asks { self.old.asking ≡ None }
         requires some { 1 ≤ budget.old }
         requires live { 0 < sp_of self.old.machine.flat }
         requires printing { self.old.machine.flat.mode ≢ Mode.Running }
-        ensures step { Does (λ effect. effect) result (self.old, budget.old) (self.new, budget.new) (stepped self.old word budget.old) }
+        ensures step { (word : ℕ) → Does ⊥ (λ effect. effect) result (self.old, budget.old) (self.new, budget.new) (stepped self.old word budget.old) }
         ensures stands { IfOk result (λ effect. IsSome (asking_of effect) → self.new.machine ≡ self.old.machine) }
-        ensures memory { TakesNone result }
     {
-        let _word = word;
         match print(&mut self.state) {
             Err(fault) => Err(fault),
             Ok((effect, pending)) => {
@@ -161,10 +155,10 @@ impl<A: Allocator + Clone> Machine<A> {
     /// and the value is stored.
     #[tactic(auto, unfolding(crate::specs::Answer::answer_of))]
     pub fn finish(&mut self, reply: &Reply) -> Result<(), AllocError>
-        requires { CanAnswer self.old reply.now }
+        requires { IsAnswer self.old reply.now }
         ensures ok { OnOk result (self.new ≡ answered self.old reply.now) }
         ensures err { OnErr result (self.new ≡ self.old) }
-        ensures memory { OnErr result (0 < length reply.now.writes ⊎ StoresAnswer self.old.machine.flat) }
+        ensures memory { OnErr result (HasBytes reply.now.writes ⊎ IsStoredAnswer self.old.machine.flat) }
     {
         if let Some(pending) = self.pending {
             answer(&mut self.state, &pending, reply)?;
@@ -174,22 +168,8 @@ impl<A: Allocator + Clone> Machine<A> {
     }
 }
 
-/// Makes writes, which takes memory only where there are some.
-fn make<A: Allocator + Clone>(state: &mut State<A>, writes: &Writes) -> Result<(), AllocError>
-    requires { AllInRam state.old.flat writes.now }
-    ensures ok { OnOk result (state.new ≡ record state.old { flat = record state.old.flat { memory = all_spliced state.old.flat.memory writes.now } }) }
-    ensures err { OnErr result (state.new ≡ state.old) }
-    ensures size { length state.new.flat.memory ≡ length state.old.flat.memory }
-    ensures memory { OnErr result (0 < length writes.now) }
-{
-    if writes.as_slice().is_empty() {
-        return Ok(());
-    }
-    state.write_all(writes)
-}
-
 /// Makes the writes of a reply, and stores its value where that goes to memory or a local.
-#[tactic(auto, unfolding(gx_operands::specs::Stores::store_fault, gx_state::specs::Flat::with_local, gx_stack::specs::Values::with_local))]
+#[tactic(auto, unfolding(gx_state::specs::Stores::store_fault, gx_state::specs::Flat::with_local, gx_stack::specs::Values::with_local))]
 fn write_all<A: Allocator + Clone>(
     state: &mut State<A>,
     pending: &Pending,
@@ -197,22 +177,22 @@ fn write_all<A: Allocator + Clone>(
 ) -> Result<(), AllocError>
     requires height { IsHeight state.old.flat pending.now.sp }
     requires stores { store_fault state.old.flat 4 pending.now.dest pending.now.sp ≡ Ok tt }
-    requires writes { AllInRam state.old.flat reply.now.writes }
+    requires writes { AreInRam state.old.flat reply.now.writes }
     ensures ok { OnOk result (state.new.flat ≡ with_writes state.old.flat pending.now.dest reply.now) }
     ensures err { OnErr result (state.new.flat ≡ state.old.flat) }
     ensures height { IsHeight state.new.flat pending.now.sp }
-    ensures memory { OnErr result (0 < length reply.now.writes ⊎ IsMemory pending.now.dest) }
+    ensures memory { OnErr result (HasBytes reply.now.writes ⊎ IsMemory pending.now.dest) }
 {
     match pending.dest {
         Dest::Memory(at) => state.write_all_and(&reply.writes, at, &word_bytes(reply.value)),
         Dest::Local(at) => {
-            make(state, &reply.writes)?;
+            state.write_all(&reply.writes)?;
             match state.set_local(at, 4, reply.value) {
                 Ok(()) => Ok(()),
                 Err(_) => unreachable!(),
             }
         }
-        _ => make(state, &reply.writes),
+        _ => state.write_all(&reply.writes),
     }
 }
 
@@ -241,11 +221,11 @@ fn answer<A: Allocator + Clone>(
     pending: &Pending,
     reply: &Reply,
 ) -> Result<(), AllocError>
-    requires pends { Pends state.old.flat pending.now }
-    requires fits { IsReply state.old.flat (told_room pending.now.asking) reply.now }
+    requires pends { IsPending state.old.flat pending.now }
+    requires fits { IsReply state.old.flat (room_of (Some pending.now.asking)) reply.now }
     ensures ok { OnOk result (state.new.flat ≡ answered_state state.old.flat reply.now) }
     ensures err { OnErr result (state.new.flat ≡ state.old.flat) }
-    ensures memory { OnErr result (0 < length reply.now.writes ⊎ StoresAnswer state.old.flat) }
+    ensures memory { OnErr result (HasBytes reply.now.writes ⊎ IsStoredAnswer state.old.flat) }
 {
     write_all(state, pending, reply)?;
     state.cut_stack(pending.sp);

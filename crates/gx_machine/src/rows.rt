@@ -1,28 +1,25 @@
 //! The row of an instruction, class by class.
-ghost use Rattle.std.specs.Prelude.{◌≡◌, ◌≢◌, ◌<◌, ◌≤◌, ◌*◌, ◌+◌, length, Ok, Some, IsErrOf, IsSome, IfOk, IfSome};
-ghost use Rattle.gx_words.specs.declared.faults.Fault.TheVariants.{NoMemory};
-ghost use Rattle.gx_words.specs.Faults.{Does, TakesNone};
-ghost use Rattle.gx_words.specs.Results.{Is, Turns};
-ghost use Rattle.gx_rows.specs.Table.{row_at, RowFits};
+ghost use Rattle.std.specs.Prelude.{◌≡◌, ◌≢◌, ◌<◌, ◌≤◌, ◌*◌, ◌+◌, Ok, Some, IsSome, IfOk, IfSome};
+ghost use Rattle.std.specs.Option.{option_map};
+ghost use Rattle.gx_words.specs.Faults.{Does, Reads};
 ghost use Rattle.gx_state.specs.declared.effects.Effect.TheVariants.{Spent};
 ghost use Rattle.gx_state.specs.declared.modes.Mode.TheVariants.{Running};
 ghost use Rattle.gx_state.specs.Flat.{FlatState, IsHeight, sp_of};
 ghost use Rattle.gx_operands.specs.Instructions.{instruction};
 ghost use Rattle.gx_operands.specs.Plans.{instruction_of};
-ghost use Rattle.gx_undo.specs.Undo.{AllFor};
-ghost use Rattle.ops_memory.specs.Costs.{probes_of, acted};
-ghost use Rattle.ops_memory.specs.Writes.{Writes as WritesHere};
+ghost use Rattle.gx_undo.specs.Undo.{AreCopiesFor};
+ghost use Rattle.ops_memory.specs.Costs.{probes_of, acted, charged};
+ghost use Rattle.ops_memory.specs.Writes as memory_writes;
 ghost use Rattle.ops_print.specs.Rows as print;
 ghost use Rattle.ops_print.specs.Items.{printed};
-ghost use Rattle.gx_machine.specs.Rows.{room_above, glk, row, Writes};
-ghost use Rattle.gx_machine.specs.Step.{asking_of, moved, probes_in, StepWrites};
-ghost use Rattle.gx_machine.specs.Views.{Pends, result_len, machine_of, taken};
-ghost use Rattle.std.specs.Option.{option_map};
+ghost use Rattle.gx_machine.specs.Rows.{room_above, glk, row_effect, IsWriting};
+ghost use Rattle.gx_machine.specs.Step.{asking_of, mode_step, probes_in, IsModeWriting};
+ghost use Rattle.gx_machine.specs.Views.{IsPending, result_len, machine_of};
 
 use crate::Asking;
 use crate::machine::Pending;
 use gx_operands::{Plan, arguments, can_store, decode};
-use gx_rows::{Class, row_at};
+use gx_rows::Class;
 use gx_state::{Dest, Effect, Mode, State};
 use gx_undo::Undo;
 use gx_words::Fault;
@@ -47,15 +44,13 @@ fn glk<A: Allocator + Clone>(state: &State<A>, plan: &Plan) -> Result<(Effect, P
     requires sp { IsHeight state.now.flat plan.now.sp }
     requires decoded { instruction state.now.flat ≡ Ok (instruction_of plan.now) }
     requires class { (instruction_of plan.now).row.class ≡ Class.Glk }
-    ensures value { Is (λ r. (state.now.flat, r.0)) result (glk state.now.flat (instruction_of plan.now)) }
+    ensures value { Reads (λ r. (state.now.flat, r.0)) result (glk state.now.flat (instruction_of plan.now)) }
     ensures asks { IfOk result (λ r. asking_of r.0 ≡ Some r.1.asking) }
-    ensures pends { IfOk result (λ r. Pends state.now.flat r.1) }
+    ensures pends { IfOk result (λ r. IsPending state.now.flat r.1) }
     ensures spent { IfOk result (λ r. r.0 ≢ Spent) }
-    ensures memory { TakesNone result }
 {
     let count = plan.load(1);
     let limit = state.stack().limit();
-    let _size = state.stack().size();
     let args = arguments(state, plan.sp, count)?;
     let sp = plan.sp - 4 * count;
     can_store(state, &plan.dest, 4, sp)?;
@@ -83,15 +78,12 @@ fn memory_row<A: Allocator + Clone>(
     left: &mut u64,
 ) -> Result<(Effect, Option<Pending>), Fault>
     requires sp { IsHeight state.old.flat plan.now.sp }
-    requires row { plan.now.row < 87 }
-    requires fits { RowFits (row_at plan.now.row) }
-    ensures value { Does (λ r. r.0) result (state.old.flat, left.old) (state.new.flat, left.new) (acted (row_at plan.now.row).class state.old.flat (instruction_of plan.now) left.old) }
+    ensures value { Does (memory_writes.IsWriting (instruction_of plan.now).row.class state.old.flat (instruction_of plan.now)) (λ r. r.0) result (state.old.flat, left.old) (state.new.flat, left.new) (acted (instruction_of plan.now).row.class state.old.flat (instruction_of plan.now) left.old) }
     ensures asks { IfOk result (λ r. asking_of r.0 ≡ option_map (λ p. p.asking) r.1) }
     ensures stands { IfOk result (λ r. IsSome r.1 → state.new.flat ≡ state.old.flat) }
-    ensures pends { IfOk result (λ r. IfSome r.1 (Pends state.new.flat)) }
-    ensures spent { IfOk result (λ r. r.0 ≡ Spent → left.old < probes_of (row_at plan.now.row).class state.old.flat (instruction_of plan.now)) }
+    ensures pends { IfOk result (λ r. IfSome r.1 (IsPending state.new.flat)) }
+    ensures spent { IfOk result (λ r. r.0 ≡ Spent → left.old < probes_of (instruction_of plan.now).row.class state.old.flat (instruction_of plan.now)) }
     ensures story { state.new.flat.story ≡ state.old.flat.story }
-    ensures memory { IsErrOf result NoMemory → WritesHere (row_at plan.now.row).class (instruction_of plan.now) }
 {
     Ok((ops_memory::act(state, plan, left)?, None))
 }
@@ -110,25 +102,23 @@ fn put_pending(sp: u32, next: u32, mode: Mode) -> Pending
 }
 
 /// A row of Print.
-#[tactic(auto, unfolding(gx_operands::specs::Stores::store_fault), using(crate::proofs::Answers::answers))]
+#[tactic(auto, unfolding(gx_state::specs::Stores::store_fault), using(crate::proofs::Answers::answers))]
 fn print_row<A: Allocator + Clone>(
     state: &mut State<A>,
     plan: &Plan,
 ) -> Result<(Effect, Option<Pending>), Fault>
     requires running { state.old.flat.mode ≡ Running }
     requires sp { IsHeight state.old.flat plan.now.sp }
-    requires row { plan.now.row < 87 }
     requires decoded { instruction state.old.flat ≡ Ok (instruction_of plan.now) }
     requires class { (instruction_of plan.now).row.class ≡ Class.Print }
-    ensures value { Turns (λ r. r.0) result state.old.flat state.new.flat (print.row state.old.flat (instruction_of plan.now)) }
+    ensures value { Does ⊥ (λ r. r.0) result state.old.flat state.new.flat (print.row_effect state.old.flat (instruction_of plan.now)) }
     ensures asks { IfOk result (λ r. asking_of r.0 ≡ option_map (λ p. p.asking) r.1) }
     ensures stands { IfOk result (λ r. IsSome r.1 → state.new.flat ≡ state.old.flat) }
-    ensures pends { IfOk result (λ r. IfSome r.1 (Pends state.new.flat)) }
+    ensures pends { IfOk result (λ r. IfSome r.1 (IsPending state.new.flat)) }
     ensures spent { IfOk result (λ r. r.0 ≢ Spent) }
     ensures story { state.new.flat.story ≡ state.old.flat.story }
-    ensures memory { TakesNone result }
 {
-    let _size = state.stack().size();
+    let _stack = state.stack(); // a state is sound
     match ops_print::act(state, plan)? {
         Effect::Put(c) => {
             let pending = put_pending(plan.sp, plan.next, Mode::Running);
@@ -139,21 +129,19 @@ fn print_row<A: Allocator + Clone>(
 }
 
 /// One step of printing.
-#[tactic(auto, unfolding(gx_operands::specs::Stores::store_fault), using(crate::proofs::Answers::answers))]
+#[tactic(auto, unfolding(gx_state::specs::Stores::store_fault), using(crate::proofs::Answers::answers))]
 pub(crate) fn print<A: Allocator + Clone>(
     state: &mut State<A>,
 ) -> Result<(Effect, Option<Pending>), Fault>
     requires live { 0 < sp_of state.old.flat }
     requires printing { state.old.flat.mode ≢ Running }
-    ensures value { Turns (λ r. r.0) result state.old.flat state.new.flat (printed state.old.flat) }
+    ensures value { Does ⊥ (λ r. r.0) result state.old.flat state.new.flat (printed state.old.flat) }
     ensures asks { IfOk result (λ r. asking_of r.0 ≡ option_map (λ p. p.asking) r.1) }
     ensures stands { IfOk result (λ r. IsSome r.1 → state.new.flat ≡ state.old.flat) }
-    ensures pends { IfOk result (λ r. IfSome r.1 (Pends state.new.flat)) }
+    ensures pends { IfOk result (λ r. IfSome r.1 (IsPending state.new.flat)) }
     ensures spent { IfOk result (λ r. r.0 ≢ Spent) }
     ensures story { state.new.flat.story ≡ state.old.flat.story }
-    ensures memory { TakesNone result }
 {
-    let _frame = state.frame();
     let sp = state.stack().size();
     let pc = state.pc();
     let (effect, mode) = ops_print::item_and_mode(state)?;
@@ -174,21 +162,18 @@ fn row<A: Allocator + Clone>(
 ) -> Result<(Effect, Option<Pending>), Fault>
     requires running { state.old.flat.mode ≡ Running }
     requires sp { IsHeight state.old.flat plan.now.sp }
-    requires row { plan.now.row < 87 }
-    requires fits { RowFits (row_at plan.now.row) }
     requires decoded { instruction state.old.flat ≡ Ok (instruction_of plan.now) }
-    requires copies { AllFor state.old.flat.story undo.old.copies }
-    ensures value { Does (λ r. r.0) result (machine_of state.old undo.old, left.old) (machine_of state.new undo.new, left.new)
-        (taken (machine_of state.old undo.old) left.old (probes_of (row_at plan.now.row).class state.old.flat (instruction_of plan.now)) (row (row_at plan.now.row).class (machine_of state.old undo.old) word (instruction_of plan.now))) }
+    requires copies { AreCopiesFor state.old.flat.story undo.old.copies }
+    ensures value { let machine = machine_of state.old undo.old in let i = instruction_of plan.now in Does (IsWriting i.row.class machine i) (λ r. r.0) result (machine, left.old) (machine_of state.new undo.new, left.new)
+        (charged left.old (probes_of i.row.class state.old.flat i) machine (row_effect i.row.class machine word i)) }
     ensures asks { IfOk result (λ r. asking_of r.0 ≡ option_map (λ p. p.asking) r.1) }
     ensures stands { IfOk result (λ r. IsSome r.1 → machine_of state.new undo.new ≡ machine_of state.old undo.old) }
-    ensures pends { IfOk result (λ r. IfSome r.1 (Pends state.new.flat)) }
-    ensures spent { IfOk result (λ r. r.0 ≡ Spent → left.old < probes_of (row_at plan.now.row).class state.old.flat (instruction_of plan.now)) }
+    ensures pends { IfOk result (λ r. IfSome r.1 (IsPending state.new.flat)) }
+    ensures spent { IfOk result (λ r. r.0 ≡ Spent → left.old < probes_of (instruction_of plan.now).row.class state.old.flat (instruction_of plan.now)) }
     ensures story { state.new.flat.story ≡ state.old.flat.story }
-    ensures copies { AllFor state.new.flat.story undo.new.copies }
-    ensures memory { IsErrOf result NoMemory → Writes (row_at plan.now.row).class (machine_of state.old undo.old) (instruction_of plan.now) }
+    ensures copies { AreCopiesFor state.new.flat.story undo.new.copies }
 {
-    match row_at(plan.row).class {
+    match plan.row().class {
         Class::Calc | Class::Branch | Class::Flow | Class::Stack => {
             Ok((ops_flow::act(state, plan)?, None))
         }
@@ -212,15 +197,14 @@ pub(crate) fn run<A: Allocator + Clone>(
 ) -> Result<(Effect, Option<Pending>), Fault>
     requires live { 0 < sp_of state.old.flat }
     requires running { state.old.flat.mode ≡ Running }
-    requires copies { AllFor state.old.flat.story undo.old.copies }
-    ensures value { Does (λ r. r.0) result (machine_of state.old undo.old, left.old) (machine_of state.new undo.new, left.new)
-        (taken (machine_of state.old undo.old) left.old (probes_in state.old.flat Running) (moved (machine_of state.old undo.old) word Running)) }
+    requires copies { AreCopiesFor state.old.flat.story undo.old.copies }
+    ensures value { let machine = machine_of state.old undo.old in Does (IsModeWriting machine Running) (λ r. r.0) result (machine, left.old) (machine_of state.new undo.new, left.new)
+        (charged left.old (probes_in state.old.flat Running) machine (mode_step machine word Running)) }
     ensures asks { IfOk result (λ r. asking_of r.0 ≡ option_map (λ p. p.asking) r.1) }
     ensures stands { IfOk result (λ r. IsSome r.1 → machine_of state.new undo.new ≡ machine_of state.old undo.old) }
-    ensures pends { IfOk result (λ r. IfSome r.1 (Pends state.new.flat)) }
+    ensures pends { IfOk result (λ r. IfSome r.1 (IsPending state.new.flat)) }
     ensures spent { IfOk result (λ r. r.0 ≡ Spent → left.old < probes_in state.old.flat Running) }
-    ensures copies { AllFor state.new.flat.story undo.new.copies }
-    ensures memory { IsErrOf result NoMemory → StepWrites (machine_of state.old undo.old) Running }
+    ensures copies { AreCopiesFor state.new.flat.story undo.new.copies }
 {
     let plan = decode(state)?;
     row(state, undo, &plan, word, left)

@@ -1,10 +1,10 @@
 -- One operand of those that are left.
-use Rattle.std.proofs.Common.{◌≡◌, ◌≤◌, ◌<◌, ◌+◌, ◌-◌, ◌*◌, ◌%◌, ℕ, suc, refl, arith, Ok, Err}
+use Rattle.std.proofs.Common.{◌≡◌, ◌≤◌, ◌<◌, ◌+◌, ◌-◌, ◌*◌, ℕ, suc, refl, arith, Ok, Err}
 use Rattle.gx_words.specs.declared.faults.Fault.{Fault}
 use Rattle.gx_rows.specs.declared.instructions.Row.{Row}
-use Rattle.gx_stack.specs.Frames.{IsFrame}
-use Rattle.gx_state.specs.Flat.{FlatState, IsHeight, frame_of, sp_of}
-use Rattle.gx_operands.specs.Instructions.{Operands, Has, operands, operand}
+use Rattle.gx_state.specs.Flat.{FlatState, IsHeight, sp_of}
+use Rattle.gx_state.specs.Sound.{IsSound}
+use Rattle.gx_operands.specs.Instructions.{Operands, HasValues, operands, operand}
 
 pub all_taken : (f : FlatState) (row : Row) (modes count i : ℕ) (o : Operands) → count ≤ i → operands f row modes (count - i) i o ≡ Ok o
 unfolding operands
@@ -21,12 +21,12 @@ one_fails f row modes count i o e h fails = let more : count - i ≡ suc (count 
 pub ruleset steps = (all_taken, one_taken, one_fails)
 
 -- what pops leave is a stack pointer of the frame
-pub height_left : (f : FlatState) (n sp : ℕ) → 0 < sp_of f → IsFrame f.stack.bytes (frame_of f) → Has f n → sp_of f % 4 ≡ 0 → sp ≡ sp_of f - 4 * n → IsHeight f sp
-height_left f n sp live frame has words is =
-    let good = frame.good in
+pub height_left : (f : FlatState) (n sp : ℕ) → 0 < sp_of f → IsSound f → HasValues f n → sp ≡ sp_of f - 4 * n → IsHeight f sp
+height_left f n sp live sound has is =
+    let good = sound.framed.good live in
     record {
       live = live;
       values = omega (arith, good.whole, has);
       there = omega arith;
-      words = omega (arith, good.whole, good.words, good.begins, has);
+      aligned = omega (arith, good.whole, good.aligned, good.begins, sound.aligned, has);
     }

@@ -29,7 +29,7 @@ height_below f sp count height enough =
       live = height.live;
       values = omega (arith, height.values, enough);
       there = omega (arith, height.there);
-      words = omega (arith, height.words, height.values, enough);
+      aligned = omega (arith, height.aligned, height.values, enough);
     }
 
 pub ruleset heights = (height_below)

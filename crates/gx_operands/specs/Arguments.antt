@@ -1,4 +1,4 @@
--- The arguments that an instruction pops (Glulx 3.1.2, "Functions and Continuations" and "Miscellaneous").
+-- The arguments that an instruction pops (Glulx 3.1.2, "Functions", "Output").
 use Rattle.std.specs.Prelude.{ℕ, zero, suc, ◌-◌, ◌/◌, nat_lt, min, if◌then◌else◌, List, [], ◌∷◌, Result, Ok, Err}
 use Rattle.gx_words.specs.declared.faults.Fault.{Fault}
 use Rattle.gx_words.specs.declared.faults.Fault.TheVariants.{Underflow}

@@ -14,11 +14,12 @@ use Rattle.gx_rows.specs.Table.{row_of}
 use Rattle.gx_state.specs.declared.modes.Dest.{Dest}
 use Rattle.gx_state.specs.declared.modes.Dest.TheVariants as dest
 use Rattle.gx_state.specs.Flat.{FlatState, frame_of, sp_of}
+use Rattle.gx_operands.specs.declared.addressing.TheConstants.{CONSTANT_ZERO, CONSTANT_BYTE, CONSTANT_SHORT, CONSTANT_WORD, ADDRESS_BYTE, ADDRESS_SHORT, ADDRESS_WORD, STACK_TOP, LOCAL_BYTE, LOCAL_SHORT, LOCAL_WORD, RAM_BYTE, RAM_SHORT, RAM_WORD}
 use Rattle.gx_operands.specs.declared.addressing.Addressing.{Addressing}
 use Rattle.gx_operands.specs.declared.addressing.Addressing.TheVariants.{Zero, Constant, Memory, Top, Local, Ram}
 use Rattle.gx_operands.specs.declared.addressing.Kind.{Kind}
 use Rattle.gx_operands.specs.declared.addressing.Kind.TheVariants.{Load, Store}
-use Rattle.gx_operands.specs.declared.addressing.Place.{Place}
+use Rattle.gx_operands.specs.declared.addressing.Cursor.{Cursor}
 
 -- the number at PC in one, two or four bytes, and the address after them
 unfoldable pub opcode : FlatState → Result (ℕ × ℕ) Fault
@@ -34,20 +35,20 @@ opcode f = do
 -- the addressing mode of a nibble
 unfoldable pub addressing : ℕ → Result Addressing Fault
 addressing nibble =
-    if nibble == 0x0 then Ok Zero else
-    if nibble == 0x1 then Ok (Constant 1) else
-    if nibble == 0x2 then Ok (Constant 2) else
-    if nibble == 0x3 then Ok (Constant 4) else
-    if nibble == 0x5 then Ok (Memory 1) else
-    if nibble == 0x6 then Ok (Memory 2) else
-    if nibble == 0x7 then Ok (Memory 4) else
-    if nibble == 0x8 then Ok Top else
-    if nibble == 0x9 then Ok (Local 1) else
-    if nibble == 0xA then Ok (Local 2) else
-    if nibble == 0xB then Ok (Local 4) else
-    if nibble == 0xD then Ok (Ram 1) else
-    if nibble == 0xE then Ok (Ram 2) else
-    if nibble == 0xF then Ok (Ram 4) else
+    if nibble == CONSTANT_ZERO then Ok Zero else
+    if nibble == CONSTANT_BYTE then Ok (Constant 1) else
+    if nibble == CONSTANT_SHORT then Ok (Constant 2) else
+    if nibble == CONSTANT_WORD then Ok (Constant 4) else
+    if nibble == ADDRESS_BYTE then Ok (Memory 1) else
+    if nibble == ADDRESS_SHORT then Ok (Memory 2) else
+    if nibble == ADDRESS_WORD then Ok (Memory 4) else
+    if nibble == STACK_TOP then Ok Top else
+    if nibble == LOCAL_BYTE then Ok (Local 1) else
+    if nibble == LOCAL_SHORT then Ok (Local 2) else
+    if nibble == LOCAL_WORD then Ok (Local 4) else
+    if nibble == RAM_BYTE then Ok (Ram 1) else
+    if nibble == RAM_SHORT then Ok (Ram 2) else
+    if nibble == RAM_WORD then Ok (Ram 4) else
     Err BadMode
 
 -- the data of an operand is 1, 2 or 4 bytes
@@ -60,26 +61,26 @@ HasWidth (Local n) = IsWidth n
 HasWidth (Ram n) = IsWidth n
 
 -- the frame has so many values
-abbrev pub Has : FlatState → ℕ → Type 0
-Has f values = values ≤ count f.stack.bytes (frame_of f)
+abbrev pub HasValues : FlatState → ℕ → Type 0
+HasValues f values = values ≤ count f.stack.bytes (frame_of f)
 
 -- the address in RAM that an offset means
 abbrev pub ram_address : FlatState → ℕ → ℕ
-ram_address f offset = (f.story.ramstart + offset) % 2 ^ 32
+ram_address f offset = (f.story.header.ramstart + offset) % 2 ^ 32
 
--- a place behind so many bytes of data
-abbrev pub past : Place → ℕ → Place
+-- a cursor behind so many bytes of data
+abbrev pub past : Cursor → ℕ → Cursor
 past p n = record p { at = p.at + n }
 
--- the number of so many bytes of data at a place, and the place after it
-unfoldable pub datum : List ℕ → Place → ℕ → Result (ℕ × Place) Fault
+-- the number of so many bytes of data at a cursor, and the cursor after it
+unfoldable pub datum : List ℕ → Cursor → ℕ → Result (ℕ × Cursor) Fault
 datum memory p n = do
   v ← number_in n memory p.at
   Ok (v, past p n)
 
--- What a load operand gives, and the place after it. Constants and popped values keep the low bytes
+-- What a load operand gives, and the cursor after it. Constants and popped values keep the low bytes
 -- of the operand's width.
-unfoldable pub load_by : FlatState → ℕ → Addressing → Place → Result (ℕ × Place) Fault
+unfoldable pub load_by : FlatState → ℕ → Addressing → Cursor → Result (ℕ × Cursor) Fault
 load_by f width Zero p = Ok (0, p)
 load_by f width (Constant n) p = do
   d ← datum f.memory p n
@@ -100,13 +101,13 @@ load_by f width (Ram n) p = do
   v ← number_in width f.memory (ram_address f d.0)
   Ok (v, d.1)
 
-unfoldable pub load : FlatState → ℕ → ℕ → Place → Result (ℕ × Place) Fault
+unfoldable pub load : FlatState → ℕ → ℕ → Cursor → Result (ℕ × Cursor) Fault
 load f width nibble p = do
   mode ← addressing nibble
   load_by f width mode p
 
--- Where a store operand points, and the place after it.
-unfoldable pub destination_by : FlatState → Addressing → Place → Result (Dest × Place) Fault
+-- Where a store operand points, and the cursor after it.
+unfoldable pub destination_by : FlatState → Addressing → Cursor → Result (Dest × Cursor) Fault
 destination_by f Zero p = Ok (dest.Nowhere, p)
 destination_by f (Constant n) p = Err BadMode
 destination_by f (Memory n) p = do
@@ -120,7 +121,7 @@ destination_by f (Ram n) p = do
   d ← datum f.memory p n
   Ok (dest.Memory (ram_address f d.0), d.1)
 
-unfoldable pub destination : FlatState → ℕ → Place → Result (Dest × Place) Fault
+unfoldable pub destination : FlatState → ℕ → Cursor → Result (Dest × Cursor) Fault
 destination f nibble p = do
   mode ← addressing nibble
   destination_by f mode p
@@ -131,24 +132,24 @@ pub record Operands : Type 0 where
   pub dest : Dest
   pub second : Dest
   pub stored : Bool
-  pub place : Place
+  pub cursor : Cursor
 
-abbrev pub no_operands : Place → Operands
-no_operands p = record { loads = []; dest = dest.Nowhere; second = dest.Nowhere; stored = false; place = p }
+abbrev pub no_operands : Cursor → Operands
+no_operands p = record { loads = []; dest = dest.Nowhere; second = dest.Nowhere; stored = false; cursor = p }
 
-abbrev pub with_load : Operands → ℕ → Place → Operands
-with_load o v p = record o { loads = o.loads ++ v ∷ []; place = p }
+abbrev pub with_load : Operands → ℕ → Cursor → Operands
+with_load o v p = record o { loads = o.loads ++ v ∷ []; cursor = p }
 
-abbrev pub with_destination : Operands → Dest → Place → Operands
-with_destination o d p = if o.stored then record o { second = d; place = p } else record o { dest = d; stored = true; place = p }
+abbrev pub with_destination : Operands → Dest → Cursor → Operands
+with_destination o d p = if o.stored then record o { second = d; cursor = p } else record o { dest = d; stored = true; cursor = p }
 
 -- one operand more
 unfoldable pub with_operand : FlatState → ℕ → Kind → ℕ → Operands → Result Operands Fault
 with_operand f width Load nibble o = do
-  v ← load f width nibble o.place
+  v ← load f width nibble o.cursor
   Ok (with_load o v.0 v.1)
 with_operand f width Store nibble o = do
-  d ← destination f nibble o.place
+  d ← destination f nibble o.cursor
   Ok (with_destination o d.0 d.1)
 
 -- the loads of a row stand before its stores, but for one whose store stands first
@@ -193,11 +194,37 @@ instruction f = do
   number ← opcode f
   row ← ok_or (row_of number.0) BadOpcode
   o ← all_operands f row number.1
-  Ok (record { row = row; loads = o.loads; dest = o.dest; second = o.second; next = o.place.at; sp = sp_of f - 4 * o.place.popped })
+  Ok (record { row = row; loads = o.loads; dest = o.dest; second = o.second; next = o.cursor.at; sp = sp_of f - 4 * o.cursor.popped })
 
--- a value that an instruction loads, 0 where it loads fewer
+-- a value that an instruction loads, by its index; 0 where it loads fewer
 abbrev pub operand_at : Instruction → ℕ → ℕ
 operand_at i n = slice_index i.loads n
+
+-- the load operands by their names in the standard
+abbrev pub L1 : Instruction → ℕ
+L1 i = operand_at i 0
+
+abbrev pub L2 : Instruction → ℕ
+L2 i = operand_at i 1
+
+abbrev pub L3 : Instruction → ℕ
+L3 i = operand_at i 2
+
+abbrev pub L4 : Instruction → ℕ
+L4 i = operand_at i 3
+
+abbrev pub L5 : Instruction → ℕ
+L5 i = operand_at i 4
+
+abbrev pub L6 : Instruction → ℕ
+L6 i = operand_at i 5
+
+abbrev pub L7 : Instruction → ℕ
+L7 i = operand_at i 6
+
+-- the last of them, which is the offset of a branch
+abbrev pub last_load : Instruction → ℕ
+last_load i = operand_at i (i.row.loads - 1)
 
 -- the next instruction is at an address
 abbrev pub going_to : FlatState → ℕ → FlatState

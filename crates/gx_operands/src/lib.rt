@@ -1,7 +1,7 @@
 //! The instruction at PC: its row, its operands, and how its results are stored (Glulx 3.1.2,
 //! "Instruction Format").
 //!
-//! - `decoding` reads an instruction into a plan, and changes nothing: the plan is `instruction` of
+//! - `decoding` reads an instruction into a `plan`, and changes nothing: the plan is `instruction` of
 //!   specs/Instructions, or its first fault.
 //! - `addressing` has the addressing modes.
 //! - `popped` reads what an instruction pops beside its operands.
@@ -13,15 +13,14 @@
 
 mod addressing;
 mod decoding;
+mod plan;
 mod popped;
 mod rows;
 mod storing;
 
-pub use addressing::{Addressing, Kind, Place};
-pub use decoding::{Plan, decode};
+pub use addressing::{Addressing, Cursor, Kind};
+pub use decoding::decode;
+pub use plan::Plan;
 pub use popped::{arguments, values_to};
 pub use rows::{goes, stores};
 pub use storing::{can_store, settle, store};
-
-#[cfg(test)]
-mod tests;

@@ -1,7 +1,6 @@
 //! The arguments that an instruction pops beside its operands.
 ghost use Rattle.std.specs.Prelude.{◌≡◌, ◌+◌, ◌-◌, ◌*◌, ◌≤◌, length, OnOk};
-ghost use Rattle.gx_words.specs.Faults.{TakesNone};
-ghost use Rattle.gx_words.specs.Results.{Is};
+ghost use Rattle.gx_words.specs.Faults.{Reads};
 ghost use Rattle.gx_state.specs.Flat.{IsHeight};
 ghost use Rattle.gx_operands.specs.Arguments.{values_below, values_to, arguments};
 
@@ -43,12 +42,10 @@ pub fn arguments<A: Allocator + Clone, const MOST: usize>(
     count: u32,
 ) -> Result<ArrayVec<u32, MOST>, Fault>
     requires { IsHeight state.now.flat sp }
-    ensures value { Is (λ args. args.items) result (arguments state.now.flat sp count MOST) }
+    ensures value { Reads (λ args. args.items) result (arguments state.now.flat sp count MOST) }
     ensures below { OnOk result (IsHeight state.now.flat (sp - 4 * count)) }
     ensures within { OnOk result (4 * count ≤ sp) }
-    ensures memory { TakesNone result }
 {
-    let _frame = state.frame();
     if count > values_to(state, sp) {
         return Err(Fault::Underflow);
     }

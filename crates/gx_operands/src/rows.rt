@@ -1,13 +1,13 @@
 //! What the rows of all classes share: a result, and the next instruction.
-ghost use Rattle.std.specs.Prelude.{◌≡◌, Ok, IsErrOf, IfOk};
-ghost use Rattle.gx_words.specs.declared.faults.Fault.TheVariants.{NoMemory};
-ghost use Rattle.gx_words.specs.Faults.{Does};
+ghost use Rattle.std.specs.Prelude.{◌≡◌, Ok, IfOk};
 ghost use Rattle.gx_state.specs.Flat.{IsHeight};
+ghost use Rattle.gx_state.specs.Relations.{Works};
 ghost use Rattle.gx_state.specs.Replies.{IsDone};
+ghost use Rattle.gx_state.specs.Stores.{IsMemory};
 ghost use Rattle.gx_operands.specs.Plans.{instruction_of};
-ghost use Rattle.gx_operands.specs.Stores.{IsMemory, stores, goes};
+ghost use Rattle.gx_operands.specs.Stores.{stores, goes};
 
-use crate::decoding::Plan;
+use crate::Plan;
 use crate::storing::settle;
 use gx_state::{Effect, State};
 use gx_words::Fault;
@@ -20,10 +20,8 @@ pub fn stores<A: Allocator + Clone>(
     value: u32,
 ) -> Result<Effect, Fault>
     requires { IsHeight state.old.flat plan.now.sp }
-    ensures value { Does (λ effect. effect) result state.old.flat state.new.flat (stores state.old.flat (instruction_of plan.now) value) }
+    ensures value { Works (IsMemory plan.now.dest) result state.old.flat state.new.flat (stores state.old.flat (instruction_of plan.now) value) }
     ensures done { IfOk result IsDone }
-    ensures memory { IsErrOf result NoMemory → IsMemory plan.now.dest }
-    ensures story { state.new.flat.story ≡ state.old.flat.story }
 {
     settle(state, plan.sp, &plan.dest, 4, value)?;
     state.set_pc(plan.next);

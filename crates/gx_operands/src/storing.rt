@@ -1,17 +1,18 @@
 //! One store, made or looked at.
-ghost use Rattle.std.specs.Prelude.{◌≡◌, ◌+◌, ◌≤◌, ◌<◌, ◌^◌, length, IsErrOf};
-ghost use Rattle.gx_words.specs.declared.faults.Fault.TheVariants.{NoMemory};
+ghost use Rattle.std.specs.Prelude.{◌≡◌, ◌<◌};
 ghost use Rattle.gx_words.specs.Numbers.{IsWidth};
-ghost use Rattle.gx_words.specs.Faults.{Changes, TakesNone};
+ghost use Rattle.gx_words.specs.Faults.{Reads};
 ghost use Rattle.gx_state.specs.Flat.{IsHeight, frame_of, sp_of};
-ghost use Rattle.gx_operands.specs.Stores.{IsMemory, store_fault, stored, settled};
+ghost use Rattle.gx_state.specs.Relations.{Stores};
+ghost use Rattle.gx_state.specs.Stores.{IsMemory, store_fault, stored};
+ghost use Rattle.gx_operands.specs.Stores.{settled};
 
 use gx_state::{Dest, State};
-use gx_words::{Fault, word_bytes};
+use gx_words::{Fault, low, word_bytes};
 use std::alloc::Allocator;
 
 /// Looks whether a store of 1, 2 or 4 bytes would have a fault on the stack cut to `sp`.
-#[tactic(auto, unfolding(crate::specs::Stores::store_fault))]
+#[tactic(auto, unfolding(gx_state::specs::Stores::store_fault))]
 pub fn can_store<A: Allocator + Clone>(
     state: &State<A>,
     dest: &Dest,
@@ -20,22 +21,19 @@ pub fn can_store<A: Allocator + Clone>(
 ) -> Result<(), Fault>
     requires width { IsWidth width }
     requires sp { IsHeight state.now.flat sp }
-    ensures value { result ≡ store_fault state.now.flat width dest.now sp }
-    ensures memory { TakesNone result }
+    ensures { Reads (λ v. v) result (store_fault state.now.flat width dest.now sp) }
 {
     match *dest {
         Dest::Nowhere => Ok(()),
         Dest::Memory(at) => state.can_write(at, width),
         Dest::Local(at) => {
-            let frame = state.frame();
-            if u64::from(at) + u64::from(width) > u64::from(frame.values - frame.locals) {
+            if !state.frame().has_local(at, width) {
                 return Err(Fault::BadLocal);
             }
             Ok(())
         }
         Dest::Push => {
             let limit = state.stack().limit();
-            let _size = state.stack().size();
             if sp + 4 > limit {
                 return Err(Fault::Overflow);
             }
@@ -45,7 +43,7 @@ pub fn can_store<A: Allocator + Clone>(
 }
 
 /// Stores the low 1, 2 or 4 bytes of a value.
-#[tactic(auto, unfolding(crate::specs::Stores::stored, crate::specs::Stores::store_fault, gx_state::specs::Flat::pushed, gx_state::specs::Flat::with_local, gx_stack::specs::Values::pushed, gx_stack::specs::Values::with_local))]
+#[tactic(auto, unfolding(gx_state::specs::Stores::stored, gx_state::specs::Stores::store_fault, gx_state::specs::Flat::pushed, gx_state::specs::Flat::with_local, gx_stack::specs::Values::pushed, gx_stack::specs::Values::with_local))]
 pub fn store<A: Allocator + Clone>(
     state: &mut State<A>,
     dest: &Dest,
@@ -54,20 +52,18 @@ pub fn store<A: Allocator + Clone>(
 ) -> Result<(), Fault>
     requires live { 0 < sp_of state.old.flat }
     requires width { IsWidth width }
-    ensures value { Changes result state.old.flat state.new.flat (stored state.old.flat width dest.now value) }
-    ensures memory { IsErrOf result NoMemory → IsMemory dest.now }
-    ensures story { state.new.flat.story ≡ state.old.flat.story }
+    ensures { Stores (IsMemory dest.now) result state.old state.new (stored state.old.flat width dest.now value) }
 {
     match *dest {
         Dest::Nowhere => Ok(()),
         Dest::Memory(at) => write(state, at, width, value),
         Dest::Local(at) => state.set_local(at, width, value),
-        Dest::Push => state.push(value),
+        Dest::Push => state.push(low(value, width)),
     }
 }
 
 /// Writes the low bytes of a number to RAM.
-#[tactic(auto, unfolding(crate::specs::Stores::stored, crate::specs::Stores::store_fault))]
+#[tactic(auto, unfolding(gx_state::specs::Stores::stored, gx_state::specs::Stores::store_fault))]
 fn write<A: Allocator + Clone>(
     state: &mut State<A>,
     at: u32,
@@ -75,10 +71,8 @@ fn write<A: Allocator + Clone>(
     value: u32,
 ) -> Result<(), Fault>
     requires { IsWidth width }
-    ensures value { Changes result state.old.flat state.new.flat (stored state.old.flat width (Dest.Memory at) value) }
+    ensures value { Stores (Unit {0}) result state.old state.new (stored state.old.flat width (Dest.Memory at) value) }
     ensures frame { (frame_of state.new.flat ≡ frame_of state.old.flat) × (sp_of state.new.flat ≡ sp_of state.old.flat) }
-    ensures spare { state.new.spare ≡ state.old.spare }
-    ensures story { state.new.flat.story ≡ state.old.flat.story }
 {
     state.can_write(at, width)?;
     let bytes = word_bytes(value);
@@ -94,7 +88,7 @@ fn write<A: Allocator + Clone>(
 }
 
 /// Stores the low 1, 2 or 4 bytes of a value after the stack was cut to `sp`.
-#[tactic(auto, unfolding(crate::specs::Stores::settled, crate::specs::Stores::stored, crate::specs::Stores::store_fault, gx_state::specs::Flat::pushed, gx_state::specs::Flat::with_local, gx_stack::specs::Values::pushed, gx_stack::specs::Values::with_local))]
+#[tactic(auto, unfolding(crate::specs::Stores::settled, gx_state::specs::Stores::stored, gx_state::specs::Stores::store_fault, gx_state::specs::Flat::pushed, gx_state::specs::Flat::with_local, gx_stack::specs::Values::pushed, gx_stack::specs::Values::with_local))]
 pub fn settle<A: Allocator + Clone>(
     state: &mut State<A>,
     sp: u32,
@@ -104,10 +98,7 @@ pub fn settle<A: Allocator + Clone>(
 ) -> Result<(), Fault>
     requires width { IsWidth width }
     requires sp { IsHeight state.old.flat sp }
-    ensures value { Changes result state.old.flat state.new.flat (settled state.old.flat sp width dest.now value) }
-    ensures spare { state.new.spare ≡ state.old.spare }
-    ensures memory { IsErrOf result NoMemory → IsMemory dest.now }
-    ensures story { state.new.flat.story ≡ state.old.flat.story }
+    ensures { Stores (IsMemory dest.now) result state.old state.new (settled state.old.flat sp width dest.now value) }
 {
     match *dest {
         Dest::Nowhere => state.cut_stack(sp),
@@ -121,12 +112,11 @@ pub fn settle<A: Allocator + Clone>(
         }
         Dest::Push => {
             let limit = state.stack().limit();
-            let _size = state.stack().size();
             if sp + 4 > limit {
                 return Err(Fault::Overflow);
             }
             state.cut_stack(sp);
-            return state.push(value);
+            return state.push(low(value, width));
         }
     }
     Ok(())

@@ -1,5 +1,5 @@
 -- What contracts see of the devices in memory.
-use Rattle.std.specs.Prelude.{ℕ, List, map, Bool, true, false, ◌==◌, if◌then◌else◌, string_bytes, String, refl}
+use Rattle.std.specs.Prelude.{ℕ, List, map, Bool, true, ◌==◌, string_bytes, String, refl}
 use Rattle.std.specs.List.{list_any}
 use Rattle.std.specs.Coded.{Coded, code_by, coded×, coded_ℕ, coded_bool, coded_list}
 use Rattle.std.specs.declared.alloc.Global.{Global}
@@ -8,30 +8,25 @@ use Rattle.std.specs.Cmp.Lexicographic.{slice_cmp}
 use Rattle.std.specs.Ordering.{nat_cmp}
 use Rattle.std.specs.FinMap.{FinMap, code, from_entries, get}
 use Rattle.gx_outside.specs.Files.{Files}
-use Rattle.gx_outside.specs.Outside.{FlatSource, FlatSink, FlatShelf, raised}
+use Rattle.gx_outside.specs.Outside.{FlatSource, FlatSink, FlatShelf, no_call, raised, counted}
+use Rattle.gx_outside.specs.declared.calls.Calls.{Calls}
 
--- the numbers of the calls that fail, how many were made, how many failed, and whether the last one did
+-- the numbers of the calls that fail, and the counts
 pub record HeldCalls : Type 0 where
   pub fails : List ℕ
-  pub made : ℕ
-  pub faults : ℕ
-  pub failing : Bool
+  pub counts : Calls
 
 -- no call was made yet
 abbrev pub no_calls : List ℕ → HeldCalls
-no_calls fails = record { fails = fails; made = 0; faults = 0; failing = false }
+no_calls fails = record { fails = fails; counts = no_call }
 
 -- the next call's number is among those that fail
 abbrev pub fails_next : HeldCalls → Bool
-fails_next c = list_any (λ n. n == raised c.made) c.fails
+fails_next c = list_any (λ n. n == raised c.counts.made) c.fails
 
 -- one more call was made
 abbrev pub after_call : HeldCalls → HeldCalls
-after_call c = record c {
-  made = raised c.made;
-  faults = if fails_next c then raised c.faults else c.faults;
-  failing = fails_next c;
-}
+after_call c = record c { counts = counted c.counts (fails_next c) }
 
 -- a sink in memory: the bytes that it has taken
 pub record HeldSink : Type 0 where
@@ -57,8 +52,8 @@ pub record HeldShelf : Type 0 where
 abbrev calls_code : Coded HeldCalls
 calls_code =
     code_by (List ℕ × (ℕ × (ℕ × Bool))) (coded× (coded_list coded_ℕ) (coded× coded_ℕ (coded× coded_ℕ coded_bool)))
-    (λ c. (c.fails, (c.made, (c.faults, c.failing))))
-    (λ p. record { fails = p.0; made = p.1.0; faults = p.1.1.0; failing = p.1.1.1 })
+    (λ c. (c.fails, (c.counts.made, (c.counts.faults, c.counts.failing))))
+    (λ p. record { fails = p.0; counts = record { made = p.1.0; faults = p.1.1.0; failing = p.1.1.1 } })
     (λ _. refl)
 
 abbrev files_code : Coded FilesByName
@@ -78,10 +73,10 @@ by_name files = from_entries (map (λ e. (string_bytes e.0, e.1)) files.entries)
 
 -- What contracts see of them through the traits: they tell all that they hold.
 abbrev pub seen_source : HeldSource → FlatSource
-seen_source s = record { faults = s.calls.faults; failing = s.calls.failing; tells = true; left = s.left }
+seen_source s = record { calls = s.calls.counts; tells = true; left = s.left }
 
 abbrev pub seen_sink : HeldSink → FlatSink
-seen_sink s = record { faults = s.calls.faults; failing = s.calls.failing; tells = true; taken = s.taken }
+seen_sink s = record { calls = s.calls.counts; tells = true; taken = s.taken }
 
 abbrev pub seen_shelf : HeldShelf → FlatShelf
-seen_shelf s = record { faults = s.calls.faults; failing = s.calls.failing; tells = true; files = files_of s.files }
+seen_shelf s = record { calls = s.calls.counts; tells = true; files = files_of s.files }

@@ -1,5 +1,6 @@
 -- What the calls of a source, a sink and a shelf do to what they hold, and to their counts.
-use Rattle.std.specs.Prelude.{◌≡◌, ℕ, ◌+◌, ◌-◌, ◌^◌, ◌≤◌, ◌<◌, min, List, ◌++◌, take, length, Bool, true, false, Result, Ok, Err, Option, Some, None, OnOk, [], List}
+use Rattle.std.specs.Prelude.{◌≡◌, ℕ, zero, suc, ◌+◌, ◌-◌, ◌^◌, ◌≤◌, ◌<◌, min, if◌then◌else◌, List, ◌++◌, take, length, Bool, true, false, Result, Ok, Err, Option, Some, None, OnOk, []}
+use Rattle.gx_outside.specs.declared.calls.Calls.{Calls}
 use Rattle.gx_outside.specs.declared.devices.SendFault.{SendFault}
 use Rattle.gx_outside.specs.declared.devices.SendFault.TheVariants as of_send
 use Rattle.gx_outside.specs.declared.devices.ShelfFault.{ShelfFault}
@@ -8,41 +9,49 @@ use Rattle.gx_outside.specs.declared.devices.Load.{Load}
 use Rattle.gx_outside.specs.declared.devices.Load.TheVariants as of_load
 use Rattle.gx_outside.specs.Files.{Files, same_name}
 
--- What contracts see of a source: how often it has failed, whether its last call failed, whether it
--- tells what is left, and the bytes that are left.
+-- What contracts see of a source: its counts, whether it tells what is left, and the bytes that are left.
 pub record FlatSource : Type 0 where
-  pub faults : ℕ
-  pub failing : Bool
+  pub calls : Calls
   pub tells : Bool
   pub left : List ℕ
 
 -- the same of a sink, with the bytes that it has taken
 pub record FlatSink : Type 0 where
-  pub faults : ℕ
-  pub failing : Bool
+  pub calls : Calls
   pub tells : Bool
   pub taken : List ℕ
 
 -- the same of a shelf, with its files
 pub record FlatShelf : Type 0 where
-  pub faults : ℕ
-  pub failing : Bool
+  pub calls : Calls
   pub tells : Bool
   pub files : Files
+
+-- the counts before the first call
+abbrev pub no_call : Calls
+no_call = record { made = 0; faults = 0; failing = false }
 
 -- a count one higher, which stands still at 2^64 - 1
 abbrev pub raised : ℕ → ℕ
 raised count = min (count + 1) (2 ^ 64 - 1)
 
--- the count rose, or stands at its end
-abbrev pub Rose : ℕ → ℕ → Type 0
-Rose before now = raised before ≤ now
+-- the same so many times
+abbrev pub raised_by : ℕ → ℕ → ℕ
+raised_by zero count = count
+raised_by (suc n) count = raised (raised_by n count)
 
--- The count of faults doesn't fall, it rose where the call failed, and the device knows whether it failed.
-pub record HasCause (before now : ℕ) (failing failed : Bool) : Type 0 where
-  pub later : before ≤ now
-  pub rose : failed ≡ true → Rose before now
-  pub last : failing ≡ failed
+-- the counts after one more call, which failed or not
+abbrev pub counted : Calls → Bool → Calls
+counted c failed = record { made = raised c.made; faults = if failed then raised c.faults else c.faults; failing = failed }
+
+-- One more call was made. The failures rose by it where it failed, and stand where it didn't; the device knows
+-- whether it failed.
+pub record HasCause (before now : Calls) (failed : Bool) : Type 0 where
+  pub made : now.made ≡ raised before.made
+  pub later : before.faults ≤ now.faults
+  pub rose : failed ≡ true → now.faults ≡ raised before.faults
+  pub kept : failed ≡ false → now.faults ≡ before.faults
+  pub last : now.failing ≡ failed
 
 -- whether a call of a sink or a shelf failed; want of memory is no failure of the device
 abbrev pub send_failed : {T : Type 0} → Result T SendFault → Bool
@@ -56,13 +65,13 @@ shelf_failed (Err of_shelf.Failed) = true
 shelf_failed (Err of_shelf.NoMemory) = false
 
 -- A front of the slice is what was next. Nothing in a slice that isn't empty says that nothing is left.
-pub record Reads (before after into : List ℕ) (count : ℕ) : Type 0 where
+pub record TakesFront (before after into : List ℕ) (count : ℕ) : Type 0 where
   pub bytes : before ≡ take count into ++ after
   pub end : count ≡ 0 → 0 < length into → before ≡ []
 
 -- what a read does to the bytes left, which stand where it failed
 abbrev pub ReadGives : {E : Type 0} → List ℕ → List ℕ → List ℕ → Result ℕ E → Type 0
-ReadGives before after into (Ok count) = Reads before after into count
+ReadGives before after into (Ok count) = TakesFront before after into count
 ReadGives before after into (Err e) = after ≡ before
 
 -- A front of the bytes was taken, and all of them at Ok.
@@ -80,10 +89,10 @@ Loads file most of_load.TooLong = (bytes : List ℕ) × (file ≡ Some bytes) ×
 Loads file most (of_load.Found bytes) = (file ≡ Some bytes) × (length bytes ≤ most)
 
 -- what `load` hands out is within the bound, whatever stands on the shelf
-abbrev pub IsWithin : ℕ → Load → Type 0
-IsWithin most of_load.Missing = Unit {0}
-IsWithin most of_load.TooLong = Unit {0}
-IsWithin most (of_load.Found bytes) = length bytes ≤ most
+abbrev pub IsBounded : ℕ → Load → Type 0
+IsBounded most of_load.Missing = Unit {0}
+IsBounded most of_load.TooLong = Unit {0}
+IsBounded most (of_load.Found bytes) = length bytes ≤ most
 
 -- the files of other names stand
 abbrev pub KeepsOthers : Files → Files → List ℕ → Type 0

@@ -1,20 +1,23 @@
 //! The outside of a run: where its input comes from, where its text goes, where its files stand.
 //!
 //! - `devices` has the three traits `Source`, `Sink` and `Shelf`, and their answers.
+//! - `calls` counts the calls of a device, and those that fail.
 //! - `mem_source`, `mem_sink` and `mem_shelf` are devices in memory, for tests and for embedding.
-//! - `numbered` counts the calls of a device in memory, and knows those that are to fail.
+//! - `numbered` knows those calls of a device in memory that are to fail.
 //!
-//! Contracts see of each device how often it has failed, whether its last call failed, whether it
-//! tells what it holds, and, where it does, what that is. A real device tells nothing, so every
-//! claim about content is made under the premise that the device tells.
+//! Contracts see of each device how often it was called, how often it has failed, whether its last
+//! call failed, whether it tells what it holds, and, where it does, what that is. A real device tells
+//! nothing, so every claim about content is made under the premise that the device tells.
 #![tactic(auto)]
 
+mod calls;
 mod devices;
 mod mem_shelf;
 mod mem_sink;
 mod mem_source;
 mod numbered;
 
+pub use calls::Calls;
 pub use devices::{Failed, Load, SendFault, Shelf, ShelfFault, Sink, Source};
 pub use mem_shelf::MemShelf;
 pub use mem_sink::MemSink;

@@ -1,10 +1,10 @@
 //! A shelf in memory.
-ghost use Rattle.std.specs.Prelude.{◌≡◌, true, is_err, is_some, IfOk, IsErrOf, IsSome, OnOk, OnErr};
+ghost use Rattle.std.specs.Prelude.{◌≡◌, ◌≤◌, true, length, is_err, is_some, IfOk, IsErrOf, IsSomeAnd, OnOk, OnErr};
 ghost use Rattle.std.specs.Option.{option_copied};
 ghost use Rattle.std.specs.FinMap.{empty, insert, remove};
 ghost use Rattle.gx_outside.specs.Files.{with_file, no_files};
 ghost use Rattle.gx_outside.specs.Fakes.{no_calls, fails_next, after_call, seen_shelf, files_of};
-ghost use Rattle.gx_outside.specs.Outside.{HasCause, Loads, IsWithin, KeepsOthers, shelf_failed};
+ghost use Rattle.gx_outside.specs.Outside.{HasCause, Loads, IsBounded, KeepsOthers, shelf_failed};
 
 use crate::numbered::NumberedCalls;
 use crate::{Load, Shelf, ShelfFault};
@@ -85,12 +85,11 @@ impl Shelf for MemShelf {
     fn load(&mut self, name: &str, most: usize) -> Result<Load, ShelfFault>
         ensures fails { shelf_failed result ≡ fails_next self.old.calls }
         ensures calls { self.new ≡ record self.old { calls = after_call self.old.calls } }
-        ensures bound { IfOk result (IsWithin most) }
-        ensures cause { HasCause self.old.calls.faults self.new.calls.faults
-            self.new.calls.failing (shelf_failed result) }
+        ensures bound { IfOk result (IsBounded most) }
+        ensures cause { HasCause self.old.calls.counts self.new.calls.counts (shelf_failed result) }
         ensures found { IfOk result (Loads (files_of self.old.files name.now) most) }
         ensures memory { IsErrOf result ShelfFault.NoMemory
-            → IsSome (files_of self.old.files name.now) }
+            → IsSomeAnd (files_of self.old.files name.now) (λ bytes. length bytes ≤ most) }
     {
         if self.calls.begin() {
             return Err(ShelfFault::Failed);
@@ -108,8 +107,7 @@ impl Shelf for MemShelf {
         ensures calls { self.new.calls ≡ after_call self.old.calls }
         ensures ok { OnOk result (self.new.files ≡ insert self.old.files name.now bytes.now) }
         ensures err { OnErr result (self.new.files ≡ self.old.files) }
-        ensures cause { HasCause self.old.calls.faults self.new.calls.faults
-            self.new.calls.failing (shelf_failed result) }
+        ensures cause { HasCause self.old.calls.counts self.new.calls.counts (shelf_failed result) }
         ensures stored { OnOk result (files_of self.new.files
             ≡ with_file (files_of self.old.files) name.now (Some bytes.now)) }
         ensures others { KeepsOthers (files_of self.old.files) (files_of self.new.files) name.now }
@@ -127,8 +125,7 @@ impl Shelf for MemShelf {
         ensures calls { self.new.calls ≡ after_call self.old.calls }
         ensures ok { OnOk result (self.new.files ≡ remove self.old.files name.now) }
         ensures err { OnErr result (self.new.files ≡ self.old.files) }
-        ensures cause { HasCause self.old.calls.faults self.new.calls.faults
-            self.new.calls.failing (shelf_failed result) }
+        ensures cause { HasCause self.old.calls.counts self.new.calls.counts (shelf_failed result) }
         ensures was { IfOk result (λ was. was ≡ is_some (files_of self.old.files name.now)) }
         ensures removed { OnOk result (files_of self.new.files
             ≡ with_file (files_of self.old.files) name.now None) }
@@ -143,8 +140,7 @@ impl Shelf for MemShelf {
     fn has(&mut self, name: &str) -> Result<bool, ShelfFault>
         ensures fails { is_err result ≡ fails_next self.old.calls }
         ensures calls { self.new ≡ record self.old { calls = after_call self.old.calls } }
-        ensures cause { HasCause self.old.calls.faults self.new.calls.faults
-            self.new.calls.failing (shelf_failed result) }
+        ensures cause { HasCause self.old.calls.counts self.new.calls.counts (shelf_failed result) }
         ensures was { IfOk result (λ was. was ≡ is_some (files_of self.old.files name.now)) }
     {
         if self.calls.begin() {

@@ -52,8 +52,7 @@ impl Sink for MemSink {
         ensures calls { self.new.calls ≡ after_call self.old.calls }
         ensures ok { OnOk result (self.new.taken ≡ self.old.taken ++ bytes.now) }
         ensures err { OnErr result (self.new.taken ≡ self.old.taken) }
-        ensures cause { HasCause self.old.calls.faults self.new.calls.faults
-            self.new.calls.failing (send_failed result) }
+        ensures cause { HasCause self.old.calls.counts self.new.calls.counts (send_failed result) }
         ensures bytes { Sends true self.old.taken self.new.taken bytes.now result }
     {
         if self.calls.begin() {

@@ -64,8 +64,7 @@ impl Source for MemSource {
         ensures left { IfOk result (λ count. self.new.left ≡ drop count self.old.left) }
         ensures err { OnErr result ((self.new.left ≡ self.old.left) × (into.new ≡ into.old)) }
         ensures bound { IfOk result (λ count. count ≤ length into.old) }
-        ensures cause { HasCause self.old.calls.faults self.new.calls.faults
-            self.new.calls.failing (is_err result) }
+        ensures cause { HasCause self.old.calls.counts self.new.calls.counts (is_err result) }
         ensures bytes { ReadGives self.old.left self.new.left into.new result }
     {
         if self.calls.begin() {

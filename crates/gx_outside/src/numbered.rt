@@ -3,16 +3,15 @@ ghost use Rattle.std.specs.Prelude.{◌≡◌, IfOk};
 ghost use Rattle.gx_outside.specs.Fakes.{no_calls, fails_next, after_call};
 ghost use Rattle.gx_outside.specs.Outside.{HasCause};
 
+use crate::Calls;
 use std::alloc::{AllocError, Global};
 use std::marker::Model;
 
-/// A count of calls from 1 on, the numbers of those that fail, and what the last one did.
+/// Calls with numbers from 1 on, and the numbers of those that fail.
 #[derive(Drop)]
 pub struct NumberedCalls {
     fails: Vec<u64>,
-    made: u64,
-    faults: u64,
-    failing: bool,
+    counts: Calls,
 }
 
 impl Model for NumberedCalls {
@@ -20,12 +19,7 @@ impl Model for NumberedCalls {
 
     ghost Value = { HeldCalls };
 
-    ghost view = { λ c. record {
-      fails = c.fails.items;
-      made = c.made;
-      faults = c.faults;
-      failing = c.failing;
-    } };
+    ghost view = { λ c. record { fails = c.fails.items; counts = c.counts } };
 }
 
 impl NumberedCalls {
@@ -34,9 +28,7 @@ impl NumberedCalls {
     {
         Ok(NumberedCalls {
             fails: Vec::from_slice(alloc, fails)?,
-            made: 0,
-            faults: 0,
-            failing: false,
+            counts: Calls::none(),
         })
     }
 
@@ -44,13 +36,11 @@ impl NumberedCalls {
     pub fn begin(&mut self) -> bool
         ensures fails { result ≡ fails_next self.old }
         ensures after { self.new ≡ after_call self.old }
-        ensures cause { HasCause self.old.faults self.new.faults self.new.failing result }
+        ensures cause { HasCause self.old.counts self.new.counts result }
     {
-        self.made = self.made.saturating_add(1);
-        self.failing = self.fails.contains(&self.made);
-        if self.failing {
-            self.faults = self.faults.saturating_add(1);
-        }
-        self.failing
+        let next = self.counts.made.saturating_add(1);
+        let fails = self.fails.contains(&next);
+        self.counts.note(fails);
+        fails
     }
 }

@@ -1,7 +1,5 @@
-//! Each public call once, and in each device a call that fails between calls that don't.
-use crate::{
-    Failed, Load, MemShelf, MemSink, MemSource, SendFault, Shelf, ShelfFault, Sink, Source,
-};
+//! A source and a shelf with a call that fails between calls that don't, and what the failures are called.
+use crate::{Failed, Load, MemShelf, MemSource, SendFault, Shelf, ShelfFault, Source};
 use std::test::Fail;
 
 #[test]
@@ -13,16 +11,6 @@ fn source_in_pieces(rt: HostRuntime) -> Result<(), Fail> {
     assert_eq!(rt; source.read(&mut into[3..]), Ok(2));
     assert_eq!(rt; into, *b"hello\0\0\0");
     assert_eq!(rt; source.read(&mut into), Ok(0));
-    Ok(())
-}
-
-#[test]
-fn sink_that_fails_once(rt: HostRuntime) -> Result<(), Fail> {
-    let mut sink = MemSink::new(rt.alloc(), &[2])?;
-    assert_eq!(rt; sink.send(b"Hi"), Ok(()));
-    assert_eq!(rt; sink.send(b" there"), Err(SendFault::Failed));
-    assert_eq!(rt; sink.send(b"\n"), Ok(()));
-    assert_eq!(rt; sink.bytes(), b"Hi\n".as_slice());
     Ok(())
 }
 

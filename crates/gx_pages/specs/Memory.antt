@@ -1,29 +1,31 @@
 -- The memory of a machine as a list of bytes (Glulx 3.1.2, "The Memory Map").
 --
 -- An address is a place in the list, and a size is the list's length.
-use Rattle.std.specs.Prelude.{◌≡◌, ℕ, ◌+◌, ◌-◌, ◌%◌, ◌<◌, ◌≤◌, ◌&&◌, nat_lt, nat_le, if◌then◌else◌, List, [], ◌∷◌, ◌++◌, length, take, map, slice_index, replicate, Result, Ok, Err}
+use Rattle.std.specs.Prelude.{◌≡◌, ◌⊎◌, ℕ, ◌+◌, ◌-◌, ◌%◌, ◌<◌, ◌≤◌, ◌&&◌, nat_lt, nat_le, if◌then◌else◌, List, [], ◌∷◌, ◌++◌, length, take, map, slice_index, replicate, Result, Ok, Err}
 use Rattle.std.specs.List.{range_with_len}
+use Rattle.gx_words.specs.declared.limits.TheConstants.{CEILING}
 use Rattle.gx_words.specs.Numbers.{number, spliced}
 use Rattle.gx_words.specs.declared.faults.Fault.{Fault}
 use Rattle.gx_words.specs.declared.faults.Fault.TheVariants.{BadAddress}
 
--- the largest memory, which the standard leaves to the interpreter
-abbrev pub ceiling : ℕ
-ceiling = 0x04000000
-
 -- memory is whole pages of 256 bytes, up to the ceiling
 pub record IsSize (size : ℕ) : Type 0 where
   pub whole : size % 256 ≡ 0
-  pub capped : size ≤ ceiling
+  pub capped : size ≤ CEILING
 
 -- so many bytes from an address on lie in memory; where they are none, any address will do
 abbrev pub IsInside : ℕ → ℕ → ℕ → Type 0
 IsInside at count size = 0 < count → at + count ≤ size
 
 -- the same for the bytes of each write
-abbrev pub AllInside : List (ℕ × List ℕ) → ℕ → Type 0
-AllInside [] size = Unit {0}
-AllInside (w ∷ ws) size = IsInside w.0 (length w.1) size × AllInside ws size
+abbrev pub AreInside : List (ℕ × List ℕ) → ℕ → Type 0
+AreInside [] size = Unit {0}
+AreInside (w ∷ ws) size = IsInside w.0 (length w.1) size × AreInside ws size
+
+-- some write has a byte
+abbrev pub HasBytes : List (ℕ × List ℕ) → Type 0
+HasBytes [] = ⊥
+HasBytes (w ∷ ws) = (0 < length w.1) ⊎ HasBytes ws
 
 -- the number of 1, 2 or 4 bytes at an address, all of which have to be in memory
 unfoldable pub number_in : ℕ → List ℕ → ℕ → Result ℕ Fault

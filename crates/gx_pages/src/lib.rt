@@ -11,7 +11,4 @@
 mod memory;
 mod ranges;
 
-pub use memory::{CEILING, Kept, Pages};
-
-#[cfg(test)]
-mod tests;
+pub use memory::{Kept, Pages};

@@ -2,18 +2,16 @@
 //!
 //! Each call is its definition of specs/Memory over one list of bytes. Sizes and addresses count
 //! bytes; a size is a multiple of 256, at most `CEILING`. Calls that read and `cut` take no memory.
-ghost use Rattle.std.specs.Prelude.{◌≡◌, ◌+◌, ◌-◌, ◌<◌, ◌≤◌, ◌^◌, ◌++◌, length, take, drop, replicate, IfOk, OnOk, OnErr};
+ghost use Rattle.std.specs.Prelude.{◌≡◌, ◌⊎◌, ◌+◌, ◌-◌, ◌<◌, ◌≤◌, ◌^◌, ◌++◌, length, take, drop, replicate, IfOk, OnOk, OnErr};
 ghost use Rattle.gx_words.specs.Numbers.{IsWidth, byte, half, word, number, spliced};
-ghost use Rattle.gx_words.specs.Faults.{TakesNone};
-ghost use Rattle.gx_pages.specs.Memory.{IsSize, IsInside, AllInside, number_in, all_spliced, resized, put_back_of};
+ghost use Rattle.gx_words.specs.Faults.{Reads};
+ghost use Rattle.gx_words.specs.declared.limits.TheConstants.{CEILING};
+ghost use Rattle.gx_pages.specs.Memory.{IsSize, IsInside, AreInside, HasBytes, number_in, all_spliced, resized, put_back_of};
 
 use crate::ranges::{copy_over, put_back_over, write_each, write_over, zero_over};
 use gx_words::{Fault, Writes, half_at, number_at, word_at};
 use std::alloc::{AllocError, Allocator, Global};
 use std::marker::Model;
-
-/// The largest size of memory.
-pub const CEILING: u32 = 0x0400_0000;
 
 /// The memory of a machine.
 #[derive(Drop)]
@@ -98,10 +96,10 @@ impl<A: Allocator> Pages<A> {
     #[tactic(auto, unfolding(crate::specs::Memory::number_in))]
     pub fn try_number(&self, width: u32, at: u32) -> Result<u32, Fault>
         requires { IsWidth width }
-        ensures value { result ≡ number_in width self.now at }
+        ensures value { Reads (λ v. v) result (number_in width self.now at) }
         ensures there { OnOk result (at + width ≤ length self.now) }
+        ensures low { OnOk result (at + width ≤ CEILING) }
         ensures fits { IfOk result (λ v. v < 256 ^ width) }
-        ensures memory { TakesNone result }
     {
         if u64::from(at) + u64::from(width) <= u64::from(self.size()) {
             Ok(self.number(width, at))
@@ -148,6 +146,7 @@ impl<A: Allocator + Clone> Pages<A> {
         ensures ok { OnOk result (self.new ≡ spliced self.old at bytes.now) }
         ensures err { OnErr result (self.new ≡ self.old) }
         ensures size { length self.new ≡ length self.old }
+        ensures memory { OnErr result (0 < length bytes.now) }
     {
         write_over(self.bytes.as_mut_slice(), at as usize, bytes);
         Ok(())
@@ -155,10 +154,11 @@ impl<A: Allocator + Clone> Pages<A> {
 
     /// Makes each write, the first of them first.
     pub fn write_all(&mut self, writes: &Writes) -> Result<(), AllocError>
-        requires { AllInside writes.now (length self.old) }
+        requires { AreInside writes.now (length self.old) }
         ensures ok { OnOk result (self.new ≡ all_spliced self.old writes.now) }
         ensures err { OnErr result (self.new ≡ self.old) }
         ensures size { length self.new ≡ length self.old }
+        ensures memory { OnErr result (HasBytes writes.now) }
     {
         write_each(self.bytes.as_mut_slice(), writes.as_slice());
         Ok(())
@@ -171,11 +171,12 @@ impl<A: Allocator + Clone> Pages<A> {
         at: u32,
         bytes: &[u8],
     ) -> Result<(), AllocError>
-        requires writes { AllInside writes.now (length self.old) }
+        requires writes { AreInside writes.now (length self.old) }
         requires last { IsInside at (length bytes.now) (length self.old) }
         ensures ok { OnOk result (self.new ≡ spliced (all_spliced self.old writes.now) at bytes.now) }
         ensures err { OnErr result (self.new ≡ self.old) }
         ensures size { length self.new ≡ length self.old }
+        ensures memory { OnErr result (HasBytes writes.now ⊎ (0 < length bytes.now)) }
     {
         self.write_all(writes)?;
         write_over(self.bytes.as_mut_slice(), at as usize, bytes);
@@ -195,6 +196,7 @@ impl<A: Allocator + Clone> Pages<A> {
         ensures ok { OnOk result (self.new ≡ spliced (spliced self.old at bytes.now) then others.now) }
         ensures err { OnErr result (self.new ≡ self.old) }
         ensures size { length self.new ≡ length self.old }
+        ensures memory { OnErr result ((0 < length bytes.now) ⊎ (0 < length others.now)) }
     {
         self.write(at, bytes)?;
         write_over(self.bytes.as_mut_slice(), then as usize, others);
@@ -207,6 +209,7 @@ impl<A: Allocator + Clone> Pages<A> {
         ensures ok { OnOk result (self.new ≡ spliced self.old at (replicate count 0)) }
         ensures err { OnErr result (self.new ≡ self.old) }
         ensures size { length self.new ≡ length self.old }
+        ensures memory { OnErr result (0 < count) }
     {
         zero_over(self.bytes.as_mut_slice(), at as usize, count as usize);
         Ok(())
@@ -220,6 +223,7 @@ impl<A: Allocator + Clone> Pages<A> {
         ensures ok { OnOk result (self.new ≡ spliced self.old to (take count (drop from self.old))) }
         ensures err { OnErr result (self.new ≡ self.old) }
         ensures size { length self.new ≡ length self.old }
+        ensures memory { OnErr result (0 < count) }
     {
         copy_over(
             self.bytes.as_mut_slice(),
@@ -236,7 +240,12 @@ impl<A: Allocator + Clone> Pages<A> {
         ensures ok { OnOk result (self.new ≡ resized self.old size) }
         ensures err { OnErr result (self.new ≡ self.old) }
         ensures size { OnOk result (length self.new ≡ size) }
+        ensures memory { OnErr result (length self.old < size) }
     {
+        if size <= self.size() {
+            self.cut(size);
+            return Ok(());
+        }
         self.bytes.resize(size as usize, 0)
     }
 

@@ -1,7 +1,7 @@
 //! Writes to a range of a slice, which may be empty at any address.
 ghost use Rattle.std.specs.Prelude.{◌≡◌, ◌<◌, ◌≤◌, ◌^◌, length, take, drop, replicate};
 ghost use Rattle.gx_words.specs.Numbers.{spliced};
-ghost use Rattle.gx_pages.specs.Memory.{IsInside, AllInside, all_spliced, put_back_of};
+ghost use Rattle.gx_pages.specs.Memory.{IsInside, AreInside, all_spliced, put_back_of};
 
 use gx_words::{Bytes, splice};
 
@@ -17,7 +17,7 @@ pub fn write_over(memory: &mut [u8], at: usize, bytes: &[u8])
 
 /// Makes each write, the first of them first.
 pub fn write_each(memory: &mut [u8], writes: &[(u32, Bytes)])
-    requires { AllInside writes.now (length memory.old) }
+    requires { AreInside writes.now (length memory.old) }
     ensures { memory.new ≡ all_spliced memory.old writes.now }
 {
     for write in writes {

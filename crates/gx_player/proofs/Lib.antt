@@ -1,2 +1,4 @@
+pub mod Loads
 pub mod Numbers
+pub mod Plays
 pub mod Samples

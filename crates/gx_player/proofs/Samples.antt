@@ -2,16 +2,17 @@
 use Rattle.std.proofs.Common.{◌≡◌, ℕ, List, [], ◌∷◌, ◌++◌, replicate, take, Some, None, Err, is_ok, true, refl}
 use Rattle.std.specs.Prelude.{codes}
 use Rattle.gx_story.specs.Stories.{accepted, bare, header}
-use Rattle.gx_outside.specs.Files.{no_files}
+use Rattle.gx_session.specs.declared.statuses.TheConstants.{BAD_WORDS, BAD_STORY}
 use Rattle.gx_session.specs.Devices.{Devices}
-use Rattle.gx_player.specs.Commands.{command_of, usual_steps}
-use Rattle.gx_player.specs.Headline.{outcome_of, refused, story_in}
+use Rattle.gx_player.specs.declared.command.TheConstants.{USUAL_STEPS}
+use Rattle.gx_player.specs.Commands.{command_of}
+use Rattle.gx_player.specs.Headline.{outcome_of, refused, story_of}
 
 -- after the program's name
 abbrev words : List (List ℕ) → List (List ℕ)
 words rest = codes "gx_player" ∷ rest
 
-story-alone : command_of (words (codes "hall.ulx" ∷ [])) ≡ Some (record { story = codes "hall.ulx"; steps = usual_steps })
+story-alone : command_of (words (codes "hall.ulx" ∷ [])) ≡ Some (record { story = codes "hall.ulx"; steps = USUAL_STEPS })
 story-alone = refl
 
 with-steps : command_of (words (codes "hall.ulx" ∷ codes "--steps" ∷ codes "0011" ∷ [])) ≡ Some (record { story = codes "hall.ulx"; steps = 11 })
@@ -35,11 +36,11 @@ other-option = refl
 no-story : command_of (words []) ≡ None
 no-story = refl
 
-bad-words : (d : Devices) → outcome_of None d ≡ refused 1 0
+bad-words : (d : Devices) → outcome_of None None d ≡ refused BAD_WORDS 0
 bad-words d = refl
 
-no-such-file : (d : Devices) → d.shelf.files ≡ no_files → outcome_of (command_of (words (codes "hall.ulx" ∷ []))) d ≡ refused 2 0
-no-such-file d none = rw none refl
+no-such-file : (d : Devices) → outcome_of (command_of (words (codes "hall.ulx" ∷ []))) None d ≡ refused BAD_STORY 0
+no-such-file d = refl
 
 -- a story of one page with this magic and version
 abbrev page : List ℕ → List ℕ → List ℕ
@@ -49,30 +50,30 @@ page magic version =
 abbrev glul : List ℕ
 glul = 0x47 ∷ 0x6C ∷ 0x75 ∷ 0x6C ∷ []
 
-empty-file : story_in (Some []) ≡ Err 1
+empty-file : story_of (Some []) ≡ Err 1
 unfolding accepted bare header
 empty-file = refl
 
-short-file : story_in (Some (take 35 (page glul (0 ∷ 3 ∷ 1 ∷ 2 ∷ [])))) ≡ Err 1
+short-file : story_of (Some (take 35 (page glul (0 ∷ 3 ∷ 1 ∷ 2 ∷ [])))) ≡ Err 1
 unfolding accepted bare header
 short-file = refl
 
-other-magic : story_in (Some (page (0x48 ∷ 0x6C ∷ 0x75 ∷ 0x6C ∷ []) (0 ∷ 3 ∷ 1 ∷ 2 ∷ []))) ≡ Err 2
+other-magic : story_of (Some (page (0x48 ∷ 0x6C ∷ 0x75 ∷ 0x6C ∷ []) (0 ∷ 3 ∷ 1 ∷ 2 ∷ []))) ≡ Err 2
 unfolding accepted bare header
 other-magic = refl
 
-old-version : story_in (Some (page glul (0 ∷ 1 ∷ 0xFF ∷ 0xFF ∷ []))) ≡ Err 3
+old-version : story_of (Some (page glul (0 ∷ 1 ∷ 0xFF ∷ 0xFF ∷ []))) ≡ Err 3
 unfolding accepted bare header
 old-version = refl
 
-first-version : is_ok (story_in (Some (page glul (0 ∷ 2 ∷ 0 ∷ 0 ∷ [])))) ≡ true
+first-version : is_ok (story_of (Some (page glul (0 ∷ 2 ∷ 0 ∷ 0 ∷ [])))) ≡ true
 unfolding accepted bare header
 first-version = refl
 
-last-version : is_ok (story_in (Some (page glul (0 ∷ 3 ∷ 1 ∷ 0xFF ∷ [])))) ≡ true
+last-version : is_ok (story_of (Some (page glul (0 ∷ 3 ∷ 1 ∷ 0xFF ∷ [])))) ≡ true
 unfolding accepted bare header
 last-version = refl
 
-new-version : story_in (Some (page glul (0 ∷ 3 ∷ 2 ∷ 0 ∷ []))) ≡ Err 3
+new-version : story_of (Some (page glul (0 ∷ 3 ∷ 2 ∷ 0 ∷ []))) ≡ Err 3
 unfolding accepted bare header
 new-version = refl

@@ -1,15 +1,12 @@
 -- The command line: the program's name and STORY, or these followed by --steps and N.
 use Rattle.std.specs.Prelude.{ℕ, ◌+◌, ◌-◌, ◌*◌, ◌^◌, ◌&&◌, nat_le, nat_lt, if◌then◌else◌, Bool, true, List, [], ◌∷◌, Option, Some, None, option_map, codes}
 use Rattle.std.specs.Str.{bytes_eq}
+use Rattle.gx_player.specs.declared.command.TheConstants.{USUAL_STEPS}
 
 -- the name of the story's file, and the budget of the run
 pub record Command : Type 0 where
   pub story : List ℕ
   pub steps : ℕ
-
--- the budget where the command line has none
-abbrev pub usual_steps : ℕ
-usual_steps = 1000000000000000
 
 abbrev pub is_digit : ℕ → Bool
 is_digit c = nat_le 48 c && nat_le c 57
@@ -32,13 +29,13 @@ abbrev pub with_digit : ℕ → ℕ → Option ℕ
 with_digit n c = if is_digit c && nat_lt (10 * n + (c - 48)) (2 ^ 64) then Some (10 * n + (c - 48)) else None
 
 -- a number below 2^64, in one digit or more
-abbrev pub number_of : List ℕ → Option ℕ
-number_of [] = None
-number_of (c ∷ cs) = number_after 0 (c ∷ cs)
+abbrev pub number_in : List ℕ → Option ℕ
+number_in [] = None
+number_in (c ∷ cs) = number_after 0 (c ∷ cs)
 
 -- what a command line asks for, if it is one
 abbrev pub command_of : List (List ℕ) → Option Command
-command_of (name ∷ story ∷ []) = Some (record { story = story; steps = usual_steps })
+command_of (name ∷ story ∷ []) = Some (record { story = story; steps = USUAL_STEPS })
 command_of (name ∷ story ∷ option ∷ n ∷ []) =
-    if bytes_eq option (codes "--steps") then option_map (λ steps. let c : Command = record { story = story; steps = steps } in c) (number_of n) else None
+    if bytes_eq option (codes "--steps") then option_map (λ steps. let c : Command = record { story = story; steps = steps } in c) (number_in n) else None
 command_of words = None

@@ -1,4 +1,3 @@
 pub mod Commands
 pub mod Headline
 pub mod Loading
-pub mod Statuses

@@ -2,10 +2,10 @@
 //!
 //! STORY is any text. N is one decimal digit or more, worth at most 2^64 - 1.
 ghost use Rattle.std.specs.Prelude.{◌≡◌, None, Some, map, MatchOption};
-ghost use Rattle.gx_player.specs.Commands.{with_digit, number_of, command_of};
+ghost use Rattle.gx_player.specs.Commands.{with_digit, number_in, command_of};
 
 /// The budget where the command line has none.
-const USUAL_STEPS: u64 = 1_000_000_000_000_000;
+pub const USUAL_STEPS: u64 = 1_000_000_000_000_000;
 
 /// What a command line asks for.
 #[derive(Clone, Copy)]
@@ -31,19 +31,17 @@ pub fn read_command<'a>(words: &[&'a str]) -> Option<Command<'a>>
     if words.len() != 4 || words[2] != "--steps" {
         return None;
     }
-    match number(words[3]) {
-        None => None,
-        Some(steps) => Some(Command {
-            story: words[1],
-            steps,
-        }),
-    }
+    let steps = number(words[3])?;
+    Some(Command {
+        story: words[1],
+        steps,
+    })
 }
 
 /// The number that a text spells.
 #[tactic(auto, using(crate::proofs::Numbers::longer))]
 fn number(text: &str) -> Option<u64>
-    ensures { result ≡ number_of text.now }
+    ensures { result ≡ number_in text.now }
 {
     let digits = text.as_bytes();
     if digits.is_empty() {

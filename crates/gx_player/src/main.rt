@@ -13,6 +13,7 @@ mod command;
 mod play;
 mod real;
 
+use gx_session::statuses;
 pub use play::play;
 use rand_chacha::ChaCha20Rng;
 use rand_core::SeedableRng;
@@ -21,9 +22,6 @@ use std::io::ErrorKind;
 use std::process::ExitCode;
 use std::random::RandomSource;
 use std::{env, io};
-
-/// The status where memory runs out before anything is done.
-const NO_MEMORY: u8 = 11;
 
 /// A seed from the system's random source, and 32 zero bytes where that fails.
 fn seed(rt: &impl RandomSource) -> [u8; 32] {
@@ -75,7 +73,7 @@ fn play_args(rt: &HostRuntime) -> io::Result<u8> {
 fn main(rt: HostRuntime) -> ExitCode {
     let status = match play_args(&rt) {
         Ok(status) => status,
-        Err(error) if error.kind() == ErrorKind::OutOfMemory => NO_MEMORY,
+        Err(error) if error.kind() == ErrorKind::OutOfMemory => statuses::NO_MEMORY,
         Err(_) => play_words(&rt, &[]),
     };
     ExitCode::from(status)

@@ -1,32 +1,32 @@
 //! All that the program does, over objects that are handed in.
 //!
-//! `play` comes to the outcome that specs/Headline has for its command line and for what the
-//! devices hold, unless a device fails or memory runs out.
-ghost use Rattle.std.specs.Prelude.{◌≡◌, ◌≢◌, ◌≤◌, ◌↔◌, ℕ, true, None, Err, map};
-ghost use Rattle.gx_story.specs.Stories.{accepted};
-ghost use Rattle.gx_machine.specs.Start.{begun};
-ghost use Rattle.gx_session.specs.Devices.{devices, Told};
+//! `play` comes to the outcome that specs/Headline has for its command line and for the file under the
+//! story's name, unless a device fails or memory runs out.
+ghost use Rattle.std.specs.Prelude.{◌≡◌, ◌≢◌, ◌≤◌, ℕ, None, Err, map};
+ghost use Rattle.gx_words.specs.declared.faults.Fault.TheVariants.{NoMemory};
+ghost use Rattle.gx_words.specs.Faults.{number_of};
+ghost use Rattle.gx_machine.specs.Start.{first_machine};
+ghost use Rattle.gx_session.specs.Devices.{devices};
 ghost use Rattle.gx_session.specs.Runs.{Blames, Counts};
-ghost use Rattle.gx_player.specs.Commands.{command_of};
-ghost use Rattle.gx_player.specs.Headline.{outcome_of, numbered, story_in, started, undo_depth, Stands, Plays};
-ghost use Rattle.gx_player.specs.Loading.{LoadGives};
-ghost use Rattle.gx_player.specs.Statuses.{Untouched, IsAnswer};
+ghost use Rattle.gx_session.specs.declared.statuses.TheConstants.{BAD_WORDS, FAULT, SHELF_FAULT, NO_MEMORY};
+ghost use Rattle.gx_player.specs.Headline.{outcome_of_start, HasNoMachine, Plays, LoadsOnce, IsUntouched, HasItsParts, IsPlayed};
+ghost use Rattle.gx_player.specs.Loading.{LoadsFile};
 
 use crate::command::read_command;
 use glk_world::World;
 use gx_machine::Machine;
 use gx_outside::{Load, Shelf, ShelfFault, Sink, Source};
-use gx_session::{Ended, run};
+use gx_session::{Ended, run, statuses};
 use gx_story::{Story, StoryFault};
-use gx_words::Fault;
+use gx_words::{CEILING, Fault};
 use rand_core::Rng;
 use std::alloc::{Allocator, Global};
 
-/// The most bytes of a story file.
-const MOST_BYTES: usize = 0x0400_0000;
+/// The most copies that a machine keeps for undo.
+pub const UNDO_DEPTH: usize = 16;
 
-/// The most moments that a machine keeps for undo.
-const UNDO_DEPTH: usize = 16;
+/// The fault of a story whose file isn't there; the others are those of `StoryFault`.
+pub const NO_FILE: u8 = 0;
 
 /// The columns and rows of the screen.
 const COLUMNS: u32 = 80;
@@ -36,12 +36,38 @@ const ROWS: u32 = 24;
 /// Why there is no story.
 #[derive(Clone, Copy)]
 pub enum Refusal {
-    /// The number of the fault: 0 for no such file, else the story's.
+    /// The number of the fault.
     BadStory(u8),
     /// The shelf failed.
     Shelf,
     /// Memory ran out.
     NoMemory,
+}
+
+impl From<ShelfFault> for Refusal {
+    ghost use Rattle.gx_player.specs.Loading.{refusal_of_shelf};
+
+    ghost from_gives = { λ fault refusal. refusal ≡ refusal_of_shelf fault };
+
+    fn from(fault: ShelfFault) -> Refusal {
+        match fault {
+            ShelfFault::Failed => Refusal::Shelf,
+            ShelfFault::NoMemory => Refusal::NoMemory,
+        }
+    }
+}
+
+impl From<StoryFault> for Refusal {
+    ghost use Rattle.gx_player.specs.Loading.{refusal_of_story};
+
+    ghost from_gives = { λ fault refusal. refusal ≡ refusal_of_story fault };
+
+    fn from(fault: StoryFault) -> Refusal {
+        match fault {
+            StoryFault::NoMemory => Refusal::NoMemory,
+            _ => Refusal::BadStory(fault.number()),
+        }
+    }
 }
 
 /// Plays the story that a command line names.
@@ -60,28 +86,17 @@ pub fn play<A: Allocator + Clone, S: Source, K: Sink, F: Shelf, R: Rng>(
     shelf: &mut F,
     dice: &mut R,
 ) -> Ended<A>
-    ensures headline { let entry = devices (S.seen input.old) (K.seen output.old) (F.seen shelf.old) (R.stream dice.old) in
+    ensures { let entry = devices (S.seen input.old) (K.seen output.old) (F.seen shelf.old) (R.stream dice.old) in
         let exit = devices (S.seen input.new) (K.seen output.new) (F.seen shelf.new) (R.stream dice.new) in
-        Told entry → Plays (outcome_of (command_of (map (λ word. word.now) words.now)) entry) entry exit result }
-    ensures bad_words { (result.status ≡ 1) ↔ (command_of (map (λ word. word.now) words.now) ≡ None) }
-    ensures unread { let entry = devices (S.seen input.old) (K.seen output.old) (F.seen shelf.old) (R.stream dice.old) in
-        let exit = devices (S.seen input.new) (K.seen output.new) (F.seen shelf.new) (R.stream dice.new) in
-        result.status ≡ 1 → exit ≡ entry }
-    ensures untouched { let entry = devices (S.seen input.old) (K.seen output.old) (F.seen shelf.old) (R.stream dice.old) in
-        let exit = devices (S.seen input.new) (K.seen output.new) (F.seen shelf.new) (R.stream dice.new) in
-        result.machine ≡ None → Untouched entry exit result }
-    ensures counts { let entry = devices (S.seen input.old) (K.seen output.old) (F.seen shelf.old) (R.stream dice.old) in
-        let exit = devices (S.seen input.new) (K.seen output.new) (F.seen shelf.new) (R.stream dice.new) in
-        Counts entry exit result.status }
-    ensures answer { IsAnswer result }
+        IsPlayed (map (λ word. word.now) words.now) entry exit result }
 {
     let Some(command) = read_command(words) else {
-        return stands(1, 0, 0);
+        return without_machine(statuses::BAD_WORDS, 0, 0);
     };
     match load_story(alloc, shelf, command.story) {
-        Err(Refusal::BadStory(fault)) => stands(2, fault, 0),
-        Err(Refusal::Shelf) => stands(8, 0, 0),
-        Err(Refusal::NoMemory) => stands(11, 0, 0),
+        Err(Refusal::BadStory(fault)) => without_machine(statuses::BAD_STORY, fault, 0),
+        Err(Refusal::Shelf) => without_machine(statuses::SHELF_FAULT, 0, 0),
+        Err(Refusal::NoMemory) => without_machine(statuses::NO_MEMORY, 0, 0),
         Ok(story) => play_story(
             alloc,
             pages,
@@ -96,8 +111,8 @@ pub fn play<A: Allocator + Clone, S: Source, K: Sink, F: Shelf, R: Rng>(
 }
 
 /// The answer where no machine was started.
-fn stands<A: Allocator + Clone>(status: u8, fault: u8, at: u32) -> Ended<A>
-    ensures { Stands result status fault at }
+fn without_machine<A: Allocator + Clone>(status: u8, fault: u8, at: u32) -> Ended<A>
+    ensures { HasNoMachine result status fault at }
 {
     Ended {
         status,
@@ -110,32 +125,27 @@ fn stands<A: Allocator + Clone>(status: u8, fault: u8, at: u32) -> Ended<A>
 
 /// The story under a name.
 fn load_story<F: Shelf>(alloc: Global, shelf: &mut F, name: &str) -> Result<Story, Refusal>
-    ensures value { (F.seen shelf.old).tells ≡ true → LoadGives (story_in ((F.seen shelf.old).files name.now)) result }
-    ensures same { (F.seen shelf.old).tells ≡ true → (F.seen shelf.new).files ≡ (F.seen shelf.old).files }
-    ensures tells { (F.seen shelf.new).tells ≡ (F.seen shelf.old).tells }
-    ensures count { Blames (F.seen shelf.old).faults (F.seen shelf.new).faults
-        (F.seen shelf.new).failing (result ≡ Err Refusal.Shelf) }
+    ensures value { LoadsFile (F.seen shelf.old) name.now result }
+    ensures once { LoadsOnce (F.seen shelf.old) (F.seen shelf.new) }
+    ensures count { Blames (F.seen shelf.old).calls (F.seen shelf.new).calls (result ≡ Err Refusal.Shelf) }
     ensures fault { (fault : ℕ) → result ≡ Err (Refusal.BadStory fault) → fault ≤ 7 }
 {
-    match shelf.load(name, MOST_BYTES) {
-        Err(ShelfFault::Failed) => Err(Refusal::Shelf),
-        Err(ShelfFault::NoMemory) => Err(Refusal::NoMemory),
-        Ok(Load::Missing) => Err(Refusal::BadStory(0)),
-        Ok(Load::TooLong) => Err(Refusal::BadStory(StoryFault::TooLarge.number())),
-        Ok(Load::Found(bytes)) => read_story(alloc, bytes.as_slice()),
+    match shelf.load(name, CEILING as usize)? {
+        Load::Missing => Err(Refusal::BadStory(NO_FILE)),
+        Load::TooLong => Err(Refusal::BadStory(StoryFault::TooLarge.number())),
+        Load::Found(bytes) => Ok(Story::read(alloc, bytes.as_slice())?),
     }
 }
 
-/// The story of a file.
-fn read_story(alloc: Global, bytes: &[u8]) -> Result<Story, Refusal>
-    ensures value { LoadGives (numbered (accepted bytes.now)) result }
-    ensures fault { (fault : ℕ) → result ≡ Err (Refusal.BadStory fault) → fault ≤ 7 }
-    ensures not_shelf { result ≢ Err Refusal.Shelf }
+/// The answer where the start function, at this address, can't be entered.
+fn unstarted<A: Allocator + Clone>(fault: Fault, at: u32) -> Ended<A>
+    ensures memory { fault ≡ NoMemory → HasNoMachine result NO_MEMORY 0 0 }
+    ensures fault { fault ≢ NoMemory → HasNoMachine result FAULT (number_of fault) at }
+    ensures parts { HasItsParts result }
 {
-    match Story::read(alloc, bytes) {
-        Err(StoryFault::NoMemory) => Err(Refusal::NoMemory),
-        Err(fault) => Err(Refusal::BadStory(fault.number())),
-        Ok(story) => Ok(story),
+    match fault {
+        Fault::NoMemory => without_machine(statuses::NO_MEMORY, 0, 0),
+        _ => without_machine(statuses::FAULT, fault.number(), at),
     }
 }
 
@@ -152,20 +162,21 @@ fn play_story<A: Allocator + Clone, S: Source, K: Sink, F: Shelf, R: Rng>(
 ) -> Ended<A>
     ensures plays { let entry = devices (S.seen input.old) (K.seen output.old) (F.seen shelf.old) (R.stream dice.old) in
         let exit = devices (S.seen input.new) (K.seen output.new) (F.seen shelf.new) (R.stream dice.new) in
-        Told entry → Plays (started story steps entry (begun story undo_depth)) entry exit result }
+        Plays (outcome_of_start story steps entry (first_machine story UNDO_DEPTH)) entry exit result }
+    ensures source { S.seen input.new ≡ S.seen input.old }
+    ensures shelf { F.seen shelf.new ≡ F.seen shelf.old }
     ensures untouched { let entry = devices (S.seen input.old) (K.seen output.old) (F.seen shelf.old) (R.stream dice.old) in
         let exit = devices (S.seen input.new) (K.seen output.new) (F.seen shelf.new) (R.stream dice.new) in
-        result.machine ≡ None → Untouched entry exit result }
+        result.machine ≡ None → IsUntouched entry exit result }
     ensures counts { let entry = devices (S.seen input.old) (K.seen output.old) (F.seen shelf.old) (R.stream dice.old) in
         let exit = devices (S.seen input.new) (K.seen output.new) (F.seen shelf.new) (R.stream dice.new) in
         Counts entry exit result.status }
-    ensures answer { IsAnswer result }
-    ensures began { result.status ≢ 1 }
+    ensures parts { HasItsParts result }
+    ensures began { (result.status ≢ BAD_WORDS) × (result.status ≢ SHELF_FAULT) }
 {
     let start = story.start_function();
     match Machine::start(alloc, pages, story, UNDO_DEPTH) {
-        Err(Fault::NoMemory) => stands(11, 0, 0),
-        Err(fault) => stands(3, fault.number(), start),
+        Err(fault) => unstarted(fault, start),
         Ok(machine) => {
             let world = World::new(alloc, COLUMNS, ROWS);
             run(

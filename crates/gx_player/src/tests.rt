@@ -7,11 +7,19 @@ use rand_core::SeedableRng;
 use std::alloc::Global;
 use std::test::Fail;
 
+mod branches;
+mod calc;
 mod ends;
 mod filters;
+mod flow;
 mod game;
+mod glk;
 mod memory;
+mod operands;
+mod replies;
 mod searches;
+mod stack;
+mod starts;
 mod stories;
 mod strings;
 

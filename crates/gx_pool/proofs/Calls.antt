@@ -10,13 +10,14 @@ use prog.Memory.{Memory}
 use prog.Routine.{Routine}
 use types.Logic.{Logic, sem}
 use contract.Monad.{Fun, fact}
-use types.Kit.{‵, raw, ◌⊛◌, some, later, ◌$◌, ◌∵◌, !, qed, move, keep, use1, split, join, pick, fjoin, feq_i, feq_l, flt_i, check, show, await, updating, now as at_once, done}
+use types.Kit.{‵, raw, ◌⊛◌, some, later, ◌$◌, ◌∵◌, !, qed, move, keep, use1, split, split3, join, pick, fjoin, feq_i, feq_l, flt_i, check, show, await, updating, now as at_once, done}
 use denote.RattleType.{RattleType}
 use denote.Memory.{hidden_shr}
 use denote.Builtin.{unit, bool}
-use denote.Steps.{nothing, only}
+use denote.Steps.{heard, nothing, only}
 use denote.Triple.Statement.{Contract}
 use denote.Triple.Spec.{triple_of}
+use Rattle.gx_pool.specs.declared.tally.TheConstants.{MOST_SIZE, MOST_ALIGN}
 use Rattle.gx_pool.specs.contracts.tally.Tally as TY
 use Rattle.gx_pool.specs.contracts.tally.Tally.lend as TK
 use Rattle.gx_pool.specs.contracts.tally.Tally.refuses as RF
@@ -63,8 +64,14 @@ module _ {M : Type 1} {𝓤 : Ura M} (𝓛 : Logic 𝓤) (at_mem : Memory → SP
       feq_i ! (List Val) (vptr c.0 c.1 ∷ []) (vptr c.0 c.1 ∷ []) refl $ fjoin ! $ fjoin ! $
       nothing ! $ move ! (2 ∷ []) $ join ! $ join ! $ nothing ! $ move ! (1 ∷ []) $ done !
 
-  pub Refuses-gives : (v : Val) → ent 𝓤 ((Refuses 𝓛 at_mem run).post (at_refuses 𝓛 at_mem run κ q c t n a) v) (H.⇛ (ex 𝓤 (λ (y : Bool). guard 𝓤 (v ≡ vbool y) (A.lft κ q))))
+  -- what its answer says of the request
+  abbrev pub IsBound : Bool → Type 0
+  IsBound y = (MOST_SIZE < n → y ≡ true) × (MOST_ALIGN < a → y ≡ true)
+
+  pub Refuses-gives : (v : Val) → ent 𝓤 ((Refuses 𝓛 at_mem run).post (at_refuses 𝓛 at_mem run κ q c t n a) v) (H.⇛ (ex 𝓤 (λ (y : Bool). guard 𝓤 (v ≡ vbool y) (guard 𝓤 (IsBound y) (A.lft κ q)))))
   Refuses-gives v =
       qed 𝓛 (raw ((Refuses 𝓛 at_mem run).post (at_refuses 𝓛 at_mem run κ q c t n a) v) ∷ []) ∵ updating ! $
-      use1 𝓛 (later (some (λ (r : Bool). ((‵ (flft κ q) ⊛ ‵ ftrue) ⊛ ‵ (bool.own_val r (v ∷ []))) ⊛ some (λ (ws : Unit {0} × (Unit {0} × (Unit {0} × Unit {0}))). ‵ (fsep ftrue (fsep ftrue (fsep ftrue ftrue))) ⊛ raw (fact 𝓤 (320 < n → r ≡ true)) ⊛ raw (fact 𝓤 (16 < a → r ≡ true)))))) (id⊢ 𝓤 _) $ await ! tt $ pick ! (λ r.
-      split ! $ split ! $ move ! (1 ∷ []) $ feq_l ! (λ e. split ! $ at_once ! $ show ! (λ (y : Bool). guard 𝓤 (v ≡ vbool y) (A.lft κ q)) r $ check ! (ap only e) $ keep ! (0 ∷ []) $ done !))
+      use1 𝓛 (later (some (λ (r : Bool). ((‵ (flft κ q) ⊛ ‵ ftrue) ⊛ ‵ (bool.own_val r (v ∷ []))) ⊛ some (λ (ws : Unit {0} × (Unit {0} × (Unit {0} × Unit {0}))). ‵ (fsep ftrue (fsep ftrue (fsep ftrue ftrue))) ⊛ raw (fact 𝓤 (MOST_SIZE < n → r ≡ true)) ⊛ raw (fact 𝓤 (MOST_ALIGN < a → r ≡ true)))))) (id⊢ 𝓤 _) $ await ! tt $ pick ! (λ r.
+      split ! $ split ! $ move ! (1 ∷ []) $ feq_l ! (λ e. split ! $ move ! (2 ∷ []) $ pick ! (λ ws. split3 ! $ move ! (1 ∷ 2 ∷ []) $
+      heard ! (MOST_SIZE < n → r ≡ true) (λ large. heard ! (MOST_ALIGN < a → r ≡ true) (λ aligned. move ! (1 ∷ []) $
+      at_once ! $ show ! (λ (y : Bool). guard 𝓤 (v ≡ vbool y) (guard 𝓤 (IsBound y) (A.lft κ q))) r $ check ! (ap only e) $ check ! (large, aligned) $ keep ! (0 ∷ []) $ done !)))))

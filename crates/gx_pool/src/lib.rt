@@ -8,7 +8,10 @@
 //! A pool counts through a shared reference, so no contract sees its count: tests show it.
 #![tactic(auto)]
 
-ghost use Rattle.std.specs.Prelude.{◌≡◌, ◌≤◌};
+ghost use mir.Syntax.{Ty};
+ghost use types.Logic.{sem};
+ghost use Rattle.std.specs.Allocator.{HasLayout, block_if_ok};
+ghost use Rattle.std.specs.Prelude.{◌≡◌, ◌<◌, ◌≤◌, IsErr};
 ghost use Rattle.gx_pool.specs.Pool.{most_out};
 
 mod tally;
@@ -49,7 +52,13 @@ impl<B: Allocator> Pool<B> {
 unsafe impl<B: Allocator> Allocator for Pool<B> {
     ghost dealloc_token = { λ pool ty ptr. B.dealloc_token pool.alloc ty ptr };
 
-    fn allocate(&self, size: usize, align: usize) -> Result<*mut u8, AllocError> {
+    fn allocate(&self, size: usize, align: usize) -> Result<*mut u8, AllocError>
+        ghost ty: { Ty }
+        requires { HasLayout ty size align }
+        ensures* block { sem 𝓛 (block_if_ok (B.dealloc_token self.now.alloc) ty result) }
+        ensures large { MOST_SIZE < size → IsErr result }
+        ensures aligned { MOST_ALIGN < align → IsErr result }
+    {
         if self.tally.refuses(size, align) {
             return Err(AllocError);
         }

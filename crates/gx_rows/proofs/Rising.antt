@@ -10,7 +10,7 @@ use Rattle.std.proofs.lemmas.Bool.Decides.{nat_tests}
 use Rattle.std.proofs.lemmas.List.Folds.{find_at}
 use Rattle.std.proofs.lemmas.List.Sums.{position_or_len_is}
 use Rattle.std.proofs.lemmas.Option.{slice_get_past}
-use Rattle.gx_rows.specs.Keys.{rises, IsOnly}
+use Rattle.gx_rows.specs.Keys.{is_rising, IsOnly}
 
 both : (a b : Bool) → (a && b) ≡ true → (a ≡ true) × (b ≡ true)
 both true b h = (refl, h)
@@ -36,38 +36,38 @@ le_or_lt : (i j : ℕ) → (i ≤ j) ⊎ (j < i)
 le_or_lt i j = grind arith
 
 module _ {T : Type 0} (key_of : T → ℕ) where
-  rest_rises : (row : T) (rest : List T) → rises key_of (row ∷ rest) ≡ true → rises key_of rest ≡ true
-  rest_rises row [] up = refl
-  rest_rises row (next ∷ rest) up = (both (nat_lt (key_of row) (key_of next)) (rises key_of (next ∷ rest)) up).1
+  rest_is_rising : (row : T) (rest : List T) → is_rising key_of (row ∷ rest) ≡ true → is_rising key_of rest ≡ true
+  rest_is_rising row [] up = refl
+  rest_is_rising row (next ∷ rest) up = (both (nat_lt (key_of row) (key_of next)) (is_rising key_of (next ∷ rest)) up).1
 
-  first_is_least : (row : T) (rest : List T) (i : ℕ) (d : T) → rises key_of (row ∷ rest) ≡ true
+  first_is_least : (row : T) (rest : List T) (i : ℕ) (d : T) → is_rising key_of (row ∷ rest) ≡ true
       → i < length rest → key_of row < key_of (get_or rest i d)
   first_is_least row [] i d up within = absurd (omega arith)
   first_is_least row (next ∷ rest) zero d up within =
-      let less = (both (nat_lt (key_of row) (key_of next)) (rises key_of (next ∷ rest)) up).0 in grind (arith, nat_tests, less)
+      let less = (both (nat_lt (key_of row) (key_of next)) (is_rising key_of (next ∷ rest)) up).0 in grind (arith, nat_tests, less)
   first_is_least row (next ∷ rest) (suc i) d up within =
-      let p = both (nat_lt (key_of row) (key_of next)) (rises key_of (next ∷ rest)) up in
+      let p = both (nat_lt (key_of row) (key_of next)) (is_rising key_of (next ∷ rest)) up in
       let later = first_is_least next rest i d p.1 (omega arith) in grind (arith, nat_tests, p.0, later)
 
-  below_later : (rows : List T) (i j : ℕ) (d : T) → rises key_of rows ≡ true → i < j → j < length rows
+  below_later : (rows : List T) (i j : ℕ) (d : T) → is_rising key_of rows ≡ true → i < j → j < length rows
       → key_of (get_or rows i d) < key_of (get_or rows j d)
   below_later [] i j d up less within = absurd (omega arith)
   below_later (row ∷ rest) i zero d up less within = absurd (omega arith)
   below_later (row ∷ rest) zero (suc j) d up less within = first_is_least row rest j d up (omega arith)
   below_later (row ∷ rest) (suc i) (suc j) d up less within =
-      below_later rest i j d (rest_rises row rest up) (omega arith) (omega arith)
+      below_later rest i j d (rest_is_rising row rest up) (omega arith) (omega arith)
 
-  same_place : (rows : List T) (i j : ℕ) (d : T) → rises key_of rows ≡ true → i < length rows → j < length rows
+  same_place : (rows : List T) (i j : ℕ) (d : T) → is_rising key_of rows ≡ true → i < length rows → j < length rows
       → key_of (get_or rows i d) ≡ key_of (get_or rows j d) → i ≡ j
   same_place rows i j d up low high same = grind (arith, below_later rows i j d up, below_later rows j i d up)
 
-  ordered : (rows : List T) (key : ℕ) → rises key_of rows ≡ true
+  ordered : (rows : List T) (key : ℕ) → is_rising key_of rows ≡ true
       → IsNonDecreasingBy (λ row. ordering_index (nat_cmp (key_of row) key)) rows
   ordered rows key up i j d le within =
       keeps_order (key_of (get_or rows i d)) (key_of (get_or rows j d)) key (grind (arith, below_later rows i j d up))
 
   -- what stands at the two answers of a search
-  is_only : (rows : List T) (key i : ℕ) → rises key_of rows ≡ true → i < length rows
+  is_only : (rows : List T) (key i : ℕ) → is_rising key_of rows ≡ true → i < length rows
       → HoldsAt (λ row. nat_cmp (key_of row) key ≡ Equal) rows i → IsOnly key_of rows key i
   is_only rows key i up within at = record {
     within = within;
@@ -75,7 +75,7 @@ module _ {T : Type 0} (key_of : T → ℕ) where
     alone = λ j d inside same. same_place rows j i d up inside within (same ∙ sym (is_equal _ _ (at d)));
   }
 
-  none_has : (rows : List T) (key i : ℕ) → rises key_of rows ≡ true
+  none_has : (rows : List T) (key i : ℕ) → is_rising key_of rows ≡ true
       → (IsNonDecreasingBy (λ row. ordering_index (nat_cmp (key_of row) key)) rows → IsPartitionPoint (λ row. nat_cmp (key_of row) key ≡ Less) (λ row. nat_cmp (key_of row) key ≡ Greater) rows i)
       → All (λ row. key_of row ≢ key) rows
   none_has rows key i up split j d within same =
@@ -87,7 +87,7 @@ module _ {T : Type 0} (key_of : T → ℕ) where
             is_less (key_of (get_or rows j d)) key (parts.0 j d (omega arith) lt) in omega (arith, less, same)
       ]
 
-  pub one : (rows : List T) (key : ℕ) (r : Result ℕ ℕ) → rises key_of rows ≡ true
+  pub one : (rows : List T) (key : ℕ) (r : Result ℕ ℕ) → is_rising key_of rows ≡ true
       → IsSearchInRange r (length rows) → IsBinarySearchResult (λ row. nat_cmp (key_of row) key) rows r
       → MatchOption (result_ok r) (All (λ row. key_of row ≢ key) rows) (IsOnly key_of rows key)
   one rows key (Ok i) up within at = is_only rows key i up within at
@@ -113,7 +113,7 @@ module _ {T : Type 0} (key_of : T → ℕ) where
       position_or_len_is (λ row. key_of row == key) rows i row (omega (arith, only.within)) before (λ lt. eq-eqb _ _ (only.here row)) in
       ap (slice_get rows) (sym here) ∙ sym (find_at (λ row. key_of row == key) rows)
 
-  pub first : (rows : List T) (key : ℕ) (r : Result ℕ ℕ) → rises key_of rows ≡ true
+  pub first : (rows : List T) (key : ℕ) (r : Result ℕ ℕ) → is_rising key_of rows ≡ true
       → IsSearchInRange r (length rows) → IsBinarySearchResult (λ row. nat_cmp (key_of row) key) rows r
       → option_and_then (slice_get rows) (result_ok r) ≡ find (λ row. key_of row == key) rows
   first rows key r up within at = first_is rows key (result_ok r) (one rows key r up within at)

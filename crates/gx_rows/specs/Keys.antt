@@ -2,10 +2,10 @@
 use Rattle.std.specs.Prelude.{◌≡◌, ◌<◌, ◌&&◌, ℕ, Bool, true, nat_lt, List, [], ◌∷◌, length, slice_index_or}
 
 -- each key is below the next
-abbrev pub rises : {T : Type 0} → (T → ℕ) → List T → Bool
-rises key_of [] = true
-rises key_of (row ∷ []) = true
-rises key_of (row ∷ next ∷ rest) = nat_lt (key_of row) (key_of next) && rises key_of (next ∷ rest)
+abbrev pub is_rising : {T : Type 0} → (T → ℕ) → List T → Bool
+is_rising key_of [] = true
+is_rising key_of (row ∷ []) = true
+is_rising key_of (row ∷ next ∷ rest) = nat_lt (key_of row) (key_of next) && is_rising key_of (next ∷ rest)
 
 -- the row at this place has the key, and no other has it
 pub record IsOnly {T : Type 0} (key_of : T → ℕ) (rows : List T) (key place : ℕ) : Type 0 where

@@ -1,9 +1,10 @@
 -- The instructions (Glulx 3.1.2, "Dictionary of Opcodes"), in rising order of number.
 --
--- A line says the number, how many operands are loaded and stored, and the class. What an
+-- A line says the number by its name, how many operands are loaded and stored, and the class. What an
 -- instruction does is said by the definitions of its class.
 use Rattle.std.specs.Prelude.{◌≤◌, ◌==◌, ◌+◌, ◌%◌, ◌&&◌, ◌||◌, ℕ, Bool, true, false, nat_le, List, [], ◌∷◌, Option, find, slice_index_or}
 use Rattle.gx_words.specs.Numbers.{IsWidth}
+use Rattle.gx_rows.specs.declared.numbers.TheConstants.{NOP, ADD, SUB, MUL, DIV, MOD, NEG, BITAND, BITOR, BITXOR, BITNOT, SHIFTL, SSHIFTR, USHIFTR, JUMP, JZ, JNZ, JEQ, JNE, JLT, JGE, JGT, JLE, JLTU, JGEU, JGTU, JLEU, CALL, RETURN, CATCH, THROW, TAILCALL, COPY, COPYS, COPYB, SEXS, SEXB, ALOAD, ALOADS, ALOADB, ALOADBIT, ASTORE, ASTORES, ASTOREB, ASTOREBIT, STKCOUNT, STKPEEK, STKSWAP, STKROLL, STKCOPY, STREAMCHAR, STREAMNUM, STREAMSTR, STREAMUNICHAR, GESTALT, DEBUGTRAP, GETMEMSIZE, SETMEMSIZE, JUMPABS, RANDOM, SETRANDOM, QUIT, VERIFY, RESTART, SAVE, RESTORE, SAVEUNDO, RESTOREUNDO, PROTECT, GLK, GETSTRINGTBL, SETSTRINGTBL, GETIOSYS, SETIOSYS, LINEARSEARCH, BINARYSEARCH, LINKEDSEARCH, CALLF, CALLFI, CALLFII, CALLFIII, MZERO, MCOPY, MALLOC, MFREE, ACCELFUNC, ACCELPARAM}
 use Rattle.gx_rows.specs.declared.instructions.Row.{Row}
 use Rattle.gx_rows.specs.declared.instructions.Class.{Class}
 use Rattle.gx_rows.specs.declared.instructions.Class.TheVariants.{Calc, Branch, Flow, Copy, Memory, Stack, Print, Game, Glk}
@@ -23,110 +24,110 @@ storing number loads stores class = record (row number loads stores class) { sto
 unfoldable pub table : List Row
 table =
     -- No operation
-    row 0x00 0 0 Flow ∷  -- nop
+    row NOP 0 0 Flow ∷
     -- Integer math
-    row 0x10 2 1 Calc ∷  -- add
-    row 0x11 2 1 Calc ∷  -- sub
-    row 0x12 2 1 Calc ∷  -- mul
-    row 0x13 2 1 Calc ∷  -- div
-    row 0x14 2 1 Calc ∷  -- mod
-    row 0x15 1 1 Calc ∷  -- neg
-    row 0x18 2 1 Calc ∷  -- bitand
-    row 0x19 2 1 Calc ∷  -- bitor
-    row 0x1A 2 1 Calc ∷  -- bitxor
-    row 0x1B 1 1 Calc ∷  -- bitnot
-    row 0x1C 2 1 Calc ∷  -- shiftl
-    row 0x1D 2 1 Calc ∷  -- sshiftr
-    row 0x1E 2 1 Calc ∷  -- ushiftr
+    row ADD 2 1 Calc ∷
+    row SUB 2 1 Calc ∷
+    row MUL 2 1 Calc ∷
+    row DIV 2 1 Calc ∷
+    row MOD 2 1 Calc ∷
+    row NEG 1 1 Calc ∷
+    row BITAND 2 1 Calc ∷
+    row BITOR 2 1 Calc ∷
+    row BITXOR 2 1 Calc ∷
+    row BITNOT 1 1 Calc ∷
+    row SHIFTL 2 1 Calc ∷
+    row SSHIFTR 2 1 Calc ∷
+    row USHIFTR 2 1 Calc ∷
     -- Branches
-    row 0x20 1 0 Branch ∷  -- jump
-    row 0x22 2 0 Branch ∷  -- jz
-    row 0x23 2 0 Branch ∷  -- jnz
-    row 0x24 3 0 Branch ∷  -- jeq
-    row 0x25 3 0 Branch ∷  -- jne
-    row 0x26 3 0 Branch ∷  -- jlt
-    row 0x27 3 0 Branch ∷  -- jge
-    row 0x28 3 0 Branch ∷  -- jgt
-    row 0x29 3 0 Branch ∷  -- jle
-    row 0x2A 3 0 Branch ∷  -- jltu
-    row 0x2B 3 0 Branch ∷  -- jgeu
-    row 0x2C 3 0 Branch ∷  -- jgtu
-    row 0x2D 3 0 Branch ∷  -- jleu
+    row JUMP 1 0 Branch ∷
+    row JZ 2 0 Branch ∷
+    row JNZ 2 0 Branch ∷
+    row JEQ 3 0 Branch ∷
+    row JNE 3 0 Branch ∷
+    row JLT 3 0 Branch ∷
+    row JGE 3 0 Branch ∷
+    row JGT 3 0 Branch ∷
+    row JLE 3 0 Branch ∷
+    row JLTU 3 0 Branch ∷
+    row JGEU 3 0 Branch ∷
+    row JGTU 3 0 Branch ∷
+    row JLEU 3 0 Branch ∷
     -- Functions and continuations
-    row 0x30 2 1 Flow ∷  -- call
-    row 0x31 1 0 Flow ∷  -- return
-    storing 0x32 1 1 Flow ∷  -- catch
-    row 0x33 2 0 Flow ∷  -- throw
-    row 0x34 2 0 Flow ∷  -- tailcall
+    row CALL 2 1 Flow ∷
+    row RETURN 1 0 Flow ∷
+    storing CATCH 1 1 Flow ∷
+    row THROW 2 0 Flow ∷
+    row TAILCALL 2 0 Flow ∷
     -- Moving data
-    row 0x40 1 1 Copy ∷  -- copy
-    narrow 2 0x41 1 1 Copy ∷  -- copys
-    narrow 1 0x42 1 1 Copy ∷  -- copyb
-    row 0x44 1 1 Calc ∷  -- sexs
-    row 0x45 1 1 Calc ∷  -- sexb
+    row COPY 1 1 Copy ∷
+    narrow 2 COPYS 1 1 Copy ∷
+    narrow 1 COPYB 1 1 Copy ∷
+    row SEXS 1 1 Calc ∷
+    row SEXB 1 1 Calc ∷
     -- Array data
-    row 0x48 2 1 Memory ∷  -- aload
-    row 0x49 2 1 Memory ∷  -- aloads
-    row 0x4A 2 1 Memory ∷  -- aloadb
-    row 0x4B 2 1 Memory ∷  -- aloadbit
-    row 0x4C 3 0 Memory ∷  -- astore
-    row 0x4D 3 0 Memory ∷  -- astores
-    row 0x4E 3 0 Memory ∷  -- astoreb
-    row 0x4F 3 0 Memory ∷  -- astorebit
+    row ALOAD 2 1 Memory ∷
+    row ALOADS 2 1 Memory ∷
+    row ALOADB 2 1 Memory ∷
+    row ALOADBIT 2 1 Memory ∷
+    row ASTORE 3 0 Memory ∷
+    row ASTORES 3 0 Memory ∷
+    row ASTOREB 3 0 Memory ∷
+    row ASTOREBIT 3 0 Memory ∷
     -- The stack
-    row 0x50 0 1 Stack ∷  -- stkcount
-    row 0x51 1 1 Stack ∷  -- stkpeek
-    row 0x52 0 0 Stack ∷  -- stkswap
-    row 0x53 2 0 Stack ∷  -- stkroll
-    row 0x54 1 0 Stack ∷  -- stkcopy
+    row STKCOUNT 0 1 Stack ∷
+    row STKPEEK 1 1 Stack ∷
+    row STKSWAP 0 0 Stack ∷
+    row STKROLL 2 0 Stack ∷
+    row STKCOPY 1 0 Stack ∷
     -- Output
-    row 0x70 1 0 Print ∷  -- streamchar
-    row 0x71 1 0 Print ∷  -- streamnum
-    row 0x72 1 0 Print ∷  -- streamstr
-    row 0x73 1 0 Print ∷  -- streamunichar
+    row STREAMCHAR 1 0 Print ∷
+    row STREAMNUM 1 0 Print ∷
+    row STREAMSTR 1 0 Print ∷
+    row STREAMUNICHAR 1 0 Print ∷
     -- Miscellaneous, the memory map
-    row 0x100 2 1 Game ∷  -- gestalt
-    row 0x101 1 0 Game ∷  -- debugtrap
-    row 0x102 0 1 Memory ∷  -- getmemsize
-    row 0x103 1 1 Memory ∷  -- setmemsize
-    row 0x104 1 0 Flow ∷  -- jumpabs
+    row GESTALT 2 1 Game ∷
+    row DEBUGTRAP 1 0 Game ∷
+    row GETMEMSIZE 0 1 Memory ∷
+    row SETMEMSIZE 1 1 Memory ∷
+    row JUMPABS 1 0 Flow ∷
     -- Random numbers
-    row 0x110 1 1 Game ∷  -- random
-    row 0x111 1 0 Game ∷  -- setrandom
+    row RANDOM 1 1 Game ∷
+    row SETRANDOM 1 0 Game ∷
     -- Game state
-    row 0x120 0 0 Game ∷  -- quit
-    row 0x121 0 1 Game ∷  -- verify
-    row 0x122 0 0 Game ∷  -- restart
-    row 0x123 1 1 Game ∷  -- save
-    row 0x124 1 1 Game ∷  -- restore
-    row 0x125 0 1 Game ∷  -- saveundo
-    row 0x126 0 1 Game ∷  -- restoreundo
-    row 0x127 2 0 Game ∷  -- protect
+    row QUIT 0 0 Game ∷
+    row VERIFY 0 1 Game ∷
+    row RESTART 0 0 Game ∷
+    row SAVE 1 1 Game ∷
+    row RESTORE 1 1 Game ∷
+    row SAVEUNDO 0 1 Game ∷
+    row RESTOREUNDO 0 1 Game ∷
+    row PROTECT 2 0 Game ∷
     -- Glk
-    row 0x130 2 1 Glk ∷  -- glk
+    row GLK 2 1 Glk ∷
     -- String decoding table, iosystem
-    row 0x140 0 1 Game ∷  -- getstringtbl
-    row 0x141 1 0 Game ∷  -- setstringtbl
-    row 0x148 0 2 Game ∷  -- getiosys
-    row 0x149 2 0 Game ∷  -- setiosys
+    row GETSTRINGTBL 0 1 Game ∷
+    row SETSTRINGTBL 1 0 Game ∷
+    row GETIOSYS 0 2 Game ∷
+    row SETIOSYS 2 0 Game ∷
     -- Searching
-    row 0x150 7 1 Memory ∷  -- linearsearch
-    row 0x151 7 1 Memory ∷  -- binarysearch
-    row 0x152 6 1 Memory ∷  -- linkedsearch
+    row LINEARSEARCH 7 1 Memory ∷
+    row BINARYSEARCH 7 1 Memory ∷
+    row LINKEDSEARCH 6 1 Memory ∷
     -- Functions
-    row 0x160 1 1 Flow ∷  -- callf
-    row 0x161 2 1 Flow ∷  -- callfi
-    row 0x162 3 1 Flow ∷  -- callfii
-    row 0x163 4 1 Flow ∷  -- callfiii
+    row CALLF 1 1 Flow ∷
+    row CALLFI 2 1 Flow ∷
+    row CALLFII 3 1 Flow ∷
+    row CALLFIII 4 1 Flow ∷
     -- Block copy and clear
-    row 0x170 2 0 Memory ∷  -- mzero
-    row 0x171 3 0 Memory ∷  -- mcopy
+    row MZERO 2 0 Memory ∷
+    row MCOPY 3 0 Memory ∷
     -- Memory allocation heap
-    row 0x178 1 1 Memory ∷  -- malloc
-    row 0x179 1 0 Memory ∷  -- mfree
+    row MALLOC 1 1 Memory ∷
+    row MFREE 1 0 Memory ∷
     -- Accelerated functions
-    row 0x180 2 0 Game ∷  -- accelfunc
-    row 0x181 2 0 Game ∷  -- accelparam
+    row ACCELFUNC 2 0 Game ∷
+    row ACCELPARAM 2 0 Game ∷
     []
 
 -- the one row of a number
@@ -135,7 +136,7 @@ row_of number = find (λ row. row.number == number) table
 
 -- the row at a place of the table
 unfoldable pub row_at : ℕ → Row
-row_at place = slice_index_or table place (row 0x00 0 0 Flow)
+row_at place = slice_index_or table place (row NOP 0 0 Flow)
 
 -- at most eight operands, at most two of them stored, of 1, 2 or 4 bytes
 abbrev pub row_fits : Row → Bool

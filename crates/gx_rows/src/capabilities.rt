@@ -3,13 +3,33 @@ ghost use Rattle.std.specs.Prelude.{◌≡◌};
 ghost use Rattle.gx_rows.specs.Gestalts.{gestalt_of};
 
 use crate::{Keyed, find_row};
+use gx_words::{FILTER_SYSTEM, GLK_SYSTEM, NULL_SYSTEM};
+
+// The selectors.
+const GLULX_VERSION: u32 = 0;
+
+const TERP_VERSION: u32 = 1;
+
+const RESIZE_MEM: u32 = 2;
+
+const UNDO: u32 = 3;
+
+const IO_SYSTEM: u32 = 4;
+
+const UNICODE: u32 = 5;
+
+const MEM_COPY: u32 = 6;
+
+const M_ALLOC: u32 = 7;
+
+const M_ALLOC_HEAP: u32 = 8;
 
 /// How a selector is answered.
 #[derive(Clone, Copy)]
 enum Answer {
     /// Always this number.
     Fixed(u32),
-    /// 1 where the argument is an iosystem of the machine: 0 null, 1 filter or 2 Glk.
+    /// 1 where the argument is an I/O system of the machine.
     Iosystem,
     /// The address where the heap starts.
     HeapStart,
@@ -30,23 +50,23 @@ impl Keyed for Capability {
 }
 
 macro_rules! capabilities {
-    ($($selector:literal $name:ident => $answer:expr;)*) => {
+    ($($selector:ident => $answer:expr;)*) => {
         [$(Capability { selector: $selector, answer: $answer }),*]
     };
 }
 
 /// The selectors that aren't always answered by 0, in rising order. The version of the interpreter
-/// (TerpVersion) is its own to choose.
+/// is its own to choose.
 const CAPABILITIES: [Capability; 9] = capabilities! {
-    0 GlulxVersion => Answer::Fixed(0x0003_0102);
-    1 TerpVersion => Answer::Fixed(0x0001_0000);
-    2 ResizeMem => Answer::Fixed(1);
-    3 Undo => Answer::Fixed(1);
-    4 IOSystem => Answer::Iosystem;
-    5 Unicode => Answer::Fixed(1);
-    6 MemCopy => Answer::Fixed(1);
-    7 MAlloc => Answer::Fixed(1);
-    8 MAllocHeap => Answer::HeapStart;
+    GLULX_VERSION => Answer::Fixed(0x0003_0102);
+    TERP_VERSION => Answer::Fixed(0x0001_0000);
+    RESIZE_MEM => Answer::Fixed(1);
+    UNDO => Answer::Fixed(1);
+    IO_SYSTEM => Answer::Iosystem;
+    UNICODE => Answer::Fixed(1);
+    MEM_COPY => Answer::Fixed(1);
+    M_ALLOC => Answer::Fixed(1);
+    M_ALLOC_HEAP => Answer::HeapStart;
 };
 
 /// The answer to a selector with its argument; `heap_start` is 0 where the heap is inactive.
@@ -58,7 +78,10 @@ pub fn gestalt(selector: u32, argument: u32, heap_start: u32) -> u32
         None => 0,
         Some(place) => match CAPABILITIES[place].answer {
             Answer::Fixed(number) => number,
-            Answer::Iosystem => u32::from(argument < 3),
+            Answer::Iosystem => match argument {
+                NULL_SYSTEM | FILTER_SYSTEM | GLK_SYSTEM => 1,
+                _ => 0,
+            },
             Answer::HeapStart => heap_start,
         },
     }

@@ -4,9 +4,10 @@
 //! is got from `place_of` and read by `row_at`.
 ghost use Rattle.std.specs.Prelude.{◌≡◌, ◌<◌, IsTrue, IfSome, option_map, length};
 ghost use Rattle.std.specs.List.{list_all};
-ghost use Rattle.gx_rows.specs.Keys.{rises};
+ghost use Rattle.gx_rows.specs.Keys.{is_rising};
 ghost use Rattle.gx_rows.specs.Table.{table, row_of, row_at, row_fits, RowFits};
 
+use crate::numbers::*;
 use crate::{Keyed, find_row};
 
 /// The instructions that one part of the machine carries out.
@@ -57,9 +58,9 @@ impl Keyed for Row {
     }
 }
 
-/// A table from lines of number, name, operands and class, with a width that isn't 4 bytes.
+/// A table from lines of number, operands and class, with a width that isn't 4 bytes.
 macro_rules! rows {
-    ($($number:literal $name:ident $($operand:ident)* => $class:ident $(of $width:literal $bytes:ident)?;)*) => {
+    ($($number:ident $($operand:ident)* => $class:ident $(of $width:literal $bytes:ident)?;)*) => {
         [$(Row {
             number: $number,
             loads: loads!($($operand)*),
@@ -101,110 +102,110 @@ macro_rules! width {
 /// The instructions in rising order of number, each with its loads (L) and stores (S) in order.
 pub const ROWS: [Row; 87] = rows! {
     // No operation
-    0x00 nop                           => Flow;
+    NOP                          => Flow;
     // Integer math
-    0x10 add L L S                     => Calc;
-    0x11 sub L L S                     => Calc;
-    0x12 mul L L S                     => Calc;
-    0x13 div L L S                     => Calc;
-    0x14 mod L L S                     => Calc;
-    0x15 neg L S                       => Calc;
-    0x18 bitand L L S                  => Calc;
-    0x19 bitor L L S                   => Calc;
-    0x1A bitxor L L S                  => Calc;
-    0x1B bitnot L S                    => Calc;
-    0x1C shiftl L L S                  => Calc;
-    0x1D sshiftr L L S                 => Calc;
-    0x1E ushiftr L L S                 => Calc;
+    ADD L L S                    => Calc;
+    SUB L L S                    => Calc;
+    MUL L L S                    => Calc;
+    DIV L L S                    => Calc;
+    MOD L L S                    => Calc;
+    NEG L S                      => Calc;
+    BITAND L L S                 => Calc;
+    BITOR L L S                  => Calc;
+    BITXOR L L S                 => Calc;
+    BITNOT L S                   => Calc;
+    SHIFTL L L S                 => Calc;
+    SSHIFTR L L S                => Calc;
+    USHIFTR L L S                => Calc;
     // Branches
-    0x20 jump L                        => Branch;
-    0x22 jz L L                        => Branch;
-    0x23 jnz L L                       => Branch;
-    0x24 jeq L L L                     => Branch;
-    0x25 jne L L L                     => Branch;
-    0x26 jlt L L L                     => Branch;
-    0x27 jge L L L                     => Branch;
-    0x28 jgt L L L                     => Branch;
-    0x29 jle L L L                     => Branch;
-    0x2A jltu L L L                    => Branch;
-    0x2B jgeu L L L                    => Branch;
-    0x2C jgtu L L L                    => Branch;
-    0x2D jleu L L L                    => Branch;
+    JUMP L                       => Branch;
+    JZ L L                       => Branch;
+    JNZ L L                      => Branch;
+    JEQ L L L                    => Branch;
+    JNE L L L                    => Branch;
+    JLT L L L                    => Branch;
+    JGE L L L                    => Branch;
+    JGT L L L                    => Branch;
+    JLE L L L                    => Branch;
+    JLTU L L L                   => Branch;
+    JGEU L L L                   => Branch;
+    JGTU L L L                   => Branch;
+    JLEU L L L                   => Branch;
     // Functions and continuations
-    0x30 call L L S                    => Flow;
-    0x31 return L                      => Flow;
-    0x32 catch S L                     => Flow;
-    0x33 throw L L                     => Flow;
-    0x34 tailcall L L                  => Flow;
+    CALL L L S                   => Flow;
+    RETURN L                     => Flow;
+    CATCH S L                    => Flow;
+    THROW L L                    => Flow;
+    TAILCALL L L                 => Flow;
     // Moving data
-    0x40 copy L S                      => Copy;
-    0x41 copys L S                     => Copy of 2 bytes;
-    0x42 copyb L S                     => Copy of 1 byte;
-    0x44 sexs L S                      => Calc;
-    0x45 sexb L S                      => Calc;
+    COPY L S                     => Copy;
+    COPYS L S                    => Copy of 2 bytes;
+    COPYB L S                    => Copy of 1 byte;
+    SEXS L S                     => Calc;
+    SEXB L S                     => Calc;
     // Array data
-    0x48 aload L L S                   => Memory;
-    0x49 aloads L L S                  => Memory;
-    0x4A aloadb L L S                  => Memory;
-    0x4B aloadbit L L S                => Memory;
-    0x4C astore L L L                  => Memory;
-    0x4D astores L L L                 => Memory;
-    0x4E astoreb L L L                 => Memory;
-    0x4F astorebit L L L               => Memory;
+    ALOAD L L S                  => Memory;
+    ALOADS L L S                 => Memory;
+    ALOADB L L S                 => Memory;
+    ALOADBIT L L S               => Memory;
+    ASTORE L L L                 => Memory;
+    ASTORES L L L                => Memory;
+    ASTOREB L L L                => Memory;
+    ASTOREBIT L L L              => Memory;
     // The stack
-    0x50 stkcount S                    => Stack;
-    0x51 stkpeek L S                   => Stack;
-    0x52 stkswap                       => Stack;
-    0x53 stkroll L L                   => Stack;
-    0x54 stkcopy L                     => Stack;
+    STKCOUNT S                   => Stack;
+    STKPEEK L S                  => Stack;
+    STKSWAP                      => Stack;
+    STKROLL L L                  => Stack;
+    STKCOPY L                    => Stack;
     // Output
-    0x70 streamchar L                  => Print;
-    0x71 streamnum L                   => Print;
-    0x72 streamstr L                   => Print;
-    0x73 streamunichar L               => Print;
+    STREAMCHAR L                 => Print;
+    STREAMNUM L                  => Print;
+    STREAMSTR L                  => Print;
+    STREAMUNICHAR L              => Print;
     // Miscellaneous, the memory map
-    0x100 gestalt L L S                => Game;
-    0x101 debugtrap L                  => Game;
-    0x102 getmemsize S                 => Memory;
-    0x103 setmemsize L S               => Memory;
-    0x104 jumpabs L                    => Flow;
+    GESTALT L L S                => Game;
+    DEBUGTRAP L                  => Game;
+    GETMEMSIZE S                 => Memory;
+    SETMEMSIZE L S               => Memory;
+    JUMPABS L                    => Flow;
     // Random numbers
-    0x110 random L S                   => Game;
-    0x111 setrandom L                  => Game;
+    RANDOM L S                   => Game;
+    SETRANDOM L                  => Game;
     // Game state
-    0x120 quit                         => Game;
-    0x121 verify S                     => Game;
-    0x122 restart                      => Game;
-    0x123 save L S                     => Game;
-    0x124 restore L S                  => Game;
-    0x125 saveundo S                   => Game;
-    0x126 restoreundo S                => Game;
-    0x127 protect L L                  => Game;
+    QUIT                         => Game;
+    VERIFY S                     => Game;
+    RESTART                      => Game;
+    SAVE L S                     => Game;
+    RESTORE L S                  => Game;
+    SAVEUNDO S                   => Game;
+    RESTOREUNDO S                => Game;
+    PROTECT L L                  => Game;
     // Glk
-    0x130 glk L L S                    => Glk;
+    GLK L L S                    => Glk;
     // String decoding table, iosystem
-    0x140 getstringtbl S               => Game;
-    0x141 setstringtbl L               => Game;
-    0x148 getiosys S S                 => Game;
-    0x149 setiosys L L                 => Game;
+    GETSTRINGTBL S               => Game;
+    SETSTRINGTBL L               => Game;
+    GETIOSYS S S                 => Game;
+    SETIOSYS L L                 => Game;
     // Searching
-    0x150 linearsearch L L L L L L L S => Memory;
-    0x151 binarysearch L L L L L L L S => Memory;
-    0x152 linkedsearch L L L L L L S   => Memory;
+    LINEARSEARCH L L L L L L L S => Memory;
+    BINARYSEARCH L L L L L L L S => Memory;
+    LINKEDSEARCH L L L L L L S   => Memory;
     // Functions
-    0x160 callf L S                    => Flow;
-    0x161 callfi L L S                 => Flow;
-    0x162 callfii L L L S              => Flow;
-    0x163 callfiii L L L L S           => Flow;
+    CALLF L S                    => Flow;
+    CALLFI L L S                 => Flow;
+    CALLFII L L L S              => Flow;
+    CALLFIII L L L L S           => Flow;
     // Block copy and clear
-    0x170 mzero L L                    => Memory;
-    0x171 mcopy L L L                  => Memory;
+    MZERO L L                    => Memory;
+    MCOPY L L L                  => Memory;
     // Memory allocation heap
-    0x178 malloc L S                   => Memory;
-    0x179 mfree L                      => Memory;
+    MALLOC L S                   => Memory;
+    MFREE L                      => Memory;
     // Accelerated functions
-    0x180 accelfunc L L                => Game;
-    0x181 accelparam L L               => Game;
+    ACCELFUNC L L                => Game;
+    ACCELPARAM L L               => Game;
 };
 
 /// The table.
@@ -212,7 +213,7 @@ pub const ROWS: [Row; 87] = rows! {
 pub fn rows() -> &'static [Row; 87]
     ensures table { result.now ≡ table }
     ensures count { length table ≡ 87 }
-    ensures rises { IsTrue (rises (λ row. row.number) result.now) }
+    ensures rising { IsTrue (is_rising (λ row. row.number) result.now) }
     ensures fits { IsTrue (list_all row_fits result.now) }
 {
     &ROWS
@@ -232,7 +233,8 @@ pub fn place_of(number: u32) -> Option<usize>
 #[tactic(auto, unfolding(crate::specs::Table::row_at))]
 pub fn row_at(place: usize) -> &'static Row
     requires { place < 87 }
-    ensures { result.now ≡ row_at place }
+    ensures row { result.now ≡ row_at place }
+    ensures fits { RowFits result.now }
 {
     let rows = rows();
     &rows[place]

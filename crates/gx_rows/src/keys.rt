@@ -4,7 +4,7 @@
 //! has it, and none is found exactly where no row has the key.
 ghost use Rattle.std.specs.Prelude.{◌≡◌, ◌≢◌, ◌==◌, IsTrue, All, MatchOption, find, slice_get};
 ghost use Rattle.std.specs.Option.{option_and_then};
-ghost use Rattle.gx_rows.specs.Keys.{rises, IsOnly};
+ghost use Rattle.gx_rows.specs.Keys.{is_rising, IsOnly};
 
 /// A row that is found by a number of its own.
 pub trait Keyed {
@@ -19,7 +19,7 @@ pub trait Keyed {
 
 /// The place of the row that has a key.
 pub fn find_row<T: Keyed, const N: usize>(rows: &[T; N], key: u32) -> Option<usize>
-    requires { IsTrue (rises T.key_of rows.now) }
+    requires { IsTrue (is_rising T.key_of rows.now) }
     ensures one { MatchOption result (All (λ row. T.key_of row ≢ key) rows.now) (IsOnly T.key_of rows.now key) }
     ensures row { option_and_then (slice_get rows.now) result ≡ find (λ row. T.key_of row == key) rows.now }
 {

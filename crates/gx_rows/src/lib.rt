@@ -1,5 +1,6 @@
 //! The instructions of the machine as a table, and the look-up of a row by its key.
 //!
+//! - `numbers` names the instructions' numbers as the standard does.
 //! - `instructions` has the table: one row for each of the 87 instructions of Glulx 3.1.2 that the
 //!   machine knows, in rising order of number.
 //! - `keys` finds the one row of a key in any table whose keys rise.
@@ -14,23 +15,23 @@
 mod capabilities;
 mod instructions;
 mod keys;
+mod numbers;
 mod opcodes;
 
 pub use capabilities::gestalt;
 pub use instructions::{Class, ROWS, Row, place_of, row_at, rows};
 pub use keys::{Keyed, find_row};
+pub use numbers::{
+    ACCELFUNC, ACCELPARAM, ADD, ALOAD, ALOADB, ALOADBIT, ALOADS, ASTORE, ASTOREB, ASTOREBIT,
+    ASTORES, BINARYSEARCH, BITAND, BITNOT, BITOR, BITXOR, CALL, CALLF, CALLFI, CALLFII, CALLFIII,
+    CATCH, COPY, COPYB, COPYS, DEBUGTRAP, DIV, GESTALT, GETIOSYS, GETMEMSIZE, GETSTRINGTBL, GLK,
+    JEQ, JGE, JGEU, JGT, JGTU, JLE, JLEU, JLT, JLTU, JNE, JNZ, JUMP, JUMPABS, JZ, LINEARSEARCH,
+    LINKEDSEARCH, MALLOC, MCOPY, MFREE, MOD, MUL, MZERO, NEG, NOP, PROTECT, QUIT, RANDOM, RESTART,
+    RESTORE, RESTOREUNDO, RETURN, SAVE, SAVEUNDO, SETIOSYS, SETMEMSIZE, SETRANDOM, SETSTRINGTBL,
+    SEXB, SEXS, SHIFTL, SSHIFTR, STKCOPY, STKCOUNT, STKPEEK, STKROLL, STKSWAP, STREAMCHAR,
+    STREAMNUM, STREAMSTR, STREAMUNICHAR, SUB, TAILCALL, THROW, USHIFTR, VERIFY,
+};
 pub use opcodes::read_opcode;
-
-/// A `match` over the acts of a class: the rows that are named, and what stands for every other act.
-#[macro_export]
-macro_rules! by_row {
-    ($act:expr; $($($number:literal)|+ => $body:expr),+ $(,)?; else $other:expr) => {
-        match $act {
-            $($($number)|+ => $body,)+
-            _ => $other,
-        }
-    };
-}
 
 #[cfg(test)]
 mod tests;

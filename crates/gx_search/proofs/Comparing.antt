@@ -1,16 +1,15 @@
 -- One byte of two keys that are compared.
-use Rattle.std.proofs.Common.{◌≡◌, inl, inr, ◌==◌, ◌||◌, ◌≤◌, ◌<◌, ◌+◌, ℕ, true, List, length, get_or, drop, refl, sym, ◌∙◌, arith}
-use Rattle.std.specs.Ordering.{nat_cmp, is_eq}
+use Rattle.std.proofs.Common.{◌≡◌, ◌≢◌, inl, inr, ◌==◌, ◌||◌, ◌≤◌, ◌<◌, ◌+◌, ℕ, true, List, length, get_or, drop, refl, sym, ◌∙◌, arith}
+use Rattle.std.specs.Ordering.{nat_cmp, is_eq, ordering_then}
 use Rattle.std.specs.Str.{bytes_eq}
 use Rattle.std.proofs.lemmas.Map.Text.{is_eq-slice_cmp}
 use Rattle.std.specs.declared.cmp.Ordering.{Ordering}
-use Rattle.std.specs.declared.cmp.Ordering.TheVariants.{Less, Equal, Greater}
 use Rattle.std.specs.Cmp.Lexicographic.{slice_cmp}
 use Rattle.std.proofs.lemmas.List.{length-take, length-drop, drop_more}
 use Rattle.std.proofs.lemmas.Bool.{or_cases, and_parts, both_ways, not-true, cond_both, eqb-true, leb-true}
 use Rattle.gx_words.specs.Numbers.{bytes_of_number}
 use Rattle.gx_search.specs.declared.asks.Ask.{Ask}
-use Rattle.gx_search.specs.Keys.{is_indirect, has_size, is_there, bytes_at, sought, key_place, stored, can_probe}
+use Rattle.gx_search.specs.Keys.{is_indirect, has_size, is_there, bytes_at, sought, key_address, key_at, can_probe}
 use Rattle.std.proofs.lemmas.Bool.Decides.{nat_tests}
 
 -- ---- the bytes of a key
@@ -39,43 +38,32 @@ sought_length m q at there sized =
       | inr width ↦ length_number q.key_size q.key width
     ])
 
-pub stored_length : (m : List ℕ) (q : Ask) (at : ℕ) → can_probe m q at ≡ true → length (stored m q at) ≡ q.key_size
-stored_length m q at there = length_bytes m (key_place q at) q.key_size (and_parts _ _ there).1
+pub key_length : (m : List ℕ) (q : Ask) (at : ℕ) → can_probe m q at ≡ true → length (key_at m q at) ≡ q.key_size
+key_length m q at there = length_bytes m (key_address q at) q.key_size (and_parts _ _ there).1
 
 -- ---- the order
 
-cmp_less : (x y : ℕ) → x < y → nat_cmp x y ≡ Less
-cmp_less x y h = grind (arith, nat_tests)
+then_apart : (x y : ℕ) (o : Ordering) → x ≢ y → ordering_then (nat_cmp x y) o ≡ nat_cmp x y
+then_apart x y o apart = grind (arith, nat_tests)
 
-cmp_greater : (x y : ℕ) → y < x → nat_cmp x y ≡ Greater
-cmp_greater x y h = grind (arith, nat_tests)
+then_same : (x y : ℕ) (o : Ordering) → x ≡ y → ordering_then (nat_cmp x y) o ≡ o
+then_same x y o same = grind (arith, nat_tests)
 
-cmp_equal : (x y : ℕ) → x ≡ y → nat_cmp x y ≡ Equal
-cmp_equal x y h = grind (arith, nat_tests)
-
-pub byte_less : (xs ys : List ℕ) (i : ℕ) (o : Ordering) → i < length xs → i < length ys → get_or xs i 0 < get_or ys i 0 → slice_cmp nat_cmp (drop i xs) (drop i ys) ≡ o → Less ≡ o
-byte_less xs ys i o h k less same =
+pub bytes_apart : (xs ys : List ℕ) (i : ℕ) (o : Ordering) → i < length xs → i < length ys → get_or xs i 0 ≢ get_or ys i 0
+    → slice_cmp nat_cmp (drop i xs) (drop i ys) ≡ o → nat_cmp (get_or xs i 0) (get_or ys i 0) ≡ o
+bytes_apart xs ys i o h k apart whole =
     let first = drop_more xs i 0 h in
     let second = drop_more ys i 0 k in
-    let test = cmp_less _ _ less in
-    let here : slice_cmp nat_cmp (drop i xs) (drop i ys) ≡ Less = rw (first, second, test) refl in
-    sym here ∙ same
+    let here : slice_cmp nat_cmp (drop i xs) (drop i ys) ≡ nat_cmp (get_or xs i 0) (get_or ys i 0) = rw (first, second) (then_apart _ _ _ apart) in
+    sym here ∙ whole
 
-pub byte_greater : (xs ys : List ℕ) (i : ℕ) (o : Ordering) → i < length xs → i < length ys → get_or ys i 0 < get_or xs i 0 → slice_cmp nat_cmp (drop i xs) (drop i ys) ≡ o → Greater ≡ o
-byte_greater xs ys i o h k greater same =
+pub bytes_same : (xs ys : List ℕ) (i : ℕ) (o : Ordering) → i < length xs → i < length ys → get_or xs i 0 ≡ get_or ys i 0
+    → slice_cmp nat_cmp (drop i xs) (drop i ys) ≡ o → slice_cmp nat_cmp (drop (i + 1) xs) (drop (i + 1) ys) ≡ o
+bytes_same xs ys i o h k same whole =
     let first = drop_more xs i 0 h in
     let second = drop_more ys i 0 k in
-    let test = cmp_greater _ _ greater in
-    let here : slice_cmp nat_cmp (drop i xs) (drop i ys) ≡ Greater = rw (first, second, test) refl in
-    sym here ∙ same
-
-pub byte_equal : (xs ys : List ℕ) (i : ℕ) (o : Ordering) → i < length xs → i < length ys → get_or xs i 0 ≡ get_or ys i 0 → slice_cmp nat_cmp (drop i xs) (drop i ys) ≡ o → slice_cmp nat_cmp (drop (i + 1) xs) (drop (i + 1) ys) ≡ o
-byte_equal xs ys i o h k equal same =
-    let first = drop_more xs i 0 h in
-    let second = drop_more ys i 0 k in
-    let test = cmp_equal _ _ equal in
-    let here : slice_cmp nat_cmp (drop i xs) (drop i ys) ≡ slice_cmp nat_cmp (drop (i + 1) xs) (drop (i + 1) ys) = rw (first, second, test) refl in
-    sym here ∙ same
+    let here : slice_cmp nat_cmp (drop i xs) (drop i ys) ≡ slice_cmp nat_cmp (drop (i + 1) xs) (drop (i + 1) ys) = rw (first, second) (then_same _ _ _ same) in
+    sym here ∙ whole
 
 -- the order tells equal keys from others
 pub equal_is : (xs ys : List ℕ) → is_eq (slice_cmp nat_cmp xs ys) ≡ bytes_eq xs ys

@@ -1,6 +1,4 @@
 pub mod Comparing
-pub mod Steps
+pub mod Within
+pub mod Finding
 pub mod Halvings
-pub mod Laws
-pub mod RowLaws
-pub mod Counts

@@ -9,16 +9,21 @@ use Rattle.gx_words.specs.declared.faults.Fault.{Fault}
 use Rattle.gx_words.specs.declared.faults.Fault.TheVariants.{BadAddress}
 use Rattle.gx_words.specs.Numbers.{bytes_of_number}
 use Rattle.gx_search.specs.declared.asks.Ask.{Ask}
+use Rattle.gx_search.specs.declared.asks.TheConstants.{KEY_INDIRECT, ZERO_KEY_TERMINATES}
 use Rattle.gx_search.specs.declared.keys.Seen.{Seen}
 use Rattle.gx_search.specs.declared.keys.Seen.TheVariants.{Match, Zero, Other}
 
--- KeyIndirect: the key is the bytes at an address
-abbrev pub is_indirect : Ask → Bool
-is_indirect ask = ask.options % 2 == 1
+-- an option, which is a power of two, is in the sum of options
+abbrev pub has_option : Ask → ℕ → Bool
+has_option ask option = ask.options / option % 2 == 1
 
--- ZeroKeyTerminates: a key of zeros ends the search
+-- the key is the bytes at an address
+abbrev pub is_indirect : Ask → Bool
+is_indirect ask = has_option ask KEY_INDIRECT
+
+-- a key of zeros ends the search
 abbrev pub stops_at_zero : Ask → Bool
-stops_at_zero ask = ask.options / 2 % 2 == 1
+stops_at_zero ask = has_option ask ZERO_KEY_TERMINATES
 
 -- a key that isn't at an address has 1, 2 or 4 bytes
 abbrev pub has_size : Ask → Bool
@@ -37,16 +42,16 @@ sought memory ask =
     if is_indirect ask then bytes_at memory ask.key ask.key_size else bytes_of_number ask.key_size ask.key
 
 -- the address of the key of the struct at an address, and its bytes
-abbrev pub key_place : Ask → ℕ → ℕ
-key_place ask at = (at + ask.key_offset) % 2 ^ 32
+abbrev pub key_address : Ask → ℕ → ℕ
+key_address ask at = (at + ask.key_offset) % 2 ^ 32
 
-abbrev pub stored : List ℕ → Ask → ℕ → List ℕ
-stored memory ask at = bytes_at memory (key_place ask at) ask.key_size
+abbrev pub key_at : List ℕ → Ask → ℕ → List ℕ
+key_at memory ask at = bytes_at memory (key_address ask at) ask.key_size
 
 -- all bytes that a probe of the struct at an address looks at are in memory
 abbrev pub can_probe : List ℕ → Ask → ℕ → Bool
 can_probe memory ask at =
-    (not (is_indirect ask) || is_there memory ask.key ask.key_size) && is_there memory (key_place ask at) ask.key_size
+    (not (is_indirect ask) || is_there memory ask.key ask.key_size) && is_there memory (key_address ask at) ask.key_size
 
 -- what a probe sees of a key: a match counts first
 abbrev pub seen : Ask → List ℕ → List ℕ → Seen
@@ -58,9 +63,9 @@ seen ask key there =
 -- the probe of the struct at an address
 unfoldable pub probe : List ℕ → Ask → ℕ → Result Seen Fault
 probe memory ask at =
-    if can_probe memory ask at then Ok (seen ask (sought memory ask) (stored memory ask at)) else Err BadAddress
+    if can_probe memory ask at then Ok (seen ask (sought memory ask) (key_at memory ask at)) else Err BadAddress
 
 -- the same for an order of keys, which is that of their first bytes that differ, read as unsigned
 unfoldable pub compared : List ℕ → Ask → ℕ → Result Ordering Fault
 compared memory ask at =
-    if can_probe memory ask at then Ok (slice_cmp nat_cmp (sought memory ask) (stored memory ask at)) else Err BadAddress
+    if can_probe memory ask at then Ok (slice_cmp nat_cmp (sought memory ask) (key_at memory ask at)) else Err BadAddress

@@ -1,6 +1,6 @@
--- The searches that look at one struct after another: linearsearch and linkedsearch (Glulx 3.1.2,
--- "Searching"), and what it means that something was found.
-use Rattle.std.specs.Prelude.{◌≡◌, ◌≢◌, ◌⊎◌, ℕ, zero, suc, ◌+◌, ◌*◌, ◌%◌, ◌^◌, ◌<◌, ◌≤◌, Bool, not, ◌==◌, ◌&&◌, nat_le, if◌then◌else◌, List, Option, Some, None, is_none, Result, Ok, Err}
+-- A search as a whole, and those that look at one struct after another: linearsearch and linkedsearch
+-- (Glulx 3.1.2, "Searching"), with what it means that something was found.
+use Rattle.std.specs.Prelude.{◌≡◌, ◌⊎◌, ℕ, zero, suc, ◌+◌, ◌%◌, ◌^◌, ◌<◌, ◌≤◌, Bool, not, ◌==◌, ◌&&◌, nat_lt, nat_le, if◌then◌else◌, List, Option, Some, None, Result, Ok, Err}
 use Rattle.gx_words.specs.declared.faults.Fault.{Fault}
 use Rattle.gx_words.specs.declared.faults.Fault.TheVariants.{BadMode}
 use Rattle.gx_words.specs.Results.{◌>>=◌}
@@ -10,127 +10,112 @@ use Rattle.gx_search.specs.declared.asks.Found.{Found}
 use Rattle.gx_search.specs.declared.asks.Found.TheVariants.{At, Nothing, More}
 use Rattle.gx_search.specs.declared.keys.Seen.{Seen}
 use Rattle.gx_search.specs.declared.keys.Seen.TheVariants.{Match, Zero, Other}
+use Rattle.gx_search.specs.declared.turns.Layout.{Layout}
+use Rattle.gx_search.specs.declared.turns.Layout.TheVariants as layout
 use Rattle.gx_search.specs.Keys.{has_size, probe}
 
--- The structs of a search by their indices: the address of each, and None past the last of them.
-abbrev pub Structs : Type 0
-Structs = ℕ → Result (Option ℕ) Fault
+-- A SEARCH AS A WHOLE
 
--- the struct of an index in a row
-abbrev pub struct_at : Ask → ℕ → ℕ
-struct_at ask i = (ask.start + i * ask.struct_size) % 2 ^ 32
+-- a struct that is found: its address, and its index modulo 2^32
+pub record Struct : Type 0 where
+  pub address : ℕ
+  pub index : ℕ
 
--- a row has `count` structs, and no end where that is FFFFFFFF
-abbrev pub is_past : Ask → ℕ → Bool
-is_past ask i = not (ask.count == 0xFFFFFFFF) && nat_le ask.count i
+-- What a search comes to: a struct, none or a fault; and how many probes it begins, of which one may meet the fault.
+pub record Search : Type 0 where
+  pub outcome : Result (Option Struct) Fault
+  pub probes : ℕ
 
-abbrev pub in_row : Ask → Structs
-in_row ask i = Ok (if is_past ask i then None else Some (struct_at ask i))
+abbrev pub no_probe : Result (Option Struct) Fault → Search
+no_probe outcome = record { outcome = outcome; probes = 0 }
 
--- the address to which so many links lead from the start; each is a word of the struct before it
-unfoldable pub link_at : List ℕ → Ask → ℕ → Result ℕ Fault
-link_at memory ask zero = Ok ask.start
-link_at memory ask (suc i) = do
-  at ← link_at memory ask i
-  number_in 4 memory ((at + ask.next_offset) % 2 ^ 32)
+-- one probe begins, and the rest follows
+abbrev pub with_probe : Search → Search
+with_probe rest = record rest { probes = rest.probes + 1 }
 
--- address 0 ends a list
-unfoldable pub in_list : List ℕ → Ask → Structs
-in_list memory ask i = do
-  at ← link_at memory ask i
-  Ok (if at == 0 then None else Some at)
+-- What a call answers that may begin so many probes: More exactly where the search begins more.
+abbrev pub found_by : ℕ → Option Struct → Found
+found_by probes None = Nothing probes
+found_by probes (Some s) = At s.address s.index probes
 
--- what the probe of an index makes of the search; `rest` is what the structs after it give
-abbrev pub after_probe : ℕ → ℕ → Result Found Fault → Seen → Result Found Fault
-after_probe at i rest Match = Ok (At at (i % 2 ^ 32) (i + 1))
-after_probe at i rest Zero = Ok (Nothing (i + 1))
-after_probe at i rest Other = rest
+unfoldable pub found_within : ℕ → Search → Result Found Fault
+found_within bound whole =
+    if nat_lt bound whole.probes then Ok More else (do
+      found ← whole.outcome
+      Ok (found_by whole.probes found))
+
+-- ONE STRUCT AFTER ANOTHER
+
+-- the address after that of a struct: a row has the next struct there, and in a list a struct holds it
+unfoldable pub next_of : Layout → List ℕ → Ask → ℕ → Result ℕ Fault
+next_of layout.Row memory ask at = Ok ((at + ask.struct_size) % 2 ^ 32)
+next_of layout.List memory ask at = number_in 4 memory ((at + ask.next_offset) % 2 ^ 32)
+
+-- the address of an index, to which so many steps lead from the start
+unfoldable pub address_of : Layout → List ℕ → Ask → ℕ → Result ℕ Fault
+address_of l memory ask zero = Ok ask.start
+address_of l memory ask (suc i) = do
+  at ← address_of l memory ask i
+  next_of l memory ask at
+
+-- a row has `count` structs, and no end where that is FFFFFFFF; address 0 ends a list
+unfoldable pub is_past : Layout → Ask → ℕ → ℕ → Bool
+is_past layout.Row ask i at = not (ask.count == 0xFFFFFFFF) && nat_le ask.count i
+is_past layout.List ask i at = at == 0
+
+-- the address of the struct of an index; None past the last
+unfoldable pub place_of : Layout → List ℕ → Ask → ℕ → Result (Option ℕ) Fault
+place_of l memory ask i = do
+  at ← address_of l memory ask i
+  Ok (if is_past l ask i at then None else Some at)
+
+-- what the probe of an index makes of the search; `rest` is the search of the structs after it
+abbrev pub after_probe : ℕ → ℕ → Search → Result Seen Fault → Search
+after_probe i at rest (Ok Match) = no_probe (Ok (Some (record { address = at; index = i % 2 ^ 32 })))
+after_probe i at rest (Ok Zero) = no_probe (Ok None)
+after_probe i at rest (Ok Other) = rest
+after_probe i at rest (Err e) = no_probe (Err e)
 
 -- the same for the struct of the index, which has to be there to be probed
-abbrev pub at_struct : List ℕ → Ask → ℕ → Result Found Fault → Option ℕ → Result Found Fault
-at_struct memory ask i rest None = Ok (Nothing i)
-at_struct memory ask i rest (Some at) = do
-  what ← probe memory ask at
-  after_probe at i rest what
+abbrev pub at_struct : List ℕ → Ask → ℕ → Search → Result (Option ℕ) Fault → Search
+at_struct memory ask i rest (Ok None) = no_probe (Ok None)
+at_struct memory ask i rest (Ok (Some at)) = with_probe (after_probe i at rest (probe memory ask at))
+at_struct memory ask i rest (Err e) = no_probe (Err e)
 
--- the search from an index on, with so many probes left
-unfoldable pub search_from : Structs → List ℕ → Ask → ℕ → ℕ → Result Found Fault
-search_from structs memory ask zero i = do
-  place ← structs i
-  Ok (if is_none place then Nothing i else More)
-search_from structs memory ask (suc left) i = do
-  place ← structs i
-  at_struct memory ask i (search_from structs memory ask left (i + 1)) place
+-- the search through so many structs, from an index on
+unfoldable pub search_from : Layout → List ℕ → Ask → ℕ → ℕ → Search
+search_from l memory ask zero i = no_probe (Ok None)
+search_from l memory ask (suc left) i = at_struct memory ask i (search_from l memory ask left (i + 1)) (place_of l memory ask i)
 
--- the probe of an index, and those after it where the search goes on; one that meets a fault counts
-abbrev pub begun_with : ℕ → Result Seen Fault → ℕ
-begun_with rest (Ok Match) = 1
-begun_with rest (Ok Zero) = 1
-begun_with rest (Ok Other) = rest + 1
-begun_with rest (Err e) = 1
+-- A search without an end begins 2^64 probes, more than any call may.
+abbrev pub search_of : Layout → List ℕ → Ask → Search
+search_of l memory ask = if has_size ask then search_from l memory ask (2 ^ 64) 0 else no_probe (Err BadMode)
 
--- no probe begins where there is no struct, or where the links to it meet a fault
-abbrev pub begun_at : List ℕ → Ask → ℕ → Result (Option ℕ) Fault → ℕ
-begun_at memory ask rest (Ok None) = 0
-begun_at memory ask rest (Ok (Some at)) = begun_with rest (probe memory ask at)
-begun_at memory ask rest (Err e) = 0
+unfoldable pub linear : List ℕ → Ask → Search
+linear memory ask = search_of layout.Row memory ask
 
--- how many probes the search begins from an index on; of those after so many, only the first counts
-unfoldable pub begun_from : Structs → List ℕ → Ask → ℕ → ℕ → ℕ
-begun_from structs memory ask zero i = begun_at memory ask 0 (structs i)
-begun_from structs memory ask (suc left) i = begun_at memory ask (begun_from structs memory ask left (i + 1)) (structs i)
+unfoldable pub linked : List ℕ → Ask → Search
+linked memory ask = search_of layout.List memory ask
 
--- linearsearch, with so many probes at most
-unfoldable pub linear : List ℕ → Ask → ℕ → Result Found Fault
-linear memory ask bound = if has_size ask then search_from (in_row ask) memory ask bound 0 else Err BadMode
-
--- linkedsearch, with so many probes at most
-unfoldable pub linked : List ℕ → Ask → ℕ → Result Found Fault
-linked memory ask bound = if has_size ask then search_from (in_list memory ask) memory ask bound 0 else Err BadMode
-
--- How many probes linearsearch and linkedsearch begin. A search without end begins more than 2 ^ 64.
-unfoldable pub linear_begun : List ℕ → Ask → ℕ
-linear_begun memory ask = if has_size ask then begun_from (in_row ask) memory ask (2 ^ 64) 0 else 0
-
-unfoldable pub linked_begun : List ℕ → Ask → ℕ
-linked_begun memory ask = if has_size ask then begun_from (in_list memory ask) memory ask (2 ^ 64) 0 else 0
+-- WHAT WAS FOUND
 
 -- the struct of an index is at an address, and its probe sees this
-abbrev pub Sees : Structs → List ℕ → Ask → ℕ → ℕ → Seen → Type 0
-Sees structs memory ask i at what = (structs i ≡ Ok (Some at)) × (probe memory ask at ≡ Ok what)
+abbrev pub IsSeen : Layout → List ℕ → Ask → ℕ → ℕ → Seen → Type 0
+IsSeen l memory ask i at what = (place_of l memory ask i ≡ Ok (Some at)) × (probe memory ask at ≡ Ok what)
 
 -- each probe below an index has no fault, and sees neither the key nor zeros that end the search
-abbrev pub PassedBelow : Structs → List ℕ → Ask → ℕ → Type 0
-PassedBelow structs memory ask n = (k : ℕ) → k < n → (at : ℕ) × Sees structs memory ask k at Other
+unfoldable pub ArePassed : Layout → List ℕ → Ask → ℕ → Type 0
+ArePassed l memory ask n = (k : ℕ) → k < n → (at : ℕ) × IsSeen l memory ask k at Other
 
 -- What a search found: the least index at which something ends it. A match counts first, then
 -- zeros; with nothing, they end it or there is no struct at the index; with `More`, no index below
 -- the bound ends it; and a fault is that of the index's struct or of its probe.
-unfoldable pub IsFound : Structs → List ℕ → Ask → ℕ → Result Found Fault → Type 0
-IsFound structs memory ask bound (Ok (At address index probes)) =
-    (i : ℕ) × PassedBelow structs memory ask i × Sees structs memory ask i address Match × (index ≡ i % 2 ^ 32) × (probes ≡ i + 1) × (probes ≤ bound)
-IsFound structs memory ask bound (Ok (Nothing probes)) =
-    ((PassedBelow structs memory ask probes × (structs probes ≡ Ok None)) ⊎ ((i : ℕ) × (at : ℕ) × PassedBelow structs memory ask i × Sees structs memory ask i at Zero × (probes ≡ i + 1))) × (probes ≤ bound)
-IsFound structs memory ask bound (Ok More) =
-    (at : ℕ) × PassedBelow structs memory ask bound × (structs bound ≡ Ok (Some at))
-IsFound structs memory ask bound (Err e) =
-    (i : ℕ) × PassedBelow structs memory ask i × (i ≤ bound) × ((structs i ≡ Err e) ⊎ ((at : ℕ) × (structs i ≡ Ok (Some at)) × (probe memory ask at ≡ Err e) × (i < bound)))
-
--- a search that ended made no more probes than the bound, and one at least where it found a struct
-abbrev pub IsWithin : ℕ → Result Found Fault → Type 0
-IsWithin bound (Ok (At address index probes)) = (1 ≤ probes) × (probes ≤ bound)
-IsWithin bound (Ok (Nothing probes)) = probes ≤ bound
-IsWithin bound (Ok More) = Unit {0}
-IsWithin bound (Err e) = Unit {0}
-
--- a search that ended answers the same with any larger bound
-unfoldable pub IsSettled : (ℕ → Result Found Fault) → ℕ → Result Found Fault → Type 0
-IsSettled search bound result = result ≢ Ok More → (more : ℕ) → bound ≤ more → search more ≡ result
-
--- The answer of a search that begins so many probes, with a bound, beside its answer with a bound of
--- 2 ^ 64: it is More exactly where the bound is below the probes, and else the same answer.
-abbrev pub IsCounted : ℕ → Result Found Fault → ℕ → Result Found Fault → Type 0
-IsCounted begun whole bound (Ok (At address index probes)) = (begun ≤ bound) × (probes ≡ begun) × (whole ≡ Ok (At address index probes))
-IsCounted begun whole bound (Ok (Nothing probes)) = (begun ≤ bound) × (probes ≡ begun) × (whole ≡ Ok (Nothing probes))
-IsCounted begun whole bound (Ok More) = bound < begun
-IsCounted begun whole bound (Err e) = (begun ≤ bound) × (whole ≡ Err e)
+unfoldable pub IsFound : Layout → List ℕ → Ask → ℕ → Result Found Fault → Type 0
+IsFound l memory ask bound (Ok (At address index probes)) =
+    (i : ℕ) × ArePassed l memory ask i × IsSeen l memory ask i address Match × (index ≡ i % 2 ^ 32) × (probes ≡ i + 1) × (i < bound)
+IsFound l memory ask bound (Ok (Nothing probes)) =
+    (ArePassed l memory ask probes × (place_of l memory ask probes ≡ Ok None) × (probes ≤ bound)) ⊎ ((i : ℕ) × (at : ℕ) × ArePassed l memory ask i × IsSeen l memory ask i at Zero × (probes ≡ i + 1) × (i < bound))
+IsFound l memory ask bound (Ok More) =
+    (at : ℕ) × ArePassed l memory ask bound × (place_of l memory ask bound ≡ Ok (Some at))
+IsFound l memory ask bound (Err e) =
+    (i : ℕ) × ArePassed l memory ask i × (((place_of l memory ask i ≡ Err e) × (i ≤ bound)) ⊎ ((at : ℕ) × (place_of l memory ask i ≡ Ok (Some at)) × (probe memory ask at ≡ Err e) × (i < bound)))

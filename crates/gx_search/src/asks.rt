@@ -1,10 +1,16 @@
 //! What is asked of a search, and its answer.
 
+/// The option that `key` is the key's address (KeyIndirect).
+pub const KEY_INDIRECT: u32 = 1;
+/// The option that an all-zero key ends the search (ZeroKeyTerminates).
+pub const ZERO_KEY_TERMINATES: u32 = 2;
+/// The option that the instruction's result is an index (ReturnIndex). An answer has both the
+/// address and the index.
+pub const RETURN_INDEX: u32 = 4;
+
 /// The operands of a search. A list has no `struct_size` and no `count`, a row no `next_offset`.
 ///
-/// `options` is a sum of 1, where `key` is the key's address (KeyIndirect), and 2, where an all-zero
-/// key ends the search (ZeroKeyTerminates). All other bits are ignored, also 4 (ReturnIndex): an
-/// answer has both the address and the index.
+/// `options` is a sum of options; all other bits are ignored.
 #[derive(Clone, Copy, Debug, PartialEq, Eq)]
 pub struct Ask {
     pub key: u32,
@@ -15,6 +21,19 @@ pub struct Ask {
     pub key_offset: u32,
     pub next_offset: u32,
     pub options: u32,
+}
+
+impl Ask {
+    ghost use Rattle.std.specs.Prelude.{◌≡◌, ◌<◌};
+    ghost use Rattle.gx_search.specs.Keys.{has_option};
+
+    /// Whether an option is set.
+    pub fn has(&self, option: u32) -> bool
+        requires { 0 < option }
+        ensures { result ≡ has_option self.now option }
+    {
+        self.options / option % 2 == 1
+    }
 }
 
 /// What a search answers. `probes` counts the comparisons that it made.

@@ -1,9 +1,9 @@
 //! The search of a row of rising keys, which halves it each time.
-ghost use Rattle.std.specs.Prelude.{◌≡◌, ◌≢◌, ◌≤◌, ◌^◌, IsTrue, Ok};
-ghost use Rattle.gx_words.specs.Faults.{TakesNone};
+ghost use Rattle.std.specs.Prelude.{◌≡◌, ◌≢◌, ◌≤◌, IsTrue, Ok};
+ghost use Rattle.gx_words.specs.Faults.{Reads};
 ghost use Rattle.gx_search.specs.Keys.{has_size};
-ghost use Rattle.gx_search.specs.Searches.{struct_at, IsWithin, IsSettled, IsCounted};
-ghost use Rattle.gx_search.specs.Halving.{has_all_keys, middle, halving, binary, binary_begun, IsFoundInRow};
+ghost use Rattle.gx_search.specs.Searches.{found_within};
+ghost use Rattle.gx_search.specs.Halving.{has_all_keys, struct_at, middle, halving, binary, IsFoundInRow};
 ghost use Rattle.gx_search.specs.declared.asks.Found.TheVariants.{More};
 
 use crate::keys::{compared, has_size};
@@ -39,43 +39,40 @@ fn middle(low: u32, high: u32) -> u32
     low + (high - low) / 2
 }
 
-/// Looks at the middle of what is left of the first `count` structs.
+/// Looks at the middle of what is left of the row.
 #[tactic(auto, using(crate::proofs::Halvings::halvings))]
-fn halving<A: Allocator + Clone>(
+fn search_half<A: Allocator + Clone>(
     memory: &Pages<A>,
     ask: &Ask,
-    count: u32,
     bound: u64,
 ) -> Result<Found, Fault>
     requires { IsTrue (has_size ask.now) }
-    ensures value { result ≡ halving memory.now ask.now bound 0 0 count }
-    ensures memory { TakesNone result }
+    ensures value { Reads (λ found. found) result (found_within bound (halving memory.now ask.now ask.now.count 0 ask.now.count)) }
+    ensures found { IsFoundInRow memory.now ask.now result }
+    ensures enough { 32 ≤ bound → result ≢ Ok More }
 {
     let mut low = 0;
-    let mut high = count;
-    for made in 0..bound {
-        if low >= high {
-            return Ok(Found::Nothing { probes: made });
+    let mut high = ask.count;
+    let mut made = 0;
+    while low < high {
+        if made == bound {
+            return Ok(Found::More);
         }
         let index = middle(low, high);
-        match compared(memory, ask, struct_at(ask, index)) {
-            Ok(Ordering::Less) => high = index,
-            Ok(Ordering::Equal) => {
+        match compared(memory, ask, struct_at(ask, index))? {
+            Ordering::Less => high = index,
+            Ordering::Equal => {
                 return Ok(Found::At {
                     address: struct_at(ask, index),
                     index,
                     probes: made + 1,
                 });
             }
-            Ok(Ordering::Greater) => low = index + 1,
-            Err(fault) => return Err(fault),
+            Ordering::Greater => low = index + 1,
         }
+        made += 1;
     }
-    if low < high {
-        Ok(Found::More)
-    } else {
-        Ok(Found::Nothing { probes: bound })
-    }
+    Ok(Found::Nothing { probes: made })
 }
 
 /// The instruction binarysearch: a struct with the key, where the keys rise; `BadMode` for a key
@@ -83,19 +80,15 @@ fn halving<A: Allocator + Clone>(
 /// the key, are in memory.
 ///
 /// It is `More` exactly where more than `bound` probes would begin.
-#[tactic(auto, unfolding(crate::specs::Halving::binary, crate::specs::Halving::binary_begun, crate::specs::Halving::IsFoundInRow, crate::specs::Searches::IsSettled), using(crate::proofs::RowLaws::row_laws))]
+#[tactic(auto, unfolding(crate::specs::Halving::binary, crate::specs::Halving::IsFoundInRow, crate::specs::Searches::found_within))]
 pub fn binary<A: Allocator + Clone>(
     memory: &Pages<A>,
     ask: &Ask,
     bound: u64,
 ) -> Result<Found, Fault>
-    ensures value { result ≡ binary memory.now ask.now bound }
+    ensures value { Reads (λ found. found) result (found_within bound (binary memory.now ask.now)) }
     ensures found { IsFoundInRow memory.now ask.now result }
     ensures enough { 32 ≤ bound → result ≢ Ok More }
-    ensures within { IsWithin bound result }
-    ensures settled { IsSettled (binary memory.now ask.now) bound result }
-    ensures counted { IsCounted (binary_begun memory.now ask.now) (binary memory.now ask.now (2 ^ 64)) bound result }
-    ensures memory { TakesNone result }
 {
     if !has_size(ask) {
         return Err(Fault::BadMode);
@@ -103,5 +96,5 @@ pub fn binary<A: Allocator + Clone>(
     if !has_all_keys(memory, ask) {
         return Err(Fault::BadAddress);
     }
-    halving(memory, ask, ask.count, bound)
+    search_half(memory, ask, bound)
 }

@@ -6,11 +6,11 @@ ghost use Rattle.std.specs.List.{list_all};
 ghost use Rattle.std.specs.Str.{bytes_eq};
 ghost use Rattle.std.specs.Ordering.{nat_cmp};
 ghost use Rattle.std.specs.Cmp.Lexicographic.{slice_cmp};
-ghost use Rattle.gx_words.specs.Faults.{TakesNone};
+ghost use Rattle.gx_words.specs.Faults.{Reads};
 ghost use Rattle.gx_words.specs.Numbers.{byte};
-ghost use Rattle.gx_search.specs.Keys.{is_indirect, stops_at_zero, has_size, is_there, sought, stored, can_probe, probe, compared};
+ghost use Rattle.gx_search.specs.Keys.{is_indirect, stops_at_zero, has_size, is_there, sought, key_at, can_probe, probe, compared};
 
-use crate::Ask;
+use crate::{Ask, KEY_INDIRECT, ZERO_KEY_TERMINATES};
 use gx_pages::Pages;
 use gx_words::{Fault, word_bytes};
 use std::alloc::Allocator;
@@ -31,14 +31,14 @@ pub enum Seen {
 fn is_indirect(ask: &Ask) -> bool
     ensures { result ≡ is_indirect ask.now }
 {
-    ask.options % 2 == 1
+    ask.has(KEY_INDIRECT)
 }
 
 /// Whether zeros end the search.
 fn stops_at_zero(ask: &Ask) -> bool
     ensures { result ≡ stops_at_zero ask.now }
 {
-    ask.options / 2 % 2 == 1
+    ask.has(ZERO_KEY_TERMINATES)
 }
 
 /// Whether the key has a size that it may have.
@@ -68,7 +68,7 @@ fn byte_after<A: Allocator + Clone>(memory: &Pages<A>, at: u32, i: u32) -> u32
     requires { at + i < length memory.now }
     ensures { result ≡ byte memory.now (at + i) }
 {
-    let _size = memory.size();
+    let _size = memory.size(); // memory ends below 2^32
     memory.byte(at + i)
 }
 
@@ -87,10 +87,10 @@ fn sought_byte<A: Allocator + Clone>(memory: &Pages<A>, ask: &Ask, at: u32, i: u
 }
 
 /// A byte of the key of a struct.
-fn stored_byte<A: Allocator + Clone>(memory: &Pages<A>, ask: &Ask, at: u32, i: u32) -> u32
+fn key_byte<A: Allocator + Clone>(memory: &Pages<A>, ask: &Ask, at: u32, i: u32) -> u32
     requires there { IsTrue (can_probe memory.now ask.now at) }
     requires inside { i < ask.now.key_size }
-    ensures { result ≡ slice_index (stored memory.now ask.now at) i }
+    ensures { result ≡ slice_index (key_at memory.now ask.now at) i }
 {
     byte_after(memory, at.wrapping_add(ask.key_offset), i)
 }
@@ -99,16 +99,13 @@ fn stored_byte<A: Allocator + Clone>(memory: &Pages<A>, ask: &Ask, at: u32, i: u
 fn order<A: Allocator + Clone>(memory: &Pages<A>, ask: &Ask, at: u32) -> Ordering
     requires there { IsTrue (can_probe memory.now ask.now at) }
     requires sized { IsTrue (has_size ask.now) }
-    ensures { result ≡ slice_cmp nat_cmp (sought memory.now ask.now) (stored memory.now ask.now at) }
+    ensures { result ≡ slice_cmp nat_cmp (sought memory.now ask.now) (key_at memory.now ask.now at) }
 {
     for i in 0..ask.key_size {
         let key = sought_byte(memory, ask, at, i);
-        let there = stored_byte(memory, ask, at, i);
-        if key < there {
-            return Ordering::Less;
-        }
-        if key > there {
-            return Ordering::Greater;
+        let there = key_byte(memory, ask, at, i);
+        if key != there {
+            return key.cmp(&there);
         }
     }
     Ordering::Equal
@@ -119,7 +116,7 @@ fn order<A: Allocator + Clone>(memory: &Pages<A>, ask: &Ask, at: u32) -> Orderin
 fn is_match<A: Allocator + Clone>(memory: &Pages<A>, ask: &Ask, at: u32) -> bool
     requires there { IsTrue (can_probe memory.now ask.now at) }
     requires sized { IsTrue (has_size ask.now) }
-    ensures { result ≡ bytes_eq (sought memory.now ask.now) (stored memory.now ask.now at) }
+    ensures { result ≡ bytes_eq (sought memory.now ask.now) (key_at memory.now ask.now at) }
 {
     order(memory, ask, at).is_eq()
 }
@@ -127,10 +124,10 @@ fn is_match<A: Allocator + Clone>(memory: &Pages<A>, ask: &Ask, at: u32) -> bool
 /// Whether the key of a struct is zeros.
 fn is_zero<A: Allocator + Clone>(memory: &Pages<A>, ask: &Ask, at: u32) -> bool
     requires { IsTrue (can_probe memory.now ask.now at) }
-    ensures { result ≡ list_all (λ b. b == 0) (stored memory.now ask.now at) }
+    ensures { result ≡ list_all (λ b. b == 0) (key_at memory.now ask.now at) }
 {
     for i in 0..ask.key_size {
-        if stored_byte(memory, ask, at, i) != 0 {
+        if key_byte(memory, ask, at, i) != 0 {
             return false;
         }
     }
@@ -141,8 +138,7 @@ fn is_zero<A: Allocator + Clone>(memory: &Pages<A>, ask: &Ask, at: u32) -> bool
 #[tactic(auto, unfolding(crate::specs::Keys::probe))]
 pub fn probe<A: Allocator + Clone>(memory: &Pages<A>, ask: &Ask, at: u32) -> Result<Seen, Fault>
     requires { IsTrue (has_size ask.now) }
-    ensures value { result ≡ probe memory.now ask.now at }
-    ensures memory { TakesNone result }
+    ensures { Reads (λ seen. seen) result (probe memory.now ask.now at) }
 {
     if !can_probe(memory, ask, at) {
         return Err(Fault::BadAddress);
@@ -164,8 +160,7 @@ pub fn compared<A: Allocator + Clone>(
     at: u32,
 ) -> Result<Ordering, Fault>
     requires { IsTrue (has_size ask.now) }
-    ensures value { result ≡ compared memory.now ask.now at }
-    ensures memory { TakesNone result }
+    ensures { Reads (λ order. order) result (compared memory.now ask.now at) }
 {
     if can_probe(memory, ask, at) {
         Ok(order(memory, ask, at))

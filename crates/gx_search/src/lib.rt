@@ -2,25 +2,19 @@
 //!
 //! - `asks` has what is looked for, and what a search may answer.
 //! - `keys` compares the key with the bytes of one struct.
-//! - `rows` looks at the structs of a row, `links` at those of a list, each in turn.
+//! - `turns` looks at the structs of a row or a list, each in turn.
 //! - `halves` looks in a row of rising keys, halving it each time.
 //!
-//! The files of specs/ define each search by the list of its probes. A search has a bound of
-//! probes, since a row or a list may be without end. Each call is its definition for all
-//! arguments; further clauses say of what was found what it is, and how many probes the whole search
-//! begins. Nothing takes memory.
+//! The files of specs/ define each search as a whole: what it finds, and how many probes it begins.
+//! A call has a bound of probes, since a row or a list may be without end, and is its definition for
+//! all arguments; further clauses say of what was found what it is. Nothing takes memory.
 #![tactic(auto)]
 
 mod asks;
 mod halves;
 mod keys;
-mod links;
-mod rows;
+mod turns;
 
-pub use asks::{Ask, Found};
+pub use asks::{Ask, Found, KEY_INDIRECT, RETURN_INDEX, ZERO_KEY_TERMINATES};
 pub use halves::binary;
-pub use links::linked;
-pub use rows::linear;
-
-#[cfg(test)]
-mod tests;
+pub use turns::{linear, linked};

@@ -1,5 +1,5 @@
 -- A step of an engine is the step of the session's event.
-use Rattle.std.proofs.Common.{◌≡◌, ◌≢◌, ℕ, ◌-◌, ◌<◌, ◌≤◌, nat_lt, if◌then◌else◌, Bool, true, false, Option, None, Result, Ok, Err, refl, ap, subst, sym, ◌∙◌, arith}
+use Rattle.std.proofs.Common.{◌≡◌, ◌≢◌, ℕ, ◌-◌, ◌<◌, ◌≤◌, nat_lt, if◌then◌else◌, Bool, true, false, Option, None, is_some, IsSome, Result, Ok, Err, refl, ap, subst, sym, ◌∙◌, arith}
 use Rattle.std.proofs.lemmas.Bool.{ltb-false}
 use Rattle.gx_words.specs.declared.faults.Fault.{Fault}
 use Rattle.gx_words.specs.Results.{◌>>=◌}
@@ -10,48 +10,17 @@ use Rattle.gx_machine.specs.Machine.{FlatMachine, Whole}
 use Rattle.gx_machine.specs.Step.{cost_of, step_of, stepped, asking_of}
 use Rattle.gx_machine.proofs.Costs.{cost-positive}
 use Rattle.gx_session.specs.declared.ends.Stop.TheVariants as stop
-use Rattle.gx_session.specs.Session.{Moment, Verdict, stops, effected, stepped_on, event_of}
+use Rattle.gx_session.specs.Session.{Configuration, Verdict, stops, after_effect, after_step, event_of, asked_by, asked}
 use Rattle.rand_core.specs.Stream.{next_u32}
 
--- what a step within a budget makes of a moment
-abbrev verdict_of : Moment → Result ((Whole × ℕ) × Effect) Fault → Verdict
-verdict_of m (Ok p) = effected m p.0.1 p.0.0.machine p.1
+-- what a step within a budget makes of a configuration
+abbrev verdict_of : Configuration → Result ((Whole × ℕ) × Effect) Fault → Verdict
+verdict_of m (Ok p) = after_effect m p.0.1 p.0.0.machine p.1
 verdict_of m (Err f) = stops (stop.Faulted f) m
 
 -- a step that is done, with the units that it leaves
 abbrev step-done : ℕ → Result (FlatMachine × Effect) Fault → Result ((Whole × ℕ) × Effect) Fault
 step-done left r = r >>= (λ p. Ok ((record { machine = p.0; asking = asking_of p.1 }, left), p.1))
-
-tested : (m : Moment) (asking : Option Asking) (cost : ℕ) (r : Result (FlatMachine × Effect) Fault) (b : Bool)
-    → (if b then stops stop.Spent m else stepped_on m (m.left - cost) r)
-    ≡ verdict_of m (if b then Ok ((record { machine = m.machine; asking = asking }, m.left), effect.Spent) else step-done (m.left - cost) r)
-tested m asking cost r true = refl
-tested m asking cost (Ok p) false = refl
-tested m asking cost (Err f) false = refl
-
-event-steps : (m : Moment) (asking : Option Asking) (word : ℕ) → (next_u32 m.words).0 ≡ word
-    → event_of m ≡ verdict_of m (stepped (record { machine = m.machine; asking = asking }) word m.left)
-unfolding event_of stepped
-event-steps m asking word drawn =
-    subst (λ (w : ℕ). event_of m ≡ verdict_of m (stepped (record { machine = m.machine; asking = asking }) w m.left)) drawn
-    (tested m asking (cost_of m.machine) (step_of m.machine (next_u32 m.words).0) (nat_lt m.left (cost_of m.machine)))
-
-module _ (m : Moment) (asking : Option Asking) (word : ℕ) (drawn : (next_u32 m.words).0 ≡ word) where
-  -- a step that is answered with an effect
-  pub event-does : (w : Whole) (left : ℕ) (does : Effect) → stepped (record { machine = m.machine; asking = asking }) word m.left ≡ Ok ((w, left), does)
-      → event_of m ≡ effected m left w.machine does
-  event-does w left does e = event-steps m asking word drawn ∙ ap (verdict_of m) e
-
-  -- a step that is refused
-  pub event-faults : (f : Fault) → stepped (record { machine = m.machine; asking = asking }) word m.left ≡ Err f → event_of m ≡ stops (stop.Faulted f) m
-  event-faults f e = event-steps m asking word drawn ∙ ap (verdict_of m) e
-
--- What a step answers: the engine asks what the effect asks, and there are fewer units unless the
--- budget is spent.
-pub record Stepped (before : ℕ) (w : Whole) (left : ℕ) (does : Effect) : Type 0 where
-  pub asks : w.asking ≡ asking_of does
-  pub no_more : left ≤ before
-  pub nearer : does ≢ effect.Spent → left < before
 
 abbrev value_or : {A : Type 0} → A → Result A Fault → A
 value_or d (Ok x) = x
@@ -61,9 +30,72 @@ value_or d (Err f) = d
 pub ok-is : {A : Type 0} (x y : A) → (let a : Result A Fault = Ok x in a ≡ Ok y) → x ≡ y
 ok-is x y e = ap (value_or x) e
 
--- an engine that stands has the same machine
-pub same-machine : (w w' : Whole) (left left' : ℕ) → ◌≡◌ {A = Whole × ℕ} (w, left) (w', left') → w.machine ≡ w'.machine
-same-machine w w' left left' e = ap (λ (p : Whole × ℕ). p.0.machine) e
+tested : (m : Configuration) (asking : Option Asking) (cost : ℕ) (r : Result (FlatMachine × Effect) Fault) (b : Bool)
+    → (if b then stops stop.Spent m else after_step m (m.left - cost) r)
+    ≡ verdict_of m (if b then Ok ((record { machine = m.machine; asking = asking }, m.left), effect.Spent) else step-done (m.left - cost) r)
+tested m asking cost r true = refl
+tested m asking cost (Ok p) false = refl
+tested m asking cost (Err f) false = refl
+
+event-steps : (m : Configuration) (asking : Option Asking) (word : ℕ) → (next_u32 m.words).0 ≡ word
+    → event_of m ≡ verdict_of m (stepped (record { machine = m.machine; asking = asking }) word m.left)
+unfolding event_of stepped
+event-steps m asking word drawn =
+    subst (λ (w : ℕ). event_of m ≡ verdict_of m (stepped (record { machine = m.machine; asking = asking }) w m.left)) drawn
+    (tested m asking (cost_of m.machine) (step_of m.machine (next_u32 m.words).0) (nat_lt m.left (cost_of m.machine)))
+
+module _ (m : Configuration) (asking : Option Asking) (word : ℕ) (drawn : (next_u32 m.words).0 ≡ word) where
+  -- a step that is answered with an effect
+  pub event-does : (w : Whole) (left : ℕ) (does : Effect) → stepped (record { machine = m.machine; asking = asking }) word m.left ≡ Ok ((w, left), does)
+      → event_of m ≡ after_effect m left w.machine does
+  event-does w left does e = event-steps m asking word drawn ∙ ap (verdict_of m) e
+
+  -- a step that is refused
+  pub event-faults : (f : Fault) → stepped (record { machine = m.machine; asking = asking }) word m.left ≡ Err f → event_of m ≡ stops (stop.Faulted f) m
+  event-faults f e = event-steps m asking word drawn ∙ ap (verdict_of m) e
+
+asks-by : (w : Whole) (budget left : ℕ) (r : Result (FlatMachine × Effect) Fault) (w' : Whole) (left' : ℕ) (does : Effect) (b : Bool)
+    → (if b then Ok ((w, budget), effect.Spent) else step-done left r) ≡ Ok ((w', left'), does) → IsSome (asking_of does) → asked_by r ≡ asking_of does
+asks-by w budget left r w' left' does true e some =
+    let spent : effect.Spent ≡ does = ap (λ (q : (Whole × ℕ) × Effect). q.1) (ok-is {A = (Whole × ℕ) × Effect} ((w, budget), effect.Spent) ((w', left'), does) e) in
+    let none : is_some (asking_of does) ≡ false = ap (λ (x : Effect). is_some (asking_of x)) (sym spent) in
+    cc
+asks-by w budget left (Ok p) w' left' does false e some =
+    ap (λ (q : (Whole × ℕ) × Effect). asking_of q.1) (ok-is {A = (Whole × ℕ) × Effect} ((record { machine = p.0; asking = asking_of p.1 }, left), p.1) ((w', left'), does) e)
+asks-by w budget left (Err f) w' left' does false e some = cc
+
+faults-by : (w : Whole) (budget left : ℕ) (r : Result (FlatMachine × Effect) Fault) (f : Fault) (b : Bool)
+    → (if b then Ok ((w, budget), effect.Spent) else step-done left r) ≡ Err f → asked_by r ≡ None
+faults-by w budget left r f true e = cc
+faults-by w budget left (Ok p) f false e = cc
+faults-by w budget left (Err g) f false e = refl
+
+module _ (m : Configuration) (asking : Option Asking) (word : ℕ) (drawn : (next_u32 m.words).0 ≡ word) where
+  -- A step that asks asks what its configuration asks.
+  pub step-asks : (w : Whole) (left : ℕ) (does : Effect) → stepped (record { machine = m.machine; asking = asking }) word m.left ≡ Ok ((w, left), does)
+      → IsSome (asking_of does) → asked m ≡ asking_of does
+  unfolding stepped asked
+  step-asks w left does e some =
+      ap (λ (x : ℕ). asked_by (step_of m.machine x)) drawn
+      ∙ asks-by (record { machine = m.machine; asking = asking }) m.left (m.left - cost_of m.machine) (step_of m.machine word) w left does (nat_lt m.left (cost_of m.machine)) e some
+
+  -- One that meets a fault asks nothing.
+  pub step-asks-nothing : (f : Fault) → stepped (record { machine = m.machine; asking = asking }) word m.left ≡ Err f → asked m ≡ None
+  unfolding stepped asked
+  step-asks-nothing f e =
+      ap (λ (x : ℕ). asked_by (step_of m.machine x)) drawn
+      ∙ faults-by (record { machine = m.machine; asking = asking }) m.left (m.left - cost_of m.machine) (step_of m.machine word) f (nat_lt m.left (cost_of m.machine)) e
+
+-- What a step answers: the engine asks what the effect asks, and there are fewer units unless the
+-- budget is spent.
+pub record Stepped (before : ℕ) (w : Whole) (left : ℕ) (does : Effect) : Type 0 where
+  pub asks : w.asking ≡ asking_of does
+  pub no_more : left ≤ before
+  pub nearer : does ≢ effect.Spent → left < before
+
+-- an engine that stands is whole
+pub same-whole : (w w' : Whole) (left left' : ℕ) → ◌≡◌ {A = Whole × ℕ} (w, left) (w', left') → w ≡ w'
+same-whole w w' left left' e = ap (λ (p : Whole × ℕ). p.0) e
 
 -- what is left after a cost is less
 fewer : (cost before left : ℕ) → 1 ≤ cost → cost ≤ before → before - cost ≡ left → left < before

@@ -1,9 +1,10 @@
--- The copies of each moment of a run are those of the saveundos that are alive there.
+-- The copies of each configuration of a run are those of the saveundos that are alive there.
 use Rattle.std.proofs.Common.{◌≡◌, ℕ, suc, zero, ◌+◌, ◌-◌, ◌==◌, nat_lt, if◌then◌else◌, List, [], ◌∷◌, take, drop, Bool, true, false, Option, Some, None, option_and_then, Result, Ok, Err, refl, ap, subst, sym, ◌∙◌}
 use Rattle.std.proofs.lemmas.Bool.{eqb-true}
 use Rattle.gx_words.specs.declared.faults.Fault.{Fault}
 use Rattle.gx_words.specs.declared.faults.Fault.TheVariants.{BadOpcode, BadFrame, Overflow}
 use Rattle.gx_words.specs.Results.{◌>>=◌}
+use Rattle.gx_rows.specs.declared.numbers.TheConstants.{SAVEUNDO, RESTOREUNDO}
 use Rattle.gx_rows.specs.declared.instructions.Class.{Class}
 use Rattle.gx_rows.specs.declared.instructions.Class.TheVariants as class
 use Rattle.gx_state.specs.declared.effects.Effect.{Effect}
@@ -22,15 +23,15 @@ use Rattle.ops_memory.specs.Rows as memory
 use Rattle.ops_print.specs.Rows as print
 use Rattle.gx_machine.specs.Machine.{FlatMachine}
 use Rattle.gx_machine.specs.Answer.{answer_of}
-use Rattle.gx_machine.specs.Rows.{row, glk, with_copies, with_both}
-use Rattle.gx_machine.specs.Step.{cost_of, step_of, moved}
+use Rattle.gx_machine.specs.Rows.{row_effect, glk, with_copies, with_both}
+use Rattle.gx_machine.specs.Step.{cost_of, step_of, mode_step}
 use Rattle.ops_game.specs.Rows as game
 use Rattle.glk_world.specs.World.{Said}
 use Rattle.glk_dispatch.specs.declared.Turn.{Turn}
 use Rattle.glk_dispatch.specs.declared.Turn.TheVariants.{Answer}
-use Rattle.glk_dispatch.specs.Calls.{called, putting}
+use Rattle.glk_dispatch.specs.Calls.{glk_call, putting}
 use Rattle.gx_session.specs.declared.ends.Stop.TheVariants as stop
-use Rattle.gx_session.specs.Session.{Moment, Verdict, goes, stops, replied, turned, effected, stepped_on, event_of, next_of, run_of}
+use Rattle.gx_session.specs.Session.{Configuration, Verdict, goes, stops, after_reply, after_turn, after_effect, after_step, event_of, next_of, run_of}
 use Rattle.gx_session.specs.Undoing.{Undoing, saves, restores, neither, undoing, undoing_row, undoing_by, undoing_in, alive, alive_by, alive_from, IsTaken, AreTaken, LastsUndo}
 use Rattle.gx_session.proofs.Events.{ok-is}
 use Rattle.rand_core.specs.Stream.{next_u32}
@@ -47,11 +48,11 @@ Undone m u e neither = u ≡ m.undo
 record Stays (u : FlatUndo) (r : Result ((FlatState × FlatUndo) × Effect) Fault) : Type 0 where
   stays : (p : (FlatState × FlatUndo) × Effect) → r ≡ Ok p → p.0.1 ≡ u
 
-lifted-stays : (u : FlatUndo) (r : Result (FlatState × Effect) Fault) (p : (FlatState × FlatUndo) × Effect) → game.stays u r ≡ Ok p → p.0.1 ≡ u
+lifted-stays : (u : FlatUndo) (r : Result (FlatState × Effect) Fault) (p : (FlatState × FlatUndo) × Effect) → game.leaving_copies u r ≡ Ok p → p.0.1 ≡ u
 lifted-stays u (Ok x) p h = sym (ap (λ (y : (FlatState × FlatUndo) × Effect). y.0.1) (ok-is {A = (FlatState × FlatUndo) × Effect} ((x.0, u), x.1) p h))
 lifted-stays u (Err fault) p h = absurd cc
 
-stays-lifted : (u : FlatUndo) (r : Result (FlatState × Effect) Fault) → Stays u (game.stays u r)
+stays-lifted : (u : FlatUndo) (r : Result (FlatState × Effect) Fault) → Stays u (game.leaving_copies u r)
 stays-lifted u r = record { stays = lifted-stays u r }
 
 stays-faulted : (u : FlatUndo) (fault : Fault) → Stays u (Err fault)
@@ -66,8 +67,8 @@ stays-unless u true x y isnt other = absurd cc
 stays-unless u false x y isnt other = other
 
 -- every row but saveundo and restoreundo
-others-stay : (f : FlatState) (u : FlatUndo) (word : ℕ) (i : Instruction) → (i.row.number == 0x125) ≡ false → (i.row.number == 0x126) ≡ false → Stays u (game.row f u word i)
-unfolding game.row
+others-stay : (f : FlatState) (u : FlatUndo) (word : ℕ) (i : Instruction) → (i.row.number == SAVEUNDO) ≡ false → (i.row.number == RESTOREUNDO) ≡ false → Stays u (game.row_effect f u word i)
+unfolding game.row_effect
 others-stay f u word i not-saves not-restores =
     stays-if u _ _ _ (stays-lifted u (game.gestalt f i)) (
     stays-if u _ _ _ (stays-lifted u (game.debugtrap f i)) (
@@ -75,7 +76,7 @@ others-stay f u word i not-saves not-restores =
     stays-if u _ _ _ (stays-lifted u (game.setrandom f i)) (
     stays-if u _ _ _ (stays-lifted u (game.quit f i)) (
     stays-if u _ _ _ (stays-lifted u (game.verify f i)) (
-    stays-if u _ _ _ (stays-lifted u (game.restart f i)) (
+    stays-if u _ _ _ (stays-lifted u (game.restart f)) (
     stays-unless u _ _ _ not-saves (
     stays-unless u _ _ _ not-restores (
     stays-if u _ _ _ (stays-lifted u (game.protect f i)) (
@@ -87,12 +88,12 @@ others-stay f u word i not-saves not-restores =
     stays-if u _ _ _ (stays-lifted u (game.accelerate f i)) (
     stays-faulted u BadOpcode))))))))))))))))
 
-saves-row : (f : FlatState) (u : FlatUndo) (word : ℕ) (i : Instruction) → i.row.number ≡ 0x125 → game.row f u word i ≡ game.saveundo f u i
-unfolding game.row
+saves-row : (f : FlatState) (u : FlatUndo) (word : ℕ) (i : Instruction) → i.row.number ≡ SAVEUNDO → game.row_effect f u word i ≡ game.saveundo f u i
+unfolding game.row_effect
 saves-row f u word i is = rw is refl
 
-restores-row : (f : FlatState) (u : FlatUndo) (word : ℕ) (i : Instruction) → i.row.number ≡ 0x126 → game.row f u word i ≡ game.restoreundo f u i
-unfolding game.row
+restores-row : (f : FlatState) (u : FlatUndo) (word : ℕ) (i : Instruction) → i.row.number ≡ RESTOREUNDO → game.row_effect f u word i ≡ game.restoreundo f u i
+unfolding game.row_effect
 restores-row f u word i is = rw is refl
 
 -- saveundo keeps one more copy
@@ -118,14 +119,14 @@ record Restored (u : FlatUndo) (p : (FlatState × FlatUndo) × Effect) : Type 0 
   went : p.1 ≡ effect.Went
 
 stored-by : (u : FlatUndo) (i : Instruction) (r : Result FlatState Fault) (p : (FlatState × FlatUndo) × Effect) → u.copies ≡ []
-    → game.stays u (r >>= (λ (g : FlatState). Ok (going_to g i.next, effect.Went))) ≡ Ok p → Restored u p
+    → game.leaving_copies u (r >>= (λ (g : FlatState). Ok (going_to g i.next, effect.Went))) ≡ Ok p → Restored u p
 stored-by u i (Ok g) p none h =
     let same : ((going_to g i.next, u), effect.Went) ≡ p = ok-is {A = (FlatState × FlatUndo) × Effect} ((going_to g i.next, u), effect.Went) p h in
     let empty : u ≡ without_newest u = ap (λ (cs : List Copy). record u { copies = cs }) (none ∙ sym (ap (drop 1) none)) in
     record { copies = sym (ap (λ (y : (FlatState × FlatUndo) × Effect). y.0.1) same) ∙ empty; went = sym (ap (λ (y : (FlatState × FlatUndo) × Effect). y.1) same) }
 stored-by u i (Err fault) p none h = absurd cc
 
-restored-by : (f : FlatState) (u : FlatUndo) (i : Instruction) (copies : List Copy) (p : (FlatState × FlatUndo) × Effect) → u.copies ≡ copies → game.restores f u i copies ≡ Ok p → Restored u p
+restored-by : (f : FlatState) (u : FlatUndo) (i : Instruction) (copies : List Copy) (p : (FlatState × FlatUndo) × Effect) → u.copies ≡ copies → game.restored_from f u i copies ≡ Ok p → Restored u p
 restored-by f u i [] p is h = stored-by u i (settled f i.sp 4 i.dest 1) p is h
 restored-by f u i (c ∷ older) p is h =
     let same : ((gone_back f c, without_newest u), effect.Went) ≡ p = ok-is {A = (FlatState × FlatUndo) × Effect} ((gone_back f c, without_newest u), effect.Went) p h in
@@ -136,27 +137,27 @@ unfolding game.restoreundo
 restored f u i p h = restored-by f u i u.copies p refl h
 
 -- each row of Game, by its number
-game-rows : (m : FlatMachine) (word : ℕ) (i : Instruction) (p : (FlatState × FlatUndo) × Effect) (saving restoring : Bool) → (i.row.number == 0x125) ≡ saving → (i.row.number == 0x126) ≡ restoring
-    → instruction m.flat ≡ Ok i → game.row m.flat m.undo word i ≡ Ok p → Undone m p.0.1 p.1 (if saving then saves else if restoring then restores else neither)
+game-rows : (m : FlatMachine) (word : ℕ) (i : Instruction) (p : (FlatState × FlatUndo) × Effect) (saving restoring : Bool) → (i.row.number == SAVEUNDO) ≡ saving → (i.row.number == RESTOREUNDO) ≡ restoring
+    → instruction m.flat ≡ Ok i → game.row_effect m.flat m.undo word i ≡ Ok p → Undone m p.0.1 p.1 (if saving then saves else if restoring then restores else neither)
 game-rows m word i p true restoring saving-is restoring-is decoded h =
-    let done : Saved m.flat m.undo i p = saved m.flat m.undo i p (sym (saves-row m.flat m.undo word i (eqb-true i.row.number 0x125 saving-is)) ∙ h) in
+    let done : Saved m.flat m.undo i p = saved m.flat m.undo i p (sym (saves-row m.flat m.undo word i (eqb-true i.row.number SAVEUNDO saving-is)) ∙ h) in
     (i, decoded, done.copies, done.went)
 game-rows m word i p false true saving-is restoring-is decoded h =
-    let done : Restored m.undo p = restored m.flat m.undo i p (sym (restores-row m.flat m.undo word i (eqb-true i.row.number 0x126 restoring-is)) ∙ h) in
+    let done : Restored m.undo p = restored m.flat m.undo i p (sym (restores-row m.flat m.undo word i (eqb-true i.row.number RESTOREUNDO restoring-is)) ∙ h) in
     (done.copies, done.went)
 game-rows m word i p false false saving-is restoring-is decoded h = (others-stay m.flat m.undo word i saving-is restoring-is).stays p h
 
-game-both : (m : FlatMachine) (word : ℕ) (i : Instruction) (r : Result ((FlatState × FlatUndo) × Effect) Fault) (m' : FlatMachine) (e : Effect) → game.row m.flat m.undo word i ≡ r
+game-both : (m : FlatMachine) (word : ℕ) (i : Instruction) (r : Result ((FlatState × FlatUndo) × Effect) Fault) (m' : FlatMachine) (e : Effect) → game.row_effect m.flat m.undo word i ≡ r
     → instruction m.flat ≡ Ok i → with_both r ≡ Ok (m', e) → Undone m m'.undo e (undoing_row class.Game i.row.number)
 game-both m word i (Ok p) m' e is decoded h =
-    let done : Undone m p.0.1 p.1 (undoing_row class.Game i.row.number) = game-rows m word i p (i.row.number == 0x125) (i.row.number == 0x126) refl refl decoded is in
+    let done : Undone m p.0.1 p.1 (undoing_row class.Game i.row.number) = game-rows m word i p (i.row.number == SAVEUNDO) (i.row.number == RESTOREUNDO) refl refl decoded is in
     let same : (record { flat = p.0.0; undo = p.0.1 }, p.1) ≡ (m', e) = ok-is {A = FlatMachine × Effect} (record { flat = p.0.0; undo = p.0.1 }, p.1) (m', e) h in
     subst (λ (y : FlatMachine × Effect). Undone m y.0.undo y.1 (undoing_row class.Game i.row.number)) same done
 game-both m word i (Err fault) m' e is decoded h = absurd cc
 
 game-undone : (m : FlatMachine) (word : ℕ) (i : Instruction) (m' : FlatMachine) (e : Effect) → instruction m.flat ≡ Ok i
-    → with_both (game.row m.flat m.undo word i) ≡ Ok (m', e) → Undone m m'.undo e (undoing_row class.Game i.row.number)
-game-undone m word i m' e decoded h = game-both m word i (game.row m.flat m.undo word i) m' e refl decoded h
+    → with_both (game.row_effect m.flat m.undo word i) ≡ Ok (m', e) → Undone m m'.undo e (undoing_row class.Game i.row.number)
+game-undone m word i m' e decoded h = game-both m word i (game.row_effect m.flat m.undo word i) m' e refl decoded h
 
 -- EVERY STEP
 
@@ -164,30 +165,30 @@ copies-stay : (u : FlatUndo) (r : Result (FlatState × Effect) Fault) (m' : Flat
 copies-stay u (Ok x) m' e h = sym (ap (λ (y : FlatMachine × Effect). y.0.undo) (ok-is {A = FlatMachine × Effect} (record { flat = x.0; undo = u }, x.1) (m', e) h))
 copies-stay u (Err fault) m' e h = cc
 
-row-undone : (m : FlatMachine) (word : ℕ) (c : Class) (i : Instruction) (m' : FlatMachine) (e : Effect) → instruction m.flat ≡ Ok i → row c m word i ≡ Ok (m', e) → Undone m m'.undo e (undoing_row c i.row.number)
-row-undone m word class.Calc i m' e decoded h = copies-stay m.undo (flow.row class.Calc m.flat i) m' e h
-row-undone m word class.Branch i m' e decoded h = copies-stay m.undo (flow.row class.Branch m.flat i) m' e h
-row-undone m word class.Flow i m' e decoded h = copies-stay m.undo (flow.row class.Flow m.flat i) m' e h
-row-undone m word class.Copy i m' e decoded h = copies-stay m.undo (memory.row class.Copy m.flat i) m' e h
-row-undone m word class.Memory i m' e decoded h = copies-stay m.undo (memory.row class.Memory m.flat i) m' e h
-row-undone m word class.Stack i m' e decoded h = copies-stay m.undo (flow.row class.Stack m.flat i) m' e h
-row-undone m word class.Print i m' e decoded h = copies-stay m.undo (print.row m.flat i) m' e h
+row-undone : (m : FlatMachine) (word : ℕ) (c : Class) (i : Instruction) (m' : FlatMachine) (e : Effect) → instruction m.flat ≡ Ok i → row_effect c m word i ≡ Ok (m', e) → Undone m m'.undo e (undoing_row c i.row.number)
+row-undone m word class.Calc i m' e decoded h = copies-stay m.undo (flow.row_effect class.Calc m.flat i) m' e h
+row-undone m word class.Branch i m' e decoded h = copies-stay m.undo (flow.row_effect class.Branch m.flat i) m' e h
+row-undone m word class.Flow i m' e decoded h = copies-stay m.undo (flow.row_effect class.Flow m.flat i) m' e h
+row-undone m word class.Copy i m' e decoded h = copies-stay m.undo (memory.row_effect class.Copy m.flat i) m' e h
+row-undone m word class.Memory i m' e decoded h = copies-stay m.undo (memory.row_effect class.Memory m.flat i) m' e h
+row-undone m word class.Stack i m' e decoded h = copies-stay m.undo (flow.row_effect class.Stack m.flat i) m' e h
+row-undone m word class.Print i m' e decoded h = copies-stay m.undo (print.row_effect m.flat i) m' e h
 row-undone m word class.Game i m' e decoded h = game-undone m word i m' e decoded h
 row-undone m word class.Glk i m' e decoded h = copies-stay m.undo (glk m.flat i) m' e h
 
 decoded-undone : (m : FlatMachine) (word : ℕ) (r : Result Instruction Fault) (m' : FlatMachine) (e : Effect) → instruction m.flat ≡ r
-    → (let done : Result (FlatMachine × Effect) Fault = r >>= (λ i. row i.row.class m word i) in done ≡ Ok (m', e)) → Undone m m'.undo e (undoing_by r)
+    → (let done : Result (FlatMachine × Effect) Fault = r >>= (λ i. row_effect i.row.class m word i) in done ≡ Ok (m', e)) → Undone m m'.undo e (undoing_by r)
 decoded-undone m word (Ok i) m' e is h = row-undone m word i.row.class i m' e is h
 decoded-undone m word (Err fault) m' e is h = cc
 
-moved-undone : (m : FlatMachine) (word : ℕ) (d : Mode) (m' : FlatMachine) (e : Effect) → moved m word d ≡ Ok (m', e) → Undone m m'.undo e (undoing_in m.flat d)
-moved-undone m word mode.Running m' e h = decoded-undone m word (instruction m.flat) m' e refl h
-moved-undone m word (mode.Printing p) m' e h = copies-stay m.undo (item m.flat p) m' e h
+mode-undone : (m : FlatMachine) (word : ℕ) (d : Mode) (m' : FlatMachine) (e : Effect) → mode_step m word d ≡ Ok (m', e) → Undone m m'.undo e (undoing_in m.flat d)
+mode-undone m word mode.Running m' e h = decoded-undone m word (instruction m.flat) m' e refl h
+mode-undone m word (mode.Printing p) m' e h = copies-stay m.undo (item m.flat p) m' e h
 
 tested-undone : (m : FlatMachine) (word : ℕ) (m' : FlatMachine) (e : Effect) (b : Bool)
-    → (let done : Result (FlatMachine × Effect) Fault = if b then Err BadFrame else moved m word m.flat.mode in done ≡ Ok (m', e)) → Undone m m'.undo e (undoing_in m.flat m.flat.mode)
+    → (let done : Result (FlatMachine × Effect) Fault = if b then Err BadFrame else mode_step m word m.flat.mode in done ≡ Ok (m', e)) → Undone m m'.undo e (undoing_in m.flat m.flat.mode)
 tested-undone m word m' e true h = cc
-tested-undone m word m' e false h = moved-undone m word m.flat.mode m' e h
+tested-undone m word m' e false h = mode-undone m word m.flat.mode m' e h
 
 step-undone : (m : FlatMachine) (word : ℕ) (m' : FlatMachine) (e : Effect) → step_of m word ≡ Ok (m', e) → Undone m m'.undo e (undoing m.flat)
 unfolding step_of undoing
@@ -199,21 +200,21 @@ asks-neither m u e saves asks is = absurd (asks is.3)
 asks-neither m u e restores asks is = absurd (asks is.1)
 asks-neither m u e neither asks is = refl
 
--- the moment that an event comes to
-abbrev moment_in : Verdict → Moment
-moment_in (goes m) = m
-moment_in (stops s m) = m
+-- the configuration that an event comes to
+abbrev configuration_in : Verdict → Configuration
+configuration_in (goes m) = m
+configuration_in (stops s m) = m
 
-replied-undo : (m : Moment) (left : ℕ) (r : Result (Said × Reply) Fault) (m' : Moment) → replied m left r ≡ goes m' → m.machine.undo ≡ m'.machine.undo
+replied-undo : (m : Configuration) (left : ℕ) (r : Result (Said × Reply) Fault) (m' : Configuration) → after_reply m left r ≡ goes m' → m.machine.undo ≡ m'.machine.undo
 unfolding answer_of
-replied-undo m left (Ok r) m' e = ap (λ (v : Verdict). (moment_in v).machine.undo) e
+replied-undo m left (Ok r) m' e = ap (λ (v : Verdict). (configuration_in v).machine.undo) e
 replied-undo m left (Err f) m' e = cc
 
-turned-undo : (m : Moment) (left : ℕ) (r : Result (Said × Turn) Fault) (m' : Moment) → turned m left r ≡ goes m' → m.machine.undo ≡ m'.machine.undo
+turned-undo : (m : Configuration) (left : ℕ) (r : Result (Said × Turn) Fault) (m' : Configuration) → after_turn m left r ≡ goes m' → m.machine.undo ≡ m'.machine.undo
 turned-undo m left (Ok (said, Answer reply)) m' e = replied-undo m left (Ok (said, reply)) m' e
 turned-undo m left (Err f) m' e = replied-undo m left (Err f) m' e
 
-effected-undone : (m : Moment) (left : ℕ) (machine : FlatMachine) (does : Effect) (m' : Moment) → effected m left machine does ≡ goes m'
+effected-undone : (m : Configuration) (left : ℕ) (machine : FlatMachine) (does : Effect) (m' : Configuration) → after_effect m left machine does ≡ goes m'
     → Undone m.machine machine.undo does (undoing m.machine.flat) → Undone m.machine m'.machine.undo does (undoing m.machine.flat)
 effected-undone m left machine effect.Went m' e is =
     let same : machine.undo ≡ m'.machine.undo = cc in
@@ -225,7 +226,7 @@ effected-undone m left machine (effect.Put c) m' e is =
     subst (λ (u : FlatUndo). Undone m.machine u (effect.Put c) (undoing m.machine.flat)) (replied-undo m left (putting m.world.scene m.machine.flat c) m' e)
     (asks-neither m.machine machine.undo (effect.Put c) (undoing m.machine.flat) (λ went. cc) is)
 effected-undone m left machine (effect.Glk selector args room) m' e is =
-    subst (λ (u : FlatUndo). Undone m.machine u (effect.Glk selector args room) (undoing m.machine.flat)) (turned-undo m left (called m.world.scene m.machine.flat room selector args.items) m' e)
+    subst (λ (u : FlatUndo). Undone m.machine u (effect.Glk selector args room) (undoing m.machine.flat)) (turned-undo m left (glk_call m.world.scene m.machine.flat room selector args.items) m' e)
     (asks-neither m.machine machine.undo (effect.Glk selector args room) (undoing m.machine.flat) (λ went. cc) is)
 effected-undone m left machine effect.Quit m' e is = cc
 effected-undone m left machine effect.Spent m' e is = cc
@@ -235,43 +236,43 @@ record Undid (m : FlatMachine) (u : FlatUndo) (kind : Undoing) : Type 0 where
   does : Effect
   undone : Undone m u does kind
 
-stepped-undid : (m : Moment) (left word : ℕ) (r : Result (FlatMachine × Effect) Fault) (m' : Moment) → step_of m.machine word ≡ r → stepped_on m left r ≡ goes m' → Undid m.machine m'.machine.undo (undoing m.machine.flat)
+stepped-undid : (m : Configuration) (left word : ℕ) (r : Result (FlatMachine × Effect) Fault) (m' : Configuration) → step_of m.machine word ≡ r → after_step m left r ≡ goes m' → Undid m.machine m'.machine.undo (undoing m.machine.flat)
 stepped-undid m left word (Ok r) m' is e = record { does = r.1; undone = effected-undone m left r.0 r.1 m' e (step-undone m.machine word r.0 r.1 is) }
 stepped-undid m left word (Err f) m' is e = cc
 
-tested-undid : (m : Moment) (left word : ℕ) (m' : Moment) (b : Bool) → (if b then stops stop.Spent m else stepped_on m left (step_of m.machine word)) ≡ goes m' → Undid m.machine m'.machine.undo (undoing m.machine.flat)
+tested-undid : (m : Configuration) (left word : ℕ) (m' : Configuration) (b : Bool) → (if b then stops stop.Spent m else after_step m left (step_of m.machine word)) ≡ goes m' → Undid m.machine m'.machine.undo (undoing m.machine.flat)
 tested-undid m left word m' true e = cc
 tested-undid m left word m' false e = stepped-undid m left word (step_of m.machine word) m' refl e
 
-event-undid : (m m' : Moment) → event_of m ≡ goes m' → Undid m.machine m'.machine.undo (undoing m.machine.flat)
+event-undid : (m m' : Configuration) → event_of m ≡ goes m' → Undid m.machine m'.machine.undo (undoing m.machine.flat)
 unfolding event_of
 event-undid m m' e = tested-undid m (m.left - cost_of m.machine) (next_u32 m.words).0 m' (nat_lt m.left (cost_of m.machine)) e
 
 -- the copies of fewer saveundos
-taken-take : (start : Moment) (n : ℕ) (cs : List Copy) (js : List ℕ) → AreTaken start cs js → AreTaken start (take n cs) (take n js)
+taken-take : (start : Configuration) (n : ℕ) (cs : List Copy) (js : List ℕ) → AreTaken start cs js → AreTaken start (take n cs) (take n js)
 taken-take start zero cs js t = tt
 taken-take start (suc n) [] [] t = tt
 taken-take start (suc n) (c ∷ cs) (j ∷ js) t = (t.0, taken-take start n cs js t.1)
 taken-take start (suc n) [] (j ∷ js) t = absurd t
 taken-take start (suc n) (c ∷ cs) [] t = absurd t
 
-taken-drop : (start : Moment) (cs : List Copy) (js : List ℕ) → AreTaken start cs js → AreTaken start (drop 1 cs) (drop 1 js)
+taken-drop : (start : Configuration) (cs : List Copy) (js : List ℕ) → AreTaken start cs js → AreTaken start (drop 1 cs) (drop 1 js)
 taken-drop start [] [] t = tt
 taken-drop start (c ∷ cs) (j ∷ js) t = t.1
 taken-drop start [] (j ∷ js) t = absurd t
 taken-drop start (c ∷ cs) [] t = absurd t
 
--- what holds of a moment: its copies are those of the saveundos that are alive
-record Lasts (start : Moment) (j : ℕ) (u : FlatUndo) (live : List ℕ) : Type 0 where
+-- what holds of a configuration: its copies are those of the saveundos that are alive
+record Lasts (start : Configuration) (j : ℕ) (u : FlatUndo) (live : List ℕ) : Type 0 where
   depth : u.depth ≡ start.machine.undo.depth
   taken : AreTaken start u.copies live
 
 -- one more event
-lasts-on : (start m m' : Moment) (j : ℕ) (live : List ℕ) (does : Effect) (kind : Undoing) → run_of start j ≡ Some m → Lasts start j m.machine.undo live → Undone m.machine m'.machine.undo does kind
+lasts-on : (start m m' : Configuration) (j : ℕ) (live : List ℕ) (does : Effect) (kind : Undoing) → run_of start j ≡ Some m → Lasts start j m.machine.undo live → Undone m.machine m'.machine.undo does kind
     → Lasts start (suc j) m'.machine.undo (alive_by start.machine.undo.depth j live kind)
 lasts-on start m m' j live does saves reached now is =
     let c : Copy = copy_of m.machine.flat is.0.dest is.0.next in
-    let first : IsTaken start j c = record { moment = m; i = is.0; reached = reached; decoded = is.1; copy = refl } in
+    let first : IsTaken start j c = record { configuration = m; i = is.0; reached = reached; decoded = is.1; copy = refl } in
     let all : AreTaken start (take m.machine.undo.depth (c ∷ m.machine.undo.copies)) (take m.machine.undo.depth (j ∷ live)) =
     taken-take start m.machine.undo.depth (c ∷ m.machine.undo.copies) (j ∷ live) (first, now.taken) in
     let deep : AreTaken start (take m.machine.undo.depth (c ∷ m.machine.undo.copies)) (take start.machine.undo.depth (j ∷ live)) =
@@ -291,31 +292,31 @@ lasts-on start m m' j live does neither reached now is =
       taken = subst (λ (u : FlatUndo). AreTaken start u.copies live) (sym is) now.taken;
     }
 
-next-goes : (v : Verdict) (m : Moment) → next_of v ≡ Some m → v ≡ goes m
+next-goes : (v : Verdict) (m : Configuration) → next_of v ≡ Some m → v ≡ goes m
 next-goes (goes m') m e = cc
 next-goes (stops s m') m e = cc
 
-start-is : (start m : Moment) → Some start ≡ Some m → start ≡ m
+start-is : (start m : Configuration) → Some start ≡ Some m → start ≡ m
 start-is start m e = cc
 
--- the moment after one more event
-module _ (start : Moment) (j : ℕ) (m' : Moment) where
-  lasts-next : (o : Option Moment) → run_of start j ≡ o → ((m : Moment) → run_of start j ≡ Some m → Lasts start j m.machine.undo (alive start j))
+-- the configuration after one more event
+module _ (start : Configuration) (j : ℕ) (m' : Configuration) where
+  lasts-next : (o : Option Configuration) → run_of start j ≡ o → ((m : Configuration) → run_of start j ≡ Some m → Lasts start j m.machine.undo (alive start j))
       → option_and_then (λ m. next_of (event_of m)) o ≡ Some m' → Lasts start (suc j) m'.machine.undo (alive_from start.machine.undo.depth j (alive start j) o)
   lasts-next None is before e = cc
   lasts-next (Some m) is before e =
       let did : Undid m.machine m'.machine.undo (undoing m.machine.flat) = event-undid m m' (next-goes (event_of m) m' e) in
       lasts-on start m m' j (alive start j) did.does (undoing m.machine.flat) is (before m is) did.undone
 
-lasts : (start : Moment) → start.machine.undo.copies ≡ [] → (j : ℕ) (m : Moment) → run_of start j ≡ Some m → Lasts start j m.machine.undo (alive start j)
+lasts : (start : Configuration) → start.machine.undo.copies ≡ [] → (j : ℕ) (m : Configuration) → run_of start j ≡ Some m → Lasts start j m.machine.undo (alive start j)
 unfolding alive
 lasts start none zero m e =
     let none-taken : AreTaken start start.machine.undo.copies [] = subst (λ (cs : List Copy). AreTaken start cs []) (sym none) tt in
     let first : Lasts start zero start.machine.undo [] = record { depth = refl; taken = none-taken } in
-    subst (λ (x : Moment). Lasts start zero x.machine.undo []) (start-is start m e) first
+    subst (λ (x : Configuration). Lasts start zero x.machine.undo []) (start-is start m e) first
 lasts start none (suc j) m e = lasts-next start j m (run_of start j) refl (lasts start none j) e
 
 -- The law.
-pub lasts_undo : (start : Moment) → LastsUndo start
+pub lasts_undo : (start : Configuration) → LastsUndo start
 unfolding LastsUndo
 lasts_undo start none j m e = (lasts start none j m e).taken

@@ -1,5 +1,4 @@
 -- What contracts see of the four objects that a run is handed.
-use Rattle.std.specs.Prelude.{◌≡◌, true}
 use Rattle.gx_outside.specs.Outside.{FlatSource, FlatSink, FlatShelf}
 use Rattle.rand_core.specs.Stream.{Stream}
 
@@ -12,8 +11,3 @@ pub record Devices : Type 0 where
 
 abbrev pub devices : FlatSource → FlatSink → FlatShelf → Stream → Devices
 devices source sink shelf words = record { source = source; sink = sink; shelf = shelf; words = words }
-
--- The source and the shelf tell what they hold.
-pub record Told (d : Devices) : Type 0 where
-  pub source : d.source.tells ≡ true
-  pub shelf : d.shelf.tells ≡ true

@@ -1,5 +1,7 @@
 pub mod Devices
 pub mod Session
+pub mod Sending
+pub mod Cuts
 pub mod Runs
 pub mod Lines
 pub mod Playing

@@ -1,5 +1,6 @@
 -- The line that says how a run ended.
 use Rattle.std.specs.Prelude.{ℕ, ◌+◌, ◌/◌, ◌%◌, ◌^◌, ◌==◌, suc, zero, nat_lt, if◌then◌else◌, List, [], ◌∷◌, ◌++◌, decimal, codes}
+use Rattle.gx_session.specs.declared.statuses.TheConstants.{BAD_WORDS, BAD_STORY, FAULT, SPENT, INPUT_ENDED, STUCK, LINE_TOO_LONG, SHELF_FAULT, INPUT_FAULT, OUTPUT_FAULT, NO_MEMORY}
 
 -- a hexadecimal digit in lower case
 abbrev pub hex_digit : ℕ → ℕ
@@ -20,15 +21,15 @@ fault_line fault at steps =
 -- so has a status in no row.
 unfoldable pub line_of : ℕ → ℕ → ℕ → ℕ → List ℕ
 line_of status fault at steps =
-    if status == 1 then codes "gx_player: the command line is not understood" else
-    if status == 2 then codes "gx_player: no story (" ++ decimal fault ++ codes ")" else
-    if status == 3 then fault_line fault at steps else
-    if status == 4 then codes "gx_player: budget spent after " ++ decimal steps ++ codes " steps" else
-    if status == 5 then codes "gx_player: input ended" else
-    if status == 6 then codes "gx_player: nothing to wait for" else
-    if status == 7 then codes "gx_player: input line too long" else
-    if status == 8 then codes "gx_player: file fault" else
-    if status == 9 then codes "gx_player: input fault" else
-    if status == 10 then codes "gx_player: output fault" else
-    if status == 11 then codes "gx_player: out of memory" else
+    if status == BAD_WORDS then codes "gx_player: the command line is not understood" else
+    if status == BAD_STORY then codes "gx_player: no story (" ++ decimal fault ++ codes ")" else
+    if status == FAULT then fault_line fault at steps else
+    if status == SPENT then codes "gx_player: budget spent after " ++ decimal steps ++ codes " steps" else
+    if status == INPUT_ENDED then codes "gx_player: input ended" else
+    if status == STUCK then codes "gx_player: nothing to wait for" else
+    if status == LINE_TOO_LONG then codes "gx_player: input line too long" else
+    if status == SHELF_FAULT then codes "gx_player: file fault" else
+    if status == INPUT_FAULT then codes "gx_player: input fault" else
+    if status == OUTPUT_FAULT then codes "gx_player: output fault" else
+    if status == NO_MEMORY then codes "gx_player: out of memory" else
     []

@@ -1,9 +1,10 @@
 -- Which copies a machine keeps for undo in the course of a run (Glulx 3.1.2, "Game State").
 --
--- No field of a moment holds the history of the run: that its copies are those of the saveundos that are
--- alive by now is a law over the moments of the run.
+-- No field of a configuration holds the history of the run: that its copies are those of the saveundos that are
+-- alive by now is a law over the configurations of the run.
 use Rattle.std.specs.Prelude.{◌≡◌, ℕ, zero, suc, ◌==◌, if◌then◌else◌, List, [], ◌∷◌, take, drop, Option, Some, None, Result, Ok, Err}
 use Rattle.gx_words.specs.declared.faults.Fault.{Fault}
+use Rattle.gx_rows.specs.declared.numbers.TheConstants.{SAVEUNDO, RESTOREUNDO}
 use Rattle.gx_rows.specs.declared.instructions.Class.{Class}
 use Rattle.gx_rows.specs.declared.instructions.Class.TheVariants as class
 use Rattle.gx_state.specs.declared.modes.Mode.{Mode}
@@ -11,7 +12,7 @@ use Rattle.gx_state.specs.declared.modes.Mode.TheVariants as mode
 use Rattle.gx_state.specs.Flat.{FlatState}
 use Rattle.gx_state.specs.Copies.{Copy, copy_of}
 use Rattle.gx_operands.specs.Instructions.{Instruction, instruction}
-use Rattle.gx_session.specs.Session.{Moment, run_of}
+use Rattle.gx_session.specs.Session.{Configuration, run_of}
 
 -- What a step is to the copies.
 pub data Undoing : Type 0 where
@@ -23,15 +24,8 @@ pub data Undoing : Type 0 where
   neither : Undoing
 
 abbrev pub undoing_row : Class → ℕ → Undoing
-undoing_row class.Game number = if number == 0x125 then saves else if number == 0x126 then restores else neither
-undoing_row class.Calc number = neither
-undoing_row class.Branch number = neither
-undoing_row class.Flow number = neither
-undoing_row class.Copy number = neither
-undoing_row class.Memory number = neither
-undoing_row class.Stack number = neither
-undoing_row class.Print number = neither
-undoing_row class.Glk number = neither
+undoing_row class.Game number = if number == SAVEUNDO then saves else if number == RESTOREUNDO then restores else neither
+undoing_row c number = neither
 
 abbrev pub undoing_by : Result Instruction Fault → Undoing
 undoing_by (Ok i) = undoing_row i.row.class i.row.number
@@ -52,32 +46,32 @@ alive_by depth j live saves = take depth (j ∷ live)
 alive_by depth j live restores = drop 1 live
 alive_by depth j live neither = live
 
-abbrev pub alive_from : ℕ → ℕ → List ℕ → Option Moment → List ℕ
+abbrev pub alive_from : ℕ → ℕ → List ℕ → Option Configuration → List ℕ
 alive_from depth j live None = live
 alive_from depth j live (Some m) = alive_by depth j live (undoing m.machine.flat)
 
 -- the saveundos that are alive after so many events
-unfoldable pub alive : Moment → ℕ → List ℕ
+unfoldable pub alive : Configuration → ℕ → List ℕ
 alive start zero = []
 alive start (suc j) = alive_from start.machine.undo.depth j (alive start j) (run_of start j)
 
 -- the copy that the saveundo after so many events takes: of the whole state that it meets
-pub record IsTaken (start : Moment) (j : ℕ) (c : Copy) : Type 0 where
-  pub moment : Moment
+pub record IsTaken (start : Configuration) (j : ℕ) (c : Copy) : Type 0 where
+  pub configuration : Configuration
   pub i : Instruction
-  pub reached : run_of start j ≡ Some moment
-  pub decoded : instruction moment.machine.flat ≡ Ok i
-  pub copy : c ≡ copy_of moment.machine.flat i.dest i.next
+  pub reached : run_of start j ≡ Some configuration
+  pub decoded : instruction configuration.machine.flat ≡ Ok i
+  pub copy : c ≡ copy_of configuration.machine.flat i.dest i.next
 
 -- the copies, in order, are those that these saveundos took
-abbrev pub AreTaken : Moment → List Copy → List ℕ → Type 0
+abbrev pub AreTaken : Configuration → List Copy → List ℕ → Type 0
 AreTaken start [] [] = Unit {0}
 AreTaken start (c ∷ cs) (j ∷ js) = IsTaken start j c × AreTaken start cs js
 AreTaken start [] (j ∷ js) = ⊥
 AreTaken start (c ∷ cs) [] = ⊥
 
--- In a run that begins without copies, those of each moment are, in order, the copies that the saveundos took
+-- In a run that begins without copies, those of each configuration are, in order, the copies that the saveundos took
 -- which are alive there. So a restoreundo goes back to the whole copy of the newest saveundo that was neither
 -- used nor dropped, and finds none exactly where there is none.
-unfoldable pub LastsUndo : Moment → Type 0
-LastsUndo start = start.machine.undo.copies ≡ [] → (j : ℕ) (m : Moment) → run_of start j ≡ Some m → AreTaken start m.machine.undo.copies (alive start j)
+unfoldable pub LastsUndo : Configuration → Type 0
+LastsUndo start = start.machine.undo.copies ≡ [] → (j : ℕ) (m : Configuration) → run_of start j ≡ Some m → AreTaken start m.machine.undo.copies (alive start j)

@@ -2,6 +2,7 @@
 ghost use Rattle.std.specs.Prelude.{◌≡◌, ◌<◌, ◌++◌, ◌∷◌, [], OnOk, IfOk, string_bytes, codes, decimal};
 ghost use Rattle.gx_session.specs.Lines.{line_of, fault_line, hex_digit, hex_of};
 
+use crate::statuses;
 use gx_machine::Machine;
 use itoa::Buffer;
 use std::alloc::{AllocError, Allocator, Global};
@@ -9,12 +10,11 @@ use std::alloc::{AllocError, Allocator, Global};
 /// How a run ended.
 #[derive(Drop)]
 pub struct Ended<A: Allocator + Clone> {
-    /// 0 the program ended, 3 a fault, 4 the budget is spent, 10 the sink failed, 11 memory ran out;
-    /// the other rows of `line` are those of a command line.
+    /// One of `statuses`.
     pub status: u8,
-    /// The fault's number at status 2 and 3, else 0.
+    /// The fault's number at BAD_STORY and FAULT, else 0.
     pub fault: u8,
-    /// The PC before the faulting step at status 3, else 0.
+    /// The PC before the faulting step at FAULT, else 0.
     pub at: u32,
     /// The units of the budget that were used.
     pub steps: u64,
@@ -30,17 +30,20 @@ impl<A: Allocator + Clone> Ended<A> {
             string_bytes line ≡ line_of self.now.status self.now.fault self.now.at self.now.steps) }
     {
         match self.status {
-            1 => String::from_str(alloc, "gx_player: the command line is not understood"),
-            2 => self.story_line(alloc),
-            3 => self.fault_line(alloc),
-            4 => self.spent_line(alloc),
-            5 => String::from_str(alloc, "gx_player: input ended"),
-            6 => String::from_str(alloc, "gx_player: nothing to wait for"),
-            7 => String::from_str(alloc, "gx_player: input line too long"),
-            8 => String::from_str(alloc, "gx_player: file fault"),
-            9 => String::from_str(alloc, "gx_player: input fault"),
-            10 => String::from_str(alloc, "gx_player: output fault"),
-            11 => String::from_str(alloc, "gx_player: out of memory"),
+            statuses::BAD_WORDS => String::from_str(
+                alloc,
+                "gx_player: the command line is not understood",
+            ),
+            statuses::BAD_STORY => self.story_line(alloc),
+            statuses::FAULT => self.fault_line(alloc),
+            statuses::SPENT => self.spent_line(alloc),
+            statuses::INPUT_ENDED => String::from_str(alloc, "gx_player: input ended"),
+            statuses::STUCK => String::from_str(alloc, "gx_player: nothing to wait for"),
+            statuses::LINE_TOO_LONG => String::from_str(alloc, "gx_player: input line too long"),
+            statuses::SHELF_FAULT => String::from_str(alloc, "gx_player: file fault"),
+            statuses::INPUT_FAULT => String::from_str(alloc, "gx_player: input fault"),
+            statuses::OUTPUT_FAULT => String::from_str(alloc, "gx_player: output fault"),
+            statuses::NO_MEMORY => String::from_str(alloc, "gx_player: out of memory"),
             _ => Ok(String::new(alloc)),
         }
     }

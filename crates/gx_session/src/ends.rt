@@ -1,9 +1,12 @@
 //! How a run goes on, stops at its end, or is cut short.
-ghost use Rattle.std.specs.Prelude.{◌≡◌, ◌≤◌, ◌⊎◌};
-ghost use Rattle.gx_session.specs.Session.{status_code, fault_number};
-ghost use Rattle.gx_session.specs.Playing.{IsStop, halt_code};
+ghost use Rattle.std.specs.Prelude.{◌≡◌};
+ghost use Rattle.gx_session.specs.Session.{status_of, fault_number};
+ghost use Rattle.gx_session.specs.Playing.{status_of_halt};
 
+use crate::statuses;
+use gx_outside::SendFault;
 use gx_words::Fault;
+use std::alloc::AllocError;
 
 /// Why a session stops.
 #[derive(Clone, Copy, Debug, PartialEq, Eq)]
@@ -34,15 +37,38 @@ pub enum Halt {
     NoMemory,
 }
 
+impl From<SendFault> for Halt {
+    ghost use Rattle.gx_session.specs.Playing.{halt_of};
+
+    ghost from_gives = { λ fault halt. halt ≡ halt_of fault };
+
+    fn from(fault: SendFault) -> Halt {
+        match fault {
+            SendFault::Failed => Halt::Output,
+            SendFault::NoMemory => Halt::NoMemory,
+        }
+    }
+}
+
+impl From<AllocError> for Halt {
+    ghost use Rattle.gx_session.specs.declared.ends.Halt.TheVariants.{NoMemory};
+
+    ghost from_gives = { λ _ halt. halt ≡ NoMemory };
+
+    fn from(_refused: AllocError) -> Halt {
+        Halt::NoMemory
+    }
+}
+
 impl Stop {
     /// The status of a run that stops so.
     pub fn status(self) -> u8
-        ensures { result ≡ status_code self }
+        ensures { result ≡ status_of self }
     {
         match self {
-            Stop::Ended => 0,
-            Stop::Faulted(_) => 3,
-            Stop::Spent => 4,
+            Stop::Ended => statuses::ENDED,
+            Stop::Faulted(_) => statuses::FAULT,
+            Stop::Spent => statuses::SPENT,
         }
     }
 
@@ -60,11 +86,11 @@ impl Stop {
 impl Halt {
     /// The status of a run that is cut short so.
     pub fn status(self) -> u8
-        ensures { result ≡ halt_code self }
+        ensures { result ≡ status_of_halt self }
     {
         match self {
-            Halt::Output => 10,
-            Halt::NoMemory => 11,
+            Halt::Output => statuses::OUTPUT_FAULT,
+            Halt::NoMemory => statuses::NO_MEMORY,
         }
     }
 }

@@ -1,16 +1,18 @@
 //! The events of a run: a step, the answer to what it asks, and the text that is sent on the way.
 //!
-//! Each function keeps what is held a moment of the session (`Going` of specs/Playing), or comes to
-//! its end (`Done`), or is cut short (`Early`). Each kind of asking has a function of its own.
-ghost use Rattle.std.specs.Prelude.{◌≡◌, ◌≢◌, ◌≤◌, ◌<◌, ◌⊎◌, [], None, Some, Ok, Err, IsSome, IsOk, IfOk, IfErr, length};
+//! Each function keeps what is held a configuration of the session (`Going` of specs/Playing, and `Gone`
+//! before the text of an event is sent), or comes to its end (`Done`), or is cut short (`Early`). Each
+//! kind of asking has a function of its own.
+ghost use Rattle.std.specs.Prelude.{◌≡◌, ◌≢◌, ◌≤◌, ◌<◌, ◌⊎◌, [], None, Some, Ok, Err, IsSome, IsOk, IfOk, IfErr};
 ghost use Rattle.gx_state.specs.declared.effects.Effect.TheVariants.{Put, Glk, Spent};
-ghost use Rattle.glk_dispatch.specs.Turns.{TurnFits};
-ghost use Rattle.gx_machine.specs.Answer.{CanAnswer};
+ghost use Rattle.glk_dispatch.specs.Turns.{IsTurnFor};
+ghost use Rattle.gx_machine.specs.Answer.{IsAnswer};
 ghost use Rattle.gx_machine.specs.Step.{asking_of, room_of};
 ghost use Rattle.gx_session.specs.Devices.{Devices};
-ghost use Rattle.gx_session.specs.Session.{Moment};
+ghost use Rattle.gx_session.specs.Session.{Configuration};
+ghost use Rattle.gx_session.specs.Sending.{sent_before_end, sent_of};
 ghost use Rattle.gx_session.specs.Runs.{Blames};
-ghost use Rattle.gx_session.specs.Playing.{held, WordIs, Going, Follows, NextGives, StopGives, IsStop, IsNext, Flushes, Gives, FaultGives, TurnGives};
+ghost use Rattle.gx_session.specs.Playing.{held, asking_in, WordIs, Going, Follows, EventGives, NextGives, StopGives, IsStop, IsNext, Flushes, TakesReply, FaultGives, TakesTurn};
 ghost use Rattle.rand_core.specs.Stream.{Stream};
 
 use crate::ends::{Halt, Next, Stop};
@@ -18,14 +20,14 @@ use arrayvec::ArrayVec;
 use glk_dispatch::Turn;
 use glk_world::World;
 use gx_machine::Engine;
-use gx_outside::{SendFault, Sink};
+use gx_outside::Sink;
 use gx_state::{Effect, Reply};
 use gx_words::Fault;
 use rand_core::Rng;
 use std::alloc::Allocator;
 
-/// Text is sent once so many bytes are pending.
-const ENOUGH: usize = 4096;
+/// Text is sent after an event that leaves so many bytes or more pending.
+pub const ENOUGH: usize = 4096;
 
 /// What a run holds.
 pub struct Running<E> {
@@ -37,21 +39,16 @@ pub struct Running<E> {
     pub left: u64,
 }
 
-/// Sends the pending text, if there is any.
-pub fn flush<K: Sink>(world: &mut World, output: &mut K) -> Result<(), Halt>
-    ensures sends { Flushes (K.seen output.old) (K.seen output.new) world.old world.new result }
-    ensures none { world.old.text ≡ [] → (K.seen output.new ≡ K.seen output.old) × IsOk result }
-    ensures count { Blames (K.seen output.old).faults (K.seen output.new).faults
-        (K.seen output.new).failing (result ≡ Err Halt.Output) }
+/// Sends the pending text where it has so many bytes or more.
+fn flush<K: Sink>(world: &mut World, output: &mut K, enough: usize) -> Result<(), Halt>
+    ensures sends { Flushes enough (K.seen output.old) (K.seen output.new) world.old world.new result }
+    ensures count { Blames (K.seen output.old).calls (K.seen output.new).calls (result ≡ Err Halt.Output) }
+    ensures tells { (K.seen output.new).tells ≡ (K.seen output.old).tells }
 {
-    if world.pending().is_empty() {
+    if world.pending().len() < enough {
         return Ok(());
     }
-    match output.send(world.pending()) {
-        Err(SendFault::Failed) => return Err(Halt::Output),
-        Err(SendFault::NoMemory) => return Err(Halt::NoMemory),
-        Ok(()) => {}
-    }
+    output.send(world.pending())?;
     world.sent();
     Ok(())
 }
@@ -90,17 +87,13 @@ fn give<A: Allocator + Clone, E: Engine<A>>(
     reply: &Reply,
     left: u64,
 ) -> Result<Next, Halt>
-    requires { CanAnswer (E.whole run.old.engine) reply.now }
-    ensures gives { Gives E.whole run.old run.new reply.now left result }
+    requires { IsAnswer (E.whole run.old.engine) reply.now }
+    ensures gives { TakesReply E.whole run.old run.new reply.now left result }
     ensures only { (result ≡ Ok Next.Goes) ⊎ (result ≡ Err Halt.NoMemory) }
 {
-    match run.engine.finish(reply) {
-        Ok(()) => {
-            run.left = left;
-            Ok(Next::Goes)
-        }
-        Err(_) => Err(Halt::NoMemory),
-    }
+    run.engine.finish(reply)?;
+    run.left = left;
+    Ok(Next::Goes)
 }
 
 /// Puts a character to Glk.
@@ -111,9 +104,9 @@ fn ask_put<A: Allocator + Clone, E: Engine<A>>(
 ) -> Result<Next, Halt>
     requires asks { (E.whole run.old.engine).asking ≡ asking_of (Put c) }
     requires fewer { left ≤ run.old.left }
-    ensures plays { (start : Moment) (entry d : Devices)
+    ensures plays { (start : Configuration) (entry d : Devices)
         → Follows start entry (held E.whole run.old) d left (Put c)
-        → NextGives start entry (held E.whole run.new) d result }
+        → EventGives start entry (held E.whole run.new) (asking_in E.whole run.new) d result }
     ensures none { result ≡ Ok Next.Goes → (E.whole run.new.engine).asking ≡ None }
     ensures left { result ≡ Ok Next.Goes → run.new.left ≡ left }
     ensures no_more { run.new.left ≤ run.old.left }
@@ -133,9 +126,9 @@ fn take_turn<A: Allocator + Clone, E: Engine<A>>(
     left: u64,
 ) -> Result<Next, Halt>
     requires pending { IsSome (E.whole run.old.engine).asking }
-    requires fits { TurnFits (E.whole run.old.engine).machine.flat
+    requires fits { IsTurnFor (E.whole run.old.engine).machine.flat
         (room_of (E.whole run.old.engine).asking) turn }
-    ensures gives { TurnGives E.whole run.old run.new turn left result }
+    ensures gives { TakesTurn E.whole run.old run.new turn left result }
     ensures only { (result ≡ Ok Next.Goes) ⊎ (result ≡ Err Halt.NoMemory) }
 {
     match turn {
@@ -153,9 +146,9 @@ fn ask_glk<A: Allocator + Clone, E: Engine<A>>(
 ) -> Result<Next, Halt>
     requires asks { (E.whole run.old.engine).asking ≡ asking_of (Glk selector args.now room) }
     requires fewer { left ≤ run.old.left }
-    ensures plays { (start : Moment) (entry d : Devices)
+    ensures plays { (start : Configuration) (entry d : Devices)
         → Follows start entry (held E.whole run.old) d left (Glk selector args.now room)
-        → NextGives start entry (held E.whole run.new) d result }
+        → EventGives start entry (held E.whole run.new) (asking_in E.whole run.new) d result }
     ensures none { result ≡ Ok Next.Goes → (E.whole run.new.engine).asking ≡ None }
     ensures left { result ≡ Ok Next.Goes → run.new.left ≡ left }
     ensures no_more { run.new.left ≤ run.old.left }
@@ -182,9 +175,9 @@ fn follow<A: Allocator + Clone, E: Engine<A>>(
 ) -> Result<Next, Halt>
     requires asks { (E.whole run.old.engine).asking ≡ asking_of effect }
     requires fewer { left ≤ run.old.left }
-    ensures plays { (start : Moment) (entry d : Devices)
+    ensures plays { (start : Configuration) (entry d : Devices)
         → Follows start entry (held E.whole run.old) d left effect
-        → NextGives start entry (held E.whole run.new) d result }
+        → EventGives start entry (held E.whole run.new) (asking_in E.whole run.new) d result }
     ensures goes { result ≡ Ok Next.Goes → effect ≢ Spent }
     ensures none { result ≡ Ok Next.Goes → (E.whole run.new.engine).asking ≡ None }
     ensures left { result ≡ Ok Next.Goes → run.new.left ≡ left }
@@ -225,9 +218,9 @@ fn event<A: Allocator + Clone, E: Engine<A>, R: Rng>(
     dice: &mut R,
 ) -> Result<Next, Halt>
     requires none { (E.whole run.old.engine).asking ≡ None }
-    ensures plays { (start : Moment) (entry d : Devices)
+    ensures plays { (start : Configuration) (entry d : Devices)
         → Going start entry (held E.whole run.old) (record d { words = R.stream dice.old })
-        → NextGives start entry (held E.whole run.new) (record d { words = R.stream dice.new }) result }
+        → EventGives start entry (held E.whole run.new) (asking_in E.whole run.new) (record d { words = R.stream dice.new }) result }
     ensures none { result ≡ Ok Next.Goes → (E.whole run.new.engine).asking ≡ None }
     ensures nearer { result ≡ Ok Next.Goes → run.new.left < run.old.left }
     ensures no_more { run.new.left ≤ run.old.left }
@@ -249,28 +242,21 @@ fn play_event<A: Allocator + Clone, E: Engine<A>, K: Sink, R: Rng>(
     dice: &mut R,
 ) -> Result<Next, Halt>
     requires none { (E.whole run.old.engine).asking ≡ None }
-    ensures plays { (start : Moment) (entry d : Devices)
+    ensures plays { (start : Configuration) (entry d : Devices)
         → Going start entry (held E.whole run.old) (record d { sink = K.seen output.old; words = R.stream dice.old })
-        → NextGives start entry (held E.whole run.new) (record d { sink = K.seen output.new; words = R.stream dice.new }) result }
+        → NextGives start entry (held E.whole run.new) (asking_in E.whole run.new) (record d { sink = K.seen output.new; words = R.stream dice.new }) result }
     ensures none { result ≡ Ok Next.Goes → (E.whole run.new.engine).asking ≡ None }
     ensures nearer { result ≡ Ok Next.Goes → run.new.left < run.old.left }
     ensures no_more { run.new.left ≤ run.old.left }
-    ensures few { result ≡ Ok Next.Goes → length run.new.world.text < 4096 }
     ensures stop { IfOk result IsNext }
-    ensures count { Blames (K.seen output.old).faults (K.seen output.new).faults
-        (K.seen output.new).failing (result ≡ Err Halt.Output) }
+    ensures count { Blames (K.seen output.old).calls (K.seen output.new).calls (result ≡ Err Halt.Output) }
+    ensures tells { (K.seen output.new).tells ≡ (K.seen output.old).tells }
 {
-    match event(run, dice) {
-        Err(halt) => return Err(halt),
-        Ok(Next::Stops(stop)) => return Ok(Next::Stops(stop)),
-        Ok(Next::Goes) => {}
+    match event(run, dice)? {
+        Next::Stops(stop) => return Ok(Next::Stops(stop)),
+        Next::Goes => {}
     }
-    if run.world.pending().len() >= ENOUGH {
-        match flush(&mut run.world, output) {
-            Err(halt) => return Err(halt),
-            Ok(()) => {}
-        }
-    }
+    flush(&mut run.world, output, ENOUGH)?;
     Ok(Next::Goes)
 }
 
@@ -281,19 +267,18 @@ fn play_events<A: Allocator + Clone, E: Engine<A>, K: Sink, R: Rng>(
     dice: &mut R,
 ) -> Result<Stop, Halt>
     requires none { (E.whole run.old.engine).asking ≡ None }
-    ensures plays { (start : Moment) (entry d : Devices)
+    ensures plays { (start : Configuration) (entry d : Devices)
         → Going start entry (held E.whole run.old) (record d { sink = K.seen output.old; words = R.stream dice.old })
-        → StopGives start entry (held E.whole run.new) (record d { sink = K.seen output.new; words = R.stream dice.new }) result }
+        → StopGives start entry (held E.whole run.new) (asking_in E.whole run.new) (record d { sink = K.seen output.new; words = R.stream dice.new }) (sent_before_end start) result }
     ensures no_more { run.new.left ≤ run.old.left }
     ensures stop { IfOk result IsStop }
-    ensures count { Blames (K.seen output.old).faults (K.seen output.new).faults
-        (K.seen output.new).failing (result ≡ Err Halt.Output) }
+    ensures count { Blames (K.seen output.old).calls (K.seen output.new).calls (result ≡ Err Halt.Output) }
+    ensures tells { (K.seen output.new).tells ≡ (K.seen output.old).tells }
 {
     loop {
-        match play_event(run, output, dice) {
-            Err(halt) => return Err(halt),
-            Ok(Next::Stops(stop)) => return Ok(stop),
-            Ok(Next::Goes) => {}
+        match play_event(run, output, dice)? {
+            Next::Stops(stop) => return Ok(stop),
+            Next::Goes => {}
         }
     }
 }
@@ -305,21 +290,16 @@ pub fn play_out<A: Allocator + Clone, E: Engine<A>, K: Sink, R: Rng>(
     dice: &mut R,
 ) -> Result<Stop, Halt>
     requires none { (E.whole run.old.engine).asking ≡ None }
-    ensures plays { (start : Moment) (entry d : Devices)
+    ensures plays { (start : Configuration) (entry d : Devices)
         → Going start entry (held E.whole run.old) (record d { sink = K.seen output.old; words = R.stream dice.old })
-        → StopGives start entry (held E.whole run.new) (record d { sink = K.seen output.new; words = R.stream dice.new }) result }
+        → StopGives start entry (held E.whole run.new) (asking_in E.whole run.new) (record d { sink = K.seen output.new; words = R.stream dice.new }) (sent_of start) result }
     ensures sent { IsOk result → run.new.world.text ≡ [] }
     ensures no_more { run.new.left ≤ run.old.left }
     ensures stop { IfOk result IsStop }
-    ensures count { Blames (K.seen output.old).faults (K.seen output.new).faults
-        (K.seen output.new).failing (result ≡ Err Halt.Output) }
+    ensures count { Blames (K.seen output.old).calls (K.seen output.new).calls (result ≡ Err Halt.Output) }
+    ensures tells { (K.seen output.new).tells ≡ (K.seen output.old).tells }
 {
-    let stop = match play_events(run, output, dice) {
-        Err(halt) => return Err(halt),
-        Ok(stop) => stop,
-    };
-    match flush(&mut run.world, output) {
-        Err(halt) => Err(halt),
-        Ok(()) => Ok(stop),
-    }
+    let stop = play_events(run, output, dice)?;
+    flush(&mut run.world, output, 1)?;
+    Ok(stop)
 }

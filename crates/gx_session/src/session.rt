@@ -1,10 +1,9 @@
 //! A run of a session from its start.
-ghost use Rattle.std.specs.Prelude.{◌≡◌, None, Some, IsSome, IfSome};
+ghost use Rattle.std.specs.Prelude.{◌≡◌, None, IsSomeAnd};
 ghost use Rattle.glk_world.specs.World.{empty_world};
-ghost use Rattle.gx_session.specs.Devices.{devices, Told};
-ghost use Rattle.gx_session.specs.Session.{start_of, fault_place};
-ghost use Rattle.gx_session.specs.Runs.{Runs, Counts, IsAnswer};
-ghost use Rattle.gx_session.specs.Undoing.{LastsUndo};
+ghost use Rattle.gx_session.specs.Devices.{devices};
+ghost use Rattle.gx_session.specs.Session.{start_of, fault_address};
+ghost use Rattle.gx_session.specs.Runs.{IsRun, report_on, report_of};
 
 use crate::Ended;
 use crate::ends::Stop;
@@ -18,11 +17,11 @@ use std::alloc::{Allocator, Global};
 /// How a run of an engine ended.
 #[derive(Drop)]
 pub struct EndedOn<E> {
-    /// 0 the program ended, 3 a fault, 4 the budget is spent, 10 the sink failed, 11 memory ran out.
+    /// ENDED, FAULT, SPENT, OUTPUT_FAULT or NO_MEMORY of `statuses`.
     pub status: u8,
-    /// The fault's number at status 3, else 0.
+    /// The fault's number at FAULT, else 0.
     pub fault: u8,
-    /// The PC before the faulting step at status 3, else 0.
+    /// The PC before the faulting step at FAULT, else 0.
     pub at: u32,
     /// The units of the budget that were used.
     pub steps: u64,
@@ -31,8 +30,8 @@ pub struct EndedOn<E> {
 }
 
 /// Where a stop's fault was met, and 0 without one.
-fn place<A: Allocator + Clone, E: Engine<A>>(engine: &E, stop: Stop) -> u32
-    ensures { result ≡ fault_place stop (E.whole engine.now).machine }
+fn fault_address<A: Allocator + Clone, E: Engine<A>>(engine: &E, stop: Stop) -> u32
+    ensures { result ≡ fault_address stop (E.whole engine.now).machine }
 {
     match stop {
         Stop::Faulted(_) => engine.state().pc(),
@@ -44,11 +43,10 @@ fn place<A: Allocator + Clone, E: Engine<A>>(engine: &E, stop: Stop) -> u32
 /// copy of the newest saveundo that is neither used nor dropped.
 ///
 /// After a fault or a spent budget the engine stands before the step, which isn't counted; at the
-/// program's end the last step is counted. At status 10 and 11 it stands at a moment of the session,
-/// and nothing more is sent.
+/// program's end the last step is counted. Where the run is cut short it stands at a configuration of
+/// the session, and nothing more is sent.
 ///
 /// `alloc` and `echo` are for lines of input, which no session takes so far.
-#[tactic(auto, using(crate::proofs::Undoing::lasts_undo))]
 pub fn run_on<A: Allocator + Clone, E: Engine<A>, S: Source, K: Sink, F: Shelf, R: Rng>(
     alloc: Global,
     engine: E,
@@ -62,15 +60,9 @@ pub fn run_on<A: Allocator + Clone, E: Engine<A>, S: Source, K: Sink, F: Shelf, 
 ) -> EndedOn<E>
     requires asks_nothing { (E.whole engine).asking ≡ None }
     requires empty { world ≡ empty_world }
-    ensures runs { let entry = devices (S.seen input.old) (K.seen output.old) (F.seen shelf.old) (R.stream dice.old) in
+    ensures { let entry = devices (S.seen input.old) (K.seen output.old) (F.seen shelf.old) (R.stream dice.old) in
         let exit = devices (S.seen input.new) (K.seen output.new) (F.seen shelf.new) (R.stream dice.new) in
-        Told entry → Runs (start_of (E.whole engine).machine world entry steps) entry exit
-        result.status result.fault result.at result.steps (E.whole result.engine).machine }
-    ensures counts { Counts (devices (S.seen input.old) (K.seen output.old) (F.seen shelf.old) (R.stream dice.old))
-        (devices (S.seen input.new) (K.seen output.new) (F.seen shelf.new) (R.stream dice.new)) result.status }
-    ensures answer { IsAnswer result.status result.fault result.at }
-    ensures undo { let entry = devices (S.seen input.old) (K.seen output.old) (F.seen shelf.old) (R.stream dice.old) in
-        LastsUndo (start_of (E.whole engine).machine world entry steps) }
+        IsRun (start_of (E.whole engine).machine world entry steps) entry exit (report_on E.whole result) }
 {
     let mut run = Running {
         engine,
@@ -90,7 +82,7 @@ pub fn run_on<A: Allocator + Clone, E: Engine<A>, S: Source, K: Sink, F: Shelf, 
         Ok(stop) => EndedOn {
             status: stop.status(),
             fault: stop.fault(),
-            at: place(&engine, stop),
+            at: fault_address(&engine, stop),
             steps: used,
             engine,
         },
@@ -118,16 +110,9 @@ pub fn run<A: Allocator + Clone, S: Source, K: Sink, F: Shelf, R: Rng>(
 ) -> Ended<A>
     requires asks_nothing { machine.asking ≡ None }
     requires empty { world ≡ empty_world }
-    ensures machine { IsSome result.machine }
-    ensures runs { let entry = devices (S.seen input.old) (K.seen output.old) (F.seen shelf.old) (R.stream dice.old) in
+    ensures { let entry = devices (S.seen input.old) (K.seen output.old) (F.seen shelf.old) (R.stream dice.old) in
         let exit = devices (S.seen input.new) (K.seen output.new) (F.seen shelf.new) (R.stream dice.new) in
-        Told entry → IfSome result.machine (λ end. Runs (start_of machine.machine world entry steps) entry exit
-        result.status result.fault result.at result.steps end.machine) }
-    ensures counts { Counts (devices (S.seen input.old) (K.seen output.old) (F.seen shelf.old) (R.stream dice.old))
-        (devices (S.seen input.new) (K.seen output.new) (F.seen shelf.new) (R.stream dice.new)) result.status }
-    ensures answer { IsAnswer result.status result.fault result.at }
-    ensures undo { let entry = devices (S.seen input.old) (K.seen output.old) (F.seen shelf.old) (R.stream dice.old) in
-        LastsUndo (start_of machine.machine world entry steps) }
+        IsSomeAnd result.machine (λ end. IsRun (start_of machine.machine world entry steps) entry exit (report_of result end)) }
 {
     let ended = run_on(
         alloc, machine, world, echo, steps, input, output, shelf, dice,

@@ -21,7 +21,7 @@ frame_good xs format args whole is fits =
     record {
       header = omega (arith, length-append xs (frame format args), long);
       begins = whole;
-      words = omega (arith, read, four);
+      aligned = omega (arith, read, four);
       locals = omega (arith, pos);
       order = omega (arith, pos, read);
       whole = omega (arith, length-append xs (frame format args), long, read);
@@ -47,7 +47,7 @@ pub good_after_push : (xs ys : List ℕ) (fp : ℕ) → IsGood xs fp → IsGood 
 good_after_push xs ys fp good = record {
   header = grind (arith, common_steps);
   begins = good.begins;
-  words = grind (arith, word-append);
+  aligned = grind (arith, word-append);
   locals = grind (arith, word-append);
   order = grind (arith, word-append);
   whole = grind (arith, common_steps, word-append);
@@ -57,7 +57,7 @@ pub good_after_put : (xs bytes : List ℕ) (fp at : ℕ) → IsGood xs fp → fp
 good_after_put xs bytes fp at good past there = record {
   header = grind (arith, length-spliced);
   begins = good.begins;
-  words = grind (arith, word-spliced);
+  aligned = grind (arith, word-spliced);
   locals = grind (arith, word-spliced);
   order = grind (arith, word-spliced);
   whole = grind (arith, length-spliced, word-spliced);
@@ -67,7 +67,7 @@ pub good_after_cut : (xs : List ℕ) (fp n : ℕ) → IsGood xs fp → fp + word
 good_after_cut xs fp n good past there = record {
   header = grind (arith, common_steps, good.header, good.locals, good.order);
   begins = good.begins;
-  words = grind (arith, word-take, good.words, good.locals, good.order);
+  aligned = grind (arith, word-take, good.aligned, good.locals, good.order);
   locals = grind (arith, word-take, good.header, good.locals, good.order);
   order = grind (arith, word-take, good.header, good.locals, good.order);
   whole = grind (arith, common_steps, word-take, good.header, good.locals, good.order);

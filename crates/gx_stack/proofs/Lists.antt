@@ -160,4 +160,4 @@ values_more s place v fits there at whole =
 pub values_pushed : (s : List ℕ) (f : Frame) (v : ℕ) → v < 2 ^ 32 → length s % 4 ≡ 0 → IsFrame s f → values_of (s ++ bytes_of_word v) f ≡ values_of s f ++ v ∷ []
 values_pushed s f v fits whole is =
     let good = is.good in
-    values_more s f.values v fits (omega (arith, is.values, good.whole)) (omega (arith, is.values, good.begins, good.words)) whole
+    values_more s f.values v fits (omega (arith, is.values, good.whole)) (omega (arith, is.values, good.begins, good.aligned)) whole

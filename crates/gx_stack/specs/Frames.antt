@@ -1,5 +1,5 @@
 -- Frames on a stack (Glulx 3.1.2, "Call Frames"): which are good, and where their parts stand.
-use Rattle.std.specs.Prelude.{◌≡◌, ℕ, ◌+◌, ◌%◌, ◌≤◌, Bool, ◌&&◌, ◌==◌, nat_le, if◌then◌else◌, List, [], ◌∷◌, ◌++◌, length, Result, Ok, Err}
+use Rattle.std.specs.Prelude.{◌≡◌, ℕ, ◌+◌, ◌-◌, ◌%◌, ◌≤◌, Bool, ◌&&◌, ◌==◌, nat_le, if◌then◌else◌, List, [], ◌∷◌, ◌++◌, length, Result, Ok, Err}
 use Rattle.gx_words.specs.Numbers.{word, bytes_of_word}
 use Rattle.gx_stack.specs.declared.faults.StackFault.{StackFault}
 use Rattle.gx_stack.specs.declared.faults.StackFault.TheVariants.{Overflow, BadFrame}
@@ -16,7 +16,7 @@ is_good s fp =
 pub record IsGood (s : List ℕ) (fp : ℕ) : Type 0 where
   pub header : fp + 8 ≤ length s
   pub begins : fp % 4 ≡ 0
-  pub words : word s fp % 4 ≡ 0
+  pub aligned : word s fp % 4 ≡ 0
   pub locals : 8 ≤ word s (fp + 4)
   pub order : word s (fp + 4) ≤ word s fp
   pub whole : fp + word s fp ≤ length s
@@ -30,6 +30,10 @@ pub record IsFrame (s : List ℕ) (f : Frame) : Type 0 where
   pub good : IsGood s f.fp
   pub locals : f.locals ≡ f.fp + word s (f.fp + 4)
   pub values : f.values ≡ f.fp + word s f.fp
+
+-- so many bytes at an offset into a frame's locals are all in its locals
+abbrev pub has_local : Frame → ℕ → ℕ → Bool
+has_local f at width = nat_le (at + width) (f.values - f.locals)
 
 -- every good frame of the old bytes is one of the new
 abbrev pub KeepsFrames : List ℕ → List ℕ → Type 0

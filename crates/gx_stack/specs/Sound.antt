@@ -1,5 +1,6 @@
 -- What holds of every stack.
-use Rattle.std.specs.Prelude.{◌≡◌, ◌^◌, ◌%◌, ◌≤◌, length, vec_capacity}
+use Rattle.std.specs.Prelude.{◌≡◌, ◌%◌, ◌≤◌, length, vec_capacity}
+use Rattle.gx_words.specs.declared.limits.TheConstants.{STACK_LIMIT}
 use Rattle.gx_stack.specs.Flat.{FlatStack}
 use Rattle.gx_stack.specs.declared.Stack.TheInside.{Inside}
 
@@ -9,6 +10,6 @@ flat_of s = record { bytes = s.bytes.items; limit = s.limit }
 -- all that the limit allows has its room already, so nothing that is pushed wants memory
 pub record IsSound (s : Inside) : Type 0 where
   pub size : length s.bytes.items ≤ s.limit
-  pub words : length s.bytes.items % 4 ≡ 0
-  pub limit : s.limit ≤ 2 ^ 24
+  pub aligned : length s.bytes.items % 4 ≡ 0
+  pub limit : s.limit ≤ STACK_LIMIT
   pub room : s.limit ≤ vec_capacity s.bytes

@@ -9,6 +9,7 @@ use Rattle.gx_stack.specs.declared.faults.StackFault.{StackFault}
 use Rattle.gx_stack.specs.declared.faults.StackFault.TheVariants.{Overflow, Underflow, BadLocal}
 use Rattle.gx_stack.specs.declared.frames.Frame.{Frame}
 use Rattle.gx_stack.specs.Flat.{FlatStack}
+use Rattle.gx_stack.specs.Frames.{has_local}
 
 unfoldable pub pushed : FlatStack → ℕ → Result FlatStack StackFault
 pushed s v = if nat_le (length s.bytes + 4) s.limit then Ok (record s { bytes = s.bytes ++ bytes_of_word v }) else Err Overflow
@@ -62,11 +63,11 @@ copied s f n =
 
 -- the local of so many bytes at an offset into the locals
 unfoldable pub local_at : List ℕ → Frame → ℕ → ℕ → Result ℕ StackFault
-local_at s f at width = if nat_le (at + width) (f.values - f.locals) then Ok (number width s (f.locals + at)) else Err BadLocal
+local_at s f at width = if has_local f at width then Ok (number width s (f.locals + at)) else Err BadLocal
 
 unfoldable pub with_local : FlatStack → Frame → ℕ → ℕ → ℕ → Result FlatStack StackFault
 with_local s f at width v =
-    if nat_le (at + width) (f.values - f.locals) then Ok (record s { bytes = spliced s.bytes (f.locals + at) (bytes_of_number width v) }) else Err BadLocal
+    if has_local f at width then Ok (record s { bytes = spliced s.bytes (f.locals + at) (bytes_of_number width v) }) else Err BadLocal
 
 -- the words of a list of bytes
 unfoldable pub words : List ℕ → List ℕ

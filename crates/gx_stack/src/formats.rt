@@ -115,7 +115,7 @@ fn locals_pos(format: &[u8]) -> u32
 pub fn frame_len(format: &[u8]) -> u32
     requires { IsFormat format.now }
     ensures value { result ≡ frame_len format.now }
-    ensures words { result % 4 ≡ 0 }
+    ensures aligned { result % 4 ≡ 0 }
     ensures fits { result < 2 ^ 18 }
 {
     let body = locals_len(0, &format[..format.len() - 2]);

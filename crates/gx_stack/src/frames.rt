@@ -2,7 +2,7 @@
 ghost use Rattle.std.specs.Prelude.{◌≡◌, ◌+◌, ◌*◌, ◌%◌, ◌≤◌, ◌++◌, [], length, take, IfOk, OnOk};
 ghost use Rattle.gx_words.specs.Results.{Alters};
 ghost use Rattle.gx_stack.specs.Formats.{IsFormat, pairs_of, locals_pos, frame_len, local_places, held, numbers_at};
-ghost use Rattle.gx_stack.specs.Frames.{IsGood, IsFrame, KeepsFrames, parts, frame_in, entered, with_args};
+ghost use Rattle.gx_stack.specs.Frames.{IsGood, IsFrame, KeepsFrames, has_local, parts, frame_in, entered, with_args};
 
 use crate::formats::{frame_len, push_frame};
 use crate::room::push_word;
@@ -20,6 +20,15 @@ pub struct Frame {
     pub values: u32,
 }
 
+impl Frame {
+    /// Whether so many bytes at an offset into its locals are all in its locals.
+    pub fn has_local(&self, at: u32, width: u32) -> bool
+        ensures { result ≡ has_local self.now at width }
+    {
+        u64::from(at) + u64::from(width) <= u64::from(self.values.saturating_sub(self.locals))
+    }
+}
+
 impl Stack {
     /// The frame at a place.
     pub fn frame(&self, fp: u32) -> Result<Frame, StackFault>
@@ -34,12 +43,11 @@ impl Stack {
     #[tactic(auto, unfolding(crate::specs::Frames::frame_in), using(crate::proofs::Kept::cuts))]
     pub fn frame_at(&self, fp: u32, sp: u32) -> Result<Frame, StackFault>
         requires there { sp ≤ length self.now.bytes }
-        requires words { sp % 4 ≡ 0 }
+        requires aligned { sp % 4 ≡ 0 }
         ensures value { result ≡ frame_in (take sp self.now.bytes) fp }
         ensures good { IfOk result (λ frame. IsFrame (take sp self.now.bytes) frame) }
         ensures place { IfOk result (λ frame. frame.fp ≡ fp) }
     {
-        let _size = self.size();
         if u64::from(fp) + 8 > u64::from(sp) || fp % 4 != 0 {
             return Err(StackFault::BadFrame);
         }
@@ -65,7 +73,6 @@ impl Stack {
         ensures value { result ≡ parts self.now.bytes fp }
         ensures frame { IsFrame self.now.bytes result }
     {
-        let _size = self.size();
         Frame {
             fp,
             locals: fp + word_at(&self.bytes, fp as usize + 4),
@@ -124,7 +131,7 @@ impl Stack {
     /// Cuts the stack to the begin of a frame, or to any other place.
     pub fn leave_frame(&mut self, fp: u32)
         requires whole { fp ≤ length self.old.bytes }
-        requires words { fp % 4 ≡ 0 }
+        requires aligned { fp % 4 ≡ 0 }
         ensures value { self.new ≡ record self.old { bytes = take fp self.old.bytes } }
         ensures size { length self.new.bytes ≡ fp }
     {

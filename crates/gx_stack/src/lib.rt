@@ -2,7 +2,7 @@
 //!
 //! The stack grows upward from 0, and its numbers stand big-endian (Glulx 3.1.2, "The Stack").
 //! - `frames` finds, enters and leaves call frames, whose bytes `formats` makes.
-//! - `stubs` pushes and pops call stubs.
+//! - `stubs` pushes and pops call stubs, and `kinds` says what one does at a return.
 //! - `values` has the values of a frame and its locals.
 //!
 //! Contracts see a stack as its bytes and its limit. The whole limit is asked for at once, so that
@@ -12,11 +12,13 @@
 //! the stack wasn't cut below its values since. A format has at most 64 pairs.
 #![tactic(auto)]
 
-ghost use Rattle.std.specs.Prelude.{◌≡◌, ◌%◌, ◌≤◌, ◌^◌, [], length, IfOk};
+ghost use Rattle.std.specs.Prelude.{◌≡◌, ◌%◌, ◌≤◌, [], length, IfOk};
+ghost use Rattle.gx_words.specs.declared.limits.TheConstants.{STACK_LIMIT};
 
 mod faults;
 mod formats;
 mod frames;
+mod kinds;
 mod room;
 mod stubs;
 mod values;
@@ -25,6 +27,10 @@ pub use faults::StackFault;
 pub use formats::frame_len;
 pub use frames::Frame;
 use gx_words::Bytes;
+pub use kinds::{
+    RESUME_C_STRING, RESUME_CODE, RESUME_COMPRESSED, RESUME_NUMBER, RESUME_UNICODE, TO_LOCAL,
+    TO_MEMORY, TO_NOWHERE, TO_STACK,
+};
 use room::push_bytes;
 use std::alloc::{AllocError, Global};
 use std::marker::Model;
@@ -52,7 +58,7 @@ impl Model for Stack {
 impl Stack {
     /// An empty stack that has the room for `limit` bytes.
     pub fn new(alloc: Global, limit: u32) -> Result<Stack, AllocError>
-        requires { limit ≤ 2 ^ 24 }
+        requires { limit ≤ STACK_LIMIT }
         ensures { IfOk result (λ stack. stack ≡ record { bytes = []; limit = limit }) }
     {
         let bytes = Vec::with_capacity(alloc, limit as usize)?;
@@ -63,7 +69,7 @@ impl Stack {
     pub fn bytes(&self) -> &[u8]
         ensures value { result.now ≡ self.now.bytes }
         ensures fits { length result.now ≤ self.now.limit }
-        ensures words { length result.now % 4 ≡ 0 }
+        ensures aligned { length result.now % 4 ≡ 0 }
     {
         &self.bytes
     }
@@ -72,7 +78,8 @@ impl Stack {
     pub fn size(&self) -> u32
         ensures value { result ≡ length self.now.bytes }
         ensures fits { result ≤ self.now.limit }
-        ensures words { result % 4 ≡ 0 }
+        ensures aligned { result % 4 ≡ 0 }
+        ensures bound { result ≤ STACK_LIMIT }
     {
         self.bytes.len() as u32
     }
@@ -80,9 +87,10 @@ impl Stack {
     /// How many bytes there may be.
     pub fn limit(&self) -> u32
         ensures value { result ≡ self.now.limit }
-        ensures fits { result ≤ 2 ^ 24 }
+        ensures fits { length self.now.bytes ≤ result }
+        ensures aligned { length self.now.bytes % 4 ≡ 0 }
+        ensures bound { result ≤ STACK_LIMIT }
     {
-        let _bytes = &self.bytes;
         self.limit
     }
 
@@ -100,7 +108,7 @@ impl Stack {
 
     /// Makes these the bytes of the stack.
     pub fn put_back(&mut self, bytes: &[u8])
-        requires words { length bytes.now % 4 ≡ 0 }
+        requires aligned { length bytes.now % 4 ≡ 0 }
         requires fits { length bytes.now ≤ self.old.limit }
         ensures { self.new ≡ record self.old { bytes = bytes.now } }
     {
@@ -108,6 +116,3 @@ impl Stack {
         push_bytes(&mut self.bytes, bytes);
     }
 }
-
-#[cfg(test)]
-mod tests;

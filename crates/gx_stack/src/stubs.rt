@@ -11,7 +11,7 @@ use gx_words::{word_at, word_bytes};
 /// What a call leaves on the stack for its return.
 #[derive(Clone, Copy, Debug, PartialEq, Eq)]
 pub struct Stub {
-    /// DestType: what is done with the value that is returned.
+    /// DestType: what is done with the value that is returned, one of `kinds`.
     pub kind: u32,
     /// DestAddr: where it is stored, or the bit or digit that printing goes on at.
     pub addr: u32,
@@ -72,7 +72,7 @@ impl Stack {
     #[tactic(auto, unfolding(crate::specs::Stubs::top_stub), using(crate::proofs::Kept::cuts))]
     pub fn stub_at(&self, sp: u32) -> Result<Stub, StackFault>
         requires there { sp ≤ length self.now.bytes }
-        requires words { sp % 4 ≡ 0 }
+        requires aligned { sp % 4 ≡ 0 }
         ensures value { result ≡ top_stub (take sp self.now.bytes) }
         ensures there { OnOk result (16 ≤ sp) }
         ensures below { IfOk result (λ stub. stub ≡ stub_below self.now.bytes sp) }

@@ -3,6 +3,7 @@
 //! Each call that is given a frame keeps it good. Beside what it makes of the bytes, a clause
 //! `values` says what it makes of the list of the frame's values, the deepest first.
 ghost use Rattle.std.specs.Prelude.{◌≡◌, ◌+◌, ◌-◌, ◌*◌, ◌≤◌, ◌<◌, ◌++◌, ◌%◌, ◌^◌, [], ◌∷◌, length, slice_index, IfOk, OnOk};
+ghost use Rattle.gx_words.specs.declared.limits.TheConstants.{STACK_LIMIT};
 ghost use Rattle.gx_words.specs.Numbers.{IsWidth};
 ghost use Rattle.gx_words.specs.Results.{Alters};
 ghost use Rattle.gx_stack.specs.Frames.{IsFrame, KeepsFrames};
@@ -15,7 +16,7 @@ use gx_words::{number_at, word_at};
 /// How many places up the top n values go.
 fn places(n: u32, by: i32) -> u32
     requires some { 0 < n }
-    requires few { n ≤ 2 ^ 24 }
+    requires few { n ≤ STACK_LIMIT }
     ensures value { result ≡ places n by }
     ensures fits { result < n }
 {
@@ -160,8 +161,7 @@ impl Stack {
         requires width { IsWidth width }
         ensures { result ≡ local_at self.now.bytes frame.now at width }
     {
-        let _size = self.size();
-        if u64::from(at) + u64::from(width) > u64::from(frame.values - frame.locals) {
+        if !frame.has_local(at, width) {
             return Err(StackFault::BadLocal);
         }
         Ok(number_at(&self.bytes, width, frame.locals as usize + at as usize))
@@ -183,8 +183,7 @@ impl Stack {
         ensures size { length self.new.bytes ≡ length self.old.bytes }
         ensures read_back { OnOk result (local_at self.new.bytes frame.now at width ≡ Ok (v % 256 ^ width)) }
     {
-        let _size = self.size();
-        if u64::from(at) + u64::from(width) > u64::from(frame.values - frame.locals) {
+        if !frame.has_local(at, width) {
             return Err(StackFault::BadLocal);
         }
         let place = frame.locals as usize + at as usize;

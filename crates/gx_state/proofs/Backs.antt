@@ -1,5 +1,5 @@
 -- Going back to a copy, and starting again.
-use Rattle.std.proofs.Common.{◌≡◌, ◌≢◌, ◌≤◌, ◌<◌, ◌+◌, ◌-◌, ◌==◌, ℕ, Bool, true, false, cond, get_or, nat_lt, if◌then◌else◌, List, ◌++◌, length, take, replicate, Some, None, Ok, refl, ap, subst, sym, ◌∙◌, arith, length-append}
+use Rattle.std.proofs.Common.{◌≡◌, ◌≢◌, ◌≤◌, ◌<◌, ◌+◌, ◌-◌, ◌==◌, ℕ, Bool, true, false, cond, get_or, nat_lt, if◌then◌else◌, List, ◌++◌, length, take, replicate, Some, None, Ok, IsTrue, refl, ap, subst, sym, ◌∙◌, arith, length-append}
 use Rattle.std.proofs.lemmas.Grind.{common_steps}
 use Rattle.std.proofs.lemmas.List.{get_or-take, take-append-le}
 use Rattle.std.proofs.lemmas.List.FromFn.{fill_by_all, take-map-range_with_len, length-map-range_with_len}
@@ -7,7 +7,7 @@ use Rattle.std.proofs.lemmas.Bool.Decides.{nat_tests}
 use Rattle.gx_words.specs.Numbers.{spliced, bytes_of_word}
 use Rattle.gx_pages.specs.Memory.{put_back_of}
 use Rattle.gx_stack.specs.declared.stubs.Stub.{Stub}
-use Rattle.gx_stack.specs.Frames.{IsGood, is_good, frame_in, parts}
+use Rattle.gx_stack.specs.Frames.{IsGood, has_local, is_good, frame_in, parts}
 use Rattle.gx_stack.specs.Stubs.{stub_bytes, stub_below}
 use Rattle.gx_stack.proofs.Pieces.{stub_on_top}
 use Rattle.heap_blocks.specs.Heap.{inactive}
@@ -16,9 +16,11 @@ use Rattle.gx_state.specs.declared.modes.Dest.{Dest}
 use Rattle.gx_state.specs.declared.modes.Dest.TheVariants.{Nowhere, Memory, Local, Push}
 use Rattle.gx_state.specs.declared.modes.Mode.TheVariants.{Running}
 use Rattle.gx_state.specs.Flat.{FlatState, frame_of, sp_of, written}
-use Rattle.gx_state.specs.Sound.{HeapFits, IsSound}
-use Rattle.gx_state.specs.Returns.{stub_of, stub_to, back, wrote, delivered, stored_word, returned}
-use Rattle.gx_state.specs.Copies.{Copy, IsCopyFor, TakesWord, copy_of, stub_in, below_stub, laid, gone_back}
+use Rattle.gx_state.specs.Sound.{IsHeapWithin, IsSound}
+use Rattle.gx_state.specs.Stores.{stored, store_fault}
+use Rattle.gx_state.specs.Returns.{stub_of, dest_of, stub_to, back, wrote, delivered, returned}
+use Rattle.gx_state.specs.Copies.{Copy, IsCopyFor, HasPlaceFor, copy_of, stub_in, below_stub, laid, gone_back}
+use Rattle.gx_state.proofs.Bytes.{first_length}
 use Rattle.gx_state.proofs.Kept.{rom_written, framed_good}
 
 -- what is below RAMSTART in memory that is put back
@@ -37,7 +39,7 @@ rom_back present kept rom n from count now then_ below =
 
 -- the stub of a copy that is fit, and its frame
 good_frame : (s : List ℕ) (fp : ℕ) → IsGood s fp → is_good s fp ≡ true
-good_frame s fp good = grind (arith, nat_tests, good.header, good.begins, good.words, good.locals, good.order, good.whole)
+good_frame s fp good = grind (arith, nat_tests, good.header, good.begins, good.aligned, good.locals, good.order, good.whole)
 
 stub_there : (story : FlatStory) (c : Copy) → IsCopyFor story c → stub_to c.stack (length c.stack) ≡ Ok (stub_in c)
 unfolding stub_to frame_in
@@ -54,18 +56,18 @@ delivered_back f h c fit is = rw (none_empty f.story c fit, stub_there f.story c
 
 -- PC is taken from a stub of the types 0 to 3, whatever it was
 pub same_pc : (f : FlatState) (p : Stub) (v : ℕ) → p.kind ≤ 3 → delivered (record f { pc = p.pc }) p v ≡ delivered f p v
-unfolding delivered
+unfolding delivered dest_of
 same_pc f p v few = grind (arith, nat_tests, few)
 
 pub length_back : (present kept : List ℕ) (from count : ℕ) → length (put_back_of present kept from count) ≡ length kept
 length_back present kept from count = length-map-range_with_len _ 0 (length kept)
 
 -- a word stored in RAM
-word_stored : (f : FlatState) (at v : ℕ) → f.story.ramstart ≤ at → at + 4 ≤ length f.memory → stored_word f at v ≡ Ok (written f at (bytes_of_word v))
-unfolding stored_word
+word_stored : (f : FlatState) (at v : ℕ) → f.story.header.ramstart ≤ at → at + 4 ≤ length f.memory → stored f 4 (Memory at) v ≡ Ok (written f at (bytes_of_word v))
+unfolding stored store_fault
 word_stored f at v above there =
     let inside : nat_lt (length f.memory) (at + 4) ≡ false = grind (arith, nat_tests) in
-    let ram : nat_lt at f.story.ramstart ≡ false = grind (arith, nat_tests) in
+    let ram : nat_lt at f.story.header.ramstart ≡ false = grind (arith, nat_tests) in
     rw (inside, ram) refl
 
 -- a copy that is laid with a memory
@@ -78,7 +80,7 @@ answered f c p = wrote (put_back_of f.memory c.memory f.protected.0 f.protected.
 
 kept_one : (f : FlatState) (c : Copy) → IsCopyFor f.story c → (stub_in c).kind ≡ 1
     → delivered (back (laid f c) (length c.stack) (stub_in c)) (stub_in c) 0xFFFFFFFF ≡ Ok (placed f c (stub_in c) (spliced (put_back_of f.memory c.memory f.protected.0 f.protected.1) (stub_in c).addr (bytes_of_word 0xFFFFFFFF)))
-unfolding delivered
+unfolding delivered dest_of
 kept_one f c fit one =
     let place = fit.word one in
     let size = length_back f.memory c.memory f.protected.0 f.protected.1 in
@@ -116,13 +118,13 @@ stub_frame f (Memory at) next = refl
 stub_frame f (Local at) next = refl
 stub_frame f Push next = refl
 
-stub_word : (f : FlatState) (d : Dest) (next : ℕ) → TakesWord f d → (stub_of f d next).kind ≡ 1 → (f.story.ramstart ≤ (stub_of f d next).addr) × ((stub_of f d next).addr + 4 ≤ length f.memory)
+stub_word : (f : FlatState) (d : Dest) (next : ℕ) → HasPlaceFor f d → (stub_of f d next).kind ≡ 1 → (f.story.header.ramstart ≤ (stub_of f d next).addr) × ((stub_of f d next).addr + 4 ≤ length f.memory)
 stub_word f Nowhere next takes is = absurd (omega (arith, is))
 stub_word f (Memory at) next takes is = takes
 stub_word f (Local at) next takes is = absurd (omega (arith, is))
 stub_word f Push next takes is = absurd (omega (arith, is))
 
-stub_local : (f : FlatState) (d : Dest) (next : ℕ) → TakesWord f d → (stub_of f d next).kind ≡ 2 → (stub_of f d next).addr + 4 ≤ (frame_of f).values - (frame_of f).locals
+stub_local : (f : FlatState) (d : Dest) (next : ℕ) → HasPlaceFor f d → (stub_of f d next).kind ≡ 2 → IsTrue (has_local (frame_of f) (stub_of f d next).addr 4)
 stub_local f Nowhere next takes is = absurd (omega (arith, is))
 stub_local f (Memory at) next takes is = absurd (omega (arith, is))
 stub_local f (Local at) next takes is = takes
@@ -132,7 +134,7 @@ stub_length : (p : Stub) → length (stub_bytes p) ≡ 16
 unfolding stub_bytes
 stub_length p = refl
 
-pub copy_fits : (f : FlatState) (d : Dest) (next : ℕ) (c : Copy) → IsSound f → 0 < sp_of f → sp_of f + 16 ≤ f.stack.limit → stub_below (stub_bytes (stub_of f d next)) 16 ≡ stub_of f d next → TakesWord f d → c ≡ copy_of f d next → IsCopyFor f.story c
+pub copy_fits : (f : FlatState) (d : Dest) (next : ℕ) (c : Copy) → IsSound f → 0 < sp_of f → sp_of f + 16 ≤ f.stack.limit → stub_below (stub_bytes (stub_of f d next)) 16 ≡ stub_of f d next → HasPlaceFor f d → c ≡ copy_of f d next → IsCopyFor f.story c
 copy_fits f d next c sound live room read takes is =
     let p = stub_of f d next in
     let long : length (f.stack.bytes ++ stub_bytes p) ≡ sp_of f + 16 = length-append f.stack.bytes (stub_bytes p) ∙ ap (λ (n : ℕ). sp_of f + n) (stub_length p) in
@@ -140,18 +142,18 @@ copy_fits f d next c sound live room read takes is =
     let under : below_stub (copy_of f d next) ≡ f.stack.bytes = rw long (grind (arith, common_steps)) in
     let same = stub_frame f d next in
     let good : IsGood f.stack.bytes p.fp = subst (IsGood f.stack.bytes) (sym same) (sound.framed.good live) in
-    let local : p.kind ≡ 2 → p.addr + 4 ≤ (parts f.stack.bytes p.fp).values - (parts f.stack.bytes p.fp).locals = subst (λ (n : ℕ). p.kind ≡ 2 → p.addr + 4 ≤ (parts f.stack.bytes n).values - (parts f.stack.bytes n).locals) (sym same) (stub_local f d next takes) in
+    let local : p.kind ≡ 2 → IsTrue (has_local (parts f.stack.bytes p.fp) p.addr 4) = subst (λ (n : ℕ). p.kind ≡ 2 → IsTrue (has_local (parts f.stack.bytes n) p.addr 4)) (sym same) (stub_local f d next takes) in
     subst (IsCopyFor f.story) (sym is) (record {
       size = sound.size;
       endmem = sound.endmem;
       rom = sound.rom;
-      words = omega (arith, long, sound.words);
+      aligned = omega (arith, long, sound.aligned);
       height = omega (arith, long, room, sound.limit);
       stub = omega (arith, long);
       kind = subst (λ (q : Stub). q.kind ≤ 3) (sym top) (stub_kind f d next);
       framed = subst (λ (q : Stub). IsGood (below_stub (copy_of f d next)) q.fp) (sym top) (subst (λ (xs : List ℕ). IsGood xs p.fp) (sym under) good);
-      word = subst (λ (q : Stub). q.kind ≡ 1 → (f.story.ramstart ≤ q.addr) × (q.addr + 4 ≤ length f.memory)) (sym top) (stub_word f d next takes);
-      local = subst (λ (q : Stub). q.kind ≡ 2 → q.addr + 4 ≤ (parts (below_stub (copy_of f d next)) q.fp).values - (parts (below_stub (copy_of f d next)) q.fp).locals) (sym top) (subst (λ (xs : List ℕ). p.kind ≡ 2 → p.addr + 4 ≤ (parts xs p.fp).values - (parts xs p.fp).locals) (sym under) local);
+      word = subst (λ (q : Stub). q.kind ≡ 1 → (f.story.header.ramstart ≤ q.addr) × (q.addr + 4 ≤ length f.memory)) (sym top) (stub_word f d next takes);
+      local = subst (λ (q : Stub). q.kind ≡ 2 → IsTrue (has_local (parts (below_stub (copy_of f d next)) q.fp) q.addr 4)) (sym top) (subst (λ (xs : List ℕ). p.kind ≡ 2 → IsTrue (has_local (parts xs p.fp) p.addr 4)) (sym under) local);
       heap = sound.heap;
     })
 
@@ -161,15 +163,12 @@ pub ruleset memories = (rom_back, rom_written, length_back)
 first_rom : (bytes : List ℕ) (n size : ℕ) → n ≤ length bytes → take n (bytes ++ replicate size 0) ≡ take n bytes
 first_rom bytes n size below = take-append-le n bytes (replicate size 0) below
 
-first_length : (bytes : List ℕ) (size : ℕ) → length bytes ≤ size → length (bytes ++ replicate (size - length bytes) 0) ≡ size
-first_length bytes size below = grind (arith, common_steps)
-
 pub rom_again : (present all bytes : List ℕ) (n size from count : ℕ) → take n present ≡ take n bytes → n ≤ length bytes → length bytes ≤ size → all ≡ put_back_of present (bytes ++ replicate (size - length bytes) 0) from count → take n all ≡ take n bytes
 rom_again present all bytes n size from count now below room is =
     rw is (rom_back present (bytes ++ replicate (size - length bytes) 0) (take n bytes) n from count now (first_rom bytes n (size - length bytes) below) (omega (arith, first_length bytes size room)))
 
 -- an empty heap fits
-pub none_fits : (endmem size : ℕ) → HeapFits endmem size inactive
+pub none_fits : (endmem size : ℕ) → IsHeapWithin endmem size inactive
 none_fits endmem size = record {
   blocks = record { rises = tt; ends = tt; none = λ _. refl };
   begins = λ some. absurd (omega (arith, some));

@@ -5,7 +5,7 @@ use Rattle.std.proofs.lemmas.List.{take-take}
 use Rattle.std.proofs.lemmas.Bool.Decides.{nat_tests}
 use Rattle.gx_words.specs.Numbers.{word, spliced, bytes_of_word}
 use Rattle.gx_words.specs.Results.{Alters}
-use Rattle.gx_pages.specs.Memory.{AllInside, all_spliced}
+use Rattle.gx_pages.specs.Memory.{AreInside, all_spliced}
 use Rattle.gx_stack.specs.declared.frames.Frame.{Frame}
 use Rattle.gx_stack.specs.declared.faults.StackFault.{StackFault}
 use Rattle.gx_stack.specs.declared.faults.StackFault.TheVariants.{Underflow}
@@ -15,9 +15,9 @@ use Rattle.gx_stack.specs.Stubs.{top_stub}
 use Rattle.gx_stack.specs.Values.{count, places, rolled, turned_top}
 use Rattle.gx_stack.proofs.Kept.{frame_after_cut, word-take}
 use Rattle.heap_blocks.specs.Heap.{FlatHeap}
-use Rattle.gx_state.specs.Replies.{AllBetween}
+use Rattle.gx_state.specs.Replies.{AreBetween}
 use Rattle.gx_state.specs.Returns.{wrote}
-use Rattle.gx_state.specs.Sound.{IsFramed, HeapFits}
+use Rattle.gx_state.specs.Sound.{IsFramed, IsHeapWithin}
 
 -- memory below RAMSTART
 take-spliced : (m bytes : List ℕ) (n at : ℕ) → n ≤ at → at ≤ length m → take n (spliced m at bytes) ≡ take n m
@@ -34,7 +34,7 @@ put_over : (m bytes : List ℕ) (at : ℕ) → at + length bytes ≤ length m �
 put_over m bytes at there = grind (arith, common_steps)
 
 -- writes in RAM lie inside memory
-pub all_inside : (n size : ℕ) (ws : List (ℕ × List ℕ)) → AllBetween n size ws → AllInside ws size
+pub all_inside : (n size : ℕ) (ws : List (ℕ × List ℕ)) → AreBetween n size ws → AreInside ws size
 all_inside n size [] there = tt
 all_inside n size (w ∷ ws) there = ((λ some. (there.0 some).1), all_inside n size ws there.1)
 
@@ -46,27 +46,27 @@ size_put : (m bytes : List ℕ) (n at : ℕ) → (0 < length bytes → (n ≤ at
 size_put m [] n at there = ap length (none_put m at)
 size_put m (b ∷ bytes) n at there = put_over m (b ∷ bytes) at (there (omega arith)).1
 
-pub rom_writes : (m rom : List ℕ) (n size : ℕ) (ws : List (ℕ × List ℕ)) → take n m ≡ rom → length m ≡ size → AllBetween n size ws → take n (all_spliced m ws) ≡ rom
+pub rom_writes : (m rom : List ℕ) (n size : ℕ) (ws : List (ℕ × List ℕ)) → take n m ≡ rom → length m ≡ size → AreBetween n size ws → take n (all_spliced m ws) ≡ rom
 rom_writes m rom n size [] same long there = same
 rom_writes m rom n size (w ∷ ws) same long there =
     let fits : 0 < length w.1 → (n ≤ w.0) × (w.0 + length w.1 ≤ length m) = λ some. subst (λ (s : ℕ). (n ≤ w.0) × (w.0 + length w.1 ≤ s)) (sym long) (there.0 some) in
     rom_writes (spliced m w.0 w.1) rom n size ws (rom_written m rom w.1 n w.0 same fits) (size_put m w.1 n w.0 fits ∙ long) there.1
 
-size_writes : (m : List ℕ) (n size : ℕ) (ws : List (ℕ × List ℕ)) → length m ≡ size → AllBetween n size ws → length (all_spliced m ws) ≡ size
+size_writes : (m : List ℕ) (n size : ℕ) (ws : List (ℕ × List ℕ)) → length m ≡ size → AreBetween n size ws → length (all_spliced m ws) ≡ size
 size_writes m n size [] long there = long
 size_writes m n size (w ∷ ws) long there =
     let fits : 0 < length w.1 → (n ≤ w.0) × (w.0 + length w.1 ≤ length m) = λ some. subst (λ (s : ℕ). (n ≤ w.0) × (w.0 + length w.1 ≤ s)) (sym long) (there.0 some) in
     size_writes (spliced m w.0 w.1) n size ws (size_put m w.1 n w.0 fits ∙ long) there.1
 
-pub rom_writes_and : (m rom bytes : List ℕ) (n at size : ℕ) (ws : List (ℕ × List ℕ)) → take n m ≡ rom → length m ≡ size → AllBetween n size ws → (0 < length bytes → (n ≤ at) × (at + length bytes ≤ size)) → take n (spliced (all_spliced m ws) at bytes) ≡ rom
+pub rom_writes_and : (m rom bytes : List ℕ) (n at size : ℕ) (ws : List (ℕ × List ℕ)) → take n m ≡ rom → length m ≡ size → AreBetween n size ws → (0 < length bytes → (n ≤ at) × (at + length bytes ≤ size)) → take n (spliced (all_spliced m ws) at bytes) ≡ rom
 rom_writes_and m rom bytes n at size ws same long there last =
     let now = size_writes m n size ws long there in
     rom_written (all_spliced m ws) rom bytes n at (rom_writes m rom n size ws same long there)
     (λ some. subst (λ (s : ℕ). (n ≤ at) × (at + length bytes ≤ s)) (sym now) (last some))
 
 -- the heap in memory of the same size
-pub heap_again : (endmem size size' : ℕ) (heap : FlatHeap) → HeapFits endmem size heap → size' ≡ size → HeapFits endmem size' heap
-heap_again endmem size size' heap fits same = subst (λ (n : ℕ). HeapFits endmem n heap) (sym same) fits
+pub heap_again : (endmem size size' : ℕ) (heap : FlatHeap) → IsHeapWithin endmem size heap → size' ≡ size → IsHeapWithin endmem size' heap
+heap_again endmem size size' heap fits same = subst (λ (n : ℕ). IsHeapWithin endmem n heap) (sym same) fits
 
 -- the present frame
 pub framed_kept : (old new : List ℕ) (fp : ℕ) → 0 < length old → IsFramed old fp → KeepsFrames old new → IsFramed new fp

@@ -1,4 +1,5 @@
 pub mod Backs
+pub mod Bytes
 pub mod Kept
 pub mod Pairs
 pub mod Space

@@ -6,8 +6,8 @@ use Rattle.std.proofs.lemmas.List.{take-take}
 use Rattle.std.proofs.lemmas.Bool.Decides.{nat_tests}
 use Rattle.gx_pages.specs.Memory.{IsSize, resized}
 use Rattle.heap_blocks.specs.Heap as heaps
-use Rattle.heap_blocks.specs.Heap.{Block, FlatHeap, HeldHeap, EndsBy, LiesBelow, Frees, is_inactive, without, added, freed, left_by, low}
-use Rattle.gx_state.specs.Sound.{HeapFits}
+use Rattle.heap_blocks.specs.Heap.{Block, FlatHeap, HeldHeap, IsEndedBy, IsBelow, Frees, is_inactive, without, added, freed, left_by, first_address}
+use Rattle.gx_state.specs.Sound.{IsHeapWithin}
 
 -- memory below RAMSTART
 pub rom_cut : (m rom : List ℕ) (n size : ℕ) → take n m ≡ rom → n ≤ size → take n (take size m) ≡ rom
@@ -17,11 +17,11 @@ pub rom_grown : (m rom : List ℕ) (n size : ℕ) → take n m ≡ rom → n ≤
 rom_grown m rom n size same below above = grind (arith, common_steps, same)
 
 -- the heap in larger memory
-ends_higher : (bs : List Block) (low high : ℕ) → low ≤ high → EndsBy low bs → EndsBy high bs
+ends_higher : (bs : List Block) (low high : ℕ) → low ≤ high → IsEndedBy low bs → IsEndedBy high bs
 ends_higher [] low high le ends = tt
 ends_higher (b ∷ bs) low high le ends = (omega (arith, ends.0), ends_higher bs low high le ends.1)
 
-pub heap_grown : (endmem size size' : ℕ) (heap : FlatHeap) → HeapFits endmem size heap → size ≤ size' → HeapFits endmem size' heap
+pub heap_grown : (endmem size size' : ℕ) (heap : FlatHeap) → IsHeapWithin endmem size heap → size ≤ size' → IsHeapWithin endmem size' heap
 heap_grown endmem size size' heap fits le =
     record {
       blocks = fits.blocks;
@@ -31,7 +31,7 @@ heap_grown endmem size size' heap fits le =
     }
 
 -- the heap in smaller memory
-pub heap_cut : (endmem size size' : ℕ) (heap : FlatHeap) → HeapFits endmem size heap → LiesBelow size' heap → HeapFits endmem size' heap
+pub heap_cut : (endmem size size' : ℕ) (heap : FlatHeap) → IsHeapWithin endmem size heap → IsBelow size' heap → IsHeapWithin endmem size' heap
 heap_cut endmem size size' heap fits within = record { blocks = fits.blocks; begins = fits.begins; whole = fits.whole; within = within }
 
 pub ruleset sizes = (rom_cut, rom_grown, heap_grown, heap_cut)
@@ -41,9 +41,9 @@ pub record MemoryFits (m rom : List ℕ) (n endmem : ℕ) (heap : FlatHeap) : Ty
   pub size : IsSize (length m)
   pub above : endmem ≤ length m
   pub rom_kept : take n m ≡ rom
-  pub fits : HeapFits endmem (length m) heap
+  pub fits : IsHeapWithin endmem (length m) heap
 
-pub grown : (m m' rom : List ℕ) (n endmem size : ℕ) (heap : FlatHeap) → take n m ≡ rom → n ≤ endmem → endmem ≤ length m → HeapFits endmem (length m) heap
+pub grown : (m m' rom : List ℕ) (n endmem size : ℕ) (heap : FlatHeap) → take n m ≡ rom → n ≤ endmem → endmem ≤ length m → IsHeapWithin endmem (length m) heap
     → IsSize size → length m ≤ size → m' ≡ resized m size → length m' ≡ size → MemoryFits m' rom n endmem heap
 grown m m' rom n endmem size heap same below least fits whole more is long =
     record {
@@ -58,12 +58,12 @@ more_than_none n = grind (arith, nat_tests)
 
 -- the heap with a block more
 low_fits : (start endmem end : ℕ) (bs : List Block) → (0 < length bs → endmem ≤ start) → start % 256 ≡ 0 → end % 256 ≡ 0 → endmem ≤ end
-    → (endmem ≤ low (record { start = start; blocks = bs }) end) × (low (record { start = start; blocks = bs }) end % 256 ≡ 0)
+    → (endmem ≤ first_address (record { start = start; blocks = bs }) end) × (first_address (record { start = start; blocks = bs }) end % 256 ≡ 0)
 low_fits start endmem end [] begins whole page above = (above, page)
 low_fits start endmem end (b ∷ bs) begins whole page above = rw (more_than_none (length bs)) (begins (omega arith), whole)
 
-pub heap_entered : (endmem size end at n : ℕ) (h new : FlatHeap) → HeapFits endmem size h → new ≡ added h end (at, n) → heaps.IsSound new → LiesBelow size new
-    → end % 256 ≡ 0 → endmem ≤ end → HeapFits endmem size new
+pub heap_entered : (endmem size end at n : ℕ) (h new : FlatHeap) → IsHeapWithin endmem size h → new ≡ added h end (at, n) → heaps.IsSound new → IsBelow size new
+    → end % 256 ≡ 0 → endmem ≤ end → IsHeapWithin endmem size new
 heap_entered endmem size end at n h new fits is sound within page above =
     let facts = low_fits h.start endmem end h.blocks fits.begins fits.whole page above in
     let start = ap (λ (g : FlatHeap). g.start) is in
@@ -99,29 +99,29 @@ pub leaves : (h new : HeldHeap) (at : ℕ) (last : Bool) → Frees h new (freed 
 leaves h new at last frees = leaves_by h new at last (without at h.heap.blocks) refl frees
 
 -- the last block
-none_left : (endmem : ℕ) (h : FlatHeap) (bs : List Block) → heaps.IsSound (left_by h bs) → true ≡ is_inactive (left_by h bs) → HeapFits endmem h.start (left_by h bs)
+none_left : (endmem : ℕ) (h : FlatHeap) (bs : List Block) → heaps.IsSound (left_by h bs) → true ≡ is_inactive (left_by h bs) → IsHeapWithin endmem h.start (left_by h bs)
 none_left endmem h [] sound last =
     record { blocks = sound; begins = λ some. absurd (omega arith); whole = refl; within = record { start = omega arith; ends = tt } }
 none_left endmem h (b ∷ bs) sound last = absurd (grind (arith, nat_tests, last))
 
-pub heap_ended : (endmem : ℕ) (h new : FlatHeap) → Leaves h new true → heaps.IsSound new → HeapFits endmem h.start new
+pub heap_ended : (endmem : ℕ) (h new : FlatHeap) → Leaves h new true → heaps.IsSound new → IsHeapWithin endmem h.start new
 heap_ended endmem h new leaves sound =
-    subst (λ (g : FlatHeap). HeapFits endmem h.start g) (sym leaves.rest)
+    subst (λ (g : FlatHeap). IsHeapWithin endmem h.start g) (sym leaves.rest)
     (none_left endmem h new.blocks (subst heaps.IsSound leaves.rest sound) (subst (λ (g : FlatHeap). true ≡ is_inactive g) leaves.rest leaves.ends))
 
 -- a block that isn't the last
-some_left : (endmem size : ℕ) (h : FlatHeap) (bs : List Block) → HeapFits endmem size h → 0 < length h.blocks → heaps.IsSound (left_by h bs) → LiesBelow size (left_by h bs) → false ≡ is_inactive (left_by h bs) → HeapFits endmem size (left_by h bs)
+some_left : (endmem size : ℕ) (h : FlatHeap) (bs : List Block) → IsHeapWithin endmem size h → 0 < length h.blocks → heaps.IsSound (left_by h bs) → IsBelow size (left_by h bs) → false ≡ is_inactive (left_by h bs) → IsHeapWithin endmem size (left_by h bs)
 some_left endmem size h [] fits some sound within last = absurd (grind (arith, nat_tests, last))
 some_left endmem size h (b ∷ bs) fits some sound within last =
     let start : (left_by h (b ∷ bs)).start ≡ h.start = rw (more_than_none (length bs)) refl in
     record { blocks = sound; begins = λ _. rw start (fits.begins some); whole = rw start fits.whole; within = within }
 
-pub heap_left : (endmem size : ℕ) (h new : FlatHeap) → HeapFits endmem size h → Leaves h new false → heaps.IsSound new → LiesBelow size new → HeapFits endmem size new
+pub heap_left : (endmem size : ℕ) (h new : FlatHeap) → IsHeapWithin endmem size h → Leaves h new false → heaps.IsSound new → IsBelow size new → IsHeapWithin endmem size new
 heap_left endmem size h new fits leaves sound within =
-    subst (HeapFits endmem size) (sym leaves.rest)
-    (some_left endmem size h new.blocks fits leaves.some (subst heaps.IsSound leaves.rest sound) (subst (LiesBelow size) leaves.rest within) (subst (λ (g : FlatHeap). false ≡ is_inactive g) leaves.rest leaves.ends))
+    subst (IsHeapWithin endmem size) (sym leaves.rest)
+    (some_left endmem size h new.blocks fits leaves.some (subst heaps.IsSound leaves.rest sound) (subst (IsBelow size) leaves.rest within) (subst (λ (g : FlatHeap). false ≡ is_inactive g) leaves.rest leaves.ends))
 
-pub freed_last : (m m' rom : List ℕ) (n endmem at start : ℕ) (h new : HeldHeap) (last : Bool) → IsSize (length m) → take n m ≡ rom → n ≤ endmem → HeapFits endmem (length m) h.heap
+pub freed_last : (m m' rom : List ℕ) (n endmem at start : ℕ) (h new : HeldHeap) (last : Bool) → IsSize (length m) → take n m ≡ rom → n ≤ endmem → IsHeapWithin endmem (length m) h.heap
     → Frees h new (freed h.heap at) (Some last) → last ≡ true → heaps.IsSound new.heap → start ≡ h.heap.start → m' ≡ take start m → length m' ≡ start → MemoryFits m' rom n endmem new.heap
 freed_last m m' rom n endmem at start h new last size same below fits frees is sound begins cut long =
     let left = subst (Leaves h.heap new.heap) is (leaves h new at last frees) in
@@ -134,6 +134,6 @@ freed_last m m' rom n endmem at start h new last size same below fits frees is s
       fits = rw there (heap_ended endmem h.heap new.heap left sound);
     }
 
-pub freed_other : (endmem size at : ℕ) (h new : HeldHeap) (last : Bool) → HeapFits endmem size h.heap → Frees h new (freed h.heap at) (Some last) → last ≡ false → heaps.IsSound new.heap → LiesBelow size new.heap → HeapFits endmem size new.heap
+pub freed_other : (endmem size at : ℕ) (h new : HeldHeap) (last : Bool) → IsHeapWithin endmem size h.heap → Frees h new (freed h.heap at) (Some last) → last ≡ false → heaps.IsSound new.heap → IsBelow size new.heap → IsHeapWithin endmem size new.heap
 freed_other endmem size at h new last fits frees is sound within =
     heap_left endmem size h.heap new.heap fits (subst (Leaves h.heap new.heap) is (leaves h new at last frees)) sound within

@@ -1,9 +1,10 @@
 -- Copies of the state and the way back to them, and the restart of a story (Glulx 3.1.2, "Game State").
-use Rattle.std.specs.Prelude.{◌≡◌, ℕ, Bool, ◌+◌, ◌-◌, ◌%◌, ◌≤◌, List, [], ◌++◌, length, take, None, Result, Ok, Err}
+use Rattle.std.specs.Prelude.{◌≡◌, ℕ, Bool, ◌+◌, ◌-◌, ◌%◌, ◌≤◌, List, [], ◌++◌, length, take, None, Result, Ok, Err, IsTrue}
 use Rattle.gx_words.specs.declared.faults.Fault.{Fault}
 use Rattle.gx_pages.specs.Memory.{IsSize, put_back_of}
+use Rattle.gx_stack.specs.declared.kinds.TheConstants.{TO_MEMORY, TO_LOCAL, TO_STACK}
 use Rattle.gx_stack.specs.declared.stubs.Stub.{Stub}
-use Rattle.gx_stack.specs.Frames.{IsGood, parts}
+use Rattle.gx_stack.specs.Frames.{IsGood, has_local, parts}
 use Rattle.gx_stack.specs.Stubs.{stub_bytes, stub_below}
 use Rattle.heap_blocks.specs.Heap.{FlatHeap}
 use Rattle.gx_story.specs.Stories.{FlatStory}
@@ -13,7 +14,7 @@ use Rattle.gx_state.specs.declared.modes.Mode.TheVariants.{Running}
 use Rattle.gx_state.specs.Flat.{FlatState, frame_of}
 use Rattle.gx_state.specs.Entry.{initial, entered}
 use Rattle.gx_state.specs.Returns.{stub_of, returned}
-use Rattle.gx_state.specs.Sound.{HeapFits}
+use Rattle.gx_state.specs.Sound.{IsHeapWithin}
 
 -- what a copy has: memory, the stack with a stub on top, and the heap
 pub record Copy : Type 0 where
@@ -59,27 +60,27 @@ unfoldable pub gone_back : FlatState → Copy → FlatState
 gone_back f c = left_or f (returned (laid f c) (length c.stack) 0xFFFFFFFF None)
 
 -- A copy is fit for a story: its memory is one of the story's, with the same bytes below RAMSTART; its stack is
--- within the story's limit and has on top a stub of the types 0 to 3, with a good frame below it, and with its
--- word in RAM or its local in the frame; its heap lies in its memory.
+-- within the story's limit and has on top a stub that stores, with a good frame below it, and with its word in RAM or
+-- its local in the frame; its heap lies in its memory.
 pub record IsCopyFor (story : FlatStory) (c : Copy) : Type 0 where
   pub size : IsSize (length c.memory)
-  pub endmem : story.endmem ≤ length c.memory
-  pub rom : take story.ramstart c.memory ≡ take story.ramstart story.bytes
-  pub words : length c.stack % 4 ≡ 0
-  pub height : length c.stack ≤ story.stack_size
+  pub endmem : story.header.endmem ≤ length c.memory
+  pub rom : take story.header.ramstart c.memory ≡ take story.header.ramstart story.bytes
+  pub aligned : length c.stack % 4 ≡ 0
+  pub height : length c.stack ≤ story.header.stack_size
   pub stub : 16 ≤ length c.stack
-  pub kind : (stub_in c).kind ≤ 3
+  pub kind : (stub_in c).kind ≤ TO_STACK
   pub framed : IsGood (below_stub c) (stub_in c).fp
-  pub word : (stub_in c).kind ≡ 1 → (story.ramstart ≤ (stub_in c).addr) × ((stub_in c).addr + 4 ≤ length c.memory)
-  pub local : (stub_in c).kind ≡ 2 → (stub_in c).addr + 4 ≤ (parts (below_stub c) (stub_in c).fp).values - (parts (below_stub c) (stub_in c).fp).locals
-  pub heap : HeapFits story.endmem (length c.memory) c.heap
+  pub word : (stub_in c).kind ≡ TO_MEMORY → (story.header.ramstart ≤ (stub_in c).addr) × ((stub_in c).addr + 4 ≤ length c.memory)
+  pub local : (stub_in c).kind ≡ TO_LOCAL → IsTrue (has_local (parts (below_stub c) (stub_in c).fp) (stub_in c).addr 4)
+  pub heap : IsHeapWithin story.header.endmem (length c.memory) c.heap
 
 -- a word can be stored there: in RAM or in a local of the frame
-abbrev pub TakesWord : FlatState → Dest → Type 0
-TakesWord f Nowhere = Unit {0}
-TakesWord f (Memory at) = (f.story.ramstart ≤ at) × (at + 4 ≤ length f.memory)
-TakesWord f (Local at) = at + 4 ≤ (frame_of f).values - (frame_of f).locals
-TakesWord f Push = Unit {0}
+abbrev pub HasPlaceFor : FlatState → Dest → Type 0
+HasPlaceFor f Nowhere = Unit {0}
+HasPlaceFor f (Memory at) = (f.story.header.ramstart ≤ at) × (at + 4 ≤ length f.memory)
+HasPlaceFor f (Local at) = IsTrue (has_local (frame_of f) at 4)
+HasPlaceFor f Push = Unit {0}
 
 -- the state before a restart enters the start function: that of a story which starts, but for the bytes of the
 -- protected range, the range itself and the generator
@@ -92,4 +93,4 @@ cleared f = record (initial f.story) {
 
 -- A restart: the start function is entered without arguments.
 unfoldable pub restarted : FlatState → Result FlatState Fault
-restarted f = entered (cleared f) 0 [] f.story.start_function []
+restarted f = entered (cleared f) 0 [] f.story.header.start_function []

@@ -2,9 +2,10 @@
 --
 -- The faults of an entry are looked for in this order: room for the stubs, the function's type, the
 -- count of arguments, its locals format, room for the frame.
-use Rattle.std.specs.Prelude.{ℕ, zero, suc, Bool, ◌+◌, ◌-◌, ◌*◌, ◌/◌, ◌%◌, ◌==◌, ◌||◌, nat_lt, if◌then◌else◌, List, [], ◌∷◌, ◌++◌, length, take, replicate, Result, Ok, Err}
+use Rattle.std.specs.Prelude.{ℕ, zero, suc, Bool, ◌+◌, ◌-◌, ◌*◌, ◌==◌, ◌||◌, nat_lt, if◌then◌else◌, List, [], ◌∷◌, ◌++◌, length, take, replicate, Result, Ok, Err}
 use Rattle.gx_words.specs.declared.faults.Fault.{Fault}
 use Rattle.gx_words.specs.declared.faults.Fault.TheVariants.{BadFunction, Overflow}
+use Rattle.gx_words.specs.declared.typable.TheConstants.{STACK_FUNCTION, LOCALS_FUNCTION}
 use Rattle.gx_words.specs.Results.{◌>>=◌}
 use Rattle.gx_pages.specs.Memory.{number_in}
 use Rattle.gx_stack.specs.declared.stubs.Stub.{Stub}
@@ -21,24 +22,26 @@ use Rattle.gx_state.specs.Flat.{FlatState}
 unfoldable pub kind_at : List ℕ → ℕ → Result ℕ Fault
 kind_at memory at = do
   kind ← number_in 1 memory at
-  if kind == 0xC0 || kind == 0xC1 then Ok kind else Err BadFunction
+  if kind == STACK_FUNCTION || kind == LOCALS_FUNCTION then Ok kind else Err BadFunction
 
 -- the types of locals
 abbrev pub is_type : ℕ → Bool
 is_type t = t == 1 || t == 2 || t == 4
 
--- The locals format from an address on, with at most so many pairs before its ending pair, whose type
--- is 0. Of each pair in turn its bytes have to be in memory, then its type has to be right.
+-- The locals format from an address on, with at most so many pairs of a type and a count before its ending pair,
+-- whose type is 0. Of each pair in turn its bytes have to be in memory, then its type has to be right.
 unfoldable pub format_from : List ℕ → ℕ → ℕ → Result (List ℕ) Fault
 format_from memory at zero = do
-  pair ← number_in 2 memory at
-  if pair / 256 == 0 then Ok (0 ∷ pair % 256 ∷ []) else Err BadFunction
+  t ← number_in 1 memory at
+  n ← number_in 1 memory (at + 1)
+  if t == 0 then Ok (0 ∷ n ∷ []) else Err BadFunction
 format_from memory at (suc left) = do
-  pair ← number_in 2 memory at
-  if pair / 256 == 0 then Ok (0 ∷ pair % 256 ∷ []) else
-      if is_type (pair / 256) then (do
+  t ← number_in 1 memory at
+  n ← number_in 1 memory (at + 1)
+  if t == 0 then Ok (0 ∷ n ∷ []) else
+      if is_type t then (do
         rest ← format_from memory (at + 2) left
-        Ok (pair / 256 ∷ pair % 256 ∷ rest)) else Err BadFunction
+        Ok (t ∷ n ∷ rest)) else Err BadFunction
 
 -- a format behind pairs that were read of it
 abbrev pub behind : List ℕ → Result (List ℕ) Fault → Result (List ℕ) Fault
@@ -52,34 +55,40 @@ format_at memory at = format_from memory at 64
 -- what an entry pushes: a function of type C0 has its arguments on the stack and their count on top,
 -- one of type C1 has them in its locals
 abbrev pub entry_bytes : ℕ → List ℕ → List ℕ → List ℕ
-entry_bytes kind format args = if kind == 0xC0 then with_args (frame format []) args else frame format args
+entry_bytes kind format args = if kind == STACK_FUNCTION then with_args (frame format []) args else frame format args
 
 abbrev pub entry_len : ℕ → List ℕ → ℕ → ℕ
-entry_len kind format count = if kind == 0xC0 then frame_len format + 4 * (count + 1) else frame_len format
+entry_len kind format count = if kind == STACK_FUNCTION then frame_len format + 4 * (count + 1) else frame_len format
+
+-- What an entry with so many arguments reads of the function at an address: its type and its locals format. Its
+-- frame, at a place on the stack, has to fit below a limit.
+unfoldable pub function_at : List ℕ → ℕ → ℕ → ℕ → ℕ → Result (ℕ × List ℕ) Fault
+function_at memory at count fp limit = do
+  kind ← kind_at memory at
+  if nat_lt 255 count then Err BadFunction else (do
+    format ← format_at memory (at + 1)
+    if nat_lt limit (fp + entry_len kind format count) then Err Overflow else Ok (kind, format))
 
 -- The stack is cut, stubs are pushed, and the function at an address is entered with arguments.
 unfoldable pub entered : FlatState → ℕ → List Stub → ℕ → List ℕ → Result FlatState Fault
 entered f sp stubs at args =
     let fp = sp + 16 * length stubs in
     if nat_lt f.stack.limit fp then Err Overflow else (do
-      kind ← kind_at f.memory at
-      if nat_lt 255 (length args) then Err BadFunction else (do
-        format ← format_at f.memory (at + 1)
-        if nat_lt f.stack.limit (fp + entry_len kind format (length args)) then Err Overflow else
-            Ok (record f {
-              stack = record f.stack { bytes = (take sp f.stack.bytes ++ stubs_bytes stubs) ++ entry_bytes kind format args };
-              fp = fp;
-              pc = at + 1 + length format;
-            })))
+      function ← function_at f.memory at (length args) fp f.stack.limit
+      Ok (record f {
+        stack = record f.stack { bytes = (take sp f.stack.bytes ++ stubs_bytes stubs) ++ entry_bytes function.0 function.1 args };
+        fp = fp;
+        pc = at + 1 + length function.1;
+      }))
 
 -- the state before the start function is entered: the stored part and zeros up to ENDMEM
 abbrev pub initial : FlatStory → FlatState
 initial story = record {
-  memory = story.bytes ++ replicate (story.endmem - length story.bytes) 0;
-  stack = record { bytes = []; limit = story.stack_size };
+  memory = story.bytes ++ replicate (story.header.endmem - length story.bytes) 0;
+  stack = record { bytes = []; limit = story.header.stack_size };
   fp = 0;
   pc = 0;
-  table = story.table;
+  table = story.header.table;
   iosys = (0, 0);
   protected = (0, 0);
   heap = inactive;
@@ -90,4 +99,4 @@ initial story = record {
 
 -- The state in which a story starts: its start function is entered without arguments.
 unfoldable pub started : FlatStory → Result FlatState Fault
-started story = entered (initial story) 0 [] story.start_function []
+started story = entered (initial story) 0 [] story.header.start_function []

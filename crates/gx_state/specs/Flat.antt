@@ -48,17 +48,17 @@ pub record IsHeight (f : FlatState) (sp : ℕ) : Type 0 where
   pub live : 0 < sp_of f
   pub values : (frame_of f).values ≤ sp
   pub there : sp ≤ sp_of f
-  pub words : sp % 4 ≡ 0
+  pub aligned : sp % 4 ≡ 0
 
 -- all that is written lies in RAM; nothing may be written anywhere
-abbrev pub InRam : FlatState → ℕ → ℕ → Type 0
-InRam f at count = 0 < count → (f.story.ramstart ≤ at) × (at + count ≤ length f.memory)
+abbrev pub IsInRam : FlatState → ℕ → ℕ → Type 0
+IsInRam f at count = 0 < count → (f.story.header.ramstart ≤ at) × (at + count ≤ length f.memory)
 
 -- the fault of a write of so many bytes, one at least, from an address on
 abbrev pub write_fault : FlatState → ℕ → ℕ → Result (Unit {0}) Fault
 write_fault f at count =
     if nat_lt (length f.memory) (at + count) then Err BadAddress else
-    if nat_lt at f.story.ramstart then Err ReadOnly else
+    if nat_lt at f.story.header.ramstart then Err ReadOnly else
     Ok tt
 
 -- the stack cut to a stack pointer

@@ -1,6 +1,8 @@
 pub mod Flat
+pub mod Relations
 pub mod Sound
 pub mod Views
+pub mod Stores
 pub mod Entry
 pub mod Returns
 pub mod Replies

@@ -1,12 +1,13 @@
 -- Call stubs, and returns to them (Glulx 3.1.2, "Call Stubs" and "Calling and Returning Within Glulx").
-use Rattle.std.specs.Prelude.{ℕ, ◌+◌, ◌-◌, ◌≤◌, ◌==◌, nat_lt, if◌then◌else◌, Bool, true, false, List, length, take, Option, Some, None, IfSome, Result, Ok, Err}
+use Rattle.std.specs.Prelude.{◌≡◌, ◌⊎◌, ℕ, ◌+◌, ◌-◌, ◌≤◌, ◌==◌, nat_lt, if◌then◌else◌, Bool, true, false, List, length, take, Option, Some, None, IfSome, IsSome, Result, Ok, Err}
 use Rattle.std.specs.Option.{ok_or}
 use Rattle.gx_words.specs.declared.strings.PrintKind.TheVariants.{E0, E1, E2, Number}
 use Rattle.gx_words.specs.declared.strings.Printing.{Printing}
 use Rattle.gx_words.specs.declared.faults.Fault.{Fault}
 use Rattle.gx_words.specs.declared.faults.Fault.TheVariants.{BadFrame}
-use Rattle.gx_words.specs.Numbers.{bytes_of_word, spliced}
+use Rattle.gx_words.specs.Numbers.{bytes_of_word, is_bit, spliced}
 use Rattle.gx_words.specs.Results.{◌>>=◌}
+use Rattle.gx_stack.specs.declared.kinds.TheConstants.{TO_NOWHERE, TO_MEMORY, TO_LOCAL, TO_STACK, RESUME_COMPRESSED, RESUME_NUMBER, RESUME_C_STRING, RESUME_UNICODE}
 use Rattle.gx_stack.specs.declared.stubs.Stub.{Stub}
 use Rattle.gx_stack.specs.Faults.{lifted}
 use Rattle.gx_stack.specs.Frames.{frame_in}
@@ -15,14 +16,24 @@ use Rattle.gx_stack.specs.Stubs.{stub_below}
 use Rattle.gx_state.specs.declared.modes.Dest.{Dest}
 use Rattle.gx_state.specs.declared.modes.Dest.TheVariants.{Nowhere, Memory, Local, Push}
 use Rattle.gx_state.specs.declared.modes.Mode.TheVariants as mode
-use Rattle.gx_state.specs.Flat.{FlatState, sp_of, write_fault, cut, written, pushed, with_local}
+use Rattle.gx_state.specs.Flat.{FlatState, sp_of, cut}
+use Rattle.gx_state.specs.Stores.{stored}
 
 -- the stub of a store operand: DestType, DestAddr, the next instruction, the present frame
 abbrev pub stub_of : FlatState → Dest → ℕ → Stub
-stub_of f Nowhere next = record { kind = 0; addr = 0; pc = next; fp = f.fp }
-stub_of f (Memory at) next = record { kind = 1; addr = at; pc = next; fp = f.fp }
-stub_of f (Local at) next = record { kind = 2; addr = at; pc = next; fp = f.fp }
-stub_of f Push next = record { kind = 3; addr = 0; pc = next; fp = f.fp }
+stub_of f Nowhere next = record { kind = TO_NOWHERE; addr = 0; pc = next; fp = f.fp }
+stub_of f (Memory at) next = record { kind = TO_MEMORY; addr = at; pc = next; fp = f.fp }
+stub_of f (Local at) next = record { kind = TO_LOCAL; addr = at; pc = next; fp = f.fp }
+stub_of f Push next = record { kind = TO_STACK; addr = 0; pc = next; fp = f.fp }
+
+-- the store operand of a stub; one of another DestType has none
+unfoldable pub dest_of : Stub → Option Dest
+dest_of p =
+    if p.kind == TO_NOWHERE then Some Nowhere else
+    if p.kind == TO_MEMORY then Some (Memory p.addr) else
+    if p.kind == TO_LOCAL then Some (Local p.addr) else
+    if p.kind == TO_STACK then Some Push else
+    None
 
 -- stubs pushed, the first deepest
 unfoldable pub pushed_stubs : FlatState → List Stub → Result FlatState Fault
@@ -56,23 +67,17 @@ abbrev pub with_word : FlatState → Option (ℕ × ℕ) → FlatState
 with_word f w = record f { memory = wrote f.memory w }
 
 -- its place lies in RAM
-abbrev pub IsPlace : FlatState → Option (ℕ × ℕ) → Type 0
-IsPlace f w = IfSome w (λ x. f.story.ramstart ≤ x.0) × IfSome w (λ x. x.0 + 4 ≤ length f.memory)
+abbrev pub IsWordInRam : FlatState → Option (ℕ × ℕ) → Type 0
+IsWordInRam f w = IfSome w (λ x. f.story.header.ramstart ≤ x.0) × IfSome w (λ x. x.0 + 4 ≤ length f.memory)
 
--- a word stored in memory
-unfoldable pub stored_word : FlatState → ℕ → ℕ → Result FlatState Fault
-stored_word f at v = do
-  _ ← write_fault f at 4
-  Ok (written f at (bytes_of_word v))
-
--- What goes on being printed at a stub of the types 10, 12, 13 and 14 (hexadecimal): an E1 string at a bit, a
--- number at a digit, an E0 or an E2 string. A bit is below 8.
+-- What goes on being printed at a stub of the types 10, 12, 13 and 14 (hexadecimal): a compressed string at a bit
+-- below 8, a number at a digit, a C-style or a Unicode string.
 unfoldable pub printing_of : Stub → Option Printing
 printing_of p =
-    if p.kind == 0x10 then (if nat_lt 7 p.addr then None else Some (record { kind = E1; at = p.pc; bit = p.addr; started = true })) else
-    if p.kind == 0x12 then Some (record { kind = Number; at = p.pc; bit = p.addr; started = true }) else
-    if p.kind == 0x13 then Some (record { kind = E0; at = p.pc; bit = 0; started = true }) else
-    if p.kind == 0x14 then Some (record { kind = E2; at = p.pc; bit = 0; started = true }) else
+    if p.kind == RESUME_COMPRESSED then (if is_bit p.addr then Some (record { kind = E1; at = p.pc; bit = p.addr; started = true }) else None) else
+    if p.kind == RESUME_NUMBER then Some (record { kind = Number; at = p.pc; bit = p.addr; started = true }) else
+    if p.kind == RESUME_C_STRING then Some (record { kind = E0; at = p.pc; bit = 0; started = true }) else
+    if p.kind == RESUME_UNICODE then Some (record { kind = E2; at = p.pc; bit = 0; started = true }) else
     None
 
 unfoldable pub printing_on : FlatState → Stub → Result FlatState Fault
@@ -80,15 +85,14 @@ printing_on f p = do
   printing ← ok_or (printing_of p) BadFrame
   Ok (record f { mode = mode.Printing printing })
 
--- A value is delivered to a stub that was popped, by its DestType. The types 0 to 3 store it and go on at the
--- stub's PC; those of strings and numbers drop it, and PC stays.
+-- A value is delivered to a stub that was popped. It is stored in the stub's operand, and the code at the stub's PC
+-- goes on; without an operand the value is dropped, printing goes on, and PC stays.
+abbrev pub delivered_to : FlatState → Stub → ℕ → Option Dest → Result FlatState Fault
+delivered_to f p v (Some d) = stored (record f { pc = p.pc }) 4 d v
+delivered_to f p v None = printing_on f p
+
 unfoldable pub delivered : FlatState → Stub → ℕ → Result FlatState Fault
-delivered f p v =
-    if p.kind == 0 then Ok (record f { pc = p.pc }) else
-    if p.kind == 1 then stored_word (record f { pc = p.pc }) p.addr v else
-    if p.kind == 2 then with_local (record f { pc = p.pc }) p.addr 4 v else
-    if p.kind == 3 then pushed (record f { pc = p.pc }) v else
-    printing_on f p
+delivered f p v = delivered_to f p v (dest_of p)
 
 -- A return of a value with a stack pointer for FramePtr, after a word was written where one is given; and
 -- whether the program ends, since no stub is left.
@@ -99,3 +103,7 @@ returned f sp v before =
       p ← stub_to f.stack.bytes sp
       h ← delivered (back g sp p) p v
       Ok (h, false))
+
+-- it writes to memory: the word before it, or the value where the stub says so
+abbrev pub IsReturnWriting : FlatState → ℕ → Option (ℕ × ℕ) → Type 0
+IsReturnWriting f sp before = IsSome before ⊎ ((16 ≤ sp) × ((stub_below f.stack.bytes sp).kind ≡ TO_MEMORY))

@@ -8,11 +8,11 @@ use Rattle.gx_story.specs.Stories.{IsStory}
 use Rattle.gx_state.specs.Flat.{FlatState}
 
 -- the heap is inactive, or begins at a whole page from ENDMEM on and lies within memory
-pub record HeapFits (endmem size : ℕ) (heap : FlatHeap) : Type 0 where
+pub record IsHeapWithin (endmem size : ℕ) (heap : FlatHeap) : Type 0 where
   pub blocks : heaps.IsSound heap
   pub begins : 0 < length heap.blocks → endmem ≤ heap.start
   pub whole : heap.start % 256 ≡ 0
-  pub within : heaps.LiesBelow size heap
+  pub within : heaps.IsBelow size heap
 
 -- the frame at fp is good, unless the start function has returned
 pub record IsFramed (bytes : List ℕ) (fp : ℕ) : Type 0 where
@@ -21,10 +21,10 @@ pub record IsFramed (bytes : List ℕ) (fp : ℕ) : Type 0 where
 pub record IsSound (f : FlatState) : Type 0 where
   pub story : IsStory f.story
   pub size : IsSize (length f.memory)
-  pub endmem : f.story.endmem ≤ length f.memory
-  pub rom : take f.story.ramstart f.memory ≡ take f.story.ramstart f.story.bytes
-  pub limit : f.stack.limit ≡ f.story.stack_size
+  pub endmem : f.story.header.endmem ≤ length f.memory
+  pub rom : take f.story.header.ramstart f.memory ≡ take f.story.header.ramstart f.story.bytes
+  pub limit : f.stack.limit ≡ f.story.header.stack_size
   pub height : length f.stack.bytes ≤ f.stack.limit
-  pub words : length f.stack.bytes % 4 ≡ 0
+  pub aligned : length f.stack.bytes % 4 ≡ 0
   pub framed : IsFramed f.stack.bytes f.fp
-  pub heap : HeapFits f.story.endmem (length f.memory) f.heap
+  pub heap : IsHeapWithin f.story.header.endmem (length f.memory) f.heap

@@ -1,17 +1,18 @@
 //! The blocks of the memory allocation heap.
 ghost use Rattle.std.specs.Prelude.{◌≡◌, ◌+◌, ◌<◌, ◌≤◌, OnOk, OnErr};
-ghost use Rattle.gx_state.specs.Space.{MayEnter, FreesBlock, with_block, without_block};
+ghost use Rattle.gx_state.specs.Space.{IsNewBlock, FreesBlock, with_block, without_block};
 
 use crate::State;
 use std::alloc::{AllocError, Allocator};
 
 impl<A: Allocator + Clone> State<A> {
-    /// Makes room for one more block. The state stays, whatever the answer.
+    /// Makes room for one more block, where there is none. The state stays, whatever the answer.
     pub fn reserve_block(&mut self) -> Result<(), AllocError>
         ensures flat { self.new.flat ≡ self.old.flat }
         ensures room { self.old.spare ≤ self.new.spare }
         ensures ok { OnOk result (0 < self.new.spare) }
         ensures err { OnErr result (self.new ≡ self.old) }
+        ensures memory { OnErr result (self.old.spare ≡ 0) }
     {
         self.heap.reserve()
     }
@@ -21,11 +22,10 @@ impl<A: Allocator + Clone> State<A> {
     /// `end` is the size of memory at which an inactive heap begins.
     pub fn add_block(&mut self, end: u32, at: u32, size: u32)
         requires room { 0 < self.old.spare }
-        requires block { MayEnter self.old.flat end at size }
+        requires block { IsNewBlock self.old.flat end at size }
         ensures value { self.new.flat ≡ with_block self.old.flat end at size }
         ensures spare { self.old.spare ≤ self.new.spare + 1 }
     {
-        let _size = self.memory.size();
         self.heap.add(end, at, size);
     }
 

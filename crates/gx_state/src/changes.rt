@@ -1,11 +1,11 @@
 //! Writes to memory, and changes of the present frame.
-ghost use Rattle.std.specs.Prelude.{◌≡◌, ◌+◌, ◌*◌, ◌<◌, ◌≤◌, length, OnOk, OnErr};
+ghost use Rattle.std.specs.Prelude.{◌≡◌, ◌⊎◌, ◌+◌, ◌*◌, ◌<◌, ◌≤◌, length, OnOk, OnErr};
 ghost use Rattle.gx_words.specs.Numbers.{IsWidth};
-ghost use Rattle.gx_words.specs.Faults.{TakesNone};
-ghost use Rattle.gx_words.specs.Results.{Alters};
-ghost use Rattle.gx_pages.specs.Memory.{all_spliced};
-ghost use Rattle.gx_state.specs.Flat.{IsHeight, InRam, write_fault, cut, frame_of, sp_of, written, pushed, pushed_all, with_local, swapped, rolled, copied};
-ghost use Rattle.gx_state.specs.Replies.{AllInRam};
+ghost use Rattle.gx_words.specs.Faults.{Reads};
+ghost use Rattle.gx_pages.specs.Memory.{HasBytes, all_spliced};
+ghost use Rattle.gx_state.specs.Flat.{IsHeight, IsInRam, write_fault, cut, frame_of, sp_of, written, pushed, pushed_all, with_local, swapped, rolled, copied};
+ghost use Rattle.gx_state.specs.Relations.{Acts};
+ghost use Rattle.gx_state.specs.Replies.{AreInRam};
 
 use crate::State;
 use gx_words::{Fault, Writes};
@@ -15,9 +15,8 @@ impl<A: Allocator + Clone> State<A> {
     /// Looks whether a write of `count` bytes, one at least, would have a fault: `BadAddress` where one of
     /// them isn't in memory, else `ReadOnly` where one lies below RAMSTART.
     pub fn can_write(&self, at: u32, count: u32) -> Result<(), Fault>
-        ensures value { result ≡ write_fault self.now.flat at count }
-        ensures there { OnOk result (InRam self.now.flat at count) }
-        ensures memory { TakesNone result }
+        ensures value { Reads (λ v. v) result (write_fault self.now.flat at count) }
+        ensures there { OnOk result (IsInRam self.now.flat at count) }
     {
         if u64::from(at) + u64::from(count) > u64::from(self.memory.size()) {
             return Err(Fault::BadAddress);
@@ -31,10 +30,11 @@ impl<A: Allocator + Clone> State<A> {
     /// Writes bytes to RAM. No bytes may be written at any address.
     #[tactic(auto, using(crate::proofs::Kept::rom_written, crate::proofs::Kept::heap_again))]
     pub fn write(&mut self, at: u32, bytes: &[u8]) -> Result<(), AllocError>
-        requires { InRam self.old.flat at (length bytes.now) }
+        requires { IsInRam self.old.flat at (length bytes.now) }
         ensures ok { OnOk result (self.new ≡ record self.old { flat = written self.old.flat at bytes.now }) }
         ensures err { OnErr result (self.new ≡ self.old) }
         ensures size { length self.new.flat.memory ≡ length self.old.flat.memory }
+        ensures memory { OnErr result (0 < length bytes.now) }
     {
         self.memory.write(at, bytes)
     }
@@ -42,10 +42,11 @@ impl<A: Allocator + Clone> State<A> {
     /// Makes each write to RAM, the first of them first, or none.
     #[tactic(auto, using(crate::proofs::Kept::writes))]
     pub fn write_all(&mut self, writes: &Writes) -> Result<(), AllocError>
-        requires { AllInRam self.old.flat writes.now }
+        requires { AreInRam self.old.flat writes.now }
         ensures ok { OnOk result (self.new ≡ record self.old { flat = record self.old.flat { memory = all_spliced self.old.flat.memory writes.now } }) }
         ensures err { OnErr result (self.new ≡ self.old) }
         ensures size { length self.new.flat.memory ≡ length self.old.flat.memory }
+        ensures memory { OnErr result (HasBytes writes.now) }
     {
         self.memory.write_all(writes)
     }
@@ -58,11 +59,12 @@ impl<A: Allocator + Clone> State<A> {
         at: u32,
         bytes: &[u8],
     ) -> Result<(), AllocError>
-        requires writes { AllInRam self.old.flat writes.now }
-        requires last { InRam self.old.flat at (length bytes.now) }
+        requires writes { AreInRam self.old.flat writes.now }
+        requires last { IsInRam self.old.flat at (length bytes.now) }
         ensures ok { OnOk result (self.new ≡ record self.old { flat = written (record self.old.flat { memory = all_spliced self.old.flat.memory writes.now }) at bytes.now }) }
         ensures err { OnErr result (self.new ≡ self.old) }
         ensures size { length self.new.flat.memory ≡ length self.old.flat.memory }
+        ensures memory { OnErr result (HasBytes writes.now ⊎ (0 < length bytes.now)) }
     {
         self.memory.write_all_and(writes, at, bytes)
     }
@@ -71,12 +73,9 @@ impl<A: Allocator + Clone> State<A> {
     #[tactic(auto, unfolding(crate::specs::Flat::pushed_all, gx_stack::specs::Values::pushed_all), using(crate::proofs::Kept::framed))]
     pub fn push_all(&mut self, values: &[u32]) -> Result<(), Fault>
         requires { 0 < sp_of self.old.flat }
-        ensures value { Alters result self.old.flat self.new.flat (pushed_all self.old.flat values.now) }
+        ensures value { Acts result self.old self.new (pushed_all self.old.flat values.now) }
         ensures size { OnOk result (sp_of self.new.flat ≡ sp_of self.old.flat + 4 * length values.now) }
         ensures limit { self.new.flat.stack.limit ≡ self.old.flat.stack.limit }
-        ensures spare { self.new.spare ≡ self.old.spare }
-        ensures memory { TakesNone result }
-        ensures story { self.new.flat.story ≡ self.old.flat.story }
     {
         self.stack.push_all(values)?;
         Ok(())
@@ -86,10 +85,7 @@ impl<A: Allocator + Clone> State<A> {
     #[tactic(auto, unfolding(crate::specs::Flat::pushed, gx_stack::specs::Values::pushed), using(crate::proofs::Kept::framed))]
     pub fn push(&mut self, v: u32) -> Result<(), Fault>
         requires { 0 < sp_of self.old.flat }
-        ensures value { Alters result self.old.flat self.new.flat (pushed self.old.flat v) }
-        ensures spare { self.new.spare ≡ self.old.spare }
-        ensures memory { TakesNone result }
-        ensures story { self.new.flat.story ≡ self.old.flat.story }
+        ensures value { Acts result self.old self.new (pushed self.old.flat v) }
     {
         self.stack.push(v)?;
         Ok(())
@@ -110,10 +106,7 @@ impl<A: Allocator + Clone> State<A> {
     #[tactic(auto, unfolding(crate::specs::Flat::swapped, gx_stack::specs::Values::swapped), using(crate::proofs::Kept::framed))]
     pub fn swap(&mut self) -> Result<(), Fault>
         requires { 0 < sp_of self.old.flat }
-        ensures value { Alters result self.old.flat self.new.flat (swapped self.old.flat) }
-        ensures spare { self.new.spare ≡ self.old.spare }
-        ensures memory { TakesNone result }
-        ensures story { self.new.flat.story ≡ self.old.flat.story }
+        ensures value { Acts result self.old self.new (swapped self.old.flat) }
     {
         let frame = self.frame();
         self.stack.swap(&frame)?;
@@ -125,10 +118,7 @@ impl<A: Allocator + Clone> State<A> {
     #[tactic(auto, unfolding(crate::specs::Flat::rolled), using(crate::proofs::Kept::framed, crate::proofs::Kept::roll_limit))]
     pub fn roll(&mut self, n: u32, by: i32) -> Result<(), Fault>
         requires { 0 < sp_of self.old.flat }
-        ensures value { Alters result self.old.flat self.new.flat (rolled self.old.flat n by) }
-        ensures spare { self.new.spare ≡ self.old.spare }
-        ensures memory { TakesNone result }
-        ensures story { self.new.flat.story ≡ self.old.flat.story }
+        ensures value { Acts result self.old self.new (rolled self.old.flat n by) }
     {
         let frame = self.stack.parts(self.fp);
         self.stack.roll(&frame, n, by)?;
@@ -140,10 +130,7 @@ impl<A: Allocator + Clone> State<A> {
     #[tactic(auto, unfolding(crate::specs::Flat::copied, gx_stack::specs::Values::copied), using(crate::proofs::Kept::framed))]
     pub fn copy_top(&mut self, n: u32) -> Result<(), Fault>
         requires { 0 < sp_of self.old.flat }
-        ensures value { Alters result self.old.flat self.new.flat (copied self.old.flat n) }
-        ensures spare { self.new.spare ≡ self.old.spare }
-        ensures memory { TakesNone result }
-        ensures story { self.new.flat.story ≡ self.old.flat.story }
+        ensures value { Acts result self.old self.new (copied self.old.flat n) }
     {
         let frame = self.frame();
         self.stack.copy_top(&frame, n)?;
@@ -156,12 +143,9 @@ impl<A: Allocator + Clone> State<A> {
     pub fn set_local(&mut self, at: u32, width: u32, v: u32) -> Result<(), Fault>
         requires live { 0 < sp_of self.old.flat }
         requires width { IsWidth width }
-        ensures value { Alters result self.old.flat self.new.flat (with_local self.old.flat at width v) }
+        ensures value { Acts result self.old self.new (with_local self.old.flat at width v) }
         ensures frame { frame_of self.new.flat ≡ frame_of self.old.flat }
         ensures height { sp_of self.new.flat ≡ sp_of self.old.flat }
-        ensures spare { self.new.spare ≡ self.old.spare }
-        ensures memory { TakesNone result }
-        ensures story { self.new.flat.story ≡ self.old.flat.story }
     {
         let frame = self.frame();
         self.stack.set_local(&frame, at, width, v)?;

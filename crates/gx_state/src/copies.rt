@@ -2,18 +2,19 @@
 //!
 //! A copy has memory, the stack with the stub of a store operand on top, and the heap. What may be
 //! refused comes first, so that the state is as before after every refusal.
-ghost use Rattle.std.specs.Prelude.{◌≡◌, ◌≢◌, ◌+◌, ◌-◌, ◌<◌, ◌≤◌, ◌==◌, if◌then◌else◌, Some, None, Ok, length, take, IfOk, OnOk, OnErr};
-ghost use Rattle.gx_words.specs.Faults.{Changes};
+ghost use Rattle.std.specs.Prelude.{◌≡◌, ◌≢◌, ◌+◌, ◌-◌, ◌<◌, ◌≤◌, ◌==◌, if◌then◌else◌, Some, None, Ok, length, take, IfOk, OnOk, OnErr, IsTrue};
 ghost use Rattle.gx_pages.specs.Memory.{put_back_of};
+ghost use Rattle.gx_stack.specs.Frames.{has_local};
 ghost use Rattle.gx_state.specs.Flat.{frame_of, sp_of};
-ghost use Rattle.gx_state.specs.Copies.{IsCopyFor, TakesWord, below_stub, copy_of, gone_back, restarted, stub_in};
+ghost use Rattle.gx_state.specs.Copies.{IsCopyFor, HasPlaceFor, below_stub, copy_of, gone_back, restarted, stub_in};
+ghost use Rattle.gx_state.specs.Relations.{Begins};
 ghost use Rattle.gx_state.specs.Returns.{delivered, wrote};
 
-use crate::entry::{entry_len, kind_at, push_call};
-use crate::formats::format_at;
+use crate::entry::{function_at, push_call};
+use crate::readable::Restarted;
 use crate::{Dest, Mode, State};
 use gx_pages::{Kept, Pages};
-use gx_stack::Stub;
+use gx_stack::{Stub, TO_LOCAL, TO_MEMORY, TO_STACK};
 use gx_words::{Bytes, Fault, word_at, word_bytes};
 use heap_blocks::Heap;
 use std::alloc::{AllocError, Allocator};
@@ -73,7 +74,7 @@ impl<A: Allocator + Clone> State<A> {
         requires live { 0 < sp_of self.now.flat }
         requires room { sp_of self.now.flat + 16 ≤ self.now.flat.stack.limit }
         ensures value { IfOk result (λ copy. copy ≡ copy_of self.now.flat dest.now next) }
-        ensures fit { TakesWord self.now.flat dest.now → IfOk result (λ copy. IsCopyFor self.now.flat.story copy) }
+        ensures fit { HasPlaceFor self.now.flat dest.now → IfOk result (λ copy. IsCopyFor self.now.flat.story copy) }
     {
         let alloc = self.stack.allocator();
         let memory = self.memory.keep()?;
@@ -110,12 +111,12 @@ impl<A: Allocator + Clone> State<A> {
     fn memory_of(&self, copy: &Moment<A>, stub: &Stub) -> Result<Pages<A>, AllocError>
         requires fit { IsCopyFor self.now.flat.story copy.now }
         requires stub { stub.now ≡ stub_in copy.now }
-        ensures value { IfOk result (λ all. all ≡ wrote (put_back_of self.now.flat.memory copy.now.memory self.now.flat.protected.0 self.now.flat.protected.1) (if stub.now.kind == 1 then Some (stub.now.addr, 0xFFFFFFFF) else None)) }
+        ensures value { IfOk result (λ all. all ≡ wrote (put_back_of self.now.flat.memory copy.now.memory self.now.flat.protected.0 self.now.flat.protected.1) (if stub.now.kind == TO_MEMORY then Some (stub.now.addr, 0xFFFFFFFF) else None)) }
         ensures size { IfOk result (λ all. length all ≡ length copy.now.memory) }
-        ensures rom { IfOk result (λ all. take self.now.flat.story.ramstart all ≡ take self.now.flat.story.ramstart self.now.flat.story.bytes) }
+        ensures rom { IfOk result (λ all. take self.now.flat.story.header.ramstart all ≡ take self.now.flat.story.header.ramstart self.now.flat.story.bytes) }
     {
         let mut memory = self.memory.put_back(&copy.memory, self.protected)?;
-        if stub.kind != 1 {
+        if stub.kind != TO_MEMORY {
             return Ok(memory);
         }
         memory.write(stub.addr, &word_bytes(MINUS_ONE))?;
@@ -127,7 +128,7 @@ impl<A: Allocator + Clone> State<A> {
         requires fit { IsCopyFor self.old.flat.story copy.now }
         requires stub { stub.now ≡ stub_in copy.now }
         requires size { length memory ≡ length copy.now.memory }
-        requires rom { take self.old.flat.story.ramstart memory ≡ take self.old.flat.story.ramstart self.old.flat.story.bytes }
+        requires rom { take self.old.flat.story.header.ramstart memory ≡ take self.old.flat.story.header.ramstart self.old.flat.story.bytes }
         requires heap { heap.heap ≡ copy.now.heap }
         ensures value { self.new.flat ≡ record self.old.flat { memory = memory; stack = record self.old.flat.stack { bytes = below_stub copy.now }; fp = stub.now.fp; pc = stub.now.pc; heap = copy.now.heap; mode = Mode.Running } }
         ensures live { 0 < sp_of self.new.flat }
@@ -142,24 +143,24 @@ impl<A: Allocator + Clone> State<A> {
     }
 
     /// Stores -1 in the local or on the stack, where the stub says so.
-    #[tactic(auto, unfolding(crate::specs::Returns::delivered, crate::specs::Flat::with_local, crate::specs::Flat::pushed, gx_stack::specs::Values::with_local, gx_stack::specs::Values::pushed))]
+    #[tactic(auto, unfolding(crate::specs::Returns::delivered, crate::specs::Returns::dest_of, crate::specs::Stores::stored, crate::specs::Stores::store_fault, crate::specs::Flat::with_local, crate::specs::Flat::pushed, gx_stack::specs::Values::with_local, gx_stack::specs::Values::pushed))]
     fn answer(&mut self, stub: &Stub)
         requires live { 0 < sp_of self.old.flat }
-        requires kind { stub.now.kind ≤ 3 }
+        requires kind { stub.now.kind ≤ TO_STACK }
         requires pc { self.old.flat.pc ≡ stub.now.pc }
-        requires local { stub.now.kind ≡ 2 → stub.now.addr + 4 ≤ (frame_of self.old.flat).values - (frame_of self.old.flat).locals }
+        requires local { stub.now.kind ≡ TO_LOCAL → IsTrue (has_local (frame_of self.old.flat) stub.now.addr 4) }
         requires room { sp_of self.old.flat + 4 ≤ self.old.flat.stack.limit }
-        ensures other { stub.now.kind ≢ 1 → delivered self.old.flat stub.now 0xFFFFFFFF ≡ Ok self.new.flat }
-        ensures memory { stub.now.kind ≡ 1 → self.new ≡ self.old }
+        ensures other { stub.now.kind ≢ TO_MEMORY → delivered self.old.flat stub.now 0xFFFFFFFF ≡ Ok self.new.flat }
+        ensures memory { stub.now.kind ≡ TO_MEMORY → self.new ≡ self.old }
         ensures story { self.new.flat.story ≡ self.old.flat.story }
         ensures live { 0 < sp_of self.new.flat }
     {
         match stub.kind {
-            2 => match self.set_local(stub.addr, 4, MINUS_ONE) {
+            TO_LOCAL => match self.set_local(stub.addr, 4, MINUS_ONE) {
                 Ok(()) => {}
                 Err(_) => unreachable!(),
             },
-            3 => match self.push(MINUS_ONE) {
+            TO_STACK => match self.push(MINUS_ONE) {
                 Ok(()) => {}
                 Err(_) => unreachable!(),
             },
@@ -171,22 +172,16 @@ impl<A: Allocator + Clone> State<A> {
     /// and the start function entered. The protected range and the generator stay.
     #[tactic(auto, unfolding(crate::specs::Copies::restarted, crate::specs::Entry::entered), using(crate::proofs::Backs::restarts))]
     pub fn restart(&mut self) -> Result<(), Fault>
-        ensures value { Changes result self.old.flat self.new.flat (restarted self.old.flat) }
-        ensures story { self.new.flat.story ≡ self.old.flat.story }
+        ensures value { Begins (Unit {0}) result self.old.flat self.new.flat (restarted self.old.flat) }
         ensures live { OnOk result (0 < sp_of self.new.flat) }
     {
+        let at = self.story.start_function();
+        let limit = self.stack.limit();
+        let (kind, format) = function_at(&Restarted(self), at, 0, 0, limit)?;
         let memory = self
             .memory
             .begin_again(self.story.bytes(), self.story.endmem(), self.protected)?;
-        let limit = self.stack.limit();
-        let at = self.story.start_function();
-        let kind = kind_at(&memory, at)?;
-        let format = format_at(&memory, at + 1)?;
-        if entry_len(kind, format.as_slice(), 0) > limit {
-            return Err(Fault::Overflow);
-        }
         push_call(&mut self.stack, 0, &[], kind, format.as_slice(), &[]);
-        let _size = self.stack.size();
         self.memory = memory;
         self.fp = 0;
         self.pc = at + 1 + format.len() as u32;

@@ -1,51 +1,83 @@
 //! How a story starts, and how its functions are entered (Glulx 3.1.2, "Call Frames" and "Functions").
-ghost use Rattle.std.specs.Prelude.{◌≡◌, ◌+◌, ◌*◌, ◌%◌, ◌≤◌, ◌<◌, ◌^◌, ◌++◌, length, take, IfOk, IfErr, OnOk};
+//!
+//! The faults of an entry are looked for before anything changes, and before a start or a restart asks
+//! for memory.
+ghost use Rattle.std.specs.Prelude.{◌≡◌, ◌≢◌, ◌+◌, ◌*◌, ◌%◌, ◌≤◌, ◌<◌, ◌^◌, ◌++◌, length, take, Err, IfOk, IfErr, IsOk, OnOk};
+ghost use Rattle.gx_words.specs.declared.limits.TheConstants.{CEILING};
 ghost use Rattle.gx_words.specs.declared.faults.Fault.TheVariants.{NoMemory};
-ghost use Rattle.gx_words.specs.Faults.{TakesNone};
-ghost use Rattle.gx_words.specs.Results.{Alters, Gives};
+ghost use Rattle.gx_words.specs.Faults.{Makes, Reads};
 ghost use Rattle.gx_stack.specs.Formats.{IsFormat};
 ghost use Rattle.gx_stack.specs.Frames.{IsGood};
 ghost use Rattle.gx_stack.specs.Stubs.{stubs_bytes};
 ghost use Rattle.gx_state.specs.Flat.{sp_of};
-ghost use Rattle.gx_state.specs.Entry.{kind_at, entry_bytes, entry_len, entered, initial, started};
+ghost use Rattle.gx_state.specs.Relations.{Acts};
+ghost use Rattle.gx_state.specs.Entry.{kind_at, entry_bytes, entry_len, entered, function_at, initial, started};
 
 use crate::formats::format_at;
+use crate::readable::{Readable, Started};
 use crate::{Mode, State};
+use arrayvec::ArrayVec;
 use gx_pages::Pages;
 use gx_stack::{Stack, Stub, frame_len};
 use gx_story::Story;
-use gx_words::Fault;
+use gx_words::{Fault, LOCALS_FUNCTION, STACK_FUNCTION};
 use heap_blocks::Heap;
 use ops_calc::Generator;
 use std::alloc::{Allocator, Global};
 
 /// The type of a function.
 #[tactic(auto, unfolding(crate::specs::Entry::kind_at))]
-pub fn kind_at<A: Allocator + Clone>(memory: &Pages<A>, at: u32) -> Result<u32, Fault>
-    ensures value { result ≡ kind_at memory.now at }
-    ensures there { OnOk result (at + 1 ≤ length memory.now) }
-    ensures memory { TakesNone result }
+fn kind_at<M: Readable>(memory: &M, at: u32) -> Result<u32, Fault>
+    ensures value { Reads (λ v. v) result (kind_at (M.bytes memory.now) at) }
+    ensures low { OnOk result (at < CEILING) }
 {
-    let kind = memory.try_number(1, at)?;
+    let kind = u32::from(memory.byte(at)?);
     match kind {
-        0xC0 | 0xC1 => Ok(kind),
+        STACK_FUNCTION | LOCALS_FUNCTION => Ok(kind),
         _ => Err(Fault::BadFunction),
     }
 }
 
 /// How many bytes an entry pushes.
-pub fn entry_len(kind: u32, format: &[u8], count: usize) -> u32
+fn entry_len(kind: u32, format: &[u8], count: usize) -> u32
     requires format { IsFormat format.now }
     requires count { count ≤ 255 }
     ensures value { result ≡ entry_len kind format.now count }
     ensures fits { result < 2 ^ 19 }
 {
     let len = frame_len(format);
-    if kind == 0xC0 {
+    if kind == STACK_FUNCTION {
         len + 4 * (count as u32 + 1)
     } else {
         len
     }
+}
+
+/// The type and the locals format of a function, whose frame begins at `fp` and fits below `limit`.
+#[tactic(auto, unfolding(crate::specs::Entry::function_at))]
+pub fn function_at<M: Readable>(
+    memory: &M,
+    at: u32,
+    count: usize,
+    fp: u32,
+    limit: u32,
+) -> Result<(u32, ArrayVec<u8, 130>), Fault>
+    requires { fp ≤ 2 ^ 24 }
+    ensures value { Reads (λ r. (r.0, r.1.items)) result (function_at (M.bytes memory.now) at count fp limit) }
+    ensures count { OnOk result (count ≤ 255) }
+    ensures format { IfOk result (λ r. IsFormat r.1.items) }
+    ensures room { IfOk result (λ r. fp + entry_len r.0 r.1.items count ≤ limit) }
+    ensures low { OnOk result (at < CEILING) }
+{
+    let kind = kind_at(memory, at)?;
+    if count > 255 {
+        return Err(Fault::BadFunction);
+    }
+    let format = format_at(memory, at + 1)?;
+    if fp + entry_len(kind, format.as_slice(), count) > limit {
+        return Err(Fault::Overflow);
+    }
+    Ok((kind, format))
 }
 
 /// Pushes what an entry pushes.
@@ -57,8 +89,7 @@ fn push_entry(stack: &mut Stack, kind: u32, format: &[u8], args: &[u32])
     ensures value { stack.new ≡ record stack.old { bytes = stack.old.bytes ++ entry_bytes kind format.now args.now } }
     ensures good { IsGood stack.new.bytes (length stack.old.bytes) }
 {
-    let _size = stack.size();
-    if kind == 0xC0 {
+    if kind == STACK_FUNCTION {
         match stack.enter_frame(format) {
             Ok(_) => stack.push_args(args),
             Err(_) => unreachable!(),
@@ -75,12 +106,14 @@ fn push_entry(stack: &mut Stack, kind: u32, format: &[u8], args: &[u32])
 #[tactic(auto, unfolding(gx_stack::specs::Stubs::pushed_stubs), using(crate::proofs::Kept::good_at))]
 pub fn push_call(stack: &mut Stack, sp: u32, stubs: &[Stub], kind: u32, format: &[u8], args: &[u32])
     requires there { sp ≤ length stack.old.bytes }
-    requires words { sp % 4 ≡ 0 }
+    requires aligned { sp % 4 ≡ 0 }
     requires format { IsFormat format.now }
     requires count { length args.now ≤ 255 }
     requires room { sp + 16 * length stubs.now + entry_len kind format.now (length args.now) ≤ stack.old.limit }
     ensures value { stack.new ≡ record stack.old { bytes = (take sp stack.old.bytes ++ stubs_bytes stubs.now) ++ entry_bytes kind format.now args.now } }
     ensures good { IsGood stack.new.bytes (sp + 16 * length stubs.now) }
+    ensures height { length stack.new.bytes ≤ stack.new.limit }
+    ensures aligned { length stack.new.bytes % 4 ≡ 0 }
 {
     stack.leave_frame(sp);
     match stack.push_stubs(stubs) {
@@ -88,6 +121,7 @@ pub fn push_call(stack: &mut Stack, sp: u32, stubs: &[Stub], kind: u32, format: 
         Err(_) => unreachable!(),
     }
     push_entry(stack, kind, format, args);
+    let _size = stack.size(); // what holds of every stack
 }
 
 /// The state of a story before its start function is entered.
@@ -114,20 +148,33 @@ fn initial<A: Allocator + Clone>(alloc: Global, pages: A, story: Story) -> Resul
     })
 }
 
+/// Looks whether a start of a story would have a fault.
+#[tactic(auto, unfolding(crate::specs::Entry::started, crate::specs::Entry::entered))]
+fn can_start(story: &Story) -> Result<(), Fault>
+    ensures ok { OnOk result (IsOk (started story.now)) }
+    ensures err { IfErr result (λ fault. (started story.now ≡ Err fault) × (fault ≢ NoMemory)) }
+{
+    let at = story.start_function();
+    function_at(&Started(story), at, 0, 0, story.stack_size())?;
+    Ok(())
+}
+
 impl<A: Allocator + Clone> State<A> {
     /// The state in which a story starts: the stored part and zeros in memory, and its start
     /// function entered on an empty stack.
     pub fn start(alloc: Global, pages: A, story: &Story) -> Result<State<A>, Fault>
-        ensures { Gives NoMemory (λ state. state.flat) result (started story.now) }
+        ensures { Makes (λ state. state.flat) result (started story.now) }
     {
+        can_start(story)?;
         State::start_with(alloc, pages, story.copy(alloc)?)
     }
 
     /// The same, where the state takes the story as its own.
     #[tactic(auto, unfolding(crate::specs::Entry::started))]
     pub fn start_with(alloc: Global, pages: A, story: Story) -> Result<State<A>, Fault>
-        ensures { Gives NoMemory (λ state. state.flat) result (started story) }
+        ensures { Makes (λ state. state.flat) result (started story) }
     {
+        can_start(&story)?;
         let at = story.start_function();
         let mut state = initial(alloc, pages, story)?;
         state.enter(0, &[], at, &[])?;
@@ -138,28 +185,16 @@ impl<A: Allocator + Clone> State<A> {
     #[tactic(auto, unfolding(crate::specs::Entry::entered), using(crate::proofs::Kept::framed_good))]
     pub fn enter(&mut self, sp: u32, stubs: &[Stub], at: u32, args: &[u32]) -> Result<(), Fault>
         requires there { sp ≤ sp_of self.old.flat }
-        requires words { sp % 4 ≡ 0 }
-        ensures value { Alters result self.old.flat self.new.flat (entered self.old.flat sp stubs.now at args.now) }
-        ensures spare { self.new.spare ≡ self.old.spare }
-        ensures memory { TakesNone result }
-        ensures story { self.new.flat.story ≡ self.old.flat.story }
+        requires aligned { sp % 4 ≡ 0 }
+        ensures { Acts result self.old self.new (entered self.old.flat sp stubs.now at args.now) }
     {
         let limit = self.stack.limit();
-        let _size = self.stack.size();
         if stubs.len() > (limit - sp) as usize / 16 {
             return Err(Fault::Overflow);
         }
         let fp = sp + 16 * stubs.len() as u32;
-        let kind = kind_at(&self.memory, at)?;
-        if args.len() > 255 {
-            return Err(Fault::BadFunction);
-        }
-        let format = format_at(&self.memory, at + 1)?;
-        if fp + entry_len(kind, format.as_slice(), args.len()) > limit {
-            return Err(Fault::Overflow);
-        }
+        let (kind, format) = function_at(&self.memory, at, args.len(), fp, limit)?;
         push_call(&mut self.stack, sp, stubs, kind, format.as_slice(), args);
-        let _size_now = self.stack.size();
         self.fp = fp;
         self.pc = at + 1 + format.len() as u32;
         Ok(())

@@ -5,7 +5,8 @@
 //! only what its clause names, and nothing after a refusal; every state is sound (specs/Sound).
 //!
 //! - `state` has the readers, and the calls that set one part.
-//! - `entry` starts a story and enters its functions, whose locals formats `formats` reads.
+//! - `entry` starts a story and enters its functions, whose locals formats `formats` reads; `readable`
+//!   is the memory that they are read from.
 //! - `returns` has call stubs, and returns to them.
 //! - `changes` writes to memory and changes the present frame.
 //! - `copies` keeps copies of the state, goes back to them, and starts a story again.
@@ -20,6 +21,7 @@ mod effects;
 mod entry;
 mod formats;
 mod modes;
+mod readable;
 mod resizing;
 mod returns;
 mod state;
@@ -29,6 +31,3 @@ pub use effects::{Effect, Reply};
 pub use modes::{Dest, Mode};
 pub use returns::printing_of;
 pub use state::State;
-
-#[cfg(test)]
-mod tests;

@@ -1,7 +1,7 @@
 //! Ranges of memory, and its size.
-ghost use Rattle.std.specs.Prelude.{◌≡◌, length, OnOk, OnErr};
-ghost use Rattle.gx_state.specs.Flat.{InRam};
-ghost use Rattle.gx_state.specs.Space.{InMemory, MayGrow, MayShrink, zeroed, moved, with_size};
+ghost use Rattle.std.specs.Prelude.{◌≡◌, ◌<◌, length, OnOk, OnErr};
+ghost use Rattle.gx_state.specs.Flat.{IsInRam};
+ghost use Rattle.gx_state.specs.Space.{IsInMemory, IsGrowth, IsShrinking, zeroed, copied_range, with_size};
 
 use crate::State;
 use std::alloc::{AllocError, Allocator};
@@ -10,10 +10,11 @@ impl<A: Allocator + Clone> State<A> {
     /// Puts zeros over `count` bytes of RAM. A `count` of 0 may have any address.
     #[tactic(auto, using(crate::proofs::Kept::rom_written, crate::proofs::Kept::heap_again))]
     pub fn fill_zero(&mut self, at: u32, count: u32) -> Result<(), AllocError>
-        requires { InRam self.old.flat at count }
+        requires { IsInRam self.old.flat at count }
         ensures ok { OnOk result (self.new ≡ record self.old { flat = zeroed self.old.flat at count }) }
         ensures err { OnErr result (self.new ≡ self.old) }
         ensures size { length self.new.flat.memory ≡ length self.old.flat.memory }
+        ensures memory { OnErr result (0 < count) }
     {
         self.memory.fill_zero(at, count)
     }
@@ -22,11 +23,12 @@ impl<A: Allocator + Clone> State<A> {
     /// overlap. A `count` of 0 may have any addresses.
     #[tactic(auto, using(crate::proofs::Kept::rom_written, crate::proofs::Kept::heap_again))]
     pub fn copy_within(&mut self, from: u32, to: u32, count: u32) -> Result<(), AllocError>
-        requires source { InMemory self.old.flat from count }
-        requires target { InRam self.old.flat to count }
-        ensures ok { OnOk result (self.new ≡ record self.old { flat = moved self.old.flat from to count }) }
+        requires source { IsInMemory self.old.flat from count }
+        requires target { IsInRam self.old.flat to count }
+        ensures ok { OnOk result (self.new ≡ record self.old { flat = copied_range self.old.flat from to count }) }
         ensures err { OnErr result (self.new ≡ self.old) }
         ensures size { length self.new.flat.memory ≡ length self.old.flat.memory }
+        ensures memory { OnErr result (0 < count) }
     {
         self.memory.copy_within(from, to, count)
     }
@@ -34,10 +36,11 @@ impl<A: Allocator + Clone> State<A> {
     /// Adds zeros to memory up to `size`.
     #[tactic(auto, using(crate::proofs::Space::sizes))]
     pub fn grow(&mut self, size: u32) -> Result<(), AllocError>
-        requires { MayGrow self.old.flat size }
+        requires { IsGrowth self.old.flat size }
         ensures ok { OnOk result (self.new ≡ record self.old { flat = with_size self.old.flat size }) }
         ensures err { OnErr result (self.new ≡ self.old) }
         ensures size { OnOk result (length self.new.flat.memory ≡ size) }
+        ensures memory { OnErr result (length self.old.flat.memory < size) }
     {
         self.memory.resize(size)?;
         Ok(())
@@ -46,7 +49,7 @@ impl<A: Allocator + Clone> State<A> {
     /// Drops the bytes of memory from `size` on.
     #[tactic(auto, using(crate::proofs::Space::sizes))]
     pub fn shrink(&mut self, size: u32)
-        requires { MayShrink self.old.flat size }
+        requires { IsShrinking self.old.flat size }
         ensures value { self.new ≡ record self.old { flat = with_size self.old.flat size } }
         ensures size { length self.new.flat.memory ≡ size }
     {

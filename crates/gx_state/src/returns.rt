@@ -3,17 +3,19 @@
 //!
 //! A return looks for all its faults first, then writes memory where its stub says so, and then goes
 //! back to the stub's frame. Nothing has changed after a refusal.
-ghost use Rattle.std.specs.Prelude.{◌≡◌, ◌⊎◌, ◌+◌, ◌-◌, ◌*◌, ◌%◌, ◌<◌, ◌≤◌, ◌==◌, length, take, IfOk, OnOk, OnErr, IsErrOf, IsSome};
-ghost use Rattle.gx_words.specs.declared.faults.Fault.TheVariants.{NoMemory};
-ghost use Rattle.gx_words.specs.Faults.{Changes, Does, TakesNone};
-ghost use Rattle.gx_words.specs.Results.{Alters, Is, Turns};
+ghost use Rattle.std.specs.Prelude.{◌≡◌, ◌⊎◌, ◌+◌, ◌-◌, ◌*◌, ◌%◌, ◌<◌, ◌≤◌, ◌==◌, length, take, IfOk, OnOk, OnErr, IsSome};
+ghost use Rattle.gx_words.specs.Faults.{Reads};
 ghost use Rattle.gx_stack.specs.Frames.{IsFrame, IsGood};
 ghost use Rattle.gx_stack.specs.Stubs.{stub_below};
 ghost use Rattle.gx_state.specs.Flat.{cut, frame_of, sp_of};
-ghost use Rattle.gx_state.specs.Returns.{stub_of, pushed_stubs, popped_stub, stub_to, back, with_word, IsPlace, printing_of, printing_on, delivered, returned};
+ghost use Rattle.gx_state.specs.Relations.{Acts, Goes, Stores, Works};
+ghost use Rattle.gx_state.specs.Returns.{IsReturnWriting, IsWordInRam, stub_of, pushed_stubs, popped_stub, stub_to, back, with_word, printing_of, printing_on, delivered, returned};
 
 use crate::{Dest, Mode, State};
-use gx_stack::{Frame, Stub};
+use gx_stack::{
+    Frame, RESUME_C_STRING, RESUME_COMPRESSED, RESUME_NUMBER, RESUME_UNICODE, Stub, TO_LOCAL,
+    TO_MEMORY, TO_NOWHERE, TO_STACK,
+};
 use gx_words::{Fault, PrintKind, Printing, word_bytes};
 use std::alloc::{AllocError, Allocator};
 
@@ -24,10 +26,10 @@ pub fn printing_of(stub: &Stub) -> Option<Printing>
     ensures { result ≡ printing_of stub.now }
 {
     let (kind, bit) = match stub.kind {
-        0x10 if stub.addr < 8 => (PrintKind::E1, stub.addr),
-        0x12 => (PrintKind::Number, stub.addr),
-        0x13 => (PrintKind::E0, 0),
-        0x14 => (PrintKind::E2, 0),
+        RESUME_COMPRESSED if stub.addr < 8 => (PrintKind::E1, stub.addr),
+        RESUME_NUMBER => (PrintKind::Number, stub.addr),
+        RESUME_C_STRING => (PrintKind::E0, 0),
+        RESUME_UNICODE => (PrintKind::E2, 0),
         _ => return None,
     };
     Some(Printing {
@@ -44,10 +46,10 @@ impl<A: Allocator + Clone> State<A> {
         ensures { result ≡ stub_of self.now.flat dest.now next }
     {
         let (kind, addr) = match *dest {
-            Dest::Nowhere => (0, 0),
-            Dest::Memory(at) => (1, at),
-            Dest::Local(at) => (2, at),
-            Dest::Push => (3, 0),
+            Dest::Nowhere => (TO_NOWHERE, 0),
+            Dest::Memory(at) => (TO_MEMORY, at),
+            Dest::Local(at) => (TO_LOCAL, at),
+            Dest::Push => (TO_STACK, 0),
         };
         Stub {
             kind,
@@ -61,11 +63,8 @@ impl<A: Allocator + Clone> State<A> {
     #[tactic(auto, unfolding(crate::specs::Returns::pushed_stubs, gx_stack::specs::Stubs::pushed_stubs), using(crate::proofs::Kept::framed))]
     pub fn push_stubs(&mut self, stubs: &[Stub]) -> Result<(), Fault>
         requires { 0 < sp_of self.old.flat }
-        ensures value { Alters result self.old.flat self.new.flat (pushed_stubs self.old.flat stubs.now) }
-        ensures spare { self.new.spare ≡ self.old.spare }
+        ensures value { Acts result self.old self.new (pushed_stubs self.old.flat stubs.now) }
         ensures live { 0 < sp_of self.new.flat }
-        ensures memory { TakesNone result }
-        ensures story { self.new.flat.story ≡ self.old.flat.story }
     {
         self.stack.push_stubs(stubs)?;
         Ok(())
@@ -75,10 +74,8 @@ impl<A: Allocator + Clone> State<A> {
     /// bytes are there, or the stub's frame isn't good. PC stays.
     #[tactic(auto, unfolding(crate::specs::Returns::popped_stub))]
     pub fn pop_stub(&mut self) -> Result<Stub, Fault>
-        ensures value { Turns (λ stub. stub) result self.old.flat self.new.flat (popped_stub self.old.flat) }
+        ensures value { Goes result self.old.flat self.new.flat (popped_stub self.old.flat) }
         ensures spare { self.new.spare ≡ self.old.spare }
-        ensures memory { TakesNone result }
-        ensures story { self.new.flat.story ≡ self.old.flat.story }
     {
         let sp = self.stack.size();
         let (stub, _) = self.resumed(sp)?;
@@ -88,10 +85,10 @@ impl<A: Allocator + Clone> State<A> {
 
     /// Makes the return of a value with `sp` for FramePtr, after a word was written where `before`
     /// gives its address and value. True exactly where `sp` is 0: the program ends, and the stack is
-    /// empty.
+    /// empty. Memory is wanted only for the word before it, and where the stub's type is `TO_MEMORY`.
     ///
     /// PC stays where the program ends, and where a string or number goes on being printed.
-    #[tactic(auto, unfolding(crate::specs::Returns::returned, crate::specs::Returns::delivered), using(crate::proofs::Kept::below))]
+    #[tactic(auto, unfolding(crate::specs::Returns::returned, crate::specs::Returns::delivered, crate::specs::Returns::dest_of, crate::specs::Stores::stored, crate::specs::Stores::store_fault), using(crate::proofs::Kept::below))]
     pub fn deliver(
         &mut self,
         sp: u32,
@@ -99,13 +96,11 @@ impl<A: Allocator + Clone> State<A> {
         before: Option<(u32, u32)>,
     ) -> Result<bool, Fault>
         requires there { sp ≤ sp_of self.old.flat }
-        requires words { sp % 4 ≡ 0 }
-        requires before { IsPlace self.old.flat before }
-        ensures value { Does (λ ended. ended) result self.old.flat self.new.flat (returned self.old.flat sp value before) }
+        requires aligned { sp % 4 ≡ 0 }
+        requires before { IsWordInRam self.old.flat before }
+        ensures value { Works (IsReturnWriting self.old.flat sp before) result self.old.flat self.new.flat (returned self.old.flat sp value before) }
         ensures ended { IfOk result (λ ended. ended ≡ (sp == 0)) }
         ensures spare { self.new.spare ≡ self.old.spare }
-        ensures memory { IsErrOf result NoMemory → IsSome before ⊎ ((stub_below self.old.flat.stack.bytes sp).kind ≡ 1) }
-        ensures story { self.new.flat.story ≡ self.old.flat.story }
     {
         if sp == 0 {
             self.write_words(before, None)?;
@@ -114,13 +109,13 @@ impl<A: Allocator + Clone> State<A> {
         }
         let (stub, frame) = self.resumed(sp)?;
         match stub.kind {
-            0 => {
+            TO_NOWHERE => {
                 self.write_words(before, None)?;
                 self.resume(sp, &stub);
             }
-            1 => self.give_memory(sp, value, before, &stub)?,
-            2 => self.give_local(sp, value, before, &stub, &frame)?,
-            3 => self.give_push(sp, value, before, &stub)?,
+            TO_MEMORY => self.give_memory(sp, value, before, &stub)?,
+            TO_LOCAL => self.give_local(sp, value, before, &stub, &frame)?,
+            TO_STACK => self.give_push(sp, value, before, &stub)?,
             _ => self.give_printing(sp, before, &stub)?,
         }
         Ok(false)
@@ -133,8 +128,8 @@ impl<A: Allocator + Clone> State<A> {
         first: Option<(u32, u32)>,
         second: Option<(u32, u32)>,
     ) -> Result<(), AllocError>
-        requires first { IsPlace self.old.flat first }
-        requires second { IsPlace self.old.flat second }
+        requires first { IsWordInRam self.old.flat first }
+        requires second { IsWordInRam self.old.flat second }
         ensures ok { OnOk result (self.new ≡ record self.old { flat = with_word (with_word self.old.flat first) second }) }
         ensures err { OnErr result (self.new ≡ self.old) }
         ensures memory { OnErr result (IsSome first ⊎ IsSome second) }
@@ -153,13 +148,13 @@ impl<A: Allocator + Clone> State<A> {
     #[tactic(auto, unfolding(crate::specs::Returns::stub_to), using(crate::proofs::Kept::below))]
     fn resumed(&self, sp: u32) -> Result<(Stub, Frame), Fault>
         requires there { sp ≤ sp_of self.now.flat }
-        requires words { sp % 4 ≡ 0 }
-        ensures value { Is (λ r. r.0) result (stub_to self.now.flat.stack.bytes sp) }
+        requires aligned { sp % 4 ≡ 0 }
+        ensures value { Reads (λ r. r.0) result (stub_to self.now.flat.stack.bytes sp) }
         ensures there { OnOk result (16 ≤ sp) }
+        ensures room { OnOk result (sp ≤ self.now.flat.stack.limit) }
         ensures frame { IfOk result (λ r. IsFrame (take (sp - 16) self.now.flat.stack.bytes) r.1) }
         ensures fp { IfOk result (λ r. r.1.fp ≡ r.0.fp) }
         ensures stub { IfOk result (λ r. r.0 ≡ stub_below self.now.flat.stack.bytes sp) }
-        ensures memory { TakesNone result }
     {
         let Ok(stub) = self.stack.stub_at(sp) else {
             return Err(Fault::BadFrame);
@@ -173,7 +168,7 @@ impl<A: Allocator + Clone> State<A> {
     fn go_back(&mut self, sp: u32, stub: &Stub)
         requires there { 16 ≤ sp }
         requires within { sp ≤ sp_of self.old.flat }
-        requires words { sp % 4 ≡ 0 }
+        requires aligned { sp % 4 ≡ 0 }
         requires good { IsGood (take (sp - 16) self.old.flat.stack.bytes) stub.now.fp }
         ensures value { self.new ≡ record self.old { flat = back self.old.flat sp stub.now } }
         ensures live { 0 < sp_of self.new.flat }
@@ -186,7 +181,7 @@ impl<A: Allocator + Clone> State<A> {
     fn resume(&mut self, sp: u32, stub: &Stub)
         requires there { 16 ≤ sp }
         requires within { sp ≤ sp_of self.old.flat }
-        requires words { sp % 4 ≡ 0 }
+        requires aligned { sp % 4 ≡ 0 }
         requires good { IsGood (take (sp - 16) self.old.flat.stack.bytes) stub.now.fp }
         ensures value { self.new ≡ record self.old { flat = record (back self.old.flat sp stub.now) { pc = stub.now.pc } } }
         ensures live { 0 < sp_of self.new.flat }
@@ -204,7 +199,7 @@ impl<A: Allocator + Clone> State<A> {
     }
 
     /// Delivers a value that is stored in memory.
-    #[tactic(auto, unfolding(crate::specs::Returns::delivered, crate::specs::Returns::stored_word), using(crate::proofs::Kept::words))]
+    #[tactic(auto, unfolding(crate::specs::Returns::delivered, crate::specs::Returns::dest_of, crate::specs::Stores::stored, crate::specs::Stores::store_fault), using(crate::proofs::Kept::words))]
     fn give_memory(
         &mut self,
         sp: u32,
@@ -214,13 +209,11 @@ impl<A: Allocator + Clone> State<A> {
     ) -> Result<(), Fault>
         requires there { 16 ≤ sp }
         requires within { sp ≤ sp_of self.old.flat }
-        requires words { sp % 4 ≡ 0 }
-        requires before { IsPlace self.old.flat before }
+        requires aligned { sp % 4 ≡ 0 }
+        requires before { IsWordInRam self.old.flat before }
         requires good { IsGood (take (sp - 16) self.old.flat.stack.bytes) stub.now.fp }
-        requires kind { stub.now.kind ≡ 1 }
-        ensures value { Changes result self.old.flat self.new.flat (delivered (back (with_word self.old.flat before) sp stub.now) stub.now value) }
-        ensures spare { self.new.spare ≡ self.old.spare }
-        ensures story { self.new.flat.story ≡ self.old.flat.story }
+        requires kind { stub.now.kind ≡ TO_MEMORY }
+        ensures { Stores (Unit {0}) result self.old self.new (delivered (back (with_word self.old.flat before) sp stub.now) stub.now value) }
     {
         self.can_write(stub.addr, 4)?;
         self.write_words(before, Some((stub.addr, value)))?;
@@ -229,7 +222,7 @@ impl<A: Allocator + Clone> State<A> {
     }
 
     /// Delivers a value that is stored in a local.
-    #[tactic(auto, unfolding(crate::specs::Returns::delivered, crate::specs::Flat::with_local, gx_stack::specs::Values::with_local), using(crate::proofs::Kept::words, crate::proofs::Kept::below))]
+    #[tactic(auto, unfolding(crate::specs::Returns::delivered, crate::specs::Returns::dest_of, crate::specs::Stores::stored, crate::specs::Stores::store_fault, crate::specs::Flat::with_local, gx_stack::specs::Values::with_local), using(crate::proofs::Kept::words, crate::proofs::Kept::below))]
     fn give_local(
         &mut self,
         sp: u32,
@@ -240,15 +233,12 @@ impl<A: Allocator + Clone> State<A> {
     ) -> Result<(), Fault>
         requires there { 16 ≤ sp }
         requires within { sp ≤ sp_of self.old.flat }
-        requires words { sp % 4 ≡ 0 }
-        requires before { IsPlace self.old.flat before }
+        requires aligned { sp % 4 ≡ 0 }
+        requires before { IsWordInRam self.old.flat before }
         requires frame { IsFrame (take (sp - 16) self.old.flat.stack.bytes) frame.now }
         requires fp { frame.now.fp ≡ stub.now.fp }
-        requires kind { stub.now.kind ≡ 2 }
-        ensures value { Changes result self.old.flat self.new.flat (delivered (back (with_word self.old.flat before) sp stub.now) stub.now value) }
-        ensures spare { self.new.spare ≡ self.old.spare }
-        ensures memory { IsErrOf result NoMemory → IsSome before }
-        ensures story { self.new.flat.story ≡ self.old.flat.story }
+        requires kind { stub.now.kind ≡ TO_LOCAL }
+        ensures { Stores (IsSome before) result self.old self.new (delivered (back (with_word self.old.flat before) sp stub.now) stub.now value) }
     {
         if u64::from(stub.addr) + 4 > u64::from(frame.values - frame.locals) {
             return Err(Fault::BadLocal);
@@ -262,7 +252,7 @@ impl<A: Allocator + Clone> State<A> {
     }
 
     /// Delivers a value that is pushed.
-    #[tactic(auto, unfolding(crate::specs::Returns::delivered, crate::specs::Flat::pushed, gx_stack::specs::Values::pushed), using(crate::proofs::Kept::words))]
+    #[tactic(auto, unfolding(crate::specs::Returns::delivered, crate::specs::Returns::dest_of, crate::specs::Stores::stored, crate::specs::Stores::store_fault, crate::specs::Flat::pushed, gx_stack::specs::Values::pushed), using(crate::proofs::Kept::words))]
     fn give_push(
         &mut self,
         sp: u32,
@@ -272,16 +262,13 @@ impl<A: Allocator + Clone> State<A> {
     ) -> Result<(), Fault>
         requires there { 16 ≤ sp }
         requires within { sp ≤ sp_of self.old.flat }
-        requires words { sp % 4 ≡ 0 }
-        requires before { IsPlace self.old.flat before }
+        requires room { sp ≤ self.old.flat.stack.limit }
+        requires aligned { sp % 4 ≡ 0 }
+        requires before { IsWordInRam self.old.flat before }
         requires good { IsGood (take (sp - 16) self.old.flat.stack.bytes) stub.now.fp }
-        requires kind { stub.now.kind ≡ 3 }
-        ensures value { Changes result self.old.flat self.new.flat (delivered (back (with_word self.old.flat before) sp stub.now) stub.now value) }
-        ensures spare { self.new.spare ≡ self.old.spare }
-        ensures memory { IsErrOf result NoMemory → IsSome before }
-        ensures story { self.new.flat.story ≡ self.old.flat.story }
+        requires kind { stub.now.kind ≡ TO_STACK }
+        ensures { Stores (IsSome before) result self.old self.new (delivered (back (with_word self.old.flat before) sp stub.now) stub.now value) }
     {
-        let _size = self.stack.size();
         self.write_words(before, None)?;
         self.resume(sp, stub);
         match self.push(value) {
@@ -300,13 +287,10 @@ impl<A: Allocator + Clone> State<A> {
     ) -> Result<(), Fault>
         requires there { 16 ≤ sp }
         requires within { sp ≤ sp_of self.old.flat }
-        requires words { sp % 4 ≡ 0 }
-        requires before { IsPlace self.old.flat before }
+        requires aligned { sp % 4 ≡ 0 }
+        requires before { IsWordInRam self.old.flat before }
         requires good { IsGood (take (sp - 16) self.old.flat.stack.bytes) stub.now.fp }
-        ensures value { Changes result self.old.flat self.new.flat (printing_on (back (with_word self.old.flat before) sp stub.now) stub.now) }
-        ensures spare { self.new.spare ≡ self.old.spare }
-        ensures memory { IsErrOf result NoMemory → IsSome before }
-        ensures story { self.new.flat.story ≡ self.old.flat.story }
+        ensures { Stores (IsSome before) result self.old self.new (printing_on (back (with_word self.old.flat before) sp stub.now) stub.now) }
     {
         let Some(printing) = printing_of(stub) else {
             return Err(Fault::BadFrame);

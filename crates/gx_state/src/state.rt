@@ -1,10 +1,11 @@
 //! The state, its readers, and the calls that set one part.
 ghost use Rattle.std.specs.Prelude.{◌≡◌, ◌<◌, ◌≤◌, length};
 ghost use Rattle.gx_stack.specs.Frames.{IsFrame};
-ghost use Rattle.heap_blocks.specs.Heap.{LiesBelow};
+ghost use Rattle.heap_blocks.specs.Heap.{IsBelow};
 ghost use Rattle.ops_calc.specs.Generator.{word_from, after_word};
 ghost use Rattle.gx_story.specs.Stories.{IsStory, is_checked};
 ghost use Rattle.gx_state.specs.Flat.{frame_of, sp_of};
+ghost use Rattle.gx_state.specs.Sound.{IsSound};
 
 use crate::Mode;
 use gx_pages::Pages;
@@ -46,14 +47,16 @@ impl<A: Allocator + Clone> Model for State<A> {
 impl<A: Allocator + Clone> State<A> {
     /// Memory.
     pub fn memory(&self) -> &Pages<A>
-        ensures { result.now ≡ self.now.flat.memory }
+        ensures value { result.now ≡ self.now.flat.memory }
+        ensures sound { IsSound self.now.flat }
     {
         &self.memory
     }
 
     /// The stack.
     pub fn stack(&self) -> &Stack
-        ensures { result.now ≡ self.now.flat.stack }
+        ensures value { result.now ≡ self.now.flat.stack }
+        ensures sound { IsSound self.now.flat }
     {
         &self.stack
     }
@@ -61,7 +64,7 @@ impl<A: Allocator + Clone> State<A> {
     /// The memory allocation heap.
     pub fn heap(&self) -> &Heap
         ensures value { result.now.heap ≡ self.now.flat.heap }
-        ensures within { LiesBelow (length self.now.flat.memory) self.now.flat.heap }
+        ensures within { IsBelow (length self.now.flat.memory) self.now.flat.heap }
     {
         &self.heap
     }
@@ -133,7 +136,7 @@ impl<A: Allocator + Clone> State<A> {
 
     /// The first address that the story may write to.
     pub fn ramstart(&self) -> u32
-        ensures value { result ≡ self.now.flat.story.ramstart }
+        ensures value { result ≡ self.now.flat.story.header.ramstart }
         ensures sound { IsStory self.now.flat.story }
     {
         self.story.ramstart()
@@ -141,8 +144,9 @@ impl<A: Allocator + Clone> State<A> {
 
     /// The first size of memory, which it never falls below.
     pub fn endmem(&self) -> u32
-        ensures value { result ≡ self.now.flat.story.endmem }
+        ensures value { result ≡ self.now.flat.story.header.endmem }
         ensures within { result ≤ length self.now.flat.memory }
+        ensures sound { IsStory self.now.flat.story }
     {
         self.story.endmem()
     }

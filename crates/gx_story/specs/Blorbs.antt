@@ -5,7 +5,10 @@ use Rattle.std.specs.Option.{ok_or}
 use Rattle.std.specs.Str.{bytes_eq}
 use Rattle.gx_words.specs.Numbers.{word}
 use Rattle.gx_words.specs.Results.{◌>>=◌}
-use Rattle.iff_chunks.specs.Chunks.{id_at, chunks, first, at_place, body}
+use Rattle.iff_chunks.specs.Chunks.{id_at, chunks, part_found, body}
+use Rattle.iff_chunks.specs.declared.parts.Part.{Part}
+use Rattle.iff_chunks.specs.declared.parts.Sought.{Sought}
+use Rattle.iff_chunks.specs.declared.parts.Sought.TheVariants.{Letters, Place}
 use Rattle.gx_story.specs.Faults.{of_form}
 use Rattle.gx_story.specs.declared.blorbs.Entry.{Entry}
 use Rattle.gx_story.specs.declared.faults.StoryFault.{StoryFault}
@@ -51,11 +54,14 @@ story_entry index =
     then find is_story (entries_from (word index 0) index 4)
     else None
 
+-- the first chunk of a Blorb that is sought
+abbrev pub blorb_part : List ℕ → Sought → Result Part StoryFault
+blorb_part file sought = of_form (part_found sought (chunks file ifrs)) >>= λ part. ok_or part fault.Blorb
+
 -- the bare story: the body of the chunk `GLUL` whose header is where the first index says
 unfoldable pub story_in : List ℕ → Result (List ℕ) StoryFault
 story_in file = do
-  parts ← of_form (chunks file ifrs)
-  index ← ok_or (first ridx parts) fault.Blorb
+  index ← blorb_part file (Letters ridx)
   entry ← ok_or (story_entry (body file index)) fault.Blorb
-  chunk ← ok_or (at_place entry.start parts) fault.Blorb
+  chunk ← blorb_part file (Place entry.start)
   if bytes_eq chunk.id glul then Ok (body file chunk) else Err fault.Blorb

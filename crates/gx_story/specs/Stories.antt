@@ -1,68 +1,57 @@
 -- Story files (Glulx 3.1.2, "The Header"): which are accepted, as what, and with which fault others
 -- are refused.
-use Rattle.std.specs.Prelude.{◌≡◌, ℕ, zero, suc, ◌+◌, ◌*◌, ◌/◌, ◌%◌, ◌^◌, ◌≤◌, ◌==◌, nat_eq, nat_le, ◌&&◌, Bool, not, if◌then◌else◌, List, [], ◌∷◌, length, take, Result, Ok, Err}
-use Rattle.std.specs.List.{starts_with}
-use Rattle.gx_words.specs.Numbers.{word}
+use Rattle.std.specs.Prelude.{◌≡◌, ℕ, ◌/◌, ◌%◌, ◌^◌, ◌≤◌, ◌==◌, nat_le, ◌&&◌, Bool, not, if◌then◌else◌, List, length, take, Result, Ok, Err}
+use Rattle.gx_words.specs.declared.limits.TheConstants.{CEILING, STACK_LIMIT}
+use Rattle.gx_words.specs.declared.header.TheConstants.{MAGIC, MAGIC_AT, VERSION_AT, RAMSTART_AT, EXTSTART_AT, ENDMEM_AT, STACK_SIZE_AT, START_FUNCTION_AT, TABLE_AT, CHECKSUM_AT, HEADER_LEN}
+use Rattle.gx_words.specs.Numbers.{word, sum_of_words}
 use Rattle.gx_words.specs.Results.{◌>>=◌}
+use Rattle.iff_chunks.specs.Chunks.{begins_form}
 use Rattle.gx_story.specs.Blorbs.{story_in}
 use Rattle.gx_story.specs.declared.faults.StoryFault.{StoryFault}
 use Rattle.gx_story.specs.declared.faults.StoryFault.TheVariants as fault
 use Rattle.gx_story.specs.declared.headers.Header.{Header}
+use Rattle.gx_story.specs.declared.headers.TheConstants.{FIRST_VERSION, LAST_VERSION}
 
--- what a header says, and the stored part
+-- a header, and the stored part
 pub record FlatStory : Type 0 where
-  pub version : ℕ
-  pub ramstart : ℕ
-  pub extstart : ℕ
-  pub endmem : ℕ
-  pub stack_size : ℕ
-  pub start_function : ℕ
-  pub table : ℕ
-  pub checksum : ℕ
+  pub header : Header
   pub bytes : List ℕ
-
--- the most bytes of memory and of the stack
-abbrev pub memory_limit : ℕ
-memory_limit = 2 ^ 26
-
-abbrev pub stack_limit : ℕ
-stack_limit = 2 ^ 24
 
 -- what holds of every story that is accepted
 pub record IsStory (story : FlatStory) : Type 0 where
-  pub ramstart_whole : story.ramstart % 256 ≡ 0
-  pub extstart_whole : story.extstart % 256 ≡ 0
-  pub endmem_whole : story.endmem % 256 ≡ 0
-  pub stack_whole : story.stack_size % 256 ≡ 0
-  pub header_first : 256 ≤ story.ramstart
-  pub ramstart_first : story.ramstart ≤ story.extstart
-  pub extstart_first : story.extstart ≤ story.endmem
-  pub memory_limited : story.endmem ≤ memory_limit
-  pub stack_limited : story.stack_size ≤ stack_limit
-  pub stored_whole : length story.bytes ≡ story.extstart
+  pub ramstart_whole : story.header.ramstart % 256 ≡ 0
+  pub extstart_whole : story.header.extstart % 256 ≡ 0
+  pub endmem_whole : story.header.endmem % 256 ≡ 0
+  pub stack_whole : story.header.stack_size % 256 ≡ 0
+  pub header_first : 256 ≤ story.header.ramstart
+  pub ramstart_first : story.header.ramstart ≤ story.header.extstart
+  pub extstart_first : story.header.extstart ≤ story.header.endmem
+  pub memory_limited : story.header.endmem ≤ CEILING
+  pub stack_limited : story.header.stack_size ≤ STACK_LIMIT
+  pub stored_whole : length story.bytes ≡ story.header.extstart
 
 -- the words of a header in their order, the magic left out
 abbrev pub header_at_start : List ℕ → Header
 header_at_start bytes = record {
-  version = word bytes 0x04;
-  ramstart = word bytes 0x08;
-  extstart = word bytes 0x0C;
-  endmem = word bytes 0x10;
-  stack_size = word bytes 0x14;
-  start_function = word bytes 0x18;
-  table = word bytes 0x1C;
-  checksum = word bytes 0x20;
+  version = word bytes VERSION_AT;
+  ramstart = word bytes RAMSTART_AT;
+  extstart = word bytes EXTSTART_AT;
+  endmem = word bytes ENDMEM_AT;
+  stack_size = word bytes STACK_SIZE_AT;
+  start_function = word bytes START_FUNCTION_AT;
+  table = word bytes TABLE_AT;
+  checksum = word bytes CHECKSUM_AT;
 }
 
 -- the tests that a header has to pass, one for each fault
 abbrev pub has_header : List ℕ → Bool
-has_header bytes = nat_le 36 (length bytes)
+has_header bytes = nat_le HEADER_LEN (length bytes)
 
 abbrev pub has_magic : List ℕ → Bool
-has_magic bytes = word bytes 0 == 0x476C756C
+has_magic bytes = word bytes MAGIC_AT == MAGIC
 
 abbrev pub has_version : Header → Bool
-has_version header = nat_le 0x00020000 header.version && nat_le header.version 0x000301FF
+has_version header = nat_le FIRST_VERSION header.version && nat_le header.version LAST_VERSION
 
 abbrev pub is_whole : ℕ → Bool
 is_whole size = size % 256 == 0
@@ -75,7 +64,7 @@ has_sizes header =
     nat_le header.extstart header.endmem
 
 abbrev pub is_within_limits : Header → Bool
-is_within_limits header = nat_le header.endmem memory_limit && nat_le header.stack_size stack_limit
+is_within_limits header = nat_le header.endmem CEILING && nat_le header.stack_size STACK_LIMIT
 
 abbrev pub has_stored_part : Header → List ℕ → Bool
 has_stored_part header bytes = nat_le header.extstart (length bytes)
@@ -93,35 +82,16 @@ header bytes =
 
 -- the story with this header whose stored part is at the start of the bytes
 abbrev pub stored_story : Header → List ℕ → FlatStory
-stored_story header bytes = record {
-  version = header.version;
-  ramstart = header.ramstart;
-  extstart = header.extstart;
-  endmem = header.endmem;
-  stack_size = header.stack_size;
-  start_function = header.start_function;
-  table = header.table;
-  checksum = header.checksum;
-  bytes = take header.extstart bytes;
-}
+stored_story header bytes = record { header = header; bytes = take header.extstart bytes }
 
 -- a bare story: its header, and then as many bytes as EXTSTART says
 unfoldable pub bare : List ℕ → Result FlatStory StoryFault
 bare bytes = header bytes >>= λ header. Ok (stored_story header bytes)
 
--- begins with FORM
-abbrev pub begins_form : List ℕ → Bool
-begins_form bytes = starts_with nat_eq bytes (0x46 ∷ 0x4F ∷ 0x52 ∷ 0x4D ∷ [])
-
 -- the story of a file: a Blorb where it begins with FORM, else bare
 unfoldable pub accepted : List ℕ → Result FlatStory StoryFault
 accepted bytes = if begins_form bytes then story_in bytes >>= bare else bare bytes
 
--- the sum of the first words, that at 0x20 taken as zero
-unfoldable pub sum_of_words : ℕ → List ℕ → ℕ
-sum_of_words zero bytes = 0
-sum_of_words (suc n) bytes = sum_of_words n bytes + (if n == 8 then 0 else word bytes (4 * n))
-
 -- the header states the sum modulo 2^32 of the stored part's words
 abbrev pub is_checked : FlatStory → Bool
-is_checked story = sum_of_words (story.extstart / 4) story.bytes % 2 ^ 32 == story.checksum
+is_checked story = sum_of_words (length story.bytes / 4) story.bytes % 2 ^ 32 == story.header.checksum

@@ -5,16 +5,14 @@
 //! passed over unread.
 //!
 //! `story_in` is the definition of that name in specs/Blorbs for every list of bytes.
-ghost use Rattle.std.specs.Prelude.{◌≡◌, ◌+◌, ◌*◌, ◌≤◌, length, IsErrOf, IsOk};
+ghost use Rattle.std.specs.Prelude.{◌≡◌, ◌≢◌, ◌+◌, ◌*◌, ◌≤◌, length, IfErr};
 ghost use Rattle.std.specs.List.{find};
-ghost use Rattle.gx_words.specs.Results.{Gives};
-ghost use Rattle.iff_chunks.specs.Chunks.{form_in};
-ghost use Rattle.gx_story.specs.Blorbs.{entries_from, entry_at, ifrs, is_story, story_entry, story_in};
+ghost use Rattle.gx_words.specs.Results.{Is};
+ghost use Rattle.gx_story.specs.Blorbs.{blorb_part, entries_from, entry_at, is_story, story_entry, story_in};
 
 use crate::StoryFault;
 use gx_words::word_at;
-use iff_chunks::read_form;
-use std::alloc::Global;
+use iff_chunks::{Part, Sought, find_part};
 
 /// The length of the count with which an index begins, and of an entry.
 const COUNT_LEN: usize = 4;
@@ -53,18 +51,25 @@ impl Entry {
 
 /// The bare story in a Blorb.
 #[tactic(auto, unfolding(crate::specs::Blorbs::story_in))]
-pub(crate) fn story_in<'a>(alloc: Global, file: &'a [u8]) -> Result<&'a [u8], StoryFault>
-    ensures value { Gives StoryFault.NoMemory (λ story. story.now) result (story_in file.now) }
-    ensures memory { IsErrOf result StoryFault.NoMemory → IsOk (form_in file.now ifrs) }
+pub(crate) fn story_in(file: &[u8]) -> Result<&[u8], StoryFault>
+    ensures value { Is (λ story. story.now) result (story_in file.now) }
+    ensures memory { IfErr result (λ fault. fault ≢ StoryFault.NoMemory) }
 {
-    let form = read_form(alloc, file, *b"IFRS")?;
-    let index = form.first(*b"RIdx").ok_or(StoryFault::Blorb)?;
+    let index = blorb_part(file, Sought::Letters(*b"RIdx"))?;
     let entry = story_entry(index.body(file)).ok_or(StoryFault::Blorb)?;
-    let chunk = form.at(entry.start as usize).ok_or(StoryFault::Blorb)?;
+    let chunk = blorb_part(file, Sought::Place(entry.start as usize))?;
     if chunk.id != *b"GLUL" {
         return Err(StoryFault::Blorb);
     }
     Ok(chunk.body(file))
+}
+
+/// The first chunk of a Blorb that is sought.
+fn blorb_part(file: &[u8], sought: Sought) -> Result<Part, StoryFault>
+    ensures value { Is (λ part. part) result (blorb_part file.now sought) }
+    ensures memory { IfErr result (λ fault. fault ≢ StoryFault.NoMemory) }
+{
+    find_part(file, *b"IFRS", sought)?.ok_or(StoryFault::Blorb)
 }
 
 /// The first entry of an index that names the story; None too where the index is shorter than its

@@ -1,26 +1,19 @@
 //! The header of a story (Glulx 3.1.2, "The Header"): nine words, of which the first is the magic.
 ghost use Rattle.std.specs.Prelude.{◌≡◌, ◌≢◌, ◌≤◌, length, IfOk, IfErr};
 ghost use Rattle.gx_words.specs.Results.{Is};
+ghost use Rattle.gx_words.specs.declared.header.TheConstants.{HEADER_LEN};
 ghost use Rattle.gx_story.specs.Stories.{IsStory, header, header_at_start, has_sizes, stored_story};
 
 use crate::StoryFault;
-use gx_words::word_at;
-
-/// The length of a header in bytes.
-const HEADER_LEN: usize = 36;
-
-/// The bytes `Glul`.
-const MAGIC: u32 = 0x476C_756C;
+use gx_words::{
+    CEILING, CHECKSUM_AT, ENDMEM_AT, EXTSTART_AT, HEADER_LEN, MAGIC, MAGIC_AT, RAMSTART_AT,
+    STACK_LIMIT, STACK_SIZE_AT, START_FUNCTION_AT, TABLE_AT, VERSION_AT, word_at,
+};
 
 /// Versions 2.0.0 to 3.1.255: the major number in two bytes, the minor and the last in one each.
 const FIRST_VERSION: u32 = 0x0002_0000;
 
 const LAST_VERSION: u32 = 0x0003_01FF;
-
-/// The most bytes of memory and of the stack.
-const MEMORY_LIMIT: u32 = 0x0400_0000;
-
-const STACK_LIMIT: u32 = 0x0100_0000;
 
 /// The words of a header behind the magic, in their order.
 #[derive(Clone, Copy)]
@@ -46,7 +39,7 @@ impl Header {
         if bytes.len() < HEADER_LEN {
             return Err(StoryFault::Short);
         }
-        if word_at(bytes, 0x00) != MAGIC {
+        if word_at(bytes, MAGIC_AT) != MAGIC {
             return Err(StoryFault::NotGlulx);
         }
         let header = Header::at_start(bytes);
@@ -56,7 +49,7 @@ impl Header {
         if !header.has_sizes() {
             return Err(StoryFault::Sizes);
         }
-        if MEMORY_LIMIT < header.endmem || STACK_LIMIT < header.stack_size {
+        if CEILING < header.endmem || STACK_LIMIT < header.stack_size {
             return Err(StoryFault::TooLarge);
         }
         if bytes.len() < header.extstart as usize {
@@ -67,18 +60,18 @@ impl Header {
 
     /// The words at the start of a story, unchecked.
     fn at_start(bytes: &[u8]) -> Header
-        requires { 36 ≤ length bytes.now }
+        requires { HEADER_LEN ≤ length bytes.now }
         ensures { result ≡ header_at_start bytes.now }
     {
         Header {
-            version: word_at(bytes, 0x04),
-            ramstart: word_at(bytes, 0x08),
-            extstart: word_at(bytes, 0x0C),
-            endmem: word_at(bytes, 0x10),
-            stack_size: word_at(bytes, 0x14),
-            start_function: word_at(bytes, 0x18),
-            table: word_at(bytes, 0x1C),
-            checksum: word_at(bytes, 0x20),
+            version: word_at(bytes, VERSION_AT),
+            ramstart: word_at(bytes, RAMSTART_AT),
+            extstart: word_at(bytes, EXTSTART_AT),
+            endmem: word_at(bytes, ENDMEM_AT),
+            stack_size: word_at(bytes, STACK_SIZE_AT),
+            start_function: word_at(bytes, START_FUNCTION_AT),
+            table: word_at(bytes, TABLE_AT),
+            checksum: word_at(bytes, CHECKSUM_AT),
         }
     }
 

@@ -1,17 +1,15 @@
 //! An accepted story: its header and its stored part.
 //!
 //! Contracts see a story as a `FlatStory`. Its readers take no memory.
-ghost use Rattle.std.specs.Prelude.{◌≡◌, ◌+◌, ◌*◌, ◌/◌, ◌%◌, ◌^◌, ◌==◌, ◌≤◌, if◌then◌else◌, ◌⊎◌, length, IfOk, IsOk, IsErrOf};
-ghost use Rattle.gx_words.specs.Numbers.{word};
+ghost use Rattle.std.specs.Prelude.{◌≡◌, IfOk};
 ghost use Rattle.gx_words.specs.Results.{Gives};
-ghost use Rattle.iff_chunks.specs.Chunks.{form_in};
-ghost use Rattle.gx_story.specs.Stories.{IsStory, accepted, bare, is_checked, sum_of_words};
-ghost use Rattle.gx_story.specs.Blorbs.{ifrs};
+ghost use Rattle.gx_story.specs.Stories.{IsStory, accepted, bare, is_checked};
 
 use crate::StoryFault;
 use crate::blorbs::story_in;
 use crate::headers::Header;
-use gx_words::{Bytes, word_at};
+use gx_words::{Bytes, sum_of_words};
+use iff_chunks::begins_form;
 use std::alloc::{AllocError, Global};
 use std::marker::Model;
 
@@ -37,15 +35,14 @@ impl Model for Story {
 impl Story {
     /// The story of a file, bare or in a Blorb. Bytes past its stored part are dropped.
     ///
-    /// Memory is taken for a story that is accepted, and for the chunks of a Blorb.
+    /// Memory is taken only for a story that is accepted.
     #[tactic(auto, unfolding(crate::specs::Stories::accepted))]
     pub fn read(alloc: Global, bytes: &[u8]) -> Result<Story, StoryFault>
         ensures value { Gives StoryFault.NoMemory (λ story. story) result (accepted bytes.now) }
-        ensures memory { IsErrOf result StoryFault.NoMemory → IsOk (accepted bytes.now) ⊎ IsOk (form_in bytes.now ifrs) }
         ensures sound { IfOk result IsStory }
     {
-        if bytes.starts_with(b"FORM") {
-            Story::read_bare(alloc, story_in(alloc, bytes)?)
+        if begins_form(bytes) {
+            Story::read_bare(alloc, story_in(bytes)?)
         } else {
             Story::read_bare(alloc, bytes)
         }
@@ -55,7 +52,6 @@ impl Story {
     #[tactic(auto, unfolding(crate::specs::Stories::bare))]
     fn read_bare(alloc: Global, bytes: &[u8]) -> Result<Story, StoryFault>
         ensures value { Gives StoryFault.NoMemory (λ story. story) result (bare bytes.now) }
-        ensures memory { IsErrOf result StoryFault.NoMemory → IsOk (bare bytes.now) }
         ensures sound { IfOk result IsStory }
     {
         let header = Header::read(bytes)?;
@@ -78,14 +74,14 @@ impl Story {
 
     /// The version of Glulx that the story asks for, as 0x00030102 for 3.1.2.
     pub fn version(&self) -> u32
-        ensures { result ≡ self.now.version }
+        ensures { result ≡ self.now.header.version }
     {
         self.header.version
     }
 
     /// The first address that the story may write to.
     pub fn ramstart(&self) -> u32
-        ensures value { result ≡ self.now.ramstart }
+        ensures value { result ≡ self.now.header.ramstart }
         ensures sound { IsStory self.now }
     {
         self.header.ramstart
@@ -93,7 +89,7 @@ impl Story {
 
     /// The length of the stored part.
     pub fn extstart(&self) -> u32
-        ensures value { result ≡ self.now.extstart }
+        ensures value { result ≡ self.now.header.extstart }
         ensures sound { IsStory self.now }
     {
         self.header.extstart
@@ -101,7 +97,7 @@ impl Story {
 
     /// The first size of memory.
     pub fn endmem(&self) -> u32
-        ensures value { result ≡ self.now.endmem }
+        ensures value { result ≡ self.now.header.endmem }
         ensures sound { IsStory self.now }
     {
         self.header.endmem
@@ -109,7 +105,7 @@ impl Story {
 
     /// The most bytes on the stack.
     pub fn stack_size(&self) -> u32
-        ensures value { result ≡ self.now.stack_size }
+        ensures value { result ≡ self.now.header.stack_size }
         ensures sound { IsStory self.now }
     {
         self.header.stack_size
@@ -117,21 +113,21 @@ impl Story {
 
     /// The address of the function that is called first.
     pub fn start_function(&self) -> u32
-        ensures { result ≡ self.now.start_function }
+        ensures { result ≡ self.now.header.start_function }
     {
         self.header.start_function
     }
 
     /// The address of the string decoding table, 0 for none.
     pub fn table(&self) -> u32
-        ensures { result ≡ self.now.table }
+        ensures { result ≡ self.now.header.table }
     {
         self.header.table
     }
 
     /// The checksum that the header states.
     pub fn checksum(&self) -> u32
-        ensures { result ≡ self.now.checksum }
+        ensures { result ≡ self.now.header.checksum }
     {
         self.header.checksum
     }
@@ -149,29 +145,5 @@ impl Story {
         ensures sound { IsStory self.now }
     {
         self.bytes.as_slice()
-    }
-}
-
-/// The sum modulo 2^32 of the words, the checksum's taken as zero.
-#[tactic(auto, using(crate::proofs::Sums::sum_turns))]
-fn sum_of_words(bytes: &[u8]) -> u32
-    ensures { result ≡ sum_of_words (length bytes.now / 4) bytes.now % 2 ^ 32 }
-{
-    let mut sum = 0u32;
-    for index in 0..bytes.len() / 4 {
-        sum = sum.wrapping_add(summand(bytes, index));
-    }
-    sum
-}
-
-/// The word of an index, or zero for the checksum's.
-fn summand(bytes: &[u8], index: usize) -> u32
-    requires { 4 * index + 4 ≤ length bytes.now }
-    ensures { result ≡ (if index == 8 then 0 else word bytes.now (4 * index)) }
-{
-    if index == 8 {
-        0
-    } else {
-        word_at(bytes, 4 * index)
     }
 }

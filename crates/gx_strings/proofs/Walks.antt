@@ -1,9 +1,12 @@
 -- One bit of a walk.
-use Rattle.std.proofs.Common.{◌≡◌, ◌≤◌, ◌<◌, ◌+◌, ◌/◌, ◌%◌, ◌==◌, ℕ, zero, suc, Bool, false, List, [], ◌∷◌, length, drop, refl, sym, ◌∙◌, arith, Result, Ok, Err}
+use Rattle.std.proofs.Common.{◌≡◌, ◌≤◌, ◌<◌, ◌+◌, ◌/◌, ◌%◌, ◌==◌, nat_lt, if◌then◌else◌, ℕ, zero, suc, Bool, true, false, List, [], ◌∷◌, length, drop, refl, arith, Result, Ok, Err}
+use Rattle.std.proofs.lemmas.Bool.Decides.{nat_tests}
 use Rattle.gx_words.specs.declared.faults.Fault.{Fault}
 use Rattle.gx_words.specs.declared.faults.Fault.TheVariants.{BadAddress}
 use Rattle.gx_words.specs.Numbers.{byte}
+use Rattle.gx_words.specs.Results.{◌>>=◌}
 use Rattle.gx_pages.specs.Memory.{number_in}
+use Rattle.gx_strings.specs.declared.node_types.TheConstants.{BRANCH}
 use Rattle.gx_strings.specs.Bits.{bit, bits}
 use Rattle.gx_strings.specs.Nodes.{child, walk}
 
@@ -40,33 +43,21 @@ one_bit (b ∷ m) (suc (suc (suc (suc (suc (suc (suc (suc n)))))))) h =
     let next : suc (suc (suc (suc (suc (suc (suc (suc n))))))) + 1 ≡ suc (suc (suc (suc (suc (suc (suc (suc (n + 1)))))))) = omega arith in
     rw (here, in_byte, next) (one_bit m n (omega (arith, h)))
 
--- ---- a walk that ends, which gives what the whole walk gives
+-- ---- the walk from an index on, by its node's type and whether a bit is left
 
--- its node is no branch
-pub ended : (m : List ℕ) (node used kind : ℕ) (rest : List Bool) (whole : Result (ℕ × ℕ) Fault) → walk m node used rest ≡ whole → number_in 1 m node ≡ Ok kind → (kind == 0) ≡ false → whole ≡ Ok (node, used)
+abbrev walk_by : List ℕ → ℕ → ℕ → ℕ → Bool → Result (ℕ × ℕ) Fault
+walk_by m node used n more = do
+  type_byte ← number_in 1 m node
+  if type_byte == BRANCH then (if more then (do
+    next ← child m node (bit (byte m (n / 8)) (n % 8))
+    walk m next (used + 1) (drop (n + 1) (bits m))) else Err BadAddress) else Ok (node, used)
+
+turn_by : (m : List ℕ) (node used n : ℕ) (more : Bool) → nat_lt (n / 8) (length m) ≡ more → walk m node used (drop n (bits m)) ≡ walk_by m node used n more
 unfolding walk
-ended m node used kind [] whole same is off = sym same ∙ rw (is, off) refl
-ended m node used kind (b ∷ rest) whole same is off = sym same ∙ rw (is, off) refl
+turn_by m node used n true is = rw (one_bit m n (grind (arith, nat_tests))) refl
+turn_by m node used n false is = rw (no_bits m n (grind (arith, nat_tests))) refl
 
--- its node isn't in memory
-pub no_node : (m : List ℕ) (node used : ℕ) (e : Fault) (rest : List Bool) (whole : Result (ℕ × ℕ) Fault) → walk m node used rest ≡ whole → number_in 1 m node ≡ Err e → whole ≡ Err e
-unfolding walk
-no_node m node used e [] whole same is = sym same ∙ rw is refl
-no_node m node used e (b ∷ rest) whole same is = sym same ∙ rw is refl
+pub turn : (m : List ℕ) (node used n : ℕ) → walk m node used (drop n (bits m)) ≡ walk_by m node used n (nat_lt (n / 8) (length m))
+turn m node used n = turn_by m node used n (nat_lt (n / 8) (length m)) refl
 
--- its node is a branch, and the address that is taken isn't in memory
-pub no_child : (m : List ℕ) (node used n : ℕ) (e : Fault) (whole : Result (ℕ × ℕ) Fault) → walk m node used (drop n (bits m)) ≡ whole → number_in 1 m node ≡ Ok 0 → n / 8 < length m → child m node (bit (byte m (n / 8)) (n % 8)) ≡ Err e → whole ≡ Err e
-unfolding walk
-no_child m node used n e whole same is h to = sym same ∙ rw (one_bit m n h, is, to) refl
-
--- ---- a walk whose node is a branch
-
-pub no_more : (m : List ℕ) (node used n : ℕ) → number_in 1 m node ≡ Ok 0 → length m ≤ n / 8 → walk m node used (drop n (bits m)) ≡ Err BadAddress
-unfolding walk
-no_more m node used n is h = rw (no_bits m n h, is) refl
-
-pub one_more : (m : List ℕ) (node used n next : ℕ) → number_in 1 m node ≡ Ok 0 → n / 8 < length m → child m node (bit (byte m (n / 8)) (n % 8)) ≡ Ok next → walk m node used (drop n (bits m)) ≡ walk m next (used + 1) (drop (n + 1) (bits m))
-unfolding walk
-one_more m node used n next is h to = rw (one_bit m n h, is, to) refl
-
-pub ruleset turns = (no_more, one_more)
+pub ruleset turns = (turn, nat_tests)

@@ -1,8 +1,9 @@
 -- The items of what is printed: strings of the three types, and numbers (Glulx 3.1.2, "Strings" and
 -- "Calling and Returning Within Strings").
-use Rattle.std.specs.Prelude.{◌≡◌, ℕ, ◌+◌, ◌%◌, ◌^◌, ◌<◌, ◌==◌, if◌then◌else◌, List, drop, slice_get, Option, Some, None, Result, Ok, Err}
+use Rattle.std.specs.Prelude.{◌≡◌, ℕ, ◌+◌, ◌%◌, ◌^◌, ◌==◌, if◌then◌else◌, List, drop, slice_get, Option, Some, None, Result, Ok, Err, IsTrue}
 use Rattle.std.specs.Int.{w32, cast_signed}
 use Rattle.std.specs.Fmt.{signed_decimal}
+use Rattle.gx_words.specs.Numbers.{is_bit}
 use Rattle.gx_words.specs.declared.faults.Fault.{Fault}
 use Rattle.gx_words.specs.declared.faults.Fault.TheVariants.{BadString}
 use Rattle.gx_words.specs.declared.strings.Printing.{Printing}
@@ -55,7 +56,7 @@ next_item memory table p = item_of p.kind memory table p
 
 -- a place in a compressed string is at one of the eight bits of a byte
 abbrev pub HasBit : Printing → Type 0
-HasBit p = p.kind ≡ E1 → p.bit < 8
+HasBit p = p.kind ≡ E1 → IsTrue (is_bit p.bit)
 
 -- the same for all places of an item
 abbrev pub HasBits : Item → Type 0

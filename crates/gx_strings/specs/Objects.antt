@@ -6,8 +6,10 @@ use Rattle.gx_words.specs.declared.faults.Fault.TheVariants.{BadFunction, BadStr
 use Rattle.gx_words.specs.declared.strings.Printing.{Printing}
 use Rattle.gx_words.specs.declared.strings.PrintKind.{PrintKind}
 use Rattle.gx_words.specs.declared.strings.PrintKind.TheVariants.{E0, E1, E2}
+use Rattle.gx_words.specs.declared.typable.TheConstants.{STACK_FUNCTION, LOCALS_FUNCTION, C_STRING, COMPRESSED_STRING, UNICODE_STRING}
 use Rattle.gx_words.specs.Results.{◌>>=◌}
 use Rattle.gx_pages.specs.Memory.{number_in}
+use Rattle.gx_strings.specs.declared.objects.TheConstants.{LAST_FUNCTION}
 use Rattle.gx_strings.specs.declared.items.Item.{Item}
 use Rattle.gx_strings.specs.declared.items.Item.TheVariants.{Sub, Call}
 
@@ -19,17 +21,17 @@ from_start kind at = record { kind = kind; at = at; bit = 0; started = false }
 abbrev pub as_inner : Printing → Printing
 as_inner p = record p { started = true }
 
--- The string that an object of a type is. Three bytes that aren't looked at follow the type byte of E2.
+-- The string that an object of a type is. Three bytes that aren't looked at follow the type of a Unicode string.
 abbrev pub string_of : ℕ → ℕ → Option Printing
 string_of type_byte at =
-    if type_byte == 0xE0 then Some (from_start E0 (at + 1)) else
-    if type_byte == 0xE1 then Some (from_start E1 (at + 1)) else
-    if type_byte == 0xE2 then Some (from_start E2 (at + 4)) else
+    if type_byte == C_STRING then Some (from_start E0 (at + 1)) else
+    if type_byte == COMPRESSED_STRING then Some (from_start E1 (at + 1)) else
+    if type_byte == UNICODE_STRING then Some (from_start E2 (at + 4)) else
     None
 
 -- the string at an address
-unfoldable pub begun : List ℕ → ℕ → Result Printing Fault
-begun memory at = do
+unfoldable pub string_at : List ℕ → ℕ → Result Printing Fault
+string_at memory at = do
   type_byte ← number_in 1 memory at
   ok_or (string_of type_byte at) BadString
 
@@ -42,15 +44,15 @@ call_of memory back object (Some count_at) = do
   Ok (Call back object (count_at + 4) count)
 
 -- The reference to an object of a type. The count of a string's arguments isn't looked at.
-unfoldable pub refers : List ℕ → Printing → ℕ → Option ℕ → ℕ → Option Printing → Result Item Fault
-refers memory back object count_at type_byte (Some string) = Ok (Sub back (as_inner string))
-refers memory back object count_at type_byte None =
-    if type_byte == 0xC0 || type_byte == 0xC1 then call_of memory back object count_at else
-    if nat_le 0xC2 type_byte && nat_le type_byte 0xDF then Err BadFunction else
+unfoldable pub reference_by_type : List ℕ → Printing → ℕ → Option ℕ → ℕ → Option Printing → Result Item Fault
+reference_by_type memory back object count_at type_byte (Some string) = Ok (Sub back (as_inner string))
+reference_by_type memory back object count_at type_byte None =
+    if type_byte == STACK_FUNCTION || type_byte == LOCALS_FUNCTION then call_of memory back object count_at else
+    if nat_le STACK_FUNCTION type_byte && nat_le type_byte LAST_FUNCTION then Err BadFunction else
     Err BadString
 
 -- the reference to the object at an address; `back` is the place after it
 unfoldable pub reference : List ℕ → Printing → ℕ → Option ℕ → Result Item Fault
 reference memory back object count_at = do
   type_byte ← number_in 1 memory object
-  refers memory back object count_at type_byte (string_of type_byte object)
+  reference_by_type memory back object count_at type_byte (string_of type_byte object)

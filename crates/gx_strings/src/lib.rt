@@ -3,16 +3,18 @@
 //!
 //! - `items` has what the printing comes to next: a character, a reference or the end.
 //! - `objects` begins a string, and follows a reference to a string or function.
-//! - `nodes` walks the bits of a compressed string over its decoding table.
+//! - `nodes` walks the bits of a compressed string over its decoding table, whose nodes have the types of
+//!   `node_types`.
 //! - `printing` gives the next item of a string or number.
 //!
 //! The files of specs/ define the items over the list of all bits of memory; the code has no such
 //! list, and each walk ends, since each branch takes a bit. Each call is its definition for all
 //! arguments, but that a place in a compressed string is at one of the eight bits of a byte.
-//! Nothing takes memory.
+//! Nothing is changed, and nothing takes memory.
 #![tactic(auto)]
 
 mod items;
+mod node_types;
 mod nodes;
 mod objects;
 mod printing;
@@ -20,6 +22,3 @@ mod printing;
 pub use items::Item;
 pub use objects::begin;
 pub use printing::next_item;
-
-#[cfg(test)]
-mod tests;

@@ -1,14 +1,20 @@
 //! String objects, and references from a string to an object.
 ghost use Rattle.std.specs.Prelude.{◌≡◌, ◌≤◌, IfOk};
-ghost use Rattle.gx_words.specs.Faults.{TakesNone};
-ghost use Rattle.gx_pages.specs.Memory.{ceiling};
-ghost use Rattle.gx_strings.specs.Objects.{from_start, as_inner, string_of, begun, call_of, reference};
+ghost use Rattle.gx_words.specs.Faults.{Reads};
+ghost use Rattle.gx_words.specs.declared.limits.TheConstants.{CEILING};
+ghost use Rattle.gx_strings.specs.Objects.{from_start, as_inner, string_of, string_at, call_of, reference};
 ghost use Rattle.gx_strings.specs.Items.{HasBit, HasBits};
 
 use crate::Item;
 use gx_pages::Pages;
-use gx_words::{Fault, PrintKind, Printing};
+use gx_words::{
+    C_STRING, COMPRESSED_STRING, Fault, LOCALS_FUNCTION, PrintKind, Printing, STACK_FUNCTION,
+    UNICODE_STRING,
+};
 use std::alloc::Allocator;
+
+/// The last of the types that are those of functions (Glulx 3.1.2, "Functions").
+pub const LAST_FUNCTION: u32 = 0xDF;
 
 /// A string whose first byte or word is at an address.
 pub fn from_start(kind: PrintKind, at: u32) -> Printing
@@ -34,13 +40,13 @@ pub fn as_inner(string: Printing) -> Printing
 
 /// The string that an object of a type is.
 fn string_of(type_byte: u32, at: u32) -> Option<Printing>
-    requires { at ≤ ceiling }
+    requires { at ≤ CEILING }
     ensures { result ≡ string_of type_byte at }
 {
     match type_byte {
-        0xE0 => Some(from_start(PrintKind::E0, at + 1)),
-        0xE1 => Some(from_start(PrintKind::E1, at + 1)),
-        0xE2 => Some(from_start(PrintKind::E2, at + 4)),
+        C_STRING => Some(from_start(PrintKind::E0, at + 1)),
+        COMPRESSED_STRING => Some(from_start(PrintKind::E1, at + 1)),
+        UNICODE_STRING => Some(from_start(PrintKind::E2, at + 4)),
         _ => None,
     }
 }
@@ -49,13 +55,11 @@ fn string_of(type_byte: u32, at: u32) -> Option<Printing>
 /// `BadString` where the byte there is of no type of strings.
 ///
 /// No other byte of the string is looked at. `started` is false.
-#[tactic(auto, unfolding(crate::specs::Objects::begun))]
+#[tactic(auto, unfolding(crate::specs::Objects::string_at))]
 pub fn begin<A: Allocator + Clone>(memory: &Pages<A>, at: u32) -> Result<Printing, Fault>
-    ensures value { result ≡ begun memory.now at }
+    ensures value { Reads (λ string. string) result (string_at memory.now at) }
     ensures bit { IfOk result HasBit }
-    ensures memory { TakesNone result }
 {
-    let _size = memory.size();
     let type_byte = memory.try_number(1, at)?;
     string_of(type_byte, at).ok_or(Fault::BadString)
 }
@@ -69,11 +73,9 @@ fn call_of<A: Allocator + Clone>(
     count_at: Option<u32>,
 ) -> Result<Item, Fault>
     requires { HasBit back }
-    ensures value { result ≡ call_of memory.now back object count_at }
+    ensures value { Reads (λ item. item) result (call_of memory.now back object count_at) }
     ensures bits { IfOk result HasBits }
-    ensures memory { TakesNone result }
 {
-    let _size = memory.size();
     match count_at {
         None => Ok(Item::Call {
             back,
@@ -94,7 +96,7 @@ fn call_of<A: Allocator + Clone>(
 }
 
 /// The reference to the object at an address; `back` is the place after it.
-#[tactic(auto, unfolding(crate::specs::Objects::reference, crate::specs::Objects::refers))]
+#[tactic(auto, unfolding(crate::specs::Objects::reference, crate::specs::Objects::reference_by_type))]
 pub fn reference<A: Allocator + Clone>(
     memory: &Pages<A>,
     back: Printing,
@@ -102,11 +104,9 @@ pub fn reference<A: Allocator + Clone>(
     count_at: Option<u32>,
 ) -> Result<Item, Fault>
     requires { HasBit back }
-    ensures value { result ≡ reference memory.now back object count_at }
+    ensures value { Reads (λ item. item) result (reference memory.now back object count_at) }
     ensures bits { IfOk result HasBits }
-    ensures memory { TakesNone result }
 {
-    let _size = memory.size();
     let type_byte = memory.try_number(1, object)?;
     if let Some(string) = string_of(type_byte, object) {
         return Ok(Item::Sub {
@@ -115,8 +115,8 @@ pub fn reference<A: Allocator + Clone>(
         });
     }
     match type_byte {
-        0xC0 | 0xC1 => call_of(memory, back, object, count_at),
-        0xC2..=0xDF => Err(Fault::BadFunction),
+        STACK_FUNCTION | LOCALS_FUNCTION => call_of(memory, back, object, count_at),
+        STACK_FUNCTION..=LAST_FUNCTION => Err(Fault::BadFunction),
         _ => Err(Fault::BadString),
     }
 }

@@ -1,6 +1,7 @@
 //! The next item of a string or number.
-ghost use Rattle.std.specs.Prelude.{◌≡◌, ◌<◌, IfOk};
-ghost use Rattle.gx_words.specs.Faults.{TakesNone};
+ghost use Rattle.std.specs.Prelude.{◌≡◌, IsTrue, IfOk};
+ghost use Rattle.gx_words.specs.Numbers.{is_bit};
+ghost use Rattle.gx_words.specs.Faults.{Reads};
 ghost use Rattle.gx_words.specs.declared.strings.PrintKind.TheVariants.{Number};
 ghost use Rattle.gx_strings.specs.Items.{byte_item, compressed_item, word_item, number_item, next_item, HasBit, HasBits};
 
@@ -15,11 +16,9 @@ use std::alloc::Allocator;
 #[tactic(auto, unfolding(crate::specs::Items::byte_item))]
 fn byte_item<A: Allocator + Clone>(memory: &Pages<A>, printing: &Printing) -> Result<Item, Fault>
     requires { HasBit printing.now }
-    ensures value { result ≡ byte_item memory.now printing.now }
+    ensures value { Reads (λ item. item) result (byte_item memory.now printing.now) }
     ensures bits { IfOk result HasBits }
-    ensures memory { TakesNone result }
 {
-    let _size = memory.size();
     let value = memory.try_number(1, printing.at)?;
     if value == 0 {
         return Ok(Item::End);
@@ -38,15 +37,13 @@ fn compressed_item<A: Allocator + Clone>(
     table: u32,
     printing: &Printing,
 ) -> Result<Item, Fault>
-    requires { printing.now.bit < 8 }
-    ensures value { result ≡ compressed_item memory.now table printing.now }
+    requires { IsTrue (is_bit printing.now.bit) }
+    ensures value { Reads (λ item. item) result (compressed_item memory.now table printing.now) }
     ensures bits { IfOk result HasBits }
-    ensures memory { TakesNone result }
 {
     if table == 0 {
         return Err(Fault::BadString);
     }
-    let _size = memory.size();
     let root = memory.try_number(4, table.wrapping_add(8))?;
     let from = 8 * u64::from(printing.at) + u64::from(printing.bit);
     let end = walk(memory, root, from)?;
@@ -63,11 +60,9 @@ fn compressed_item<A: Allocator + Clone>(
 #[tactic(auto, unfolding(crate::specs::Items::word_item))]
 fn word_item<A: Allocator + Clone>(memory: &Pages<A>, printing: &Printing) -> Result<Item, Fault>
     requires { HasBit printing.now }
-    ensures value { result ≡ word_item memory.now printing.now }
+    ensures value { Reads (λ item. item) result (word_item memory.now printing.now) }
     ensures bits { IfOk result HasBits }
-    ensures memory { TakesNone result }
 {
-    let _size = memory.size();
     let value = memory.try_number(4, printing.at)?;
     if value == 0 {
         return Ok(Item::End);
@@ -112,9 +107,8 @@ pub fn next_item<A: Allocator + Clone>(
     printing: &Printing,
 ) -> Result<Item, Fault>
     requires bit { HasBit printing.now }
-    ensures value { result ≡ next_item memory.now table printing.now }
+    ensures value { Reads (λ item. item) result (next_item memory.now table printing.now) }
     ensures bits { IfOk result HasBits }
-    ensures memory { TakesNone result }
 {
     match printing.kind {
         PrintKind::E0 => byte_item(memory, printing),

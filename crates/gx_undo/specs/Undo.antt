@@ -17,5 +17,5 @@ abbrev pub without_newest : FlatUndo → FlatUndo
 without_newest u = record u { copies = drop 1 u.copies }
 
 -- each of them is fit for a story
-abbrev pub AllFor : FlatStory → List Copy → Type 0
-AllFor story copies = All (IsCopyFor story) copies
+abbrev pub AreCopiesFor : FlatStory → List Copy → Type 0
+AreCopiesFor story copies = All (IsCopyFor story) copies

@@ -11,7 +11,7 @@
 ghost use Rattle.std.specs.Prelude.{◌≡◌, ◌≤◌, [], ◌∷◌, length, drop, slice_get, IfOk, IfSome};
 ghost use Rattle.gx_story.specs.Stories.{FlatStory};
 ghost use Rattle.gx_state.specs.Copies.{IsCopyFor};
-ghost use Rattle.gx_undo.specs.Undo.{AllFor, with_newest, without_newest};
+ghost use Rattle.gx_undo.specs.Undo.{AreCopiesFor, with_newest, without_newest};
 
 use circular_buffer::HeapCircularBuffer;
 use gx_state::Moment;
@@ -50,17 +50,17 @@ impl<A: Allocator + Clone> Undo<A> {
     pub fn push(&mut self, copy: Moment<A>)
         ensures value { self.new ≡ with_newest self.old copy }
         ensures few { length self.new.copies ≤ self.new.depth }
-        ensures fit { (story : FlatStory) → AllFor story self.old.copies → IsCopyFor story copy → AllFor story self.new.copies }
+        ensures fit { (story : FlatStory) → AreCopiesFor story self.old.copies → IsCopyFor story copy → AreCopiesFor story self.new.copies }
     {
-        let _oldest = self.ring.push_front(copy);
+        let _oldest = self.ring.push_front(copy); // dropped, where as many are kept as may be
     }
 
     /// Takes the newest copy away; `None` exactly where there is none.
     pub fn pop(&mut self) -> Option<Moment<A>>
         ensures value { result ≡ slice_get self.old.copies 0 }
         ensures rest { self.new ≡ without_newest self.old }
-        ensures fit { (story : FlatStory) → AllFor story self.old.copies → AllFor story self.new.copies }
-        ensures newest { (story : FlatStory) → AllFor story self.old.copies → IfSome result (IsCopyFor story) }
+        ensures fit { (story : FlatStory) → AreCopiesFor story self.old.copies → AreCopiesFor story self.new.copies }
+        ensures newest { (story : FlatStory) → AreCopiesFor story self.old.copies → IfSome result (IsCopyFor story) }
     {
         self.ring.pop_front()
     }
@@ -73,6 +73,3 @@ impl<A: Allocator + Clone> Undo<A> {
         self.ring.len()
     }
 }
-
-#[cfg(test)]
-mod tests;

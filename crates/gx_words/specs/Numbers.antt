@@ -1,5 +1,6 @@
 -- Numbers (Glulx 3.1.2, "The Memory Map"): big-endian in a list of bytes, and arithmetic modulo 2^32.
-use Rattle.std.specs.Prelude.{◌≡◌, ◌⊎◌, ℕ, ◌+◌, ◌*◌, ◌/◌, ◌%◌, ◌^◌, ◌==◌, nat_lt, if◌then◌else◌, List, [], ◌∷◌, ◌++◌, length, take, drop, slice_index, Option, Some, None}
+use Rattle.std.specs.Prelude.{◌≡◌, ◌⊎◌, ℕ, zero, suc, Bool, ◌+◌, ◌*◌, ◌/◌, ◌%◌, ◌^◌, ◌==◌, nat_lt, if◌then◌else◌, List, [], ◌∷◌, ◌++◌, length, take, drop, slice_index}
+use Rattle.gx_words.specs.declared.header.TheConstants.{CHECKSUM_AT}
 
 -- numbers in a story have one of these widths in bytes
 abbrev pub IsWidth : ℕ → Type 0
@@ -45,6 +46,15 @@ bytes_of_number width v =
 abbrev pub spliced : List ℕ → ℕ → List ℕ → List ℕ
 spliced m at bytes = take at m ++ (bytes ++ drop (at + length bytes) m)
 
--- the least multiple of 256 from a number on, where it has a place in 32 bits
-abbrev pub rounded_up : ℕ → Option ℕ
-rounded_up v = if nat_lt (v + 255) (2 ^ 32) then Some ((v + 255) / 256 * 256) else None
+-- the least multiple of 256 from a number on
+abbrev pub rounded_up : ℕ → ℕ
+rounded_up v = (v + 255) / 256 * 256
+
+-- a place in a byte: bit 0 is the lowest
+abbrev pub is_bit : ℕ → Bool
+is_bit bit = nat_lt bit 8
+
+-- The sum of the first words of a story, that of its checksum taken as zero ("The Header").
+unfoldable pub sum_of_words : ℕ → List ℕ → ℕ
+sum_of_words zero bytes = 0
+sum_of_words (suc n) bytes = sum_of_words n bytes + (if 4 * n == CHECKSUM_AT then 0 else word bytes (4 * n))

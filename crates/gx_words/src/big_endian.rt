@@ -1,10 +1,11 @@
 //! Big-endian numbers in slices of bytes (Glulx 3.1.2, "The Memory Map").
 //!
 //! Each call is its definition of specs/Numbers for all arguments that its condition allows.
-ghost use Rattle.std.specs.Prelude.{◌≡◌, ◌+◌, ◌≤◌, ◌<◌, ◌^◌, length, IfSome};
+ghost use Rattle.std.specs.Prelude.{◌≡◌, ◌+◌, ◌/◌, ◌%◌, ◌≤◌, ◌<◌, ◌^◌, nat_lt, if◌then◌else◌, length};
 ghost use Rattle.std.specs.Int.{w32, cast_signed};
-ghost use Rattle.gx_words.specs.Numbers.{IsWidth, half, word, number, low, bytes_of_word, bytes_of_number, spliced, rounded_up};
+ghost use Rattle.gx_words.specs.Numbers.{IsWidth, half, word, number, low, bytes_of_word, bytes_of_number, spliced, rounded_up, sum_of_words};
 
+use crate::CHECKSUM_AT;
 use byteorder::{BigEndian, ByteOrder};
 
 /// The two bytes from `at` on.
@@ -93,7 +94,21 @@ pub fn low(v: u32, bytes: u32) -> u32
 
 /// The least multiple of 256 from `v` on; None where it is above 2^32 - 1.
 pub fn round_up_256(v: u32) -> Option<u32>
-    ensures { result ≡ rounded_up v }
+    ensures { result ≡ (if nat_lt (v + 255) (2 ^ 32) then Some (rounded_up v) else None) }
 {
     Some(v.checked_add(255)? / 256 * 256)
+}
+
+/// The sum modulo 2^32 of the words of a story, that of its checksum taken as zero.
+#[tactic(auto, using(crate::proofs::Sums::sum_turns))]
+pub fn sum_of_words(bytes: &[u8]) -> u32
+    ensures { result ≡ sum_of_words (length bytes.now / 4) bytes.now % 2 ^ 32 }
+{
+    let mut sum = 0u32;
+    for index in 0..bytes.len() / 4 {
+        if 4 * index != CHECKSUM_AT {
+            sum = sum.wrapping_add(word_at(bytes, 4 * index));
+        }
+    }
+    sum
 }

@@ -1,7 +1,7 @@
 //! Every public call once, with expected values from the standard.
 use crate::{
     Blocks, Bytes, Fault, Name, Numbers, Writes, half_at, low, number_at, put_number, round_up_256,
-    signed, splice, word_at, word_bytes,
+    signed, splice, sum_of_words, word_at, word_bytes,
 };
 use std::test::Fail;
 
@@ -48,9 +48,39 @@ fn lists(rt: HostRuntime) -> Result<(), Fail> {
 }
 
 #[test]
-fn fault_texts(rt: HostRuntime) -> Result<(), Fail> {
-    let text = format!(in rt.alloc(); "{} {}", Fault::BadToken, Fault::BadToken.number())?;
-    assert_eq!(rt; text.as_str(), "bad catch token 12");
+fn sums(rt: HostRuntime) {
+    let mut words = [0; 40];
+    put_number(&mut words, 0, 4, 0xFFFF_FFFF);
+    put_number(&mut words, 0x20, 4, 7);
+    put_number(&mut words, 0x24, 4, 3);
+    assert_eq!(rt; sum_of_words(&words), 2);
+}
+
+#[test]
+fn faults(rt: HostRuntime) -> Result<(), Fail> {
+    let texts = [
+        (Fault::BadOpcode, "1 unknown opcode"),
+        (Fault::BadMode, "2 operand mode not allowed"),
+        (Fault::BadAddress, "3 address outside memory"),
+        (Fault::ReadOnly, "4 write to read-only memory"),
+        (Fault::Divide, "5 division without a quotient"),
+        (Fault::Overflow, "6 stack overflow"),
+        (Fault::Underflow, "7 stack underflow"),
+        (Fault::BadFrame, "8 bad call frame"),
+        (Fault::BadLocal, "9 no such local"),
+        (Fault::BadFunction, "10 not a function"),
+        (Fault::BadString, "11 not a string"),
+        (Fault::BadToken, "12 bad catch token"),
+        (Fault::MemSize, "13 bad memory size"),
+        (Fault::HeapUse, "14 bad use of the heap"),
+        (Fault::DebugTrap, "15 debug trap"),
+        (Fault::BadGlk, "16 bad Glk call"),
+        (Fault::NoMemory, "17 out of memory"),
+    ];
+    for (fault, wanted) in texts {
+        let text = format!(in rt.alloc(); "{} {fault}", fault.number())?;
+        assert_eq!(rt; text.as_str(), wanted);
+    }
     assert_eq!(rt; Fault::from(std::alloc::AllocError), Fault::NoMemory);
     Ok(())
 }

@@ -1,16 +1,7 @@
 -- One turn of each loop over a definition.
-use Rattle.std.proofs.Common.{◌≡◌, ◌+◌, ◌*◌, ◌++◌, [], ℕ, suc, List, refl, arith, cond, eqb as nat_eq}
-use Rattle.gx_words.specs.Numbers.{word, bytes_of_word}
-use Rattle.gx_work.specs.Work.{ram, ram_word, ram_sum, sum_of_words}
-
-pub sum_more : (n : ℕ) (bytes : List ℕ)
-    → sum_of_words (n + 1) bytes ≡ sum_of_words n bytes + cond (nat_eq n 8) 0 (word bytes (4 * n))
-unfolding sum_of_words
-sum_more n bytes = let e : n + 1 ≡ suc n = omega arith in rw e refl
-
-pub sum_first : (bytes : List ℕ) → sum_of_words 0 bytes ≡ 0
-unfolding sum_of_words
-sum_first bytes = refl
+use Rattle.std.proofs.Common.{◌≡◌, ◌+◌, ◌++◌, [], ℕ, suc, refl, arith}
+use Rattle.gx_words.specs.Numbers.{bytes_of_word}
+use Rattle.gx_work.specs.Work.{ram, ram_word, ram_sum}
 
 pub ram_sum_more : (n number : ℕ) → ram_sum (n + 1) number ≡ ram_sum n number + ram_word number n
 unfolding ram_sum
@@ -28,4 +19,4 @@ pub ram_first : (number : ℕ) → ram 0 number ≡ []
 unfolding ram
 ram_first number = refl
 
-pub ruleset turns = (sum_more, sum_first, ram_sum_more, ram_sum_first, ram_more, ram_first)
+pub ruleset turns = (ram_sum_more, ram_sum_first, ram_more, ram_first)

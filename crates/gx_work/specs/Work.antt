@@ -1,7 +1,8 @@
 -- The story of a number (Glulx 3.1.2, "The Memory Map"): a page with header and code, and RAM.
-use Rattle.std.specs.Prelude.{◌≡◌, ℕ, zero, suc, ◌+◌, ◌*◌, ◌%◌, ◌^◌, ◌==◌, if◌then◌else◌, List, [], ◌∷◌, ◌++◌, length, replicate}
+use Rattle.std.specs.Prelude.{◌≡◌, ℕ, zero, suc, ◌+◌, ◌*◌, ◌%◌, ◌^◌, List, [], ◌∷◌, ◌++◌, length, replicate}
 use Rattle.std.specs.List.{flat_map}
-use Rattle.gx_words.specs.Numbers.{word, bytes_of_word}
+use Rattle.gx_words.specs.declared.header.TheConstants.{MAGIC, MAGIC_AT, VERSION_AT, RAMSTART_AT, EXTSTART_AT, ENDMEM_AT, STACK_SIZE_AT, START_FUNCTION_AT, TABLE_AT}
+use Rattle.gx_words.specs.Numbers.{word, bytes_of_word, sum_of_words}
 
 -- RAM has from 64 to 262,144 words
 abbrev pub ram_count : ℕ → ℕ
@@ -23,7 +24,7 @@ ram_sum (suc n) number = ram_sum n number + ram_word number n
 -- magic, version 3.1.2, RAMSTART, EXTSTART, ENDMEM, stack size, start function, no table, checksum
 abbrev pub header : ℕ → ℕ → List ℕ
 header size checksum =
-    flat_map bytes_of_word (0x476C756C ∷ 0x00030102 ∷ 0x100 ∷ size ∷ size ∷ 0x100 ∷ 0x24 ∷ 0 ∷ checksum ∷ [])
+    flat_map bytes_of_word (MAGIC ∷ 0x00030102 ∷ 0x100 ∷ size ∷ size ∷ 0x100 ∷ 0x24 ∷ 0 ∷ checksum ∷ [])
 
 -- sends output to Glk and opens a text window for it
 abbrev pub opening : List ℕ
@@ -52,11 +53,6 @@ code count =
 unfoldable pub page : ℕ → ℕ → List ℕ
 page count checksum = header (0x100 + 4 * count) checksum ++ code count ++ replicate 147 0
 
--- the sum of the first words, that at 0x20 taken as zero
-unfoldable pub sum_of_words : ℕ → List ℕ → ℕ
-sum_of_words zero bytes = 0
-sum_of_words (suc n) bytes = sum_of_words n bytes + (if n == 8 then 0 else word bytes (4 * n))
-
 -- the story with a checksum
 unfoldable pub story_with : ℕ → ℕ → List ℕ
 story_with number checksum = page (ram_count number) checksum ++ ram (ram_count number) number
@@ -67,11 +63,11 @@ work_story number = story_with number (sum_of_words (64 + ram_count number) (sto
 
 -- what the header says of the story
 pub record HasHeader (story : List ℕ) : Type 0 where
-  pub magic : word story 0x00 ≡ 0x476C756C
-  pub version : word story 0x04 ≡ 0x00030102
-  pub ramstart : word story 0x08 ≡ 0x100
-  pub extstart : word story 0x0C ≡ length story
-  pub endmem : word story 0x10 ≡ length story
-  pub stack_size : word story 0x14 ≡ 0x100
-  pub start_function : word story 0x18 ≡ 0x24
-  pub table : word story 0x1C ≡ 0
+  pub magic : word story MAGIC_AT ≡ MAGIC
+  pub version : word story VERSION_AT ≡ 0x00030102
+  pub ramstart : word story RAMSTART_AT ≡ 0x100
+  pub extstart : word story EXTSTART_AT ≡ length story
+  pub endmem : word story ENDMEM_AT ≡ length story
+  pub stack_size : word story STACK_SIZE_AT ≡ 0x100
+  pub start_function : word story START_FUNCTION_AT ≡ 0x24
+  pub table : word story TABLE_AT ≡ 0

@@ -6,14 +6,20 @@
 #![tactic(auto)]
 
 ghost use Rattle.std.specs.Prelude.{◌≡◌, ◌+◌, ◌*◌, ◌/◌, ◌%◌, ◌^◌, ◌≤◌, length, IfOk};
-ghost use Rattle.gx_words.specs.Numbers.{word};
-ghost use Rattle.gx_work.specs.Work.{page, ram_count, ram_word, ram_sum, sum_of_words, work_story, HasHeader};
+ghost use Rattle.gx_words.specs.declared.header.TheConstants.{CHECKSUM_AT};
+ghost use Rattle.gx_words.specs.Numbers.{word, sum_of_words};
+ghost use Rattle.gx_work.specs.Work.{page, ram_count, ram_word, ram_sum, work_story, HasHeader};
 
-use gx_words::{Bytes, put_number, splice, word_at, word_bytes};
+use gx_words::{
+    Bytes, CHECKSUM_AT, ENDMEM_AT, EXTSTART_AT, put_number, splice, sum_of_words, word_bytes,
+};
 use std::alloc::{AllocError, Global};
 
 /// The length of what stands before RAM.
 const RAM_START: u32 = 0x100;
+
+/// The address of the count of words, an operand of the code's jump.
+const COUNT_AT: usize = 0x60;
 
 /// The header and the code, with zeros for EXTSTART, ENDMEM, the checksum and the count of words.
 const HEAD: [u8; 109] = [
@@ -49,12 +55,12 @@ pub fn make_story(alloc: Global, number: u32) -> Result<Bytes, AllocError>
     ensures story { IfOk result (λ story. story ≡ work_story number) }
     ensures size { IfOk result (λ story. length story ≡ 0x100 + 4 * ram_count number) }
     ensures header { IfOk result HasHeader }
-    ensures checksum { IfOk result (λ story. word story 0x20 ≡ sum_of_words (length story / 4) story % 2 ^ 32) }
+    ensures checksum { IfOk result (λ story. word story CHECKSUM_AT ≡ sum_of_words (length story / 4) story % 2 ^ 32) }
 {
     let count = 64 * (1 + number % 4096);
     let mut page = first_page(count);
     let checksum = sum_of_words(&page).wrapping_add(ram_sum(number, count));
-    put_number(&mut page, 0x20, 4, checksum);
+    put_number(&mut page, CHECKSUM_AT, 4, checksum);
     let mut story = Bytes::from_slice(alloc, &page)?;
     for index in 0..count {
         story.extend_from_slice(&word_bytes(ram_word(number, index)))?;
@@ -70,9 +76,9 @@ fn first_page(count: u32) -> [u8; 256]
     let size = word_bytes(RAM_START + 4 * count);
     let mut page = [0; 256];
     splice(&mut page, 0, &HEAD);
-    splice(&mut page, 0x0C, &size);
-    splice(&mut page, 0x10, &size);
-    splice(&mut page, 0x60, &word_bytes(count));
+    splice(&mut page, EXTSTART_AT, &size);
+    splice(&mut page, ENDMEM_AT, &size);
+    splice(&mut page, COUNT_AT, &word_bytes(count));
     page
 }
 
@@ -91,20 +97,6 @@ fn ram_sum(number: u32, count: u32) -> u32
     let mut sum = 0u32;
     for index in 0..count {
         sum = sum.wrapping_add(ram_word(number, index));
-    }
-    sum
-}
-
-/// The sum modulo 2^32 of the words, the checksum's taken as zero.
-#[tactic(auto, using(crate::proofs::Turns::turns))]
-fn sum_of_words(bytes: &[u8]) -> u32
-    ensures { result ≡ sum_of_words (length bytes.now / 4) bytes.now % 2 ^ 32 }
-{
-    let mut sum = 0u32;
-    for index in 0..bytes.len() / 4 {
-        if index != 8 {
-            sum = sum.wrapping_add(word_at(bytes, 4 * index));
-        }
     }
     sum
 }

@@ -1,14 +1,14 @@
 //! The story of two numbers, with values that another program computed.
 use crate::make_story;
-use gx_words::word_at;
+use gx_words::{CHECKSUM_AT, ENDMEM_AT, word_at};
 use std::process::Abort;
 use std::test::Fail;
 
 fn check(rt: &impl Abort, story: &[u8], size: usize, checksum: u32, last: u32) {
     assert_eq!(rt; story.len(), size);
     assert!(rt; size >= 0x100);
-    assert_eq!(rt; word_at(story, 0x10) as usize, size);
-    assert_eq!(rt; word_at(story, 0x20), checksum);
+    assert_eq!(rt; word_at(story, ENDMEM_AT) as usize, size);
+    assert_eq!(rt; word_at(story, CHECKSUM_AT), checksum);
     assert_eq!(rt; word_at(story, 0x24), 0xC104_0200);
     assert_eq!(rt; word_at(story, 0x60) as usize, (size - 0x100) / 4);
     assert_eq!(rt; word_at(story, size - 4), last);

@@ -4,29 +4,29 @@ use Rattle.std.proofs.lemmas.Bool.{cases_lt, lt-ltb, le-ltb}
 use Rattle.std.proofs.lemmas.Bool.Decides.{nat_tests}
 use Rattle.std.specs.List.{insert, remove}
 use Rattle.std.specs.List.Sorted.{IsNonDecreasingBy}
-use Rattle.heap_blocks.specs.Heap.{Block, Rises, EndsBy, IsFree, end_of, inserted, without}
+use Rattle.heap_blocks.specs.Heap.{Block, IsRising, IsEndedBy, IsFree, end_of, inserted, without}
 
 -- ---- a block put in
 
-pub Rises-inserted : (bs : List Block) (from : ℕ) (x : Block) → 0 < x.1 → from ≤ x.0 → IsFree bs x.0 x.1 → Rises from bs → Rises from (inserted x bs)
+pub IsRising-inserted : (bs : List Block) (from : ℕ) (x : Block) → 0 < x.1 → from ≤ x.0 → IsFree bs x.0 x.1 → IsRising from bs → IsRising from (inserted x bs)
 unfolding inserted
-Rises-inserted [] from x some low free rises = (low, some, tt)
-Rises-inserted (b ∷ bs) from x some low free rises =
+IsRising-inserted [] from x some low free rises = (low, some, tt)
+IsRising-inserted (b ∷ bs) from x some low free rises =
     elim (cases_lt b.0 x.0) [
       | inl less ↦
           let test = lt-ltb _ _ less in
-          rw test (rises.0, rises.1, Rises-inserted bs (end_of b) x some (elim free.0 [ inl before ↦ absurd (omega arith) | inr after ↦ after ]) free.1 rises.2)
+          rw test (rises.0, rises.1, IsRising-inserted bs (end_of b) x some (elim free.0 [ inl before ↦ absurd (omega arith) | inr after ↦ after ]) free.1 rises.2)
       | inr most ↦
           let test = le-ltb _ _ most in
           rw test (low, some, (elim free.0 [ inl before ↦ before | inr after ↦ absurd (omega (arith, rises.1)) ], rises.1, rises.2))
     ]
 
-pub EndsBy-inserted : (bs : List Block) (limit : ℕ) (x : Block) → end_of x ≤ limit → EndsBy limit bs → EndsBy limit (inserted x bs)
+pub IsEndedBy-inserted : (bs : List Block) (limit : ℕ) (x : Block) → end_of x ≤ limit → IsEndedBy limit bs → IsEndedBy limit (inserted x bs)
 unfolding inserted
-EndsBy-inserted [] limit x h ends = (h, tt)
-EndsBy-inserted (b ∷ bs) limit x h ends =
+IsEndedBy-inserted [] limit x h ends = (h, tt)
+IsEndedBy-inserted (b ∷ bs) limit x h ends =
     elim (cases_lt b.0 x.0) [
-      | inl less ↦ let test = lt-ltb _ _ less in rw test (ends.0, EndsBy-inserted bs limit x h ends.1)
+      | inl less ↦ let test = lt-ltb _ _ less in rw test (ends.0, IsEndedBy-inserted bs limit x h ends.1)
       | inr most ↦ let test = le-ltb _ _ most in rw test (h, ends)
     ]
 
@@ -51,31 +51,31 @@ inserted-at (b ∷ bs) (suc i) x inside below above =
 
 -- ---- a block taken away
 
-pub Rises-lower : (bs : List Block) (from to : ℕ) → to ≤ from → Rises from bs → Rises to bs
-Rises-lower [] from to le rises = tt
-Rises-lower (b ∷ bs) from to le rises = (omega (arith, rises.0), rises.1, rises.2)
+pub IsRising-lower : (bs : List Block) (from to : ℕ) → to ≤ from → IsRising from bs → IsRising to bs
+IsRising-lower [] from to le rises = tt
+IsRising-lower (b ∷ bs) from to le rises = (omega (arith, rises.0), rises.1, rises.2)
 
-pub Rises-remove : (bs : List Block) (from i : ℕ) → Rises from bs → Rises from (remove bs i)
-Rises-remove [] from zero rises = tt
-Rises-remove [] from (suc i) rises = tt
-Rises-remove (b ∷ bs) from zero rises = Rises-lower bs (end_of b) from (omega (arith, rises.0)) rises.2
-Rises-remove (b ∷ bs) from (suc i) rises = (rises.0, rises.1, Rises-remove bs (end_of b) i rises.2)
+pub IsRising-remove : (bs : List Block) (from i : ℕ) → IsRising from bs → IsRising from (remove bs i)
+IsRising-remove [] from zero rises = tt
+IsRising-remove [] from (suc i) rises = tt
+IsRising-remove (b ∷ bs) from zero rises = IsRising-lower bs (end_of b) from (omega (arith, rises.0)) rises.2
+IsRising-remove (b ∷ bs) from (suc i) rises = (rises.0, rises.1, IsRising-remove bs (end_of b) i rises.2)
 
-pub EndsBy-remove : (bs : List Block) (limit i : ℕ) → EndsBy limit bs → EndsBy limit (remove bs i)
-EndsBy-remove [] limit zero ends = tt
-EndsBy-remove [] limit (suc i) ends = tt
-EndsBy-remove (b ∷ bs) limit zero ends = ends.1
-EndsBy-remove (b ∷ bs) limit (suc i) ends = (ends.0, EndsBy-remove bs limit i ends.1)
+pub IsEndedBy-remove : (bs : List Block) (limit i : ℕ) → IsEndedBy limit bs → IsEndedBy limit (remove bs i)
+IsEndedBy-remove [] limit zero ends = tt
+IsEndedBy-remove [] limit (suc i) ends = tt
+IsEndedBy-remove (b ∷ bs) limit zero ends = ends.1
+IsEndedBy-remove (b ∷ bs) limit (suc i) ends = (ends.0, IsEndedBy-remove bs limit i ends.1)
 
-pub Rises-none : (bs : List Block) (from : ℕ) → length bs ≡ 0 → Rises from bs
-Rises-none [] from h = tt
-Rises-none (b ∷ bs) from h = absurd (omega arith)
+pub IsRising-none : (bs : List Block) (from : ℕ) → length bs ≡ 0 → IsRising from bs
+IsRising-none [] from h = tt
+IsRising-none (b ∷ bs) from h = absurd (omega arith)
 
 differs : (a b : ℕ) → a ≢ b → nat_eq a b ≡ false
 differs a b h = grind (arith, nat_tests)
 
 -- no block begins below all of them
-without-low : (bs : List Block) (from at : ℕ) → Rises from bs → at < from → without at bs ≡ None
+without-low : (bs : List Block) (from at : ℕ) → IsRising from bs → at < from → without at bs ≡ None
 unfolding without
 without-low [] from at rises h = refl
 without-low (b ∷ bs) from at rises h =
@@ -93,7 +93,7 @@ without-found (b ∷ bs) (suc i) at inside below same =
     let rest = without-found bs i at (omega arith) (λ k h. below (suc k) (omega arith)) same in
     rw (test, rest) refl
 
-pub without-missing : (bs : List Block) (from i at : ℕ) → Rises from bs → i ≤ length bs → ((k : ℕ) → k < i → (get_or bs k (0, 0)).0 < at) → (i < length bs → at < (get_or bs i (0, 0)).0) → without at bs ≡ None
+pub without-missing : (bs : List Block) (from i at : ℕ) → IsRising from bs → i ≤ length bs → ((k : ℕ) → k < i → (get_or bs k (0, 0)).0 < at) → (i < length bs → at < (get_or bs i (0, 0)).0) → without at bs ≡ None
 unfolding without
 without-missing [] from i at rises inside below above = refl
 without-missing (b ∷ bs) from zero at rises inside below above =
@@ -108,20 +108,20 @@ without-missing (b ∷ bs) from (suc i) at rises inside below above =
 
 -- ---- the order of the addresses
 
-Rises-get : (bs : List Block) (from k : ℕ) (d : Block) → Rises from bs → k < length bs → from ≤ (get_or bs k d).0
-Rises-get [] from k d rises h = absurd (omega arith)
-Rises-get (b ∷ bs) from zero d rises h = rises.0
-Rises-get (b ∷ bs) from (suc k) d rises h = let rest = Rises-get bs (end_of b) k d rises.2 (omega arith) in omega (arith, rises.0, rest)
+IsRising-get : (bs : List Block) (from k : ℕ) (d : Block) → IsRising from bs → k < length bs → from ≤ (get_or bs k d).0
+IsRising-get [] from k d rises h = absurd (omega arith)
+IsRising-get (b ∷ bs) from zero d rises h = rises.0
+IsRising-get (b ∷ bs) from (suc k) d rises h = let rest = IsRising-get bs (end_of b) k d rises.2 (omega arith) in omega (arith, rises.0, rest)
 
-pub Rises-IsNonDecreasingBy : (bs : List Block) (from : ℕ) → Rises from bs → IsNonDecreasingBy (λ b. b.0) bs
-Rises-IsNonDecreasingBy [] from rises i j d le h = absurd (omega arith)
-Rises-IsNonDecreasingBy (b ∷ bs) from rises zero zero d le h = omega arith
-Rises-IsNonDecreasingBy (b ∷ bs) from rises zero (suc j) d le h = let rest = Rises-get bs (end_of b) j d rises.2 (omega arith) in omega (arith, rest)
-Rises-IsNonDecreasingBy (b ∷ bs) from rises (suc i) zero d le h = absurd (omega arith)
-Rises-IsNonDecreasingBy (b ∷ bs) from rises (suc i) (suc j) d le h = Rises-IsNonDecreasingBy bs (end_of b) rises.2 i j d (omega arith) (omega arith)
+pub IsRising-IsNonDecreasingBy : (bs : List Block) (from : ℕ) → IsRising from bs → IsNonDecreasingBy (λ b. b.0) bs
+IsRising-IsNonDecreasingBy [] from rises i j d le h = absurd (omega arith)
+IsRising-IsNonDecreasingBy (b ∷ bs) from rises zero zero d le h = omega arith
+IsRising-IsNonDecreasingBy (b ∷ bs) from rises zero (suc j) d le h = let rest = IsRising-get bs (end_of b) j d rises.2 (omega arith) in omega (arith, rest)
+IsRising-IsNonDecreasingBy (b ∷ bs) from rises (suc i) zero d le h = absurd (omega arith)
+IsRising-IsNonDecreasingBy (b ∷ bs) from rises (suc i) (suc j) d le h = IsRising-IsNonDecreasingBy bs (end_of b) rises.2 i j d (omega arith) (omega arith)
 
-pub ruleset add_facts = (inserted-at, Rises-inserted, EndsBy-inserted, length-inserted, Rises-none, Rises-lower)
+pub ruleset add_facts = (inserted-at, IsRising-inserted, IsEndedBy-inserted, length-inserted, IsRising-none, IsRising-lower)
 
-pub ruleset free_facts = (Rises-remove, EndsBy-remove, Rises-none, Rises-lower)
+pub ruleset free_facts = (IsRising-remove, IsEndedBy-remove, IsRising-none, IsRising-lower)
 
 pub ruleset without_facts = (without-found, without-missing)

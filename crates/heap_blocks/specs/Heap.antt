@@ -29,19 +29,19 @@ is_inactive h = length h.blocks == 0
 
 -- blocks that aren't empty, the first at or after an address and each other at or after the end
 -- of the one before: so they rise, and no two of them meet
-abbrev pub Rises : ℕ → List Block → Type 0
-Rises from [] = Unit {0}
-Rises from (b ∷ bs) = (from ≤ b.0) × (0 < b.1) × Rises (end_of b) bs
+abbrev pub IsRising : ℕ → List Block → Type 0
+IsRising from [] = Unit {0}
+IsRising from (b ∷ bs) = (from ≤ b.0) × (0 < b.1) × IsRising (end_of b) bs
 
 -- no block goes past an address
-abbrev pub EndsBy : ℕ → List Block → Type 0
-EndsBy limit [] = Unit {0}
-EndsBy limit (b ∷ bs) = (end_of b ≤ limit) × EndsBy limit bs
+abbrev pub IsEndedBy : ℕ → List Block → Type 0
+IsEndedBy limit [] = Unit {0}
+IsEndedBy limit (b ∷ bs) = (end_of b ≤ limit) × IsEndedBy limit bs
 
 -- what holds of every heap; each block ends below 2^32
 pub record IsSound (h : FlatHeap) : Type 0 where
-  pub rises : Rises h.start h.blocks
-  pub ends : EndsBy 0xFFFFFFFF h.blocks
+  pub rises : IsRising h.start h.blocks
+  pub ends : IsEndedBy 0xFFFFFFFF h.blocks
   pub none : length h.blocks ≡ 0 → h.start ≡ 0
 
 -- the same in plain words: each block isn't empty and lies between the start and 2^32, and of any
@@ -51,9 +51,9 @@ pub record AreApart (h : FlatHeap) : Type 0 where
   pub apart : AllPairs (λ a b. end_of a ≤ b.0) h.blocks
 
 -- nothing of a heap lies past an address
-pub record LiesBelow (limit : ℕ) (h : FlatHeap) : Type 0 where
+pub record IsBelow (limit : ℕ) (h : FlatHeap) : Type 0 where
   pub start : h.start ≤ limit
-  pub ends : EndsBy limit h.blocks
+  pub ends : IsEndedBy limit h.blocks
 
 -- no block has one of the n bytes at an address
 abbrev pub IsFree : List Block → ℕ → ℕ → Type 0
@@ -61,12 +61,12 @@ IsFree [] at n = Unit {0}
 IsFree (b ∷ bs) at n = ((at + n ≤ b.0) ⊎ (end_of b ≤ at)) × IsFree bs at n
 
 -- the address at which the heap begins, or would begin with its first block
-abbrev pub low : FlatHeap → ℕ → ℕ
-low h end = if is_inactive h then end else h.start
+abbrev pub first_address : FlatHeap → ℕ → ℕ
+first_address h end = if is_inactive h then end else h.start
 
 -- n bytes at an address are a block that the heap can get
 pub record IsPlace (h : FlatHeap) (end n ceiling at : ℕ) : Type 0 where
-  pub start : low h end ≤ at
+  pub start : first_address h end ≤ at
   pub ends : at + n ≤ ceiling
   pub free : IsFree h.blocks at n
 
@@ -78,16 +78,16 @@ IsLeast h end n ceiling found =
     ((at : ℕ) → IsPlace h end n ceiling at → ⊥)
     (λ least. IsPlace h end n ceiling least × ((at : ℕ) → IsPlace h end n ceiling at → least ≤ at))
 
--- the first gap of n bytes from an address on, among blocks in rising order
-abbrev pub gap : ℕ → ℕ → List Block → ℕ
-gap n at [] = at
-gap n at (b ∷ bs) = if nat_le (at + n) b.0 then at else gap n (end_of b) bs
+-- the first free place of n bytes from an address on, among blocks in rising order
+abbrev pub free_place : ℕ → ℕ → List Block → ℕ
+free_place n at [] = at
+free_place n at (b ∷ bs) = if nat_le (at + n) b.0 then at else free_place n (end_of b) bs
 
 -- malloc: the address of a block of n bytes that ends at or below a ceiling
 abbrev pub place : FlatHeap → ℕ → ℕ → ℕ → Option ℕ
 place h end n ceiling =
-    if nat_le (gap n (low h end) h.blocks + n) ceiling
-    then Some (gap n (low h end) h.blocks)
+    if nat_le (free_place n (first_address h end) h.blocks + n) ceiling
+    then Some (free_place n (first_address h end) h.blocks)
     else None
 
 -- a block put in order among the others
@@ -97,7 +97,7 @@ inserted x (b ∷ bs) = if nat_lt b.0 x.0 then b ∷ inserted x bs else x ∷ b 
 
 -- malloc: the heap with one more block, which begins at `end` where it was inactive
 abbrev pub added : FlatHeap → ℕ → Block → FlatHeap
-added h end x = record { start = low h end; blocks = inserted x h.blocks }
+added h end x = record { start = first_address h end; blocks = inserted x h.blocks }
 
 -- the other blocks, where one begins at an address
 unfoldable pub without : ℕ → List Block → Option (List Block)

@@ -6,7 +6,7 @@
 ghost use Rattle.std.specs.Prelude.{◌≡◌, ℕ, ◌+◌, ◌<◌, ◌≤◌, ◌^◌, length, slice_index_or, IfOk, OnOk, OnErr, IfSome};
 ghost use Rattle.std.specs.List.{remove};
 ghost use Rattle.std.specs.Option.{option_map};
-ghost use Rattle.heap_blocks.specs.Heap.{IsSound, AreApart, LiesBelow, IsFree, IsLeast, Frees, Rises, inactive, low, gap, place, added, freed, without};
+ghost use Rattle.heap_blocks.specs.Heap.{IsSound, AreApart, IsBelow, IsFree, IsLeast, Frees, IsRising, inactive, first_address, free_place, place, added, freed, without};
 
 use std::alloc::{AllocError, Global};
 use std::marker::Model;
@@ -76,7 +76,7 @@ impl Heap {
         ensures value { result ≡ place self.now.heap end size ceiling }
         ensures least { IsLeast self.now.heap end size ceiling result }
     {
-        let at = first_gap(&self.blocks, self.low(end), size);
+        let at = free_place(&self.blocks, self.first_address(end), size);
         if at + u64::from(size) <= u64::from(ceiling) {
             Some(at as u32)
         } else {
@@ -85,8 +85,8 @@ impl Heap {
     }
 
     /// Where the heap begins, or would begin with its first block.
-    fn low(&self, end: u32) -> u32
-        ensures { result ≡ low self.now.heap end }
+    fn first_address(&self, end: u32) -> u32
+        ensures { result ≡ first_address self.now.heap end }
     {
         if self.blocks.is_empty() {
             end
@@ -95,11 +95,13 @@ impl Heap {
         }
     }
 
-    /// Makes room for one more block. The blocks stay, whatever the answer.
+    /// Makes room for one more block, and takes memory only where there is none. The blocks stay,
+    /// whatever the answer.
     pub fn reserve(&mut self) -> Result<(), AllocError>
         ensures heap { self.new.heap ≡ self.old.heap }
         ensures room { self.old.spare ≤ self.new.spare }
         ensures ok { OnOk result (0 < self.new.spare) }
+        ensures full { OnErr result (self.old.spare ≡ 0) }
         ensures err { OnErr result (self.new ≡ self.old) }
     {
         self.blocks.reserve(1)
@@ -113,14 +115,14 @@ impl Heap {
         requires room { 0 < self.old.spare }
         requires size { 0 < size }
         requires ends { at + size < 2 ^ 32 }
-        requires start { low self.old.heap end ≤ at }
+        requires start { first_address self.old.heap end ≤ at }
         requires free { IsFree self.old.heap.blocks at size }
         ensures heap { self.new.heap ≡ added self.old.heap end (at, size) }
         ensures spare { self.old.spare ≤ self.new.spare + 1 }
         ensures sound { IsSound self.new.heap }
-        ensures within { (limit : ℕ) → LiesBelow limit self.old.heap → at + size ≤ limit → LiesBelow limit self.new.heap }
+        ensures within { (limit : ℕ) → IsBelow limit self.old.heap → at + size ≤ limit → IsBelow limit self.new.heap }
     {
-        self.start = self.low(end);
+        self.start = self.first_address(end);
         let i = count_below(&self.blocks, at);
         match self.blocks.insert(i, (at, size)) {
             Ok(()) => {}
@@ -134,7 +136,7 @@ impl Heap {
     pub fn free(&mut self, at: u32) -> Option<bool>
         ensures change { Frees self.old self.new (freed self.old.heap at) result }
         ensures sound { IsSound self.new.heap }
-        ensures within { (limit : ℕ) → LiesBelow limit self.old.heap → LiesBelow limit self.new.heap }
+        ensures within { (limit : ℕ) → IsBelow limit self.old.heap → IsBelow limit self.new.heap }
     {
         let i = index_of(&self.blocks, at)?;
         self.blocks.remove(i);
@@ -153,10 +155,10 @@ impl Heap {
     }
 }
 
-/// The first gap of `size` bytes from an address on. It may be past 2^32.
-#[tactic(auto, using(crate::proofs::Placing::gap_turns))]
-fn first_gap(blocks: &[(u32, u32)], from: u32, size: u32) -> u64
-    ensures value { result ≡ gap size from blocks.now }
+/// The first free place of `size` bytes from an address on. It may be past 2^32.
+#[tactic(auto, using(crate::proofs::Placing::place_turns))]
+fn free_place(blocks: &[(u32, u32)], from: u32, size: u32) -> u64
+    ensures value { result ≡ free_place size from blocks.now }
     ensures bound { result < 2 ^ 33 }
 {
     let size = u64::from(size);
@@ -172,7 +174,7 @@ fn first_gap(blocks: &[(u32, u32)], from: u32, size: u32) -> u64
 
 /// How many blocks begin below `at`.
 fn count_below(blocks: &[(u32, u32)], at: u32) -> usize
-    requires { Rises 0 blocks.now }
+    requires { IsRising 0 blocks.now }
     ensures bound { result ≤ length blocks.now }
     ensures below { (k : ℕ) → k < result → (slice_index_or blocks.now k (0, 0)).0 < at }
     ensures above { result < length blocks.now → at ≤ (slice_index_or blocks.now result (0, 0)).0 }
@@ -183,7 +185,7 @@ fn count_below(blocks: &[(u32, u32)], at: u32) -> usize
 /// The index of the block that begins at `at`.
 #[tactic(auto, using(crate::proofs::Changing::without_facts))]
 fn index_of(blocks: &[(u32, u32)], at: u32) -> Option<usize>
-    requires { Rises 0 blocks.now }
+    requires { IsRising 0 blocks.now }
     ensures bound { IfSome result (λ i. i < length blocks.now) }
     ensures value { without at blocks.now ≡ option_map (λ i. remove blocks.now i) result }
 {

@@ -1,20 +1,15 @@
--- One turn of the loop over the chunks of a form.
+-- One turn of the loops over the chunks of a form.
 use Rattle.std.proofs.Common.{◌≡◌, ◌<◌, ◌≤◌, ◌+◌, ℕ, zero, suc, Bool, true, false, List, [], ◌∷◌, ◌++◌, append_assoc, length, Result, Ok, Err, refl, sym, ap, ◌∙◌, arith, inl, inr, cond, leb}
-use Rattle.std.specs.Prelude.{not}
+use Rattle.std.specs.Prelude.{not, Option, Some, None, IsOk}
+use Rattle.std.specs.List.{find}
 use Rattle.std.proofs.lemmas.List.{append-nil}
 use Rattle.std.proofs.lemmas.Bool.{cases_lt, le-leb, lt-leb}
 use Rattle.iff_chunks.specs.declared.faults.IffFault.{IffFault}
 use Rattle.iff_chunks.specs.declared.faults.IffFault.TheVariants.{Cut}
 use Rattle.iff_chunks.specs.declared.parts.Part.{Part}
-use Rattle.iff_chunks.specs.Chunks.{◌>>=◌, word, id_at, part_at, next_place, parts_from}
-
--- what is read already, and then what is still read
-abbrev pub ahead : List Part → Result (List Part) IffFault → Result (List Part) IffFault
-ahead out r = r >>= λ parts. Ok (out ++ parts)
-
-regroup : (out : List Part) (part : Part) (r : Result (List Part) IffFault) → ahead out (r >>= λ parts. Ok (part ∷ parts)) ≡ ahead (out ++ part ∷ []) r
-regroup out part (Ok parts) = ap (λ (xs : List Part). Ok xs) (sym (append_assoc out (part ∷ []) parts))
-regroup out part (Err e) = refl
+use Rattle.iff_chunks.specs.declared.parts.Sought.{Sought}
+use Rattle.iff_chunks.specs.Faults.{◌>>=◌}
+use Rattle.iff_chunks.specs.Chunks.{length_at, id_at, part_at, next_place, parts_from, is_sought, found_first}
 
 pub parts_done : (most : ℕ) (form : List ℕ) (place : ℕ) → length form ≤ place → parts_from most form place ≡ Ok []
 unfolding parts_from
@@ -32,8 +27,8 @@ start (Err e) d = d
 part_starts : (form : List ℕ) (place : ℕ) (part : Part) → part_at form place ≡ Ok part → part.at ≡ place + 8
 unfolding part_at
 part_starts form place part h =
-    let made : Result Part IffFault = Ok (record { id = id_at form place; at = place + 8; len = word form (place + 4) }) in
-    let e : made ≡ Ok part = guard_ok (not (leb (place + 8 + word form (place + 4)) (length form))) Cut made part (guard_ok (not (leb (place + 8) (length form))) Cut (cond (not (leb (place + 8 + word form (place + 4)) (length form))) (Err Cut) made) part h) in
+    let made : Result Part IffFault = Ok (record { id = id_at form place; at = place + 8; len = length_at form (place + 4) }) in
+    let e : made ≡ Ok part = guard_ok (not (leb (place + 8 + length_at form (place + 4)) (length form))) Cut made part (guard_ok (not (leb (place + 8) (length form))) Cut (cond (not (leb (place + 8 + length_at form (place + 4)) (length form))) (Err Cut) made) part h) in
     sym (ap (λ (r : Result Part IffFault). start r 0) e)
 
 bind_same : (r : Result Part IffFault) (f g : Part → Result (List Part) IffFault) → ((part : Part) → r ≡ Ok part → f part ≡ g part) → (r >>= f) ≡ (r >>= g)
@@ -55,17 +50,86 @@ one_more : (form : List ℕ) (place : ℕ) → place < length form → parts_fro
 unfolding parts_from
 one_more form place lt = enough (length form) (suc (length form)) form place (omega arith) (omega arith) ∙ (let t = lt-leb (length form) place lt in rw t refl)
 
+-- the chunks from a place on, where there is one more, where it is cut, and where there is none
+here : (form : List ℕ) (place : ℕ) (part : Part) → place < length form → part_at form place ≡ Ok part → parts_from (length form) form place ≡ (parts_from (length form) form (next_place part) >>= λ parts. Ok (part ∷ parts))
+here form place part lt is = one_more form place lt ∙ rw is refl
+
+cut : (form : List ℕ) (place : ℕ) (e : IffFault) → place < length form → part_at form place ≡ Err e → parts_from (length form) form place ≡ Err e
+cut form place e lt is = one_more form place lt ∙ rw is refl
+
+-- the loop that looks at all chunks
+abbrev pub whole : Result (List Part) IffFault → Result (Unit {0}) IffFault
+whole r = r >>= λ parts. Ok tt
+
+whole_cons : (part : Part) (r : Result (List Part) IffFault) → whole (r >>= λ parts. Ok (part ∷ parts)) ≡ whole r
+whole_cons part (Ok parts) = refl
+whole_cons part (Err e) = refl
+
+whole_err : (r : Result (List Part) IffFault) (e : IffFault) → whole r ≡ Err e → r ≡ Err e
+whole_err (Ok parts) e h = absurd cc
+whole_err (Err d) e h = cc
+
+whole_ok : (r : Result (List Part) IffFault) → whole r ≡ Ok tt → IsOk r
+whole_ok (Ok parts) h = refl
+whole_ok (Err d) h = absurd cc
+
+pub look_turn : (form : List ℕ) (place : ℕ) (part : Part) (t : Result (Unit {0}) IffFault) → place < length form → part_at form place ≡ Ok part → whole (parts_from (length form) form place) ≡ t → whole (parts_from (length form) form (next_place part)) ≡ t
+look_turn form place part t lt is h = sym (whole_cons part (parts_from (length form) form (next_place part))) ∙ ap whole (sym (here form place part lt is)) ∙ h
+
+pub look_fault : (form : List ℕ) (place : ℕ) (e : IffFault) (r : Result (List Part) IffFault) → place < length form → part_at form place ≡ Err e → whole (parts_from (length form) form place) ≡ whole r → r ≡ Err e
+look_fault form place e r lt is h = whole_err r e (sym h ∙ ap whole (cut form place e lt is))
+
+pub look_done : (form : List ℕ) (place : ℕ) (r : Result (List Part) IffFault) → length form ≤ place → whole (parts_from (length form) form place) ≡ whole r → IsOk r
+look_done form place r le h = whole_ok r (sym h ∙ ap whole (parts_done (length form) form place le))
+
+pub ruleset look_turns = (look_turn, look_fault, look_done)
+
+-- the loop that gathers the chunks: what is read already, and then what is still read
+abbrev pub ahead : List Part → Result (List Part) IffFault → Result (List Part) IffFault
+ahead out r = r >>= λ parts. Ok (out ++ parts)
+
+regroup : (out : List Part) (part : Part) (r : Result (List Part) IffFault) → ahead out (r >>= λ parts. Ok (part ∷ parts)) ≡ ahead (out ++ part ∷ []) r
+regroup out part (Ok parts) = ap (λ (xs : List Part). Ok xs) (sym (append_assoc out (part ∷ []) parts))
+regroup out part (Err e) = refl
+
 pub part_turn : (form : List ℕ) (out : List Part) (place : ℕ) (part : Part) (t : Result (List Part) IffFault) → place < length form → part_at form place ≡ Ok part → ahead out (parts_from (length form) form place) ≡ t → ahead (out ++ part ∷ []) (parts_from (length form) form (next_place part)) ≡ t
-part_turn form out place part t lt is h =
-    let one : parts_from (length form) form place ≡ (parts_from (length form) form (next_place part) >>= λ parts. Ok (part ∷ parts)) = one_more form place lt ∙ rw is refl in
-    sym (regroup out part (parts_from (length form) form (next_place part))) ∙ ap (ahead out) (sym one) ∙ h
+part_turn form out place part t lt is h = sym (regroup out part (parts_from (length form) form (next_place part))) ∙ ap (ahead out) (sym (here form place part lt is)) ∙ h
 
 pub fault_turn : (form : List ℕ) (out : List Part) (place : ℕ) (e : IffFault) (t : Result (List Part) IffFault) → place < length form → part_at form place ≡ Err e → ahead out (parts_from (length form) form place) ≡ t → t ≡ Err e
-fault_turn form out place e t lt is h =
-    let one : parts_from (length form) form place ≡ Err e = one_more form place lt ∙ rw is refl in
-    sym h ∙ ap (ahead out) one
+fault_turn form out place e t lt is h = sym h ∙ ap (ahead out) (cut form place e lt is)
 
 pub done_turn : (form : List ℕ) (out : List Part) (place : ℕ) (t : Result (List Part) IffFault) → length form ≤ place → ahead out (parts_from (length form) form place) ≡ t → t ≡ Ok out
 done_turn form out place t le h = sym h ∙ ap (ahead out) (parts_done (length form) form place le) ∙ ap (λ (xs : List Part). Ok xs) (append-nil out)
 
 pub ruleset part_turns = (part_turn, fault_turn, done_turn)
+
+-- the loop that looks for one of them: what was found, or else what is still found
+abbrev or_later : Option Part → Option Part → Option Part
+or_later (Some part) later = Some part
+or_later None later = later
+
+abbrev pub found_from : Sought → Option Part → Result (List Part) IffFault → Result (Option Part) IffFault
+found_from sought found r = r >>= λ parts. Ok (or_later found (find (is_sought sought) parts))
+
+later_first : (sought : Sought) (found : Option Part) (part : Part) (parts : List Part) → or_later found (find (is_sought sought) (part ∷ parts)) ≡ or_later (found_first sought found part) (find (is_sought sought) parts)
+later_first sought (Some found) part parts = refl
+later_first sought None part parts = elim (is_sought sought part) as (λ b. cond b (Some part) (find (is_sought sought) parts) ≡ or_later (cond b (Some part) None) (find (is_sought sought) parts)) [ true ↦ refl | false ↦ refl ]
+
+found_cons : (sought : Sought) (found : Option Part) (part : Part) (r : Result (List Part) IffFault) → found_from sought found (r >>= λ parts. Ok (part ∷ parts)) ≡ found_from sought (found_first sought found part) r
+found_cons sought found part (Ok parts) = ap (λ (x : Option Part). Ok x) (later_first sought found part parts)
+found_cons sought found part (Err e) = refl
+
+or_none : (found : Option Part) → or_later found None ≡ found
+or_none (Some part) = refl
+or_none None = refl
+
+pub find_turn : (form : List ℕ) (sought : Sought) (found next : Option Part) (place : ℕ) (part : Part) (t : Result (Option Part) IffFault) → place < length form → part_at form place ≡ Ok part → next ≡ found_first sought found part → found_from sought found (parts_from (length form) form place) ≡ t → found_from sought next (parts_from (length form) form (next_place part)) ≡ t
+find_turn form sought found next place part t lt is next_is h = rw next_is (sym (found_cons sought found part (parts_from (length form) form (next_place part))) ∙ ap (found_from sought found) (sym (here form place part lt is)) ∙ h)
+
+pub find_fault : (form : List ℕ) (sought : Sought) (found : Option Part) (place : ℕ) (e : IffFault) (t : Result (Option Part) IffFault) → place < length form → part_at form place ≡ Err e → found_from sought found (parts_from (length form) form place) ≡ t → t ≡ Err e
+find_fault form sought found place e t lt is h = sym h ∙ ap (found_from sought found) (cut form place e lt is)
+
+pub find_done : (form : List ℕ) (sought : Sought) (found : Option Part) (place : ℕ) (t : Result (Option Part) IffFault) → length form ≤ place → found_from sought found (parts_from (length form) form place) ≡ t → t ≡ Ok found
+find_done form sought found place t le h = sym h ∙ ap (found_from sought found) (parts_done (length form) form place le) ∙ ap (λ (x : Option Part). Ok x) (or_none found)
+
+pub ruleset find_turns = (find_turn, find_fault, find_done)

@@ -3,12 +3,14 @@ use Rattle.std.proofs.Common.{◌≡◌, ◌<◌, ◌≤◌, ◌+◌, ◌*◌, �
 use Rattle.std.proofs.lemmas.List.{take_at, length-replicate, take_all}
 use Rattle.std.proofs.lemmas.Bool.{le-leb, lt-leb}
 use Rattle.std.proofs.lemmas.Grind.{common_steps}
-use Rattle.std.specs.List.{flat_map, AllByRecursion}
+use Rattle.std.specs.Prelude.{nat_eq}
+use Rattle.std.specs.List.{flat_map, starts_with, AllByRecursion}
 use Rattle.std.specs.Str.{bytes_eq}
 use Rattle.iff_chunks.specs.declared.faults.IffFault.{IffFault}
 use Rattle.iff_chunks.specs.declared.parts.Part.{Part}
-use Rattle.iff_chunks.specs.Chunks.{◌>>=◌, word, id_at, part_at, next_place, parts_from, form_in, chunks, body}
-use Rattle.iff_chunks.specs.Writing.{Chunk, chunk_of, chunks_in, bytes_of_word, bytes_of_chunk, bytes_of_form, IsChunk, ReadsBack}
+use Rattle.iff_chunks.specs.Faults.{◌>>=◌}
+use Rattle.iff_chunks.specs.Chunks.{length_at, id_at, part_at, next_place, parts_from, form_in, chunks, body}
+use Rattle.iff_chunks.specs.Writing.{Chunk, chunk_of, chunks_in, bytes_of_length, bytes_of_chunk, bytes_of_form, IsChunk, ReadsBack}
 use Rattle.iff_chunks.proofs.Reading.{parts_done}
 
 digits : (v : ℕ) → v < 2 ^ 32 → ((v / 2 ^ 24 % 256) * 256 + v / 2 ^ 16 % 256) * 65536 + ((v / 2 ^ 8 % 256) * 256 + v % 256) ≡ v
@@ -17,8 +19,8 @@ digits v h = omega arith
 id_behind : (xs ys : List ℕ) → id_at (xs ++ ys) (length xs) ≡ id_at ys 0
 id_behind xs ys = grind (arith, common_steps)
 
-word_behind : (xs ys : List ℕ) (a : ℕ) → word (xs ++ ys) (length xs + a) ≡ word ys a
-word_behind xs ys a = grind (arith, common_steps)
+length_behind : (xs ys : List ℕ) (a : ℕ) → length_at (xs ++ ys) (length xs + a) ≡ length_at ys a
+length_behind xs ys a = grind (arith, common_steps)
 
 drop_behind : (xs ys : List ℕ) (n : ℕ) → drop (length xs + n) (xs ++ ys) ≡ drop n ys
 drop_behind [] ys n = let e : 0 + n ≡ n = omega arith in rw e refl
@@ -26,14 +28,14 @@ drop_behind (x ∷ xs) ys n = let e : suc (length xs) + n ≡ suc (length xs + n
 
 -- the bytes of a chunk with its four letters, and what follows it
 abbrev four : ℕ → ℕ → ℕ → ℕ → List ℕ → List ℕ → List ℕ
-four a b c d content rest = a ∷ b ∷ c ∷ d ∷ (bytes_of_word (length content) ++ (content ++ (replicate (length content % 2) 0 ++ rest)))
+four a b c d content rest = a ∷ b ∷ c ∷ d ∷ (bytes_of_length (length content) ++ (content ++ (replicate (length content % 2) 0 ++ rest)))
 
 read_four : (front : List ℕ) (a b c d : ℕ) (content rest : List ℕ) → length content < 2 ^ 32 → part_at (front ++ four a b c d content rest) (length front) ≡ Ok (record { id = a ∷ b ∷ c ∷ d ∷ []; at = length front + 8; len = length content })
 unfolding part_at
 read_four front a b c d content rest small =
     let w = front ++ four a b c d content rest in
     let size : length w ≡ length front + (8 + (length content + length (replicate (length content % 2) 0 ++ rest))) = omega (arith, length-append front (four a b c d content rest), length-append content (replicate (length content % 2) 0 ++ rest)) in
-    let number : word w (length front + 4) ≡ length content = word_behind front (four a b c d content rest) 4 ∙ digits (length content) small in
+    let number : length_at w (length front + 4) ≡ length content = length_behind front (four a b c d content rest) 4 ∙ digits (length content) small in
     let one : leb (length front + 8) (length w) ≡ true = le-leb _ _ (omega arith) in
     let two : leb (length front + 8 + length content) (length w) ≡ true = le-leb _ _ (omega arith) in
     let name : id_at w (length front) ≡ a ∷ b ∷ c ∷ d ∷ [] = id_behind front (four a b c d content rest) in
@@ -54,12 +56,12 @@ chunk_four : (chunk : Chunk) (rest : List ℕ) → length chunk.id ≡ 4 → byt
 unfolding bytes_of_chunk
 chunk_four chunk rest h =
     let e = id_four chunk.id h in
-    ap (λ (id : List ℕ). (id ++ (bytes_of_word (length chunk.body) ++ (chunk.body ++ replicate (length chunk.body % 2) 0))) ++ rest) e
-    ∙ ap (λ (tail : List ℕ). get_or chunk.id 0 0 ∷ get_or chunk.id 1 0 ∷ get_or chunk.id 2 0 ∷ get_or chunk.id 3 0 ∷ (bytes_of_word (length chunk.body) ++ tail)) (append_assoc chunk.body (replicate (length chunk.body % 2) 0) rest)
+    ap (λ (id : List ℕ). (id ++ (bytes_of_length (length chunk.body) ++ (chunk.body ++ replicate (length chunk.body % 2) 0))) ++ rest) e
+    ∙ ap (λ (tail : List ℕ). get_or chunk.id 0 0 ∷ get_or chunk.id 1 0 ∷ get_or chunk.id 2 0 ∷ get_or chunk.id 3 0 ∷ (bytes_of_length (length chunk.body) ++ tail)) (append_assoc chunk.body (replicate (length chunk.body % 2) 0) rest)
 
 pub length-bytes_of_chunk : (chunk : Chunk) → length chunk.id ≡ 4 → length (bytes_of_chunk chunk) ≡ 8 + length chunk.body + length chunk.body % 2
 unfolding bytes_of_chunk
-length-bytes_of_chunk chunk h = omega (arith, length-append chunk.id (bytes_of_word (length chunk.body) ++ (chunk.body ++ replicate (length chunk.body % 2) 0)), length-append chunk.body (replicate (length chunk.body % 2) 0), length-replicate {A = ℕ} (length chunk.body % 2) 0)
+length-bytes_of_chunk chunk h = omega (arith, length-append chunk.id (bytes_of_length (length chunk.body) ++ (chunk.body ++ replicate (length chunk.body % 2) 0)), length-append chunk.body (replicate (length chunk.body % 2) 0), length-replicate {A = ℕ} (length chunk.body % 2) 0)
 
 parts_next : (most : ℕ) (w : List ℕ) (place : ℕ) (part : Part) → place < length w → part_at w place ≡ Ok part → parts_from (suc most) w place ≡ (parts_from most w (next_place part) >>= λ parts. Ok (part ∷ parts))
 unfolding parts_from
@@ -96,7 +98,7 @@ again (chunk ∷ chunks) (suc m) front w e few fits =
     let tail : with_bodies w (parts_from m w (next_place part)) ≡ Ok chunks = subst (λ (k : ℕ). with_bodies w (parts_from m w k) ≡ Ok chunks) next (again chunks m (front ++ bytes_of_chunk chunk) w (e ∙ sym (append_assoc front (bytes_of_chunk chunk) rest)) (omega (arith, length-append front (bytes_of_chunk chunk))) fits.1) in
     ap (with_bodies w) (parts_next m w (length front) part (omega arith) read) ∙ regroup w part (parts_from m w (next_place part)) ∙ rw (tail, same) refl
 
-whole_form : (w kind : List ℕ) (n : ℕ) → word w 4 ≡ n → leb 12 (length w) ≡ true → bytes_eq (id_at w 0) (70 ∷ 79 ∷ 82 ∷ 77 ∷ []) ≡ true → bytes_eq (id_at w 8) kind ≡ true → leb 4 n ≡ true → leb (8 + n) (length w) ≡ true → take (8 + n) w ≡ w → chunks w kind ≡ parts_from (length w) w 12
+whole_form : (w kind : List ℕ) (n : ℕ) → length_at w 4 ≡ n → leb 12 (length w) ≡ true → starts_with nat_eq w (70 ∷ 79 ∷ 82 ∷ 77 ∷ []) ≡ true → bytes_eq (id_at w 8) kind ≡ true → leb 4 n ≡ true → leb (8 + n) (length w) ≡ true → take (8 + n) w ≡ w → chunks w kind ≡ parts_from (length w) w 12
 unfolding chunks form_in
 whole_form w kind n number t1 t0 t2 t3 t4 all = rw (number, t1, t0, t2, t3, t4, all) refl
 
@@ -110,7 +112,7 @@ form_four a b c d chunks fits small =
     let w = bytes_of_form kind chunks in
     let n = 4 + length (flat_map bytes_of_chunk chunks) in
     let read = whole_form w kind n (digits n small) (le-leb _ _ (omega arith)) refl (same_four a b c d) (le-leb _ _ (omega arith)) (le-leb _ _ (omega arith)) (take_all (8 + n) w (omega arith)) in
-    ap (with_bodies w) read ∙ again chunks (length w) (70 ∷ 79 ∷ 82 ∷ 77 ∷ (bytes_of_word n ++ kind)) w refl (omega arith) fits
+    ap (with_bodies w) read ∙ again chunks (length w) (70 ∷ 79 ∷ 82 ∷ 77 ∷ (bytes_of_length n ++ kind)) w refl (omega arith) fits
 
 pub reads_back : ReadsBack
 reads_back kind chunks form =

@@ -1,30 +1,17 @@
 -- The chunks of a form (Quetzal 1.4, "Introduction to the IFF format").
-use Rattle.std.specs.Prelude.{◌≡◌, ◌≢◌, ℕ, zero, suc, ◌+◌, ◌*◌, ◌%◌, ◌==◌, ◌&&◌, Bool, not, nat_le, if◌then◌else◌, List, [], ◌∷◌, length, take, drop, slice_index, Option, Result, Ok, Err}
+use Rattle.std.specs.Prelude.{ℕ, zero, suc, ◌+◌, ◌*◌, ◌%◌, ◌==◌, nat_eq, ◌&&◌, Bool, not, nat_le, if◌then◌else◌, List, [], ◌∷◌, length, take, drop, slice_index, Option, Some, None, Result, Ok, Err}
 use Rattle.std.specs.Str.{bytes_eq}
-use Rattle.std.specs.List.{find}
+use Rattle.std.specs.List.{find, starts_with}
+use Rattle.iff_chunks.specs.Faults.{◌>>=◌}
 use Rattle.iff_chunks.specs.declared.faults.IffFault.{IffFault}
 use Rattle.iff_chunks.specs.declared.faults.IffFault.TheVariants as fault
 use Rattle.iff_chunks.specs.declared.parts.Part.{Part}
+use Rattle.iff_chunks.specs.declared.parts.Sought.{Sought}
+use Rattle.iff_chunks.specs.declared.parts.Sought.TheVariants.{Letters, Place}
 
--- a definition with faults is a `Result` written line by line: the first line with a fault gives it
-infixl 10 ◌>>=◌
-abbrev pub ◌>>=◌ : {A B : Type 0} → Result A IffFault → (A → Result B IffFault) → Result B IffFault
-(Ok x) >>= f = f x
-(Err e) >>= f = Err e
-
--- The call takes no memory: its answer, seen by `view`, is the definition's.
-abbrev pub Is : {X Y : Type 0} → (X → Y) → Result X IffFault → Result Y IffFault → Type 0
-Is view (Ok x) defined = defined ≡ Ok (view x)
-Is view (Err e) defined = defined ≡ Err e
-
--- The same for a call that may want memory.
-abbrev pub Gives : {X Y : Type 0} → (X → Y) → Result X IffFault → Result Y IffFault → Type 0
-Gives view (Ok x) defined = defined ≡ Ok (view x)
-Gives view (Err e) defined = e ≢ fault.NoMemory → defined ≡ Err e
-
--- the big-endian number of four bytes
-abbrev pub word : List ℕ → ℕ → ℕ
-word bytes place =
+-- a length: the big-endian number of four bytes
+abbrev pub length_at : List ℕ → ℕ → ℕ
+length_at bytes place =
     (slice_index bytes place * 256 + slice_index bytes (place + 1)) * 65536 +
     (slice_index bytes (place + 2) * 256 + slice_index bytes (place + 3))
 
@@ -38,8 +25,8 @@ id_at bytes place =
 unfoldable pub part_at : List ℕ → ℕ → Result Part IffFault
 part_at form place =
     if not (nat_le (place + 8) (length form)) then Err fault.Cut else
-    if not (nat_le (place + 8 + word form (place + 4)) (length form)) then Err fault.Cut else
-    Ok (record { id = id_at form place; at = place + 8; len = word form (place + 4) })
+    if not (nat_le (place + 8 + length_at form (place + 4)) (length form)) then Err fault.Cut else
+    Ok (record { id = id_at form place; at = place + 8; len = length_at form (place + 4) })
 
 -- the place of the next header: a body of odd length is filled up
 abbrev pub next_place : Part → ℕ
@@ -53,26 +40,26 @@ parts_from (suc most) form place =
     part_at form place >>= λ part. parts_from most form (next_place part) >>= λ parts. Ok (part ∷ parts)
 
 -- the tests of a form; its length counts from its kind on
-abbrev pub has_header : List ℕ → Bool
-has_header bytes = nat_le 12 (length bytes)
+abbrev pub has_form_header : List ℕ → Bool
+has_form_header bytes = nat_le 12 (length bytes)
 
 abbrev pub begins_form : List ℕ → Bool
-begins_form bytes = bytes_eq (id_at bytes 0) (0x46 ∷ 0x4F ∷ 0x52 ∷ 0x4D ∷ [])
+begins_form bytes = starts_with nat_eq bytes (0x46 ∷ 0x4F ∷ 0x52 ∷ 0x4D ∷ [])
 
 abbrev pub has_kind : List ℕ → List ℕ → Bool
 has_kind bytes kind = bytes_eq (id_at bytes 8) kind
 
 abbrev pub has_length : List ℕ → Bool
-has_length bytes = nat_le 4 (word bytes 4) && nat_le (8 + word bytes 4) (length bytes)
+has_length bytes = nat_le 4 (length_at bytes 4) && nat_le (8 + length_at bytes 4) (length bytes)
 
 -- a form of a kind at the start of the bytes, or the first fault of its header
 unfoldable pub form_in : List ℕ → List ℕ → Result (List ℕ) IffFault
 form_in bytes kind =
-    if not (has_header bytes) then Err fault.Cut else
+    if not (has_form_header bytes) then Err fault.Cut else
     if not (begins_form bytes) then Err fault.NotForm else
     if not (has_kind bytes kind) then Err fault.WrongKind else
     if not (has_length bytes) then Err fault.Cut else
-    Ok (take (8 + word bytes 4) bytes)
+    Ok (take (8 + length_at bytes 4) bytes)
 
 -- the chunks of a form of a kind, or the first fault
 unfoldable pub chunks : List ℕ → List ℕ → Result (List Part) IffFault
@@ -82,10 +69,24 @@ chunks bytes kind = form_in bytes kind >>= λ form. parts_from (length form) for
 abbrev pub body : List ℕ → Part → List ℕ
 body bytes part = take part.len (drop part.at bytes)
 
+-- a chunk is sought by its letters, or by the place where its header begins
+abbrev pub is_sought : Sought → Part → Bool
+is_sought (Letters id) part = bytes_eq part.id id
+is_sought (Place place) part = part.at == place + 8
+
 -- the first chunk with these letters
 abbrev pub first : List ℕ → List Part → Option Part
-first id parts = find (λ part. bytes_eq part.id id) parts
+first id parts = find (is_sought (Letters id)) parts
 
 -- the chunk whose header begins at a place
 abbrev pub at_place : ℕ → List Part → Option Part
-at_place place parts = find (λ part. part.at == place + 8) parts
+at_place place parts = find (is_sought (Place place)) parts
+
+-- the first chunk of a form that is sought
+abbrev pub part_found : Sought → Result (List Part) IffFault → Result (Option Part) IffFault
+part_found sought form = form >>= λ parts. Ok (find (is_sought sought) parts)
+
+-- what was found already, or else a chunk where it is sought
+abbrev pub found_first : Sought → Option Part → Part → Option Part
+found_first sought (Some found) part = Some found
+found_first sought None part = if is_sought sought part then Some part else None

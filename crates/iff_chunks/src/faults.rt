@@ -1,11 +1,12 @@
 //! Why bytes aren't a form of a kind.
-ghost use Rattle.std.specs.Prelude.{◌≡◌};
+ghost use Rattle.std.specs.Prelude.{◌≡◌, ◌≤◌};
+ghost use Rattle.iff_chunks.specs.Faults.{number_of};
 ghost use Rattle.iff_chunks.specs.declared.faults.IffFault.TheVariants.{NoMemory};
 
-use std::alloc::{AllocError, AllocFailed};
+use std::alloc::AllocFailed;
 use thiserror::Error;
 
-/// The faults; `NoMemory` is the one that no definition has.
+/// The faults in the order of their numbers; `NoMemory` is the one that no definition has.
 #[derive(Clone, Copy, Debug, PartialEq, Eq, Error)]
 pub enum IffFault {
     /// The bytes, the form or a chunk of it ends too early.
@@ -22,11 +23,12 @@ pub enum IffFault {
     NoMemory,
 }
 
-impl From<AllocError> for IffFault {
-    ghost from_gives = { λ _ fault. fault ≡ NoMemory };
-
-    fn from(_refused: AllocError) -> IffFault {
-        IffFault::NoMemory
+impl IffFault {
+    pub fn number(self) -> u8
+        ensures value { result ≡ number_of self }
+        ensures range { (1 ≤ result) × (result ≤ 4) }
+    {
+        self as u8
     }
 }
 

@@ -5,7 +5,8 @@
 //! are big-endian numbers of 32 bits.
 //!
 //! `read_form` finds the chunks of a form as the definition `chunks` of specs/Chunks does for every
-//! list of bytes, and `written_forms_are_read` says that it finds what a form was written from.
+//! list of bytes, and `find_part` one of them without memory. `written_forms_are_read` says that
+//! they are what a form was written from.
 //!
 //! Bodies aren't copied: a `Part` says where one lies. A form is at most 2^32 + 7 bytes.
 #![tactic(auto)]
@@ -16,9 +17,9 @@ mod laws;
 mod parts;
 
 pub use faults::IffFault;
-pub use forms::{Form, read_form};
+pub use forms::{Form, begins_form, find_part, read_form};
 pub use laws::written_forms_are_read;
-pub use parts::Part;
+pub use parts::{Part, Sought};
 
 #[cfg(test)]
 mod tests;

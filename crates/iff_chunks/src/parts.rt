@@ -1,6 +1,7 @@
 //! One chunk of a form: its letters, and where its body lies.
-ghost use Rattle.std.specs.Prelude.{◌≡◌, ◌+◌, ◌≤◌, ◌<◌, ◌^◌, length, IfOk, IfErr, ◌≢◌};
-ghost use Rattle.iff_chunks.specs.Chunks.{Is, body, id_at, part_at, word};
+ghost use Rattle.std.specs.Prelude.{◌≡◌, ◌+◌, ◌≤◌, ◌<◌, ◌^◌, length, IfOk};
+ghost use Rattle.iff_chunks.specs.Faults.{Reads};
+ghost use Rattle.iff_chunks.specs.Chunks.{body, found_first, id_at, is_sought, length_at, next_place, part_at};
 
 use crate::IffFault;
 use byteorder::{BigEndian, ByteOrder};
@@ -22,8 +23,7 @@ impl Part {
     #[tactic(auto, unfolding(crate::specs::Chunks::part_at))]
     pub(crate) fn read(form: &[u8], place: usize) -> Result<Part, IffFault>
         requires { place < length form.now }
-        ensures value { Is (λ part. part) result (part_at form.now place) }
-        ensures memory { IfErr result (λ fault. fault ≢ IffFault.NoMemory) }
+        ensures value { Reads (λ part. part) result (part_at form.now place) }
         ensures within { IfOk result (λ part. part.at + part.len ≤ length form.now) }
         ensures start { IfOk result (λ part. part.at ≡ place + 8) }
     {
@@ -31,7 +31,7 @@ impl Part {
         if rest < HEADER_LEN {
             return Err(IffFault::Cut);
         }
-        let len = word_at(form, place + 4);
+        let len = length_at(form, place + 4);
         if rest - HEADER_LEN < len {
             return Err(IffFault::Cut);
         }
@@ -40,6 +40,14 @@ impl Part {
             at: place + HEADER_LEN,
             len,
         })
+    }
+
+    /// The place of the next header: a body of odd length is filled up.
+    pub(crate) fn next_place(self) -> usize
+        requires { self.at + self.len + 1 < 2 ^ 64 }
+        ensures { result ≡ next_place self }
+    {
+        self.at + self.len + self.len % 2
     }
 
     /// The body, given the bytes that the form was read from.
@@ -53,10 +61,39 @@ impl Part {
     }
 }
 
-/// The number in the four bytes from a place on.
-pub(crate) fn word_at(bytes: &[u8], place: usize) -> usize
+/// What a chunk is sought by: its letters, or the place where its header begins, counted from the
+/// first byte of the form.
+#[derive(Clone, Copy, Debug, PartialEq, Eq)]
+pub enum Sought {
+    Letters([u8; 4]),
+    Place(usize),
+}
+
+impl Sought {
+    pub(crate) fn is_met_by(self, part: Part) -> bool
+        ensures { result ≡ is_sought self part }
+    {
+        match self {
+            Sought::Letters(id) => part.id == id,
+            Sought::Place(place) => part.at.checked_sub(HEADER_LEN) == Some(place),
+        }
+    }
+
+    /// What was found already, or else the chunk where it is sought.
+    pub(crate) fn first_of(self, found: Option<Part>, part: Part) -> Option<Part>
+        ensures { result ≡ found_first self found part }
+    {
+        match found {
+            None if self.is_met_by(part) => Some(part),
+            _ => found,
+        }
+    }
+}
+
+/// The length that stands in the four bytes from a place on.
+pub(crate) fn length_at(bytes: &[u8], place: usize) -> usize
     requires { place + 4 ≤ length bytes.now }
-    ensures value { result ≡ word bytes.now place }
+    ensures value { result ≡ length_at bytes.now place }
     ensures fits { result < 2 ^ 32 }
 {
     BigEndian::read_u32(&bytes[place..]) as usize

@@ -39,6 +39,6 @@ pick limit word =
     neg (word % neg limit)
 
 -- from 0 to the limit less one, or from the limit and one to 0
-pub record IsWithin (limit picked : ℕ) : Type 0 where
+pub record IsPicked (limit picked : ℕ) : Type 0 where
   pub positive : pos 0 <ℤ signed limit → (pos 0 ≤ℤ signed picked) × (signed picked <ℤ signed limit)
   pub negative : signed limit <ℤ pos 0 → (signed limit <ℤ signed picked) × (signed picked ≤ℤ pos 0)

@@ -9,30 +9,29 @@ use gx_words::{low, signed};
 
 /// What an instruction makes of its operands.
 ///
-/// `act` is the low byte of the instruction's number: 10 to 15, 18 to 1E, 44 or 45 in
-/// hexadecimal. Those with one operand take it as `a` and ignore `b`. `None` is a `div` or `mod`
-/// by 0, or of -2^31 by -1.
+/// `act` is the low byte of the instruction's number. Those with one operand take it as `a` and
+/// ignore `b`. `None` is a `div` or `mod` by 0, or of -2^31 by -1.
 #[tactic(auto, unfolding(crate::specs::Arithmetic::calc))]
 pub fn calc(act: u8, a: u32, b: u32) -> Option<u32>
     requires { IsTrue (is_calc act) }
     ensures { result ≡ calc act a b }
 {
     match act {
-        0x10 => Some(a.wrapping_add(b)),
-        0x11 => Some(a.wrapping_sub(b)),
-        0x12 => Some(a.wrapping_mul(b)),
-        0x13 => quotient(a, b),
-        0x14 => remainder(a, b),
-        0x15 => Some(a.wrapping_neg()),
-        0x18 => Some(a & b),
-        0x19 => Some(a | b),
-        0x1A => Some(a ^ b),
-        0x1B => Some(!a),
-        0x1C => Some(shift_left(a, b)),
-        0x1D => Some(shift_right_signed(a, b)),
-        0x1E => Some(shift_right(a, b)),
-        0x44 => Some(extend_half(a)),
-        0x45 => Some(extend_byte(a)),
+        0x10 => Some(a.wrapping_add(b)), // add
+        0x11 => Some(a.wrapping_sub(b)), // sub
+        0x12 => Some(a.wrapping_mul(b)), // mul
+        0x13 => quotient(a, b), // div
+        0x14 => remainder(a, b), // mod
+        0x15 => Some(a.wrapping_neg()), // neg
+        0x18 => Some(a & b), // bitand
+        0x19 => Some(a | b), // bitor
+        0x1A => Some(a ^ b), // bitxor
+        0x1B => Some(!a), // bitnot
+        0x1C => Some(shift_left(a, b)), // shiftl
+        0x1D => Some(shift_right_signed(a, b)), // sshiftr
+        0x1E => Some(shift_right(a, b)), // ushiftr
+        0x44 => Some(extend_half(a)), // sexs
+        0x45 => Some(extend_byte(a)), // sexb
         _ => unreachable!(),
     }
 }

@@ -6,7 +6,7 @@
 //! - `random` has the generator that a story may seed, and what `random` makes of a word.
 //!
 //! The files of specs/ define each instruction once, in the order of the standard, and each call
-//! here is its definition for all arguments. Nothing takes memory but a copy of the generator.
+//! here is its definition for all arguments. Nothing takes memory.
 #![tactic(auto)]
 
 mod arithmetic;

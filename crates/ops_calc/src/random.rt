@@ -2,8 +2,8 @@
 //!
 //! The words come from outside, each handed in, until the story seeds its own generator; from then
 //! on they are those of a Pcg32, the same in every run.
-ghost use Rattle.std.specs.Prelude.{◌≡◌, IfOk};
-ghost use Rattle.ops_calc.specs.Generator.{seeded_by, is_outside, word_from, after_word, pick, IsWithin};
+ghost use Rattle.std.specs.Prelude.{◌≡◌, Ok};
+ghost use Rattle.ops_calc.specs.Generator.{seeded_by, is_outside, word_from, after_word, pick, IsPicked};
 
 use rand_core::SeedableRng;
 use rand_core::utils::NextWord;
@@ -56,9 +56,9 @@ impl Generator {
         }
     }
 
-    /// An equal generator.
+    /// An equal generator, which takes no memory.
     pub fn copy(&self) -> Result<Generator, AllocError>
-        ensures { IfOk result (λ copy. copy ≡ self.now) }
+        ensures { result ≡ Ok self.now }
     {
         match self {
             Generator::Outside => Ok(Generator::Outside),
@@ -74,7 +74,7 @@ impl Generator {
 #[tactic(auto, unfolding(crate::specs::Generator::pick))]
 pub fn pick(limit: u32, word: u32) -> u32
     ensures value { result ≡ pick limit word }
-    ensures range { IsWithin limit result }
+    ensures range { IsPicked limit result }
 {
     if limit == 0 {
         word

@@ -1,5 +1,5 @@
 -- A return looks only at what lies below its stack pointer.
-use Rattle.std.proofs.Common.{◌≡◌, ◌≤◌, ◌<◌, ◌+◌, ◌-◌, ℕ, Bool, true, false, nat_lt, nat_le, if◌then◌else◌, List, [], ◌∷◌, ◌++◌, length, take, Option, Some, None, Result, Ok, Err, refl, arith, ap, sym, ◌∙◌}
+use Rattle.std.proofs.Common.{◌≡◌, ◌≤◌, ◌<◌, ◌+◌, ◌-◌, ℕ, Bool, true, false, nat_lt, if◌then◌else◌, List, [], ◌∷◌, ◌++◌, length, take, Option, Some, None, Result, Ok, Err, refl, arith, ap, sym, ◌∙◌}
 use Rattle.std.proofs.lemmas.List.{take-take, take-append-le, append-nil}
 use Rattle.std.proofs.lemmas.Grind.{common_steps}
 use Rattle.std.proofs.lemmas.Bool.Decides.{nat_tests}
@@ -9,16 +9,16 @@ use Rattle.gx_words.specs.Results.{◌>>=◌}
 use Rattle.gx_words.specs.Numbers.{word, spliced, bytes_of_word, bytes_of_number}
 use Rattle.gx_stack.specs.declared.stubs.Stub.{Stub}
 use Rattle.gx_stack.specs.declared.frames.Frame.{Frame}
-use Rattle.gx_stack.specs.Frames.{IsFrame}
+use Rattle.gx_stack.specs.Frames.{IsFrame, has_local}
 use Rattle.gx_stack.specs.Stubs.{stub_bytes, stubs_bytes}
 use Rattle.gx_stack.proofs.Kept.{word-take}
 use Rattle.gx_state.specs.declared.modes.Dest.{Dest}
 use Rattle.gx_state.specs.declared.modes.Dest.TheVariants.{Nowhere, Memory, Local, Push}
 use Rattle.gx_state.specs.Flat.{FlatState, IsHeight, cut, written, frame_of, sp_of}
-use Rattle.gx_state.specs.Returns.{stub_of, returned, stub_to, IsPlace}
-use Rattle.gx_operands.specs.Instructions.{Instruction, going_to, operand_at}
-use Rattle.gx_operands.specs.Stores.{store_fault, with_value, stored}
-use Rattle.ops_flow.specs.Rows.{with_stub, lasting, ends, catch}
+use Rattle.gx_state.specs.Returns.{stub_of, returned, stub_to, IsWordInRam}
+use Rattle.gx_state.specs.Stores.{store_fault, with_value, stored}
+use Rattle.gx_operands.specs.Instructions.{Instruction, going_to, L1}
+use Rattle.ops_flow.specs.Rows.{with_stub, lasting, after_return, catch}
 
 with_bytes : FlatState → List ℕ → FlatState
 with_bytes f xs = record f { stack = record f.stack { bytes = xs } }
@@ -106,7 +106,7 @@ unfolding store_fault with_stub
 same_fault f i Nowhere n frame height = refl
 same_fault f i (Memory at) n frame height = refl
 same_fault f i (Local at) n frame height =
-    ap (λ (p : Frame). let r : Result (Unit {0}) Fault = if nat_le (at + 4) (p.values - p.locals) then Ok tt else Err BadLocal in r) (frame_kept f i frame height)
+    ap (λ (p : Frame). let r : Result (Unit {0}) Fault = if has_local p at 4 then Ok tt else Err BadLocal in r) (frame_kept f i frame height)
 same_fault f i Push n frame height = refl
 
 pub stub_stored : (f : FlatState) (i : Instruction) (d : Dest) (v : ℕ) → IsFrame f.stack.bytes (frame_of f) → IsHeight f i.sp
@@ -123,14 +123,14 @@ pub stub_over : (f : FlatState) (i : Instruction) (at : ℕ) (bytes : List ℕ) 
 unfolding with_stub
 stub_over f i at bytes = refl
 
-pub in_ram : (f : FlatState) (at n : ℕ) → store_fault f 4 (Memory at) n ≡ Ok tt → (f.story.ramstart ≤ at) × (at + 4 ≤ length f.memory)
+pub in_ram : (f : FlatState) (at n : ℕ) → store_fault f 4 (Memory at) n ≡ Ok tt → (f.story.header.ramstart ≤ at) × (at + 4 ≤ length f.memory)
 unfolding store_fault
 in_ram f at n is = (grind (arith, nat_tests), grind (arith, nat_tests))
 
 pub ruleset stubs = (one_stub, top_length, token_stored, stub_over, in_ram)
 
 -- a token that has no fault is stored in RAM
-pub lasting_place : (f : FlatState) (d : Dest) (n token : ℕ) → store_fault f 4 d n ≡ Ok tt → IsPlace f (lasting d token)
+pub lasting_place : (f : FlatState) (d : Dest) (n token : ℕ) → store_fault f 4 d n ≡ Ok tt → IsWordInRam f (lasting d token)
 unfolding store_fault
 lasting_place f Nowhere n token is = (tt, tt)
 lasting_place f (Memory at) n token is = in_ram f at n is
@@ -140,11 +140,11 @@ lasting_place f Push n token is = (tt, tt)
 pub ruleset catches = (caught, stub_stored)
 
 -- a catch whose branch returns
-pub catch_returns : (f : FlatState) (i : Instruction) → IsFrame f.stack.bytes (frame_of f) → IsHeight f i.sp → i.sp + 16 ≤ f.stack.limit → store_fault f 4 i.dest (i.sp + 16) ≡ Ok tt → f.fp ≤ i.sp → operand_at i 0 < 2
-    → catch f i ≡ (returned (going_to f i.next) f.fp (operand_at i 0) (lasting i.dest (i.sp + 16)) >>= (λ (r : FlatState × Bool). Ok (ends r)))
+pub catch_returns : (f : FlatState) (i : Instruction) → IsFrame f.stack.bytes (frame_of f) → IsHeight f i.sp → i.sp + 16 ≤ f.stack.limit → store_fault f 4 i.dest (i.sp + 16) ≡ Ok tt → f.fp ≤ i.sp → L1 i < 2
+    → catch f i ≡ (returned (going_to f i.next) f.fp (L1 i) (lasting i.dest (i.sp + 16)) >>= (λ (r : FlatState × Bool). Ok (r.0, after_return r.1)))
 unfolding catch
 catch_returns f i frame height room fits below few =
     let inside : nat_lt f.stack.limit (i.sp + 16) ≡ false = grind (arith, nat_tests) in
-    let left : nat_lt (operand_at i 0) 2 ≡ true = grind (arith, nat_tests) in
+    let left : nat_lt (L1 i) 2 ≡ true = grind (arith, nat_tests) in
     rw (inside, token_stored f i i.dest (i.sp + 16) frame height fits, left)
-    (ap (λ (r : Result (FlatState × Bool) Fault). r >>= (λ (r : FlatState × Bool). Ok (ends r))) (caught f i i.dest (i.sp + 16) (operand_at i 0) below height.there))
+    (ap (λ (r : Result (FlatState × Bool) Fault). r >>= (λ (r : FlatState × Bool). Ok (r.0, after_return r.1))) (caught f i i.dest (i.sp + 16) (L1 i) below height.there))

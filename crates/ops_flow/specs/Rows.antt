@@ -1,14 +1,15 @@
--- The rows of the classes Calc, Branch, Flow and Stack (Glulx 3.1.2, "Integer Math", "Branches", "Functions and
--- Continuations", "Stack Manipulation"), in the order of their numbers.
+-- The rows of the classes Calc, Branch, Flow and Stack (Glulx 3.1.2, "Integer Math", "Branches", "Functions",
+-- "Continuations", "The Stack"), in the order of their numbers.
 --
 -- An instruction's pops are made in its `sp`, its results are words, and PC becomes `next` where nothing
 -- else is said. A fault in any line leaves the state as it is.
-use Rattle.std.specs.Prelude.{ℕ, ◌+◌, ◌-◌, ◌*◌, ◌%◌, ◌^◌, ◌==◌, ◌&&◌, nat_lt, nat_le, if◌then◌else◌, Bool, List, [], ◌∷◌, ◌++◌, drop, take, Option, Some, None, Result, Ok, Err}
+use Rattle.std.specs.Prelude.{ℕ, ◌+◌, ◌-◌, ◌*◌, ◌%◌, ◌^◌, ◌==◌, ◌&&◌, ◌||◌, nat_lt, nat_le, if◌then◌else◌, Bool, List, [], ◌∷◌, ◌++◌, drop, take, Option, Some, None, Result, Ok, Err}
 use Rattle.std.specs.Option.{ok_or}
 use Rattle.gx_words.specs.declared.faults.Fault.{Fault}
 use Rattle.gx_words.specs.declared.faults.Fault.TheVariants.{BadOpcode, Divide, Overflow, Underflow, BadToken}
 use Rattle.gx_words.specs.Numbers.{word}
 use Rattle.gx_words.specs.Results.{◌>>=◌}
+use Rattle.gx_rows.specs.declared.numbers.TheConstants.{NOP, CALL, RETURN, CATCH, THROW, TAILCALL, JUMPABS, CALLF, CALLFI, CALLFII, CALLFIII, STKCOUNT, STKPEEK, STKSWAP, STKROLL, STKCOPY}
 use Rattle.gx_rows.specs.declared.instructions.Class.{Class}
 use Rattle.gx_rows.specs.declared.instructions.Class.TheVariants as class
 use Rattle.gx_stack.specs.Stubs.{stub_bytes}
@@ -21,21 +22,23 @@ use Rattle.gx_state.specs.declared.modes.Dest.TheVariants.{Nowhere, Memory, Loca
 use Rattle.gx_state.specs.Flat.{FlatState, cut, swapped, rolled, copied}
 use Rattle.gx_state.specs.Entry.{entered}
 use Rattle.gx_state.specs.Returns.{stub_of, returned}
+use Rattle.gx_state.specs.Stores.{stored}
 use Rattle.gx_operands.specs.Arguments.{arguments, values_to}
-use Rattle.gx_operands.specs.Instructions.{Instruction, operand_at, going_to}
-use Rattle.gx_operands.specs.Stores.{stored, stores, goes_to, goes}
+use Rattle.gx_operands.specs.Instructions.{Instruction, L1, L2, last_load, going_to}
+use Rattle.gx_operands.specs.Stores.{stores, goes_to, goes}
 
 -- WHAT ROWS SHARE
 
--- a return of a value from the present function; PC is at the next instruction, where nothing else takes it
--- away. That of the start function ends the program.
-abbrev pub ends : FlatState × Bool → FlatState × Effect
-ends r = (r.0, if r.1 then Quit else Went)
+-- what follows a return: that of the start function ends the program
+abbrev pub after_return : Bool → Effect
+after_return ended = if ended then Quit else Went
 
+-- a return of a value from the present function; PC is at the next instruction, where nothing else takes it
+-- away
 abbrev pub returns : FlatState → ℕ → ℕ → Result (FlatState × Effect) Fault
 returns f next v = do
   r ← returned (going_to f next) f.fp v None
-  Ok (ends r)
+  Ok (r.0, after_return r.1)
 
 -- a branch by an offset: those of 0 and 1 return this value from the present function
 abbrev pub branches : FlatState → ℕ → ℕ → Result (FlatState × Effect) Fault
@@ -44,7 +47,7 @@ branches f next offset = if nat_lt offset 2 then returns f next offset else goes
 -- a call of L1 with arguments, whose result goes to S1
 abbrev pub calls : FlatState → Instruction → ℕ → List ℕ → Result (FlatState × Effect) Fault
 calls f i sp args = do
-  g ← entered f sp (stub_of f i.dest i.next ∷ []) (operand_at i 0) args
+  g ← entered f sp (stub_of f i.dest i.next ∷ []) (L1 i) args
   Ok (g, Went)
 
 -- INTEGER MATH, AND THE SIGN EXTENSIONS
@@ -54,7 +57,7 @@ calls f i sp args = do
 -- makes of L1 and L2
 unfoldable pub computes : FlatState → Instruction → Result (FlatState × Effect) Fault
 computes f i = do
-  v ← ok_or (calc i.row.act (operand_at i 0) (operand_at i 1)) Divide
+  v ← ok_or (calc i.row.act (L1 i) (L2 i)) Divide
   stores f i v
 
 -- BRANCHES
@@ -63,7 +66,7 @@ computes f i = do
 -- 2C jgtu, 2D jleu (L1 L2 L3): a branch by the last operand where ops_calc's test of that name holds of L1 and L2
 unfoldable pub jumps : FlatState → Instruction → Result (FlatState × Effect) Fault
 jumps f i =
-    if test i.row.act (operand_at i 0) (operand_at i 1) then branches (cut f i.sp) i.next (operand_at i (i.row.loads - 1))
+    if test i.row.act (L1 i) (L2 i) then branches (cut f i.sp) i.next (last_load i)
     else goes f i
 
 -- FUNCTIONS AND CONTINUATIONS
@@ -76,12 +79,12 @@ nop f i = goes f i
 -- since more than 255 are a fault of the entry.
 unfoldable pub call : FlatState → Instruction → Result (FlatState × Effect) Fault
 call f i = do
-  args ← arguments f i.sp (operand_at i 1) 256
-  calls f i (i.sp - 4 * operand_at i 1) args
+  args ← arguments f i.sp (L2 i) 256
+  calls f i (i.sp - 4 * L2 i) args
 
 -- 31 return (L1): returns L1
 unfoldable pub return_ : FlatState → Instruction → Result (FlatState × Effect) Fault
-return_ f i = returns f i.next (operand_at i 0)
+return_ f i = returns f i.next (L1 i)
 
 -- the stack with the stub of a catch on top
 unfoldable pub with_stub : FlatState → Instruction → FlatState
@@ -100,7 +103,7 @@ unfoldable pub catch : FlatState → Instruction → Result (FlatState × Effect
 catch f i =
     if nat_lt f.stack.limit (i.sp + 16) then Err Overflow else (do
       g ← stored (with_stub f i) 4 i.dest (i.sp + 16)
-      branches g i.next (operand_at i 0))
+      branches g i.next (L1 i))
 
 -- a token is the end of a stub on the stack
 abbrev pub is_token : ℕ → ℕ → Bool
@@ -110,20 +113,20 @@ is_token token sp = nat_le 16 token && nat_le token sp && token % 4 == 0
 -- instruction
 unfoldable pub throw : FlatState → Instruction → Result (FlatState × Effect) Fault
 throw f i =
-    if is_token (operand_at i 1) i.sp then (do
-      r ← returned (going_to f i.next) (operand_at i 1) (operand_at i 0) None
+    if is_token (L2 i) i.sp then (do
+      r ← returned (going_to f i.next) (L2 i) (L1 i) None
       Ok (r.0, Went)) else Err BadToken
 
 -- 34 tailcall (L1 L2): pops L2 arguments, and calls L1 in place of the present function
 unfoldable pub tailcall : FlatState → Instruction → Result (FlatState × Effect) Fault
 tailcall f i = do
-  args ← arguments f i.sp (operand_at i 1) 256
-  g ← entered f f.fp [] (operand_at i 0) args
+  args ← arguments f i.sp (L2 i) 256
+  g ← entered f f.fp [] (L1 i) args
   Ok (g, Went)
 
 -- 104 jumpabs (L1): PC = L1
 unfoldable pub jumpabs : FlatState → Instruction → Result (FlatState × Effect) Fault
-jumpabs f i = goes_to (cut f i.sp) (operand_at i 0)
+jumpabs f i = goes_to (cut f i.sp) (L1 i)
 
 -- 160 callf (L1 S1), 161 callfi (L1 L2 S1), 162 callfii (L1 L2 L3 S1), 163 callfiii (L1 L2 L3 L4 S1): calls L1
 -- with the other operands as arguments
@@ -139,7 +142,7 @@ stkcount f i = stores f i (values_to f i.sp)
 -- 51 stkpeek (L1 S1): S1 = the value L1 from the top, which is number 0
 unfoldable pub stkpeek : FlatState → Instruction → Result (FlatState × Effect) Fault
 stkpeek f i =
-    let n = operand_at i 0 in
+    let n = L1 i in
     if nat_lt n (values_to f i.sp) then stores f i (word f.stack.bytes (i.sp - 4 * (n + 1))) else Err Underflow
 
 -- 52 stkswap: exchanges the top two values
@@ -151,45 +154,45 @@ stkswap f i = do
 -- 53 stkroll (L1 L2): moves the top L1 values up by L2 places, cyclically, or down where L2 is negative
 unfoldable pub stkroll : FlatState → Instruction → Result (FlatState × Effect) Fault
 stkroll f i = do
-  g ← rolled (cut f i.sp) (operand_at i 0) (signed (operand_at i 1))
+  g ← rolled (cut f i.sp) (L1 i) (signed (L2 i))
   goes_to g i.next
 
 -- 54 stkcopy (L1): pushes the top L1 values again
 unfoldable pub stkcopy : FlatState → Instruction → Result (FlatState × Effect) Fault
 stkcopy f i = do
-  g ← copied (cut f i.sp) (operand_at i 0)
+  g ← copied (cut f i.sp) (L1 i)
   goes_to g i.next
 
 -- THE ROW OF AN INSTRUCTION
 
 unfoldable pub flow : FlatState → Instruction → Result (FlatState × Effect) Fault
 flow f i =
-    if i.row.number == 0x00 then nop f i else
-    if i.row.number == 0x30 then call f i else
-    if i.row.number == 0x31 then return_ f i else
-    if i.row.number == 0x32 then catch f i else
-    if i.row.number == 0x33 then throw f i else
-    if i.row.number == 0x34 then tailcall f i else
-    if i.row.number == 0x104 then jumpabs f i else
-    if nat_le 0x160 i.row.number && nat_le i.row.number 0x163 then callf f i else
+    if i.row.number == NOP then nop f i else
+    if i.row.number == CALL then call f i else
+    if i.row.number == RETURN then return_ f i else
+    if i.row.number == CATCH then catch f i else
+    if i.row.number == THROW then throw f i else
+    if i.row.number == TAILCALL then tailcall f i else
+    if i.row.number == JUMPABS then jumpabs f i else
+    if i.row.number == CALLF || i.row.number == CALLFI || i.row.number == CALLFII || i.row.number == CALLFIII then callf f i else
     Err BadOpcode
 
 unfoldable pub stack : FlatState → Instruction → Result (FlatState × Effect) Fault
 stack f i =
-    if i.row.number == 0x50 then stkcount f i else
-    if i.row.number == 0x51 then stkpeek f i else
-    if i.row.number == 0x52 then stkswap f i else
-    if i.row.number == 0x53 then stkroll f i else
-    if i.row.number == 0x54 then stkcopy f i else
+    if i.row.number == STKCOUNT then stkcount f i else
+    if i.row.number == STKPEEK then stkpeek f i else
+    if i.row.number == STKSWAP then stkswap f i else
+    if i.row.number == STKROLL then stkroll f i else
+    if i.row.number == STKCOPY then stkcopy f i else
     Err BadOpcode
 
-abbrev pub row : Class → FlatState → Instruction → Result (FlatState × Effect) Fault
-row class.Calc f i = computes f i
-row class.Branch f i = jumps f i
-row class.Flow f i = flow f i
-row class.Copy f i = Err BadOpcode
-row class.Memory f i = Err BadOpcode
-row class.Stack f i = stack f i
-row class.Print f i = Err BadOpcode
-row class.Game f i = Err BadOpcode
-row class.Glk f i = Err BadOpcode
+abbrev pub row_effect : Class → FlatState → Instruction → Result (FlatState × Effect) Fault
+row_effect class.Calc f i = computes f i
+row_effect class.Branch f i = jumps f i
+row_effect class.Flow f i = flow f i
+row_effect class.Copy f i = Err BadOpcode
+row_effect class.Memory f i = Err BadOpcode
+row_effect class.Stack f i = stack f i
+row_effect class.Print f i = Err BadOpcode
+row_effect class.Game f i = Err BadOpcode
+row_effect class.Glk f i = Err BadOpcode

@@ -1,52 +1,41 @@
--- Which of these rows write memory, and so may want some: no other ever does.
-use Rattle.std.specs.Prelude.{◌≡◌, ◌⊎◌, ℕ, ◌-◌, ◌==◌, nat_lt, if◌then◌else◌, Option, Some, None}
+-- Which of these rows write memory, and so may want some: no other ever does. A call stores its result when its
+-- function returns.
+use Rattle.std.specs.Prelude.{ℕ, ◌+◌, ◌==◌, nat_lt, MatchBool, None}
+use Rattle.gx_rows.specs.declared.numbers.TheConstants.{RETURN, CATCH, THROW}
 use Rattle.gx_rows.specs.declared.instructions.Class.{Class}
 use Rattle.gx_rows.specs.declared.instructions.Class.TheVariants as class
-use Rattle.gx_stack.specs.Stubs.{stub_below}
 use Rattle.ops_calc.specs.Branches.{test}
-use Rattle.gx_state.specs.declared.modes.Dest.{Dest}
-use Rattle.gx_state.specs.declared.modes.Dest.TheVariants.{Nowhere}
 use Rattle.gx_state.specs.Flat.{FlatState}
-use Rattle.gx_operands.specs.Instructions.{Instruction, operand_at}
-use Rattle.gx_operands.specs.Stores.{IsMemory}
+use Rattle.gx_state.specs.Returns.{IsReturnWriting}
+use Rattle.gx_state.specs.Stores.{IsMemory}
+use Rattle.gx_operands.specs.Instructions.{Instruction, L1, L2, last_load}
+use Rattle.ops_flow.specs.Rows.{lasting}
 
--- the stack pointer to which a branch by an offset returns, if it does
-abbrev pub left_by : FlatState → ℕ → Option ℕ
-left_by f offset = if nat_lt offset 2 then Some f.fp else None
+-- a branch by an offset does where it returns and the return does
+abbrev pub IsBranchWriting : FlatState → ℕ → Type 0
+IsBranchWriting f offset = MatchBool (nat_lt offset 2) (IsReturnWriting f f.fp None) ⊥
 
--- the same of a row
-abbrev pub returns_to : Class → FlatState → Instruction → Option ℕ
-returns_to class.Calc f i = None
-returns_to class.Branch f i =
-    if test i.row.act (operand_at i 0) (operand_at i 1) then left_by f (operand_at i (i.row.loads - 1)) else None
-returns_to class.Flow f i =
-    if i.row.number == 0x31 then Some f.fp else
-    if i.row.number == 0x32 then left_by f (operand_at i 0) else
-    if i.row.number == 0x33 then Some (operand_at i 1) else
-    None
-returns_to class.Copy f i = None
-returns_to class.Memory f i = None
-returns_to class.Stack f i = None
-returns_to class.Print f i = None
-returns_to class.Game f i = None
-returns_to class.Glk f i = None
+abbrev pub IsJumpWriting : FlatState → Instruction → Type 0
+IsJumpWriting f i = MatchBool (test i.row.act (L1 i) (L2 i)) (IsBranchWriting f (last_load i)) ⊥
 
--- the stub there has its result stored in memory
-abbrev pub EndsInMemory : FlatState → Option ℕ → Type 0
-EndsInMemory f None = ⊥
-EndsInMemory f (Some sp) = (stub_below f.stack.bytes sp).kind ≡ 1
+-- catch stores its token, and where it returns, the return may write too
+abbrev pub IsCatchWriting : FlatState → Instruction → Type 0
+IsCatchWriting f i = MatchBool (nat_lt (L1 i) 2) (IsReturnWriting f f.fp (lasting i.dest (i.sp + 16))) (IsMemory i.dest)
 
--- where a row stores at once; a call stores when its function returns
-abbrev pub result_of : Class → Instruction → Dest
-result_of class.Calc i = i.dest
-result_of class.Branch i = Nowhere
-result_of class.Flow i = if i.row.number == 0x32 then i.dest else Nowhere
-result_of class.Copy i = Nowhere
-result_of class.Memory i = Nowhere
-result_of class.Stack i = i.dest
-result_of class.Print i = Nowhere
-result_of class.Game i = Nowhere
-result_of class.Glk i = Nowhere
+abbrev pub IsFlowWriting : FlatState → Instruction → Type 0
+IsFlowWriting f i =
+    MatchBool (i.row.number == RETURN) (IsReturnWriting f f.fp None) (
+    MatchBool (i.row.number == CATCH) (IsCatchWriting f i) (
+    MatchBool (i.row.number == THROW) (IsReturnWriting f (L2 i) None)
+    ⊥))
 
-abbrev pub Writes : Class → FlatState → Instruction → Type 0
-Writes c f i = IsMemory (result_of c i) ⊎ EndsInMemory f (returns_to c f i)
+abbrev pub IsWriting : Class → FlatState → Instruction → Type 0
+IsWriting class.Calc f i = IsMemory i.dest
+IsWriting class.Branch f i = IsJumpWriting f i
+IsWriting class.Flow f i = IsFlowWriting f i
+IsWriting class.Copy f i = ⊥
+IsWriting class.Memory f i = ⊥
+IsWriting class.Stack f i = IsMemory i.dest
+IsWriting class.Print f i = ⊥
+IsWriting class.Game f i = ⊥
+IsWriting class.Glk f i = ⊥

@@ -1,8 +1,7 @@
-//! Calls of functions (Glulx 3.1.2, "Functions and Continuations" and "Functions").
-ghost use Rattle.std.specs.Prelude.{◌≡◌, ◌<◌, drop, IfOk};
-ghost use Rattle.gx_words.specs.Faults.{TakesNone};
-ghost use Rattle.gx_words.specs.Results.{Turns};
+//! Calls of functions (Glulx 3.1.2, "Functions").
+ghost use Rattle.std.specs.Prelude.{IfOk};
 ghost use Rattle.gx_state.specs.Flat.{IsHeight};
+ghost use Rattle.gx_state.specs.Relations.{Goes};
 ghost use Rattle.gx_state.specs.Replies.{IsDone};
 ghost use Rattle.gx_operands.specs.Plans.{instruction_of};
 ghost use Rattle.ops_flow.specs.Rows.{calls, call, callf, tailcall};
@@ -21,10 +20,8 @@ fn calls<A: Allocator + Clone>(
     args: &[u32],
 ) -> Result<Effect, Fault>
     requires { IsHeight state.old.flat sp }
-    ensures value { Turns (λ effect. effect) result state.old.flat state.new.flat (calls state.old.flat (instruction_of plan.now) sp args.now) }
+    ensures value { Goes result state.old.flat state.new.flat (calls state.old.flat (instruction_of plan.now) sp args.now) }
     ensures done { IfOk result IsDone }
-    ensures memory { TakesNone result }
-    ensures story { state.new.flat.story ≡ state.old.flat.story }
 {
     let stub = state.stub(&plan.dest, plan.next);
     state.enter(sp, &[stub], plan.load(0), args)?;
@@ -35,10 +32,8 @@ fn calls<A: Allocator + Clone>(
 #[tactic(auto, unfolding(crate::specs::Rows::call))]
 pub fn call<A: Allocator + Clone>(state: &mut State<A>, plan: &Plan) -> Result<Effect, Fault>
     requires { IsHeight state.old.flat plan.now.sp }
-    ensures value { Turns (λ effect. effect) result state.old.flat state.new.flat (call state.old.flat (instruction_of plan.now)) }
+    ensures value { Goes result state.old.flat state.new.flat (call state.old.flat (instruction_of plan.now)) }
     ensures done { IfOk result IsDone }
-    ensures memory { TakesNone result }
-    ensures story { state.new.flat.story ≡ state.old.flat.story }
 {
     let count = plan.load(1);
     let args: ArrayVec<u32, 256> = arguments(state, plan.sp, count)?;
@@ -49,10 +44,8 @@ pub fn call<A: Allocator + Clone>(state: &mut State<A>, plan: &Plan) -> Result<E
 #[tactic(auto, unfolding(crate::specs::Rows::callf))]
 pub fn callf<A: Allocator + Clone>(state: &mut State<A>, plan: &Plan) -> Result<Effect, Fault>
     requires { IsHeight state.old.flat plan.now.sp }
-    ensures value { Turns (λ effect. effect) result state.old.flat state.new.flat (callf state.old.flat (instruction_of plan.now)) }
+    ensures value { Goes result state.old.flat state.new.flat (callf state.old.flat (instruction_of plan.now)) }
     ensures done { IfOk result IsDone }
-    ensures memory { TakesNone result }
-    ensures story { state.new.flat.story ≡ state.old.flat.story }
 {
     let args = plan.loads.as_slice().get(1..).unwrap_or(&[]);
     calls(state, plan, plan.sp, args)
@@ -62,14 +55,11 @@ pub fn callf<A: Allocator + Clone>(state: &mut State<A>, plan: &Plan) -> Result<
 #[tactic(auto, unfolding(crate::specs::Rows::tailcall))]
 pub fn tailcall<A: Allocator + Clone>(state: &mut State<A>, plan: &Plan) -> Result<Effect, Fault>
     requires { IsHeight state.old.flat plan.now.sp }
-    ensures value { Turns (λ effect. effect) result state.old.flat state.new.flat (tailcall state.old.flat (instruction_of plan.now)) }
+    ensures value { Goes result state.old.flat state.new.flat (tailcall state.old.flat (instruction_of plan.now)) }
     ensures done { IfOk result IsDone }
-    ensures memory { TakesNone result }
-    ensures story { state.new.flat.story ≡ state.old.flat.story }
 {
     let args: ArrayVec<u32, 256> = arguments(state, plan.sp, plan.load(1))?;
-    let fp = state.fp();
-    let _frame = state.frame();
-    state.enter(fp, &[], plan.load(0), args.as_slice())?;
+    let frame = state.frame();
+    state.enter(frame.fp, &[], plan.load(0), args.as_slice())?;
     Ok(Effect::Went)
 }

@@ -1,29 +1,28 @@
 //! catch and throw (Glulx 3.1.2, "Continuations").
-ghost use Rattle.std.specs.Prelude.{◌≡◌, ◌⊎◌, ◌<◌, ◌≤◌, ◌+◌, ◌++◌, ◌*◌, take, Ok, Some, IsErrOf, IsSome, IfOk};
-ghost use Rattle.gx_words.specs.declared.faults.Fault.TheVariants.{NoMemory};
-ghost use Rattle.gx_words.specs.Faults.{Changes, Does, TakesNone};
-ghost use Rattle.gx_stack.specs.Stubs.{stub_bytes};
+ghost use Rattle.std.specs.Prelude.{◌≡◌, ◌<◌, ◌≤◌, ◌+◌, None, Ok, IfOk};
+ghost use Rattle.gx_words.specs.Faults.{Reads};
 ghost use Rattle.gx_state.specs.Flat.{IsHeight, sp_of};
+ghost use Rattle.gx_state.specs.Relations.{Stores, Works};
 ghost use Rattle.gx_state.specs.Replies.{IsDone};
-ghost use Rattle.gx_operands.specs.Instructions.{operand_at};
+ghost use Rattle.gx_state.specs.Returns.{IsReturnWriting};
+ghost use Rattle.gx_state.specs.Stores.{IsMemory, store_fault, with_value};
+ghost use Rattle.gx_operands.specs.Instructions.{L2};
 ghost use Rattle.gx_operands.specs.Plans.{instruction_of};
-ghost use Rattle.gx_operands.specs.Stores.{IsMemory, store_fault, with_value};
-ghost use Rattle.ops_flow.specs.Rows.{with_stub, lasting, is_token, catch, throw};
-ghost use Rattle.ops_flow.specs.Writes.{EndsInMemory, left_by};
+ghost use Rattle.ops_flow.specs.Rows.{with_stub, lasting, catch, throw};
+ghost use Rattle.ops_flow.specs.Writes.{IsCatchWriting};
 
-use crate::branches::{deliver, ends};
+use crate::branches::{after_return, deliver};
 use gx_operands::{Plan, can_store, store};
 use gx_state::{Dest, Effect, State};
 use gx_words::{Fault, word_bytes};
 use std::alloc::Allocator;
 
 /// Looks whether the token of a catch can be stored once its stub is pushed.
-#[tactic(auto, unfolding(gx_operands::specs::Stores::store_fault))]
+#[tactic(auto, unfolding(gx_state::specs::Stores::store_fault))]
 fn can_catch<A: Allocator + Clone>(state: &State<A>, plan: &Plan) -> Result<(), Fault>
     requires height { IsHeight state.now.flat plan.now.sp }
     requires room { plan.now.sp + 16 ≤ state.now.flat.stack.limit }
-    ensures value { result ≡ store_fault state.now.flat 4 plan.now.dest (plan.now.sp + 16) }
-    ensures memory { TakesNone result }
+    ensures { Reads (λ v. v) result (store_fault state.now.flat 4 plan.now.dest (plan.now.sp + 16)) }
 {
     if plan.dest == Dest::Push {
         let limit = state.stack().limit();
@@ -37,8 +36,7 @@ fn can_catch<A: Allocator + Clone>(state: &State<A>, plan: &Plan) -> Result<(), 
 
 /// The word of a catch that outlasts a return from its function.
 fn lasting(dest: &Dest, token: u32) -> Option<(u32, u32)>
-    ensures value { result ≡ lasting dest.now token }
-    ensures memory { IsSome result → IsMemory dest.now }
+    ensures { result ≡ lasting dest.now token }
 {
     match *dest {
         Dest::Memory(at) => Some((at, token)),
@@ -51,7 +49,7 @@ fn lasting(dest: &Dest, token: u32) -> Option<(u32, u32)>
 fn push_stub<A: Allocator + Clone>(state: &mut State<A>, plan: &Plan)
     requires height { IsHeight state.old.flat plan.now.sp }
     requires room { plan.now.sp + 16 ≤ state.old.flat.stack.limit }
-    ensures value { state.new.flat ≡ with_stub state.old.flat (instruction_of plan.now) }
+    ensures value { state.new ≡ record state.old { flat = with_stub state.old.flat (instruction_of plan.now) } }
     ensures story { state.new.flat.story ≡ state.old.flat.story }
     ensures live { 0 < sp_of state.new.flat }
 {
@@ -73,12 +71,9 @@ fn store_token<A: Allocator + Clone>(
     requires height { IsHeight state.old.flat plan.now.sp }
     requires room { plan.now.sp + 16 ≤ state.old.flat.stack.limit }
     requires stores { store_fault state.old.flat 4 plan.now.dest (plan.now.sp + 16) ≡ Ok tt }
-    ensures value { Changes result state.old.flat state.new.flat (Ok (with_value (with_stub state.old.flat (instruction_of plan.now)) 4 plan.now.dest token)) }
-    ensures memory { IsErrOf result NoMemory → IsMemory plan.now.dest }
-    ensures story { state.new.flat.story ≡ state.old.flat.story }
+    ensures { Stores (IsMemory plan.now.dest) result state.old state.new (Ok (with_value (with_stub state.old.flat (instruction_of plan.now)) 4 plan.now.dest token)) }
 {
-    let _size = state.stack().size();
-    let _frame = state.frame();
+    let _frame = state.frame(); // a good one
     match plan.dest {
         Dest::Memory(at) => {
             state.write(at, &word_bytes(token))?;
@@ -100,24 +95,21 @@ fn store_token<A: Allocator + Clone>(
 #[tactic(auto, unfolding(crate::specs::Rows::catch), using(crate::proofs::Cuts::catches))]
 pub fn catch<A: Allocator + Clone>(state: &mut State<A>, plan: &Plan) -> Result<Effect, Fault>
     requires { IsHeight state.old.flat plan.now.sp }
-    ensures value { Does (λ effect. effect) result state.old.flat state.new.flat (catch state.old.flat (instruction_of plan.now)) }
+    ensures value { Works (IsCatchWriting state.old.flat (instruction_of plan.now)) result state.old.flat state.new.flat (catch state.old.flat (instruction_of plan.now)) }
     ensures done { IfOk result IsDone }
-    ensures memory { IsErrOf result NoMemory → IsMemory plan.now.dest ⊎ EndsInMemory state.old.flat (left_by state.old.flat (operand_at (instruction_of plan.now) 0)) }
-    ensures story { state.new.flat.story ≡ state.old.flat.story }
 {
     let offset = plan.load(0);
     let limit = state.stack().limit();
-    let _size = state.stack().size();
-    let _frame = state.frame();
     let token = plan.sp + 16;
     if token > limit {
         return Err(Fault::Overflow);
     }
     can_catch(state, plan)?;
+    let frame = state.frame();
     if offset < 2 {
-        let fp = state.fp();
-        let over = deliver(state, plan.next, fp, offset, lasting(&plan.dest, token))?;
-        return Ok(ends(over));
+        let word = lasting(&plan.dest, token);
+        let ended = deliver(state, plan.next, frame.fp, offset, word)?;
+        return Ok(after_return(ended));
     }
     store_token(state, plan, token)?;
     state.set_pc(plan.next.wrapping_add(offset - 2));
@@ -128,10 +120,8 @@ pub fn catch<A: Allocator + Clone>(state: &mut State<A>, plan: &Plan) -> Result<
 #[tactic(auto, unfolding(crate::specs::Rows::throw))]
 pub fn throw<A: Allocator + Clone>(state: &mut State<A>, plan: &Plan) -> Result<Effect, Fault>
     requires { IsHeight state.old.flat plan.now.sp }
-    ensures value { Does (λ effect. effect) result state.old.flat state.new.flat (throw state.old.flat (instruction_of plan.now)) }
+    ensures value { Works (IsReturnWriting state.old.flat (L2 (instruction_of plan.now)) None) result state.old.flat state.new.flat (throw state.old.flat (instruction_of plan.now)) }
     ensures done { IfOk result IsDone }
-    ensures memory { IsErrOf result NoMemory → EndsInMemory state.old.flat (Some (operand_at (instruction_of plan.now) 1)) }
-    ensures story { state.new.flat.story ≡ state.old.flat.story }
 {
     let token = plan.load(1);
     if token < 16 || token > plan.sp || token % 4 != 0 {

@@ -1,28 +1,23 @@
 //! The instructions that compute, branch, call and rearrange the stack: the classes Calc, Branch, Flow
-//! and Stack (Glulx 3.1.2, "Integer Math", "Branches", "Functions and Continuations" and "Stack
-//! Manipulation").
+//! and Stack (Glulx 3.1.2, "Integer Math", "Branches", "Functions", "Continuations" and "The Stack").
 //!
 //! `act` does the row of a plan, by its definition of specs/Rows; after every fault the state is as
-//! before. Only the rows of specs/Writes may want memory.
+//! before. Only the rows of specs/Writes may want memory, and only where they have no fault.
 //! - `computing` has the rows of Calc.
 //! - `branches` has those of Branch, and the return from a function.
 //! - `calls` and `continuations` have those of Flow.
 //! - `values` has those of Stack.
 #![tactic(auto)]
 
-#[cfg(test)]
-mod tests;
-
-ghost use Rattle.std.specs.Prelude.{◌≡◌, ◌<◌, Ok, IsErrOf, IfOk};
-ghost use Rattle.gx_words.specs.declared.faults.Fault.TheVariants.{NoMemory};
-ghost use Rattle.gx_words.specs.Faults.{Does};
-ghost use Rattle.gx_rows.specs.Table.{row_at};
+ghost use Rattle.std.specs.Prelude.{◌≡◌, Ok, IfOk};
 ghost use Rattle.gx_state.specs.Flat.{IsHeight, cut};
+ghost use Rattle.gx_state.specs.Relations.{Works};
 ghost use Rattle.gx_state.specs.Replies.{IsDone};
+ghost use Rattle.gx_state.specs.Stores.{IsMemory};
 ghost use Rattle.gx_operands.specs.Plans.{instruction_of};
-ghost use Rattle.gx_operands.specs.Stores.{IsMemory, goes_to};
-ghost use Rattle.ops_flow.specs.Rows.{flow, stack, row};
-ghost use Rattle.ops_flow.specs.Writes.{Writes};
+ghost use Rattle.gx_operands.specs.Stores.{goes_to};
+ghost use Rattle.ops_flow.specs.Rows.{flow, stack, row_effect};
+ghost use Rattle.ops_flow.specs.Writes.{IsFlowWriting, IsWriting};
 
 mod branches;
 mod calls;
@@ -35,7 +30,10 @@ use calls::{call, callf, tailcall};
 use computing::computes;
 use continuations::{catch, throw};
 use gx_operands::{Plan, goes};
-use gx_rows::{Class, row_at};
+use gx_rows::{
+    CALL, CALLF, CALLFI, CALLFII, CALLFIII, CATCH, Class, JUMPABS, NOP, RETURN, STKCOPY, STKCOUNT,
+    STKPEEK, STKROLL, STKSWAP, TAILCALL, THROW,
+};
 use gx_state::{Effect, State};
 use gx_words::Fault;
 use std::alloc::Allocator;
@@ -54,58 +52,49 @@ fn goes_to<A: Allocator + Clone>(state: &mut State<A>, sp: u32, pc: u32) -> Effe
 }
 
 /// A row of Flow.
-#[tactic(auto, unfolding(crate::specs::Rows::flow, crate::specs::Rows::nop, crate::specs::Rows::return_, crate::specs::Rows::jumpabs))]
+#[tactic(auto, unfolding(crate::specs::Rows::flow, crate::specs::Rows::nop, crate::specs::Rows::return_, crate::specs::Rows::jumpabs), using(crate::proofs::Relations::relations))]
 fn flow<A: Allocator + Clone>(state: &mut State<A>, plan: &Plan) -> Result<Effect, Fault>
-    requires sp { IsHeight state.old.flat plan.now.sp }
-    requires row { plan.now.row < 87 }
-    ensures value { Does (λ effect. effect) result state.old.flat state.new.flat (flow state.old.flat (instruction_of plan.now)) }
+    requires { IsHeight state.old.flat plan.now.sp }
+    ensures value { Works (IsFlowWriting state.old.flat (instruction_of plan.now)) result state.old.flat state.new.flat (flow state.old.flat (instruction_of plan.now)) }
     ensures done { IfOk result IsDone }
-    ensures memory { IsErrOf result NoMemory → Writes Class.Flow state.old.flat (instruction_of plan.now) }
-    ensures story { state.new.flat.story ≡ state.old.flat.story }
 {
-    match row_at(plan.row).number {
-        0x00 => Ok(goes(state, plan)),
-        0x30 => call(state, plan),
-        0x31 => leave(state, plan.load(0), plan.next),
-        0x32 => catch(state, plan),
-        0x33 => throw(state, plan),
-        0x34 => tailcall(state, plan),
-        0x104 => Ok(goes_to(state, plan.sp, plan.load(0))),
-        0x160..=0x163 => callf(state, plan),
+    match plan.row().number {
+        NOP => Ok(goes(state, plan)),
+        CALL => call(state, plan),
+        RETURN => leave(state, plan.load(0), plan.next),
+        CATCH => catch(state, plan),
+        THROW => throw(state, plan),
+        TAILCALL => tailcall(state, plan),
+        JUMPABS => Ok(goes_to(state, plan.sp, plan.load(0))),
+        CALLF | CALLFI | CALLFII | CALLFIII => callf(state, plan),
         _ => Err(Fault::BadOpcode),
     }
 }
 
 /// A row of Stack.
-#[tactic(auto, unfolding(crate::specs::Rows::stack))]
+#[tactic(auto, unfolding(crate::specs::Rows::stack), using(crate::proofs::Relations::relations))]
 fn stack<A: Allocator + Clone>(state: &mut State<A>, plan: &Plan) -> Result<Effect, Fault>
-    requires sp { IsHeight state.old.flat plan.now.sp }
-    requires row { plan.now.row < 87 }
-    ensures value { Does (λ effect. effect) result state.old.flat state.new.flat (stack state.old.flat (instruction_of plan.now)) }
+    requires { IsHeight state.old.flat plan.now.sp }
+    ensures value { Works (IsMemory plan.now.dest) result state.old.flat state.new.flat (stack state.old.flat (instruction_of plan.now)) }
     ensures done { IfOk result IsDone }
-    ensures memory { IsErrOf result NoMemory → IsMemory plan.now.dest }
-    ensures story { state.new.flat.story ≡ state.old.flat.story }
 {
-    match row_at(plan.row).number {
-        0x50 => stkcount(state, plan),
-        0x51 => stkpeek(state, plan),
-        0x52 => stkswap(state, plan),
-        0x53 => stkroll(state, plan),
-        0x54 => stkcopy(state, plan),
+    match plan.row().number {
+        STKCOUNT => stkcount(state, plan),
+        STKPEEK => stkpeek(state, plan),
+        STKSWAP => stkswap(state, plan),
+        STKROLL => stkroll(state, plan),
+        STKCOPY => stkcopy(state, plan),
         _ => Err(Fault::BadOpcode),
     }
 }
 
 /// Does the row of a plan that `decode` made of this state.
 pub fn act<A: Allocator + Clone>(state: &mut State<A>, plan: &Plan) -> Result<Effect, Fault>
-    requires sp { IsHeight state.old.flat plan.now.sp }
-    requires row { plan.now.row < 87 }
-    ensures value { Does (λ effect. effect) result state.old.flat state.new.flat (row (row_at plan.now.row).class state.old.flat (instruction_of plan.now)) }
+    requires { IsHeight state.old.flat plan.now.sp }
+    ensures value { Works (IsWriting (instruction_of plan.now).row.class state.old.flat (instruction_of plan.now)) result state.old.flat state.new.flat (row_effect (instruction_of plan.now).row.class state.old.flat (instruction_of plan.now)) }
     ensures done { IfOk result IsDone }
-    ensures memory { IsErrOf result NoMemory → Writes (row_at plan.now.row).class state.old.flat (instruction_of plan.now) }
-    ensures story { state.new.flat.story ≡ state.old.flat.story }
 {
-    match row_at(plan.row).class {
+    match plan.row().class {
         Class::Calc => computes(state, plan),
         Class::Branch => jumps(state, plan),
         Class::Flow => flow(state, plan),

@@ -1,14 +1,12 @@
-//! The rows of Stack (Glulx 3.1.2, "Stack Manipulation").
+//! The rows of Stack (Glulx 3.1.2, "The Stack").
 //!
 //! Each looks for its fault before its operands are popped.
-ghost use Rattle.std.specs.Prelude.{◌≡◌, ◌<◌, ◌+◌, ◌*◌, IsErrOf, IfOk};
-ghost use Rattle.gx_words.specs.declared.faults.Fault.TheVariants.{NoMemory};
-ghost use Rattle.gx_words.specs.Faults.{Does, TakesNone};
-ghost use Rattle.gx_words.specs.Results.{Turns};
+ghost use Rattle.std.specs.Prelude.{IfOk};
 ghost use Rattle.gx_state.specs.Flat.{IsHeight};
+ghost use Rattle.gx_state.specs.Relations.{Goes, Works};
 ghost use Rattle.gx_state.specs.Replies.{IsDone};
+ghost use Rattle.gx_state.specs.Stores.{IsMemory};
 ghost use Rattle.gx_operands.specs.Plans.{instruction_of};
-ghost use Rattle.gx_operands.specs.Stores.{IsMemory};
 ghost use Rattle.ops_flow.specs.Rows.{stkcount, stkpeek, stkswap, stkroll, stkcopy};
 
 use gx_operands::{Plan, stores, values_to};
@@ -16,27 +14,23 @@ use gx_state::{Effect, State};
 use gx_words::{Fault, signed, word_at};
 use std::alloc::Allocator;
 
-/// stkcount
+/// stkcount: how many values the frame has.
 #[tactic(auto, unfolding(crate::specs::Rows::stkcount))]
 pub fn stkcount<A: Allocator + Clone>(state: &mut State<A>, plan: &Plan) -> Result<Effect, Fault>
     requires { IsHeight state.old.flat plan.now.sp }
-    ensures value { Does (λ effect. effect) result state.old.flat state.new.flat (stkcount state.old.flat (instruction_of plan.now)) }
+    ensures value { Works (IsMemory plan.now.dest) result state.old.flat state.new.flat (stkcount state.old.flat (instruction_of plan.now)) }
     ensures done { IfOk result IsDone }
-    ensures memory { IsErrOf result NoMemory → IsMemory plan.now.dest }
-    ensures story { state.new.flat.story ≡ state.old.flat.story }
 {
     let count = values_to(state, plan.sp);
     stores(state, plan, count)
 }
 
-/// stkpeek
+/// stkpeek: a value by its number from the top.
 #[tactic(auto, unfolding(crate::specs::Rows::stkpeek))]
 pub fn stkpeek<A: Allocator + Clone>(state: &mut State<A>, plan: &Plan) -> Result<Effect, Fault>
     requires { IsHeight state.old.flat plan.now.sp }
-    ensures value { Does (λ effect. effect) result state.old.flat state.new.flat (stkpeek state.old.flat (instruction_of plan.now)) }
+    ensures value { Works (IsMemory plan.now.dest) result state.old.flat state.new.flat (stkpeek state.old.flat (instruction_of plan.now)) }
     ensures done { IfOk result IsDone }
-    ensures memory { IsErrOf result NoMemory → IsMemory plan.now.dest }
-    ensures story { state.new.flat.story ≡ state.old.flat.story }
 {
     let n = plan.load(0);
     if n >= values_to(state, plan.sp) {
@@ -46,14 +40,12 @@ pub fn stkpeek<A: Allocator + Clone>(state: &mut State<A>, plan: &Plan) -> Resul
     stores(state, plan, value)
 }
 
-/// stkswap
+/// stkswap: exchanges the top two values.
 #[tactic(auto, unfolding(crate::specs::Rows::stkswap, gx_state::specs::Flat::swapped, gx_stack::specs::Values::swapped))]
 pub fn stkswap<A: Allocator + Clone>(state: &mut State<A>, plan: &Plan) -> Result<Effect, Fault>
     requires { IsHeight state.old.flat plan.now.sp }
-    ensures value { Turns (λ effect. effect) result state.old.flat state.new.flat (stkswap state.old.flat (instruction_of plan.now)) }
+    ensures value { Goes result state.old.flat state.new.flat (stkswap state.old.flat (instruction_of plan.now)) }
     ensures done { IfOk result IsDone }
-    ensures memory { TakesNone result }
-    ensures story { state.new.flat.story ≡ state.old.flat.story }
 {
     if values_to(state, plan.sp) < 2 {
         return Err(Fault::Underflow);
@@ -67,14 +59,12 @@ pub fn stkswap<A: Allocator + Clone>(state: &mut State<A>, plan: &Plan) -> Resul
     Ok(Effect::Went)
 }
 
-/// stkroll
+/// stkroll: moves the top values round.
 #[tactic(auto, unfolding(crate::specs::Rows::stkroll, gx_state::specs::Flat::rolled, gx_stack::specs::Values::rolled))]
 pub fn stkroll<A: Allocator + Clone>(state: &mut State<A>, plan: &Plan) -> Result<Effect, Fault>
     requires { IsHeight state.old.flat plan.now.sp }
-    ensures value { Turns (λ effect. effect) result state.old.flat state.new.flat (stkroll state.old.flat (instruction_of plan.now)) }
+    ensures value { Goes result state.old.flat state.new.flat (stkroll state.old.flat (instruction_of plan.now)) }
     ensures done { IfOk result IsDone }
-    ensures memory { TakesNone result }
-    ensures story { state.new.flat.story ≡ state.old.flat.story }
 {
     let n = plan.load(0);
     if n > values_to(state, plan.sp) {
@@ -89,21 +79,18 @@ pub fn stkroll<A: Allocator + Clone>(state: &mut State<A>, plan: &Plan) -> Resul
     Ok(Effect::Went)
 }
 
-/// stkcopy
+/// stkcopy: pushes the top values again.
 #[tactic(auto, unfolding(crate::specs::Rows::stkcopy, gx_state::specs::Flat::copied, gx_stack::specs::Values::copied))]
 pub fn stkcopy<A: Allocator + Clone>(state: &mut State<A>, plan: &Plan) -> Result<Effect, Fault>
     requires { IsHeight state.old.flat plan.now.sp }
-    ensures value { Turns (λ effect. effect) result state.old.flat state.new.flat (stkcopy state.old.flat (instruction_of plan.now)) }
+    ensures value { Goes result state.old.flat state.new.flat (stkcopy state.old.flat (instruction_of plan.now)) }
     ensures done { IfOk result IsDone }
-    ensures memory { TakesNone result }
-    ensures story { state.new.flat.story ≡ state.old.flat.story }
 {
     let n = plan.load(0);
     if n > values_to(state, plan.sp) {
         return Err(Fault::Underflow);
     }
     let limit = state.stack().limit();
-    let _size = state.stack().size();
     if plan.sp + 4 * n > limit {
         return Err(Fault::Overflow);
     }

@@ -5,20 +5,21 @@ use Rattle.std.proofs.lemmas.Bool.Decides.{nat_tests}
 use Rattle.gx_state.specs.declared.modes.Dest.{Dest}
 use Rattle.gx_state.specs.declared.modes.Dest.TheVariants.{Nowhere, Memory, Local, Push}
 use Rattle.gx_state.specs.Flat.{FlatState}
-use Rattle.gx_operands.specs.Stores.{store_fault, stores}
-use Rattle.gx_state.specs.Copies.{Copy, TakesWord, gone_back}
+use Rattle.gx_state.specs.Stores.{store_fault}
+use Rattle.gx_operands.specs.Stores.{stores}
+use Rattle.gx_state.specs.Copies.{Copy, HasPlaceFor, gone_back}
 use Rattle.gx_state.specs.declared.effects.Effect.TheVariants.{Went}
 use Rattle.gx_operands.specs.Instructions.{Instruction}
-use Rattle.ops_game.specs.Rows.{stays, restores}
+use Rattle.ops_game.specs.Rows.{leaving_copies, restored_from}
 use Rattle.gx_undo.specs.Undo.{FlatUndo, with_newest, without_newest}
 
--- a store that has no fault takes a word
-pub takes_word : (f : FlatState) (sp : ℕ) (d : Dest) → store_fault f 4 d sp ≡ Ok tt → TakesWord f d
+-- a store that has no fault has a place for its word
+pub place_found : (f : FlatState) (sp : ℕ) (d : Dest) → store_fault f 4 d sp ≡ Ok tt → HasPlaceFor f d
 unfolding store_fault
-takes_word f sp Nowhere fits = tt
-takes_word f sp (Memory at) fits = grind (arith, nat_tests)
-takes_word f sp (Local at) fits = grind (arith, nat_tests)
-takes_word f sp Push fits = tt
+place_found f sp Nowhere fits = tt
+place_found f sp (Memory at) fits = grind (arith, nat_tests)
+place_found f sp (Local at) fits = grind (arith, nat_tests)
+place_found f sp Push fits = tt
 
 -- the newest copy, if there is one
 left_none : (copies : List Copy) → slice_get copies 0 ≡ None → drop 1 copies ≡ copies
@@ -28,19 +29,19 @@ left_none (c ∷ copies) none = absurd cc
 pub none_fit : (u : FlatUndo) → slice_get u.copies 0 ≡ None → without_newest u ≡ u
 none_fit u none = ap (λ (copies : List Copy). record u { copies = copies }) (left_none u.copies none)
 
-none_by : (f : FlatState) (u : FlatUndo) (i : Instruction) (copies : List Copy) → slice_get copies 0 ≡ None → restores f u i copies ≡ stays u (stores f i 1)
+none_by : (f : FlatState) (u : FlatUndo) (i : Instruction) (copies : List Copy) → slice_get copies 0 ≡ None → restored_from f u i copies ≡ leaving_copies u (stores f i 1)
 none_by f u i [] none = refl
 none_by f u i (c ∷ copies) none = absurd cc
 
-pub restores_none : (f : FlatState) (u : FlatUndo) (i : Instruction) → slice_get u.copies 0 ≡ None → restores f u i u.copies ≡ stays u (stores f i 1)
-restores_none f u i none = none_by f u i u.copies none
+pub restored_none : (f : FlatState) (u : FlatUndo) (i : Instruction) → slice_get u.copies 0 ≡ None → restored_from f u i u.copies ≡ leaving_copies u (stores f i 1)
+restored_none f u i none = none_by f u i u.copies none
 
-some_by : (f : FlatState) (u : FlatUndo) (i : Instruction) (c : Copy) (copies : List Copy) → slice_get copies 0 ≡ Some c → restores f u i copies ≡ Ok ((gone_back f c, without_newest u), Went)
+some_by : (f : FlatState) (u : FlatUndo) (i : Instruction) (c : Copy) (copies : List Copy) → slice_get copies 0 ≡ Some c → restored_from f u i copies ≡ Ok ((gone_back f c, without_newest u), Went)
 some_by f u i c [] some = absurd cc
 some_by f u i c (newest ∷ copies) some = let same : newest ≡ c = cc in rw same refl
 
-pub restores_some : (f : FlatState) (u : FlatUndo) (i : Instruction) (c : Copy) → slice_get u.copies 0 ≡ Some c → restores f u i u.copies ≡ Ok ((gone_back f c, without_newest u), Went)
-restores_some f u i c some = some_by f u i c u.copies some
+pub restored_some : (f : FlatState) (u : FlatUndo) (i : Instruction) (c : Copy) → slice_get u.copies 0 ≡ Some c → restored_from f u i u.copies ≡ Ok ((gone_back f c, without_newest u), Went)
+restored_some f u i c some = some_by f u i c u.copies some
 
 again_by : (n : ℕ) (c : Copy) (copies : List Copy) → length copies ≤ n → slice_get copies 0 ≡ Some c → take n (c ∷ drop 1 copies) ≡ copies
 again_by n c [] few some = absurd cc
@@ -49,4 +50,4 @@ again_by n c (newest ∷ copies) few some = let same : newest ≡ c = cc in rw s
 pub put_again : (u : FlatUndo) (c : Copy) → length u.copies ≤ u.depth → slice_get u.copies 0 ≡ Some c → with_newest (without_newest u) c ≡ u
 put_again u c few some = ap (λ (copies : List Copy). record u { copies = copies }) (again_by u.depth c u.copies few some)
 
-pub ruleset copies = (takes_word, none_fit, restores_none, restores_some, put_again)
+pub ruleset copies = (place_found, none_fit, restored_none, restored_some, put_again)

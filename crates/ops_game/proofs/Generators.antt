@@ -4,7 +4,8 @@ use Rattle.ops_calc.specs.declared.random.Generator.{Generator}
 use Rattle.gx_state.specs.declared.modes.Dest.{Dest}
 use Rattle.gx_state.specs.declared.modes.Dest.TheVariants.{Nowhere, Memory, Local, Push}
 use Rattle.gx_state.specs.Flat.{FlatState}
-use Rattle.gx_operands.specs.Stores.{store_fault, with_settled}
+use Rattle.gx_state.specs.Stores.{store_fault}
+use Rattle.gx_operands.specs.Stores.{with_settled}
 
 abbrev pub with_generator : FlatState → Generator → FlatState
 with_generator f x = record f { generator = x }

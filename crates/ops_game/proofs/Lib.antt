@@ -1,4 +1,3 @@
-pub mod Stores
 pub mod Generators
 pub mod Copies
 pub mod Pairs

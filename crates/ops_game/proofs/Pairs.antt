@@ -1,248 +1,248 @@
--- The two stores of getiosys: the fault of the second after the first, and stores that may be made in either order.
-use Rattle.std.proofs.Common.{◌≡◌, ◌≢◌, OnOk, IfErr, IsErrOf, ◌≤◌, ◌<◌, ◌+◌, ◌-◌, ℕ, List, ◌++◌, Some, length, take, Result, Ok, Err, refl, ap, subst, sym, ◌∙◌, arith}
+-- The two stores of getiosys: the fault of the second after the first, and the stores made beside one write to memory.
+use Rattle.std.proofs.Common.{◌≡◌, ◌⊎◌, inl, inr, ◌≤◌, ◌<◌, ◌+◌, ◌-◌, ℕ, List, ◌++◌, if◌then◌else◌, Option, IsSome, length, take, Result, Ok, Err, refl, ap, subst, ◌∙◌, arith}
 use Rattle.std.proofs.lemmas.Grind.{common_steps}
 use Rattle.std.proofs.lemmas.Bool.Decides.{nat_tests}
 use Rattle.gx_words.specs.declared.faults.Fault.{Fault}
-use Rattle.gx_words.specs.declared.faults.Fault.TheVariants.{NoMemory}
-use Rattle.gx_words.specs.Faults.{Changes}
+use Rattle.gx_words.specs.declared.faults.Fault.TheVariants.{BadLocal}
 use Rattle.gx_words.specs.Numbers.{spliced, bytes_of_number, bytes_of_word}
 use Rattle.gx_words.specs.Results.{◌>>=◌}
 use Rattle.gx_stack.specs.declared.frames.Frame.{Frame}
-use Rattle.gx_stack.specs.Frames.{IsFrame, parts}
-use Rattle.gx_stack.proofs.Kept.{frame_after_push, frame_after_put, frame_after_cut, length-spliced}
+use Rattle.gx_stack.specs.Frames.{IsGood, has_local, parts}
+use Rattle.gx_stack.proofs.Kept.{length-spliced, word-append, word-spliced, word-take}
 use Rattle.gx_state.specs.declared.modes.Dest.{Dest}
 use Rattle.gx_state.specs.declared.modes.Dest.TheVariants.{Nowhere, Memory, Local, Push}
-use Rattle.gx_state.specs.Returns.{IsPlace, with_word}
-use Rattle.gx_state.specs.Flat.{FlatState, IsHeight, frame_of, sp_of, cut, written}
+use Rattle.gx_state.specs.Flat.{FlatState, HeldState, IsHeight, frame_of, sp_of}
+use Rattle.gx_state.specs.Relations.{Stores}
+use Rattle.gx_state.specs.Returns.{IsWordInRam, with_word}
+use Rattle.gx_state.specs.Sound.{IsSound}
+use Rattle.gx_state.specs.Stores.{IsMemory, store_fault, with_value, stored}
 use Rattle.gx_operands.specs.Instructions.{Instruction}
-use Rattle.gx_operands.specs.Stores.{IsMemory, store_fault, with_value, with_settled, stored, settled}
-use Rattle.ops_game.proofs.Stores.{story_stored, made_is, settled_is, is_settled, story_settled}
-use Rattle.ops_game.specs.Rows.{both, TakesBoth, pushes}
+use Rattle.gx_operands.specs.Stores.{with_settled, settled}
+use Rattle.ops_game.specs.Pairs.{beside_memory, both_fault, memory_word, pushed_bytes}
+use Rattle.ops_game.specs.Rows.{both_stored}
 
--- the frame of other bytes in which it stands
-same_parts : (s : List ℕ) (f : Frame) → IsFrame s f → parts s f.fp ≡ f
-same_parts s f is = rw (sym is.locals, sym is.values) refl
+-- ---- the second's fault after the first
 
-cut_frame : (f : FlatState) (sp : ℕ) → IsHeight f sp → IsFrame f.stack.bytes (frame_of f) → IsFrame (take sp f.stack.bytes) (frame_of f)
-cut_frame f sp height is = frame_after_cut f.stack.bytes (frame_of f) sp is height.values height.there
+-- a frame whose header stands
+parts_cut : (s : List ℕ) (fp sp : ℕ) → fp + 8 ≤ sp → parts (take sp s) fp ≡ parts s fp
+parts_cut s fp sp below = grind (arith, word-take)
 
--- the frame after a store
-frame_settled : (f : FlatState) (sp v : ℕ) (d : Dest) → IsHeight f sp → IsFrame f.stack.bytes (frame_of f) → store_fault f 4 d sp ≡ Ok tt → frame_of (with_settled f sp 4 d v) ≡ frame_of f
-unfolding store_fault
-frame_settled f sp v Nowhere height is fits = same_parts (take sp f.stack.bytes) (frame_of f) (cut_frame f sp height is)
-frame_settled f sp v (Memory at) height is fits = same_parts (take sp f.stack.bytes) (frame_of f) (cut_frame f sp height is)
-frame_settled f sp v (Local at) height is fits =
-    let frame = frame_of f in
-    let there : at + 4 ≤ frame.values - frame.locals = grind (arith, nat_tests) in
-    let put = spliced f.stack.bytes (frame.locals + at) (bytes_of_number 4 v) in
-    let long : length put ≡ length f.stack.bytes = length-spliced f.stack.bytes (bytes_of_number 4 v) (frame.locals + at) (omega (arith, height.values, height.there, there)) in
-    let after : IsFrame put frame = frame_after_put f.stack.bytes (bytes_of_number 4 v) frame (frame.locals + at) is (omega arith) (omega (arith, height.values, height.there, there)) in
-    same_parts (take sp put) frame (frame_after_cut put frame sp after height.values (omega (arith, height.there, long)))
-frame_settled f sp v Push height is fits =
-    same_parts (take sp f.stack.bytes ++ bytes_of_word v) (frame_of f) (frame_after_push (take sp f.stack.bytes) (bytes_of_word v) (frame_of f) (cut_frame f sp height is))
+parts_put : (s bytes : List ℕ) (fp at : ℕ) → fp + 8 ≤ at → at + length bytes ≤ length s → parts (spliced s at bytes) fp ≡ parts s fp
+parts_put s bytes fp at below there = grind (arith, word-spliced)
 
--- memory's size after a store
-size_settled : (f : FlatState) (sp v : ℕ) (d : Dest) → store_fault f 4 d sp ≡ Ok tt → length (with_settled f sp 4 d v).memory ≡ length f.memory
-unfolding store_fault
-size_settled f sp v Nowhere fits = refl
-size_settled f sp v (Memory at) fits =
-    let there : at + 4 ≤ length f.memory = grind (arith, nat_tests) in
-    length-spliced f.memory (bytes_of_number 4 v) at there
-size_settled f sp v (Local at) fits = refl
-size_settled f sp v Push fits = refl
+parts_pushed : (s bytes : List ℕ) (fp : ℕ) → fp + 8 ≤ length s → parts (s ++ bytes) fp ≡ parts s fp
+parts_pushed s bytes fp below = grind (arith, word-append)
 
--- the top after a store
-top_settled : (f : FlatState) (sp v : ℕ) (d : Dest) → IsHeight f sp → IsFrame f.stack.bytes (frame_of f) → store_fault f 4 d sp ≡ Ok tt → sp_of (with_settled f sp 4 d v) ≡ sp + pushes d
-unfolding store_fault
-top_settled f sp v Nowhere height is fits = grind (arith, common_steps, height.there)
-top_settled f sp v (Memory at) height is fits = grind (arith, common_steps, height.there)
-top_settled f sp v (Local at) height is fits =
-    let frame = frame_of f in
-    let there : at + 4 ≤ frame.values - frame.locals = grind (arith, nat_tests) in
-    let long = length-spliced f.stack.bytes (bytes_of_number 4 v) (frame.locals + at) (omega (arith, height.values, height.there, there)) in
-    grind (arith, common_steps, long, height.there)
-top_settled f sp v Push height is fits = grind (arith, common_steps, height.there)
-
--- what else stands
-limit_settled : (f : FlatState) (sp v : ℕ) (d : Dest) → (with_settled f sp 4 d v).stack.limit ≡ f.stack.limit
-limit_settled f sp v Nowhere = refl
-limit_settled f sp v (Memory at) = refl
-limit_settled f sp v (Local at) = refl
-limit_settled f sp v Push = refl
-
--- the fault of a store in a state that differs elsewhere
-record IsLike (f g : FlatState) : Type 0 where
+-- a state after a store, as far as faults of stores go
+record IsLike (f g : FlatState) (sp : ℕ) : Type 0 where
   size : length g.memory ≡ length f.memory
   story : g.story ≡ f.story
   frame : frame_of g ≡ frame_of f
   limit : g.stack.limit ≡ f.stack.limit
+  top : sp_of g ≡ sp
 
-like_fault : (f g : FlatState) (sp top : ℕ) (e : Dest) → IsLike f g → top ≡ sp → store_fault g 4 e top ≡ store_fault f 4 e sp
+like_fault : (f g : FlatState) (sp : ℕ) (d : Dest) → IsLike f g sp → store_fault g 4 d (sp_of g) ≡ store_fault f 4 d sp
 unfolding store_fault
-like_fault f g sp top Nowhere like same = refl
-like_fault f g sp top (Memory at) like same = rw (like.size, like.story) refl
-like_fault f g sp top (Local at) like same =
-    let values : (frame_of g).values ≡ (frame_of f).values = ap (λ (frame : Frame). frame.values) like.frame in
-    let locals : (frame_of g).locals ≡ (frame_of f).locals = ap (λ (frame : Frame). frame.locals) like.frame in
-    rw (values, locals) refl
-like_fault f g sp top Push like same = rw (same, like.limit) refl
+like_fault f g sp Nowhere like = refl
+like_fault f g sp (Memory at) like = rw (like.size, like.story) refl
+like_fault f g sp (Local at) like = ap (λ (frame : Frame). if has_local frame at 4 then Ok tt else Err BadLocal) like.frame
+like_fault f g sp Push like = rw (like.top, like.limit) refl
 
--- the fault of the second store after the first
-fault_after : (f : FlatState) (sp v : ℕ) (d e : Dest) → IsHeight f sp → IsFrame f.stack.bytes (frame_of f) → store_fault f 4 d sp ≡ Ok tt
-    → store_fault (with_settled f sp 4 d v) 4 e (sp_of (with_settled f sp 4 d v)) ≡ store_fault f 4 e (sp + pushes d)
-fault_after f sp v d e height is fits =
-    let like : IsLike f (with_settled f sp 4 d v) = record {
-      size = size_settled f sp v d fits;
-      story = story_stored f sp v d;
-      frame = frame_settled f sp v d height is fits;
-      limit = limit_settled f sp v d;
-    } in
-    like_fault f (with_settled f sp 4 d v) (sp + pushes d) (sp_of (with_settled f sp 4 d v)) e like (top_settled f sp v d height is fits)
+like_settled : (f : FlatState) (sp v : ℕ) (d : Dest) → IsGood f.stack.bytes f.fp → (frame_of f).values ≤ sp → sp ≤ sp_of f → store_fault f 4 d sp ≡ Ok tt
+    → IsLike f (with_settled f sp 4 d v) (sp + pushed_bytes d)
+unfolding store_fault
+like_settled f sp v Nowhere good values there fits = record {
+  size = refl;
+  story = refl;
+  frame = parts_cut f.stack.bytes f.fp sp (omega (arith, good.locals, good.order));
+  limit = refl;
+  top = grind (arith, common_steps);
+}
+like_settled f sp v (Memory at) good values there fits =
+    let inside : at + 4 ≤ length f.memory = grind (arith, nat_tests) in
+    record {
+      size = length-spliced f.memory (bytes_of_number 4 v) at inside;
+      story = refl;
+      frame = parts_cut f.stack.bytes f.fp sp (omega (arith, good.locals, good.order));
+      limit = refl;
+      top = grind (arith, common_steps);
+    }
+like_settled f sp v (Local at) good values there fits =
+    let frame = frame_of f in
+    let inside : at + 4 ≤ frame.values - frame.locals = grind (arith, nat_tests) in
+    let put = spliced f.stack.bytes (frame.locals + at) (bytes_of_number 4 v) in
+    let within : frame.locals + at + 4 ≤ length f.stack.bytes = omega arith in
+    let long : length put ≡ length f.stack.bytes = length-spliced f.stack.bytes (bytes_of_number 4 v) (frame.locals + at) within in
+    record {
+      size = refl;
+      story = refl;
+      frame = parts_cut put f.fp sp (omega (arith, good.locals, good.order)) ∙ parts_put f.stack.bytes (bytes_of_number 4 v) f.fp (frame.locals + at) (omega (arith, good.locals)) within;
+      limit = refl;
+      top = grind (arith, common_steps, long);
+    }
+like_settled f sp v Push good values there fits =
+    let long : length (take sp f.stack.bytes) ≡ sp = grind (arith, common_steps) in
+    record {
+      size = refl;
+      story = refl;
+      frame = parts_pushed (take sp f.stack.bytes) (bytes_of_word v) f.fp (omega (arith, good.locals, good.order, long)) ∙ parts_cut f.stack.bytes f.fp sp (omega (arith, good.locals, good.order));
+      limit = refl;
+      top = grind (arith, common_steps, long);
+    }
 
--- both stores, by the faults of each
-second_err : (f : FlatState) (i : Instruction) (fault : Fault) (v w : ℕ) → store_fault f 4 i.dest i.sp ≡ Ok tt → store_fault (with_settled f i.sp 4 i.dest v) 4 i.second (sp_of (with_settled f i.sp 4 i.dest v)) ≡ Err fault
-    → (settled f i.sp 4 i.dest v >>= (λ (g : FlatState). stored g 4 i.second w)) ≡ Err fault
-unfolding settled stored
-second_err f i fault v w fits is = rw (fits, is) refl
-
-pub both_refused : (f : FlatState) (i : Instruction) (fault : Fault) → IsHeight f i.sp → IsFrame f.stack.bytes (frame_of f) → store_fault f 4 i.dest i.sp ≡ Ok tt → Err fault ≡ store_fault f 4 i.second (i.sp + pushes i.dest) → both f i ≡ Err fault
-both_refused f i fault height is fits refused =
-    second_err f i fault f.iosys.0 f.iosys.1 fits (fault_after f i.sp f.iosys.0 i.dest i.second height is fits ∙ sym refused)
-
-pub both_taken : (f : FlatState) (i : Instruction) → IsHeight f i.sp → IsFrame f.stack.bytes (frame_of f) → store_fault f 4 i.dest i.sp ≡ Ok tt → Ok tt ≡ store_fault f 4 i.second (i.sp + pushes i.dest) → TakesBoth f i
-both_taken f i height is fits taken = record { first = fits; second = fault_after f i.sp f.iosys.0 i.dest i.second height is fits ∙ sym taken }
-
-pub both_looked : (f : FlatState) (i : Instruction) (r : Result (Unit {0}) Fault) → IsHeight f i.sp → IsFrame f.stack.bytes (frame_of f) → store_fault f 4 i.dest i.sp ≡ Ok tt → r ≡ store_fault f 4 i.second (i.sp + pushes i.dest)
-    → OnOk r (TakesBoth f i) × IfErr r (λ fault. both f i ≡ Err fault)
-both_looked f i (Ok x) height is fits looked = (both_taken f i height is fits looked, tt)
-both_looked f i (Err fault) height is fits looked = (tt, both_refused f i fault height is fits looked)
+-- ---- both stores
 
 abbrev pub with_both : FlatState → Instruction → FlatState
 with_both f i = with_value (with_settled f i.sp 4 i.dest f.iosys.0) 4 i.second f.iosys.1
 
-pub both_made : (f : FlatState) (i : Instruction) → TakesBoth f i → both f i ≡ Ok (with_both f i)
+by_first : (f : FlatState) (i : Instruction) (first : Result (Unit {0}) Fault) → IsGood f.stack.bytes f.fp → (frame_of f).values ≤ i.sp → i.sp ≤ sp_of f → store_fault f 4 i.dest i.sp ≡ first
+    → both_stored f i ≡ ((first >>= (λ (x : Unit {0}). store_fault f 4 i.second (i.sp + pushed_bytes i.dest))) >>= (λ (x : Unit {0}). Ok (with_both f i)))
 unfolding settled stored
-both_made f i takes = rw (takes.first, takes.second) refl
+by_first f i (Ok x) good values there is =
+    let like = like_settled f i.sp f.iosys.0 i.dest good values there is in
+    rw (is, like_fault f (with_settled f i.sp 4 i.dest f.iosys.0) (i.sp + pushed_bytes i.dest) i.second like) refl
+by_first f i (Err fault) good values there is = rw is refl
 
-err_ok : (f : FlatState) (fault : Fault) → Ok f ≡ Err fault → ⊥
-err_ok f fault is = absurd cc
+-- by the faults that are looked for
+both_by : (f : FlatState) (i : Instruction) → IsSound f → IsHeight f i.sp → both_stored f i ≡ (both_fault f i >>= (λ (x : Unit {0}). Ok (with_both f i)))
+both_by f i sound height = by_first f i (store_fault f 4 i.dest i.sp) (sound.framed.good height.live) height.values height.there refl
 
--- the second in memory
-memory_fault : (f g : FlatState) (sp top at : ℕ) → length g.memory ≡ length f.memory → g.story ≡ f.story → store_fault g 4 (Memory at) top ≡ store_fault f 4 (Memory at) sp
+pub both_made : (f : FlatState) (i : Instruction) → IsSound f → IsHeight f i.sp → both_fault f i ≡ Ok tt → both_stored f i ≡ Ok (with_both f i)
+both_made f i sound height is = both_by f i sound height ∙ ap (λ (r : Result (Unit {0}) Fault). r >>= (λ (x : Unit {0}). Ok (with_both f i))) is
+
+pub both_failed : (f : FlatState) (i : Instruction) (fault : Fault) → IsSound f → IsHeight f i.sp → both_fault f i ≡ Err fault → both_stored f i ≡ Err fault
+both_failed f i fault sound height is = both_by f i sound height ∙ ap (λ (r : Result (Unit {0}) Fault). r >>= (λ (x : Unit {0}). Ok (with_both f i))) is
+
+record AreFit (f : FlatState) (i : Instruction) : Type 0 where
+  first : store_fault f 4 i.dest i.sp ≡ Ok tt
+  second : store_fault f 4 i.second (i.sp + pushed_bytes i.dest) ≡ Ok tt
+
+fit_by : (first second : Result (Unit {0}) Fault) (x : Unit {0}) → (first >>= (λ (y : Unit {0}). second)) ≡ Ok x → (first ≡ Ok tt) × (second ≡ Ok tt)
+fit_by (Ok y) second x is = (refl, is)
+fit_by (Err fault) second x is = absurd cc
+
+fit : (f : FlatState) (i : Instruction) → both_fault f i ≡ Ok tt → AreFit f i
+fit f i is =
+    let both = fit_by (store_fault f 4 i.dest i.sp) (store_fault f 4 i.second (i.sp + pushed_bytes i.dest)) tt is in
+    record { first = both.0; second = both.1 }
+
+-- ---- memory first
+
+in_ram : (f : FlatState) (sp v : ℕ) (d : Dest) → store_fault f 4 d sp ≡ Ok tt → IsWordInRam f (memory_word d v)
 unfolding store_fault
-memory_fault f g sp top at size story = rw (size, story) refl
+in_ram f sp v Nowhere fits = (tt, tt)
+in_ram f sp v (Memory at) fits = (grind (arith, nat_tests), grind (arith, nat_tests))
+in_ram f sp v (Local at) fits = (tt, tt)
+in_ram f sp v Push fits = (tt, tt)
 
-alone : (f : FlatState) (i : Instruction) (then_ top : ℕ) → TakesBoth f i → i.second ≡ Memory then_ → store_fault f 4 (Memory then_) top ≡ Ok tt
-alone f i then_ top takes there =
-    let g = with_settled f i.sp 4 i.dest f.iosys.0 in
-    let fits : store_fault g 4 (Memory then_) (sp_of g) ≡ Ok tt = subst (λ (e : Dest). store_fault g 4 e (sp_of g) ≡ Ok tt) there takes.second in
-    sym (memory_fault f g top (sp_of g) then_ (size_settled f i.sp f.iosys.0 i.dest takes.first) (story_stored f i.sp f.iosys.0 i.dest)) ∙ fits
+pub first_in_ram : (f : FlatState) (i : Instruction) (v : ℕ) → both_fault f i ≡ Ok tt → IsWordInRam f (memory_word i.dest v)
+first_in_ram f i v is = in_ram f i.sp v i.dest (fit f i is).first
 
-in_ram : (f : FlatState) (at sp v : ℕ) → store_fault f 4 (Memory at) sp ≡ Ok tt → IsPlace f (Some (at, v))
+pub second_in_ram : (f : FlatState) (i : Instruction) (v : ℕ) → both_fault f i ≡ Ok tt → IsWordInRam f (memory_word i.second v)
+second_in_ram f i v is = in_ram f (i.sp + pushed_bytes i.dest) v i.second (fit f i is).second
+
+wants_by : (d : Dest) (v : ℕ) → IsSome (memory_word d v) → IsMemory d
+wants_by Nowhere v some = absurd cc
+wants_by (Memory at) v some = tt
+wants_by (Local at) v some = absurd cc
+wants_by Push v some = absurd cc
+
+pub wants_both : (d e : Dest) (v u : ℕ) (w x : Option (ℕ × ℕ)) → w ≡ memory_word d v → x ≡ memory_word e u → IsSome w ⊎ IsSome x → IsMemory d ⊎ IsMemory e
+wants_both d e v u w x first second (inl some) = inl (wants_by d v (subst IsSome first some))
+wants_both d e v u w x first second (inr some) = inr (wants_by e u (subst IsSome second some))
+
+none_by : (d : Dest) → IsMemory (beside_memory d) → ⊥
+none_by Nowhere is = is
+none_by (Memory at) is = is
+none_by (Local at) is = is
+none_by Push is = is
+
+pub none_beside : (d e : Dest) → e ≡ beside_memory d → IsMemory e → ⊥
+none_beside d e beside is = none_by d (subst IsMemory beside is)
+
+-- what is stored beside memory has no fault once that is written
+fault_beside : (f : FlatState) (w x : Option (ℕ × ℕ)) (sp : ℕ) (d : Dest) → store_fault f 4 d sp ≡ Ok tt → store_fault (with_word (with_word f w) x) 4 (beside_memory d) sp ≡ Ok tt
 unfolding store_fault
-in_ram f at sp v fits = grind (arith, nat_tests)
+fault_beside f w x sp Nowhere fits = refl
+fault_beside f w x sp (Memory at) fits = refl
+fault_beside f w x sp (Local at) fits = fits
+fault_beside f w x sp Push fits = fits
 
-pub first_placed : (f : FlatState) (i : Instruction) (at v : ℕ) → TakesBoth f i → i.dest ≡ Memory at → IsPlace f (Some (at, v))
-first_placed f i at v takes there = in_ram f at i.sp v (subst (λ (d : Dest). store_fault f 4 d i.sp ≡ Ok tt) there takes.first)
+pushed_beside : (d : Dest) → pushed_bytes (beside_memory d) ≡ pushed_bytes d
+pushed_beside Nowhere = refl
+pushed_beside (Memory at) = refl
+pushed_beside (Local at) = refl
+pushed_beside Push = refl
 
-pub second_placed : (f : FlatState) (i : Instruction) (then_ v : ℕ) → TakesBoth f i → i.second ≡ Memory then_ → IsPlace f (Some (then_, v))
-second_placed f i then_ v takes there = in_ram f then_ i.sp v (alone f i then_ i.sp takes there)
+-- and makes the same of the state
+value_beside : (f : FlatState) (v : ℕ) (d : Dest) → with_value (with_word f (memory_word d v)) 4 (beside_memory d) v ≡ with_value f 4 d v
+value_beside f v Nowhere = refl
+value_beside f v (Memory at) = refl
+value_beside f v (Local at) = refl
+value_beside f v Push = refl
 
--- two in memory
-pub both_written : (f : FlatState) (i : Instruction) (at then_ : ℕ) → TakesBoth f i → i.dest ≡ Memory at → i.second ≡ Memory then_
-    → both f i ≡ Ok (cut (with_word (with_word f (Some (at, f.iosys.0))) (Some (then_, f.iosys.1))) i.sp)
-both_written f i at then_ takes first second = both_made f i takes ∙ rw (first, second) refl
+settled_beside : (f : FlatState) (sp v : ℕ) (d : Dest) → with_settled (with_word f (memory_word d v)) sp 4 (beside_memory d) v ≡ with_settled f sp 4 d v
+settled_beside f sp v Nowhere = refl
+settled_beside f sp v (Memory at) = refl
+settled_beside f sp v (Local at) = refl
+settled_beside f sp v Push = refl
 
--- the second first
-pub second_stored : (f : FlatState) (i : Instruction) (then_ w : ℕ) → TakesBoth f i → i.second ≡ Memory then_ → stored f 4 (Memory then_) w ≡ Ok (written f then_ (bytes_of_number 4 w))
+written_before : (f : FlatState) (w : Option (ℕ × ℕ)) (sp v : ℕ) (d : Dest) → with_settled (with_word f w) sp 4 (beside_memory d) v ≡ with_word (with_settled f sp 4 (beside_memory d) v) w
+written_before f w sp v Nowhere = refl
+written_before f w sp v (Memory at) = refl
+written_before f w sp v (Local at) = refl
+written_before f w sp v Push = refl
+
+abbrev pub with_words : FlatState → Instruction → FlatState
+with_words f i = with_word (with_word f (memory_word i.dest f.iosys.0)) (memory_word i.second f.iosys.1)
+
+abbrev pub with_first : FlatState → Instruction → FlatState
+with_first f i = with_settled (with_words f i) i.sp 4 (beside_memory i.dest) f.iosys.0
+
+same_both : (f : FlatState) (i : Instruction) → with_value (with_first f i) 4 (beside_memory i.second) f.iosys.1 ≡ with_both f i
+same_both f i =
+    ap (λ (g : FlatState). with_value g 4 (beside_memory i.second) f.iosys.1)
+    (written_before (with_word f (memory_word i.dest f.iosys.0)) (memory_word i.second f.iosys.1) i.sp f.iosys.0 i.dest
+    ∙ ap (λ (g : FlatState). with_word g (memory_word i.second f.iosys.1)) (settled_beside f i.sp f.iosys.0 i.dest))
+    ∙ value_beside (with_settled f i.sp 4 i.dest f.iosys.0) f.iosys.1 i.second
+
+first_fits : (f : FlatState) (i : Instruction) → both_fault f i ≡ Ok tt → store_fault (with_words f i) 4 (beside_memory i.dest) i.sp ≡ Ok tt
+first_fits f i is = fault_beside f (memory_word i.dest f.iosys.0) (memory_word i.second f.iosys.1) i.sp i.dest (fit f i is).first
+
+second_fits : (f : FlatState) (i : Instruction) → both_fault f i ≡ Ok tt → store_fault (with_words f i) 4 (beside_memory i.second) (i.sp + pushed_bytes (beside_memory i.dest)) ≡ Ok tt
+second_fits f i is =
+    rw (pushed_beside i.dest) (fault_beside f (memory_word i.dest f.iosys.0) (memory_word i.second f.iosys.1) (i.sp + pushed_bytes i.dest) i.second (fit f i is).second)
+
+like_first : (f : FlatState) (i : Instruction) → IsSound f → IsHeight f i.sp → both_fault f i ≡ Ok tt → IsLike (with_words f i) (with_first f i) (i.sp + pushed_bytes (beside_memory i.dest))
+like_first f i sound height is = like_settled (with_words f i) i.sp f.iosys.0 (beside_memory i.dest) (sound.framed.good height.live) height.values height.there (first_fits f i is)
+
+first_made : (f : FlatState) (i : Instruction) → both_fault f i ≡ Ok tt → settled (with_words f i) i.sp 4 (beside_memory i.dest) f.iosys.0 ≡ Ok (with_first f i)
+unfolding settled
+first_made f i is = rw (first_fits f i is) refl
+
+second_made : (f : FlatState) (i : Instruction) → IsSound f → IsHeight f i.sp → both_fault f i ≡ Ok tt → stored (with_first f i) 4 (beside_memory i.second) f.iosys.1 ≡ Ok (with_both f i)
 unfolding stored
-second_stored f i then_ w takes there = rw (alone f i then_ (sp_of f) takes there) refl
+second_made f i sound height is =
+    rw (like_fault (with_words f i) (with_first f i) (i.sp + pushed_bytes (beside_memory i.dest)) (beside_memory i.second) (like_first f i sound height is), second_fits f i is) (ap Ok (same_both f i))
 
-over_written : (f : FlatState) (at sp v : ℕ) (bytes : List ℕ) (d : Dest) → (IsMemory d → ⊥) → (store_fault (written f at bytes) 4 d sp ≡ store_fault f 4 d sp) × (with_settled (written f at bytes) sp 4 d v ≡ written (with_settled f sp 4 d v) at bytes)
-unfolding store_fault
-over_written f at sp v bytes Nowhere other = (refl, refl)
-over_written f at sp v bytes (Memory place) other = absurd (other tt)
-over_written f at sp v bytes (Local place) other = (refl, refl)
-over_written f at sp v bytes Push other = (refl, refl)
+pub first_live : (f : FlatState) (i : Instruction) → IsSound f → IsHeight f i.sp → both_fault f i ≡ Ok tt → 0 < sp_of (with_first f i)
+first_live f i sound height is = let good = sound.framed.good height.live in omega (arith, (like_first f i sound height is).top, good.locals, good.order, height.values)
 
-pub first_settled : (f : FlatState) (i : Instruction) (then_ : ℕ) → TakesBoth f i → (IsMemory i.dest → ⊥) → i.second ≡ Memory then_
-    → settled (written f then_ (bytes_of_number 4 f.iosys.1)) i.sp 4 i.dest f.iosys.0 ≡ both f i
-first_settled f i then_ takes other there =
-    let over = over_written f then_ i.sp f.iosys.0 (bytes_of_number 4 f.iosys.1) i.dest other in
-    is_settled (written f then_ (bytes_of_number 4 f.iosys.1)) i.sp f.iosys.0 i.dest (over.0 ∙ takes.first)
-    ∙ ap Ok over.1 ∙ sym (both_made f i takes ∙ rw there refl)
+-- ---- as the code makes them
 
-pub height_written : (f g : FlatState) (i : Instruction) (then_ w : ℕ) → TakesBoth f i → i.second ≡ Memory then_ → IsHeight f i.sp → stored f 4 (Memory then_) w ≡ Ok g → IsHeight g i.sp
-height_written f g i then_ w takes there height is =
-    let made = second_stored f i then_ w takes there in
-    let same : written f then_ (bytes_of_number 4 w) ≡ g = cc in
-    subst (λ (k : FlatState). IsHeight k i.sp) same (record { live = height.live; values = height.values; there = height.there; words = height.words })
+-- a store that has no fault and takes no memory is made
+pub never_refused : (wants : Type 0) (fault : Fault) (old new : HeldState) (g : FlatState) (defined : Result FlatState Fault) → Stores {X = Unit {0}} wants (Err fault) old new defined → (wants → ⊥) → defined ≡ Ok g → ⊥
+never_refused wants fault old new g defined makes never fine =
+    let fails : defined ≡ Err fault = makes.1.0 (λ none. never (makes.1.1 none).0) in
+    cc
 
-pub second_refused : (f h : FlatState) (i : Instruction) (fault : Fault) (then_ w : ℕ) → TakesBoth f i → i.second ≡ Memory then_ → h ≡ f → (fault ≢ NoMemory → stored f 4 (Memory then_) w ≡ Err fault) → Changes {X = Unit {0}} (Err fault) f h (both f i)
-second_refused f h i fault then_ w takes there stands is =
-    let made = second_stored f i then_ w takes there in
-    (stands, (λ other. let no = is other in absurd cc))
+pub first_sure : (f g : FlatState) (i : Instruction) (io : ℕ × ℕ) (w x : Option (ℕ × ℕ)) (d : Dest) → both_fault f i ≡ Ok tt → io ≡ f.iosys → w ≡ memory_word i.dest io.0 → x ≡ memory_word i.second io.1
+    → g ≡ with_word (with_word f w) x → d ≡ beside_memory i.dest → settled g i.sp 4 d io.0 ≡ Ok (with_first f i)
+first_sure f g i io w x d fits same first second written beside = rw (written, first, second, beside, same) (first_made f i fits)
 
-second_first_by : (f g h : FlatState) (i : Instruction) (r : Result (Unit {0}) Fault) (then_ : ℕ) → TakesBoth f i → (IsMemory i.dest → ⊥) → settled g i.sp 4 i.dest f.iosys.0 ≡ both f i
-    → Changes r g h (settled g i.sp 4 i.dest f.iosys.0) → (IsErrOf r NoMemory → IsMemory i.dest) → Changes r f h (both f i)
-second_first_by f g h i (Ok x) then_ takes other settles does memory = sym settles ∙ does
-second_first_by f g h i (Err fault) then_ takes other settles does memory =
-    let fails : settled g i.sp 4 i.dest f.iosys.0 ≡ Err fault = does.1 (λ none. absurd (other (memory (ap Err none)))) in
-    absurd (err_ok (with_both f i) fault (sym (both_made f i takes) ∙ sym settles ∙ fails))
+pub second_sure : (f g : FlatState) (i : Instruction) (io : ℕ × ℕ) (d : Dest) → IsSound f → IsHeight f i.sp → both_fault f i ≡ Ok tt → io ≡ f.iosys → g ≡ with_first f i → d ≡ beside_memory i.second
+    → stored g 4 d io.1 ≡ Ok (with_both f i)
+second_sure f g i io d sound height fits same after beside = rw (after, beside, same) (second_made f i sound height fits)
 
-pub second_first : (f g h : FlatState) (i : Instruction) (r : Result (Unit {0}) Fault) (then_ : ℕ) (io : ℕ × ℕ) → io ≡ f.iosys → TakesBoth f i → (IsMemory i.dest → ⊥) → i.second ≡ Memory then_
-    → stored f 4 (Memory then_) io.1 ≡ Ok g → Changes r g h (settled g i.sp 4 i.dest io.0) → (IsErrOf r NoMemory → IsMemory i.dest) → Changes r f h (both f i)
-second_first f g h i r then_ io same takes other there made does memory =
-    let makes = second_stored f i then_ f.iosys.1 takes there in
-    let made_here : stored f 4 (Memory then_) f.iosys.1 ≡ Ok g = subst (λ (p : ℕ × ℕ). stored f 4 (Memory then_) p.1 ≡ Ok g) same made in
-    let is : written f then_ (bytes_of_number 4 f.iosys.1) ≡ g = cc in
-    second_first_by f g h i r then_ takes other
-    (subst (λ (k : FlatState). settled k i.sp 4 i.dest f.iosys.0 ≡ both f i) is (first_settled f i then_ takes other there))
-    (subst (λ (p : ℕ × ℕ). Changes r g h (settled g i.sp 4 i.dest p.0)) same does) memory
-
--- in order
-second_made : (f g : FlatState) (i : Instruction) → TakesBoth f i → settled f i.sp 4 i.dest f.iosys.0 ≡ Ok g → stored g 4 i.second f.iosys.1 ≡ Ok (with_value g 4 i.second f.iosys.1)
-unfolding stored
-second_made f g i takes is =
-    rw (subst (λ (k : FlatState). store_fault k 4 i.second (sp_of k) ≡ Ok tt) (settled_is f g i.sp f.iosys.0 i.dest is) takes.second) refl
-
-in_order_by : (f g h : FlatState) (i : Instruction) (r : Result (Unit {0}) Fault) → TakesBoth f i → (IsMemory i.second → ⊥)
-    → settled f i.sp 4 i.dest f.iosys.0 ≡ Ok g → Changes r g h (stored g 4 i.second f.iosys.1) → (IsErrOf r NoMemory → IsMemory i.second) → Changes r f h (both f i)
-in_order_by f g h i (Ok x) takes other made does memory = rw made does
-in_order_by f g h i (Err fault) takes other made does memory =
-    let fails : stored g 4 i.second f.iosys.1 ≡ Err fault = does.1 (λ none. absurd (other (memory (ap Err none)))) in
-    absurd (err_ok (with_value g 4 i.second f.iosys.1) fault (sym (second_made f g i takes made) ∙ fails))
-
-pub in_order : (f g h : FlatState) (i : Instruction) (r : Result (Unit {0}) Fault) (io : ℕ × ℕ) → io ≡ f.iosys → TakesBoth f i → (IsMemory i.second → ⊥)
-    → settled f i.sp 4 i.dest io.0 ≡ Ok g → Changes r g h (stored g 4 i.second io.1) → (IsErrOf r NoMemory → IsMemory i.second) → Changes r f h (both f i)
-in_order f g h i r io same takes other made does memory =
-    in_order_by f g h i r takes other (subst (λ (p : ℕ × ℕ). settled f i.sp 4 i.dest p.0 ≡ Ok g) same made)
-    (subst (λ (p : ℕ × ℕ). Changes r g h (stored g 4 i.second p.1)) same does) memory
-
-pub live_settled : (f g : FlatState) (i : Instruction) (v : ℕ) → IsHeight f i.sp → IsFrame f.stack.bytes (frame_of f) → TakesBoth f i → settled f i.sp 4 i.dest v ≡ Ok g → 0 < sp_of g
-live_settled f g i v height is takes made =
-    let top = top_settled f i.sp v i.dest height is takes.first in
-    let same : sp_of (with_settled f i.sp 4 i.dest v) ≡ sp_of g = ap (λ (k : FlatState). sp_of k) (settled_is f g i.sp v i.dest made) in
-    omega (arith, top, same, height.values, is.values, is.good.locals, is.good.order)
-
--- the story
-by_stored : (f g : FlatState) (r : Result (Unit {0}) Fault) → f.story ≡ g.story → (h : FlatState) → (r >>= (λ (x : Unit {0}). Ok f)) ≡ Ok h → h.story ≡ g.story
-by_stored f g r same h is = ap (λ (k : FlatState). k.story) (sym (made_is f h r is)) ∙ same
-
-story_valued : (f : FlatState) (v : ℕ) (d : Dest) → (with_value f 4 d v).story ≡ f.story
-story_valued f v Nowhere = refl
-story_valued f v (Memory at) = refl
-story_valued f v (Local at) = refl
-story_valued f v Push = refl
-
-story_put : (g h : FlatState) (v : ℕ) (d : Dest) → stored g 4 d v ≡ Ok h → h.story ≡ g.story
-unfolding stored
-story_put g h v d is = by_stored (with_value g 4 d v) g (store_fault g 4 d (sp_of g)) (story_valued g v d) h is
-
-story_by : (f h : FlatState) (v : ℕ) (d : Dest) (r : Result FlatState Fault) → ((g : FlatState) → r ≡ Ok g → g.story ≡ f.story) → (r >>= (λ (g : FlatState). stored g 4 d v)) ≡ Ok h → h.story ≡ f.story
-story_by f h v d (Ok g) same is = story_put g h v d is ∙ same g refl
-story_by f h v d (Err fault) same is = absurd cc
-
-pub story_both : (f g : FlatState) (i : Instruction) → both f i ≡ Ok g → g.story ≡ f.story
-story_both f g i is =
-    story_by f g f.iosys.1 i.second (settled f i.sp 4 i.dest f.iosys.0) (λ h made. story_settled f h i.sp f.iosys.0 i.dest made) is
+pub is_one : (r : Result FlatState Fault) (g h : FlatState) → r ≡ Ok g → r ≡ Ok h → g ≡ h
+is_one r g h first second = cc

@@ -3,36 +3,37 @@
 --
 -- An instruction's pops are made in its `sp`, and PC becomes `next` where nothing else is said. A fault in any
 -- line leaves the state and the copies as they are. `word` is the random word from outside that a step may use.
-use Rattle.std.specs.Prelude.{◌≡◌, ℕ, ◌+◌, ◌==◌, nat_lt, if◌then◌else◌, List, [], ◌∷◌, Result, Ok, Err}
+use Rattle.std.specs.Prelude.{ℕ, ◌+◌, ◌==◌, nat_lt, if◌then◌else◌, List, [], ◌∷◌, Result, Ok, Err}
 use Rattle.gx_words.specs.declared.faults.Fault.{Fault}
 use Rattle.gx_words.specs.declared.faults.Fault.TheVariants.{BadOpcode, Overflow, DebugTrap}
+use Rattle.gx_words.specs.declared.iosystems.TheConstants.{NULL_SYSTEM}
 use Rattle.gx_words.specs.Results.{◌>>=◌}
-use Rattle.gx_rows.specs.Gestalts.{gestalt_of}
+use Rattle.gx_rows.specs.declared.numbers.TheConstants as numbers
+use Rattle.gx_rows.specs.Gestalts.{gestalt_of, is_iosystem}
 use Rattle.gx_story.specs.Stories.{is_checked}
 use Rattle.ops_calc.specs.declared.random.Generator.{Generator}
 use Rattle.ops_calc.specs.Generator.{pick, word_from, after_word, seeded_by, is_outside}
 use Rattle.gx_state.specs.declared.effects.Effect.{Effect}
 use Rattle.gx_state.specs.declared.effects.Effect.TheVariants.{Went, Drew, Quit}
-use Rattle.gx_state.specs.declared.modes.Dest.{Dest}
-use Rattle.gx_state.specs.declared.modes.Dest.TheVariants.{Nowhere, Memory, Local, Push}
 use Rattle.gx_state.specs.Flat.{FlatState, sp_of, cut}
 use Rattle.gx_state.specs.Copies.{Copy, copy_of, gone_back, restarted}
+use Rattle.gx_state.specs.Stores.{stored}
 use Rattle.gx_undo.specs.Undo.{FlatUndo, with_newest, without_newest}
-use Rattle.gx_operands.specs.Instructions.{Instruction, operand_at, going_to}
-use Rattle.gx_operands.specs.Stores.{store_fault, stored, with_settled, settled, stores, goes}
+use Rattle.gx_operands.specs.Instructions.{Instruction, L1, L2, going_to}
+use Rattle.gx_operands.specs.Stores.{settled, stores, goes}
 
 -- WHAT ROWS SHARE
 
 -- a row that leaves the copies
-abbrev pub stays : FlatUndo → Result (FlatState × Effect) Fault → Result ((FlatState × FlatUndo) × Effect) Fault
-stays u (Ok r) = Ok ((r.0, u), r.1)
-stays u (Err fault) = Err fault
+abbrev pub leaving_copies : FlatUndo → Result (FlatState × Effect) Fault → Result ((FlatState × FlatUndo) × Effect) Fault
+leaving_copies u (Ok r) = Ok ((r.0, u), r.1)
+leaving_copies u (Err fault) = Err fault
 
 -- MISCELLANEOUS
 
 -- 100 gestalt (L1 L2 S1): S1 = the answer to the selector L1 with argument L2
 unfoldable pub gestalt : FlatState → Instruction → Result (FlatState × Effect) Fault
-gestalt f i = stores f i (gestalt_of (operand_at i 0) (operand_at i 1) f.heap.start)
+gestalt f i = stores f i (gestalt_of (L1 i) (L2 i) f.heap.start)
 
 -- 101 debugtrap (L1): a fault, since there is no debugger
 unfoldable pub debugtrap : FlatState → Instruction → Result (FlatState × Effect) Fault
@@ -47,7 +48,7 @@ drawing generator = if is_outside generator then Drew else Went
 -- the state once what L1 makes of the next word is stored
 abbrev pub drawn : FlatState → ℕ → Instruction → Result FlatState Fault
 drawn f word i = do
-  g ← settled f i.sp 4 i.dest (pick (operand_at i 0) (word_from f.generator word))
+  g ← settled f i.sp 4 i.dest (pick (L1 i) (word_from f.generator word))
   Ok (record g { generator = after_word f.generator })
 
 -- 110 random (L1 S1): draws a word; S1 = any word for L1 = 0, one from 0 to L1 - 1 for a positive L1, one from
@@ -59,7 +60,7 @@ random f word i = do
 
 -- 111 setrandom (L1): seeds the generator with L1; 0 goes back to the words from outside
 unfoldable pub setrandom : FlatState → Instruction → Result (FlatState × Effect) Fault
-setrandom f i = goes (record f { generator = seeded_by (operand_at i 0) }) i
+setrandom f i = goes (record f { generator = seeded_by (L1 i) }) i
 
 -- GAME STATE
 
@@ -72,8 +73,8 @@ unfoldable pub verify : FlatState → Instruction → Result (FlatState × Effec
 verify f i = stores f i (if is_checked f.story then 0 else 1)
 
 -- 122 restart: begins the story anew; the copies stay
-unfoldable pub restart : FlatState → Instruction → Result (FlatState × Effect) Fault
-restart f i = do
+unfoldable pub restart : FlatState → Result (FlatState × Effect) Fault
+restart f = do
   g ← restarted f
   Ok (g, Went)
 
@@ -84,18 +85,18 @@ saveundo f u i =
       g ← settled f i.sp 4 i.dest 0
       Ok ((going_to g i.next, with_newest u (copy_of f i.dest i.next)), Went))
 
-abbrev pub restores : FlatState → FlatUndo → Instruction → List Copy → Result ((FlatState × FlatUndo) × Effect) Fault
-restores f u i [] = stays u (stores f i 1)
-restores f u i (c ∷ older) = Ok ((gone_back f c, without_newest u), Went)
+abbrev pub restored_from : FlatState → FlatUndo → Instruction → List Copy → Result ((FlatState × FlatUndo) × Effect) Fault
+restored_from f u i [] = leaving_copies u (stores f i 1)
+restored_from f u i (c ∷ older) = Ok ((gone_back f c, without_newest u), Went)
 
 -- 126 restoreundo (S1): goes back to the newest copy, which is dropped, where the store operand of its saveundo
 -- gets -1; with no copy S1 = 1
 unfoldable pub restoreundo : FlatState → FlatUndo → Instruction → Result ((FlatState × FlatUndo) × Effect) Fault
-restoreundo f u i = restores f u i u.copies
+restoreundo f u i = restored_from f u i u.copies
 
 -- 127 protect (L1 L2): the protected range is the L2 addresses from L1 on
 unfoldable pub protect : FlatState → Instruction → Result (FlatState × Effect) Fault
-protect f i = goes (record f { protected = (operand_at i 0, operand_at i 1) }) i
+protect f i = goes (record f { protected = (L1 i, L2 i) }) i
 
 -- OUTPUT
 
@@ -105,35 +106,23 @@ getstringtbl f i = stores f i f.table
 
 -- 141 setstringtbl (L1): the string decoding table is at L1
 unfoldable pub setstringtbl : FlatState → Instruction → Result (FlatState × Effect) Fault
-setstringtbl f i = goes (record f { table = operand_at i 0 }) i
+setstringtbl f i = goes (record f { table = L1 i }) i
 
--- the state once both results are stored: S1 = the iosystem, S2 = its rock
-abbrev pub both : FlatState → Instruction → Result FlatState Fault
-both f i = do
+-- the state once both results are stored
+abbrev pub both_stored : FlatState → Instruction → Result FlatState Fault
+both_stored f i = do
   g ← settled f i.sp 4 i.dest f.iosys.0
   stored g 4 i.second f.iosys.1
 
--- neither store has a fault
-pub record TakesBoth (f : FlatState) (i : Instruction) : Type 0 where
-  pub first : store_fault f 4 i.dest i.sp ≡ Ok tt
-  pub second : store_fault (with_settled f i.sp 4 i.dest f.iosys.0) 4 i.second (sp_of (with_settled f i.sp 4 i.dest f.iosys.0)) ≡ Ok tt
-
--- how many bytes a store of a word pushes
-abbrev pub pushes : Dest → ℕ
-pushes Nowhere = 0
-pushes (Memory at) = 0
-pushes (Local at) = 0
-pushes Push = 4
-
--- 148 getiosys (S1 S2): S1 = the iosystem, S2 = its rock
+-- 148 getiosys (S1 S2): S1 = the I/O system, S2 = its rock
 unfoldable pub getiosys : FlatState → Instruction → Result (FlatState × Effect) Fault
 getiosys f i = do
-  g ← both f i
+  g ← both_stored f i
   Ok (going_to g i.next, Went)
 
--- 149 setiosys (L1 L2): the iosystem is L1 with rock L2; one that isn't there is system 0 with rock 0
+-- 149 setiosys (L1 L2): the I/O system is L1 with rock L2; one that isn't there is the null system with rock 0
 unfoldable pub setiosys : FlatState → Instruction → Result (FlatState × Effect) Fault
-setiosys f i = goes (record f { iosys = if nat_lt (operand_at i 0) 3 then (operand_at i 0, operand_at i 1) else (0, 0) }) i
+setiosys f i = goes (record f { iosys = if is_iosystem (L1 i) then (L1 i, L2 i) else (NULL_SYSTEM, 0) }) i
 
 -- ACCELERATED FUNCTIONS
 
@@ -143,22 +132,22 @@ accelerate f i = goes f i
 
 -- THE ROW OF AN INSTRUCTION
 
-unfoldable pub row : FlatState → FlatUndo → ℕ → Instruction → Result ((FlatState × FlatUndo) × Effect) Fault
-row f u word i =
-    if i.row.number == 0x100 then stays u (gestalt f i) else
-    if i.row.number == 0x101 then stays u (debugtrap f i) else
-    if i.row.number == 0x110 then stays u (random f word i) else
-    if i.row.number == 0x111 then stays u (setrandom f i) else
-    if i.row.number == 0x120 then stays u (quit f i) else
-    if i.row.number == 0x121 then stays u (verify f i) else
-    if i.row.number == 0x122 then stays u (restart f i) else
-    if i.row.number == 0x125 then saveundo f u i else
-    if i.row.number == 0x126 then restoreundo f u i else
-    if i.row.number == 0x127 then stays u (protect f i) else
-    if i.row.number == 0x140 then stays u (getstringtbl f i) else
-    if i.row.number == 0x141 then stays u (setstringtbl f i) else
-    if i.row.number == 0x148 then stays u (getiosys f i) else
-    if i.row.number == 0x149 then stays u (setiosys f i) else
-    if i.row.number == 0x180 then stays u (accelerate f i) else
-    if i.row.number == 0x181 then stays u (accelerate f i) else
+unfoldable pub row_effect : FlatState → FlatUndo → ℕ → Instruction → Result ((FlatState × FlatUndo) × Effect) Fault
+row_effect f u word i =
+    if i.row.number == numbers.GESTALT then leaving_copies u (gestalt f i) else
+    if i.row.number == numbers.DEBUGTRAP then leaving_copies u (debugtrap f i) else
+    if i.row.number == numbers.RANDOM then leaving_copies u (random f word i) else
+    if i.row.number == numbers.SETRANDOM then leaving_copies u (setrandom f i) else
+    if i.row.number == numbers.QUIT then leaving_copies u (quit f i) else
+    if i.row.number == numbers.VERIFY then leaving_copies u (verify f i) else
+    if i.row.number == numbers.RESTART then leaving_copies u (restart f) else
+    if i.row.number == numbers.SAVEUNDO then saveundo f u i else
+    if i.row.number == numbers.RESTOREUNDO then restoreundo f u i else
+    if i.row.number == numbers.PROTECT then leaving_copies u (protect f i) else
+    if i.row.number == numbers.GETSTRINGTBL then leaving_copies u (getstringtbl f i) else
+    if i.row.number == numbers.SETSTRINGTBL then leaving_copies u (setstringtbl f i) else
+    if i.row.number == numbers.GETIOSYS then leaving_copies u (getiosys f i) else
+    if i.row.number == numbers.SETIOSYS then leaving_copies u (setiosys f i) else
+    if i.row.number == numbers.ACCELFUNC then leaving_copies u (accelerate f i) else
+    if i.row.number == numbers.ACCELPARAM then leaving_copies u (accelerate f i) else
     Err BadOpcode

@@ -2,13 +2,12 @@
 //!
 //! The generator moves on only where the word was stored: a result in memory is drawn from a copy of a
 //! seeded generator, and any other store is looked at before.
-ghost use Rattle.std.specs.Prelude.{◌≡◌, Ok, IsErrOf, IfOk};
-ghost use Rattle.gx_words.specs.declared.faults.Fault.TheVariants.{NoMemory};
-ghost use Rattle.gx_words.specs.Faults.{Changes, Does, TakesNone};
+ghost use Rattle.std.specs.Prelude.{◌≡◌, Ok, IfOk};
 ghost use Rattle.gx_state.specs.Flat.{IsHeight};
+ghost use Rattle.gx_state.specs.Relations.{Acts, Stores, Works};
 ghost use Rattle.gx_state.specs.Replies.{IsDone};
+ghost use Rattle.gx_state.specs.Stores.{IsMemory};
 ghost use Rattle.gx_operands.specs.Plans.{instruction_of};
-ghost use Rattle.gx_operands.specs.Stores.{IsMemory};
 ghost use Rattle.ops_game.specs.Rows.{drawing, drawn, random, setrandom};
 
 use gx_operands::{Plan, can_store, goes, settle};
@@ -30,15 +29,14 @@ fn effect_of(generator: &Generator) -> Effect
 }
 
 /// Draws a word that goes to memory.
-#[tactic(auto, using(crate::proofs::Stores::story_settled))]
+#[tactic(auto)]
 fn draw_to_memory<A: Allocator + Clone>(
     state: &mut State<A>,
     plan: &Plan,
     word: u32,
 ) -> Result<(), Fault>
     requires { IsHeight state.old.flat plan.now.sp }
-    ensures value { Changes result state.old.flat state.new.flat (drawn state.old.flat word (instruction_of plan.now)) }
-    ensures story { state.new.flat.story ≡ state.old.flat.story }
+    ensures { Stores (IsMemory plan.now.dest) result state.old state.new (drawn state.old.flat word (instruction_of plan.now)) }
 {
     let mut generator = state.generator().copy()?;
     let drawn = generator.word(word);
@@ -48,7 +46,7 @@ fn draw_to_memory<A: Allocator + Clone>(
 }
 
 /// Draws a word that goes elsewhere.
-#[tactic(auto, unfolding(gx_operands::specs::Stores::settled), using(crate::proofs::Generators::generators, crate::proofs::Stores::story_settled))]
+#[tactic(auto, unfolding(gx_operands::specs::Stores::settled), using(crate::proofs::Generators::generators))]
 fn draw_elsewhere<A: Allocator + Clone>(
     state: &mut State<A>,
     plan: &Plan,
@@ -56,9 +54,7 @@ fn draw_elsewhere<A: Allocator + Clone>(
 ) -> Result<(), Fault>
     requires sp { IsHeight state.old.flat plan.now.sp }
     requires elsewhere { IsMemory plan.now.dest → ⊥ }
-    ensures value { Changes result state.old.flat state.new.flat (drawn state.old.flat word (instruction_of plan.now)) }
-    ensures story { state.new.flat.story ≡ state.old.flat.story }
-    ensures memory { TakesNone result }
+    ensures { Acts result state.old state.new (drawn state.old.flat word (instruction_of plan.now)) }
 {
     can_store(state, &plan.dest, 4, plan.sp)?;
     let drawn = state.draw(word);
@@ -72,9 +68,7 @@ fn draw_word<A: Allocator + Clone>(
     word: u32,
 ) -> Result<(), Fault>
     requires { IsHeight state.old.flat plan.now.sp }
-    ensures value { Changes result state.old.flat state.new.flat (drawn state.old.flat word (instruction_of plan.now)) }
-    ensures story { state.new.flat.story ≡ state.old.flat.story }
-    ensures memory { IsErrOf result NoMemory → IsMemory plan.now.dest }
+    ensures { Stores (IsMemory plan.now.dest) result state.old state.new (drawn state.old.flat word (instruction_of plan.now)) }
 {
     match plan.dest {
         Dest::Memory(_) => draw_to_memory(state, plan, word),
@@ -90,10 +84,8 @@ pub fn random<A: Allocator + Clone>(
     word: u32,
 ) -> Result<Effect, Fault>
     requires { IsHeight state.old.flat plan.now.sp }
-    ensures value { Does (λ effect. effect) result state.old.flat state.new.flat (random state.old.flat word (instruction_of plan.now)) }
+    ensures value { Works (IsMemory plan.now.dest) result state.old.flat state.new.flat (random state.old.flat word (instruction_of plan.now)) }
     ensures done { IfOk result IsDone }
-    ensures story { state.new.flat.story ≡ state.old.flat.story }
-    ensures memory { IsErrOf result NoMemory → IsMemory plan.now.dest }
 {
     let effect = effect_of(state.generator());
     draw_word(state, plan, word)?;

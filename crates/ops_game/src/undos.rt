@@ -1,14 +1,13 @@
 //! saveundo and restoreundo (Glulx 3.1.2, "Game State").
 //!
 //! A saveundo that is refused keeps no copy, and a restoreundo that is refused drops none.
-ghost use Rattle.std.specs.Prelude.{◌≡◌, ◌<◌, ◌⊎◌, length, IsErrOf, IfOk};
-ghost use Rattle.gx_words.specs.declared.faults.Fault.TheVariants.{NoMemory};
+ghost use Rattle.std.specs.Prelude.{◌≡◌, ◌<◌, ◌⊎◌, length, IfOk};
 ghost use Rattle.gx_words.specs.Faults.{Does};
 ghost use Rattle.gx_state.specs.Flat.{IsHeight};
 ghost use Rattle.gx_state.specs.Replies.{IsDone};
+ghost use Rattle.gx_state.specs.Stores.{IsMemory};
 ghost use Rattle.gx_operands.specs.Plans.{instruction_of};
-ghost use Rattle.gx_operands.specs.Stores.{IsMemory};
-ghost use Rattle.gx_undo.specs.Undo.{AllFor};
+ghost use Rattle.gx_undo.specs.Undo.{AreCopiesFor};
 ghost use Rattle.ops_game.specs.Rows.{saveundo, restoreundo};
 
 use gx_operands::{Plan, can_store, settle, stores};
@@ -18,18 +17,18 @@ use gx_words::Fault;
 use std::alloc::Allocator;
 
 /// saveundo
-#[tactic(auto, unfolding(crate::specs::Rows::saveundo, gx_operands::specs::Stores::settled), using(crate::proofs::Copies::copies, crate::proofs::Stores::story_settled))]
+#[tactic(auto, unfolding(crate::specs::Rows::saveundo, gx_operands::specs::Stores::settled), using(crate::proofs::Copies::copies))]
 pub fn saveundo<A: Allocator + Clone>(
     state: &mut State<A>,
     plan: &Plan,
     undo: &mut Undo<A>,
 ) -> Result<Effect, Fault>
     requires sp { IsHeight state.old.flat plan.now.sp }
-    requires copies { AllFor state.old.flat.story undo.old.copies }
-    ensures value { Does (λ effect. effect) result (state.old.flat, undo.old) (state.new.flat, undo.new) (saveundo state.old.flat undo.old (instruction_of plan.now)) }
+    requires copies { AreCopiesFor state.old.flat.story undo.old.copies }
+    ensures value { Does (Unit {0}) (λ effect. effect) result (state.old.flat, undo.old) (state.new.flat, undo.new) (saveundo state.old.flat undo.old (instruction_of plan.now)) }
     ensures done { IfOk result IsDone }
     ensures story { state.new.flat.story ≡ state.old.flat.story }
-    ensures copies { AllFor state.old.flat.story undo.new.copies }
+    ensures copies { AreCopiesFor state.old.flat.story undo.new.copies }
 {
     let size = state.stack().size();
     let limit = state.stack().limit();
@@ -45,21 +44,20 @@ pub fn saveundo<A: Allocator + Clone>(
 }
 
 /// restoreundo
-#[tactic(auto, unfolding(crate::specs::Rows::restoreundo), using(crate::proofs::Copies::copies, crate::proofs::Stores::story_settled))]
+#[tactic(auto, unfolding(crate::specs::Rows::restoreundo), using(crate::proofs::Copies::copies))]
 pub fn restoreundo<A: Allocator + Clone>(
     state: &mut State<A>,
     plan: &Plan,
     undo: &mut Undo<A>,
 ) -> Result<Effect, Fault>
     requires sp { IsHeight state.old.flat plan.now.sp }
-    requires copies { AllFor state.old.flat.story undo.old.copies }
-    ensures value { Does (λ effect. effect) result (state.old.flat, undo.old) (state.new.flat, undo.new) (restoreundo state.old.flat undo.old (instruction_of plan.now)) }
+    requires copies { AreCopiesFor state.old.flat.story undo.old.copies }
+    ensures value { Does (IsMemory plan.now.dest ⊎ (0 < length undo.old.copies)) (λ effect. effect) result (state.old.flat, undo.old) (state.new.flat, undo.new) (restoreundo state.old.flat undo.old (instruction_of plan.now)) }
     ensures done { IfOk result IsDone }
     ensures story { state.new.flat.story ≡ state.old.flat.story }
-    ensures copies { AllFor state.old.flat.story undo.new.copies }
-    ensures memory { IsErrOf result NoMemory → IsMemory plan.now.dest ⊎ (0 < length undo.old.copies) }
+    ensures copies { AreCopiesFor state.old.flat.story undo.new.copies }
 {
-    let _kept = undo.len();
+    let _kept = undo.len(); // at most the depth
     let Some(copy) = undo.pop() else {
         return stores(state, plan, 1);
     };

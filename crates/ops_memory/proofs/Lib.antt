@@ -1,3 +1,2 @@
 pub mod Spaces
-pub mod Blocks
 pub mod Charges

@@ -1,34 +1,23 @@
 -- Memory of another size, and what a store in it makes.
-use Rattle.std.proofs.Common.{◌≡◌, ◌≤◌, ◌+◌, ◌-◌, ℕ, zero, suc, List, [], ◌∷◌, ◌++◌, length, take, drop, Result, Ok, Err, refl, ap, subst, sym, ◌∙◌, arith, nat_lt, if◌then◌else◌}
+use Rattle.std.proofs.Common.{◌≡◌, ◌≤◌, ◌<◌, ◌+◌, ◌-◌, ◌%◌, ℕ, List, [], ◌∷◌, ◌++◌, length, take, drop, Result, Ok, Err, IsOk, refl, ap, subst, sym, ◌∙◌, arith, nat_lt, if◌then◌else◌}
 use Rattle.std.proofs.lemmas.Grind.{common_steps}
 use Rattle.std.proofs.lemmas.List.{take-take, length-take-le, drop-take}
 use Rattle.std.proofs.Math.Seq.{take-append-add}
 use Rattle.std.proofs.lemmas.Bool.Decides.{nat_tests}
 use Rattle.gx_words.specs.declared.faults.Fault.{Fault}
 use Rattle.gx_words.specs.declared.faults.Fault.TheVariants.{BadAddress, ReadOnly}
+use Rattle.gx_words.specs.declared.limits.TheConstants.{CEILING}
 use Rattle.gx_words.specs.Numbers.{spliced, bytes_of_number}
 use Rattle.gx_words.specs.Results.{◌>>=◌}
 use Rattle.gx_pages.specs.Memory.{IsSize, resized}
-use Rattle.heap_blocks.specs.Heap.{Block, FlatHeap, IsSound, EndsBy, LiesBelow}
+use Rattle.heap_blocks.specs.Heap.{Block, FlatHeap, IsPlace, IsSound, IsEndedBy, IsBelow}
 use Rattle.gx_state.specs.declared.modes.Dest.{Dest}
 use Rattle.gx_state.specs.declared.modes.Dest.TheVariants.{Nowhere, Memory, Local, Push}
 use Rattle.gx_state.specs.Flat.{FlatState, cut}
-use Rattle.gx_state.specs.Space.{MayShrink, zeroed, moved, with_size}
-use Rattle.gx_operands.specs.Stores.{IsMemory, store_fault, settled, with_settled}
-
--- no bytes written leave memory as it is
-none_spliced : (m : List ℕ) (at : ℕ) → spliced m at [] ≡ m
-none_spliced m at = grind (arith, common_steps)
-
-pub none_zeroed : (f : FlatState) (at count : ℕ) → count ≡ 0 → zeroed f at count ≡ f
-none_zeroed f at zero none = ap (λ (m : List ℕ). record f { memory = m }) (none_spliced f.memory at)
-none_zeroed f at (suc n) none = absurd (omega arith)
-
-pub none_moved : (f : FlatState) (from to count : ℕ) → count ≡ 0 → moved f from to count ≡ f
-none_moved f from to zero none = ap (λ (m : List ℕ). record f { memory = m }) (none_spliced f.memory to)
-none_moved f from to (suc n) none = absurd (omega arith)
-
-pub ruleset nothing = (none_zeroed, none_moved)
+use Rattle.gx_state.specs.Sound as states
+use Rattle.gx_state.specs.Space.{IsNewBlock, IsShrinking, with_size}
+use Rattle.gx_state.specs.Stores.{IsMemory, store_fault}
+use Rattle.gx_operands.specs.Stores.{settled, with_settled}
 
 -- memory of another size
 resized_length : (m : List ℕ) (size : ℕ) → length (resized m size) ≡ size
@@ -44,7 +33,7 @@ pub size_back : (f : FlatState) (size before : ℕ) → before ≡ length f.memo
 size_back f size before is above =
     ap (λ (m : List ℕ). record f { memory = m }) (ap (resized (resized f.memory size)) is ∙ resized_back f.memory size (omega (arith, is)))
 
-pub store_in : (f : FlatState) (size at sp : ℕ) → store_fault (with_size f size) 4 (Memory at) sp ≡ (if nat_lt size (at + 4) then Err BadAddress else if nat_lt at f.story.ramstart then Err ReadOnly else Ok tt)
+pub store_in : (f : FlatState) (size at sp : ℕ) → store_fault (with_size f size) 4 (Memory at) sp ≡ (if nat_lt size (at + 4) then Err BadAddress else if nat_lt at f.story.header.ramstart then Err ReadOnly else Ok tt)
 unfolding store_fault
 store_in f size at sp = rw (size_set f size) refl
 
@@ -95,7 +84,7 @@ settled_keeps f g sp v d is =
     subst (Keeps f) parts.1 (keeps_by f sp v d parts.0)
 
 -- memory may shrink after the store as before it
-pub shrink_after : (f g : FlatState) (sp v size : ℕ) (d : Dest) → MayShrink f size → settled f sp 4 d v ≡ Ok g → MayShrink g size
+pub shrink_after : (f g : FlatState) (sp v size : ℕ) (d : Dest) → IsShrinking f size → settled f sp 4 d v ≡ Ok g → IsShrinking g size
 shrink_after f g sp v size d may is =
     let keeps = settled_keeps f g sp v d is in
     record {
@@ -106,13 +95,13 @@ shrink_after f g sp v size d may is =
     }
 
 -- memory that grew may shrink to its size before
-pub shrink_back : (f : FlatState) (size before : ℕ) → before ≡ length f.memory → before ≤ size → IsSize before → f.story.endmem ≤ before → LiesBelow (length f.memory) f.heap → MayShrink (with_size f size) before
-shrink_back f size before is above whole endmem heap =
+pub shrink_back : (f : FlatState) (size before : ℕ) → before ≡ length f.memory → before ≤ size → IsSize before → states.IsSound f → IsShrinking (with_size f size) before
+shrink_back f size before is above whole sound =
     record {
       whole = whole;
       below = rw (size_set f size) above;
-      endmem = endmem;
-      heap = rw is heap;
+      endmem = rw is sound.endmem;
+      heap = rw is sound.heap.within;
     }
 
 -- a store that fits smaller memory fits
@@ -167,14 +156,33 @@ settled_fits f fault sp v size d below fits is =
     let made = is_settled f sp v d (fits_larger f sp size d below fits) in
     absurd cc
 
-pub ruleset shrinks = (shrink_after, settled_cut, settled_fits)
+-- a store that fits is made, but for want of memory
+pub settled_ok : (f : FlatState) (sp v : ℕ) (d : Dest) → store_fault f 4 d sp ≡ Ok tt → IsOk (settled f sp 4 d v)
+unfolding settled
+settled_ok f sp v d fits = rw fits refl
 
-pub ruleset grows = (shrink_back, size_back)
+pub ruleset shrinks = (shrink_after, settled_cut, settled_fits, settled_ok)
+
+pub ruleset grows = (shrink_back, size_back, settled_ok)
+
+-- a block may be entered in memory that covers it, after the store
+pub may_enter : (f g : FlatState) (sp v size end at n : ℕ) (d : Dest) → settled (with_size f size) sp 4 d v ≡ Ok g → 0 < n → IsPlace f.heap end n CEILING at → at + n ≤ size
+    → end % 256 ≡ 0 → f.story.header.endmem ≤ end → IsNewBlock g end at n
+may_enter f g sp v size end at n d is some place there whole endmem =
+    let keeps = settled_keeps (with_size f size) g sp v d is in
+    record {
+      some = some;
+      start = rw keeps.heap place.start;
+      there = omega (arith, keeps.size, size_set f size, there);
+      free = rw keeps.heap place.free;
+      whole = whole;
+      endmem = rw keeps.story endmem;
+    }
 
 -- an inactive heap lies anywhere
-none_ends : (limit : ℕ) (bs : List Block) → length bs ≡ 0 → EndsBy limit bs
+none_ends : (limit : ℕ) (bs : List Block) → length bs ≡ 0 → IsEndedBy limit bs
 none_ends limit [] none = tt
 none_ends limit (b ∷ bs) none = absurd (omega arith)
 
-pub none_below : (limit : ℕ) (h : FlatHeap) → IsSound h → length h.blocks ≡ 0 → LiesBelow limit h
+pub none_below : (limit : ℕ) (h : FlatHeap) → IsSound h → length h.blocks ≡ 0 → IsBelow limit h
 none_below limit h sound none = record { start = omega (arith, sound.none none); ends = none_ends limit h.blocks none }

@@ -1,26 +1,39 @@
--- Which of these rows write memory or resize it, and so may want some: no other ever does.
-use Rattle.std.specs.Prelude.{◌⊎◌, ◌==◌, ◌&&◌, ◌||◌, nat_lt, nat_le, Bool, IsTrue}
+-- Which of these rows write memory or make it larger, and so may want some: no other ever does.
+use Rattle.std.specs.Prelude.{◌⊎◌, ◌<◌, ◌==◌, ◌||◌, length, IsFalse, IsSome, MatchBool}
+use Rattle.gx_words.specs.declared.limits.TheConstants.{CEILING}
+use Rattle.gx_rows.specs.declared.numbers.TheConstants.{ASTORE, ASTORES, ASTOREB, ASTOREBIT, SETMEMSIZE, MZERO, MCOPY, MALLOC, MFREE}
 use Rattle.gx_rows.specs.declared.instructions.Class.{Class}
 use Rattle.gx_rows.specs.declared.instructions.Class.TheVariants as class
-use Rattle.gx_operands.specs.Instructions.{Instruction, operand_at}
-use Rattle.gx_operands.specs.Stores.{IsMemory}
+use Rattle.heap_blocks.specs.Heap.{place}
+use Rattle.gx_state.specs.Flat.{FlatState}
+use Rattle.gx_state.specs.Stores.{IsMemory}
+use Rattle.gx_operands.specs.Instructions.{Instruction, L1}
+use Rattle.ops_memory.specs.Rows.{is_refused}
 
--- astore, astores, astoreb, astorebit, setmemsize and malloc do; mzero and mcopy do unless their count is 0
-abbrev pub is_writing : Instruction → Bool
-is_writing i =
-    (nat_le 0x4C i.row.number && nat_le i.row.number 0x4F) ||
-    i.row.number == 0x103 ||
-    i.row.number == 0x178 ||
-    ((i.row.number == 0x170 || i.row.number == 0x171) && nat_lt 0 (operand_at i 0))
+-- setmemsize does where memory becomes larger, and malloc where there is a place for its block
+abbrev pub IsSizeWriting : FlatState → Instruction → Type 0
+IsSizeWriting f i = IsMemory i.dest ⊎ (IsFalse (is_refused f (L1 i)) × (length f.memory < L1 i))
 
+abbrev pub IsBlockWriting : FlatState → Instruction → Type 0
+IsBlockWriting f i = IsMemory i.dest ⊎ IsSome (place f.heap (length f.memory) (L1 i) CEILING)
+
+-- astore, astores, astoreb and astorebit do; mzero and mcopy do unless their count is 0; mfree never does, and
 -- others do where their result is stored in memory
-abbrev pub Writes : Class → Instruction → Type 0
-Writes class.Calc i = ⊥
-Writes class.Branch i = ⊥
-Writes class.Flow i = ⊥
-Writes class.Copy i = IsMemory i.dest
-Writes class.Memory i = IsMemory i.dest ⊎ IsTrue (is_writing i)
-Writes class.Stack i = ⊥
-Writes class.Print i = ⊥
-Writes class.Game i = ⊥
-Writes class.Glk i = ⊥
+abbrev pub IsMemoryWriting : FlatState → Instruction → Type 0
+IsMemoryWriting f i =
+    MatchBool (i.row.number == ASTORE || i.row.number == ASTORES || i.row.number == ASTOREB || i.row.number == ASTOREBIT) (Unit {0}) (
+    MatchBool (i.row.number == SETMEMSIZE) (IsSizeWriting f i) (
+    MatchBool (i.row.number == MZERO || i.row.number == MCOPY) (0 < L1 i) (
+    MatchBool (i.row.number == MALLOC) (IsBlockWriting f i) (
+    MatchBool (i.row.number == MFREE) ⊥ (IsMemory i.dest)))))
+
+abbrev pub IsWriting : Class → FlatState → Instruction → Type 0
+IsWriting class.Calc f i = ⊥
+IsWriting class.Branch f i = ⊥
+IsWriting class.Flow f i = ⊥
+IsWriting class.Copy f i = IsMemory i.dest
+IsWriting class.Memory f i = IsMemoryWriting f i
+IsWriting class.Stack f i = ⊥
+IsWriting class.Print f i = ⊥
+IsWriting class.Game f i = ⊥
+IsWriting class.Glk f i = ⊥

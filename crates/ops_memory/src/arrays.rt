@@ -1,12 +1,11 @@
 //! The rows of arrays of words, half words and bytes (Glulx 3.1.2, "Array Data").
-ghost use Rattle.std.specs.Prelude.{◌≡◌, IsErrOf, IfOk};
-ghost use Rattle.gx_words.specs.declared.faults.Fault.TheVariants.{NoMemory};
+ghost use Rattle.std.specs.Prelude.{◌≡◌, IfOk};
 ghost use Rattle.gx_words.specs.Numbers.{IsWidth};
-ghost use Rattle.gx_words.specs.Faults.{Does};
 ghost use Rattle.gx_state.specs.Flat.{IsHeight};
+ghost use Rattle.gx_state.specs.Relations.{Works};
 ghost use Rattle.gx_state.specs.Replies.{IsDone};
+ghost use Rattle.gx_state.specs.Stores.{IsMemory};
 ghost use Rattle.gx_operands.specs.Plans.{instruction_of};
-ghost use Rattle.gx_operands.specs.Stores.{IsMemory};
 ghost use Rattle.ops_memory.specs.Rows.{element, loads, puts};
 
 use gx_operands::{Plan, settle, stores};
@@ -37,10 +36,8 @@ pub fn loads<A: Allocator + Clone>(
 ) -> Result<Effect, Fault>
     requires width { IsWidth width }
     requires sp { IsHeight state.old.flat plan.now.sp }
-    ensures value { Does (λ effect. effect) result state.old.flat state.new.flat (loads state.old.flat (instruction_of plan.now) width at) }
+    ensures value { Works (IsMemory plan.now.dest) result state.old.flat state.new.flat (loads state.old.flat (instruction_of plan.now) width at) }
     ensures done { IfOk result IsDone }
-    ensures memory { IsErrOf result NoMemory → IsMemory plan.now.dest }
-    ensures story { state.new.flat.story ≡ state.old.flat.story }
 {
     let value = state.memory().try_number(width, at)?;
     stores(state, plan, value)
@@ -56,9 +53,8 @@ pub fn puts<A: Allocator + Clone>(
 ) -> Result<Effect, Fault>
     requires width { IsWidth width }
     requires sp { IsHeight state.old.flat plan.now.sp }
-    ensures value { Does (λ effect. effect) result state.old.flat state.new.flat (puts state.old.flat (instruction_of plan.now) width at value) }
+    ensures value { Works (Unit {0}) result state.old.flat state.new.flat (puts state.old.flat (instruction_of plan.now) width at value) }
     ensures done { IfOk result IsDone }
-    ensures story { state.new.flat.story ≡ state.old.flat.story }
 {
     settle(state, plan.sp, &Dest::Memory(at), width, value)?;
     state.set_pc(plan.next);

@@ -1,11 +1,10 @@
 //! The rows of arrays of bits (Glulx 3.1.2, "Array Data").
-ghost use Rattle.std.specs.Prelude.{◌≡◌, ◌<◌, ◌/◌, ◌%◌, ◌^◌, IsErrOf, IfOk};
-ghost use Rattle.gx_words.specs.declared.faults.Fault.TheVariants.{NoMemory};
-ghost use Rattle.gx_words.specs.Faults.{Does};
+ghost use Rattle.std.specs.Prelude.{◌≡◌, ◌<◌, ◌/◌, ◌%◌, ◌^◌, IfOk};
 ghost use Rattle.gx_state.specs.Flat.{IsHeight};
+ghost use Rattle.gx_state.specs.Relations.{Works};
 ghost use Rattle.gx_state.specs.Replies.{IsDone};
+ghost use Rattle.gx_state.specs.Stores.{IsMemory};
 ghost use Rattle.gx_operands.specs.Plans.{instruction_of};
-ghost use Rattle.gx_operands.specs.Stores.{IsMemory};
 ghost use Rattle.ops_memory.specs.Rows.{aloadbit, astorebit, byte_of_bit, bit_in_byte, with_bit};
 
 use crate::arrays::puts;
@@ -55,10 +54,8 @@ fn with_bit(byte: u32, k: u32, value: u32) -> u32
 #[tactic(auto, unfolding(crate::specs::Rows::aloadbit))]
 pub fn aloadbit<A: Allocator + Clone>(state: &mut State<A>, plan: &Plan) -> Result<Effect, Fault>
     requires { IsHeight state.old.flat plan.now.sp }
-    ensures value { Does (λ effect. effect) result state.old.flat state.new.flat (aloadbit state.old.flat (instruction_of plan.now)) }
+    ensures value { Works (IsMemory plan.now.dest) result state.old.flat state.new.flat (aloadbit state.old.flat (instruction_of plan.now)) }
     ensures done { IfOk result IsDone }
-    ensures memory { IsErrOf result NoMemory → IsMemory plan.now.dest }
-    ensures story { state.new.flat.story ≡ state.old.flat.story }
 {
     let byte = state.memory().try_number(1, byte_of_bit(plan))?;
     stores(state, plan, bit_of(byte, bit_in_byte(plan)))
@@ -68,9 +65,8 @@ pub fn aloadbit<A: Allocator + Clone>(state: &mut State<A>, plan: &Plan) -> Resu
 #[tactic(auto, unfolding(crate::specs::Rows::astorebit))]
 pub fn astorebit<A: Allocator + Clone>(state: &mut State<A>, plan: &Plan) -> Result<Effect, Fault>
     requires { IsHeight state.old.flat plan.now.sp }
-    ensures value { Does (λ effect. effect) result state.old.flat state.new.flat (astorebit state.old.flat (instruction_of plan.now)) }
+    ensures value { Works (Unit {0}) result state.old.flat state.new.flat (astorebit state.old.flat (instruction_of plan.now)) }
     ensures done { IfOk result IsDone }
-    ensures story { state.new.flat.story ≡ state.old.flat.story }
 {
     let at = byte_of_bit(plan);
     let byte = state.memory().try_number(1, at)?;

@@ -1,58 +1,52 @@
 //! malloc and mfree (Glulx 3.1.2, "Memory Allocation Heap").
 //!
-//! malloc asks for room in the list of blocks first, then for memory, then for the page of its result.
+//! malloc looks for faults first, and then asks for room in the list of blocks, for memory, and for the page of
+//! its result.
 ghost use Rattle.std.specs.Prelude.{◌≡◌, ◌+◌, ◌<◌, ◌≤◌, length, IfOk};
-ghost use Rattle.gx_words.specs.Faults.{Does, TakesNone};
-ghost use Rattle.gx_words.specs.Results.{Turns};
-ghost use Rattle.gx_pages.specs.Memory.{IsSize, ceiling};
+ghost use Rattle.gx_words.specs.declared.limits.TheConstants.{CEILING};
+ghost use Rattle.gx_pages.specs.Memory.{IsSize};
 ghost use Rattle.heap_blocks.specs.Heap.{IsPlace};
 ghost use Rattle.gx_state.specs.Flat.{IsHeight};
+ghost use Rattle.gx_state.specs.Relations.{Goes, Works};
 ghost use Rattle.gx_state.specs.Replies.{IsDone};
-ghost use Rattle.gx_operands.specs.Instructions.{operand_at};
+ghost use Rattle.gx_operands.specs.Instructions.{L1};
 ghost use Rattle.gx_operands.specs.Plans.{instruction_of};
-ghost use Rattle.gx_operands.specs.Stores.{stores};
 ghost use Rattle.ops_memory.specs.Rows.{allocated, covering, malloc, mfree};
+ghost use Rattle.ops_memory.specs.Writes.{IsBlockWriting};
 
 use crate::sizes::{can_store_in, grow_with};
 use gx_operands::{Plan, goes, stores};
-use gx_pages::CEILING;
 use gx_state::{Effect, State};
-use gx_words::Fault;
+use gx_words::{CEILING, Fault, round_up_256};
 use std::alloc::Allocator;
 
 /// The size of memory that covers all below an address.
 fn covering(size: u32, end: u32) -> u32
     requires size { IsSize size }
-    requires end { end ≤ ceiling }
+    requires end { end ≤ CEILING }
     ensures value { result ≡ covering size end }
     ensures whole { IsSize result }
     ensures above { size ≤ result }
     ensures covers { end ≤ result }
 {
-    if end <= size {
-        size
-    } else {
-        (end + 255) / 256 * 256
-    }
+    size.max(round_up_256(end).unwrap())
 }
 
 /// Enters a block at its place, and stores its address as the result.
-#[tactic(auto, unfolding(gx_operands::specs::Stores::settled), using(crate::proofs::Blocks::blocks))]
+#[tactic(auto, unfolding(gx_operands::specs::Stores::settled), using(crate::proofs::Spaces::may_enter))]
 fn allocate<A: Allocator + Clone>(
     state: &mut State<A>,
     plan: &Plan,
     at: u32,
 ) -> Result<Effect, Fault>
     requires sp { IsHeight state.old.flat plan.now.sp }
-    requires some { 0 < operand_at (instruction_of plan.now) 0 }
-    requires place { IsPlace state.old.flat.heap (length state.old.flat.memory) (operand_at (instruction_of plan.now) 0) ceiling at }
-    ensures value { Does (λ effect. effect) result state.old.flat state.new.flat (stores (allocated state.old.flat at (operand_at (instruction_of plan.now) 0)) (instruction_of plan.now) at) }
+    requires some { 0 < L1 (instruction_of plan.now) }
+    requires place { IsPlace state.old.flat.heap (length state.old.flat.memory) (L1 (instruction_of plan.now)) CEILING at }
+    ensures value { Works (Unit {0}) result state.old.flat state.new.flat (allocated state.old.flat (instruction_of plan.now) at) }
     ensures done { IfOk result IsDone }
-    ensures story { state.new.flat.story ≡ state.old.flat.story }
 {
     let count = plan.load(0);
     let end = state.memory().size();
-    let _endmem = state.endmem();
     let size = covering(end, at + count);
     can_store_in(state, &plan.dest, plan.sp, size)?;
     state.reserve_block()?;
@@ -66,9 +60,8 @@ fn allocate<A: Allocator + Clone>(
 #[tactic(auto, unfolding(crate::specs::Rows::malloc))]
 pub fn malloc<A: Allocator + Clone>(state: &mut State<A>, plan: &Plan) -> Result<Effect, Fault>
     requires { IsHeight state.old.flat plan.now.sp }
-    ensures value { Does (λ effect. effect) result state.old.flat state.new.flat (malloc state.old.flat (instruction_of plan.now)) }
+    ensures value { Works (IsBlockWriting state.old.flat (instruction_of plan.now)) result state.old.flat state.new.flat (malloc state.old.flat (instruction_of plan.now)) }
     ensures done { IfOk result IsDone }
-    ensures story { state.new.flat.story ≡ state.old.flat.story }
 {
     let count = plan.load(0);
     if count == 0 {
@@ -85,10 +78,8 @@ pub fn malloc<A: Allocator + Clone>(state: &mut State<A>, plan: &Plan) -> Result
 #[tactic(auto, unfolding(crate::specs::Rows::mfree))]
 pub fn mfree<A: Allocator + Clone>(state: &mut State<A>, plan: &Plan) -> Result<Effect, Fault>
     requires { IsHeight state.old.flat plan.now.sp }
-    ensures value { Turns (λ effect. effect) result state.old.flat state.new.flat (mfree state.old.flat (instruction_of plan.now)) }
+    ensures value { Goes result state.old.flat state.new.flat (mfree state.old.flat (instruction_of plan.now)) }
     ensures done { IfOk result IsDone }
-    ensures memory { TakesNone result }
-    ensures story { state.new.flat.story ≡ state.old.flat.story }
 {
     if !state.free_block(plan.load(0)) {
         return Err(Fault::HeapUse);

@@ -2,22 +2,33 @@
 //!
 //! A search has the budget that is left as its bound of probes. It isn't done where it would begin more; else
 //! `left` is lowered by its probes, but stands after a fault.
-ghost use Rattle.std.specs.Prelude.{◌≡◌, Ok, IsErrOf, IfOk};
-ghost use Rattle.gx_words.specs.declared.faults.Fault.TheVariants.{NoMemory};
-ghost use Rattle.gx_words.specs.Faults.{Does};
-ghost use Rattle.gx_search.specs.Searches.{linear_begun, linked_begun, IsWithin};
-ghost use Rattle.gx_search.specs.Halving.{binary_begun};
+ghost use Rattle.std.specs.Prelude.{◌≡◌, ◌≤◌, if◌then◌else◌, IfOk};
+ghost use Rattle.gx_words.specs.Faults.{Reads, Does};
+ghost use Rattle.gx_search.specs.Searches.{found_within};
 ghost use Rattle.gx_state.specs.Flat.{IsHeight};
+ghost use Rattle.gx_state.specs.Stores.{IsMemory};
+ghost use Rattle.gx_state.specs.Replies.{IsDone};
 ghost use Rattle.gx_operands.specs.Plans.{instruction_of};
-ghost use Rattle.gx_operands.specs.Stores.{IsMemory};
-ghost use Rattle.ops_memory.specs.Rows.{row_ask, list_ask, returns_index, linearsearch, binarysearch, linkedsearch};
-ghost use Rattle.ops_memory.specs.Costs.{charged, ended, EndsAs, EndsWithin};
+ghost use Rattle.gx_operands.specs.Stores.{stores};
+ghost use Rattle.ops_memory.specs.Rows.{row_ask, list_ask, search_by, is_indexed, searches};
+ghost use Rattle.ops_memory.specs.Costs.{lowered, charged, EndsWithin};
 
 use gx_operands::{Plan, stores};
-use gx_search::{Ask, Found, binary, linear, linked};
+use gx_search::{Ask, Found, RETURN_INDEX, binary, linear, linked};
 use gx_state::{Effect, State};
 use gx_words::Fault;
 use std::alloc::Allocator;
+
+/// How a search goes.
+#[derive(Clone, Copy)]
+pub enum Method {
+    /// From struct to struct of a row.
+    Linear,
+    /// Halving a row.
+    Binary,
+    /// From struct to struct of a list.
+    Linked,
+}
 
 /// What linearsearch and binarysearch ask.
 fn row_ask(plan: &Plan) -> Ask
@@ -51,92 +62,79 @@ fn list_ask(plan: &Plan) -> Ask
     }
 }
 
-/// Whether the result is an index (ReturnIndex).
-fn returns_index(ask: &Ask) -> bool
-    ensures { result ≡ returns_index ask.now }
+/// Whether the result is an index.
+fn is_indexed(plan: &Plan, method: Method) -> bool
+    ensures { result ≡ is_indexed method (instruction_of plan.now) }
 {
-    ask.options / 4 % 2 == 1
+    match method {
+        Method::Linear | Method::Binary => row_ask(plan).has(RETURN_INDEX),
+        Method::Linked => false,
+    }
 }
 
-/// Ends a search: stores its result, and lowers the budget by its probes once that is done.
-#[tactic(auto, unfolding(crate::specs::Costs::ended))]
-fn ends<A: Allocator + Clone>(
+/// What the search finds within a bound of probes.
+fn found<A: Allocator + Clone>(
+    state: &State<A>,
+    plan: &Plan,
+    method: Method,
+    bound: u64,
+) -> Result<Found, Fault>
+    ensures { Reads (λ found. found) result (found_within bound (search_by method state.now.flat (instruction_of plan.now))) }
+{
+    match method {
+        Method::Linear => linear(state.memory(), &row_ask(plan), bound),
+        Method::Binary => binary(state.memory(), &row_ask(plan), bound),
+        Method::Linked => linked(state.memory(), &list_ask(plan), bound),
+    }
+}
+
+/// An index, or else an address.
+fn word(indexed: bool, index: u32, address: u32) -> u32
+    ensures { result ≡ (if indexed then index else address) }
+{
+    if indexed { index } else { address }
+}
+
+/// Stores a result, and lowers the budget by probes once that is done.
+fn pays<A: Allocator + Clone>(
     state: &mut State<A>,
     plan: &Plan,
     left: &mut u64,
-    indexed: bool,
-    found: Found,
+    probes: u64,
+    value: u32,
 ) -> Result<Effect, Fault>
     requires sp { IsHeight state.old.flat plan.now.sp }
-    requires within { IsWithin left.old (Ok found) }
-    ensures value { Does (λ effect. effect) result (state.old.flat, left.old) (state.new.flat, left.new) (ended state.old.flat (instruction_of plan.now) left.old indexed found) }
-    ensures done { IfOk result (EndsAs found) }
-    ensures memory { IsErrOf result NoMemory → IsMemory plan.now.dest }
+    requires probes { probes ≤ left.old }
+    ensures value { Does (IsMemory plan.now.dest) (λ effect. effect) result (state.old.flat, left.old) (state.new.flat, left.new) (lowered left.old probes (stores state.old.flat (instruction_of plan.now) value)) }
+    ensures done { IfOk result IsDone }
     ensures story { state.new.flat.story ≡ state.old.flat.story }
 {
-    let (value, probes) = match found {
-        Found::At {
-            address,
-            index,
-            probes,
-        } => (if indexed { index } else { address }, probes),
-        Found::Nothing { probes } => (if indexed { u32::MAX } else { 0 }, probes),
-        Found::More => return Ok(Effect::Spent),
-    };
     let effect = stores(state, plan, value)?;
     *left -= probes;
     Ok(effect)
 }
 
-/// linearsearch
-#[tactic(auto, unfolding(crate::specs::Rows::linearsearch), using(crate::proofs::Charges::charges))]
-pub fn linearsearch<A: Allocator + Clone>(
+/// Searches, and stores the result.
+#[tactic(auto, using(crate::proofs::Charges::charges))]
+pub fn searches<A: Allocator + Clone>(
     state: &mut State<A>,
     plan: &Plan,
     left: &mut u64,
+    method: Method,
 ) -> Result<Effect, Fault>
     requires { IsHeight state.old.flat plan.now.sp }
-    ensures value { Does (λ effect. effect) result (state.old.flat, left.old) (state.new.flat, left.new) (charged left.old (linear_begun state.old.flat.memory (row_ask (instruction_of plan.now))) state.old.flat (linearsearch state.old.flat (instruction_of plan.now))) }
-    ensures done { IfOk result (EndsWithin left.old (linear_begun state.old.flat.memory (row_ask (instruction_of plan.now)))) }
-    ensures memory { IsErrOf result NoMemory → IsMemory plan.now.dest }
+    ensures value { Does (IsMemory plan.now.dest) (λ effect. effect) result (state.old.flat, left.old) (state.new.flat, left.new) (charged left.old (search_by method state.old.flat (instruction_of plan.now)).probes state.old.flat (searches method state.old.flat (instruction_of plan.now))) }
+    ensures done { IfOk result (EndsWithin left.old (search_by method state.old.flat (instruction_of plan.now)).probes) }
     ensures story { state.new.flat.story ≡ state.old.flat.story }
 {
-    let ask = row_ask(plan);
-    let found = linear(state.memory(), &ask, *left)?;
-    ends(state, plan, left, returns_index(&ask), found)
-}
-
-/// binarysearch
-#[tactic(auto, unfolding(crate::specs::Rows::binarysearch), using(crate::proofs::Charges::charges))]
-pub fn binarysearch<A: Allocator + Clone>(
-    state: &mut State<A>,
-    plan: &Plan,
-    left: &mut u64,
-) -> Result<Effect, Fault>
-    requires { IsHeight state.old.flat plan.now.sp }
-    ensures value { Does (λ effect. effect) result (state.old.flat, left.old) (state.new.flat, left.new) (charged left.old (binary_begun state.old.flat.memory (row_ask (instruction_of plan.now))) state.old.flat (binarysearch state.old.flat (instruction_of plan.now))) }
-    ensures done { IfOk result (EndsWithin left.old (binary_begun state.old.flat.memory (row_ask (instruction_of plan.now)))) }
-    ensures memory { IsErrOf result NoMemory → IsMemory plan.now.dest }
-    ensures story { state.new.flat.story ≡ state.old.flat.story }
-{
-    let ask = row_ask(plan);
-    let found = binary(state.memory(), &ask, *left)?;
-    ends(state, plan, left, returns_index(&ask), found)
-}
-
-/// linkedsearch
-#[tactic(auto, unfolding(crate::specs::Rows::linkedsearch), using(crate::proofs::Charges::charges))]
-pub fn linkedsearch<A: Allocator + Clone>(
-    state: &mut State<A>,
-    plan: &Plan,
-    left: &mut u64,
-) -> Result<Effect, Fault>
-    requires { IsHeight state.old.flat plan.now.sp }
-    ensures value { Does (λ effect. effect) result (state.old.flat, left.old) (state.new.flat, left.new) (charged left.old (linked_begun state.old.flat.memory (list_ask (instruction_of plan.now))) state.old.flat (linkedsearch state.old.flat (instruction_of plan.now))) }
-    ensures done { IfOk result (EndsWithin left.old (linked_begun state.old.flat.memory (list_ask (instruction_of plan.now)))) }
-    ensures memory { IsErrOf result NoMemory → IsMemory plan.now.dest }
-    ensures story { state.new.flat.story ≡ state.old.flat.story }
-{
-    let found = linked(state.memory(), &list_ask(plan), *left)?;
-    ends(state, plan, left, false, found)
+    let indexed = is_indexed(plan, method);
+    match found(state, plan, method, *left)? {
+        Found::At {
+            address,
+            index,
+            probes,
+        } => pays(state, plan, left, probes, word(indexed, index, address)),
+        Found::Nothing { probes } => pays(state, plan, left, probes, word(indexed, u32::MAX, 0)),
+        Found::More => Ok(Effect::Spent),
+    }
 }

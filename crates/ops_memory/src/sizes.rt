@@ -1,22 +1,24 @@
 //! setmemsize, and how memory gets another size (Glulx 3.1.2, "Memory Map").
 //!
-//! A result is stored in memory of the new size, and after a refusal memory has its size before.
-ghost use Rattle.std.specs.Prelude.{◌≡◌, ◌≤◌, Ok, length, IsErrOf, IfOk};
-ghost use Rattle.gx_words.specs.declared.faults.Fault.TheVariants.{NoMemory};
-ghost use Rattle.gx_words.specs.Faults.{Changes, Does, TakesNone};
+//! A result is stored in memory of the new size, and after a refusal memory has its size before. Faults are
+//! looked for first.
+ghost use Rattle.std.specs.Prelude.{◌≡◌, ◌⊎◌, ◌<◌, ◌≤◌, Ok, length, IfOk};
+ghost use Rattle.gx_words.specs.Faults.{Reads};
 ghost use Rattle.gx_pages.specs.Memory.{IsSize};
-ghost use Rattle.heap_blocks.specs.Heap.{LiesBelow};
+ghost use Rattle.heap_blocks.specs.Heap.{IsBelow};
 ghost use Rattle.gx_state.specs.Flat.{IsHeight};
-ghost use Rattle.gx_state.specs.Space.{MayGrow, MayShrink, with_size};
+ghost use Rattle.gx_state.specs.Relations.{Stores, Works};
 ghost use Rattle.gx_state.specs.Replies.{IsDone};
+ghost use Rattle.gx_state.specs.Space.{IsGrowth, IsShrinking, with_size};
+ghost use Rattle.gx_state.specs.Stores.{IsMemory, store_fault};
 ghost use Rattle.gx_operands.specs.Plans.{instruction_of};
-ghost use Rattle.gx_operands.specs.Stores.{store_fault, settled};
+ghost use Rattle.gx_operands.specs.Stores.{settled};
 ghost use Rattle.ops_memory.specs.Rows.{setmemsize};
+ghost use Rattle.ops_memory.specs.Writes.{IsSizeWriting};
 
 use gx_operands::{Plan, can_store, settle, stores};
-use gx_pages::CEILING;
 use gx_state::{Dest, Effect, State};
-use gx_words::Fault;
+use gx_words::{CEILING, Fault};
 use std::alloc::Allocator;
 
 /// Looks whether a result could be stored in memory of another size.
@@ -28,8 +30,7 @@ pub fn can_store_in<A: Allocator + Clone>(
     size: u32,
 ) -> Result<(), Fault>
     requires { IsHeight state.now.flat sp }
-    ensures value { result ≡ store_fault (with_size state.now.flat size) 4 dest.now sp }
-    ensures memory { TakesNone result }
+    ensures { Reads (λ v. v) result (store_fault (with_size state.now.flat size) 4 dest.now sp) }
 {
     match *dest {
         Dest::Memory(at) => {
@@ -45,7 +46,7 @@ pub fn can_store_in<A: Allocator + Clone>(
     }
 }
 
-/// Makes memory larger, and stores a result in it.
+/// Makes memory larger, and stores a result in it that was found to have no fault.
 #[tactic(auto, using(crate::proofs::Spaces::grows))]
 pub fn grow_with<A: Allocator + Clone>(
     state: &mut State<A>,
@@ -54,14 +55,11 @@ pub fn grow_with<A: Allocator + Clone>(
     value: u32,
 ) -> Result<(), Fault>
     requires sp { IsHeight state.old.flat plan.now.sp }
-    requires size { MayGrow state.old.flat size }
-    ensures value { Changes result state.old.flat state.new.flat (settled (with_size state.old.flat size) plan.now.sp 4 plan.now.dest value) }
-    ensures spare { state.new.spare ≡ state.old.spare }
-    ensures story { state.new.flat.story ≡ state.old.flat.story }
+    requires size { IsGrowth state.old.flat size }
+    requires fits { store_fault (with_size state.old.flat size) 4 plan.now.dest plan.now.sp ≡ Ok tt }
+    ensures { Stores (IsMemory plan.now.dest ⊎ (length state.old.flat.memory < size)) result state.old state.new (settled (with_size state.old.flat size) plan.now.sp 4 plan.now.dest value) }
 {
     let before = state.memory().size();
-    let _endmem = state.endmem();
-    let _heap = state.heap();
     state.grow(size)?;
     match settle(state, plan.sp, &plan.dest, 4, value) {
         Ok(()) => Ok(()),
@@ -81,10 +79,9 @@ fn shrink_with<A: Allocator + Clone>(
     value: u32,
 ) -> Result<(), Fault>
     requires sp { IsHeight state.old.flat plan.now.sp }
-    requires size { MayShrink state.old.flat size }
+    requires size { IsShrinking state.old.flat size }
     requires fits { store_fault (with_size state.old.flat size) 4 plan.now.dest plan.now.sp ≡ Ok tt }
-    ensures value { Changes result state.old.flat state.new.flat (settled (with_size state.old.flat size) plan.now.sp 4 plan.now.dest value) }
-    ensures story { state.new.flat.story ≡ state.old.flat.story }
+    ensures { Stores (IsMemory plan.now.dest) result state.old state.new (settled (with_size state.old.flat size) plan.now.sp 4 plan.now.dest value) }
 {
     settle(state, plan.sp, &plan.dest, 4, value)?;
     state.shrink(size);
@@ -101,10 +98,9 @@ fn resize_with<A: Allocator + Clone>(
 ) -> Result<(), Fault>
     requires sp { IsHeight state.old.flat plan.now.sp }
     requires size { IsSize size }
-    requires endmem { state.old.flat.story.endmem ≤ size }
-    requires heap { LiesBelow size state.old.flat.heap }
-    ensures value { Changes result state.old.flat state.new.flat (settled (with_size state.old.flat size) plan.now.sp 4 plan.now.dest value) }
-    ensures story { state.new.flat.story ≡ state.old.flat.story }
+    requires endmem { state.old.flat.story.header.endmem ≤ size }
+    requires heap { IsBelow size state.old.flat.heap }
+    ensures { Stores (IsMemory plan.now.dest ⊎ (length state.old.flat.memory < size)) result state.old state.new (settled (with_size state.old.flat size) plan.now.sp 4 plan.now.dest value) }
 {
     can_store_in(state, &plan.dest, plan.sp, size)?;
     if size < state.memory().size() {
@@ -118,9 +114,8 @@ fn resize_with<A: Allocator + Clone>(
 #[tactic(auto, unfolding(crate::specs::Rows::setmemsize), using(crate::proofs::Spaces::none_below))]
 pub fn setmemsize<A: Allocator + Clone>(state: &mut State<A>, plan: &Plan) -> Result<Effect, Fault>
     requires { IsHeight state.old.flat plan.now.sp }
-    ensures value { Does (λ effect. effect) result state.old.flat state.new.flat (setmemsize state.old.flat (instruction_of plan.now)) }
+    ensures value { Works (IsSizeWriting state.old.flat (instruction_of plan.now)) result state.old.flat state.new.flat (setmemsize state.old.flat (instruction_of plan.now)) }
     ensures done { IfOk result IsDone }
-    ensures story { state.new.flat.story ≡ state.old.flat.story }
 {
     let size = plan.load(0);
     if size < state.endmem() || size % 256 != 0 {

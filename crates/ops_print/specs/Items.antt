@@ -1,13 +1,15 @@
--- One step of printing: the next item of a string or number under each iosystem (Glulx 3.1.2, "Strings", "Output"
+-- One step of printing: the next item of a string or number under each I/O system (Glulx 3.1.2, "Strings", "Output"
 -- and "Calling and Returning During Output Filtering").
 --
 -- A fault in any line leaves the state as it is.
-use Rattle.std.specs.Prelude.{ℕ, zero, suc, ◌+◌, ◌==◌, nat_lt, min, if◌then◌else◌, Bool, true, List, [], ◌∷◌, Result, Ok, Err}
+use Rattle.std.specs.Prelude.{ℕ, zero, suc, ◌+◌, ◌==◌, min, if◌then◌else◌, Bool, true, List, [], ◌∷◌, Result, Ok, Err}
 use Rattle.gx_words.specs.declared.faults.Fault.{Fault}
 use Rattle.gx_words.specs.declared.faults.Fault.TheVariants.{BadFrame}
+use Rattle.gx_words.specs.declared.iosystems.TheConstants.{FILTER_SYSTEM, GLK_SYSTEM}
 use Rattle.gx_words.specs.declared.strings.Printing.{Printing}
 use Rattle.gx_words.specs.declared.strings.PrintKind.{PrintKind}
 use Rattle.gx_words.specs.declared.strings.PrintKind.TheVariants.{E0, E1, E2, Number}
+use Rattle.gx_words.specs.Numbers.{is_bit}
 use Rattle.gx_words.specs.Results.{◌>>=◌}
 use Rattle.gx_pages.specs.Memory.{number_in}
 use Rattle.gx_strings.specs.declared.items.Item.{Item}
@@ -36,50 +38,50 @@ abbrev pub arguments_in : List ℕ → ℕ → ℕ → Result (List ℕ) Fault
 arguments_in memory at count = words_in memory at (min count 256)
 
 -- a function is called in the midst of printing, whose result is dropped
-unfoldable pub called : FlatState → Bool → Printing → ℕ → List ℕ → Result (FlatState × Effect) Fault
-called f started back at args = do
+unfoldable pub function_called : FlatState → Bool → Printing → ℕ → List ℕ → Result (FlatState × Effect) Fault
+function_called f started back at args = do
   g ← entered f (sp_of f) (ways_back f started back) at args
   Ok (record g { mode = mode.Running }, Went)
 
--- A character under each iosystem: under 1, the filter, the function at the rock is called with it; under 2 it
--- is asked to be put to the current Glk stream, with the state standing; under 0 it is dropped.
-unfoldable pub char_done : FlatState → Bool → ℕ → Printing → Result (FlatState × Effect) Fault
-char_done f started c next =
-    if f.iosys.0 == 1 then called f started next f.iosys.1 (c ∷ []) else
-    if f.iosys.0 == 2 then Ok (f, Put c) else
+-- A character under each I/O system: the filter is the function at the rock, which is called with it; under Glk it is
+-- asked to be put to the current stream, with the state standing; the null system drops it.
+unfoldable pub character_printed : FlatState → Bool → ℕ → Printing → Result (FlatState × Effect) Fault
+character_printed f started c next =
+    if f.iosys.0 == FILTER_SYSTEM then function_called f started next f.iosys.1 (c ∷ []) else
+    if f.iosys.0 == GLK_SYSTEM then Ok (f, Put c) else
     Ok (record f { mode = mode.Printing next }, Went)
 
 -- an inner string is begun
-unfoldable pub sub_done : FlatState → Bool → Printing → Printing → Result (FlatState × Effect) Fault
-sub_done f started back inner = do
+unfoldable pub string_begun : FlatState → Bool → Printing → Printing → Result (FlatState × Effect) Fault
+string_begun f started back inner = do
   g ← pushed_stubs f (ways_back f started back)
   Ok (record g { mode = mode.Printing inner }, Went)
 
 -- a function is called with the arguments of a reference
-unfoldable pub call_done : FlatState → Bool → Printing → ℕ → ℕ → ℕ → Result (FlatState × Effect) Fault
-call_done f started back at args_at count = do
+unfoldable pub reference_called : FlatState → Bool → Printing → ℕ → ℕ → ℕ → Result (FlatState × Effect) Fault
+reference_called f started back at args_at count = do
   args ← arguments_in f.memory args_at count
-  called f started back at args
+  function_called f started back at args
 
 -- the end of a string or number
-unfoldable pub end_done : FlatState → Bool → Result (FlatState × Effect) Fault
-end_done f started =
+unfoldable pub string_ended : FlatState → Bool → Result (FlatState × Effect) Fault
+string_ended f started =
     if started then (do
       g ← inner_ended f
       Ok (g, Went)) else
     Ok (record f { mode = mode.Running }, Went)
 
 -- what an item of a string or number does; `started` is the mark of the present one
-unfoldable pub done : FlatState → Bool → Item → Result (FlatState × Effect) Fault
-done f started (Char value next) = char_done f started value next
-done f started (Sub back inner) = sub_done f started back inner
-done f started (Call back at args_at count) = call_done f started back at args_at count
-done f started End = end_done f started
+unfoldable pub item_printed : FlatState → Bool → Item → Result (FlatState × Effect) Fault
+item_printed f started (Char value next) = character_printed f started value next
+item_printed f started (Sub back inner) = string_begun f started back inner
+item_printed f started (Call back at args_at count) = reference_called f started back at args_at count
+item_printed f started End = string_ended f started
 
 -- a compressed string stands at one of the eight bits of a byte
 abbrev pub is_place : PrintKind → ℕ → Bool
 is_place E0 bit = true
-is_place E1 bit = nat_lt bit 8
+is_place E1 bit = is_bit bit
 is_place E2 bit = true
 is_place Number bit = true
 
@@ -88,7 +90,7 @@ unfoldable pub item : FlatState → Printing → Result (FlatState × Effect) Fa
 item f p =
     if is_place p.kind p.bit then (do
       i ← next_item f.memory f.table p
-      done f p.started i) else
+      item_printed f p.started i) else
     Err BadFrame
 
 -- the same by the mode; where code runs there is nothing to print
@@ -100,16 +102,16 @@ abbrev pub printed : FlatState → Result (FlatState × Effect) Fault
 printed f = item_by f f.mode
 
 -- The mode after a character that was put: on behind it.
-abbrev pub behind : Mode → Result Item Fault → Mode
-behind m (Ok (Char value next)) = mode.Printing next
-behind m (Ok (Sub back inner)) = m
-behind m (Ok (Call back at args_at count)) = m
-behind m (Ok End) = m
-behind m (Err fault) = m
+abbrev pub mode_behind : Mode → Result Item Fault → Mode
+mode_behind m (Ok (Char value next)) = mode.Printing next
+mode_behind m (Ok (Sub back inner)) = m
+mode_behind m (Ok (Call back at args_at count)) = m
+mode_behind m (Ok End) = m
+mode_behind m (Err fault) = m
 
 abbrev pub mode_by : FlatState → Mode → Mode
 mode_by f mode.Running = mode.Running
-mode_by f (mode.Printing p) = behind f.mode (next_item f.memory f.table p)
+mode_by f (mode.Printing p) = mode_behind f.mode (next_item f.memory f.table p)
 
 unfoldable pub mode_after : FlatState → Mode
 mode_after f = mode_by f f.mode

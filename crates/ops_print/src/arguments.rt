@@ -1,7 +1,6 @@
 //! The arguments of a reference to a function (Glulx 3.1.2, "The String-Decoding Table").
-ghost use Rattle.std.specs.Prelude.{◌≡◌, ◌≤◌};
-ghost use Rattle.gx_words.specs.Faults.{TakesNone};
-ghost use Rattle.gx_words.specs.Results.{Is};
+ghost use Rattle.std.specs.Prelude.{◌≤◌};
+ghost use Rattle.gx_words.specs.Faults.{Reads};
 ghost use Rattle.ops_print.specs.Items.{words_in, arguments_in};
 
 use arrayvec::ArrayVec;
@@ -10,17 +9,15 @@ use gx_words::Fault;
 use std::alloc::Allocator;
 
 /// So many words from an address on; `BadAddress` exactly where one of them isn't in memory.
-#[tactic(auto, using(crate::proofs::Words::words))]
+#[tactic(auto, using(crate::proofs::Words::turns))]
 fn words_in<A: Allocator + Clone>(
     memory: &Pages<A>,
     at: u32,
     count: u32,
 ) -> Result<ArrayVec<u32, 256>, Fault>
     requires { count ≤ 256 }
-    ensures value { Is (λ words. words.items) result (words_in memory.now at count) }
-    ensures memory { TakesNone result }
+    ensures { Reads (λ words. words.items) result (words_in memory.now at count) }
 {
-    let _size = memory.size();
     let mut words = ArrayVec::new();
     for i in 0..count {
         words.push(memory.try_number(4, at + 4 * i)?);
@@ -35,8 +32,7 @@ pub fn arguments_in<A: Allocator + Clone>(
     at: u32,
     count: u32,
 ) -> Result<ArrayVec<u32, 256>, Fault>
-    ensures value { Is (λ args. args.items) result (arguments_in memory.now at count) }
-    ensures memory { TakesNone result }
+    ensures { Reads (λ args. args.items) result (arguments_in memory.now at count) }
 {
     words_in(memory, at, count.min(256))
 }

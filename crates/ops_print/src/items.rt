@@ -1,31 +1,30 @@
-//! One step of printing: the next item of a string or number, by the iosystem.
+//! One step of printing: the next item of a string or number, by the I/O system.
 ghost use Rattle.std.specs.Prelude.{◌≡◌, ◌<◌, IfOk};
 ghost use Rattle.gx_words.specs.Faults.{TakesNone};
-ghost use Rattle.gx_words.specs.Results.{Alters, Turns};
+ghost use Rattle.gx_words.specs.Results.{Turns};
 ghost use Rattle.gx_state.specs.Flat.{sp_of};
-ghost use Rattle.ops_print.specs.Rows.{AsksAtMostPut};
-ghost use Rattle.ops_print.specs.Items.{called, char_done, sub_done, call_done, end_done, is_place, printed, mode_after};
+ghost use Rattle.gx_state.specs.Relations.{Goes};
+ghost use Rattle.ops_print.specs.Rows.{IsPutAtMost};
+ghost use Rattle.ops_print.specs.Items.{function_called, character_printed, string_begun, reference_called, string_ended, is_place, printed, mode_after};
 
 use crate::arguments::arguments_in;
 use crate::stubs::{end_inner, resuming, to_code};
 use gx_state::{Effect, Mode, State};
 use gx_strings::{Item, next_item};
-use gx_words::{Fault, PrintKind, Printing};
+use gx_words::{FILTER_SYSTEM, Fault, GLK_SYSTEM, PrintKind, Printing};
 use std::alloc::Allocator;
 
 /// Calls a function in the midst of printing.
-#[tactic(auto, unfolding(crate::specs::Items::called))]
-fn called<A: Allocator + Clone>(
+#[tactic(auto, unfolding(crate::specs::Items::function_called))]
+fn call_function<A: Allocator + Clone>(
     state: &mut State<A>,
     started: bool,
     back: &Printing,
     at: u32,
     args: &[u32],
 ) -> Result<Effect, Fault>
-    ensures value { Turns (λ effect. effect) result state.old.flat state.new.flat (called state.old.flat started back.now at args.now) }
-    ensures asks { IfOk result (λ effect. AsksAtMostPut effect (state.new.flat ≡ state.old.flat)) }
-    ensures memory { TakesNone result }
-    ensures story { state.new.flat.story ≡ state.old.flat.story }
+    ensures value { Goes result state.old.flat state.new.flat (function_called state.old.flat started back.now at args.now) }
+    ensures asks { IfOk result (λ effect. IsPutAtMost effect (state.new.flat ≡ state.old.flat)) }
 {
     let sp = state.stack().size();
     let stub = resuming(state, back);
@@ -40,22 +39,20 @@ fn called<A: Allocator + Clone>(
 }
 
 /// Prints a character of a string or number.
-#[tactic(auto, unfolding(crate::specs::Items::char_done))]
-fn char_done<A: Allocator + Clone>(
+#[tactic(auto, unfolding(crate::specs::Items::character_printed))]
+fn print_character<A: Allocator + Clone>(
     state: &mut State<A>,
     started: bool,
     value: u32,
     next: &Printing,
 ) -> Result<Effect, Fault>
-    ensures value { Turns (λ effect. effect) result state.old.flat state.new.flat (char_done state.old.flat started value next.now) }
-    ensures asks { IfOk result (λ effect. AsksAtMostPut effect (state.new.flat ≡ state.old.flat)) }
-    ensures memory { TakesNone result }
-    ensures story { state.new.flat.story ≡ state.old.flat.story }
+    ensures value { Goes result state.old.flat state.new.flat (character_printed state.old.flat started value next.now) }
+    ensures asks { IfOk result (λ effect. IsPutAtMost effect (state.new.flat ≡ state.old.flat)) }
 {
     let (system, rock) = state.iosys();
     match system {
-        1 => called(state, started, next, rock, &[value]),
-        2 => Ok(Effect::Put(value)),
+        FILTER_SYSTEM => call_function(state, started, next, rock, &[value]),
+        GLK_SYSTEM => Ok(Effect::Put(value)),
         _ => {
             state.set_mode(Mode::Printing(*next));
             Ok(Effect::Went)
@@ -64,18 +61,16 @@ fn char_done<A: Allocator + Clone>(
 }
 
 /// Begins the string that a reference names.
-#[tactic(auto, unfolding(crate::specs::Items::sub_done))]
-fn sub_done<A: Allocator + Clone>(
+#[tactic(auto, unfolding(crate::specs::Items::string_begun))]
+fn begin_string<A: Allocator + Clone>(
     state: &mut State<A>,
     started: bool,
     back: &Printing,
     inner: &Printing,
 ) -> Result<Effect, Fault>
     requires { 0 < sp_of state.old.flat }
-    ensures value { Turns (λ effect. effect) result state.old.flat state.new.flat (sub_done state.old.flat started back.now inner.now) }
-    ensures asks { IfOk result (λ effect. AsksAtMostPut effect (state.new.flat ≡ state.old.flat)) }
-    ensures memory { TakesNone result }
-    ensures story { state.new.flat.story ≡ state.old.flat.story }
+    ensures value { Goes result state.old.flat state.new.flat (string_begun state.old.flat started back.now inner.now) }
+    ensures asks { IfOk result (λ effect. IsPutAtMost effect (state.new.flat ≡ state.old.flat)) }
 {
     let stub = resuming(state, back);
     if started {
@@ -89,8 +84,8 @@ fn sub_done<A: Allocator + Clone>(
 }
 
 /// Calls the function that a reference names.
-#[tactic(auto, unfolding(crate::specs::Items::call_done))]
-fn call_done<A: Allocator + Clone>(
+#[tactic(auto, unfolding(crate::specs::Items::reference_called))]
+fn call_reference<A: Allocator + Clone>(
     state: &mut State<A>,
     started: bool,
     back: &Printing,
@@ -98,22 +93,18 @@ fn call_done<A: Allocator + Clone>(
     args_at: u32,
     count: u32,
 ) -> Result<Effect, Fault>
-    ensures value { Turns (λ effect. effect) result state.old.flat state.new.flat (call_done state.old.flat started back.now at args_at count) }
-    ensures asks { IfOk result (λ effect. AsksAtMostPut effect (state.new.flat ≡ state.old.flat)) }
-    ensures memory { TakesNone result }
-    ensures story { state.new.flat.story ≡ state.old.flat.story }
+    ensures value { Goes result state.old.flat state.new.flat (reference_called state.old.flat started back.now at args_at count) }
+    ensures asks { IfOk result (λ effect. IsPutAtMost effect (state.new.flat ≡ state.old.flat)) }
 {
     let args = arguments_in(state.memory(), args_at, count)?;
-    called(state, started, back, at, args.as_slice())
+    call_function(state, started, back, at, args.as_slice())
 }
 
 /// Ends a string or number.
-#[tactic(auto, unfolding(crate::specs::Items::end_done))]
-fn end_done<A: Allocator + Clone>(state: &mut State<A>, started: bool) -> Result<Effect, Fault>
-    ensures value { Turns (λ effect. effect) result state.old.flat state.new.flat (end_done state.old.flat started) }
-    ensures asks { IfOk result (λ effect. AsksAtMostPut effect (state.new.flat ≡ state.old.flat)) }
-    ensures memory { TakesNone result }
-    ensures story { state.new.flat.story ≡ state.old.flat.story }
+#[tactic(auto, unfolding(crate::specs::Items::string_ended))]
+fn end_string<A: Allocator + Clone>(state: &mut State<A>, started: bool) -> Result<Effect, Fault>
+    ensures value { Goes result state.old.flat state.new.flat (string_ended state.old.flat started) }
+    ensures asks { IfOk result (λ effect. IsPutAtMost effect (state.new.flat ≡ state.old.flat)) }
 {
     if started {
         end_inner(state)?;
@@ -136,11 +127,11 @@ fn is_place(printing: &Printing) -> bool
 /// Makes one step of printing like `item`, and answers with it the mode behind the character, where the
 /// item is one: the state stands while a character is to be put, and this is its mode once that is done.
 /// For any other item it is the mode before the step.
-#[tactic(auto, unfolding(crate::specs::Items::item, crate::specs::Items::done, crate::specs::Items::mode_after))]
+#[tactic(auto, unfolding(crate::specs::Items::item, crate::specs::Items::item_printed, crate::specs::Items::mode_after))]
 pub fn item_and_mode<A: Allocator + Clone>(state: &mut State<A>) -> Result<(Effect, Mode), Fault>
     requires { 0 < sp_of state.old.flat }
     ensures value { Turns (λ r. r.0) result state.old.flat state.new.flat (printed state.old.flat) }
-    ensures asks { IfOk result (λ r. AsksAtMostPut r.0 (state.new.flat ≡ state.old.flat)) }
+    ensures asks { IfOk result (λ r. IsPutAtMost r.0 (state.new.flat ≡ state.old.flat)) }
     ensures mode { IfOk result (λ r. r.1 ≡ mode_after state.old.flat) }
     ensures memory { TakesNone result }
     ensures story { state.new.flat.story ≡ state.old.flat.story }
@@ -155,17 +146,20 @@ pub fn item_and_mode<A: Allocator + Clone>(state: &mut State<A>) -> Result<(Effe
     let started = printing.started;
     match next_item(state.memory(), state.table(), &printing)? {
         Item::Char { value, next } => {
-            let effect = char_done(state, started, value, &next)?;
+            let effect = print_character(state, started, value, &next)?;
             Ok((effect, Mode::Printing(next)))
         }
-        Item::Sub { back, inner } => Ok((sub_done(state, started, &back, &inner)?, mode)),
+        Item::Sub { back, inner } => Ok((begin_string(state, started, &back, &inner)?, mode)),
         Item::Call {
             back,
             at,
             args_at,
             args,
-        } => Ok((call_done(state, started, &back, at, args_at, args)?, mode)),
-        Item::End => Ok((end_done(state, started)?, mode)),
+        } => Ok((
+            call_reference(state, started, &back, at, args_at, args)?,
+            mode,
+        )),
+        Item::End => Ok((end_string(state, started)?, mode)),
     }
 }
 
@@ -178,10 +172,8 @@ pub fn item_and_mode<A: Allocator + Clone>(state: &mut State<A>) -> Result<(Effe
 /// may end by is there at its end.
 pub fn item<A: Allocator + Clone>(state: &mut State<A>) -> Result<Effect, Fault>
     requires { 0 < sp_of state.old.flat }
-    ensures value { Turns (λ effect. effect) result state.old.flat state.new.flat (printed state.old.flat) }
-    ensures asks { IfOk result (λ effect. AsksAtMostPut effect (state.new.flat ≡ state.old.flat)) }
-    ensures memory { TakesNone result }
-    ensures story { state.new.flat.story ≡ state.old.flat.story }
+    ensures value { Goes result state.old.flat state.new.flat (printed state.old.flat) }
+    ensures asks { IfOk result (λ effect. IsPutAtMost effect (state.new.flat ≡ state.old.flat)) }
 {
     let (effect, _) = item_and_mode(state)?;
     Ok(effect)

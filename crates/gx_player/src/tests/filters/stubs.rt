@@ -1,9 +1,7 @@
 //! Stubs of the types 10 to 14 that can't be followed, met by a throw, by a return and at a
 //! string's end.
-use crate::tests::stories::play_all;
-use std::test::Fail;
 
-const STUBS: &str = "
+pub const STUBS: &str = "
 story a throw to a stub of type 10 with bit 8
 at A4 00
 code 40 81 10                      ; copy 0x10 sp
@@ -202,9 +200,3 @@ code 33 11 07 2C                   ; throw 7 44
 stack 00000014 00000000 000000C4 00000000
 ends fault 8 at 00000041 after 9 steps
 ";
-
-#[test]
-fn stubs(rt: HostRuntime) -> Result<(), Fail> {
-    assert_eq!(rt; play_all(&rt, rt.alloc(), STUBS)?, 15);
-    Ok(())
-}

@@ -1,8 +1,6 @@
 //! What gestalt answers, and debugtrap's fault.
-use crate::tests::stories::play_all;
-use std::test::Fail;
 
-const GESTALTS: &str = "
+pub const GESTALTS: &str = "
 story gestalt of versions, of the size of memory and of undo
 code 81 00 00 08                   ; gestalt 0 0 sp
 code 81 00 10 08 09                ; gestalt 0 9 sp
@@ -156,9 +154,3 @@ story debugtrap of a local that isn't there
 code 81 01 09 00                   ; debugtrap loc0
 ends fault 9 at 00000027 after 0 steps
 ";
-
-#[test]
-fn gestalts(rt: HostRuntime) -> Result<(), Fail> {
-    assert_eq!(rt; play_all(&rt, rt.alloc(), GESTALTS)?, 16);
-    Ok(())
-}

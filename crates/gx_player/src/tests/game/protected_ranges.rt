@@ -1,8 +1,6 @@
 //! What the protected range keeps when a copy is put back.
-use crate::tests::stories::play_all;
-use std::test::Fail;
 
-const PROTECTED_RANGES: &str = "
+pub const PROTECTED_RANGES: &str = "
 story protect of popped numbers keeps the bytes of its range alone, and doesn't hinder their writing
 at 100 01 02 03 04 05 06 07 08
 code 40 81 03                      ; copy 3 sp
@@ -143,9 +141,3 @@ story protect of a local that isn't there
 code 81 27 92 01 00 00             ; protect 0x100 loc0
 ends fault 9 at 00000027 after 0 steps
 ";
-
-#[test]
-fn protected_ranges(rt: HostRuntime) -> Result<(), Fail> {
-    assert_eq!(rt; play_all(&rt, rt.alloc(), PROTECTED_RANGES)?, 11);
-    Ok(())
-}

@@ -1,8 +1,6 @@
 //! Words from outside, which are ChaCha20's with a key of zeros, and those of a seed.
-use crate::tests::stories::play_all;
-use std::test::Fail;
 
-const RANDOM_WORDS: &str = "
+pub const RANDOM_WORDS: &str = "
 story random 0 gives the words from outside
 code 81 10 80                      ; random 0 sp
 code 81 10 80                      ; random 0 sp
@@ -149,9 +147,3 @@ story setrandom of a local that isn't there
 code 81 11 09 00                   ; setrandom loc0
 ends fault 9 at 00000027 after 0 steps
 ";
-
-#[test]
-fn random_words(rt: HostRuntime) -> Result<(), Fail> {
-    assert_eq!(rt; play_all(&rt, rt.alloc(), RANDOM_WORDS)?, 15);
-    Ok(())
-}

@@ -1,8 +1,6 @@
 //! The decoding table's address, the iosystem, and acceleration, which does nothing.
-use crate::tests::stories::play_all;
-use std::test::Fail;
 
-const REGISTERS: &str = "
+pub const REGISTERS: &str = "
 story getstringtbl of the header's table, and of none after it was set to 0
 at 1C 00 00 00 80
 at 100 11 FF FF FF FF 22
@@ -233,9 +231,3 @@ story accelparam of a local that isn't there
 code 81 81 09 00                   ; accelparam loc0 0
 ends fault 9 at 00000027 after 0 steps
 ";
-
-#[test]
-fn registers(rt: HostRuntime) -> Result<(), Fail> {
-    assert_eq!(rt; play_all(&rt, rt.alloc(), REGISTERS)?, 27);
-    Ok(())
-}

@@ -1,8 +1,6 @@
 //! The end of a story, its checksum, its new start, and save and restore, which aren't built.
-use crate::tests::stories::play_all;
-use std::test::Fail;
 
-const RESTARTS: &str = "
+pub const RESTARTS: &str = "
 story quit in a function
 at A0 C1 00 00
 at A3 40 81 05                     ; copy 5 sp
@@ -294,9 +292,3 @@ story restore to a constant
 code 81 24 10 07                   ; restore 0 7
 ends fault 2 at 00000027 after 0 steps
 ";
-
-#[test]
-fn restarts(rt: HostRuntime) -> Result<(), Fail> {
-    assert_eq!(rt; play_all(&rt, rt.alloc(), RESTARTS)?, 29);
-    Ok(())
-}

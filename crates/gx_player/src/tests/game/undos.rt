@@ -1,8 +1,6 @@
 //! Copies of memory, stack and heap, and the way back to the newest.
-use crate::tests::stories::play_all;
-use std::test::Fail;
 
-const UNDOS: &str = "
+pub const UNDOS: &str = "
 story saveundo stores 0 on the stack, in memory, in a local, and nowhere
 at 100 11 11 11 11 FF FF FF FF FF FF FF FF 22
 at A0 C1 04 01 00 00
@@ -359,9 +357,3 @@ story restoreundo without a copy to a local that isn't there
 code 81 26 09 00                   ; restoreundo loc0
 ends fault 9 at 00000027 after 0 steps
 ";
-
-#[test]
-fn undos(rt: HostRuntime) -> Result<(), Fail> {
-    assert_eq!(rt; play_all(&rt, rt.alloc(), UNDOS)?, 27);
-    Ok(())
-}

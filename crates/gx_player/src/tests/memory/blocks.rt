@@ -1,8 +1,6 @@
 //! The rows `malloc` and `mfree`.
-use crate::tests::stories::play_all;
-use std::test::Fail;
 
-const BLOCKS: &str = "
+pub const BLOCKS: &str = "
 story malloc at the least address at which a block fits
 code 81 78 81 0A                   ; malloc 10 sp
 code 81 78 81 14                   ; malloc 20 sp
@@ -146,6 +144,18 @@ stack 00000200 00000000 00000000 00000300 00000200 0000020A
 size 300
 ends well after 7 steps
 
+story malloc of more than there is room for, with its 0 in memory and in a local
+at 18 00 00 00 22
+at 22 C1 04 01 00 00
+at 100 11 22 33 44 55 66
+code 40 91 FF 00                   ; copy -1 loc0
+code 81 78 63 04 00 00 00 01 01    ; malloc 0x04000000 *0x101
+code 81 78 91 FF 00                ; malloc -1 loc0
+code 81 20                         ; quit
+stack 00000000
+memory 100 11 00 00 00 00 66
+ends well after 4 steps
+
 story malloc up to the largest memory, and setmemsize to it
 code 81 78 81 10                   ; malloc 16 sp
 code 81 78 83 03 FF FD F0          ; malloc 0x03FFFDF0 sp
@@ -262,6 +272,12 @@ at 22 C1 04 02 00 00
 code 81 78 91 0A 05                ; malloc 10 loc5
 stack 00000000 00000000
 ends fault 9 at 00000027 after 0 steps
+
+story malloc of no bytes with its address in memory
+at 100 11 22 33 44
+code 81 78 60 01 00                ; malloc 0 *0x100
+memory 100 11 22 33 44
+ends fault 14 at 00000027 after 0 steps
 
 story malloc of no bytes, popped
 code 40 80                         ; copy 0 sp
@@ -407,9 +423,3 @@ stack 00000200 0000020A 00000200
 size 300
 ends fault 14 at 0000003d after 5 steps
 ";
-
-#[test]
-fn blocks(rt: HostRuntime) -> Result<(), Fail> {
-    assert_eq!(rt; play_all(&rt, rt.alloc(), BLOCKS)?, 47);
-    Ok(())
-}

@@ -1,8 +1,6 @@
 //! The row `copy`, with each mode of an operand.
-use crate::tests::stories::play_all;
-use std::test::Fail;
 
-const COPIES: &str = "
+pub const COPIES: &str = "
 story copy of constants of each width
 code 40 80                         ; copy 0 sp
 code 40 81 7F                      ; copy 0x7F sp
@@ -266,9 +264,3 @@ code 40 98 00                      ; copy sp loc0
 stack 00000005
 ends fault 9 at 0000002a after 1 steps
 ";
-
-#[test]
-fn copies(rt: HostRuntime) -> Result<(), Fail> {
-    assert_eq!(rt; play_all(&rt, rt.alloc(), COPIES)?, 40);
-    Ok(())
-}

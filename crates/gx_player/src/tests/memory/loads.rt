@@ -1,8 +1,6 @@
 //! The row `aload`.
-use crate::tests::stories::play_all;
-use std::test::Fail;
 
-const LOADS: &str = "
+pub const LOADS: &str = "
 story aload of words before, at and after the address
 at 100 81 92 A3 B4 C5 D6 E7 F8 19 2A 3B 4C 5D 6E 7F 80
 code 48 12 08 01 04 FF             ; aload 0x104 -1 sp
@@ -171,9 +169,3 @@ story aload to a local that isn't there
 code 48 02 09 01 00 00             ; aload 0x100 0 loc0
 ends fault 9 at 00000027 after 0 steps
 ";
-
-#[test]
-fn loads(rt: HostRuntime) -> Result<(), Fail> {
-    assert_eq!(rt; play_all(&rt, rt.alloc(), LOADS)?, 26);
-    Ok(())
-}

@@ -1,8 +1,6 @@
 //! The rows `mzero` and `mcopy`.
-use crate::tests::stories::play_all;
-use std::test::Fail;
 
-const RANGES: &str = "
+pub const RANGES: &str = "
 story mzero of a range, whose neighbours stay
 at 100 11 22 33 44 55 66
 code 81 70 21 03 01 02             ; mzero 3 0x102
@@ -359,9 +357,3 @@ story mcopy to an address in a local that isn't there comes before a source past
 code 81 71 21 09 04 01 FE 00       ; mcopy 4 0x1FE loc0
 ends fault 9 at 00000027 after 0 steps
 ";
-
-#[test]
-fn ranges(rt: HostRuntime) -> Result<(), Fail> {
-    assert_eq!(rt; play_all(&rt, rt.alloc(), RANGES)?, 50);
-    Ok(())
-}

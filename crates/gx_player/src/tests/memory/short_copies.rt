@@ -1,8 +1,6 @@
 //! The rows `copys` and `copyb`.
-use crate::tests::stories::play_all;
-use std::test::Fail;
 
-const SHORT_COPIES: &str = "
+pub const SHORT_COPIES: &str = "
 story copys of the low 16 bits of constants
 at 100 11 22 33 44 55 66 77 88
 code 41 81 FF                      ; copys -1 sp
@@ -250,9 +248,3 @@ code 42 98 08                      ; copyb sp loc8
 stack 00000000 00000000 00000055
 ends fault 9 at 0000002a after 1 steps
 ";
-
-#[test]
-fn short_copies(rt: HostRuntime) -> Result<(), Fail> {
-    assert_eq!(rt; play_all(&rt, rt.alloc(), SHORT_COPIES)?, 31);
-    Ok(())
-}

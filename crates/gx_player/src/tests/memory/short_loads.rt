@@ -1,8 +1,6 @@
 //! The rows `aloads`, `aloadb` and `aloadbit`.
-use crate::tests::stories::play_all;
-use std::test::Fail;
 
-const SHORT_LOADS: &str = "
+pub const SHORT_LOADS: &str = "
 story aloads of halves before, at and after the address
 at 100 81 92 A3 B4 C5 D6 E7 F8 19 2A 3B 4C
 code 49 12 08 01 04 FE             ; aloads 0x104 -2 sp
@@ -334,9 +332,3 @@ code 4B 08 09 00                   ; aloadbit sp 0 loc0
 stack 00000100
 ends fault 9 at 0000002b after 1 steps
 ";
-
-#[test]
-fn short_loads(rt: HostRuntime) -> Result<(), Fail> {
-    assert_eq!(rt; play_all(&rt, rt.alloc(), SHORT_LOADS)?, 44);
-    Ok(())
-}

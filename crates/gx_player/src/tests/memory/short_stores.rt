@@ -1,8 +1,6 @@
 //! The rows `astores`, `astoreb` and `astorebit`.
-use crate::tests::stories::play_all;
-use std::test::Fail;
 
-const SHORT_STORES: &str = "
+pub const SHORT_STORES: &str = "
 story astores of low 16 bits before, at and after the address
 at 100 81 92 A3 B4 C5 D6 E7 F8 19 2A 3B 4C
 code 4D 12 03 01 04 FF 12 34 56 78 ; astores 0x104 -1 c4:0x12345678
@@ -265,9 +263,3 @@ story astorebit of a value in a local that isn't there comes before a write belo
 code 4F 01 09 40 00                ; astorebit 0x40 0 loc0
 ends fault 9 at 00000027 after 0 steps
 ";
-
-#[test]
-fn short_stores(rt: HostRuntime) -> Result<(), Fail> {
-    assert_eq!(rt; play_all(&rt, rt.alloc(), SHORT_STORES)?, 37);
-    Ok(())
-}

@@ -1,8 +1,6 @@
 //! The rows `getmemsize` and `setmemsize`.
-use crate::tests::stories::play_all;
-use std::test::Fail;
 
-const SIZES: &str = "
+pub const SIZES: &str = "
 story getmemsize of the first size, to the stack, to memory and to a local
 at 10 00 12 34 00
 at 18 00 00 00 22
@@ -128,6 +126,13 @@ code 81 02 08                      ; getmemsize sp
 code 81 20                         ; quit
 stack 00000001 00000001 00000001 00000200
 ends well after 5 steps
+
+story setmemsize above the largest memory, with its 1 in memory
+at 100 11 22 33 44 55 66
+code 81 03 63 04 00 01 00 01 01    ; setmemsize 0x04000100 *0x101
+code 81 20                         ; quit
+memory 100 11 00 00 00 01 66
+ends well after 2 steps
 
 story setmemsize with the heap active
 code 81 78 81 0A                   ; malloc 10 sp
@@ -274,6 +279,12 @@ story setmemsize to a number below a multiple of 256
 code 81 03 82 02 FF                ; setmemsize 0x2FF sp
 ends fault 13 at 00000027 after 0 steps
 
+story setmemsize to a faulty size with its answer in memory
+at 100 11 22 33 44
+code 81 03 62 03 01 01 00          ; setmemsize 0x301 *0x100
+memory 100 11 22 33 44
+ends fault 13 at 00000027 after 0 steps
+
 story setmemsize to no multiple of 256 comes before a size above the largest
 code 81 03 81 FF                   ; setmemsize -1 sp
 ends fault 13 at 00000027 after 0 steps
@@ -310,9 +321,3 @@ story setmemsize to a faulty size comes before a local that isn't there
 code 81 03 92 01 00 00             ; setmemsize 0x100 loc0
 ends fault 13 at 00000027 after 0 steps
 ";
-
-#[test]
-fn sizes(rt: HostRuntime) -> Result<(), Fail> {
-    assert_eq!(rt; play_all(&rt, rt.alloc(), SIZES)?, 41);
-    Ok(())
-}

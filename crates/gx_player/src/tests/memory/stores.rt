@@ -1,8 +1,6 @@
 //! The row `astore`.
-use crate::tests::stories::play_all;
-use std::test::Fail;
 
-const STORES: &str = "
+pub const STORES: &str = "
 story astore of words before, at and after the address
 at 100 81 92 A3 B4 C5 D6 E7 F8 19 2A 3B 4C 5D 6E 7F 80
 code 4C 12 03 01 04 FF 01 02 03 04 ; astore 0x104 -1 c4:0x01020304
@@ -140,9 +138,3 @@ story astore of a value in a local that isn't there comes before a write below R
 code 4C 01 09 40 00                ; astore 0x40 0 loc0
 ends fault 9 at 00000027 after 0 steps
 ";
-
-#[test]
-fn stores(rt: HostRuntime) -> Result<(), Fail> {
-    assert_eq!(rt; play_all(&rt, rt.alloc(), STORES)?, 20);
-    Ok(())
-}

@@ -1,8 +1,6 @@
 //! binarysearch, which halves a sorted row of structs.
-use crate::tests::stories::play_all;
-use std::test::Fail;
 
-const BINARY: &str = "
+pub const BINARY: &str = "
 story the first struct, the middle one, the last one and none
 at 110 10 FF 20 FF 30 FF 40 FF 50 FF 60 FF 70 FF
 code 81 51 11 12 01 80 10 01 01 10 02 07 ; binarysearch 0x10 1 0x110 2 7 0 0 sp
@@ -232,6 +230,13 @@ budget 1
 code 81 51 11 12 01 50 0A 01 01 10 04 FF 40 ; binarysearch 0x0A 1 0x110 4 -1 0 0 *0x40
 ends fault 3 at 00000027 after 0 steps
 
+story keys of FFFFFFFF bytes
+at 180 11 22 33 44
+budget 1
+code 81 51 12 12 01 61 01 00 FF 01 10 04 03 01 01 80 ; binarysearch 0x100 -1 0x110 4 3 0 1 *0x180
+memory 180 11 22 33 44
+ends fault 3 at 00000027 after 0 steps
+
 story an offset that would have to wrap
 at 100 0A
 budget 1
@@ -295,9 +300,3 @@ code 81 51 18 12 01 90 01 01 10 01 02 00 ; binarysearch sp 1 0x110 1 2 0 0 loc0
 stack 0000000B
 ends fault 9 at 0000002a after 1 steps
 ";
-
-#[test]
-fn binary(rt: HostRuntime) -> Result<(), Fail> {
-    assert_eq!(rt; play_all(&rt, rt.alloc(), BINARY)?, 30);
-    Ok(())
-}

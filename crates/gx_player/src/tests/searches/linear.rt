@@ -1,8 +1,6 @@
 //! linearsearch, which goes through a row of structs.
-use crate::tests::stories::play_all;
-use std::test::Fail;
 
-const LINEAR: &str = "
+pub const LINEAR: &str = "
 story the first struct, the middle one, the last one and none
 at 110 0A 11 22 33 0B 44 55 66 0C 77 88 99
 code 81 50 11 12 01 80 0A 01 01 10 04 03 ; linearsearch 0x0A 1 0x110 4 3 0 0 sp
@@ -282,6 +280,13 @@ code 81 50 18 12 01 51 04 01 10 04 01 01 40 ; linearsearch sp 4 0x110 4 1 0 1 *0
 stack 000001FE
 ends fault 3 at 0000002b after 1 steps
 
+story a key of FFFFFFFF bytes at an address, met at the first probe with just the budget for it
+at 180 11 22 33 44
+budget 2
+code 81 50 12 12 01 61 01 00 FF 01 10 04 03 01 01 80 ; linearsearch 0x100 -1 0x110 4 3 0 1 *0x180
+memory 180 11 22 33 44
+ends fault 3 at 00000027 after 0 steps
+
 story a struct whose key reaches past memory, met at the third probe with just the budget for it
 at 1F6 11 22 33 44 55 66 77 88 99 AA
 budget 5
@@ -340,9 +345,3 @@ code 81 50 18 12 01 90 01 01 10 01 02 00 ; linearsearch sp 1 0x110 1 2 0 0 loc0
 stack 0000000B
 ends fault 9 at 0000002a after 1 steps
 ";
-
-#[test]
-fn linear(rt: HostRuntime) -> Result<(), Fail> {
-    assert_eq!(rt; play_all(&rt, rt.alloc(), LINEAR)?, 34);
-    Ok(())
-}

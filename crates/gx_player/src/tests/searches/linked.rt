@@ -1,8 +1,6 @@
 //! linkedsearch, which goes through a list of structs.
-use crate::tests::stories::play_all;
-use std::test::Fail;
 
-const LINKED: &str = "
+pub const LINKED: &str = "
 story the first struct, the middle one, the last one in ROM and none
 at 110 0A 01 02 03 00 00 01 80
 at 180 0B 01 02 03 00 00 00 E0
@@ -247,6 +245,13 @@ code 81 52 18 02 11 05 04 01 10 04 01 40 ; linkedsearch sp 4 0x110 0 4 1 *0x40
 stack 000001FE
 ends fault 3 at 0000002b after 1 steps
 
+story a key of FFFFFFFF bytes at an address, met at the first probe with just the budget for it
+at 180 11 22 33 44
+budget 2
+code 81 52 12 02 11 06 01 00 FF 01 10 04 01 01 80 ; linkedsearch 0x100 -1 0x110 0 4 1 *0x180
+memory 180 11 22 33 44
+ends fault 3 at 00000027 after 0 steps
+
 story a struct whose key reaches past memory
 at 1FE 0A 0B
 code 40 81 0C                      ; copy 0x0C sp
@@ -320,9 +325,3 @@ code 81 52 18 12 00 09 01 01 10 04 00 ; linkedsearch sp 1 0x110 4 0 0 loc0
 stack 0000000B
 ends fault 9 at 0000002a after 1 steps
 ";
-
-#[test]
-fn linked(rt: HostRuntime) -> Result<(), Fail> {
-    assert_eq!(rt; play_all(&rt, rt.alloc(), LINKED)?, 32);
-    Ok(())
-}

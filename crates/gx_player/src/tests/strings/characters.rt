@@ -1,8 +1,6 @@
 //! Single characters, by streamchar and by streamunichar.
-use crate::tests::stories::play_all;
-use std::test::Fail;
 
-const CHARACTERS: &str = "
+pub const CHARACTERS: &str = "
 story the low 8 bits of a number as a character
 at 100 11 22 33 44
 window
@@ -127,9 +125,3 @@ code 73 09 00                      ; streamunichar loc0
 stack 00000005
 ends fault 9 at 0000002a after 1 steps
 ";
-
-#[test]
-fn characters(rt: HostRuntime) -> Result<(), Fail> {
-    assert_eq!(rt; play_all(&rt, rt.alloc(), CHARACTERS)?, 13);
-    Ok(())
-}

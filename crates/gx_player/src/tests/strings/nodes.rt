@@ -1,8 +1,6 @@
 //! The nodes of decoding tables.
-use crate::tests::stories::play_all;
-use std::test::Fail;
 
-const NODES: &str = "
+pub const NODES: &str = "
 story branches that end at different depths
 at 1C 00 00 00 80
 at 80 00 00 00 2E 00 00 00 07 00 00 00 8C 00 00 00 00 A7 00 00 00 95
@@ -184,9 +182,3 @@ code 72 02 01 00                   ; streamstr 0x100
 stack 00000005
 ends fault 3 at 0000002e after 2 steps
 ";
-
-#[test]
-fn nodes(rt: HostRuntime) -> Result<(), Fail> {
-    assert_eq!(rt; play_all(&rt, rt.alloc(), NODES)?, 16);
-    Ok(())
-}

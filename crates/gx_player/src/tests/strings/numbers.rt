@@ -1,8 +1,6 @@
 //! Numbers, by streamnum.
-use crate::tests::stories::play_all;
-use std::test::Fail;
 
-const NUMBERS: &str = "
+pub const NUMBERS: &str = "
 story numbers of each size
 window
 code 71 00                         ; streamnum 0
@@ -81,9 +79,3 @@ code 71 09 00                      ; streamnum loc0
 stack 00000005
 ends fault 9 at 0000002a after 1 steps
 ";
-
-#[test]
-fn numbers(rt: HostRuntime) -> Result<(), Fail> {
-    assert_eq!(rt; play_all(&rt, rt.alloc(), NUMBERS)?, 8);
-    Ok(())
-}

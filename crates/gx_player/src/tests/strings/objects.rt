@@ -1,8 +1,6 @@
 //! What references lead to, and their arguments.
-use crate::tests::stories::play_all;
-use std::test::Fail;
 
-const OBJECTS: &str = "
+pub const OBJECTS: &str = "
 story references of each type to a string of bytes
 at 1C 00 00 00 80
 at 80 00 00 00 68 00 00 00 0B 00 00 00 8C 00 00 00 00 B9 00 00 00 95 00 00 00 00 BE 00 00 00 9E
@@ -361,9 +359,3 @@ code 72 02 01 00                   ; streamstr 0x100
 stack 00000005
 ends fault 11 at 0000002e after 2 steps
 ";
-
-#[test]
-fn objects(rt: HostRuntime) -> Result<(), Fail> {
-    assert_eq!(rt; play_all(&rt, rt.alloc(), OBJECTS)?, 26);
-    Ok(())
-}

@@ -1,8 +1,6 @@
 //! What stands on the stack while references are followed, and what called functions may change.
-use crate::tests::stories::play_all;
-use std::test::Fail;
 
-const REFERENCES: &str = "
+pub const REFERENCES: &str = "
 story the stack in a function of type C1
 at 1C 00 00 00 80
 at 80 00 00 00 30 00 00 00 03 00 00 00 8C 00 00 00 00 95 00 00 00 96 01
@@ -369,9 +367,3 @@ stack 00000007 00000007 00000007 00000007 00000007 00000007 00000007 00000007 00
       00000007 00000007 00000007 00000007 00000007 00000007 00000007 00000007 00000007 00000007 00000007
 ends fault 6 at 00000040 after 8 steps
 ";
-
-#[test]
-fn references(rt: HostRuntime) -> Result<(), Fail> {
-    assert_eq!(rt; play_all(&rt, rt.alloc(), REFERENCES)?, 20);
-    Ok(())
-}

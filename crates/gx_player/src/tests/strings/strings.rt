@@ -1,8 +1,6 @@
 //! Strings of the three types, by streamstr.
-use crate::tests::stories::play_all;
-use std::test::Fail;
 
-const STRINGS: &str = "
+pub const STRINGS: &str = "
 story a string of bytes, with code before and after it
 at 100 E0 48 69 C3 A9 07 FF 21 00
 window
@@ -258,9 +256,3 @@ code 81 41 01 FF                   ; setstringtbl -1
 code 72 02 01 00                   ; streamstr 0x100
 ends fault 11 at 0000002f after 2 steps
 ";
-
-#[test]
-fn strings(rt: HostRuntime) -> Result<(), Fail> {
-    assert_eq!(rt; play_all(&rt, rt.alloc(), STRINGS)?, 24);
-    Ok(())
-}

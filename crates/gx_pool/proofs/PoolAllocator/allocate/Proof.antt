@@ -2,18 +2,20 @@
 --
 -- `exits_ok` and `exits_err` are the two exits, and `walk` goes through the body to them.
 use Rattle.std.proofs.Common.{◌≡◌, ℕ, Bool, ◌+◌, ◌^◌, ◌<◌, true, false, List, [], ◌∷◌, Ok, Err, refl, w64, Bor}
+use Rattle.std.specs.Prelude.{not, IsErr}
+use lib.Dec.{T}
 use seplogic.Ra.Ura.{Ura}
 use mir.Syntax.{Ty, Args, Fn, Body, a_type, dnil, dcons}
 use mir.Val.{Val, vunit, vint, vbool, vptr}
 use mir.MapTy.{inst_fn}
-use base.Logic.{SProp, ent, id⊢}
+use base.Logic.{SProp, ent, emp, id⊢}
 use base.Fml.{Lft, Share, ftrue, flft}
 use prog.Memory.{Memory, size, align, capped, up}
 use prog.Routine.{Routine}
 use prog.Wp.{Env, Wp, WpFn, Tables, after_seq, at_return}
 use types.Logic.{Logic}
 use contract.BorrowLft.{◌⊑◌, ⊑_trans}
-use contract.Monad.{Fun, fact}
+use contract.Monad.{Fun, fact, fact_i}
 use contract.Running.{tables, tables_of}
 use sound.WpLaws.{fm_of, WpFn-mono}
 use types.Run.{stop, fld, addr, lit, no_more, and_then, of_opd, first, branches, skips, exec, switches_on, returns, returns_within, enter}
@@ -37,7 +39,7 @@ use denote.RawPtr.{block_ptr}
 use denote.Builtin.{usize, RefOf}
 use denote.Triple.Call.{calls_at}
 use Rattle.std.proofs.alloc.Calls.{Al, α, seen, Answer, answer_val, Answer-typed, Answer-Ok, Answer-err, takes_key, Takes, at_takes, Answered, Takes-goes, Takes-gives, answers, token, got}
-use Rattle.gx_pool.proofs.Calls.{TallyType, Counts, at_counts, Counts-goes, Counts-gives, Refuses, at_refuses, Refuses-goes, Refuses-gives}
+use Rattle.gx_pool.proofs.Calls.{TallyType, Counts, at_counts, Counts-goes, Counts-gives, Refuses, at_refuses, IsBound, Refuses-goes, Refuses-gives}
 use Rattle.gx_pool.proofs.tally.Tally.TheLaws.{the_row_laws}
 use Rattle.gx_pool.proofs.tally.Tally.refuses.Symbol as r_sym
 use Rattle.gx_pool.proofs.tally.Tally.refuses.Met as r_met
@@ -46,11 +48,17 @@ use types.Part.{whole, agg}
 use types.Match.{vrt, in_variant}
 use Rattle.gx_pool.proofs.tally.Tally.lend.Symbol as c_sym
 use Rattle.gx_pool.proofs.tally.Tally.lend.Met as c_met
+use Rattle.gx_pool.specs.declared.tally.TheConstants.{MOST_SIZE, MOST_ALIGN}
 use Rattle.gx_pool.specs.contracts.Pool as wrapper
 use Rattle.gx_pool.specs.contracts.PoolAllocator.allocate as F
 use Rattle.gx_pool.specs.contracts.PoolAllocator.allocate.Key as key
 use Rattle.gx_pool.proofs.PoolAllocator.allocate.Statement as stated
 use Rattle.gx_pool.proofs.PoolAllocator.allocate.Code as code
+
+-- where it isn't refused
+goes_on : (z : Bool) → T (not z) → z ≡ true → ⊥
+goes_on true t e = t
+goes_on false t e = absurd cc
 
 module _ (Z : Al) where
   abbrev args : Args
@@ -87,17 +95,29 @@ module _ (Z : Al) {M : Type 1} {𝓤 : Ura M} (𝓛 : Logic 𝓤) (at_mem : Memo
     abbrev h : Z.row.Denot
     h = r.now.alloc
 
-    exits_ok : (b o : ℕ) → ent 𝓤 (⋆ 𝓛 (‵ (got (token Z h) τ true b o) ∷ ‵ (flft κ₁ q₁) ∷ (‵ (flft κ₂ q₂) ⊛ ‵ ftrue) ∷ [])) (Post (answer_val true b o))
-    exits_ok b o = qed 𝓛 (‵ (got (token Z h) τ true b o) ∷ ‵ (flft κ₁ q₁) ∷ (‵ (flft κ₂ q₂) ⊛ ‵ ftrue) ∷ []) ∵
+    -- what the clauses on large and on aligned requests say of an answer
+    abbrev Large : Answer.Denot → Type 0
+    Large answer = MOST_SIZE < n → IsErr answer
+
+    abbrev Aligned : Answer.Denot → Type 0
+    Aligned answer = MOST_ALIGN < a → IsErr answer
+
+    exits_ok : (b o : ℕ) → (MOST_SIZE < n → ⊥) → (MOST_ALIGN < a → ⊥) → ent 𝓤 (⋆ 𝓛 (‵ (got (token Z h) τ true b o) ∷ ‵ (flft κ₁ q₁) ∷ (‵ (flft κ₂ q₂) ⊛ ‵ ftrue) ∷ [])) (Post (answer_val true b o))
+    exits_ok b o small packed = qed 𝓛 (‵ (got (token Z h) τ true b o) ∷ ‵ (flft κ₁ q₁) ∷ (‵ (flft κ₂ q₂) ⊛ ‵ ftrue) ∷ []) ∵
+        use0 𝓛 (raw (fact 𝓤 (Aligned (Ok (block_ptr b o))))) (fact_i 𝓤 (Aligned (Ok (block_ptr b o))) (emp 𝓤) (λ above. absurd (packed above))) $
+        use0 𝓛 (raw (fact 𝓤 (Large (Ok (block_ptr b o))))) (fact_i 𝓤 (Large (Ok (block_ptr b o))) (emp 𝓤) (λ above. absurd (small above))) $ move ! (2 ∷ []) $
+        -- [the block; the two facts; the tokens]
         suffices ! _ (ends_at 𝓛 (ended Z) (stayed Z) held bound (answer_val true b o) (Ok (block_ptr b o)) (tt, (tt, (tt, tt))) (tt, (tt, (tt, tt)))) $
         use0 𝓛 (‵ (Answer.own_val (Ok (block_ptr b o)) (answer_val true b o ∷ []))) (Answer-Ok 𝓛 b o) $ nothing ! $ nothing ! $ fjoin ! $ nothing ! $ fjoin ! $ nothing ! $ fjoin ! $ join ! $
-        move ! (2 ∷ 3 ∷ []) $ join ! $ join ! $ done !
+        move ! (4 ∷ 5 ∷ []) $ join ! $ join ! $ done !
 
     exits_err : ent 𝓤 (⋆ 𝓛 (‵ (flft κ₁ q₁) ∷ (‵ (flft κ₂ q₂) ⊛ ‵ ftrue) ∷ [])) (Post (answer_val false 0 0))
-    exits_err = qed 𝓛 (‵ (flft κ₁ q₁) ∷ (‵ (flft κ₂ q₂) ⊛ ‵ ftrue) ∷ []) ∵ nothing ! $
+    exits_err = qed 𝓛 (‵ (flft κ₁ q₁) ∷ (‵ (flft κ₂ q₂) ⊛ ‵ ftrue) ∷ []) ∵
+        use0 𝓛 (raw (fact 𝓤 (Aligned (Err (record {}))))) (fact_i 𝓤 (Aligned (Err (record {}))) (emp 𝓤) (λ above. refl)) $
+        use0 𝓛 (raw (fact 𝓤 (Large (Err (record {}))))) (fact_i 𝓤 (Large (Err (record {}))) (emp 𝓤) (λ above. refl)) $ nothing ! $
         suffices ! _ (ends_at 𝓛 (ended Z) (stayed Z) held bound (answer_val false 0 0) (Err (record {})) (tt, (tt, (tt, tt))) (tt, (tt, (tt, tt)))) $
         use0 𝓛 (‵ (Answer.own_val (Err (record {})) (answer_val false 0 0 ∷ []))) (Answer-err 𝓛) $ nothing ! $ nothing ! $ fjoin ! $ nothing ! $ fjoin ! $ nothing ! $ fjoin ! $ join ! $
-        move ! (2 ∷ 3 ∷ []) $ join ! $ join ! $ done !
+        move ! (4 ∷ 5 ∷ []) $ join ! $ join ! $ done !
 
     walk : n < 2 ^ 64 → a < 2 ^ 64 → ent 𝓤 ((walk_of 𝓛 (ended Z) (stayed Z) held).pre bound) (WpFn 𝓤 H 𝓣.C 𝓣.Λ (here Z) vs Post)
     walk fn fa =
@@ -118,7 +138,7 @@ module _ (Z : Al) {M : Type 1} {𝓤 : Ura M} (𝓛 : Logic 𝓤) (at_mem : Memo
         use1 𝓛 (‵ (hidden_shr TallyType κ₁ t c.0 c.1)) (id⊢ 𝓤 _) $ shr_dup ! TallyType the_row_laws.shr_laws t c.0 c.1 κ₁ $ move ! (0 ∷ 2 ∷ []) $
         use2 𝓛 (raw ((Refuses 𝓛 at_mem run).pre (at_refuses 𝓛 at_mem run κ₁ q₁ c t n a))) (Refuses-goes 𝓛 at_mem run κ₁ q₁ c t n a fn fa) $
         calls_at ! (fm_of 𝓤 H 𝓛.laws 𝓣) (Refuses 𝓛 at_mem run) ka (at_refuses 𝓛 at_mem run κ₁ q₁ c t n a) (and_then ! (get ! refl) (and_then ! (get ! refl) (and_then ! (get ! refl) (no_more !)))) (λ u.
-        use1 𝓛 (later (some (λ (z : Bool). given (u ≡ vbool z) (‵ (flft κ₁ q₁))))) (Refuses-gives 𝓛 at_mem run κ₁ q₁ c t n a u) $ await ! tt $ pick ! (λ z. learn ! (λ eu. lands_as ! eu refl (tt, tt) $
+        use1 𝓛 (later (some (λ (z : Bool). given (u ≡ vbool z) (given (IsBound 𝓛 at_mem run κ₁ q₁ c t n a z) (‵ (flft κ₁ q₁)))))) (Refuses-gives 𝓛 at_mem run κ₁ q₁ c t n a u) $ await ! tt $ pick ! (λ z. learn ! (λ eu. learn ! (λ bounds. lands_as ! eu refl (tt, tt) $
         first ! $ branches ! (get ! refl)
         (λ t₁. sets ! (agg ! (no_more !)) refl (tt, tt) $
         sets ! (agg ! (and_then ! (lit ! tt) (and_then ! (get ! refl) (no_more !)))) refl (Answer-typed false 0 0) $
@@ -142,14 +162,14 @@ module _ (Z : Al) {M : Type 1} {𝓤 : Ura M} (𝓛 : Logic 𝓤) (at_mem : Memo
         -- [κ₁'s token; the block; κ₂'s token]
         sets_last ! (agg ! (and_then ! (lit ! tt) (and_then ! (get ! refl) (no_more !)))) refl (Answer-typed true b o) $
         exec ! 𝓣.C 𝓣.Λ En (after 6 (here Z).body) (at_ret En Post) $ sets ! (of_opd ! (get ! refl)) refl (Answer-typed true b o) $ returns ! (look_at ! 0 refl) $ free_all ! refl $
-        keep ! (1 ∷ 0 ∷ 2 ∷ []) $ by ! (exits_ok b o))))
+        keep ! (1 ∷ 0 ∷ 2 ∷ []) $ by ! (exits_ok b o (λ above. goes_on z t₁ (bounds.0 above)) (λ above. goes_on z t₁ (bounds.1 above))))))
         (λ e. lands_as ! e refl (Answer-typed false 0 0) $
         first ! $ switches_on ! (get_tag ! (vrt ! refl (fld ! refl (stop !))) (whole !)) $ exec ! 𝓣.C 𝓣.Λ En (arm_body 1 both) Then $
         sets ! (of_opd ! (get_in ! (vrt ! refl (fld ! refl (stop !))) (in_variant ! 1 0 refl refl (whole !)))) refl (tt, tt) $
         -- [κ₁'s token; the tally; κ₂'s token]
         sets_last ! (agg ! (and_then ! (lit ! tt) (and_then ! (get ! refl) (no_more !)))) refl (Answer-typed false 0 0) $
         exec ! 𝓣.C 𝓣.Λ En (after 6 (here Z).body) (at_ret En Post) $ sets ! (of_opd ! (get ! refl)) refl (Answer-typed false 0 0) $ returns ! (look_at ! 0 refl) $ free_all ! refl $
-        keep ! (0 ∷ 2 ∷ []) $ by ! exits_err)))))))))
+        keep ! (0 ∷ 2 ∷ []) $ by ! exits_err))))))))))
 
 pub allocate_spec : {M : Type 1} → stated.statement M
 unfolding tables_of

@@ -1,17 +1,18 @@
+use Rattle.std.proofs.lemmas.Result.{err_from_is_err_and}
 use Rattle.gx_session.specs.Devices.{Devices}
-use Rattle.gx_session.specs.Playing.{Held, held}
-use Rattle.gx_session.proofs.Playing.{cut-end, sends-end}
+use Rattle.gx_session.specs.Playing.{Held, held, asking_in}
+use Rattle.gx_session.proofs.Playing.{cut-end, flushed-end}
 use Rattle.gx_session.proofs.running.play_out.Goals as goal
 
-pub returns-in-Err-flush-clause-plays : goal.returns-in-Err-flush-clause-plays
-returns-in-Err-flush-clause-plays g c start entry d f =
+pub returns-in_err-flush-clause-plays : goal.returns-in_err-flush-clause-plays
+returns-in_err-flush-clause-plays g c start entry d f =
+    let p = err_from_is_err_and c.from_residual-in_err-flush.result c.from_residual-in_err-flush.ensures.1 in
     let now : Devices = record d { sink = g.K.Sink.seen c.play_events.new.output; words = g.R.Rng.stream c.play_events.new.dice } in
     let h : Held = held g.E.Engine.whole c.play_events.new.run in
-    cut-end start entry h now c.flush.new.world (g.K.Sink.seen c.flush.new.output) c.in-Err-flush.halt c.in-Ok.stop (c.in-Ok.ensures.plays start entry d f) c.in-Err-flush.ensures.sends
-    (λ none. let ok = (c.in-Err-flush.ensures.none none).1 in cc)
+    rw (p.1, p.2) (cut-end start entry h now c.flush.new.world (g.K.Sink.seen c.flush.new.output) (asking_in g.E.Engine.whole c.play_events.new.run) c.in_ok-stop.stop (c.in_ok-stop.ensures.plays start entry d f) c.in_err-flush.field-0.0 c.in_err-flush.ensures.sends)
 
-pub returns-in-Ok-flush-clause-plays : goal.returns-in-Ok-flush-clause-plays
-returns-in-Ok-flush-clause-plays g c start entry d f =
+pub returns-clause-plays : goal.returns-clause-plays
+returns-clause-plays g c start entry d f =
     let now : Devices = record d { sink = g.K.Sink.seen c.play_events.new.output; words = g.R.Rng.stream c.play_events.new.dice } in
     let h : Held = held g.E.Engine.whole c.play_events.new.run in
-    sends-end start entry h now c.flush.new.world (g.K.Sink.seen c.flush.new.output) c.in-Ok.stop (c.in-Ok.ensures.plays start entry d f) c.in-Ok-flush.ensures.sends
+    flushed-end start entry h now c.flush.new.world (g.K.Sink.seen c.flush.new.output) (asking_in g.E.Engine.whole c.play_events.new.run) c.in_ok-stop.stop (c.in_ok-stop.ensures.plays start entry d f) c.in_ok-flush.ensures.sends

@@ -2,7 +2,9 @@ use Rattle.zero_runs.proofs.UnpackingTurns.{pair_written, byte_written, cut_foun
 use Rattle.zero_runs.proofs.unpacking.expanded_over.Goals as goal
 
 pub returns-in_default-split_first : goal.returns-in_default-split_first
-returns-in_default-split_first c = λ _. cut_found _ _ _ _ _ _ c.in-Some.ensures.cases.0 c.in_default-split_first.ensures.cases c.if-byte-eq0.true c.loop-byte.invariant
+returns-in_default-split_first c =
+    let cut = cut_found _ _ _ _ _ _ c.in-Some.ensures.cases.0 c.in_default-split_first.ensures.cases c.if-byte-eq0.true c.loop-byte.invariant in
+    (λ other. cut, λ wanted. c.requires)
 
 pub loop-byte-preserved-then-byte-eq0 : goal.loop-byte-preserved-then-byte-eq0
 loop-byte-preserved-then-byte-eq0 c =

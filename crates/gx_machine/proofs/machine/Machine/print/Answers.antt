@@ -1,9 +1,9 @@
 -- a step of printing costs one unit
-use Rattle.std.proofs.Common.{◌≡◌, ◌≢◌, ◌-◌, ◌<◌, ℕ, Ok, Err, subst, sym}
-use Rattle.gx_words.specs.declared.faults.Fault.TheVariants.{NoMemory}
+use Rattle.std.proofs.Common.{◌≡◌, ◌≢◌, ◌-◌, ◌<◌, ℕ, Ok, subst, sym}
+use Rattle.std.specs.Option.{option_map}
+use Rattle.gx_words.specs.Faults.{IsRefused}
 use Rattle.gx_state.specs.declared.modes.Mode.TheVariants.{Running}
 use Rattle.gx_state.specs.Flat.{sp_of}
-use Rattle.std.specs.Option.{option_map}
 use Rattle.gx_machine.specs.declared.machine.Pending.{Pending}
 use Rattle.gx_machine.specs.Machine.{Whole}
 use Rattle.gx_machine.specs.Step.{stepped}
@@ -16,13 +16,13 @@ returns-in-Err-clause-step g c =
     let w : Whole = whole_of c.self.inside in
     let live = subst (λ (x : Whole). 0 < sp_of x.machine.flat) (sym c.self.view_is) c.requires.live in
     let printing = subst (λ (x : Whole). x.machine.flat.mode ≢ Running) (sym c.self.view_is) c.requires.printing in
-    subst (λ (x : Whole). ◌≡◌ {A = Whole × ℕ} (record { machine = record { flat = c.print.new.state.flat; undo = c.self.inside.undo }; asking = w.asking }, c.args.budget.now) (x, c.args.budget.now) × (c.in-Err.fault ≢ NoMemory → stepped x c.args.word c.args.budget.now ≡ Err c.in-Err.fault))
-    c.self.view_is (print_stands w c.args.word c.args.budget.now c.print.new.state.flat c.in-Err.fault c.requires.some live printing c.in-Err.ensures.value.0 c.in-Err.ensures.value.1)
+    λ word. subst (λ (x : Whole). ◌≡◌ {A = Whole × ℕ} (record { machine = record { flat = c.print.new.state.flat; undo = c.self.inside.undo }; asking = w.asking }, c.args.budget.now) (x, c.args.budget.now) × IsRefused ⊥ c.in-Err.fault (stepped x word c.args.budget.now))
+    c.self.view_is (print_stands w word c.args.budget.now c.print.new.state.flat c.in-Err.fault c.requires.some live printing c.in-Err.ensures.value.0 c.in-Err.ensures.value.1)
 
 pub returns-in-Ok-clause-step : goal.returns-in-Ok-clause-step
 returns-in-Ok-clause-step g c =
     let w : Whole = whole_of c.self.inside in
     let live = subst (λ (x : Whole). 0 < sp_of x.machine.flat) (sym c.self.view_is) c.requires.live in
     let printing = subst (λ (x : Whole). x.machine.flat.mode ≢ Running) (sym c.self.view_is) c.requires.printing in
-    subst (λ (x : Whole). stepped x c.args.word c.args.budget.now ≡ Ok ((record { machine = record { flat = c.print.new.state.flat; undo = c.self.inside.undo }; asking = option_map (λ (p : Pending). p.asking) c.in-Ok.pending }, c.args.budget.now - 1), c.in-Ok.effect))
-    c.self.view_is (print_ok w c.args.word c.args.budget.now c.print.new.state.flat c.in-Ok.effect _ c.requires.some live printing c.in-Ok.ensures.asks c.in-Ok.ensures.value)
+    λ word. subst (λ (x : Whole). stepped x word c.args.budget.now ≡ Ok ((record { machine = record { flat = c.print.new.state.flat; undo = c.self.inside.undo }; asking = option_map (λ (p : Pending). p.asking) c.in-Ok.pending }, c.args.budget.now - 1), c.in-Ok.effect))
+    c.self.view_is (print_ok w word c.args.budget.now c.print.new.state.flat c.in-Ok.effect _ c.requires.some live printing c.in-Ok.ensures.asks c.in-Ok.ensures.value)

@@ -7,7 +7,7 @@ pub invariant_of-self : goal.invariant_of-self
 invariant_of-self g c =
     let held = c.self.invariant in
     let block = c.requires.block in
-    let least = subst (λ (h : HeldState). h.flat.story.endmem ≤ c.args.end) (sym c.self.view_is) block.endmem in
+    let least = subst (λ (h : HeldState). h.flat.story.header.endmem ≤ c.args.end) (sym c.self.view_is) block.endmem in
     let there = subst (λ (h : HeldState). c.args.at + c.args.size ≤ length h.flat.memory) (sym c.self.view_is) block.there in
     record {
       story = held.story;
@@ -16,7 +16,7 @@ invariant_of-self g c =
       rom = held.rom;
       limit = held.limit;
       height = held.height;
-      words = held.words;
+      aligned = held.aligned;
       framed = held.framed;
       heap = heap_entered _ _ _ _ _ _ _ held.heap c.add.ensures.heap c.add.ensures.sound (c.add.ensures.within _ held.heap.within there) block.whole least;
     }

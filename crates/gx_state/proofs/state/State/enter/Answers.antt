@@ -12,7 +12,7 @@ invariant_of-self g c =
       rom = c.self.invariant.rom;
       limit = rw e c.self.invariant.limit;
       height = omega arith;
-      words = omega arith;
+      aligned = omega arith;
       framed = framed_good _ _ c.push_call.ensures.good;
       heap = c.self.invariant.heap;
     }

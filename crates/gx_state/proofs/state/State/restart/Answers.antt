@@ -11,15 +11,15 @@ invariant_of-self g c =
     let bytes = c.bytes.ensures.value in
     let stored = ap length bytes in
     let size = c.in_ok-memory.ensures.size ∙ c.endmem.ensures.value in
-    let rom = rom_again c.self.inside.memory c.in_ok-memory.memory c.bytes.result.now story.ramstart c.endmem.result _ _ (held.rom ∙ ap (take story.ramstart) (sym bytes)) (omega (arith, stored, held.story.stored_whole, held.story.ramstart_first)) (omega (arith, stored, c.endmem.ensures.value, held.story.stored_whole, held.story.extstart_first)) c.in_ok-memory.ensures.value in
+    let rom = rom_again c.self.inside.memory c.in_ok-memory.memory c.bytes.result.now story.header.ramstart c.endmem.result _ _ (held.rom ∙ ap (take story.header.ramstart) (sym bytes)) (omega (arith, stored, held.story.stored_whole, held.story.ramstart_first)) (omega (arith, stored, c.endmem.ensures.value, held.story.stored_whole, held.story.extstart_first)) c.in_ok-memory.ensures.value in
     record {
       story = held.story;
       size = rw size (record { whole = held.story.endmem_whole; capped = held.story.memory_limited });
       endmem = omega (arith, size);
-      rom = rom ∙ ap (take story.ramstart) bytes;
+      rom = rom ∙ ap (take story.header.ramstart) bytes;
       limit = rw e held.limit;
       height = omega arith;
-      words = omega arith;
+      aligned = omega arith;
       framed = framed_good _ _ c.push_call.ensures.good;
       heap = rw c.new.ensures (none_fits _ _);
     }

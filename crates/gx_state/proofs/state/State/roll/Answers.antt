@@ -13,7 +13,7 @@ invariant_of-self-2 g c =
       rom = c.self.invariant.rom;
       limit = limit ∙ c.self.invariant.limit;
       height = omega (arith, limit);
-      words = omega arith;
+      aligned = omega arith;
       framed = framed_again _ _ _ c.roll.ensures.keeps (ap (λ (f : Frame). f.fp) c.parts-frame.ensures.value);
       heap = c.self.invariant.heap;
     }

@@ -1,6 +1,0 @@
-use Rattle.std.proofs.Common.{◌≡◌, ◌%◌, ◌^◌}
-use Rattle.gx_work.specs.Work.{sum_of_words}
-use Rattle.gx_work.proofs.sum_of_words.Given as goal
-
-abbrev pub invariant-loop-index : goal.invariant-loop-index
-invariant-loop-index l = l.sum ≡ sum_of_words l.index l.bytes % 2 ^ 32
