@@ -1,2 +1,14 @@
-pub mod Calls
+pub mod Table
+pub mod Parts
+pub mod Strings
 pub mod Turns
+pub mod Gestalts
+pub mod Windows
+pub mod Streams
+pub mod References
+pub mod Output
+pub mod Input
+pub mod Characters
+pub mod Events
+pub mod Going
+pub mod Calls

@@ -1,134 +1,74 @@
-//! One Glk call on the world (Glk 0.7.5), by the selector of its dispatch layer.
+//! The calls of Glk by their selectors (Glk 0.7.5, "The Dispatch Layer").
 //!
-//! `call` and `put` are their definitions of specs/Calls: a fault leaves the world as it was, except
-//! want of memory, after which it can only be dropped. Memory is wanted only where text is added. A
-//! reply writes in RAM alone and pushes no more than there is room for.
+//! `call` makes a call, `go_on` goes on with one that waited, and both are their definitions of specs/Calls and
+//! specs/Going. A fault leaves the world as it was, but for want of memory, after which it can only be dropped; memory is
+//! wanted only where `grows` and `go_grows` say so. A reply writes in RAM alone and pushes no more than there is room for.
+//!
+//! - `selectors` and `table` have the calls: what each needs of its arguments, and the part that carries it out.
+//! - `calls` is the one way that every call goes; `going` goes on, and `waiting` keeps the call that waits.
+//! - `gestalts`, `windows`, `streams`, `references`, `output`, `input`, `characters` and `events` are the parts.
+//! - `parts`, `giving`, `putting` and `strings` are what they are made of.
+//!
+//! Not done, and dropped with an answer of 0: images, sound, hyperlinks, the clock (`dropped` in `table`).
 #![tactic(auto)]
 
+mod calls;
+mod characters;
+mod events;
+mod gestalts;
+mod giving;
+mod going;
+mod input;
+mod output;
+mod parts;
+mod putting;
+mod references;
 mod selectors;
+mod streams;
+mod strings;
+mod table;
+mod waiting;
 mod windows;
 
-ghost use Rattle.std.specs.Prelude.{◌≡◌, ℕ, IfOk, ◌%◌, Ok};
-ghost use Rattle.gx_words.specs.Faults.{MayLose};
-ghost use Rattle.gx_state.specs.Flat.{FlatState};
-ghost use Rattle.gx_state.specs.Replies.{IsReply};
-ghost use Rattle.glk_world.specs.World.{after};
-ghost use Rattle.glk_dispatch.specs.Calls.{HasStream, IsAdding, replies, put_of, putting, window_open, set_window, put_char, glk_call, on_world};
-ghost use Rattle.glk_dispatch.specs.Turns.{IsTurnFor};
-
-use glk_text::show;
-use glk_world::World;
-use gx_state::{Reply, State};
-use gx_words::Fault;
-pub use selectors::{PUT_CHAR, SET_WINDOW, WINDOW_OPEN};
-use std::alloc::Allocator;
-pub use windows::{FIRST_STREAM, FIRST_WINDOW, TEXT_BUFFER};
+pub use calls::call;
+pub use going::go_on;
+use gx_outside::Load;
+use gx_state::Reply;
+use gx_words::{Bytes, Name, Numbers};
+pub use output::put;
 
 /// What a call asks next, or its answer.
 #[derive(Drop)]
 pub enum Turn {
     /// The call is done.
     Answer(Reply),
+    /// It waits for a line, the next event of its requests.
+    Wait,
+    /// It waits, and nothing is requested.
+    Stuck,
+    /// It waits for a line, the name of a file.
+    Prompt,
+    /// It asks for the file of a name.
+    Load(Name),
+    /// It asks that a name hold these bytes.
+    Store(Name, Bytes),
+    /// It asks that the file of a name be removed.
+    Remove(Name),
+    /// It asks whether a name has a file.
+    Has(Name),
+    /// The program ends.
+    Exit,
 }
 
-/// A reply that writes and pushes nothing.
-fn reply(world: &World, value: u32) -> Reply
-    ensures { result ≡ replies value }
-{
-    Reply {
-        value,
-        pushes: world.numbers(),
-        writes: world.writes(),
-    }
-}
-
-/// Puts a character to the current stream.
-fn put_to_stream(world: &mut World, ch: u32) -> Result<(), Fault>
-    ensures { MayLose (HasStream world.old.scene) (λ done. done) result world.old world.new (Ok (after world.old (put_of world.old.scene ch), tt)) }
-{
-    if world.current() != 0 {
-        world.show(show(ch))?;
-    }
-    Ok(())
-}
-
-/// Puts a character of the program to the current Glk stream.
-#[tactic(auto, unfolding(crate::specs::Calls::putting))]
-pub fn put<A: Allocator + Clone>(
-    world: &mut World,
-    state: &State<A>,
-    value: u32,
-) -> Result<Reply, Fault>
-    ensures value { MayLose (HasStream world.old.scene) (λ reply. reply) result world.old world.new (on_world world.old (putting world.old.scene state.now.flat value)) }
-    ensures fits { IfOk result (IsReply state.now.flat 0) }
-{
-    put_to_stream(world, value)?;
-    Ok(reply(world, 0))
-}
-
-/// window_open: the first window, a text buffer.
-#[tactic(auto, unfolding(crate::specs::Calls::window_open))]
-fn window_open(world: &mut World, args: &[u32]) -> Result<Turn, Fault>
-    ensures value { MayLose ⊥ (λ turn. turn) result world.old world.new (on_world world.old (window_open world.old.scene args.now)) }
-    ensures fits { IfOk result (λ turn. (f : FlatState) (room : ℕ) → IsTurnFor f room turn) }
-{
-    match args {
-        [0, _, _, TEXT_BUFFER, _, ..] if !world.is_open() => {
-            world.open_window();
-            Ok(Turn::Answer(reply(world, FIRST_WINDOW)))
-        }
-        _ => Err(Fault::BadGlk),
-    }
-}
-
-/// set_window: the current stream is the window's, or none.
-#[tactic(auto, unfolding(crate::specs::Calls::set_window))]
-fn set_window(world: &mut World, args: &[u32]) -> Result<Turn, Fault>
-    ensures value { MayLose ⊥ (λ turn. turn) result world.old world.new (on_world world.old (set_window world.old.scene args.now)) }
-    ensures fits { IfOk result (λ turn. (f : FlatState) (room : ℕ) → IsTurnFor f room turn) }
-{
-    match args {
-        [0, ..] => {
-            world.set_current(0);
-            Ok(Turn::Answer(reply(world, 0)))
-        }
-        [FIRST_WINDOW, ..] if world.is_open() => {
-            world.set_current(FIRST_STREAM);
-            Ok(Turn::Answer(reply(world, 0)))
-        }
-        _ => Err(Fault::BadGlk),
-    }
-}
-
-/// put_char: the low eight bits as a character.
-#[tactic(auto, unfolding(crate::specs::Calls::put_char))]
-fn put_char(world: &mut World, args: &[u32]) -> Result<Turn, Fault>
-    ensures value { MayLose (HasStream world.old.scene) (λ turn. turn) result world.old world.new (on_world world.old (put_char world.old.scene args.now)) }
-    ensures fits { IfOk result (λ turn. (f : FlatState) (room : ℕ) → IsTurnFor f room turn) }
-{
-    let Some(ch) = args.first() else {
-        return Err(Fault::BadGlk);
-    };
-    put_to_stream(world, *ch % 256)?;
-    Ok(Turn::Answer(reply(world, 0)))
-}
-
-/// Makes the Glk call of a selector, whose reply may push so many values beside its own store.
-#[tactic(auto, unfolding(crate::specs::Calls::glk_call))]
-pub fn call<A: Allocator + Clone>(
-    world: &mut World,
-    state: &State<A>,
-    room: u32,
-    selector: u32,
-    args: &[u32],
-) -> Result<Turn, Fault>
-    ensures value { MayLose (IsAdding world.old.scene selector) (λ turn. turn) result world.old world.new (on_world world.old (glk_call world.old.scene state.now.flat room selector args.now)) }
-    ensures fits { IfOk result (IsTurnFor state.now.flat room) }
-{
-    match selector {
-        WINDOW_OPEN => window_open(world, args),
-        SET_WINDOW => set_window(world, args),
-        PUT_CHAR => put_char(world, args),
-        _ => Err(Fault::BadGlk),
-    }
+/// What a call goes on with.
+#[derive(Drop)]
+pub enum Given {
+    /// The characters of a line, for Wait and Prompt.
+    Line(Numbers),
+    /// What stands under the name, for Load.
+    Loaded(Load),
+    /// The bytes are stored, for Store.
+    Stored,
+    /// Whether there was a file, for Remove and Has.
+    Was(bool),
 }

@@ -24,8 +24,8 @@ pub fn push_utf8(out: &mut Bytes, v: u32) -> Result<(), AllocError>
     out.extend_from_slice(as_char(v).encode_utf8(&mut [0; 4]).as_bytes())
 }
 
-/// The character that is written.
-fn as_char(v: u32) -> char
+/// The character that is written: `?` for a number that is no Unicode scalar value.
+pub fn as_char(v: u32) -> char
     ensures { result ≡ as_scalar v }
 {
     char::from_u32(v).unwrap_or('?')

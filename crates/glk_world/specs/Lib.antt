@@ -1,1 +1,7 @@
 pub mod World
+pub mod Putting
+pub mod Chains
+pub mod Shown
+pub mod Calls
+pub mod Stored
+pub mod Kept

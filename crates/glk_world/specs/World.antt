@@ -1,12 +1,28 @@
--- The Glk world (Glk 0.7.5): what its calls look at, and the text that is shown.
-use Rattle.std.specs.Prelude.{ℕ, ◌==◌, List, [], ◌++◌, Bool, true, false, encode_utf8}
+-- The Glk world (Glk 0.7.5): all that its calls look at, and the text that is shown.
+use Rattle.std.specs.Prelude.{ℕ, List, [], ◌++◌, Bool, true, Option, None}
+use Rattle.glk_objects.specs.Objects as objects
+use Rattle.glk_streams.specs.declared.kinds.Stream.{Stream}
+use Rattle.glk_windows.specs.Windows.{FlatWindows, no_windows}
+use Rattle.glk_events.specs.declared.requests.Request.{Request}
+use Rattle.glk_world.specs.declared.references.FileReference.{FileReference}
+use Rattle.glk_world.specs.declared.grids.ShownGrid.{ShownGrid}
 
--- What Glk calls look at: whether the text window is open, the current stream or 0, and whether the
--- text since the last line feed is empty.
+-- a Glk call that waits to go on: its selector and its arguments
+pub record Call : Type 0 where
+  pub selector : ℕ
+  pub arguments : List ℕ
+
+-- What Glk calls look at. Objects of all classes take their identifiers from one sequence.
 pub record Scene : Type 0 where
-  pub has_window : Bool
-  pub current : ℕ
-  pub fresh : Bool
+  pub windows : FlatWindows  -- with their tree, their grids and the size of the screen
+  pub shown : List ShownGrid  -- the grids as they were shown last
+  pub streams : List Stream
+  pub references : List FileReference
+  pub requests : List Request
+  pub current : ℕ  -- the current stream, 0 for none
+  pub next_id : ℕ  -- the identifier of the next object
+  pub fresh : Bool  -- nothing was shown since the last line feed or the last line that was taken
+  pub waiting : Option Call
 
 -- A world is a scene and its text. No call looks at the text, and each adds at its end.
 pub record FlatWorld : Type 0 where
@@ -21,13 +37,44 @@ Said = Scene × List ℕ
 abbrev pub after : FlatWorld → Said → FlatWorld
 after w said = record { scene = said.0; text = w.text ++ said.1 }
 
-abbrev pub is_line_feed : ℕ → Bool
-is_line_feed c = c == 0x0A
+-- a call that adds no text
+abbrev pub silent : Scene → Said
+silent w = (w, [])
 
--- what the adding of a character makes: its bytes in UTF-8
-abbrev pub said_char : Scene → ℕ → Said
-said_char scene c = (record scene { fresh = is_line_feed c }, encode_utf8 c)
+-- one thing said after another
+abbrev pub then_said : Said → (Scene → Said) → Said
+then_said first more = ((more first.0).0, first.1 ++ (more first.0).1)
 
--- the world before any call
-abbrev pub empty_world : FlatWorld
-empty_world = record { scene = record { has_window = false; current = 0; fresh = true }; text = [] }
+-- the world before any call, on a screen of so many columns and rows
+abbrev pub empty_scene : ℕ → ℕ → Scene
+empty_scene columns rows = record {
+  windows = no_windows columns rows;
+  shown = [];
+  streams = [];
+  references = [];
+  requests = [];
+  current = 0;
+  next_id = 1;
+  fresh = true;
+  waiting = None;
+}
+
+abbrev pub empty_world : ℕ → ℕ → FlatWorld
+empty_world columns rows = record { scene = empty_scene columns rows; text = [] }
+
+-- ---- file references
+
+abbrev pub reference_id : FileReference → ℕ
+reference_id r = r.id
+
+abbrev pub no_reference : FileReference
+no_reference = record { id = 0; base = []; usage = 0; rock = 0 }
+
+abbrev pub has_reference : Scene → ℕ → Bool
+has_reference w id = objects.has reference_id w.references id
+
+abbrev pub reference_at : Scene → ℕ → FileReference
+reference_at w id = objects.at reference_id no_reference w.references id
+
+abbrev pub next_reference : Scene → ℕ → ℕ
+next_reference w id = objects.next reference_id w.references id

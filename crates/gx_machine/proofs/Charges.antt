@@ -50,10 +50,10 @@ memory-writing m c i (inl is) writes = subst (λ (x : Class). IsWriting x m i) (
 memory-writing m c i (inr is) writes = subst (λ (x : Class). IsWriting x m i) (sym is) (subst (λ (x : Class). memory_writes.IsWriting x m.flat i) is writes)
 
 -- a call that does it to the state does it to the machine
-does-beside : (A B : Type 0) (f g : FlatState) (u : FlatUndo) (left left' : ℕ) (r : Result (Effect × Option Pending) Fault) (d : Result ((FlatState × ℕ) × Effect) Fault) (d' : Result ((FlatMachine × ℕ) × Effect) Fault)
+does-beside : (A B : Type 0) (f g : FlatState) (u : FlatUndo) (left left' : ℕ) (r : Result Effect Fault) (d : Result ((FlatState × ℕ) × Effect) Fault) (d' : Result ((FlatMachine × ℕ) × Effect) Fault)
     → d' ≡ beside u d → (A → B)
-    → Does {X = Effect × Option Pending} {Y = Effect} {S = FlatState × ℕ} A (λ x. x.0) r (f, left) (g, left') d
-    → Does {X = Effect × Option Pending} {Y = Effect} {S = FlatMachine × ℕ} B (λ x. x.0) r (record { flat = f; undo = u }, left) (record { flat = g; undo = u }, left') d'
+    → Does {X = Effect} {Y = Effect} {S = FlatState × ℕ} A (λ effect. effect) r (f, left) (g, left') d
+    → Does {X = Effect} {Y = Effect} {S = FlatMachine × ℕ} B (λ effect. effect) r (record { flat = f; undo = u }, left) (record { flat = g; undo = u }, left') d'
 does-beside A B f g u left left' (Ok x) d d' same wants does = same ∙ ap (beside u) does
 does-beside A B f g u left left' (Err fault) d d' same wants does = (
   ap (λ (x : FlatState × ℕ). (record { flat = x.0; undo = u }, x.1)) does.0,
@@ -63,8 +63,8 @@ does-beside A B f g u left left' (Err fault) d d' same wants does = (
   ),
 )
 
-pub memory_does : (m : FlatMachine) (c : Class) (word left left' : ℕ) (i : Instruction) (g : FlatState) (r : Result (Effect × Option Pending) Fault) → (c ≡ class.Copy) ⊎ (c ≡ class.Memory)
-    → Does {X = Effect × Option Pending} {Y = Effect} {S = FlatState × ℕ} (memory_writes.IsWriting c m.flat i) (λ x. x.0) r (m.flat, left) (g, left') (acted c m.flat i left)
-    → Does {X = Effect × Option Pending} {Y = Effect} {S = FlatMachine × ℕ} (IsWriting c m i) (λ x. x.0) r (m, left) (record { flat = g; undo = m.undo }, left') (charged left (probes_of c m.flat i) m (row_effect c m word i))
+pub memory_does : (m : FlatMachine) (c : Class) (word left left' : ℕ) (i : Instruction) (g : FlatState) (r : Result Effect Fault) → (c ≡ class.Copy) ⊎ (c ≡ class.Memory)
+    → Does {X = Effect} {Y = Effect} {S = FlatState × ℕ} (memory_writes.IsWriting c m.flat i) (λ effect. effect) r (m.flat, left) (g, left') (acted c m.flat i left)
+    → Does {X = Effect} {Y = Effect} {S = FlatMachine × ℕ} (IsWriting c m i) (λ effect. effect) r (m, left) (record { flat = g; undo = m.undo }, left') (charged left (probes_of c m.flat i) m (row_effect c m word i))
 memory_does m c word left left' i g r is does =
     does-beside (memory_writes.IsWriting c m.flat i) (IsWriting c m i) m.flat g m.undo left left' r (acted c m.flat i left) _ (memory-beside m c word left i is) (memory-writing m c i is) does

@@ -7,7 +7,7 @@ use Rattle.gx_words.specs.declared.faults.Fault.TheVariants.{BadFrame}
 use Rattle.gx_words.specs.Faults.{IsRefused}
 use Rattle.gx_words.specs.Results.{◌>>=◌}
 use Rattle.gx_state.specs.declared.effects.Effect.{Effect}
-use Rattle.gx_state.specs.declared.effects.Effect.TheVariants.{Spent}
+use Rattle.gx_state.specs.declared.effects.Effect.TheVariants.{Spent, Went}
 use Rattle.gx_state.specs.declared.modes.Mode.{Mode}
 use Rattle.gx_state.specs.declared.modes.Mode.TheVariants.{Running, Printing}
 use Rattle.gx_state.specs.Flat.{FlatState, sp_of}
@@ -115,7 +115,7 @@ step_err w word budget fault some live running h =
     let probes : ℕ = probes_in w.machine.flat Running in
     by_left w word budget some live running ∙ err-by w budget probes (mode_step w.machine word Running) fault (nat_lt (budget - 1) probes) h
 
-step_can : (w : Whole) (word budget : ℕ) → 1 ≤ budget → 0 < sp_of w.machine.flat → w.machine.flat.mode ≡ Running
+pub step_can : (w : Whole) (word budget : ℕ) → 1 ≤ budget → 0 < sp_of w.machine.flat → w.machine.flat.mode ≡ Running
     → IsOk (charged (budget - 1) (probes_in w.machine.flat Running) w.machine (mode_step w.machine word Running)) → IsOk (stepped w word budget)
 step_can w word budget some live running ok =
     let probes : ℕ = probes_in w.machine.flat Running in
@@ -202,5 +202,32 @@ print_stands w word budget g fault some live printing same does = (
 pub some_of : (o : Option Pending) → IsSome (option_map (λ (p : Pending). p.asking) o) → IsSome o
 some_of None asks = asks
 some_of (Some p) asks = refl
+
+spent-not-went : Spent ≡ Went → ⊥
+spent-not-went same = cc
+
+err-not-ok : {A : Type 0} (f : Fault) (x : A) → (let r : Result A Fault = Err f in r ≡ Ok x) → ⊥
+err-not-ok f x same = cc
+
+-- a step that went takes a unit at least, and asks nothing
+went-by : (w w' : Whole) (budget cost left : ℕ) (r : Result (FlatMachine × Effect) Fault) (b : Bool) → 1 ≤ cost → nat_lt budget cost ≡ b
+    → tested w budget cost b r ≡ Ok ((w', left), Went) → (left < budget) × (w'.asking ≡ None)
+went-by w w' budget cost left r true some is h = absurd (spent-not-went (ap (λ (y : (Whole × ℕ) × Effect). y.1) (ok-is {A = (Whole × ℕ) × Effect} ((w, budget), Spent) ((w', left), Went) h)))
+went-by w w' budget cost left (Ok x) false some is h =
+    let same : ((record { machine = x.0; asking = asking_of x.1 }, budget - cost), x.1) ≡ ((w', left), Went) = ok-is {A = (Whole × ℕ) × Effect} ((record { machine = x.0; asking = asking_of x.1 }, budget - cost), x.1) ((w', left), Went) h in
+    let units : budget - cost ≡ left = ap (λ (y : (Whole × ℕ) × Effect). y.0.1) same in
+    let asks : asking_of x.1 ≡ w'.asking = ap (λ (y : (Whole × ℕ) × Effect). y.0.0.asking) same in
+    let went : x.1 ≡ Went = ap (λ (y : (Whole × ℕ) × Effect). y.1) same in
+    let enough : cost ≤ budget = ltb-false budget cost is in
+    (omega (arith, units, enough, some), sym asks ∙ ap asking_of went)
+went-by w w' budget cost left (Err f) false some is h = absurd (err-not-ok f ((w', left), Went) h)
+
+pub went_lower : (w w' : Whole) (word budget left : ℕ) → stepped w word budget ≡ Ok ((w', left), Went) → left < budget
+unfolding stepped cost_of
+went_lower w w' word budget left h = (went-by w w' budget (cost_of w.machine) left (step_of w.machine word) (nat_lt budget (cost_of w.machine)) (omega arith) refl h).0
+
+pub went_asks : (w w' : Whole) (word budget left : ℕ) → stepped w word budget ≡ Ok ((w', left), Went) → w'.asking ≡ None
+unfolding stepped cost_of
+went_asks w w' word budget left h = (went-by w w' budget (cost_of w.machine) left (step_of w.machine word) (nat_lt budget (cost_of w.machine)) (omega arith) refl h).1
 
 pub ruleset steps = (step_none, step_empty, step_err, step_ok, step_spent, spent_stands, print_err, print_ok)

@@ -1,7 +1,8 @@
 -- One step of the machine (Glulx 3.1.2, "Instruction Format"), and what it takes of a budget.
-use Rattle.std.specs.Prelude.{ℕ, ◌+◌, ◌-◌, ◌==◌, nat_lt, if◌then◌else◌, Option, Some, None, Result, Ok, Err, IsOkAnd}
+use Rattle.std.specs.Prelude.{◌≡◌, ℕ, zero, suc, ◌+◌, ◌-◌, ◌==◌, nat_lt, if◌then◌else◌, Option, Some, None, IsSome, Result, Ok, Err, IfOk, IsOkAnd}
 use Rattle.gx_words.specs.declared.faults.Fault.{Fault}
 use Rattle.gx_words.specs.declared.faults.Fault.TheVariants.{BadFrame}
+use Rattle.gx_words.specs.Faults.{Does}
 use Rattle.gx_words.specs.Results.{◌>>=◌}
 use Rattle.gx_state.specs.declared.effects.Effect.{Effect}
 use Rattle.gx_state.specs.declared.effects.Effect.TheVariants.{Went, Drew, Put, Glk, Quit, Spent}
@@ -72,3 +73,17 @@ IsModeWriting m (mode.Printing p) = ⊥
 
 abbrev pub IsStepWriting : FlatMachine → Type 0
 IsStepWriting m = IsModeWriting m m.flat.mode
+
+-- so many steps with one word, each of which goes on, asks nothing and leaves the word: from a machine and its budget to those that it
+-- comes to
+abbrev pub Passes : ℕ → ℕ → Whole × ℕ → Whole × ℕ → Type 0
+Passes word zero start end = start ≡ end
+Passes word (suc n) start end = (before : Whole × ℕ) × Passes word n start before × (stepped before.0 word before.1 ≡ Ok (end, Went))
+
+-- Such steps, and then one more: the budget stands as before that last step, and `new` is the machine after it with what it leaves.
+pub record Advances (wants : FlatMachine → Type 0) (word : ℕ) (result : Result Effect Fault) (old : Whole × ℕ) (budget : ℕ) (new : Whole × ℕ) : Type 0 where
+  pub count : ℕ
+  pub before : Whole
+  pub passes : Passes word count old (before, budget)
+  pub last : Does (wants before.machine) (λ effect. effect) result (before, budget) new (stepped before word budget)
+  pub stands : IfOk result (λ effect. IsSome (asking_of effect) → new.0.machine ≡ before.machine)

@@ -3,7 +3,7 @@ ghost use Rattle.std.specs.Prelude.{◌≡◌, None, IsSome, IfOk, OnOk, OnErr};
 ghost use Rattle.gx_words.specs.Faults.{Does};
 ghost use Rattle.gx_machine.specs.Machine.{Whole};
 ghost use Rattle.gx_machine.specs.Answer.{answered, IsAnswer};
-ghost use Rattle.gx_machine.specs.Step.{stepped, asking_of};
+ghost use Rattle.gx_machine.specs.Step.{stepped, asking_of, Advances};
 
 use gx_state::{Effect, Reply, State};
 use gx_words::Fault;
@@ -20,6 +20,12 @@ pub trait Engine<A: Allocator + Clone> {
         requires { (whole self.old).asking ≡ None }
         ensures step { Does (Unit {0}) (λ effect. effect) result (whole self.old, budget.old) (whole self.new, budget.new) (stepped (whole self.old) word budget.old) }
         ensures stands { IfOk result (λ effect. IsSome (asking_of effect) → (whole self.new).machine ≡ (whole self.old).machine) };
+
+    /// Steps within the budget, all with one random word, as long as they ask nothing and the word isn't used, and then
+    /// one that may. The budget is lowered by all of them but the last, and `left` is what that one leaves.
+    fn advance(&mut self, word: u32, budget: &mut u64, left: &mut u64) -> Result<Effect, Fault>
+        requires { (whole self.old).asking ≡ None }
+        ensures { Advances (λ machine. Unit {0}) word result (whole self.old, budget.old) budget.new (whole self.new, left.new) };
 
     /// Answers what the last step asked.
     fn finish(&mut self, reply: &Reply) -> Result<(), AllocError>

@@ -2,6 +2,7 @@
 //!
 //! - `machine` has the machine, its step and the answers to what a step asks.
 //! - `rows` does the row of an instruction, class by class.
+//! - `quick` reads and does the commonest instructions in one go, by the same definitions.
 //! - `engine` has the trait that a session runs on.
 //!
 //! `Machine::step` is `stepped` of specs/Step for every machine, word and budget: each fault comes
@@ -13,6 +14,7 @@
 mod askings;
 mod engine;
 mod machine;
+mod quick;
 mod rows;
 
 pub use askings::Asking;

@@ -1,17 +1,20 @@
 //! The machine: one step, and the answer to what it asks.
-ghost use Rattle.std.specs.Prelude.{◌≡◌, ◌≢◌, ◌⊎◌, ◌+◌, ◌*◌, ◌<◌, ◌≤◌, ℕ, length, Ok, Some, None, IfOk, IsSome, OnOk, OnErr};
+ghost use Rattle.std.specs.Prelude.{◌≡◌, ◌≢◌, ◌⊎◌, ◌+◌, ◌*◌, ◌<◌, ◌≤◌, ℕ, true, length, Ok, Some, None, IfOk, IsSome, is_some, OnOk, OnErr};
 ghost use Rattle.gx_words.specs.Faults.{Does, Makes};
 ghost use Rattle.gx_state.specs.Flat.{IsHeight, sp_of};
 ghost use Rattle.gx_state.specs.Replies.{AreInRam, IsReply};
 ghost use Rattle.gx_state.specs.Stores.{store_fault, IsMemory};
 ghost use Rattle.gx_pages.specs.Memory.{HasBytes};
 ghost use Rattle.gx_machine.specs.Answer.{answered, answered_state, with_writes, with_pushes, IsAnswer, IsStoredAnswer};
+ghost use Rattle.gx_machine.specs.Quick.{Tries, Passed};
 ghost use Rattle.gx_machine.specs.Start.{first_machine};
-ghost use Rattle.gx_machine.specs.Step.{asking_of, room_of, stepped, IsModeWriting, IsStepWriting};
+ghost use Rattle.gx_machine.specs.Step.{asking_of, room_of, stepped, Advances, IsModeWriting, IsStepWriting};
 ghost use Rattle.gx_machine.specs.Views.{IsPending, result_len};
 
+use crate::quick::quick;
 use crate::rows::{print, run};
 use crate::{Asking, Engine};
+use gx_operands::Plan;
 use gx_state::{Dest, Effect, Mode, Reply, State};
 use gx_story::Story;
 use gx_undo::Undo;
@@ -88,9 +91,112 @@ impl<A: Allocator + Clone> Machine<A> {
         self.undo.len()
     }
 
+    /// Whether it waits for an answer.
+    pub fn is_asking(&self) -> bool
+        ensures { result ≡ is_some self.now.asking }
+    {
+        self.pending.is_some()
+    }
+
     /// One step within the budget, with a random word that it may use.
     #[tactic(auto, using(crate::proofs::Steps::steps))]
     pub fn step(&mut self, word: u32, budget: &mut u64) -> Result<Effect, Fault>
+        requires { self.old.asking ≡ None }
+        ensures step { Does (IsStepWriting self.old.machine) (λ effect. effect) result (self.old, budget.old) (self.new, budget.new) (stepped self.old word budget.old) }
+        ensures stands { IfOk result (λ effect. IsSome (asking_of effect) → self.new.machine ≡ self.old.machine) }
+    {
+        self.turn(&mut Plan::new(), word, budget)
+    }
+
+    /// Steps within the budget, all with one random word, as long as they ask nothing and the word isn't used, and then
+    /// one that may. The budget is lowered by all of them but the last, and `left` is what that one leaves.
+    #[tactic(auto, using(crate::proofs::Steps::steps))]
+    pub fn advance(&mut self, word: u32, budget: &mut u64, left: &mut u64) -> Result<Effect, Fault>
+        requires { self.old.asking ≡ None }
+        ensures { Advances IsStepWriting word result (self.old, budget.old) budget.new (self.new, left.new) }
+    {
+        let mut plan = Plan::new();
+        loop {
+            let passed = self.passes(budget);
+            *left = *budget;
+            passed?;
+            match self.turn(&mut plan, word, left) {
+                Ok(Effect::Went) => *budget = *left,
+                done => return done,
+            }
+        }
+    }
+
+    /// Makes steps the quick way, as long as there are such. A machine that prints has none.
+    #[inline(always)]
+    fn passes(&mut self, budget: &mut u64) -> Result<(), Fault>
+        requires asks { self.old.asking ≡ None }
+        ensures value { (word : ℕ) → Passed word result (self.old, budget.old) (self.new, budget.new) }
+        ensures asks { self.new.asking ≡ None }
+        ensures no_more { budget.new ≤ budget.old }
+    {
+        match self.state.mode() {
+            Mode::Running => self.passes_running(budget),
+            Mode::Printing(_) => Ok(()),
+        }
+    }
+
+    /// The same for a machine that runs code at first.
+    #[inline(never)]
+    #[tactic(auto, using(crate::proofs::Steps::steps))]
+    fn passes_running(&mut self, budget: &mut u64) -> Result<(), Fault>
+        requires asks { self.old.asking ≡ None }
+        ensures value { (word : ℕ) → Passed word result (self.old, budget.old) (self.new, budget.new) }
+        ensures asks { self.new.asking ≡ None }
+        ensures no_more { budget.new ≤ budget.old }
+    {
+        while self.pass(budget)? {}
+        Ok(())
+    }
+
+    /// One step the quick way. Nothing is done where there is none.
+    #[inline(always)]
+    #[tactic(auto, using(crate::proofs::Steps::steps))]
+    fn pass(&mut self, budget: &mut u64) -> Result<bool, Fault>
+        requires asks { self.old.asking ≡ None }
+        ensures value { (word : ℕ) → Tries (IsStepWriting self.old.machine) result (self.old, budget.old) (self.new, budget.new) (stepped self.old word budget.old) }
+        ensures asks { self.new.asking ≡ None }
+        ensures fewer { result ≡ Ok true → budget.new < budget.old }
+        ensures no_more { budget.new ≤ budget.old }
+    {
+        if *budget == 0 || self.state.stack().size() == 0 {
+            return Ok(false);
+        }
+        match self.state.mode() {
+            Mode::Running => self.pass_running(budget),
+            Mode::Printing(_) => Ok(false),
+        }
+    }
+
+    /// The same for a machine that runs code, with a unit at least.
+    #[inline(always)]
+    #[tactic(auto, using(crate::proofs::Steps::steps))]
+    fn pass_running(&mut self, budget: &mut u64) -> Result<bool, Fault>
+        requires asks { self.old.asking ≡ None }
+        requires some { 1 ≤ budget.old }
+        requires live { 0 < sp_of self.old.machine.flat }
+        requires running { self.old.machine.flat.mode ≡ Mode.Running }
+        ensures value { (word : ℕ) → Tries (IsModeWriting self.old.machine Mode.Running) result (self.old, budget.old) (self.new, budget.new) (stepped self.old word budget.old) }
+        ensures asks { self.new.asking ≡ None }
+        ensures fewer { result ≡ Ok true → budget.new < budget.old }
+        ensures no_more { budget.new ≤ budget.old }
+    {
+        if quick(&mut self.state)? {
+            *budget -= 1;
+            return Ok(true);
+        }
+        Ok(false)
+    }
+
+    /// One step within the budget, whose instruction is read into `plan`.
+    #[inline(always)]
+    #[tactic(auto, using(crate::proofs::Steps::steps))]
+    fn turn(&mut self, plan: &mut Plan, word: u32, budget: &mut u64) -> Result<Effect, Fault>
         requires { self.old.asking ≡ None }
         ensures step { Does (IsStepWriting self.old.machine) (λ effect. effect) result (self.old, budget.old) (self.new, budget.new) (stepped self.old word budget.old) }
         ensures stands { IfOk result (λ effect. IsSome (asking_of effect) → self.new.machine ≡ self.old.machine) }
@@ -102,14 +208,14 @@ impl<A: Allocator + Clone> Machine<A> {
             return Err(Fault::BadFrame);
         }
         match self.state.mode() {
-            Mode::Running => self.run(word, budget),
+            Mode::Running => self.run(plan, word, budget),
             Mode::Printing(_) => self.print(budget),
         }
     }
 
     /// The same for a machine that runs code, with a unit at least.
     #[tactic(auto, using(crate::proofs::Steps::steps))]
-    fn run(&mut self, word: u32, budget: &mut u64) -> Result<Effect, Fault>
+    fn run(&mut self, plan: &mut Plan, word: u32, budget: &mut u64) -> Result<Effect, Fault>
         requires asks { self.old.asking ≡ None }
         requires some { 1 ≤ budget.old }
         requires live { 0 < sp_of self.old.machine.flat }
@@ -118,17 +224,19 @@ impl<A: Allocator + Clone> Machine<A> {
         ensures stands { IfOk result (λ effect. IsSome (asking_of effect) → self.new.machine ≡ self.old.machine) }
     {
         let mut left = *budget - 1;
-        match run(&mut self.state, &mut self.undo, word, &mut left) {
-            Err(fault) => Err(fault),
-            Ok((effect, pending)) => {
-                if let Effect::Spent = effect {
-                    return Ok(Effect::Spent);
-                }
-                self.pending = pending;
-                *budget = left;
-                Ok(effect)
-            }
+        let effect = run(
+            &mut self.state,
+            &mut self.undo,
+            plan,
+            word,
+            &mut left,
+            &mut self.pending,
+        )?;
+        if let Effect::Spent = effect {
+            return Ok(Effect::Spent);
         }
+        *budget = left;
+        Ok(effect)
     }
 
     /// The same for a machine that prints, whatever the word is.
@@ -141,14 +249,9 @@ impl<A: Allocator + Clone> Machine<A> {
         ensures step { (word : ℕ) → Does ⊥ (λ effect. effect) result (self.old, budget.old) (self.new, budget.new) (stepped self.old word budget.old) }
         ensures stands { IfOk result (λ effect. IsSome (asking_of effect) → self.new.machine ≡ self.old.machine) }
     {
-        match print(&mut self.state) {
-            Err(fault) => Err(fault),
-            Ok((effect, pending)) => {
-                self.pending = pending;
-                *budget -= 1;
-                Ok(effect)
-            }
-        }
+        let effect = print(&mut self.state, &mut self.pending)?;
+        *budget -= 1;
+        Ok(effect)
     }
 
     /// Answers what the last step asked: the pops are made, the writes and the pushes follow in order,
@@ -240,6 +343,10 @@ impl<A: Allocator + Clone> Engine<A> for Machine<A> {
 
     fn step(&mut self, word: u32, budget: &mut u64) -> Result<Effect, Fault> {
         Machine::step(self, word, budget)
+    }
+
+    fn advance(&mut self, word: u32, budget: &mut u64, left: &mut u64) -> Result<Effect, Fault> {
+        Machine::advance(self, word, budget, left)
     }
 
     fn finish(&mut self, reply: &Reply) -> Result<(), AllocError> {

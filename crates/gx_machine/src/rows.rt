@@ -1,5 +1,5 @@
 //! The row of an instruction, class by class.
-ghost use Rattle.std.specs.Prelude.{◌≡◌, ◌≢◌, ◌<◌, ◌≤◌, ◌*◌, ◌+◌, Ok, Some, IsSome, IfOk, IfSome};
+ghost use Rattle.std.specs.Prelude.{◌≡◌, ◌≢◌, ◌<◌, ◌≤◌, ◌*◌, ◌+◌, Ok, None, IsSome, IfOk, IfSome, OnOk, OnErr};
 ghost use Rattle.std.specs.Option.{option_map};
 ghost use Rattle.gx_words.specs.Faults.{Does, Reads};
 ghost use Rattle.gx_state.specs.declared.effects.Effect.TheVariants.{Spent};
@@ -8,8 +8,7 @@ ghost use Rattle.gx_state.specs.Flat.{FlatState, IsHeight, sp_of};
 ghost use Rattle.gx_operands.specs.Instructions.{instruction};
 ghost use Rattle.gx_operands.specs.Plans.{instruction_of};
 ghost use Rattle.gx_undo.specs.Undo.{AreCopiesFor};
-ghost use Rattle.ops_memory.specs.Costs.{probes_of, acted, charged};
-ghost use Rattle.ops_memory.specs.Writes as memory_writes;
+ghost use Rattle.ops_memory.specs.Costs.{probes_of, charged};
 ghost use Rattle.ops_print.specs.Rows as print;
 ghost use Rattle.ops_print.specs.Items.{printed};
 ghost use Rattle.gx_machine.specs.Rows.{room_above, glk, row_effect, IsWriting};
@@ -18,7 +17,7 @@ ghost use Rattle.gx_machine.specs.Views.{IsPending, result_len, machine_of};
 
 use crate::Asking;
 use crate::machine::Pending;
-use gx_operands::{Plan, arguments, can_store, decode};
+use gx_operands::{Plan, arguments, can_store, decode_into};
 use gx_rows::Class;
 use gx_state::{Dest, Effect, Mode, State};
 use gx_undo::Undo;
@@ -39,15 +38,20 @@ fn room_above(limit: u32, sp: u32, dest: &Dest) -> u32
 
 /// glk: asks for a call.
 #[tactic(auto, unfolding(crate::specs::Rows::glk), using(crate::proofs::Answers::answers))]
-fn glk<A: Allocator + Clone>(state: &State<A>, plan: &Plan) -> Result<(Effect, Pending), Fault>
+fn glk<A: Allocator + Clone>(
+    state: &State<A>,
+    plan: &Plan,
+    pending: &mut Option<Pending>,
+) -> Result<Effect, Fault>
     requires running { state.now.flat.mode ≡ Running }
     requires sp { IsHeight state.now.flat plan.now.sp }
     requires decoded { instruction state.now.flat ≡ Ok (instruction_of plan.now) }
     requires class { (instruction_of plan.now).row.class ≡ Class.Glk }
-    ensures value { Reads (λ r. (state.now.flat, r.0)) result (glk state.now.flat (instruction_of plan.now)) }
-    ensures asks { IfOk result (λ r. asking_of r.0 ≡ Some r.1.asking) }
-    ensures pends { IfOk result (λ r. IsPending state.now.flat r.1) }
-    ensures spent { IfOk result (λ r. r.0 ≢ Spent) }
+    ensures value { Reads (λ effect. (state.now.flat, effect)) result (glk state.now.flat (instruction_of plan.now)) }
+    ensures asks { IfOk result (λ effect. asking_of effect ≡ option_map (λ p. p.asking) pending.new) }
+    ensures pends { OnOk result (IfSome pending.new (IsPending state.now.flat)) }
+    ensures stays { OnErr result (pending.new ≡ pending.old) }
+    ensures spent { IfOk result (λ effect. effect ≢ Spent) }
 {
     let count = plan.load(1);
     let limit = state.stack().limit();
@@ -55,37 +59,18 @@ fn glk<A: Allocator + Clone>(state: &State<A>, plan: &Plan) -> Result<(Effect, P
     let sp = plan.sp - 4 * count;
     can_store(state, &plan.dest, 4, sp)?;
     let room = room_above(limit, sp, &plan.dest);
-    let effect = Effect::Glk {
-        selector: plan.load(0),
-        args,
-        room,
-    };
-    let pending = Pending {
+    *pending = Some(Pending {
         asking: Asking::Glk(room),
         sp,
         dest: plan.dest,
         next: plan.next,
         mode: Mode::Running,
-    };
-    Ok((effect, pending))
-}
-
-/// A row of Copy or Memory, within what is left of the budget.
-#[tactic(auto, using(crate::proofs::Answers::answers))]
-fn memory_row<A: Allocator + Clone>(
-    state: &mut State<A>,
-    plan: &Plan,
-    left: &mut u64,
-) -> Result<(Effect, Option<Pending>), Fault>
-    requires sp { IsHeight state.old.flat plan.now.sp }
-    ensures value { Does (memory_writes.IsWriting (instruction_of plan.now).row.class state.old.flat (instruction_of plan.now)) (λ r. r.0) result (state.old.flat, left.old) (state.new.flat, left.new) (acted (instruction_of plan.now).row.class state.old.flat (instruction_of plan.now) left.old) }
-    ensures asks { IfOk result (λ r. asking_of r.0 ≡ option_map (λ p. p.asking) r.1) }
-    ensures stands { IfOk result (λ r. IsSome r.1 → state.new.flat ≡ state.old.flat) }
-    ensures pends { IfOk result (λ r. IfSome r.1 (IsPending state.new.flat)) }
-    ensures spent { IfOk result (λ r. r.0 ≡ Spent → left.old < probes_of (instruction_of plan.now).row.class state.old.flat (instruction_of plan.now)) }
-    ensures story { state.new.flat.story ≡ state.old.flat.story }
-{
-    Ok((ops_memory::act(state, plan, left)?, None))
+    });
+    Ok(Effect::Glk {
+        selector: plan.load(0),
+        args,
+        room,
+    })
 }
 
 /// What is pending after a character was put, with the mode that follows.
@@ -106,25 +91,28 @@ fn put_pending(sp: u32, next: u32, mode: Mode) -> Pending
 fn print_row<A: Allocator + Clone>(
     state: &mut State<A>,
     plan: &Plan,
-) -> Result<(Effect, Option<Pending>), Fault>
+    pending: &mut Option<Pending>,
+) -> Result<Effect, Fault>
+    requires free { pending.old ≡ None }
     requires running { state.old.flat.mode ≡ Running }
     requires sp { IsHeight state.old.flat plan.now.sp }
     requires decoded { instruction state.old.flat ≡ Ok (instruction_of plan.now) }
     requires class { (instruction_of plan.now).row.class ≡ Class.Print }
-    ensures value { Does ⊥ (λ r. r.0) result state.old.flat state.new.flat (print.row_effect state.old.flat (instruction_of plan.now)) }
-    ensures asks { IfOk result (λ r. asking_of r.0 ≡ option_map (λ p. p.asking) r.1) }
-    ensures stands { IfOk result (λ r. IsSome r.1 → state.new.flat ≡ state.old.flat) }
-    ensures pends { IfOk result (λ r. IfSome r.1 (IsPending state.new.flat)) }
-    ensures spent { IfOk result (λ r. r.0 ≢ Spent) }
+    ensures value { Does ⊥ (λ effect. effect) result state.old.flat state.new.flat (print.row_effect state.old.flat (instruction_of plan.now)) }
+    ensures asks { IfOk result (λ effect. asking_of effect ≡ option_map (λ p. p.asking) pending.new) }
+    ensures stands { OnOk result (IsSome pending.new → state.new.flat ≡ state.old.flat) }
+    ensures pends { OnOk result (IfSome pending.new (IsPending state.new.flat)) }
+    ensures stays { OnErr result (pending.new ≡ None) }
+    ensures spent { IfOk result (λ effect. effect ≢ Spent) }
     ensures story { state.new.flat.story ≡ state.old.flat.story }
 {
     let _stack = state.stack(); // a state is sound
     match ops_print::act(state, plan)? {
         Effect::Put(c) => {
-            let pending = put_pending(plan.sp, plan.next, Mode::Running);
-            Ok((Effect::Put(c), Some(pending)))
+            *pending = Some(put_pending(plan.sp, plan.next, Mode::Running));
+            Ok(Effect::Put(c))
         }
-        effect => Ok((effect, None)),
+        effect => Ok(effect),
     }
 }
 
@@ -132,22 +120,28 @@ fn print_row<A: Allocator + Clone>(
 #[tactic(auto, unfolding(gx_state::specs::Stores::store_fault), using(crate::proofs::Answers::answers))]
 pub(crate) fn print<A: Allocator + Clone>(
     state: &mut State<A>,
-) -> Result<(Effect, Option<Pending>), Fault>
+    pending: &mut Option<Pending>,
+) -> Result<Effect, Fault>
+    requires free { pending.old ≡ None }
     requires live { 0 < sp_of state.old.flat }
     requires printing { state.old.flat.mode ≢ Running }
-    ensures value { Does ⊥ (λ r. r.0) result state.old.flat state.new.flat (printed state.old.flat) }
-    ensures asks { IfOk result (λ r. asking_of r.0 ≡ option_map (λ p. p.asking) r.1) }
-    ensures stands { IfOk result (λ r. IsSome r.1 → state.new.flat ≡ state.old.flat) }
-    ensures pends { IfOk result (λ r. IfSome r.1 (IsPending state.new.flat)) }
-    ensures spent { IfOk result (λ r. r.0 ≢ Spent) }
+    ensures value { Does ⊥ (λ effect. effect) result state.old.flat state.new.flat (printed state.old.flat) }
+    ensures asks { IfOk result (λ effect. asking_of effect ≡ option_map (λ p. p.asking) pending.new) }
+    ensures stands { OnOk result (IsSome pending.new → state.new.flat ≡ state.old.flat) }
+    ensures pends { OnOk result (IfSome pending.new (IsPending state.new.flat)) }
+    ensures stays { OnErr result (pending.new ≡ None) }
+    ensures spent { IfOk result (λ effect. effect ≢ Spent) }
     ensures story { state.new.flat.story ≡ state.old.flat.story }
 {
     let sp = state.stack().size();
     let pc = state.pc();
     let (effect, mode) = ops_print::item_and_mode(state)?;
     match effect {
-        Effect::Put(c) => Ok((Effect::Put(c), Some(put_pending(sp, pc, mode)))),
-        effect => Ok((effect, None)),
+        Effect::Put(c) => {
+            *pending = Some(put_pending(sp, pc, mode));
+            Ok(Effect::Put(c))
+        }
+        effect => Ok(effect),
     }
 }
 
@@ -159,53 +153,55 @@ fn row<A: Allocator + Clone>(
     plan: &Plan,
     word: u32,
     left: &mut u64,
-) -> Result<(Effect, Option<Pending>), Fault>
+    pending: &mut Option<Pending>,
+) -> Result<Effect, Fault>
+    requires free { pending.old ≡ None }
     requires running { state.old.flat.mode ≡ Running }
     requires sp { IsHeight state.old.flat plan.now.sp }
     requires decoded { instruction state.old.flat ≡ Ok (instruction_of plan.now) }
     requires copies { AreCopiesFor state.old.flat.story undo.old.copies }
-    ensures value { let machine = machine_of state.old undo.old in let i = instruction_of plan.now in Does (IsWriting i.row.class machine i) (λ r. r.0) result (machine, left.old) (machine_of state.new undo.new, left.new)
+    ensures value { let machine = machine_of state.old undo.old in let i = instruction_of plan.now in Does (IsWriting i.row.class machine i) (λ effect. effect) result (machine, left.old) (machine_of state.new undo.new, left.new)
         (charged left.old (probes_of i.row.class state.old.flat i) machine (row_effect i.row.class machine word i)) }
-    ensures asks { IfOk result (λ r. asking_of r.0 ≡ option_map (λ p. p.asking) r.1) }
-    ensures stands { IfOk result (λ r. IsSome r.1 → machine_of state.new undo.new ≡ machine_of state.old undo.old) }
-    ensures pends { IfOk result (λ r. IfSome r.1 (IsPending state.new.flat)) }
-    ensures spent { IfOk result (λ r. r.0 ≡ Spent → left.old < probes_of (instruction_of plan.now).row.class state.old.flat (instruction_of plan.now)) }
+    ensures asks { IfOk result (λ effect. asking_of effect ≡ option_map (λ p. p.asking) pending.new) }
+    ensures stands { OnOk result (IsSome pending.new → machine_of state.new undo.new ≡ machine_of state.old undo.old) }
+    ensures pends { OnOk result (IfSome pending.new (IsPending state.new.flat)) }
+    ensures stays { OnErr result (pending.new ≡ None) }
+    ensures spent { IfOk result (λ effect. effect ≡ Spent → left.old < probes_of (instruction_of plan.now).row.class state.old.flat (instruction_of plan.now)) }
     ensures story { state.new.flat.story ≡ state.old.flat.story }
     ensures copies { AreCopiesFor state.new.flat.story undo.new.copies }
 {
     match plan.row().class {
-        Class::Calc | Class::Branch | Class::Flow | Class::Stack => {
-            Ok((ops_flow::act(state, plan)?, None))
-        }
-        Class::Copy | Class::Memory => memory_row(state, plan, left),
-        Class::Print => print_row(state, plan),
-        Class::Game => Ok((ops_game::act(state, plan, undo, word)?, None)),
-        Class::Glk => {
-            let (effect, pending) = glk(state, plan)?;
-            Ok((effect, Some(pending)))
-        }
+        Class::Calc | Class::Branch | Class::Flow | Class::Stack => ops_flow::act(state, plan),
+        Class::Copy | Class::Memory => ops_memory::act(state, plan, left),
+        Class::Print => print_row(state, plan, pending),
+        Class::Game => ops_game::act(state, plan, undo, word),
+        Class::Glk => glk(state, plan, pending),
     }
 }
 
-/// Does the instruction at PC. `left` is the budget after the instruction's own step.
+/// Does the instruction at PC, which is read into `plan`. `left` is the budget after the instruction's own step.
 #[tactic(auto)]
 pub(crate) fn run<A: Allocator + Clone>(
     state: &mut State<A>,
     undo: &mut Undo<A>,
+    plan: &mut Plan,
     word: u32,
     left: &mut u64,
-) -> Result<(Effect, Option<Pending>), Fault>
+    pending: &mut Option<Pending>,
+) -> Result<Effect, Fault>
+    requires free { pending.old ≡ None }
     requires live { 0 < sp_of state.old.flat }
     requires running { state.old.flat.mode ≡ Running }
     requires copies { AreCopiesFor state.old.flat.story undo.old.copies }
-    ensures value { let machine = machine_of state.old undo.old in Does (IsModeWriting machine Running) (λ r. r.0) result (machine, left.old) (machine_of state.new undo.new, left.new)
+    ensures value { let machine = machine_of state.old undo.old in Does (IsModeWriting machine Running) (λ effect. effect) result (machine, left.old) (machine_of state.new undo.new, left.new)
         (charged left.old (probes_in state.old.flat Running) machine (mode_step machine word Running)) }
-    ensures asks { IfOk result (λ r. asking_of r.0 ≡ option_map (λ p. p.asking) r.1) }
-    ensures stands { IfOk result (λ r. IsSome r.1 → machine_of state.new undo.new ≡ machine_of state.old undo.old) }
-    ensures pends { IfOk result (λ r. IfSome r.1 (IsPending state.new.flat)) }
-    ensures spent { IfOk result (λ r. r.0 ≡ Spent → left.old < probes_in state.old.flat Running) }
+    ensures asks { IfOk result (λ effect. asking_of effect ≡ option_map (λ p. p.asking) pending.new) }
+    ensures stands { OnOk result (IsSome pending.new → machine_of state.new undo.new ≡ machine_of state.old undo.old) }
+    ensures pends { OnOk result (IfSome pending.new (IsPending state.new.flat)) }
+    ensures stays { OnErr result (pending.new ≡ None) }
+    ensures spent { IfOk result (λ effect. effect ≡ Spent → left.old < probes_in state.old.flat Running) }
     ensures copies { AreCopiesFor state.new.flat.story undo.new.copies }
 {
-    let plan = decode(state)?;
-    row(state, undo, &plan, word, left)
+    decode_into(state, plan)?;
+    row(state, undo, plan, word, left, pending)
 }

@@ -10,7 +10,7 @@ ghost use Rattle.gx_words.specs.Faults.{Reads};
 ghost use Rattle.gx_rows.specs.Table.{row_of, row_at, RowFits};
 ghost use Rattle.gx_state.specs.Flat.{IsHeight, sp_of};
 ghost use Rattle.gx_operands.specs.Instructions.{opcode, addressing, HasWidth, HasValues, past, datum, load_by, load, destination_by, destination, with_operand, kind_of, nibble, operand, operands, all_operands, instruction};
-ghost use Rattle.gx_operands.specs.Plans.{taken_of, instruction_of};
+ghost use Rattle.gx_operands.specs.Plans.{operands_of, instruction_of};
 
 use crate::Plan;
 use crate::addressing::{
@@ -18,69 +18,35 @@ use crate::addressing::{
     CONSTANT_WORD, CONSTANT_ZERO, Cursor, Kind, LOCAL_BYTE, LOCAL_SHORT, LOCAL_WORD, RAM_BYTE,
     RAM_SHORT, RAM_WORD, STACK_TOP,
 };
-use arrayvec::ArrayVec;
-use gx_pages::Pages;
 use gx_rows::{Row, place_of, row_at};
 use gx_state::{Dest, State};
 use gx_words::{Fault, low};
 use std::alloc::Allocator;
 
-/// What the operands so far gave.
-#[derive(Drop)]
-struct Taken {
-    loads: ArrayVec<u32, 8>,
-    dest: Dest,
-    second: Dest,
-    stored: bool,
-    cursor: Cursor,
-}
-
-/// The number of the instruction at PC, and the address of its operands' modes.
+/// The number of the instruction at PC; `modes` becomes the address of its operands' modes.
+#[inline(always)]
 #[tactic(auto, unfolding(crate::specs::Instructions::opcode, gx_pages::specs::Memory::number_in))]
-fn opcode<A: Allocator + Clone>(state: &State<A>) -> Result<(u32, u32), Fault>
-    ensures value { Reads (λ r. r) result (opcode state.now.flat) }
+pub fn opcode<A: Allocator + Clone>(state: &State<A>, modes: &mut u32) -> Result<u32, Fault>
+    ensures value { Reads (λ number. (number, modes.new)) result (opcode state.now.flat) }
 {
-    let memory = state.memory();
     let pc = state.pc();
-    let first = memory.try_number(1, pc)?;
+    let first = state.code(1, pc)?;
     if first < 0x80 {
-        Ok((first, pc + 1))
+        *modes = pc + 1;
+        Ok(first)
     } else if first < 0xC0 {
-        let number = memory.try_number(2, pc)?;
-        Ok((number - 0x8000, pc + 2))
+        let number = state.code(2, pc)?;
+        *modes = pc + 2;
+        Ok(number - 0x8000)
     } else {
-        let number = memory.try_number(4, pc)?;
-        Ok((number - 0xC000_0000, pc + 4))
-    }
-}
-
-/// The addressing mode of a nibble.
-#[tactic(auto, unfolding(crate::specs::Instructions::addressing))]
-fn addressing(nibble: u32) -> Result<Addressing, Fault>
-    requires { nibble < 16 }
-    ensures value { Reads (λ mode. mode) result (addressing nibble) }
-    ensures width { IfOk result HasWidth }
-{
-    match nibble {
-        CONSTANT_ZERO => Ok(Addressing::Zero),
-        CONSTANT_BYTE => Ok(Addressing::Constant(1)),
-        CONSTANT_SHORT => Ok(Addressing::Constant(2)),
-        CONSTANT_WORD => Ok(Addressing::Constant(4)),
-        ADDRESS_BYTE => Ok(Addressing::Memory(1)),
-        ADDRESS_SHORT => Ok(Addressing::Memory(2)),
-        ADDRESS_WORD => Ok(Addressing::Memory(4)),
-        STACK_TOP => Ok(Addressing::Top),
-        LOCAL_BYTE => Ok(Addressing::Local(1)),
-        LOCAL_SHORT => Ok(Addressing::Local(2)),
-        LOCAL_WORD => Ok(Addressing::Local(4)),
-        RAM_BYTE => Ok(Addressing::Ram(1)),
-        RAM_SHORT => Ok(Addressing::Ram(2)),
-        RAM_WORD => Ok(Addressing::Ram(4)),
-        _ => Err(Fault::BadMode),
+        let number = state.code(4, pc)?;
+        *modes = pc + 4;
+        Ok(number - 0xC000_0000)
     }
 }
 
 /// A constant of 1, 2 or 4 bytes as 32 bits, by its sign.
+#[inline(always)]
 fn extended(width: u32, v: u32) -> u32
     requires width { IsWidth width }
     requires fits { v < 256 ^ width }
@@ -93,143 +59,224 @@ fn extended(width: u32, v: u32) -> u32
     }
 }
 
-/// A cursor behind so many bytes of data.
-fn past(cursor: Cursor, n: u32) -> Cursor
-    requires { cursor.at + n < 2 ^ 32 }
-    ensures { result ≡ past cursor n }
-{
-    Cursor {
-        at: cursor.at + n,
-        popped: cursor.popped,
-    }
-}
-
-/// The number of the data at a cursor, and the cursor after it.
+/// The number of the data at a cursor, which goes behind it.
+#[inline(always)]
 #[tactic(auto, unfolding(crate::specs::Instructions::datum))]
-fn data<A: Allocator + Clone>(
-    memory: &Pages<A>,
-    cursor: Cursor,
-    n: u32,
-) -> Result<(u32, Cursor), Fault>
+fn data<A: Allocator + Clone>(state: &State<A>, cursor: &mut Cursor, n: u32) -> Result<u32, Fault>
     requires { IsWidth n }
-    ensures value { Reads (λ r. r) result (datum memory.now cursor n) }
-    ensures fits { IfOk result (λ r. r.0 < 256 ^ n) }
-    ensures popped { IfOk result (λ r. r.1.popped ≡ cursor.popped) }
+    ensures value { Reads (λ v. (v, cursor.new)) result (datum state.now.flat.memory cursor.old n) }
+    ensures fits { IfOk result (λ v. v < 256 ^ n) }
+    ensures popped { cursor.new.popped ≡ cursor.old.popped }
 {
-    let v = memory.try_number(n, cursor.at)?;
-    Ok((v, past(cursor, n)))
+    let v = state.code(n, cursor.at)?;
+    cursor.at += n;
+    Ok(v)
 }
 
-/// What a load operand gives, and the cursor after it.
-#[tactic(auto, unfolding(crate::specs::Instructions::load_by, gx_stack::specs::Values::peeked))]
-fn load_by<A: Allocator + Clone>(
+/// A constant of so many bytes.
+#[inline(always)]
+#[tactic(auto, unfolding(crate::specs::Instructions::load_by))]
+fn constant<A: Allocator + Clone>(
     state: &State<A>,
     width: u32,
-    mode: Addressing,
-    cursor: Cursor,
-) -> Result<(u32, Cursor), Fault>
-    requires live { 0 < sp_of state.now.flat }
+    n: u32,
+    cursor: &mut Cursor,
+) -> Result<u32, Fault>
     requires width { IsWidth width }
-    requires mode { HasWidth mode }
-    requires popped { HasValues state.now.flat cursor.popped }
-    ensures value { Reads (λ r. r) result (load_by state.now.flat width mode cursor) }
-    ensures popped { IfOk result (λ r. HasValues state.now.flat r.1.popped) }
+    requires bytes { IsWidth n }
+    requires popped { HasValues state.now.flat cursor.old.popped }
+    ensures value { Reads (λ v. (v, cursor.new)) result (load_by state.now.flat width (Addressing.Constant n) cursor.old) }
+    ensures popped { OnOk result (HasValues state.now.flat cursor.new.popped) }
 {
-    let memory = state.memory();
-    match mode {
-        Addressing::Zero => Ok((0, cursor)),
-        Addressing::Constant(n) => {
-            let (v, cursor) = data(memory, cursor, n)?;
-            Ok((low(extended(n, v), width), cursor))
-        }
-        Addressing::Memory(n) => {
-            let (at, cursor) = data(memory, cursor, n)?;
-            Ok((memory.try_number(width, at)?, cursor))
-        }
-        Addressing::Top => {
-            let v = state.stack().peek(&state.frame(), cursor.popped)?;
-            Ok((
-                low(v, width),
-                Cursor {
-                    at: cursor.at,
-                    popped: cursor.popped + 1,
-                },
-            ))
-        }
-        Addressing::Local(n) => {
-            let (at, cursor) = data(memory, cursor, n)?;
-            Ok((state.stack().local(&state.frame(), at, width)?, cursor))
-        }
-        Addressing::Ram(n) => {
-            let (offset, cursor) = data(memory, cursor, n)?;
-            let at = state.ramstart().wrapping_add(offset);
-            Ok((memory.try_number(width, at)?, cursor))
-        }
-    }
+    let v = data(state, cursor, n)?;
+    Ok(low(extended(n, v), width))
 }
 
-/// The same by the mode's nibble.
-#[tactic(auto, unfolding(crate::specs::Instructions::load))]
-fn load<A: Allocator + Clone>(
+/// The contents of memory at an address of so many bytes.
+#[inline(always)]
+#[tactic(auto, unfolding(crate::specs::Instructions::load_by))]
+fn contents<A: Allocator + Clone>(
+    state: &State<A>,
+    width: u32,
+    n: u32,
+    cursor: &mut Cursor,
+) -> Result<u32, Fault>
+    requires width { IsWidth width }
+    requires bytes { IsWidth n }
+    requires popped { HasValues state.now.flat cursor.old.popped }
+    ensures value { Reads (λ v. (v, cursor.new)) result (load_by state.now.flat width (Addressing.Memory n) cursor.old) }
+    ensures popped { OnOk result (HasValues state.now.flat cursor.new.popped) }
+{
+    let at = data(state, cursor, n)?;
+    state.memory().try_number(width, at)
+}
+
+/// The contents of the RAM address of so many bytes.
+#[inline(always)]
+#[tactic(auto, unfolding(crate::specs::Instructions::load_by))]
+fn ram_contents<A: Allocator + Clone>(
+    state: &State<A>,
+    width: u32,
+    n: u32,
+    cursor: &mut Cursor,
+) -> Result<u32, Fault>
+    requires width { IsWidth width }
+    requires bytes { IsWidth n }
+    requires popped { HasValues state.now.flat cursor.old.popped }
+    ensures value { Reads (λ v. (v, cursor.new)) result (load_by state.now.flat width (Addressing.Ram n) cursor.old) }
+    ensures popped { OnOk result (HasValues state.now.flat cursor.new.popped) }
+{
+    let offset = data(state, cursor, n)?;
+    let at = state.ramstart().wrapping_add(offset);
+    state.memory().try_number(width, at)
+}
+
+/// The local at an offset of so many bytes.
+#[inline(always)]
+#[tactic(auto, unfolding(crate::specs::Instructions::load_by))]
+fn local<A: Allocator + Clone>(
+    state: &State<A>,
+    width: u32,
+    n: u32,
+    cursor: &mut Cursor,
+) -> Result<u32, Fault>
+    requires live { 0 < sp_of state.now.flat }
+    requires width { IsWidth width }
+    requires bytes { IsWidth n }
+    requires popped { HasValues state.now.flat cursor.old.popped }
+    ensures value { Reads (λ v. (v, cursor.new)) result (load_by state.now.flat width (Addressing.Local n) cursor.old) }
+    ensures popped { OnOk result (HasValues state.now.flat cursor.new.popped) }
+{
+    let at = data(state, cursor, n)?;
+    Ok(state.stack().local(&state.frame(), at, width)?)
+}
+
+/// The value on top of the stack, below those that were popped.
+#[inline(always)]
+#[tactic(auto, unfolding(crate::specs::Instructions::load_by, gx_stack::specs::Values::peeked))]
+fn top<A: Allocator + Clone>(
+    state: &State<A>,
+    width: u32,
+    cursor: &mut Cursor,
+) -> Result<u32, Fault>
+    requires live { 0 < sp_of state.now.flat }
+    requires width { IsWidth width }
+    requires popped { HasValues state.now.flat cursor.old.popped }
+    ensures value { Reads (λ v. (v, cursor.new)) result (load_by state.now.flat width Addressing.Top cursor.old) }
+    ensures popped { OnOk result (HasValues state.now.flat cursor.new.popped) }
+{
+    let v = state.stack().peek(&state.frame(), cursor.popped)?;
+    cursor.popped += 1;
+    Ok(low(v, width))
+}
+
+/// What a load operand gives by its mode's nibble; the cursor goes behind it.
+#[inline(always)]
+#[tactic(auto, unfolding(crate::specs::Instructions::load, crate::specs::Instructions::addressing, crate::specs::Instructions::load_by))]
+pub fn load<A: Allocator + Clone>(
     state: &State<A>,
     width: u32,
     nibble: u32,
-    cursor: Cursor,
-) -> Result<(u32, Cursor), Fault>
+    cursor: &mut Cursor,
+) -> Result<u32, Fault>
     requires live { 0 < sp_of state.now.flat }
     requires width { IsWidth width }
     requires nibble { nibble < 16 }
-    requires popped { HasValues state.now.flat cursor.popped }
-    ensures value { Reads (λ r. r) result (load state.now.flat width nibble cursor) }
-    ensures popped { IfOk result (λ r. HasValues state.now.flat r.1.popped) }
+    requires popped { HasValues state.now.flat cursor.old.popped }
+    ensures value { Reads (λ v. (v, cursor.new)) result (load state.now.flat width nibble cursor.old) }
+    ensures popped { OnOk result (HasValues state.now.flat cursor.new.popped) }
 {
-    load_by(state, width, addressing(nibble)?, cursor)
-}
-
-/// Where a store operand points, and the cursor after it.
-#[tactic(auto, unfolding(crate::specs::Instructions::destination_by))]
-fn destination_by<A: Allocator + Clone>(
-    state: &State<A>,
-    mode: Addressing,
-    cursor: Cursor,
-) -> Result<(Dest, Cursor), Fault>
-    requires { HasWidth mode }
-    ensures value { Reads (λ r. r) result (destination_by state.now.flat mode cursor) }
-    ensures popped { IfOk result (λ r. r.1.popped ≡ cursor.popped) }
-{
-    let memory = state.memory();
-    match mode {
-        Addressing::Zero => Ok((Dest::Nowhere, cursor)),
-        Addressing::Constant(_) => Err(Fault::BadMode),
-        Addressing::Memory(n) => {
-            let (at, cursor) = data(memory, cursor, n)?;
-            Ok((Dest::Memory(at), cursor))
-        }
-        Addressing::Top => Ok((Dest::Push, cursor)),
-        Addressing::Local(n) => {
-            let (at, cursor) = data(memory, cursor, n)?;
-            Ok((Dest::Local(at), cursor))
-        }
-        Addressing::Ram(n) => {
-            let (offset, cursor) = data(memory, cursor, n)?;
-            let at = state.ramstart().wrapping_add(offset);
-            Ok((Dest::Memory(at), cursor))
-        }
+    match nibble {
+        CONSTANT_ZERO => Ok(0),
+        CONSTANT_BYTE => constant(state, width, 1, cursor),
+        CONSTANT_SHORT => constant(state, width, 2, cursor),
+        CONSTANT_WORD => constant(state, width, 4, cursor),
+        ADDRESS_BYTE => contents(state, width, 1, cursor),
+        ADDRESS_SHORT => contents(state, width, 2, cursor),
+        ADDRESS_WORD => contents(state, width, 4, cursor),
+        STACK_TOP => top(state, width, cursor),
+        LOCAL_BYTE => local(state, width, 1, cursor),
+        LOCAL_SHORT => local(state, width, 2, cursor),
+        LOCAL_WORD => local(state, width, 4, cursor),
+        RAM_BYTE => ram_contents(state, width, 1, cursor),
+        RAM_SHORT => ram_contents(state, width, 2, cursor),
+        RAM_WORD => ram_contents(state, width, 4, cursor),
+        _ => Err(Fault::BadMode),
     }
 }
 
-/// The same by the mode's nibble.
-#[tactic(auto, unfolding(crate::specs::Instructions::destination))]
-fn destination<A: Allocator + Clone>(
+/// A store to memory at an address of so many bytes.
+#[inline(always)]
+#[tactic(auto, unfolding(crate::specs::Instructions::destination_by))]
+fn to_memory<A: Allocator + Clone>(
+    state: &State<A>,
+    n: u32,
+    cursor: &mut Cursor,
+) -> Result<Dest, Fault>
+    requires { IsWidth n }
+    ensures value { Reads (λ dest. (dest, cursor.new)) result (destination_by state.now.flat (Addressing.Memory n) cursor.old) }
+    ensures popped { cursor.new.popped ≡ cursor.old.popped }
+{
+    Ok(Dest::Memory(data(state, cursor, n)?))
+}
+
+/// A store to the RAM address of so many bytes.
+#[inline(always)]
+#[tactic(auto, unfolding(crate::specs::Instructions::destination_by))]
+fn to_ram<A: Allocator + Clone>(
+    state: &State<A>,
+    n: u32,
+    cursor: &mut Cursor,
+) -> Result<Dest, Fault>
+    requires { IsWidth n }
+    ensures value { Reads (λ dest. (dest, cursor.new)) result (destination_by state.now.flat (Addressing.Ram n) cursor.old) }
+    ensures popped { cursor.new.popped ≡ cursor.old.popped }
+{
+    let offset = data(state, cursor, n)?;
+    Ok(Dest::Memory(state.ramstart().wrapping_add(offset)))
+}
+
+/// A store to the local at an offset of so many bytes.
+#[inline(always)]
+#[tactic(auto, unfolding(crate::specs::Instructions::destination_by))]
+fn to_local<A: Allocator + Clone>(
+    state: &State<A>,
+    n: u32,
+    cursor: &mut Cursor,
+) -> Result<Dest, Fault>
+    requires { IsWidth n }
+    ensures value { Reads (λ dest. (dest, cursor.new)) result (destination_by state.now.flat (Addressing.Local n) cursor.old) }
+    ensures popped { cursor.new.popped ≡ cursor.old.popped }
+{
+    Ok(Dest::Local(data(state, cursor, n)?))
+}
+
+/// Where a store operand points by its mode's nibble; the cursor goes behind it.
+#[inline(always)]
+#[tactic(auto, unfolding(crate::specs::Instructions::destination, crate::specs::Instructions::addressing, crate::specs::Instructions::destination_by))]
+pub fn destination<A: Allocator + Clone>(
     state: &State<A>,
     nibble: u32,
-    cursor: Cursor,
-) -> Result<(Dest, Cursor), Fault>
+    cursor: &mut Cursor,
+) -> Result<Dest, Fault>
     requires { nibble < 16 }
-    ensures value { Reads (λ r. r) result (destination state.now.flat nibble cursor) }
-    ensures popped { IfOk result (λ r. r.1.popped ≡ cursor.popped) }
+    ensures value { Reads (λ dest. (dest, cursor.new)) result (destination state.now.flat nibble cursor.old) }
+    ensures popped { cursor.new.popped ≡ cursor.old.popped }
 {
-    destination_by(state, addressing(nibble)?, cursor)
+    match nibble {
+        CONSTANT_ZERO => Ok(Dest::Nowhere),
+        ADDRESS_BYTE => to_memory(state, 1, cursor),
+        ADDRESS_SHORT => to_memory(state, 2, cursor),
+        ADDRESS_WORD => to_memory(state, 4, cursor),
+        STACK_TOP => Ok(Dest::Push),
+        LOCAL_BYTE => to_local(state, 1, cursor),
+        LOCAL_SHORT => to_local(state, 2, cursor),
+        LOCAL_WORD => to_local(state, 4, cursor),
+        RAM_BYTE => to_ram(state, 1, cursor),
+        RAM_SHORT => to_ram(state, 2, cursor),
+        RAM_WORD => to_ram(state, 4, cursor),
+        _ => Err(Fault::BadMode),
+    }
 }
 
 /// Takes one operand more.
@@ -239,32 +286,27 @@ fn take<A: Allocator + Clone>(
     width: u32,
     kind: Kind,
     nibble: u32,
-    taken: &mut Taken,
+    plan: &mut Plan,
 ) -> Result<(), Fault>
     requires live { 0 < sp_of state.now.flat }
     requires width { IsWidth width }
     requires nibble { nibble < 16 }
-    requires popped { HasValues state.now.flat taken.old.cursor.popped }
-    requires room { array_vec_len taken.old.loads < 8 }
-    ensures value { Reads (λ done. taken_of taken.new) result (with_operand state.now.flat width kind nibble (taken_of taken.old)) }
-    ensures popped { OnOk result (HasValues state.now.flat taken.new.cursor.popped) }
-    ensures room { OnOk result (array_vec_len taken.new.loads ≤ array_vec_len taken.old.loads + 1) }
+    requires popped { HasValues state.now.flat plan.old.popped }
+    requires room { array_vec_len plan.old.loads < 8 }
+    ensures value { Reads (λ done. operands_of plan.new) result (with_operand state.now.flat width kind nibble (operands_of plan.old)) }
+    ensures popped { OnOk result (HasValues state.now.flat plan.new.popped) }
+    ensures room { OnOk result (array_vec_len plan.new.loads ≤ array_vec_len plan.old.loads + 1) }
+    ensures row { plan.new.row ≡ plan.old.row }
 {
+    let mut cursor = plan.cursor();
     match kind {
         Kind::Load => {
-            let (v, cursor) = load(state, width, nibble, taken.cursor)?;
-            taken.loads.push(v);
-            taken.cursor = cursor;
+            let v = load(state, width, nibble, &mut cursor)?;
+            plan.take_load(v, cursor);
         }
         Kind::Store => {
-            let (dest, cursor) = destination(state, nibble, taken.cursor)?;
-            if taken.stored {
-                taken.second = dest;
-            } else {
-                taken.dest = dest;
-                taken.stored = true;
-            }
-            taken.cursor = cursor;
+            let dest = destination(state, nibble, &mut cursor)?;
+            plan.take_destination(dest, cursor);
         }
     }
     Ok(())
@@ -293,7 +335,8 @@ fn nibble<A: Allocator + Clone>(state: &State<A>, modes: u32, i: u32) -> u32
     ensures value { result ≡ nibble state.now.flat.memory modes i }
     ensures fits { result < 16 }
 {
-    let pair = state.memory().byte(modes + i / 2);
+    let _memory = state.memory(); // a state is sound
+    let pair = state.code_byte(modes + i / 2);
     if i % 2 == 0 { pair % 16 } else { pair / 16 }
 }
 
@@ -304,78 +347,75 @@ fn operand<A: Allocator + Clone>(
     row: &Row,
     modes: u32,
     i: u32,
-    taken: &mut Taken,
+    plan: &mut Plan,
 ) -> Result<(), Fault>
     requires live { 0 < sp_of state.now.flat }
     requires width { IsWidth row.now.width }
     requires modes { modes + i / 2 < length state.now.flat.memory }
-    requires popped { HasValues state.now.flat taken.old.cursor.popped }
-    requires room { array_vec_len taken.old.loads < 8 }
-    ensures value { Reads (λ done. taken_of taken.new) result (operand state.now.flat row.now modes i (taken_of taken.old)) }
-    ensures popped { OnOk result (HasValues state.now.flat taken.new.cursor.popped) }
-    ensures room { OnOk result (array_vec_len taken.new.loads ≤ array_vec_len taken.old.loads + 1) }
+    requires popped { HasValues state.now.flat plan.old.popped }
+    requires room { array_vec_len plan.old.loads < 8 }
+    ensures value { Reads (λ done. operands_of plan.new) result (operand state.now.flat row.now modes i (operands_of plan.old)) }
+    ensures popped { OnOk result (HasValues state.now.flat plan.new.popped) }
+    ensures room { OnOk result (array_vec_len plan.new.loads ≤ array_vec_len plan.old.loads + 1) }
+    ensures row { plan.new.row ≡ plan.old.row }
 {
     let mode = nibble(state, modes, i);
-    take(state, u32::from(row.width), kind_of(row, i), mode, taken)
+    take(state, u32::from(row.width), kind_of(row, i), mode, plan)
 }
 
 /// Takes the operands of a row from left to right.
 #[tactic(auto, using(crate::proofs::Steps::steps))]
+#[inline(never)]
 fn operands<A: Allocator + Clone>(
     state: &State<A>,
     row: &Row,
     modes: u32,
     count: u32,
-    taken: &mut Taken,
+    plan: &mut Plan,
 ) -> Result<(), Fault>
     requires live { 0 < sp_of state.now.flat }
     requires width { IsWidth row.now.width }
     requires count { count ≤ 8 }
     requires modes { modes + (count + 1) / 2 ≤ length state.now.flat.memory }
-    requires none { taken.old.loads.items ≡ [] }
-    requires popped { HasValues state.now.flat taken.old.cursor.popped }
-    ensures value { Reads (λ done. taken_of taken.new) result (operands state.now.flat row.now modes count 0 (taken_of taken.old)) }
-    ensures popped { OnOk result (HasValues state.now.flat taken.new.cursor.popped) }
+    requires none { plan.old.loads.items ≡ [] }
+    requires popped { HasValues state.now.flat plan.old.popped }
+    ensures value { Reads (λ done. operands_of plan.new) result (operands state.now.flat row.now modes count 0 (operands_of plan.old)) }
+    ensures popped { OnOk result (HasValues state.now.flat plan.new.popped) }
+    ensures row { plan.new.row ≡ plan.old.row }
 {
     for i in 0..count {
-        operand(state, row, modes, i, taken)?;
+        operand(state, row, modes, i, plan)?;
     }
     Ok(())
 }
 
-/// All operands of a row whose modes stand at an address.
+/// All operands of a row, one after the other.
+#[inline(never)]
 #[tactic(auto, unfolding(crate::specs::Instructions::all_operands))]
 fn all_operands<A: Allocator + Clone>(
     state: &State<A>,
     row: &Row,
     modes: u32,
-) -> Result<Taken, Fault>
+    plan: &mut Plan,
+) -> Result<(), Fault>
     requires live { 0 < sp_of state.now.flat }
     requires row { RowFits row.now }
-    ensures value { Reads taken_of result (all_operands state.now.flat row.now modes) }
-    ensures popped { IfOk result (λ taken. HasValues state.now.flat taken.cursor.popped) }
+    ensures value { Reads (λ done. operands_of plan.new) result (all_operands state.now.flat row.now modes) }
+    ensures popped { OnOk result (HasValues state.now.flat plan.new.popped) }
+    ensures row { plan.new.row ≡ plan.old.row }
 {
     let count = u32::from(row.loads) + u32::from(row.stores);
     let size = state.memory().size();
     if u64::from(modes) + (u64::from(count) + 1) / 2 > u64::from(size) {
         return Err(Fault::BadAddress);
     }
-    let mut taken = Taken {
-        loads: ArrayVec::new(),
-        dest: Dest::Nowhere,
-        second: Dest::Nowhere,
-        stored: false,
-        cursor: Cursor {
-            at: modes + (count + 1) / 2,
-            popped: 0,
-        },
-    };
-    operands(state, row, modes, count, &mut taken)?;
-    Ok(taken)
+    plan.begin(modes + (count + 1) / 2);
+    operands(state, row, modes, count, plan)
 }
 
 /// The place of a number's row in the table.
-fn find_row(number: u32) -> Result<usize, Fault>
+#[inline(always)]
+pub fn find_row(number: u32) -> Result<usize, Fault>
     ensures row { Reads row_at result (ok_or (row_of number) BadOpcode) }
     ensures place { IfOk result (λ place. place < 87) }
     ensures fits { IfOk result (λ place. RowFits (row_at place)) }
@@ -387,8 +427,9 @@ fn find_row(number: u32) -> Result<usize, Fault>
 }
 
 /// The stack pointer that so many pops leave.
+#[inline(always)]
 #[tactic(auto, using(crate::proofs::Steps::height_left))]
-fn stack_pointer<A: Allocator + Clone>(state: &State<A>, popped: u32) -> u32
+pub fn stack_pointer<A: Allocator + Clone>(state: &State<A>, popped: u32) -> u32
     requires live { 0 < sp_of state.now.flat }
     requires popped { HasValues state.now.flat popped }
     ensures value { result ≡ sp_of state.now.flat - 4 * popped }
@@ -398,22 +439,28 @@ fn stack_pointer<A: Allocator + Clone>(state: &State<A>, popped: u32) -> u32
 }
 
 /// The instruction at PC.
-#[tactic(auto, unfolding(crate::specs::Instructions::instruction))]
 pub fn decode<A: Allocator + Clone>(state: &State<A>) -> Result<Plan, Fault>
     requires { 0 < sp_of state.now.flat }
     ensures value { Reads instruction_of result (instruction state.now.flat) }
     ensures sp { IfOk result (λ plan. IsHeight state.now.flat plan.sp) }
 {
-    let (number, modes) = opcode(state)?;
-    let row = find_row(number)?;
-    let taken = all_operands(state, row_at(row), modes)?;
-    let sp = stack_pointer(state, taken.cursor.popped);
-    Ok(Plan {
-        row,
-        loads: taken.loads,
-        dest: taken.dest,
-        second: taken.second,
-        next: taken.cursor.at,
-        sp,
-    })
+    let mut plan = Plan::new();
+    decode_into(state, &mut plan)?;
+    Ok(plan)
+}
+
+/// The same, read into a plan, whatever it stood for before. After a fault it stands for no instruction.
+#[tactic(auto, unfolding(crate::specs::Instructions::instruction))]
+#[inline(always)]
+pub fn decode_into<A: Allocator + Clone>(state: &State<A>, plan: &mut Plan) -> Result<(), Fault>
+    requires { 0 < sp_of state.now.flat }
+    ensures value { Reads (λ done. instruction_of plan.new) result (instruction state.now.flat) }
+    ensures sp { OnOk result (IsHeight state.now.flat plan.new.sp) }
+{
+    let mut modes = 0;
+    let number = opcode(state, &mut modes)?;
+    plan.row = find_row(number)?;
+    all_operands(state, row_at(plan.row), modes, plan)?;
+    plan.sp = stack_pointer(state, plan.popped);
+    Ok(())
 }

@@ -19,7 +19,7 @@ mod rows;
 mod storing;
 
 pub use addressing::{Addressing, Cursor, Kind};
-pub use decoding::decode;
+pub use decoding::{decode, decode_into, destination, find_row, load, opcode, stack_pointer};
 pub use plan::Plan;
 pub use popped::{arguments, values_to};
 pub use rows::{goes, stores};

@@ -29,6 +29,7 @@ pub fn stores<A: Allocator + Clone>(
 }
 
 /// Goes on with the next instruction, once the pops are made.
+#[inline(always)]
 pub fn goes<A: Allocator + Clone>(state: &mut State<A>, plan: &Plan) -> Effect
     requires { IsHeight state.old.flat plan.now.sp }
     ensures value { goes state.old.flat (instruction_of plan.now) ≡ Ok (state.new.flat, result) }

@@ -89,6 +89,7 @@ fn write<A: Allocator + Clone>(
 
 /// Stores the low 1, 2 or 4 bytes of a value after the stack was cut to `sp`.
 #[tactic(auto, unfolding(crate::specs::Stores::settled, gx_state::specs::Stores::stored, gx_state::specs::Stores::store_fault, gx_state::specs::Flat::pushed, gx_state::specs::Flat::with_local, gx_stack::specs::Values::pushed, gx_stack::specs::Values::with_local))]
+#[inline(always)]
 pub fn settle<A: Allocator + Clone>(
     state: &mut State<A>,
     sp: u32,

@@ -1,1 +1,3 @@
 mod PutBack
+mod Splice
+mod Chunks

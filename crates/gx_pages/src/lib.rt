@@ -4,11 +4,15 @@
 //! was kept. Each call is its definition of specs/Memory over that list, for all arguments that
 //! its condition allows; after a refusal the list is as it was.
 //!
-//! All bytes stand in one vector, so what is kept is a whole copy. No clause says how the bytes
-//! are held.
+//! The bytes stand in pages of 256, the pages in leaves of 256, and a table has at most 1,024
+//! leaves. Pages and leaves are shared with what is kept, until one of the two changes a page. So a
+//! kept memory costs its table, and with it the pages, and their leaves, that were changed since. No
+//! clause says how the bytes are held or how much is shared.
 #![tactic(auto)]
 
+mod leaf;
 mod memory;
 mod ranges;
+mod table;
 
 pub use memory::{Kept, Pages};

@@ -2,21 +2,29 @@
 //!
 //! Each call is its definition of specs/Memory over one list of bytes. Sizes and addresses count
 //! bytes; a size is a multiple of 256, at most `CEILING`. Calls that read and `cut` take no memory.
-ghost use Rattle.std.specs.Prelude.{◌≡◌, ◌⊎◌, ◌+◌, ◌-◌, ◌<◌, ◌≤◌, ◌^◌, ◌++◌, length, take, drop, replicate, IfOk, OnOk, OnErr};
+//!
+//! A write inside one leaf of 256 pages changes that leaf, and one inside one page that page, in place,
+//! once it is memory's own. A call that writes more goes to another table of the same leaves and takes
+//! that once all is written.
+ghost use Rattle.std.specs.Prelude.{◌≡◌, ◌⊎◌, ℕ, ◌+◌, ◌-◌, ◌%◌, ◌<◌, ◌≤◌, ◌^◌, ◌++◌, length, take, drop, slice_index, replicate, IfOk, OnOk, OnErr};
 ghost use Rattle.gx_words.specs.Numbers.{IsWidth, byte, half, word, number, spliced};
 ghost use Rattle.gx_words.specs.Faults.{Reads};
 ghost use Rattle.gx_words.specs.declared.limits.TheConstants.{CEILING};
 ghost use Rattle.gx_pages.specs.Memory.{IsSize, IsInside, AreInside, HasBytes, number_in, all_spliced, resized, put_back_of};
 
-use crate::ranges::{copy_over, put_back_over, write_each, write_over, zero_over};
-use gx_words::{Fault, Writes, half_at, number_at, word_at};
+use crate::leaf::zeros;
+use crate::ranges::{clear, copy_out, copy_there, has_bytes, put, put_each};
+use crate::table::Table;
+use gx_words::{Fault, Writes, half_at, word_at};
 use std::alloc::{AllocError, Allocator, Global};
 use std::marker::Model;
+use std::rc::Rc;
 
 /// The memory of a machine.
 #[derive(Drop)]
 pub struct Pages<A: Allocator> {
-    bytes: Vec<u8, A>,
+    table: Table<A>,
+    pages: A,
 }
 
 impl<A: Allocator> Model for Pages<A> {
@@ -25,15 +33,15 @@ impl<A: Allocator> Model for Pages<A> {
 
     ghost Value = { List ℕ };
 
-    ghost view = { λ pages. pages.bytes.items };
+    ghost view = { λ memory. memory.table };
 
-    ghost invariant = { λ pages. IsSize (length pages.bytes.items) };
+    ghost invariant = { λ memory. IsSize (length memory.table) };
 }
 
 /// Memory as it was when it was kept.
 #[derive(Drop)]
 pub struct Kept<A: Allocator> {
-    bytes: Vec<u8, A>,
+    table: Table<A>,
 }
 
 impl<A: Allocator> Model for Kept<A> {
@@ -42,58 +50,89 @@ impl<A: Allocator> Model for Kept<A> {
 
     ghost Value = { List ℕ };
 
-    ghost view = { λ kept. kept.bytes.items };
+    ghost view = { λ kept. kept.table };
 
-    ghost invariant = { λ kept. IsSize (length kept.bytes.items) };
+    ghost invariant = { λ kept. IsSize (length kept.table) };
 }
 
 impl<A: Allocator> Pages<A> {
     /// How many bytes memory has.
+    #[inline(always)]
     pub fn size(&self) -> u32
         ensures value { result ≡ length self.now }
         ensures whole { IsSize result }
     {
-        self.bytes.len() as u32
+        self.table.size()
+    }
+
+    /// The bytes from `at` to the end of its page of 256 bytes: as many as one look-up gives.
+    #[inline(always)]
+    pub fn bytes_in_page(&self, at: u32) -> &[u8]
+        requires { at < length self.now }
+        ensures value { result.now ≡ take (256 - at % 256) (drop at self.now) }
+        ensures len { length result.now ≡ 256 - at % 256 }
+        ensures low { at < CEILING }
+    {
+        self.table.rest_of_page(at as usize)
     }
 
     /// The byte at `at`.
+    #[inline(always)]
     pub fn byte(&self, at: u32) -> u32
         requires { at < length self.now }
         ensures value { result ≡ byte self.now at }
         ensures fits { result < 2 ^ 8 }
     {
-        u32::from(self.bytes[at as usize])
+        u32::from(self.bytes_in_page(at)[0])
     }
 
     /// The two bytes from `at` on.
+    #[inline(never)]
     pub fn half(&self, at: u32) -> u32
         requires { at + 2 ≤ length self.now }
         ensures value { result ≡ half self.now at }
         ensures fits { result < 2 ^ 16 }
     {
-        half_at(self.bytes.as_slice(), at as usize)
+        let bytes = self.bytes_in_page(at);
+        if bytes.len() >= 2 {
+            half_at(bytes, 0)
+        } else {
+            self.byte(at) * 0x100 + self.byte(at + 1)
+        }
     }
 
     /// The four bytes from `at` on.
+    #[inline(always)]
     pub fn word(&self, at: u32) -> u32
         requires { at + 4 ≤ length self.now }
         ensures { result ≡ word self.now at }
     {
-        word_at(self.bytes.as_slice(), at as usize)
+        let bytes = self.bytes_in_page(at);
+        if bytes.len() >= 4 {
+            word_at(bytes, 0)
+        } else {
+            self.half(at) * 0x1_0000 + self.half(at + 2)
+        }
     }
 
     /// The 1, 2 or 4 bytes from `at` on.
+    #[inline(always)]
     pub fn number(&self, width: u32, at: u32) -> u32
         requires width { IsWidth width }
         requires there { at + width ≤ length self.now }
         ensures value { result ≡ number width self.now at }
         ensures fits { result < 256 ^ width }
     {
-        number_at(self.bytes.as_slice(), width, at as usize)
+        match width {
+            1 => self.byte(at),
+            2 => self.half(at),
+            _ => self.word(at),
+        }
     }
 
     /// The 1, 2 or 4 bytes from `at` on; `BadAddress` where one of them isn't in memory.
     #[tactic(auto, unfolding(crate::specs::Memory::number_in))]
+    #[inline(always)]
     pub fn try_number(&self, width: u32, at: u32) -> Result<u32, Fault>
         requires { IsWidth width }
         ensures value { Reads (λ v. v) result (number_in width self.now at) }
@@ -115,17 +154,17 @@ impl<A: Allocator> Pages<A> {
         ensures value { self.new ≡ take size self.old }
         ensures size { length self.new ≡ size }
     {
-        self.bytes.truncate(size as usize);
+        self.table.cut(size);
     }
 }
 
 impl<A: Allocator + Clone> Pages<A> {
     /// Memory with these bytes, and zeros up to `size`.
     ///
-    /// The bytes are placed by `pages`. `_alloc` is for what memory has beside its bytes, which is
-    /// nothing here.
+    /// Each page is placed by `pages`, and the table of the pages by `alloc`. A page takes memory only
+    /// once it holds a byte that isn't zero, or another behind it does.
     pub fn from_bytes(
-        _alloc: Global,
+        alloc: Global,
         pages: A,
         bytes: &[u8],
         size: u32,
@@ -135,12 +174,13 @@ impl<A: Allocator + Clone> Pages<A> {
         ensures value { IfOk result (λ all. all ≡ bytes.now ++ replicate (size - length bytes.now) 0) }
         ensures size { IfOk result (λ all. length all ≡ size) }
     {
-        let mut all = Vec::from_slice(pages, bytes)?;
-        all.resize(size as usize, 0)?;
-        Ok(Pages { bytes: all })
+        let mut table = Table::zeros(alloc, size)?;
+        put(&mut table, &pages, 0, bytes)?;
+        Ok(Pages { table, pages })
     }
 
     /// Puts bytes over those from `at` on. An empty list of bytes may have any address.
+    #[inline(always)]
     pub fn write(&mut self, at: u32, bytes: &[u8]) -> Result<(), AllocError>
         requires { IsInside at (length bytes.now) (length self.old) }
         ensures ok { OnOk result (self.new ≡ spliced self.old at bytes.now) }
@@ -148,7 +188,15 @@ impl<A: Allocator + Clone> Pages<A> {
         ensures size { length self.new ≡ length self.old }
         ensures memory { OnErr result (0 < length bytes.now) }
     {
-        write_over(self.bytes.as_mut_slice(), at as usize, bytes);
+        if bytes.is_empty() {
+            return Ok(());
+        }
+        if at as usize % 65536 + bytes.len() <= 65536 {
+            return self.table.write_in_leaf(&self.pages, at as usize, bytes);
+        }
+        let mut table = self.table.share()?;
+        put(&mut table, &self.pages, at, bytes)?;
+        self.table = table;
         Ok(())
     }
 
@@ -160,7 +208,12 @@ impl<A: Allocator + Clone> Pages<A> {
         ensures size { length self.new ≡ length self.old }
         ensures memory { OnErr result (HasBytes writes.now) }
     {
-        write_each(self.bytes.as_mut_slice(), writes.as_slice());
+        if !has_bytes(writes.as_slice()) {
+            return Ok(());
+        }
+        let mut table = self.table.share()?;
+        put_each(&mut table, &self.pages, writes.as_slice())?;
+        self.table = table;
         Ok(())
     }
 
@@ -178,8 +231,13 @@ impl<A: Allocator + Clone> Pages<A> {
         ensures size { length self.new ≡ length self.old }
         ensures memory { OnErr result (HasBytes writes.now ⊎ (0 < length bytes.now)) }
     {
-        self.write_all(writes)?;
-        write_over(self.bytes.as_mut_slice(), at as usize, bytes);
+        if !has_bytes(writes.as_slice()) {
+            return self.write(at, bytes);
+        }
+        let mut table = self.table.share()?;
+        put_each(&mut table, &self.pages, writes.as_slice())?;
+        put(&mut table, &self.pages, at, bytes)?;
+        self.table = table;
         Ok(())
     }
 
@@ -198,8 +256,13 @@ impl<A: Allocator + Clone> Pages<A> {
         ensures size { length self.new ≡ length self.old }
         ensures memory { OnErr result ((0 < length bytes.now) ⊎ (0 < length others.now)) }
     {
-        self.write(at, bytes)?;
-        write_over(self.bytes.as_mut_slice(), then as usize, others);
+        if bytes.is_empty() {
+            return self.write(then, others);
+        }
+        let mut table = self.table.share()?;
+        put(&mut table, &self.pages, at, bytes)?;
+        put(&mut table, &self.pages, then, others)?;
+        self.table = table;
         Ok(())
     }
 
@@ -211,7 +274,13 @@ impl<A: Allocator + Clone> Pages<A> {
         ensures size { length self.new ≡ length self.old }
         ensures memory { OnErr result (0 < count) }
     {
-        zero_over(self.bytes.as_mut_slice(), at as usize, count as usize);
+        if count <= 256 - at % 256 {
+            return self.write(at, zeros(count as usize));
+        }
+        let zero = Rc::new(self.pages.clone()?, [0; 256])?;
+        let mut table = self.table.share()?;
+        clear(&mut table, &zero, at, count)?;
+        self.table = table;
         Ok(())
     }
 
@@ -225,13 +294,18 @@ impl<A: Allocator + Clone> Pages<A> {
         ensures size { length self.new ≡ length self.old }
         ensures memory { OnErr result (0 < count) }
     {
-        copy_over(
-            self.bytes.as_mut_slice(),
-            from as usize,
-            to as usize,
-            count as usize,
-        );
-        Ok(())
+        if count == 0 {
+            return Ok(());
+        }
+        if count <= 256 {
+            let mut bytes = [0; 256];
+            let bytes = &mut bytes[..count as usize];
+            copy_out(&self.table, from, bytes);
+            return self.write(to, bytes);
+        }
+        let mut bytes = Vec::from_elem(self.table.allocator(), 0, count as usize)?;
+        copy_out(&self.table, from, bytes.as_mut_slice());
+        self.write(to, bytes.as_slice())
     }
 
     /// Drops the bytes from `size` on, or adds zeros up to `size`.
@@ -246,16 +320,15 @@ impl<A: Allocator + Clone> Pages<A> {
             self.cut(size);
             return Ok(());
         }
-        self.bytes.resize(size as usize, 0)
+        self.table.grow(size)
     }
 
     /// Memory at this time, whatever is written later.
     pub fn keep(&self) -> Result<Kept<A>, AllocError>
         ensures { IfOk result (λ kept. kept ≡ self.now) }
     {
-        let alloc = self.bytes.allocator().clone()?;
         Ok(Kept {
-            bytes: Vec::from_slice(alloc, self.bytes.as_slice())?,
+            table: self.table.share()?,
         })
     }
 
@@ -269,10 +342,12 @@ impl<A: Allocator + Clone> Pages<A> {
         ensures all_back { skip.1 ≡ 0 → IfOk result (λ all. all ≡ kept.now) }
         ensures size { IfOk result (λ all. length all ≡ length kept.now) }
     {
-        let alloc = self.bytes.allocator().clone()?;
-        let mut all = Vec::from_slice(alloc, kept.bytes.as_slice())?;
-        self.keep_present(all.as_mut_slice(), skip);
-        Ok(Pages { bytes: all })
+        let mut table = kept.table.share()?;
+        self.keep_present(&mut table, skip)?;
+        Ok(Pages {
+            table,
+            pages: self.pages.clone()?,
+        })
     }
 
     /// Another memory, placed as this one is: these bytes and zeros up to `size`, but for the `skip.1`
@@ -289,18 +364,36 @@ impl<A: Allocator + Clone> Pages<A> {
         ensures value { IfOk result (λ all. all ≡ put_back_of self.now (bytes.now ++ replicate (size - length bytes.now) 0) skip.0 skip.1) }
         ensures size { IfOk result (λ all. length all ≡ size) }
     {
-        let alloc = self.bytes.allocator().clone()?;
-        let mut all = Vec::from_slice(alloc, bytes)?;
-        all.resize(size as usize, 0)?;
-        self.keep_present(all.as_mut_slice(), skip);
-        Ok(Pages { bytes: all })
+        let pages = self.pages.clone()?;
+        let mut table = Table::zeros(self.table.allocator(), size)?;
+        put(&mut table, &pages, 0, bytes)?;
+        self.keep_present(&mut table, skip)?;
+        Ok(Pages { table, pages })
     }
 
-    /// Gives other memory the bytes that are there now at `skip.1` addresses from `skip.0` on.
-    fn keep_present(&self, all: &mut [u8], skip: (u32, u32))
-        ensures value { all.new ≡ put_back_of self.now all.old skip.0 skip.1 }
-        ensures all_back { skip.1 ≡ 0 → all.new ≡ all.old }
+    /// Gives another table the bytes that are there now at `skip.1` addresses from `skip.0` on.
+    fn keep_present(&self, table: &mut Table<A>, skip: (u32, u32)) -> Result<(), AllocError>
+        ensures value { OnOk result (table.new ≡ put_back_of self.now table.old skip.0 skip.1) }
+        ensures all_back { skip.1 ≡ 0 → OnOk result (table.new ≡ table.old) }
+        ensures size { length table.new ≡ length table.old }
     {
-        put_back_over(all, self.bytes.as_slice(), skip.0 as usize, skip.1 as usize);
+        let from = skip.0 as usize;
+        let end = (from + skip.1 as usize).min(table.size() as usize);
+        if end <= from {
+            return Ok(());
+        }
+        let bytes = self.present(skip.0, end - from)?;
+        put(table, &self.pages, skip.0, bytes.as_slice())
+    }
+
+    /// The `count` bytes from `from` on, with 0 where memory doesn't reach.
+    fn present(&self, from: u32, count: usize) -> Result<Vec<u8>, AllocError>
+        requires { from + count < 2 ^ 32 }
+        ensures count { IfOk result (λ bytes. length bytes.items ≡ count) }
+        ensures value { IfOk result (λ bytes. (k : ℕ) → k < count → slice_index bytes.items k ≡ slice_index self.now (from + k)) }
+    {
+        let mut bytes = Vec::from_elem(self.table.allocator(), 0, count)?;
+        copy_there(&self.table, from, bytes.as_mut_slice());
+        Ok(bytes)
     }
 }

@@ -1,60 +1,109 @@
-//! Writes to a range of a slice, which may be empty at any address.
-ghost use Rattle.std.specs.Prelude.{◌≡◌, ◌<◌, ◌≤◌, ◌^◌, length, take, drop, replicate};
+//! Reads and writes of a table over several leaves or pages, one after another.
+//!
+//! A call that is refused may have written a part: a caller that has to leave memory as it was
+//! writes to another table of the same leaves, and takes that once all is written.
+ghost use Rattle.std.specs.Prelude.{◌≡◌, ℕ, List, true, false, ◌%◌, ◌+◌, ◌<◌, ◌≤◌, length, take, drop, slice_index, replicate, OnOk, OnErr};
 ghost use Rattle.gx_words.specs.Numbers.{spliced};
-ghost use Rattle.gx_pages.specs.Memory.{IsInside, AreInside, all_spliced, put_back_of};
+ghost use Rattle.gx_pages.specs.Memory.{IsInside, AreInside, HasBytes, all_spliced};
 
+use crate::leaf::{Page, in_one_page};
+use crate::table::Table;
 use gx_words::{Bytes, splice};
+use std::alloc::{AllocError, Allocator};
 
-/// Puts bytes over those from `at` on.
-pub fn write_over(memory: &mut [u8], at: usize, bytes: &[u8])
-    requires { IsInside at (length bytes.now) (length memory.old) }
-    ensures { memory.new ≡ spliced memory.old at bytes.now }
+/// Puts bytes over those from `at` on, leaf by leaf.
+#[inline(never)]
+pub fn put<A: Allocator + Clone>(
+    table: &mut Table<A>,
+    pages: &A,
+    at: u32,
+    bytes: &[u8],
+) -> Result<(), AllocError>
+    requires { IsInside at (length bytes.now) (length table.old) }
+    ensures ok { OnOk result (table.new ≡ spliced table.old at bytes.now) }
+    ensures size { length table.new ≡ length table.old }
 {
-    if !bytes.is_empty() {
-        splice(memory, at, bytes);
+    let mut done = 0;
+    while done < bytes.len() {
+        let place = at as usize + done;
+        let count = (65536 - place % 65536).min(bytes.len() - done);
+        table.write_in_leaf(pages, place, &bytes[done..done + count])?;
+        done += count;
     }
+    Ok(())
 }
 
 /// Makes each write, the first of them first.
-pub fn write_each(memory: &mut [u8], writes: &[(u32, Bytes)])
-    requires { AreInside writes.now (length memory.old) }
-    ensures { memory.new ≡ all_spliced memory.old writes.now }
+pub fn put_each<A: Allocator + Clone>(
+    table: &mut Table<A>,
+    pages: &A,
+    writes: &[(u32, Bytes)],
+) -> Result<(), AllocError>
+    requires { AreInside writes.now (length table.old) }
+    ensures ok { OnOk result (table.new ≡ all_spliced table.old writes.now) }
+    ensures size { length table.new ≡ length table.old }
 {
     for write in writes {
-        write_over(memory, write.0 as usize, write.1.as_slice());
+        put(table, pages, write.0, write.1.as_slice())?;
+    }
+    Ok(())
+}
+
+/// Puts zeros over `count` bytes from `at` on; each whole page becomes `zero`.
+pub fn clear<A: Allocator + Clone>(
+    table: &mut Table<A>,
+    zero: &Page<A>,
+    at: u32,
+    count: u32,
+) -> Result<(), AllocError>
+    requires zero { zero.now.value ≡ replicate 256 0 }
+    requires inside { IsInside at count (length table.old) }
+    ensures ok { OnOk result (table.new ≡ spliced table.old at (replicate count 0)) }
+    ensures size { length table.new ≡ length table.old }
+{
+    let mut done = 0;
+    while done < count as usize {
+        let place = at as usize + done;
+        let piece = in_one_page(place, count as usize - done);
+        table.clear_in_page(zero, place, piece)?;
+        done += piece;
+    }
+    Ok(())
+}
+
+/// Fills a slice with the bytes from `from` on.
+pub fn copy_out<A: Allocator>(table: &Table<A>, from: u32, to: &mut [u8])
+    requires { IsInside from (length to.old) (length table.now) }
+    ensures { to.new ≡ take (length to.old) (drop from table.now) }
+{
+    let mut done = 0;
+    while done < to.len() {
+        let place = from as usize + done;
+        let count = in_one_page(place, to.len() - done);
+        splice(to, done, &table.rest_of_page(place)[..count]);
+        done += count;
     }
 }
 
-/// Puts zeros over `count` bytes from `at` on.
-pub fn zero_over(memory: &mut [u8], at: usize, count: usize)
-    requires { IsInside at count (length memory.old) }
-    ensures { memory.new ≡ spliced memory.old at (replicate count 0) }
+/// Fills a slice with the bytes from `from` on, as far as there are any; the rest of it stays.
+pub fn copy_there<A: Allocator>(table: &Table<A>, from: u32, to: &mut [u8])
+    ensures there { (k : ℕ) → k < length to.old → from + k < length table.now → slice_index to.new k ≡ slice_index table.now (from + k) }
+    ensures past { (k : ℕ) → length table.now ≤ from + k → slice_index to.new k ≡ slice_index to.old k }
+    ensures len { length to.new ≡ length to.old }
 {
-    if count > 0 {
-        memory[at..at + count].fill(0);
-    }
+    let count = to.len().min(table.size().saturating_sub(from) as usize);
+    copy_out(table, from, &mut to[..count]);
 }
 
-/// Puts the `count` bytes from `from` on over those from `to` on, as they were before the call.
-pub fn copy_over(memory: &mut [u8], from: usize, to: usize, count: usize)
-    requires source { IsInside from count (length memory.old) }
-    requires target { IsInside to count (length memory.old) }
-    ensures { memory.new ≡ spliced memory.old to (take count (drop from memory.old)) }
+/// Whether some write has a byte. Where none has, the writes change nothing.
+pub fn has_bytes(writes: &[(u32, Bytes)]) -> bool
+    ensures some { result ≡ true → HasBytes writes.now }
+    ensures none { result ≡ false → (memory : List ℕ) → all_spliced memory writes.now ≡ memory }
 {
-    if count > 0 {
-        memory.copy_within(from..from + count, to);
+    for write in writes {
+        if write.1.len() > 0 {
+            return true;
+        }
     }
-}
-
-/// Gives `count` addresses from `from` on the byte of `present`, and 0 where that has none.
-pub fn put_back_over(kept: &mut [u8], present: &[u8], from: usize, count: usize)
-    requires from { from < 2 ^ 32 }
-    requires count { count < 2 ^ 32 }
-    ensures value { kept.new ≡ put_back_of present.now kept.old from count }
-    ensures all_back { count ≡ 0 → kept.new ≡ kept.old }
-{
-    let end = (from + count).min(kept.len());
-    for i in from..end {
-        kept[i] = present.get(i).copied().unwrap_or(0);
-    }
+    false
 }

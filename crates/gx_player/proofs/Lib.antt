@@ -1,4 +1,10 @@
+pub mod CommandLines
+pub mod Digits
+pub mod Dones
 pub mod Loads
-pub mod Numbers
+pub mod Matched
 pub mod Plays
 pub mod Samples
+pub mod Sums
+pub mod Tellings
+pub mod Works

@@ -10,8 +10,8 @@ use Rattle.gx_story.specs.declared.faults.StoryFault.{StoryFault}
 use Rattle.gx_story.specs.declared.faults.StoryFault.TheVariants as of_story
 use Rattle.gx_story.specs.Faults.{number_of}
 use Rattle.gx_story.specs.Stories.{FlatStory, accepted}
-use Rattle.gx_player.specs.declared.play.Refusal.{Refusal}
-use Rattle.gx_player.specs.declared.play.Refusal.TheVariants as refusal
+use Rattle.gx_player.specs.declared.loading.Refusal.{Refusal}
+use Rattle.gx_player.specs.declared.loading.Refusal.TheVariants as refusal
 use Rattle.gx_player.specs.Headline.{numbered, story_of, IsLoadable}
 use Rattle.gx_player.specs.Loading.{refusal_of_shelf, refusal_of_story, LoadGives, LoadsFile}
 

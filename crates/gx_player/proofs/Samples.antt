@@ -1,46 +1,20 @@
 -- Command lines and story files with what they come to.
-use Rattle.std.proofs.Common.{◌≡◌, ℕ, List, [], ◌∷◌, ◌++◌, replicate, take, Some, None, Err, is_ok, true, refl}
-use Rattle.std.specs.Prelude.{codes}
+use Rattle.std.proofs.Common.{◌≡◌, ℕ, List, [], ◌∷◌, ◌++◌, replicate, take, Option, Some, None, Err, is_ok, true, refl}
 use Rattle.gx_story.specs.Stories.{accepted, bare, header}
 use Rattle.gx_session.specs.declared.statuses.TheConstants.{BAD_WORDS, BAD_STORY}
 use Rattle.gx_session.specs.Devices.{Devices}
-use Rattle.gx_player.specs.declared.command.TheConstants.{USUAL_STEPS}
-use Rattle.gx_player.specs.Commands.{command_of}
+use Rattle.gx_player.specs.declared.command.Job.TheVariants.{Play, Check}
+use Rattle.gx_player.specs.Commands.{Command}
 use Rattle.gx_player.specs.Headline.{outcome_of, refused, story_of}
 
--- after the program's name
-abbrev words : List (List ℕ) → List (List ℕ)
-words rest = codes "gx_player" ∷ rest
+bad-words : (file : Option (List ℕ)) (d : Devices) → outcome_of None file d ≡ refused BAD_WORDS 0
+bad-words file d = refl
 
-story-alone : command_of (words (codes "hall.ulx" ∷ [])) ≡ Some (record { story = codes "hall.ulx"; steps = USUAL_STEPS })
-story-alone = refl
+no-such-file : (command : Command) (d : Devices) → outcome_of (Some (record command { job = Play })) None d ≡ refused BAD_STORY 0
+no-such-file command d = refl
 
-with-steps : command_of (words (codes "hall.ulx" ∷ codes "--steps" ∷ codes "0011" ∷ [])) ≡ Some (record { story = codes "hall.ulx"; steps = 11 })
-with-steps = refl
-
-most-steps : command_of (words ([] ∷ codes "--steps" ∷ codes "18446744073709551615" ∷ [])) ≡ Some (record { story = []; steps = 18446744073709551615 })
-most-steps = refl
-
-too-many-steps : command_of (words (codes "hall.ulx" ∷ codes "--steps" ∷ codes "18446744073709551616" ∷ [])) ≡ None
-too-many-steps = refl
-
-not-a-number : command_of (words (codes "hall.ulx" ∷ codes "--steps" ∷ codes "+5" ∷ [])) ≡ None
-not-a-number = refl
-
-no-number : command_of (words (codes "hall.ulx" ∷ codes "--steps" ∷ [] ∷ [])) ≡ None
-no-number = refl
-
-other-option : command_of (words (codes "hall.ulx" ∷ codes "--step" ∷ codes "5" ∷ [])) ≡ None
-other-option = refl
-
-no-story : command_of (words []) ≡ None
-no-story = refl
-
-bad-words : (d : Devices) → outcome_of None None d ≡ refused BAD_WORDS 0
-bad-words d = refl
-
-no-such-file : (d : Devices) → outcome_of (command_of (words (codes "hall.ulx" ∷ []))) None d ≡ refused BAD_STORY 0
-no-such-file d = refl
+nothing-to-check : (command : Command) (d : Devices) → outcome_of (Some (record command { job = Check })) None d ≡ refused BAD_STORY 0
+nothing-to-check command d = refl
 
 -- a story of one page with this magic and version
 abbrev page : List ℕ → List ℕ → List ℕ

@@ -1,3 +1,5 @@
 pub mod Commands
 pub mod Headline
+pub mod Jobs
 pub mod Loading
+pub mod Reading

@@ -1,18 +1,29 @@
-//! `gx_player STORY [--steps N]`: plays a Glulx story over standard input, standard output and the
-//! files of the current folder.
+//! `gx_player STORY [--steps N] [--columns N] [--rows N] [--echo] [--job JOB]`: plays a Glulx story over
+//! standard input, standard output and the files of the current folder, checks one, or measures the
+//! machine.
 //!
-//! - `command` reads the command line.
+//! - `command` reads the command line, whose words `words` matches.
 //! - `play` does all that the program does, over objects that are handed in; its contract is the
 //!   headline of the whole repository, and stands in specs/Headline.
+//! - `playing`, `checking` and `working` do the three jobs. `loading` takes the story from the shelf,
+//!   `telling` sends a job's line, `silent` has devices for a story that needs none.
 //! - `real` has the objects that the program hands in.
 //!
 //! How the run ended is the status of the program, with a line on standard error.
 #![tactic(auto)]
 
+mod checking;
 mod command;
+mod loading;
 mod play;
+mod playing;
 mod real;
+mod silent;
+mod telling;
+mod words;
+mod working;
 
+use gx_pool::PagePool;
 use gx_session::statuses;
 pub use play::play;
 use rand_chacha::ChaCha20Rng;
@@ -22,6 +33,10 @@ use std::io::ErrorKind;
 use std::process::ExitCode;
 use std::random::RandomSource;
 use std::{env, io};
+
+/// How many pages of memory may be out at once: 18 times those of the largest memory, which is room
+/// for the present memory, sixteen undo states and one in the making with no page in common.
+const MOST_PAGES: usize = 4_718_592;
 
 /// A seed from the system's random source, and 32 zero bytes where that fails.
 fn seed(rt: &impl RandomSource) -> [u8; 32] {
@@ -35,13 +50,14 @@ fn seed(rt: &impl RandomSource) -> [u8; 32] {
 /// Plays the story that the words name; the status.
 fn play_words(rt: &HostRuntime, words: &[&str]) -> u8 {
     let alloc = rt.alloc();
+    let pool = PagePool::new(alloc, MOST_PAGES);
     let mut source = StdSource::new(rt.reader());
     let mut sink = StdSink::new(rt);
     let mut shelf = FolderShelf::new(alloc, rt);
     let mut dice = ChaCha20Rng::from_seed(seed(rt));
     let ended = play(
         alloc,
-        alloc,
+        &pool,
         words,
         &mut source,
         &mut sink,

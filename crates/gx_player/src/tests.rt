@@ -5,23 +5,29 @@ use gx_session::Ended;
 use rand_chacha::ChaCha20Rng;
 use rand_core::SeedableRng;
 use std::alloc::Global;
+use std::process::Abort;
 use std::test::Fail;
 
 mod branches;
 mod calc;
+mod commands;
 mod ends;
 mod filters;
 mod flow;
 mod game;
 mod glk;
+mod glk_stories;
 mod memory;
 mod operands;
+mod pool;
 mod replies;
 mod searches;
+mod selectors;
 mod stack;
 mod starts;
 mod stories;
 mod strings;
+mod world;
 
 /// A story of one page, whose code stands from 0x24 on: it selects Glk, opens a window, and puts
 /// three characters to it in twelve steps.
@@ -65,6 +71,13 @@ fn played(
     Ok((ended, sink))
 }
 
+/// The program's line without its name; an empty one where nothing is to be said.
+fn ended_line(alloc: Global, ended: &Ended<Global>) -> Result<String, Fail> {
+    let line = ended.line(alloc)?;
+    let said = line.strip_prefix("gx_player: ").unwrap_or_default();
+    Ok(String::from_str(alloc, said)?)
+}
+
 #[test]
 fn says_hi(rt: HostRuntime) -> Result<(), Fail> {
     let (ended, sink) = played(rt.alloc(), &["gx_player", "hello"], &hello(), &[], &[])?;
@@ -72,18 +85,6 @@ fn says_hi(rt: HostRuntime) -> Result<(), Fail> {
     assert_eq!(rt; ended.steps, 12);
     assert_eq!(rt; sink.bytes(), b"Hi\n".as_slice());
     assert!(rt; ended.machine.is_some());
-    Ok(())
-}
-
-#[test]
-fn spends_its_budget(rt: HostRuntime) -> Result<(), Fail> {
-    let words = ["gx_player", "hello", "--steps", "0011"];
-    let (ended, sink) = played(rt.alloc(), &words, &hello(), &[], &[])?;
-    assert_eq!(rt; (ended.status, ended.fault, ended.at), (4, 0, 0));
-    assert_eq!(rt; ended.steps, 11);
-    assert_eq!(rt; sink.bytes(), b"Hi\n".as_slice());
-    let line = ended.line(rt.alloc())?;
-    assert_eq!(rt; line.as_str(), "gx_player: budget spent after 11 steps");
     Ok(())
 }
 
@@ -122,27 +123,32 @@ fn accepts_versions(rt: HostRuntime) -> Result<(), Fail> {
     Ok(())
 }
 
-#[test]
-fn devices_fail(rt: HostRuntime) -> Result<(), Fail> {
-    let words = ["gx_player", "hello"];
-    let (ended, _) = played(rt.alloc(), &words, &hello(), &[1], &[])?;
-    assert_eq!(rt; (ended.status, ended.steps), (8, 0));
-    let (ended, sink) = played(rt.alloc(), &words, &hello(), &[], &[1])?;
-    assert_eq!(rt; ended.status, 10);
-    assert_eq!(rt; sink.bytes(), b"".as_slice());
+/// Compares the status and the text where these calls of the shelf and of the sink fail.
+fn compare_failing(
+    rt: &impl Abort,
+    alloc: Global,
+    words: &[&str],
+    loads: &[u64],
+    sends: &[u64],
+    wanted: (u8, &str),
+) -> Result<(), Fail> {
+    let (ended, sink) = played(alloc, words, &hello(), loads, sends)?;
+    assert_eq!(rt; (ended.status, ended.fault, ended.at), (wanted.0, 0, 0));
+    assert_eq!(rt; sink.bytes(), wanted.1.as_bytes());
     Ok(())
 }
 
 #[test]
-fn bad_words(rt: HostRuntime) -> Result<(), Fail> {
-    let rows: [&[&str]; 3] = [
-        &["gx_player"],
-        &["gx_player", "hello", "--steps", "18446744073709551616"],
-        &["gx_player", "hello", "--pages", "1"],
-    ];
-    for words in rows {
-        let (ended, _) = played(rt.alloc(), words, &hello(), &[], &[])?;
-        assert_eq!(rt; ended.status, 1);
-    }
-    Ok(())
+fn devices_fail(rt: HostRuntime) -> Result<(), Fail> {
+    let alloc = rt.alloc();
+    let play = ["gx_player", "hello"];
+    compare_failing(&rt, alloc, &play, &[1], &[], (8, ""))?;
+    compare_failing(&rt, alloc, &play, &[], &[1], (10, ""))?;
+    let check = ["gx_player", "hello", "--job=check"];
+    compare_failing(&rt, alloc, &check, &[1], &[], (8, ""))?;
+    compare_failing(&rt, alloc, &check, &[], &[1], (10, ""))?;
+    compare_failing(&rt, alloc, &check, &[2], &[2], (0, "checksum ok\n"))?;
+    let work = ["gx_player", "0", "--job=work"];
+    compare_failing(&rt, alloc, &work, &[], &[1], (10, ""))?;
+    compare_failing(&rt, alloc, &work, &[1], &[2], (0, "342 11 3111884960\n"))
 }

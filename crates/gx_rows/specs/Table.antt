@@ -2,7 +2,8 @@
 --
 -- A line says the number by its name, how many operands are loaded and stored, and the class. What an
 -- instruction does is said by the definitions of its class.
-use Rattle.std.specs.Prelude.{◌≤◌, ◌==◌, ◌+◌, ◌%◌, ◌&&◌, ◌||◌, ℕ, Bool, true, false, nat_le, List, [], ◌∷◌, Option, find, slice_index_or}
+use Rattle.std.specs.Prelude.{◌≤◌, ◌==◌, ◌+◌, ◌%◌, ◌&&◌, ◌||◌, ℕ, Bool, true, false, nat_le, nat_lt, List, [], ◌∷◌, Option, find, slice_index_or}
+use Rattle.std.specs.List.{list_all, position_or_len}
 use Rattle.gx_words.specs.Numbers.{IsWidth}
 use Rattle.gx_rows.specs.declared.numbers.TheConstants.{NOP, ADD, SUB, MUL, DIV, MOD, NEG, BITAND, BITOR, BITXOR, BITNOT, SHIFTL, SSHIFTR, USHIFTR, JUMP, JZ, JNZ, JEQ, JNE, JLT, JGE, JGT, JLE, JLTU, JGEU, JGTU, JLEU, CALL, RETURN, CATCH, THROW, TAILCALL, COPY, COPYS, COPYB, SEXS, SEXB, ALOAD, ALOADS, ALOADB, ALOADBIT, ASTORE, ASTORES, ASTOREB, ASTOREBIT, STKCOUNT, STKPEEK, STKSWAP, STKROLL, STKCOPY, STREAMCHAR, STREAMNUM, STREAMSTR, STREAMUNICHAR, GESTALT, DEBUGTRAP, GETMEMSIZE, SETMEMSIZE, JUMPABS, RANDOM, SETRANDOM, QUIT, VERIFY, RESTART, SAVE, RESTORE, SAVEUNDO, RESTOREUNDO, PROTECT, GLK, GETSTRINGTBL, SETSTRINGTBL, GETIOSYS, SETIOSYS, LINEARSEARCH, BINARYSEARCH, LINKEDSEARCH, CALLF, CALLFI, CALLFII, CALLFIII, MZERO, MCOPY, MALLOC, MFREE, ACCELFUNC, ACCELPARAM}
 use Rattle.gx_rows.specs.declared.instructions.Row.{Row}
@@ -133,6 +134,15 @@ table =
 -- the one row of a number
 unfoldable pub row_of : ℕ → Option Row
 row_of number = find (λ row. row.number == number) table
+
+-- the numbers from one on stand at these places of the table; its length is the place of those that no row has
+unfoldable pub are_places : ℕ → List ℕ → Bool
+are_places number [] = true
+are_places number (place ∷ places) = (position_or_len (λ row. row.number == number) table == place) && are_places (number + 1) places
+
+-- no row has a number from this one on
+unfoldable pub are_below : ℕ → List Row → Bool
+are_below most rows = list_all (λ row. nat_lt row.number most) rows
 
 -- the row at a place of the table
 unfoldable pub row_at : ℕ → Row

@@ -5,10 +5,10 @@
 ghost use Rattle.std.specs.Prelude.{◌≡◌, ◌<◌, IsTrue, IfSome, option_map, length};
 ghost use Rattle.std.specs.List.{list_all};
 ghost use Rattle.gx_rows.specs.Keys.{is_rising};
-ghost use Rattle.gx_rows.specs.Table.{table, row_of, row_at, row_fits, RowFits};
+ghost use Rattle.gx_rows.specs.Table.{table, row_of, row_at, row_fits, RowFits, are_places, are_below};
 
+use crate::Keyed;
 use crate::numbers::*;
-use crate::{Keyed, find_row};
 
 /// The instructions that one part of the machine carries out.
 #[derive(Clone, Copy, Debug, PartialEq, Eq)]
@@ -208,6 +208,49 @@ pub const ROWS: [Row; 87] = rows! {
     ACCELPARAM L L               => Game;
 };
 
+/// What stands in `PLACES` for a number that no instruction has.
+const NO: u8 = 87;
+
+/// The place in the table of each number below 0x182, above which no instruction has one. A line has
+/// sixteen numbers, from the one that stands at its end.
+#[rattlefmt::skip]
+const PLACES: [u8; 0x182] = [
+    0, NO, NO, NO, NO, NO, NO, NO, NO, NO, NO, NO, NO, NO, NO, NO, // 00
+    1, 2, 3, 4, 5, 6, NO, NO, 7, 8, 9, 10, 11, 12, 13, NO, // 10
+    14, NO, 15, 16, 17, 18, 19, 20, 21, 22, 23, 24, 25, 26, NO, NO, // 20
+    27, 28, 29, 30, 31, NO, NO, NO, NO, NO, NO, NO, NO, NO, NO, NO, // 30
+    32, 33, 34, NO, 35, 36, NO, NO, 37, 38, 39, 40, 41, 42, 43, 44, // 40
+    45, 46, 47, 48, 49, NO, NO, NO, NO, NO, NO, NO, NO, NO, NO, NO, // 50
+    NO, NO, NO, NO, NO, NO, NO, NO, NO, NO, NO, NO, NO, NO, NO, NO, // 60
+    50, 51, 52, 53, NO, NO, NO, NO, NO, NO, NO, NO, NO, NO, NO, NO, // 70
+    NO, NO, NO, NO, NO, NO, NO, NO, NO, NO, NO, NO, NO, NO, NO, NO, // 80
+    NO, NO, NO, NO, NO, NO, NO, NO, NO, NO, NO, NO, NO, NO, NO, NO, // 90
+    NO, NO, NO, NO, NO, NO, NO, NO, NO, NO, NO, NO, NO, NO, NO, NO, // A0
+    NO, NO, NO, NO, NO, NO, NO, NO, NO, NO, NO, NO, NO, NO, NO, NO, // B0
+    NO, NO, NO, NO, NO, NO, NO, NO, NO, NO, NO, NO, NO, NO, NO, NO, // C0
+    NO, NO, NO, NO, NO, NO, NO, NO, NO, NO, NO, NO, NO, NO, NO, NO, // D0
+    NO, NO, NO, NO, NO, NO, NO, NO, NO, NO, NO, NO, NO, NO, NO, NO, // E0
+    NO, NO, NO, NO, NO, NO, NO, NO, NO, NO, NO, NO, NO, NO, NO, NO, // F0
+    54, 55, 56, 57, 58, NO, NO, NO, NO, NO, NO, NO, NO, NO, NO, NO, // 100
+    59, 60, NO, NO, NO, NO, NO, NO, NO, NO, NO, NO, NO, NO, NO, NO, // 110
+    61, 62, 63, 64, 65, 66, 67, 68, NO, NO, NO, NO, NO, NO, NO, NO, // 120
+    69, NO, NO, NO, NO, NO, NO, NO, NO, NO, NO, NO, NO, NO, NO, NO, // 130
+    70, 71, NO, NO, NO, NO, NO, NO, 72, 73, NO, NO, NO, NO, NO, NO, // 140
+    74, 75, 76, NO, NO, NO, NO, NO, NO, NO, NO, NO, NO, NO, NO, NO, // 150
+    77, 78, 79, 80, NO, NO, NO, NO, NO, NO, NO, NO, NO, NO, NO, NO, // 160
+    81, 82, NO, NO, NO, NO, NO, NO, 83, 84, NO, NO, NO, NO, NO, NO, // 170
+    85, 86, // 180
+];
+
+/// The places of the numbers from 0 on.
+#[tactic(auto, unfolding(crate::specs::Table::table, crate::specs::Table::are_places, crate::specs::Table::are_below))]
+fn places() -> &'static [u8; 0x182]
+    ensures places { IsTrue (are_places 0 result.now) }
+    ensures all { IsTrue (are_below 0x182 table) }
+{
+    &PLACES
+}
+
 /// The table.
 #[tactic(auto, unfolding(crate::specs::Table::table))]
 pub fn rows() -> &'static [Row; 87]
@@ -220,13 +263,20 @@ pub fn rows() -> &'static [Row; 87]
 }
 
 /// The place of an instruction in the table; None where it has no such number.
-#[tactic(auto, unfolding(crate::specs::Table::row_of, crate::specs::Table::row_at))]
+#[tactic(auto, using(crate::proofs::Places::places))]
 pub fn place_of(number: u32) -> Option<usize>
     ensures row { option_map row_at result ≡ row_of number }
     ensures place { IfSome result (λ place. place < 87) }
     ensures fits { IfSome result (λ place. RowFits (row_at place)) }
 {
-    find_row(rows(), number)
+    let places = places();
+    if number >= 0x182 {
+        return None;
+    }
+    match places[number as usize] {
+        NO => None,
+        place => Some(usize::from(place)),
+    }
 }
 
 /// The row at a place of the table.

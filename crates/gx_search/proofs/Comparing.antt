@@ -1,5 +1,5 @@
 -- One byte of two keys that are compared.
-use Rattle.std.proofs.Common.{◌≡◌, ◌≢◌, inl, inr, ◌==◌, ◌||◌, ◌≤◌, ◌<◌, ◌+◌, ℕ, true, List, length, get_or, drop, refl, sym, ◌∙◌, arith}
+use Rattle.std.proofs.Common.{◌≡◌, ◌≢◌, inl, inr, ◌==◌, ◌||◌, ◌≤◌, ◌<◌, ◌+◌, ℕ, true, List, length, get_or, drop, refl, ap, sym, ◌∙◌, arith}
 use Rattle.std.specs.Ordering.{nat_cmp, is_eq, ordering_then}
 use Rattle.std.specs.Str.{bytes_eq}
 use Rattle.std.proofs.lemmas.Map.Text.{is_eq-slice_cmp}
@@ -11,6 +11,7 @@ use Rattle.gx_words.specs.Numbers.{bytes_of_number}
 use Rattle.gx_search.specs.declared.asks.Ask.{Ask}
 use Rattle.gx_search.specs.Keys.{is_indirect, has_size, is_there, bytes_at, sought, key_address, key_at, can_probe}
 use Rattle.std.proofs.lemmas.Bool.Decides.{nat_tests}
+use Rattle.std.proofs.lemmas.Slice.Eq.{bytes_eq-Decides}
 
 -- ---- the bytes of a key
 
@@ -64,6 +65,10 @@ bytes_same xs ys i o h k same whole =
     let second = drop_more ys i 0 k in
     let here : slice_cmp nat_cmp (drop i xs) (drop i ys) ≡ slice_cmp nat_cmp (drop (i + 1) xs) (drop (i + 1) ys) = rw (first, second) (then_same _ _ _ same) in
     sym here ∙ whole
+
+-- equal keys have equal last bytes
+pub last_is : (xs ys : List ℕ) (i : ℕ) → bytes_eq xs ys ≡ true → get_or xs i 0 ≡ get_or ys i 0
+last_is xs ys i same = ap (λ (zs : List ℕ). get_or zs i 0) ((bytes_eq-Decides xs ys).0 same)
 
 -- the order tells equal keys from others
 pub equal_is : (xs ys : List ℕ) → is_eq (slice_cmp nat_cmp xs ys) ≡ bytes_eq xs ys

@@ -28,6 +28,7 @@ pub enum Seen {
 }
 
 /// Whether the key is at an address.
+#[inline(always)]
 fn is_indirect(ask: &Ask) -> bool
     ensures { result ≡ is_indirect ask.now }
 {
@@ -35,6 +36,7 @@ fn is_indirect(ask: &Ask) -> bool
 }
 
 /// Whether zeros end the search.
+#[inline(always)]
 fn stops_at_zero(ask: &Ask) -> bool
     ensures { result ≡ stops_at_zero ask.now }
 {
@@ -49,6 +51,7 @@ pub fn has_size(ask: &Ask) -> bool
 }
 
 /// Whether so many bytes from an address on are in memory.
+#[inline(always)]
 fn is_there<A: Allocator + Clone>(memory: &Pages<A>, at: u32, count: u32) -> bool
     ensures { result ≡ is_there memory.now at count }
 {
@@ -56,6 +59,7 @@ fn is_there<A: Allocator + Clone>(memory: &Pages<A>, at: u32, count: u32) -> boo
 }
 
 /// Whether all bytes are in memory that the probe of a struct looks at.
+#[inline(always)]
 fn can_probe<A: Allocator + Clone>(memory: &Pages<A>, ask: &Ask, at: u32) -> bool
     ensures { result ≡ can_probe memory.now ask.now at }
 {
@@ -64,6 +68,7 @@ fn can_probe<A: Allocator + Clone>(memory: &Pages<A>, ask: &Ask, at: u32) -> boo
 }
 
 /// The byte so many places after an address.
+#[inline(always)]
 fn byte_after<A: Allocator + Clone>(memory: &Pages<A>, at: u32, i: u32) -> u32
     requires { at + i < length memory.now }
     ensures { result ≡ byte memory.now (at + i) }
@@ -73,6 +78,7 @@ fn byte_after<A: Allocator + Clone>(memory: &Pages<A>, at: u32, i: u32) -> u32
 }
 
 /// A byte of the key.
+#[inline(always)]
 fn sought_byte<A: Allocator + Clone>(memory: &Pages<A>, ask: &Ask, at: u32, i: u32) -> u32
     requires there { IsTrue (can_probe memory.now ask.now at) }
     requires sized { IsTrue (has_size ask.now) }
@@ -87,6 +93,7 @@ fn sought_byte<A: Allocator + Clone>(memory: &Pages<A>, ask: &Ask, at: u32, i: u
 }
 
 /// A byte of the key of a struct.
+#[inline(always)]
 fn key_byte<A: Allocator + Clone>(memory: &Pages<A>, ask: &Ask, at: u32, i: u32) -> u32
     requires there { IsTrue (can_probe memory.now ask.now at) }
     requires inside { i < ask.now.key_size }
@@ -96,6 +103,7 @@ fn key_byte<A: Allocator + Clone>(memory: &Pages<A>, ask: &Ask, at: u32, i: u32)
 }
 
 /// The order of the key and that of a struct.
+#[inline(always)]
 fn order<A: Allocator + Clone>(memory: &Pages<A>, ask: &Ask, at: u32) -> Ordering
     requires there { IsTrue (can_probe memory.now ask.now at) }
     requires sized { IsTrue (has_size ask.now) }
@@ -111,14 +119,30 @@ fn order<A: Allocator + Clone>(memory: &Pages<A>, ask: &Ask, at: u32) -> Orderin
     Ordering::Equal
 }
 
+/// Whether a struct has the key's last byte. Most keys that differ do so there.
+#[inline(always)]
+#[tactic(auto, using(crate::proofs::Comparing::last_is))]
+fn has_last<A: Allocator + Clone>(memory: &Pages<A>, ask: &Ask, at: u32) -> bool
+    requires there { IsTrue (can_probe memory.now ask.now at) }
+    requires sized { IsTrue (has_size ask.now) }
+    ensures { IsTrue (bytes_eq (sought memory.now ask.now) (key_at memory.now ask.now at)) → IsTrue result }
+{
+    if ask.key_size == 0 {
+        return true;
+    }
+    let last = ask.key_size - 1;
+    sought_byte(memory, ask, at, last) == key_byte(memory, ask, at, last)
+}
+
 /// Whether a struct has the key.
 #[tactic(auto, using(crate::proofs::Comparing::equal_is))]
+#[inline(always)]
 fn is_match<A: Allocator + Clone>(memory: &Pages<A>, ask: &Ask, at: u32) -> bool
     requires there { IsTrue (can_probe memory.now ask.now at) }
     requires sized { IsTrue (has_size ask.now) }
     ensures { result ≡ bytes_eq (sought memory.now ask.now) (key_at memory.now ask.now at) }
 {
-    order(memory, ask, at).is_eq()
+    has_last(memory, ask, at) && order(memory, ask, at).is_eq()
 }
 
 /// Whether the key of a struct is zeros.
@@ -136,6 +160,7 @@ fn is_zero<A: Allocator + Clone>(memory: &Pages<A>, ask: &Ask, at: u32) -> bool
 
 /// The probe of the struct at an address.
 #[tactic(auto, unfolding(crate::specs::Keys::probe))]
+#[inline(always)]
 pub fn probe<A: Allocator + Clone>(memory: &Pages<A>, ask: &Ask, at: u32) -> Result<Seen, Fault>
     requires { IsTrue (has_size ask.now) }
     ensures { Reads (λ seen. seen) result (probe memory.now ask.now at) }

@@ -21,6 +21,7 @@ pub enum Layout {
 
 /// Whether the structs end before an index, whose struct would be at an address.
 #[tactic(auto, unfolding(crate::specs::Searches::is_past))]
+#[inline(always)]
 fn is_past(ask: &Ask, layout: Layout, i: u64, at: u32) -> bool
     ensures { result ≡ is_past layout ask.now i at }
 {
@@ -32,6 +33,7 @@ fn is_past(ask: &Ask, layout: Layout, i: u64, at: u32) -> bool
 
 /// The address after that of a struct.
 #[tactic(auto, unfolding(crate::specs::Searches::next_of))]
+#[inline(always)]
 fn next<A: Allocator + Clone>(
     memory: &Pages<A>,
     ask: &Ask,

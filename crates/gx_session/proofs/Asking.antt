@@ -1,5 +1,6 @@
 -- What the effects of a step, and the answers to what it asks, make of a run.
-use Rattle.std.proofs.Common.{◌≡◌, ◌≢◌, ℕ, List, ◌⊎◌, inl, inr, Option, Some, None, IsSome, Result, Ok, Err, IsOk, refl, ap, subst, sym, ◌∙◌, append_assoc}
+use Rattle.std.proofs.Common.{◌≡◌, ◌≢◌, ℕ, suc, ◌+◌, ◌<◌, ◌≤◌, ◌==◌, nat_le, cond, not, List, [], ◌++◌, length, ◌⊎◌, inl, inr, Bool, true, false, Option, Some, None, IsSome, Result, Ok, Err, IsOk, if◌then◌else◌, refl, ap, subst, sym, ◌∙◌, append_assoc, arith}
+use Rattle.arrayvec.specs.ArrayVec.{ArrayVec}
 use Rattle.gx_words.specs.declared.faults.Fault.{Fault}
 use Rattle.gx_words.specs.declared.faults.Fault.TheVariants as fault
 use Rattle.gx_state.specs.Flat.{FlatState}
@@ -10,22 +11,39 @@ use Rattle.gx_machine.specs.declared.askings.Asking.{Asking}
 use Rattle.gx_machine.specs.Machine.{FlatMachine, Whole}
 use Rattle.gx_machine.specs.Answer.{answer_of}
 use Rattle.gx_machine.specs.Step.{asking_of, stepped}
+use Rattle.gx_outside.specs.Files.{Files}
+use Rattle.gx_outside.specs.Outside.{FlatSource, FlatShelf, raised}
 use Rattle.glk_world.specs.World.{Scene, FlatWorld, Said, after}
+use Rattle.glk_world.specs.Shown.{show_grids, show_line}
 use Rattle.glk_dispatch.specs.declared.Turn.{Turn}
-use Rattle.glk_dispatch.specs.declared.Turn.TheVariants.{Answer}
-use Rattle.glk_dispatch.specs.Calls.{glk_call, putting, on_world}
+use Rattle.glk_dispatch.specs.declared.Turn.TheVariants as turn
+use Rattle.glk_dispatch.specs.declared.Given.{Given}
+use Rattle.glk_dispatch.specs.declared.Given.TheVariants as given
+use Rattle.glk_dispatch.specs.Turns.{IsAnswered}
+use Rattle.glk_dispatch.specs.Calls.{glk_call}
+use Rattle.glk_dispatch.specs.Going.{glk_go_on}
+use Rattle.glk_dispatch.specs.Output.{putting}
+use Rattle.glk_dispatch.specs.Parts.{on_world}
+use Rattle.gx_session.specs.declared.ends.Stop.{Stop}
 use Rattle.gx_session.specs.declared.ends.Stop.TheVariants as stop
 use Rattle.gx_session.specs.declared.ends.Halt.{Halt}
 use Rattle.gx_session.specs.declared.ends.Halt.TheVariants as halt
 use Rattle.gx_session.specs.declared.ends.Next.{Next}
 use Rattle.gx_session.specs.declared.ends.Next.TheVariants as next
-use Rattle.gx_session.specs.declared.running.Running.{Running}
+use Rattle.gx_session.specs.declared.lines.TheConstants.{PIECE}
+use Rattle.gx_session.specs.declared.questions.Question.{Question}
+use Rattle.gx_session.specs.declared.questions.Question.TheVariants as asks-for
+use Rattle.gx_session.specs.declared.running.Waiting.{Waiting}
+use Rattle.gx_session.specs.Cuts.{IsLineStop, IsWait, IsQuestion, HasNoFault, WantsMemory}
 use Rattle.gx_session.specs.Devices.{Devices}
-use Rattle.gx_session.specs.Session.{Configuration, goes, stops, after_reply, after_turn, after_effect, event_of, asked}
-use Rattle.gx_session.specs.Sending.{sent_before_end}
-use Rattle.gx_session.specs.Playing.{Held, held, asking_in, WordIs, configuration_of, Going, Gone, Done, Early, Follows, EventGives, TakesReply, FaultGives, TakesTurn}
-use Rattle.gx_session.proofs.Events.{event-does, event-faults, step-asks, step-asks-nothing, ok-is}
-use Rattle.gx_session.proofs.Playing.{goes-on, ends, in-answer}
+use Rattle.gx_session.specs.Input.{NextLine, too_long, none, line, next_line}
+use Rattle.gx_session.specs.Questions.{turn_of, files_after, given_for}
+use Rattle.gx_session.specs.Reading.{ReadsFew}
+use Rattle.gx_session.specs.Session.{Configuration, Doing, steps, asks, goes_on, goes, stops, after_reply, waiting_for, asking_for, after_turn, after_given, after_line, after_asking, shelf_gives, after_effect, act_of, asked, asked_at}
+use Rattle.gx_session.specs.Playing.{Held, WordIs, Past, configuration_of, IsPast, IsRead, Standing, Ready, Going, Waits, Done, Early, Follows, IsAnswering, Replies, Turns, GoesOn, TakesInput, Gives, FaultGives}
+use Rattle.gx_session.proofs.Steps.{step-does, step-faults, step-asks, step-asks-nothing, ok-is, asked-same}
+use Rattle.gx_session.proofs.NextLines.{some-input, shorter-input}
+use Rattle.gx_session.proofs.Playing.{here, moves-on, stops-at, wants}
 use Rattle.rand_core.specs.Stream.{Stream, next_u32}
 
 -- a call on a world that is answered
@@ -46,40 +64,111 @@ pub world-fine : {X : Type 0} (w : FlatWorld) (r : Result (Said × X) Fault) →
 world-fine w (Ok p) fine = (p, refl)
 world-fine w (Err g) fine = cc
 
--- a call on equal states with equal arguments
-pub called-same : (scene : Scene) (flat flat' : FlatState) (room selector : ℕ) (xs ys : List ℕ) (r : Result (Said × Turn) Fault) → flat ≡ flat' → xs ≡ ys
-    → glk_call scene flat room selector xs ≡ r → glk_call scene flat' room selector ys ≡ r
-called-same scene flat flat' room selector xs ys r flats args e =
-    subst (λ (y : List ℕ). glk_call scene flat' room selector y ≡ r) args (subst (λ (x : FlatState). glk_call scene x room selector xs ≡ r) flats e)
-
 word-drawn : (word : ℕ) (mine : Option ℕ) (stream words : Stream) → mine ≡ Some word → WordIs mine stream words → next_u32 words ≡ (word, stream)
 word-drawn word mine stream words drawn is = subst (λ (w : Option ℕ). WordIs w stream words) drawn is
 
 -- a fault stops the run where it isn't want of memory
 pub fault-gives : (start : Configuration) (entry : Devices) (h : Held) (asking : Option Asking) (d : Devices) (f : Fault) (result : Result Next Halt) → FaultGives f result
-    → (f ≡ fault.NoMemory → Early start entry h asking d halt.NoMemory) → (f ≢ fault.NoMemory → Done start entry h asking d (stop.Faulted f) (sent_before_end start))
-    → EventGives start entry h asking d result
-fault-gives start entry h asking d f result (inl e) early stopped = subst (EventGives start entry h asking d) (sym e.1) (early e.0)
-fault-gives start entry h asking d f result (inr e) early stopped = subst (EventGives start entry h asking d) (sym e.1) (stopped e.0)
+    → (f ≡ fault.NoMemory → Early start entry h asking d halt.NoMemory) → (f ≢ fault.NoMemory → Done start entry h asking d (stop.Faulted f))
+    → Gives start entry h asking d result
+fault-gives start entry h asking d f result (inl e) early stopped = subst (Gives start entry h asking d) (sym e.1) (early e.0)
+fault-gives start entry h asking d f result (inr e) early stopped = subst (Gives start entry h asking d) (sym e.1) (stopped e.0)
 
--- the configuration that a reply comes to, and a turn
-abbrev pub replied-to : Configuration → ℕ → Said × Reply → Configuration
-replied-to m left p = record m { machine = answer_of m.machine p.1; world = after m.world p.0; left = left }
+-- A call that is done has no fault.
+pub fine-turn : (m : Configuration) (w : Waiting) (p : Said × Turn) → HasNoFault (after_turn m w (Ok p))
+fine-turn m w (said, turn.Answer reply) = tt
+fine-turn m w (said, turn.Wait) = tt
+fine-turn m w (said, turn.Stuck) = tt
+fine-turn m w (said, turn.Prompt) = tt
+fine-turn m w (said, turn.Load name) = tt
+fine-turn m w (said, turn.Store name bytes) = tt
+fine-turn m w (said, turn.Remove name) = tt
+fine-turn m w (said, turn.Has name) = tt
+fine-turn m w (said, turn.Exit) = tt
 
-abbrev pub after-said : Configuration → ℕ → Said → Turn → Configuration
-after-said m left said (Answer reply) = replied-to m left (said, reply)
+pub fine-given : (m : Configuration) (w : Waiting) (p : Said × Turn) → HasNoFault (after_given m w (Ok p))
+fine-given m w (said, turn.Answer reply) = tt
+fine-given m w (said, turn.Wait) = tt
+fine-given m w (said, turn.Stuck) = tt
+fine-given m w (said, turn.Prompt) = tt
+fine-given m w (said, turn.Load name) = tt
+fine-given m w (said, turn.Store name bytes) = tt
+fine-given m w (said, turn.Remove name) = tt
+fine-given m w (said, turn.Has name) = tt
+fine-given m w (said, turn.Exit) = tt
 
-pub turned-on : (m : Configuration) (left : ℕ) (said : Said) (turn : Turn) → after_turn m left (Ok (said, turn)) ≡ goes (after-said m left said turn)
-turned-on m left said (Answer reply) = refl
+-- an answer may want memory where it has no fault
+wants-answer : (doing : Doing) (m : Configuration) (asking : Option Asking) → IsAnswering doing → asking ≡ asked m → HasNoFault (act_of m) → WantsMemory doing m asking
+wants-answer steps m asking is same fine = inr (same, fine)
+wants-answer (goes_on g w) m asking is same fine = (same, fine)
+wants-answer (asks t w) m asking is same fine = absurd is
+
+-- what a turn says of a question
+pub question-is : (q : Question) → IsQuestion (turn_of q)
+question-is (asks-for.Load name) = tt
+question-is (asks-for.Store name bytes) = tt
+question-is (asks-for.Remove name) = tt
+question-is (asks-for.Has name) = tt
+
+pub question-gives : (m : Configuration) (w : Waiting) (q : Question) → after_asking m w (turn_of q) ≡ shelf_gives m w (files_after q m.files) (given_for q m.files)
+question-gives m w (asks-for.Load name) = refl
+question-gives m w (asks-for.Store name bytes) = refl
+question-gives m w (asks-for.Remove name) = refl
+question-gives m w (asks-for.Has name) = refl
+
+pub question-turns : (m : Configuration) (w : Waiting) (said : Said) (q : Question) → after_turn m w (Ok (said, turn_of q)) ≡ asking_for m w said (turn_of q)
+question-turns m w said (asks-for.Load name) = refl
+question-turns m w said (asks-for.Store name bytes) = refl
+question-turns m w said (asks-for.Remove name) = refl
+question-turns m w said (asks-for.Has name) = refl
+
+-- a turn that waits
+pub wait-asks : (m : Configuration) (w : Waiting) (t : Turn) → IsWait t → after_asking m w t ≡ after_line m w (next_line m.input)
+wait-asks m w turn.Wait is = refl
+wait-asks m w turn.Prompt is = refl
+wait-asks m w (turn.Answer reply) is = absurd is
+wait-asks m w turn.Stuck is = absurd is
+wait-asks m w (turn.Load name) is = absurd is
+wait-asks m w (turn.Store name bytes) is = absurd is
+wait-asks m w (turn.Remove name) is = absurd is
+wait-asks m w (turn.Has name) is = absurd is
+wait-asks m w turn.Exit is = absurd is
+
+pub wait-turns : (m : Configuration) (w : Waiting) (said : Said) (t : Turn) → IsWait t → after_turn m w (Ok (said, t)) ≡ waiting_for m w said t
+wait-turns m w said turn.Wait is = refl
+wait-turns m w said turn.Prompt is = refl
+wait-turns m w said (turn.Answer reply) is = absurd is
+wait-turns m w said turn.Stuck is = absurd is
+wait-turns m w said (turn.Load name) is = absurd is
+wait-turns m w said (turn.Store name bytes) is = absurd is
+wait-turns m w said (turn.Remove name) is = absurd is
+wait-turns m w said (turn.Has name) is = absurd is
+wait-turns m w said turn.Exit is = absurd is
+
+-- a turn that is answered is no other
+pub answered-is : (t : Turn) → IsAnswered t → ((reply : Reply) → t ≡ turn.Answer reply → ⊥) → ⊥
+answered-is (turn.Answer reply) is other = other reply refl
+answered-is turn.Wait is other = is
+answered-is turn.Stuck is other = is
+answered-is turn.Prompt is other = is
+answered-is (turn.Load name) is other = is
+answered-is (turn.Store name bytes) is other = is
+answered-is (turn.Remove name) is other = is
+answered-is (turn.Has name) is other = is
+answered-is turn.Exit is other = is
+
+-- a world that has said something, with what was sent before
+sent-before : (sent : List ℕ) (w : FlatWorld) (said : Said) → after (record { scene = w.scene; text = sent ++ w.text }) said ≡ record { scene = (after w said).scene; text = sent ++ (after w said).text }
+sent-before sent w said = ap (λ (x : List ℕ). let y : FlatWorld = record { scene = said.0; text = x } in y) (append_assoc sent w.text said.1)
 
 module _ (start : Configuration) (entry : Devices) (h : Held) (d : Devices) where
   -- A step was answered with an effect, or refused.
   module _ (asking : Option Asking) (word : ℕ) (drawn : h.word ≡ Some word) (g : Going start entry h d) where
     abbrev m : Configuration
-    m = configuration_of g.now.sent g.now.words h d
+    m = here start entry h d steps g.now
 
-    pub first : (next_u32 g.now.words).0 ≡ word
-    first = ap (λ (p : ℕ × Stream). p.0) (word-drawn word h.word d.words g.now.words drawn g.now.word_is)
+    first : (next_u32 g.now.past.words).0 ≡ word
+    first = ap (λ (p : ℕ × Stream). p.0) (word-drawn word h.word d.words g.now.past.words drawn g.now.is_past.word)
 
     pub step-follows : (w : Whole) (left : ℕ) (does : Effect) → stepped (record { machine = h.machine; asking = asking }) word h.left ≡ Ok ((w, left), does)
         → (IsSome (asking_of does) → w.machine ≡ h.machine) → Follows start entry (record h { machine = w.machine }) d left does
@@ -88,94 +177,376 @@ module _ (start : Configuration) (entry : Devices) (h : Held) (d : Devices) wher
       word = word;
       drawn = drawn;
       going = g;
-      event = event-does m asking word first w left does e;
+      event = step-does m asking word first w left does e;
       asks = step-asks m asking word first w left does e;
       stands = stand;
     }
 
-    -- a step that has no fault
-    pub step-fine : asking ≡ None → IsOk (stepped (record { machine = h.machine; asking = asking }) word h.left) → IsOk (stepped (record { machine = h.machine; asking = None }) (next_u32 g.now.words).0 h.left)
-    step-fine none fine =
+    -- a step that wants memory
+    pub step-wants : (now : Option Asking) (machine : FlatMachine) → machine ≡ h.machine → asking ≡ None → now ≡ None → IsOk (stepped (record { machine = h.machine; asking = asking }) word h.left)
+        → Early start entry (record h { machine = machine }) now d halt.NoMemory
+    step-wants now machine same nothing nothing' fine =
+        let is : IsOk (stepped (record { machine = h.machine; asking = None }) (next_u32 g.now.past.words).0 h.left) =
         subst (λ (x : ℕ). IsOk (stepped (record { machine = h.machine; asking = None }) x h.left)) (sym first)
-        (subst (λ (a : Option Asking). IsOk (stepped (record { machine = h.machine; asking = a }) word h.left)) none fine)
+        (subst (λ (a : Option Asking). IsOk (stepped (record { machine = h.machine; asking = a }) word h.left)) nothing fine) in
+        wants start entry h d steps g (record h { machine = machine }) d.source now (inl (nothing', is)) same refl
 
-    pub step-faults : (machine : FlatMachine) (f : Fault) (now : Option Asking) → machine ≡ h.machine → now ≡ None → stepped (record { machine = h.machine; asking = asking }) word h.left ≡ Err f
-        → Done start entry (record h { machine = machine }) now d (stop.Faulted f) (sent_before_end start)
-    step-faults machine f now same none e =
-        rw same (ends start entry h d h now (stop.Faulted f) g g.now.word_is (event-faults m asking word first f e) (none ∙ sym (step-asks-nothing m asking word first f e)))
+    pub step-stops : (machine : FlatMachine) (f : Fault) (now : Option Asking) → machine ≡ h.machine → now ≡ None → stepped (record { machine = h.machine; asking = asking }) word h.left ≡ Err f
+        → Done start entry (record h { machine = machine }) now d (stop.Faulted f)
+    step-stops machine f now same nothing e =
+        subst (λ (x : FlatMachine). Done start entry (record h { machine = x }) now d (stop.Faulted f)) (sym same)
+        (stops-at start entry h d steps g (stop.Faulted f) g.now.past steps h d now g.now.is_past (λ long. g.now.few) (λ wait. g.now.reads)
+        (step-faults m asking word first f e) (nothing ∙ sym (step-asks-nothing m asking word first f e)))
 
   module _ (left : ℕ) where
-    pub went-on : Follows start entry h d left effect.Went → Gone start entry (record h { left = left }) d
-    went-on f = goes-on start entry (record h { machine = f.before }) d (record h { left = left }) f.going.now.words f.going f.going.now.word_is f.event
+    -- what was done stands
+    stood : (before : FlatMachine) (p : Past) → IsPast start.input entry p (record h { machine = before }) d → IsPast start.input entry p (record h { left = left }) d
+    stood before p i = record { taken = i.taken; asked = i.asked; told = i.told; word = i.word; left = i.left; fewer = i.fewer; reads = i.reads }
 
-    pub drew-on : Follows start entry h d left effect.Drew → Gone start entry (record h { left = left; word = None }) d
+    pub went-on : Follows start entry h d left effect.Went → Going start entry (record h { left = left }) d
+    went-on f =
+        let g = f.going in
+        record {
+          now = moves-on start entry (record h { machine = f.before }) d steps g g.now.past steps (record h { left = left }) d (stood f.before g.now.past g.now.is_past) g.now.few g.now.reads f.event;
+          quiet = g.quiet;
+        }
+
+    pub drew-on : Follows start entry h d left effect.Drew → Going start entry (record h { left = left; word = None }) d
     drew-on f =
-        goes-on start entry (record h { machine = f.before }) d (record h { left = left; word = None }) (next_u32 f.going.now.words).1 f.going
-        (ap (λ (p : ℕ × Stream). p.1) (word-drawn f.word h.word d.words f.going.now.words f.drawn f.going.now.word_is)) f.event
+        let g = f.going in
+        let i = g.now.is_past in
+        let used : Past = record g.now.past { words = (next_u32 g.now.past.words).1 } in
+        let is : IsPast start.input entry used (record h { left = left; word = None }) d = record {
+          taken = i.taken;
+          asked = i.asked;
+          told = i.told;
+          word = ap (λ (p : ℕ × Stream). p.1) (word-drawn f.word h.word d.words g.now.past.words f.drawn i.word);
+          left = i.left;
+          fewer = i.fewer;
+          reads = i.reads;
+        } in
+        record {
+          now = moves-on start entry (record h { machine = f.before }) d steps g used steps (record h { left = left; word = None }) d is g.now.few g.now.reads f.event;
+          quiet = g.quiet;
+        }
 
-    pub quit-on : (asking : Option Asking) → asking ≡ None → Follows start entry h d left effect.Quit → Done start entry (record h { left = left }) asking d stop.Ended (sent_before_end start)
-    quit-on asking none f = ends start entry (record h { machine = f.before }) d (record h { left = left }) asking stop.Ended f.going f.going.now.word_is f.event none
+    pub quit-on : (asking : Option Asking) → asking ≡ None → Follows start entry h d left effect.Quit → Done start entry (record h { left = left }) asking d stop.Ended
+    quit-on asking nothing f =
+        let g = f.going in
+        stops-at start entry (record h { machine = f.before }) d steps g stop.Ended g.now.past steps (record h { left = left }) d asking (stood f.before g.now.past g.now.is_past) (λ long. g.now.few) (λ wait. g.now.reads) f.event nothing
 
-    pub spent-on : (asking : Option Asking) → asking ≡ None → Follows start entry h d left effect.Spent → Done start entry (record h { left = left }) asking d stop.Spent (sent_before_end start)
-    spent-on asking none f = ends start entry (record h { machine = f.before }) d (record h { left = left }) asking stop.Spent f.going f.going.now.word_is f.event none
+    pub spent-on : (asking : Option Asking) → asking ≡ None → Follows start entry h d left effect.Spent → Done start entry (record h { left = left }) asking d stop.Spent
+    spent-on asking nothing f =
+        let g = f.going in
+        stops-at start entry (record h { machine = f.before }) d steps g stop.Spent g.now.past steps (record h { left = left }) d asking (stood f.before g.now.past g.now.is_past) (λ long. g.now.few) (λ wait. g.now.reads) f.event nothing
 
     -- An asking: the machine stands as before the step.
     pub record Asks (machine : FlatMachine) (does : Effect) : Type 0 where
       pub going : Going start entry (record h { machine = machine }) d
-      pub event : let m = configuration_of going.now.sent going.now.words (record h { machine = machine }) d in event_of m ≡ after_effect m left h.machine does
-      pub asks : let m = configuration_of going.now.sent going.now.words (record h { machine = machine }) d in asked m ≡ asking_of does
+      pub event : let m = configuration_of going.now.past steps (record h { machine = machine }) d in act_of m ≡ after_effect m left h.machine does
+      pub asking_is : let m = configuration_of going.now.past steps (record h { machine = machine }) d in asked m ≡ asking_of does
 
-    pub asks : (does : Effect) → Follows start entry h d left does → IsSome (asking_of does) → Asks h.machine does
-    asks does f some =
-        let at_before : Asks f.before does = record { going = f.going; event = f.event; asks = f.asks some } in
+    pub asks-now : (does : Effect) → Follows start entry h d left does → IsSome (asking_of does) → Asks h.machine does
+    asks-now does f some =
+        let at_before : Asks f.before does = record { going = f.going; event = f.event; asking_is = f.asks some } in
         subst (λ (x : FlatMachine). Asks x does) (sym (f.stands some)) at_before
 
-    module _ (does : Effect) (a : Asks h.machine does) where
-      abbrev pub now : Configuration
-      now = configuration_of a.going.now.sent a.going.now.words h d
+  -- A move from here wants memory, or has a fault.
+  module _ (doing : Doing) (g : Ready start entry h d doing) (is : IsAnswering doing) where
+    pub fault-early : (world : FlatWorld) (asking : Option Asking) → asking ≡ asked (here start entry h d doing g.now) → HasNoFault (act_of (here start entry h d doing g.now))
+        → Early start entry (record h { world = world }) asking d halt.NoMemory
+    fault-early world asking same fine =
+        wants start entry h d doing g (record h { world = world }) d.source asking (wants-answer doing (here start entry h d doing g.now) asking is same fine) refl refl
 
-      -- the answer to the asking wants memory
-      pub asks-early : (h' : Held) (asking : Option Asking) (m' : Configuration) → after_effect now left h.machine does ≡ goes m' → asking ≡ asking_of does → h'.machine ≡ h.machine → h'.left ≡ h.left
-          → Early start entry h' asking d halt.NoMemory
-      asks-early h' asking m' e same machine units = in-answer start entry h d h' asking a.going m' (same ∙ sym a.asks) (a.event ∙ e) machine units
+    pub fault-stops : (f : Fault) (world : FlatWorld) (asking : Option Asking) → world ≡ h.world → asking ≡ asked (here start entry h d doing g.now)
+        → act_of (here start entry h d doing g.now) ≡ stops (stop.Faulted f) (here start entry h d doing g.now) → Done start entry (record h { world = world }) asking d (stop.Faulted f)
+    fault-stops f world asking same asks-is e =
+        subst (λ (x : FlatWorld). Done start entry (record h { world = x }) asking d (stop.Faulted f)) (sym same)
+        (stops-at start entry h d doing g (stop.Faulted f) g.now.past doing h d asking g.now.is_past (λ long. g.now.few) (λ wait. g.now.reads) e asks-is)
 
-      -- the asking meets a fault
-      pub asks-faults : (f : Fault) (asking : Option Asking) (world : FlatWorld) → world ≡ h.world → asking ≡ asking_of does → after_effect now left h.machine does ≡ stops (stop.Faulted f) now
-          → Done start entry (record h { world = world }) asking d (stop.Faulted f) (sent_before_end start)
-      asks-faults f asking world same asking-is e =
-          rw same (ends start entry h d h asking (stop.Faulted f) a.going a.going.now.word_is (a.event ∙ e) (asking-is ∙ sym a.asks))
+  -- THE ANSWER TO AN ASKING
+  module _ (asking : Option Asking) (left : ℕ) (reply : Reply) (r : Replies start entry h asking d left reply) where
+    abbrev before : Held
+    before = record h { world = r.world }
 
-      -- the asking is answered
-      pub asks-answered : (h' : Held) (said : Said) (reply : Reply) → after_effect now left h.machine does ≡ after_reply now left (Ok (said, reply))
-          → h'.machine ≡ answer_of h.machine reply → h'.world ≡ after h.world said → h'.word ≡ h.word → h'.left ≡ left → Gone start entry h' d
-      asks-answered h' said reply e machine world word units =
-          goes-on start entry h d h' a.going.now.words a.going (subst (λ (w : Option ℕ). WordIs w d.words a.going.now.words) (sym word) a.going.now.word_is)
-          (rw (machine, world, units, ← append_assoc a.going.now.sent h.world.text said.1) (a.event ∙ e))
+    abbrev at : Configuration
+    at = here start entry before d r.doing r.going.now
 
-      pub asks-gives : {E : Type 0} (whole : E → Whole) (old new : Running E) (said : Said) (reply : Reply) (result : Result Next Halt)
-          → after_effect now left h.machine does ≡ after_reply now left (Ok (said, reply))
-          → asking_in whole old ≡ asking_of does → (whole old.engine).machine ≡ h.machine → old.left ≡ h.left → old.word ≡ h.word → old.world ≡ after h.world said
-          → TakesReply whole old new reply left result → (result ≡ Ok next.Goes) ⊎ (result ≡ Err halt.NoMemory) → EventGives start entry (held whole new) (asking_in whole new) d result
-      asks-gives whole old new said reply (Ok next.Goes) e asking machine units word world g only =
-          asks-answered (held whole new) said reply e
-          (ap (λ (w : Whole). w.machine) g.ok.0 ∙ ap (λ (x : FlatMachine). answer_of x reply) machine) (g.world ∙ world) (g.word ∙ word) g.ok.1
-      asks-gives whole old new said reply (Ok (next.Stops x)) e asking machine units word world g (inl e') = cc
-      asks-gives whole old new said reply (Ok (next.Stops x)) e asking machine units word world g (inr e') = cc
-      asks-gives whole old new said reply (Err why) e asking machine units word world g (inl e') = cc
-      asks-gives whole old new said reply (Err halt.NoMemory) e asking machine units word world g (inr e') =
-          asks-early (held whole new) (asking_in whole new) (replied-to now left (said, reply)) e (ap (λ (w : Whole). w.asking) g.err.0 ∙ asking)
-          (ap (λ (w : Whole). w.machine) g.err.0 ∙ machine) (g.err.1 ∙ units)
-      asks-gives whole old new said reply (Err halt.Output) e asking machine units word world g (inr e') = cc
+    abbrev answered-held : Held
+    answered-held = record h { machine = answer_of h.machine reply; left = left }
 
-      -- a turn of a Glk call is taken
-      pub asks-turns : {E : Type 0} (whole : E → Whole) (old new : Running E) (said : Said) (turn : Turn) (result : Result Next Halt)
-          → after_effect now left h.machine does ≡ after_turn now left (Ok (said, turn))
-          → asking_in whole old ≡ asking_of does → (whole old.engine).machine ≡ h.machine → old.left ≡ h.left → old.word ≡ h.word → old.world ≡ after h.world said
-          → TakesTurn whole old new turn left result → (result ≡ Ok next.Goes) ⊎ (result ≡ Err halt.NoMemory) → EventGives start entry (held whole new) (asking_in whole new) d result
-      asks-turns whole old new said (Answer reply) result e asking machine units word world g only = asks-gives whole old new said reply result e asking machine units word world g only
+    answered-past : IsPast start.input entry r.going.now.past answered-held d
+    answered-past = let i = r.going.now.is_past in record { taken = i.taken; asked = i.asked; told = i.told; word = i.word; left = i.left; fewer = i.fewer; reads = i.reads }
 
-    -- the character goes to Glk
-    pub put-does : (c : ℕ) (flat : FlatState) (r : Result (Said × Reply) Fault) (a : Asks h.machine (effect.Put c)) → flat ≡ h.machine.flat → putting h.world.scene flat c ≡ r
-        → after_effect (now (effect.Put c) a) left h.machine (effect.Put c) ≡ after_reply (now (effect.Put c) a) left r
-    put-does c flat r a same e =
-        ap (after_reply (now (effect.Put c) a) left) (subst (λ (x : FlatState). putting h.world.scene x c ≡ r) same e)
+    -- the configuration after it
+    answered-act : act_of at ≡ goes (configuration_of r.going.now.past steps answered-held d)
+    answered-act =
+        r.event
+        ∙ ap (λ (w : FlatWorld). goes (record at { machine = answer_of h.machine reply; world = w; left = left; doing = steps }))
+        (sent-before r.going.now.past.sent r.world r.said ∙ ap (λ (w : FlatWorld). let x : FlatWorld = record { scene = w.scene; text = r.going.now.past.sent ++ w.text } in x) (sym r.moved))
+
+    pub answered-on : Standing start entry answered-held d steps
+    answered-on = moves-on start entry before d r.doing r.going r.going.now.past steps answered-held d answered-past r.going.now.few r.going.now.reads answered-act
+
+    pub answered-early : (h' : Held) → h'.machine ≡ h.machine → h'.left ≡ h.left → (asking' : Option Asking) → asking' ≡ asking → Early start entry h' asking' d halt.NoMemory
+    answered-early h' machine units asking' same =
+        wants start entry before d r.doing r.going h' d.source asking'
+        (wants-answer r.doing at asking' r.answering (same ∙ r.asks) (subst HasNoFault (sym r.event) tt)) machine units
+
+  -- THE TURN OF A CALL
+  module _ (asking : Option Asking) (w : Waiting) (t : Turn) (r : Turns start entry h asking d w t) where
+    abbrev pub turning : Held
+    turning = record h { world = r.world }
+
+    abbrev pub called : Configuration
+    called = here start entry turning d steps r.going.now
+
+    turn-past : (h' : Held) → h'.word ≡ h.word → h'.ahead ≡ h.ahead → h'.coming ≡ h.coming → h'.over ≡ h.over → IsPast start.input entry r.going.now.past h' d
+    turn-past h' word ahead coming over =
+        let i = r.going.now.is_past in
+        let input : h'.ahead ++ h'.coming ≡ h.ahead ++ h.coming = ap (λ (x : List ℕ). x ++ h'.coming) ahead ∙ ap (λ (x : List ℕ). h.ahead ++ x) coming in
+        record {
+          taken = i.taken;
+          asked = i.asked;
+          told = i.told;
+          word = subst (λ (x : Option ℕ). WordIs x d.words r.going.now.past.words) (sym word) i.word;
+          left = λ tells. coming ∙ i.left tells;
+          fewer = subst (λ (x : List ℕ). length x ≤ length start.input) (sym input) i.fewer;
+          reads = subst (λ (x : List ℕ). ReadsFew false h'.over entry.source d.source start.input x 0) (sym coming) (subst (λ (b : Bool). ReadsFew false b entry.source d.source start.input h.coming 0) (sym over) i.reads);
+        }
+
+    -- the world that was called, with what was sent
+    turned-world : after called.world r.said ≡ record { scene = h.world.scene; text = r.going.now.past.sent ++ h.world.text }
+    turned-world = sent-before r.going.now.past.sent r.world r.said ∙ ap (λ (x : FlatWorld). let y : FlatWorld = record { scene = x.scene; text = r.going.now.past.sent ++ x.text } in y) (sym r.moved)
+
+    -- it asks the shelf
+    pub turn-asks : after_turn called w (Ok (r.said, t)) ≡ asking_for called w r.said t → Waits start entry h asking d (asks t w)
+    turn-asks e =
+        let act : act_of called ≡ goes (configuration_of r.going.now.past (asks t w) h d) =
+        r.event ∙ e ∙ ap (λ (x : FlatWorld). goes (record called { world = x; doing = asks t w })) turned-world in
+        record {
+          now = moves-on start entry turning d steps r.going r.going.now.past (asks t w) h d (turn-past h refl refl refl refl) r.going.now.few r.going.now.reads act;
+          asking_is = r.asks ∙ asked-same called (configuration_of r.going.now.past (asks t w) h d) refl refl;
+        }
+
+    -- it waits for a line: the grids are shown
+    pub turn-waits : (world : FlatWorld) → world ≡ after h.world (show_grids h.world.scene) → after_turn called w (Ok (r.said, t)) ≡ waiting_for called w r.said t
+        → Waits start entry (record h { world = world }) asking d (asks t w)
+    turn-waits world shown e =
+        let h' : Held = record h { world = after h.world (show_grids h.world.scene) } in
+        let scene : r.said.0 ≡ h.world.scene = ap (λ (x : FlatWorld). x.scene) (sym r.moved) in
+        let grids : after (after called.world r.said) (show_grids r.said.0) ≡ record { scene = h'.world.scene; text = r.going.now.past.sent ++ h'.world.text } =
+        ap (λ (x : Scene). after (after called.world r.said) (show_grids x)) scene ∙ ap (λ (x : FlatWorld). after x (show_grids h.world.scene)) turned-world
+        ∙ sent-before r.going.now.past.sent h.world (show_grids h.world.scene) in
+        let act : act_of called ≡ goes (configuration_of r.going.now.past (asks t w) h' d) =
+        r.event ∙ e ∙ ap (λ (x : FlatWorld). goes (record called { world = x; doing = asks t w })) grids in
+        let waits : Waits start entry h' asking d (asks t w) = record {
+          now = moves-on start entry turning d steps r.going r.going.now.past (asks t w) h' d (turn-past h' refl refl refl refl) r.going.now.few r.going.now.reads act;
+          asking_is = r.asks ∙ asked-same called (configuration_of r.going.now.past (asks t w) h' d) refl refl;
+        } in
+        subst (λ (x : FlatWorld). Waits start entry (record h { world = x }) asking d (asks t w)) (sym shown) waits
+
+    -- it ends the program, or waits in vain
+    pub turn-exits : t ≡ turn.Exit → Done start entry (record h { left = w.left }) asking d stop.Exited
+    turn-exits e =
+        let act : act_of called ≡ stops stop.Exited (configuration_of r.going.now.past steps (record h { left = w.left }) d) =
+        r.event ∙ ap (λ (x : Turn). after_turn called w (Ok (r.said, x))) e ∙ ap (λ (x : FlatWorld). stops stop.Exited (record called { world = x; left = w.left })) turned-world in
+        stops-at start entry turning d steps r.going stop.Exited r.going.now.past steps (record h { left = w.left }) d asking (turn-past (record h { left = w.left }) refl refl refl refl) (λ long. r.going.now.few) (λ wait. r.going.now.reads) act
+        (r.asks ∙ asked-same called (configuration_of r.going.now.past steps (record h { left = w.left }) d) refl refl)
+
+    pub turn-stuck : t ≡ turn.Stuck → Done start entry h asking d stop.Stuck
+    turn-stuck e =
+        let act : act_of called ≡ stops stop.Stuck (configuration_of r.going.now.past steps h d) =
+        r.event ∙ ap (λ (x : Turn). after_turn called w (Ok (r.said, x))) e ∙ ap (λ (x : FlatWorld). stops stop.Stuck (record called { world = x })) turned-world in
+        stops-at start entry turning d steps r.going stop.Stuck r.going.now.past steps h d asking (turn-past h refl refl refl refl) (λ long. r.going.now.few) (λ wait. r.going.now.reads) act
+        (r.asks ∙ asked-same called (configuration_of r.going.now.past steps h d) refl refl)
+
+    -- it is answered at once
+    pub turn-answers : (reply : Reply) → t ≡ turn.Answer reply → Replies start entry h asking d w.left reply
+    turn-answers reply e = record {
+      world = r.world;
+      said = r.said;
+      doing = steps;
+      moved = r.moved;
+      going = r.going;
+      answering = tt;
+      event = r.event ∙ ap (λ (x : Turn). after_turn called w (Ok (r.said, x))) e;
+      asks = r.asks;
+    }
+
+    -- the showing of the grids wants memory
+    pub turn-wants : (h' : Held) → h'.machine ≡ h.machine → h'.left ≡ h.left → Early start entry h' asking d halt.NoMemory
+    turn-wants h' machine units =
+        wants start entry turning d steps r.going h' d.source asking (inr (r.asks, subst HasNoFault (sym r.event) (fine-turn called w (r.said, t)))) machine units
+
+  -- A call goes on.
+  abbrev pub on-ready : (asking : Option Asking) (g : Given) (w : Waiting) → Waits start entry h asking d (goes_on g w) → Ready start entry h d (goes_on g w)
+  on-ready asking g w waits = record { now = waits.now; quiet = refl }
+
+  -- THE SHELF HAS ANSWERED
+  module _ (asking : Option Asking) (w : Waiting) (q : Question) (g : Ready start entry h d (asks (turn_of q) w)) (shelf : FlatShelf) (tells : shelf.tells ≡ d.shelf.tells) (made : shelf.calls.made ≡ raised d.shelf.calls.made) where
+    pub shelf-answers : (given : Given) → given ≡ given_for q d.shelf.files → shelf.files ≡ files_after q d.shelf.files → asking ≡ asked (here start entry h d (asks (turn_of q) w) g.now)
+        → Waits start entry h asking (record d { shelf = shelf }) (goes_on given w)
+    shelf-answers given is files asks-is =
+        let m : Configuration = here start entry h d (asks (turn_of q) w) g.now in
+        let i = g.now.is_past in
+        let p' : Past = record g.now.past { asked = suc g.now.past.asked } in
+        let past : IsPast start.input entry p' h (record d { shelf = shelf }) = record {
+          taken = i.taken;
+          asked = made ∙ ap raised i.asked;
+          told = tells ∙ i.told;
+          word = i.word;
+          left = i.left;
+          fewer = i.fewer;
+          reads = i.reads;
+        } in
+        let act : act_of m ≡ goes (configuration_of p' (goes_on given w) h (record d { shelf = shelf })) =
+        question-gives m w q ∙ ap (λ (f : Files). shelf_gives m w f (given_for q d.shelf.files)) (sym files) ∙ ap (shelf_gives m w shelf.files) (sym is) in
+        record {
+          now = moves-on start entry h d (asks (turn_of q) w) g p' (goes_on given w) h (record d { shelf = shelf }) past g.now.few g.now.reads act;
+          asking_is = asks-is ∙ asked-same m (configuration_of p' (goes_on given w) h (record d { shelf = shelf })) refl refl;
+        }
+
+  -- A LINE IS AWAITED
+  module _ (asking : Option Asking) (w : Waiting) (t : Turn) (is : IsWait t) (g : Ready start entry h d (asks t w)) (asks-is : asking ≡ asked (here start entry h d (asks t w) g.now)) where
+    abbrev awaiting : Configuration
+    awaiting = here start entry h d (asks t w) g.now
+
+    line-act : (l : NextLine) → next_line (h.ahead ++ h.coming) ≡ l → act_of awaiting ≡ after_line awaiting w l
+    line-act l e = wait-asks awaiting w t is ∙ ap (after_line awaiting w) e
+
+    -- the input that is read and not taken is the same
+    still-awaiting : (h' : Held) → h'.ahead ++ h'.coming ≡ h.ahead ++ h.coming → (p : Past) (source : FlatSource) → (source.tells ≡ true → h'.coming ≡ source.left) → ReadsFew false h'.over entry.source source start.input h'.coming 0 → h'.word ≡ h.word
+        → IsPast start.input entry p h d → IsPast start.input entry p h' (record d { source = source })
+    still-awaiting h' same p source left reads word i = record {
+      taken = i.taken;
+      asked = i.asked;
+      told = i.told;
+      word = subst (λ (x : Option ℕ). WordIs x d.words p.words) (sym word) i.word;
+      left = left;
+      fewer = subst (λ (x : List ℕ). length x ≤ length start.input) (sym same) i.fewer;
+      reads = reads;
+    }
+
+    -- none is left, or it is too long
+    pub line-stops : (why : Stop) (l : NextLine) (h' : Held) (source : FlatSource) → next_line (h.ahead ++ h.coming) ≡ l → after_line awaiting w l ≡ stops why awaiting → IsLineStop why
+        → h' ≡ record h { ahead = h'.ahead; coming = h'.coming; over = h'.over } → h'.ahead ++ h'.coming ≡ h.ahead ++ h.coming → (source.tells ≡ true → h'.coming ≡ source.left)
+        → ReadsFew false h'.over entry.source source start.input h'.coming 0
+        → (why ≢ stop.LineTooLong → length h'.ahead < PIECE) → asked_at why awaiting ≡ asked awaiting → Done start entry h' asking (record d { source = source }) why
+    line-stops why l h' source e e' line-stop held same left reads few at =
+        let p : Past = g.now.past in
+        let same-configuration : configuration_of p (asks t w) h' (record d { source = source }) ≡ awaiting =
+        ap (λ (x : Held). configuration_of p (asks t w) (record x { ahead = h'.ahead; coming = h'.coming; over = h'.over }) (record d { source = source })) held
+        ∙ ap (λ (x : List ℕ). record awaiting { input = x }) same in
+        stops-at start entry h d (asks t w) g why p (asks t w) h' (record d { source = source }) asking
+        (still-awaiting h' same p source left reads (ap (λ (x : Held). x.word) held) g.now.is_past) few (λ other. absurd (other line-stop))
+        (line-act l e ∙ e' ∙ ap (stops why) (sym same-configuration)) (asks-is ∙ sym at ∙ ap (asked_at why) (sym same-configuration))
+
+  -- A LINE WAS TAKEN
+  module _ (asking : Option Asking) (w : Waiting) (chars : List ℕ) (r : TakesInput start entry h asking d chars w) where
+    abbrev was : Held
+    was = record h { ahead = r.ahead; coming = r.coming; over = r.over }
+
+    abbrev d-was : Devices
+    d-was = record d { source = r.source }
+
+    abbrev asking-at : Configuration
+    asking-at = here start entry was d-was (asks r.turn w) r.going.now
+
+    taken-act : act_of asking-at ≡ after_line asking-at w (line chars (h.ahead ++ h.coming))
+    taken-act = wait-asks asking-at w r.turn r.is_wait ∙ ap (after_line asking-at w) r.taken
+
+    -- the showing of the line wants memory
+    pub line-wants : (h' : Held) → h'.machine ≡ h.machine → h'.left ≡ h.left → Early start entry h' asking d halt.NoMemory
+    line-wants h' machine units =
+        wants start entry was d-was (asks r.turn w) r.going h' d.source asking (r.asking_is, r.is_wait, some-input (r.ahead ++ r.coming) chars (h.ahead ++ h.coming) r.taken) machine units
+
+    -- it is shown, where lines are
+    pub line-taken : (world : FlatWorld) → world ≡ (if h.echo then after h.world (show_line h.world.scene chars) else h.world) → Waits start entry (record h { world = world }) asking d (goes_on (given.Line chars) w)
+    line-taken world shown =
+        let p : Past = r.going.now.past in
+        let i = r.going.now.is_past in
+        let shorter : length (h.ahead ++ h.coming) < length (r.ahead ++ r.coming) = shorter-input (r.ahead ++ r.coming) chars (h.ahead ++ h.coming) r.taken in
+        let before : length (r.ahead ++ r.coming) ≤ length start.input = i.fewer in
+        let less : length (h.ahead ++ h.coming) < length start.input = omega arith in
+        let h' : Held = record h { world = if h.echo then after h.world (show_line h.world.scene chars) else h.world } in
+        let past : IsPast start.input entry p h' d = record {
+          taken = i.taken;
+          asked = i.asked;
+          told = i.told;
+          word = i.word;
+          left = r.left;
+          fewer = omega arith;
+          reads = r.reads;
+        } in
+        let act : act_of asking-at ≡ goes (configuration_of p (goes_on (given.Line chars) w) h' d) = taken-act ∙ shown-line p h.echo in
+        let waits : Waits start entry h' asking d (goes_on (given.Line chars) w) = record {
+          now = moves-on start entry was d-was (asks r.turn w) r.going p (goes_on (given.Line chars) w) h' d past r.few (inr less) act;
+          asking_is = r.asking_is ∙ asked-same asking-at (configuration_of p (goes_on (given.Line chars) w) h' d) refl refl;
+        } in
+        subst (λ (x : FlatWorld). Waits start entry (record h { world = x }) asking d (goes_on (given.Line chars) w)) (sym shown) waits
+      where
+        shown-line : (p : Past) (b : Bool)
+            → goes (record asking-at { world = if b then after (record { scene = h.world.scene; text = p.sent ++ h.world.text }) (show_line h.world.scene chars) else record { scene = h.world.scene; text = p.sent ++ h.world.text }; input = h.ahead ++ h.coming; doing = goes_on (given.Line chars) w })
+            ≡ goes (record asking-at { world = (let x : FlatWorld = if b then after h.world (show_line h.world.scene chars) else h.world in record { scene = x.scene; text = p.sent ++ x.text }); input = h.ahead ++ h.coming; doing = goes_on (given.Line chars) w })
+        shown-line p true =
+            ap (λ (x : FlatWorld). goes (record asking-at { world = x; input = h.ahead ++ h.coming; doing = goes_on (given.Line chars) w })) (sent-before p.sent h.world (show_line h.world.scene chars))
+        shown-line p false = refl
+
+  -- A CHARACTER IS PUT, A CALL IS MADE, A CALL GOES ON
+  module _ (left : ℕ) (does : Effect) (a : Asks left h.machine does) where
+    abbrev pub asking-here : Configuration
+    asking-here = here start entry h d steps a.going.now
+
+    pub put-does : (c : ℕ) (flat : FlatState) (r : Result (Said × Reply) Fault) → does ≡ effect.Put c → flat ≡ h.machine.flat → putting h.world.scene flat c ≡ r → act_of asking-here ≡ after_reply asking-here left r
+    put-does c flat r is same e =
+        a.event ∙ ap (after_effect asking-here left h.machine) is ∙ ap (after_reply asking-here left) (subst (λ (x : FlatState). putting h.world.scene x c ≡ r) same e)
+
+    pub call-does : (selector : ℕ) (args : ArrayVec ℕ) (xs : List ℕ) (w : Waiting) (flat : FlatState) (r : Result (Said × Turn) Fault) → does ≡ effect.Glk selector args w.room → left ≡ w.left
+        → flat ≡ h.machine.flat → xs ≡ args.items → glk_call h.world.scene flat w.room selector xs ≡ r → act_of asking-here ≡ after_turn asking-here w r
+    call-does selector args xs w flat r is units same listed e =
+        a.event ∙ ap (after_effect asking-here left h.machine) is
+        ∙ ap (λ (n : ℕ). after_turn asking-here (record { room = w.room; left = n }) (glk_call h.world.scene h.machine.flat w.room selector args.items)) units
+        ∙ ap (after_turn asking-here w)
+        (subst (λ (ys : List ℕ). glk_call h.world.scene h.machine.flat w.room selector ys ≡ r) listed (subst (λ (x : FlatState). glk_call h.world.scene x w.room selector xs ≡ r) same e))
+
+    pub put-replies : (asking : Option Asking) (world : FlatWorld) (said : Said) (reply : Reply) → asking ≡ asking_of does → world ≡ after h.world said → act_of asking-here ≡ after_reply asking-here left (Ok (said, reply))
+        → Replies start entry (record h { world = world }) asking d left reply
+    put-replies asking world said reply asks-is moved e = record {
+      world = h.world;
+      said = said;
+      doing = steps;
+      moved = moved;
+      going = a.going;
+      answering = tt;
+      event = e;
+      asks = asks-is ∙ sym a.asking_is;
+    }
+
+    pub call-turns : (asking : Option Asking) (world : FlatWorld) (said : Said) (w : Waiting) (t : Turn) → asking ≡ asking_of does → world ≡ after h.world said → act_of asking-here ≡ after_turn asking-here w (Ok (said, t))
+        → Turns start entry (record h { world = world }) asking d w t
+    call-turns asking world said w t asks-is moved e = record { world = h.world; said = said; moved = moved; going = a.going; event = e; asks = asks-is ∙ sym a.asking_is }
+
+  module _ (asking : Option Asking) (g : Given) (w : Waiting) (waits : Waits start entry h asking d (goes_on g w)) where
+    abbrev pub going-on : Configuration
+    going-on = here start entry h d (goes_on g w) waits.now
+
+    pub given-does : (flat : FlatState) (r : Result (Said × Turn) Fault) → flat ≡ h.machine.flat → glk_go_on h.world.scene flat w.room g ≡ r → act_of going-on ≡ after_given going-on w r
+    given-does flat r same e = ap (after_given going-on w) (subst (λ (x : FlatState). glk_go_on h.world.scene x w.room g ≡ r) same e)
+
+    pub given-turns : (world : FlatWorld) (said : Said) (t : Turn) → world ≡ after h.world said → act_of going-on ≡ after_given going-on w (Ok (said, t)) → GoesOn start entry (record h { world = world }) asking d w t
+    given-turns world said t moved e =
+        record { world = h.world; said = said; given = g; moved = moved; going = on-ready asking g w waits; event = e; asks = waits.asking_is }
+
+  -- it is answered
+  pub given-answers : (asking : Option Asking) (w : Waiting) (t : Turn) (reply : Reply) → t ≡ turn.Answer reply → GoesOn start entry h asking d w t → Replies start entry h asking d w.left reply
+  given-answers asking w t reply is r = record {
+    world = r.world;
+    said = r.said;
+    doing = goes_on r.given w;
+    moved = r.moved;
+    going = r.going;
+    answering = tt;
+    event = r.event ∙ ap (λ (x : Turn). after_given (here start entry (record h { world = r.world }) d (goes_on r.given w) r.going.now) w (Ok (r.said, x))) is;
+    asks = r.asks;
+  }

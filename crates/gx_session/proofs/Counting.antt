@@ -2,7 +2,7 @@
 use Rattle.std.proofs.Common.{◌≡◌, ◌≤◌, ◌⊎◌, inl, inr, Bool, true, false, refl, ap, ◌∙◌, arith}
 use Rattle.gx_outside.specs.Outside.{HasCause, raised}
 use Rattle.gx_outside.specs.declared.calls.Calls.{Calls}
-use Rattle.gx_session.specs.Runs.{Blames}
+use Rattle.gx_session.specs.Counts.{Blames}
 
 -- no call was made
 pub blames-none : (before now : Calls) (failed : Type 0) → now ≡ before → (failed → ⊥) → Blames before now failed
@@ -67,3 +67,17 @@ blames-on a b c failed w blames =
 
 pub well-on : (a b c : Calls) (failed : Type 0) → IsWell a b → Blames b c failed → (failed → ⊥) → IsWell a c
 well-on a b c failed w blames fine = well-of a c failed (blames-on a b c failed w blames) fine
+
+pub well-and : (a b c : Calls) → IsWell a b → IsWell b c → IsWell a c
+well-and a b c one two = record { kept = two.kept ∙ one.kept; well = well-after a b c one.well two.well }
+
+pub blames-well : (before now : Calls) (failed : Type 0) → IsWell before now → (failed → ⊥) → Blames before now failed
+blames-well before now failed w fine =
+    let faults : now.faults ≡ before.faults = w.kept in
+    record {
+      later = omega arith;
+      rose = λ f. absurd (fine f);
+      last = λ f. absurd (fine f);
+      kept = λ _. faults;
+      well = λ _. w.well;
+    }

@@ -1,6 +1,6 @@
--- Events bring a session nearer to its end, which stays the same.
-use Rattle.std.proofs.Common.{◌≡◌, ℕ, suc, zero, ◌-◌, ◌<◌, ◌≤◌, nat_lt, if◌then◌else◌, Bool, true, false, Option, Some, Result, Ok, Err, refl, ap, sym, ◌∙◌, arith, option_and_then}
-use Rattle.std.proofs.lemmas.Bool.{ltb-false}
+-- Moves bring a session nearer to its end, which stays the same.
+use Rattle.std.proofs.Common.{◌≡◌, ℕ, suc, zero, ◌+◌, ◌-◌, ◌*◌, ◌<◌, ◌≤◌, nat_le, nat_lt, if◌then◌else◌, Bool, true, false, List, ◌++◌, length, Option, Some, Result, Ok, Err, refl, ap, subst, sym, ◌∙◌, arith, option_and_then}
+use Rattle.std.proofs.lemmas.Bool.{ltb-false, lt-leb}
 use Rattle.gx_words.specs.declared.faults.Fault.{Fault}
 use Rattle.gx_state.specs.declared.effects.Effect.{Effect}
 use Rattle.gx_state.specs.declared.effects.Effect.TheVariants as effect
@@ -9,96 +9,158 @@ use Rattle.gx_machine.specs.Machine.{FlatMachine}
 use Rattle.gx_machine.specs.Step.{cost_of, step_of}
 use Rattle.gx_machine.proofs.Costs.{cost-positive}
 use Rattle.glk_world.specs.World.{Said}
+use Rattle.glk_world.specs.Shown.{show_grids}
 use Rattle.glk_dispatch.specs.declared.Turn.{Turn}
-use Rattle.glk_dispatch.specs.declared.Turn.TheVariants.{Answer}
-use Rattle.glk_dispatch.specs.Calls.{glk_call, putting}
+use Rattle.glk_dispatch.specs.Calls.{glk_call}
+use Rattle.glk_dispatch.specs.Going.{glk_go_on}
+use Rattle.glk_dispatch.specs.Output.{putting}
 use Rattle.gx_session.specs.declared.ends.Stop.{Stop}
 use Rattle.gx_session.specs.declared.ends.Stop.TheVariants as stop
-use Rattle.gx_session.specs.Session.{Configuration, Verdict, goes, stops, after_reply, after_turn, after_effect, after_step, event_of, Ending, end_after, final_in, final_of, events_after, events_in, events_of, next_of, run_of}
+use Rattle.gx_session.specs.declared.running.TheConstants.{ENOUGH}
+use Rattle.gx_session.specs.declared.running.Waiting.{Waiting}
+use Rattle.gx_session.specs.Input.{next_line}
+use Rattle.gx_session.specs.Sending.{Sent, is_due, with_all}
+use Rattle.gx_session.specs.Session.{Configuration, Doing, steps, asks, goes_on, Verdict, goes, stops, after_reply, after_turn, after_effect, after_step, step_from, act_by, act_of, is_due_by, sends_now, all_sent, move_of, Ending, end_after, final_in, moves_by, moves_left, final_of, next_of, run_of}
+use Rattle.gx_session.proofs.Cases.{turn-cases, given-cases, line-cases, asking-cases}
 use Rattle.rand_core.specs.Stream.{next_u32}
 
-replied-left : (m : Configuration) (left : ℕ) (r : Result (Said × Reply) Fault) (m' : Configuration) → after_reply m left r ≡ goes m' → m'.left ≡ left
-replied-left m left (Ok r) m' e = cc
-replied-left m left (Err f) m' e = cc
+at-most-one : (b : Bool) → (if b then 1 else 0) ≤ 1
+at-most-one true = omega arith
+at-most-one false = omega arith
 
-turned-left : (m : Configuration) (left : ℕ) (r : Result (Said × Turn) Fault) (m' : Configuration) → after_turn m left r ≡ goes m' → m'.left ≡ left
-turned-left m left (Ok (said, Answer reply)) m' e = replied-left m left (Ok (said, reply)) m' e
-turned-left m left (Err f) m' e = replied-left m left (Err f) m' e
+-- Once all text is sent none is due.
+none-due : (enough : ℕ) (s : Sent) (text : List ℕ) → 0 < enough → is_due enough (with_all s text) text ≡ false
+none-due enough s text some = lt-leb enough (length text - length text) (omega arith)
 
-effected-left : (m : Configuration) (left : ℕ) (machine : FlatMachine) (does : Effect) (m' : Configuration) → after_effect m left machine does ≡ goes m' → m'.left ≡ left
-effected-left m left machine effect.Went m' e = cc
-effected-left m left machine effect.Drew m' e = cc
-effected-left m left machine (effect.Put c) m' e = replied-left m left (putting m.world.scene m.machine.flat c) m' e
-effected-left m left machine (effect.Glk selector args room) m' e = turned-left m left (glk_call m.world.scene m.machine.flat room selector args.items) m' e
-effected-left m left machine effect.Quit m' e = cc
-effected-left m left machine effect.Spent m' e = cc
+pub quiet-sent : (doing : Doing) (s : Sent) (text : List ℕ) → is_due_by doing (with_all s text) text ≡ false
+quiet-sent steps s text = none-due ENOUGH s text (omega arith)
+quiet-sent (asks t w) s text = none-due 1 s text (omega arith)
+quiet-sent (goes_on g w) s text = refl
 
-stepped-left : (m : Configuration) (left : ℕ) (r : Result (FlatMachine × Effect) Fault) (m' : Configuration) → after_step m left r ≡ goes m' → m'.left ≡ left
-stepped-left m left (Ok r) m' e = effected-left m left r.0 r.1 m' e
-stepped-left m left (Err f) m' e = cc
+-- a verdict that is nearer to the end
+abbrev Near : ℕ → Verdict → Type 0
+Near n (goes m) = moves_left m < n
+Near n (stops s m) = Unit {0}
 
-tested-left : (m : Configuration) (cost : ℕ) (r : Result (FlatMachine × Effect) Fault) (m' : Configuration) (b : Bool) → nat_lt m.left cost ≡ b → 1 ≤ cost
-    → (if b then stops stop.Spent m else after_step m (m.left - cost) r) ≡ goes m' → m'.left < m.left
-tested-left m cost r m' true is positive e = cc
-tested-left m cost r m' false is positive e =
-    let enough : cost ≤ m.left = ltb-false m.left cost is in
-    let now : m'.left ≡ m.left - cost = stepped-left m (m.left - cost) r m' e in
+nearer : (base extra n : ℕ) (b : Bool) → base + extra + 1 < n → base + extra + (if b then 1 else 0) < n
+nearer base extra n b less =
+    let few : (if b then 1 else 0) ≤ 1 = at-most-one b in
     omega arith
 
--- An event uses units.
-pub goes-left : (m m' : Configuration) → event_of m ≡ goes m' → m'.left < m.left
-unfolding event_of
-goes-left m m' e =
-    tested-left m (cost_of m.machine) (step_of m.machine (next_u32 m.words).0) m' (nat_lt m.left (cost_of m.machine)) refl (cost-positive m.machine) e
+replied-near : (n : ℕ) (m : Configuration) (left : ℕ) (r : Result (Said × Reply) Fault) → 5 * left + 1 < n → Near n (after_reply m left r)
+replied-near n m left (Ok r) less =
+    let few : (if is_due ENOUGH m.sent (m.world.text ++ r.0.1) then 1 else 0) ≤ 1 = at-most-one (is_due ENOUGH m.sent (m.world.text ++ r.0.1)) in
+    omega arith
+replied-near n m left (Err f) less = tt
+
+asks-near : (n : ℕ) (w : Waiting) (b : Bool) → 5 * w.left + 4 < n → 5 * w.left + 3 + (if b then 1 else 0) < n
+asks-near n w b less =
+    let few : (if b then 1 else 0) ≤ 1 = at-most-one b in
+    omega arith
+
+turned-near : (n : ℕ) (m : Configuration) (w : Waiting) (r : Result (Said × Turn) Fault) → 5 * w.left + 4 < n → Near n (after_turn m w r)
+turned-near n m w r less =
+    turn-cases (Near n) m w r (λ said reply. replied-near n m w.left (Ok (said, reply)) (omega arith))
+    (λ said t. asks-near n w (is_due 1 m.sent (m.world.text ++ said.1)) less)
+    (λ said t. asks-near n w (is_due 1 m.sent (m.world.text ++ said.1 ++ (show_grids said.0).1)) less)
+    (λ said. tt) (λ said. tt) (λ f. tt)
+
+went-near : (n : ℕ) (left : ℕ) (b : Bool) → 5 * left + 4 < n → 5 * left + (if b then 1 else 0) < n
+went-near n left b less =
+    let few : (if b then 1 else 0) ≤ 1 = at-most-one b in
+    omega arith
+
+-- a step that leaves so many units
+effected-near : (n : ℕ) (m : Configuration) (left : ℕ) (machine : FlatMachine) (does : Effect) → m.doing ≡ steps → 5 * left + 4 < n → Near n (after_effect m left machine does)
+effected-near n m left machine effect.Went is less =
+    subst (λ (d : Doing). moves_by d left + (if is_due_by d m.sent m.world.text then 1 else 0) < n) (sym is) (went-near n left (is_due ENOUGH m.sent m.world.text) less)
+effected-near n m left machine effect.Drew is less =
+    subst (λ (d : Doing). moves_by d left + (if is_due_by d m.sent m.world.text then 1 else 0) < n) (sym is) (went-near n left (is_due ENOUGH m.sent m.world.text) less)
+effected-near n m left machine (effect.Put c) is less = replied-near n m left (putting m.world.scene m.machine.flat c) (omega arith)
+effected-near n m left machine (effect.Glk selector args room) is less =
+    turned-near n m (record { room = room; left = left }) (glk_call m.world.scene m.machine.flat room selector args.items) less
+effected-near n m left machine effect.Quit is less = tt
+effected-near n m left machine effect.Spent is less = tt
+
+stepped-near : (n : ℕ) (m : Configuration) (left : ℕ) (r : Result (FlatMachine × Effect) Fault) → m.doing ≡ steps → 5 * left + 4 < n → Near n (after_step m left r)
+stepped-near n m left (Ok r) is less = effected-near n m left r.0 r.1 is less
+stepped-near n m left (Err f) is less = tt
+
+tested-near : (m : Configuration) (cost : ℕ) (r : Result (FlatMachine × Effect) Fault) (b : Bool) → m.doing ≡ steps → nat_lt m.left cost ≡ b → 1 ≤ cost
+    → Near (5 * m.left) (if b then stops stop.Spent m else after_step m (m.left - cost) r)
+tested-near m cost r true doing is positive = tt
+tested-near m cost r false doing is positive =
+    let enough : cost ≤ m.left = ltb-false m.left cost is in
+    stepped-near (5 * m.left) m (m.left - cost) r doing (omega arith)
+
+step-near : (m : Configuration) → m.doing ≡ steps → Near (5 * m.left) (step_from m)
+unfolding step_from
+step-near m is =
+    tested-near m (cost_of m.machine) (step_of m.machine (next_u32 m.words).0) (nat_lt m.left (cost_of m.machine)) is refl (cost-positive m.machine)
+
+-- what comes next
+act-near : (doing : Doing) (m : Configuration) → m.doing ≡ doing → Near (moves_by doing m.left) (act_by doing m)
+act-near steps m is = step-near m is
+act-near (asks t w) m is =
+    asking-cases (Near (5 * w.left + 3)) m w t
+    (line-cases (Near (5 * w.left + 3)) m w (next_line m.input) tt tt (λ chars rest. omega arith))
+    (λ files g. omega arith) tt
+act-near (goes_on g w) m is =
+    given-cases (Near (5 * w.left + 2)) m w (glk_go_on m.world.scene m.machine.flat w.room g)
+    (λ said reply. replied-near (5 * w.left + 2) m w.left (Ok (said, reply)) (omega arith)) tt (λ f. tt)
+
+moved-near : (m : Configuration) (b : Bool) → sends_now m ≡ b → Near (moves_left m) (if b then goes (all_sent m) else act_of m)
+moved-near m true is =
+    let before : moves_left m ≡ moves_by m.doing m.left + 1 = ap (λ (b : Bool). moves_by m.doing m.left + (if b then 1 else 0)) is in
+    let now : moves_left (all_sent m) ≡ moves_by m.doing m.left + 0 = ap (λ (b : Bool). moves_by m.doing m.left + (if b then 1 else 0)) (quiet-sent m.doing m.sent m.world.text) in
+    omega arith
+moved-near m false is =
+    let before : moves_left m ≡ moves_by m.doing m.left + 0 = ap (λ (b : Bool). moves_by m.doing m.left + (if b then 1 else 0)) is in
+    let same : moves_by m.doing m.left ≡ moves_left m = omega arith in
+    subst (λ (n : ℕ). Near n (act_of m)) same (act-near m.doing m refl)
+
+move-near : (m : Configuration) → Near (moves_left m) (move_of m)
+unfolding move_of
+move-near m = moved-near m (sends_now m) refl
+
+-- A move brings nearer to the end.
+pub goes-nearer : (m m' : Configuration) → move_of m ≡ goes m' → moves_left m' < moves_left m
+goes-nearer m m' e = subst (Near (moves_left m)) e (move-near m)
 
 -- two ways to go on that agree at the next moment
 agree : (v : Verdict) (f g : Configuration → Ending) → ((m : Configuration) → v ≡ goes m → f m ≡ g m) → end_after v f ≡ end_after v g
 agree (stops s m) f g same = refl
 agree (goes m) f g same = same m refl
 
--- more events than there are units are enough
-enough : (n k : ℕ) (m : Configuration) → m.left < n → m.left < k → final_in n m ≡ final_in k m
+-- more moves than are left are enough
+enough : (n k : ℕ) (m : Configuration) → moves_left m < n → moves_left m < k → final_in n m ≡ final_in k m
 enough zero k m h h' = absurd (omega arith)
 enough (suc n) zero m h h' = absurd (omega arith)
 enough (suc n) (suc k) m h h' =
-    agree (event_of m) (final_in n) (final_in k) (λ m' e. let nearer : m'.left < m.left = goes-left m m' e in enough n k m' (omega arith) (omega arith))
+    agree (move_of m) (final_in n) (final_in k) (λ m' e. let near : moves_left m' < moves_left m = goes-nearer m m' e in enough n k m' (omega arith) (omega arith))
 
--- The end stays the same over an event.
-pub final-goes : (m m' : Configuration) → event_of m ≡ goes m' → final_of m' ≡ final_of m
+-- The end stays the same over a move.
+pub final-goes : (m m' : Configuration) → move_of m ≡ goes m' → final_of m' ≡ final_of m
 unfolding final_of
 final-goes m m' e =
-    let nearer : m'.left < m.left = goes-left m m' e in
-    let at_event : final_in (suc m.left) m ≡ final_in m.left m' = ap (λ (v : Verdict). end_after v (final_in m.left)) e in
-    enough (suc m'.left) m.left m' (omega arith) nearer ∙ sym at_event
+    let near : moves_left m' < moves_left m = goes-nearer m m' e in
+    let at_move : final_in (suc (moves_left m)) m ≡ final_in (moves_left m) m' = ap (λ (v : Verdict). end_after v (final_in (moves_left m))) e in
+    enough (suc (moves_left m')) (moves_left m) m' (omega arith) near ∙ sym at_move
 
--- An event that stops is the end.
-pub final-stops : (m m' : Configuration) (s : Stop) → event_of m ≡ stops s m' → final_of m ≡ record { stop = s; configuration = m' }
+-- A move that stops is the end.
+pub final-stops : (m m' : Configuration) (s : Stop) → move_of m ≡ stops s m' → final_of m ≡ record { stop = s; configuration = m' }
 unfolding final_of
-final-stops m m' s e = ap (λ (v : Verdict). end_after v (final_in m.left)) e
+final-stops m m' s e = ap (λ (v : Verdict). end_after v (final_in (moves_left m))) e
 
--- One more event is one more configuration of the run.
-pub reached-goes : (start m m' : Configuration) (j : ℕ) → run_of start j ≡ Some m → event_of m ≡ goes m' → run_of start (suc j) ≡ Some m'
-reached-goes start m m' j reached e = ap (λ (o : Option Configuration). option_and_then (λ m. next_of (event_of m)) o) reached ∙ ap next_of e
+-- One more move is one more configuration of the run.
+pub reached-goes : (start m m' : Configuration) (j : ℕ) → run_of start j ≡ Some m → move_of m ≡ goes m' → run_of start (suc j) ≡ Some m'
+reached-goes start m m' j reached e = ap (λ (o : Option Configuration). option_and_then (λ m. next_of (move_of m)) o) reached ∙ ap next_of e
 
-agree-events : (v : Verdict) (f g : Configuration → ℕ) → ((m : Configuration) → v ≡ goes m → f m ≡ g m) → events_after v f ≡ events_after v g
-agree-events (stops s m) f g same = refl
-agree-events (goes m) f g same = ap suc (same m refl)
+-- The text that is due is sent, and else what comes next is done.
+pub move-sends : (m : Configuration) → sends_now m ≡ true → move_of m ≡ goes (all_sent m)
+unfolding move_of
+move-sends m is = ap (λ (b : Bool). if b then goes (all_sent m) else act_of m) is
 
-enough-events : (n k : ℕ) (m : Configuration) → m.left < n → m.left < k → events_in n m ≡ events_in k m
-enough-events zero k m h h' = absurd (omega arith)
-enough-events (suc n) zero m h h' = absurd (omega arith)
-enough-events (suc n) (suc k) m h h' =
-    agree-events (event_of m) (events_in n) (events_in k) (λ m' e. let nearer : m'.left < m.left = goes-left m m' e in enough-events n k m' (omega arith) (omega arith))
-
--- An event that goes on is counted.
-pub events-goes : (m m' : Configuration) → event_of m ≡ goes m' → events_of m ≡ suc (events_of m')
-unfolding events_of
-events-goes m m' e =
-    let nearer : m'.left < m.left = goes-left m m' e in
-    let at_event : events_in (suc m.left) m ≡ suc (events_in m.left m') = ap (λ (v : Verdict). events_after v (events_in m.left)) e in
-    at_event ∙ ap suc (enough-events m.left (suc m'.left) m' nearer (omega arith))
-
--- One that stops is not.
-pub events-stops : (m m' : Configuration) (s : Stop) → event_of m ≡ stops s m' → events_of m ≡ 0
-unfolding events_of
-events-stops m m' s e = ap (λ (v : Verdict). events_after v (events_in m.left)) e
+pub move-acts : (m : Configuration) → sends_now m ≡ false → move_of m ≡ act_of m
+unfolding move_of
+move-acts m is = ap (λ (b : Bool). if b then goes (all_sent m) else act_of m) is

@@ -1,41 +1,64 @@
 -- What the code holds stays a configuration of the run.
-use Rattle.std.proofs.Common.{◌≡◌, ℕ, zero, suc, ◌+◌, ◌-◌, ◌<◌, ◌≤◌, inl, inr, nat_le, if◌then◌else◌, Bool, true, false, List, [], ◌∷◌, ◌++◌, length, take, Option, None, Some, is_some, Ok, Err, IsOk, refl, ap, subst, sym, ◌∙◌, arith, append_assoc, append-nil, length-append, zero-add}
+use Rattle.std.proofs.Common.{◌≡◌, ◌≢◌, ℕ, suc, ◌+◌, ◌-◌, ◌<◌, ◌≤◌, ◌⊎◌, inl, inr, nat_le, if◌then◌else◌, Bool, true, false, List, [], ◌∷◌, ◌++◌, length, take, Option, None, Some, Ok, Err, refl, ap, subst, sym, ◌∙◌, arith, append_assoc, append-nil, length-append}
 use Rattle.std.proofs.Math.Seq.{take-append_seam}
 use Rattle.std.proofs.lemmas.Bool.{leb-true, leb-false}
 use Rattle.gx_machine.specs.declared.askings.Asking.{Asking}
-use Rattle.gx_machine.specs.Step.{stepped}
-use Rattle.gx_outside.specs.Outside.{FlatSink, raised, raised_by}
+use Rattle.gx_outside.specs.Outside.{FlatSource, FlatSink, FlatShelf, raised, raised_by}
 use Rattle.glk_world.specs.World.{FlatWorld}
+use Rattle.glk_dispatch.specs.declared.Turn.{Turn}
 use Rattle.gx_session.specs.declared.ends.Stop.{Stop}
+use Rattle.gx_session.specs.declared.ends.Stop.TheVariants as stop
 use Rattle.gx_session.specs.declared.ends.Halt.{Halt}
 use Rattle.gx_session.specs.declared.ends.Halt.TheVariants as halt
+use Rattle.gx_session.specs.declared.lines.TheConstants.{PIECE}
 use Rattle.gx_session.specs.declared.running.TheConstants.{ENOUGH}
+use Rattle.gx_session.specs.declared.running.Waiting.{Waiting}
+use Rattle.gx_session.specs.declared.statuses.TheConstants.{SHELF_FAULT, INPUT_FAULT, OUTPUT_FAULT, NO_MEMORY}
+use Rattle.gx_session.specs.Counts.{IsUntold}
+use Rattle.gx_session.specs.Cuts.{Cut, in_move, in_send, in_question, in_reading, in_last_send, IsCut, IsSendStatus, IsQuestion, IsWait, MayWant, LeavesFiles, WantsMemory, IsLineStop, AwaitedAt, LongAt, asking_between, stopped, asking_at_stop, most_sent, sends_at, asked_by_cut, FilesAt}
 use Rattle.gx_session.specs.Devices.{Devices}
-use Rattle.gx_session.specs.Session.{Configuration, goes, stops, event_of, next_of, run_of, Ending, final_of, events_of, asked, asked_at}
-use Rattle.gx_session.specs.Sending.{Sent, is_due, with_all, with_due, sent_after, sent_by, sent_before_end, sent_of}
-use Rattle.gx_session.specs.Cuts.{Cut, in_step, in_answer, in_send, at_end, IsCut, sent_before, sent_at}
-use Rattle.gx_session.specs.Runs.{IsFront, AreDrawn}
-use Rattle.gx_session.specs.Playing.{Held, WordIs, configuration_of, sent_in, HasTaken, Standing, Going, Gone, Done, Early, status_of_halt, SendsAll, Flushes}
+use Rattle.gx_session.specs.Endings.{told_all}
+use Rattle.gx_session.specs.Reading.{IsPartial, spare, ReadsFew}
+use Rattle.gx_session.specs.Sending.{Sent, is_due, with_all, with_rest}
+use Rattle.gx_session.specs.Session.{Configuration, Doing, steps, asks, goes_on, goes, stops, act_of, move_of, is_due_by, sends_now, all_sent, run_of, Ending, final_of, asked, asked_at}
+use Rattle.gx_session.specs.Runs.{IsFront, AreDrawn, LeavesInput, read_failures}
+use Rattle.gx_session.specs.Playing.{Held, WordIs, Past, configuration_of, HasTaken, IsPast, IsRead, Standing, Ready, Going, Done, Told, Early, status_of_halt, SendsAll, Flushes}
 use Rattle.gx_session.proofs.Texts.{final-grows}
-use Rattle.gx_session.proofs.Finals.{final-goes, final-stops, reached-goes, events-goes, events-stops}
+use Rattle.gx_session.proofs.Finals.{quiet-sent, final-goes, final-stops, reached-goes, move-sends, move-acts}
 use Rattle.rand_core.specs.Stream.{Stream, next_u32}
 
+-- nothing was done so far
+abbrev pub no_past : Devices → Past
+no_past d = record { sent = []; sends = 0; asked = 0; words = d.words }
+
+due-of-none : (text : List ℕ) → text ≡ [] → is_due ENOUGH (record { bytes = 0; calls = 0 }) text ≡ false
+due-of-none text none = subst (λ (x : List ℕ). is_due ENOUGH (record { bytes = 0; calls = 0 }) x ≡ false) (sym none) refl
+
 -- a run begins at its start
-pub starts : (d : Devices) (h : Held) → h.word ≡ None → Going (configuration_of [] d.words h d) d h d
-starts d h none =
-    let start : Configuration = configuration_of [] d.words h d in
-    let now : Standing start d h d = record {
-      sent = [];
-      calls = 0;
-      words = d.words;
-      events = 0;
-      has_taken = record { tells = refl; made = refl; taken = λ t. sym (append-nil d.sink.taken) };
-      word_is = subst (λ (w : Option ℕ). WordIs w d.words d.words) (sym none) refl;
+pub starts : (d : Devices) (h : Held) → h.word ≡ None → h.ahead ≡ [] → h.over ≡ false → h.world.text ≡ [] → (d.source.tells ≡ true → h.coming ≡ d.source.left) → Going (configuration_of (no_past d) steps h d) d h d
+starts d h none nothing going empty left =
+    let few : length h.ahead ≡ 0 = ap length nothing in
+    let size : length (h.ahead ++ h.coming) ≡ length h.ahead + length h.coming = length-append h.ahead h.coming in
+    let spare-is : spare h.over ≡ 1 = ap spare going in
+    let is : IsPast (h.ahead ++ h.coming) d (no_past d) h d = record {
+      taken = record { tells = refl; made = refl; taken = λ t. sym (append-nil d.sink.taken) };
+      asked = refl;
+      told = refl;
+      word = subst (λ (w : Option ℕ). WordIs w d.words d.words) (sym none) refl;
+      left = left;
+      fewer = omega arith;
+      reads = record { reads = 0; made = refl; few = omega arith };
+    } in
+    let now : Standing (configuration_of (no_past d) steps h d) d h d steps = record {
+      past = no_past d;
+      moves = 0;
+      is_past = is;
+      few = omega arith;
+      reads = inl refl;
       reached = refl;
       same_end = refl;
-      same_events = zero-add (events_of start);
     } in
-    record { now = now; sent_is = refl }
+    record { now = now; quiet = due-of-none h.world.text empty }
 
 -- the words to come, where one may be in hand
 pub words-left : (word : Option ℕ) (stream words : Stream) → WordIs word stream words → AreDrawn words stream
@@ -50,43 +73,21 @@ has-taken entry now now' sent more calls a b = record {
       b.taken t ∙ ap (λ (x : List ℕ). x ++ more) (a.taken (sym b.tells ∙ t)) ∙ append_assoc entry.taken sent more;
 }
 
-no-bytes : (text : List ℕ) → length text < 1 → text ≡ []
-no-bytes [] few = refl
-no-bytes (x ∷ xs) few = absurd (omega arith)
-
-none-left : (before now : FlatSink) (old new : FlatWorld) (b : Bool) → nat_le 1 (length old.text) ≡ b → Flushes 1 before now old new (Ok tt) → new.text ≡ []
-none-left before now old new true e f = ap (λ (w : FlatWorld). w.text) (f.many (leb-true 1 (length old.text) e)).whole.1
-none-left before now old new false e f =
-    let few : length old.text < 1 = leb-false 1 (length old.text) e in
-    ap (λ (w : FlatWorld). w.text) (f.few few).1 ∙ no-bytes old.text few
-
--- all text was sent
-pub flushed-all : (before now : FlatSink) (old new : FlatWorld) → Flushes 1 before now old new (Ok tt) → new.text ≡ []
-flushed-all before now old new f = none-left before now old new (nat_le 1 (length old.text)) refl f
-
 -- what is due of a text of which this was sent
-due-is : (enough : ℕ) (sent text : List ℕ) (calls : ℕ) (b : Bool) → nat_le enough (length text) ≡ b → is_due enough (sent_in sent calls) (sent ++ text) ≡ b
+due-is : (enough : ℕ) (sent text : List ℕ) (calls : ℕ) (b : Bool) → nat_le enough (length text) ≡ b → is_due enough (record { bytes = length sent; calls = calls }) (sent ++ text) ≡ b
 due-is enough sent text calls b e =
     let all : length (sent ++ text) ≡ length sent + length text = length-append sent text in
     let size : length (sent ++ text) - length sent ≡ length text = omega arith in
     ap (nat_le enough) size ∙ e
 
-with-due : (enough : ℕ) (s : Sent) (sent text : List ℕ) (calls : ℕ) (b : Bool) → s ≡ sent_in sent calls → nat_le enough (length text) ≡ b
-    → with_due enough s (sent ++ text) ≡ (if b then with_all (sent_in sent calls) (sent ++ text) else sent_in sent calls)
-with-due enough s sent text calls b is e =
-    ap (λ (x : Sent). with_due enough x (sent ++ text)) is
-    ∙ ap (λ (due : Bool). if due then with_all (sent_in sent calls) (sent ++ text) else sent_in sent calls) (due-is enough sent text calls b e)
-
--- what is sent after one more event
-after-event : (start : Configuration) (j : ℕ) (m : Configuration) → run_of start (suc j) ≡ Some m → sent_by start (suc j) ≡ with_due ENOUGH (sent_by start j) m.world.text
-after-event start j m reached = ap (sent_after (sent_by start j)) reached
-
 -- A run is cut short at a configuration, of whose text a front was taken.
-cut-at : (start : Configuration) (entry exit : Devices) (h : Held) (asking : Option Asking) (why : Halt) (cut : Cut) (m : Configuration) (sent rest : List ℕ) (calls : ℕ)
-    → IsCut start cut m (status_of_halt why) asking → h.machine ≡ m.machine → h.left ≡ m.left → m.world.text ≡ sent ++ rest → HasTaken entry.sink exit.sink sent calls
-    → IsFront m.world.text (final_of start).configuration.world.text → (sent_at start cut m).calls ≡ calls → (sent_before start cut).bytes ≤ length sent → length sent ≤ (sent_at start cut m).bytes
+pub cut-at : (start : Configuration) (entry exit : Devices) (h : Held) (asking : Option Asking) (why : Halt) (cut : Cut) (m : Configuration) (sent rest : List ℕ)
+    → IsCut start cut m (status_of_halt why) asking → h.machine ≡ m.machine → h.left ≡ m.left → m.world.text ≡ sent ++ rest → HasTaken entry.sink exit.sink sent (sends_at cut m)
+    → IsFront m.world.text (final_of start).configuration.world.text → m.sent.bytes ≤ length sent → length sent ≤ most_sent cut m
+    → FilesAt cut m exit.shelf.files → exit.shelf.calls.made ≡ raised_by (asked_by_cut cut m) entry.shelf.calls.made
+    → (status_of_halt why ≢ NO_MEMORY → LeavesInput start.input m.input entry.source exit.source (AwaitedAt start cut) (LongAt start cut) (read_failures (status_of_halt why)))
     → AreDrawn m.words exit.words → Early start entry h asking exit why
-cut-at start entry exit h asking why cut m sent rest calls is machine left text has shown made least most words =
+cut-at start entry exit h asking why cut m sent rest is machine left text has shown least most files made input words =
     let front : take (length sent) m.world.text ≡ sent = ap (take (length sent)) text ∙ take-append_seam sent rest in
     record {
       cut = cut;
@@ -99,93 +100,150 @@ cut-at start entry exit h asking why cut m sent rest calls is machine left text 
       at_least = least;
       at_most = most;
       text_is = λ tells. has.taken (has.tells ∙ tells) ∙ ap (λ (x : List ℕ). entry.sink.taken ++ x) (sym front);
-      sends_are = has.made ∙ ap (λ (n : ℕ). raised_by n entry.sink.calls.made) (sym made);
+      sends_are = has.made;
+      files_are = files;
+      asked_are = made;
+      input_is = input;
       words_are = words;
     }
 
 module _ (start : Configuration) (entry : Devices) (h : Held) (d : Devices) where
-  abbrev pub here : Standing start entry h d → Configuration
-  here s = configuration_of s.sent s.words h d
-
-  -- its text is a front of the end's
-  shown-is : (s : Standing start entry h d) → IsFront (here s).world.text (final_of start).configuration.world.text
-  shown-is s = subst (λ (e : Ending). IsFront (here s).world.text e.configuration.world.text) s.same_end (final-grows (here s))
-
-  -- the event goes on
-  pub goes-on : (h' : Held) (words' : Stream) (g : Going start entry h d) → WordIs h'.word d.words words'
-      → event_of (here g.now) ≡ goes (configuration_of g.now.sent words' h' d) → Gone start entry h' d
-  goes-on h' words' g is event =
-      let one : events_of (here g.now) ≡ suc (events_of (configuration_of g.now.sent words' h' d)) = events-goes (here g.now) (configuration_of g.now.sent words' h' d) event in
-      let all : g.now.events + events_of (here g.now) ≡ events_of start = g.now.same_events in
-      let now : Standing start entry h' d = record {
-        sent = g.now.sent;
-        calls = g.now.calls;
-        words = words';
-        events = suc g.now.events;
-        has_taken = g.now.has_taken;
-        word_is = is;
-        reached = reached-goes start (here g.now) (configuration_of g.now.sent words' h' d) g.now.events g.now.reached event;
-        same_end = final-goes (here g.now) (configuration_of g.now.sent words' h' d) event ∙ g.now.same_end;
-        same_events = omega arith;
-      } in
-      record { now = now; before = g.now.events; one_more = refl; sent_is = g.sent_is }
-
-  -- the event stops
-  pub ends : (h' : Held) (asking : Option Asking) (stop : Stop) (g : Going start entry h d) → WordIs h'.word d.words g.now.words
-      → event_of (here g.now) ≡ stops stop (configuration_of g.now.sent g.now.words h' d)
-      → asking ≡ asked_at stop (configuration_of g.now.sent g.now.words h' d) → Done start entry h' asking d stop (sent_before_end start)
-  ends h' asking stop g is event asks =
-      let none : events_of (here g.now) ≡ 0 = events-stops (here g.now) (configuration_of g.now.sent g.now.words h' d) stop event in
-      let all : g.now.events + events_of (here g.now) ≡ events_of start = g.now.same_events in
-      let last : g.now.events ≡ events_of start = omega arith in
+  -- the input that is left
+  pub input-left : (awaited long : Type 0) → ((long → ⊥) → length h.ahead < PIECE) → ((awaited → ⊥) → IsRead start.input entry h d) → ReadsFew false h.over entry.source d.source start.input h.coming 0
+      → (d.source.tells ≡ true → h.coming ≡ d.source.left) → LeavesInput start.input (h.ahead ++ h.coming) entry.source d.source awaited long 0
+  input-left awaited long few unread reads left =
+      let less : reads.reads + length h.coming + spare h.over ≤ length start.input + 1 + 0 = reads.few in
       record {
-        sent = g.now.sent;
-        calls = g.now.calls;
-        words = g.now.words;
-        has_taken = g.now.has_taken;
-        word_is = is;
-        is_end = sym g.now.same_end ∙ final-stops (here g.now) (configuration_of g.now.sent g.now.words h' d) stop event;
-        asks = asks;
-        sent_is = ap (sent_by start) (sym last) ∙ g.sent_is;
+        ahead = h.ahead;
+        coming = h.coming;
+        split = refl;
+        left = left;
+        few = λ short none. few short;
+        partial = λ some. absurd (some refl);
+        reads = reads.reads;
+        made = reads.made;
+        few_reads = omega arith;
+        unread = λ other none. unread other;
       }
 
-  -- memory ran out in an event
-  stands : (h' : Held) (asking : Option Asking) (g : Going start entry h d) (cut : Cut) → sent_before start cut ≡ sent_in g.now.sent g.now.calls → sent_at start cut (here g.now) ≡ sent_in g.now.sent g.now.calls
-      → IsCut start cut (here g.now) (status_of_halt halt.NoMemory) asking → h'.machine ≡ h.machine → h'.left ≡ h.left → Early start entry h' asking d halt.NoMemory
-  stands h' asking g cut before now is machine left =
-      let least : (sent_before start cut).bytes ≡ length g.now.sent = ap (λ (s : Sent). s.bytes) before in
-      let most : (sent_at start cut (here g.now)).bytes ≡ length g.now.sent = ap (λ (s : Sent). s.bytes) now in
-      cut-at start entry d h' asking halt.NoMemory cut (here g.now) g.now.sent h.world.text g.now.calls is machine left refl g.now.has_taken (shown-is g.now)
-      (ap (λ (s : Sent). s.calls) now) (omega arith) (omega arith) (words-left h.word d.words g.now.words g.now.word_is)
+  module _ (doing : Doing) where
+    abbrev pub here : Standing start entry h d doing → Configuration
+    here s = configuration_of s.past doing h d
 
-  -- memory ran out in the step
-  pub in-step : (h' : Held) (asking : Option Asking) (g : Going start entry h d) → asking ≡ None → IsOk (stepped (record { machine = h.machine; asking = None }) (next_u32 g.now.words).0 h.left)
-      → h'.machine ≡ h.machine → h'.left ≡ h.left → Early start entry h' asking d halt.NoMemory
-  in-step h' asking g none fine machine left =
-      stands h' asking g (in_step g.now.events) g.sent_is g.sent_is (g.now.reached, none, refl, fine) machine left
+    -- its text is a front of the end's
+    shown-is : (s : Standing start entry h d doing) → IsFront (here s).world.text (final_of start).configuration.world.text
+    shown-is s = subst (λ (e : Ending). IsFront (here s).world.text e.configuration.world.text) s.same_end (final-grows (here s))
 
-  -- memory ran out in the answer to what the step asked
-  pub in-answer : (h' : Held) (asking : Option Asking) (g : Going start entry h d) (m' : Configuration) → asking ≡ asked (here g.now) → event_of (here g.now) ≡ goes m'
-      → h'.machine ≡ h.machine → h'.left ≡ h.left → Early start entry h' asking d halt.NoMemory
-  in-answer h' asking g m' asks event machine left =
-      stands h' asking g (in_answer g.now.events) g.sent_is g.sent_is (g.now.reached, asks, refl, ap (λ v. is_some (next_of v)) event) machine left
+    -- the run goes on
+    abbrev pub moves-on : (g : Ready start entry h d doing) (p' : Past) (doing' : Doing) (h' : Held) (d' : Devices) → IsPast start.input entry p' h' d' → length h'.ahead < PIECE → IsRead start.input entry h' d'
+        → act_of (here g.now) ≡ goes (configuration_of p' doing' h' d') → Standing start entry h' d' doing'
+    moves-on g p' doing' h' d' is few reads act =
+        let move : move_of (here g.now) ≡ goes (configuration_of p' doing' h' d') = move-acts (here g.now) g.quiet ∙ act in
+        record {
+          past = p';
+          moves = suc g.now.moves;
+          is_past = is;
+          few = few;
+          reads = reads;
+          reached = reached-goes start (here g.now) (configuration_of p' doing' h' d') g.now.moves g.now.reached move;
+          same_end = final-goes (here g.now) (configuration_of p' doing' h' d') move ∙ g.now.same_end;
+        }
+
+    -- the run stops
+    pub stops-at : (g : Ready start entry h d doing) (why : Stop) (p' : Past) (doing' : Doing) (h' : Held) (d' : Devices) (asking : Option Asking) → IsPast start.input entry p' h' d'
+        → (why ≢ stop.LineTooLong → length h'.ahead < PIECE) → ((IsLineStop why → ⊥) → IsRead start.input entry h' d') → act_of (here g.now) ≡ stops why (configuration_of p' doing' h' d')
+        → asking ≡ asked_at why (configuration_of p' doing' h' d') → Done start entry h' asking d' why
+    stops-at g why p' doing' h' d' asking is few reads act asking-is =
+        let move : move_of (here g.now) ≡ stops why (configuration_of p' doing' h' d') = move-acts (here g.now) g.quiet ∙ act in
+        record {
+          past = p';
+          doing = doing';
+          is_past = is;
+          few = few;
+          reads = reads;
+          is_end = sym g.now.same_end ∙ final-stops (here g.now) (configuration_of p' doing' h' d') why move;
+          asking_is = asking-is;
+        }
+
+    -- memory ran out
+    pub wants : (g : Ready start entry h d doing) (h' : Held) (source : FlatSource) (asking : Option Asking) → WantsMemory doing (here g.now) asking
+        → h'.machine ≡ h.machine → h'.left ≡ h.left → Early start entry h' asking (record d { source = source }) halt.NoMemory
+    wants g h' source asking is machine left =
+        let s = g.now in
+        cut-at start entry (record d { source = source }) h' asking halt.NoMemory (in_move s.moves) (here s) s.past.sent h.world.text
+        (s.reached, g.quiet, refl, is) machine left refl s.is_past.taken (shown-is s) (omega arith) (omega arith) refl s.is_past.asked (λ other. absurd (other refl))
+        (words-left h.word d.words s.past.words s.is_past.word)
+
+  module _ (w : Waiting) (turn : Turn) where
+    -- the shelf refused
+    pub refused : (g : Ready start entry h d (asks turn w)) (shelf : FlatShelf) (why : Halt) (asking : Option Asking) → shelf.calls.made ≡ raised d.shelf.calls.made
+        → IsQuestion turn → (why ≡ halt.Shelf) ⊎ ((why ≡ halt.NoMemory) × MayWant d.shelf.files turn) → LeavesFiles turn d.shelf.files shelf.files
+        → asking ≡ asked (here (asks turn w) g.now) → Early start entry h asking (record d { shelf = shelf }) why
+    refused g shelf halt.Shelf asking made is (inl e) files asking-is =
+        let s = g.now in
+        cut-at start entry (record d { shelf = shelf }) h asking halt.Shelf (in_question s.moves) (here (asks turn w) s) s.past.sent h.world.text
+        (s.reached, g.quiet, (is, inl refl), asking-is) refl refl refl s.is_past.taken (shown-is (asks turn w) s) (omega arith) (omega arith) files
+        (made ∙ ap raised s.is_past.asked) (λ other. input-left ⊥ ⊥ (λ short. s.few) (λ short. s.reads) s.is_past.reads s.is_past.left) (words-left h.word d.words s.past.words s.is_past.word)
+    refused g shelf halt.NoMemory asking made is (inr e) files asking-is =
+        let s = g.now in
+        cut-at start entry (record d { shelf = shelf }) h asking halt.NoMemory (in_question s.moves) (here (asks turn w) s) s.past.sent h.world.text
+        (s.reached, g.quiet, (is, inr (refl, e.1)), asking-is) refl refl refl s.is_past.taken (shown-is (asks turn w) s) (omega arith) (omega arith) files
+        (made ∙ ap raised s.is_past.asked) (λ other. absurd (other refl)) (words-left h.word d.words s.past.words s.is_past.word)
+    refused g shelf halt.NoMemory asking made is (inl e) files asking-is = cc
+    refused g shelf halt.Shelf asking made is (inr e) files asking-is = absurd (let f = e.0 in cc)
+    refused g shelf halt.Input asking made is (inl e) files asking-is = cc
+    refused g shelf halt.Input asking made is (inr e) files asking-is = absurd (let f = e.0 in cc)
+    refused g shelf halt.Output asking made is (inl e) files asking-is = cc
+    refused g shelf halt.Output asking made is (inr e) files asking-is = absurd (let f = e.0 in cc)
+
+    -- the source failed
+    pub unread : (g : Ready start entry h d (asks turn w)) (h' : Held) (source : FlatSource) (asking : Option Asking) → IsWait turn → (source.tells ≡ true → h'.coming ≡ source.left) → ReadsFew false h'.over entry.source source start.input h'.coming 1 → IsPartial h'.ahead
+        → h'.ahead ++ h'.coming ≡ h.ahead ++ h.coming → h'.machine ≡ h.machine → h'.left ≡ h.left
+        → asking ≡ asked (here (asks turn w) g.now) → Early start entry h' asking (record d { source = source }) halt.Input
+    unread g h' source asking is input reads partial same machine left asking-is =
+        let s = g.now in
+        let less : reads.reads + length h'.coming + spare h'.over ≤ length start.input + 1 + 1 = reads.few in
+        let leaves : LeavesInput start.input (h.ahead ++ h.coming) entry.source source ⊥ ⊥ 1 = record {
+          ahead = h'.ahead;
+          coming = h'.coming;
+          split = sym same;
+          left = input;
+          few = λ short none. absurd cc;
+          partial = λ _. partial;
+          reads = reads.reads;
+          made = reads.made;
+          few_reads = omega arith;
+          unread = λ short none. absurd cc;
+        } in
+        cut-at start entry (record d { source = source }) h' asking halt.Input (in_reading s.moves) (here (asks turn w) s) s.past.sent h.world.text
+        (s.reached, g.quiet, refl, is, asking-is) machine left refl s.is_past.taken (shown-is (asks turn w) s) (omega arith) (omega arith) refl s.is_past.asked (λ other. leaves)
+        (words-left h.word d.words s.past.words s.is_past.word)
 
   -- a word was drawn
   pub redrawn : (word : Option ℕ) (stream : Stream) → Going start entry h d → ((words : Stream) → WordIs h.word d.words words → WordIs word stream words)
       → Going start entry (record h { word = word }) (record d { words = stream })
   redrawn word stream g drawn =
-      let now : Standing start entry (record h { word = word }) (record d { words = stream }) = record {
-        sent = g.now.sent;
-        calls = g.now.calls;
-        words = g.now.words;
-        events = g.now.events;
-        has_taken = g.now.has_taken;
-        word_is = drawn g.now.words g.now.word_is;
-        reached = g.now.reached;
-        same_end = g.now.same_end;
-        same_events = g.now.same_events;
+      let s = g.now in
+      let i = s.is_past in
+      let is : IsPast start.input entry s.past (record h { word = word }) (record d { words = stream }) = record {
+        taken = i.taken;
+        asked = i.asked;
+        told = i.told;
+        word = drawn s.past.words i.word;
+        left = i.left;
+        fewer = i.fewer;
+        reads = i.reads;
       } in
-      record { now = now; sent_is = g.sent_is }
+      let now : Standing start entry (record h { word = word }) (record d { words = stream }) steps = record {
+        past = s.past;
+        moves = s.moves;
+        is_past = is;
+        few = s.few;
+        reads = s.reads;
+        reached = s.reached;
+        same_end = s.same_end;
+      } in
+      record { now = now; quiet = g.quiet }
 
   module _ (world : FlatWorld) (sink : FlatSink) where
     abbrev h-now : Held
@@ -197,126 +255,155 @@ module _ (start : Configuration) (entry : Devices) (h : Held) (d : Devices) wher
     all-sent : (s : SendsAll d.sink sink h.world world (Ok tt)) → h.world.text ≡ s.more
     all-sent s = s.front ∙ ap (λ (x : List ℕ). s.more ++ x) s.whole.0 ∙ append-nil s.more
 
+    -- what was done once this was sent
+    abbrev with-more : Past → List ℕ → Past
+    with-more p more = record p { sent = p.sent ++ more; sends = suc p.sends }
+
     -- pending text that was sent was shown before too
-    still : (sent : List ℕ) (words : Stream) (s : SendsAll d.sink sink h.world world (Ok tt)) → configuration_of (sent ++ s.more) words h-now d-now ≡ configuration_of sent words h d
-    still sent words s = rw (all-sent s, s.whole.1, append-nil (sent ++ s.more))
+    still : (p : Past) (doing : Doing) (s : SendsAll d.sink sink h.world world (Ok tt)) → configuration_of (with-more p s.more) doing h-now d-now ≡ all_sent (configuration_of p doing h d)
+    still p doing s = rw (all-sent s, s.whole.1, append-nil (p.sent ++ s.more)) refl
 
-    -- all of a text was sent
-    all-is : (sent : List ℕ) (calls : ℕ) (s : SendsAll d.sink sink h.world world (Ok tt)) → with_all (sent_in sent calls) (sent ++ h.world.text) ≡ sent_in (sent ++ s.more) (suc calls)
-    all-is sent calls s = ap (λ (text : List ℕ). sent_in (sent ++ text) (suc calls)) (all-sent s)
+    sent-past : (p : Past) (more : List ℕ) → IsPast start.input entry p h d → HasTaken d.sink sink more 1 → IsPast start.input entry (with-more p more) h-now d-now
+    sent-past p more i has = record {
+      taken = has-taken entry.sink d.sink sink p.sent more p.sends i.taken has;
+      asked = i.asked;
+      told = i.told;
+      word = i.word;
+      left = i.left;
+      fewer = i.fewer;
+      reads = i.reads;
+    }
 
-    -- THE TEXT THAT IS DUE AFTER AN EVENT
-    sends-on : (g : Gone start entry h d) (b : Bool) → nat_le ENOUGH (length h.world.text) ≡ b → Flushes ENOUGH d.sink sink h.world world (Ok tt) → Going start entry h-now d-now
-    sends-on g true e f =
-        let s : SendsAll d.sink sink h.world world (Ok tt) = f.many (leb-true ENOUGH (length h.world.text) e) in
-        let same : configuration_of (g.now.sent ++ s.more) g.now.words h-now d-now ≡ here g.now = still g.now.sent g.now.words s in
-        let now : Standing start entry h-now d-now = record {
-          sent = g.now.sent ++ s.more;
-          calls = suc g.now.calls;
-          words = g.now.words;
-          events = g.now.events;
-          has_taken = has-taken entry.sink d.sink sink g.now.sent s.more g.now.calls g.now.has_taken s.has_taken;
-          word_is = g.now.word_is;
-          reached = g.now.reached ∙ ap (λ (m : Configuration). Some m) (sym same);
-          same_end = ap final_of same ∙ g.now.same_end;
-          same_events = ap (λ (m : Configuration). g.now.events + events_of m) same ∙ g.now.same_events;
-        } in
-        record {
-          now = now;
-          sent_is =
-              ap (sent_by start) g.one_more ∙ after-event start g.before (here g.now) (ap (run_of start) (sym g.one_more) ∙ g.now.reached)
-              ∙ with-due ENOUGH (sent_by start g.before) g.now.sent h.world.text g.now.calls true g.sent_is e ∙ all-is g.now.sent g.now.calls s;
-        }
-    sends-on g false e f =
-        let stood = f.few (leb-false ENOUGH (length h.world.text) e) in
-        let going : Going start entry h d = record {
-          now = g.now;
-          sent_is =
-              ap (sent_by start) g.one_more ∙ after-event start g.before (here g.now) (ap (run_of start) (sym g.one_more) ∙ g.now.reached)
-              ∙ with-due ENOUGH (sent_by start g.before) g.now.sent h.world.text g.now.calls false g.sent_is e;
-        } in
-        subst (λ (w : FlatWorld). Going start entry (record h { world = w }) (record d { sink = sink })) (sym stood.1)
-        (subst (λ (k : FlatSink). Going start entry h (record d { sink = k })) (sym stood.0) going)
+    -- nothing was sent
+    stood : (doing : Doing) → Ready start entry h d doing → (sink ≡ d.sink) → (world ≡ h.world) → Ready start entry h-now d-now doing
+    stood doing g same-sink same-world =
+        subst (λ (x : FlatWorld). Ready start entry (record h { world = x }) (record d { sink = sink }) doing) (sym same-world)
+        (subst (λ (k : FlatSink). Ready start entry h (record d { sink = k }) doing) (sym same-sink) g)
 
-    pub flushed-on : Gone start entry h d → Flushes ENOUGH d.sink sink h.world world (Ok tt) → Going start entry h-now d-now
-    flushed-on g f = sends-on g (nat_le ENOUGH (length h.world.text)) refl f
+    module _ (doing : Doing) (enough : ℕ) (due : (s : Sent) (text : List ℕ) → is_due_by doing s text ≡ is_due enough s text) where
+      due-now : (s : Standing start entry h d doing) (b : Bool) → nat_le enough (length h.world.text) ≡ b → sends_now (here doing s) ≡ b
+      due-now s b e = due (here doing s).sent (here doing s).world.text ∙ due-is enough s.past.sent h.world.text s.past.sends b e
 
-    -- A send is refused that is due.
-    cut-send : (asking : Option Asking) (why : Halt) (cut : Cut) (sent : List ℕ) (calls : ℕ) (words : Stream) → IsCut start cut (configuration_of sent words h d) (status_of_halt why) asking
-        → HasTaken entry.sink d.sink sent calls → WordIs h.word d.words words → sent_before start cut ≡ sent_in sent calls
-        → sent_at start cut (configuration_of sent words h d) ≡ with_all (sent_in sent calls) (sent ++ h.world.text)
-        → IsFront (sent ++ h.world.text) (final_of start).configuration.world.text → SendsAll d.sink sink h.world world (Err why) → Early start entry h-now asking d-now why
-    cut-send asking why cut sent calls words is has word before now shown s =
-        let least : (sent_before start cut).bytes ≡ length sent = ap (λ (x : Sent). x.bytes) before in
-        let most : (sent_at start cut (configuration_of sent words h d)).bytes ≡ length (sent ++ h.world.text) = ap (λ (x : Sent). x.bytes) now in
-        let text : sent ++ h.world.text ≡ (sent ++ s.more) ++ s.rest = ap (λ (x : List ℕ). sent ++ x) s.front ∙ sym (append_assoc sent s.more s.rest) in
-        let size : length (sent ++ s.more) ≡ length sent + length s.more = length-append sent s.more in
-        let whole : length (sent ++ h.world.text) ≡ length (sent ++ s.more) + length s.rest = ap length text ∙ length-append (sent ++ s.more) s.rest in
-        cut-at start entry d-now h-now asking why cut (configuration_of sent words h d) (sent ++ s.more) s.rest (suc calls) is refl refl text
-        (has-taken entry.sink d.sink sink sent s.more calls has s.has_taken) shown (ap (λ (x : Sent). x.calls) now) (omega arith) (omega arith) (words-left h.word d.words words word)
+      sends : (g : Standing start entry h d doing) (b : Bool) → nat_le enough (length h.world.text) ≡ b → Flushes enough d.sink sink h.world world (Ok tt) → Ready start entry h-now d-now doing
+      sends g true e f =
+          let s : SendsAll d.sink sink h.world world (Ok tt) = f.many (leb-true enough (length h.world.text) e) in
+          let same : configuration_of (with-more g.past s.more) doing h-now d-now ≡ all_sent (here doing g) = still g.past doing s in
+          let move : move_of (here doing g) ≡ goes (configuration_of (with-more g.past s.more) doing h-now d-now) =
+          move-sends (here doing g) (due-now g true e) ∙ ap goes (sym same) in
+          let now : Standing start entry h-now d-now doing = record {
+            past = with-more g.past s.more;
+            moves = suc g.moves;
+            is_past = sent-past g.past s.more g.is_past s.has_taken;
+            few = g.few;
+            reads = g.reads;
+            reached = reached-goes start (here doing g) (configuration_of (with-more g.past s.more) doing h-now d-now) g.moves g.reached move;
+            same_end = final-goes (here doing g) (configuration_of (with-more g.past s.more) doing h-now d-now) move ∙ g.same_end;
+          } in
+          record { now = now; quiet = ap sends_now same ∙ quiet-sent doing (here doing g).sent (here doing g).world.text }
+      sends g false e f =
+          let same = f.few (leb-false enough (length h.world.text) e) in
+          stood doing (record { now = g; quiet = due-now g false e }) same.0 same.1
+
+      -- THE TEXT THAT IS DUE BETWEEN TWO MOVES was sent.
+      pub flushed : Standing start entry h d doing → Flushes enough d.sink sink h.world world (Ok tt) → Ready start entry h-now d-now doing
+      flushed g f = sends g (nat_le enough (length h.world.text)) refl f
 
     -- one that was refused was due
-    refused : (enough : ℕ) (why : Halt) (b : Bool) → nat_le enough (length h.world.text) ≡ b → Flushes enough d.sink sink h.world world (Err why)
+    was-due : (enough : ℕ) (why : Halt) (b : Bool) → nat_le enough (length h.world.text) ≡ b → Flushes enough d.sink sink h.world world (Err why)
         → (nat_le enough (length h.world.text) ≡ true) × SendsAll d.sink sink h.world world (Err why)
-    refused enough why true e f = (e, f.many (leb-true enough (length h.world.text) e))
-    refused enough why false e f = let ok = (f.few (leb-false enough (length h.world.text) e)).2 in cc
+    was-due enough why true e f = (e, f.many (leb-true enough (length h.world.text) e))
+    was-due enough why false e f = let ok = (f.few (leb-false enough (length h.world.text) e)).2 in cc
 
-    pub cut-on : (asking : Option Asking) (why : Halt) → Gone start entry h d → asking ≡ None → Flushes ENOUGH d.sink sink h.world world (Err why) → Early start entry h-now asking d-now why
-    cut-on asking why g none f =
-        let due = refused ENOUGH why (nat_le ENOUGH (length h.world.text)) refl f in
-        let is : IsCut start (in_send g.before) (here g.now) (status_of_halt why) asking =
-        (ap (run_of start) (sym g.one_more) ∙ g.now.reached, none, ap (λ (s : Sent). is_due ENOUGH s (g.now.sent ++ h.world.text)) g.sent_is ∙ due-is ENOUGH g.now.sent h.world.text g.now.calls true due.0) in
-        cut-send asking why (in_send g.before) g.now.sent g.now.calls g.now.words is g.now.has_taken g.now.word_is g.sent_is (ap (λ (s : Sent). with_all s (g.now.sent ++ h.world.text)) g.sent_is) (shown-is g.now) due.1
+    send-status : (why : Halt) → (why ≡ halt.Output) ⊎ (why ≡ halt.NoMemory) → IsSendStatus (status_of_halt why)
+    send-status why (inl e) = inl (ap status_of_halt e)
+    send-status why (inr e) = inr (ap status_of_halt e)
+
+    no-failures : (why : Halt) → (why ≡ halt.Output) ⊎ (why ≡ halt.NoMemory) → read_failures (status_of_halt why) ≡ 0
+    no-failures why (inl e) = ap (λ (x : Halt). read_failures (status_of_halt x)) e
+    no-failures why (inr e) = ap (λ (x : Halt). read_failures (status_of_halt x)) e
+
+    -- A send is refused that is due.
+    cut-sending : (asking : Option Asking) (why : Halt) (cut : Cut) (p : Past) (doing : Doing) → IsCut start cut (configuration_of p doing h d) (status_of_halt why) asking
+        → IsPast start.input entry p h d → (why ≡ halt.Output) ⊎ (why ≡ halt.NoMemory) → sends_at cut (configuration_of p doing h d) ≡ suc p.sends → most_sent cut (configuration_of p doing h d) ≡ length (p.sent ++ h.world.text)
+        → FilesAt cut (configuration_of p doing h d) d.shelf.files → asked_by_cut cut (configuration_of p doing h d) ≡ p.asked
+        → LeavesInput start.input (h.ahead ++ h.coming) entry.source d.source (AwaitedAt start cut) (LongAt start cut) 0
+        → IsFront (p.sent ++ h.world.text) (final_of start).configuration.world.text → SendsAll d.sink sink h.world world (Err why) → Early start entry h-now asking d-now why
+    cut-sending asking why cut p doing is past only calls most files questions input shown s =
+        let text : p.sent ++ h.world.text ≡ (p.sent ++ s.more) ++ s.rest = ap (λ (x : List ℕ). p.sent ++ x) s.front ∙ sym (append_assoc p.sent s.more s.rest) in
+        let size : length (p.sent ++ s.more) ≡ length p.sent + length s.more = length-append p.sent s.more in
+        let whole : length (p.sent ++ h.world.text) ≡ length (p.sent ++ s.more) + length s.rest = ap length text ∙ length-append (p.sent ++ s.more) s.rest in
+        let has : HasTaken entry.sink sink (p.sent ++ s.more) (suc p.sends) = has-taken entry.sink d.sink sink p.sent s.more p.sends past.taken s.has_taken in
+        cut-at start entry d-now h-now asking why cut (configuration_of p doing h d) (p.sent ++ s.more) s.rest is refl refl text
+        (subst (HasTaken entry.sink sink (p.sent ++ s.more)) (sym calls) has) shown (omega arith) (omega arith) files (past.asked ∙ ap (λ (n : ℕ). raised_by n entry.shelf.calls.made) (sym questions)) (λ other. subst (LeavesInput start.input (h.ahead ++ h.coming) entry.source d.source (AwaitedAt start cut) (LongAt start cut)) (sym (no-failures why only)) input)
+        (words-left h.word d.words p.words past.word)
+
+    -- The text that is due between two moves was refused.
+    pub cut-send : (doing : Doing) (enough : ℕ) → ((s : Sent) (text : List ℕ) → is_due_by doing s text ≡ is_due enough s text) → (asking : Option Asking) (why : Halt) (g : Standing start entry h d doing)
+        → asking ≡ asking_between doing (here doing g) → (why ≡ halt.Output) ⊎ (why ≡ halt.NoMemory) → Flushes enough d.sink sink h.world world (Err why) → Early start entry h-now asking d-now why
+    cut-send doing enough due asking why g asking-is only f =
+        let was = was-due enough why (nat_le enough (length h.world.text)) refl f in
+        let is : IsCut start (in_send g.moves) (here doing g) (status_of_halt why) asking = (g.reached, due-now doing enough due g true was.0, send-status why only, asking-is) in
+        cut-sending asking why (in_send g.moves) g.past doing is g.is_past only refl refl refl refl (input-left ⊥ ⊥ (λ short. g.few) (λ short. g.reads) g.is_past.reads g.is_past.left) (shown-is doing g) was.1
 
     -- THE TEXT THAT IS DUE AT THE END
-    module _ (asking : Option Asking) (stop : Stop) (g : Done start entry h asking d stop (sent_before_end start)) where
+    module _ (asking : Option Asking) (why : Stop) (g : Done start entry h asking d why) where
       abbrev last : Configuration
-      last = configuration_of g.sent g.words h d
+      last = configuration_of g.past g.doing h d
 
-      sent-is : (b : Bool) → nat_le 1 (length h.world.text) ≡ b → sent_of start ≡ (if b then with_all (sent_in g.sent g.calls) (g.sent ++ h.world.text) else sent_in g.sent g.calls)
-      sent-is b e =
-          ap (λ (x : Ending). with_due 1 (sent_before_end start) x.configuration.world.text) g.is_end
-          ∙ with-due 1 (sent_before_end start) g.sent h.world.text g.calls b g.sent_is e
+      stopped-is : stopped start ≡ last
+      stopped-is = ap (λ (e : Ending). e.configuration) g.is_end
 
-      sends-end : (b : Bool) → nat_le 1 (length h.world.text) ≡ b → Flushes 1 d.sink sink h.world world (Ok tt) → Done start entry h-now asking d-now stop (sent_of start)
+      asks-still : asking ≡ asking_at_stop start
+      asks-still = g.asking_is ∙ ap (λ (e : Ending). asked_at e.stop e.configuration) (sym g.is_end)
+
+      told-is : (b : Bool) → nat_le 1 (length h.world.text) ≡ b → told_all last ≡ (if b then all_sent last else last)
+      told-is true e = ap (λ (b : Bool). record last { sent = if b then with_all last.sent last.world.text else last.sent }) (due-is 1 g.past.sent h.world.text g.past.sends true e)
+      told-is false e = ap (λ (b : Bool). record last { sent = if b then with_all last.sent last.world.text else last.sent }) (due-is 1 g.past.sent h.world.text g.past.sends false e)
+
+      no-bytes : (text : List ℕ) → length text < 1 → text ≡ []
+      no-bytes [] few = refl
+      no-bytes (x ∷ xs) few = absurd (omega arith)
+
+      sends-end : (b : Bool) → nat_le 1 (length h.world.text) ≡ b → Flushes 1 d.sink sink h.world world (Ok tt) → Told start entry h-now asking d-now why
       sends-end true e f =
           let s : SendsAll d.sink sink h.world world (Ok tt) = f.many (leb-true 1 (length h.world.text) e) in
-          let same : configuration_of (g.sent ++ s.more) g.words h-now d-now ≡ last = still g.sent g.words s in
           record {
-            sent = g.sent ++ s.more;
-            calls = suc g.calls;
-            words = g.words;
-            has_taken = has-taken entry.sink d.sink sink g.sent s.more g.calls g.has_taken s.has_taken;
-            word_is = g.word_is;
-            is_end = g.is_end ∙ ap (λ (m : Configuration). let e : Ending = record { stop = stop; configuration = m } in e) (sym same);
-            asks = g.asks ∙ ap (asked_at stop) (sym same);
-            sent_is = sent-is true e ∙ all-is g.sent g.calls s;
+            past = with-more g.past s.more;
+            doing = g.doing;
+            is_past = sent-past g.past s.more g.is_past s.has_taken;
+            few = g.few;
+            reads = g.reads;
+            stop_is = ap (λ (x : Ending). x.stop) g.is_end;
+            is_end = ap told_all stopped-is ∙ told-is true e ∙ sym (still g.past g.doing s);
+            asking_is = asks-still;
+            none_left = ap (λ (w : FlatWorld). w.text) s.whole.1;
           }
       sends-end false e f =
-          let stood = f.few (leb-false 1 (length h.world.text) e) in
-          let done : Done start entry h asking d stop (sent_of start) = record {
-            sent = g.sent;
-            calls = g.calls;
-            words = g.words;
-            has_taken = g.has_taken;
-            word_is = g.word_is;
-            is_end = g.is_end;
-            asks = g.asks;
-            sent_is = sent-is false e;
+          let same = f.few (leb-false 1 (length h.world.text) e) in
+          let told : Told start entry h asking d why = record {
+            past = g.past;
+            doing = g.doing;
+            is_past = g.is_past;
+            few = g.few;
+            reads = g.reads;
+            stop_is = ap (λ (x : Ending). x.stop) g.is_end;
+            is_end = ap told_all stopped-is ∙ told-is false e;
+            asking_is = asks-still;
+            none_left = no-bytes h.world.text (leb-false 1 (length h.world.text) e);
           } in
-          subst (λ (w : FlatWorld). Done start entry (record h { world = w }) asking (record d { sink = sink }) stop (sent_of start)) (sym stood.1)
-          (subst (λ (k : FlatSink). Done start entry h asking (record d { sink = k }) stop (sent_of start)) (sym stood.0) done)
+          subst (λ (x : FlatWorld). Told start entry (record h { world = x }) asking (record d { sink = sink }) why) (sym same.1)
+          (subst (λ (k : FlatSink). Told start entry h asking (record d { sink = k }) why) (sym same.0) told)
 
-      pub flushed-end : Flushes 1 d.sink sink h.world world (Ok tt) → Done start entry h-now asking d-now stop (sent_of start)
+      pub flushed-end : Flushes 1 d.sink sink h.world world (Ok tt) → Told start entry h-now asking d-now why
       flushed-end f = sends-end (nat_le 1 (length h.world.text)) refl f
 
-      pub cut-end : (why : Halt) → Flushes 1 d.sink sink h.world world (Err why) → Early start entry h-now asking d-now why
-      cut-end why f =
-          let due = refused 1 why (nat_le 1 (length h.world.text)) refl f in
-          let is : IsCut start at_end last (status_of_halt why) asking = (
-            sym (ap (λ (x : Ending). x.configuration) g.is_end),
-            g.asks ∙ ap (λ (x : Ending). asked_at x.stop last) (sym g.is_end),
-            ap (λ (s : Sent). is_due 1 s (g.sent ++ h.world.text)) g.sent_is ∙ due-is 1 g.sent h.world.text g.calls true due.0,
-          ) in
-          cut-send asking why at_end g.sent g.calls g.words is g.has_taken g.word_is g.sent_is (ap (λ (s : Sent). with_all s (g.sent ++ h.world.text)) g.sent_is)
-          ([], ap (λ (x : Ending). x.configuration.world.text) g.is_end ∙ sym (append-nil (g.sent ++ h.world.text))) due.1
+      pub cut-end : (halted : Halt) → (halted ≡ halt.Output) ⊎ (halted ≡ halt.NoMemory) → Flushes 1 d.sink sink h.world world (Err halted)
+          → Early start entry h-now asking d-now halted
+      cut-end halted only f =
+          let was = was-due 1 halted (nat_le 1 (length h.world.text)) refl f in
+          let stop-is : (final_of start).stop ≡ why = ap (λ (x : Ending). x.stop) g.is_end in
+          let is : IsCut start in_last_send last (status_of_halt halted) asking = (sym stopped-is, due-is 1 g.past.sent h.world.text g.past.sends true was.0, send-status halted only, asks-still) in
+          cut-sending asking halted in_last_send g.past g.doing is g.is_past only refl refl refl refl
+          (input-left (IsLineStop (final_of start).stop) ((final_of start).stop ≡ stop.LineTooLong) (λ short. g.few (λ e. short (stop-is ∙ e)))
+          (λ other. g.reads (λ is'. other (subst IsLineStop (sym stop-is) is'))) g.is_past.reads g.is_past.left)
+          ([], ap (λ (x : Configuration). x.world.text) stopped-is ∙ sym (append-nil (g.past.sent ++ h.world.text))) was.1

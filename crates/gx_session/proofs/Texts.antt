@@ -6,13 +6,18 @@ use Rattle.gx_state.specs.declared.effects.Effect.TheVariants as effect
 use Rattle.gx_state.specs.declared.effects.Reply.{Reply}
 use Rattle.gx_machine.specs.Machine.{FlatMachine}
 use Rattle.gx_machine.specs.Step.{cost_of, step_of}
-use Rattle.glk_world.specs.World.{Said}
+use Rattle.glk_world.specs.World.{Said, after}
+use Rattle.glk_world.specs.Shown.{show_grids, show_line}
 use Rattle.glk_dispatch.specs.declared.Turn.{Turn}
-use Rattle.glk_dispatch.specs.declared.Turn.TheVariants.{Answer}
-use Rattle.glk_dispatch.specs.Calls.{glk_call, putting}
+use Rattle.glk_dispatch.specs.Calls.{glk_call}
+use Rattle.glk_dispatch.specs.Going.{glk_go_on}
+use Rattle.glk_dispatch.specs.Output.{putting}
 use Rattle.gx_session.specs.declared.ends.Stop.TheVariants as stop
-use Rattle.gx_session.specs.Session.{Configuration, Verdict, goes, stops, after_reply, after_turn, after_effect, after_step, event_of, Ending, end_after, final_in, final_of}
+use Rattle.gx_session.specs.declared.running.Waiting.{Waiting}
+use Rattle.gx_session.specs.Input.{next_line}
+use Rattle.gx_session.specs.Session.{Configuration, Doing, steps, asks, goes_on, Verdict, goes, stops, after_reply, after_turn, after_effect, after_step, step_from, act_by, act_of, sends_now, all_sent, move_of, moves_left, Ending, end_after, final_in, final_of}
 use Rattle.gx_session.specs.Runs.{IsFront}
+use Rattle.gx_session.proofs.Cases.{turn-cases, given-cases, line-cases, asking-cases}
 use Rattle.rand_core.specs.Stream.{next_u32}
 
 pub front-refl : (xs : List ℕ) → IsFront xs xs
@@ -30,15 +35,17 @@ replied-grows : (m : Configuration) (left : ℕ) (r : Result (Said × Reply) Fau
 replied-grows m left (Ok r) = (r.0.1, refl)
 replied-grows m left (Err f) = front-refl m.world.text
 
-turned-grows : (m : Configuration) (left : ℕ) (r : Result (Said × Turn) Fault) → IsFront m.world.text (text_in (after_turn m left r))
-turned-grows m left (Ok (said, Answer reply)) = replied-grows m left (Ok (said, reply))
-turned-grows m left (Err f) = replied-grows m left (Err f)
+turned-grows : (m : Configuration) (w : Waiting) (r : Result (Said × Turn) Fault) → IsFront m.world.text (text_in (after_turn m w r))
+turned-grows m w r =
+    turn-cases (λ v. IsFront m.world.text (text_in v)) m w r (λ said reply. (said.1, refl)) (λ said t. (said.1, refl))
+    (λ said t. (said.1 ++ (show_grids said.0).1, append_assoc m.world.text said.1 (show_grids said.0).1))
+    (λ said. (said.1, refl)) (λ said. (said.1, refl)) (λ f. front-refl m.world.text)
 
 effected-grows : (m : Configuration) (left : ℕ) (machine : FlatMachine) (does : Effect) → IsFront m.world.text (text_in (after_effect m left machine does))
 effected-grows m left machine effect.Went = front-refl m.world.text
 effected-grows m left machine effect.Drew = front-refl m.world.text
 effected-grows m left machine (effect.Put c) = replied-grows m left (putting m.world.scene m.machine.flat c)
-effected-grows m left machine (effect.Glk selector args room) = turned-grows m left (glk_call m.world.scene m.machine.flat room selector args.items)
+effected-grows m left machine (effect.Glk selector args room) = turned-grows m (record { room = room; left = left }) (glk_call m.world.scene m.machine.flat room selector args.items)
 effected-grows m left machine effect.Quit = front-refl m.world.text
 effected-grows m left machine effect.Spent = front-refl m.world.text
 
@@ -50,9 +57,32 @@ tested-grows : (m : Configuration) (left : ℕ) (r : Result (FlatMachine × Effe
 tested-grows m left r true = front-refl m.world.text
 tested-grows m left r false = stepped-grows m left r
 
-event-grows : (m : Configuration) → IsFront m.world.text (text_in (event_of m))
-unfolding event_of
-event-grows m = tested-grows m (m.left - cost_of m.machine) (step_of m.machine (next_u32 m.words).0) (nat_lt m.left (cost_of m.machine))
+step-grows : (m : Configuration) → IsFront m.world.text (text_in (step_from m))
+unfolding step_from
+step-grows m = tested-grows m (m.left - cost_of m.machine) (step_of m.machine (next_u32 m.words).0) (nat_lt m.left (cost_of m.machine))
+
+-- a line that is shown
+shown-grows : (m : Configuration) (chars : List ℕ) (b : Bool) → IsFront m.world.text (if b then after m.world (show_line m.world.scene chars) else m.world).text
+shown-grows m chars true = ((show_line m.world.scene chars).1, refl)
+shown-grows m chars false = front-refl m.world.text
+
+act-grows : (doing : Doing) (m : Configuration) → IsFront m.world.text (text_in (act_by doing m))
+act-grows steps m = step-grows m
+act-grows (asks t w) m =
+    asking-cases (λ v. IsFront m.world.text (text_in v)) m w t
+    (line-cases (λ v. IsFront m.world.text (text_in v)) m w (next_line m.input) (front-refl m.world.text) (front-refl m.world.text) (λ chars rest. shown-grows m chars m.echo))
+    (λ files g. front-refl m.world.text) (front-refl m.world.text)
+act-grows (goes_on g w) m =
+    given-cases (λ v. IsFront m.world.text (text_in v)) m w (glk_go_on m.world.scene m.machine.flat w.room g)
+    (λ said reply. (said.1, refl)) (front-refl m.world.text) (λ f. front-refl m.world.text)
+
+moved-grows : (m : Configuration) (b : Bool) → IsFront m.world.text (text_in (if b then goes (all_sent m) else act_of m))
+moved-grows m true = front-refl m.world.text
+moved-grows m false = act-grows m.doing m
+
+move-grows : (m : Configuration) → IsFront m.world.text (text_in (move_of m))
+unfolding move_of
+move-grows m = moved-grows m (sends_now m)
 
 after-grows : (v : Verdict) (on : Configuration → Ending) → ((m : Configuration) → IsFront m.world.text (on m).configuration.world.text) → IsFront (text_in v) (end_after v on).configuration.world.text
 after-grows (goes m) on grows = grows m
@@ -61,10 +91,10 @@ after-grows (stops s m) on grows = front-refl m.world.text
 final_in-grows : (n : ℕ) (m : Configuration) → IsFront m.world.text (final_in n m).configuration.world.text
 final_in-grows zero m = front-refl m.world.text
 final_in-grows (suc n) m =
-    front-trans m.world.text (text_in (event_of m)) (end_after (event_of m) (final_in n)).configuration.world.text
-    (event-grows m) (after-grows (event_of m) (final_in n) (final_in-grows n))
+    front-trans m.world.text (text_in (move_of m)) (end_after (move_of m) (final_in n)).configuration.world.text
+    (move-grows m) (after-grows (move_of m) (final_in n) (final_in-grows n))
 
 -- The text of the end begins with that of each configuration.
 pub final-grows : (m : Configuration) → IsFront m.world.text (final_of m).configuration.world.text
 unfolding final_of
-final-grows m = final_in-grows (suc m.left) m
+final-grows m = final_in-grows (suc (moves_left m)) m

@@ -28,12 +28,16 @@ use Rattle.gx_machine.specs.Step.{cost_of, step_of, mode_step}
 use Rattle.ops_game.specs.Rows as game
 use Rattle.glk_world.specs.World.{Said}
 use Rattle.glk_dispatch.specs.declared.Turn.{Turn}
-use Rattle.glk_dispatch.specs.declared.Turn.TheVariants.{Answer}
-use Rattle.glk_dispatch.specs.Calls.{glk_call, putting}
+use Rattle.glk_dispatch.specs.Calls.{glk_call}
+use Rattle.glk_dispatch.specs.Going.{glk_go_on}
+use Rattle.glk_dispatch.specs.Output.{putting}
 use Rattle.gx_session.specs.declared.ends.Stop.TheVariants as stop
-use Rattle.gx_session.specs.Session.{Configuration, Verdict, goes, stops, after_reply, after_turn, after_effect, after_step, event_of, next_of, run_of}
-use Rattle.gx_session.specs.Undoing.{Undoing, saves, restores, neither, undoing, undoing_row, undoing_by, undoing_in, alive, alive_by, alive_from, IsTaken, AreTaken, LastsUndo}
-use Rattle.gx_session.proofs.Events.{ok-is}
+use Rattle.gx_session.specs.declared.running.Waiting.{Waiting}
+use Rattle.gx_session.specs.Input.{next_line}
+use Rattle.gx_session.specs.Session.{Configuration, Doing, steps, asks as asks-for, goes_on, Verdict, goes, stops, after_reply, after_turn, after_given, after_asking, after_effect, after_step, step_from, act_by, act_of, sends_now, all_sent, move_of, next_of, run_of}
+use Rattle.gx_session.specs.Undoing.{Undoing, saves, restores, neither, undoing, undoing_next, undoing_move, undoing_row, undoing_by, undoing_in, alive, alive_by, alive_from, IsTaken, AreTaken, LastsUndo}
+use Rattle.gx_session.proofs.Cases.{turn-cases, given-cases, line-cases, asking-cases}
+use Rattle.gx_session.proofs.Steps.{ok-is}
 use Rattle.rand_core.specs.Stream.{next_u32}
 
 -- what a step makes of the copies, by what it is to them
@@ -200,19 +204,29 @@ asks-neither m u e saves asks is = absurd (asks is.3)
 asks-neither m u e restores asks is = absurd (asks is.1)
 asks-neither m u e neither asks is = refl
 
--- the configuration that an event comes to
-abbrev configuration_in : Verdict → Configuration
-configuration_in (goes m) = m
-configuration_in (stops s m) = m
+-- what a verdict makes of the copies of an asking, or of a move that is no step
+abbrev KeepsUndo : FlatUndo → Verdict → Type 0
+KeepsUndo u (goes m) = u ≡ m.machine.undo
+KeepsUndo u (stops s m) = Unit {0}
 
-replied-undo : (m : Configuration) (left : ℕ) (r : Result (Said × Reply) Fault) (m' : Configuration) → after_reply m left r ≡ goes m' → m.machine.undo ≡ m'.machine.undo
+replied-undo : (m : Configuration) (left : ℕ) (r : Result (Said × Reply) Fault) → KeepsUndo m.machine.undo (after_reply m left r)
 unfolding answer_of
-replied-undo m left (Ok r) m' e = ap (λ (v : Verdict). (configuration_in v).machine.undo) e
-replied-undo m left (Err f) m' e = cc
+replied-undo m left (Ok r) = refl
+replied-undo m left (Err f) = tt
 
-turned-undo : (m : Configuration) (left : ℕ) (r : Result (Said × Turn) Fault) (m' : Configuration) → after_turn m left r ≡ goes m' → m.machine.undo ≡ m'.machine.undo
-turned-undo m left (Ok (said, Answer reply)) m' e = replied-undo m left (Ok (said, reply)) m' e
-turned-undo m left (Err f) m' e = replied-undo m left (Err f) m' e
+turned-undo : (m : Configuration) (w : Waiting) (r : Result (Said × Turn) Fault) → KeepsUndo m.machine.undo (after_turn m w r)
+turned-undo m w r =
+    turn-cases (KeepsUndo m.machine.undo) m w r (λ said reply. replied-undo m w.left (Ok (said, reply))) (λ said t. refl) (λ said t. refl) (λ said. tt) (λ said. tt) (λ f. tt)
+
+asked-undo : (m : Configuration) (w : Waiting) (t : Turn) → KeepsUndo m.machine.undo (after_asking m w t)
+asked-undo m w t =
+    asking-cases (KeepsUndo m.machine.undo) m w t (line-cases (KeepsUndo m.machine.undo) m w (next_line m.input) tt tt (λ chars rest. refl)) (λ files g. refl) tt
+
+given-undo : (m : Configuration) (w : Waiting) (r : Result (Said × Turn) Fault) → KeepsUndo m.machine.undo (after_given m w r)
+given-undo m w r = given-cases (KeepsUndo m.machine.undo) m w r (λ said reply. replied-undo m w.left (Ok (said, reply))) tt (λ f. tt)
+
+kept-undo : (u : FlatUndo) (v : Verdict) (m' : Configuration) → KeepsUndo u v → v ≡ goes m' → u ≡ m'.machine.undo
+kept-undo u v m' keeps e = subst (KeepsUndo u) e keeps
 
 effected-undone : (m : Configuration) (left : ℕ) (machine : FlatMachine) (does : Effect) (m' : Configuration) → after_effect m left machine does ≡ goes m'
     → Undone m.machine machine.undo does (undoing m.machine.flat) → Undone m.machine m'.machine.undo does (undoing m.machine.flat)
@@ -223,15 +237,15 @@ effected-undone m left machine effect.Drew m' e is =
     let same : machine.undo ≡ m'.machine.undo = cc in
     subst (λ (u : FlatUndo). Undone m.machine u effect.Drew (undoing m.machine.flat)) same is
 effected-undone m left machine (effect.Put c) m' e is =
-    subst (λ (u : FlatUndo). Undone m.machine u (effect.Put c) (undoing m.machine.flat)) (replied-undo m left (putting m.world.scene m.machine.flat c) m' e)
+    subst (λ (u : FlatUndo). Undone m.machine u (effect.Put c) (undoing m.machine.flat)) (kept-undo m.machine.undo (after_reply m left (putting m.world.scene m.machine.flat c)) m' (replied-undo m left (putting m.world.scene m.machine.flat c)) e)
     (asks-neither m.machine machine.undo (effect.Put c) (undoing m.machine.flat) (λ went. cc) is)
 effected-undone m left machine (effect.Glk selector args room) m' e is =
-    subst (λ (u : FlatUndo). Undone m.machine u (effect.Glk selector args room) (undoing m.machine.flat)) (turned-undo m left (glk_call m.world.scene m.machine.flat room selector args.items) m' e)
+    subst (λ (u : FlatUndo). Undone m.machine u (effect.Glk selector args room) (undoing m.machine.flat)) (kept-undo m.machine.undo (after_turn m (record { room = room; left = left }) (glk_call m.world.scene m.machine.flat room selector args.items)) m' (turned-undo m (record { room = room; left = left }) (glk_call m.world.scene m.machine.flat room selector args.items)) e)
     (asks-neither m.machine machine.undo (effect.Glk selector args room) (undoing m.machine.flat) (λ went. cc) is)
 effected-undone m left machine effect.Quit m' e is = cc
 effected-undone m left machine effect.Spent m' e is = cc
 
--- what an event makes of the copies, whatever its effect
+-- what a move makes of the copies, whatever its effect
 record Undid (m : FlatMachine) (u : FlatUndo) (kind : Undoing) : Type 0 where
   does : Effect
   undone : Undone m u does kind
@@ -244,9 +258,27 @@ tested-undid : (m : Configuration) (left word : ℕ) (m' : Configuration) (b : B
 tested-undid m left word m' true e = cc
 tested-undid m left word m' false e = stepped-undid m left word (step_of m.machine word) m' refl e
 
-event-undid : (m m' : Configuration) → event_of m ≡ goes m' → Undid m.machine m'.machine.undo (undoing m.machine.flat)
-unfolding event_of
-event-undid m m' e = tested-undid m (m.left - cost_of m.machine) (next_u32 m.words).0 m' (nat_lt m.left (cost_of m.machine)) e
+step-undid : (m m' : Configuration) → step_from m ≡ goes m' → Undid m.machine m'.machine.undo (undoing m.machine.flat)
+unfolding step_from
+step-undid m m' e = tested-undid m (m.left - cost_of m.machine) (next_u32 m.words).0 m' (nat_lt m.left (cost_of m.machine)) e
+
+stood-undid : (m : FlatMachine) (u : FlatUndo) → m.undo ≡ u → Undid m u neither
+stood-undid m u same = record { does = effect.Went; undone = sym same }
+
+act-undid : (doing : Doing) (m m' : Configuration) → act_by doing m ≡ goes m' → Undid m.machine m'.machine.undo (undoing_next doing m.machine.flat)
+act-undid steps m m' e = step-undid m m' e
+act-undid (asks-for t w) m m' e = stood-undid m.machine m'.machine.undo (kept-undo m.machine.undo (after_asking m w t) m' (asked-undo m w t) e)
+act-undid (goes_on g w) m m' e =
+    stood-undid m.machine m'.machine.undo (kept-undo m.machine.undo (after_given m w (glk_go_on m.world.scene m.machine.flat w.room g)) m' (given-undo m w (glk_go_on m.world.scene m.machine.flat w.room g)) e)
+
+moved-undid : (m m' : Configuration) (b : Bool) → (if b then goes (all_sent m) else act_of m) ≡ goes m'
+    → Undid m.machine m'.machine.undo (if b then neither else undoing_next m.doing m.machine.flat)
+moved-undid m m' true e = stood-undid m.machine m'.machine.undo (kept-undo m.machine.undo (goes (all_sent m)) m' refl e)
+moved-undid m m' false e = act-undid m.doing m m' e
+
+move-undid : (m m' : Configuration) → move_of m ≡ goes m' → Undid m.machine m'.machine.undo (undoing_move m)
+unfolding move_of
+move-undid m m' e = moved-undid m m' (sends_now m) e
 
 -- the copies of fewer saveundos
 taken-take : (start : Configuration) (n : ℕ) (cs : List Copy) (js : List ℕ) → AreTaken start cs js → AreTaken start (take n cs) (take n js)
@@ -267,7 +299,7 @@ record Lasts (start : Configuration) (j : ℕ) (u : FlatUndo) (live : List ℕ) 
   depth : u.depth ≡ start.machine.undo.depth
   taken : AreTaken start u.copies live
 
--- one more event
+-- one more move
 lasts-on : (start m m' : Configuration) (j : ℕ) (live : List ℕ) (does : Effect) (kind : Undoing) → run_of start j ≡ Some m → Lasts start j m.machine.undo live → Undone m.machine m'.machine.undo does kind
     → Lasts start (suc j) m'.machine.undo (alive_by start.machine.undo.depth j live kind)
 lasts-on start m m' j live does saves reached now is =
@@ -299,14 +331,14 @@ next-goes (stops s m') m e = cc
 start-is : (start m : Configuration) → Some start ≡ Some m → start ≡ m
 start-is start m e = cc
 
--- the configuration after one more event
+-- the configuration after one more move
 module _ (start : Configuration) (j : ℕ) (m' : Configuration) where
   lasts-next : (o : Option Configuration) → run_of start j ≡ o → ((m : Configuration) → run_of start j ≡ Some m → Lasts start j m.machine.undo (alive start j))
-      → option_and_then (λ m. next_of (event_of m)) o ≡ Some m' → Lasts start (suc j) m'.machine.undo (alive_from start.machine.undo.depth j (alive start j) o)
+      → option_and_then (λ m. next_of (move_of m)) o ≡ Some m' → Lasts start (suc j) m'.machine.undo (alive_from start.machine.undo.depth j (alive start j) o)
   lasts-next None is before e = cc
   lasts-next (Some m) is before e =
-      let did : Undid m.machine m'.machine.undo (undoing m.machine.flat) = event-undid m m' (next-goes (event_of m) m' e) in
-      lasts-on start m m' j (alive start j) did.does (undoing m.machine.flat) is (before m is) did.undone
+      let did : Undid m.machine m'.machine.undo (undoing_move m) = move-undid m m' (next-goes (move_of m) m' e) in
+      lasts-on start m m' j (alive start j) did.does (undoing_move m) is (before m is) did.undone
 
 lasts : (start : Configuration) → start.machine.undo.copies ≡ [] → (j : ℕ) (m : Configuration) → run_of start j ≡ Some m → Lasts start j m.machine.undo (alive start j)
 unfolding alive

@@ -1,47 +1,159 @@
--- The four ways in which a run is cut short: a step, or the answer to what it asked, wants memory, or a send is
--- refused, after an event or at the end.
-use Rattle.std.specs.Prelude.{◌≡◌, ℕ, suc, IsTrue, Option, Some, None, IsSome, IsOk}
+-- The ways in which a run is cut short: memory ran out, or a device failed.
+use Rattle.std.specs.Prelude.{◌≡◌, ◌≢◌, ℕ, suc, ◌<◌, ◌≤◌, List, [], ◌∷◌, ◌++◌, length, ◌⊎◌, false, true, Option, Some, None, IsOk, IsSomeAnd}
 use Rattle.gx_machine.specs.declared.askings.Asking.{Asking}
 use Rattle.gx_machine.specs.Step.{stepped}
-use Rattle.gx_session.specs.declared.running.TheConstants.{ENOUGH}
-use Rattle.gx_session.specs.declared.statuses.TheConstants.{NO_MEMORY}
-use Rattle.gx_session.specs.Session.{Configuration, event_of, next_of, run_of, final_of, asked, asked_at}
-use Rattle.gx_session.specs.Sending.{Sent, is_due, with_all, sent_by, sent_before_end}
+use Rattle.gx_outside.specs.Files.{Files}
+use Rattle.gx_outside.specs.Outside.{KeepsOthers}
+use Rattle.glk_dispatch.specs.declared.Turn.{Turn}
+use Rattle.glk_dispatch.specs.declared.Turn.TheVariants as turn
+use Rattle.gx_session.specs.declared.ends.Stop.{Stop}
+use Rattle.gx_session.specs.declared.ends.Stop.TheVariants as stop
+use Rattle.gx_session.specs.declared.running.TheConstants.{MOST_LOADED}
+use Rattle.gx_session.specs.declared.statuses.TheConstants.{SHELF_FAULT, INPUT_FAULT, OUTPUT_FAULT, NO_MEMORY}
+use Rattle.gx_session.specs.Session.{Configuration, Doing, steps, asks, goes_on, Verdict, goes, stops, act_of, sends_now, run_of, final_of, asked, asked_at}
+use Rattle.gx_session.specs.Sending.{is_due}
+use Rattle.gx_session.specs.Endings.{Store, stores_of, told_all, after_stores}
 use Rattle.rand_core.specs.Stream.{next_u32}
 
 pub data Cut : Type 0 where
-  -- the step after so many events wanted memory
-  in_step : ℕ → Cut
-  -- so did the answer to what that step asked
-  in_answer : ℕ → Cut
-  -- the text that was due after the event behind so many others was refused
+  -- the move after so many wanted memory
+  in_move : ℕ → Cut
+  -- the text that was due then was refused
   in_send : ℕ → Cut
-  -- so was the text that was due at the end
-  at_end : Cut
+  -- so was what the shelf was asked then
+  in_question : ℕ → Cut
+  -- the source failed at the wait that came then
+  in_reading : ℕ → Cut
+  -- the text that was due at the end was refused
+  in_last_send : Cut
+  -- the list of the files that are open at the end wanted memory
+  in_listing : Cut
+  -- after these stores of the ending this one was refused
+  in_store : List Store → Store → Cut
+
+-- a verdict that is no fault
+abbrev pub HasNoFault : Verdict → Type 0
+HasNoFault (goes m) = Unit {0}
+HasNoFault (stops (stop.Faulted fault) m) = ⊥
+HasNoFault (stops s m) = Unit {0}
+
+-- a turn that waits for a line
+abbrev pub IsWait : Turn → Type 0
+IsWait turn.Wait = Unit {0}
+IsWait turn.Prompt = Unit {0}
+IsWait t = ⊥
+
+-- a turn that asks the shelf
+abbrev pub IsQuestion : Turn → Type 0
+IsQuestion (turn.Load name) = Unit {0}
+IsQuestion (turn.Store name bytes) = Unit {0}
+IsQuestion (turn.Remove name) = Unit {0}
+IsQuestion (turn.Has name) = Unit {0}
+IsQuestion t = ⊥
+
+-- The shelf may want memory: at a load only where there are bytes to be handed out.
+abbrev pub MayWant : Files → Turn → Type 0
+MayWant files (turn.Load name) = IsSomeAnd (files name) (λ bytes. length bytes ≤ MOST_LOADED)
+MayWant files t = Unit {0}
+
+-- What comes next may want memory, with a machine that asks this: a step, or the answer to what it asked, where it
+-- has no fault; a wait where there is input.
+abbrev pub WantsMemory : Doing → Configuration → Option Asking → Type 0
+WantsMemory steps m asking =
+    ((asking ≡ None) × IsOk (stepped (record { machine = m.machine; asking = None }) (next_u32 m.words).0 m.left))
+    ⊎ ((asking ≡ asked m) × HasNoFault (act_of m))
+WantsMemory (asks t w) m asking = (asking ≡ asked m) × IsWait t × (0 < length m.input)
+WantsMemory (goes_on g w) m asking = (asking ≡ asked m) × HasNoFault (act_of m)
+
+-- what the machine asks between two moves
+abbrev pub asking_between : Doing → Configuration → Option Asking
+asking_between steps m = None
+asking_between d m = asked m
+
+-- a turn that is pending is refused by the shelf
+abbrev pub IsRefusedBy : Doing → Configuration → ℕ → Type 0
+IsRefusedBy (asks t w) m status = IsQuestion t × ((status ≡ SHELF_FAULT) ⊎ ((status ≡ NO_MEMORY) × MayWant m.files t))
+IsRefusedBy d m status = ⊥
+
+abbrev pub IsWaiting : Doing → Type 0
+IsWaiting (asks t w) = IsWait t
+IsWaiting d = ⊥
+
+abbrev pub IsSendStatus : ℕ → Type 0
+IsSendStatus status = (status ≡ OUTPUT_FAULT) ⊎ (status ≡ NO_MEMORY)
+
+abbrev pub IsShelfStatus : ℕ → Type 0
+IsShelfStatus status = (status ≡ SHELF_FAULT) ⊎ (status ≡ NO_MEMORY)
+
+-- the configuration of the stop
+abbrev pub stopped : Configuration → Configuration
+stopped start = (final_of start).configuration
+
+-- what the machine asks there
+abbrev pub asking_at_stop : Configuration → Option Asking
+asking_at_stop start = asked_at (final_of start).stop (stopped start)
 
 -- The run is cut short so, at this configuration, with this status and with a machine that asks this. Memory is
--- wanted only where the definition has no fault, and a send is refused only where it is due.
+-- wanted only where the definition has no fault; a send is refused only where it is due, and the shelf and the source
+-- fail only where they are asked, once all text was sent.
 abbrev pub IsCut : Configuration → Cut → Configuration → ℕ → Option Asking → Type 0
-IsCut start (in_step j) m status asking =
-    (run_of start j ≡ Some m) × (asking ≡ None) × (status ≡ NO_MEMORY)
-    × IsOk (stepped (record { machine = m.machine; asking = None }) (next_u32 m.words).0 m.left)
-IsCut start (in_answer j) m status asking =
-    (run_of start j ≡ Some m) × (asking ≡ asked m) × (status ≡ NO_MEMORY) × IsSome (next_of (event_of m))
-IsCut start (in_send j) m status asking =
-    (run_of start (suc j) ≡ Some m) × (asking ≡ None) × IsTrue (is_due ENOUGH (sent_by start j) m.world.text)
-IsCut start at_end m status asking =
-    (m ≡ (final_of start).configuration) × (asking ≡ asked_at (final_of start).stop m) × IsTrue (is_due 1 (sent_before_end start) m.world.text)
+IsCut start (in_move j) m status asking = (run_of start j ≡ Some m) × (sends_now m ≡ false) × (status ≡ NO_MEMORY) × WantsMemory m.doing m asking
+IsCut start (in_send j) m status asking = (run_of start j ≡ Some m) × (sends_now m ≡ true) × IsSendStatus status × (asking ≡ asking_between m.doing m)
+IsCut start (in_question j) m status asking = (run_of start j ≡ Some m) × (sends_now m ≡ false) × IsRefusedBy m.doing m status × (asking ≡ asked m)
+IsCut start (in_reading j) m status asking = (run_of start j ≡ Some m) × (sends_now m ≡ false) × (status ≡ INPUT_FAULT) × IsWaiting m.doing × (asking ≡ asked m)
+IsCut start in_last_send m status asking = (m ≡ stopped start) × (is_due 1 m.sent m.world.text ≡ true) × IsSendStatus status × (asking ≡ asking_at_stop start)
+IsCut start in_listing m status asking = (m ≡ told_all (stopped start)) × (status ≡ NO_MEMORY) × (asking ≡ asking_at_stop start)
+IsCut start (in_store stores next) m status asking =
+    (m ≡ after_stores (told_all (stopped start)) stores) × IsShelfStatus status × (asking ≡ asking_at_stop start)
+    × ((rest : List Store) × (stores_of m.world.scene ≡ stores ++ next ∷ rest))
 
--- what was sent before
-abbrev pub sent_before : Configuration → Cut → Sent
-sent_before start (in_step j) = sent_by start j
-sent_before start (in_answer j) = sent_by start j
-sent_before start (in_send j) = sent_by start j
-sent_before start at_end = sent_before_end start
+-- how many bytes were sent at most, and in how many calls
+abbrev pub most_sent : Cut → Configuration → ℕ
+most_sent (in_send j) m = length m.world.text
+most_sent in_last_send m = length m.world.text
+most_sent cut m = m.sent.bytes
 
--- the same with the send that was refused
-abbrev pub sent_at : Configuration → Cut → Configuration → Sent
-sent_at start (in_step j) m = sent_by start j
-sent_at start (in_answer j) m = sent_by start j
-sent_at start (in_send j) m = with_all (sent_by start j) m.world.text
-sent_at start at_end m = with_all (sent_before_end start) m.world.text
+abbrev pub sends_at : Cut → Configuration → ℕ
+sends_at (in_send j) m = suc m.sent.calls
+sends_at in_last_send m = suc m.sent.calls
+sends_at cut m = m.sent.calls
+
+-- how often the shelf was asked
+abbrev pub asked_by_cut : Cut → Configuration → ℕ
+asked_by_cut (in_question j) m = suc m.asked
+asked_by_cut (in_store stores next) m = suc m.asked
+asked_by_cut cut m = m.asked
+
+-- a stop at which a line was awaited
+abbrev pub IsLineStop : Stop → Type 0
+IsLineStop stop.InputEnded = Unit {0}
+IsLineStop stop.LineTooLong = Unit {0}
+IsLineStop s = ⊥
+
+-- The run was cut short after such a stop, and after one at too long a line.
+abbrev pub AwaitedAt : Configuration → Cut → Type 0
+AwaitedAt start in_last_send = IsLineStop (final_of start).stop
+AwaitedAt start in_listing = IsLineStop (final_of start).stop
+AwaitedAt start (in_store stores next) = IsLineStop (final_of start).stop
+AwaitedAt start cut = ⊥
+
+abbrev pub LongAt : Configuration → Cut → Type 0
+LongAt start in_last_send = (final_of start).stop ≡ stop.LineTooLong
+LongAt start in_listing = (final_of start).stop ≡ stop.LineTooLong
+LongAt start (in_store stores next) = (final_of start).stop ≡ stop.LineTooLong
+LongAt start cut = ⊥
+
+-- After a refused store or remove the file of its name is open; the others stand, and so do all after every other refusal.
+abbrev pub LeavesFiles : Turn → Files → Files → Type 0
+LeavesFiles (turn.Store name bytes) before after = KeepsOthers before after name
+LeavesFiles (turn.Remove name) before after = KeepsOthers before after name
+LeavesFiles t before after = after ≡ before
+
+abbrev pub LeavesBy : Doing → Files → Files → Type 0
+LeavesBy (asks t w) before after = LeavesFiles t before after
+LeavesBy d before after = after ≡ before
+
+abbrev pub FilesAt : Cut → Configuration → Files → Type 0
+FilesAt (in_question j) m files = LeavesBy m.doing m.files files
+FilesAt (in_store stores next) m files = KeepsOthers m.files files next.0
+FilesAt cut m files = files ≡ m.files

@@ -1,8 +1,14 @@
 pub mod Devices
-pub mod Session
 pub mod Sending
+pub mod Input
+pub mod Session
+pub mod Endings
+pub mod Counts
 pub mod Cuts
 pub mod Runs
+pub mod Reports
 pub mod Lines
+pub mod Reading
+pub mod Questions
 pub mod Playing
 pub mod Undoing

@@ -1,43 +1,68 @@
 -- How the code plays a session: what it holds is a configuration of the run, after text that was sent.
-use Rattle.std.specs.Prelude.{◌≡◌, ◌≢◌, ℕ, ◌+◌, ◌<◌, ◌≤◌, suc, List, [], ◌++◌, ◌⊎◌, length, IsSome, IsOk, OnOk, OnErr, true, Result, Ok, Err, Option, Some, None}
+use Rattle.std.specs.Prelude.{◌≡◌, ◌≢◌, ℕ, suc, ◌<◌, ◌≤◌, List, [], ◌++◌, ◌⊎◌, length, IsSome, IsOk, IfOk, OnOk, OnErr, Bool, true, false, Result, Ok, Err, Option, Some, None}
+use Rattle.gx_words.specs.declared.faults.Fault.{Fault}
+use Rattle.gx_words.specs.declared.faults.Fault.TheVariants.{NoMemory}
 use Rattle.gx_state.specs.declared.effects.Effect.{Effect}
 use Rattle.gx_state.specs.declared.effects.Reply.{Reply}
 use Rattle.gx_machine.specs.declared.askings.Asking.{Asking}
 use Rattle.gx_machine.specs.Machine.{FlatMachine, Whole}
 use Rattle.gx_machine.specs.Answer.{answered}
 use Rattle.gx_machine.specs.Step.{asking_of}
-use Rattle.gx_outside.specs.Outside.{FlatSink, raised_by}
+use Rattle.gx_outside.specs.Outside.{FlatSource, FlatSink, FlatShelf, raised_by}
+use Rattle.gx_outside.specs.declared.calls.Calls.{Calls}
 use Rattle.gx_outside.specs.declared.devices.SendFault.{SendFault}
-use Rattle.gx_outside.specs.declared.devices.SendFault.TheVariants as send
-use Rattle.glk_world.specs.World.{FlatWorld}
-use Rattle.gx_words.specs.declared.faults.Fault.{Fault}
-use Rattle.gx_words.specs.declared.faults.Fault.TheVariants.{NoMemory}
+use Rattle.gx_outside.specs.declared.devices.SendFault.TheVariants as of_send
+use Rattle.gx_outside.specs.declared.devices.ShelfFault.{ShelfFault}
+use Rattle.gx_outside.specs.declared.devices.ShelfFault.TheVariants as of_shelf
+use Rattle.glk_world.specs.World.{FlatWorld, Said, after}
 use Rattle.glk_dispatch.specs.declared.Turn.{Turn}
-use Rattle.glk_dispatch.specs.declared.Turn.TheVariants.{Answer}
+use Rattle.glk_dispatch.specs.declared.Given.{Given}
 use Rattle.gx_session.specs.declared.ends.Stop.{Stop}
 use Rattle.gx_session.specs.declared.ends.Stop.TheVariants as stop
 use Rattle.gx_session.specs.declared.ends.Halt.{Halt}
 use Rattle.gx_session.specs.declared.ends.Halt.TheVariants as halt
 use Rattle.gx_session.specs.declared.ends.Next.{Next}
 use Rattle.gx_session.specs.declared.ends.Next.TheVariants as next
+use Rattle.gx_session.specs.declared.lines.NoLine.{NoLine}
+use Rattle.gx_session.specs.declared.lines.NoLine.TheVariants as no
+use Rattle.gx_session.specs.declared.lines.TheConstants.{PIECE}
 use Rattle.gx_session.specs.declared.running.Running.{Running}
-use Rattle.gx_session.specs.declared.statuses.TheConstants.{OUTPUT_FAULT, NO_MEMORY}
+use Rattle.gx_session.specs.declared.running.Waiting.{Waiting}
+use Rattle.gx_session.specs.declared.statuses.TheConstants.{SHELF_FAULT, INPUT_FAULT, OUTPUT_FAULT, NO_MEMORY}
+use Rattle.gx_session.specs.Counts.{Blames, IsUntold}
+use Rattle.gx_session.specs.Cuts.{IsWait, IsLineStop, stopped, asking_at_stop}
 use Rattle.gx_session.specs.Devices.{Devices}
-use Rattle.gx_session.specs.Session.{Configuration, event_of, after_effect, final_of, events_of, run_of, asked, asked_at}
-use Rattle.gx_session.specs.Sending.{Sent, sent_by, sent_before_end}
+use Rattle.gx_session.specs.Endings.{Store, stores_of, stored, told_all, StoredAll, StoredSome}
+use Rattle.gx_session.specs.Input.{line, next_line}
+use Rattle.gx_session.specs.Session.{Configuration, Doing, steps, asks, goes_on, act_of, after_effect, after_reply, after_turn, after_given, sends_now, final_of, run_of, asked, asked_at}
+use Rattle.gx_session.specs.Reading.{ReadsFew}
 use Rattle.gx_session.specs.Runs.{StopsEarly}
 use Rattle.rand_core.specs.Stream.{Stream, next_u32}
 
--- What a run holds beside its devices: the machine, the world with the text that wasn't sent yet, a
--- random word that was drawn and not used, and the units left.
+-- What a run holds beside its devices: the machine, the world with the text that wasn't sent yet, the input that
+-- was read and not taken and what comes after it, whether the source has ended, whether lines are shown, a random word that was drawn and not used,
+-- and the units left.
 pub record Held : Type 0 where
   pub machine : FlatMachine
   pub world : FlatWorld
+  pub ahead : List ℕ
+  pub coming : List ℕ
+  pub over : Bool
+  pub echo : Bool
   pub word : Option ℕ
   pub left : ℕ
 
-abbrev pub held : {E : Type 0} → (E → Whole) → Running E → Held
-held whole run = record { machine = (whole run.engine).machine; world = run.world; word = run.word; left = run.left }
+abbrev pub held : {E : Type 0} → (E → Whole) → Running E → List ℕ → Held
+held whole run coming = record {
+  machine = (whole run.engine).machine;
+  world = run.world;
+  ahead = run.lines.held;
+  coming = coming;
+  over = run.lines.ended;
+  echo = run.echo;
+  word = run.word;
+  left = run.left;
+}
 
 -- what its machine asks
 abbrev pub asking_in : {E : Type 0} → (E → Whole) → Running E → Option Asking
@@ -48,20 +73,27 @@ abbrev pub WordIs : Option ℕ → Stream → Stream → Type 0
 WordIs None stream words = words ≡ stream
 WordIs (Some word) stream words = next_u32 words ≡ (word, stream)
 
--- the configuration that is held, after text that was sent
-abbrev pub configuration_of : List ℕ → Stream → Held → Devices → Configuration
-configuration_of sent words h d = record {
-  machine = h.machine;
-  world = record { scene = h.world.scene; text = sent ++ h.world.text };
-  input = d.source.left;
-  files = d.shelf.files;
-  words = words;
-  left = h.left;
-}
+-- What was done so far: the text that was sent, in so many calls; how often the shelf was asked; the words that are to come.
+pub record Past : Type 0 where
+  pub sent : List ℕ
+  pub sends : ℕ
+  pub asked : ℕ
+  pub words : Stream
 
--- what was sent, as a session has it
-abbrev pub sent_in : List ℕ → ℕ → Sent
-sent_in sent calls = record { bytes = length sent; calls = calls }
+-- the configuration that is held
+abbrev pub configuration_of : Past → Doing → Held → Devices → Configuration
+configuration_of p doing h d = record {
+  machine = h.machine;
+  world = record { scene = h.world.scene; text = p.sent ++ h.world.text };
+  sent = record { bytes = length p.sent; calls = p.sends };
+  input = h.ahead ++ h.coming;
+  echo = h.echo;
+  files = d.shelf.files;
+  asked = p.asked;
+  words = p.words;
+  left = h.left;
+  doing = doing;
+}
 
 -- The sink has taken this since entry, in so many calls.
 pub record HasTaken (entry now : FlatSink) (sent : List ℕ) (calls : ℕ) : Type 0 where
@@ -69,50 +101,69 @@ pub record HasTaken (entry now : FlatSink) (sent : List ℕ) (calls : ℕ) : Typ
   pub made : now.calls.made ≡ raised_by calls entry.calls.made
   pub taken : now.tells ≡ true → now.taken ≡ entry.taken ++ sent
 
--- What is held stands after so many events of the run from the start, and this was sent.
-pub record Standing (start : Configuration) (entry : Devices) (h : Held) (d : Devices) : Type 0 where
-  pub sent : List ℕ
-  pub calls : ℕ
-  pub words : Stream
-  pub events : ℕ
-  pub has_taken : HasTaken entry.sink d.sink sent calls
-  pub word_is : WordIs h.word d.words words
-  pub reached : run_of start events ≡ Some (configuration_of sent words h d)
-  pub same_end : final_of (configuration_of sent words h d) ≡ final_of start
-  pub same_events : events + events_of (configuration_of sent words h d) ≡ events_of start
+-- The devices are those at entry after what was done so far.
+pub record IsPast (first : List ℕ) (entry : Devices) (p : Past) (h : Held) (d : Devices) : Type 0 where
+  pub taken : HasTaken entry.sink d.sink p.sent p.sends
+  pub asked : d.shelf.calls.made ≡ raised_by p.asked entry.shelf.calls.made
+  pub told : d.shelf.tells ≡ entry.shelf.tells
+  pub word : WordIs h.word d.words p.words
+  pub left : d.source.tells ≡ true → h.coming ≡ d.source.left
+  pub fewer : length (h.ahead ++ h.coming) ≤ length first
+  pub reads : ReadsFew false h.over entry.source d.source first h.coming 0
 
--- So it stands, and all that is due by then was sent.
-pub record Going (start : Configuration) (entry : Devices) (h : Held) (d : Devices) : Type 0 where
-  pub now : Standing start entry h d
-  pub sent_is : sent_by start now.events ≡ sent_in now.sent now.calls
+-- The source wasn't asked where no line was taken.
+abbrev pub IsRead : List ℕ → Devices → Held → Devices → Type 0
+IsRead first entry h d = (d.source ≡ entry.source) ⊎ (length (h.ahead ++ h.coming) < length first)
 
--- So it stands after an event, and all that was due before the event was sent.
-pub record Gone (start : Configuration) (entry : Devices) (h : Held) (d : Devices) : Type 0 where
-  pub now : Standing start entry h d
-  pub before : ℕ
-  pub one_more : now.events ≡ suc before
-  pub sent_is : sent_by start before ≡ sent_in now.sent now.calls
+-- What is held stands after so many moves of the run from the start.
+pub record Standing (start : Configuration) (entry : Devices) (h : Held) (d : Devices) (doing : Doing) : Type 0 where
+  pub past : Past
+  pub moves : ℕ
+  pub is_past : IsPast start.input entry past h d
+  pub few : length h.ahead < PIECE
+  pub reads : IsRead start.input entry h d
+  pub reached : run_of start moves ≡ Some (configuration_of past doing h d)
+  pub same_end : final_of (configuration_of past doing h d) ≡ final_of start
 
--- The end has come, and so much was sent.
-pub record Done (start : Configuration) (entry : Devices) (h : Held) (asking : Option Asking) (d : Devices) (stop : Stop) (so_far : Sent) : Type 0 where
-  pub sent : List ℕ
-  pub calls : ℕ
-  pub words : Stream
-  pub has_taken : HasTaken entry.sink d.sink sent calls
-  pub word_is : WordIs h.word d.words words
-  pub is_end : final_of start ≡ record { stop = stop; configuration = configuration_of sent words h d }
-  pub asks : asking ≡ asked_at stop (configuration_of sent words h d)
-  pub sent_is : so_far ≡ sent_in sent calls
+-- So it stands, and no text is due.
+pub record Ready (start : Configuration) (entry : Devices) (h : Held) (d : Devices) (doing : Doing) : Type 0 where
+  pub now : Standing start entry h d doing
+  pub quiet : sends_now (configuration_of now.past doing h d) ≡ false
+
+-- So it stands before a step.
+abbrev pub Going : Configuration → Devices → Held → Devices → Type 0
+Going start entry h d = Ready start entry h d steps
+
+-- So it stands in the middle of a Glk call, with a machine that asks for it.
+pub record Waits (start : Configuration) (entry : Devices) (h : Held) (asking : Option Asking) (d : Devices) (doing : Doing) : Type 0 where
+  pub now : Standing start entry h d doing
+  pub asking_is : asking ≡ asked (configuration_of now.past doing h d)
+
+-- A stop has come.
+pub record Done (start : Configuration) (entry : Devices) (h : Held) (asking : Option Asking) (d : Devices) (why : Stop) : Type 0 where
+  pub past : Past
+  pub doing : Doing
+  pub is_past : IsPast start.input entry past h d
+  pub few : why ≢ stop.LineTooLong → length h.ahead < PIECE
+  pub reads : (IsLineStop why → ⊥) → IsRead start.input entry h d
+  pub is_end : final_of start ≡ record { stop = why; configuration = configuration_of past doing h d }
+  pub asking_is : asking ≡ asked_at why (configuration_of past doing h d)
 
 -- the status of a run that is cut short
 abbrev pub status_of_halt : Halt → ℕ
+status_of_halt halt.Shelf = SHELF_FAULT
+status_of_halt halt.Input = INPUT_FAULT
 status_of_halt halt.Output = OUTPUT_FAULT
 status_of_halt halt.NoMemory = NO_MEMORY
 
--- what a refused send is to a run
-abbrev pub halt_of : SendFault → Halt
-halt_of send.Failed = halt.Output
-halt_of send.NoMemory = halt.NoMemory
+-- what a refused send, or a refused question, is to a run
+abbrev pub halt_of_send : SendFault → Halt
+halt_of_send of_send.Failed = halt.Output
+halt_of_send of_send.NoMemory = halt.NoMemory
+
+abbrev pub halt_of_shelf : ShelfFault → Halt
+halt_of_shelf of_shelf.Failed = halt.Shelf
+halt_of_shelf of_shelf.NoMemory = halt.NoMemory
 
 -- The run is cut short.
 abbrev pub Early : Configuration → Devices → Held → Option Asking → Devices → Halt → Type 0
@@ -125,36 +176,64 @@ pub record Follows (start : Configuration) (entry : Devices) (h : Held) (d : Dev
   pub word : ℕ
   pub drawn : h.word ≡ Some word
   pub going : Going start entry (record h { machine = before }) d
-  pub event : let m = configuration_of going.now.sent going.now.words (record h { machine = before }) d in event_of m ≡ after_effect m left h.machine does
-  pub asks : let m = configuration_of going.now.sent going.now.words (record h { machine = before }) d in IsSome (asking_of does) → asked m ≡ asking_of does
+  pub event : let m = configuration_of going.now.past steps (record h { machine = before }) d in act_of m ≡ after_effect m left h.machine does
+  pub asks : let m = configuration_of going.now.past steps (record h { machine = before }) d in IsSome (asking_of does) → asked m ≡ asking_of does
   pub stands : IsSome (asking_of does) → h.machine ≡ before
+
+-- what may be answered at once: a step, and a call that goes on
+abbrev pub IsAnswering : Doing → Type 0
+IsAnswering steps = Unit {0}
+IsAnswering (asks t w) = ⊥
+IsAnswering (goes_on g w) = Unit {0}
+
+-- The Glk world has answered the machine from a configuration of the run, and has moved on.
+pub record Replies (start : Configuration) (entry : Devices) (h : Held) (asking : Option Asking) (d : Devices) (left : ℕ) (reply : Reply) : Type 0 where
+  -- the world before
+  pub world : FlatWorld
+  pub said : Said
+  pub doing : Doing
+  pub moved : h.world ≡ after world said
+  pub going : Ready start entry (record h { world = world }) d doing
+  pub answering : IsAnswering doing
+  pub event : let m = configuration_of going.now.past doing (record h { world = world }) d in act_of m ≡ after_reply m left (Ok (said, reply))
+  pub asks : let m = configuration_of going.now.past doing (record h { world = world }) d in asking ≡ asked m
+
+-- A Glk call has come to a turn from a configuration of the run.
+pub record Turns (start : Configuration) (entry : Devices) (h : Held) (asking : Option Asking) (d : Devices) (w : Waiting) (turn : Turn) : Type 0 where
+  pub world : FlatWorld
+  pub said : Said
+  pub moved : h.world ≡ after world said
+  pub going : Going start entry (record h { world = world }) d
+  pub event : let m = configuration_of going.now.past steps (record h { world = world }) d in act_of m ≡ after_turn m w (Ok (said, turn))
+  pub asks : let m = configuration_of going.now.past steps (record h { world = world }) d in asking ≡ asked m
 
 -- Want of memory is no fault that a run stops at.
 abbrev pub IsStop : Stop → Type 0
-IsStop stop.Ended = Unit {0}
 IsStop (stop.Faulted fault) = fault ≢ NoMemory
-IsStop stop.Spent = Unit {0}
+IsStop s = Unit {0}
 
 abbrev pub IsNext : Next → Type 0
 IsNext next.Goes = Unit {0}
 IsNext (next.Stops stop) = IsStop stop
 
--- what an event comes to, before the text is sent that is due after it
+-- WHAT A PART OF A RUN COMES TO
+-- an event
+abbrev pub Gives : Configuration → Devices → Held → Option Asking → Devices → Result Next Halt → Type 0
+Gives start entry h asking d (Ok next.Goes) = Going start entry h d
+Gives start entry h asking d (Ok (next.Stops stop)) = Done start entry h asking d stop
+Gives start entry h asking d (Err why) = Early start entry h asking d why
+
+-- The same, unless a shelf that tells nothing was asked.
 abbrev pub EventGives : Configuration → Devices → Held → Option Asking → Devices → Result Next Halt → Type 0
-EventGives start entry h asking d (Ok next.Goes) = Gone start entry h d
-EventGives start entry h asking d (Ok (next.Stops stop)) = Done start entry h asking d stop (sent_before_end start)
-EventGives start entry h asking d (Err why) = Early start entry h asking d why
+EventGives start entry h asking d result = IsUntold entry.shelf d.shelf ⊎ Gives start entry h asking d result
 
--- the same once that text is sent
-abbrev pub NextGives : Configuration → Devices → Held → Option Asking → Devices → Result Next Halt → Type 0
-NextGives start entry h asking d (Ok next.Goes) = Going start entry h d
-NextGives start entry h asking d (Ok (next.Stops stop)) = Done start entry h asking d stop (sent_before_end start)
-NextGives start entry h asking d (Err why) = Early start entry h asking d why
+-- the same of all events
+abbrev pub Ends : Configuration → Devices → Held → Option Asking → Devices → Result Stop Halt → Type 0
+Ends start entry h asking d (Ok stop) = Done start entry h asking d stop
+Ends start entry h asking d (Err why) = Early start entry h asking d why
 
--- what all events come to, with so much sent
-abbrev pub StopGives : Configuration → Devices → Held → Option Asking → Devices → Sent → Result Stop Halt → Type 0
-StopGives start entry h asking d so_far (Ok stop) = Done start entry h asking d stop so_far
-StopGives start entry h asking d so_far (Err why) = Early start entry h asking d why
+abbrev pub StopGives : Configuration → Devices → Held → Option Asking → Devices → Result Stop Halt → Type 0
+StopGives start entry h asking d result = IsUntold entry.shelf d.shelf ⊎ Ends start entry h asking d result
 
 -- what a fault comes to
 abbrev pub FaultGives : Fault → Result Next Halt → Type 0
@@ -173,13 +252,108 @@ pub record Flushes (enough : ℕ) (before now : FlatSink) (old new : FlatWorld) 
   pub few : length old.text < enough → (now ≡ before) × (new ≡ old) × IsOk result
   pub many : enough ≤ length old.text → SendsAll before now old new result
 
--- The machine took a reply, or stands for want of memory.
+-- The machine took a reply, or stands for want of memory; all else stands.
 pub record TakesReply {E T : Type 0} (whole : E → Whole) (old new : Running E) (reply : Reply) (left : ℕ) (result : Result T Halt) : Type 0 where
-  pub world : new.world ≡ old.world
-  pub word : new.word ≡ old.word
-  pub ok : OnOk result ((whole new.engine ≡ answered (whole old.engine) reply) × (new.left ≡ left))
-  pub err : OnErr result ((whole new.engine ≡ whole old.engine) × (new.left ≡ old.left))
+  pub ok : OnOk result ((whole new.engine ≡ answered (whole old.engine) reply) × (new ≡ record old { engine = new.engine; left = left }))
+  pub err : OnErr result ((whole new.engine ≡ whole old.engine) × (new ≡ record old { engine = new.engine }))
 
--- the machine took the reply of the turn
-abbrev pub TakesTurn : {E T : Type 0} → (E → Whole) → Running E → Running E → Turn → ℕ → Result T Halt → Type 0
-TakesTurn whole old new (Answer reply) left result = TakesReply whole old new reply left result
+-- Where a part of a run goes on, nothing is asked any more, and so many units are left. A stop is one of a session.
+pub record Leads {E : Type 0} (whole : E → Whole) (old new : Running E) (left : ℕ) (result : Result Next Halt) : Type 0 where
+  pub none : result ≡ Ok next.Goes → (whole new.engine).asking ≡ None
+  pub left_is : result ≡ Ok next.Goes → new.left ≡ left
+  pub no_more : new.left ≤ old.left
+  pub stop_is : IfOk result IsNext
+
+-- THE DEVICES over a part of a run
+-- so many calls were made
+abbrev pub WasAsked : Calls → Calls → Type 0
+WasAsked before now = (calls : ℕ) × (now.made ≡ raised_by calls before.made)
+
+-- A device that isn't blamed didn't fail, and each goes on telling what it tells.
+pub record Keeps {T : Type 0} (before now : Devices) (result : Result T Halt) : Type 0 where
+  pub sink : Blames before.sink.calls now.sink.calls (result ≡ Err halt.Output)
+  pub sink_tells : now.sink.tells ≡ before.sink.tells
+  pub source : Blames before.source.calls now.source.calls (result ≡ Err halt.Input)
+  pub source_tells : now.source.tells ≡ before.source.tells
+  pub shelf : Blames before.shelf.calls now.shelf.calls (result ≡ Err halt.Shelf)
+  pub shelf_tells : now.shelf.tells ≡ before.shelf.tells
+  pub shelf_asked : WasAsked before.shelf.calls now.shelf.calls
+
+-- A Glk call that went on has come to a turn from a configuration of the run.
+pub record GoesOn (start : Configuration) (entry : Devices) (h : Held) (asking : Option Asking) (d : Devices) (w : Waiting) (turn : Turn) : Type 0 where
+  pub world : FlatWorld
+  pub said : Said
+  pub given : Given
+  pub moved : h.world ≡ after world said
+  pub going : Ready start entry (record h { world = world }) d (goes_on given w)
+  pub event : let m = configuration_of going.now.past (goes_on given w) (record h { world = world }) d in act_of m ≡ after_given m w (Ok (said, turn))
+  pub asks : let m = configuration_of going.now.past (goes_on given w) (record h { world = world }) d in asking ≡ asked m
+
+-- A line was taken at a wait.
+pub record TakesInput (start : Configuration) (entry : Devices) (h : Held) (asking : Option Asking) (d : Devices) (chars : List ℕ) (w : Waiting) : Type 0 where
+  -- the wait, and what was held and read before
+  pub turn : Turn
+  pub ahead : List ℕ
+  pub coming : List ℕ
+  pub over : Bool
+  pub source : FlatSource
+  pub is_wait : IsWait turn
+  pub going : Ready start entry (record h { ahead = ahead; coming = coming; over = over }) (record d { source = source }) (asks turn w)
+  pub taken : next_line (ahead ++ coming) ≡ line chars (h.ahead ++ h.coming)
+  pub few : length h.ahead < PIECE
+  pub left : d.source.tells ≡ true → h.coming ≡ d.source.left
+  pub reads : ReadsFew false h.over entry.source d.source start.input h.coming 0
+  pub asking_is : asking ≡ asked (configuration_of going.now.past (asks turn w) (record h { ahead = ahead; coming = coming; over = over }) (record d { source = source }))
+
+-- what it is to a run that no line was taken
+abbrev pub without_line : NoLine → Result Next Halt
+without_line no.Ended = Ok (next.Stops stop.InputEnded)
+without_line no.TooLong = Ok (next.Stops stop.LineTooLong)
+without_line no.Failed = Err halt.Input
+without_line no.NoMemory = Err halt.NoMemory
+
+-- THE ENDING
+-- A stop has come, and all text was sent.
+pub record Told (start : Configuration) (entry : Devices) (h : Held) (asking : Option Asking) (d : Devices) (why : Stop) : Type 0 where
+  pub past : Past
+  pub doing : Doing
+  pub is_past : IsPast start.input entry past h d
+  pub few : why ≢ stop.LineTooLong → length h.ahead < PIECE
+  pub reads : (IsLineStop why → ⊥) → IsRead start.input entry h d
+  pub stop_is : (final_of start).stop ≡ why
+  pub is_end : told_all (stopped start) ≡ configuration_of past doing h d
+  pub asking_is : asking ≡ asking_at_stop start
+  pub none_left : h.world.text ≡ []
+
+-- Then all open files were stored, over the files of the shelf before.
+pub record Finished (start : Configuration) (entry : Devices) (h : Held) (asking : Option Asking) (d : Devices) (why : Stop) : Type 0 where
+  pub shelf : FlatShelf
+  pub told : Told start entry h asking (record d { shelf = shelf }) why
+  pub files : d.shelf.files ≡ stored shelf.files (stores_of h.world.scene)
+  pub made : d.shelf.calls.made ≡ raised_by (length (stores_of h.world.scene)) shelf.calls.made
+
+abbrev pub Closes : Configuration → Devices → Held → Option Asking → Devices → Stop → Result (Unit {0}) Halt → Type 0
+Closes start entry h asking d stop (Ok u) = Finished start entry h asking d stop
+Closes start entry h asking d stop (Err why) = Early start entry h asking d why
+
+-- what the ending comes to, unless a shelf that tells nothing was asked
+abbrev pub EndingGives : Configuration → Devices → Held → Option Asking → Devices → Stop → Result (Unit {0}) Halt → Type 0
+EndingGives start entry h asking d stop result = IsUntold entry.shelf d.shelf ⊎ Closes start entry h asking d stop result
+
+-- what a run comes to
+abbrev pub Concludes : Configuration → Devices → Held → Option Asking → Devices → Result Stop Halt → Type 0
+Concludes start entry h asking d (Ok stop) = Finished start entry h asking d stop
+Concludes start entry h asking d (Err why) = Early start entry h asking d why
+
+abbrev pub RunGives : Configuration → Devices → Held → Option Asking → Devices → Result Stop Halt → Type 0
+RunGives start entry h asking d result = IsUntold entry.shelf d.shelf ⊎ Concludes start entry h asking d result
+
+-- how the stores of the ending go
+abbrev pub Stores : List Store → FlatShelf → FlatShelf → Result (Unit {0}) Halt → Type 0
+Stores stores before now (Ok u) = StoredAll stores before now
+Stores stores before now (Err why) = StoredSome stores before now
+
+abbrev pub StoresFiles : List Store → FlatShelf → FlatShelf → Result (Unit {0}) Halt → Type 0
+StoresFiles stores before now (Ok u) = StoredAll stores before now
+-- the list of the files wanted memory, or a store was refused
+StoresFiles stores before now (Err why) = ((why ≡ halt.NoMemory) × (now ≡ before)) ⊎ StoredSome stores before now

@@ -1,15 +1,18 @@
 -- What a run reports and leaves behind, against the definition of a session.
-use Rattle.std.specs.Prelude.{◌≡◌, ◌≢◌, ℕ, ◌+◌, ◌<◌, ◌≤◌, ◌++◌, ◌⊎◌, true, false, List, take}
+use Rattle.std.specs.Prelude.{◌≡◌, ◌≢◌, ℕ, ◌+◌, ◌<◌, ◌≤◌, ◌++◌, ◌⊎◌, ◌==◌, if◌then◌else◌, true, List, length, take}
 use Rattle.gx_machine.specs.Machine.{Whole}
-use Rattle.gx_outside.specs.Outside.{raised, raised_by}
-use Rattle.gx_outside.specs.declared.calls.Calls.{Calls}
+use Rattle.gx_outside.specs.Outside.{FlatSource, raised_by}
 use Rattle.gx_session.specs.declared.ended.Ended.{Ended}
+use Rattle.gx_session.specs.declared.lines.TheConstants.{PIECE}
 use Rattle.gx_session.specs.declared.session.EndedOn.{EndedOn}
-use Rattle.gx_session.specs.declared.statuses.TheConstants.{ENDED, FAULT, SPENT, SHELF_FAULT, INPUT_FAULT, OUTPUT_FAULT, NO_MEMORY}
+use Rattle.gx_session.specs.declared.statuses.TheConstants.{ENDED, FAULT, SHELF_FAULT, INPUT_FAULT, NO_MEMORY}
+use Rattle.gx_session.specs.declared.ends.Stop.TheVariants as stop
+use Rattle.gx_session.specs.Counts.{Counts, IsUntold}
+use Rattle.gx_session.specs.Cuts.{Cut, IsCut, IsLineStop, AwaitedAt, LongAt, most_sent, sends_at, asked_by_cut, FilesAt}
 use Rattle.gx_session.specs.Devices.{Devices}
+use Rattle.gx_session.specs.Endings.{last_of}
+use Rattle.gx_session.specs.Reading.{IsPartial}
 use Rattle.gx_session.specs.Session.{Configuration, Ending, final_of, asked_at, status_of, fault_number, fault_address}
-use Rattle.gx_session.specs.Sending.{sends_of}
-use Rattle.gx_session.specs.Cuts.{Cut, IsCut, sent_before, sent_at}
 use Rattle.gx_session.specs.Undoing.{LastsUndo}
 use Rattle.rand_core.specs.Stream.{Stream, next_u32}
 
@@ -36,7 +39,26 @@ IsFront xs ys = (more : List ℕ) × (ys ≡ xs ++ more)
 abbrev pub AreDrawn : Stream → Stream → Type 0
 AreDrawn words stream = (stream ≡ words) ⊎ (stream ≡ (next_u32 words).1)
 
--- The run came to its end, and all text was sent.
+-- The input that is left: what is to be read of the source, after the bytes that were read ahead. These are few, unless
+-- the line that was awaited is too long, or the source failed in it. Each read gave something, but for one that said that nothing
+-- is left, and one that failed. Where no line was taken and none was awaited at the end, the source wasn't asked.
+pub record LeavesInput (first input : List ℕ) (before now : FlatSource) (awaited long : Type 0) (failures : ℕ) : Type 0 where
+  pub ahead : List ℕ
+  pub coming : List ℕ
+  pub split : input ≡ ahead ++ coming
+  pub left : now.tells ≡ true → coming ≡ now.left
+  pub few : (long → ⊥) → failures ≡ 0 → length ahead < PIECE
+  pub partial : failures ≢ 0 → IsPartial ahead
+  pub reads : ℕ
+  pub made : now.calls.made ≡ raised_by reads before.calls.made
+  pub few_reads : reads + length coming ≤ length first + 1 + failures
+  pub unread : (awaited → ⊥) → failures ≡ 0 → (now ≡ before) ⊎ (length input < length first)
+
+-- one read failed at this status
+abbrev pub read_failures : ℕ → ℕ
+read_failures status = if status == INPUT_FAULT then 1 else 0
+
+-- The run came to its end: all text was sent and all open files were stored.
 pub record EndsAt (start : Configuration) (e : Ending) (entry exit : Devices) (r : Report) : Type 0 where
   pub status_is : r.status ≡ status_of e.stop
   pub fault_is : r.fault ≡ fault_number e.stop
@@ -44,7 +66,10 @@ pub record EndsAt (start : Configuration) (e : Ending) (entry exit : Devices) (r
   pub steps_are : r.steps + e.configuration.left ≡ start.left
   pub machine_is : r.machine ≡ record { machine = e.configuration.machine; asking = asked_at e.stop e.configuration }
   pub text_is : entry.sink.tells ≡ true → exit.sink.taken ≡ entry.sink.taken ++ e.configuration.world.text
-  pub sends_are : exit.sink.calls.made ≡ raised_by (sends_of start) entry.sink.calls.made
+  pub sends_are : exit.sink.calls.made ≡ raised_by (last_of e.configuration).sent.calls entry.sink.calls.made
+  pub files_are : exit.shelf.files ≡ (last_of e.configuration).files
+  pub asked_are : exit.shelf.calls.made ≡ raised_by (last_of e.configuration).asked entry.shelf.calls.made
+  pub input_is : LeavesInput start.input e.configuration.input entry.source exit.source (IsLineStop e.stop) (e.stop ≡ stop.LineTooLong) 0
   pub words_are : AreDrawn e.configuration.words exit.words
 
 -- The run was cut short, with so many units left. The text that was sent is a front of what was shown by then: all
@@ -57,42 +82,39 @@ pub record StopsEarly (start : Configuration) (entry exit : Devices) (status lef
   pub machine_is : machine.machine ≡ configuration.machine
   pub shown : IsFront configuration.world.text (final_of start).configuration.world.text
   pub sent : ℕ
-  pub at_least : (sent_before start cut).bytes ≤ sent
-  pub at_most : sent ≤ (sent_at start cut configuration).bytes
+  pub at_least : configuration.sent.bytes ≤ sent
+  pub at_most : sent ≤ most_sent cut configuration
   pub text_is : entry.sink.tells ≡ true → exit.sink.taken ≡ entry.sink.taken ++ take sent configuration.world.text
-  pub sends_are : exit.sink.calls.made ≡ raised_by (sent_at start cut configuration).calls entry.sink.calls.made
+  pub sends_are : exit.sink.calls.made ≡ raised_by (sends_at cut configuration) entry.sink.calls.made
+  pub files_are : FilesAt cut configuration exit.shelf.files
+  pub asked_are : exit.shelf.calls.made ≡ raised_by (asked_by_cut cut configuration) entry.shelf.calls.made
+  pub input_is : status ≢ NO_MEMORY → LeavesInput start.input configuration.input entry.source exit.source (AwaitedAt start cut) (LongAt start cut) (read_failures status)
   pub words_are : AreDrawn configuration.words exit.words
-
--- The failures of a device don't fall. Where the run failed for its sake, one of its calls failed, the last one.
--- Where the run didn't, none did.
-pub record Blames (before now : Calls) (failed : Type 0) : Type 0 where
-  pub later : before.faults ≤ now.faults
-  pub rose : failed → now.faults ≡ raised before.faults
-  pub last : failed → now.failing ≡ true
-  pub kept : (failed → ⊥) → now.faults ≡ before.faults
-  pub well : (failed → ⊥) → (now ≡ before) ⊎ (now.failing ≡ false)
-
--- The failures of the three devices.
-pub record Counts (entry exit : Devices) (status : ℕ) : Type 0 where
-  pub shelf : Blames entry.shelf.calls exit.shelf.calls (status ≡ SHELF_FAULT)
-  pub source : Blames entry.source.calls exit.source.calls (status ≡ INPUT_FAULT)
-  pub sink : Blames entry.sink.calls exit.sink.calls (status ≡ OUTPUT_FAULT)
 
 -- The statuses of a run. A fault has a number from 1 to 16, and only a fault has one and an address.
 pub record IsReport (status fault at : ℕ) : Type 0 where
-  pub status_is : (status ≡ ENDED) ⊎ (status ≡ FAULT) ⊎ (status ≡ SPENT) ⊎ (status ≡ OUTPUT_FAULT) ⊎ (status ≡ NO_MEMORY)
+  pub status_is : (status ≡ ENDED) ⊎ ((FAULT ≤ status) × (status ≤ NO_MEMORY))
   pub fault_is : status ≡ FAULT → (1 ≤ fault) × (fault ≤ 16)
   pub no_fault : status ≢ FAULT → (fault ≡ 0) × (at ≡ 0)
 
--- A RUN, between what the devices hold at entry and at exit. The statuses from SHELF_FAULT on are those of a run
--- that was cut short.
-pub record IsRun (start : Configuration) (entry exit : Devices) (r : Report) : Type 0 where
+-- The run is the session from a start. The statuses from SHELF_FAULT on are those of a run that was cut short.
+pub record IsSession (start : Configuration) (entry exit : Devices) (r : Report) : Type 0 where
   pub ended : r.status < SHELF_FAULT → EndsAt start (final_of start) entry exit r
   pub early : SHELF_FAULT ≤ r.status → (left : ℕ) × (r.steps + left ≡ start.left) × StopsEarly start entry exit r.status left r.machine
-  -- no event of a session asks for input or for a file so far
-  pub source_is : exit.source ≡ entry.source
-  pub shelf_is : exit.shelf ≡ entry.shelf
-  pub sink_tells : exit.sink.tells ≡ entry.sink.tells
+
+-- It is that with some input: with what the source has left, where the source tells it.
+pub record IsSomeSession (start : Configuration) (entry exit : Devices) (r : Report) : Type 0 where
+  pub input : List ℕ
+  pub input_is : entry.source.tells ≡ true → input ≡ start.input
+  pub session : IsSession (record start { input = input }) entry exit r
+
+-- A RUN, between what the devices hold at entry and at exit. It is the session, unless the story asked a shelf that
+-- tells nothing.
+pub record IsRun (start : Configuration) (entry exit : Devices) (r : Report) : Type 0 where
+  pub session : IsUntold entry.shelf exit.shelf ⊎ IsSomeSession start entry exit r
   pub counts : Counts entry exit r.status
+  pub source_tells : exit.source.tells ≡ entry.source.tells
+  pub sink_tells : exit.sink.tells ≡ entry.sink.tells
+  pub shelf_tells : exit.shelf.tells ≡ entry.shelf.tells
   pub report : IsReport r.status r.fault r.at
-  pub undo : LastsUndo start
+  pub undo : (input : List ℕ) → LastsUndo (record start { input = input })

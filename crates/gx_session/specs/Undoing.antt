@@ -12,7 +12,7 @@ use Rattle.gx_state.specs.declared.modes.Mode.TheVariants as mode
 use Rattle.gx_state.specs.Flat.{FlatState}
 use Rattle.gx_state.specs.Copies.{Copy, copy_of}
 use Rattle.gx_operands.specs.Instructions.{Instruction, instruction}
-use Rattle.gx_session.specs.Session.{Configuration, run_of}
+use Rattle.gx_session.specs.Session.{Configuration, Doing, steps, sends_now, run_of}
 
 -- What a step is to the copies.
 pub data Undoing : Type 0 where
@@ -39,7 +39,15 @@ undoing_in f (mode.Printing p) = neither
 unfoldable pub undoing : FlatState → Undoing
 undoing f = undoing_in f f.mode
 
--- The saveundos that are alive, each by the number of events before it, the newest first: a saveundo comes
+-- What a move is to them. Only a step is anything.
+abbrev pub undoing_next : Doing → FlatState → Undoing
+undoing_next steps f = undoing f
+undoing_next d f = neither
+
+abbrev pub undoing_move : Configuration → Undoing
+undoing_move m = if sends_now m then neither else undoing_next m.doing m.machine.flat
+
+-- The saveundos that are alive, each by the number of moves before it, the newest first: a saveundo comes
 -- in front, and the oldest drops out where there are as many as the depth; a restoreundo takes the newest.
 abbrev pub alive_by : ℕ → ℕ → List ℕ → Undoing → List ℕ
 alive_by depth j live saves = take depth (j ∷ live)
@@ -48,14 +56,14 @@ alive_by depth j live neither = live
 
 abbrev pub alive_from : ℕ → ℕ → List ℕ → Option Configuration → List ℕ
 alive_from depth j live None = live
-alive_from depth j live (Some m) = alive_by depth j live (undoing m.machine.flat)
+alive_from depth j live (Some m) = alive_by depth j live (undoing_move m)
 
--- the saveundos that are alive after so many events
+-- the saveundos that are alive after so many moves
 unfoldable pub alive : Configuration → ℕ → List ℕ
 alive start zero = []
 alive start (suc j) = alive_from start.machine.undo.depth j (alive start j) (run_of start j)
 
--- the copy that the saveundo after so many events takes: of the whole state that it meets
+-- the copy that the saveundo after so many moves takes: of the whole state that it meets
 pub record IsTaken (start : Configuration) (j : ℕ) (c : Copy) : Type 0 where
   pub configuration : Configuration
   pub i : Instruction

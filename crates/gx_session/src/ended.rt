@@ -1,6 +1,6 @@
 //! How a run ended, and the line that says so.
 ghost use Rattle.std.specs.Prelude.{◌≡◌, ◌<◌, ◌++◌, ◌∷◌, [], OnOk, IfOk, string_bytes, codes, decimal};
-ghost use Rattle.gx_session.specs.Lines.{line_of, fault_line, hex_digit, hex_of};
+ghost use Rattle.gx_session.specs.Reports.{line_of, fault_line, hex_digit, hex_of};
 
 use crate::statuses;
 use gx_machine::Machine;
@@ -24,7 +24,7 @@ pub struct Ended<A: Allocator + Clone> {
 
 impl<A: Allocator + Clone> Ended<A> {
     /// The line that says how the run ended, without a line feed; empty where nothing is to be said.
-    #[tactic(auto, unfolding(crate::specs::Lines::line_of))]
+    #[tactic(auto, unfolding(crate::specs::Reports::line_of))]
     pub fn line(&self, alloc: Global) -> Result<String, AllocError>
         ensures { IfOk result (λ line.
             string_bytes line ≡ line_of self.now.status self.now.fault self.now.at self.now.steps) }

@@ -4,19 +4,27 @@ ghost use Rattle.gx_session.specs.Session.{status_of, fault_number};
 ghost use Rattle.gx_session.specs.Playing.{status_of_halt};
 
 use crate::statuses;
-use gx_outside::SendFault;
+use gx_outside::{SendFault, ShelfFault};
 use gx_words::Fault;
 use std::alloc::AllocError;
 
 /// Why a session stops.
 #[derive(Clone, Copy, Debug, PartialEq, Eq)]
 pub enum Stop {
-    /// The program ended.
+    /// The program ended, by quit or by the return of its start function.
     Ended,
+    /// The program ended by a Glk call.
+    Exited,
     /// A step, or the Glk call that it asked for, met a fault.
     Faulted(Fault),
     /// The next step costs more than the budget has left.
     Spent,
+    /// A line is awaited, and none is left.
+    InputEnded,
+    /// The program waits, and nothing is requested.
+    Stuck,
+    /// The line that is awaited is too long.
+    LineTooLong,
 }
 
 /// What an event comes to.
@@ -31,6 +39,10 @@ pub enum Next {
 /// Why a run is cut short.
 #[derive(Clone, Copy, Debug)]
 pub enum Halt {
+    /// The shelf failed.
+    Shelf,
+    /// The source failed.
+    Input,
     /// The sink failed.
     Output,
     /// Memory ran out.
@@ -38,14 +50,27 @@ pub enum Halt {
 }
 
 impl From<SendFault> for Halt {
-    ghost use Rattle.gx_session.specs.Playing.{halt_of};
+    ghost use Rattle.gx_session.specs.Playing.{halt_of_send};
 
-    ghost from_gives = { λ fault halt. halt ≡ halt_of fault };
+    ghost from_gives = { λ fault halt. halt ≡ halt_of_send fault };
 
     fn from(fault: SendFault) -> Halt {
         match fault {
             SendFault::Failed => Halt::Output,
             SendFault::NoMemory => Halt::NoMemory,
+        }
+    }
+}
+
+impl From<ShelfFault> for Halt {
+    ghost use Rattle.gx_session.specs.Playing.{halt_of_shelf};
+
+    ghost from_gives = { λ fault halt. halt ≡ halt_of_shelf fault };
+
+    fn from(fault: ShelfFault) -> Halt {
+        match fault {
+            ShelfFault::Failed => Halt::Shelf,
+            ShelfFault::NoMemory => Halt::NoMemory,
         }
     }
 }
@@ -66,9 +91,12 @@ impl Stop {
         ensures { result ≡ status_of self }
     {
         match self {
-            Stop::Ended => statuses::ENDED,
+            Stop::Ended | Stop::Exited => statuses::ENDED,
             Stop::Faulted(_) => statuses::FAULT,
             Stop::Spent => statuses::SPENT,
+            Stop::InputEnded => statuses::INPUT_ENDED,
+            Stop::Stuck => statuses::STUCK,
+            Stop::LineTooLong => statuses::LINE_TOO_LONG,
         }
     }
 
@@ -89,6 +117,8 @@ impl Halt {
         ensures { result ≡ status_of_halt self }
     {
         match self {
+            Halt::Shelf => statuses::SHELF_FAULT,
+            Halt::Input => statuses::INPUT_FAULT,
             Halt::Output => statuses::OUTPUT_FAULT,
             Halt::NoMemory => statuses::NO_MEMORY,
         }

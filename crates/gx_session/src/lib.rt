@@ -1,21 +1,29 @@
 //! A session: a machine is run over a source of input, a sink of text, a shelf of files and a
 //! generator of random words, until it ends or its budget of units is spent.
 //!
-//! What a session is stands in specs/Session, event by event; specs/Sending says when its text is sent,
-//! specs/Cuts how a run is cut short, and specs/Runs what a run reports and leaves behind (`IsRun`). A
-//! run is the definition's, to its status, fault, place, steps, machine, text and sends, unless the
-//! sink fails or memory runs out; then it stands at one of the definition's configurations, and a
-//! front of the text that was shown by then was sent.
+//! What a session is stands in specs/Session, move by move; specs/Input says what the next line of the
+//! input is, specs/Sending what sending is, specs/Endings what is stored at the end, specs/Cuts how a
+//! run is cut short, and specs/Runs what a run reports and leaves behind (`IsRun`). A run is the
+//! definition's, to its status, fault, place, steps, machine, text, files and the calls of the sink and
+//! the shelf, unless a device fails or memory runs out; then it stands at one of the definition's
+//! configurations, and a front of the text that was shown by then was sent.
 //!
-//! So far a session takes no input and uses no file: the source and the shelf are handed in and not
-//! called. Of Glk calls it makes those whose first turn is an answer.
+//! - `lines` takes lines of a source. It reads no further than it has to.
+//! - `questions` asks the shelf what a Glk call wants of it.
+//! - `running` has what every event does, `turns` the Glk calls, `events` the run from its first event to
+//!   its ending.
+//! - `session` has the runs, `ended` and `ends` how they end, `statuses` the numbers for that.
 #![tactic(auto)]
 
 mod ended;
 mod ends;
+mod events;
+mod lines;
+mod questions;
 mod running;
 mod session;
 pub mod statuses;
+mod turns;
 
 pub use ended::Ended;
 pub use ends::Stop;

@@ -1,13 +1,14 @@
 //! A run of a session from its start.
-ghost use Rattle.std.specs.Prelude.{◌≡◌, None, IsSomeAnd};
-ghost use Rattle.glk_world.specs.World.{empty_world};
+ghost use Rattle.std.specs.Prelude.{◌≡◌, [], None, IsSomeAnd};
 ghost use Rattle.gx_session.specs.Devices.{devices};
 ghost use Rattle.gx_session.specs.Session.{start_of, fault_address};
 ghost use Rattle.gx_session.specs.Runs.{IsRun, report_on, report_of};
 
 use crate::Ended;
 use crate::ends::Stop;
-use crate::running::{Running, play_out};
+use crate::events::play_out;
+use crate::lines::Lines;
+use crate::running::Running;
 use glk_world::World;
 use gx_machine::{Engine, Machine};
 use gx_outside::{Shelf, Sink, Source};
@@ -17,7 +18,7 @@ use std::alloc::{Allocator, Global};
 /// How a run of an engine ended.
 #[derive(Drop)]
 pub struct EndedOn<E> {
-    /// ENDED, FAULT, SPENT, OUTPUT_FAULT or NO_MEMORY of `statuses`.
+    /// ENDED, or one from FAULT on, of `statuses`.
     pub status: u8,
     /// The fault's number at FAULT, else 0.
     pub fault: u8,
@@ -42,11 +43,12 @@ fn fault_address<A: Allocator + Clone, E: Engine<A>>(engine: &E, stop: Stop) -> 
 /// Runs an engine within a budget of units. Where it keeps no copy at first, each restoreundo goes back to the
 /// copy of the newest saveundo that is neither used nor dropped.
 ///
-/// After a fault or a spent budget the engine stands before the step, which isn't counted; at the
-/// program's end the last step is counted. Where the run is cut short it stands at a configuration of
-/// the session, and nothing more is sent.
+/// After a fault or a spent budget, and where no line can be taken, the engine stands before the step,
+/// which isn't counted; at the program's end the last step is counted. A Glk call that is stopped there,
+/// or that ends the program, stays pending. Where the run is cut short the engine stands at a
+/// configuration of the session, and nothing more is sent or stored.
 ///
-/// `alloc` and `echo` are for lines of input, which no session takes so far.
+/// Lines are taken from `alloc`'s memory; with `echo` each line that is taken is shown.
 pub fn run_on<A: Allocator + Clone, E: Engine<A>, S: Source, K: Sink, F: Shelf, R: Rng>(
     alloc: Global,
     engine: E,
@@ -59,21 +61,25 @@ pub fn run_on<A: Allocator + Clone, E: Engine<A>, S: Source, K: Sink, F: Shelf, 
     dice: &mut R,
 ) -> EndedOn<E>
     requires asks_nothing { (E.whole engine).asking ≡ None }
-    requires empty { world ≡ empty_world }
+    requires no_text { world.text ≡ [] }
     ensures { let entry = devices (S.seen input.old) (K.seen output.old) (F.seen shelf.old) (R.stream dice.old) in
         let exit = devices (S.seen input.new) (K.seen output.new) (F.seen shelf.new) (R.stream dice.new) in
-        IsRun (start_of (E.whole engine).machine world entry steps) entry exit (report_on E.whole result) }
+        IsRun (start_of (E.whole engine).machine world entry echo steps) entry exit (report_on E.whole result) }
 {
     let mut run = Running {
         engine,
         world,
+        lines: Lines::new(alloc),
+        echo,
         word: None,
         left: steps,
     };
-    let ended = play_out(&mut run, output, dice);
+    let ended = play_out(alloc, &mut run, input, output, shelf, dice);
     let Running {
         engine,
         world: _,
+        lines: _,
+        echo: _,
         word: _,
         left,
     } = run;
@@ -109,10 +115,10 @@ pub fn run<A: Allocator + Clone, S: Source, K: Sink, F: Shelf, R: Rng>(
     dice: &mut R,
 ) -> Ended<A>
     requires asks_nothing { machine.asking ≡ None }
-    requires empty { world ≡ empty_world }
+    requires no_text { world.text ≡ [] }
     ensures { let entry = devices (S.seen input.old) (K.seen output.old) (F.seen shelf.old) (R.stream dice.old) in
         let exit = devices (S.seen input.new) (K.seen output.new) (F.seen shelf.new) (R.stream dice.new) in
-        IsSomeAnd result.machine (λ end. IsRun (start_of machine.machine world entry steps) entry exit (report_of result end)) }
+        IsSomeAnd result.machine (λ end. IsRun (start_of machine.machine world entry echo steps) entry exit (report_of result end)) }
 {
     let ended = run_on(
         alloc, machine, world, echo, steps, input, output, shelf, dice,

@@ -22,6 +22,7 @@ pub struct Frame {
 
 impl Frame {
     /// Whether so many bytes at an offset into its locals are all in its locals.
+    #[inline(always)]
     pub fn has_local(&self, at: u32, width: u32) -> bool
         ensures { result ≡ has_local self.now at width }
     {

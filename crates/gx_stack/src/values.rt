@@ -26,6 +26,7 @@ fn places(n: u32, by: i32) -> u32
 impl Stack {
     /// Pushes a value.
     #[tactic(auto, unfolding(crate::specs::Values::pushed), using(crate::proofs::Kept::frame_after_push, crate::proofs::Lists::values_pushed))]
+    #[inline(always)]
     pub fn push(&mut self, v: u32) -> Result<(), StackFault>
         ensures value { Alters result self.old self.new (pushed self.old v) }
         ensures keeps { KeepsFrames self.old.bytes self.new.bytes }
@@ -57,6 +58,7 @@ impl Stack {
 
     /// How many values the frame has.
     #[tactic(auto, using(crate::proofs::Lists::values_counted))]
+    #[inline(always)]
     pub fn count(&self, frame: &Frame) -> u32
         requires { IsFrame self.now.bytes frame.now }
         ensures value { result ≡ count self.now.bytes frame.now }
@@ -68,6 +70,7 @@ impl Stack {
 
     /// The value `i` from the top, which is number 0.
     #[tactic(auto, unfolding(crate::specs::Values::peeked), using(crate::proofs::Lists::value_peeked))]
+    #[inline(always)]
     pub fn peek(&self, frame: &Frame, i: u32) -> Result<u32, StackFault>
         requires { IsFrame self.now.bytes frame.now }
         ensures value { result ≡ peeked self.now.bytes frame.now i }
@@ -156,6 +159,7 @@ impl Stack {
 
     /// The local of 1, 2 or 4 bytes at an offset into the frame's locals.
     #[tactic(auto, unfolding(crate::specs::Values::local_at))]
+    #[inline(always)]
     pub fn local(&self, frame: &Frame, at: u32, width: u32) -> Result<u32, StackFault>
         requires frame { IsFrame self.now.bytes frame.now }
         requires width { IsWidth width }
@@ -169,6 +173,7 @@ impl Stack {
 
     /// Puts the low 1, 2 or 4 bytes of a number into the local at an offset.
     #[tactic(auto, unfolding(crate::specs::Values::with_local), using(crate::proofs::Kept::puts))]
+    #[inline(always)]
     pub fn set_local(
         &mut self,
         frame: &Frame,

@@ -1,9 +1,10 @@
 -- Reading the memory that a start or a restart is going to make.
-use Rattle.std.proofs.Common.{◌≡◌, ◌≤◌, ◌<◌, ◌+◌, ◌-◌, ℕ, Bool, true, false, cond, nat_lt, nat_le, ◌&&◌, List, ◌++◌, length, get_or, replicate, Result, Ok, Err, refl, ap, sym, ◌∙◌, arith}
+use Rattle.std.proofs.Common.{◌≡◌, ◌≤◌, ◌<◌, ◌+◌, ◌-◌, ℕ, Bool, true, false, cond, nat_lt, nat_le, ◌&&◌, List, ◌++◌, length, take, get_or, replicate, Result, Ok, Err, refl, ap, sym, ◌∙◌, arith, ◌⊎◌, inl, inr}
 use Rattle.std.proofs.lemmas.Grind.{common_steps}
 use Rattle.std.proofs.lemmas.Bool.Decides.{nat_tests}
-use Rattle.std.proofs.lemmas.List.{get_or-append_right, get_or-replicate}
+use Rattle.std.proofs.lemmas.List.{get_or-append_right, get_or-replicate, get_or-take}
 use Rattle.std.proofs.lemmas.List.FromFn.{get_or-map-range_with_len, length-map-range_with_len}
+use Rattle.gx_words.specs.Numbers.{IsWidth, number}
 use Rattle.gx_words.specs.declared.faults.Fault.{Fault}
 use Rattle.gx_words.specs.declared.faults.Fault.TheVariants.{BadAddress}
 use Rattle.gx_pages.specs.Memory.{number_in, put_back_of}
@@ -16,6 +17,32 @@ is_there m at v there is = let within : nat_le (at + 1) (length m) ≡ true = gr
 is_past : (m : List ℕ) (at : ℕ) → length m ≤ at → number_in 1 m at ≡ Err BadAddress
 unfolding number_in
 is_past m at past = let without : nat_le (at + 1) (length m) ≡ false = grind (arith, nat_tests) in rw without refl
+
+-- a number whose bytes two lists share
+shared_byte : (m n : List ℕ) (shared a : ℕ) → take shared m ≡ take shared n → a < shared → get_or m a 0 ≡ get_or n a 0
+shared_byte m n shared a same below = sym (get_or-take shared m a 0 below) ∙ ap (λ (xs : List ℕ). get_or xs a 0) same ∙ get_or-take shared n a 0 below
+
+shared_number : (m n : List ℕ) (shared width at : ℕ) → IsWidth width → take shared m ≡ take shared n → at + width ≤ shared → number width m at ≡ number width n at
+shared_number m n shared width at is same below =
+    let byte_at : (a : ℕ) → a < at + width → get_or m a 0 ≡ get_or n a 0 = λ a less. shared_byte m n shared a same (omega (arith, below, less)) in
+    elim is [
+      | inl one ↦ rw one (byte_at at (omega arith))
+      | inr more ↦ elim more [
+        | inl two ↦ rw (two, byte_at at (omega arith), byte_at (at + 1) (omega arith)) refl
+        | inr four ↦ rw (four, byte_at at (omega arith), byte_at (at + 1) (omega arith), byte_at (at + 2) (omega arith), byte_at (at + 2 + 1) (omega arith)) refl
+      ]
+    ]
+
+-- code that stands in the story's bytes
+pub code_byte : (m stored : List ℕ) (ramstart at : ℕ) → take ramstart m ≡ take ramstart stored → at < ramstart → get_or stored at 0 ≡ get_or m at 0
+code_byte m stored ramstart at same below = sym (shared_byte m stored ramstart at same below)
+
+pub code : (m stored : List ℕ) (ramstart width at : ℕ) → IsWidth width → take ramstart m ≡ take ramstart stored → ramstart ≤ length m → at + width ≤ ramstart
+    → number_in width m at ≡ Ok (number width stored at)
+unfolding number_in
+code m stored ramstart width at is same inside below =
+    let there : nat_le (at + width) (length m) ≡ true = grind (arith, nat_tests) in
+    rw there (ap Ok (shared_number m stored ramstart width at is same below))
 
 -- the first memory: stored bytes, and zeros up to a size
 pub first_length : (stored : List ℕ) (size : ℕ) → length stored ≤ size → length (stored ++ replicate (size - length stored) 0) ≡ size

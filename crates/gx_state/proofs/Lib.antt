@@ -3,3 +3,4 @@ pub mod Bytes
 pub mod Kept
 pub mod Pairs
 pub mod Space
+pub mod FlatCopies

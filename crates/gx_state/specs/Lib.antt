@@ -9,3 +9,4 @@ pub mod Replies
 pub mod Space
 pub mod Copies
 pub mod Moments
+pub mod FlatCopies

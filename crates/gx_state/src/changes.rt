@@ -14,6 +14,7 @@ use std::alloc::{AllocError, Allocator};
 impl<A: Allocator + Clone> State<A> {
     /// Looks whether a write of `count` bytes, one at least, would have a fault: `BadAddress` where one of
     /// them isn't in memory, else `ReadOnly` where one lies below RAMSTART.
+    #[inline(always)]
     pub fn can_write(&self, at: u32, count: u32) -> Result<(), Fault>
         ensures value { Reads (λ v. v) result (write_fault self.now.flat at count) }
         ensures there { OnOk result (IsInRam self.now.flat at count) }
@@ -29,6 +30,7 @@ impl<A: Allocator + Clone> State<A> {
 
     /// Writes bytes to RAM. No bytes may be written at any address.
     #[tactic(auto, using(crate::proofs::Kept::rom_written, crate::proofs::Kept::heap_again))]
+    #[inline(always)]
     pub fn write(&mut self, at: u32, bytes: &[u8]) -> Result<(), AllocError>
         requires { IsInRam self.old.flat at (length bytes.now) }
         ensures ok { OnOk result (self.new ≡ record self.old { flat = written self.old.flat at bytes.now }) }
@@ -83,6 +85,7 @@ impl<A: Allocator + Clone> State<A> {
 
     /// Pushes a value; `Overflow` exactly where it doesn't fit.
     #[tactic(auto, unfolding(crate::specs::Flat::pushed, gx_stack::specs::Values::pushed), using(crate::proofs::Kept::framed))]
+    #[inline(always)]
     pub fn push(&mut self, v: u32) -> Result<(), Fault>
         requires { 0 < sp_of self.old.flat }
         ensures value { Acts result self.old self.new (pushed self.old.flat v) }
@@ -93,6 +96,7 @@ impl<A: Allocator + Clone> State<A> {
 
     /// Cuts the stack, which keeps its frame.
     #[tactic(auto, using(crate::proofs::Kept::framed))]
+    #[inline(always)]
     pub fn cut_stack(&mut self, sp: u32)
         requires { IsHeight self.old.flat sp }
         ensures value { self.new ≡ record self.old { flat = cut self.old.flat sp } }
@@ -120,7 +124,7 @@ impl<A: Allocator + Clone> State<A> {
         requires { 0 < sp_of self.old.flat }
         ensures value { Acts result self.old self.new (rolled self.old.flat n by) }
     {
-        let frame = self.stack.parts(self.fp);
+        let frame = self.frame;
         self.stack.roll(&frame, n, by)?;
         Ok(())
     }
@@ -140,6 +144,7 @@ impl<A: Allocator + Clone> State<A> {
     /// Puts the low 1, 2 or 4 bytes of a number into the local at an offset; `BadLocal` exactly where
     /// the frame has no such local.
     #[tactic(auto, unfolding(crate::specs::Flat::with_local, gx_stack::specs::Values::with_local), using(crate::proofs::Kept::framed))]
+    #[inline(always)]
     pub fn set_local(&mut self, at: u32, width: u32, v: u32) -> Result<(), Fault>
         requires live { 0 < sp_of self.old.flat }
         requires width { IsWidth width }

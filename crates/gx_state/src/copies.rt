@@ -5,23 +5,25 @@
 ghost use Rattle.std.specs.Prelude.{◌≡◌, ◌≢◌, ◌+◌, ◌-◌, ◌<◌, ◌≤◌, ◌==◌, if◌then◌else◌, Some, None, Ok, length, take, IfOk, OnOk, OnErr, IsTrue};
 ghost use Rattle.gx_pages.specs.Memory.{put_back_of};
 ghost use Rattle.gx_stack.specs.Frames.{has_local};
+ghost use Rattle.gx_stack.specs.Stubs.{stub_below};
 ghost use Rattle.gx_state.specs.Flat.{frame_of, sp_of};
-ghost use Rattle.gx_state.specs.Copies.{IsCopyFor, HasPlaceFor, below_stub, copy_of, gone_back, restarted, stub_in};
+ghost use Rattle.gx_state.specs.Copies.{IsCopyFor, HasPlaceFor, copy_of, gone_back, restarted, stub_in};
 ghost use Rattle.gx_state.specs.Relations.{Begins};
 ghost use Rattle.gx_state.specs.Returns.{delivered, wrote};
 
 use crate::entry::{function_at, push_call};
+use crate::flat_copies::stub_on_top;
 use crate::readable::Restarted;
 use crate::{Dest, Mode, State};
 use gx_pages::{Kept, Pages};
 use gx_stack::{Stub, TO_LOCAL, TO_MEMORY, TO_STACK};
-use gx_words::{Bytes, Fault, word_at, word_bytes};
+use gx_words::{Bytes, Fault, word_bytes};
 use heap_blocks::Heap;
 use std::alloc::{AllocError, Allocator};
 use std::marker::Model;
 
 /// What is delivered to the stub of a copy: -1.
-const MINUS_ONE: u32 = 0xFFFF_FFFF;
+pub(crate) const MINUS_ONE: u32 = 0xFFFF_FFFF;
 
 /// A copy of memory, the stack and the heap.
 #[derive(Drop)]
@@ -39,32 +41,6 @@ impl<A: Allocator + Clone> Model for Moment<A> {
     ghost use Rattle.gx_state.specs.Moments.{copy_in};
 
     ghost view = { copy_in };
-}
-
-impl<A: Allocator + Clone> Moment<A> {
-    /// The stub on top of its stack.
-    fn stub(&self) -> Stub
-        requires { 16 ≤ length self.now.stack }
-        ensures { result ≡ stub_in self.now }
-    {
-        let bytes = self.stack.as_slice();
-        let sp = bytes.len();
-        Stub {
-            kind: word_at(bytes, sp - 16),
-            addr: word_at(bytes, sp - 12),
-            pc: word_at(bytes, sp - 8),
-            fp: word_at(bytes, sp - 4),
-        }
-    }
-
-    /// What lies below it.
-    fn below_stub(&self) -> &[u8]
-        requires { 16 ≤ length self.now.stack }
-        ensures { result.now ≡ below_stub self.now }
-    {
-        let bytes = self.stack.as_slice();
-        &bytes[..bytes.len() - 16]
-    }
 }
 
 impl<A: Allocator + Clone> State<A> {
@@ -90,6 +66,7 @@ impl<A: Allocator + Clone> State<A> {
 
     /// Goes back to a copy, and delivers -1 to its stub. The protected range keeps its bytes, and the
     /// decoding table, the iosystem and the generator stay.
+    #[tactic(auto, using(crate::proofs::FlatCopies::backs))]
     pub fn put_back(&mut self, copy: &Moment<A>) -> Result<(), AllocError>
         requires { IsCopyFor self.old.flat.story copy.now }
         ensures ok { OnOk result (self.new.flat ≡ gone_back self.old.flat copy.now) }
@@ -97,10 +74,10 @@ impl<A: Allocator + Clone> State<A> {
         ensures story { self.new.flat.story ≡ self.old.flat.story }
         ensures live { OnOk result (0 < sp_of self.new.flat) }
     {
-        let stub = copy.stub();
+        let stub = stub_on_top(copy.stack.as_slice());
         let memory = self.memory_of(copy, &stub)?;
         let heap = copy.heap.copy(self.stack.allocator())?;
-        self.lay(memory, heap, copy, &stub);
+        self.lay(memory, heap, copy.stack.as_slice(), &stub);
         self.answer(&stub);
         Ok(())
     }
@@ -123,20 +100,17 @@ impl<A: Allocator + Clone> State<A> {
         Ok(memory)
     }
 
-    /// Lays a copy over the state, with a memory for it, and goes back to the stub's frame.
-    fn lay(&mut self, memory: Pages<A>, heap: Heap, copy: &Moment<A>, stub: &Stub)
-        requires fit { IsCopyFor self.old.flat.story copy.now }
-        requires stub { stub.now ≡ stub_in copy.now }
-        requires size { length memory ≡ length copy.now.memory }
-        requires rom { take self.old.flat.story.header.ramstart memory ≡ take self.old.flat.story.header.ramstart self.old.flat.story.bytes }
-        requires heap { heap.heap ≡ copy.now.heap }
-        ensures value { self.new.flat ≡ record self.old.flat { memory = memory; stack = record self.old.flat.stack { bytes = below_stub copy.now }; fp = stub.now.fp; pc = stub.now.pc; heap = copy.now.heap; mode = Mode.Running } }
+    /// Lays a memory, a heap and the stack of a copy over the state, and goes back to the frame of its stub.
+    pub(crate) fn lay(&mut self, memory: Pages<A>, heap: Heap, stack: &[u8], stub: &Stub)
+        requires fit { IsCopyFor self.old.flat.story (record { memory = memory; stack = stack.now; heap = heap.heap }) }
+        requires stub { stub.now ≡ stub_below stack.now (length stack.now) }
+        ensures value { self.new.flat ≡ record self.old.flat { memory = memory; stack = record self.old.flat.stack { bytes = take (length stack.now - 16) stack.now }; fp = stub.now.fp; pc = stub.now.pc; heap = heap.heap; mode = Mode.Running } }
         ensures live { 0 < sp_of self.new.flat }
         ensures room { sp_of self.new.flat + 16 ≤ self.new.flat.stack.limit }
     {
         self.memory = memory;
-        self.stack.put_back(copy.below_stub());
-        self.fp = stub.fp;
+        self.stack.put_back(&stack[..stack.len() - 16]);
+        self.frame = self.stack.parts(stub.fp);
         self.pc = stub.pc;
         self.heap = heap;
         self.mode = Mode::Running;
@@ -144,7 +118,7 @@ impl<A: Allocator + Clone> State<A> {
 
     /// Stores -1 in the local or on the stack, where the stub says so.
     #[tactic(auto, unfolding(crate::specs::Returns::delivered, crate::specs::Returns::dest_of, crate::specs::Stores::stored, crate::specs::Stores::store_fault, crate::specs::Flat::with_local, crate::specs::Flat::pushed, gx_stack::specs::Values::with_local, gx_stack::specs::Values::pushed))]
-    fn answer(&mut self, stub: &Stub)
+    pub(crate) fn answer(&mut self, stub: &Stub)
         requires live { 0 < sp_of self.old.flat }
         requires kind { stub.now.kind ≤ TO_STACK }
         requires pc { self.old.flat.pc ≡ stub.now.pc }
@@ -183,7 +157,7 @@ impl<A: Allocator + Clone> State<A> {
             .begin_again(self.story.bytes(), self.story.endmem(), self.protected)?;
         push_call(&mut self.stack, 0, &[], kind, format.as_slice(), &[]);
         self.memory = memory;
-        self.fp = 0;
+        self.frame = self.stack.parts(0);
         self.pc = at + 1 + format.len() as u32;
         self.table = self.story.table();
         self.iosys = (0, 0);

@@ -18,7 +18,7 @@ use crate::readable::{Readable, Started};
 use crate::{Mode, State};
 use arrayvec::ArrayVec;
 use gx_pages::Pages;
-use gx_stack::{Stack, Stub, frame_len};
+use gx_stack::{Frame, Stack, Stub, frame_len};
 use gx_story::Story;
 use gx_words::{Fault, LOCALS_FUNCTION, STACK_FUNCTION};
 use heap_blocks::Heap;
@@ -124,6 +124,13 @@ pub fn push_call(stack: &mut Stack, sp: u32, stubs: &[Stub], kind: u32, format: 
     let _size = stack.size(); // what holds of every stack
 }
 
+/// What stands for the present frame where the stack is empty.
+const NO_FRAME: Frame = Frame {
+    fp: 0,
+    locals: 0,
+    values: 0,
+};
+
 /// The state of a story before its start function is entered.
 fn initial<A: Allocator + Clone>(alloc: Global, pages: A, story: Story) -> Result<State<A>, Fault>
     ensures value { IfOk result (λ state. state.flat ≡ initial story) }
@@ -137,7 +144,7 @@ fn initial<A: Allocator + Clone>(alloc: Global, pages: A, story: Story) -> Resul
         story,
         memory,
         stack,
-        fp: 0,
+        frame: NO_FRAME,
         pc: 0,
         table,
         iosys: (0, 0),
@@ -195,7 +202,7 @@ impl<A: Allocator + Clone> State<A> {
         let fp = sp + 16 * stubs.len() as u32;
         let (kind, format) = function_at(&self.memory, at, args.len(), fp, limit)?;
         push_call(&mut self.stack, sp, stubs, kind, format.as_slice(), args);
-        self.fp = fp;
+        self.frame = self.stack.parts(fp);
         self.pc = at + 1 + format.len() as u32;
         Ok(())
     }

@@ -9,7 +9,8 @@
 //!   is the memory that they are read from.
 //! - `returns` has call stubs, and returns to them.
 //! - `changes` writes to memory and changes the present frame.
-//! - `copies` keeps copies of the state, goes back to them, and starts a story again.
+//! - `copies` keeps copies of the state, goes back to them, and starts a story again; `flat_copies` does the first two
+//!   for copies that are lists of bytes.
 //! - `resizing` zeros, copies and resizes memory, and `blocks` enters and frees blocks of its heap.
 //! - `effects` and `modes` have what a step did or asks, and where a result goes.
 #![tactic(auto)]
@@ -19,6 +20,7 @@ mod changes;
 mod copies;
 mod effects;
 mod entry;
+mod flat_copies;
 mod formats;
 mod modes;
 mod readable;
@@ -28,6 +30,7 @@ mod state;
 
 pub use copies::Moment;
 pub use effects::{Effect, Reply};
+pub use flat_copies::{FlatCopy, stub_on_top};
 pub use modes::{Dest, Mode};
 pub use returns::printing_of;
 pub use state::State;

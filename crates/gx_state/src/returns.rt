@@ -55,7 +55,7 @@ impl<A: Allocator + Clone> State<A> {
             kind,
             addr,
             pc: next,
-            fp: self.fp,
+            fp: self.frame.fp,
         }
     }
 
@@ -174,7 +174,7 @@ impl<A: Allocator + Clone> State<A> {
         ensures live { 0 < sp_of self.new.flat }
     {
         self.stack.leave_frame(sp - 16);
-        self.fp = stub.fp;
+        self.frame = self.stack.parts(stub.fp);
     }
 
     /// The same, and goes on at the stub's PC.

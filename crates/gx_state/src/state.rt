@@ -1,5 +1,10 @@
 //! The state, its readers, and the calls that set one part.
-ghost use Rattle.std.specs.Prelude.{◌≡◌, ◌<◌, ◌≤◌, length};
+ghost use Rattle.std.specs.Prelude.{◌≡◌, ◌+◌, ◌<◌, ◌≤◌, ◌^◌, length, IfOk, IfErr, OnOk};
+ghost use Rattle.gx_words.specs.declared.limits.TheConstants.{CEILING};
+ghost use Rattle.gx_words.specs.Numbers.{IsWidth, byte};
+ghost use Rattle.gx_words.specs.declared.faults.Fault.TheVariants.{BadAddress};
+ghost use Rattle.gx_words.specs.Faults.{Reads};
+ghost use Rattle.gx_pages.specs.Memory.{number_in};
 ghost use Rattle.gx_stack.specs.Frames.{IsFrame};
 ghost use Rattle.heap_blocks.specs.Heap.{IsBelow};
 ghost use Rattle.ops_calc.specs.Generator.{word_from, after_word};
@@ -11,6 +16,7 @@ use crate::Mode;
 use gx_pages::Pages;
 use gx_stack::{Frame, Stack};
 use gx_story::Story;
+use gx_words::{Fault, number_at};
 use heap_blocks::Heap;
 use ops_calc::Generator;
 use std::alloc::Allocator;
@@ -22,7 +28,8 @@ pub struct State<A: Allocator + Clone> {
     pub(crate) story: Story,
     pub(crate) memory: Pages<A>,
     pub(crate) stack: Stack,
-    pub(crate) fp: u32,
+    /// The present frame; of a function that has returned to nothing, what it was.
+    pub(crate) frame: Frame,
     pub(crate) pc: u32,
     pub(crate) table: u32,
     pub(crate) iosys: (u32, u32),
@@ -46,6 +53,7 @@ impl<A: Allocator + Clone> Model for State<A> {
 
 impl<A: Allocator + Clone> State<A> {
     /// Memory.
+    #[inline(always)]
     pub fn memory(&self) -> &Pages<A>
         ensures value { result.now ≡ self.now.flat.memory }
         ensures sound { IsSound self.now.flat }
@@ -54,6 +62,7 @@ impl<A: Allocator + Clone> State<A> {
     }
 
     /// The stack.
+    #[inline(always)]
     pub fn stack(&self) -> &Stack
         ensures value { result.now ≡ self.now.flat.stack }
         ensures sound { IsSound self.now.flat }
@@ -87,16 +96,17 @@ impl<A: Allocator + Clone> State<A> {
     pub fn fp(&self) -> u32
         ensures { result ≡ self.now.flat.fp }
     {
-        self.fp
+        self.frame.fp
     }
 
     /// The present frame.
+    #[inline(always)]
     pub fn frame(&self) -> Frame
         requires { 0 < sp_of self.now.flat }
         ensures value { result ≡ frame_of self.now.flat }
         ensures good { IsFrame self.now.flat.stack.bytes result }
     {
-        self.stack.parts(self.fp)
+        self.frame
     }
 
     /// The address of the string decoding table, 0 for none.
@@ -132,6 +142,69 @@ impl<A: Allocator + Clone> State<A> {
         ensures { result ≡ self.now.flat.mode }
     {
         self.mode
+    }
+
+    /// The byte of code at `at`, read as `code` reads it.
+    #[tactic(auto, using(crate::proofs::Bytes::code_byte))]
+    #[inline(always)]
+    pub fn code_byte(&self, at: u32) -> u32
+        requires { at < length self.now.flat.memory }
+        ensures value { result ≡ byte self.now.flat.memory at }
+        ensures fits { result < 2 ^ 8 }
+    {
+        if at < self.story.ramstart() {
+            return u32::from(self.story.bytes()[at as usize]);
+        }
+        self.memory.byte(at)
+    }
+
+    /// The 1, 2 or 4 bytes of code from `at` on; `BadAddress` where one of them isn't in memory.
+    ///
+    /// The bytes below RAMSTART are the story's in every state, so they are read from it.
+    #[tactic(auto, unfolding(gx_pages::specs::Memory::number_in), using(crate::proofs::Bytes::code))]
+    #[inline(always)]
+    pub fn code(&self, width: u32, at: u32) -> Result<u32, Fault>
+        requires { IsWidth width }
+        ensures value { Reads (λ v. v) result (number_in width self.now.flat.memory at) }
+        ensures low { OnOk result (at + width ≤ CEILING) }
+        ensures fits { IfOk result (λ v. v < 256 ^ width) }
+    {
+        if u64::from(at) + u64::from(width) <= u64::from(self.story.ramstart()) {
+            return Ok(number_at(self.story.bytes(), width, at as usize));
+        }
+        self.number_in_ram(width, at)
+    }
+
+    /// The same where they aren't all the story's.
+    #[inline(never)]
+    fn number_in_ram(&self, width: u32, at: u32) -> Result<u32, Fault>
+        requires { IsWidth width }
+        ensures value { Reads (λ v. v) result (number_in width self.now.flat.memory at) }
+        ensures low { OnOk result (at + width ≤ CEILING) }
+        ensures fits { IfOk result (λ v. v < 256 ^ width) }
+    {
+        self.memory.try_number(width, at)
+    }
+
+    /// The same for two numbers of one byte each.
+    #[inline(always)]
+    #[tactic(auto, using(crate::proofs::Bytes::code_byte))]
+    pub fn code_pair(&self, at: u32) -> Result<(u32, u32), Fault>
+        ensures there { OnOk result (at + 2 ≤ length self.now.flat.memory) }
+        ensures low { OnOk result (at + 2 ≤ CEILING) }
+        ensures value { IfOk result (λ pair. (pair.0 ≡ byte self.now.flat.memory at) × (pair.1 ≡ byte self.now.flat.memory (at + 1))) }
+        ensures fits { IfOk result (λ pair. (pair.0 < 2 ^ 8) × (pair.1 < 2 ^ 8)) }
+        ensures fault { IfErr result (λ fault. (fault ≡ BadAddress) × (length self.now.flat.memory < at + 2)) }
+    {
+        if u64::from(at) + 2 > u64::from(self.memory.size()) {
+            return Err(Fault::BadAddress);
+        }
+        if at + 1 < self.story.ramstart() {
+            let bytes = self.story.bytes();
+            let at = at as usize;
+            return Ok((u32::from(bytes[at]), u32::from(bytes[at + 1])));
+        }
+        Ok((self.memory.byte(at), self.memory.byte(at + 1)))
     }
 
     /// The first address that the story may write to.

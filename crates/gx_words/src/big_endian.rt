@@ -9,6 +9,7 @@ use crate::CHECKSUM_AT;
 use byteorder::{BigEndian, ByteOrder};
 
 /// The two bytes from `at` on.
+#[inline(always)]
 pub fn half_at(bytes: &[u8], at: usize) -> u32
     requires { at + 2 ≤ length bytes.now }
     ensures value { result ≡ half bytes.now at }
@@ -18,6 +19,7 @@ pub fn half_at(bytes: &[u8], at: usize) -> u32
 }
 
 /// The four bytes from `at` on.
+#[inline(always)]
 pub fn word_at(bytes: &[u8], at: usize) -> u32
     requires { at + 4 ≤ length bytes.now }
     ensures { result ≡ word bytes.now at }
@@ -26,6 +28,7 @@ pub fn word_at(bytes: &[u8], at: usize) -> u32
 }
 
 /// The 1, 2 or 4 bytes from `at` on.
+#[inline(always)]
 pub fn number_at(bytes: &[u8], width: u32, at: usize) -> u32
     requires width { IsWidth width }
     requires there { at + width ≤ length bytes.now }
@@ -40,6 +43,7 @@ pub fn number_at(bytes: &[u8], width: u32, at: usize) -> u32
 }
 
 /// The bytes of a word, the highest first.
+#[inline(always)]
 pub fn word_bytes(v: u32) -> [u8; 4]
     ensures bytes { result ≡ bytes_of_word v }
     ensures read_back { word result 0 ≡ v }
@@ -50,6 +54,7 @@ pub fn word_bytes(v: u32) -> [u8; 4]
 }
 
 /// Puts bytes over those from `at` on.
+#[inline(always)]
 pub fn splice(all: &mut [u8], at: usize, bytes: &[u8])
     requires { at + length bytes.now ≤ length all.old }
     ensures { all.new ≡ spliced all.old at bytes.now }
@@ -59,6 +64,7 @@ pub fn splice(all: &mut [u8], at: usize, bytes: &[u8])
 }
 
 /// Puts the low 1, 2 or 4 bytes of a number over those from `at` on.
+#[inline(always)]
 pub fn put_number(all: &mut [u8], at: usize, width: u32, v: u32)
     requires width { IsWidth width }
     requires there { at + width ≤ length all.old }
@@ -80,6 +86,7 @@ pub fn signed(v: u32) -> i32
 }
 
 /// The low 1, 2 or 4 bytes of a number.
+#[inline(always)]
 pub fn low(v: u32, bytes: u32) -> u32
     requires { IsWidth bytes }
     ensures value { result ≡ low bytes v }

@@ -2,8 +2,10 @@
 //!
 //! Contracts see each as the list of its items. `new` takes no memory; after a refusal a list is
 //! as it was.
-ghost use Rattle.std.specs.Prelude.{◌≡◌, ◌++◌, ◌∷◌, [], length, take, encode_utf8, OnOk, OnErr, IfOk};
+ghost use Rattle.std.specs.Prelude.{◌≡◌, ◌+◌, ◌<◌, ◌≤◌, ◌++◌, ◌∷◌, [], length, take, encode_utf8, OnOk, OnErr, IfOk};
+ghost use Rattle.gx_words.specs.Numbers.{spliced};
 
+use crate::splice;
 use std::alloc::{AllocError, Global};
 use std::marker::Model;
 
@@ -90,6 +92,21 @@ impl Bytes {
         ensures err { OnErr result (self.new ≡ self.old) }
     {
         self.all.extend_from_slice(bytes)
+    }
+
+    /// Puts bytes over those from `at` on; where they reach past the end the list grows.
+    pub fn splice(&mut self, at: usize, bytes: &[u8]) -> Result<(), AllocError>
+        requires { at ≤ length self.old }
+        ensures ok { OnOk result (self.new ≡ spliced self.old at bytes.now) }
+        ensures err { OnErr result (self.new ≡ self.old) }
+        ensures memory { OnErr result (length self.old < at + length bytes.now) }
+    {
+        let (over, more) = bytes.split_at(bytes.len().min(self.all.len() - at));
+        if !more.is_empty() {
+            self.all.extend_from_slice(more)?;
+        }
+        splice(&mut self.all, at, over);
+        Ok(())
     }
 }
 

@@ -30,6 +30,8 @@ fn lists(rt: HostRuntime) -> Result<(), Fail> {
     bytes.push(3)?;
     bytes.extend_from_slice(&[4])?;
     assert_eq!(rt; bytes.as_slice(), [1, 2, 3, 4].as_slice());
+    bytes.splice(3, &[5, 6])?;
+    assert_eq!(rt; bytes.as_slice(), [1, 2, 3, 5, 6].as_slice());
     bytes.truncate(1);
     assert_eq!(rt; bytes.len(), 1);
     let mut numbers = Numbers::new(alloc);

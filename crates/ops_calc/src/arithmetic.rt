@@ -12,6 +12,7 @@ use gx_words::{low, signed};
 /// `act` is the low byte of the instruction's number. Those with one operand take it as `a` and
 /// ignore `b`. `None` is a `div` or `mod` by 0, or of -2^31 by -1.
 #[tactic(auto, unfolding(crate::specs::Arithmetic::calc))]
+#[inline(always)]
 pub fn calc(act: u8, a: u32, b: u32) -> Option<u32>
     requires { IsTrue (is_calc act) }
     ensures { result ≡ calc act a b }

@@ -8,6 +8,7 @@ use gx_words::signed;
 ///
 /// `act` is the instruction's number. `jump` ignores both operands, `jz` and `jnz` ignore `b`.
 #[tactic(auto, unfolding(crate::specs::Branches::test))]
+#[inline(always)]
 pub fn test(act: u8, a: u32, b: u32) -> bool
     requires { IsTrue (is_branch act) }
     ensures { result ≡ test act a b }

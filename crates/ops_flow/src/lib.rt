@@ -25,6 +25,7 @@ mod computing;
 mod continuations;
 mod values;
 
+pub use branches::deliver;
 use branches::{jumps, leave};
 use calls::{call, callf, tailcall};
 use computing::computes;

@@ -1,6 +1,7 @@
 //! Bytes with their runs of zeros written short, as memory lies in a save (Quetzal 1.4, section 3).
 //!
-//! - `pack` writes what differs from the old bytes, `unpack` reads it back over them.
+//! - `pack` writes what differs from the old bytes, `unpack` reads it back over them, and `check` tells
+//!   before, without memory, whether it can.
 //! - `unpack_inverts_pack` does nothing; its contract states the laws of the two.
 //!
 //! In packed bytes a byte other than 0 stands for itself, and 00 k for k + 1 zeros; zeros that are
@@ -16,7 +17,7 @@ mod unpacking;
 pub use faults::RunFault;
 pub use laws::unpack_inverts_pack;
 pub use packing::pack;
-pub use unpacking::unpack;
+pub use unpacking::{check, unpack};
 
 #[cfg(test)]
 mod tests;

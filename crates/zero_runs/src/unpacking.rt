@@ -1,7 +1,7 @@
 //! Reading: the bytes that packed bytes stand for over the old ones.
 //!
 //! The bytes are counted before memory is asked for, so what a file claims costs nothing.
-ghost use Rattle.std.specs.Prelude.{◌≡◌, ◌++◌, length, drop, replicate, OnOk, IfOk, IfErr, IsOk};
+ghost use Rattle.std.specs.Prelude.{◌≡◌, ◌≢◌, ◌++◌, ℕ, List, length, drop, replicate, Err, OnOk, IfOk, IfErr, IsOk};
 ghost use Rattle.gx_words.specs.Results.{Gives};
 ghost use Rattle.zero_runs.specs.Packing.{xored};
 ghost use Rattle.zero_runs.specs.Unpacking.{expanded_len, expanded_over, unpacked};
@@ -73,6 +73,21 @@ fn expanded_over(alloc: Global, packed: &[u8], old: &[u8]) -> Result<Bytes, RunF
         }
     }
     Ok(out)
+}
+
+/// Whether packed bytes stand for at most `size` bytes: the faults of `unpack`, over whatever old bytes. Takes no
+/// memory.
+#[tactic(auto, using(crate::proofs::UnpackingTurns::unpacked_parts), unfolding(crate::specs::Unpacking::unpacked, crate::specs::Unpacking::filled))]
+pub fn check(packed: &[u8], size: usize) -> Result<(), RunFault>
+    ensures ok { OnOk result ((old : List ℕ) → IsOk (unpacked packed.now old size)) }
+    ensures fault { IfErr result (λ fault. (old : List ℕ) → unpacked packed.now old size ≡ Err fault) }
+    ensures memory { IfErr result (λ fault. fault ≢ RunFault.NoMemory) }
+{
+    if expanded_len(packed)? > size as u128 {
+        Err(RunFault::TooMany)
+    } else {
+        Ok(())
+    }
 }
 
 /// The `size` bytes that packed bytes stand for over the old ones. Memory is taken only where they

@@ -268,37 +268,6 @@ code 81 30 11 08 23 04             ; glk 0x23 4 sp
 stack 00000003 00000000 00000000 00000000
 ends fault 16 at 00000030 after 4 steps
 
-story a second window
-window
-code 40 80                         ; copy 0 sp
-code 40 81 03                      ; copy 3 sp
-code 40 80                         ; copy 0 sp
-code 40 80                         ; copy 0 sp
-code 40 80                         ; copy 0 sp
-code 81 30 11 08 23 05             ; glk 0x23 5 sp
-stack 00000000 00000003 00000000 00000000 00000000
-ends fault 16 at 0000004d after 13 steps
-
-story a window of type 4
-code 40 80                         ; copy 0 sp
-code 40 81 04                      ; copy 4 sp
-code 40 80                         ; copy 0 sp
-code 40 80                         ; copy 0 sp
-code 40 80                         ; copy 0 sp
-code 81 30 11 08 23 05             ; glk 0x23 5 sp
-stack 00000000 00000004 00000000 00000000 00000000
-ends fault 16 at 00000032 after 5 steps
-
-story a window that splits window 1
-code 40 80                         ; copy 0 sp
-code 40 81 03                      ; copy 3 sp
-code 40 80                         ; copy 0 sp
-code 40 80                         ; copy 0 sp
-code 40 81 01                      ; copy 1 sp
-code 81 30 11 08 23 05             ; glk 0x23 5 sp
-stack 00000000 00000003 00000000 00000000 00000001
-ends fault 16 at 00000033 after 5 steps
-
 story set_window 1 where there is no window
 code 40 81 01                      ; copy 1 sp
 code 81 30 11 08 2F 01             ; glk 0x2F 1 sp
@@ -313,9 +282,9 @@ stack 00000002
 memory 100 00 00 00 00
 ends fault 16 at 00000045 after 9 steps
 
-story the selector 24, which isn't built
+story the selector 7777, which no call has
 code 40 81 01                      ; copy 1 sp
-code 81 30 11 08 24 01             ; glk 0x24 1 sp
+code 81 30 12 08 77 77 01          ; glk 0x7777 1 sp
 stack 00000001
 ends fault 16 at 0000002a after 1 steps
 
@@ -330,13 +299,13 @@ code 81 30 13 00 00 01 00 80 01    ; glk c4:0x00010080 1 _
 stack 00000041
 ends fault 16 at 00000045 after 9 steps
 
-story a word below RAMSTART comes before a selector that isn't built
-code 81 30 01 05 24 40             ; glk 0x24 0 *0x40
+story a word below RAMSTART comes before a selector that no call has
+code 81 30 01 05 0F 40             ; glk 0x0F 0 *0x40
 ends fault 4 at 00000027 after 0 steps
 ";
 
 #[test]
 fn glk(rt: HostRuntime) -> Result<(), Fail> {
-    assert_eq!(rt; play_all(&rt, rt.alloc(), GLK)?, 36);
+    assert_eq!(rt; play_all(&rt, rt.alloc(), GLK)?, 33);
     Ok(())
 }

@@ -1,4 +1,4 @@
-//! What a reply with writes and pushes makes of a state: no Glk call of a story answers so yet.
+//! What a reply with writes and pushes makes of a state, by each call that makes it.
 ghost use Rattle.std.specs.Prelude.{◌≡◌, ◌<◌, ◌≤◌, ◌∷◌, [], length, IfOk};
 ghost use Rattle.gx_state.specs.Flat.{sp_of};
 

@@ -148,7 +148,7 @@ impl<'a> Tale<'a> {
 }
 
 /// The values of the start function's frame and all above them, as words in hexadecimal.
-fn stack_of(alloc: Global, machine: &Machine<Global>) -> Result<String, Fail> {
+pub fn stack_of(alloc: Global, machine: &Machine<Global>) -> Result<String, Fail> {
     let values = machine.state().stack().bytes().get(FRAME..);
     words_of(alloc, values.unwrap_or_default())
 }
@@ -157,12 +157,12 @@ fn size_of(machine: &Machine<Global>) -> u32 {
     machine.state().memory().size()
 }
 
-fn byte_of(machine: &Machine<Global>, at: u32) -> Result<u32, Fail> {
+pub fn byte_of(machine: &Machine<Global>, at: u32) -> Result<u32, Fail> {
     Ok(machine.state().memory().try_number(1, at)?)
 }
 
 /// How a run ended: the program's line without its name, or `well` where there is none.
-fn ending(alloc: Global, ended: &Ended<Global>) -> Result<String, Fail> {
+pub fn ending(alloc: Global, ended: &Ended<Global>) -> Result<String, Fail> {
     let line = ended.line(alloc)?;
     match line.strip_prefix("gx_player: ") {
         Some(text) => Ok(String::from_str(alloc, text)?),

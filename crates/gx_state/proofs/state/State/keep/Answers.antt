@@ -10,6 +10,6 @@ use Rattle.gx_state.proofs.state.State.keep.Goals as goal
 pub returns-clause-fit : goal.returns-clause-fit
 returns-clause-fit g c =
     λ takes.
-    let sound = subst (λ (h : HeldState). IsSound h.flat) c.self.view_is c.self.invariant in
+    let sound = subst (λ (h : HeldState). IsSound h.flat) c.self.view_is c.self.invariant.sound in
     let read = subst (λ (p : Stub). stub_below (stub_bytes p) 16 ≡ p) c.stub.ensures (subst (λ (xs : List ℕ). stub_below xs 16 ≡ c.stub.result) c.bytes.ensures.value c.bytes.ensures.read_back) in
     copy_fits c.args.self.now.flat c.args.dest.now c.args.next _ sound c.requires.live c.requires.room read takes (grind arith)

@@ -1,5 +1,4 @@
-use Rattle.std.proofs.Common.{arith, ap, ◌∙◌}
-use Rattle.gx_stack.specs.declared.frames.Frame.{Frame}
+use Rattle.std.proofs.Common.{arith, refl, ◌∙◌}
 use Rattle.gx_state.proofs.Kept.{roll_limit, framed_again}
 use Rattle.gx_state.proofs.state.State.roll.Goals as goal
 
@@ -7,13 +6,16 @@ pub invariant_of-self-2 : goal.invariant_of-self-2
 invariant_of-self-2 g c =
     let limit = roll_limit _ _ _ _ _ _ c.roll.ensures.value in
     record {
-      story = c.self.invariant.story;
-      size = c.self.invariant.size;
-      endmem = c.self.invariant.endmem;
-      rom = c.self.invariant.rom;
-      limit = limit ∙ c.self.invariant.limit;
-      height = omega (arith, limit);
-      aligned = omega arith;
-      framed = framed_again _ _ _ c.roll.ensures.keeps (ap (λ (f : Frame). f.fp) c.parts-frame.ensures.value);
-      heap = c.self.invariant.heap;
+      sound = record {
+        story = c.self.invariant.sound.story;
+        size = c.self.invariant.sound.size;
+        endmem = c.self.invariant.sound.endmem;
+        rom = c.self.invariant.sound.rom;
+        limit = limit ∙ c.self.invariant.sound.limit;
+        height = omega (arith, limit);
+        aligned = omega arith;
+        framed = framed_again _ _ _ c.roll.ensures.keeps refl;
+        heap = c.self.invariant.sound.heap;
+      };
+      frame = λ _. c.roll.ensures.keeps;
     }

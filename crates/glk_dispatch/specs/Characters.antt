@@ -1,0 +1,63 @@
+-- The case of characters (Glk 0.7.5, "Upper and Lower Case"): that of Latin-1 alone is changed.
+use Rattle.std.specs.Prelude.{◌≡◌, ℕ, ◌%◌, ◌*◌, ◌==◌, nat_lt, min, Bool, false, if◌then◌else◌, List, [], ◌∷◌, length, map, Err}
+use Rattle.gx_words.specs.declared.faults.Fault.TheVariants.{BadGlk}
+use Rattle.gx_words.specs.Results.{◌>>=◌}
+use Rattle.gx_state.specs.Flat.{FlatState}
+use Rattle.glk_streams.specs.declared.kinds.Places.{Places}
+use Rattle.glk_text.specs.Characters.{lower_of, upper_of}
+use Rattle.glk_world.specs.World.{Scene}
+use Rattle.glk_dispatch.specs.declared.selectors.TheConstants.{CHAR_TO_LOWER, CHAR_TO_UPPER, BUFFER_TO_LOWER_CASE_UNI, BUFFER_TO_UPPER_CASE_UNI, BUFFER_TO_TITLE_CASE_UNI}
+use Rattle.glk_dispatch.specs.declared.characters.Case.{Case}
+use Rattle.glk_dispatch.specs.declared.characters.Case.TheVariants.{Lower, Upper, Same}
+use Rattle.glk_dispatch.specs.Parts.{Outcome, arg, replies, answered, can_read, can_lay, laid, numbers_in}
+
+-- a character in lower or upper case, or as it is
+abbrev pub changed : Case → ℕ → ℕ
+changed Lower c = lower_of c
+changed Upper c = upper_of c
+changed Same c = c
+
+-- a text whose first character gets one case, and all others another
+abbrev pub recased : Case → Case → List ℕ → List ℕ
+recased first others [] = []
+recased first others (c ∷ cs) = changed first c ∷ map (changed others) cs
+
+-- char_to_lower, char_to_upper: the low eight bits
+unfoldable pub char_to_case : Scene → Case → List ℕ → Outcome
+char_to_case w case args = answered w (replies (changed case (arg args 0 % 256)))
+
+-- the characters of a buffer: so many of its places as are filled, at most all
+abbrev pub buffer_of : List ℕ → Places
+buffer_of args = record { at = arg args 0; width = 4; count = min (arg args 2) (arg args 1) }
+
+-- buffer_to_lower_case_uni, buffer_to_upper_case_uni, buffer_to_title_case_uni: each character becomes one, so that
+-- the answer is their number before
+unfoldable pub buffer_to_case : Scene → FlatState → Case → Case → List ℕ → Outcome
+buffer_to_case w f first others args = do
+  there ← can_read f (arg args 0) (4 * (buffer_of args).count)
+  writable ← can_lay f (buffer_of args)
+  answered w (record {
+    value = arg args 2;
+    pushes = [];
+    writes = laid (buffer_of args) (recased first others (numbers_in 4 f.memory (arg args 0) (buffer_of args).count));
+  })
+
+-- the case of the others in a title
+abbrev pub rest_of : List ℕ → Case
+rest_of args = if arg args 3 == 0 then Same else Lower
+
+unfoldable pub characters : Scene → FlatState → ℕ → ℕ → List ℕ → Outcome
+characters w f room selector args =
+    if selector == CHAR_TO_LOWER then char_to_case w Lower args else
+    if selector == CHAR_TO_UPPER then char_to_case w Upper args else
+    if selector == BUFFER_TO_LOWER_CASE_UNI then buffer_to_case w f Lower Lower args else
+    if selector == BUFFER_TO_UPPER_CASE_UNI then buffer_to_case w f Upper Upper args else
+    if selector == BUFFER_TO_TITLE_CASE_UNI then buffer_to_case w f Upper (rest_of args) args else
+    Err BadGlk
+
+-- where it may want memory
+unfoldable pub characters_grow : Scene → FlatState → ℕ → List ℕ → Bool
+characters_grow w f selector args =
+    if selector == CHAR_TO_LOWER then false else
+    if selector == CHAR_TO_UPPER then false else
+    nat_lt 0 (buffer_of args).count

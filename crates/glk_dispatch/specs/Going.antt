@@ -1,0 +1,60 @@
+-- A call that waited goes on with what it was given: always to an answer.
+use Rattle.std.specs.Prelude.{ℕ, ◌==◌, ◌&&◌, not, if◌then◌else◌, Bool, false, List, Option, Some, None, Result, Ok, Err}
+use Rattle.gx_words.specs.declared.faults.Fault.TheVariants.{BadGlk}
+use Rattle.gx_words.specs.Results.{◌>>=◌}
+use Rattle.gx_state.specs.Flat.{FlatState}
+use Rattle.glk_world.specs.World.{Call, Scene}
+use Rattle.glk_dispatch.specs.declared.Turn.TheVariants.{Answer}
+use Rattle.glk_dispatch.specs.declared.Given.{Given}
+use Rattle.glk_dispatch.specs.declared.Given.TheVariants as given
+use Rattle.glk_dispatch.specs.declared.selectors.TheConstants.{FILEREF_DOES_FILE_EXIST, SELECT}
+use Rattle.glk_dispatch.specs.Parts.{Outcome, arg, replies, answered}
+use Rattle.glk_dispatch.specs.Turns.{TurnOutcome}
+use Rattle.glk_dispatch.specs.Streams.{close}
+use Rattle.glk_dispatch.specs.References.{prompt_goes_on, prompt_goes_on_grow, open_goes_on, open_goes_on_grow}
+use Rattle.glk_dispatch.specs.Events.{select_goes_on, select_goes_on_grow}
+
+-- a line for the call that waits for an event, or for a prompt
+abbrev pub with_line : Scene → FlatState → ℕ → Call → List ℕ → Outcome
+with_line w f room call line =
+    if call.selector == SELECT then select_goes_on w f room call.arguments line
+    else prompt_goes_on w call.arguments line
+
+-- a file was removed, or looked for
+abbrev pub was_of : ℕ → Bool → ℕ
+was_of selector was = if selector == FILEREF_DOES_FILE_EXIST && was then 1 else 0
+
+abbrev pub resumed : Scene → FlatState → ℕ → Call → Given → Outcome
+resumed w f room call (given.Line line) = with_line w f room call line
+resumed w f room call (given.Loaded load) = open_goes_on w call.selector call.arguments load
+resumed w f room call given.Stored = close w f room call.arguments
+resumed w f room call (given.Was was) = answered w (replies (was_of call.selector was))
+
+-- it waits no longer then
+abbrev pub go_by : Option Call → Scene → FlatState → ℕ → Given → TurnOutcome
+go_by None w f room g = Err BadGlk
+go_by (Some call) w f room g = do
+  done ← resumed (record w { waiting = None }) f room call g
+  Ok (done.0, Answer done.1)
+
+unfoldable pub glk_go_on : Scene → FlatState → ℕ → Given → TurnOutcome
+glk_go_on w f room g = go_by w.waiting w f room g
+
+-- ---- where memory may be wanted
+
+abbrev pub with_line_grow : Scene → FlatState → Call → List ℕ → Bool
+with_line_grow w f call line =
+    if call.selector == SELECT then select_goes_on_grow w f call.arguments line else prompt_goes_on_grow w line
+
+abbrev pub resumed_grow : Scene → FlatState → Call → Given → Bool
+resumed_grow w f call (given.Line line) = with_line_grow w f call line
+resumed_grow w f call (given.Loaded load) = open_goes_on_grow call.arguments load
+resumed_grow w f call given.Stored = not (arg call.arguments 1 == 0)
+resumed_grow w f call (given.Was was) = false
+
+abbrev pub go_grows_by : Option Call → Scene → FlatState → Given → Bool
+go_grows_by None w f g = false
+go_grows_by (Some call) w f g = resumed_grow (record w { waiting = None }) f call g
+
+unfoldable pub go_grows : Scene → FlatState → Given → Bool
+go_grows w f g = go_grows_by w.waiting w f g

@@ -1,0 +1,169 @@
+-- The calls of file references (Glk 0.7.5, "File References" and "File Streams").
+use Rattle.std.specs.Prelude.{ℕ, ◌/◌, ◌%◌, ◌==◌, ◌&&◌, ◌||◌, not, if◌then◌else◌, Bool, true, false, List, [], ◌∷◌, ◌++◌, length, codes, decimal, Result, Ok, Err}
+use Rattle.gx_words.specs.declared.faults.Fault.TheVariants.{BadGlk}
+use Rattle.gx_words.specs.Results.{◌>>=◌}
+use Rattle.gx_outside.specs.declared.devices.Load.{Load}
+use Rattle.gx_outside.specs.declared.devices.Load.TheVariants as of_load
+use Rattle.gx_state.specs.Flat.{FlatState}
+use Rattle.glk_files.specs.Names.{base_of, suffix_of}
+use Rattle.glk_streams.specs.declared.modes.TheConstants.{WRITE, READ, READ_WRITE, WRITE_APPEND}
+use Rattle.glk_streams.specs.declared.kinds.FileForm.{FileForm}
+use Rattle.glk_streams.specs.declared.kinds.FileForm.TheVariants as forms
+use Rattle.glk_streams.specs.declared.kinds.StreamKind.{StreamKind}
+use Rattle.glk_streams.specs.declared.kinds.StreamKind.TheVariants as kinds
+use Rattle.glk_world.specs.World.{Scene, silent, has_reference, reference_at, next_reference}
+use Rattle.glk_world.specs.Calls.{is_identifier, new_id, with_reference, without_reference, with_stream}
+use Rattle.glk_world.specs.Shown.{show_prompt, line_taken}
+use Rattle.glk_dispatch.specs.declared.Turn.TheVariants as turn
+use Rattle.glk_dispatch.specs.declared.references.TheConstants.{TEXT_MODE}
+use Rattle.glk_dispatch.specs.declared.selectors.TheConstants.{STREAM_OPEN_FILE, FILEREF_CREATE_TEMP, FILEREF_CREATE_BY_NAME, FILEREF_CREATE_BY_PROMPT, FILEREF_DESTROY, FILEREF_ITERATE, FILEREF_GET_ROCK, FILEREF_DELETE_FILE, FILEREF_DOES_FILE_EXIST, FILEREF_CREATE_FROM_FILEREF, STREAM_OPEN_FILE_UNI}
+use Rattle.glk_dispatch.specs.Parts.{Outcome, arg, replies, answered, give}
+use Rattle.glk_dispatch.specs.Strings.{string_length, string_chars}
+use Rattle.glk_dispatch.specs.Turns.{TurnOutcome, waits}
+
+-- ---- calls that need no file reference
+
+-- a new file reference
+abbrev pub created : Scene → List ℕ → ℕ → ℕ → Outcome
+created w base usage rock = answered (with_reference w base usage rock) (replies (new_id w))
+
+-- fileref_create_temp: a name that no other has, by the identifier
+abbrev pub temporary_name : ℕ → List ℕ
+temporary_name id = codes "gxtemp" ++ decimal id
+
+unfoldable pub fileref_create_temp : Scene → List ℕ → Outcome
+fileref_create_temp w args = created w (temporary_name w.next_id) (arg args 0) (arg args 1)
+
+-- fileref_create_by_name: the name is a string of bytes
+unfoldable pub fileref_create_by_name : Scene → FlatState → List ℕ → Outcome
+fileref_create_by_name w f args = do
+  count ← string_length f 1 (arg args 1)
+  created w (base_of (string_chars f 1 (arg args 1) count)) (arg args 0) (arg args 2)
+
+-- fileref_create_from_fileref: the same name for another usage; 0 for none
+unfoldable pub fileref_create_from_fileref : Scene → List ℕ → Outcome
+fileref_create_from_fileref w args =
+    if has_reference w (arg args 1) then created w (reference_at w (arg args 1)).base (arg args 0) (arg args 2)
+    else answered w (replies 0)
+
+-- fileref_iterate ("Opaque Objects"): the next file reference and its rock, zeros at the end
+unfoldable pub fileref_iterate : Scene → FlatState → ℕ → List ℕ → Outcome
+fileref_iterate w f room args = do
+  let next = next_reference w (arg args 0)
+  reply ← give f room next (arg args 1) ((reference_at w next).rock ∷ [])
+  answered w reply
+
+unfoldable pub references : Scene → FlatState → ℕ → ℕ → List ℕ → Outcome
+references w f room selector args =
+    if selector == FILEREF_CREATE_TEMP then fileref_create_temp w args else
+    if selector == FILEREF_CREATE_BY_NAME then fileref_create_by_name w f args else
+    if selector == FILEREF_ITERATE then fileref_iterate w f room args else
+    if selector == FILEREF_CREATE_FROM_FILEREF then fileref_create_from_fileref w args else
+    Err BadGlk
+
+-- Memory is wanted for what is written or pushed, and for a new file reference.
+unfoldable pub references_grow : Scene → FlatState → ℕ → List ℕ → Bool
+references_grow w f selector args =
+    if selector == FILEREF_CREATE_TEMP then is_identifier w.next_id else
+    if selector == FILEREF_CREATE_BY_NAME then is_identifier w.next_id else
+    if selector == FILEREF_ITERATE then not (arg args 1 == 0) else
+    if selector == FILEREF_CREATE_FROM_FILEREF then has_reference w (arg args 1) && is_identifier w.next_id else
+    false
+
+-- ---- calls on a file reference
+
+-- fileref_destroy, fileref_get_rock
+unfoldable pub fileref_destroy : Scene → List ℕ → Outcome
+fileref_destroy w args = answered (without_reference w (arg args 0)) (replies 0)
+
+unfoldable pub fileref_get_rock : Scene → List ℕ → Outcome
+fileref_get_rock w args = answered w (replies (reference_at w (arg args 0)).rock)
+
+unfoldable pub on_reference : Scene → FlatState → ℕ → ℕ → List ℕ → Outcome
+on_reference w f room selector args =
+    if selector == FILEREF_DESTROY then fileref_destroy w args else
+    if selector == FILEREF_GET_ROCK then fileref_get_rock w args else
+    Err BadGlk
+
+-- nothing is made, written or pushed
+abbrev pub on_reference_grow : Scene → FlatState → ℕ → List ℕ → Bool
+on_reference_grow w f selector args = false
+
+-- ---- fileref_create_by_prompt: a line is the name
+
+unfoldable pub prompt : Scene → FlatState → ℕ → ℕ → List ℕ → TurnOutcome
+prompt w f room selector args =
+    let shown = show_prompt w in
+    Ok ((waits shown.0 FILEREF_CREATE_BY_PROMPT args, shown.1), turn.Prompt)
+
+-- Memory is wanted for the words of the prompt.
+abbrev pub prompt_grow : Scene → FlatState → ℕ → List ℕ → Bool
+prompt_grow w f selector args = true
+
+-- the line; an empty one answers 0
+unfoldable pub prompt_goes_on : Scene → List ℕ → List ℕ → Outcome
+prompt_goes_on w args [] = answered (line_taken w) (replies 0)
+prompt_goes_on w args (c ∷ cs) = created (line_taken w) (base_of (c ∷ cs)) (arg args 0) (arg args 2)
+
+unfoldable pub prompt_goes_on_grow : Scene → List ℕ → Bool
+prompt_goes_on_grow w [] = false
+prompt_goes_on_grow w (c ∷ cs) = is_identifier w.next_id
+
+-- ---- calls on the file of a file reference
+
+-- the full name of the file
+abbrev pub file_name : Scene → ℕ → List ℕ
+file_name w id = (reference_at w id).base ++ suffix_of (reference_at w id).usage
+
+-- the form of the file's characters: in the Unicode form UTF-8 for a text, else four bytes each
+abbrev pub form_for : ℕ → ℕ → FileForm
+form_for selector usage =
+    if selector == STREAM_OPEN_FILE_UNI then (if usage / TEXT_MODE % 2 == 1 then forms.Utf8 else forms.Wide)
+    else forms.Latin
+
+abbrev pub file_kind : Scene → ℕ → List ℕ → List ℕ → StreamKind
+file_kind w selector args content =
+    kinds.File (file_name w (arg args 0)) content (form_for selector (reference_at w (arg args 0)).usage)
+
+-- a stream of a file with this content
+unfoldable pub open_with : Scene → ℕ → List ℕ → List ℕ → Outcome
+open_with w selector args content =
+    answered (with_stream w (file_kind w selector args content) (arg args 1) (arg args 2)) (replies (new_id w))
+
+-- a mode in which a file is loaded
+abbrev pub loads : ℕ → Bool
+loads mode = mode == READ || mode == READ_WRITE || mode == WRITE_APPEND
+
+-- stream_open_file: for writing alone the file begins empty, else it is loaded; another mode is refused
+unfoldable pub stream_open_file : Scene → ℕ → List ℕ → TurnOutcome
+stream_open_file w selector args =
+    if arg args 1 == WRITE then (do
+      done ← open_with w selector args []
+      Ok (done.0, turn.Answer done.1)) else
+    if loads (arg args 1) then Ok (silent (waits w selector args), turn.Load (file_name w (arg args 0))) else
+    Ok (silent w, turn.Answer (replies 0))
+
+-- the file was loaded: one that is missing begins empty, unless it was to be read alone
+abbrev pub open_goes_on : Scene → ℕ → List ℕ → Load → Outcome
+open_goes_on w selector args of_load.Missing =
+    if arg args 1 == READ then answered w (replies 0) else open_with w selector args []
+open_goes_on w selector args of_load.TooLong = answered w (replies 0)
+open_goes_on w selector args (of_load.Found bytes) = open_with w selector args bytes
+
+abbrev pub open_goes_on_grow : List ℕ → Load → Bool
+open_goes_on_grow args of_load.Missing = not (arg args 1 == READ)
+open_goes_on_grow args of_load.TooLong = false
+open_goes_on_grow args (of_load.Found bytes) = true
+
+unfoldable pub files : Scene → FlatState → ℕ → ℕ → List ℕ → TurnOutcome
+files w f room selector args =
+    if selector == STREAM_OPEN_FILE || selector == STREAM_OPEN_FILE_UNI then stream_open_file w selector args else
+    if selector == FILEREF_DELETE_FILE then Ok (silent (waits w selector args), turn.Remove (file_name w (arg args 0))) else
+    if selector == FILEREF_DOES_FILE_EXIST then Ok (silent (waits w selector args), turn.Has (file_name w (arg args 0))) else
+    Err BadGlk
+
+-- Memory is wanted for the name of the file.
+unfoldable pub files_grow : Scene → FlatState → ℕ → List ℕ → Bool
+files_grow w f selector args =
+    if selector == STREAM_OPEN_FILE || selector == STREAM_OPEN_FILE_UNI then (arg args 1 == WRITE || loads (arg args 1)) else
+    true

@@ -1,0 +1,116 @@
+//! What the library can do (Glk 0.7.5, "The Gestalt System"): gestalt and gestalt_ext.
+ghost use Rattle.std.specs.Prelude.{◌≡◌, ℕ, ◌≤◌, ◌<◌, ◌^◌, IfOk, IsTrue};
+ghost use Rattle.gx_words.specs.Faults.{MayLose};
+ghost use Rattle.gx_state.specs.Flat.{FlatState};
+ghost use Rattle.gx_state.specs.Replies.{IsReply};
+ghost use Rattle.glk_dispatch.specs.Parts.{on_world};
+ghost use Rattle.glk_dispatch.specs.Gestalts.{gestalt_of, gestalt, has_glyphs, glyphs_place, gestalt_ext, gestalts, gestalts_grow};
+
+use crate::parts::{arg, can_lay, lay, reply};
+use crate::selectors::*;
+use glk_events::RETURN;
+use glk_streams::Places;
+use glk_text::{LINE_FEED, printable};
+use glk_world::World;
+use gx_state::{Reply, State};
+use gx_words::Fault;
+use std::alloc::Allocator;
+
+// The selectors, by the standard's names.
+const VERSION: u32 = 0;
+
+const CHAR_INPUT: u32 = 1;
+
+const LINE_INPUT: u32 = 2;
+
+const CHAR_OUTPUT: u32 = 3;
+
+const UNICODE: u32 = 15;
+
+/// What is answered for a character that is shown as another one.
+const CANNOT_PRINT: u32 = 0;
+
+/// What is answered for a character that is shown as itself.
+const EXACT_PRINT: u32 = 2;
+
+/// The answer to a selector with its value.
+#[tactic(auto, unfolding(crate::specs::Gestalts::gestalt_of))]
+fn gestalt_of(sel: u32, val: u32) -> u32
+    ensures { result ≡ gestalt_of sel val }
+{
+    match sel {
+        VERSION => 0x0000_0705,
+        CHAR_INPUT => u32::from(printable(val) || val == RETURN),
+        LINE_INPUT => u32::from(printable(val)),
+        CHAR_OUTPUT if printable(val) || val == LINE_FEED => EXACT_PRINT,
+        CHAR_OUTPUT => CANNOT_PRINT,
+        UNICODE => 1,
+        _ => 0,
+    }
+}
+
+/// gestalt: the answer alone.
+#[tactic(auto, unfolding(crate::specs::Gestalts::gestalt))]
+fn gestalt(world: &mut World, args: &[u32]) -> Result<Reply, Fault>
+    ensures value { MayLose ⊥ (λ reply. reply) result world.old world.new (on_world world.old (gestalt world.old.scene args.now)) }
+    ensures fits { (f : FlatState) (room : ℕ) → IfOk result (IsReply f room) }
+{
+    Ok(reply(world, gestalt_of(arg(args, 0), arg(args, 1))))
+}
+
+/// Whether the number of glyphs of a character has a place in the array.
+fn has_glyphs(args: &[u32]) -> bool
+    ensures { result ≡ has_glyphs args.now }
+{
+    arg(args, 0) == CHAR_OUTPUT && arg(args, 2) != 0 && arg(args, 3) != 0
+}
+
+/// That place.
+fn glyphs_place(args: &[u32]) -> Places
+    ensures value { result ≡ glyphs_place args.now }
+    ensures at { result.at < 2 ^ 32 }
+    ensures width { result.width ≡ 4 }
+    ensures count { result.count ≤ 1 }
+{
+    Places {
+        at: u64::from(arg(args, 2)),
+        width: 4,
+        count: u32::from(has_glyphs(args)),
+    }
+}
+
+/// gestalt_ext: the same answer, and the number of glyphs of a character.
+#[tactic(auto, using(crate::proofs::Ram::laid_in_ram), unfolding(crate::specs::Gestalts::gestalt_ext))]
+fn gestalt_ext<A: Allocator + Clone>(
+    world: &mut World,
+    state: &State<A>,
+    args: &[u32],
+) -> Result<Reply, Fault>
+    ensures value { MayLose (IsTrue (has_glyphs args.now)) (λ reply. reply) result world.old world.new (on_world world.old (gestalt_ext world.old.scene state.now.flat args.now)) }
+    ensures fits { (room : ℕ) → IfOk result (IsReply state.now.flat room) }
+{
+    let places = glyphs_place(args);
+    can_lay(state, places)?;
+    let mut reply = reply(world, gestalt_of(arg(args, 0), arg(args, 1)));
+    lay(world.alloc(), &mut reply.writes, places, &[1])?;
+    Ok(reply)
+}
+
+/// Calls that ask what the library can do.
+#[tactic(auto, unfolding(crate::specs::Gestalts::gestalts, crate::specs::Gestalts::gestalts_grow))]
+pub(crate) fn gestalts<A: Allocator + Clone>(
+    world: &mut World,
+    state: &State<A>,
+    room: u32,
+    selector: u32,
+    args: &[u32],
+) -> Result<Reply, Fault>
+    ensures value { MayLose (IsTrue (gestalts_grow world.old.scene state.now.flat selector args.now)) (λ reply. reply) result world.old world.new (on_world world.old (gestalts world.old.scene state.now.flat room selector args.now)) }
+    ensures fits { IfOk result (IsReply state.now.flat room) }
+{
+    match selector {
+        GESTALT => gestalt(world, args),
+        GESTALT_EXT => gestalt_ext(world, state, args),
+        _ => Err(Fault::BadGlk),
+    }
+}

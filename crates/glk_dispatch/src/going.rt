@@ -1,0 +1,91 @@
+//! A call that waited goes on with what it was given (specs/Going): always to an answer.
+ghost use Rattle.std.specs.Prelude.{◌≡◌, ◌==◌, ◌&&◌, IfOk, IsTrue};
+ghost use Rattle.gx_words.specs.Faults.{MayLose};
+ghost use Rattle.gx_state.specs.Replies.{IsReply};
+ghost use Rattle.glk_world.specs.Kept.{call_of};
+ghost use Rattle.glk_dispatch.specs.Parts.{on_world};
+ghost use Rattle.glk_dispatch.specs.Turns.{IsTurnFor, IsAnswered, IsAwaited, Awaits};
+ghost use Rattle.glk_dispatch.specs.Going.{with_line, with_line_grow, was_of, resumed, resumed_grow, glk_go_on, go_grows};
+ghost use Rattle.glk_dispatch.specs.declared.Given.TheVariants as given;
+
+use crate::events::select_goes_on;
+use crate::parts::reply;
+use crate::references::{open_goes_on, prompt_goes_on};
+use crate::selectors::{FILEREF_DOES_FILE_EXIST, SELECT};
+use crate::streams::close;
+use crate::{Given, Turn};
+use glk_world::{Waiting, World};
+use gx_state::{Reply, State};
+use gx_words::Fault;
+use std::alloc::Allocator;
+
+/// A line for the call that waits for an event, or for a prompt.
+fn with_line<A: Allocator + Clone>(
+    world: &mut World,
+    state: &State<A>,
+    room: u32,
+    call: &Waiting,
+    line: &[u32],
+) -> Result<Reply, Fault>
+    requires { IsAwaited world.old.scene (call_of call.now) (given.Line line.now) }
+    ensures value { MayLose (IsTrue (with_line_grow world.old.scene state.now.flat (call_of call.now) line.now)) (λ reply. reply) result world.old world.new (on_world world.old (with_line world.old.scene state.now.flat room (call_of call.now) line.now)) }
+    ensures fits { IfOk result (IsReply state.now.flat room) }
+{
+    if call.selector == SELECT {
+        select_goes_on(world, state, room, call.args.as_slice(), line)
+    } else {
+        prompt_goes_on(world, call.args.as_slice(), line)
+    }
+}
+
+/// The answer where a file was removed, or looked for.
+fn was_of(selector: u32, was: bool) -> u32
+    ensures { result ≡ was_of selector was }
+{
+    u32::from(selector == FILEREF_DOES_FILE_EXIST && was)
+}
+
+/// Goes on with a call.
+fn resume<A: Allocator + Clone>(
+    world: &mut World,
+    state: &State<A>,
+    room: u32,
+    call: &Waiting,
+    given: Given,
+) -> Result<Reply, Fault>
+    requires { IsAwaited world.old.scene (call_of call.now) given }
+    ensures value { MayLose (IsTrue (resumed_grow world.old.scene state.now.flat (call_of call.now) given)) (λ reply. reply) result world.old world.new (on_world world.old (resumed world.old.scene state.now.flat room (call_of call.now) given)) }
+    ensures fits { IfOk result (IsReply state.now.flat room) }
+{
+    match given {
+        Given::Line(line) => with_line(world, state, room, call, line.as_slice()),
+        Given::Loaded(load) => open_goes_on(world, call.selector, call.args.as_slice(), load),
+        Given::Stored => close(world, state, room, call.args.as_slice()),
+        Given::Was(was) => Ok(reply(world, was_of(call.selector, was))),
+    }
+}
+
+/// Goes on with the call that waits.
+#[tactic(auto, using(crate::proofs::Resuming::going_rules), unfolding(crate::specs::Going::glk_go_on, crate::specs::Going::go_grows, crate::specs::Turns::Awaits))]
+pub fn go_on<A: Allocator + Clone>(
+    world: &mut World,
+    state: &State<A>,
+    room: u32,
+    given: Given,
+) -> Result<Turn, Fault>
+    requires { Awaits world.old.scene given }
+    ensures value { MayLose (IsTrue (go_grows world.old.scene state.now.flat given)) (λ turn. turn) result world.old world.new (on_world world.old (glk_go_on world.old.scene state.now.flat room given)) }
+    ensures fits { IfOk result (IsTurnFor state.now.flat room) }
+    ensures answers { IfOk result IsAnswered }
+{
+    let Some(call) = world.take_waiting() else {
+        return Err(Fault::BadGlk);
+    };
+    match resume(world, state, room, &call, given) {
+        Ok(reply) => Ok(Turn::Answer(reply)),
+        Err(fault) => {
+            world.set_waiting(Some(call));
+            Err(fault)
+        }
+    }
+}

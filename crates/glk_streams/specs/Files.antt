@@ -1,0 +1,52 @@
+-- A file's content, which is a list of bytes (Glk 0.7.5, "File Streams").
+use Rattle.std.specs.Prelude.{ℕ, ◌+◌, ◌*◌, ◌/◌, nat_le, nat_lt, if◌then◌else◌, Bool, List, [], ◌∷◌, length, count_by, Option, Some, None}
+use Rattle.gx_words.specs.Numbers.{byte, word, bytes_of_word, spliced}
+use Rattle.glk_text.specs.Characters.{latin_of}
+use Rattle.glk_text.specs.Utf8.{written, read}
+use Rattle.glk_streams.specs.declared.kinds.FileForm.{FileForm}
+use Rattle.glk_streams.specs.declared.kinds.FileForm.TheVariants as forms
+use Rattle.glk_streams.specs.declared.content.TheConstants.{LARGEST}
+
+-- the bytes of a character
+abbrev pub bytes_in : FileForm → ℕ → List ℕ
+bytes_in forms.Latin c = latin_of c ∷ []
+bytes_in forms.Wide c = bytes_of_word c
+bytes_in forms.Utf8 c = written c
+
+-- the byte where a position stands: positions count characters, in UTF-8 bytes
+abbrev pub byte_at : FileForm → ℕ → ℕ
+byte_at forms.Latin position = position
+byte_at forms.Wide position = 4 * position
+byte_at forms.Utf8 position = position
+
+-- the positions that so many bytes take; a rest of under four bytes isn't read
+abbrev pub positions_in : FileForm → ℕ → ℕ
+positions_in forms.Latin bytes = bytes
+positions_in forms.Wide bytes = bytes / 4
+positions_in forms.Utf8 bytes = bytes
+
+-- bytes from a place on end within the most that a file holds
+abbrev pub has_room : ℕ → List ℕ → Bool
+has_room place bytes = nat_le (place + length bytes) LARGEST
+
+-- a content with bytes put over those from a place on, if there is room for them
+abbrev pub with_bytes : List ℕ → ℕ → List ℕ → List ℕ
+with_bytes content place bytes = if has_room place bytes then spliced content place bytes else content
+
+-- how many bytes were put
+abbrev pub taken : ℕ → List ℕ → ℕ
+taken place bytes = if has_room place bytes then length bytes else 0
+
+-- the character at a position and the position behind it, none at the end
+abbrev pub read_in : FileForm → List ℕ → ℕ → Option (ℕ × ℕ)
+read_in forms.Latin content position =
+    if nat_lt position (length content) then Some (byte content position, position + 1) else None
+read_in forms.Wide content position =
+    if nat_lt position (length content / 4) then Some (word content (4 * position), position + 1) else None
+read_in forms.Utf8 content position = read content position
+
+-- the bytes that the bytes of a save take, put as characters: in UTF-8 one from 80 on takes two
+abbrev pub saved_size : FileForm → List ℕ → ℕ
+saved_size forms.Latin bytes = length bytes
+saved_size forms.Wide bytes = 4 * length bytes
+saved_size forms.Utf8 bytes = length bytes + count_by (λ byte. nat_le 0x80 byte) bytes

@@ -1,0 +1,4 @@
+pub mod Files
+pub mod Stream
+pub mod Streams
+pub mod Sound

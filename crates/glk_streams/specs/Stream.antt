@@ -1,0 +1,157 @@
+-- One stream: what putting, getting and moving make of it (Glk 0.7.5, "Streams").
+use Rattle.std.specs.Prelude.{ℕ, ◌+◌, ◌-◌, ◌*◌, ◌^◌, ◌%◌, min, max, ◌==◌, nat_lt, nat_le, if◌then◌else◌, Bool, false, ◌||◌, ◌&&◌, List, length, Option, Some, None}
+use Rattle.glk_streams.specs.declared.kinds.StreamKind.{StreamKind}
+use Rattle.glk_streams.specs.declared.kinds.StreamKind.TheVariants as kinds
+use Rattle.glk_streams.specs.declared.kinds.Stream.{Stream}
+use Rattle.glk_streams.specs.declared.kinds.Places.{Places}
+use Rattle.glk_streams.specs.declared.modes.TheConstants.{WRITE, READ, READ_WRITE, WRITE_APPEND, FROM_START, FROM_CURRENT, FROM_END}
+use Rattle.glk_streams.specs.declared.content.TheConstants.{LARGEST}
+use Rattle.glk_streams.specs.Files.{bytes_in, byte_at, positions_in, has_room, with_bytes, taken, read_in, saved_size}
+
+abbrev pub readable : Stream → Bool
+readable s = s.mode == READ || s.mode == READ_WRITE
+
+abbrev pub writable : Stream → Bool
+writable s = s.mode == WRITE || s.mode == READ_WRITE || s.mode == WRITE_APPEND
+
+-- the modes in which a kind of stream may be open
+abbrev pub allows : StreamKind → ℕ → Bool
+allows (kinds.Window win) mode = mode == WRITE
+allows (kinds.Memory at len wide) mode = mode == WRITE || mode == READ || mode == READ_WRITE
+allows (kinds.File name content form) mode = mode == WRITE || mode == READ || mode == READ_WRITE || mode == WRITE_APPEND
+
+-- a buffer at 0 has no places
+abbrev pub places_of : ℕ → ℕ → ℕ
+places_of at len = if at == 0 then 0 else len
+
+-- the position behind the last character
+abbrev pub end_in : StreamKind → ℕ → ℕ → ℕ
+end_in (kinds.Window win) mode highest = 0
+end_in (kinds.Memory at len wide) mode highest = if mode == WRITE then highest else places_of at len
+end_in (kinds.File name content form) mode highest = positions_in form (length content)
+
+abbrev pub end_of : Stream → ℕ
+end_of s = end_in s.kind s.mode s.highest
+
+-- a stream as it is opened
+unfoldable pub opened : ℕ → StreamKind → ℕ → ℕ → Stream
+opened id kind mode rock = record {
+  id = id;
+  kind = kind;
+  mode = mode;
+  rock = rock;
+  position = if mode == WRITE_APPEND then end_in kind mode 0 else 0;
+  highest = 0;
+  read = 0;
+  written = 0;
+}
+
+-- A character goes to its window, to the next place of memory if there is one, or over the bytes of a file if
+-- it ends within the most that a file holds; else it is dropped.
+abbrev pub put_in : StreamKind → Stream → ℕ → Stream
+put_in (kinds.Window win) s c = s
+put_in (kinds.Memory at len wide) s c =
+    if nat_lt s.position (places_of at len)
+    then record s { position = s.position + 1; highest = max s.highest (s.position + 1) }
+    else s
+put_in (kinds.File name content form) s c =
+    let bytes = bytes_in form c in
+    let place = byte_at form s.position in
+    record s { kind = kinds.File name (with_bytes content place bytes) form; position = s.position + positions_in form (taken place bytes) }
+
+-- a character is counted and put, unless the stream isn't open for writing
+unfoldable pub after_put : Stream → ℕ → Stream
+after_put s c =
+    if writable s then put_in s.kind (record s { written = (s.written + 1) % 2 ^ 32 }) c else s
+
+-- putting a character makes a file longer
+abbrev pub lengthens : StreamKind → Stream → ℕ → Bool
+lengthens (kinds.Window win) s c = false
+lengthens (kinds.Memory at len wide) s c = false
+lengthens (kinds.File name content form) s c =
+    let bytes = bytes_in form c in
+    let place = byte_at form s.position in
+    writable s && has_room place bytes && nat_lt (length content) (place + length bytes)
+
+-- the next character and the position behind it, none at the end; `found` stands at the place of memory
+abbrev pub next_in : StreamKind → Stream → ℕ → Option (ℕ × ℕ)
+next_in (kinds.Window win) s found = None
+next_in (kinds.Memory at len wide) s found =
+    if nat_lt s.position (places_of at len) then Some (found, s.position + 1) else None
+next_in (kinds.File name content form) s found = read_in form content s.position
+
+-- the same, and none where the stream isn't open for reading
+unfoldable pub next_of : Stream → ℕ → Option (ℕ × ℕ)
+next_of s found = if readable s then next_in s.kind s found else None
+
+-- the same from another position
+abbrev pub next_from : Stream → ℕ → ℕ → Option (ℕ × ℕ)
+next_from s position found = next_of (record s { position = position }) found
+
+-- so many characters were read, up to a position
+abbrev pub passed : Stream → ℕ → ℕ → Stream
+passed s position count = record s { position = position; read = (s.read + count) % 2 ^ 32 }
+
+abbrev pub char_of : Option (ℕ × ℕ) → Option ℕ
+char_of None = None
+char_of (Some got) = Some got.0
+
+-- a character was read, if there was one
+abbrev pub after_get : Stream → Option (ℕ × ℕ) → Stream
+after_get s None = s
+after_get s (Some got) = record s { position = got.1; read = (s.read + 1) % 2 ^ 32 }
+
+-- so far from a place as a signed number says, within the end
+abbrev pub clamped : ℕ → ℕ → ℕ → ℕ
+clamped base by end =
+    if nat_lt by (2 ^ 31) then min (base + by) end else min (base - (2 ^ 32 - by)) end
+
+-- the position is set (Glk 0.7.5, "Stream Positions"); another seek does nothing
+unfoldable pub moved : Stream → ℕ → ℕ → Stream
+moved s pos seek =
+    if seek == FROM_START then record s { position = clamped 0 pos (end_of s) } else
+    if seek == FROM_CURRENT then record s { position = clamped s.position pos (end_of s) } else
+    if seek == FROM_END then record s { position = clamped (end_of s) pos (end_of s) } else
+    s
+
+-- the places of memory that so many characters use next
+abbrev pub places_in : StreamKind → ℕ → ℕ → Places
+places_in (kinds.Window win) position count = record { at = 0; width = 1; count = 0 }
+places_in (kinds.Memory at len wide) position count =
+    let width = if wide then 4 else 1 in
+    record { at = at + position * width; width = width; count = min count (places_of at len - position) }
+places_in (kinds.File name content form) position count = record { at = 0; width = 1; count = 0 }
+
+unfoldable pub places : Stream → ℕ → Places
+places s count = places_in s.kind s.position count
+
+-- there is room for the bytes of a save, put as characters
+abbrev pub fits_in : StreamKind → ℕ → List ℕ → Bool
+fits_in (kinds.Window win) position bytes = false
+fits_in (kinds.Memory at len wide) position bytes = nat_le (length bytes) (places_of at len - position)
+fits_in (kinds.File name content form) position bytes =
+    nat_le (byte_at form position + saved_size form bytes) LARGEST
+
+unfoldable pub fits : Stream → List ℕ → Bool
+fits s bytes = fits_in s.kind s.position bytes
+
+-- the window of a stream, 0 for none
+abbrev pub window_in : StreamKind → ℕ
+window_in (kinds.Window win) = win
+window_in (kinds.Memory at len wide) = 0
+window_in (kinds.File name content form) = 0
+
+abbrev pub window_of : Stream → ℕ
+window_of s = window_in s.kind
+
+-- the name and content of a file
+abbrev pub file_in : StreamKind → Option (List ℕ × List ℕ)
+file_in (kinds.Window win) = None
+file_in (kinds.Memory at len wide) = None
+file_in (kinds.File name content form) = Some (name, content)
+
+-- a file that has to be stored when it is closed
+abbrev pub is_stored : StreamKind → Stream → Bool
+is_stored (kinds.Window win) s = false
+is_stored (kinds.Memory at len wide) s = false
+is_stored (kinds.File name content form) s = writable s

@@ -1,0 +1,261 @@
+//! All streams, in order of creation.
+ghost use Rattle.std.specs.Prelude.{◌≡◌, ◌≤◌, ◌<◌, ◌^◌, ◌++◌, ◌∷◌, ◌==◌, [], not, length, filter, IfOk, IfSome, MatchOption, OnErr, OnOk, IsTrue};
+ghost use Rattle.std.specs.List.{list_any};
+ghost use Rattle.glk_objects.specs.Objects.{IsAbove};
+ghost use Rattle.glk_streams.specs.Stream as one;
+ghost use Rattle.glk_streams.specs.Streams.{id_of, has, stream, with_stream, without, next, file_of, without_windows, open_files};
+ghost use Rattle.glk_streams.specs.Sound.{IsSoundKind};
+ghost use Rattle.glk_streams.specs.declared.content.TheConstants.{LARGEST};
+
+use crate::{Places, Stream, StreamKind, one};
+use glk_objects::{next, place};
+use gx_words::Numbers;
+use std::alloc::{AllocError, Global};
+use std::marker::Model;
+
+/// The streams of a world. Contracts see them as a list.
+#[derive(Drop)]
+pub struct Streams {
+    items: Vec<Stream>,
+}
+
+impl Model for Streams {
+    ghost use Rattle.std.specs.Prelude.{List};
+    ghost use Rattle.glk_streams.specs.declared.kinds.Stream.{Stream};
+    ghost use Rattle.glk_streams.specs.Sound.{AreSound};
+
+    ghost Value = { List Stream };
+
+    ghost view = { λ streams. streams.items.items };
+
+    ghost invariant = { λ streams. AreSound streams.items.items };
+}
+
+impl Streams {
+    /// No streams.
+    pub fn new(alloc: Global) -> Streams
+        ensures { result ≡ [] }
+    {
+        Streams {
+            items: Vec::new(alloc),
+        }
+    }
+
+    /// Adds a stream at its opening position.
+    #[tactic(auto, using(crate::proofs::Lists::adds), unfolding(crate::specs::Stream::opened))]
+    pub fn add(&mut self, id: u32, kind: StreamKind, mode: u32, rock: u32) -> Result<(), AllocError>
+        requires above { IsAbove id_of self.old id }
+        requires mode { IsTrue (one.allows kind mode) }
+        requires kind { IsSoundKind kind }
+        ensures ok { OnOk result (self.new ≡ self.old ++ one.opened id kind mode rock ∷ []) }
+        ensures err { OnErr result (self.new ≡ self.old) }
+    {
+        self.items.push(one::opened(id, kind, mode, rock))?;
+        Ok(())
+    }
+
+    /// Removes a stream.
+    #[tactic(auto, using(crate::proofs::Lists::places))]
+    pub fn remove(&mut self, id: u32)
+        requires { IsTrue (has self.old id) }
+        ensures { self.new ≡ without self.old id }
+    {
+        let at = place(&self.items, id);
+        self.items.remove(at);
+    }
+
+    /// Removes the streams of windows that are gone.
+    #[tactic(auto, using(crate::proofs::Lists::sound_filter))]
+    pub fn remove_windows(&mut self, gone: &[u32])
+        ensures { self.new ≡ without_windows self.old gone.now }
+    {
+        keep_others(&mut self.items, gone);
+    }
+
+    pub fn len(&self) -> usize
+        ensures { result ≡ length self.now }
+    {
+        self.items.len()
+    }
+
+    /// Whether a stream has an identifier.
+    #[tactic(auto, using(crate::proofs::Lists::places))]
+    pub fn has(&self, id: u32) -> bool
+        ensures { result ≡ has self.now id }
+    {
+        place(&self.items, id) < self.items.len()
+    }
+
+    /// The least identifier above a number, 0 where there is none.
+    #[tactic(auto, using(crate::proofs::Lists::places))]
+    pub fn next(&self, id: u32) -> u32
+        ensures { result ≡ next self.now id }
+    {
+        next(&self.items, id)
+    }
+
+    #[tactic(auto, using(crate::proofs::Lists::places))]
+    pub fn rock(&self, id: u32) -> u32
+        requires { IsTrue (has self.now id) }
+        ensures { result ≡ (stream self.now id).rock }
+    {
+        self.items[place(&self.items, id)].rock
+    }
+
+    /// The window of a stream, 0 for none.
+    #[tactic(auto, using(crate::proofs::Lists::places))]
+    pub fn window(&self, id: u32) -> u32
+        requires { IsTrue (has self.now id) }
+        ensures { result ≡ one.window_of (stream self.now id) }
+    {
+        one::window_of(&self.items[place(&self.items, id)])
+    }
+
+    /// Whether a stream is open for reading.
+    #[tactic(auto, using(crate::proofs::Lists::places))]
+    pub fn readable(&self, id: u32) -> bool
+        requires { IsTrue (has self.now id) }
+        ensures { result ≡ one.readable (stream self.now id) }
+    {
+        one::readable(&self.items[place(&self.items, id)])
+    }
+
+    /// Whether a stream is open for writing.
+    #[tactic(auto, using(crate::proofs::Lists::places))]
+    pub fn writable(&self, id: u32) -> bool
+        requires { IsTrue (has self.now id) }
+        ensures { result ≡ one.writable (stream self.now id) }
+    {
+        one::writable(&self.items[place(&self.items, id)])
+    }
+
+    /// The characters read and those written, each modulo 2^32; 0 and 0 where no stream has the identifier.
+    #[tactic(auto, using(crate::proofs::Lists::places))]
+    pub fn counts(&self, id: u32) -> (u32, u32)
+        ensures { result ≡ ((stream self.now id).read, (stream self.now id).written) }
+    {
+        let at = place(&self.items, id);
+        if at < self.items.len() {
+            (self.items[at].read, self.items[at].written)
+        } else {
+            (0, 0)
+        }
+    }
+
+    #[tactic(auto, using(crate::proofs::Lists::places))]
+    pub fn position(&self, id: u32) -> u32
+        requires { IsTrue (has self.now id) }
+        ensures value { result ≡ (stream self.now id).position }
+        ensures within { result ≤ one.end_of (stream self.now id) }
+    {
+        self.items[place(&self.items, id)].position
+    }
+
+    /// Sets a position, which `pos` counts as a signed number from the start, the position or the end.
+    #[tactic(auto, using(crate::proofs::Lists::places))]
+    pub fn set_position(&mut self, id: u32, pos: u32, seek: u32)
+        requires { IsTrue (has self.old id) }
+        ensures { self.new ≡ with_stream self.old (one.moved (stream self.old id) pos seek) }
+    {
+        let at = place(&self.items, id);
+        one::move_to(&mut self.items[at], pos, seek);
+    }
+
+    /// The places of memory that so many characters use next.
+    #[tactic(auto, using(crate::proofs::Lists::places))]
+    pub fn places(&self, id: u32, count: u32) -> Places
+        requires { IsTrue (has self.now id) }
+        ensures value { result ≡ one.places (stream self.now id) count }
+        ensures at { result.at < 2 ^ 40 }
+        ensures width { result.width ≤ 4 }
+        ensures count { result.count ≤ count }
+    {
+        one::places(&self.items[place(&self.items, id)], count)
+    }
+
+    /// Puts a character: counts it, moves on, and changes a file's content.
+    #[tactic(auto, using(crate::proofs::Lists::places))]
+    pub fn put(&mut self, id: u32, c: u32) -> Result<(), AllocError>
+        requires { IsTrue (has self.old id) }
+        ensures ok { OnOk result (self.new ≡ with_stream self.old (one.after_put (stream self.old id) c)) }
+        ensures err { OnErr result (self.new ≡ self.old) }
+        ensures memory { OnErr result (IsTrue (one.lengthens (stream self.old id).kind (stream self.old id) c)) }
+    {
+        let at = place(&self.items, id);
+        one::put(&mut self.items[at], c)
+    }
+
+    /// Gets the next character; None where the stream isn't open for reading or is at its end. For a memory
+    /// stream `found` is the number that stands at the place.
+    #[tactic(auto, using(crate::proofs::Lists::places))]
+    pub fn get(&mut self, id: u32, found: u32) -> Option<u32>
+        requires { IsTrue (has self.old id) }
+        ensures value { result ≡ one.char_of (one.next_of (stream self.old id) found) }
+        ensures new { self.new ≡ with_stream self.old (one.after_get (stream self.old id) (one.next_of (stream self.old id) found)) }
+    {
+        let at = place(&self.items, id);
+        one::get(&mut self.items[at], found)
+    }
+
+    /// The character at a position and the position behind it; None where the stream isn't open for reading or
+    /// the position is its end. For a memory stream `found` is the number that stands at the place.
+    #[tactic(auto, using(crate::proofs::Lists::places))]
+    pub fn peek(&self, id: u32, position: u32, found: u32) -> Option<(u32, u32)>
+        requires { IsTrue (has self.now id) }
+        ensures value { result ≡ one.next_from (stream self.now id) position found }
+        ensures behind { IfSome result (λ got. got.1 ≤ one.end_of (stream self.now id)) }
+    {
+        one::next_from(&self.items[place(&self.items, id)], position, found)
+    }
+
+    /// Counts so many characters as read, and moves to the position behind them.
+    #[tactic(auto, using(crate::proofs::Lists::places))]
+    pub fn pass(&mut self, id: u32, position: u32, count: u32)
+        requires there { IsTrue (has self.old id) }
+        requires within { position ≤ one.end_of (stream self.old id) }
+        ensures { self.new ≡ with_stream self.old (one.passed (stream self.old id) position count) }
+    {
+        let at = place(&self.items, id);
+        one::pass(&mut self.items[at], position, count);
+    }
+
+    /// Whether there is room for the bytes of a save, put as characters.
+    #[tactic(auto, using(crate::proofs::Lists::places))]
+    pub fn fits(&self, id: u32, bytes: &[u8]) -> bool
+        requires there { IsTrue (has self.now id) }
+        requires size { length bytes.now < 2 ^ 61 }
+        ensures { result ≡ one.fits (stream self.now id) bytes.now }
+    {
+        one::fits(&self.items[place(&self.items, id)], bytes)
+    }
+
+    /// The full name and the content of a file; None where no file stream has the identifier.
+    #[tactic(auto, using(crate::proofs::Lists::places))]
+    pub fn file(&self, id: u32) -> Option<(&str, &[u8])>
+        ensures value { MatchOption result (file_of self.now id ≡ None) (λ file. file_of self.now id ≡ Some (file.0.now, file.1.now)) }
+        ensures fits { IfSome result (λ file. length file.1.now ≤ LARGEST) }
+    {
+        one::file_in(self.items.get(place(&self.items, id))?)
+    }
+
+    /// The files that are open for writing, in order of creation: they are stored when they are closed.
+    #[tactic(auto, using(crate::proofs::Lists::files))]
+    pub fn open_files(&self, alloc: Global) -> Result<Numbers, AllocError>
+        ensures { IfOk result (λ ids. ids ≡ open_files self.now) }
+    {
+        let mut ids = Numbers::new(alloc);
+        for stream in &self.items {
+            if one::is_stored(stream) {
+                ids.push(stream.id)?;
+            }
+        }
+        Ok(ids)
+    }
+}
+
+/// Keeps the streams of other windows.
+fn keep_others(streams: &mut Vec<Stream>, gone: &[u32])
+    ensures { streams.new.items ≡ without_windows streams.old.items gone.now }
+{
+    streams.retain(|stream| !gone.contains(&one::window_of(stream)));
+}

@@ -1,0 +1,143 @@
+-- What the calls that change windows make of them (Glk 0.7.5, "Window Opening, Closing, and Constraints" and
+-- "Changing Window Constraints").
+use Rattle.std.specs.Prelude.{ℕ, ◌+◌, ◌%◌, ◌==◌, not, Bool, false, if◌then◌else◌, List, [], ◌∷◌, ◌++◌, Option, Some, None, map, filter, unwrap_or, option_and_then}
+use Rattle.std.specs.Option.{option_map}
+use Rattle.std.specs.List.{list_any}
+use Rattle.glk_objects.specs.Objects as objects
+use Rattle.glk_windows.specs.declared.methods.TheConstants.{PAIR, BLANK_WINDOW, TEXT_GRID}
+use Rattle.glk_windows.specs.declared.tree.Arrangement.{Arrangement}
+use Rattle.glk_windows.specs.declared.entries.Entry.{Entry}
+use Rattle.glk_windows.specs.declared.grid.Grid.{Grid}
+use Rattle.glk_windows.specs.Tree.{Shape, One, id_of, part_from, ids_in, parent_in, split_in, closed_in, is_among, unkeyed, can_arrange, arranged_in}
+use Rattle.glk_windows.specs.Grids.{grid_id, empty_grid, resized, grows, put, cleared, moved}
+use Rattle.glk_windows.specs.Windows.{FlatWindows, entry_id, stream_id, entry_at, sizes_in, has_grid, grid_at}
+
+-- each grid gets its window's size
+abbrev pub fitted_to : Option Shape → ℕ × ℕ → Grid → Grid
+fitted_to tree screen g = resized (sizes_in tree screen g.id) g
+
+abbrev pub fitted : FlatWindows → FlatWindows
+fitted f = record f { grids = map (fitted_to f.tree (f.columns, f.rows)) f.grids }
+
+-- a grid gets a row or a cell more then
+abbrev pub some_grow : Option Shape → ℕ × ℕ → List Grid → Bool
+some_grow tree screen grids = list_any (λ g. grows (sizes_in tree screen g.id) g) grids
+
+-- ---- opening
+
+-- a new window or pair, with its stream behind it
+abbrev pub new_entry : ℕ → ℕ → ℕ → Entry
+new_entry id kind rock = record { id = id; kind = kind; rock = rock; stream = id + 1; echo = 0 }
+
+-- a grid window has a grid
+abbrev pub with_grid : List Grid → ℕ → ℕ → List Grid
+with_grid grids kind id = if kind == TEXT_GRID then grids ++ empty_grid id ∷ [] else grids
+
+-- the pair of a new window, which is its key
+abbrev pub new_pair : ℕ → ℕ → ℕ → ℕ → Arrangement
+new_pair method size kind id =
+    record { id = id + 2; method = method % 256; size = size; key = id; key_is_blank = kind == BLANK_WINDOW }
+
+-- the first window, which is the root
+abbrev pub rooted : FlatWindows → ℕ → ℕ → ℕ → FlatWindows
+rooted f kind rock id = record f {
+  entries = f.entries ++ new_entry id kind rock ∷ [];
+  tree = Some (One id);
+  grids = with_grid f.grids kind id;
+}
+
+-- a window beside one that is split
+abbrev pub split_by : FlatWindows → ℕ → ℕ → ℕ → ℕ → ℕ → ℕ → FlatWindows
+split_by f split method size kind rock id = record f {
+  entries = (f.entries ++ new_entry id kind rock ∷ []) ++ new_entry (id + 2) PAIR 0 ∷ [];
+  tree = option_map (λ t. split_in t split (new_pair method size kind id) id) f.tree;
+  grids = with_grid f.grids kind id;
+}
+
+-- A window is opened. The identifiers from `id` on are those of the window, its stream, the pair, the pair's stream.
+unfoldable pub added : FlatWindows → ℕ → ℕ → ℕ → ℕ → ℕ → ℕ → FlatWindows
+added f split method size kind rock id =
+    fitted (if split == 0 then rooted f kind rock id else split_by f split method size kind rock id)
+
+-- ---- closing
+
+-- what goes with a window: the pair above it, or 0, and the window with all windows below it
+abbrev pub leaving_of : Shape → ℕ → List ℕ
+leaving_of t win = parent_in t win ∷ unwrap_or (option_map ids_in (part_from t win)) []
+
+abbrev pub leaving : Option Shape → ℕ → List ℕ
+leaving tree win = unwrap_or (option_map (λ t. leaving_of t win) tree) []
+
+-- of these identifiers the windows, in order of creation
+abbrev pub chosen : List ℕ → List Entry → List Entry
+chosen ids entries = filter (λ e. is_among ids e.id) entries
+
+-- the windows that are gone then
+abbrev pub gone : FlatWindows → ℕ → List ℕ
+gone f win = map entry_id (chosen (leaving f.tree win) f.entries)
+
+-- an echo stream that is gone becomes none
+unfoldable pub forgetting : List ℕ → Entry → Entry
+forgetting streams e = if is_among streams e.echo then record e { echo = 0 } else e
+
+-- the tree without a window, and without these keys; none is left where the window is the root
+abbrev pub closed_tree : List ℕ → Option Shape → ℕ → Option Shape
+closed_tree ids None win = None
+closed_tree ids (Some t) win = if id_of t == win then None else Some (unkeyed ids (closed_in t win))
+
+-- the windows and their grids but for those of these identifiers, whose streams are gone too
+unfoldable pub without_ids : FlatWindows → List ℕ → FlatWindows
+without_ids f ids = record f {
+  entries = map (forgetting (map stream_id (chosen ids f.entries))) (filter (λ e. not (is_among ids e.id)) f.entries);
+  grids = filter (λ g. not (is_among ids g.id)) f.grids;
+}
+
+-- a window is closed, with all windows below it, their pair and their streams
+unfoldable pub closed : FlatWindows → ℕ → FlatWindows
+closed f win = fitted (record (without_ids f (leaving f.tree win)) { tree = closed_tree (leaving f.tree win) f.tree win })
+
+-- ---- arranging
+
+-- a window is a pair that may get this method and this key
+abbrev pub allows : FlatWindows → ℕ → ℕ → ℕ → Bool
+allows f win method key =
+    unwrap_or (option_map (λ t. can_arrange t method key) (option_and_then (λ t. part_from t win) f.tree)) false
+
+-- the tree with another arrangement of a pair
+abbrev pub arranged_tree : FlatWindows → ℕ → ℕ → ℕ → ℕ → Option Shape
+arranged_tree f win method size key =
+    option_map (λ t. arranged_in t win method size key ((entry_at f.entries key).kind == BLANK_WINDOW)) f.tree
+
+-- a pair gets another arrangement; nothing changes where it may not
+unfoldable pub arranged : FlatWindows → ℕ → ℕ → ℕ → ℕ → FlatWindows
+arranged f win method size key =
+    if allows f win method key then fitted (record f { tree = arranged_tree f win method size key }) else f
+
+-- that makes a grid larger
+unfoldable pub arranging_grows : FlatWindows → ℕ → ℕ → ℕ → ℕ → Bool
+arranging_grows f win method size key =
+    if allows f win method key then some_grow (arranged_tree f win method size key) (f.columns, f.rows) f.grids else false
+
+-- ---- text, cursor, echo
+
+-- a window's grid becomes another; other windows have none
+abbrev pub with_grid_of : FlatWindows → ℕ → Grid → FlatWindows
+with_grid_of f win new = if has_grid f win then record f { grids = objects.with grid_id f.grids new } else f
+
+unfoldable pub put_to : FlatWindows → ℕ → ℕ → FlatWindows
+put_to f win c = with_grid_of f win (put (grid_at f.grids win) c)
+
+unfoldable pub cleared_in : FlatWindows → ℕ → FlatWindows
+cleared_in f win = with_grid_of f win (cleared (grid_at f.grids win))
+
+unfoldable pub moved_in : FlatWindows → ℕ → ℕ → ℕ → FlatWindows
+moved_in f win x y = with_grid_of f win (moved (grid_at f.grids win) x y)
+
+-- a window's echo stream, 0 for none
+unfoldable pub echoed : FlatWindows → ℕ → ℕ → FlatWindows
+echoed f win stream =
+    record f { entries = objects.with entry_id f.entries (record (entry_at f.entries win) { echo = stream }) }
+
+-- a stream is gone
+abbrev pub without_stream : FlatWindows → ℕ → FlatWindows
+without_stream f stream = record f { entries = map (forgetting (stream ∷ [])) f.entries }

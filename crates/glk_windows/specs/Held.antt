@@ -1,0 +1,13 @@
+-- What contracts see of the windows, and what holds of their fields.
+use Rattle.glk_objects.specs.Objects.{Rises}
+use Rattle.glk_windows.specs.declared.windows.Windows.TheInside.{Inside}
+use Rattle.glk_windows.specs.Grids.{grid_id}
+use Rattle.glk_windows.specs.Windows.{FlatWindows, entry_id, tree_of}
+
+abbrev pub flat_of : Inside → FlatWindows
+flat_of w = record { entries = w.entries.items; tree = tree_of w.tree; grids = w.grids.items; columns = w.columns; rows = w.rows }
+
+-- identifiers rise in both lists
+pub record IsKept (w : Inside) : Type 0 where
+  pub entries : Rises entry_id w.entries.items
+  pub grids : Rises grid_id w.grids.items

@@ -1,0 +1,172 @@
+//! What is known of a window beside its place in the tree.
+ghost use Rattle.std.specs.Prelude.{◌≡◌, ◌+◌, ◌<◌, ◌^◌, map, filter, not, IsTrue, IfOk};
+ghost use Rattle.glk_objects.specs.Objects as objects;
+ghost use Rattle.glk_windows.specs.Tree.{is_among};
+ghost use Rattle.glk_windows.specs.Windows.{entry_id, stream_id, entry_at, leaf_count};
+ghost use Rattle.glk_windows.specs.Changes.{new_entry, chosen, forgetting};
+
+use crate::methods::PAIR;
+use crate::tree::is_among;
+use glk_objects::{Object, place};
+use gx_words::Numbers;
+use std::alloc::{AllocError, Global};
+
+/// All that a story sees of a window.
+#[derive(Clone, Copy, Debug, PartialEq, Eq)]
+pub struct Window {
+    pub id: u32,
+    /// Its type: `PAIR`, `BLANK_WINDOW`, `TEXT_BUFFER` or `TEXT_GRID`.
+    pub kind: u32,
+    pub rock: u32,
+    /// The identifier of its stream.
+    pub stream: u32,
+    /// The identifier of its echo stream, 0 for none.
+    pub echo: u32,
+    /// The identifier of the pair window above it, 0 for the root.
+    pub parent: u32,
+}
+
+/// What is known of a window beside its place.
+#[derive(Clone, Copy, Debug, PartialEq, Eq)]
+pub struct Entry {
+    pub id: u32,
+    /// Its type: `PAIR`, `BLANK_WINDOW`, `TEXT_BUFFER` or `TEXT_GRID`.
+    pub kind: u32,
+    pub rock: u32,
+    /// The identifier of its stream.
+    pub stream: u32,
+    /// The identifier of its echo stream, 0 for none.
+    pub echo: u32,
+}
+
+impl Object for Entry {
+    ghost id_of = { λ e. e.id };
+
+    fn id(&self) -> u32 {
+        self.id
+    }
+}
+
+/// A new window or pair, with its stream behind it.
+pub(crate) fn new_entry(id: u32, kind: u32, rock: u32) -> Entry
+    requires { id + 1 < 2 ^ 32 }
+    ensures { result ≡ new_entry id kind rock }
+{
+    Entry {
+        id,
+        kind,
+        rock,
+        stream: id + 1,
+        echo: 0,
+    }
+}
+
+/// The entry of a window, or one of zeros.
+#[tactic(auto, using(glk_objects::proofs::Places::places))]
+pub(crate) fn entry_at(entries: &[Entry], win: u32) -> Entry
+    requires { objects.Rises entry_id entries.now }
+    ensures { result ≡ entry_at entries.now win }
+{
+    let at = place(entries, win);
+    if at < entries.len() {
+        entries[at]
+    } else {
+        Entry {
+            id: 0,
+            kind: 0,
+            rock: 0,
+            stream: 0,
+            echo: 0,
+        }
+    }
+}
+
+/// How many windows aren't pairs.
+pub(crate) fn leaf_count(entries: &[Entry]) -> usize
+    ensures { result ≡ leaf_count entries.now }
+{
+    entries.iter().filter(|entry| entry.kind != PAIR).count()
+}
+
+/// Of these identifiers those of windows, in order of creation.
+#[tactic(auto, using(crate::proofs::Lists::gathers))]
+pub(crate) fn chosen_ids(
+    alloc: Global,
+    ids: &[u32],
+    entries: &[Entry],
+) -> Result<Numbers, AllocError>
+    ensures { IfOk result (λ found. found ≡ map entry_id (chosen ids.now entries.now)) }
+{
+    let mut found = Numbers::new(alloc);
+    for entry in entries {
+        if is_among(ids, entry.id) {
+            found.push(entry.id)?;
+        }
+    }
+    Ok(found)
+}
+
+/// The streams of these windows.
+#[tactic(auto, using(crate::proofs::Lists::gathers))]
+pub(crate) fn chosen_streams(
+    alloc: Global,
+    ids: &[u32],
+    entries: &[Entry],
+) -> Result<Numbers, AllocError>
+    ensures { IfOk result (λ found. found ≡ map stream_id (chosen ids.now entries.now)) }
+{
+    let mut found = Numbers::new(alloc);
+    for entry in entries {
+        if is_among(ids, entry.id) {
+            found.push(entry.stream)?;
+        }
+    }
+    Ok(found)
+}
+
+/// Keeps the windows but for those of these identifiers.
+#[tactic(auto, using(glk_objects::proofs::Rising::rising))]
+pub(crate) fn keep_entries(entries: &mut Vec<Entry>, ids: &[u32])
+    requires { objects.Rises entry_id entries.old.items }
+    ensures value { entries.new.items ≡ filter (λ e. not (is_among ids.now e.id)) entries.old.items }
+    ensures rises { objects.Rises entry_id entries.new.items }
+{
+    entries.retain(|entry| !is_among(ids, entry.id));
+}
+
+/// Sets a window's echo stream.
+#[tactic(auto, using(glk_objects::proofs::Places::places, crate::proofs::Lists::forgets))]
+pub(crate) fn set_echo(entries: &mut [Entry], win: u32, stream: u32)
+    requires rises { objects.Rises entry_id entries.old }
+    requires there { IsTrue (objects.has entry_id entries.old win) }
+    ensures value { entries.new ≡ objects.with entry_id entries.old (record (entry_at entries.old win) { echo = stream }) }
+    ensures rises { objects.Rises entry_id entries.new }
+{
+    let at = place(entries, win);
+    entries[at].echo = stream;
+}
+
+/// An echo stream that is gone becomes none.
+#[tactic(auto, unfolding(crate::specs::Changes::forgetting))]
+fn forgetting(streams: &[u32], entry: Entry) -> Entry
+    ensures value { result ≡ forgetting streams.now entry }
+    ensures id { result.id ≡ entry.id }
+{
+    if is_among(streams, entry.echo) {
+        Entry { echo: 0, ..entry }
+    } else {
+        entry
+    }
+}
+
+/// Echo streams that are gone become none.
+#[tactic(auto, using(crate::proofs::Lists::forgets))]
+pub(crate) fn forget(streams: &[u32], entries: &mut Vec<Entry>)
+    requires { objects.Rises entry_id entries.old.items }
+    ensures value { entries.new.items ≡ map (forgetting streams.now) entries.old.items }
+    ensures rises { objects.Rises entry_id entries.new.items }
+{
+    for at in 0..entries.len() {
+        entries[at] = forgetting(streams, entries[at]);
+    }
+}

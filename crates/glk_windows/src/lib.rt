@@ -1,0 +1,29 @@
+//! The windows of a story (Glk 0.7.5, "Windows"): what is open, where it is on the screen, and the text of the grids.
+//!
+//! - `windows` has all windows of a screen: opening, closing, arranging, sizes, text of grids, echo streams.
+//! - `tree` says which window is where; the sizes follow from it by recursion from the root.
+//! - `entries` has what is known of a window beside its place, `grid` the cells of a text grid window.
+//! - `methods` names the types of windows and the methods of pair windows.
+//!
+//! Contracts see a list of the windows in order of creation, the tree, a list of the grids, and the size of the
+//! screen. A window and a grid are found by identifier by halving; a window's place by a walk from the root.
+//! Only opening, closing and arranging may want memory, and after that the windows can only be dropped.
+#![tactic(auto)]
+
+mod entries;
+mod grid;
+mod methods;
+mod tree;
+mod windows;
+
+pub use entries::{Entry, Window};
+pub use grid::{BLANK, Grid, LINE_FEED, Rows};
+pub use methods::{
+    ABOVE, BELOW, BLANK_WINDOW, FIXED, LEFT, MOST_WINDOWS, PAIR, PROPORTIONAL, RIGHT, TEXT_BUFFER,
+    TEXT_GRID,
+};
+pub use tree::Pair;
+pub use windows::Windows;
+
+#[cfg(test)]
+mod tests;

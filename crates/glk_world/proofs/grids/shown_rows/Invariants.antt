@@ -1,0 +1,6 @@
+use Rattle.std.proofs.Common.{◌≡◌, map, take}
+use Rattle.glk_world.specs.Shown.{trimmed}
+use Rattle.glk_world.proofs.grids.shown_rows.Given as goal
+
+abbrev pub invariant-loop-y : goal.invariant-loop-y
+invariant-loop-y l = l.shown ≡ map trimmed (take l.y l.rows)

@@ -1,0 +1,14 @@
+use Rattle.glk_world.proofs.Kept.{streams_with}
+use Rattle.glk_world.proofs.Links.{linked_passed}
+use Rattle.glk_world.proofs.world.World.pass.Goals as goal
+
+pub invariant_of-self : goal.invariant_of-self
+invariant_of-self c =
+    let there = rw (← c.self.view_is) at c.requires.there in
+    record {
+      windows = c.self.invariant.windows;
+      streams = rw c.pass.ensures (streams_with _ _ _ c.self.invariant.streams);
+      references = c.self.invariant.references;
+      above = c.self.invariant.above;
+      links = rw c.pass.ensures (linked_passed _ _ _ _ there c.self.invariant.links _ _);
+    }

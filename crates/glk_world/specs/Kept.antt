@@ -1,0 +1,41 @@
+-- What contracts see of a world, and what holds of its fields.
+use Rattle.std.specs.Prelude.{string_bytes, Option, Some, None}
+use Rattle.glk_objects.specs.Objects.{Rises, IsAbove}
+use Rattle.glk_streams.specs.Streams as streams
+use Rattle.glk_windows.specs.Windows.{IsNewId}
+use Rattle.glk_world.specs.declared.world.World.TheInside.{Inside}
+use Rattle.glk_world.specs.declared.world.Waiting.{Waiting}
+use Rattle.glk_world.specs.Chains.{AreLinked}
+use Rattle.glk_world.specs.World.{Call, FlatWorld, reference_id}
+
+-- a call that waits
+abbrev pub call_of : Waiting → Call
+call_of call = record { selector = call.selector; arguments = call.args.items }
+
+abbrev pub waiting_of : Option Waiting → Option Call
+waiting_of None = None
+waiting_of (Some call) = Some (call_of call)
+
+abbrev pub flat_of : Inside → FlatWorld
+flat_of w = record {
+  scene = record {
+    windows = w.windows;
+    shown = w.shown.items;
+    streams = w.streams;
+    references = w.references.items;
+    requests = w.requests;
+    current = w.current;
+    next_id = w.next_id;
+    fresh = w.fresh;
+    waiting = waiting_of w.waiting;
+  };
+  text = string_bytes w.text;
+}
+
+-- The next identifier is above all that were given, and no chain of echo streams comes back to where it was.
+pub record IsKept (w : Inside) : Type 0 where
+  pub windows : IsNewId w.windows w.next_id
+  pub streams : IsAbove streams.id_of w.streams w.next_id
+  pub references : Rises reference_id w.references.items
+  pub above : IsAbove reference_id w.references.items w.next_id
+  pub links : AreLinked w.windows.entries w.streams w.next_id

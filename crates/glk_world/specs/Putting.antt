@@ -1,0 +1,110 @@
+-- A character is put to a stream (Glk 0.7.5, "Streams" and "Echo Streams").
+use Rattle.std.specs.Prelude.{ℕ, zero, suc, ◌==◌, ◌&&◌, ◌||◌, if◌then◌else◌, Bool, false, length, encode_utf8}
+use Rattle.glk_text.specs.declared.characters.TheConstants.{LINE_FEED}
+use Rattle.glk_text.specs.Characters.{shown}
+use Rattle.glk_streams.specs.declared.kinds.Places.{Places}
+use Rattle.glk_streams.specs.Stream as one
+use Rattle.glk_streams.specs.Streams as streams
+use Rattle.glk_windows.specs.declared.methods.TheConstants.{TEXT_BUFFER}
+use Rattle.glk_windows.specs.declared.entries.Entry.{Entry}
+use Rattle.glk_windows.specs.Windows.{entry_at}
+use Rattle.glk_windows.specs.Changes.{put_to}
+use Rattle.glk_world.specs.World.{Scene, Said, silent, then_said}
+
+-- a character of the text, in UTF-8
+abbrev pub said_char : Scene → ℕ → Said
+said_char w c = (record w { fresh = c == LINE_FEED }, encode_utf8 c)
+
+-- the window of a stream, 0 for none
+abbrev pub window_of : Scene → ℕ → ℕ
+window_of w stream = one.window_of (streams.stream w.streams stream)
+
+-- the list's entry of a stream's window
+abbrev pub entry_of : Scene → ℕ → Entry
+entry_of w stream = entry_at w.windows.entries (window_of w stream)
+
+abbrev pub is_text : Scene → ℕ → Bool
+is_text w stream = (entry_of w stream).kind == TEXT_BUFFER
+
+-- A character comes to a window as it is shown: a text buffer shows it, a grid has a place for it, and other
+-- windows drop it.
+unfoldable pub window_put : Scene → Entry → ℕ → ℕ → Said
+window_put w entry win c =
+    if entry.kind == TEXT_BUFFER then said_char w (shown c) else
+    silent (record w { windows = put_to w.windows win (shown c) })
+
+-- a stream counts a character, and puts it where it belongs
+abbrev pub counted : Scene → ℕ → ℕ → Scene
+counted w stream c =
+    record w { streams = streams.with_stream w.streams (one.after_put (streams.stream w.streams stream) c) }
+
+-- a character comes to one stream, and to its window if it has one
+unfoldable pub stream_put : Scene → ℕ → ℕ → Said
+stream_put w stream c =
+    if window_of w stream == 0 then silent (counted w stream c) else
+    window_put (counted w stream c) (entry_of w stream) (window_of w stream) c
+
+-- the stream to which what is put to a stream is put after that: its window's echo stream, 0 for none
+abbrev pub echo_of : Scene → ℕ → ℕ
+echo_of w stream = if window_of w stream == 0 then 0 else (entry_of w stream).echo
+
+-- so many streams at most, one the echo stream of the other
+unfoldable pub put_along : ℕ → Scene → ℕ → ℕ → Said
+put_along zero w stream c = silent w
+put_along (suc n) w stream c =
+    if streams.has w.streams stream
+    then then_said (stream_put w stream c) (λ more. put_along n more (echo_of w stream) c)
+    else silent w
+
+-- A character is put to a stream, then to its echo stream, and so on. No chain has more streams than there are,
+-- since none comes back to where it was (specs/Chains).
+abbrev pub put_of : Scene → ℕ → ℕ → Said
+put_of w stream c = put_along (length w.streams) w stream c
+
+-- putting to one stream adds text, or makes a file longer
+abbrev pub stream_grows : Scene → ℕ → ℕ → Bool
+stream_grows w stream c =
+    if window_of w stream == 0 then one.lengthens (streams.stream w.streams stream).kind (streams.stream w.streams stream) c else
+    is_text w stream
+
+unfoldable pub grows_along : ℕ → Scene → ℕ → ℕ → Bool
+grows_along zero w stream c = false
+grows_along (suc n) w stream c =
+    streams.has w.streams stream && (stream_grows w stream c || grows_along n (stream_put w stream c).0 (echo_of w stream) c)
+
+-- the same for one of the streams to which a character goes
+abbrev pub put_grows : Scene → ℕ → ℕ → Bool
+put_grows w stream c = grows_along (length w.streams) w stream c
+
+-- the stream where a chain of echo streams ends
+unfoldable pub end_along : ℕ → Scene → ℕ → ℕ
+end_along zero w stream = stream
+end_along (suc n) w stream =
+    if streams.has w.streams (echo_of w stream) then end_along n w (echo_of w stream) else stream
+
+abbrev pub end_of : Scene → ℕ → ℕ
+end_of w stream = end_along (length w.streams) w stream
+
+abbrev pub no_places : Places
+no_places = record { at = 0; width = 1; count = 0 }
+
+-- the places of memory that so many characters put to a stream use; one that isn't open for writing uses none
+abbrev pub places_of : Scene → ℕ → ℕ → Places
+places_of w stream count =
+    let last = streams.stream w.streams (end_of w stream) in
+    if one.writable last then one.places last count else no_places
+
+-- the places of memory that so many characters got from a stream use; one that isn't open for reading uses none
+abbrev pub places_read : Scene → ℕ → ℕ → Places
+places_read w stream count =
+    let from = streams.stream w.streams stream in
+    if one.readable from then one.places from count else no_places
+
+-- a stream's chain of echo streams comes to a window
+unfoldable pub leads_along : ℕ → Scene → ℕ → ℕ → Bool
+leads_along zero w stream win = false
+leads_along (suc n) w stream win =
+    streams.has w.streams stream && (window_of w stream == win || leads_along n w (echo_of w stream) win)
+
+abbrev pub leads_to : Scene → ℕ → ℕ → Bool
+leads_to w stream win = leads_along (length w.streams) w stream win

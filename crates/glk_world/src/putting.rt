@@ -1,0 +1,221 @@
+//! Characters that are put to streams and got from them (Glk 0.7.5, "Streams" and "Echo Streams").
+ghost use Rattle.std.specs.Prelude.{◌≡◌, ◌⊎◌, ℕ, ◌+◌, ◌≤◌, ◌<◌, ◌^◌, length, OnOk, OnErr, IsTrue};
+ghost use Rattle.glk_streams.specs.Stream as one;
+ghost use Rattle.glk_streams.specs.Streams as streams;
+ghost use Rattle.glk_windows.specs.Windows as windows;
+ghost use Rattle.glk_windows.specs.Windows.{entry_at};
+ghost use Rattle.glk_windows.specs.declared.methods.TheConstants.{TEXT_BUFFER as A_TEXT_BUFFER};
+ghost use Rattle.glk_world.specs.World.{after, silent};
+ghost use Rattle.glk_world.specs.Putting.{said_char, entry_of, is_text, window_of, window_put, stream_put, stream_grows, echo_of, put_along, put_of, grows_along, put_grows, end_along, end_of, places_of, places_read, leads_along, leads_to};
+ghost use Rattle.glk_world.specs.Calls.{got_from, passed, after_get, with_echo};
+
+use crate::World;
+use glk_streams::Places;
+use glk_text::{LINE_FEED, show};
+use glk_windows::{Entry, TEXT_BUFFER, Windows};
+use std::alloc::AllocError;
+
+/// No places.
+const NO_PLACES: Places = Places {
+    at: 0,
+    width: 1,
+    count: 0,
+};
+
+/// What stands for a window that isn't there.
+const NO_ENTRY: Entry = Entry {
+    id: 0,
+    kind: 0,
+    rock: 0,
+    stream: 0,
+    echo: 0,
+};
+
+/// What is known of a window.
+#[tactic(auto, using(crate::proofs::Turns::absent))]
+pub(crate) fn entry_at(windows: &Windows, win: u32) -> Entry
+    ensures { result ≡ entry_at windows.now.entries win }
+{
+    windows.entry(win).unwrap_or(NO_ENTRY)
+}
+
+impl World {
+    /// Puts a character to a stream, then to its echo stream, and so on; a stream that isn't there is none.
+    pub fn put(&mut self, stream: u32, c: u32) -> Result<(), AllocError>
+        ensures ok { OnOk result (self.new ≡ after self.old (put_of self.old.scene stream c)) }
+        ensures memory { OnErr result (IsTrue (put_grows self.old.scene stream c)) }
+
+        // No chain has more streams than there are, so that more turns would do the same.
+        ensures whole { (more : ℕ) → put_along (length self.old.scene.streams + more) self.old.scene stream c ≡ put_of self.old.scene stream c }
+    {
+        let streams = self.streams.len();
+        self.put_along(streams, stream, c)
+    }
+
+    /// The same for so many streams at most.
+    #[tactic(auto, using(crate::proofs::Turns::put_turns))]
+    fn put_along(&mut self, left: usize, stream: u32, c: u32) -> Result<(), AllocError>
+        ensures ok { OnOk result (self.new ≡ after self.old (put_along left self.old.scene stream c)) }
+        ensures memory { OnErr result (IsTrue (grows_along left self.old.scene stream c)) }
+    {
+        if left == 0 || !self.streams.has(stream) {
+            return Ok(());
+        }
+        let next = self.echo_of(stream);
+        self.stream_put(stream, c)?;
+        self.put_along(left - 1, next, c)
+    }
+
+    /// The stream to which is put what was put to a stream, 0 for none.
+    fn echo_of(&self, stream: u32) -> u32
+        requires { IsTrue (streams.has self.now.scene.streams stream) }
+        ensures { result ≡ echo_of self.now.scene stream }
+    {
+        let win = self.streams.window(stream);
+        if win == 0 {
+            0
+        } else {
+            entry_at(&self.windows, win).echo
+        }
+    }
+
+    /// Puts a character to one stream, and to its window if it has one.
+    #[tactic(auto, using(crate::proofs::Turns::windowless, crate::proofs::Kept::streams_kept), unfolding(crate::specs::Putting::stream_put))]
+    fn stream_put(&mut self, stream: u32, c: u32) -> Result<(), AllocError>
+        requires { IsTrue (streams.has self.old.scene.streams stream) }
+        ensures ok { OnOk result (self.new ≡ after self.old (stream_put self.old.scene stream c)) }
+        ensures memory { OnErr result (IsTrue (stream_grows self.old.scene stream c)) }
+    {
+        let win = self.streams.window(stream);
+        self.streams.put(stream, c)?;
+        if win == 0 {
+            Ok(())
+        } else {
+            self.window_put(win, c)
+        }
+    }
+
+    /// Puts a character to a window, as it is shown.
+    #[tactic(auto, using(crate::proofs::Kept::windows_kept), unfolding(crate::specs::Putting::window_put))]
+    fn window_put(&mut self, win: u32, c: u32) -> Result<(), AllocError>
+        ensures ok { OnOk result (self.new ≡ after self.old (window_put self.old.scene (entry_at self.old.scene.windows.entries win) win c)) }
+        ensures memory { OnErr result ((entry_at self.old.scene.windows.entries win).kind ≡ A_TEXT_BUFFER) }
+    {
+        if entry_at(&self.windows, win).kind == TEXT_BUFFER {
+            self.show(show(c))
+        } else {
+            self.windows.put(win, u32::from(show(c)));
+            Ok(())
+        }
+    }
+
+    /// Adds a character to the text.
+    pub(crate) fn show(&mut self, c: char) -> Result<(), AllocError>
+        ensures { OnOk result (self.new ≡ after self.old (said_char self.old.scene c)) }
+    {
+        self.text.push(c)?;
+        self.fresh = u32::from(c) == LINE_FEED;
+        Ok(())
+    }
+
+    /// The stream where a chain of echo streams ends, if it has so many at most.
+    #[tactic(auto, using(crate::proofs::Turns::end_turns))]
+    fn end_along(&self, left: usize, stream: u32) -> u32
+        requires { IsTrue (streams.has self.now.scene.streams stream) }
+        ensures value { result ≡ end_along left self.now.scene stream }
+        ensures there { IsTrue (streams.has self.now.scene.streams result) }
+    {
+        if left == 0 {
+            return stream;
+        }
+        let next = self.echo_of(stream);
+        if self.streams.has(next) {
+            self.end_along(left - 1, next)
+        } else {
+            stream
+        }
+    }
+
+    /// The places of memory that so many characters put to a stream use: those of the stream where its chain of
+    /// echo streams ends, if that is a memory stream that is open for writing.
+    pub fn places(&self, stream: u32, count: u32) -> Places
+        requires { IsTrue (streams.has self.now.scene.streams stream) }
+        ensures value { result ≡ places_of self.now.scene stream count }
+        ensures at { result.at < 2 ^ 40 }
+        ensures width { result.width ≤ 4 }
+        ensures count { result.count ≤ count }
+
+        // A longer walk ends at the same stream.
+        ensures whole { (more : ℕ) → end_along (length self.now.scene.streams + more) self.now.scene stream ≡ end_of self.now.scene stream }
+    {
+        let last = self.end_along(self.streams.len(), stream);
+        if self.streams.writable(last) {
+            self.streams.places(last, count)
+        } else {
+            NO_PLACES
+        }
+    }
+
+    /// The places of memory that so many characters got from a stream use, if it is a memory stream that is open
+    /// for reading.
+    pub fn places_read(&self, stream: u32, count: u32) -> Places
+        requires { IsTrue (streams.has self.now.scene.streams stream) }
+        ensures value { result ≡ places_read self.now.scene stream count }
+        ensures at { result.at < 2 ^ 40 }
+        ensures width { result.width ≤ 4 }
+        ensures count { result.count ≤ count }
+    {
+        if self.streams.readable(stream) {
+            self.streams.places(stream, count)
+        } else {
+            NO_PLACES
+        }
+    }
+
+    /// Gets the next character; None where the stream isn't open for reading or is at its end. For a memory
+    /// stream `found` is the number that stands at the place.
+    #[tactic(auto, using(crate::proofs::Kept::streams_kept), unfolding(crate::specs::Calls::after_get))]
+    pub fn get(&mut self, stream: u32, found: u32) -> Option<u32>
+        requires { IsTrue (streams.has self.old.scene.streams stream) }
+        ensures value { result ≡ one.char_of (got_from self.old.scene stream found) }
+        ensures new { self.new ≡ after self.old (silent (after_get self.old.scene stream found)) }
+    {
+        self.streams.get(stream, found)
+    }
+
+    /// Counts so many characters as read, and moves to the position behind them.
+    #[tactic(auto, using(crate::proofs::Kept::streams_kept), unfolding(crate::specs::Calls::passed))]
+    pub fn pass(&mut self, stream: u32, position: u32, count: u32)
+        requires there { IsTrue (streams.has self.old.scene.streams stream) }
+        requires within { position ≤ one.end_of (streams.stream self.old.scene.streams stream) }
+        ensures { self.new ≡ after self.old (silent (passed self.old.scene stream position count)) }
+    {
+        self.streams.pass(stream, position, count);
+    }
+
+    /// Whether a stream's chain of echo streams comes to a window, within so many streams.
+    #[tactic(auto, using(crate::proofs::Turns::leads_turns))]
+    fn leads_along(&self, left: usize, stream: u32, win: u32) -> bool
+        ensures { result ≡ leads_along left self.now.scene stream win }
+    {
+        if left == 0 || !self.streams.has(stream) {
+            return false;
+        }
+        self.streams.window(stream) == win || self.leads_along(left - 1, self.echo_of(stream), win)
+    }
+
+    /// Sets a window's echo stream, 0 for none; nothing changes where that would lead back to the window.
+    #[tactic(auto, using(crate::proofs::Kept::windows_kept), unfolding(crate::specs::Calls::with_echo))]
+    pub fn set_echo(&mut self, win: u32, stream: u32)
+        requires window { IsTrue (windows.is_window self.old.scene.windows win) }
+        requires echo { stream ≡ 0 ⊎ IsTrue (streams.has self.old.scene.streams stream) }
+        ensures new { self.new ≡ after self.old (silent (with_echo self.old.scene win stream)) }
+
+        // A longer walk comes to the window just the same.
+        ensures whole { (more : ℕ) → leads_along (length self.old.scene.streams + more) self.old.scene stream win ≡ leads_to self.old.scene stream win }
+    {
+        if !self.leads_along(self.streams.len(), stream, win) {
+            self.windows.set_echo(win, stream);
+        }
+    }
+}

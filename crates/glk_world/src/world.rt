@@ -1,0 +1,204 @@
+//! The world of a run, and what can be looked at.
+ghost use Rattle.std.specs.Prelude.{◌≡◌, ◌≤◌, [], IfOk, MatchOption, None, true, false};
+ghost use Rattle.glk_streams.specs.Streams as streams;
+ghost use Rattle.glk_world.specs.World.{after, silent, empty_world, has_reference, reference_at, next_reference};
+ghost use Rattle.glk_world.specs.Kept.{call_of, waiting_of};
+
+use crate::{FileReference, ShownGrid};
+use arrayvec::ArrayVec;
+use glk_events::Requests;
+use glk_objects::{next, place};
+use glk_streams::Streams;
+use glk_windows::Windows;
+use gx_words::{Numbers, Writes};
+use std::alloc::{AllocError, Global};
+use std::marker::Model;
+
+/// A Glk call that waits to go on.
+#[derive(Drop)]
+pub struct Waiting {
+    pub selector: u32,
+    pub args: ArrayVec<u32, 8>,
+}
+
+/// The world of a run.
+#[derive(Drop)]
+pub struct World {
+    pub(crate) alloc: Global,
+    pub(crate) windows: Windows,
+    pub(crate) shown: Vec<ShownGrid>,
+    pub(crate) streams: Streams,
+    pub(crate) references: Vec<FileReference>,
+    pub(crate) requests: Requests,
+    pub(crate) current: u32,
+    pub(crate) next_id: u32,
+    pub(crate) fresh: bool,
+    pub(crate) waiting: Option<Waiting>,
+    pub(crate) text: String,
+}
+
+impl Model for World {
+    ghost use Rattle.glk_world.specs.World.{FlatWorld};
+    ghost use Rattle.glk_world.specs.Stored.{world_code};
+
+    ghost Value = { FlatWorld };
+
+    ghost coded = { world_code };
+
+    ghost use Rattle.glk_world.specs.Kept.{flat_of, IsKept};
+
+    ghost view = { flat_of };
+
+    ghost invariant = { IsKept };
+}
+
+impl World {
+    /// An empty world on a screen of so many columns and rows, each from 1 to 255.
+    pub fn new(alloc: Global, columns: u32, rows: u32) -> World
+        requires columns { (1 ≤ columns) × (columns ≤ 255) }
+        requires rows { (1 ≤ rows) × (rows ≤ 255) }
+        ensures { result ≡ empty_world columns rows }
+    {
+        World {
+            alloc,
+            windows: Windows::new(alloc, columns, rows),
+            shown: Vec::new(alloc),
+            streams: Streams::new(alloc),
+            references: Vec::new(alloc),
+            requests: Requests::new(alloc),
+            current: 0,
+            next_id: 1,
+            fresh: true,
+            waiting: None,
+            text: String::new(alloc),
+        }
+    }
+
+    /// The allocator from which the world takes its memory.
+    pub fn alloc(&self) -> Global {
+        self.alloc
+    }
+
+    /// An empty list of numbers, which the world's allocator would fill.
+    pub fn numbers(&self) -> Numbers
+        ensures { result ≡ [] }
+    {
+        Numbers::new(self.alloc)
+    }
+
+    /// An empty list of writes, likewise.
+    pub fn writes(&self) -> Writes
+        ensures { result ≡ [] }
+    {
+        Writes::new(self.alloc)
+    }
+
+    /// The text that wasn't sent yet, as UTF-8.
+    pub fn pending(&self) -> &[u8]
+        ensures { result.now ≡ self.now.text }
+    {
+        self.text.as_bytes()
+    }
+
+    /// Notes that the text was sent.
+    pub fn sent(&mut self)
+        ensures { self.new ≡ record self.old { text = [] } }
+    {
+        self.text.clear();
+    }
+
+    pub fn windows(&self) -> &Windows
+        ensures { result.now ≡ self.now.scene.windows }
+    {
+        &self.windows
+    }
+
+    pub fn streams(&self) -> &Streams
+        ensures { result.now ≡ self.now.scene.streams }
+    {
+        &self.streams
+    }
+
+    pub fn requests(&self) -> &Requests
+        ensures { result.now ≡ self.now.scene.requests }
+    {
+        &self.requests
+    }
+
+    /// The current stream, 0 for none.
+    pub fn current(&self) -> u32
+        ensures { result ≡ self.now.scene.current }
+    {
+        self.current
+    }
+
+    /// Sets the current stream, 0 for none.
+    pub fn set_current(&mut self, stream: u32)
+        ensures { self.new ≡ after self.old (silent (record self.old.scene { current = stream })) }
+    {
+        self.current = stream;
+    }
+
+    /// The identifier of the next object.
+    pub fn next_id(&self) -> u32
+        ensures { result ≡ self.now.scene.next_id }
+    {
+        self.next_id
+    }
+
+    /// The least identifier of a file reference above a number, 0 where there is none.
+    pub fn next_ref(&self, id: u32) -> u32
+        ensures { result ≡ next_reference self.now.scene id }
+    {
+        next(&self.references, id)
+    }
+
+    /// The base name, the usage and the rock of a file reference; None where none has the identifier.
+    #[tactic(auto, using(glk_objects::proofs::Places::places))]
+    pub fn file_ref(&self, id: u32) -> Option<(&str, u32, u32)>
+        ensures { MatchOption result (has_reference self.now.scene id ≡ false) (λ r. (has_reference self.now.scene id ≡ true) × (record { id = id; base = r.0.now; usage = r.1; rock = r.2 } ≡ reference_at self.now.scene id)) }
+    {
+        let at = place(&self.references, id);
+        if at < self.references.len() {
+            let reference = &self.references[at];
+            Some((reference.base.as_str(), reference.usage, reference.rock))
+        } else {
+            None
+        }
+    }
+
+    /// The call that waits to go on.
+    pub fn waiting(&self) -> Option<&Waiting>
+        ensures { MatchOption result (self.now.scene.waiting ≡ None) (λ call. self.now.scene.waiting ≡ Some (call_of call.now)) }
+    {
+        self.waiting.as_ref()
+    }
+
+    /// The same, which then waits no longer.
+    pub fn take_waiting(&mut self) -> Option<Waiting>
+        ensures value { waiting_of result ≡ self.old.scene.waiting }
+        ensures new { self.new ≡ after self.old (silent (record self.old.scene { waiting = None })) }
+    {
+        self.waiting.take()
+    }
+
+    pub fn set_waiting(&mut self, call: Option<Waiting>)
+        ensures { self.new ≡ after self.old (silent (record self.old.scene { waiting = waiting_of call })) }
+    {
+        self.waiting = call;
+    }
+
+    /// The streams that have to be stored at the end: files that are open for writing.
+    pub fn open_files(&self, alloc: Global) -> Result<Numbers, AllocError>
+        ensures { IfOk result (λ ids. ids ≡ streams.open_files self.now.scene.streams) }
+    {
+        self.streams.open_files(alloc)
+    }
+
+    /// The full name and the content of a file; None where no file stream has the identifier.
+    pub fn file(&self, id: u32) -> Option<(&str, &[u8])>
+        ensures { MatchOption result (streams.file_of self.now.scene.streams id ≡ None) (λ file. streams.file_of self.now.scene.streams id ≡ Some (file.0.now, file.1.now)) }
+    {
+        self.streams.file(id)
+    }
+}

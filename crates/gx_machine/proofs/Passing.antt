@@ -1,0 +1,45 @@
+-- Steps that are made the quick way, one after the other.
+use Rattle.std.proofs.Common.{◌≡◌, ◌<◌, ◌≤◌, ◌+◌, ◌-◌, ℕ, zero, suc, nat_lt, false, None, Result, Ok, Err, IsOk, refl, ap, subst, sym, ◌∙◌, arith}
+use Rattle.std.proofs.lemmas.Bool.{le-ltb}
+use Rattle.gx_words.specs.declared.faults.Fault.{Fault}
+use Rattle.gx_words.specs.Faults.{IsRefused}
+use Rattle.gx_state.specs.declared.effects.Effect.{Effect}
+use Rattle.gx_state.specs.declared.effects.Effect.TheVariants.{Went, Spent}
+use Rattle.gx_state.specs.declared.modes.Mode.TheVariants.{Running}
+use Rattle.gx_state.specs.Flat.{sp_of}
+use Rattle.ops_memory.specs.Costs.{lowered, charged}
+use Rattle.gx_machine.specs.Machine.{FlatMachine, Whole}
+use Rattle.gx_machine.specs.Step.{mode_step, probes_in, stepped, Passes}
+use Rattle.gx_machine.proofs.Steps.{step_ok, step_err, step_can}
+
+-- steps after steps
+pub joined : (word n m : ℕ) (a b c : Whole × ℕ) → Passes word n a b → Passes word m b c → (k : ℕ) × Passes word k a c
+joined word n zero a b c first then = (n, subst (λ (x : Whole × ℕ). Passes word n a x) then first)
+joined word n (suc m) a b c first then = let before = joined word n m a b then.0 first then.1 in (suc before.0, (then.0, before.1, then.2))
+
+-- a step that begins no probes
+free : (left : ℕ) (probes : ℕ) (m : FlatMachine) (r : Result (FlatMachine × Effect) Fault) → probes ≡ 0 → charged left probes m r ≡ lowered left 0 r
+free left probes m r none = let enough : nat_lt left 0 ≡ false = le-ltb left 0 (omega arith) in rw (none, enough) refl
+
+pub pass_ok : (w : Whole) (word budget : ℕ) (m' : FlatMachine) → 1 ≤ budget → 0 < sp_of w.machine.flat → w.machine.flat.mode ≡ Running → w.asking ≡ None → probes_in w.machine.flat Running ≡ 0
+    → mode_step w.machine word Running ≡ Ok (m', Went) → stepped w word budget ≡ Ok ((record { machine = m'; asking = w.asking }, budget - 1), Went)
+pass_ok w word budget m' some live running asks none is =
+    let units : budget - 1 - 0 ≡ budget - 1 = omega arith in
+    let all : charged (budget - 1) (probes_in w.machine.flat Running) w.machine (mode_step w.machine word Running) ≡ Ok ((m', budget - 1), Went) =
+    free (budget - 1) (probes_in w.machine.flat Running) w.machine (mode_step w.machine word Running) none ∙ ap (lowered (budget - 1) 0) is ∙ ap (λ (n : ℕ). Ok ((m', n), Went)) units in
+    step_ok w word budget (budget - 1) m' Went w.asking some live running (λ same. cc) (sym asks) all
+
+lowered-ok : (left : ℕ) (r : Result (FlatMachine × Effect) Fault) → IsOk r → IsOk (lowered left 0 r)
+lowered-ok left (Ok x) ok = ok
+lowered-ok left (Err e) ok = ok
+
+pub pass_refused : (wants : Type 0) (w : Whole) (word budget : ℕ) (e : Fault) → 1 ≤ budget → 0 < sp_of w.machine.flat → w.machine.flat.mode ≡ Running → probes_in w.machine.flat Running ≡ 0
+    → IsRefused wants e (mode_step w.machine word Running) → IsRefused wants e (stepped w word budget)
+pass_refused wants w word budget e some live running none refused =
+    let probes : ℕ = probes_in w.machine.flat Running in
+    let same : charged (budget - 1) probes w.machine (mode_step w.machine word Running) ≡ lowered (budget - 1) 0 (mode_step w.machine word Running) = free (budget - 1) probes w.machine (mode_step w.machine word Running) none in (
+      (λ given. step_err w word budget e some live running (same ∙ ap (lowered (budget - 1) 0) (refused.0 given))),
+      (λ lacks.
+          let lack = refused.1 lacks in
+          (lack.0, step_can w word budget some live running (subst IsOk (sym same) (lowered-ok (budget - 1) (mode_step w.machine word Running) lack.1)))),
+    )

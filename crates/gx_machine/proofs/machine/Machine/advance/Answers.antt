@@ -1,0 +1,62 @@
+-- the steps of the quick way, and one more
+use Rattle.std.proofs.Common.{◌≡◌, ℕ, suc, refl, arith}
+use Rattle.std.proofs.lemmas.Result.{err_from_is_err_and}
+use Rattle.gx_machine.proofs.Passing.{joined}
+use Rattle.gx_machine.proofs.Steps.{went_lower, went_asks}
+use Rattle.gx_machine.proofs.machine.Machine.advance.Goals as goal
+
+pub returns-in_err-passed : goal.returns-in_err-passed
+returns-in_err-passed g c =
+    let p = err_from_is_err_and c.from_residual.result c.from_residual.ensures.1 in
+    let passed = c.in_err-passed.ensures.value c.args.word in
+    let before = c.loop-self.invariant.passes in
+    let all = joined c.args.word before.0 passed.0 _ _ _ before.1 passed.1 in
+    rw (p.1, p.2) (record {
+      count = all.0;
+      before = c.passes-passed.new.self;
+      passes = all.1;
+      last = (refl, passed.2);
+      stands = tt;
+    })
+
+pub loop-self-smaller : goal.loop-self-smaller
+loop-self-smaller g c =
+    let went = rw c.in-Ok-Went.field-0-is at c.in-Ok-Went.ensures.step in
+    omega (arith, went_lower _ _ _ _ _ went, c.in_ok-passed.ensures.no_more)
+
+pub loop-self-preserved : goal.loop-self-preserved
+loop-self-preserved g c =
+    let went = rw c.in-Ok-Went.field-0-is at c.in-Ok-Went.ensures.step in
+    let passed = c.in_ok-passed.ensures.value c.args.word in
+    let before = c.loop-self.invariant.passes in
+    let all = joined c.args.word before.0 passed.0 _ _ _ before.1 passed.1 in
+    record {
+      none = went_asks _ _ _ _ _ went;
+      passes = (suc all.0, ((c.passes-passed.new.self, c.passes-passed.new.budget), all.1, went));
+    }
+
+pub returns-in_default : goal.returns-in_default
+returns-in_default g c =
+    let passed = c.in_ok-passed.ensures.value c.args.word in
+    let before = c.loop-self.invariant.passes in
+    let all = joined c.args.word before.0 passed.0 _ _ _ before.1 passed.1 in
+    record {
+      count = all.0;
+      before = c.passes-passed.new.self;
+      passes = all.1;
+      last = c.in_default.ensures.step;
+      stands = c.in_default.ensures.stands;
+    }
+
+pub returns-in_default-2 : goal.returns-in_default-2
+returns-in_default-2 g c =
+    let passed = c.in_ok-passed.ensures.value c.args.word in
+    let before = c.loop-self.invariant.passes in
+    let all = joined c.args.word before.0 passed.0 _ _ _ before.1 passed.1 in
+    record {
+      count = all.0;
+      before = c.passes-passed.new.self;
+      passes = all.1;
+      last = c.turn.ensures.step;
+      stands = c.turn.ensures.stands;
+    }

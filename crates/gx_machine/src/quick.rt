@@ -1,0 +1,551 @@
+//! The quick way of a step: the commonest instructions, each read and done in one go.
+//!
+//! `quick` reads the number at PC and finds its row. Where that is one of a few shapes, a function of the shape
+//! reads the operands into values of its own, and does the row with them. It answers whether the instruction was
+//! done; where it wasn't, nothing has changed, and the step is to be made by `rows`. Which rows it does is for
+//! speed alone: whatever it does is the definition's step, and so is every fault.
+ghost use Rattle.std.specs.Prelude.{◌≡◌, ◌≢◌, ◌<◌, ◌≤◌, ◌+◌, ◌*◌, ◌%◌, ◌^◌, false, if◌then◌else◌, length, Ok, None, IfOk, IfErr, OnOk, IsTrue, [], ◌∷◌, ℕ};
+ghost use Rattle.gx_words.specs.declared.faults.Fault.TheVariants.{BadAddress};
+ghost use Rattle.gx_words.specs.declared.limits.TheConstants.{CEILING};
+ghost use Rattle.gx_words.specs.Numbers.{IsWidth, byte};
+ghost use Rattle.ops_calc.specs.Arithmetic as calc;
+ghost use Rattle.ops_calc.specs.Branches as branch;
+ghost use Rattle.gx_state.specs.declared.effects.Effect.TheVariants.{Went};
+ghost use Rattle.gx_state.specs.declared.modes.Mode.TheVariants.{Running};
+ghost use Rattle.gx_state.specs.Flat.{cut, sp_of};
+ghost use Rattle.gx_state.specs.Returns.{IsReturnWriting};
+ghost use Rattle.gx_state.specs.Stores.{IsMemory};
+ghost use Rattle.gx_operands.specs.Instructions.{HasValues};
+ghost use Rattle.gx_undo.specs.Undo.{FlatUndo};
+ghost use Rattle.ops_flow.specs.Rows.{branches, returns};
+ghost use Rattle.gx_machine.specs.Quick.{Tries, IsPlain, IsQuick, quick_row, read_effect, IsReadWriting, IsRowWriting, sp_after, stored_on, computed_on, fetched_on, called_on, gone_on};
+ghost use Rattle.gx_machine.specs.Step.{mode_step, probes_in, IsModeWriting};
+ghost use Rattle.gx_machine.specs.Views.{machine_of};
+
+use gx_operands::{Cursor, destination, find_row, load, opcode, settle, stack_pointer};
+use gx_rows::{
+    ALOAD, ALOADB, ALOADS, ASTORE, ASTOREB, ASTORES, CALLF, CALLFI, Class, NOP, RETURN, Row, row_at,
+};
+use gx_state::{Dest, State};
+use gx_words::Fault;
+use ops_calc::{calc, test};
+use ops_flow::deliver;
+use std::alloc::Allocator;
+
+/// Stores a result once the pops are made, and goes on behind the operands.
+#[inline(always)]
+fn store_on<A: Allocator + Clone>(
+    state: &mut State<A>,
+    width: u32,
+    dest: Dest,
+    value: u32,
+    cursor: &Cursor,
+) -> Result<bool, Fault>
+    requires live { 0 < sp_of state.old.flat }
+    requires width { IsWidth width }
+    requires popped { HasValues state.old.flat cursor.now.popped }
+    ensures value { Tries (IsMemory dest) result state.old.flat state.new.flat (stored_on state.old.flat width dest value cursor.now) }
+    ensures story { state.new.flat.story ≡ state.old.flat.story }
+{
+    let sp = stack_pointer(state, cursor.popped);
+    settle(state, sp, &dest, width, value)?;
+    state.set_pc(cursor.at);
+    Ok(true)
+}
+
+/// Goes on at an address, once the pops are made.
+#[inline(always)]
+fn go_on<A: Allocator + Clone>(state: &mut State<A>, pc: u32, cursor: &Cursor)
+    requires live { 0 < sp_of state.old.flat }
+    requires popped { HasValues state.old.flat cursor.now.popped }
+    ensures value { gone_on state.old.flat pc cursor.now ≡ Ok (state.new.flat, Went) }
+    ensures story { state.new.flat.story ≡ state.old.flat.story }
+{
+    let sp = stack_pointer(state, cursor.popped);
+    state.cut_stack(sp);
+    state.set_pc(pc);
+}
+
+/// Branches by an offset, but for those that return.
+#[inline(always)]
+fn branch<A: Allocator + Clone>(state: &mut State<A>, offset: u32, cursor: &Cursor) -> bool
+    requires live { 0 < sp_of state.old.flat }
+    requires popped { HasValues state.old.flat cursor.now.popped }
+    ensures value { Tries ⊥ (Ok result) state.old.flat state.new.flat (branches (cut state.old.flat (sp_after state.old.flat cursor.now)) cursor.now.at offset) }
+    ensures story { state.new.flat.story ≡ state.old.flat.story }
+{
+    if offset < 2 {
+        return false;
+    }
+    go_on(state, cursor.at.wrapping_add(offset - 2), cursor);
+    true
+}
+
+/// Branches by an offset where a test holds, and goes on where it doesn't.
+#[inline(always)]
+fn jump<A: Allocator + Clone>(
+    state: &mut State<A>,
+    holds: bool,
+    offset: u32,
+    cursor: &Cursor,
+) -> bool
+    requires live { 0 < sp_of state.old.flat }
+    requires popped { HasValues state.old.flat cursor.now.popped }
+    ensures value { Tries ⊥ (Ok result) state.old.flat state.new.flat (if holds then branches (cut state.old.flat (sp_after state.old.flat cursor.now)) cursor.now.at offset else gone_on state.old.flat cursor.now.at cursor.now) }
+    ensures story { state.new.flat.story ≡ state.old.flat.story }
+{
+    if holds {
+        return branch(state, offset, cursor);
+    }
+    go_on(state, cursor.at, cursor);
+    true
+}
+
+/// Stores what arithmetic makes of two operands.
+#[inline(always)]
+fn compute<A: Allocator + Clone>(
+    state: &mut State<A>,
+    act: u8,
+    a: u32,
+    b: u32,
+    dest: Dest,
+    cursor: &Cursor,
+) -> Result<bool, Fault>
+    requires live { 0 < sp_of state.old.flat }
+    requires act { IsTrue (calc.is_calc act) }
+    requires popped { HasValues state.old.flat cursor.now.popped }
+    ensures value { Tries (IsMemory dest) result state.old.flat state.new.flat (computed_on state.old.flat act a b dest cursor.now) }
+    ensures story { state.new.flat.story ≡ state.old.flat.story }
+{
+    match calc(act, a, b) {
+        Some(value) => store_on(state, 4, dest, value, cursor),
+        None => Err(Fault::Divide),
+    }
+}
+
+/// Stores the number of so many bytes at an address.
+#[inline(always)]
+fn fetch<A: Allocator + Clone>(
+    state: &mut State<A>,
+    width: u32,
+    at: u32,
+    dest: Dest,
+    cursor: &Cursor,
+) -> Result<bool, Fault>
+    requires live { 0 < sp_of state.old.flat }
+    requires width { IsWidth width }
+    requires popped { HasValues state.old.flat cursor.now.popped }
+    ensures value { Tries (IsMemory dest) result state.old.flat state.new.flat (fetched_on state.old.flat width at dest cursor.now) }
+    ensures story { state.new.flat.story ≡ state.old.flat.story }
+{
+    let value = state.memory().try_number(width, at)?;
+    store_on(state, 4, dest, value, cursor)
+}
+
+/// The address of an element of an array whose elements have so many bytes.
+#[inline(always)]
+fn element(array: u32, index: u32, width: u32) -> u32
+    requires { IsWidth width }
+    ensures { result ≡ (array + width * index) % 2 ^ 32 }
+{
+    let offset = match width {
+        1 => index,
+        2 => index.wrapping_mul(2),
+        _ => index.wrapping_mul(4),
+    };
+    array.wrapping_add(offset)
+}
+
+/// Calls a function with arguments, whose result goes where the store operand points.
+#[inline(always)]
+fn call<A: Allocator + Clone>(
+    state: &mut State<A>,
+    at: u32,
+    args: &[u32],
+    dest: Dest,
+    cursor: &Cursor,
+) -> Result<bool, Fault>
+    requires live { 0 < sp_of state.old.flat }
+    requires popped { HasValues state.old.flat cursor.now.popped }
+    ensures value { Tries ⊥ result state.old.flat state.new.flat (called_on state.old.flat at args.now dest cursor.now) }
+    ensures story { state.new.flat.story ≡ state.old.flat.story }
+{
+    let sp = stack_pointer(state, cursor.popped);
+    let stub = state.stub(&dest, cursor.at);
+    state.enter(sp, &[stub], at, args)?;
+    Ok(true)
+}
+
+/// Returns a value from the present function, but for the start function.
+#[inline(always)]
+fn give_back<A: Allocator + Clone>(
+    state: &mut State<A>,
+    value: u32,
+    cursor: &Cursor,
+) -> Result<bool, Fault>
+    requires live { 0 < sp_of state.old.flat }
+    ensures value { Tries (IsReturnWriting state.old.flat state.old.flat.fp None) result state.old.flat state.new.flat (returns state.old.flat cursor.now.at value) }
+    ensures story { state.new.flat.story ≡ state.old.flat.story }
+{
+    let frame = state.frame();
+    if frame.fp == 0 {
+        return Ok(false);
+    }
+    deliver(state, cursor.at, frame.fp, value, None)?;
+    Ok(true)
+}
+
+/// Does a row of two loads and a store.
+#[inline(always)]
+#[tactic(auto, unfolding(ops_flow::specs::Rows::computes, ops_flow::specs::Rows::flow, ops_flow::specs::Rows::callf, ops_memory::specs::Rows::memory, ops_memory::specs::Rows::aload, ops_memory::specs::Rows::aloads, ops_memory::specs::Rows::aloadb))]
+fn do_two_and_store<A: Allocator + Clone>(
+    state: &mut State<A>,
+    row: &Row,
+    a: u32,
+    b: u32,
+    dest: Dest,
+    cursor: &Cursor,
+) -> Result<bool, Fault>
+    requires live { 0 < sp_of state.old.flat }
+    requires quick { IsQuick row.now.class }
+    requires calc { row.now.class ≡ Class.Calc → IsTrue (calc.is_calc row.now.act) }
+    requires popped { HasValues state.old.flat cursor.now.popped }
+    ensures value { Tries (IsReadWriting state.old.flat row.now (a ∷ b ∷ []) dest cursor.now) result state.old.flat state.new.flat (read_effect state.old.flat row.now (a ∷ b ∷ []) dest cursor.now) }
+    ensures story { state.new.flat.story ≡ state.old.flat.story }
+{
+    match row.class {
+        Class::Calc => compute(state, row.act, a, b, dest, cursor),
+        Class::Memory => match row.number {
+            ALOAD => fetch(state, 4, element(a, b, 4), dest, cursor),
+            ALOADS => fetch(state, 2, element(a, b, 2), dest, cursor),
+            ALOADB => fetch(state, 1, element(a, b, 1), dest, cursor),
+            _ => Ok(false),
+        },
+        Class::Flow if row.number == CALLFI => call(state, a, &[b], dest, cursor),
+        _ => Ok(false),
+    }
+}
+
+/// Does a row of three loads.
+#[inline(always)]
+#[tactic(auto, unfolding(ops_flow::specs::Rows::jumps, ops_memory::specs::Rows::memory, ops_memory::specs::Rows::astore, ops_memory::specs::Rows::astores, ops_memory::specs::Rows::astoreb))]
+fn do_three<A: Allocator + Clone>(
+    state: &mut State<A>,
+    row: &Row,
+    a: u32,
+    b: u32,
+    c: u32,
+    cursor: &Cursor,
+) -> Result<bool, Fault>
+    requires live { 0 < sp_of state.old.flat }
+    requires quick { IsQuick row.now.class }
+    requires loads { row.now.loads ≡ 3 }
+    requires branch { row.now.class ≡ Class.Branch → IsTrue (branch.is_branch row.now.act) }
+    requires popped { HasValues state.old.flat cursor.now.popped }
+    ensures value { Tries (IsReadWriting state.old.flat row.now (a ∷ b ∷ c ∷ []) Dest.Nowhere cursor.now) result state.old.flat state.new.flat (read_effect state.old.flat row.now (a ∷ b ∷ c ∷ []) Dest.Nowhere cursor.now) }
+    ensures story { state.new.flat.story ≡ state.old.flat.story }
+{
+    match row.class {
+        Class::Branch => Ok(jump(state, test(row.act, a, b), c, cursor)),
+        Class::Memory => match row.number {
+            ASTORE => store_on(state, 4, Dest::Memory(element(a, b, 4)), c, cursor),
+            ASTORES => store_on(state, 2, Dest::Memory(element(a, b, 2)), c, cursor),
+            ASTOREB => store_on(state, 1, Dest::Memory(element(a, b, 1)), c, cursor),
+            _ => Ok(false),
+        },
+        _ => Ok(false),
+    }
+}
+
+/// Does a row of two loads.
+#[inline(always)]
+#[tactic(auto, unfolding(ops_flow::specs::Rows::jumps))]
+fn do_two<A: Allocator + Clone>(
+    state: &mut State<A>,
+    row: &Row,
+    a: u32,
+    b: u32,
+    cursor: &Cursor,
+) -> Result<bool, Fault>
+    requires live { 0 < sp_of state.old.flat }
+    requires quick { IsQuick row.now.class }
+    requires loads { row.now.loads ≡ 2 }
+    requires branch { row.now.class ≡ Class.Branch → IsTrue (branch.is_branch row.now.act) }
+    requires popped { HasValues state.old.flat cursor.now.popped }
+    ensures value { Tries (IsReadWriting state.old.flat row.now (a ∷ b ∷ []) Dest.Nowhere cursor.now) result state.old.flat state.new.flat (read_effect state.old.flat row.now (a ∷ b ∷ []) Dest.Nowhere cursor.now) }
+    ensures story { state.new.flat.story ≡ state.old.flat.story }
+{
+    match row.class {
+        Class::Branch => Ok(jump(state, test(row.act, a, b), b, cursor)),
+        _ => Ok(false),
+    }
+}
+
+/// Does a row of a load and a store.
+#[inline(always)]
+#[tactic(auto, unfolding(ops_flow::specs::Rows::computes, ops_flow::specs::Rows::flow, ops_flow::specs::Rows::callf, ops_memory::specs::Rows::copy))]
+fn do_one_and_store<A: Allocator + Clone>(
+    state: &mut State<A>,
+    row: &Row,
+    a: u32,
+    dest: Dest,
+    cursor: &Cursor,
+) -> Result<bool, Fault>
+    requires live { 0 < sp_of state.old.flat }
+    requires quick { IsQuick row.now.class }
+    requires width { row.now.width ≡ 4 }
+    requires calc { row.now.class ≡ Class.Calc → IsTrue (calc.is_calc row.now.act) }
+    requires popped { HasValues state.old.flat cursor.now.popped }
+    ensures value { Tries (IsReadWriting state.old.flat row.now (a ∷ []) dest cursor.now) result state.old.flat state.new.flat (read_effect state.old.flat row.now (a ∷ []) dest cursor.now) }
+    ensures story { state.new.flat.story ≡ state.old.flat.story }
+{
+    match row.class {
+        Class::Copy => store_on(state, 4, dest, a, cursor),
+        Class::Calc => compute(state, row.act, a, 0, dest, cursor),
+        Class::Flow if row.number == CALLF => call(state, a, &[], dest, cursor),
+        _ => Ok(false),
+    }
+}
+
+/// Does a row of one load.
+#[inline(always)]
+#[tactic(auto, unfolding(ops_flow::specs::Rows::jumps, ops_flow::specs::Rows::flow, ops_flow::specs::Rows::return_))]
+fn do_one<A: Allocator + Clone>(
+    state: &mut State<A>,
+    row: &Row,
+    a: u32,
+    cursor: &Cursor,
+) -> Result<bool, Fault>
+    requires live { 0 < sp_of state.old.flat }
+    requires quick { IsQuick row.now.class }
+    requires loads { row.now.loads ≡ 1 }
+    requires branch { row.now.class ≡ Class.Branch → IsTrue (branch.is_branch row.now.act) }
+    requires popped { HasValues state.old.flat cursor.now.popped }
+    ensures value { Tries (IsReadWriting state.old.flat row.now (a ∷ []) Dest.Nowhere cursor.now) result state.old.flat state.new.flat (read_effect state.old.flat row.now (a ∷ []) Dest.Nowhere cursor.now) }
+    ensures story { state.new.flat.story ≡ state.old.flat.story }
+{
+    match row.class {
+        Class::Branch => Ok(jump(state, test(row.act, a, 0), a, cursor)),
+        Class::Flow if row.number == RETURN => give_back(state, a, cursor),
+        _ => Ok(false),
+    }
+}
+
+/// The byte that holds the modes of one or two operands.
+#[inline(always)]
+#[tactic(auto, unfolding(gx_pages::specs::Memory::number_in))]
+fn mode_pair<A: Allocator + Clone>(state: &State<A>, modes: u32) -> Result<u32, Fault>
+    ensures there { OnOk result (modes + 1 ≤ length state.now.flat.memory) }
+    ensures low { OnOk result (modes + 1 ≤ CEILING) }
+    ensures value { IfOk result (λ pair. pair ≡ byte state.now.flat.memory modes) }
+    ensures fits { IfOk result (λ pair. pair < 2 ^ 8) }
+    ensures fault { IfErr result (λ fault. (fault ≡ BadAddress) × (length state.now.flat.memory < modes + 1)) }
+{
+    state.code(1, modes)
+}
+
+/// Reads and does a row of two loads and a store.
+#[inline(always)]
+#[tactic(auto, using(crate::proofs::Reading::two_and_store_reading))]
+fn two_and_store<A: Allocator + Clone>(
+    state: &mut State<A>,
+    row: &Row,
+    modes: u32,
+) -> Result<bool, Fault>
+    requires live { 0 < sp_of state.old.flat }
+    requires quick { IsQuick row.now.class }
+    requires calc { row.now.class ≡ Class.Calc → IsTrue (calc.is_calc row.now.act) }
+    requires plain { IsPlain row.now }
+    requires loads { row.now.loads ≡ 2 }
+    requires stores { row.now.stores ≡ 1 }
+    ensures value { Tries (IsRowWriting state.old.flat row.now modes) result state.old.flat state.new.flat (quick_row state.old.flat row.now modes) }
+    ensures story { state.new.flat.story ≡ state.old.flat.story }
+{
+    let (first, second) = state.code_pair(modes)?;
+    let mut cursor = Cursor {
+        at: modes + 2,
+        popped: 0,
+    };
+    let a = load(state, 4, first % 16, &mut cursor)?;
+    let b = load(state, 4, first / 16, &mut cursor)?;
+    let dest = destination(state, second % 16, &mut cursor)?;
+    do_two_and_store(state, row, a, b, dest, &cursor)
+}
+
+/// Reads and does a row of three loads.
+#[inline(always)]
+#[tactic(auto, using(crate::proofs::Reading::three_reading))]
+fn three<A: Allocator + Clone>(state: &mut State<A>, row: &Row, modes: u32) -> Result<bool, Fault>
+    requires live { 0 < sp_of state.old.flat }
+    requires quick { IsQuick row.now.class }
+    requires branch { row.now.class ≡ Class.Branch → IsTrue (branch.is_branch row.now.act) }
+    requires plain { IsPlain row.now }
+    requires loads { row.now.loads ≡ 3 }
+    requires stores { row.now.stores ≡ 0 }
+    ensures value { Tries (IsRowWriting state.old.flat row.now modes) result state.old.flat state.new.flat (quick_row state.old.flat row.now modes) }
+    ensures story { state.new.flat.story ≡ state.old.flat.story }
+{
+    let (first, second) = state.code_pair(modes)?;
+    let mut cursor = Cursor {
+        at: modes + 2,
+        popped: 0,
+    };
+    let a = load(state, 4, first % 16, &mut cursor)?;
+    let b = load(state, 4, first / 16, &mut cursor)?;
+    let c = load(state, 4, second % 16, &mut cursor)?;
+    do_three(state, row, a, b, c, &cursor)
+}
+
+/// Reads and does a row of two loads.
+#[inline(always)]
+#[tactic(auto, using(crate::proofs::Reading::two_reading))]
+fn two<A: Allocator + Clone>(state: &mut State<A>, row: &Row, modes: u32) -> Result<bool, Fault>
+    requires live { 0 < sp_of state.old.flat }
+    requires quick { IsQuick row.now.class }
+    requires branch { row.now.class ≡ Class.Branch → IsTrue (branch.is_branch row.now.act) }
+    requires plain { IsPlain row.now }
+    requires loads { row.now.loads ≡ 2 }
+    requires stores { row.now.stores ≡ 0 }
+    ensures value { Tries (IsRowWriting state.old.flat row.now modes) result state.old.flat state.new.flat (quick_row state.old.flat row.now modes) }
+    ensures story { state.new.flat.story ≡ state.old.flat.story }
+{
+    let first = mode_pair(state, modes)?;
+    let mut cursor = Cursor {
+        at: modes + 1,
+        popped: 0,
+    };
+    let a = load(state, 4, first % 16, &mut cursor)?;
+    let b = load(state, 4, first / 16, &mut cursor)?;
+    do_two(state, row, a, b, &cursor)
+}
+
+/// Reads and does a row of a load and a store.
+#[inline(always)]
+#[tactic(auto, using(crate::proofs::Reading::one_and_store_reading))]
+fn one_and_store<A: Allocator + Clone>(
+    state: &mut State<A>,
+    row: &Row,
+    modes: u32,
+) -> Result<bool, Fault>
+    requires live { 0 < sp_of state.old.flat }
+    requires quick { IsQuick row.now.class }
+    requires calc { row.now.class ≡ Class.Calc → IsTrue (calc.is_calc row.now.act) }
+    requires plain { IsPlain row.now }
+    requires loads { row.now.loads ≡ 1 }
+    requires stores { row.now.stores ≡ 1 }
+    ensures value { Tries (IsRowWriting state.old.flat row.now modes) result state.old.flat state.new.flat (quick_row state.old.flat row.now modes) }
+    ensures story { state.new.flat.story ≡ state.old.flat.story }
+{
+    let first = mode_pair(state, modes)?;
+    let mut cursor = Cursor {
+        at: modes + 1,
+        popped: 0,
+    };
+    let a = load(state, 4, first % 16, &mut cursor)?;
+    let dest = destination(state, first / 16, &mut cursor)?;
+    do_one_and_store(state, row, a, dest, &cursor)
+}
+
+/// Reads and does a row of one load.
+#[inline(always)]
+#[tactic(auto, using(crate::proofs::Reading::one_reading))]
+fn one<A: Allocator + Clone>(state: &mut State<A>, row: &Row, modes: u32) -> Result<bool, Fault>
+    requires live { 0 < sp_of state.old.flat }
+    requires quick { IsQuick row.now.class }
+    requires branch { row.now.class ≡ Class.Branch → IsTrue (branch.is_branch row.now.act) }
+    requires plain { IsPlain row.now }
+    requires loads { row.now.loads ≡ 1 }
+    requires stores { row.now.stores ≡ 0 }
+    ensures value { Tries (IsRowWriting state.old.flat row.now modes) result state.old.flat state.new.flat (quick_row state.old.flat row.now modes) }
+    ensures story { state.new.flat.story ≡ state.old.flat.story }
+{
+    let first = mode_pair(state, modes)?;
+    let mut cursor = Cursor {
+        at: modes + 1,
+        popped: 0,
+    };
+    let a = load(state, 4, first % 16, &mut cursor)?;
+    do_one(state, row, a, &cursor)
+}
+
+/// Does the row of no operands that does nothing.
+#[inline(always)]
+#[tactic(auto, unfolding(ops_flow::specs::Rows::flow, ops_flow::specs::Rows::nop), using(crate::proofs::Reading::none_read))]
+fn none<A: Allocator + Clone>(state: &mut State<A>, row: &Row, modes: u32) -> Result<bool, Fault>
+    requires live { 0 < sp_of state.old.flat }
+    requires quick { IsQuick row.now.class }
+    requires loads { row.now.loads ≡ 0 }
+    ensures value { Tries (IsRowWriting state.old.flat row.now modes) result state.old.flat state.new.flat (quick_row state.old.flat row.now modes) }
+    ensures story { state.new.flat.story ≡ state.old.flat.story }
+{
+    let size = state.memory().size();
+    match row.class {
+        Class::Flow if row.number == NOP && row.stores == 0 && modes <= size => {
+            let cursor = Cursor {
+                at: modes,
+                popped: 0,
+            };
+            go_on(state, modes, &cursor);
+            Ok(true)
+        }
+        _ => Ok(false),
+    }
+}
+
+/// Reads and does a row by its shape.
+#[inline(always)]
+fn by_shape<A: Allocator + Clone>(
+    state: &mut State<A>,
+    row: &Row,
+    modes: u32,
+) -> Result<bool, Fault>
+    requires live { 0 < sp_of state.old.flat }
+    requires quick { IsQuick row.now.class }
+    requires calc { row.now.class ≡ Class.Calc → IsTrue (calc.is_calc row.now.act) }
+    requires branch { row.now.class ≡ Class.Branch → IsTrue (branch.is_branch row.now.act) }
+    requires one { row.now.loads ≡ 1 → row.now.stores ≡ 0 → IsPlain row.now }
+    requires two { row.now.loads ≡ 2 → IsPlain row.now }
+    requires three { row.now.loads ≡ 3 → IsPlain row.now }
+    ensures value { Tries (IsRowWriting state.old.flat row.now modes) result state.old.flat state.new.flat (quick_row state.old.flat row.now modes) }
+    ensures story { state.new.flat.story ≡ state.old.flat.story }
+{
+    match (row.loads, row.stores) {
+        (0, _) => none(state, row, modes),
+        (1, 0) => one(state, row, modes),
+        (1, 1) if row.width == 4 && !row.store_first => one_and_store(state, row, modes),
+        (2, 0) => two(state, row, modes),
+        (2, 1) => two_and_store(state, row, modes),
+        (3, 0) => three(state, row, modes),
+        _ => Ok(false),
+    }
+}
+
+/// Whether a class has quick rows.
+#[inline(always)]
+fn is_quick(class: Class) -> bool
+    ensures { IsTrue result → IsQuick class }
+{
+    matches!(
+        class,
+        Class::Calc | Class::Branch | Class::Flow | Class::Copy | Class::Memory
+    )
+}
+
+/// Does the instruction at PC where its row is one of these.
+#[inline(always)]
+#[tactic(auto, using(crate::proofs::Tries::rows))]
+pub(crate) fn quick<A: Allocator + Clone>(state: &mut State<A>) -> Result<bool, Fault>
+    requires { 0 < sp_of state.old.flat }
+    ensures value { (u : FlatUndo) (word : ℕ) → Tries (IsModeWriting (machine_of state.old u) Running) result (machine_of state.old u) (machine_of state.new u) (mode_step (machine_of state.old u) word Running) }
+    ensures free { result ≢ Ok false → probes_in state.old.flat Running ≡ 0 }
+    ensures story { state.new.flat.story ≡ state.old.flat.story }
+{
+    let mut modes = 0;
+    let number = opcode(state, &mut modes)?;
+    let place = find_row(number)?;
+    let row = row_at(place);
+    if row.loads > 3 || !is_quick(row.class) {
+        return Ok(false);
+    }
+    by_shape(state, row, modes)
+}

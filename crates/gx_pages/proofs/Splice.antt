@@ -1,0 +1,83 @@
+-- Bytes written over a part of a list.
+use Rattle.std.proofs.Common.{◌≡◌, ◌⊎◌, ℕ, ◌+◌, ◌-◌, ◌<◌, ◌≤◌, List, ◌++◌, length, take, drop, get_or, sym, refl, ap, ◌∙◌, arith, zero-add, replicate, append_assoc, length-append, length-take, length-drop}
+use Rattle.std.proofs.lemmas.List.{take-append-le, drop-append-le, drop-drop, drop-replicate}
+use Rattle.std.proofs.Math.Seq.{take-append-add, drop-append-add, take-add}
+use Rattle.std.proofs.lemmas.List.{take_at, get_or_append_left, get_or-append_right, get_or-take, get_or-drop}
+use Rattle.gx_words.specs.Numbers.{spliced}
+use Rattle.gx_pages.specs.Memory.{put_back_of}
+use Rattle.gx_pages.proofs.PutBack.{put_back_from}
+
+pub length-spliced : (xs ys : List ℕ) (at : ℕ) → at + length ys ≤ length xs → length (spliced xs at ys) ≡ length xs
+length-spliced xs ys at h =
+    simp (length-append, length-take, length-drop) (omega arith)
+
+-- a write that ends before the second list
+pub spliced_front : (xs zs ys : List ℕ) (k : ℕ) → k + length ys ≤ length xs → spliced (xs ++ zs) k ys ≡ spliced xs k ys ++ zs
+spliced_front xs zs ys k h =
+    let a : k ≤ length xs = omega arith in
+    rw (take-append-le k xs zs a, drop-append-le (k + length ys) xs zs h) (simp append_assoc)
+
+-- a write that begins after the first list
+pub spliced_back : (xs zs ys : List ℕ) (k n : ℕ) → n ≡ length xs + k → spliced (xs ++ zs) n ys ≡ xs ++ spliced zs k ys
+spliced_back xs zs ys k n e =
+    let f : n + length ys ≡ length xs + (k + length ys) = omega arith in
+    rw (f, e, take-append-add xs zs k, drop-append-add xs zs (k + length ys)) (append_assoc xs (take k zs) _)
+
+-- one write after another, at its end
+pub spliced_more : (xs ys zs : List ℕ) (at n : ℕ) → n ≡ at + length ys → n ≤ length xs → spliced (spliced xs at ys) n zs ≡ spliced xs at (ys ++ zs)
+spliced_more xs ys zs at n e h =
+    let t : take at xs ++ (ys ++ drop (at + length ys) xs) ≡ (take at xs ++ ys) ++ drop (at + length ys) xs = sym (append_assoc (take at xs) ys (drop (at + length ys) xs)) in
+    let l : n ≡ length (take at xs ++ ys) + 0 = simp (length-append, length-take) (omega arith) in
+    let m : at + length (ys ++ zs) ≡ at + length ys + (0 + length zs) = simp length-append (omega arith) in
+    let d : drop (at + length (ys ++ zs)) xs ≡ drop (0 + length zs) (drop (at + length ys) xs) = ap (λ k. drop k xs) m ∙ sym (drop-drop (0 + length zs) (at + length ys) xs) in
+    rw t (spliced_back (take at xs ++ ys) (drop (at + length ys) xs) zs 0 n l ∙ rw d (simp append_assoc))
+
+-- a loop that writes ys piece by piece
+pub spliced_step : (xs ts ys : List ℕ) (at done n m : ℕ) → at + length ys ≤ length xs → done + n ≤ length ys → m ≡ n → ts ≡ spliced xs at (take done ys) → spliced ts (at + done) (take m (drop done ys)) ≡ spliced xs at (take (done + n) ys)
+spliced_step xs ts ys at done n m h k e t =
+    let l : length (take done ys) ≡ done = simp length-take (omega arith) in
+    rw (t, e, take-add done n ys) (spliced_more xs (take done ys) (take n (drop done ys)) at (at + done) (omega arith) (omega arith))
+
+pub spliced_zeros : (m : ℕ) (ys : List ℕ) → spliced (replicate m 0) 0 ys ≡ ys ++ replicate (m - length ys) 0
+spliced_zeros m ys = rw (zero-add (length ys), drop-replicate {X = ℕ} (length ys) m 0) refl
+
+pub get_or-spliced_below : (xs ys : List ℕ) (at k : ℕ) → at + length ys ≤ length xs → k < at → get_or (spliced xs at ys) k 0 ≡ get_or xs k 0
+get_or-spliced_below xs ys at k h l =
+    let m : k < length (take at xs) = simp length-take (omega arith) in
+    get_or_append_left (take at xs) _ 0 k m ∙ get_or-take at xs k 0 l
+
+pub get_or-spliced : (xs ys : List ℕ) (at k j : ℕ) → at + length ys ≤ length xs → at + j ≡ k → j < length ys → get_or (spliced xs at ys) k 0 ≡ get_or ys j 0
+get_or-spliced xs ys at k j h e l =
+    let m : length (take at xs) ≡ at = simp length-take (omega arith) in
+    let f : k - at ≡ j = omega arith in
+    get_or-append_right (take at xs) _ at k 0 m (omega arith) ∙ rw f (get_or_append_left ys _ 0 j l)
+
+pub get_or-spliced_above : (xs ys : List ℕ) (at k : ℕ) → at + length ys ≤ length xs → at + length ys ≤ k → get_or (spliced xs at ys) k 0 ≡ get_or xs k 0
+get_or-spliced_above xs ys at k h l =
+    let m : length (take at xs) ≡ at = simp length-take (omega arith) in
+    let f : at + length ys + (k - at - length ys) ≡ k = omega arith in
+    get_or-append_right (take at xs) (ys ++ drop (at + length ys) xs) at k 0 m (omega arith)
+    ∙ get_or-append_right ys (drop (at + length ys) xs) (length ys) (k - at) 0 refl (omega arith)
+    ∙ get_or-drop (at + length ys) xs (k - at - length ys) 0
+    ∙ ap (λ n. get_or xs n 0) f
+
+-- the bytes of `now` over a part of `kept`
+pub put_back_spliced : (now kept ys : List ℕ) (from n count : ℕ) → from + n ≤ length kept → length ys ≡ n → n ≤ count → (n ≡ count) ⊎ (from + n ≡ length kept) → ((k : ℕ) → k < n → get_or ys k 0 ≡ get_or now (from + k) 0) → spliced kept from ys ≡ put_back_of now kept from count
+put_back_spliced now kept ys from n count h l c e b =
+    let s : length (spliced kept from ys) ≡ length kept = length-spliced kept ys from (omega arith) in
+    put_back_from now kept (spliced kept from ys) from count s
+    (λ k i j w.
+    let f : from + (k - from) ≡ k = omega arith in
+    let u : k - from < n = omega arith in
+    get_or-spliced kept ys from k (k - from) (omega arith) f (omega arith) ∙ b (k - from) u ∙ ap (λ m. get_or now m 0) f)
+    (λ k i. get_or-spliced_below kept ys from k (omega arith) i)
+    (λ k i. get_or-spliced_above kept ys from k (omega arith) (omega arith))
+
+-- a slice that is filled piece by piece
+pub copy_step : (to all piece : List ℕ) (done n : ℕ) → done + n ≤ length to → length piece ≡ n → piece ≡ take n (drop done all) → take done to ≡ take done all → take (done + n) (spliced to done piece) ≡ take (done + n) all
+copy_step to all piece done n h l e made =
+    let d : length (take done to) ≡ done = simp length-take (omega arith) in
+    let f : done + n ≡ length (take done to ++ piece) = omega (arith, length-append (take done to) piece) in
+    ap (take (done + n)) (sym (append_assoc (take done to) piece (drop (done + length piece) to)))
+    ∙ take_at (take done to ++ piece) (drop (done + length piece) to) (done + n) (sym f)
+    ∙ ap (λ u. u ++ piece) made ∙ ap (λ u. take done all ++ u) e ∙ sym (take-add done n all)

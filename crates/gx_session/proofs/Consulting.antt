@@ -1,0 +1,142 @@
+-- A device is asked in the middle of a Glk call, once the pending text is sent.
+use Rattle.std.proofs.Common.{◌≡◌, ◌≢◌, ℕ, suc, ◌+◌, ◌<◌, ◌⊎◌, inl, inr, Bool, true, false, List, ◌++◌, length, Option, Some, None, Result, Ok, Err, refl, ap, subst, sym, ◌∙◌, arith}
+use Rattle.gx_machine.specs.declared.askings.Asking.{Asking}
+use Rattle.gx_outside.specs.Outside.{FlatSource, FlatSink, FlatShelf, raised, raised_by}
+use Rattle.gx_outside.specs.declared.devices.ShelfFault.{ShelfFault}
+use Rattle.gx_outside.specs.declared.devices.ShelfFault.TheVariants as of_shelf
+use Rattle.glk_world.specs.World.{FlatWorld}
+use Rattle.glk_dispatch.specs.declared.Turn.{Turn}
+use Rattle.glk_dispatch.specs.declared.Given.{Given}
+use Rattle.gx_session.specs.declared.ends.Halt.{Halt}
+use Rattle.gx_session.specs.declared.ends.Halt.TheVariants as halt
+use Rattle.gx_session.specs.declared.ends.Next.{Next}
+use Rattle.gx_session.specs.declared.ends.Stop.TheVariants as stop
+use Rattle.gx_session.specs.declared.lines.NoLine.{NoLine}
+use Rattle.gx_session.specs.declared.lines.NoLine.TheVariants as no
+use Rattle.gx_session.specs.declared.lines.TheConstants.{PIECE}
+use Rattle.gx_session.specs.declared.questions.Question.{Question}
+use Rattle.gx_session.specs.declared.running.Waiting.{Waiting}
+use Rattle.gx_session.specs.Counts.{IsUntold}
+use Rattle.gx_session.specs.Cuts.{IsWait, IsQuestion, MayWant, LeavesFiles}
+use Rattle.gx_session.specs.Devices.{Devices}
+use Rattle.gx_session.specs.Input.{none, too_long}
+use Rattle.gx_session.specs.Questions.{turn_of, Answers}
+use Rattle.gx_session.specs.Reading.{TakesLine, HoldsFew, ReadsFew, failures}
+use Rattle.gx_session.specs.Session.{Configuration, Doing, asks, goes_on, asked}
+use Rattle.gx_session.specs.Playing.{Held, WordIs, Standing, Ready, Waits, Flushes, TakesInput, EventGives, Early, halt_of_shelf, without_line}
+use Rattle.gx_session.proofs.Asking.{question-is, shelf-answers, line-stops}
+use Rattle.gx_session.proofs.Feeding.{reads-on}
+use Rattle.gx_session.proofs.Playing.{here, flushed, cut-send, refused, unread, wants}
+use Rattle.gx_session.proofs.Storing.{raised-more}
+use Rattle.gx_session.proofs.Steps.{asked-by-word}
+use Rattle.rand_core.specs.Stream.{Stream, next_u32}
+
+-- the next word, where one may be in hand
+next-word : (word : Option ℕ) (stream a b : Stream) → WordIs word stream a → WordIs word stream b → (next_u32 a).0 ≡ (next_u32 b).0
+next-word None stream a b is is' = ap (λ (s : Stream). (next_u32 s).0) (is ∙ sym is')
+next-word (Some w) stream a b is is' = ap (λ (p : ℕ × Stream). p.0) (is ∙ sym is')
+
+module _ (start : Configuration) (entry : Devices) (h : Held) (asking : Option Asking) (d : Devices) (t : Turn) (w : Waiting) (waits : Waits start entry h asking d (asks t w)) (world : FlatWorld) (sink : FlatSink) where
+  abbrev h1 : Held
+  h1 = record h { world = world }
+
+  abbrev d1 : Devices
+  d1 = record d { sink = sink }
+
+  -- the text that was due before it was refused
+  pub text-refused : (e : Halt) → (e ≡ halt.Output) ⊎ (e ≡ halt.NoMemory) → Flushes 1 d.sink sink h.world world (Err e) → EventGives start entry h1 asking d1 (Err e)
+  text-refused e only f = inr (cut-send start entry h d world sink (asks t w) 1 (λ s text. refl) asking e waits.now waits.asking_is only f)
+
+  module _ (f : Flushes 1 d.sink sink h.world world (Ok tt)) where
+    ready : Ready start entry h1 d1 (asks t w)
+    ready = flushed start entry h d world sink (asks t w) 1 (λ s text. refl) waits.now f
+
+    asks-is : asking ≡ asked (here start entry h1 d1 (asks t w) ready.now)
+    asks-is =
+        waits.asking_is
+        ∙ asked-by-word (here start entry h d (asks t w) waits.now) (here start entry h1 d1 (asks t w) ready.now) refl
+        (next-word h.word d.words waits.now.past.words ready.now.past.words waits.now.is_past.word ready.now.is_past.word)
+
+    -- THE SHELF
+    module _ (shelf : FlatShelf) (tells : shelf.tells ≡ d.shelf.tells) (made : shelf.calls.made ≡ raised d.shelf.calls.made) where
+      untold : d.shelf.tells ≡ false → IsUntold entry.shelf shelf
+      untold silent = record {
+        silent = sym waits.now.is_past.told ∙ silent;
+        calls = waits.now.past.asked;
+        asked = made ∙ ap raised waits.now.is_past.asked;
+      }
+
+      refuse : (q : Question) → t ≡ turn_of q → (fault : ShelfFault) → Answers q d.shelf.files shelf.files (Err fault) → Early start entry h1 asking (record d1 { shelf = shelf }) (halt_of_shelf fault)
+      refuse q is of_shelf.Failed a =
+          refused start entry h1 d1 w t ready shelf halt.Shelf asking made (subst IsQuestion (sym is) (question-is q)) (inl refl) (subst (λ (x : Turn). LeavesFiles x d.shelf.files shelf.files) (sym is) a) asks-is
+      refuse q is of_shelf.NoMemory a =
+          refused start entry h1 d1 w t ready shelf halt.NoMemory asking made (subst IsQuestion (sym is) (question-is q)) (inr (refl, subst (MayWant d.shelf.files) (sym is) a.1))
+          (subst (λ (x : Turn). LeavesFiles x d.shelf.files shelf.files) (sym is) a.0) asks-is
+
+      refuse-by : (q : Question) → t ≡ turn_of q → (fault : ShelfFault) (b : Bool) → d.shelf.tells ≡ b → (d.shelf.tells ≡ true → Answers q d.shelf.files shelf.files (Err fault))
+          → EventGives start entry h1 asking (record d1 { shelf = shelf }) (Err (halt_of_shelf fault))
+      refuse-by q is fault true told a = inr (refuse q is fault (a told))
+      refuse-by q is fault false told a = inl (untold told)
+
+      -- it refused
+      pub shelf-refused : (q : Question) → t ≡ turn_of q → (fault : ShelfFault) → (d.shelf.tells ≡ true → Answers q d.shelf.files shelf.files (Err fault))
+          → EventGives start entry h1 asking (record d1 { shelf = shelf }) (Err (halt_of_shelf fault))
+      shelf-refused q is fault a = refuse-by q is fault d.shelf.tells refl a
+
+      answer-at : (q : Question) → t ≡ turn_of q → (given : Given) → Answers q d.shelf.files shelf.files (Ok given) → Waits start entry h1 asking (record d1 { shelf = shelf }) (goes_on given w)
+      answer-at q is given a =
+          let r : Ready start entry h1 d1 (asks (turn_of q) w) = subst (λ (x : Turn). Ready start entry h1 d1 (asks x w)) is ready in
+          shelf-answers start entry h1 d1 asking w q r shelf tells made given a.0 a.1
+          (waits.asking_is
+          ∙ asked-by-word (here start entry h d (asks t w) waits.now) (here start entry h1 d1 (asks (turn_of q) w) r.now) refl
+          (next-word h.word d.words waits.now.past.words r.now.past.words waits.now.is_past.word r.now.is_past.word))
+
+      answer-by : (q : Question) → t ≡ turn_of q → (given : Given) (b : Bool) → d.shelf.tells ≡ b → (d.shelf.tells ≡ true → Answers q d.shelf.files shelf.files (Ok given))
+          → IsUntold entry.shelf shelf ⊎ Waits start entry h1 asking (record d1 { shelf = shelf }) (goes_on given w)
+      answer-by q is given true told a = inr (answer-at q is given (a told))
+      answer-by q is given false told a = inl (untold told)
+
+      -- it answered
+      pub shelf-answered : (q : Question) → t ≡ turn_of q → (given : Given) → (d.shelf.tells ≡ true → Answers q d.shelf.files shelf.files (Ok given))
+          → IsUntold entry.shelf shelf ⊎ Waits start entry h1 asking (record d1 { shelf = shelf }) (goes_on given w)
+      shelf-answered q is given a = answer-by q is given d.shelf.tells refl a
+
+    -- THE INPUT
+    module _ (is : IsWait t) (ahead coming : List ℕ) (over : Bool) (source : FlatSource) (told : source.tells ≡ true → coming ≡ source.left) where
+      abbrev h2 : Held
+      h2 = record h1 { ahead = ahead; coming = coming; over = over }
+
+      abbrev d2 : Devices
+      d2 = record d1 { source = source }
+
+      -- the reads since the run began
+      reads-so : (more : ℕ) → ReadsFew h.over over d.source source h.coming coming more → ReadsFew false over entry.source source start.input coming more
+      reads-so more now = reads-on false h.over over entry.source d.source source start.input h.coming coming more waits.now.is_past.reads now
+
+      -- a line was taken
+      pub line-came : (chars : List ℕ) → TakesLine (h.ahead ++ h.coming) (ahead ++ coming) (Ok chars) → ReadsFew h.over over d.source source h.coming coming 0 → HoldsFew ahead (let r : Result (List ℕ) NoLine = Ok chars in r)
+          → TakesInput start entry h2 asking d2 chars w
+      line-came chars takes reads few = record {
+        turn = t;
+        ahead = h.ahead;
+        coming = h.coming;
+        over = h.over;
+        source = d.source;
+        is_wait = is;
+        going = ready;
+        taken = takes;
+        few = few;
+        left = told;
+        reads = reads-so 0 reads;
+        asking_is = asks-is;
+      }
+
+      -- none was
+      pub no-line-came : (e : NoLine) → TakesLine (h.ahead ++ h.coming) (ahead ++ coming) (Err e) → ReadsFew h.over over d.source source h.coming coming (failures (let r : Result (List ℕ) NoLine = Err e in r)) → HoldsFew ahead (let r : Result (List ℕ) NoLine = Err e in r)
+          → EventGives start entry h2 asking d2 (without_line e)
+      no-line-came no.Ended takes reads few =
+          inr (line-stops start entry h1 d1 asking w t is ready asks-is stop.InputEnded none h2 source takes.0 refl tt refl takes.1 told (reads-so 0 reads) (λ long. few) refl)
+      no-line-came no.TooLong takes reads few =
+          inr (line-stops start entry h1 d1 asking w t is ready asks-is stop.LineTooLong too_long h2 source takes.0 refl tt refl takes.1 told (reads-so 0 reads) (λ long. absurd (long refl)) refl)
+      no-line-came no.Failed takes reads few = inr (unread start entry h1 d1 w t ready h2 source asking is told (reads-so 1 reads) few takes refl refl asks-is)
+      no-line-came no.NoMemory takes reads few = inr (wants start entry h1 d1 (asks t w) ready h2 source asking (asks-is, is, takes) refl refl)

@@ -1,0 +1,38 @@
+-- A line that was taken is shown, and the call goes on with it.
+use Rattle.std.proofs.Common.{◌≡◌, ℕ, inr, List, if◌then◌else◌, Bool, true, false, Result, Err, refl, ap, subst, sym}
+use Rattle.gx_machine.specs.Machine.{Whole}
+use Rattle.glk_world.specs.World.{FlatWorld, after}
+use Rattle.glk_world.specs.Shown.{show_line}
+use Rattle.glk_dispatch.specs.Turns.{Awaits}
+use Rattle.glk_dispatch.specs.declared.Given.{Given}
+use Rattle.glk_dispatch.specs.declared.Given.TheVariants as given
+use Rattle.glk_dispatch.proofs.Awaited.{awaits-line}
+use Rattle.gx_session.specs.declared.ends.Halt.{Halt}
+use Rattle.gx_session.specs.declared.ends.Halt.TheVariants as halt
+use Rattle.gx_session.specs.declared.running.Running.{Running}
+use Rattle.gx_session.specs.declared.running.Waiting.{Waiting}
+use Rattle.gx_session.specs.Devices.{Devices}
+use Rattle.gx_session.specs.Session.{Configuration, goes_on}
+use Rattle.gx_session.specs.Playing.{held, asking_in, Waits, TakesInput, EventGives}
+use Rattle.gx_session.proofs.Asking.{line-wants, line-taken}
+
+-- what a call awaits is the same once a line is shown
+pub awaits-shown : (w : FlatWorld) (chars : List ℕ) (g : Given) (b : Bool) → Awaits w.scene g → Awaits (if b then after w (show_line w.scene chars) else w).scene g
+awaits-shown w chars g true is = awaits-line w.scene chars g is
+awaits-shown w chars g false is = is
+
+module _ {E : Type 0} (whole : E → Whole) (old mid : Running E) (coming chars : List ℕ) (w : Waiting) (start : Configuration) (entry d : Devices)
+    (r : TakesInput start entry (held whole old coming) (asking_in whole old) d chars w) where
+  -- the showing wants memory
+  pub line-refused : (e : Halt) → e ≡ halt.NoMemory → mid ≡ record old { world = mid.world } → EventGives start entry (held whole mid coming) (asking_in whole mid) d (Err e)
+  line-refused e memory same =
+      subst (λ (x : Halt). EventGives start entry (held whole mid coming) (asking_in whole mid) d (Err x)) (sym memory)
+      (subst (λ (x : Running E). EventGives start entry (held whole x coming) (asking_in whole x) d (Err halt.NoMemory)) (sym same)
+      (inr (line-wants start entry (held whole old coming) d (asking_in whole old) w chars r (held whole (record old { world = mid.world }) coming) refl refl)))
+
+  -- it is shown
+  pub line-shown : mid ≡ record old { world = if old.echo then after old.world (show_line old.world.scene chars) else old.world }
+      → Waits start entry (held whole mid coming) (asking_in whole mid) d (goes_on (given.Line chars) w)
+  line-shown same =
+      subst (λ (x : Running E). Waits start entry (held whole x coming) (asking_in whole x) d (goes_on (given.Line chars) w)) (sym same)
+      (line-taken start entry (held whole old coming) d (asking_in whole old) w chars r (if old.echo then after old.world (show_line old.world.scene chars) else old.world) refl)

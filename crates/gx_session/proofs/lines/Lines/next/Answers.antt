@@ -1,0 +1,95 @@
+use Rattle.std.proofs.Common.{◌≡◌, ◌+◌, ◌-◌, ◌<◌, ◌≤◌, ℕ, List, length, take, drop, get_or, Result, IfOk, false, refl, ap, subst, sym, ◌∙◌, arith, length-append}
+use Rattle.std.proofs.lemmas.List.{get_or_append_left}
+use Rattle.std.proofs.lemmas.List.Sums.{fails_before_first}
+use Rattle.std.proofs.lemmas.Result.{err_from_is_err_and}
+use Rattle.gx_session.specs.declared.lines.NoLine.{NoLine}
+use Rattle.gx_session.specs.declared.lines.TheConstants.{LONGEST, PIECE}
+use Rattle.gx_session.specs.Input.{is_line_feed, chars_of}
+use Rattle.gx_session.specs.Lines.{HeldLines}
+use Rattle.gx_session.proofs.Counting.{blames-call, well-none, well-on}
+use Rattle.gx_session.proofs.Feeding.{too-long, few-held, takes-held, takes-rest, fails, fails-few, grows, read-first}
+use Rattle.gx_session.proofs.NextLines.{pos, pos-bound}
+use Rattle.gx_session.proofs.lines.Lines.next.Goals as goal
+
+pub loop-self-init : goal.loop-self-init
+loop-self-init g c = record {
+  within = omega arith;
+  before = λ k less. absurd (omega arith);
+  few = λ start. omega arith;
+  fed = read-first c.args.self.now (g.S.Source.seen c.args.source.now);
+  whole = λ is. (refl, refl);
+  count = well-none (g.S.Source.seen c.args.source.now).calls;
+  tells = refl;
+}
+
+pub returns-then-end-ge-LONGEST-clause-takes : goal.returns-then-end-ge-LONGEST-clause-takes
+returns-then-end-ge-LONGEST-clause-takes g c =
+    let end : c.line_end-end.result ≡ pos c.loop-self.self.held = c.line_end-end.ensures.is ∙ ap pos c.held.ensures in
+    too-long c.args.self.now c.loop-self.self (g.S.Source.seen c.args.source.now) (g.S.Source.seen c.loop-self.source) c.loop-self.invariant.fed (omega arith)
+
+pub returns-then-end-held-clause-takes : goal.returns-then-end-held-clause-takes
+returns-then-end-held-clause-takes g c =
+    let end : c.line_end-end.result ≡ pos c.loop-self.self.held = c.line_end-end.ensures.is ∙ ap pos c.held.ensures in
+    let size : length c.held-in-loop-self.result.now ≡ length c.loop-self.self.held = ap length c.held-in-loop-self.ensures in
+    takes-held c.args.self.now c.loop-self.self (g.S.Source.seen c.args.source.now) (g.S.Source.seen c.loop-self.source) c.loop-self.invariant.fed c.take.new.self c.take.result (omega arith) (omega arith)
+    (subst (λ (n : ℕ). IfOk c.take.result (λ chars. (chars ≡ chars_of (take n c.loop-self.self.held)) × (c.take.new.self ≡ record c.loop-self.self { held = drop (n + 1) c.loop-self.self.held }))) end c.take.ensures.ok) c.take.ensures.err
+
+pub returns-then-end-held-clause-few : goal.returns-then-end-held-clause-few
+returns-then-end-held-clause-few g c few =
+    let end : c.line_end-end.result ≡ pos c.loop-self.self.held = c.line_end-end.ensures.is ∙ ap pos c.held.ensures in
+    let size : length c.held-in-loop-self.result.now ≡ length c.loop-self.self.held = ap length c.held-in-loop-self.ensures in
+    few-held c.args.self.now c.loop-self.self (g.S.Source.seen c.args.source.now) (g.S.Source.seen c.loop-self.source) c.loop-self.invariant.fed c.loop-self.searched c.take.new.self c.take.result (omega arith) (omega (arith, c.line_end-end.ensures.later)) (c.loop-self.invariant.few few)
+    (subst (λ (n : ℕ). IfOk c.take.result (λ chars. (chars ≡ chars_of (take n c.loop-self.self.held)) × (c.take.new.self ≡ record c.loop-self.self { held = drop (n + 1) c.loop-self.self.held }))) end c.take.ensures.ok) c.take.ensures.err
+
+pub returns-then-self-clause-takes : goal.returns-then-self-clause-takes
+returns-then-self-clause-takes g c =
+    let end : c.line_end-end.result ≡ pos c.loop-self.self.held = c.line_end-end.ensures.is ∙ ap pos c.held.ensures in
+    let size : length c.held-in-loop-self.result.now ≡ length c.loop-self.self.held = ap length c.held-in-loop-self.ensures in
+    let few : pos c.loop-self.self.held ≤ length c.loop-self.self.held = pos-bound c.loop-self.self.held in
+    takes-rest c.args.self.now c.loop-self.self (g.S.Source.seen c.args.source.now) (g.S.Source.seen c.loop-self.source) c.loop-self.invariant.fed (ap (λ (l : HeldLines). l.ended) (sym c.self.view_is) ∙ c.if-self.true) (omega arith) (omega arith)
+    c.take_rest.new.self c.take_rest.result c.take_rest.ensures.none c.take_rest.ensures.ok c.take_rest.ensures.err
+
+pub returns-in_err-fill-clause-takes : goal.returns-in_err-fill-clause-takes
+returns-in_err-fill-clause-takes g c =
+    let p = err_from_is_err_and c.from_residual.result c.from_residual.ensures.1 in
+    rw (p.1, p.2)
+    (fails c.args.self.now c.loop-self.self (g.S.Source.seen c.args.source.now) (g.S.Source.seen c.loop-self.source) c.loop-self.invariant.fed c.fill.new.self (g.S.Source.seen c.fill.new.source)
+    (ap (λ (l : HeldLines). l.ended) (sym c.self.view_is) ∙ c.if-self.false) c.fill.ensures.tells c.fill.ensures.count.made c.in_err-fill.field-0.0 c.in_err-fill.ensures.grows)
+
+pub returns-in_err-fill-clause-few : goal.returns-in_err-fill-clause-few
+returns-in_err-fill-clause-few g c few =
+    let p = err_from_is_err_and c.from_residual.result c.from_residual.ensures.1 in
+    let end : c.line_end-end.result ≡ pos c.loop-self.self.held = c.line_end-end.ensures.is ∙ ap pos c.held.ensures in
+    let size : length c.held-in-loop-self.result.now ≡ length c.loop-self.self.held = ap length c.held-in-loop-self.ensures in
+    let bound : pos c.loop-self.self.held ≤ length c.loop-self.self.held = pos-bound c.loop-self.self.held in
+    rw (p.1, p.2)
+    (fails-few c.args.self.now c.loop-self.self (g.S.Source.seen c.args.source.now) (g.S.Source.seen c.loop-self.source) c.loop-self.invariant.fed c.fill.new.self (g.S.Source.seen c.fill.new.source)
+    (ap (λ (l : HeldLines). l.ended) (sym c.self.view_is) ∙ c.if-self.false) c.fill.ensures.tells c.fill.ensures.count.made c.in_err-fill.field-0.0 c.in_err-fill.ensures.grows (omega arith) (omega arith))
+
+pub loop-self-preserved : goal.loop-self-preserved
+loop-self-preserved g c =
+    let end : c.line_end-end.result ≡ pos c.loop-self.self.held = c.line_end-end.ensures.is ∙ ap pos c.held.ensures in
+    let size : length c.held-in-loop-self.result.now ≡ length c.loop-self.self.held = ap length c.held-in-loop-self.ensures in
+    let bound : pos c.loop-self.self.held ≤ length c.loop-self.self.held = pos-bound c.loop-self.self.held in
+    let got = c.in_ok-fill.ensures.grows.0 in
+    let more = c.in_ok-fill.ensures.grows.1 in
+    let len : length c.fill.new.self.held ≡ length c.loop-self.self.held + length got = ap length more.held ∙ length-append c.loop-self.self.held got in
+    let few : length got ≤ PIECE = more.few in
+    record {
+      within = omega arith;
+      before = λ k less.
+          ap (λ (xs : List ℕ). is_line_feed (get_or xs k 0)) more.held
+          ∙ ap is_line_feed (get_or_append_left c.loop-self.self.held got 0 k (omega arith))
+          ∙ fails_before_first is_line_feed c.loop-self.self.held k 0 (omega arith);
+      few = λ start. omega arith;
+      fed = grows c.args.self.now c.loop-self.self (g.S.Source.seen c.args.source.now) (g.S.Source.seen c.loop-self.source) c.loop-self.invariant.fed c.fill.new.self (g.S.Source.seen c.fill.new.source)
+          (ap (λ (l : HeldLines). l.ended) (sym c.self.view_is) ∙ c.if-self.false) c.fill.ensures.tells c.fill.ensures.count.made got more;
+      whole = λ is.
+          let same = c.loop-self.invariant.whole is in
+          let first : pos c.args.self.now.held < length c.args.self.now.held = is in
+          let here : pos c.loop-self.self.held ≡ pos c.args.self.now.held = ap (λ (l : HeldLines). pos l.held) same.1 in
+          let size' : length c.loop-self.self.held ≡ length c.args.self.now.held = ap (λ (l : HeldLines). length l.held) same.1 in
+          absurd (omega arith);
+      count = well-on _ _ _ _ c.loop-self.invariant.count (blames-call _ _ false ⊥ c.in_ok-fill.ensures.count (λ e. absurd e) (λ e. refl)) (λ e. e);
+      tells = c.fill.ensures.tells ∙ c.loop-self.invariant.tells;
+    }

@@ -1,0 +1,9 @@
+use Rattle.gx_session.specs.Devices.{Devices}
+use Rattle.gx_session.specs.Playing.{held, asking_in}
+use Rattle.gx_session.proofs.Asking.{given-answers}
+use Rattle.gx_session.proofs.turns.take_answer.Goals as goal
+
+pub returns-clause-plays : goal.returns-clause-plays
+returns-clause-plays g c coming start entry d r =
+    c.answer.ensures.plays coming start entry d
+    (given-answers start entry (held g.E.Engine.whole c.args.run.now coming) (record d { sink = g.K.Sink.seen c.args.output.now }) (asking_in g.E.Engine.whole c.args.run.now) c.args.wait c.args.turn c.in-Answer.reply c.in-Answer.is r)

@@ -1,0 +1,28 @@
+-- The calls and the failures of the devices over a run, or a part of one.
+use Rattle.std.specs.Prelude.{◌≡◌, ◌≤◌, ◌⊎◌, ℕ, suc, true, false}
+use Rattle.gx_outside.specs.Outside.{FlatShelf, raised, raised_by}
+use Rattle.gx_outside.specs.declared.calls.Calls.{Calls}
+use Rattle.gx_session.specs.Devices.{Devices}
+use Rattle.gx_session.specs.declared.statuses.TheConstants.{SHELF_FAULT, INPUT_FAULT, OUTPUT_FAULT}
+
+-- The failures of a device don't fall. Where the run failed for its sake, one of its calls failed, the last one.
+-- Where the run didn't, none did.
+pub record Blames (before now : Calls) (failed : Type 0) : Type 0 where
+  pub later : before.faults ≤ now.faults
+  pub rose : failed → now.faults ≡ raised before.faults
+  pub last : failed → now.failing ≡ true
+  pub kept : (failed → ⊥) → now.faults ≡ before.faults
+  pub well : (failed → ⊥) → (now ≡ before) ⊎ (now.failing ≡ false)
+
+-- The failures of the three devices.
+pub record Counts (entry exit : Devices) (status : ℕ) : Type 0 where
+  pub shelf : Blames entry.shelf.calls exit.shelf.calls (status ≡ SHELF_FAULT)
+  pub source : Blames entry.source.calls exit.source.calls (status ≡ INPUT_FAULT)
+  pub sink : Blames entry.sink.calls exit.sink.calls (status ≡ OUTPUT_FAULT)
+
+-- A shelf that tells nothing was asked. What it holds then is no matter of proof, and nothing is said of what
+-- follows.
+pub record IsUntold (entry now : FlatShelf) : Type 0 where
+  pub silent : entry.tells ≡ false
+  pub calls : ℕ
+  pub asked : now.calls.made ≡ raised_by (suc calls) entry.calls.made

@@ -1,0 +1,97 @@
+-- How lines are taken of a source: what is held of it, and what is still to come.
+--
+-- A source that tells has so many bytes left. Of one that doesn't, what is to come is unknown: what is said here of a call is said of
+-- all bytes that may come after it, and gives the bytes that came before it.
+use Rattle.std.specs.Prelude.{◌≡◌, ℕ, ◌+◌, ◌<◌, ◌≤◌, List, [], ◌++◌, length, Bool, true, false, Result, Ok, Err}
+use Rattle.std.specs.List.{position_or_len}
+use Rattle.gx_outside.specs.Outside.{FlatSource, raised_by}
+use Rattle.gx_session.specs.declared.lines.NoLine.{NoLine}
+use Rattle.gx_session.specs.declared.lines.NoLine.TheVariants as no
+use Rattle.gx_session.specs.declared.lines.TheConstants.{LONGEST, PIECE}
+use Rattle.gx_session.specs.Input.{is_line_feed, too_long, none, line, next_line}
+use Rattle.gx_session.specs.Lines.{HeldLines}
+
+-- These bytes may come: those that are left, where the source tells them, and none once it has ended.
+pub record IsComing (lines : HeldLines) (source : FlatSource) (coming : List ℕ) : Type 0 where
+  pub told : source.tells ≡ true → coming ≡ source.left
+  pub over : lines.ended ≡ true → coming ≡ []
+
+-- A source that has ended has nothing left.
+abbrev pub IsOver : HeldLines → FlatSource → Type 0
+IsOver lines source = lines.ended ≡ true → source.tells ≡ true → source.left ≡ []
+
+-- Whatever comes after a call, there is what came before it, so that the call relates them so.
+pub record Fed (old new : HeldLines) (before now : FlatSource) (P : List ℕ → List ℕ → Type 0) : Type 0 where
+  pub over : IsOver old before → IsOver new now
+  pub comes : (after : List ℕ) → IsComing new now after → (coming : List ℕ) × IsComing old before coming × P coming after
+
+-- a line feed is held
+abbrev pub IsWhole : List ℕ → Type 0
+IsWhole held = position_or_len is_line_feed held < length held
+
+-- none is, and the bytes are not too many for a line
+abbrev pub IsPartial : List ℕ → Type 0
+IsPartial held = (position_or_len is_line_feed held ≡ length held) × (length held < LONGEST)
+
+-- what the taking of a line makes of the input
+abbrev pub TakesLine : List ℕ → List ℕ → Result (List ℕ) NoLine → Type 0
+TakesLine old new (Ok chars) = next_line old ≡ line chars new
+TakesLine old new (Err no.Ended) = (next_line old ≡ none) × (new ≡ old)
+TakesLine old new (Err no.TooLong) = (next_line old ≡ too_long) × (new ≡ old)
+TakesLine old new (Err no.Failed) = new ≡ old
+TakesLine old new (Err no.NoMemory) = 0 < length old
+
+-- how much is held once a line was taken, or not
+abbrev pub HoldsFew : List ℕ → Result (List ℕ) NoLine → Type 0
+HoldsFew held (Ok chars) = length held < PIECE
+HoldsFew held (Err no.Ended) = length held < PIECE
+HoldsFew held (Err no.Failed) = IsPartial held
+HoldsFew held (Err e) = Unit {0}
+
+-- One piece was read, and nothing only at the end.
+pub record GrowsBy (old new : HeldLines) (before now : FlatSource) (got : List ℕ) : Type 0 where
+  pub held : new.held ≡ old.held ++ got
+  pub few : length got ≤ PIECE
+  pub more : new.ended ≡ false → 0 < length got
+  pub end : new.ended ≡ true → got ≡ []
+  pub over : IsOver new now
+  pub comes : (after : List ℕ) → IsComing new now after → IsComing old before (got ++ after)
+
+-- Some bytes were read, and lost for want of memory.
+pub record Loses (old new : HeldLines) (before now : FlatSource) (got : List ℕ) : Type 0 where
+  pub some : 0 < length got
+  pub going : new.ended ≡ false
+  pub comes : (after : List ℕ) → IsComing new now after → IsComing old before (got ++ after)
+
+-- One more read may say that nothing is left, until one has.
+abbrev pub spare : Bool → ℕ
+spare true = 0
+spare false = 1
+
+-- So many reads were made, each of which gave something or said that nothing is left.
+pub record ReadsFew (ended over : Bool) (before now : FlatSource) (coming after : List ℕ) (more : ℕ) : Type 0 where
+  pub reads : ℕ
+  pub made : now.calls.made ≡ raised_by reads before.calls.made
+  pub few : reads + length after + spare over ≤ length coming + spare ended + more
+
+-- the read that failed gave nothing
+abbrev pub failures : Result (List ℕ) NoLine → ℕ
+failures (Err no.Failed) = 1
+failures r = 0
+
+-- A line was taken, or not, with few reads.
+pub record Takes (old new : HeldLines) (before now : FlatSource) (coming after : List ℕ) (result : Result (List ℕ) NoLine) : Type 0 where
+  pub line : TakesLine (old.held ++ coming) (new.held ++ after) result
+  pub reads : ReadsFew old.ended new.ended before now coming after (failures result)
+
+-- what a read does
+abbrev pub Fills : HeldLines → HeldLines → FlatSource → FlatSource → Result (Unit {0}) NoLine → Type 0
+Fills old new before now (Ok u) = (got : List ℕ) × GrowsBy old new before now got
+Fills old new before now (Err no.Failed) = (new ≡ old) × (before.tells ≡ true → now.left ≡ before.left)
+Fills old new before now (Err no.NoMemory) = (got : List ℕ) × Loses old new before now got
+Fills old new before now (Err e) = ⊥
+
+-- the source failed
+abbrev pub is_failed : Result (Unit {0}) NoLine → Bool
+is_failed (Err no.Failed) = true
+is_failed r = false

@@ -1,0 +1,193 @@
+//! A run from its first event to its end.
+ghost use Rattle.std.specs.Prelude.{◌≡◌, ◌≢◌, ◌≤◌, ◌<◌, ◌⊎◌, ℕ, List, None, Ok, Err, IfOk, IfErr};
+ghost use Rattle.std.specs.Option.{option_to_list};
+ghost use Rattle.gx_state.specs.declared.effects.Effect.TheVariants.{Spent};
+ghost use Rattle.gx_machine.specs.Step.{asking_of};
+ghost use Rattle.gx_session.specs.Endings.{file_of};
+ghost use Rattle.gx_session.specs.declared.ends.Stop.{Stop};
+ghost use Rattle.gx_session.specs.Devices.{Devices, devices};
+ghost use Rattle.gx_session.specs.Endings.{stores_of};
+ghost use Rattle.gx_session.specs.Reading.{Fed};
+ghost use Rattle.gx_session.specs.Session.{Configuration};
+ghost use Rattle.gx_session.specs.Playing.{held, asking_in, Going, Follows, Done, EventGives, StopGives, EndingGives, RunGives, IsStop, IsNext, Leads, Keeps, Stores, StoresFiles};
+
+use crate::ends::{Halt, Next, Stop};
+use crate::running::{Running, Waiting, draw, faulted, flush};
+use crate::turns::{ask_glk, ask_put};
+use glk_world::World;
+use gx_machine::Engine;
+use gx_outside::{Shelf, Sink, Source};
+use gx_state::Effect;
+use rand_core::Rng;
+use std::alloc::{Allocator, Global};
+
+/// Follows the effect of a step that leaves so many units.
+fn follow<A: Allocator + Clone, E: Engine<A>, S: Source, K: Sink, F: Shelf>(
+    run: &mut Running<E>,
+    input: &mut S,
+    output: &mut K,
+    shelf: &mut F,
+    effect: Effect,
+    left: u64,
+) -> Result<Next, Halt>
+    requires asks { (E.whole run.old.engine).asking ≡ asking_of effect }
+    requires fewer { left ≤ run.old.left }
+    ensures plays { Fed run.old.lines run.new.lines (S.seen input.old) (S.seen input.new) (λ coming after. (start : Configuration) (entry d : Devices)
+        → Follows start entry (held E.whole run.old coming) (record d { source = S.seen input.old; sink = K.seen output.old; shelf = F.seen shelf.old }) left effect
+        → EventGives start entry (held E.whole run.new after) (asking_in E.whole run.new) (record d { source = S.seen input.new; sink = K.seen output.new; shelf = F.seen shelf.new }) result) }
+    ensures goes { result ≡ Ok Next.Goes → effect ≢ Spent }
+    ensures leads { Leads E.whole run.old run.new left result }
+    ensures keeps { (d : Devices) → Keeps (record d { source = S.seen input.old; sink = K.seen output.old; shelf = F.seen shelf.old }) (record d { source = S.seen input.new; sink = K.seen output.new; shelf = F.seen shelf.new }) result }
+{
+    match effect {
+        Effect::Went => {
+            run.left = left;
+            Ok(Next::Goes)
+        }
+        Effect::Drew => {
+            run.word = None;
+            run.left = left;
+            Ok(Next::Goes)
+        }
+        Effect::Put(c) => ask_put(run, output, c, left),
+        Effect::Glk {
+            selector,
+            args,
+            room,
+        } => ask_glk(
+            run,
+            input,
+            output,
+            shelf,
+            selector,
+            &args,
+            Waiting { room, left },
+        ),
+        Effect::Quit => {
+            run.left = left;
+            Ok(Next::Stops(Stop::Ended))
+        }
+        Effect::Spent => {
+            run.left = left;
+            Ok(Next::Stops(Stop::Spent))
+        }
+    }
+}
+
+/// Steps that ask nothing, and then one event: a step, and the answer to what it asks.
+fn play_event<A: Allocator + Clone, E: Engine<A>, S: Source, K: Sink, F: Shelf, R: Rng>(
+    run: &mut Running<E>,
+    input: &mut S,
+    output: &mut K,
+    shelf: &mut F,
+    dice: &mut R,
+) -> Result<Next, Halt>
+    requires none { (E.whole run.old.engine).asking ≡ None }
+    ensures plays { Fed run.old.lines run.new.lines (S.seen input.old) (S.seen input.new) (λ coming after. (start : Configuration) (entry : Devices)
+        → Going start entry (held E.whole run.old coming) (devices (S.seen input.old) (K.seen output.old) (F.seen shelf.old) (R.stream dice.old))
+        → EventGives start entry (held E.whole run.new after) (asking_in E.whole run.new) (devices (S.seen input.new) (K.seen output.new) (F.seen shelf.new) (R.stream dice.new)) result) }
+    ensures none { result ≡ Ok Next.Goes → (E.whole run.new.engine).asking ≡ None }
+    ensures nearer { result ≡ Ok Next.Goes → run.new.left < run.old.left }
+    ensures no_more { run.new.left ≤ run.old.left }
+    ensures stop { IfOk result IsNext }
+    ensures keeps { Keeps (devices (S.seen input.old) (K.seen output.old) (F.seen shelf.old) (R.stream dice.old)) (devices (S.seen input.new) (K.seen output.new) (F.seen shelf.new) (R.stream dice.new)) result }
+{
+    let word = draw(&mut run.word, dice);
+    let mut left = 0;
+    match run.engine.advance(word, &mut run.left, &mut left) {
+        Err(fault) => faulted(fault),
+        Ok(effect) => follow(run, input, output, shelf, effect, left),
+    }
+}
+
+/// Events until the session stops, or the run is cut short.
+fn play_events<A: Allocator + Clone, E: Engine<A>, S: Source, K: Sink, F: Shelf, R: Rng>(
+    run: &mut Running<E>,
+    input: &mut S,
+    output: &mut K,
+    shelf: &mut F,
+    dice: &mut R,
+) -> Result<Stop, Halt>
+    requires none { (E.whole run.old.engine).asking ≡ None }
+    ensures plays { Fed run.old.lines run.new.lines (S.seen input.old) (S.seen input.new) (λ coming after. (start : Configuration) (entry : Devices)
+        → Going start entry (held E.whole run.old coming) (devices (S.seen input.old) (K.seen output.old) (F.seen shelf.old) (R.stream dice.old))
+        → StopGives start entry (held E.whole run.new after) (asking_in E.whole run.new) (devices (S.seen input.new) (K.seen output.new) (F.seen shelf.new) (R.stream dice.new)) result) }
+    ensures no_more { run.new.left ≤ run.old.left }
+    ensures stop { IfOk result IsStop }
+    ensures keeps { Keeps (devices (S.seen input.old) (K.seen output.old) (F.seen shelf.old) (R.stream dice.old)) (devices (S.seen input.new) (K.seen output.new) (F.seen shelf.new) (R.stream dice.new)) result }
+{
+    loop {
+        match play_event(run, input, output, shelf, dice)? {
+            Next::Stops(stop) => return Ok(stop),
+            Next::Goes => {}
+        }
+    }
+}
+
+/// Stores a file stream's file, where it has one.
+fn store_file<F: Shelf>(world: &World, id: u32, shelf: &mut F) -> Result<(), Halt>
+    ensures stores { Stores (option_to_list (file_of world.now.scene id)) (F.seen shelf.old) (F.seen shelf.new) result }
+    ensures tells { (F.seen shelf.new).tells ≡ (F.seen shelf.old).tells }
+    ensures keeps { (d : Devices) → Keeps (record d { shelf = F.seen shelf.old }) (record d { shelf = F.seen shelf.new }) result }
+    ensures only { IfErr result (λ halt. (halt ≡ Halt.Shelf) ⊎ (halt ≡ Halt.NoMemory)) }
+{
+    match world.file(id) {
+        None => Ok(()),
+        Some((name, bytes)) => {
+            shelf.store(name, bytes)?;
+            Ok(())
+        }
+    }
+}
+
+/// Stores the file of each file stream that is open for writing, in order of creation.
+fn store_files<F: Shelf>(alloc: Global, world: &World, shelf: &mut F) -> Result<(), Halt>
+    ensures stores { StoresFiles (stores_of world.now.scene) (F.seen shelf.old) (F.seen shelf.new) result }
+    ensures keeps { (d : Devices) → Keeps (record d { shelf = F.seen shelf.old }) (record d { shelf = F.seen shelf.new }) result }
+    ensures only { IfErr result (λ halt. (halt ≡ Halt.Shelf) ⊎ (halt ≡ Halt.NoMemory)) }
+{
+    let ids = world.open_files(alloc)?;
+    for id in ids.as_slice() {
+        store_file(world, *id, shelf)?;
+    }
+    Ok(())
+}
+
+/// The ending: the pending text is sent, and then the open files are stored.
+fn end<A: Allocator + Clone, E: Engine<A>, K: Sink, F: Shelf>(
+    alloc: Global,
+    run: &mut Running<E>,
+    output: &mut K,
+    shelf: &mut F,
+) -> Result<(), Halt>
+    ensures plays { (coming : List ℕ) (start : Configuration) (entry d : Devices) (stop : Stop)
+        → Done start entry (held E.whole run.old coming) (asking_in E.whole run.old) (record d { sink = K.seen output.old; shelf = F.seen shelf.old }) stop
+        → EndingGives start entry (held E.whole run.new coming) (asking_in E.whole run.new) (record d { sink = K.seen output.new; shelf = F.seen shelf.new }) stop result }
+    ensures same { run.new ≡ record run.old { world = run.new.world } }
+    ensures keeps { (d : Devices) → Keeps (record d { sink = K.seen output.old; shelf = F.seen shelf.old }) (record d { sink = K.seen output.new; shelf = F.seen shelf.new }) result }
+{
+    flush(&mut run.world, output, 1)?;
+    store_files(alloc, &run.world, shelf)
+}
+
+/// A whole run: its events, and its ending.
+pub fn play_out<A: Allocator + Clone, E: Engine<A>, S: Source, K: Sink, F: Shelf, R: Rng>(
+    alloc: Global,
+    run: &mut Running<E>,
+    input: &mut S,
+    output: &mut K,
+    shelf: &mut F,
+    dice: &mut R,
+) -> Result<Stop, Halt>
+    requires none { (E.whole run.old.engine).asking ≡ None }
+    ensures plays { Fed run.old.lines run.new.lines (S.seen input.old) (S.seen input.new) (λ coming after. (start : Configuration) (entry : Devices)
+        → Going start entry (held E.whole run.old coming) (devices (S.seen input.old) (K.seen output.old) (F.seen shelf.old) (R.stream dice.old))
+        → RunGives start entry (held E.whole run.new after) (asking_in E.whole run.new) (devices (S.seen input.new) (K.seen output.new) (F.seen shelf.new) (R.stream dice.new)) result) }
+    ensures no_more { run.new.left ≤ run.old.left }
+    ensures stop { IfOk result IsStop }
+    ensures keeps { Keeps (devices (S.seen input.old) (K.seen output.old) (F.seen shelf.old) (R.stream dice.old)) (devices (S.seen input.new) (K.seen output.new) (F.seen shelf.new) (R.stream dice.new)) result }
+{
+    let stop = play_events(run, input, output, shelf, dice)?;
+    end(alloc, run, output, shelf)?;
+    Ok(stop)
+}

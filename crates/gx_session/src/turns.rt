@@ -1,0 +1,277 @@
+//! The Glk calls of a machine: their turns, and what these ask of the shelf and of the input.
+ghost use Rattle.std.specs.Prelude.{◌≡◌, ◌≤◌, ℕ, List, Some, IfErr, OnOk, OnErr, if◌then◌else◌};
+ghost use Rattle.gx_state.specs.declared.effects.Effect.TheVariants.{Put, Glk};
+ghost use Rattle.gx_machine.specs.declared.askings.Asking.TheVariants as asking;
+ghost use Rattle.gx_machine.specs.Step.{asking_of};
+ghost use Rattle.glk_world.specs.World.{after};
+ghost use Rattle.glk_world.specs.Shown.{show_grids, show_line};
+ghost use Rattle.glk_dispatch.specs.declared.Given.{Given};
+ghost use Rattle.glk_dispatch.specs.declared.Given.TheVariants as given;
+ghost use Rattle.glk_dispatch.specs.declared.Turn.{Turn};
+ghost use Rattle.glk_dispatch.specs.Turns.{IsTurnFor, IsAnswered, IsGivenFor, Awaits};
+ghost use Rattle.gx_session.specs.Cuts.{IsWait};
+ghost use Rattle.gx_session.specs.Devices.{Devices};
+ghost use Rattle.gx_session.specs.Questions.{turn_of};
+ghost use Rattle.gx_session.specs.Reading.{Fed};
+ghost use Rattle.gx_session.specs.Session.{Configuration, asks, goes_on};
+ghost use Rattle.gx_session.specs.Playing.{held, asking_in, Follows, Waits, Turns, GoesOn, TakesInput, EventGives, Leads, Keeps, without_line};
+
+use crate::ends::{Halt, Next, Stop};
+use crate::lines::NoLine;
+use crate::questions::Question;
+use crate::running::{Running, Waiting, answer, faulted, flush};
+use arrayvec::ArrayVec;
+use glk_dispatch::{Given, Turn};
+use gx_machine::Engine;
+use gx_outside::{Shelf, Sink, Source};
+use gx_words::Numbers;
+use std::alloc::Allocator;
+
+/// Puts a character to Glk.
+pub fn ask_put<A: Allocator + Clone, E: Engine<A>, K: Sink>(
+    run: &mut Running<E>,
+    output: &mut K,
+    c: u32,
+    left: u64,
+) -> Result<Next, Halt>
+    requires asks { (E.whole run.old.engine).asking ≡ asking_of (Put c) }
+    requires fewer { left ≤ run.old.left }
+    ensures plays { (coming : List ℕ) (start : Configuration) (entry d : Devices)
+        → Follows start entry (held E.whole run.old coming) (record d { sink = K.seen output.old }) left (Put c)
+        → EventGives start entry (held E.whole run.new coming) (asking_in E.whole run.new) (record d { sink = K.seen output.new }) result }
+    ensures leads { Leads E.whole run.old run.new left result }
+    ensures keeps { (d : Devices) → Keeps (record d { sink = K.seen output.old }) (record d { sink = K.seen output.new }) result }
+    ensures lines { run.new.lines ≡ run.old.lines }
+{
+    match glk_dispatch::put(&mut run.world, run.engine.state(), c) {
+        Err(fault) => faulted(fault),
+        Ok(reply) => answer(run, output, &reply, left),
+    }
+}
+
+/// Takes the answer of a Glk call that went on.
+fn take_answer<A: Allocator + Clone, E: Engine<A>, K: Sink>(
+    run: &mut Running<E>,
+    output: &mut K,
+    turn: Turn,
+    wait: Waiting,
+) -> Result<Next, Halt>
+    requires asks { (E.whole run.old.engine).asking ≡ Some (asking.Glk wait.room) }
+    requires answered { IsAnswered turn }
+    requires fits { IsTurnFor (E.whole run.old.engine).machine.flat wait.room turn }
+    requires fewer { wait.left ≤ run.old.left }
+    ensures plays { (coming : List ℕ) (start : Configuration) (entry d : Devices)
+        → GoesOn start entry (held E.whole run.old coming) (asking_in E.whole run.old) (record d { sink = K.seen output.old }) wait turn
+        → EventGives start entry (held E.whole run.new coming) (asking_in E.whole run.new) (record d { sink = K.seen output.new }) result }
+    ensures leads { Leads E.whole run.old run.new wait.left result }
+    ensures keeps { (d : Devices) → Keeps (record d { sink = K.seen output.old }) (record d { sink = K.seen output.new }) result }
+    ensures lines { run.new.lines ≡ run.old.lines }
+{
+    match turn {
+        Turn::Answer(reply) => answer(run, output, &reply, wait.left),
+        _ => unreachable!(),
+    }
+}
+
+/// Goes on with a Glk call that waits.
+fn go_on<A: Allocator + Clone, E: Engine<A>, K: Sink>(
+    run: &mut Running<E>,
+    output: &mut K,
+    given: Given,
+    wait: Waiting,
+) -> Result<Next, Halt>
+    requires asks { (E.whole run.old.engine).asking ≡ Some (asking.Glk wait.room) }
+    requires awaits { Awaits run.old.world.scene given }
+    requires fewer { wait.left ≤ run.old.left }
+    ensures plays { (coming : List ℕ) (start : Configuration) (entry d : Devices)
+        → Waits start entry (held E.whole run.old coming) (asking_in E.whole run.old) (record d { sink = K.seen output.old }) (goes_on given wait)
+        → EventGives start entry (held E.whole run.new coming) (asking_in E.whole run.new) (record d { sink = K.seen output.new }) result }
+    ensures leads { Leads E.whole run.old run.new wait.left result }
+    ensures keeps { (d : Devices) → Keeps (record d { sink = K.seen output.old }) (record d { sink = K.seen output.new }) result }
+    ensures lines { run.new.lines ≡ run.old.lines }
+{
+    match glk_dispatch::go_on(&mut run.world, run.engine.state(), wait.room, given) {
+        Err(fault) => faulted(fault),
+        Ok(turn) => take_answer(run, output, turn, wait),
+    }
+}
+
+/// Asks the shelf, once the pending text is sent.
+fn consult<A: Allocator + Clone, E: Engine<A>, K: Sink, F: Shelf>(
+    run: &mut Running<E>,
+    output: &mut K,
+    shelf: &mut F,
+    question: Question,
+    wait: Waiting,
+) -> Result<Next, Halt>
+    requires asks { (E.whole run.old.engine).asking ≡ Some (asking.Glk wait.room) }
+    requires awaits { (given : Given) → IsGivenFor (turn_of question) given → Awaits run.old.world.scene given }
+    requires fewer { wait.left ≤ run.old.left }
+    ensures plays { (coming : List ℕ) (start : Configuration) (entry d : Devices)
+        → Waits start entry (held E.whole run.old coming) (asking_in E.whole run.old) (record d { sink = K.seen output.old; shelf = F.seen shelf.old }) (asks (turn_of question) wait)
+        → EventGives start entry (held E.whole run.new coming) (asking_in E.whole run.new) (record d { sink = K.seen output.new; shelf = F.seen shelf.new }) result }
+    ensures leads { Leads E.whole run.old run.new wait.left result }
+    ensures keeps { (d : Devices) → Keeps (record d { sink = K.seen output.old; shelf = F.seen shelf.old }) (record d { sink = K.seen output.new; shelf = F.seen shelf.new }) result }
+    ensures lines { run.new.lines ≡ run.old.lines }
+{
+    flush(&mut run.world, output, 1)?;
+    let given = question.ask(shelf)?;
+    go_on(run, output, given, wait)
+}
+
+/// Shows a line where lines are shown.
+fn show_line<E>(run: &mut Running<E>, line: &Numbers) -> Result<(), Halt>
+    ensures shown { OnOk result (run.new ≡ record run.old { world = if run.old.echo then after run.old.world (show_line run.old.world.scene line.now) else run.old.world }) }
+    ensures err { OnErr result (run.new ≡ record run.old { world = run.new.world }) }
+    ensures memory { IfErr result (λ halt. halt ≡ Halt.NoMemory) }
+{
+    if run.echo {
+        run.world.show_line(line)?;
+    }
+    Ok(())
+}
+
+/// Goes on with a line that was taken.
+fn take_line<A: Allocator + Clone, E: Engine<A>, K: Sink>(
+    run: &mut Running<E>,
+    output: &mut K,
+    line: Numbers,
+    wait: Waiting,
+) -> Result<Next, Halt>
+    requires asks { (E.whole run.old.engine).asking ≡ Some (asking.Glk wait.room) }
+    requires awaits { Awaits run.old.world.scene (given.Line line) }
+    requires fewer { wait.left ≤ run.old.left }
+    ensures plays { (coming : List ℕ) (start : Configuration) (entry d : Devices)
+        → TakesInput start entry (held E.whole run.old coming) (asking_in E.whole run.old) (record d { sink = K.seen output.old }) line wait
+        → EventGives start entry (held E.whole run.new coming) (asking_in E.whole run.new) (record d { sink = K.seen output.new }) result }
+    ensures leads { Leads E.whole run.old run.new wait.left result }
+    ensures keeps { (d : Devices) → Keeps (record d { sink = K.seen output.old }) (record d { sink = K.seen output.new }) result }
+    ensures lines { run.new.lines ≡ run.old.lines }
+{
+    show_line(run, &line)?;
+    go_on(run, output, Given::Line(line), wait)
+}
+
+/// What it is to a run that no line was taken.
+fn without_line(none: NoLine) -> Result<Next, Halt>
+    ensures { result ≡ without_line none }
+{
+    match none {
+        NoLine::Ended => Ok(Next::Stops(Stop::InputEnded)),
+        NoLine::TooLong => Ok(Next::Stops(Stop::LineTooLong)),
+        NoLine::Failed => Err(Halt::Input),
+        NoLine::NoMemory => Err(Halt::NoMemory),
+    }
+}
+
+/// Takes the next line of the input, once the pending text is sent.
+fn await_line<A: Allocator + Clone, E: Engine<A>, S: Source, K: Sink>(
+    run: &mut Running<E>,
+    input: &mut S,
+    output: &mut K,
+    wait: Waiting,
+) -> Result<Next, Halt>
+    requires asks { (E.whole run.old.engine).asking ≡ Some (asking.Glk wait.room) }
+    requires awaits { (line : List ℕ) → Awaits run.old.world.scene (given.Line line) }
+    requires fewer { wait.left ≤ run.old.left }
+    ensures plays { Fed run.old.lines run.new.lines (S.seen input.old) (S.seen input.new) (λ coming after. (turn : Turn) (start : Configuration) (entry d : Devices)
+        → IsWait turn
+        → Waits start entry (held E.whole run.old coming) (asking_in E.whole run.old) (record d { source = S.seen input.old; sink = K.seen output.old }) (asks turn wait)
+        → EventGives start entry (held E.whole run.new after) (asking_in E.whole run.new) (record d { source = S.seen input.new; sink = K.seen output.new }) result) }
+    ensures leads { Leads E.whole run.old run.new wait.left result }
+    ensures keeps { (d : Devices) → Keeps (record d { source = S.seen input.old; sink = K.seen output.old }) (record d { source = S.seen input.new; sink = K.seen output.new }) result }
+{
+    flush(&mut run.world, output, 1)?;
+    match run.lines.next(input) {
+        Ok(line) => take_line(run, output, line, wait),
+        Err(none) => without_line(none),
+    }
+}
+
+/// Waits for a line: the grids that have changed are shown, and then it is taken.
+fn wait_for_line<A: Allocator + Clone, E: Engine<A>, S: Source, K: Sink>(
+    run: &mut Running<E>,
+    input: &mut S,
+    output: &mut K,
+    wait: Waiting,
+) -> Result<Next, Halt>
+    requires asks { (E.whole run.old.engine).asking ≡ Some (asking.Glk wait.room) }
+    requires awaits { (line : List ℕ) → Awaits run.old.world.scene (given.Line line) }
+    requires fewer { wait.left ≤ run.old.left }
+    ensures plays { Fed run.old.lines run.new.lines (S.seen input.old) (S.seen input.new) (λ coming after. (turn : Turn) (start : Configuration) (entry d : Devices)
+        → IsWait turn
+        → Turns start entry (held E.whole run.old coming) (asking_in E.whole run.old) (record d { source = S.seen input.old; sink = K.seen output.old }) wait turn
+        → EventGives start entry (held E.whole run.new after) (asking_in E.whole run.new) (record d { source = S.seen input.new; sink = K.seen output.new }) result) }
+    ensures leads { Leads E.whole run.old run.new wait.left result }
+    ensures keeps { (d : Devices) → Keeps (record d { source = S.seen input.old; sink = K.seen output.old }) (record d { source = S.seen input.new; sink = K.seen output.new }) result }
+{
+    run.world.show_grids()?;
+    await_line(run, input, output, wait)
+}
+
+/// Follows the turn that a Glk call comes to.
+fn take_turn<A: Allocator + Clone, E: Engine<A>, S: Source, K: Sink, F: Shelf>(
+    run: &mut Running<E>,
+    input: &mut S,
+    output: &mut K,
+    shelf: &mut F,
+    turn: Turn,
+    wait: Waiting,
+) -> Result<Next, Halt>
+    requires asks { (E.whole run.old.engine).asking ≡ Some (asking.Glk wait.room) }
+    requires awaits { (given : Given) → IsGivenFor turn given → Awaits run.old.world.scene given }
+    requires fits { IsTurnFor (E.whole run.old.engine).machine.flat wait.room turn }
+    requires fewer { wait.left ≤ run.old.left }
+    ensures plays { Fed run.old.lines run.new.lines (S.seen input.old) (S.seen input.new) (λ coming after. (start : Configuration) (entry d : Devices)
+        → Turns start entry (held E.whole run.old coming) (asking_in E.whole run.old) (record d { source = S.seen input.old; sink = K.seen output.old; shelf = F.seen shelf.old }) wait turn
+        → EventGives start entry (held E.whole run.new after) (asking_in E.whole run.new) (record d { source = S.seen input.new; sink = K.seen output.new; shelf = F.seen shelf.new }) result) }
+    ensures leads { Leads E.whole run.old run.new wait.left result }
+    ensures keeps { (d : Devices) → Keeps (record d { source = S.seen input.old; sink = K.seen output.old; shelf = F.seen shelf.old }) (record d { source = S.seen input.new; sink = K.seen output.new; shelf = F.seen shelf.new }) result }
+{
+    match turn {
+        Turn::Answer(reply) => answer(run, output, &reply, wait.left),
+        Turn::Wait => wait_for_line(run, input, output, wait),
+        Turn::Stuck => Ok(Next::Stops(Stop::Stuck)),
+        Turn::Prompt => wait_for_line(run, input, output, wait),
+        Turn::Load(name) => consult(run, output, shelf, Question::Load(name), wait),
+        Turn::Store(name, bytes) => {
+            consult(run, output, shelf, Question::Store(name, bytes), wait)
+        }
+        Turn::Remove(name) => consult(run, output, shelf, Question::Remove(name), wait),
+        Turn::Has(name) => consult(run, output, shelf, Question::Has(name), wait),
+        Turn::Exit => {
+            run.left = wait.left;
+            Ok(Next::Stops(Stop::Exited))
+        }
+    }
+}
+
+/// Makes a Glk call.
+pub fn ask_glk<A: Allocator + Clone, E: Engine<A>, S: Source, K: Sink, F: Shelf>(
+    run: &mut Running<E>,
+    input: &mut S,
+    output: &mut K,
+    shelf: &mut F,
+    selector: u32,
+    args: &ArrayVec<u32, 8>,
+    wait: Waiting,
+) -> Result<Next, Halt>
+    requires asks { (E.whole run.old.engine).asking ≡ asking_of (Glk selector args.now wait.room) }
+    requires fewer { wait.left ≤ run.old.left }
+    ensures plays { Fed run.old.lines run.new.lines (S.seen input.old) (S.seen input.new) (λ coming after. (start : Configuration) (entry d : Devices)
+        → Follows start entry (held E.whole run.old coming) (record d { source = S.seen input.old; sink = K.seen output.old; shelf = F.seen shelf.old }) wait.left (Glk selector args.now wait.room)
+        → EventGives start entry (held E.whole run.new after) (asking_in E.whole run.new) (record d { source = S.seen input.new; sink = K.seen output.new; shelf = F.seen shelf.new }) result) }
+    ensures leads { Leads E.whole run.old run.new wait.left result }
+    ensures keeps { (d : Devices) → Keeps (record d { source = S.seen input.old; sink = K.seen output.old; shelf = F.seen shelf.old }) (record d { source = S.seen input.new; sink = K.seen output.new; shelf = F.seen shelf.new }) result }
+{
+    match glk_dispatch::call(
+        &mut run.world,
+        run.engine.state(),
+        wait.room,
+        selector,
+        args.as_slice(),
+    ) {
+        Err(fault) => faulted(fault),
+        Ok(turn) => take_turn(run, input, output, shelf, turn, wait),
+    }
+}

@@ -1,0 +1,146 @@
+//! Copies of the state as lists of bytes, as they are written to a file and read from it (Glulx 3.1.2, "Saved
+//! Games"), and the way back to them.
+//!
+//! Contracts see such a copy as they see a `Moment`: as memory, the stack with the stub of a store operand on top,
+//! and the heap. What may be refused comes first, so that the state is as before after every refusal.
+ghost use Rattle.std.specs.Prelude.{◌≡◌, ◌+◌, ◌-◌, ◌<◌, ◌≤◌, ◌==◌, if◌then◌else◌, Some, None, length, take, IfOk, OnOk, OnErr};
+ghost use Rattle.gx_pages.specs.Memory.{put_back_of};
+ghost use Rattle.gx_stack.specs.Stubs.{stub_below};
+ghost use Rattle.gx_state.specs.Flat.{IsHeight, cut, sp_of};
+ghost use Rattle.gx_state.specs.Copies.{IsCopyFor, HasPlaceFor, copy_of, gone_back, stub_in};
+ghost use Rattle.gx_state.specs.Returns.{wrote};
+
+use crate::copies::MINUS_ONE;
+use crate::{Dest, State};
+use gx_pages::Pages;
+use gx_stack::{Stub, TO_MEMORY};
+use gx_words::{Blocks, Bytes, word_at, word_bytes};
+use heap_blocks::Heap;
+use std::alloc::{AllocError, Allocator, Global};
+use std::marker::Model;
+
+/// A copy whose memory, stack and blocks are lists: memory whole, the stack with a stub on top, the heap's start, and
+/// the address and the length of each of its blocks. The start is 0 where there is no block.
+#[derive(Drop)]
+pub struct FlatCopy {
+    pub memory: Bytes,
+    pub stack: Bytes,
+    pub heap: u32,
+    pub blocks: Blocks,
+}
+
+impl Model for FlatCopy {
+    ghost use Rattle.gx_state.specs.Copies.{Copy};
+
+    ghost Value = { Copy };
+
+    ghost use Rattle.gx_state.specs.FlatCopies.{copy_in};
+
+    ghost view = { copy_in };
+}
+
+/// The stub on top of a stack.
+pub fn stub_on_top(stack: &[u8]) -> Stub
+    requires { 16 ≤ length stack.now }
+    ensures { result ≡ stub_below stack.now (length stack.now) }
+{
+    let sp = stack.len();
+    Stub {
+        kind: word_at(stack, sp - 16),
+        addr: word_at(stack, sp - 12),
+        pc: word_at(stack, sp - 8),
+        fp: word_at(stack, sp - 4),
+    }
+}
+
+impl<A: Allocator + Clone> State<A> {
+    /// A copy of the state after its stack was cut to `sp`, with the stub of a store operand on top; `next` is the
+    /// address at which the machine goes on. It is fit for the story where the operand takes a word.
+    #[tactic(auto, using(crate::proofs::FlatCopies::stub_cut))]
+    pub fn flat(
+        &self,
+        alloc: Global,
+        dest: &Dest,
+        next: u32,
+        sp: u32,
+    ) -> Result<FlatCopy, AllocError>
+        requires height { IsHeight self.now.flat sp }
+        requires room { sp + 16 ≤ self.now.flat.stack.limit }
+        ensures value { IfOk result (λ copy. copy ≡ copy_of (cut self.now.flat sp) dest.now next) }
+        ensures fit { HasPlaceFor self.now.flat dest.now → IfOk result (λ copy. IsCopyFor self.now.flat.story copy) }
+    {
+        let memory = self.memory_bytes(alloc)?;
+        let mut stack = self.stack.copy(alloc)?;
+        stack.truncate(sp as usize);
+        stack.extend_from_slice(&self.stub(dest, next).bytes())?;
+        let blocks = self.heap_list(alloc)?;
+        Ok(FlatCopy {
+            memory,
+            stack,
+            heap: self.heap.start(),
+            blocks,
+        })
+    }
+
+    /// All bytes of memory.
+    fn memory_bytes(&self, alloc: Global) -> Result<Bytes, AllocError>
+        ensures { IfOk result (λ bytes. bytes ≡ self.now.flat.memory) }
+    {
+        let mut bytes = Bytes::new(alloc);
+        for at in 0..self.memory.size() {
+            bytes.push(self.memory.byte(at) as u8)?;
+        }
+        Ok(bytes)
+    }
+
+    /// The blocks of the heap.
+    fn heap_list(&self, alloc: Global) -> Result<Blocks, AllocError>
+        ensures { IfOk result (λ blocks. blocks ≡ self.now.flat.heap.blocks) }
+    {
+        let mut blocks = Blocks::new(alloc);
+        for block in self.heap.blocks() {
+            blocks.push(*block)?;
+        }
+        Ok(blocks)
+    }
+
+    /// Goes back to a copy, and delivers -1 to its stub. The protected range keeps its bytes, and the
+    /// decoding table, the iosystem and the generator stay.
+    #[tactic(auto, using(crate::proofs::FlatCopies::backs))]
+    pub fn with_bytes(&mut self, copy: &FlatCopy) -> Result<(), AllocError>
+        requires { IsCopyFor self.old.flat.story copy.now }
+        ensures ok { OnOk result (self.new.flat ≡ gone_back self.old.flat copy.now) }
+        ensures err { OnErr result (self.new ≡ self.old) }
+        ensures story { self.new.flat.story ≡ self.old.flat.story }
+        ensures live { OnOk result (0 < sp_of self.new.flat) }
+    {
+        let stub = stub_on_top(copy.stack.as_slice());
+        let memory = self.memory_with(copy, &stub)?;
+        let alloc = self.stack.allocator();
+        let heap = Heap::from_blocks(alloc, copy.heap, copy.blocks.as_slice())?;
+        self.lay(memory, heap, copy.stack.as_slice(), &stub);
+        self.answer(&stub);
+        Ok(())
+    }
+
+    /// The memory of a copy but for the protected range, with -1 where the stub has its result stored
+    /// in memory.
+    #[tactic(auto, using(crate::proofs::Backs::memories, crate::proofs::FlatCopies::whole))]
+    fn memory_with(&self, copy: &FlatCopy, stub: &Stub) -> Result<Pages<A>, AllocError>
+        requires fit { IsCopyFor self.now.flat.story copy.now }
+        requires stub { stub.now ≡ stub_in copy.now }
+        ensures value { IfOk result (λ all. all ≡ wrote (put_back_of self.now.flat.memory copy.now.memory self.now.flat.protected.0 self.now.flat.protected.1) (if stub.now.kind == TO_MEMORY then Some (stub.now.addr, 0xFFFFFFFF) else None)) }
+        ensures size { IfOk result (λ all. length all ≡ length copy.now.memory) }
+        ensures rom { IfOk result (λ all. take self.now.flat.story.header.ramstart all ≡ take self.now.flat.story.header.ramstart self.now.flat.story.bytes) }
+    {
+        let bytes = copy.memory.as_slice();
+        let mut memory = self
+            .memory
+            .begin_again(bytes, bytes.len() as u32, self.protected)?;
+        if stub.kind != TO_MEMORY {
+            return Ok(memory);
+        }
+        memory.write(stub.addr, &word_bytes(MINUS_ONE))?;
+        Ok(memory)
+    }
+}

@@ -1,0 +1,5 @@
+pub mod Listing
+pub mod Sorting
+pub mod SaveReading
+pub mod SaveWriting
+pub mod ReadingBack

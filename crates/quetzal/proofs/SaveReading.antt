@@ -1,0 +1,221 @@
+-- What is read of a save: its exits, and that the copy is fit for the story.
+use Rattle.std.proofs.Common.{◌≡◌, ◌≢◌, ◌≤◌, ◌<◌, ◌+◌, ◌-◌, ◌*◌, ◌%◌, ◌==◌, ℕ, zero, suc, Bool, true, false, List, [], ◌∷◌, ◌++◌, length, take, drop, Option, Some, None, Result, Ok, Err, IsOk, IsTrue, if◌then◌else◌, refl, sym, ap, subst, ◌∙◌, arith, ltb as nat_lt, leb as nat_le, eqb as nat_eq, length-append}
+use Rattle.std.specs.Prelude.{◌&&◌}
+use Rattle.std.specs.List.{list_all}
+use Rattle.std.proofs.lemmas.Bool.{le-ltb, lt-ltb, le-leb, lt-leb, leb-true, ltb-true, and_parts, eqb-true, eq-eqb, cases_lt}
+use Rattle.std.proofs.lemmas.Bool.Decides.{nat_tests}
+use Rattle.std.proofs.lemmas.List.{take-append-le, take_at, length-take-le}
+use Rattle.gx_words.specs.declared.limits.TheConstants.{CEILING}
+use Rattle.gx_words.specs.Numbers.{word}
+use Rattle.gx_words.specs.Results.{◌>>=◌}
+use Rattle.gx_stack.specs.declared.stubs.Stub.{Stub}
+use Rattle.gx_stack.specs.Frames.{IsGood, is_good, has_local, parts}
+use Rattle.gx_stack.specs.Stubs.{stub_below}
+use Rattle.heap_blocks.specs.Heap.{Block, FlatHeap, IsRising, IsEndedBy, end_of, inactive}
+use Rattle.heap_blocks.proofs.Changing.{length-inserted}
+use Rattle.gx_story.specs.Stories.{FlatStory, IsStory}
+use Rattle.gx_state.specs.Sound.{IsHeapWithin}
+use Rattle.gx_state.specs.Copies.{Copy, IsCopyFor}
+use Rattle.quetzal.specs.declared.faults.SaveFault.{SaveFault}
+use Rattle.quetzal.specs.declared.faults.SaveFault.TheVariants as fault
+use Rattle.quetzal.specs.Faults.{allowed}
+use Rattle.quetzal.specs.Chunks.{MemoryBody, Parts, parts_in}
+use Rattle.quetzal.specs.Memory.{is_size, size_in, memory_of}
+use Rattle.quetzal.specs.Stacks.{is_stack, is_stub, is_place, has_height}
+use Rattle.quetzal.specs.Blocks.{are_apart, are_blocks, blocks_from, blocks_in, count_in, has_count, heap_of, in_order, is_block, is_heap, is_start, ordered, rises, start_in}
+use Rattle.quetzal.specs.Saves.{save_of}
+use Rattle.quetzal.proofs.Sorting.{rises_parts, rises_size, order_rises}
+
+-- sizes
+pub record Sizes (story : FlatStory) (size : ℕ) : Type 0 where
+  pub whole : size % 256 ≡ 0
+  pub endmem : story.header.endmem ≤ size
+  pub capped : size ≤ CEILING
+
+pub size_parts : (story : FlatStory) (size : ℕ) → is_size story size ≡ true → Sizes story size
+size_parts story size h =
+    let a = and_parts _ _ h in
+    let b = and_parts _ _ a.0 in
+    record { whole = eqb-true _ _ b.0; endmem = leb-true _ _ b.1; capped = leb-true _ _ a.1 }
+
+pub rom_there : (story : FlatStory) (size : ℕ) → IsStory story → is_size story size ≡ true → (story.header.ramstart ≤ size) × (story.header.ramstart ≤ length story.bytes)
+rom_there story size good h =
+    let s = size_parts story size h in
+    (omega (arith, good.ramstart_first, good.extstart_first, s.endmem), omega (arith, good.ramstart_first, good.stored_whole))
+
+pub ruleset sizes = (rom_there)
+
+-- the heap
+in_parts : (bs : List Block) (at size : ℕ) → rises at size bs ≡ true → IsRising at bs × IsEndedBy size bs
+in_parts [] at size h = (tt, tt)
+in_parts (b ∷ bs) at size h =
+    let p = rises_parts b bs at size h in
+    let q = in_parts bs (end_of b) size p.2 in
+    ((p.0, p.1, q.0), (rises_size bs (end_of b) size p.2, q.1))
+
+ends_higher : (bs : List Block) (low high : ℕ) → low ≤ high → IsEndedBy low bs → IsEndedBy high bs
+ends_higher [] low high le ends = tt
+ends_higher (b ∷ bs) low high le ends = (omega (arith, ends.0), ends_higher bs low high le ends.1)
+
+length-in_order : (bs : List Block) → length (in_order bs) ≡ length bs
+unfolding in_order
+length-in_order [] = refl
+length-in_order (b ∷ bs) = length-inserted (in_order bs) b ∙ omega (arith, length-in_order bs)
+
+pub length-blocks_from : (count : ℕ) (body : List ℕ) (at : ℕ) → length (blocks_from count body at) ≡ count
+unfolding blocks_from
+length-blocks_from zero body at = refl
+length-blocks_from (suc count) body at = ap suc (length-blocks_from count body (at + 8))
+
+some_within : (story : FlatStory) (size : ℕ) (body : List ℕ) → size ≤ CEILING → is_heap story size body ≡ true → IsHeapWithin story.header.endmem size (record { start = start_in body; blocks = in_order (blocks_in body) })
+unfolding is_heap
+some_within story size body capped h =
+    let start = start_in body in
+    let a = and_parts (has_count body && is_start story size start) (are_blocks start size (blocks_in body)) h in
+    let b = and_parts (has_count body) (is_start story size start) a.0 in
+    let count : 0 < count_in body = ltb-true 0 (count_in body) (and_parts (nat_le 8 (length body) && nat_eq (length body) (8 + 8 * count_in body)) (nat_lt 0 (count_in body)) b.0).1 in
+    let c = and_parts (nat_eq (start % 256) 0 && nat_le story.header.endmem start) (nat_le start size) b.1 in
+    let d = and_parts (nat_eq (start % 256) 0) (nat_le story.header.endmem start) c.0 in
+    let blocks = and_parts (list_all (is_block (start_in body) size) (blocks_in body)) (are_apart (blocks_in body)) a.1 in
+    let begins = leb-true _ _ c.1 in
+    let up = in_parts (in_order (blocks_in body)) (start_in body) size (order_rises (blocks_in body) start size begins blocks.0 blocks.1) in
+    record {
+      blocks = record { rises = up.0; ends = ends_higher (in_order (blocks_in body)) size 0xFFFFFFFF (omega (arith, capped)) up.1; none = λ none. absurd (omega (arith, none, count, length-in_order (blocks_in body), length-blocks_from (count_in body) body 8)) };
+      begins = λ _. leb-true _ _ d.1;
+      whole = eqb-true _ _ d.0;
+      within = record { start = begins; ends = up.1 };
+    }
+
+none_within : (endmem size : ℕ) → IsHeapWithin endmem size inactive
+none_within endmem size = record {
+  blocks = record { rises = tt; ends = tt; none = λ _. refl };
+  begins = λ some. absurd (omega (arith, some));
+  whole = refl;
+  within = record { start = omega arith; ends = tt };
+}
+
+within_by : (story : FlatStory) (size : ℕ) (body : List ℕ) (heap : FlatHeap) (none some : Bool) → is_heap story size body ≡ some → size ≤ CEILING
+    → (let r : Result FlatHeap SaveFault = if none then Ok inactive else if some then Ok (record { start = start_in body; blocks = in_order (blocks_in body) }) else Err fault.Blocks in r ≡ Ok heap) → IsHeapWithin story.header.endmem size heap
+within_by story size body heap true some is capped h = let e : inactive ≡ heap = cc in subst (IsHeapWithin story.header.endmem size) e (none_within story.header.endmem size)
+within_by story size body heap false true is capped h = let made : FlatHeap = record { start = start_in body; blocks = in_order (blocks_in body) } in let e : made ≡ heap = cc in subst (IsHeapWithin story.header.endmem size) e (some_within story size body capped is)
+within_by story size body heap false false is capped h = absurd cc
+
+pub heap_within : (story : FlatStory) (size : ℕ) (body : List ℕ) (heap : FlatHeap) → size ≤ CEILING → heap_of story size body ≡ Ok heap → IsHeapWithin story.header.endmem size heap
+unfolding heap_of
+heap_within story size body heap capped h = within_by story size body heap (length body == 0) (is_heap story size body) refl capped h
+
+given_by : (story : FlatStory) (size start : ℕ) (body : List ℕ) (blocks : List Block) (are : Bool) → are_blocks start size (blocks_in body) ≡ are → start ≡ start_in body → (length body == 0) ≡ false → has_count body ≡ true → is_start story size start ≡ true
+    → ordered start size (blocks_in body) ≡ Ok blocks → heap_of story size body ≡ Ok (record { start = start; blocks = blocks })
+unfolding heap_of is_heap
+given_by story size start body blocks true are is some counted begins h =
+    let e : in_order (blocks_in body) ≡ blocks = cc in
+    rw (some, counted, ← is, begins, are, e) refl
+given_by story size start body blocks false are is some counted begins h = absurd cc
+
+pub heap_given : (story : FlatStory) (size start : ℕ) (body : List ℕ) (blocks : List Block) → start ≡ start_in body → (length body == 0) ≡ false → has_count body ≡ true → is_start story size start ≡ true
+    → ordered start size (blocks_in body) ≡ Ok blocks → heap_of story size body ≡ Ok (record { start = start; blocks = blocks })
+heap_given story size start body blocks is some counted begins h = given_by story size start body blocks (are_blocks start size (blocks_in body)) refl is some counted begins h
+
+pub ruleset heaps = (heap_within)
+
+-- the stack
+pub record Stacks (story : FlatStory) (size : ℕ) (stack : List ℕ) : Type 0 where
+  pub aligned : length stack % 4 ≡ 0
+  pub height : length stack ≤ story.header.stack_size
+  pub stub : 16 ≤ length stack
+  pub kind : (stub_below stack (length stack)).kind ≤ 3
+  pub good : IsGood (take (length stack - 16) stack) (stub_below stack (length stack)).fp
+  pub place : is_place story size (parts (take (length stack - 16) stack) (stub_below stack (length stack)).fp) (stub_below stack (length stack)) ≡ true
+
+good_by : (s : List ℕ) (fp : ℕ) → is_good s fp ≡ true → IsGood s fp
+good_by s fp h =
+    let a = and_parts _ _ h in
+    let b = and_parts _ _ a.0 in
+    let c = and_parts _ _ b.0 in
+    let d = and_parts _ _ c.0 in
+    let e = and_parts _ _ d.0 in
+    record { header = leb-true _ _ e.0; begins = eqb-true _ _ e.1; aligned = eqb-true _ _ d.1; locals = leb-true _ _ c.1; order = leb-true _ _ b.1; whole = leb-true _ _ a.1 }
+
+pub stack_parts : (story : FlatStory) (size : ℕ) (stack : List ℕ) → is_stack story size stack ≡ true → Stacks story size stack
+unfolding is_stack
+stack_parts story size stack h =
+    let a = and_parts (has_height story stack) _ h in
+    let b = and_parts _ _ a.0 in
+    let c = and_parts _ _ b.0 in
+    let d = and_parts _ _ a.1 in
+    let e = and_parts _ _ d.0 in
+    record { aligned = eqb-true _ _ c.0; height = leb-true _ _ c.1; stub = leb-true _ _ b.1; kind = leb-true _ _ e.0; good = good_by _ _ e.1; place = d.1 }
+
+word_by : (story : FlatStory) (size : ℕ) (below : List ℕ) (p : Stub) → is_place story size (parts below p.fp) p ≡ true → p.kind ≡ 1 → (story.header.ramstart ≤ p.addr) × (p.addr + 4 ≤ size)
+word_by story size below p h one =
+    let here : (nat_le story.header.ramstart p.addr && nat_le (p.addr + 4) size) ≡ true = rw one at h in
+    let a = and_parts _ _ here in
+    (leb-true _ _ a.0, leb-true _ _ a.1)
+
+local_by : (story : FlatStory) (size : ℕ) (below : List ℕ) (p : Stub) → is_place story size (parts below p.fp) p ≡ true → p.kind ≡ 2 → has_local (parts below p.fp) p.addr 4 ≡ true
+local_by story size below p h two = rw two at h
+
+-- what is read is fit for the story
+pub copy_fits : (story : FlatStory) (size : ℕ) (c : Copy) → length c.memory ≡ size → take story.header.ramstart c.memory ≡ take story.header.ramstart story.bytes → is_size story size ≡ true → is_stack story size c.stack ≡ true → IsHeapWithin story.header.endmem size c.heap → IsCopyFor story c
+copy_fits story size c len rom sizes stack heap =
+    let s = size_parts story size sizes in
+    let t = stack_parts story size c.stack stack in
+    record {
+      size = rw len (record { whole = s.whole; capped = s.capped });
+      endmem = rw len s.endmem;
+      rom = rom;
+      aligned = t.aligned;
+      height = t.height;
+      stub = t.stub;
+      kind = t.kind;
+      framed = t.good;
+      word = rw len (word_by story size (take (length c.stack - 16) c.stack) (stub_below c.stack (length c.stack)) t.place);
+      local = local_by story size (take (length c.stack - 16) c.stack) (stub_below c.stack (length c.stack)) t.place;
+      heap = rw len heap;
+    }
+
+pub ruleset copies = (copy_fits)
+
+-- the exits
+pub parts_refused : (save : List ℕ) (story : FlatStory) (e : SaveFault) → parts_in save story ≡ Err e → save_of save story ≡ Err e
+unfolding save_of
+parts_refused save story e h = rw h refl
+
+pub not_allowed : (passes : Bool) (e given : SaveFault) → (let r : Result (Unit {0}) SaveFault = Err given in r ≡ allowed passes e) → (passes ≡ false) × (given ≡ e)
+not_allowed true e given h = absurd cc
+not_allowed false e given h = (refl, cc)
+
+pub size_refused : (save : List ℕ) (story : FlatStory) (p : Parts) (size : ℕ) → parts_in save story ≡ Ok p → size ≡ size_in p.memory → is_size story size ≡ false → save_of save story ≡ Err fault.Size
+unfolding save_of
+size_refused save story p size h is not = rw (h, ← is, not) refl
+
+pub memory_refused : (save : List ℕ) (story : FlatStory) (p : Parts) (size : ℕ) (e : SaveFault) → parts_in save story ≡ Ok p → size ≡ size_in p.memory → is_size story size ≡ true → memory_of story p.memory ≡ Err e → save_of save story ≡ Err e
+unfolding save_of
+memory_refused save story p size e h is fits not = rw (h, ← is, fits, not) refl
+
+-- what comes behind the memory
+abbrev pub behind : Result (List ℕ) SaveFault → Bool → List ℕ → Result FlatHeap SaveFault → Result Copy SaveFault
+behind memory stacks stack heap = memory >>= (λ m. allowed stacks fault.Stack >>= (λ _. heap >>= (λ g. let made : Copy = record { memory = m; stack = stack; heap = g } in Ok made)))
+
+pub save_by : (save : List ℕ) (story : FlatStory) (p : Parts) (size : ℕ) → parts_in save story ≡ Ok p → size ≡ size_in p.memory → is_size story size ≡ true
+    → save_of save story ≡ behind (memory_of story p.memory) (is_stack story size p.stack) p.stack (heap_of story size p.heap)
+unfolding save_of
+save_by save story p size h is fits = rw (h, ← is, fits) refl
+
+pub stack_refused : (memory : Result (List ℕ) SaveFault) (stack : List ℕ) (heap : Result FlatHeap SaveFault) (stacks : Bool) → IsOk memory → stacks ≡ false → behind memory stacks stack heap ≡ Err fault.Stack
+stack_refused (Ok memory) stack heap stacks there not = rw not refl
+stack_refused (Err e) stack heap stacks there not = absurd cc
+
+pub heap_refused : (memory : Result (List ℕ) SaveFault) (stack : List ℕ) (heap : Result FlatHeap SaveFault) (stacks : Bool) (e : SaveFault) → IsOk memory → stacks ≡ true → heap ≡ Err e → behind memory stacks stack heap ≡ Err e
+heap_refused (Ok memory) stack heap stacks e there good not = rw (good, not) refl
+heap_refused (Err d) stack heap stacks e there good not = absurd cc
+
+-- want of memory comes only where the save is a good one
+pub save_there : (memory : Result (List ℕ) SaveFault) (stack : List ℕ) (heap : Result FlatHeap SaveFault) (stacks : Bool) → IsOk memory → stacks ≡ true → IsOk heap → IsOk (behind memory stacks stack heap)
+save_there (Ok memory) stack (Ok heap) stacks a good b = rw good refl
+save_there (Ok memory) stack (Err e) stacks a good b = absurd cc
+save_there (Err d) stack heap stacks a good b = absurd cc
+
+pub save_taken : (save : List ℕ) (story : FlatStory) (p : Parts) (size : ℕ) (memory : List ℕ) (heap : FlatHeap) → parts_in save story ≡ Ok p → size ≡ size_in p.memory → is_size story size ≡ true → memory_of story p.memory ≡ Ok memory → is_stack story size p.stack ≡ true → heap_of story size p.heap ≡ Ok heap
+    → save_of save story ≡ Ok (record { memory = memory; stack = p.stack; heap = heap })
+save_taken save story p size memory heap h is fits ram stack there = save_by save story p size h is fits ∙ rw (ram, stack, there) refl

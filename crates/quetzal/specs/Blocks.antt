@@ -1,0 +1,84 @@
+-- The heap of a save (Glulx 3.1.2, "Contents of the Save File"): its start, the count of its blocks, and the address
+-- and the length of each, in any order.
+use Rattle.std.specs.Prelude.{ℕ, zero, suc, Bool, true, ◌+◌, ◌*◌, ◌%◌, ◌==◌, nat_lt, nat_le, ◌&&◌, ◌||◌, if◌then◌else◌, List, [], ◌∷◌, ◌++◌, length, Result, Ok, Err}
+use Rattle.std.specs.List.{flat_map, list_all}
+use Rattle.std.specs.List.Sorted.{IsPermutation, IsNonDecreasingBy}
+use Rattle.gx_words.specs.Numbers.{word, bytes_of_word}
+use Rattle.heap_blocks.specs.Heap.{Block, FlatHeap, end_of, inactive, inserted}
+use Rattle.gx_story.specs.Stories.{FlatStory}
+use Rattle.quetzal.specs.declared.faults.SaveFault.{SaveFault}
+use Rattle.quetzal.specs.declared.faults.SaveFault.TheVariants as fault
+
+-- so many blocks from a place on
+unfoldable pub blocks_from : ℕ → List ℕ → ℕ → List Block
+blocks_from zero body at = []
+blocks_from (suc count) body at = (word body at, word body (at + 4)) ∷ blocks_from count body (at + 8)
+
+abbrev pub start_in : List ℕ → ℕ
+start_in body = word body 0
+
+abbrev pub count_in : List ℕ → ℕ
+count_in body = word body 4
+
+abbrev pub blocks_in : List ℕ → List Block
+blocks_in body = blocks_from (count_in body) body 8
+
+-- as many blocks as are counted, and one at least
+abbrev pub has_count : List ℕ → Bool
+has_count body = nat_le 8 (length body) && length body == 8 + 8 * count_in body && nat_lt 0 (count_in body)
+
+-- a size at which memory may have ended before the heap began
+abbrev pub is_start : FlatStory → ℕ → ℕ → Bool
+is_start story size start = start % 256 == 0 && nat_le story.header.endmem start && nat_le start size
+
+-- a block that isn't empty, between the start and the size
+abbrev pub is_block : ℕ → ℕ → Block → Bool
+is_block start size b = nat_lt 0 b.1 && nat_le start b.0 && nat_le (end_of b) size
+
+-- two blocks that don't meet, and blocks of which no two meet
+abbrev pub is_apart : Block → Block → Bool
+is_apart a b = nat_le (end_of a) b.0 || nat_le (end_of b) a.0
+
+abbrev pub are_apart : List Block → Bool
+are_apart [] = true
+are_apart (b ∷ bs) = list_all (is_apart b) bs && are_apart bs
+
+abbrev pub are_blocks : ℕ → ℕ → List Block → Bool
+are_blocks start size bs = list_all (is_block start size) bs && are_apart bs
+
+unfoldable pub is_heap : FlatStory → ℕ → List ℕ → Bool
+is_heap story size body =
+    has_count body && is_start story size (start_in body) && are_blocks (start_in body) size (blocks_in body)
+
+-- blocks by their address
+unfoldable pub in_order : List Block → List Block
+in_order [] = []
+in_order (b ∷ bs) = inserted b (in_order bs)
+
+-- blocks in rising order from an address on, none empty, none past a size, no two that meet
+abbrev pub rises : ℕ → ℕ → List Block → Bool
+rises at size [] = nat_le at size
+rises at size (b ∷ bs) = nat_le at b.0 && nat_lt 0 b.1 && rises (end_of b) size bs
+
+-- the same blocks, by their address
+pub record IsSortedFrom (bs sorted : List Block) : Type 0 where
+  pub same : IsPermutation bs sorted
+  pub order : IsNonDecreasingBy (λ b. b.0) sorted
+
+-- the blocks in order, where they are blocks of a heap
+abbrev pub ordered : ℕ → ℕ → List Block → Result (List Block) SaveFault
+ordered start size bs = if are_blocks start size bs then Ok (in_order bs) else Err fault.Blocks
+
+-- no heap where the chunk is empty or isn't there
+unfoldable pub heap_of : FlatStory → ℕ → List ℕ → Result FlatHeap SaveFault
+heap_of story size body =
+    if length body == 0 then Ok inactive else
+    if is_heap story size body then Ok (record { start = start_in body; blocks = in_order (blocks_in body) }) else
+    Err fault.Blocks
+
+-- the body of a heap's chunk as it is written
+abbrev pub bytes_of_block : Block → List ℕ
+bytes_of_block b = bytes_of_word b.0 ++ bytes_of_word b.1
+
+abbrev pub heap_bytes : FlatHeap → List ℕ
+heap_bytes heap = bytes_of_word heap.start ++ (bytes_of_word (length heap.blocks) ++ flat_map bytes_of_block heap.blocks)

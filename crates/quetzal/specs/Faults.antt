@@ -1,0 +1,44 @@
+-- The faults of a save: their numbers, what the faults of a form and of packed bytes become, and how a test gives one.
+use Rattle.std.specs.Prelude.{ℕ, Bool, true, false, Result, Ok, Err}
+use Rattle.iff_chunks.specs.declared.faults.IffFault.{IffFault}
+use Rattle.iff_chunks.specs.declared.faults.IffFault.TheVariants as iff
+use Rattle.zero_runs.specs.declared.faults.RunFault.{RunFault}
+use Rattle.zero_runs.specs.declared.faults.RunFault.TheVariants as run
+use Rattle.quetzal.specs.declared.faults.SaveFault.{SaveFault}
+use Rattle.quetzal.specs.declared.faults.SaveFault.TheVariants as fault
+
+abbrev pub number_of : SaveFault → ℕ
+number_of fault.Form = 1
+number_of fault.OtherStory = 2
+number_of fault.NoMemoryChunk = 3
+number_of fault.Size = 4
+number_of fault.Runs = 5
+number_of fault.Stack = 6
+number_of fault.Blocks = 7
+number_of fault.NoMemory = 8
+
+-- whatever is wrong with the form
+abbrev pub fault_of : IffFault → SaveFault
+fault_of iff.Cut = fault.Form
+fault_of iff.NotForm = fault.Form
+fault_of iff.WrongKind = fault.Form
+fault_of iff.NoMemory = fault.NoMemory
+
+abbrev pub of_form : {A : Type 0} → Result A IffFault → Result A SaveFault
+of_form (Ok x) = Ok x
+of_form (Err e) = Err (fault_of e)
+
+-- whatever is wrong with the packed bytes
+abbrev pub fault_of_run : RunFault → SaveFault
+fault_of_run run.Cut = fault.Runs
+fault_of_run run.TooMany = fault.Runs
+fault_of_run run.NoMemory = fault.NoMemory
+
+abbrev pub of_runs : {A : Type 0} → Result A RunFault → Result A SaveFault
+of_runs (Ok x) = Ok x
+of_runs (Err e) = Err (fault_of_run e)
+
+-- what a test passes, or else has the fault
+abbrev pub allowed : Bool → SaveFault → Result (Unit {0}) SaveFault
+allowed true e = Ok tt
+allowed false e = Err e

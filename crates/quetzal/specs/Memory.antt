@@ -1,0 +1,45 @@
+-- The memory of a save (Glulx 3.1.2, "Contents of the Save File").
+use Rattle.std.specs.Prelude.{ℕ, Bool, ◌-◌, ◌%◌, ◌==◌, nat_le, ◌&&◌, if◌then◌else◌, List, ◌++◌, length, take, drop, Result, Ok, Err}
+use Rattle.gx_words.specs.declared.limits.TheConstants.{CEILING}
+use Rattle.gx_words.specs.Numbers.{word, bytes_of_word}
+use Rattle.gx_words.specs.Results.{◌>>=◌}
+use Rattle.zero_runs.specs.Packing.{packed, xored}
+use Rattle.zero_runs.specs.Unpacking.{unpacked}
+use Rattle.gx_story.specs.Stories.{FlatStory}
+use Rattle.quetzal.specs.Faults.{of_runs}
+use Rattle.quetzal.specs.Chunks.{MemoryBody}
+use Rattle.quetzal.specs.declared.faults.SaveFault.{SaveFault}
+use Rattle.quetzal.specs.declared.faults.SaveFault.TheVariants as fault
+
+-- the size that a chunk begins with, and the bytes behind it
+abbrev pub size_in : MemoryBody → ℕ
+size_in memory = word memory.body 0
+
+abbrev pub bytes_in : MemoryBody → List ℕ
+bytes_in memory = drop 4 memory.body
+
+-- a size that memory may have
+abbrev pub is_size : FlatStory → ℕ → Bool
+is_size story size = size % 256 == 0 && nat_le story.header.endmem size && nat_le size CEILING
+
+-- the first bytes of RAM, which is zero past the stored part
+abbrev pub first_ram : FlatStory → List ℕ
+first_ram story = drop story.header.ramstart story.bytes
+
+-- RAM: packed bytes stand for what differs from the first bytes, plain ones for themselves
+unfoldable pub ram_of : FlatStory → MemoryBody → Result (List ℕ) SaveFault
+ram_of story memory =
+    let count = size_in memory - story.header.ramstart in
+    if memory.is_packed then of_runs (unpacked (bytes_in memory) (first_ram story) count) else
+    if length (bytes_in memory) == count then Ok (bytes_in memory) else Err fault.Runs
+
+-- memory whole: below RAMSTART it is the story's
+abbrev pub with_rom : FlatStory → List ℕ → List ℕ
+with_rom story ram = take story.header.ramstart story.bytes ++ ram
+
+abbrev pub memory_of : FlatStory → MemoryBody → Result (List ℕ) SaveFault
+memory_of story memory = ram_of story memory >>= λ ram. Ok (with_rom story ram)
+
+-- the body of a packed chunk as it is written
+unfoldable pub memory_bytes : FlatStory → List ℕ → List ℕ
+memory_bytes story memory = bytes_of_word (length memory) ++ packed (xored (drop story.header.ramstart memory) (first_ram story))

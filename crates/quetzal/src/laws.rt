@@ -1,0 +1,7 @@
+//! What holds of the definitions of this crate.
+ghost use Rattle.quetzal.specs.Writing.{ReadsBack};
+
+/// A copy that is fit for its story and is written as a save is read from it as it was.
+pub fn written_saves_are_read()
+    ensures { ReadsBack }
+{}
