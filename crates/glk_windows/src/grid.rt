@@ -147,6 +147,7 @@ fn fit_count(alloc: Global, rows: &mut Vec<Row>, count: usize) -> Result<(), All
 {
     rows.truncate(count);
     for y in rows.len()..count {
+        // The bound of `y` is known once it is read.
         let _y = y;
         rows.push(Row::new(alloc))?;
     }
