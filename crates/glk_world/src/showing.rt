@@ -1,5 +1,5 @@
 //! Text that stands in no buffer window: grids at a wait, prompts, and lines that were taken.
-ghost use Rattle.std.specs.Prelude.{◌≡◌, ◌≢◌, ◌++◌, ◌∷◌, [], map, string_bytes, IsOk, OnErr, OnOk};
+ghost use Rattle.std.specs.Prelude.{◌≡◌, ◌≢◌, ◌++◌, ◌∷◌, [], map, string_bytes, OnErr, OnOk};
 ghost use Rattle.std.specs.Str.{encode_utf8_all};
 ghost use Rattle.glk_text.specs.Characters.{shown};
 ghost use Rattle.glk_world.specs.World.{after};
@@ -93,14 +93,6 @@ impl World {
     {
         push_line(&mut self.text, line.as_slice())?;
         self.fresh = true;
-        Ok(())
-    }
-
-    /// Shows what is left to be shown at the end of a run: nothing.
-    pub fn end_text(&mut self) -> Result<(), AllocError>
-        ensures ok { IsOk result }
-        ensures new { self.new ≡ self.old }
-    {
         Ok(())
     }
 }

@@ -18,7 +18,6 @@ fn text_of_a_window(rt: HostRuntime) -> Result<(), Fail> {
     world.show_line(&line)?;
     world.show_grids()?;
     world.arrange(1, PROPORTIONAL, 50, 0)?;
-    world.end_text()?;
     assert_eq!(rt; world.pending(), "HFile name: é\n".as_bytes());
     Ok(())
 }

@@ -1,5 +1,5 @@
 //! The machine: one step, and the answer to what it asks.
-ghost use Rattle.std.specs.Prelude.{◌≡◌, ◌≢◌, ◌⊎◌, ◌+◌, ◌*◌, ◌<◌, ◌≤◌, ℕ, true, length, Ok, Some, None, IfOk, IsSome, is_some, OnOk, OnErr};
+ghost use Rattle.std.specs.Prelude.{◌≡◌, ◌≢◌, ◌⊎◌, ◌+◌, ◌*◌, ◌<◌, ◌≤◌, ℕ, true, length, Ok, Some, None, IfOk, IsSome, OnOk, OnErr};
 ghost use Rattle.gx_words.specs.Faults.{Does, Makes};
 ghost use Rattle.gx_state.specs.Flat.{IsHeight, sp_of};
 ghost use Rattle.gx_state.specs.Replies.{AreInRam, IsReply};
@@ -89,13 +89,6 @@ impl<A: Allocator + Clone> Machine<A> {
         ensures { result ≡ length self.now.machine.undo.copies }
     {
         self.undo.len()
-    }
-
-    /// Whether it waits for an answer.
-    pub fn is_asking(&self) -> bool
-        ensures { result ≡ is_some self.now.asking }
-    {
-        self.pending.is_some()
     }
 
     /// One step within the budget, with a random word that it may use.
