@@ -10,4 +10,5 @@ pub mod Awaited
 pub mod Absent
 pub mod Counting
 pub mod Reading
+pub mod Saving
 pub mod Resuming

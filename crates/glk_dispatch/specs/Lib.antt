@@ -8,6 +8,7 @@ pub mod Streams
 pub mod References
 pub mod Output
 pub mod Input
+pub mod Saves
 pub mod Characters
 pub mod Events
 pub mod Going

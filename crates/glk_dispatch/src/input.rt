@@ -67,7 +67,7 @@ fn ends_line(stops: bool, c: u32) -> bool
 
 /// How many characters are read, `most` at most, and the position behind them.
 #[tactic(auto, using(crate::proofs::Reading::count_turns))]
-fn read_on<A: Allocator + Clone>(
+pub(crate) fn read_on<A: Allocator + Clone>(
     all: &Streams,
     state: &State<A>,
     stream: u32,
@@ -97,7 +97,7 @@ fn read_on<A: Allocator + Clone>(
 
 /// The next character and the position behind it, where every place was looked at.
 #[tactic(auto, unfolding(crate::specs::Input::char_at))]
-fn char_at<A: Allocator + Clone>(
+pub(crate) fn char_at<A: Allocator + Clone>(
     all: &Streams,
     state: &State<A>,
     stream: u32,

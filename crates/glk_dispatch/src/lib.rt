@@ -8,6 +8,7 @@
 //! - `calls` is the one way that every call goes; `going` goes on, and `waiting` keeps the call that waits.
 //! - `gestalts`, `windows`, `streams`, `references`, `output`, `input`, `characters` and `events` are the parts.
 //! - `parts`, `giving`, `putting` and `strings` are what they are made of.
+//! - `saves` puts the bytes of a save to a stream and takes them back, which no call of Glk does.
 //!
 //! Not done, and dropped with an answer of 0: images, sound, hyperlinks, the clock (`dropped` in `table`).
 #![tactic(auto)]
@@ -23,6 +24,7 @@ mod output;
 mod parts;
 mod putting;
 mod references;
+mod saves;
 mod selectors;
 mod streams;
 mod strings;
@@ -36,6 +38,7 @@ use gx_outside::Load;
 use gx_state::Reply;
 use gx_words::{Bytes, Name, Numbers};
 pub use output::put;
+pub use saves::{put_save, take_rest};
 
 /// What a call asks next, or its answer.
 #[derive(Drop)]

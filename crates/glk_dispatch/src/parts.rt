@@ -147,7 +147,7 @@ pub(crate) fn numbers_at<A: Allocator>(
 }
 
 /// Adds the bytes of a character.
-fn push_char(out: &mut Bytes, width: u32, c: u32) -> Result<(), AllocError>
+pub(crate) fn push_char(out: &mut Bytes, width: u32, c: u32) -> Result<(), AllocError>
     ensures { OnOk result (out.new ≡ out.old ++ char_bytes width c) }
 {
     if width == 1 {

@@ -1,3 +1,4 @@
 pub mod Contents
 pub mod Sounds
 pub mod Lists
+pub mod Sizes

@@ -21,6 +21,3 @@ pub use content::LARGEST;
 pub use kinds::{FileForm, Places, Stream, StreamKind};
 pub use modes::{FROM_CURRENT, FROM_END, FROM_START, READ, READ_WRITE, WRITE, WRITE_APPEND};
 pub use streams::Streams;
-
-#[cfg(test)]
-mod tests;

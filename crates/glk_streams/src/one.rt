@@ -231,10 +231,10 @@ pub fn places(stream: &Stream, count: u32) -> Places
 }
 
 /// Whether there is room for the bytes of a save.
-#[tactic(auto, unfolding(crate::specs::Stream::fits))]
+#[tactic(auto, using(crate::proofs::Sizes::length_saved), unfolding(crate::specs::Stream::fits))]
 pub fn fits(stream: &Stream, bytes: &[u8]) -> bool
-    requires { length bytes.now < 2 ^ 61 }
-    ensures { result ≡ fits stream.now bytes.now }
+    ensures value { result ≡ fits stream.now bytes.now }
+    ensures few { IsTrue result → length bytes.now < 2 ^ 32 }
 {
     match &stream.kind {
         StreamKind::Window(_) => false,
@@ -242,7 +242,8 @@ pub fn fits(stream: &Stream, bytes: &[u8]) -> bool
             bytes.len() <= places_of(*at, *len).saturating_sub(stream.position) as usize
         }
         StreamKind::File { form, .. } => {
-            byte_at(*form, stream.position) + saved_size(*form, bytes) <= LARGEST as usize
+            bytes.len() <= LARGEST as usize
+                && byte_at(*form, stream.position) + saved_size(*form, bytes) <= LARGEST as usize
         }
     }
 }

@@ -151,6 +151,15 @@ impl Streams {
         self.items[place(&self.items, id)].position
     }
 
+    /// The position behind the last character.
+    #[tactic(auto, using(crate::proofs::Lists::places))]
+    pub fn end(&self, id: u32) -> u32
+        requires { IsTrue (has self.now id) }
+        ensures { result ≡ one.end_of (stream self.now id) }
+    {
+        one::end_of(&self.items[place(&self.items, id)])
+    }
+
     /// Sets a position, which `pos` counts as a signed number from the start, the position or the end.
     #[tactic(auto, using(crate::proofs::Lists::places))]
     pub fn set_position(&mut self, id: u32, pos: u32, seek: u32)
@@ -222,9 +231,9 @@ impl Streams {
     /// Whether there is room for the bytes of a save, put as characters.
     #[tactic(auto, using(crate::proofs::Lists::places))]
     pub fn fits(&self, id: u32, bytes: &[u8]) -> bool
-        requires there { IsTrue (has self.now id) }
-        requires size { length bytes.now < 2 ^ 61 }
-        ensures { result ≡ one.fits (stream self.now id) bytes.now }
+        requires { IsTrue (has self.now id) }
+        ensures value { result ≡ one.fits (stream self.now id) bytes.now }
+        ensures few { IsTrue result → length bytes.now < 2 ^ 32 }
     {
         one::fits(&self.items[place(&self.items, id)], bytes)
     }

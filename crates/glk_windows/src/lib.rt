@@ -24,6 +24,3 @@ pub use methods::{
 };
 pub use tree::Pair;
 pub use windows::Windows;
-
-#[cfg(test)]
-mod tests;

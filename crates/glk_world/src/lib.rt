@@ -28,6 +28,3 @@ pub use grids::ShownGrid;
 pub use identifiers::LAST_IDENTIFIER;
 pub use references::FileReference;
 pub use world::{Waiting, World};
-
-#[cfg(test)]
-mod tests;

@@ -1,12 +1,12 @@
 -- What answers the instruction that asked.
-use Rattle.std.proofs.Common.{◌≡◌, ◌≤◌, ◌+◌, ◌-◌, ◌*◌, ◌%◌, ◌<◌, ℕ, Bool, true, false, nat_le, if◌then◌else◌, refl, ap, subst, sym, ◌∙◌, arith, Result, Ok, Err, IsOkAnd, None}
+use Rattle.std.proofs.Common.{◌≡◌, ◌≤◌, ◌+◌, ◌-◌, ◌*◌, ◌%◌, ◌<◌, ℕ, Bool, true, false, nat_le, if◌then◌else◌, refl, ap, subst, sym, ◌∙◌, arith, Result, Ok, Err, IsOkAnd, Some, None}
 use Rattle.std.proofs.lemmas.Bool.{leb-true}
 use Rattle.gx_words.specs.declared.faults.Fault.{Fault}
 use Rattle.gx_words.specs.declared.faults.Fault.TheVariants.{Overflow}
 use Rattle.gx_rows.specs.declared.instructions.Class.{Class}
 use Rattle.gx_rows.specs.declared.instructions.Class.TheVariants as class
 use Rattle.gx_state.specs.declared.effects.Effect.{Effect}
-use Rattle.gx_state.specs.declared.effects.Effect.TheVariants.{Went, Drew, Put, Glk, Quit, Spent}
+use Rattle.gx_state.specs.declared.effects.Effect.TheVariants.{Went, Drew, Put, Glk, Save, Restore, Quit, Spent}
 use Rattle.gx_state.specs.declared.effects.Reply.{Reply}
 use Rattle.gx_state.specs.declared.modes.Dest.{Dest}
 use Rattle.gx_state.specs.declared.modes.Dest.TheVariants.{Nowhere, Memory, Local, Push}
@@ -16,12 +16,16 @@ use Rattle.gx_state.specs.Flat.{FlatState, IsHeight, frame_of, sp_of}
 use Rattle.gx_state.specs.Replies.{IsDone}
 use Rattle.gx_operands.specs.Instructions.{Instruction, instruction, L2, going_to}
 use Rattle.gx_machine.specs.Answer.{answered_state, answered_in, answered_by, answered_row, replied, IsStoredAnswer, IsStoredIn, IsStoredBy}
+use Rattle.ops_game.specs.Rows.{IsAsking, IsSaveAtMost}
 use Rattle.ops_memory.specs.Costs.{EndsWithin}
 use Rattle.ops_print.specs.Items.{mode_after}
 use Rattle.ops_print.specs.Rows.{IsPutAtMost}
-use Rattle.gx_state.specs.Stores.{store_fault, IsMemory}
+use Rattle.gx_state.specs.Stores.{store_fault}
+use Rattle.gx_undo.specs.Undo.{FlatUndo}
+use Rattle.gx_machine.specs.declared.askings.Asking.{Asking}
 use Rattle.gx_machine.specs.declared.askings.Asking.TheVariants as asking
-use Rattle.gx_machine.specs.Step.{asking_of}
+use Rattle.gx_machine.specs.Saves.{copy_by, saved_copy}
+use Rattle.gx_machine.specs.Step.{asking_of, room_of}
 use Rattle.gx_machine.specs.Views.{IsPending, result_len, resumed}
 
 by_class : (f : FlatState) (i : Instruction) (c : Class) → f.mode ≡ Running → instruction f ≡ Ok i → i.row.class ≡ c → (reply : Reply) → answered_state f reply ≡ answered_row c f i reply
@@ -44,6 +48,10 @@ pub glk_answers : (f : FlatState) (i : Instruction) (reply : Reply) → f.mode �
     → answered_state f reply ≡ resumed (replied f (i.sp - 4 * L2 i) i.dest reply) i.next Running
 glk_answers f i reply running decoded is = by_class f i class.Glk running decoded is reply ∙ on_with f (i.sp - 4 * L2 i) i.dest i.next reply running
 
+pub game_answers : (f : FlatState) (i : Instruction) (reply : Reply) → f.mode ≡ Running → instruction f ≡ Ok i → i.row.class ≡ class.Game
+    → answered_state f reply ≡ resumed (replied f i.sp i.dest reply) i.next Running
+game_answers f i reply running decoded is = by_class f i class.Game running decoded is reply ∙ on_with f i.sp i.dest i.next reply running
+
 -- the answer to a character of what is printed
 item_answered : (f : FlatState) (reply : Reply) (m : Mode) → f.mode ≡ m → (m ≡ Running → ⊥) → answered_in f reply m ≡ resumed (replied f (sp_of f) Nowhere reply) f.pc (mode_after f)
 item_answered f reply Running is printing = absurd (printing refl)
@@ -53,18 +61,20 @@ pub item_answers : (f : FlatState) (reply : Reply) → (f.mode ≡ Running → �
 unfolding answered_state
 item_answers f reply printing = item_answered f reply f.mode refl printing
 
--- the result of a Glk call is stored where its operand says
-pub glk_stores : (f : FlatState) (i : Instruction) → f.mode ≡ Running → instruction f ≡ Ok i → i.row.class ≡ class.Glk → IsMemory i.dest → IsStoredAnswer f
+-- the result of what asked is stored where its operand says
+stored_by : (f : FlatState) (i : Instruction) (c : Class) → f.mode ≡ Running → instruction f ≡ Ok i → i.row.class ≡ c → IsStoredBy c i → IsStoredAnswer f
 unfolding IsStoredAnswer
-glk_stores f i running decoded is memory =
+stored_by f i c running decoded is stored =
     subst (IsStoredIn f) (sym running)
-    (subst (λ (r : Result Instruction Fault). IsOkAnd r (λ x. IsStoredBy x.row.class x)) (sym decoded) (subst (λ (c : Class). IsStoredBy c i) (sym is) memory))
+    (subst (λ (r : Result Instruction Fault). IsOkAnd r (λ x. IsStoredBy x.row.class x)) (sym decoded) (subst (λ (x : Class). IsStoredBy x i) (sym is) stored))
 
 pub done_asks : (e : Effect) → IsDone e → asking_of e ≡ None
 done_asks Went h = refl
 done_asks Drew h = refl
 done_asks (Put c) h = absurd h
 done_asks (Glk selector args room) h = absurd h
+done_asks (Save stream) h = absurd h
+done_asks (Restore stream) h = absurd h
 done_asks Quit h = refl
 done_asks Spent h = absurd h
 
@@ -75,6 +85,9 @@ spent_within left probes e ends spent = subst (EndsWithin left probes) spent end
 pub never_spent : (left probes : ℕ) (e : Effect) → IsDone e → e ≡ Spent → left < probes
 never_spent left probes e done spent = absurd (subst IsDone spent done)
 
+pub save_or_done : (old new : FlatState × FlatUndo) (i : Instruction) (e : Effect) → IsSaveAtMost old new i e → e ≡ Spent → ⊥
+save_or_done old new i e asks spent = absurd (subst (IsSaveAtMost old new i) spent asks)
+
 pub put_or_done : (e : Effect) (A : Type 0) → IsPutAtMost e A → e ≡ Spent → ⊥
 put_or_done e A asks spent = absurd (subst (λ (x : Effect). IsPutAtMost x A) spent asks)
 
@@ -84,10 +97,12 @@ within_asks left probes Went h = refl
 within_asks left probes Drew h = refl
 within_asks left probes (Put c) h = absurd h
 within_asks left probes (Glk selector args room) h = absurd h
+within_asks left probes (Save stream) h = absurd h
+within_asks left probes (Restore stream) h = absurd h
 within_asks left probes Quit h = refl
 within_asks left probes Spent h = refl
 
-pub ruleset answers = (print_answers, glk_answers, done_asks, within_asks, spent_within, never_spent, put_or_done)
+pub ruleset answers = (print_answers, glk_answers, done_asks, within_asks, spent_within, never_spent, put_or_done, save_or_done)
 
 -- what is pending after a character was put by code
 pub print_pends : (f g : FlatState) (i : Instruction) → g ≡ f → f.mode ≡ Running → instruction f ≡ Ok i → i.row.class ≡ class.Print → IsHeight f i.sp → sp_of f ≤ f.stack.limit
@@ -100,6 +115,7 @@ print_pends f g i same running decoded is height fits =
       stores = refl;
       memory = λ none. absurd none;
       room = omega (arith, height.there);
+      saves = λ none. absurd cc;
       answers = λ reply. print_answers f i reply running decoded is;
     })
 
@@ -114,6 +130,7 @@ item_pends f g same printing live values aligned fits =
       stores = refl;
       memory = λ none. absurd none;
       room = omega arith;
+      saves = λ none. absurd cc;
       answers = λ reply. item_answers f reply printing;
     })
 
@@ -124,8 +141,9 @@ pub glk_pends : (f : FlatState) (i : Instruction) (count room : ℕ) → f.mode 
 glk_pends f i count room running decoded is counted height stores fits = record {
   height = height;
   stores = stores;
-  memory = glk_stores f i running decoded is;
+  memory = stored_by f i class.Glk running decoded is;
   room = fits;
+  saves = λ none. absurd cc;
   answers = λ reply. rw counted (glk_answers f i reply running decoded is);
 }
 
@@ -140,3 +158,33 @@ store_fits f Nowhere sp stores fits = omega arith
 store_fits f (Memory at) sp stores fits = omega arith
 store_fits f (Local at) sp stores fits = omega arith
 store_fits f Push sp stores fits = push_fits (nat_le (sp + 4) f.stack.limit) sp f.stack.limit (leb-true (sp + 4) f.stack.limit) stores
+
+-- what is pending after a save or a restore
+game_pends : (f : FlatState) (i : Instruction) (a : Asking) (above : ℕ) → room_of (Some a) ≡ 0 → (a ≡ asking.Save → above ≡ 16)
+    → f.mode ≡ Running → instruction f ≡ Ok i → i.row.class ≡ class.Game → IsHeight f i.sp → i.sp + above ≤ f.stack.limit → store_fault f 4 i.dest i.sp ≡ Ok tt
+    → IsPending f (record { asking = a; sp = i.sp; dest = i.dest; next = i.next; mode = Running })
+unfolding saved_copy
+game_pends f i a above none stub running decoded is height fits stores =
+    let within = store_fits f i.dest i.sp stores (omega arith) in
+    record {
+      height = height;
+      stores = stores;
+      memory = stored_by f i class.Game running decoded is;
+      room = omega arith;
+      saves = λ saves. let is16 = stub saves in record { room = omega arith; copy = ap (copy_by f) decoded };
+      answers = λ reply. game_answers f i reply running decoded is;
+    }
+
+pub save_pends : (f g : FlatState) (u v : FlatUndo) (i : Instruction) → IsAsking (f, u) (g, v) i 16
+    → f.mode ≡ Running → instruction f ≡ Ok i → i.row.class ≡ class.Game → IsHeight f i.sp
+    → IsPending g (record { asking = asking.Save; sp = i.sp; dest = i.dest; next = i.next; mode = Running })
+save_pends f g u v i asks running decoded is height =
+    subst (λ (x : FlatState × FlatUndo). IsPending x.0 (record { asking = asking.Save; sp = i.sp; dest = i.dest; next = i.next; mode = Running })) (sym asks.stands)
+    (game_pends f i asking.Save 16 refl (λ saves. refl) running decoded is height asks.room asks.stores)
+
+pub restore_pends : (f g : FlatState) (u v : FlatUndo) (i : Instruction) → IsAsking (f, u) (g, v) i 0
+    → f.mode ≡ Running → instruction f ≡ Ok i → i.row.class ≡ class.Game → IsHeight f i.sp
+    → IsPending g (record { asking = asking.Restore; sp = i.sp; dest = i.dest; next = i.next; mode = Running })
+restore_pends f g u v i asks running decoded is height =
+    subst (λ (x : FlatState × FlatUndo). IsPending x.0 (record { asking = asking.Restore; sp = i.sp; dest = i.dest; next = i.next; mode = Running })) (sym asks.stands)
+    (game_pends f i asking.Restore 0 refl (λ saves. absurd cc) running decoded is height asks.room asks.stores)

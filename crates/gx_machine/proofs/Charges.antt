@@ -1,8 +1,7 @@
 -- The rows of Copy and Memory within a budget.
-use Rattle.std.proofs.Common.{◌≡◌, ◌≢◌, ◌⊎◌, inl, inr, ◌-◌, ℕ, Option, nat_lt, if◌then◌else◌, Bool, true, false, Result, Ok, Err, IsOk, ap, subst, sym, ◌∙◌, refl}
+use Rattle.std.proofs.Common.{◌≡◌, ◌⊎◌, inl, inr, ℕ, nat_lt, if◌then◌else◌, Bool, true, false, Result, Ok, Err, IsOk, ap, subst, sym, ◌∙◌, refl}
 use Rattle.gx_words.specs.declared.faults.Fault.{Fault}
 use Rattle.gx_words.specs.Faults.{Does}
-use Rattle.gx_words.specs.Results.{◌>>=◌}
 use Rattle.gx_rows.specs.declared.instructions.Class.{Class}
 use Rattle.gx_rows.specs.declared.instructions.Class.TheVariants as class
 use Rattle.gx_state.specs.declared.effects.Effect.{Effect}
@@ -13,7 +12,6 @@ use Rattle.gx_operands.specs.Instructions.{Instruction}
 use Rattle.ops_memory.specs.Rows as memory
 use Rattle.ops_memory.specs.Writes as memory_writes
 use Rattle.ops_memory.specs.Costs.{probes_of, lowered, charged, acted}
-use Rattle.gx_machine.specs.declared.machine.Pending.{Pending}
 use Rattle.gx_machine.specs.Machine.{FlatMachine}
 use Rattle.gx_machine.specs.Rows.{row_effect, with_copies, IsWriting}
 

@@ -1,10 +1,10 @@
 -- Steps that are made the quick way, one after the other.
-use Rattle.std.proofs.Common.{◌≡◌, ◌<◌, ◌≤◌, ◌+◌, ◌-◌, ℕ, zero, suc, nat_lt, false, None, Result, Ok, Err, IsOk, refl, ap, subst, sym, ◌∙◌, arith}
+use Rattle.std.proofs.Common.{◌≡◌, ◌<◌, ◌≤◌, ◌-◌, ℕ, zero, suc, nat_lt, false, None, Result, Ok, Err, IsOk, refl, ap, subst, sym, ◌∙◌, arith}
 use Rattle.std.proofs.lemmas.Bool.{le-ltb}
 use Rattle.gx_words.specs.declared.faults.Fault.{Fault}
 use Rattle.gx_words.specs.Faults.{IsRefused}
 use Rattle.gx_state.specs.declared.effects.Effect.{Effect}
-use Rattle.gx_state.specs.declared.effects.Effect.TheVariants.{Went, Spent}
+use Rattle.gx_state.specs.declared.effects.Effect.TheVariants.{Went}
 use Rattle.gx_state.specs.declared.modes.Mode.TheVariants.{Running}
 use Rattle.gx_state.specs.Flat.{sp_of}
 use Rattle.ops_memory.specs.Costs.{lowered, charged}

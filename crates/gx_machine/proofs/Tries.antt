@@ -1,5 +1,5 @@
 -- What the quick way does is the machine's step.
-use Rattle.std.proofs.Common.{◌≡◌, ◌≢◌, ◌≤◌, ◌<◌, ◌==◌, ◌&&◌, ◌||◌, not, ℕ, Bool, true, false, nat_le, length, refl, ap, subst, sym, ◌∙◌, arith, Result, Ok, Err, IsOk, IsOkAnd}
+use Rattle.std.proofs.Common.{◌≡◌, ◌≤◌, ◌<◌, ◌==◌, ◌&&◌, ◌||◌, not, ℕ, Bool, true, false, nat_le, length, refl, ap, subst, sym, ◌∙◌, arith, Result, Ok, Err, IsOk, IsOkAnd}
 use Rattle.std.specs.List.{list_all}
 use Rattle.std.specs.Option.{ok_or}
 use Rattle.std.proofs.lemmas.Bool.Decides.{nat_tests}
@@ -14,7 +14,7 @@ use Rattle.gx_rows.specs.declared.numbers.TheConstants.{LINEARSEARCH, BINARYSEAR
 use Rattle.gx_rows.specs.Table.{table, row_at, row_of}
 use Rattle.gx_state.specs.declared.effects.Effect.{Effect}
 use Rattle.gx_state.specs.declared.modes.Mode.TheVariants.{Running}
-use Rattle.gx_state.specs.Flat.{FlatState, sp_of}
+use Rattle.gx_state.specs.Flat.{FlatState}
 use Rattle.gx_operands.specs.Instructions.{Operands, Instruction, opcode, all_operands, instruction}
 use Rattle.gx_undo.specs.Undo.{FlatUndo}
 use Rattle.ops_memory.specs.Costs.{memory_probes, probes_of}

@@ -33,11 +33,12 @@ with_pushes f dest r = record f { stack = record f.stack { bytes = f.stack.bytes
 abbrev pub replied : FlatState → ℕ → Dest → Reply → FlatState
 replied f sp dest r = with_pushes (cut (with_writes f dest r) sp) dest r
 
--- The instruction that asked, answered: a Glk call has popped its arguments, and a character that was
--- put has no answer to store.
+-- The instruction that asked, answered: a Glk call has popped its arguments, a character that was
+-- put has no answer to store, and a save or a restore has one.
 abbrev pub answered_row : Class → FlatState → Instruction → Reply → FlatState
 answered_row class.Glk f i r = going_to (replied f (i.sp - 4 * L2 i) i.dest r) i.next
 answered_row class.Print f i r = going_to (replied f i.sp Nowhere r) i.next
+answered_row class.Game f i r = going_to (replied f i.sp i.dest r) i.next
 answered_row c f i r = f
 
 abbrev pub answered_by : FlatState → Reply → Result Instruction Fault → FlatState
@@ -65,9 +66,10 @@ pub record IsAnswer (m : Whole) (reply : Reply) : Type 0 where
   pub pending : IsSome m.asking
   pub fits : IsReply m.machine.flat (room_of m.asking) reply
 
--- The value of an answer is stored in memory: that of a Glk call may be.
+-- The value of an answer is stored in memory: that of a Glk call, a save or a restore may be.
 abbrev pub IsStoredBy : Class → Instruction → Type 0
 IsStoredBy class.Glk i = IsMemory i.dest
+IsStoredBy class.Game i = IsMemory i.dest
 IsStoredBy c i = ⊥
 
 abbrev pub IsStoredIn : FlatState → Mode → Type 0

@@ -4,4 +4,5 @@ pub mod Step
 pub mod Quick
 pub mod Answer
 pub mod Start
+pub mod Saves
 pub mod Views

@@ -5,7 +5,7 @@ use Rattle.gx_words.specs.declared.faults.Fault.TheVariants.{BadFrame}
 use Rattle.gx_words.specs.Faults.{Does}
 use Rattle.gx_words.specs.Results.{◌>>=◌}
 use Rattle.gx_state.specs.declared.effects.Effect.{Effect}
-use Rattle.gx_state.specs.declared.effects.Effect.TheVariants.{Went, Drew, Put, Glk, Quit, Spent}
+use Rattle.gx_state.specs.declared.effects.Effect.TheVariants.{Went, Drew, Put, Glk, Save, Restore, Quit, Spent}
 use Rattle.gx_state.specs.declared.modes.Mode.{Mode}
 use Rattle.gx_state.specs.declared.modes.Mode.TheVariants as mode
 use Rattle.gx_state.specs.Flat.{FlatState, sp_of}
@@ -50,6 +50,8 @@ asking_of Went = None
 asking_of Drew = None
 asking_of (Put c) = Some asking.Put
 asking_of (Glk selector args room) = Some (asking.Glk room)
+asking_of (Save stream) = Some asking.Save
+asking_of (Restore stream) = Some asking.Restore
 asking_of Quit = None
 asking_of Spent = None
 
@@ -58,6 +60,8 @@ abbrev pub room_of : Option Asking → ℕ
 room_of None = 0
 room_of (Some asking.Put) = 0
 room_of (Some (asking.Glk room)) = room
+room_of (Some asking.Save) = 0
+room_of (Some asking.Restore) = 0
 
 -- One step within a budget.
 unfoldable pub stepped : Whole → ℕ → ℕ → Result ((Whole × ℕ) × Effect) Fault

@@ -5,13 +5,16 @@ use Rattle.gx_state.specs.declared.effects.Reply.{Reply}
 use Rattle.gx_state.specs.declared.modes.Dest.{Dest}
 use Rattle.gx_state.specs.declared.modes.Dest.TheVariants.{Push}
 use Rattle.gx_state.specs.declared.modes.Mode.{Mode}
-use Rattle.gx_state.specs.Flat.{FlatState, HeldState, IsHeight}
+use Rattle.gx_state.specs.Copies.{copy_of}
+use Rattle.gx_state.specs.Flat.{FlatState, HeldState, IsHeight, cut}
 use Rattle.gx_state.specs.Stores.{store_fault, IsMemory}
 use Rattle.gx_undo.specs.Undo.{FlatUndo, AreCopiesFor}
+use Rattle.gx_machine.specs.declared.askings.Asking.TheVariants as asking
 use Rattle.gx_machine.specs.declared.machine.Pending.{Pending}
 use Rattle.gx_machine.specs.declared.machine.Machine.TheInside.{Inside}
 use Rattle.gx_machine.specs.Answer.{answered_state, replied, IsStoredAnswer}
 use Rattle.gx_machine.specs.Machine.{FlatMachine, Whole}
+use Rattle.gx_machine.specs.Saves.{saved_copy}
 use Rattle.gx_machine.specs.Step.{room_of}
 
 abbrev pub whole_of : {A : Type 0} → Inside A → Whole
@@ -30,12 +33,18 @@ result_len dest = 0
 abbrev pub resumed : FlatState → ℕ → Mode → FlatState
 resumed f pc mode = record f { pc = pc; mode = mode }
 
+-- what is pending is the save that asked, and its stub has room
+pub record IsSaving (f : FlatState) (p : Pending) : Type 0 where
+  pub room : p.sp + 16 ≤ f.stack.limit
+  pub copy : saved_copy f ≡ copy_of (cut f p.sp) p.dest p.next
+
 -- what is pending answers what asked, and its store has no fault
 pub record IsPending (f : FlatState) (p : Pending) : Type 0 where
   pub height : IsHeight f p.sp
   pub stores : store_fault f 4 p.dest p.sp ≡ Ok tt
   pub memory : IsMemory p.dest → IsStoredAnswer f
   pub room : p.sp + 4 * room_of (Some p.asking) + result_len p.dest ≤ f.stack.limit
+  pub saves : p.asking ≡ asking.Save → IsSaving f p
   pub answers : (reply : Reply) → answered_state f reply ≡ resumed (replied f p.sp p.dest reply) p.next p.mode
 
 -- the state that is seen, and what holds of the fields beside it

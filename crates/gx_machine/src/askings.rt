@@ -7,4 +7,8 @@ pub enum Asking {
     Put,
     /// A Glk call; its reply may push so many values beside its own store.
     Glk(u32),
+    /// A save; its reply pushes nothing beside its own store.
+    Save,
+    /// A restore that fails is answered; its reply pushes nothing beside its own store.
+    Restore,
 }

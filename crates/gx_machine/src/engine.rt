@@ -1,17 +1,21 @@
 //! What a session runs on: a machine, or a tape over one.
-ghost use Rattle.std.specs.Prelude.{◌≡◌, None, IsSome, IfOk, OnOk, OnErr};
+ghost use Rattle.std.specs.Prelude.{◌≡◌, length, Some, None, IsSome, IfOk, OnOk, OnErr};
 ghost use Rattle.gx_words.specs.Faults.{Does};
+ghost use Rattle.gx_state.specs.Copies.{IsCopyFor};
 ghost use Rattle.gx_machine.specs.Machine.{Whole};
 ghost use Rattle.gx_machine.specs.Answer.{answered, IsAnswer};
+ghost use Rattle.gx_machine.specs.Saves.{restored_whole, saved_copy};
 ghost use Rattle.gx_machine.specs.Step.{stepped, asking_of, Advances};
 
-use gx_state::{Effect, Reply, State};
+use crate::Asking;
+use gx_state::{Effect, FlatCopy, Reply, State};
+use gx_story::Story;
 use gx_words::Fault;
-use std::alloc::{AllocError, Allocator};
+use std::alloc::{AllocError, Allocator, Global};
 
 /// Steps and the answers to what they ask.
 ///
-/// Every step that has no fault may want memory, and so may every answer; nothing has changed then.
+/// Every step that has no fault may want memory, and so may every answer and every copy; nothing has changed then.
 pub trait Engine<A: Allocator + Clone> {
     ghost whole: { Self → Whole };
 
@@ -33,7 +37,28 @@ pub trait Engine<A: Allocator + Clone> {
         ensures ok { OnOk result (whole self.new ≡ answered (whole self.old) reply.now) }
         ensures err { OnErr result (whole self.new ≡ whole self.old) };
 
+    /// The copy that the save which the last step asked is to write.
+    fn save_copy(&self, alloc: Global) -> Result<FlatCopy, AllocError>
+        requires { (whole self.now).asking ≡ Some Asking.Save }
+        ensures value { IfOk result (λ copy. copy ≡ saved_copy (whole self.now).machine.flat) }
+        ensures fit { IfOk result (λ copy. IsCopyFor (whole self.now).machine.flat.story copy) };
+
+    /// Goes back to a copy, for the restore which the last step asked.
+    fn restore_copy(&mut self, copy: &FlatCopy) -> Result<(), AllocError>
+        requires asks { (whole self.old).asking ≡ Some Asking.Restore }
+        requires fit { IsCopyFor (whole self.old).machine.flat.story copy.now }
+        ensures ok { OnOk result (whole self.new ≡ restored_whole (whole self.old) copy.now) }
+        ensures err { OnErr result (whole self.new ≡ whole self.old) };
+
     /// The state of its machine.
     fn state(&self) -> &State<A>
         ensures { result.now.flat ≡ (whole self.now).machine.flat };
+
+    /// The story that it plays.
+    fn story(&self) -> &Story
+        ensures { result.now ≡ (whole self.now).machine.flat.story };
+
+    /// How many copies it keeps for undo.
+    fn undo_len(&self) -> usize
+        ensures { result ≡ length (whole self.now).machine.undo.copies };
 }

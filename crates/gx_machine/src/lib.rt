@@ -9,6 +9,10 @@
 //! exactly where the definition has it, an asking leaves the state as it is, and the budget is lowered
 //! by the cost, but not after a fault. Want of memory comes only where the definition has no fault and
 //! the step writes, resizes or copies memory, and then everything is as before the step.
+//!
+//! What a step asks is answered by `finish`, by definitions of specs/Answer. A save is answered once the copy that
+//! `save_copy` gives was written, and a restore has `restore_copy` go back to a copy, or is answered where it fails
+//! (specs/Saves).
 #![tactic(auto)]
 
 mod askings;

@@ -1,12 +1,14 @@
 //! The machine: one step, and the answer to what it asks.
 ghost use Rattle.std.specs.Prelude.{◌≡◌, ◌≢◌, ◌⊎◌, ◌+◌, ◌*◌, ◌<◌, ◌≤◌, ℕ, true, length, Ok, Some, None, IfOk, IsSome, OnOk, OnErr};
 ghost use Rattle.gx_words.specs.Faults.{Does, Makes};
+ghost use Rattle.gx_state.specs.Copies.{IsCopyFor};
 ghost use Rattle.gx_state.specs.Flat.{IsHeight, sp_of};
 ghost use Rattle.gx_state.specs.Replies.{AreInRam, IsReply};
 ghost use Rattle.gx_state.specs.Stores.{store_fault, IsMemory};
 ghost use Rattle.gx_pages.specs.Memory.{HasBytes};
 ghost use Rattle.gx_machine.specs.Answer.{answered, answered_state, with_writes, with_pushes, IsAnswer, IsStoredAnswer};
 ghost use Rattle.gx_machine.specs.Quick.{Tries, Passed};
+ghost use Rattle.gx_machine.specs.Saves.{restored_whole, saved_copy};
 ghost use Rattle.gx_machine.specs.Start.{first_machine};
 ghost use Rattle.gx_machine.specs.Step.{asking_of, room_of, stepped, Advances, IsModeWriting, IsStepWriting};
 ghost use Rattle.gx_machine.specs.Views.{IsPending, result_len};
@@ -15,7 +17,7 @@ use crate::quick::quick;
 use crate::rows::{print, run};
 use crate::{Asking, Engine};
 use gx_operands::Plan;
-use gx_state::{Dest, Effect, Mode, Reply, State};
+use gx_state::{Dest, Effect, FlatCopy, Mode, Reply, State};
 use gx_story::Story;
 use gx_undo::Undo;
 use gx_words::{Fault, word_bytes};
@@ -262,6 +264,34 @@ impl<A: Allocator + Clone> Machine<A> {
         self.pending = None;
         Ok(())
     }
+
+    /// The copy that the save which the last step asked is to write: the state once the operands are popped, with the
+    /// stub of the store operand on top of its stack.
+    #[tactic(auto, using(ops_game::proofs::Copies::place_found))]
+    pub fn save_copy(&self, alloc: Global) -> Result<FlatCopy, AllocError>
+        requires { self.now.asking ≡ Some Asking.Save }
+        ensures value { IfOk result (λ copy. copy ≡ saved_copy self.now.machine.flat) }
+        ensures fit { IfOk result (λ copy. IsCopyFor self.now.machine.flat.story copy) }
+    {
+        let Some(pending) = self.pending else {
+            unreachable!()
+        };
+        self.state
+            .flat(alloc, &pending.dest, pending.next, pending.sp)
+    }
+
+    /// Goes back to a copy, for the restore which the last step asked: nothing is pending then.
+    #[tactic(auto, unfolding(crate::specs::Saves::restored))]
+    pub fn restore_copy(&mut self, copy: &FlatCopy) -> Result<(), AllocError>
+        requires asks { self.old.asking ≡ Some Asking.Restore }
+        requires fit { IsCopyFor self.old.machine.flat.story copy.now }
+        ensures ok { OnOk result (self.new ≡ restored_whole self.old copy.now) }
+        ensures err { OnErr result (self.new ≡ self.old) }
+    {
+        self.state.with_bytes(copy)?;
+        self.pending = None;
+        Ok(())
+    }
 }
 
 /// Makes the writes of a reply, and stores its value where that goes to memory or a local.
@@ -346,7 +376,23 @@ impl<A: Allocator + Clone> Engine<A> for Machine<A> {
         Machine::finish(self, reply)
     }
 
+    fn save_copy(&self, alloc: Global) -> Result<FlatCopy, AllocError> {
+        Machine::save_copy(self, alloc)
+    }
+
+    fn restore_copy(&mut self, copy: &FlatCopy) -> Result<(), AllocError> {
+        Machine::restore_copy(self, copy)
+    }
+
     fn state(&self) -> &State<A> {
         Machine::state(self)
+    }
+
+    fn story(&self) -> &Story {
+        Machine::story(self)
+    }
+
+    fn undo_len(&self) -> usize {
+        Machine::undo_len(self)
     }
 }

@@ -8,6 +8,8 @@ ghost use Rattle.gx_state.specs.Flat.{FlatState, IsHeight, sp_of};
 ghost use Rattle.gx_operands.specs.Instructions.{instruction};
 ghost use Rattle.gx_operands.specs.Plans.{instruction_of};
 ghost use Rattle.gx_undo.specs.Undo.{AreCopiesFor};
+ghost use Rattle.ops_game.specs.Rows as game;
+ghost use Rattle.ops_game.specs.Writes as game_writes;
 ghost use Rattle.ops_memory.specs.Costs.{probes_of, charged};
 ghost use Rattle.ops_print.specs.Rows as print;
 ghost use Rattle.ops_print.specs.Items.{printed};
@@ -145,6 +147,56 @@ pub(crate) fn print<A: Allocator + Clone>(
     }
 }
 
+/// What is pending after a row of Game asked.
+fn game_pending(plan: &Plan, asking: Asking) -> Pending
+    ensures { result ≡ record { asking = asking; sp = plan.now.sp; dest = plan.now.dest; next = plan.now.next; mode = Mode.Running } }
+{
+    Pending {
+        asking,
+        sp: plan.sp,
+        dest: plan.dest,
+        next: plan.next,
+        mode: Mode::Running,
+    }
+}
+
+/// A row of Game.
+#[tactic(auto, using(crate::proofs::Answers::answers))]
+fn game_row<A: Allocator + Clone>(
+    state: &mut State<A>,
+    undo: &mut Undo<A>,
+    plan: &Plan,
+    word: u32,
+    pending: &mut Option<Pending>,
+) -> Result<Effect, Fault>
+    requires free { pending.old ≡ None }
+    requires running { state.old.flat.mode ≡ Running }
+    requires sp { IsHeight state.old.flat plan.now.sp }
+    requires decoded { instruction state.old.flat ≡ Ok (instruction_of plan.now) }
+    requires class { (instruction_of plan.now).row.class ≡ Class.Game }
+    requires copies { AreCopiesFor state.old.flat.story undo.old.copies }
+    ensures value { Does (game_writes.IsWriting undo.old (instruction_of plan.now)) (λ effect. effect) result (state.old.flat, undo.old) (state.new.flat, undo.new) (game.row_effect state.old.flat undo.old word (instruction_of plan.now)) }
+    ensures asks { IfOk result (λ effect. asking_of effect ≡ option_map (λ p. p.asking) pending.new) }
+    ensures stands { OnOk result (IsSome pending.new → machine_of state.new undo.new ≡ machine_of state.old undo.old) }
+    ensures pends { OnOk result (IfSome pending.new (IsPending state.new.flat)) }
+    ensures stays { OnErr result (pending.new ≡ None) }
+    ensures spent { IfOk result (λ effect. effect ≢ Spent) }
+    ensures story { state.new.flat.story ≡ state.old.flat.story }
+    ensures copies { AreCopiesFor state.old.flat.story undo.new.copies }
+{
+    match ops_game::act(state, plan, undo, word)? {
+        Effect::Save(stream) => {
+            *pending = Some(game_pending(plan, Asking::Save));
+            Ok(Effect::Save(stream))
+        }
+        Effect::Restore(stream) => {
+            *pending = Some(game_pending(plan, Asking::Restore));
+            Ok(Effect::Restore(stream))
+        }
+        effect => Ok(effect),
+    }
+}
+
 /// Does the row of a plan that `decode` made of this state.
 #[tactic(auto, using(crate::proofs::Answers::answers))]
 fn row<A: Allocator + Clone>(
@@ -174,7 +226,7 @@ fn row<A: Allocator + Clone>(
         Class::Calc | Class::Branch | Class::Flow | Class::Stack => ops_flow::act(state, plan),
         Class::Copy | Class::Memory => ops_memory::act(state, plan, left),
         Class::Print => print_row(state, plan, pending),
-        Class::Game => ops_game::act(state, plan, undo, word),
+        Class::Game => game_row(state, undo, plan, word, pending),
         Class::Glk => glk(state, plan, pending),
     }
 }

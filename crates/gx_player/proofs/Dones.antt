@@ -15,6 +15,7 @@ use Rattle.gx_player.specs.Commands.{Command, command_of}
 use Rattle.gx_player.specs.Jobs.{work_line, check_status, check_line}
 use Rattle.gx_player.specs.Headline.{Outcome, refused, unstarted, runs, tells, outcome_of_job, outcome_of_story, outcome_of_check, story_of, HasNoMachine, IsUnbegun, IsLoadable, LoadsOnce, SendsLine, Plays, MayWant, Loads, LoadsFor, ComesOut, HasItsParts, IsPlaying, IsPlayed}
 use Rattle.gx_player.specs.Loading.{status_of, fault_of, LoadGives, LoadsFile, BlamesSink, HasRunParts, IsDone}
+use Rattle.gx_player.proofs.Completeness.{complete, unsent}
 use Rattle.gx_player.proofs.Loads.{loadable}
 use Rattle.gx_player.proofs.Works.{works}
 
@@ -223,16 +224,21 @@ module _ {A : Type 0} (ended : Ended A) where
   module _ (words : List (List ℕ)) (entry : Devices) where
     -- the command line has a command, and its job was done
     pub played-done : (command : Command) (exit : Devices) → command_of words ≡ Some command → IsDone command.job command entry exit ended → IsPlayed words entry exit ended
-    played-done command exit is done = record {
-      headline = subst (λ (o : Option Command). ComesOut o entry exit ended) (sym is) (record { file = done.file; file_is = done.file_is; plays = done.plays; memory = λ e. inr (done.memory e) });
-      bad_words = (λ e. absurd (done.began e), λ none. let absent = none.0 in absurd cc);
-      unread = λ none. absurd cc;
-      loads = λ absent. subst (λ (o : Option Command). LoadsFor o entry exit ended.status) (sym is) (inl (done.loads absent));
-      untouched = done.untouched;
-      counts = done.counts;
-      parts = subst (λ (o : Option Command). HasItsParts (IsPlaying o) ended) (sym is) done.parts;
-      works = works;
-    }
+    played-done command exit is done =
+        let headline : ComesOut (command_of words) entry exit ended =
+        subst (λ (o : Option Command). ComesOut o entry exit ended) (sym is) (record { file = done.file; file_is = done.file_is; plays = done.plays; memory = λ e. inr (done.memory e) }) in
+        record {
+          headline = headline;
+          unsent = unsent ended entry exit (command_of words) headline;
+          complete = complete ended entry exit (command_of words) headline done.counts;
+          bad_words = (λ e. absurd (done.began e), λ none. let absent = none.0 in absurd cc);
+          unread = λ none. absurd cc;
+          loads = λ absent. subst (λ (o : Option Command). LoadsFor o entry exit ended.status) (sym is) (inl (done.loads absent));
+          untouched = done.untouched;
+          counts = done.counts;
+          parts = subst (λ (o : Option Command). HasItsParts (IsPlaying o) ended) (sym is) done.parts;
+          works = works;
+        }
 
     -- no device was called
     none-called : (status : ℕ) → ended.status ≡ status → (status ≡ 1) ⊎ (status ≡ 11) → Counts entry entry ended.status
@@ -246,8 +252,12 @@ module _ {A : Type 0} (ended : Ended A) where
     pub played-none : command_of words ≡ None → HasNoMachine ended BAD_WORDS 0 0 → IsPlayed words entry entry ended
     played-none none absent =
         let s = absent.status_is in
+        let headline : ComesOut (command_of words) entry entry ended =
+        subst (λ (o : Option Command). ComesOut o entry entry ended) (sym none) (record { file = None; file_is = tt; plays = (inl absent, refl); memory = λ e. absurd (omega (arith, s, e)) }) in
         record {
-          headline = subst (λ (o : Option Command). ComesOut o entry entry ended) (sym none) (record { file = None; file_is = tt; plays = (inl absent, refl); memory = λ e. absurd (omega (arith, s, e)) });
+          headline = headline;
+          unsent = λ _ _. refl;
+          complete = complete ended entry entry (command_of words) headline (none-called BAD_WORDS s (inl refl));
           bad_words = (λ _. (none, λ e. absurd (omega (arith, s, e))), λ _. s);
           unread = λ _. refl;
           loads = λ _. subst (λ (o : Option Command). LoadsFor o entry entry ended.status) (sym none) refl;
@@ -276,6 +286,8 @@ module _ {A : Type 0} (ended : Ended A) where
         let s = absent.status_is in
         record {
           headline = unread-comes (command_of words) absent;
+          unsent = λ _ _. refl;
+          complete = λ _ _ _. inr s;
           bad_words = (λ e. absurd (omega (arith, s, e)), λ p. absurd (p.1 s));
           unread = λ _. refl;
           loads = λ _. unread-loads (command_of words) s;

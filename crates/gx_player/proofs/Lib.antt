@@ -1,3 +1,4 @@
+pub mod Completeness
 pub mod CommandLines
 pub mod Digits
 pub mod Dones

@@ -21,7 +21,9 @@
 -- before the shelf or the source is asked for anything. Fewer than 4,096 bytes are read ahead of the lines that were taken,
 -- and none where no line is awaited. The status blames a device exactly where a call of it failed in this run, which was
 -- then its last one. Each restoreundo of the session goes back to the newest saveundo that was neither used nor dropped
--- (`LastsUndo`).
+-- (`LastsUndo`), whatever was restored from files in between. Each save that the session makes is read back as the very copy
+-- that was saved (`SavedAll`, `SavedBy`), and so is every copy that fits the story (`SavesReadBack`). And where no count of
+-- failures rose the status is the outcome's, or memory ran out (`IsComplete`).
 --
 -- Premises: that the story's file is the one that the shelf holds is said of a shelf that tells what it holds, as one in
 -- memory does. A real one doesn't, and there the run is that of some file: of the bytes that it handed out. Nothing is
@@ -30,14 +32,15 @@
 -- that tells, and how often it was called of every one.
 --
 -- Limits: nothing is said of time, nor of how much memory a run takes. Want of memory is a free answer wherever the
--- definition has no fault, and while the words are read. So a body would pass that answers NO_MEMORY before it does
--- anything, once there are bytes to be loaded, or before any step that has no fault: that ample memory suffices is only
--- tested. None would pass that asked for a file that isn't there and answers so, or where a device failed, where the next
--- step meets a fault, or where a line is awaited and no input is left.
+-- definition has no fault, once a save is begun, and while the words are read. So a body would pass that answers NO_MEMORY
+-- before it does anything, once there are bytes to be loaded, or before any step that has no fault: that ample memory
+-- suffices is only tested. None would pass that asked for a file that isn't there and answers so, or where a device failed,
+-- where the next step meets a fault that isn't a save's, or where a line is awaited and no input is left.
 use Rattle.std.specs.Prelude.{◌≡◌, ◌≢◌, ℕ, ◌≤◌, nat_lt, if◌then◌else◌, length, List, ◌++◌, ◌⊎◌, ◌↔◌, true, Option, Some, None, IsSome, IsSomeAnd, Result, Ok, Err}
 use Rattle.gx_words.specs.declared.faults.Fault.{Fault}
 use Rattle.gx_words.specs.Faults.{number_of}
 use Rattle.gx_words.specs.declared.limits.TheConstants.{CEILING}
+use Rattle.gx_outside.specs.Files.{Files}
 use Rattle.gx_outside.specs.Outside.{FlatShelf, FlatSink, raised}
 use Rattle.gx_story.specs.declared.faults.StoryFault.{StoryFault}
 use Rattle.gx_story.specs.declared.faults.StoryFault.TheVariants.{TooLarge}
@@ -49,7 +52,7 @@ use Rattle.glk_world.specs.World.{empty_world}
 use Rattle.gx_session.specs.declared.ended.Ended.{Ended}
 use Rattle.gx_session.specs.declared.statuses.TheConstants.{ENDED, BAD_WORDS, BAD_STORY, FAULT, SPENT, SHELF_FAULT, OUTPUT_FAULT, NO_MEMORY}
 use Rattle.gx_session.specs.Devices.{Devices}
-use Rattle.gx_session.specs.Session.{Configuration, start_of}
+use Rattle.gx_session.specs.Session.{Configuration, start_of, final_of, status_of}
 use Rattle.gx_session.specs.Counts.{Counts}
 use Rattle.gx_session.specs.Runs.{IsRun, IsFront, report_of}
 use Rattle.gx_player.specs.declared.loading.TheConstants.{NO_FILE}
@@ -206,6 +209,31 @@ pub record HasItsParts {A : Type 0} (playing : Type 0) (ended : Ended A) : Type 
   pub ran : playing → (ended.status ≡ ENDED) ⊎ ((SPENT ≤ ended.status) × (ended.status ≤ OUTPUT_FAULT) × (ended.status ≢ SHELF_FAULT)) → IsSome ended.machine
   pub not_run : (ended.status ≡ BAD_WORDS) ⊎ (ended.status ≡ BAD_STORY) → ended.machine ≡ None
 
+-- COMPLETENESS
+-- the status of an outcome, where nothing cuts it short
+abbrev pub status_of_outcome : Outcome → ℕ
+status_of_outcome (refused status fault) = status
+status_of_outcome (unstarted fault at) = FAULT
+status_of_outcome (runs start) = status_of (final_of start).stop
+status_of_outcome (tells status line) = status
+
+-- what stands under the story's name, if a command names one
+abbrev pub file_in : Option Command → Files → Option (List ℕ)
+file_in None files = None
+file_in (Some command) files = files command.story
+
+-- No count of failures rose. (One that stands at 2^64 - 1 counts as one that rose.)
+pub record HasNoFailure (entry exit : Devices) : Type 0 where
+  pub source : exit.source.calls.faults ≢ raised entry.source.calls.faults
+  pub sink : exit.sink.calls.faults ≢ raised entry.sink.calls.faults
+  pub shelf : exit.shelf.calls.faults ≢ raised entry.shelf.calls.faults
+
+-- Where the source and the shelf tell what they hold and no device failed, the status is the outcome's, or memory ran out.
+abbrev pub IsComplete : Option Command → Devices → Devices → ℕ → Type 0
+IsComplete command entry exit status =
+    entry.source.tells ≡ true → entry.shelf.tells ≡ true → HasNoFailure entry exit
+    → (status ≡ status_of_outcome (outcome_of command (file_in command entry.shelf.files) entry)) ⊎ (status ≡ NO_MEMORY)
+
 -- THE CONTRACT OF `play`, between what the devices hold at entry and at exit.
 pub record IsPlayed {A : Type 0} (words : List (List ℕ)) (entry exit : Devices) (ended : Ended A) : Type 0 where
   pub headline : ComesOut (command_of words) entry exit ended
@@ -213,6 +241,8 @@ pub record IsPlayed {A : Type 0} (words : List (List ℕ)) (entry exit : Devices
   pub unread : command_of words ≡ None → exit ≡ entry
   pub loads : ended.machine ≡ None → LoadsFor (command_of words) entry exit ended.status
   pub untouched : ended.machine ≡ None → IsUntouched entry exit ended
+  pub unsent : IsPlaying (command_of words) → ended.machine ≡ None → exit.sink ≡ entry.sink
   pub counts : Counts entry exit ended.status
+  pub complete : IsComplete (command_of words) entry exit ended.status
   pub parts : HasItsParts (IsPlaying (command_of words)) ended
   pub works : (number : ℕ) → IsSome (work_machine number)

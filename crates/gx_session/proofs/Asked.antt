@@ -1,5 +1,5 @@
 -- What a shelf that tells answers is what the session has of its files.
-use Rattle.std.proofs.Common.{◌≡◌, ℕ, ◌<◌, ◌≤◌, List, length, Option, Some, None, nat_lt, if◌then◌else◌, Bool, true, false, refl, ap, sym, ◌∙◌}
+use Rattle.std.proofs.Common.{◌≡◌, ℕ, List, length, Option, if◌then◌else◌, Bool, ap, sym, ◌∙◌}
 use Rattle.std.proofs.lemmas.Bool.{lt-ltb, le-ltb}
 use Rattle.gx_outside.specs.Outside.{Loads}
 use Rattle.gx_outside.specs.declared.devices.Load.{Load}

@@ -1,15 +1,15 @@
 -- What the effects of a step, and the answers to what it asks, make of a run.
-use Rattle.std.proofs.Common.{◌≡◌, ◌≢◌, ℕ, suc, ◌+◌, ◌<◌, ◌≤◌, ◌==◌, nat_le, cond, not, List, [], ◌++◌, length, ◌⊎◌, inl, inr, Bool, true, false, Option, Some, None, IsSome, Result, Ok, Err, IsOk, if◌then◌else◌, refl, ap, subst, sym, ◌∙◌, append_assoc, arith}
+use Rattle.std.proofs.Common.{◌≡◌, ◌≢◌, ℕ, suc, ◌<◌, ◌≤◌, List, ◌++◌, length, inl, inr, Bool, true, false, Option, Some, None, is_some, IsSome, IsTrue, Result, Ok, Err, IsOk, if◌then◌else◌, refl, ap, subst, sym, ◌∙◌, append_assoc, arith}
 use Rattle.arrayvec.specs.ArrayVec.{ArrayVec}
 use Rattle.gx_words.specs.declared.faults.Fault.{Fault}
 use Rattle.gx_words.specs.declared.faults.Fault.TheVariants as fault
+use Rattle.gx_state.specs.Copies.{Copy}
 use Rattle.gx_state.specs.Flat.{FlatState}
 use Rattle.gx_state.specs.declared.effects.Effect.{Effect}
 use Rattle.gx_state.specs.declared.effects.Effect.TheVariants as effect
 use Rattle.gx_state.specs.declared.effects.Reply.{Reply}
 use Rattle.gx_machine.specs.declared.askings.Asking.{Asking}
 use Rattle.gx_machine.specs.Machine.{FlatMachine, Whole}
-use Rattle.gx_machine.specs.Answer.{answer_of}
 use Rattle.gx_machine.specs.Step.{asking_of, stepped}
 use Rattle.gx_outside.specs.Files.{Files}
 use Rattle.gx_outside.specs.Outside.{FlatSource, FlatShelf, raised}
@@ -29,21 +29,22 @@ use Rattle.gx_session.specs.declared.ends.Stop.TheVariants as stop
 use Rattle.gx_session.specs.declared.ends.Halt.{Halt}
 use Rattle.gx_session.specs.declared.ends.Halt.TheVariants as halt
 use Rattle.gx_session.specs.declared.ends.Next.{Next}
-use Rattle.gx_session.specs.declared.ends.Next.TheVariants as next
 use Rattle.gx_session.specs.declared.lines.TheConstants.{PIECE}
 use Rattle.gx_session.specs.declared.questions.Question.{Question}
 use Rattle.gx_session.specs.declared.questions.Question.TheVariants as asks-for
 use Rattle.gx_session.specs.declared.running.Waiting.{Waiting}
-use Rattle.gx_session.specs.Cuts.{IsLineStop, IsWait, IsQuestion, HasNoFault, WantsMemory}
+use Rattle.gx_session.specs.Cuts.{IsLineStop, IsWait, IsQuestion, HasNoFault, BeginsSave, WantsMemory}
 use Rattle.gx_session.specs.Devices.{Devices}
-use Rattle.gx_session.specs.Input.{NextLine, too_long, none, line, next_line}
+use Rattle.gx_session.specs.Input.{NextLine, line, next_line}
 use Rattle.gx_session.specs.Questions.{turn_of, files_after, given_for}
 use Rattle.gx_session.specs.Reading.{ReadsFew}
-use Rattle.gx_session.specs.Session.{Configuration, Doing, steps, asks, goes_on, goes, stops, after_reply, waiting_for, asking_for, after_turn, after_given, after_line, after_asking, shelf_gives, after_effect, act_of, asked, asked_at}
-use Rattle.gx_session.specs.Playing.{Held, WordIs, Past, configuration_of, IsPast, IsRead, Standing, Ready, Going, Waits, Done, Early, Follows, IsAnswering, Replies, Turns, GoesOn, TakesInput, Gives, FaultGives}
-use Rattle.gx_session.proofs.Steps.{step-does, step-faults, step-asks, step-asks-nothing, ok-is, asked-same}
+use Rattle.gx_session.specs.Saving.{is_begun, saving, restoring, IsReadBack}
+use Rattle.gx_session.specs.Session.{Configuration, Doing, steps, asks, goes_on, goes, stops, after_reply, after_restoring, waiting_for, asking_for, after_turn, after_given, after_line, after_asking, shelf_gives, after_effect, act_of, effect_at, asked, asked_at}
+use Rattle.gx_session.specs.Playing.{Held, WordIs, Past, configuration_of, IsPast, Standing, Ready, Going, Waits, Done, Early, Follows, IsAnswering, Resumes, Replies, Turns, GoesOn, TakesInput, Gives, FaultGives}
+use Rattle.gx_session.proofs.Steps.{step-does, step-faults, step-asks, step-effect, step-asks-nothing, ok-is, asked-same}
 use Rattle.gx_session.proofs.NextLines.{some-input, shorter-input}
 use Rattle.gx_session.proofs.Playing.{here, moves-on, stops-at, wants}
+use Rattle.gx_session.proofs.Saved.{unsaved, saved-of}
 use Rattle.rand_core.specs.Stream.{Stream, next_u32}
 
 -- a call on a world that is answered
@@ -97,11 +98,19 @@ fine-given m w (said, turn.Remove name) = tt
 fine-given m w (said, turn.Has name) = tt
 fine-given m w (said, turn.Exit) = tt
 
+pub fine-restoring : (m : Configuration) (left : ℕ) (p : Said × Option Copy) → HasNoFault (after_restoring m left (Ok p))
+fine-restoring m left (said, Some copy) = tt
+fine-restoring m left (said, None) = tt
+
 -- an answer may want memory where it has no fault
 wants-answer : (doing : Doing) (m : Configuration) (asking : Option Asking) → IsAnswering doing → asking ≡ asked m → HasNoFault (act_of m) → WantsMemory doing m asking
-wants-answer steps m asking is same fine = inr (same, fine)
+wants-answer steps m asking is same fine = inr (same, inl fine)
 wants-answer (goes_on g w) m asking is same fine = (same, fine)
 wants-answer (asks t w) m asking is same fine = absurd is
+
+-- an effect that asks is done
+not-spent : (does : Effect) → IsSome (asking_of does) → does ≢ effect.Spent
+not-spent does some spent = let none : is_some (asking_of does) ≡ false = ap (λ (x : Effect). is_some (asking_of x)) spent in cc
 
 -- what a turn says of a question
 pub question-is : (q : Question) → IsQuestion (turn_of q)
@@ -179,6 +188,7 @@ module _ (start : Configuration) (entry : Devices) (h : Held) (d : Devices) wher
       going = g;
       event = step-does m asking word first w left does e;
       asks = step-asks m asking word first w left does e;
+      effect = step-effect m asking word first w left does e;
       stands = stand;
     }
 
@@ -207,7 +217,8 @@ module _ (start : Configuration) (entry : Devices) (h : Held) (d : Devices) wher
     went-on f =
         let g = f.going in
         record {
-          now = moves-on start entry (record h { machine = f.before }) d steps g g.now.past steps (record h { left = left }) d (stood f.before g.now.past g.now.is_past) g.now.few g.now.reads f.event;
+          now = moves-on start entry (record h { machine = f.before }) d steps g g.now.past steps (record h { left = left }) d (stood f.before g.now.past g.now.is_past) g.now.few g.now.reads f.event
+              (saved-of (here start entry (record h { machine = f.before }) d steps g.now) effect.Went (f.effect (λ e. cc)) (λ begins. absurd begins));
           quiet = g.quiet;
         }
 
@@ -226,7 +237,8 @@ module _ (start : Configuration) (entry : Devices) (h : Held) (d : Devices) wher
           reads = i.reads;
         } in
         record {
-          now = moves-on start entry (record h { machine = f.before }) d steps g used steps (record h { left = left; word = None }) d is g.now.few g.now.reads f.event;
+          now = moves-on start entry (record h { machine = f.before }) d steps g used steps (record h { left = left; word = None }) d is g.now.few g.now.reads f.event
+              (saved-of (here start entry (record h { machine = f.before }) d steps g.now) effect.Drew (f.effect (λ e. cc)) (λ begins. absurd begins));
           quiet = g.quiet;
         }
 
@@ -245,10 +257,11 @@ module _ (start : Configuration) (entry : Devices) (h : Held) (d : Devices) wher
       pub going : Going start entry (record h { machine = machine }) d
       pub event : let m = configuration_of going.now.past steps (record h { machine = machine }) d in act_of m ≡ after_effect m left h.machine does
       pub asking_is : let m = configuration_of going.now.past steps (record h { machine = machine }) d in asked m ≡ asking_of does
+      pub effect_is : let m = configuration_of going.now.past steps (record h { machine = machine }) d in effect_at m ≡ Some does
 
     pub asks-now : (does : Effect) → Follows start entry h d left does → IsSome (asking_of does) → Asks h.machine does
     asks-now does f some =
-        let at_before : Asks f.before does = record { going = f.going; event = f.event; asking_is = f.asks some } in
+        let at_before : Asks f.before does = record { going = f.going; event = f.event; asking_is = f.asks some; effect_is = f.effect (not-spent does some) } in
         subst (λ (x : FlatMachine). Asks x does) (sym (f.stands some)) at_before
 
   -- A move from here wants memory, or has a fault.
@@ -264,34 +277,34 @@ module _ (start : Configuration) (entry : Devices) (h : Held) (d : Devices) wher
         subst (λ (x : FlatWorld). Done start entry (record h { world = x }) asking d (stop.Faulted f)) (sym same)
         (stops-at start entry h d doing g (stop.Faulted f) g.now.past doing h d asking g.now.is_past (λ long. g.now.few) (λ wait. g.now.reads) e asks-is)
 
-  -- THE ANSWER TO AN ASKING
-  module _ (asking : Option Asking) (left : ℕ) (reply : Reply) (r : Replies start entry h asking d left reply) where
+  -- THE ANSWER TO AN ASKING, or the way back to a copy
+  module _ (asking : Option Asking) (left : ℕ) (machine : FlatMachine) (r : Resumes start entry h asking d left machine) where
     abbrev before : Held
     before = record h { world = r.world }
 
     abbrev at : Configuration
     at = here start entry before d r.doing r.going.now
 
-    abbrev answered-held : Held
-    answered-held = record h { machine = answer_of h.machine reply; left = left }
+    abbrev resumed-held : Held
+    resumed-held = record h { machine = machine; left = left }
 
-    answered-past : IsPast start.input entry r.going.now.past answered-held d
-    answered-past = let i = r.going.now.is_past in record { taken = i.taken; asked = i.asked; told = i.told; word = i.word; left = i.left; fewer = i.fewer; reads = i.reads }
+    resumed-past : IsPast start.input entry r.going.now.past resumed-held d
+    resumed-past = let i = r.going.now.is_past in record { taken = i.taken; asked = i.asked; told = i.told; word = i.word; left = i.left; fewer = i.fewer; reads = i.reads }
 
     -- the configuration after it
-    answered-act : act_of at ≡ goes (configuration_of r.going.now.past steps answered-held d)
-    answered-act =
+    resumed-act : act_of at ≡ goes (configuration_of r.going.now.past steps resumed-held d)
+    resumed-act =
         r.event
-        ∙ ap (λ (w : FlatWorld). goes (record at { machine = answer_of h.machine reply; world = w; left = left; doing = steps }))
+        ∙ ap (λ (w : FlatWorld). goes (record at { machine = machine; world = w; left = left; doing = steps }))
         (sent-before r.going.now.past.sent r.world r.said ∙ ap (λ (w : FlatWorld). let x : FlatWorld = record { scene = w.scene; text = r.going.now.past.sent ++ w.text } in x) (sym r.moved))
 
-    pub answered-on : Standing start entry answered-held d steps
-    answered-on = moves-on start entry before d r.doing r.going r.going.now.past steps answered-held d answered-past r.going.now.few r.going.now.reads answered-act
+    pub resumed-on : Standing start entry resumed-held d steps
+    resumed-on = moves-on start entry before d r.doing r.going r.going.now.past steps resumed-held d resumed-past r.going.now.few r.going.now.reads resumed-act r.saved
 
-    pub answered-early : (h' : Held) → h'.machine ≡ h.machine → h'.left ≡ h.left → (asking' : Option Asking) → asking' ≡ asking → Early start entry h' asking' d halt.NoMemory
-    answered-early h' machine units asking' same =
+    pub resumed-early : (h' : Held) → h'.machine ≡ h.machine → h'.left ≡ h.left → (asking' : Option Asking) → asking' ≡ asking → Early start entry h' asking' d halt.NoMemory
+    resumed-early h' stands units asking' same =
         wants start entry before d r.doing r.going h' d.source asking'
-        (wants-answer r.doing at asking' r.answering (same ∙ r.asks) (subst HasNoFault (sym r.event) tt)) machine units
+        (wants-answer r.doing at asking' r.answering (same ∙ r.asks) (subst HasNoFault (sym r.event) tt)) stands units
 
   -- THE TURN OF A CALL
   module _ (asking : Option Asking) (w : Waiting) (t : Turn) (r : Turns start entry h asking d w t) where
@@ -325,7 +338,7 @@ module _ (start : Configuration) (entry : Devices) (h : Held) (d : Devices) wher
         let act : act_of called ≡ goes (configuration_of r.going.now.past (asks t w) h d) =
         r.event ∙ e ∙ ap (λ (x : FlatWorld). goes (record called { world = x; doing = asks t w })) turned-world in
         record {
-          now = moves-on start entry turning d steps r.going r.going.now.past (asks t w) h d (turn-past h refl refl refl refl) r.going.now.few r.going.now.reads act;
+          now = moves-on start entry turning d steps r.going r.going.now.past (asks t w) h d (turn-past h refl refl refl refl) r.going.now.few r.going.now.reads act r.saved;
           asking_is = r.asks ∙ asked-same called (configuration_of r.going.now.past (asks t w) h d) refl refl;
         }
 
@@ -341,7 +354,7 @@ module _ (start : Configuration) (entry : Devices) (h : Held) (d : Devices) wher
         let act : act_of called ≡ goes (configuration_of r.going.now.past (asks t w) h' d) =
         r.event ∙ e ∙ ap (λ (x : FlatWorld). goes (record called { world = x; doing = asks t w })) grids in
         let waits : Waits start entry h' asking d (asks t w) = record {
-          now = moves-on start entry turning d steps r.going r.going.now.past (asks t w) h' d (turn-past h' refl refl refl refl) r.going.now.few r.going.now.reads act;
+          now = moves-on start entry turning d steps r.going r.going.now.past (asks t w) h' d (turn-past h' refl refl refl refl) r.going.now.few r.going.now.reads act r.saved;
           asking_is = r.asks ∙ asked-same called (configuration_of r.going.now.past (asks t w) h' d) refl refl;
         } in
         subst (λ (x : FlatWorld). Waits start entry (record h { world = x }) asking d (asks t w)) (sym shown) waits
@@ -371,13 +384,14 @@ module _ (start : Configuration) (entry : Devices) (h : Held) (d : Devices) wher
       going = r.going;
       answering = tt;
       event = r.event ∙ ap (λ (x : Turn). after_turn called w (Ok (r.said, x))) e;
+      saved = r.saved;
       asks = r.asks;
     }
 
     -- the showing of the grids wants memory
     pub turn-wants : (h' : Held) → h'.machine ≡ h.machine → h'.left ≡ h.left → Early start entry h' asking d halt.NoMemory
     turn-wants h' machine units =
-        wants start entry turning d steps r.going h' d.source asking (inr (r.asks, subst HasNoFault (sym r.event) (fine-turn called w (r.said, t)))) machine units
+        wants start entry turning d steps r.going h' d.source asking (inr (r.asks, inl (subst HasNoFault (sym r.event) (fine-turn called w (r.said, t))))) machine units
 
   -- A call goes on.
   abbrev pub on-ready : (asking : Option Asking) (g : Given) (w : Waiting) → Waits start entry h asking d (goes_on g w) → Ready start entry h d (goes_on g w)
@@ -403,7 +417,7 @@ module _ (start : Configuration) (entry : Devices) (h : Held) (d : Devices) wher
         let act : act_of m ≡ goes (configuration_of p' (goes_on given w) h (record d { shelf = shelf })) =
         question-gives m w q ∙ ap (λ (f : Files). shelf_gives m w f (given_for q d.shelf.files)) (sym files) ∙ ap (shelf_gives m w shelf.files) (sym is) in
         record {
-          now = moves-on start entry h d (asks (turn_of q) w) g p' (goes_on given w) h (record d { shelf = shelf }) past g.now.few g.now.reads act;
+          now = moves-on start entry h d (asks (turn_of q) w) g p' (goes_on given w) h (record d { shelf = shelf }) past g.now.few g.now.reads act (unsaved m (λ e. cc));
           asking_is = asks-is ∙ asked-same m (configuration_of p' (goes_on given w) h (record d { shelf = shelf })) refl refl;
         }
 
@@ -481,7 +495,7 @@ module _ (start : Configuration) (entry : Devices) (h : Held) (d : Devices) wher
         } in
         let act : act_of asking-at ≡ goes (configuration_of p (goes_on (given.Line chars) w) h' d) = taken-act ∙ shown-line p h.echo in
         let waits : Waits start entry h' asking d (goes_on (given.Line chars) w) = record {
-          now = moves-on start entry was d-was (asks r.turn w) r.going p (goes_on (given.Line chars) w) h' d past r.few (inr less) act;
+          now = moves-on start entry was d-was (asks r.turn w) r.going p (goes_on (given.Line chars) w) h' d past r.few (inr less) act (unsaved asking-at (λ e. cc));
           asking_is = r.asking_is ∙ asked-same asking-at (configuration_of p (goes_on (given.Line chars) w) h' d) refl refl;
         } in
         subst (λ (x : FlatWorld). Waits start entry (record h { world = x }) asking d (goes_on (given.Line chars) w)) (sym shown) waits
@@ -493,7 +507,7 @@ module _ (start : Configuration) (entry : Devices) (h : Held) (d : Devices) wher
             ap (λ (x : FlatWorld). goes (record asking-at { world = x; input = h.ahead ++ h.coming; doing = goes_on (given.Line chars) w })) (sent-before p.sent h.world (show_line h.world.scene chars))
         shown-line p false = refl
 
-  -- A CHARACTER IS PUT, A CALL IS MADE, A CALL GOES ON
+  -- A CHARACTER IS PUT, A CALL IS MADE, A GAME IS SAVED OR RESTORED, A CALL GOES ON
   module _ (left : ℕ) (does : Effect) (a : Asks left h.machine does) where
     abbrev pub asking-here : Configuration
     asking-here = here start entry h d steps a.going.now
@@ -510,9 +524,25 @@ module _ (start : Configuration) (entry : Devices) (h : Held) (d : Devices) wher
         ∙ ap (after_turn asking-here w)
         (subst (λ (ys : List ℕ). glk_call h.world.scene h.machine.flat w.room selector ys ≡ r) listed (subst (λ (x : FlatState). glk_call h.world.scene x w.room selector xs ≡ r) same e))
 
-    pub put-replies : (asking : Option Asking) (world : FlatWorld) (said : Said) (reply : Reply) → asking ≡ asking_of does → world ≡ after h.world said → act_of asking-here ≡ after_reply asking-here left (Ok (said, reply))
-        → Replies start entry (record h { world = world }) asking d left reply
-    put-replies asking world said reply asks-is moved e = record {
+    pub saving-does : (stream : ℕ) (r : Result (Said × Reply) Fault) → does ≡ effect.Save stream → saving h.world.scene h.machine.flat stream ≡ r → act_of asking-here ≡ after_reply asking-here left r
+    saving-does stream r is e = a.event ∙ ap (after_effect asking-here left h.machine) is ∙ ap (after_reply asking-here left) e
+
+    pub restoring-does : (stream : ℕ) (r : Result (Said × Option Copy) Fault) → does ≡ effect.Restore stream → restoring h.world.scene h.machine.flat stream ≡ r
+        → act_of asking-here ≡ after_restoring asking-here left r
+    restoring-does stream r is e = a.event ∙ ap (after_effect asking-here left h.machine) is ∙ ap (after_restoring asking-here left) e
+
+    -- a save that is begun wants memory
+    pub save-wants : (stream : ℕ) → does ≡ effect.Save stream → IsTrue (is_begun h.world.scene h.machine.flat stream) → (world : FlatWorld) (asking : Option Asking) → asking ≡ asking_of does
+        → Early start entry (record h { world = world }) asking d halt.NoMemory
+    save-wants stream is begun world asking asks-is =
+        let begins : BeginsSave asking-here (effect_at asking-here) = subst (BeginsSave asking-here) (sym (a.effect_is ∙ ap (λ (e : Effect). Some e) is)) begun in
+        wants start entry h d steps a.going (record h { world = world }) d.source asking (inr (asks-is ∙ sym a.asking_is, inr begins)) refl refl
+
+    -- the machine takes an answer, or goes back to a copy
+    pub asking-resumes : (asking : Option Asking) (world : FlatWorld) (said : Said) (machine : FlatMachine) → asking ≡ asking_of does → world ≡ after h.world said
+        → act_of asking-here ≡ goes (record asking-here { machine = machine; world = after asking-here.world said; left = left; doing = steps })
+        → (BeginsSave asking-here (Some does) → IsReadBack h.machine.flat) → Resumes start entry (record h { world = world }) asking d left machine
+    asking-resumes asking world said machine asks-is moved e saved = record {
       world = h.world;
       said = said;
       doing = steps;
@@ -520,12 +550,21 @@ module _ (start : Configuration) (entry : Devices) (h : Held) (d : Devices) wher
       going = a.going;
       answering = tt;
       event = e;
+      saved = saved-of asking-here does a.effect_is saved;
       asks = asks-is ∙ sym a.asking_is;
     }
 
     pub call-turns : (asking : Option Asking) (world : FlatWorld) (said : Said) (w : Waiting) (t : Turn) → asking ≡ asking_of does → world ≡ after h.world said → act_of asking-here ≡ after_turn asking-here w (Ok (said, t))
-        → Turns start entry (record h { world = world }) asking d w t
-    call-turns asking world said w t asks-is moved e = record { world = h.world; said = said; moved = moved; going = a.going; event = e; asks = asks-is ∙ sym a.asking_is }
+        → (BeginsSave asking-here (Some does) → ⊥) → Turns start entry (record h { world = world }) asking d w t
+    call-turns asking world said w t asks-is moved e unsaving = record {
+      world = h.world;
+      said = said;
+      moved = moved;
+      going = a.going;
+      event = e;
+      saved = saved-of asking-here does a.effect_is (λ begins. absurd (unsaving begins));
+      asks = asks-is ∙ sym a.asking_is;
+    }
 
   module _ (asking : Option Asking) (g : Given) (w : Waiting) (waits : Waits start entry h asking d (goes_on g w)) where
     abbrev pub going-on : Configuration
@@ -548,5 +587,6 @@ module _ (start : Configuration) (entry : Devices) (h : Held) (d : Devices) wher
     going = r.going;
     answering = tt;
     event = r.event ∙ ap (λ (x : Turn). after_given (here start entry (record h { world = r.world }) d (goes_on r.given w) r.going.now) w (Ok (r.said, x))) is;
+    saved = unsaved (here start entry (record h { world = r.world }) d (goes_on r.given w) r.going.now) (λ e. cc);
     asks = r.asks;
   }

@@ -1,22 +1,16 @@
 -- What the parts of a move come to, case by case: a fact that holds of each case holds of the whole.
-use Rattle.std.proofs.Common.{ℕ, List, if◌then◌else◌, Bool, true, false, Result, Ok, Err}
+use Rattle.std.proofs.Common.{ℕ, List, Result, Ok, Err}
 use Rattle.gx_words.specs.declared.faults.Fault.{Fault}
 use Rattle.gx_outside.specs.Files.{Files}
-use Rattle.gx_state.specs.declared.effects.Effect.{Effect}
-use Rattle.gx_state.specs.declared.effects.Effect.TheVariants as effect
 use Rattle.gx_state.specs.declared.effects.Reply.{Reply}
-use Rattle.gx_machine.specs.Machine.{FlatMachine}
 use Rattle.glk_world.specs.World.{Said, after}
 use Rattle.glk_dispatch.specs.declared.Turn.{Turn}
 use Rattle.glk_dispatch.specs.declared.Turn.TheVariants as turn
 use Rattle.glk_dispatch.specs.declared.Given.{Given}
-use Rattle.glk_dispatch.specs.Calls.{glk_call}
-use Rattle.glk_dispatch.specs.Output.{putting}
 use Rattle.gx_session.specs.declared.ends.Stop.TheVariants as stop
 use Rattle.gx_session.specs.declared.running.Waiting.{Waiting}
 use Rattle.gx_session.specs.Input.{NextLine, too_long, none, line, next_line}
-use Rattle.gx_session.specs.Session.{Configuration, Verdict, goes, stops, goes_on, after_reply, asking_for, waiting_for, after_turn, after_given, with_line, after_line, shelf_gives, after_asking, after_effect, after_step, done}
-use Rattle.rand_core.specs.Stream.{next_u32}
+use Rattle.gx_session.specs.Session.{Configuration, Verdict, stops, after_reply, asking_for, waiting_for, after_turn, after_given, after_line, shelf_gives, after_asking}
 
 module _ (P : Verdict → Type 0) (m : Configuration) where
   -- a turn

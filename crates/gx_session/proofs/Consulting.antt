@@ -1,7 +1,7 @@
 -- A device is asked in the middle of a Glk call, once the pending text is sent.
-use Rattle.std.proofs.Common.{◌≡◌, ◌≢◌, ℕ, suc, ◌+◌, ◌<◌, ◌⊎◌, inl, inr, Bool, true, false, List, ◌++◌, length, Option, Some, None, Result, Ok, Err, refl, ap, subst, sym, ◌∙◌, arith}
+use Rattle.std.proofs.Common.{◌≡◌, ℕ, ◌⊎◌, inl, inr, Bool, true, false, List, ◌++◌, Option, Some, None, Result, Ok, Err, refl, ap, subst, sym, ◌∙◌}
 use Rattle.gx_machine.specs.declared.askings.Asking.{Asking}
-use Rattle.gx_outside.specs.Outside.{FlatSource, FlatSink, FlatShelf, raised, raised_by}
+use Rattle.gx_outside.specs.Outside.{FlatSource, FlatSink, FlatShelf, raised}
 use Rattle.gx_outside.specs.declared.devices.ShelfFault.{ShelfFault}
 use Rattle.gx_outside.specs.declared.devices.ShelfFault.TheVariants as of_shelf
 use Rattle.glk_world.specs.World.{FlatWorld}
@@ -9,11 +9,9 @@ use Rattle.glk_dispatch.specs.declared.Turn.{Turn}
 use Rattle.glk_dispatch.specs.declared.Given.{Given}
 use Rattle.gx_session.specs.declared.ends.Halt.{Halt}
 use Rattle.gx_session.specs.declared.ends.Halt.TheVariants as halt
-use Rattle.gx_session.specs.declared.ends.Next.{Next}
 use Rattle.gx_session.specs.declared.ends.Stop.TheVariants as stop
 use Rattle.gx_session.specs.declared.lines.NoLine.{NoLine}
 use Rattle.gx_session.specs.declared.lines.NoLine.TheVariants as no
-use Rattle.gx_session.specs.declared.lines.TheConstants.{PIECE}
 use Rattle.gx_session.specs.declared.questions.Question.{Question}
 use Rattle.gx_session.specs.declared.running.Waiting.{Waiting}
 use Rattle.gx_session.specs.Counts.{IsUntold}
@@ -22,12 +20,11 @@ use Rattle.gx_session.specs.Devices.{Devices}
 use Rattle.gx_session.specs.Input.{none, too_long}
 use Rattle.gx_session.specs.Questions.{turn_of, Answers}
 use Rattle.gx_session.specs.Reading.{TakesLine, HoldsFew, ReadsFew, failures}
-use Rattle.gx_session.specs.Session.{Configuration, Doing, asks, goes_on, asked}
-use Rattle.gx_session.specs.Playing.{Held, WordIs, Standing, Ready, Waits, Flushes, TakesInput, EventGives, Early, halt_of_shelf, without_line}
+use Rattle.gx_session.specs.Session.{Configuration, asks, goes_on, asked}
+use Rattle.gx_session.specs.Playing.{Held, WordIs, Ready, Waits, Flushes, TakesInput, EventGives, Early, halt_of_shelf, without_line}
 use Rattle.gx_session.proofs.Asking.{question-is, shelf-answers, line-stops}
 use Rattle.gx_session.proofs.Feeding.{reads-on}
 use Rattle.gx_session.proofs.Playing.{here, flushed, cut-send, refused, unread, wants}
-use Rattle.gx_session.proofs.Storing.{raised-more}
 use Rattle.gx_session.proofs.Steps.{asked-by-word}
 use Rattle.rand_core.specs.Stream.{Stream, next_u32}
 

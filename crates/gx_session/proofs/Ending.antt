@@ -12,14 +12,14 @@ use Rattle.gx_session.specs.declared.ends.Stop.{Stop}
 use Rattle.gx_session.specs.declared.ends.Stop.TheVariants as stop
 use Rattle.gx_session.specs.declared.ends.Halt.{Halt}
 use Rattle.gx_session.specs.declared.ends.Halt.TheVariants as halt
-use Rattle.gx_session.specs.declared.statuses.TheConstants.{ENDED, FAULT, SHELF_FAULT, INPUT_FAULT, OUTPUT_FAULT, NO_MEMORY}
-use Rattle.gx_session.specs.Counts.{Blames, Counts, IsUntold}
-use Rattle.gx_session.specs.Cuts.{in_listing, in_store, IsCut, IsLineStop, IsShelfStatus, AwaitedAt, LongAt, stopped, asking_at_stop}
+use Rattle.gx_session.specs.declared.statuses.TheConstants.{SHELF_FAULT, INPUT_FAULT, OUTPUT_FAULT}
+use Rattle.gx_session.specs.Counts.{Counts, IsUntold}
+use Rattle.gx_session.specs.Cuts.{in_listing, in_store, IsLineStop, IsShelfStatus, stopped}
 use Rattle.gx_session.specs.Devices.{Devices}
 use Rattle.gx_session.specs.Endings.{Store, stores_of, stored, told_all, after_stores, last_of, StoredAll, StoredSome}
 use Rattle.gx_session.specs.Session.{Configuration, Ending, final_of, status_of, fault_number, fault_address}
 use Rattle.gx_session.specs.Runs.{IsFront, LeavesInput, read_failures, AreDrawn, Report, EndsAt, StopsEarly, IsReport, IsSession, IsSomeSession}
-use Rattle.gx_session.specs.Playing.{Held, configuration_of, HasTaken, Told, Finished, Early, Closes, EndingGives, RunGives, IsStop, status_of_halt, Keeps, StoresFiles}
+use Rattle.gx_session.specs.Playing.{Held, configuration_of, HasTaken, Told, Finished, Early, EndingGives, RunGives, IsStop, status_of_halt, Keeps, StoresFiles}
 use Rattle.gx_session.proofs.Counting.{blames-same}
 use Rattle.gx_session.proofs.Playing.{cut-at, input-left, words-left}
 use Rattle.gx_session.proofs.Storing.{raised-more}
@@ -74,7 +74,7 @@ module _ (start : Configuration) (entry : Devices) (h : Held) (asking : Option A
   listing-wants =
       cut-at start entry d h asking halt.NoMemory in_listing (told_all (stopped start)) t.past.sent [] (refl, refl, t.asking_is) (sym (ap (λ (m : Configuration). m.machine) t.is_end)) (sym (ap (λ (m : Configuration). m.left) t.is_end))
       (whole-text ∙ sym (append-nil t.past.sent)) sent-taken whole-front (omega (arith, sent-bytes)) (omega (arith, sent-bytes)) (sym (ap (λ (m : Configuration). m.files) t.is_end))
-      (t.is_past.asked ∙ ap (λ (m : Configuration). raised_by m.asked entry.shelf.calls.made) (sym t.is_end)) (λ other. absurd (other refl)) words-are
+      (t.is_past.asked ∙ ap (λ (m : Configuration). raised_by m.asked entry.shelf.calls.made) (sym t.is_end)) (λ other. absurd (other refl)) words-are t.saves
 
   module _ (shelf : FlatShelf) where
     abbrev d-now : Devices
@@ -117,7 +117,7 @@ module _ (start : Configuration) (entry : Devices) (h : Held) (asking : Option A
         (subst (λ (f : Files). KeepsOthers (stored f s.front) shelf.files s.next.0) (sym before) (s.files tells))
         (asked-so (suc (length s.front)) s.made ∙ ap (λ (k : ℕ). raised_by k entry.shelf.calls.made) count)
         (λ other.
-        subst (LeavesInput start.input m.input entry.source d.source (IsLineStop (final_of start).stop) ((final_of start).stop ≡ stop.LineTooLong)) (sym (no-failures halted only)) input-are) words-are)
+        subst (LeavesInput start.input m.input entry.source d.source (IsLineStop (final_of start).stop) ((final_of start).stop ≡ stop.LineTooLong)) (sym (no-failures halted only)) input-are) words-are t.saves)
 
     -- all of them were stored
     all-by : (stores : List Store) (b : Bool) → d.shelf.tells ≡ b → StoredAll stores d.shelf shelf → IsUntold entry.shelf shelf ⊎ (shelf.files ≡ stored d.shelf.files stores)
@@ -175,6 +175,7 @@ ended-at start entry h asking d why fewer f =
           ∙ ap (λ (k : ℕ). raised_by k entry.shelf.calls.made) count;
       input_is = input-are start entry h asking d0 why t;
       words_are = words-are start entry h asking d0 why t;
+      saves_are = t.saves;
     }
 
 -- what a run that was cut short used and left

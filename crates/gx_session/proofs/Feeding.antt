@@ -1,13 +1,13 @@
 -- What comes of a source over parts of a run that follow one another.
-use Rattle.std.proofs.Common.{◌≡◌, ◌≢◌, ℕ, ◌+◌, ◌<◌, ◌≤◌, ◌-◌, ◌⊎◌, inl, inr, List, [], ◌∷◌, ◌++◌, length, take, drop, Bool, true, false, Result, Ok, Err, IfOk, IfErr, refl, ap, subst, sym, ◌∙◌, arith, append_assoc, length-append, length-drop}
+use Rattle.std.proofs.Common.{◌≡◌, ℕ, ◌+◌, ◌<◌, ◌≤◌, ◌-◌, ◌⊎◌, inl, inr, List, [], ◌∷◌, ◌++◌, length, take, drop, Bool, true, false, Result, Ok, Err, IfOk, IfErr, refl, ap, subst, sym, ◌∙◌, arith, append_assoc, length-append, length-drop}
 use Rattle.std.proofs.lemmas.Bool.{cases_lt}
 use Rattle.gx_outside.specs.Outside.{FlatSource, raised, raised_by}
 use Rattle.gx_session.specs.declared.lines.NoLine.{NoLine}
 use Rattle.gx_session.specs.declared.lines.NoLine.TheVariants as no
 use Rattle.gx_session.specs.declared.lines.TheConstants.{LONGEST, PIECE}
-use Rattle.gx_session.specs.Input.{line, none, chars_of, next_line}
+use Rattle.gx_session.specs.Input.{line, chars_of, next_line}
 use Rattle.gx_session.specs.Lines.{HeldLines}
-use Rattle.gx_session.specs.Reading.{IsComing, IsOver, Fed, TakesLine, spare, ReadsFew, Takes, GrowsBy, Loses, Fills, IsPartial, HoldsFew}
+use Rattle.gx_session.specs.Reading.{IsComing, IsOver, Fed, spare, ReadsFew, Takes, GrowsBy, Fills, IsPartial, HoldsFew}
 use Rattle.gx_session.proofs.Storing.{raised-more}
 use Rattle.gx_session.proofs.NextLines.{pos, next-long, next-held, next-last, next-none}
 

@@ -1,10 +1,11 @@
 -- Moves bring a session nearer to its end, which stays the same.
-use Rattle.std.proofs.Common.{◌≡◌, ℕ, suc, zero, ◌+◌, ◌-◌, ◌*◌, ◌<◌, ◌≤◌, nat_le, nat_lt, if◌then◌else◌, Bool, true, false, List, ◌++◌, length, Option, Some, Result, Ok, Err, refl, ap, subst, sym, ◌∙◌, arith, option_and_then}
+use Rattle.std.proofs.Common.{◌≡◌, ℕ, suc, zero, ◌+◌, ◌-◌, ◌*◌, ◌<◌, ◌≤◌, nat_lt, if◌then◌else◌, Bool, true, false, List, ◌++◌, length, Option, Some, None, Result, Ok, Err, refl, ap, subst, sym, ◌∙◌, arith, option_and_then}
 use Rattle.std.proofs.lemmas.Bool.{ltb-false, lt-leb}
 use Rattle.gx_words.specs.declared.faults.Fault.{Fault}
 use Rattle.gx_state.specs.declared.effects.Effect.{Effect}
 use Rattle.gx_state.specs.declared.effects.Effect.TheVariants as effect
 use Rattle.gx_state.specs.declared.effects.Reply.{Reply}
+use Rattle.gx_state.specs.Copies.{Copy}
 use Rattle.gx_machine.specs.Machine.{FlatMachine}
 use Rattle.gx_machine.specs.Step.{cost_of, step_of}
 use Rattle.gx_machine.proofs.Costs.{cost-positive}
@@ -19,8 +20,9 @@ use Rattle.gx_session.specs.declared.ends.Stop.TheVariants as stop
 use Rattle.gx_session.specs.declared.running.TheConstants.{ENOUGH}
 use Rattle.gx_session.specs.declared.running.Waiting.{Waiting}
 use Rattle.gx_session.specs.Input.{next_line}
+use Rattle.gx_session.specs.Saving.{saving, restoring}
 use Rattle.gx_session.specs.Sending.{Sent, is_due, with_all}
-use Rattle.gx_session.specs.Session.{Configuration, Doing, steps, asks, goes_on, Verdict, goes, stops, after_reply, after_turn, after_effect, after_step, step_from, act_by, act_of, is_due_by, sends_now, all_sent, move_of, Ending, end_after, final_in, moves_by, moves_left, final_of, next_of, run_of}
+use Rattle.gx_session.specs.Session.{Configuration, Doing, steps, asks, goes_on, Verdict, goes, stops, after_reply, after_restoring, after_turn, after_effect, after_step, step_from, act_by, act_of, is_due_by, sends_now, all_sent, move_of, Ending, end_after, final_in, moves_by, moves_left, final_of, next_of, run_of}
 use Rattle.gx_session.proofs.Cases.{turn-cases, given-cases, line-cases, asking-cases}
 use Rattle.rand_core.specs.Stream.{next_u32}
 
@@ -53,6 +55,15 @@ replied-near n m left (Ok r) less =
     omega arith
 replied-near n m left (Err f) less = tt
 
+restored-near : (n : ℕ) (m : Configuration) (left : ℕ) (r : Result (Said × Option Copy) Fault) → 5 * left + 1 < n → Near n (after_restoring m left r)
+restored-near n m left (Ok (said, Some copy)) less =
+    let few : (if is_due ENOUGH m.sent (m.world.text ++ said.1) then 1 else 0) ≤ 1 = at-most-one (is_due ENOUGH m.sent (m.world.text ++ said.1)) in
+    omega arith
+restored-near n m left (Ok (said, None)) less =
+    let few : (if is_due ENOUGH m.sent (m.world.text ++ said.1) then 1 else 0) ≤ 1 = at-most-one (is_due ENOUGH m.sent (m.world.text ++ said.1)) in
+    omega arith
+restored-near n m left (Err f) less = tt
+
 asks-near : (n : ℕ) (w : Waiting) (b : Bool) → 5 * w.left + 4 < n → 5 * w.left + 3 + (if b then 1 else 0) < n
 asks-near n w b less =
     let few : (if b then 1 else 0) ≤ 1 = at-most-one b in
@@ -79,6 +90,8 @@ effected-near n m left machine effect.Drew is less =
 effected-near n m left machine (effect.Put c) is less = replied-near n m left (putting m.world.scene m.machine.flat c) (omega arith)
 effected-near n m left machine (effect.Glk selector args room) is less =
     turned-near n m (record { room = room; left = left }) (glk_call m.world.scene m.machine.flat room selector args.items) less
+effected-near n m left machine (effect.Save stream) is less = replied-near n m left (saving m.world.scene m.machine.flat stream) (omega arith)
+effected-near n m left machine (effect.Restore stream) is less = restored-near n m left (restoring m.world.scene m.machine.flat stream) (omega arith)
 effected-near n m left machine effect.Quit is less = tt
 effected-near n m left machine effect.Spent is less = tt
 

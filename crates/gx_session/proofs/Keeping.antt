@@ -1,5 +1,5 @@
 -- The devices over parts of a run that follow one another.
-use Rattle.std.proofs.Common.{◌≡◌, ◌≢◌, ℕ, zero, suc, ◌+◌, ◌≤◌, ◌⊎◌, inl, inr, Result, Ok, Err, IfErr, Bool, false, refl, ap, subst, sym, ◌∙◌, arith}
+use Rattle.std.proofs.Common.{◌≡◌, ◌≢◌, ℕ, suc, ◌+◌, ◌⊎◌, inl, inr, Result, Ok, Err, IfErr, false, refl, ap, sym, ◌∙◌, arith}
 use Rattle.gx_outside.specs.Outside.{FlatSource, FlatSink, FlatShelf, HasCause, raised_by}
 use Rattle.gx_outside.specs.declared.calls.Calls.{Calls}
 use Rattle.gx_session.specs.declared.ends.Halt.{Halt}

@@ -13,6 +13,8 @@ pub mod Lining
 pub mod NextLines
 pub mod Passing
 pub mod Playing
+pub mod Saved
+pub mod Saving
 pub mod Storing
 pub mod Texts
 pub mod Undoing

@@ -1,5 +1,5 @@
 -- A line that was taken is shown, and the call goes on with it.
-use Rattle.std.proofs.Common.{◌≡◌, ℕ, inr, List, if◌then◌else◌, Bool, true, false, Result, Err, refl, ap, subst, sym}
+use Rattle.std.proofs.Common.{◌≡◌, ℕ, inr, List, if◌then◌else◌, Bool, true, false, Err, refl, subst, sym}
 use Rattle.gx_machine.specs.Machine.{Whole}
 use Rattle.glk_world.specs.World.{FlatWorld, after}
 use Rattle.glk_world.specs.Shown.{show_line}

@@ -1,12 +1,10 @@
 -- The next line of what is held and what comes.
-use Rattle.std.proofs.Common.{◌≡◌, ◌≢◌, ℕ, suc, ◌+◌, ◌-◌, ◌<◌, ◌≤◌, ◌⊎◌, inl, inr, min, ◌==◌, not, cond, if◌then◌else◌, nat_le, Bool, true, false, List, [], ◌∷◌, ◌++◌, length, take, drop, get_or, Result, Ok, Err, refl, ap, subst, sym, ◌∙◌, arith, append_assoc, append-nil, length-append}
+use Rattle.std.proofs.Common.{◌≡◌, ℕ, suc, ◌+◌, ◌-◌, ◌<◌, ◌≤◌, ◌⊎◌, inl, inr, min, ◌==◌, not, cond, if◌then◌else◌, nat_le, Bool, true, false, List, [], ◌∷◌, ◌++◌, length, take, drop, refl, ap, sym, ◌∙◌, arith, append-nil, length-append}
 use Rattle.std.specs.List.{position_or_len, before_first, after_first}
 use Rattle.std.proofs.lemmas.Bool.{le-leb, lt-leb, ne_eqb, cases_lt}
 use Rattle.std.proofs.lemmas.List.{take-append-le, drop-append-le, length-take, take_all, length-drop}
-use Rattle.gx_session.specs.declared.lines.NoLine.{NoLine}
-use Rattle.gx_session.specs.declared.lines.NoLine.TheVariants as no
-use Rattle.gx_session.specs.declared.lines.TheConstants.{LONGEST, PIECE}
-use Rattle.gx_session.specs.Input.{NextLine, too_long, none, line, is_line_feed, chars_of, next_line}
+use Rattle.gx_session.specs.declared.lines.TheConstants.{LONGEST}
+use Rattle.gx_session.specs.Input.{too_long, none, line, is_line_feed, chars_of, next_line}
 
 -- where the first line feed stands
 abbrev pub pos : List ℕ → ℕ

@@ -1,8 +1,8 @@
 -- Steps that ask nothing and leave the word, one after the other, lead from a configuration of the run to one.
-use Rattle.std.proofs.Common.{◌≡◌, ◌≤◌, ℕ, zero, suc, Option, Some, None, Ok, refl, ap, subst, arith}
+use Rattle.std.proofs.Common.{◌≡◌, ◌≤◌, ℕ, zero, suc, Some, None, subst, arith}
 use Rattle.gx_state.specs.declared.effects.Effect.TheVariants as effect
 use Rattle.gx_machine.specs.Machine.{Whole}
-use Rattle.gx_machine.specs.Step.{stepped, Passes}
+use Rattle.gx_machine.specs.Step.{Passes}
 use Rattle.gx_machine.proofs.Steps.{went_lower, went_asks}
 use Rattle.gx_session.specs.Devices.{Devices}
 use Rattle.gx_session.specs.Session.{Configuration}

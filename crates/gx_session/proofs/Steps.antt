@@ -1,5 +1,5 @@
 -- A step of an engine is the step of the session.
-use Rattle.std.proofs.Common.{◌≡◌, ◌≢◌, ℕ, ◌-◌, ◌<◌, ◌≤◌, nat_lt, if◌then◌else◌, Bool, true, false, Option, None, is_some, IsSome, Result, Ok, Err, refl, ap, subst, sym, ◌∙◌, arith}
+use Rattle.std.proofs.Common.{◌≡◌, ◌≢◌, ℕ, ◌-◌, ◌<◌, ◌≤◌, nat_lt, if◌then◌else◌, Bool, true, false, Option, Some, None, is_some, IsSome, Result, Ok, Err, refl, ap, subst, sym, ◌∙◌, arith}
 use Rattle.std.proofs.lemmas.Bool.{ltb-false}
 use Rattle.gx_words.specs.declared.faults.Fault.{Fault}
 use Rattle.gx_words.specs.Results.{◌>>=◌}
@@ -10,7 +10,7 @@ use Rattle.gx_machine.specs.Machine.{FlatMachine, Whole}
 use Rattle.gx_machine.specs.Step.{cost_of, step_of, stepped, asking_of}
 use Rattle.gx_machine.proofs.Costs.{cost-positive}
 use Rattle.gx_session.specs.declared.ends.Stop.TheVariants as stop
-use Rattle.gx_session.specs.Session.{Configuration, Verdict, stops, after_effect, after_step, step_from, asked_by, asked}
+use Rattle.gx_session.specs.Session.{Configuration, Verdict, stops, after_effect, after_step, step_from, effect_of, effect_at, asked_by, asked}
 use Rattle.rand_core.specs.Stream.{Stream, next_u32}
 
 -- what a step within a budget makes of a configuration
@@ -64,6 +64,16 @@ asks-by w budget left (Ok p) w' left' does false e some =
     ap (λ (q : (Whole × ℕ) × Effect). asking_of q.1) (ok-is {A = (Whole × ℕ) × Effect} ((record { machine = p.0; asking = asking_of p.1 }, left), p.1) ((w', left'), does) e)
 asks-by w budget left (Err f) w' left' does false e some = cc
 
+-- the effect of a step
+effect-by : (w : Whole) (budget left : ℕ) (r : Result (FlatMachine × Effect) Fault) (w' : Whole) (left' : ℕ) (does : Effect) (b : Bool)
+    → (if b then Ok ((w, budget), effect.Spent) else step-done left r) ≡ Ok ((w', left'), does) → does ≢ effect.Spent → effect_of r ≡ Some does
+effect-by w budget left r w' left' does true e done =
+    let spent : effect.Spent ≡ does = ap (λ (q : (Whole × ℕ) × Effect). q.1) (ok-is {A = (Whole × ℕ) × Effect} ((w, budget), effect.Spent) ((w', left'), does) e) in
+    absurd (done (sym spent))
+effect-by w budget left (Ok p) w' left' does false e done =
+    ap (λ (q : (Whole × ℕ) × Effect). Some q.1) (ok-is {A = (Whole × ℕ) × Effect} ((record { machine = p.0; asking = asking_of p.1 }, left), p.1) ((w', left'), does) e)
+effect-by w budget left (Err f) w' left' does false e done = cc
+
 faults-by : (w : Whole) (budget left : ℕ) (r : Result (FlatMachine × Effect) Fault) (f : Fault) (b : Bool)
     → (if b then Ok ((w, budget), effect.Spent) else step-done left r) ≡ Err f → asked_by r ≡ None
 faults-by w budget left r f true e = cc
@@ -78,6 +88,14 @@ module _ (m : Configuration) (asking : Option Asking) (word : ℕ) (drawn : (nex
   step-asks w left does e some =
       ap (λ (x : ℕ). asked_by (step_of m.machine x)) drawn
       ∙ asks-by (record { machine = m.machine; asking = asking }) m.left (m.left - cost_of m.machine) (step_of m.machine word) w left does (nat_lt m.left (cost_of m.machine)) e some
+
+  -- One that is done has this effect.
+  pub step-effect : (w : Whole) (left : ℕ) (does : Effect) → stepped (record { machine = m.machine; asking = asking }) word m.left ≡ Ok ((w, left), does)
+      → does ≢ effect.Spent → effect_at m ≡ Some does
+  unfolding stepped
+  step-effect w left does e done =
+      ap (λ (x : ℕ). effect_of (step_of m.machine x)) drawn
+      ∙ effect-by (record { machine = m.machine; asking = asking }) m.left (m.left - cost_of m.machine) (step_of m.machine word) w left does (nat_lt m.left (cost_of m.machine)) e done
 
   -- One that meets a fault asks nothing.
   pub step-asks-nothing : (f : Fault) → stepped (record { machine = m.machine; asking = asking }) word m.left ≡ Err f → asked m ≡ None

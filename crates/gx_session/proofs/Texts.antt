@@ -1,9 +1,10 @@
 -- The text of a session grows.
-use Rattle.std.proofs.Common.{ℕ, suc, zero, ◌-◌, nat_lt, if◌then◌else◌, List, [], ◌++◌, Bool, true, false, Result, Ok, Err, refl, ap, sym, ◌∙◌, append_assoc, append-nil}
+use Rattle.std.proofs.Common.{ℕ, suc, zero, ◌-◌, nat_lt, if◌then◌else◌, List, [], ◌++◌, Bool, true, false, Option, Some, None, Result, Ok, Err, refl, ap, sym, ◌∙◌, append_assoc, append-nil}
 use Rattle.gx_words.specs.declared.faults.Fault.{Fault}
 use Rattle.gx_state.specs.declared.effects.Effect.{Effect}
 use Rattle.gx_state.specs.declared.effects.Effect.TheVariants as effect
 use Rattle.gx_state.specs.declared.effects.Reply.{Reply}
+use Rattle.gx_state.specs.Copies.{Copy}
 use Rattle.gx_machine.specs.Machine.{FlatMachine}
 use Rattle.gx_machine.specs.Step.{cost_of, step_of}
 use Rattle.glk_world.specs.World.{Said, after}
@@ -15,7 +16,8 @@ use Rattle.glk_dispatch.specs.Output.{putting}
 use Rattle.gx_session.specs.declared.ends.Stop.TheVariants as stop
 use Rattle.gx_session.specs.declared.running.Waiting.{Waiting}
 use Rattle.gx_session.specs.Input.{next_line}
-use Rattle.gx_session.specs.Session.{Configuration, Doing, steps, asks, goes_on, Verdict, goes, stops, after_reply, after_turn, after_effect, after_step, step_from, act_by, act_of, sends_now, all_sent, move_of, moves_left, Ending, end_after, final_in, final_of}
+use Rattle.gx_session.specs.Saving.{saving, restoring}
+use Rattle.gx_session.specs.Session.{Configuration, Doing, steps, asks, goes_on, Verdict, goes, stops, after_reply, after_restoring, after_turn, after_effect, after_step, step_from, act_by, act_of, sends_now, all_sent, move_of, moves_left, Ending, end_after, final_in, final_of}
 use Rattle.gx_session.specs.Runs.{IsFront}
 use Rattle.gx_session.proofs.Cases.{turn-cases, given-cases, line-cases, asking-cases}
 use Rattle.rand_core.specs.Stream.{next_u32}
@@ -35,6 +37,11 @@ replied-grows : (m : Configuration) (left : ℕ) (r : Result (Said × Reply) Fau
 replied-grows m left (Ok r) = (r.0.1, refl)
 replied-grows m left (Err f) = front-refl m.world.text
 
+restored-grows : (m : Configuration) (left : ℕ) (r : Result (Said × Option Copy) Fault) → IsFront m.world.text (text_in (after_restoring m left r))
+restored-grows m left (Ok (said, Some copy)) = (said.1, refl)
+restored-grows m left (Ok (said, None)) = (said.1, refl)
+restored-grows m left (Err f) = front-refl m.world.text
+
 turned-grows : (m : Configuration) (w : Waiting) (r : Result (Said × Turn) Fault) → IsFront m.world.text (text_in (after_turn m w r))
 turned-grows m w r =
     turn-cases (λ v. IsFront m.world.text (text_in v)) m w r (λ said reply. (said.1, refl)) (λ said t. (said.1, refl))
@@ -46,6 +53,8 @@ effected-grows m left machine effect.Went = front-refl m.world.text
 effected-grows m left machine effect.Drew = front-refl m.world.text
 effected-grows m left machine (effect.Put c) = replied-grows m left (putting m.world.scene m.machine.flat c)
 effected-grows m left machine (effect.Glk selector args room) = turned-grows m (record { room = room; left = left }) (glk_call m.world.scene m.machine.flat room selector args.items)
+effected-grows m left machine (effect.Save stream) = replied-grows m left (saving m.world.scene m.machine.flat stream)
+effected-grows m left machine (effect.Restore stream) = restored-grows m left (restoring m.world.scene m.machine.flat stream)
 effected-grows m left machine effect.Quit = front-refl m.world.text
 effected-grows m left machine effect.Spent = front-refl m.world.text
 

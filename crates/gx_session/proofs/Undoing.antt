@@ -23,6 +23,7 @@ use Rattle.ops_memory.specs.Rows as memory
 use Rattle.ops_print.specs.Rows as print
 use Rattle.gx_machine.specs.Machine.{FlatMachine}
 use Rattle.gx_machine.specs.Answer.{answer_of}
+use Rattle.gx_machine.specs.Saves as whole
 use Rattle.gx_machine.specs.Rows.{row_effect, glk, with_copies, with_both}
 use Rattle.gx_machine.specs.Step.{cost_of, step_of, mode_step}
 use Rattle.ops_game.specs.Rows as game
@@ -31,10 +32,13 @@ use Rattle.glk_dispatch.specs.declared.Turn.{Turn}
 use Rattle.glk_dispatch.specs.Calls.{glk_call}
 use Rattle.glk_dispatch.specs.Going.{glk_go_on}
 use Rattle.glk_dispatch.specs.Output.{putting}
+use Rattle.glk_dispatch.specs.Parts.{replies}
+use Rattle.gx_session.specs.declared.saves.TheConstants.{FAILED}
 use Rattle.gx_session.specs.declared.ends.Stop.TheVariants as stop
 use Rattle.gx_session.specs.declared.running.Waiting.{Waiting}
 use Rattle.gx_session.specs.Input.{next_line}
-use Rattle.gx_session.specs.Session.{Configuration, Doing, steps, asks as asks-for, goes_on, Verdict, goes, stops, after_reply, after_turn, after_given, after_asking, after_effect, after_step, step_from, act_by, act_of, sends_now, all_sent, move_of, next_of, run_of}
+use Rattle.gx_session.specs.Saving.{saving, restoring}
+use Rattle.gx_session.specs.Session.{Configuration, Doing, steps, asks as asks-for, goes_on, Verdict, goes, stops, after_reply, after_restoring, after_turn, after_given, after_asking, after_effect, after_step, step_from, act_by, act_of, sends_now, all_sent, move_of, next_of, run_of}
 use Rattle.gx_session.specs.Undoing.{Undoing, saves, restores, neither, undoing, undoing_next, undoing_move, undoing_row, undoing_by, undoing_in, alive, alive_by, alive_from, IsTaken, AreTaken, LastsUndo}
 use Rattle.gx_session.proofs.Cases.{turn-cases, given-cases, line-cases, asking-cases}
 use Rattle.gx_session.proofs.Steps.{ok-is}
@@ -81,6 +85,8 @@ others-stay f u word i not-saves not-restores =
     stays-if u _ _ _ (stays-lifted u (game.quit f i)) (
     stays-if u _ _ _ (stays-lifted u (game.verify f i)) (
     stays-if u _ _ _ (stays-lifted u (game.restart f)) (
+    stays-if u _ _ _ (stays-lifted u (game.save f i)) (
+    stays-if u _ _ _ (stays-lifted u (game.restore f i)) (
     stays-unless u _ _ _ not-saves (
     stays-unless u _ _ _ not-restores (
     stays-if u _ _ _ (stays-lifted u (game.protect f i)) (
@@ -90,7 +96,7 @@ others-stay f u word i not-saves not-restores =
     stays-if u _ _ _ (stays-lifted u (game.setiosys f i)) (
     stays-if u _ _ _ (stays-lifted u (game.accelerate f i)) (
     stays-if u _ _ _ (stays-lifted u (game.accelerate f i)) (
-    stays-faulted u BadOpcode))))))))))))))))
+    stays-faulted u BadOpcode))))))))))))))))))
 
 saves-row : (f : FlatState) (u : FlatUndo) (word : ℕ) (i : Instruction) → i.row.number ≡ SAVEUNDO → game.row_effect f u word i ≡ game.saveundo f u i
 unfolding game.row_effect
@@ -214,6 +220,13 @@ unfolding answer_of
 replied-undo m left (Ok r) = refl
 replied-undo m left (Err f) = tt
 
+-- a restore leaves them too: the copy that it goes back to is no copy for undo
+back-undo : (m : Configuration) (left : ℕ) (r : Result (Said × Option Copy) Fault) → KeepsUndo m.machine.undo (after_restoring m left r)
+unfolding whole.restored
+back-undo m left (Ok (said, Some copy)) = refl
+back-undo m left (Ok (said, None)) = replied-undo m left (Ok (said, replies FAILED))
+back-undo m left (Err f) = tt
+
 turned-undo : (m : Configuration) (w : Waiting) (r : Result (Said × Turn) Fault) → KeepsUndo m.machine.undo (after_turn m w r)
 turned-undo m w r =
     turn-cases (KeepsUndo m.machine.undo) m w r (λ said reply. replied-undo m w.left (Ok (said, reply))) (λ said t. refl) (λ said t. refl) (λ said. tt) (λ said. tt) (λ f. tt)
@@ -242,6 +255,12 @@ effected-undone m left machine (effect.Put c) m' e is =
 effected-undone m left machine (effect.Glk selector args room) m' e is =
     subst (λ (u : FlatUndo). Undone m.machine u (effect.Glk selector args room) (undoing m.machine.flat)) (kept-undo m.machine.undo (after_turn m (record { room = room; left = left }) (glk_call m.world.scene m.machine.flat room selector args.items)) m' (turned-undo m (record { room = room; left = left }) (glk_call m.world.scene m.machine.flat room selector args.items)) e)
     (asks-neither m.machine machine.undo (effect.Glk selector args room) (undoing m.machine.flat) (λ went. cc) is)
+effected-undone m left machine (effect.Save stream) m' e is =
+    subst (λ (u : FlatUndo). Undone m.machine u (effect.Save stream) (undoing m.machine.flat)) (kept-undo m.machine.undo (after_reply m left (saving m.world.scene m.machine.flat stream)) m' (replied-undo m left (saving m.world.scene m.machine.flat stream)) e)
+    (asks-neither m.machine machine.undo (effect.Save stream) (undoing m.machine.flat) (λ went. cc) is)
+effected-undone m left machine (effect.Restore stream) m' e is =
+    subst (λ (u : FlatUndo). Undone m.machine u (effect.Restore stream) (undoing m.machine.flat)) (kept-undo m.machine.undo (after_restoring m left (restoring m.world.scene m.machine.flat stream)) m' (back-undo m left (restoring m.world.scene m.machine.flat stream)) e)
+    (asks-neither m.machine machine.undo (effect.Restore stream) (undoing m.machine.flat) (λ went. cc) is)
 effected-undone m left machine effect.Quit m' e is = cc
 effected-undone m left machine effect.Spent m' e is = cc
 

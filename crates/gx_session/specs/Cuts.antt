@@ -1,5 +1,7 @@
 -- The ways in which a run is cut short: memory ran out, or a device failed.
-use Rattle.std.specs.Prelude.{◌≡◌, ◌≢◌, ℕ, suc, ◌<◌, ◌≤◌, List, [], ◌∷◌, ◌++◌, length, ◌⊎◌, false, true, Option, Some, None, IsOk, IsSomeAnd}
+use Rattle.std.specs.Prelude.{◌≡◌, ℕ, suc, ◌<◌, ◌≤◌, List, ◌∷◌, ◌++◌, length, ◌⊎◌, false, true, Option, Some, None, IsOk, IsSomeAnd, IsTrue}
+use Rattle.gx_state.specs.declared.effects.Effect.{Effect}
+use Rattle.gx_state.specs.declared.effects.Effect.TheVariants as effect
 use Rattle.gx_machine.specs.declared.askings.Asking.{Asking}
 use Rattle.gx_machine.specs.Step.{stepped}
 use Rattle.gx_outside.specs.Files.{Files}
@@ -10,7 +12,8 @@ use Rattle.gx_session.specs.declared.ends.Stop.{Stop}
 use Rattle.gx_session.specs.declared.ends.Stop.TheVariants as stop
 use Rattle.gx_session.specs.declared.running.TheConstants.{MOST_LOADED}
 use Rattle.gx_session.specs.declared.statuses.TheConstants.{SHELF_FAULT, INPUT_FAULT, OUTPUT_FAULT, NO_MEMORY}
-use Rattle.gx_session.specs.Session.{Configuration, Doing, steps, asks, goes_on, Verdict, goes, stops, act_of, sends_now, run_of, final_of, asked, asked_at}
+use Rattle.gx_session.specs.Session.{Configuration, Doing, steps, asks, goes_on, Verdict, goes, stops, act_of, sends_now, run_of, final_of, effect_at, asked, asked_at}
+use Rattle.gx_session.specs.Saving.{is_begun}
 use Rattle.gx_session.specs.Sending.{is_due}
 use Rattle.gx_session.specs.Endings.{Store, stores_of, told_all, after_stores}
 use Rattle.rand_core.specs.Stream.{next_u32}
@@ -56,12 +59,18 @@ abbrev pub MayWant : Files → Turn → Type 0
 MayWant files (turn.Load name) = IsSomeAnd (files name) (λ bytes. length bytes ≤ MOST_LOADED)
 MayWant files t = Unit {0}
 
+-- This effect asks for a save, which is begun: the I/O system is Glk's, and the stream may take one.
+abbrev pub BeginsSave : Configuration → Option Effect → Type 0
+BeginsSave m (Some (effect.Save stream)) = IsTrue (is_begun m.world.scene m.machine.flat stream)
+BeginsSave m e = ⊥
+
 -- What comes next may want memory, with a machine that asks this: a step, or the answer to what it asked, where it
--- has no fault; a wait where there is input.
+-- has no fault; a wait where there is input. A save that is begun may want memory before its fault is met: which places of a
+-- stream in memory it takes depends on its length, which isn't known before the save is made.
 abbrev pub WantsMemory : Doing → Configuration → Option Asking → Type 0
 WantsMemory steps m asking =
     ((asking ≡ None) × IsOk (stepped (record { machine = m.machine; asking = None }) (next_u32 m.words).0 m.left))
-    ⊎ ((asking ≡ asked m) × HasNoFault (act_of m))
+    ⊎ ((asking ≡ asked m) × (HasNoFault (act_of m) ⊎ BeginsSave m (effect_at m)))
 WantsMemory (asks t w) m asking = (asking ≡ asked m) × IsWait t × (0 < length m.input)
 WantsMemory (goes_on g w) m asking = (asking ≡ asked m) × HasNoFault (act_of m)
 
@@ -94,7 +103,7 @@ abbrev pub asking_at_stop : Configuration → Option Asking
 asking_at_stop start = asked_at (final_of start).stop (stopped start)
 
 -- The run is cut short so, at this configuration, with this status and with a machine that asks this. Memory is
--- wanted only where the definition has no fault; a send is refused only where it is due, and the shelf and the source
+-- wanted only where the definition has no fault, or a save is begun; a send is refused only where it is due, and the shelf and the source
 -- fail only where they are asked, once all text was sent.
 abbrev pub IsCut : Configuration → Cut → Configuration → ℕ → Option Asking → Type 0
 IsCut start (in_move j) m status asking = (run_of start j ≡ Some m) × (sends_now m ≡ false) × (status ≡ NO_MEMORY) × WantsMemory m.doing m asking

@@ -1,6 +1,7 @@
 pub mod Devices
 pub mod Sending
 pub mod Input
+pub mod Saving
 pub mod Session
 pub mod Endings
 pub mod Counts

@@ -1,12 +1,15 @@
 -- How the code plays a session: what it holds is a configuration of the run, after text that was sent.
-use Rattle.std.specs.Prelude.{◌≡◌, ◌≢◌, ℕ, suc, ◌<◌, ◌≤◌, List, [], ◌++◌, ◌⊎◌, length, IsSome, IsOk, IfOk, OnOk, OnErr, Bool, true, false, Result, Ok, Err, Option, Some, None}
+use Rattle.std.specs.Prelude.{◌≡◌, ◌≢◌, ℕ, ◌<◌, ◌≤◌, List, [], ◌++◌, ◌⊎◌, length, IsSome, IsOk, IfOk, OnOk, OnErr, Bool, true, false, Result, Ok, Err, Option, Some, None}
 use Rattle.gx_words.specs.declared.faults.Fault.{Fault}
 use Rattle.gx_words.specs.declared.faults.Fault.TheVariants.{NoMemory}
 use Rattle.gx_state.specs.declared.effects.Effect.{Effect}
+use Rattle.gx_state.specs.declared.effects.Effect.TheVariants.{Spent}
 use Rattle.gx_state.specs.declared.effects.Reply.{Reply}
+use Rattle.gx_state.specs.Copies.{Copy}
 use Rattle.gx_machine.specs.declared.askings.Asking.{Asking}
 use Rattle.gx_machine.specs.Machine.{FlatMachine, Whole}
-use Rattle.gx_machine.specs.Answer.{answered}
+use Rattle.gx_machine.specs.Answer.{answer_of}
+use Rattle.gx_machine.specs.Saves.{restored}
 use Rattle.gx_machine.specs.Step.{asking_of}
 use Rattle.gx_outside.specs.Outside.{FlatSource, FlatSink, FlatShelf, raised_by}
 use Rattle.gx_outside.specs.declared.calls.Calls.{Calls}
@@ -17,6 +20,8 @@ use Rattle.gx_outside.specs.declared.devices.ShelfFault.TheVariants as of_shelf
 use Rattle.glk_world.specs.World.{FlatWorld, Said, after}
 use Rattle.glk_dispatch.specs.declared.Turn.{Turn}
 use Rattle.glk_dispatch.specs.declared.Given.{Given}
+use Rattle.quetzal.specs.declared.faults.SaveFault.{SaveFault}
+use Rattle.quetzal.specs.declared.faults.SaveFault.TheVariants as of_save
 use Rattle.gx_session.specs.declared.ends.Stop.{Stop}
 use Rattle.gx_session.specs.declared.ends.Stop.TheVariants as stop
 use Rattle.gx_session.specs.declared.ends.Halt.{Halt}
@@ -34,9 +39,9 @@ use Rattle.gx_session.specs.Cuts.{IsWait, IsLineStop, stopped, asking_at_stop}
 use Rattle.gx_session.specs.Devices.{Devices}
 use Rattle.gx_session.specs.Endings.{Store, stores_of, stored, told_all, StoredAll, StoredSome}
 use Rattle.gx_session.specs.Input.{line, next_line}
-use Rattle.gx_session.specs.Session.{Configuration, Doing, steps, asks, goes_on, act_of, after_effect, after_reply, after_turn, after_given, sends_now, final_of, run_of, asked, asked_at}
+use Rattle.gx_session.specs.Session.{Configuration, Doing, steps, asks, goes_on, goes, act_of, after_effect, after_turn, after_given, sends_now, final_of, run_of, effect_at, asked, asked_at}
 use Rattle.gx_session.specs.Reading.{ReadsFew}
-use Rattle.gx_session.specs.Runs.{StopsEarly}
+use Rattle.gx_session.specs.Runs.{IsSaved, SavedAll, SavedBefore, StopsEarly}
 use Rattle.rand_core.specs.Stream.{Stream, next_u32}
 
 -- What a run holds beside its devices: the machine, the world with the text that wasn't sent yet, the input that
@@ -123,6 +128,7 @@ pub record Standing (start : Configuration) (entry : Devices) (h : Held) (d : De
   pub few : length h.ahead < PIECE
   pub reads : IsRead start.input entry h d
   pub reached : run_of start moves ≡ Some (configuration_of past doing h d)
+  pub saves : SavedBefore start moves
   pub same_end : final_of (configuration_of past doing h d) ≡ final_of start
 
 -- So it stands, and no text is due.
@@ -147,6 +153,7 @@ pub record Done (start : Configuration) (entry : Devices) (h : Held) (asking : O
   pub few : why ≢ stop.LineTooLong → length h.ahead < PIECE
   pub reads : (IsLineStop why → ⊥) → IsRead start.input entry h d
   pub is_end : final_of start ≡ record { stop = why; configuration = configuration_of past doing h d }
+  pub saves : SavedAll start
   pub asking_is : asking ≡ asked_at why (configuration_of past doing h d)
 
 -- the status of a run that is cut short
@@ -178,6 +185,7 @@ pub record Follows (start : Configuration) (entry : Devices) (h : Held) (d : Dev
   pub going : Going start entry (record h { machine = before }) d
   pub event : let m = configuration_of going.now.past steps (record h { machine = before }) d in act_of m ≡ after_effect m left h.machine does
   pub asks : let m = configuration_of going.now.past steps (record h { machine = before }) d in IsSome (asking_of does) → asked m ≡ asking_of does
+  pub effect : let m = configuration_of going.now.past steps (record h { machine = before }) d in does ≢ Spent → effect_at m ≡ Some does
   pub stands : IsSome (asking_of does) → h.machine ≡ before
 
 -- what may be answered at once: a step, and a call that goes on
@@ -186,8 +194,8 @@ IsAnswering steps = Unit {0}
 IsAnswering (asks t w) = ⊥
 IsAnswering (goes_on g w) = Unit {0}
 
--- The Glk world has answered the machine from a configuration of the run, and has moved on.
-pub record Replies (start : Configuration) (entry : Devices) (h : Held) (asking : Option Asking) (d : Devices) (left : ℕ) (reply : Reply) : Type 0 where
+-- From a configuration of the run the Glk world has moved on, and the machine becomes this one.
+pub record Resumes (start : Configuration) (entry : Devices) (h : Held) (asking : Option Asking) (d : Devices) (left : ℕ) (machine : FlatMachine) : Type 0 where
   -- the world before
   pub world : FlatWorld
   pub said : Said
@@ -195,8 +203,18 @@ pub record Replies (start : Configuration) (entry : Devices) (h : Held) (asking 
   pub moved : h.world ≡ after world said
   pub going : Ready start entry (record h { world = world }) d doing
   pub answering : IsAnswering doing
-  pub event : let m = configuration_of going.now.past doing (record h { world = world }) d in act_of m ≡ after_reply m left (Ok (said, reply))
+  pub event : let m = configuration_of going.now.past doing (record h { world = world }) d in
+      act_of m ≡ goes (record m { machine = machine; world = after m.world said; left = left; doing = steps })
+  pub saved : IsSaved (configuration_of going.now.past doing (record h { world = world }) d)
   pub asks : let m = configuration_of going.now.past doing (record h { world = world }) d in asking ≡ asked m
+
+-- It takes a reply.
+abbrev pub Replies : Configuration → Devices → Held → Option Asking → Devices → ℕ → Reply → Type 0
+Replies start entry h asking d left reply = Resumes start entry h asking d left (answer_of h.machine reply)
+
+-- It goes back to a copy.
+abbrev pub GoesBack : Configuration → Devices → Held → Option Asking → Devices → ℕ → Copy → Type 0
+GoesBack start entry h asking d left copy = Resumes start entry h asking d left (restored h.machine copy)
 
 -- A Glk call has come to a turn from a configuration of the run.
 pub record Turns (start : Configuration) (entry : Devices) (h : Held) (asking : Option Asking) (d : Devices) (w : Waiting) (turn : Turn) : Type 0 where
@@ -205,6 +223,7 @@ pub record Turns (start : Configuration) (entry : Devices) (h : Held) (asking : 
   pub moved : h.world ≡ after world said
   pub going : Going start entry (record h { world = world }) d
   pub event : let m = configuration_of going.now.past steps (record h { world = world }) d in act_of m ≡ after_turn m w (Ok (said, turn))
+  pub saved : IsSaved (configuration_of going.now.past steps (record h { world = world }) d)
   pub asks : let m = configuration_of going.now.past steps (record h { world = world }) d in asking ≡ asked m
 
 -- Want of memory is no fault that a run stops at.
@@ -252,10 +271,23 @@ pub record Flushes (enough : ℕ) (before now : FlatSink) (old new : FlatWorld) 
   pub few : length old.text < enough → (now ≡ before) × (new ≡ old) × IsOk result
   pub many : enough ≤ length old.text → SendsAll before now old new result
 
--- The machine took a reply, or stands for want of memory; all else stands.
-pub record TakesReply {E T : Type 0} (whole : E → Whole) (old new : Running E) (reply : Reply) (left : ℕ) (result : Result T Halt) : Type 0 where
-  pub ok : OnOk result ((whole new.engine ≡ answered (whole old.engine) reply) × (new ≡ record old { engine = new.engine; left = left }))
+-- The machine became this one, which asks nothing, or stands for want of memory; all else stands.
+pub record Becomes {E T : Type 0} (whole : E → Whole) (old new : Running E) (machine : FlatMachine) (left : ℕ) (result : Result T Halt) : Type 0 where
+  pub ok : OnOk result ((whole new.engine ≡ record { machine = machine; asking = None }) × (new ≡ record old { engine = new.engine; left = left }))
   pub err : OnErr result ((whole new.engine ≡ whole old.engine) × (new ≡ record old { engine = new.engine }))
+
+abbrev pub TakesReply : {E T : Type 0} → (E → Whole) → Running E → Running E → Reply → ℕ → Result T Halt → Type 0
+TakesReply whole old new reply left result = Becomes whole old new (answer_of (whole old.engine).machine reply) left result
+
+-- How the answer of a save relates to its definition: as that of a call that may lose the world (`MayLose`), but that want of
+-- memory comes wherever the save is begun.
+abbrev pub MaySave : Type 0 → Result Reply Fault → FlatWorld → FlatWorld → Result (FlatWorld × Reply) Fault → Type 0
+MaySave begun (Ok reply) old new defined = defined ≡ Ok (new, reply)
+MaySave begun (Err e) old new defined = (e ≢ NoMemory → (new ≡ old) × (defined ≡ Err e)) × (e ≡ NoMemory → begun)
+
+-- What it is to a restore that a save is refused: there is no copy, unless memory ran out.
+abbrev pub Refuses : SaveFault → Result (Option Copy) Fault → Type 0
+Refuses fault result = ((fault ≡ of_save.NoMemory) × (result ≡ Err NoMemory)) ⊎ ((fault ≢ of_save.NoMemory) × (result ≡ Ok None))
 
 -- Where a part of a run goes on, nothing is asked any more, and so many units are left. A stop is one of a session.
 pub record Leads {E : Type 0} (whole : E → Whole) (old new : Running E) (left : ℕ) (result : Result Next Halt) : Type 0 where
@@ -322,6 +354,7 @@ pub record Told (start : Configuration) (entry : Devices) (h : Held) (asking : O
   pub reads : (IsLineStop why → ⊥) → IsRead start.input entry h d
   pub stop_is : (final_of start).stop ≡ why
   pub is_end : told_all (stopped start) ≡ configuration_of past doing h d
+  pub saves : SavedAll start
   pub asking_is : asking ≡ asking_at_stop start
   pub none_left : h.world.text ≡ []
 

@@ -1,5 +1,5 @@
 -- What the shelf is asked for the turn of a Glk call, and what it answers.
-use Rattle.std.specs.Prelude.{◌≡◌, Option, Some, None, is_some, Result, Ok, Err}
+use Rattle.std.specs.Prelude.{◌≡◌, Some, None, is_some, Result, Ok, Err}
 use Rattle.gx_outside.specs.Files.{Files, with_file}
 use Rattle.gx_outside.specs.declared.devices.ShelfFault.{ShelfFault}
 use Rattle.gx_outside.specs.declared.devices.ShelfFault.TheVariants as fault

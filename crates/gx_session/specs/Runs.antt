@@ -1,5 +1,5 @@
 -- What a run reports and leaves behind, against the definition of a session.
-use Rattle.std.specs.Prelude.{◌≡◌, ◌≢◌, ℕ, ◌+◌, ◌<◌, ◌≤◌, ◌++◌, ◌⊎◌, ◌==◌, if◌then◌else◌, true, List, length, take}
+use Rattle.std.specs.Prelude.{◌≡◌, ◌≢◌, ℕ, suc, ◌+◌, ◌<◌, ◌≤◌, ◌++◌, ◌⊎◌, ◌==◌, if◌then◌else◌, true, false, Some, List, length, take}
 use Rattle.gx_machine.specs.Machine.{Whole}
 use Rattle.gx_outside.specs.Outside.{FlatSource, raised_by}
 use Rattle.gx_session.specs.declared.ended.Ended.{Ended}
@@ -8,11 +8,12 @@ use Rattle.gx_session.specs.declared.session.EndedOn.{EndedOn}
 use Rattle.gx_session.specs.declared.statuses.TheConstants.{ENDED, FAULT, SHELF_FAULT, INPUT_FAULT, NO_MEMORY}
 use Rattle.gx_session.specs.declared.ends.Stop.TheVariants as stop
 use Rattle.gx_session.specs.Counts.{Counts, IsUntold}
-use Rattle.gx_session.specs.Cuts.{Cut, IsCut, IsLineStop, AwaitedAt, LongAt, most_sent, sends_at, asked_by_cut, FilesAt}
+use Rattle.gx_session.specs.Cuts.{Cut, in_move, in_send, in_question, in_reading, IsCut, BeginsSave, IsLineStop, AwaitedAt, LongAt, most_sent, sends_at, asked_by_cut, FilesAt}
 use Rattle.gx_session.specs.Devices.{Devices}
 use Rattle.gx_session.specs.Endings.{last_of}
 use Rattle.gx_session.specs.Reading.{IsPartial}
-use Rattle.gx_session.specs.Session.{Configuration, Ending, final_of, asked_at, status_of, fault_number, fault_address}
+use Rattle.gx_session.specs.Saving.{IsReadBack, SavesReadBack}
+use Rattle.gx_session.specs.Session.{Configuration, steps, Ending, sends_now, run_of, final_of, effect_at, asked_at, status_of, fault_number, fault_address}
 use Rattle.gx_session.specs.Undoing.{LastsUndo}
 use Rattle.rand_core.specs.Stream.{Stream, next_u32}
 
@@ -54,6 +55,25 @@ pub record LeavesInput (first input : List ℕ) (before now : FlatSource) (await
   pub few_reads : reads + length coming ≤ length first + 1 + failures
   pub unread : (awaited → ⊥) → failures ≡ 0 → (now ≡ before) ⊎ (length input < length first)
 
+-- If a save is begun from here, what it saves is read back.
+abbrev pub IsSaved : Configuration → Type 0
+IsSaved m = m.doing ≡ steps → sends_now m ≡ false → BeginsSave m (effect_at m) → IsReadBack m.machine.flat
+
+-- So it is of all saves that the run makes.
+abbrev pub SavedAll : Configuration → Type 0
+SavedAll start = (i : ℕ) (m next : Configuration) → run_of start i ≡ Some m → run_of start (suc i) ≡ Some next → IsSaved m
+
+-- So it is of those before the run was cut short.
+abbrev pub SavedBefore : Configuration → ℕ → Type 0
+SavedBefore start j = (i : ℕ) → i < j → (m : Configuration) → run_of start i ≡ Some m → IsSaved m
+
+abbrev pub SavedBy : Configuration → Cut → Type 0
+SavedBy start (in_move j) = SavedBefore start j
+SavedBy start (in_send j) = SavedBefore start j
+SavedBy start (in_question j) = SavedBefore start j
+SavedBy start (in_reading j) = SavedBefore start j
+SavedBy start cut = SavedAll start
+
 -- one read failed at this status
 abbrev pub read_failures : ℕ → ℕ
 read_failures status = if status == INPUT_FAULT then 1 else 0
@@ -71,6 +91,7 @@ pub record EndsAt (start : Configuration) (e : Ending) (entry exit : Devices) (r
   pub asked_are : exit.shelf.calls.made ≡ raised_by (last_of e.configuration).asked entry.shelf.calls.made
   pub input_is : LeavesInput start.input e.configuration.input entry.source exit.source (IsLineStop e.stop) (e.stop ≡ stop.LineTooLong) 0
   pub words_are : AreDrawn e.configuration.words exit.words
+  pub saves_are : SavedAll start
 
 -- The run was cut short, with so many units left. The text that was sent is a front of what was shown by then: all
 -- that was due before, and some of a send that was refused.
@@ -90,6 +111,7 @@ pub record StopsEarly (start : Configuration) (entry exit : Devices) (status lef
   pub asked_are : exit.shelf.calls.made ≡ raised_by (asked_by_cut cut configuration) entry.shelf.calls.made
   pub input_is : status ≢ NO_MEMORY → LeavesInput start.input configuration.input entry.source exit.source (AwaitedAt start cut) (LongAt start cut) (read_failures status)
   pub words_are : AreDrawn configuration.words exit.words
+  pub saves_are : SavedBy start cut
 
 -- The statuses of a run. A fault has a number from 1 to 16, and only a fault has one and an address.
 pub record IsReport (status fault at : ℕ) : Type 0 where
@@ -118,3 +140,4 @@ pub record IsRun (start : Configuration) (entry exit : Devices) (r : Report) : T
   pub shelf_tells : exit.shelf.tells ≡ entry.shelf.tells
   pub report : IsReport r.status r.fault r.at
   pub undo : (input : List ℕ) → LastsUndo (record start { input = input })
+  pub saves : SavesReadBack start.machine.flat.story

@@ -13,7 +13,9 @@ use Rattle.gx_outside.specs.declared.devices.Load.TheVariants as of_load
 use Rattle.gx_state.specs.declared.effects.Effect.{Effect}
 use Rattle.gx_state.specs.declared.effects.Effect.TheVariants as effect
 use Rattle.gx_state.specs.declared.effects.Reply.{Reply}
+use Rattle.gx_state.specs.Copies.{Copy}
 use Rattle.gx_machine.specs.Machine.{FlatMachine}
+use Rattle.gx_machine.specs.Saves.{restored}
 use Rattle.gx_machine.specs.Answer.{answer_of}
 use Rattle.gx_machine.specs.declared.askings.Asking.{Asking}
 use Rattle.gx_machine.specs.Step.{cost_of, step_of, asking_of}
@@ -26,13 +28,16 @@ use Rattle.glk_dispatch.specs.declared.Given.TheVariants as given
 use Rattle.glk_dispatch.specs.Calls.{glk_call}
 use Rattle.glk_dispatch.specs.Going.{glk_go_on}
 use Rattle.glk_dispatch.specs.Output.{putting}
+use Rattle.glk_dispatch.specs.Parts.{replies}
 use Rattle.gx_session.specs.Devices.{Devices}
+use Rattle.gx_session.specs.Saving.{saving, restoring}
 use Rattle.gx_session.specs.Input.{NextLine, too_long, none, line, next_line}
 use Rattle.gx_session.specs.Sending.{Sent, none_sent, is_due, with_all}
 use Rattle.gx_session.specs.declared.ends.Stop.{Stop}
 use Rattle.gx_session.specs.declared.ends.Stop.TheVariants as stop
 use Rattle.gx_session.specs.declared.running.TheConstants.{ENOUGH, MOST_LOADED}
 use Rattle.gx_session.specs.declared.running.Waiting.{Waiting}
+use Rattle.gx_session.specs.declared.saves.TheConstants.{FAILED}
 use Rattle.gx_session.specs.declared.statuses.TheConstants.{ENDED, FAULT, SPENT, INPUT_ENDED, STUCK, LINE_TOO_LONG}
 use Rattle.rand_core.specs.Stream.{Stream, next_u32}
 
@@ -125,6 +130,12 @@ abbrev pub load_of : Option (List ℕ) → Load
 load_of None = of_load.Missing
 load_of (Some bytes) = if nat_lt MOST_LOADED (length bytes) then of_load.TooLong else of_load.Found bytes
 
+-- A restore: the machine goes back to the copy that was read, or takes the answer of one that fails.
+abbrev pub after_restoring : Configuration → ℕ → Result (Said × Option Copy) Fault → Verdict
+after_restoring m left (Ok (said, Some copy)) = goes (record m { machine = restored m.machine copy; world = after m.world said; left = left; doing = steps })
+after_restoring m left (Ok (said, None)) = after_reply m left (Ok (said, replies FAILED))
+after_restoring m left (Err fault) = stops (stop.Faulted fault) m
+
 -- What a device gives for a turn. (The other turns ask for nothing.)
 abbrev pub after_asking : Configuration → Waiting → Turn → Verdict
 after_asking m w turn.Wait = after_line m w (next_line m.input)
@@ -136,12 +147,14 @@ after_asking m w (turn.Has name) = shelf_gives m w m.files (given.Was (is_some (
 after_asking m w t = stops stop.Stuck m
 
 -- The effect of a step: the next configuration; the random word is used up; a character or a call goes to
--- Glk, with the machine as before the step; the program ends. (No step by itself is Spent.)
+-- Glk, with the machine as before the step; so does a save or a restore; the program ends. (No step by itself is Spent.)
 abbrev pub after_effect : Configuration → ℕ → FlatMachine → Effect → Verdict
 after_effect m left machine effect.Went = goes (done m machine left)
 after_effect m left machine effect.Drew = goes (record (done m machine left) { words = (next_u32 m.words).1 })
 after_effect m left machine (effect.Put c) = after_reply m left (putting m.world.scene m.machine.flat c)
 after_effect m left machine (effect.Glk selector args room) = after_turn m (record { room = room; left = left }) (glk_call m.world.scene m.machine.flat room selector args.items)
+after_effect m left machine (effect.Save stream) = after_reply m left (saving m.world.scene m.machine.flat stream)
+after_effect m left machine (effect.Restore stream) = after_restoring m left (restoring m.world.scene m.machine.flat stream)
 after_effect m left machine effect.Quit = stops stop.Ended (done m machine left)
 after_effect m left machine effect.Spent = stops stop.Spent (done m machine left)
 
@@ -220,6 +233,15 @@ next_of (stops s m) = None
 abbrev pub run_of : Configuration → ℕ → Option Configuration
 run_of start zero = Some start
 run_of start (suc j) = option_and_then (λ m. next_of (move_of m)) (run_of start j)
+
+-- what a step does or asks, if it has no fault
+abbrev pub effect_of : Result (FlatMachine × Effect) Fault → Option Effect
+effect_of (Ok r) = Some r.1
+effect_of (Err fault) = None
+
+-- What the step from here does or asks.
+abbrev pub effect_at : Configuration → Option Effect
+effect_at m = effect_of (step_of m.machine (next_u32 m.words).0)
 
 -- what a step asks, if it is done and asks something
 abbrev pub asked_by : Result (FlatMachine × Effect) Fault → Option Asking

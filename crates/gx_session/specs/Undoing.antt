@@ -20,7 +20,7 @@ pub data Undoing : Type 0 where
   saves : Undoing
   -- restoreundo
   restores : Undoing
-  -- every other instruction, and what is printed
+  -- every other instruction, save and restore among them, and what is printed
   neither : Undoing
 
 abbrev pub undoing_row : Class → ℕ → Undoing
@@ -80,6 +80,7 @@ AreTaken start (c ∷ cs) [] = ⊥
 
 -- In a run that begins without copies, those of each configuration are, in order, the copies that the saveundos took
 -- which are alive there. So a restoreundo goes back to the whole copy of the newest saveundo that was neither
--- used nor dropped, and finds none exactly where there is none.
+-- used nor dropped, and finds none exactly where there is none. A restore leaves these copies, so
+-- that a restoreundo after it goes back to a saveundo before it.
 unfoldable pub LastsUndo : Configuration → Type 0
 LastsUndo start = start.machine.undo.copies ≡ [] → (j : ℕ) (m : Configuration) → run_of start j ≡ Some m → AreTaken start m.machine.undo.copies (alive start j)

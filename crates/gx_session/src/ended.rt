@@ -1,5 +1,5 @@
 //! How a run ended, and the line that says so.
-ghost use Rattle.std.specs.Prelude.{◌≡◌, ◌<◌, ◌++◌, ◌∷◌, [], OnOk, IfOk, string_bytes, codes, decimal};
+ghost use Rattle.std.specs.Prelude.{◌≡◌, ◌≢◌, ◌<◌, ◌++◌, ◌∷◌, [], OnOk, OnErr, IfOk, string_bytes, codes, decimal};
 ghost use Rattle.gx_session.specs.Reports.{line_of, fault_line, hex_digit, hex_of};
 
 use crate::statuses;
@@ -26,8 +26,9 @@ impl<A: Allocator + Clone> Ended<A> {
     /// The line that says how the run ended, without a line feed; empty where nothing is to be said.
     #[tactic(auto, unfolding(crate::specs::Reports::line_of))]
     pub fn line(&self, alloc: Global) -> Result<String, AllocError>
-        ensures { IfOk result (λ line.
+        ensures value { IfOk result (λ line.
             string_bytes line ≡ line_of self.now.status self.now.fault self.now.at self.now.steps) }
+        ensures memory { OnErr result (line_of self.now.status self.now.fault self.now.at self.now.steps ≢ []) }
     {
         match self.status {
             statuses::BAD_WORDS => String::from_str(

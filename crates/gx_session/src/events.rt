@@ -13,6 +13,7 @@ ghost use Rattle.gx_session.specs.Playing.{held, asking_in, Going, Follows, Done
 
 use crate::ends::{Halt, Next, Stop};
 use crate::running::{Running, Waiting, draw, faulted, flush};
+use crate::saves::{ask_restore, ask_save};
 use crate::turns::{ask_glk, ask_put};
 use glk_world::World;
 use gx_machine::Engine;
@@ -63,6 +64,8 @@ fn follow<A: Allocator + Clone, E: Engine<A>, S: Source, K: Sink, F: Shelf>(
             &args,
             Waiting { room, left },
         ),
+        Effect::Save(stream) => ask_save(run, output, stream, left),
+        Effect::Restore(stream) => ask_restore(run, output, stream, left),
         Effect::Quit => {
             run.left = left;
             Ok(Next::Stops(Stop::Ended))

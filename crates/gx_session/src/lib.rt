@@ -2,7 +2,7 @@
 //! generator of random words, until it ends or its budget of units is spent.
 //!
 //! What a session is stands in specs/Session, move by move; specs/Input says what the next line of the
-//! input is, specs/Sending what sending is, specs/Endings what is stored at the end, specs/Cuts how a
+//! input is, specs/Sending what sending is, specs/Saving what a save and a restore are, specs/Endings what is stored at the end, specs/Cuts how a
 //! run is cut short, and specs/Runs what a run reports and leaves behind (`IsRun`). A run is the
 //! definition's, to its status, fault, place, steps, machine, text, files and the calls of the sink and
 //! the shelf, unless a device fails or memory runs out; then it stands at one of the definition's
@@ -10,8 +10,8 @@
 //!
 //! - `lines` takes lines of a source. It reads no further than it has to.
 //! - `questions` asks the shelf what a Glk call wants of it.
-//! - `running` has what every event does, `turns` the Glk calls, `events` the run from its first event to
-//!   its ending.
+//! - `running` has what every event does, `turns` the Glk calls, `saves` the saves and restores, `events` the run
+//!   from its first event to its ending.
 //! - `session` has the runs, `ended` and `ends` how they end, `statuses` the numbers for that.
 #![tactic(auto)]
 
@@ -21,6 +21,7 @@ mod events;
 mod lines;
 mod questions;
 mod running;
+mod saves;
 mod session;
 pub mod statuses;
 mod turns;

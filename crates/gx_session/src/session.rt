@@ -9,6 +9,7 @@ use crate::ends::Stop;
 use crate::events::play_out;
 use crate::lines::Lines;
 use crate::running::Running;
+use crate::saves::saves_read_back;
 use glk_world::World;
 use gx_machine::{Engine, Machine};
 use gx_outside::{Shelf, Sink, Source};
@@ -66,6 +67,7 @@ pub fn run_on<A: Allocator + Clone, E: Engine<A>, S: Source, K: Sink, F: Shelf, 
         let exit = devices (S.seen input.new) (K.seen output.new) (F.seen shelf.new) (R.stream dice.new) in
         IsRun (start_of (E.whole engine).machine world entry echo steps) entry exit (report_on E.whole result) }
 {
+    saves_read_back(&engine);
     let mut run = Running {
         engine,
         world,

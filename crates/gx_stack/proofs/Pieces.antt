@@ -53,16 +53,30 @@ length-frame format args h =
     length_behind_two (frame_len format) (locals_pos format) (pairs_of format ++ 0 ∷ 0 ∷ []) (locals 0 (pairs_of format) args)
     ∙ rw (length-pairs format h.ending, length-locals 0 (pairs_of format) args h.pairs) refl
 
-joined : (out a b c d e f g : List ℕ) → ((((((out ++ a) ++ b) ++ c) ++ d) ++ e) ++ f) ++ g ≡ out ++ (a ++ b ++ ((c ++ d) ++ e) ++ (f ++ g))
-joined out a b c d e f g = simp append_assoc
+joined : (out a b c d e : List ℕ) → ((((out ++ a) ++ b) ++ c) ++ d) ++ e ≡ out ++ (a ++ (b ++ ((c ++ d) ++ e)))
+joined out a b c d e = simp append_assoc
 
-pub frame_pushed : (out format args : List ℕ) → IsFormat format → ((((((out ++ bytes_of_word (frame_len format)) ++ bytes_of_word (locals_pos format)) ++ pairs_of format) ++ 0 ∷ 0 ∷ []) ++ replicate (gap 4 (length format)) 0) ++ locals 0 (pairs_of format) args) ++ replicate (gap 4 (locals_len 0 (pairs_of format))) 0 ≡ out ++ frame format args
+pub header_pushed : (out pairs : List ℕ) (len begin : ℕ) → ((((out ++ bytes_of_word len) ++ bytes_of_word begin) ++ pairs) ++ 0 ∷ 0 ∷ []) ++ replicate (gap 4 (length pairs + 2)) 0 ≡ out ++ (bytes_of_word len ++ (bytes_of_word begin ++ padded (pairs ++ 0 ∷ 0 ∷ [])))
+header_pushed out pairs len begin =
+    let more : length (pairs ++ 0 ∷ 0 ∷ []) ≡ length pairs + 2 = grind (arith, common_steps) in
+    rw more (joined out (bytes_of_word len) (bytes_of_word begin) pairs (0 ∷ 0 ∷ []) (replicate (gap 4 (length pairs + 2)) 0))
+
+pub ruleset header_pieces = (header_pushed)
+
+around : (out a b c d e : List ℕ) → ((out ++ (a ++ (b ++ c))) ++ d) ++ e ≡ out ++ (a ++ b ++ c ++ (d ++ e))
+around out a b c d e = simp append_assoc
+
+pub frame_pushed : (out format args : List ℕ) (len begin rest : ℕ) → IsFormat format → len ≡ frame_len format → begin ≡ locals_pos format → rest ≡ gap 4 (locals_len 0 (pairs_of format))
+    → ((out ++ (bytes_of_word len ++ (bytes_of_word begin ++ padded (pairs_of format ++ 0 ∷ 0 ∷ [])))) ++ locals 0 (pairs_of format) args) ++ replicate rest 0 ≡ out ++ frame format args
 unfolding frame
-frame_pushed out format args h =
-    rw (length-pairs format h.ending, length-locals 0 (pairs_of format) args h.pairs)
-    (joined out (bytes_of_word (frame_len format)) (bytes_of_word (locals_pos format)) (pairs_of format) (0 ∷ 0 ∷ []) (replicate (gap 4 (length format)) 0) (locals 0 (pairs_of format) args) (replicate (gap 4 (locals_len 0 (pairs_of format))) 0))
+frame_pushed out format args len begin rest h whole locals_at zeros =
+    rw (whole, locals_at, zeros, length-locals 0 (pairs_of format) args h.pairs)
+    (around out (bytes_of_word (frame_len format)) (bytes_of_word (locals_pos format)) (padded (pairs_of format ++ 0 ∷ 0 ∷ [])) (locals 0 (pairs_of format) args) (replicate (gap 4 (locals_len 0 (pairs_of format))) 0))
 
-pub ruleset frame_pieces = (frame_pushed)
+pub front_len : (format : List ℕ) → IsFormat format → length (pairs_of format) + 2 ≡ length format
+front_len format h = let ending = h.ending in grind (arith, common_steps, ending)
+
+pub ruleset frame_pieces = (frame_pushed, front_len)
 
 pub frame_len_read : (xs format args : List ℕ) → frame_len format < 2 ^ 32 → word (xs ++ frame format args) (length xs) ≡ frame_len format
 unfolding frame

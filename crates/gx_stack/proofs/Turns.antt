@@ -1,6 +1,7 @@
 -- One turn of each recursion and loop, by a number that is not 0.
-use Rattle.std.proofs.Common.{◌≡◌, ◌<◌, ◌≤◌, ◌+◌, ◌-◌, ◌*◌, replicate, ℕ, zero, suc, List, [], ◌∷◌, ◌++◌, append_assoc, length, drop, get_or, refl, sym, arith, drop-cons, length-append}
-use Rattle.std.proofs.lemmas.List.{append-nil}
+use Rattle.std.proofs.Common.{◌≡◌, ◌<◌, ◌≤◌, ◌+◌, ◌-◌, ◌*◌, ◌⊎◌, min, replicate, ℕ, zero, suc, List, [], ◌∷◌, ◌++◌, append_assoc, length, drop, get_or, refl, sym, ap, ◌∙◌, inl, inr, arith, drop-cons, length-append}
+use Rattle.std.proofs.lemmas.List.{append-nil, replicate-append-replicate, get_or-drop}
+use Rattle.std.proofs.lemmas.Bool.{cases_lt}
 use Rattle.std.proofs.lemmas.Grind.{common_steps}
 use Rattle.gx_words.specs.Numbers.{IsWidth, bytes_of_word, bytes_of_number}
 use Rattle.gx_stack.specs.declared.stubs.Stub.{Stub}
@@ -10,21 +11,66 @@ use Rattle.gx_stack.specs.Stubs.{stubs_bytes, stub_bytes}
 use Rattle.gx_stack.specs.Values.{in_order}
 
 -- locals of one size
-pub filled_none : (t n : ℕ) (args out : List ℕ) → n ≡ 0 → out ≡ out ++ filled t n args
-unfolding filled
-filled_none t zero args out h = sym (append-nil out)
-filled_none t (suc n) args out h = absurd (omega arith)
-
 filled_more : (t n : ℕ) (args : List ℕ) → 0 < n → filled t n args ≡ bytes_of_number t (get_or args 0 0) ++ filled t (n - 1) (drop 1 args)
 unfolding filled
 filled_more t zero args h = absurd (omega arith)
 filled_more t (suc n) [] h = let less : suc n - 1 ≡ n = omega arith in rw less refl
 filled_more t (suc n) (a ∷ args) h = let less : suc n - 1 ≡ n = omega arith in rw less refl
 
-pub filled_pushed : (t n : ℕ) (args out : List ℕ) → 0 < n → (out ++ bytes_of_number t (get_or args 0 0)) ++ filled t (n - 1) (drop 1 args) ≡ out ++ filled t n args
-filled_pushed t n args out h = rw (append_assoc, filled_more t n args h) refl
+pub filled_pushed : (t n i : ℕ) (args out : List ℕ) → i < n → (out ++ bytes_of_number t (get_or args i 0)) ++ filled t (n - (i + 1)) (drop (i + 1) args) ≡ out ++ filled t (n - i) (drop i args)
+filled_pushed t n i args out h =
+    let less : n - i - 1 ≡ n - (i + 1) = omega arith in
+    let here : i + 0 ≡ i = omega arith in
+    let first : get_or (drop i args) 0 0 ≡ get_or args i 0 = get_or-drop i args 0 0 ∙ ap (λ (k : ℕ). get_or args k 0) here in
+    let rest : drop 1 (drop i args) ≡ drop (i + 1) args = grind (arith, common_steps) in
+    rw (append_assoc, filled_more t (n - i) (drop i args) (omega (arith, h)), less, first, rest) refl
 
-pub ruleset filled_turns = (filled_none, filled_pushed)
+pub filled_first : (t n : ℕ) (args out : List ℕ) → out ++ filled t (n - 0) (drop 0 args) ≡ out ++ filled t n args
+filled_first t n args out = let all : n - 0 ≡ n = omega arith in rw all refl
+
+pub filled_room : (t n i : ℕ) → IsWidth t → i < n → t * i + t ≤ t * n
+filled_room t n i is below = grind (arith, is, below)
+
+-- locals that no argument is left for
+number_zeros : (t : ℕ) → IsWidth t → bytes_of_number t 0 ≡ replicate t 0
+number_zeros t is = elim is [
+  | inl one ↦ rw one refl
+  | inr more ↦ elim more [
+    | inl two ↦ rw two refl
+    | inr four ↦ rw four refl
+  ]
+]
+
+zeros_filled : (t n : ℕ) → IsWidth t → replicate (t * n) 0 ≡ filled t n []
+unfolding filled
+zeros_filled t zero is = let none : t * 0 ≡ 0 = grind arith in rw none refl
+zeros_filled t (suc n) is =
+    let more : t * suc n ≡ t + t * n = grind arith in
+    rw (more, number_zeros t is) (sym (replicate-append-replicate t (t * n) 0) ∙ ap (λ (xs : List ℕ). replicate t 0 ++ xs) (zeros_filled t n is))
+
+zeros_rest : (t n : ℕ) (args : List ℕ) → IsWidth t → length args ≡ 0 → replicate (t * n) 0 ≡ filled t n args
+zeros_rest t n [] is none = zeros_filled t n is
+zeros_rest t n (a ∷ args) is none = absurd (omega (arith, none))
+
+zeros_left : (t n i : ℕ) (args : List ℕ) → IsWidth t → (n ≤ i) ⊎ (length args ≤ i) → replicate (t * (n - i)) 0 ≡ filled t (n - i) (drop i args)
+unfolding filled
+zeros_left t n i args is (inl full) =
+    let none : n - i ≡ 0 = omega (arith, full) in
+    let zero_many : t * 0 ≡ 0 = grind arith in
+    rw (none, zero_many) refl
+zeros_left t n i args is (inr past) =
+    let none : length (drop i args) ≡ 0 = grind (arith, common_steps, past) in
+    zeros_rest t (n - i) (drop i args) is none
+
+pub filled_done : (t n i rest : ℕ) (args out new start : List ℕ) → out ++ filled t (n - i) (drop i args) ≡ start ++ filled t n args → new ≡ out ++ replicate (t * rest) 0 → IsWidth t → rest ≡ n - i → i ≡ min (length args) n → new ≡ start ++ filled t n args
+filled_done t n i rest args out new start kept pushed is left all =
+    let past : (n ≤ i) ⊎ (length args ≤ i) = elim (cases_lt (length args) n) [
+      | inl few ↦ inr (omega (arith, few, all))
+      | inr many ↦ inl (omega (arith, many, all))
+    ] in
+    pushed ∙ ap (λ (xs : List ℕ). out ++ xs) (rw left (zeros_left t n i args is past)) ∙ kept
+
+pub ruleset filled_turns = (filled_pushed, filled_first, filled_room)
 
 -- the locals of pairs
 pub locals_none : (at : ℕ) (pairs args out : List ℕ) → length pairs < 2 → out ≡ out ++ locals at pairs args

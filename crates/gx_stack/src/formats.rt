@@ -2,13 +2,14 @@
 //!
 //! Each group of locals begins at the least multiple of its size at or after the end of the group
 //! before, a group of no locals too. The frame is pushed onto a Vec that has the room for it.
-ghost use Rattle.std.specs.Prelude.{◌≡◌, ◌+◌, ◌*◌, ◌%◌, ◌≤◌, ◌<◌, ◌^◌, ◌++◌, length, drop, replicate, slice_index, vec_len, vec_capacity};
-ghost use Rattle.gx_words.specs.Numbers.{IsWidth};
-ghost use Rattle.gx_stack.specs.Formats.{ArePairs, IsFormat, pairs_of, gap, filled, locals, locals_len, locals_pos, frame_len, frame};
+ghost use Rattle.std.specs.Prelude.{◌≡◌, ◌+◌, ◌*◌, ◌%◌, ◌≤◌, ◌<◌, ◌^◌, ◌++◌, [], ◌∷◌, length, drop, replicate, vec_len, vec_capacity};
+ghost use Rattle.gx_words.specs.Numbers.{IsWidth, bytes_of_word};
+ghost use Rattle.gx_stack.specs.Formats.{ArePairs, IsFormat, pairs_of, gap, filled, locals, locals_len, locals_pos, padded, padded_len, frame_len, frame};
 
 use crate::room::{push_bytes, push_number, push_word, push_zeros};
 
 /// How far it is to the least multiple of 1, 2 or 4 at or after an offset.
+#[inline(always)]
 fn gap(width: u32, at: u32) -> u32
     requires { IsWidth width }
     ensures value { result ≡ gap width at }
@@ -23,6 +24,7 @@ fn gap(width: u32, at: u32) -> u32
 }
 
 /// What stands behind the first n.
+#[inline(always)]
 fn behind<T>(items: &[T], n: usize) -> &[T]
     ensures { result.now ≡ drop n items.now }
 {
@@ -33,27 +35,21 @@ fn behind<T>(items: &[T], n: usize) -> &[T]
     }
 }
 
-/// The first argument, or 0.
-fn first_of(args: &[u32]) -> u32
-    ensures { result ≡ slice_index args.now 0 }
-{
-    if args.is_empty() { 0 } else { args[0] }
-}
-
 /// Pushes so many locals of one size: the arguments in order, then zeros.
+#[inline(always)]
 #[tactic(auto, using(crate::proofs::Turns::filled_turns))]
-fn push_filled(out: &mut Vec<u8>, width: u32, count: u32, args: &[u32])
+fn push_filled(out: &mut Vec<u8>, width: u32, count: u8, args: &[u32])
     requires width { IsWidth width }
     requires room { vec_len out.old + width * count ≤ vec_capacity out.old }
     ensures items { out.new.items ≡ out.old.items ++ filled width count args.now }
     ensures len { vec_len out.new ≡ vec_len out.old + width * count }
     ensures room { vec_capacity out.old ≤ vec_capacity out.new }
 {
-    if count == 0 {
-        return;
+    let given = args.len().min(usize::from(count));
+    for i in 0..given {
+        push_number(out, width, args[i]);
     }
-    push_number(out, width, first_of(args));
-    push_filled(out, width, count - 1, behind(args, 1));
+    push_zeros(out, width * (u32::from(count) - given as u32));
 }
 
 /// Pushes the locals of pairs, from an offset on.
@@ -70,15 +66,15 @@ fn push_locals(out: &mut Vec<u8>, at: u32, pairs: &[u8], args: &[u32])
         return;
     }
     let width = u32::from(pairs[0]);
-    let count = u32::from(pairs[1]);
+    let count = pairs[1];
     let before = gap(width, at);
     push_zeros(out, before);
     push_filled(out, width, count, args);
     push_locals(
         out,
-        at + before + width * count,
+        at + before + width * u32::from(count),
         behind(pairs, 2),
-        behind(args, count as usize),
+        behind(args, usize::from(count)),
     );
 }
 
@@ -100,6 +96,7 @@ fn locals_len(at: u32, pairs: &[u8]) -> u32
 }
 
 /// LocalsPos: how far the locals stand from the frame's begin.
+#[inline(always)]
 fn locals_pos(format: &[u8]) -> u32
     requires { IsFormat format.now }
     ensures value { result ≡ locals_pos format.now }
@@ -122,22 +119,36 @@ pub fn frame_len(format: &[u8]) -> u32
     locals_pos(format) + body + gap(4, body)
 }
 
-/// Pushes the frame of a format, with arguments in its locals.
+/// Pushes what stands in front of a frame's locals: its two lengths, the pairs, and an ending pair.
+#[inline(always)]
+#[tactic(auto, using(crate::proofs::Pieces::header_pieces))]
+fn push_header(out: &mut Vec<u8>, pairs: &[u8], len: u32, begin: u32)
+    requires few { length pairs.now ≤ 128 }
+    requires room { vec_len out.old + 8 + padded_len (length pairs.now + 2) ≤ vec_capacity out.old }
+    ensures items { out.new.items ≡ out.old.items ++ (bytes_of_word len ++ (bytes_of_word begin ++ padded (pairs.now ++ 0 ∷ 0 ∷ []))) }
+    ensures len { vec_len out.new ≡ vec_len out.old + 8 + padded_len (length pairs.now + 2) }
+    ensures room { vec_capacity out.old ≤ vec_capacity out.new }
+{
+    push_word(out, len);
+    push_word(out, begin);
+    push_bytes(out, pairs);
+    push_bytes(out, &[0, 0]);
+    push_zeros(out, gap(4, pairs.len() as u32 + 2));
+}
+
+/// Pushes the frame of a format, with arguments in its locals; `len` is FrameLen.
 #[tactic(auto, using(crate::proofs::Pieces::frame_pieces))]
-pub fn push_frame(out: &mut Vec<u8>, format: &[u8], args: &[u32])
+pub fn push_frame(out: &mut Vec<u8>, format: &[u8], len: u32, args: &[u32])
     requires format { IsFormat format.now }
-    requires room { vec_len out.old + frame_len format.now ≤ vec_capacity out.old }
+    requires len { len ≡ frame_len format.now }
+    requires room { vec_len out.old + len ≤ vec_capacity out.old }
     ensures items { out.new.items ≡ out.old.items ++ frame format.now args.now }
-    ensures len { vec_len out.new ≡ vec_len out.old + frame_len format.now }
+    ensures len { vec_len out.new ≡ vec_len out.old + len }
     ensures room { vec_capacity out.old ≤ vec_capacity out.new }
 {
     let pairs = &format[..format.len() - 2];
-    let body = locals_len(0, pairs);
-    push_word(out, frame_len(format));
-    push_word(out, locals_pos(format));
-    push_bytes(out, pairs);
-    push_bytes(out, &[0, 0]);
-    push_zeros(out, gap(4, format.len() as u32));
+    let end = out.len() + len as usize;
+    push_header(out, pairs, len, locals_pos(format));
     push_locals(out, 0, pairs, args);
-    push_zeros(out, gap(4, body));
+    push_zeros(out, (end - out.len()) as u32);
 }

@@ -1,7 +1,7 @@
 //! Call frames on the stack (Glulx 3.1.2, "Call Frames"): finding, entering and leaving them.
 ghost use Rattle.std.specs.Prelude.{◌≡◌, ◌+◌, ◌*◌, ◌%◌, ◌≤◌, ◌++◌, [], length, take, IfOk, OnOk};
 ghost use Rattle.gx_words.specs.Results.{Alters};
-ghost use Rattle.gx_stack.specs.Formats.{IsFormat, pairs_of, locals_pos, frame_len, local_places, held, numbers_at};
+ghost use Rattle.gx_stack.specs.Formats.{IsFormat, pairs_of, locals_pos, frame_len, frame, local_places, held, numbers_at};
 ghost use Rattle.gx_stack.specs.Frames.{IsGood, IsFrame, KeepsFrames, has_local, parts, frame_in, entered, with_args};
 
 use crate::formats::{frame_len, push_frame};
@@ -42,6 +42,7 @@ impl Stack {
 
     /// The frame at a place of the stack cut to `sp`.
     #[tactic(auto, unfolding(crate::specs::Frames::frame_in), using(crate::proofs::Kept::cuts))]
+    #[inline(always)]
     pub fn frame_at(&self, fp: u32, sp: u32) -> Result<Frame, StackFault>
         requires there { sp ≤ length self.now.bytes }
         requires aligned { sp % 4 ≡ 0 }
@@ -69,6 +70,7 @@ impl Stack {
     }
 
     /// The frame at a place where one is known to be good.
+    #[inline(always)]
     pub fn parts(&self, fp: u32) -> Frame
         requires { IsGood self.now.bytes fp }
         ensures value { result ≡ parts self.now.bytes fp }
@@ -82,6 +84,7 @@ impl Stack {
     }
 
     /// Pushes the frame of a format, with all locals zero.
+    #[inline(always)]
     pub fn enter_frame(&mut self, format: &[u8]) -> Result<Frame, StackFault>
         requires { IsFormat format.now }
         ensures value { Alters result self.old self.new (entered self.old format.now []) }
@@ -96,6 +99,7 @@ impl Stack {
     /// Pushes the frame of a function of type C1: the arguments stand in its locals in order, each
     /// cut to the local's size. Arguments without a local are dropped, locals without one are zero.
     #[tactic(auto, unfolding(crate::specs::Frames::entered), using(crate::proofs::Kept::entered_frames, crate::proofs::Locals::locals_read))]
+    #[inline(always)]
     pub fn enter_with(&mut self, format: &[u8], args: &[u32]) -> Result<Frame, StackFault>
         requires { IsFormat format.now }
         ensures value { Alters result self.old self.new (entered self.old format.now args.now) }
@@ -107,15 +111,32 @@ impl Stack {
         ensures place { IfOk result (λ frame. frame.locals ≡ length self.old.bytes + locals_pos format.now) }
     {
         let fp = self.size();
-        if fp + frame_len(format) > self.limit {
+        let len = frame_len(format);
+        if fp + len > self.limit {
             return Err(StackFault::Overflow);
         }
-        push_frame(&mut self.bytes, format, args);
+        self.push_frame(format, len, args);
         Ok(self.parts(fp))
+    }
+
+    /// Pushes the frame of a format where it fits, with arguments in its locals; `len` is its FrameLen.
+    #[inline(always)]
+    #[tactic(auto, using(crate::proofs::Kept::entered_frames))]
+    pub fn push_frame(&mut self, format: &[u8], len: u32, args: &[u32])
+        requires format { IsFormat format.now }
+        requires len { len ≡ frame_len format.now }
+        requires room { length self.old.bytes + len ≤ self.old.limit }
+        ensures value { self.new ≡ record self.old { bytes = self.old.bytes ++ frame format.now args.now } }
+        ensures good { IsGood self.new.bytes (length self.old.bytes) }
+        ensures keeps { KeepsFrames self.old.bytes self.new.bytes }
+        ensures size { length self.new.bytes ≡ length self.old.bytes + len }
+    {
+        push_frame(&mut self.bytes, format, len, args);
     }
 
     /// Pushes the arguments of a function of type C0, the first topmost, and their count on top.
     #[tactic(auto, using(crate::proofs::Turns::arg_turns, crate::proofs::Kept::frame_after_push))]
+    #[inline(always)]
     pub fn push_args(&mut self, args: &[u32])
         requires room { length self.old.bytes + 4 * (length args.now + 1) ≤ self.old.limit }
         ensures value { self.new ≡ record self.old { bytes = with_args self.old.bytes args.now } }
@@ -130,6 +151,7 @@ impl Stack {
     }
 
     /// Cuts the stack to the begin of a frame, or to any other place.
+    #[inline(always)]
     pub fn leave_frame(&mut self, fp: u32)
         requires whole { fp ≤ length self.old.bytes }
         requires aligned { fp % 4 ≡ 0 }

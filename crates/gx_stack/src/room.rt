@@ -6,6 +6,7 @@ ghost use Rattle.gx_stack.specs.Values.{turned};
 use gx_words::{put_number, word_bytes};
 
 /// Pushes bytes.
+#[inline(always)]
 pub fn push_bytes(out: &mut Vec<u8>, bytes: &[u8])
     requires room { vec_len out.old + length bytes.now ≤ vec_capacity out.old }
     ensures items { out.new.items ≡ out.old.items ++ bytes.now }
@@ -19,12 +20,16 @@ pub fn push_bytes(out: &mut Vec<u8>, bytes: &[u8])
 }
 
 /// Pushes zeros.
+#[inline(always)]
 pub fn push_zeros(out: &mut Vec<u8>, n: u32)
     requires room { vec_len out.old + n ≤ vec_capacity out.old }
     ensures items { out.new.items ≡ out.old.items ++ replicate n 0 }
     ensures len { vec_len out.new ≡ vec_len out.old + n }
     ensures room { vec_capacity out.old ≤ vec_capacity out.new }
 {
+    if n == 0 {
+        return;
+    }
     match out.resize(out.len() + n as usize, 0) {
         Ok(()) => {}
         Err(_) => unreachable!(),
@@ -42,6 +47,7 @@ pub fn push_word(out: &mut Vec<u8>, v: u32)
 }
 
 /// Pushes the low 1, 2 or 4 bytes of a number.
+#[inline(always)]
 pub fn push_number(out: &mut Vec<u8>, width: u32, v: u32)
     requires width { IsWidth width }
     requires room { vec_len out.old + width ≤ vec_capacity out.old }
@@ -91,6 +97,7 @@ fn turn_slice(all: &mut [u8], at: usize, up: usize)
 }
 
 /// Puts the low 1, 2 or 4 bytes of a number over those from a place on.
+#[inline(always)]
 pub fn put(out: &mut Vec<u8>, at: usize, width: u32, v: u32)
     requires width { IsWidth width }
     requires there { at + width ≤ vec_len out.old }

@@ -24,6 +24,7 @@ pub struct Stub {
 impl Stub {
     /// Its bytes on the stack, FramePtr topmost.
     #[tactic(auto, unfolding(crate::specs::Stubs::stub_bytes), using(crate::proofs::Pieces::digits))]
+    #[inline(always)]
     pub fn bytes(&self) -> [u8; 16]
         ensures value { result ≡ stub_bytes self.now }
         ensures read_back { stub_below result 16 ≡ self.now }
@@ -54,6 +55,7 @@ impl Stack {
 
     /// Pushes stubs, the first deepest, where all of them fit.
     #[tactic(auto, unfolding(crate::specs::Stubs::pushed_stubs), using(crate::proofs::Turns::stub_turns, crate::proofs::Kept::frame_after_push))]
+    #[inline(always)]
     pub fn push_stubs(&mut self, stubs: &[Stub]) -> Result<(), StackFault>
         ensures value { Alters result self.old self.new (pushed_stubs self.old stubs.now) }
         ensures keeps { KeepsFrames self.old.bytes self.new.bytes }
@@ -70,6 +72,7 @@ impl Stack {
 
     /// The stub on top of the stack cut to `sp`.
     #[tactic(auto, unfolding(crate::specs::Stubs::top_stub), using(crate::proofs::Kept::cuts))]
+    #[inline(always)]
     pub fn stub_at(&self, sp: u32) -> Result<Stub, StackFault>
         requires there { sp ≤ length self.now.bytes }
         requires aligned { sp % 4 ≡ 0 }

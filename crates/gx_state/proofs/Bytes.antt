@@ -1,8 +1,8 @@
 -- Reading the memory that a start or a restart is going to make.
-use Rattle.std.proofs.Common.{◌≡◌, ◌≤◌, ◌<◌, ◌+◌, ◌-◌, ℕ, Bool, true, false, cond, nat_lt, nat_le, ◌&&◌, List, ◌++◌, length, take, get_or, replicate, Result, Ok, Err, refl, ap, sym, ◌∙◌, arith, ◌⊎◌, inl, inr}
+use Rattle.std.proofs.Common.{◌≡◌, ◌≤◌, ◌<◌, ◌+◌, ◌-◌, ℕ, Bool, true, false, cond, nat_lt, nat_le, ◌&&◌, List, ◌++◌, length, take, drop, get_or, replicate, slice_range, Result, Ok, Err, refl, ap, sym, ◌∙◌, arith, inl, inr}
 use Rattle.std.proofs.lemmas.Grind.{common_steps}
 use Rattle.std.proofs.lemmas.Bool.Decides.{nat_tests}
-use Rattle.std.proofs.lemmas.List.{get_or-append_right, get_or-replicate, get_or-take}
+use Rattle.std.proofs.lemmas.List.{get_or-append_right, get_or-replicate, get_or-take, drop-take, take-take}
 use Rattle.std.proofs.lemmas.List.FromFn.{get_or-map-range_with_len, length-map-range_with_len}
 use Rattle.gx_words.specs.Numbers.{IsWidth, number}
 use Rattle.gx_words.specs.declared.faults.Fault.{Fault}
@@ -10,7 +10,7 @@ use Rattle.gx_words.specs.declared.faults.Fault.TheVariants.{BadAddress}
 use Rattle.gx_pages.specs.Memory.{number_in, put_back_of}
 
 -- a byte that is there, and one that isn't
-is_there : (m : List ℕ) (at v : ℕ) → at < length m → get_or m at 0 ≡ v → number_in 1 m at ≡ Ok v
+pub is_there : (m : List ℕ) (at v : ℕ) → at < length m → get_or m at 0 ≡ v → number_in 1 m at ≡ Ok v
 unfolding number_in
 is_there m at v there is = let within : nat_le (at + 1) (length m) ≡ true = grind (arith, nat_tests) in rw within (ap Ok is)
 
@@ -21,6 +21,14 @@ is_past m at past = let without : nat_le (at + 1) (length m) ≡ false = grind (
 -- a number whose bytes two lists share
 shared_byte : (m n : List ℕ) (shared a : ℕ) → take shared m ≡ take shared n → a < shared → get_or m a 0 ≡ get_or n a 0
 shared_byte m n shared a same below = sym (get_or-take shared m a 0 below) ∙ ap (λ (xs : List ℕ). get_or xs a 0) same ∙ get_or-take shared n a 0 below
+
+-- bytes that two lists share
+slice_of : (m : List ℕ) (at end : ℕ) → at ≤ end → slice_range m at end ≡ drop at (take end m)
+slice_of m at end first = let whole : at + (end - at) ≡ end = omega (arith, first) in sym (drop-take at (end - at) m) ∙ rw whole refl
+
+pub shared_slice : (m n : List ℕ) (shared at end : ℕ) → take shared m ≡ take shared n → at ≤ end → end ≤ shared → slice_range m at end ≡ slice_range n at end
+shared_slice m n shared at end same first below =
+    slice_of m at end first ∙ ap (drop at) (sym (take-take end shared m below) ∙ ap (take end) same ∙ take-take end shared n below) ∙ sym (slice_of n at end first)
 
 shared_number : (m n : List ℕ) (shared width at : ℕ) → IsWidth width → take shared m ≡ take shared n → at + width ≤ shared → number width m at ≡ number width n at
 shared_number m n shared width at is same below =

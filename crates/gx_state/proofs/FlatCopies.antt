@@ -1,17 +1,16 @@
 -- Copies of a state whose stack was cut, and the ways back to a copy.
-use Rattle.std.proofs.Common.{◌≡◌, ◌≤◌, ◌<◌, ◌+◌, ◌-◌, ℕ, List, [], ◌++◌, length, take, replicate, IsTrue, refl, ap, subst, sym, ◌∙◌, arith}
-use Rattle.std.proofs.lemmas.Grind.{common_steps}
+use Rattle.std.proofs.Common.{◌≡◌, ◌≤◌, ◌<◌, ◌+◌, ◌-◌, ℕ, List, ◌++◌, length, take, replicate, IsTrue, refl, subst, sym, arith}
 use Rattle.std.proofs.lemmas.List.{append-nil, length-take-le}
 use Rattle.gx_stack.specs.declared.stubs.Stub.{Stub}
 use Rattle.gx_stack.specs.declared.frames.Frame.{Frame}
-use Rattle.gx_stack.specs.Frames.{IsGood, has_local, parts}
+use Rattle.gx_stack.specs.Frames.{has_local}
 use Rattle.gx_stack.specs.Stubs.{stub_bytes, stub_below}
 use Rattle.heap_blocks.specs.Heap.{FlatHeap}
 use Rattle.gx_story.specs.Stories.{FlatStory}
 use Rattle.gx_state.specs.declared.modes.Dest.{Dest}
 use Rattle.gx_state.specs.declared.modes.Dest.TheVariants.{Nowhere, Memory, Local, Push}
 use Rattle.gx_state.specs.declared.modes.Mode.TheVariants.{Running}
-use Rattle.gx_state.specs.Flat.{FlatState, IsHeight, cut, frame_of, sp_of}
+use Rattle.gx_state.specs.Flat.{FlatState, IsHeight, cut, frame_of}
 use Rattle.gx_state.specs.Sound.{IsSound}
 use Rattle.gx_state.specs.Returns.{stub_of}
 use Rattle.gx_state.specs.Copies.{Copy, IsCopyFor, HasPlaceFor, copy_of}

@@ -1,6 +1,9 @@
 -- Reading a locals format pair by pair.
-use Rattle.std.proofs.Common.{◌≡◌, ◌≢◌, ◌≤◌, ◌<◌, ◌+◌, ◌-◌, ℕ, zero, suc, List, [], ◌∷◌, ◌++◌, length, refl, sym, ap, subst, ◌∙◌, arith, append_assoc, Result, Ok, Err, IsErrAnd}
+use Rattle.std.proofs.Common.{true, false, ◌||◌, ◌==◌, inl, inr, ◌≡◌, ◌≢◌, ◌≤◌, ◌<◌, ◌+◌, ◌-◌, ◌*◌, ℕ, zero, suc, List, [], ◌∷◌, ◌++◌, length, take, drop, get_or, slice_range, refl, sym, ap, subst, ◌∙◌, arith, append_assoc, Result, Ok, Err, IsErrAnd}
+use Rattle.std.proofs.Math.Seq.{take-suc}
+use Rattle.std.proofs.lemmas.List.{get_or-drop}
 use Rattle.std.proofs.lemmas.Grind.{common_steps}
+use Rattle.std.proofs.lemmas.Bool.{or_cases}
 use Rattle.std.proofs.lemmas.Bool.Decides.{nat_tests}
 use Rattle.gx_words.specs.declared.faults.Fault.{Fault}
 use Rattle.gx_words.specs.declared.faults.Fault.TheVariants.{BadFunction, NoMemory}
@@ -9,7 +12,8 @@ use Rattle.gx_words.specs.Faults.{Reads}
 use Rattle.gx_words.specs.Results.{◌>>=◌}
 use Rattle.gx_pages.specs.Memory.{number_in}
 use Rattle.gx_stack.specs.Formats.{ArePairs, IsFormat, pairs_of}
-use Rattle.gx_state.specs.Entry.{format_from, behind}
+use Rattle.gx_state.specs.Entry.{format_from, format_at, behind, is_type}
+use Rattle.gx_state.proofs.Bytes.{is_there, shared_slice}
 
 -- the ending pair
 ends : (m : List ℕ) (at left t n : ℕ) → number_in 1 m at ≡ Ok t → number_in 1 m (at + 1) ≡ Ok n → t ≡ 0 → format_from m at left ≡ Ok (0 ∷ n ∷ [])
@@ -98,3 +102,93 @@ whole_format done (Ok rest) none = rw none refl
 whole_format done (Err fault) none = refl
 
 pub ruleset whole = (whole_format)
+
+-- the bytes that a format's reads found
+abbrev read_of : Result ℕ Fault → ℕ
+read_of (Ok v) = v
+read_of (Err fault) = 0
+
+read_byte : (m : List ℕ) (at v : ℕ) → at < length m → number_in 1 m at ≡ Ok v → get_or m at 0 ≡ v
+read_byte m at v there is = ap read_of (sym (is_there m at _ there refl) ∙ is)
+
+-- one pair more of those that were read
+pub slice_more : (m : List ℕ) (at here t n : ℕ) → number_in 1 m here ≡ Ok t → number_in 1 m (here + 1) ≡ Ok n → at ≤ here → here + 2 ≤ length m → slice_range m at (here + 2) ≡ (slice_range m at here ++ t ∷ []) ++ n ∷ []
+slice_more m at here t n type count behind there =
+    let one : here + 2 - at ≡ suc (suc (here - at)) = omega (arith, behind) in
+    let long : length (drop at m) ≡ length m - at = grind (arith, common_steps) in
+    let first : get_or (drop at m) (here - at) 0 ≡ t =
+    get_or-drop at m (here - at) 0 ∙ ap (λ (a : ℕ). get_or m a 0) (let same : at + (here - at) ≡ here = omega (arith, behind) in same) ∙ read_byte m here t (omega (arith, there)) type in
+    let second : get_or (drop at m) (suc (here - at)) 0 ≡ n =
+    get_or-drop at m (suc (here - at)) 0 ∙ ap (λ (a : ℕ). get_or m a 0) (let same : at + suc (here - at) ≡ here + 1 = omega (arith, behind) in same) ∙ read_byte m (here + 1) n (omega (arith, there)) count in
+    rw (one, take-suc (drop at m) (suc (here - at)) 0 (omega (arith, long, there, behind)), take-suc (drop at m) (here - at) 0 (omega (arith, long, there, behind)), first, second) refl
+
+pub slice_none : (m : List ℕ) (at : ℕ) → slice_range m at at ≡ []
+slice_none m at = let none : at - at ≡ 0 = omega arith in rw none refl
+
+-- what the loop over pairs keeps: the pairs that were read are those of the format
+pub record AreRead (m : List ℕ) (at here left : ℕ) : Type 0 where
+  pub format : behind (slice_range m at here) (format_from m here left) ≡ format_at m at
+  pub pairs : ArePairs (slice_range m at here)
+  pub long : length (slice_range m at here) + 2 * left ≤ 128
+  pub behind_it : at ≤ here
+
+pub none_read : (m : List ℕ) (at : ℕ) → AreRead m at at 64
+none_read m at = record {
+  format = rw (slice_none m at) (whole_format [] (format_from m at 64) refl);
+  pairs = rw (slice_none m at) tt;
+  long = rw (slice_none m at) (omega arith);
+  behind_it = omega arith;
+}
+
+length_more : (pairs : List ℕ) (t n : ℕ) → length ((pairs ++ t ∷ []) ++ n ∷ []) ≡ length pairs + 2
+length_more pairs t n = grind (arith, common_steps)
+
+is_width : (t : ℕ) → is_type t ≡ true → IsWidth t
+is_width t is = elim (or_cases (t == 1 || t == 2) (t == 4) is) [
+  | inl two ↦ elim (or_cases (t == 1) (t == 2) two) [
+    | inl one ↦ inl (grind (arith, nat_tests, one))
+    | inr half ↦ inr (inl (grind (arith, nat_tests, half)))
+  ]
+  | inr four ↦ inr (inr (grind (arith, nat_tests, four)))
+]
+
+pub one_read : (m : List ℕ) (at here left t n : ℕ) → AreRead m at here left → number_in 1 m here ≡ Ok t → number_in 1 m (here + 1) ≡ Ok n → is_type t ≡ true → 0 < left → here + 2 ≤ length m → AreRead m at (here + 2) (left - 1)
+one_read m at here left t n is type count known more there =
+    let width = is_width t known in
+    let next = slice_more m at here t n type count is.behind_it there in
+    let few = is.long in
+    record {
+      format = rw next (sym (format_goes_on (slice_range m at here) m here left t n type count width more) ∙ is.format);
+      pairs = rw next (pairs_more (slice_range m at here) t n is.pairs width);
+      long = rw (next, length_more (slice_range m at here) t n) (omega (arith, few, more));
+      behind_it = omega (arith, is.behind_it);
+    }
+
+pub end_read : (m : List ℕ) (at here left t n : ℕ) → AreRead m at here left → number_in 1 m here ≡ Ok t → number_in 1 m (here + 1) ≡ Ok n → t ≡ 0 → here + 2 ≤ length m → format_at m at ≡ Ok (slice_range m at (here + 2))
+end_read m at here left t n is type count none there =
+    sym is.format ∙ format_ends (slice_range m at here) m here left t n type count none ∙ ap Ok (sym (slice_more m at here t n type count is.behind_it there ∙ rw none refl))
+
+pub end_format : (m : List ℕ) (at here left t n : ℕ) → AreRead m at here left → number_in 1 m here ≡ Ok t → number_in 1 m (here + 1) ≡ Ok n → t ≡ 0 → here + 2 ≤ length m → IsFormat (slice_range m at (here + 2))
+end_format m at here left t n is type count none there =
+    let few = is.long in
+    subst IsFormat (sym (slice_more m at here t n type count is.behind_it there ∙ rw none refl)) (is_format (slice_range m at here) n is.pairs (omega (arith, few)))
+
+pub end_many : (m : List ℕ) (at here left t n : ℕ) → AreRead m at here left → number_in 1 m here ≡ Ok t → number_in 1 m (here + 1) ≡ Ok n → t ≢ 0 → left ≡ 0 → format_at m at ≡ Err BadFunction
+end_many m at here left t n is type count some none = sym is.format ∙ format_is_bad (slice_range m at here) m here left t n type count some (λ width. none)
+
+pub end_bad : (m : List ℕ) (at here left t n : ℕ) → AreRead m at here left → number_in 1 m here ≡ Ok t → number_in 1 m (here + 1) ≡ Ok n → t ≢ 0 → is_type t ≡ false → format_at m at ≡ Err BadFunction
+end_bad m at here left t n is type count some other = sym is.format ∙ format_is_bad (slice_range m at here) m here left t n type count some (λ width. grind (arith, nat_tests, width, other))
+
+pub end_past : (m : List ℕ) (at here left : ℕ) (fault : Fault) → AreRead m at here left → number_in 1 m here ≡ Err fault → format_at m at ≡ Err fault
+end_past m at here left fault is past = sym is.format ∙ format_is_past (slice_range m at here) m here left fault past
+
+pub end_cut : (m : List ℕ) (at here left t : ℕ) (fault : Fault) → AreRead m at here left → number_in 1 m here ≡ Ok t → number_in 1 m (here + 1) ≡ Err fault → format_at m at ≡ Err fault
+end_cut m at here left t fault is type past = sym is.format ∙ format_is_cut (slice_range m at here) m here left t fault type past
+
+pub ruleset end_turns = (none_read, one_read, end_read, end_format, end_many, end_bad, end_past, end_cut)
+
+-- a format below RAMSTART stands in the story's bytes too
+pub stored_format : (m stored : List ℕ) (ramstart at end : ℕ) → take ramstart m ≡ take ramstart stored → at ≤ end → end ≤ ramstart → slice_range m at end ≡ slice_range stored at end
+stored_format m stored ramstart at end same first below = shared_slice m stored ramstart at end same first below
+
+pub ruleset stored = (stored_format)

@@ -1,7 +1,7 @@
 -- Answers to what a step asks.
 use Rattle.std.specs.Prelude.{ℕ, ◌+◌, ◌<◌, ◌≤◌, List, [], ◌∷◌, length}
 use Rattle.gx_state.specs.declared.effects.Effect.{Effect}
-use Rattle.gx_state.specs.declared.effects.Effect.TheVariants.{Went, Drew, Put, Glk, Quit, Spent}
+use Rattle.gx_state.specs.declared.effects.Effect.TheVariants.{Went, Drew, Put, Glk, Save, Restore, Quit, Spent}
 use Rattle.gx_state.specs.declared.effects.Reply.{Reply}
 use Rattle.gx_state.specs.Flat.{FlatState}
 
@@ -25,5 +25,7 @@ IsDone Went = Unit {0}
 IsDone Drew = Unit {0}
 IsDone (Put c) = ⊥
 IsDone (Glk selector args room) = ⊥
+IsDone (Save stream) = ⊥
+IsDone (Restore stream) = ⊥
 IsDone Quit = Unit {0}
 IsDone Spent = ⊥

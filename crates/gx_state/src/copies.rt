@@ -16,7 +16,7 @@ use crate::flat_copies::stub_on_top;
 use crate::readable::Restarted;
 use crate::{Dest, Mode, State};
 use gx_pages::{Kept, Pages};
-use gx_stack::{Stub, TO_LOCAL, TO_MEMORY, TO_STACK};
+use gx_stack::{Stub, TO_LOCAL, TO_MEMORY, TO_STACK, frame_len};
 use gx_words::{Bytes, Fault, word_bytes};
 use heap_blocks::Heap;
 use std::alloc::{AllocError, Allocator};
@@ -155,7 +155,16 @@ impl<A: Allocator + Clone> State<A> {
         let memory = self
             .memory
             .begin_again(self.story.bytes(), self.story.endmem(), self.protected)?;
-        push_call(&mut self.stack, 0, &[], kind, format.as_slice(), &[]);
+        let format = format.as_slice();
+        push_call(
+            &mut self.stack,
+            0,
+            &[],
+            kind,
+            format,
+            frame_len(format),
+            &[],
+        );
         self.memory = memory;
         self.frame = self.stack.parts(0);
         self.pc = at + 1 + format.len() as u32;

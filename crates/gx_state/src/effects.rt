@@ -4,7 +4,7 @@ use gx_words::{Numbers, Writes};
 
 /// What a step did, or what it asks of the outside.
 ///
-/// `Put` and `Glk` are askings: the machine stays as before the step until it is answered.
+/// `Put`, `Glk`, `Save` and `Restore` are askings: the machine stays as before the step until it is answered.
 #[derive(Drop)]
 pub enum Effect {
     /// The step was done.
@@ -20,6 +20,10 @@ pub enum Effect {
         args: ArrayVec<u32, 8>,
         room: u32,
     },
+    /// The game is to be saved to a Glk stream.
+    Save(u32),
+    /// The game is to be restored from a Glk stream.
+    Restore(u32),
     /// The program ends.
     Quit,
     /// The step costs more than the budget has left, and was not done.

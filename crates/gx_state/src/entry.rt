@@ -2,19 +2,19 @@
 //!
 //! The faults of an entry are looked for before anything changes, and before a start or a restart asks
 //! for memory.
-ghost use Rattle.std.specs.Prelude.{◌≡◌, ◌≢◌, ◌+◌, ◌*◌, ◌%◌, ◌≤◌, ◌<◌, ◌^◌, ◌++◌, length, take, Err, IfOk, IfErr, IsOk, OnOk};
+ghost use Rattle.std.specs.Prelude.{ℕ, List, ◌≡◌, ◌≢◌, ◌+◌, ◌*◌, ◌%◌, ◌≤◌, ◌<◌, ◌^◌, ◌++◌, length, take, slice_range, Ok, Err, IfSome, IfOk, IfErr, IsOk, OnOk};
 ghost use Rattle.gx_words.specs.declared.limits.TheConstants.{CEILING};
 ghost use Rattle.gx_words.specs.declared.faults.Fault.TheVariants.{NoMemory};
 ghost use Rattle.gx_words.specs.Faults.{Makes, Reads};
-ghost use Rattle.gx_stack.specs.Formats.{IsFormat};
+ghost use Rattle.gx_stack.specs.Formats.{IsFormat, frame_len};
 ghost use Rattle.gx_stack.specs.Frames.{IsGood};
 ghost use Rattle.gx_stack.specs.Stubs.{stubs_bytes};
 ghost use Rattle.gx_state.specs.Flat.{sp_of};
 ghost use Rattle.gx_state.specs.Relations.{Acts};
-ghost use Rattle.gx_state.specs.Entry.{kind_at, entry_bytes, entry_len, entered, function_at, initial, started};
+ghost use Rattle.gx_state.specs.Entry.{kind_at, format_at, entry_bytes, entry_len, entered, function_at, initial, started};
 
-use crate::formats::format_at;
-use crate::readable::{Readable, Started};
+use crate::formats::{format_at, format_end};
+use crate::readable::{Code, Readable, Started};
 use crate::{Mode, State};
 use arrayvec::ArrayVec;
 use gx_pages::Pages;
@@ -27,6 +27,7 @@ use std::alloc::{Allocator, Global};
 
 /// The type of a function.
 #[tactic(auto, unfolding(crate::specs::Entry::kind_at))]
+#[inline(always)]
 fn kind_at<M: Readable>(memory: &M, at: u32) -> Result<u32, Fault>
     ensures value { Reads (λ v. v) result (kind_at (M.bytes memory.now) at) }
     ensures low { OnOk result (at < CEILING) }
@@ -38,14 +39,14 @@ fn kind_at<M: Readable>(memory: &M, at: u32) -> Result<u32, Fault>
     }
 }
 
-/// How many bytes an entry pushes.
-fn entry_len(kind: u32, format: &[u8], count: usize) -> u32
-    requires format { IsFormat format.now }
+/// How many bytes an entry pushes, whose frame has `len` bytes.
+#[inline(always)]
+fn entry_len(kind: u32, len: u32, count: usize) -> u32
+    requires frame { len < 2 ^ 18 }
     requires count { count ≤ 255 }
-    ensures value { result ≡ entry_len kind format.now count }
+    ensures value { (format : List ℕ) → len ≡ frame_len format → result ≡ entry_len kind format count }
     ensures fits { result < 2 ^ 19 }
 {
-    let len = frame_len(format);
     if kind == STACK_FUNCTION {
         len + 4 * (count as u32 + 1)
     } else {
@@ -74,7 +75,7 @@ pub fn function_at<M: Readable>(
         return Err(Fault::BadFunction);
     }
     let format = format_at(memory, at + 1)?;
-    if fp + entry_len(kind, format.as_slice(), count) > limit {
+    if fp + entry_len(kind, frame_len(format.as_slice()), count) > limit {
         return Err(Fault::Overflow);
     }
     Ok((kind, format))
@@ -82,32 +83,39 @@ pub fn function_at<M: Readable>(
 
 /// Pushes what an entry pushes.
 #[tactic(auto, unfolding(gx_stack::specs::Frames::entered))]
-fn push_entry(stack: &mut Stack, kind: u32, format: &[u8], args: &[u32])
+#[inline(always)]
+fn push_entry(stack: &mut Stack, kind: u32, format: &[u8], len: u32, args: &[u32])
     requires format { IsFormat format.now }
+    requires frame { len ≡ frame_len format.now }
     requires count { length args.now ≤ 255 }
     requires room { length stack.old.bytes + entry_len kind format.now (length args.now) ≤ stack.old.limit }
     ensures value { stack.new ≡ record stack.old { bytes = stack.old.bytes ++ entry_bytes kind format.now args.now } }
     ensures good { IsGood stack.new.bytes (length stack.old.bytes) }
 {
     if kind == STACK_FUNCTION {
-        match stack.enter_frame(format) {
-            Ok(_) => stack.push_args(args),
-            Err(_) => unreachable!(),
-        }
+        stack.push_frame(format, len, &[]);
+        stack.push_args(args);
     } else {
-        match stack.enter_with(format, args) {
-            Ok(_) => {}
-            Err(_) => unreachable!(),
-        }
+        stack.push_frame(format, len, args);
     }
 }
 
 /// Cuts a stack, pushes stubs, and pushes what an entry pushes.
 #[tactic(auto, unfolding(gx_stack::specs::Stubs::pushed_stubs), using(crate::proofs::Kept::good_at))]
-pub fn push_call(stack: &mut Stack, sp: u32, stubs: &[Stub], kind: u32, format: &[u8], args: &[u32])
+#[inline(always)]
+pub fn push_call(
+    stack: &mut Stack,
+    sp: u32,
+    stubs: &[Stub],
+    kind: u32,
+    format: &[u8],
+    len: u32,
+    args: &[u32],
+)
     requires there { sp ≤ length stack.old.bytes }
     requires aligned { sp % 4 ≡ 0 }
     requires format { IsFormat format.now }
+    requires frame { len ≡ frame_len format.now }
     requires count { length args.now ≤ 255 }
     requires room { sp + 16 * length stubs.now + entry_len kind format.now (length args.now) ≤ stack.old.limit }
     ensures value { stack.new ≡ record stack.old { bytes = (take sp stack.old.bytes ++ stubs_bytes stubs.now) ++ entry_bytes kind format.now args.now } }
@@ -120,7 +128,7 @@ pub fn push_call(stack: &mut Stack, sp: u32, stubs: &[Stub], kind: u32, format: 
         Ok(()) => {}
         Err(_) => unreachable!(),
     }
-    push_entry(stack, kind, format, args);
+    push_entry(stack, kind, format, len, args);
     let _size = stack.size(); // what holds of every stack
 }
 
@@ -199,11 +207,85 @@ impl<A: Allocator + Clone> State<A> {
         if stubs.len() > (limit - sp) as usize / 16 {
             return Err(Fault::Overflow);
         }
+        match self.stored_format(at) {
+            Some(end) => self.enter_stored(sp, stubs, at, end, args),
+            None => self.enter_read(sp, stubs, at, args),
+        }
+    }
+
+    /// The same for a function whose locals format is read from memory.
+    #[inline(never)]
+    #[tactic(auto, unfolding(crate::specs::Entry::entered), using(crate::proofs::Kept::framed_good))]
+    fn enter_read(&mut self, sp: u32, stubs: &[Stub], at: u32, args: &[u32]) -> Result<(), Fault>
+        requires there { sp ≤ sp_of self.old.flat }
+        requires aligned { sp % 4 ≡ 0 }
+        requires room { sp + 16 * length stubs.now ≤ self.old.flat.stack.limit }
+        ensures { Acts result self.old self.new (entered self.old.flat sp stubs.now at args.now) }
+    {
+        let limit = self.stack.limit();
         let fp = sp + 16 * stubs.len() as u32;
-        let (kind, format) = function_at(&self.memory, at, args.len(), fp, limit)?;
-        push_call(&mut self.stack, sp, stubs, kind, format.as_slice(), args);
+        let (kind, read) = function_at(&self.memory, at, args.len(), fp, limit)?;
+        let format = read.as_slice();
+        let len = frame_len(format);
+        push_call(&mut self.stack, sp, stubs, kind, format, len, args);
         self.frame = self.stack.parts(fp);
         self.pc = at + 1 + format.len() as u32;
+        Ok(())
+    }
+
+    /// Where the locals format of the function at an address ends, where all of it stands below RAMSTART.
+    #[inline(always)]
+    #[tactic(auto, using(crate::proofs::Pairs::stored))]
+    fn stored_format(&self, at: u32) -> Option<u32>
+        ensures value { IfSome result (λ end. format_at self.now.flat.memory (at + 1) ≡ Ok (slice_range self.now.flat.story.bytes (at + 1) end)) }
+        ensures format { IfSome result (λ end. IsFormat (slice_range self.now.flat.story.bytes (at + 1) end)) }
+        ensures behind { IfSome result (λ end. at + 3 ≤ end) }
+        ensures there { IfSome result (λ end. end ≤ length self.now.flat.story.bytes) }
+    {
+        let ramstart = self.story.ramstart();
+        if at >= ramstart {
+            return None;
+        }
+        match format_end(&Code(self), at + 1) {
+            Ok(end) if end <= ramstart => Some(end),
+            _ => None,
+        }
+    }
+
+    /// The same for a function whose locals format stands in the story's own bytes, and ends at a place.
+    #[inline(always)]
+    #[tactic(auto, unfolding(crate::specs::Entry::entered, crate::specs::Entry::function_at), using(crate::proofs::Kept::framed_good))]
+    fn enter_stored(
+        &mut self,
+        sp: u32,
+        stubs: &[Stub],
+        at: u32,
+        end: u32,
+        args: &[u32],
+    ) -> Result<(), Fault>
+        requires there { sp ≤ sp_of self.old.flat }
+        requires aligned { sp % 4 ≡ 0 }
+        requires room { sp + 16 * length stubs.now ≤ self.old.flat.stack.limit }
+        requires behind { at + 3 ≤ end }
+        requires stored { end ≤ length self.old.flat.story.bytes }
+        requires value { format_at self.old.flat.memory (at + 1) ≡ Ok (slice_range self.old.flat.story.bytes (at + 1) end) }
+        requires format { IsFormat (slice_range self.old.flat.story.bytes (at + 1) end) }
+        ensures { Acts result self.old self.new (entered self.old.flat sp stubs.now at args.now) }
+    {
+        let kind = kind_at(&Code(self), at)?;
+        let count = args.len();
+        if count > 255 {
+            return Err(Fault::BadFunction);
+        }
+        let format = &self.story.bytes()[at as usize + 1..end as usize];
+        let len = frame_len(format);
+        let fp = sp + 16 * stubs.len() as u32;
+        if fp + entry_len(kind, len, count) > self.stack.limit() {
+            return Err(Fault::Overflow);
+        }
+        push_call(&mut self.stack, sp, stubs, kind, format, len, args);
+        self.frame = self.stack.parts(fp);
+        self.pc = end;
         Ok(())
     }
 }

@@ -2,11 +2,12 @@
 //!
 //! A format is pairs of a type and a count, and an ending pair of type 0. The type is the size of each
 //! of the pair's locals in bytes. At most 64 pairs may stand before the ending one.
-ghost use Rattle.std.specs.Prelude.{◌≡◌, ◌+◌, ◌*◌, ◌≤◌, length, IfOk, OnOk};
+ghost use Rattle.std.specs.Prelude.{◌≡◌, ◌+◌, ◌*◌, ◌≤◌, length, slice_range, IfOk, OnOk};
 ghost use Rattle.arrayvec.specs.ArrayVec.{array_vec_len};
+ghost use Rattle.gx_words.specs.declared.limits.TheConstants.{CEILING};
 ghost use Rattle.gx_words.specs.Faults.{Reads};
 ghost use Rattle.gx_stack.specs.Formats.{ArePairs, IsFormat};
-ghost use Rattle.gx_state.specs.Entry.{format_from, format_at, behind};
+ghost use Rattle.gx_state.specs.Entry.{format_from, format_at, behind, is_type};
 
 use crate::readable::Readable;
 use arrayvec::ArrayVec;
@@ -51,4 +52,41 @@ pub fn format_at<M: Readable>(memory: &M, at: u32) -> Result<ArrayVec<u8, 130>, 
     let mut format = ArrayVec::new();
     push_pairs(memory, at, 64, &mut format)?;
     Ok(format)
+}
+
+/// Whether locals have this type.
+#[inline(always)]
+fn is_type(width: u8) -> bool
+    ensures { result ≡ is_type width }
+{
+    width == 1 || width == 2 || width == 4
+}
+
+/// Where the locals format at an address ends.
+#[inline(always)]
+#[tactic(auto, using(crate::proofs::Pairs::end_turns))]
+pub fn format_end<M: Readable>(memory: &M, at: u32) -> Result<u32, Fault>
+    ensures value { Reads (λ end. slice_range (M.bytes memory.now) at end) result (format_at (M.bytes memory.now) at) }
+    ensures format { IfOk result (λ end. IsFormat (slice_range (M.bytes memory.now) at end)) }
+    ensures behind { IfOk result (λ end. at + 2 ≤ end) }
+    ensures there { IfOk result (λ end. end ≤ length (M.bytes memory.now)) }
+    ensures low { IfOk result (λ end. end ≤ CEILING) }
+{
+    let mut here = at;
+    let mut left = 64u32;
+    'pairs: loop {
+        let width = memory.byte(here)?;
+        let _count = memory.byte(here + 1)?; // both bytes of a pair have to be in memory
+        here += 2;
+        if width == 0 {
+            return Ok(here);
+        }
+        if left == 0 {
+            return Err(Fault::BadFunction);
+        }
+        if !is_type(width) {
+            return Err(Fault::BadFunction);
+        }
+        left -= 1;
+    }
 }

@@ -33,6 +33,20 @@ impl<A: Allocator> Readable for Pages<A> {
     }
 }
 
+/// Memory as code is read from it: below RAMSTART it is the story's own bytes.
+#[derive(Drop)]
+pub struct Code<'a, A: Allocator + Clone>(pub &'a State<A>);
+
+impl<A: Allocator + Clone> Readable for Code<'_, A> {
+    ghost bytes = { λ code. code.0.now.flat.memory };
+
+    #[inline(always)]
+    #[tactic(auto, unfolding(gx_pages::specs::Memory::number_in))]
+    fn byte(&self, at: u32) -> Result<u8, Fault> {
+        Ok(self.0.code(1, at)? as u8)
+    }
+}
+
 /// The memory that a story starts with.
 #[derive(Drop)]
 pub struct Started<'a>(pub &'a Story);

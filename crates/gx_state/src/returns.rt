@@ -42,6 +42,7 @@ pub fn printing_of(stub: &Stub) -> Option<Printing>
 
 impl<A: Allocator + Clone> State<A> {
     /// The stub of a store operand, with the address of the next instruction.
+    #[inline(always)]
     pub fn stub(&self, dest: &Dest, next: u32) -> Stub
         ensures { result ≡ stub_of self.now.flat dest.now next }
     {
@@ -123,6 +124,7 @@ impl<A: Allocator + Clone> State<A> {
 
     /// Writes up to two words to RAM, both or none.
     #[tactic(auto, using(crate::proofs::Kept::words))]
+    #[inline(always)]
     pub fn write_words(
         &mut self,
         first: Option<(u32, u32)>,
@@ -146,6 +148,7 @@ impl<A: Allocator + Clone> State<A> {
 
     /// The stub that ends at `sp`, and its frame.
     #[tactic(auto, unfolding(crate::specs::Returns::stub_to), using(crate::proofs::Kept::below))]
+    #[inline(always)]
     fn resumed(&self, sp: u32) -> Result<(Stub, Frame), Fault>
         requires there { sp ≤ sp_of self.now.flat }
         requires aligned { sp % 4 ≡ 0 }
@@ -165,6 +168,7 @@ impl<A: Allocator + Clone> State<A> {
 
     /// Goes back to the frame of the stub that ends at `sp`.
     #[tactic(auto, using(crate::proofs::Kept::framed, crate::proofs::Kept::framed_good))]
+    #[inline(always)]
     fn go_back(&mut self, sp: u32, stub: &Stub)
         requires there { 16 ≤ sp }
         requires within { sp ≤ sp_of self.old.flat }
@@ -178,6 +182,7 @@ impl<A: Allocator + Clone> State<A> {
     }
 
     /// The same, and goes on at the stub's PC.
+    #[inline(always)]
     fn resume(&mut self, sp: u32, stub: &Stub)
         requires there { 16 ≤ sp }
         requires within { sp ≤ sp_of self.old.flat }

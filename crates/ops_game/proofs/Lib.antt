@@ -1,3 +1,4 @@
 pub mod Generators
 pub mod Copies
 pub mod Pairs
+pub mod Asks

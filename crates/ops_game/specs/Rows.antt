@@ -1,9 +1,9 @@
 -- The rows of the class Game (Glulx 3.1.2, "Miscellaneous", "Random Number Generator", "Game State", "Output" and
--- "Accelerated Functions"), in the order of their numbers. save and restore aren't built yet.
+-- "Accelerated Functions"), in the order of their numbers.
 --
 -- An instruction's pops are made in its `sp`, and PC becomes `next` where nothing else is said. A fault in any
 -- line leaves the state and the copies as they are. `word` is the random word from outside that a step may use.
-use Rattle.std.specs.Prelude.{ℕ, ◌+◌, ◌==◌, nat_lt, if◌then◌else◌, List, [], ◌∷◌, Result, Ok, Err}
+use Rattle.std.specs.Prelude.{◌≡◌, ℕ, ◌+◌, ◌≤◌, ◌==◌, nat_lt, if◌then◌else◌, List, [], ◌∷◌, Result, Ok, Err}
 use Rattle.gx_words.specs.declared.faults.Fault.{Fault}
 use Rattle.gx_words.specs.declared.faults.Fault.TheVariants.{BadOpcode, Overflow, DebugTrap}
 use Rattle.gx_words.specs.declared.iosystems.TheConstants.{NULL_SYSTEM}
@@ -14,10 +14,10 @@ use Rattle.gx_story.specs.Stories.{is_checked}
 use Rattle.ops_calc.specs.declared.random.Generator.{Generator}
 use Rattle.ops_calc.specs.Generator.{pick, word_from, after_word, seeded_by, is_outside}
 use Rattle.gx_state.specs.declared.effects.Effect.{Effect}
-use Rattle.gx_state.specs.declared.effects.Effect.TheVariants.{Went, Drew, Quit}
+use Rattle.gx_state.specs.declared.effects.Effect.TheVariants.{Went, Drew, Put, Glk, Save, Restore, Quit, Spent}
 use Rattle.gx_state.specs.Flat.{FlatState, sp_of, cut}
 use Rattle.gx_state.specs.Copies.{Copy, copy_of, gone_back, restarted}
-use Rattle.gx_state.specs.Stores.{stored}
+use Rattle.gx_state.specs.Stores.{store_fault, stored}
 use Rattle.gx_undo.specs.Undo.{FlatUndo, with_newest, without_newest}
 use Rattle.gx_operands.specs.Instructions.{Instruction, L1, L2, going_to}
 use Rattle.gx_operands.specs.Stores.{settled, stores, goes}
@@ -77,6 +77,21 @@ unfoldable pub restart : FlatState → Result (FlatState × Effect) Fault
 restart f = do
   g ← restarted f
   Ok (g, Went)
+
+-- 123 save (L1 S1): asks that the game be saved to the Glk stream L1, with the state standing; the stub of S1, which the save
+-- has on top of its stack, needs room; S1 is the answer
+unfoldable pub save : FlatState → Instruction → Result (FlatState × Effect) Fault
+save f i =
+    if nat_lt f.stack.limit (i.sp + 16) then Err Overflow else (do
+      _ ← store_fault f 4 i.dest i.sp
+      Ok (f, Save (L1 i)))
+
+-- 124 restore (L1 S1): asks that the game be restored from the Glk stream L1, with the state standing; S1 is the answer of
+-- one that fails
+unfoldable pub restore : FlatState → Instruction → Result (FlatState × Effect) Fault
+restore f i = do
+  _ ← store_fault f 4 i.dest i.sp
+  Ok (f, Restore (L1 i))
 
 -- 125 saveundo (S1): keeps a copy of the state with the stub of S1, which needs room; S1 = 0
 unfoldable pub saveundo : FlatState → FlatUndo → Instruction → Result ((FlatState × FlatUndo) × Effect) Fault
@@ -141,6 +156,8 @@ row_effect f u word i =
     if i.row.number == numbers.QUIT then leaving_copies u (quit f i) else
     if i.row.number == numbers.VERIFY then leaving_copies u (verify f i) else
     if i.row.number == numbers.RESTART then leaving_copies u (restart f) else
+    if i.row.number == numbers.SAVE then leaving_copies u (save f i) else
+    if i.row.number == numbers.RESTORE then leaving_copies u (restore f i) else
     if i.row.number == numbers.SAVEUNDO then saveundo f u i else
     if i.row.number == numbers.RESTOREUNDO then restoreundo f u i else
     if i.row.number == numbers.PROTECT then leaving_copies u (protect f i) else
@@ -151,3 +168,21 @@ row_effect f u word i =
     if i.row.number == numbers.ACCELFUNC then leaving_copies u (accelerate f i) else
     if i.row.number == numbers.ACCELPARAM then leaving_copies u (accelerate f i) else
     Err BadOpcode
+
+-- What holds of a step that asks for a save or a restore: the state and the copies stand, so many bytes fit above the
+-- pops, and the answer has its place.
+pub record IsAsking (old new : FlatState × FlatUndo) (i : Instruction) (above : ℕ) : Type 0 where
+  pub stands : new ≡ old
+  pub room : i.sp + above ≤ old.0.stack.limit
+  pub stores : store_fault old.0 4 i.dest i.sp ≡ Ok tt
+
+-- A step of this class is done, or asks for a save, which has a stub, or for a restore.
+abbrev pub IsSaveAtMost : FlatState × FlatUndo → FlatState × FlatUndo → Instruction → Effect → Type 0
+IsSaveAtMost old new i Went = Unit {0}
+IsSaveAtMost old new i Drew = Unit {0}
+IsSaveAtMost old new i (Put c) = ⊥
+IsSaveAtMost old new i (Glk selector args room) = ⊥
+IsSaveAtMost old new i (Save stream) = IsAsking old new i 16
+IsSaveAtMost old new i (Restore stream) = IsAsking old new i 0
+IsSaveAtMost old new i Quit = Unit {0}
+IsSaveAtMost old new i Spent = ⊥

@@ -1,4 +1,5 @@
--- Which of these rows write memory or copy the state, and so may want some: no other ever does.
+-- Which of these rows write memory or copy the state, and so may want some: no other ever does. (save and restore only
+-- ask: the memory that they need is wanted after the step.)
 use Rattle.std.specs.Prelude.{◌⊎◌, ◌==◌, ◌&&◌, ◌||◌, nat_lt, if◌then◌else◌, length, Bool, IsTrue}
 use Rattle.gx_rows.specs.declared.numbers.TheConstants.{GESTALT, RANDOM, VERIFY, RESTART, SAVEUNDO, RESTOREUNDO, GETSTRINGTBL, GETIOSYS}
 use Rattle.gx_state.specs.declared.modes.Dest.{Dest}

@@ -3,8 +3,9 @@
 //!
 //! `act` does the row of a plan, by its definition of specs/Rows; after every fault the state and the
 //! copies are as before. Only the rows of specs/Writes may want memory, and only where they have no
-//! fault. save and restore aren't built yet, and are `BadOpcode`.
+//! fault. save and restore ask, with the state and the copies standing, and never want memory.
 //! - `chances` has random and setrandom.
+//! - `saves` has save and restore.
 //! - `undos` has saveundo and restoreundo.
 //! - `outputs` has the rows of the string decoding table and the iosystem.
 #![tactic(auto)]
@@ -17,24 +18,26 @@ ghost use Rattle.gx_state.specs.Replies.{IsDone};
 ghost use Rattle.gx_state.specs.Stores.{IsMemory};
 ghost use Rattle.gx_operands.specs.Plans.{instruction_of};
 ghost use Rattle.gx_undo.specs.Undo.{AreCopiesFor};
-ghost use Rattle.ops_game.specs.Rows.{gestalt, quit, verify, restart, protect, row_effect};
+ghost use Rattle.ops_game.specs.Rows.{gestalt, quit, verify, restart, protect, row_effect, IsSaveAtMost};
 ghost use Rattle.ops_game.specs.Writes.{IsWriting};
 
 mod chances;
 mod outputs;
+mod saves;
 mod undos;
 
 use chances::{random, setrandom};
 use gx_operands::{Plan, goes, stores};
 use gx_rows::{
     ACCELFUNC, ACCELPARAM, DEBUGTRAP, GESTALT, GETIOSYS, GETSTRINGTBL, PROTECT, QUIT, RANDOM,
-    RESTART, RESTOREUNDO, SAVEUNDO, SETIOSYS, SETRANDOM, SETSTRINGTBL, VERIFY,
+    RESTART, RESTORE, RESTOREUNDO, SAVE, SAVEUNDO, SETIOSYS, SETRANDOM, SETSTRINGTBL, VERIFY,
     gestalt as answer_to,
 };
 use gx_state::{Effect, State};
 use gx_undo::Undo;
 use gx_words::Fault;
 use outputs::{getiosys, getstringtbl, setiosys, setstringtbl};
+use saves::{restore, save};
 use std::alloc::Allocator;
 use undos::{restoreundo, saveundo};
 
@@ -97,7 +100,7 @@ fn protect<A: Allocator + Clone>(state: &mut State<A>, plan: &Plan) -> Effect
 
 /// Does the row of a plan that `decode` made of this state. `word` is the random word from outside
 /// that the step may use.
-#[tactic(auto, unfolding(crate::specs::Rows::row_effect, crate::specs::Rows::debugtrap, crate::specs::Rows::accelerate))]
+#[tactic(auto, unfolding(crate::specs::Rows::row_effect, crate::specs::Rows::debugtrap, crate::specs::Rows::accelerate), using(crate::proofs::Asks::asks))]
 pub fn act<A: Allocator + Clone>(
     state: &mut State<A>,
     plan: &Plan,
@@ -107,7 +110,7 @@ pub fn act<A: Allocator + Clone>(
     requires sp { IsHeight state.old.flat plan.now.sp }
     requires copies { AreCopiesFor state.old.flat.story undo.old.copies }
     ensures value { Does (IsWriting undo.old (instruction_of plan.now)) (λ effect. effect) result (state.old.flat, undo.old) (state.new.flat, undo.new) (row_effect state.old.flat undo.old word (instruction_of plan.now)) }
-    ensures done { IfOk result IsDone }
+    ensures asks { IfOk result (IsSaveAtMost (state.old.flat, undo.old) (state.new.flat, undo.new) (instruction_of plan.now)) }
     ensures story { state.new.flat.story ≡ state.old.flat.story }
     ensures copies { AreCopiesFor state.old.flat.story undo.new.copies }
 {
@@ -119,6 +122,8 @@ pub fn act<A: Allocator + Clone>(
         QUIT => Ok(quit(state, plan)),
         VERIFY => verify(state, plan),
         RESTART => restart(state),
+        SAVE => save(state, plan),
+        RESTORE => restore(state, plan),
         SAVEUNDO => saveundo(state, plan, undo),
         RESTOREUNDO => restoreundo(state, plan, undo),
         PROTECT => Ok(protect(state, plan)),

@@ -6,7 +6,7 @@ use Rattle.gx_search.specs.declared.asks.Found.TheVariants.{At, Nothing, More}
 use Rattle.gx_search.specs.Searches.{Search, found_within}
 use Rattle.gx_search.proofs.Within.{is_answer}
 use Rattle.gx_state.specs.declared.effects.Effect.{Effect}
-use Rattle.gx_state.specs.declared.effects.Effect.TheVariants.{Went, Drew, Put, Glk, Quit, Spent}
+use Rattle.gx_state.specs.declared.effects.Effect.TheVariants.{Went, Drew, Put, Glk, Save, Restore, Quit, Spent}
 use Rattle.gx_state.specs.Replies.{IsDone}
 use Rattle.gx_state.specs.Flat.{FlatState}
 use Rattle.gx_operands.specs.Instructions.{Instruction}
@@ -22,6 +22,8 @@ done_is left probes Went done = done
 done_is left probes Drew done = done
 done_is left probes (Put c) done = done
 done_is left probes (Glk selector args room) done = done
+done_is left probes (Save stream) done = done
+done_is left probes (Restore stream) done = done
 done_is left probes Quit done = done
 done_is left probes Spent done = absurd done
 

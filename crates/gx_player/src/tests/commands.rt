@@ -27,6 +27,11 @@ const COMMANDS: &str = "
 |hello|hello|                             => : the command line is not understood
 |hello||                                  => : the command line is not understood
 |hello|--|--steps|12|                     => : the command line is not understood
+|hello|--|                                => Hi/ :
+|--|-|                                    => Hi/ :
+|--|--|                                   => : no story (0)
+|--|--|hello|                             => : the command line is not understood
+|--|hello|--|                             => : the command line is not understood
 |--steps|                                 => : the command line is not understood
 
 |hello|--steps|11|                        => Hi/ : budget spent after 11 steps
@@ -52,6 +57,9 @@ const COMMANDS: &str = "
 |hello|--steps|11|--steps|11|             => : the command line is not understood
 |hello|--step|11|                         => : the command line is not understood
 |hello|-steps|11|                         => : the command line is not understood
+|hello|--steps|--|                        => : the command line is not understood
+|hello|--steps=--|                        => : the command line is not understood
+|--steps|11|22|                           => : no story (0)
 |hello|--Steps|11|                        => : the command line is not understood
 
 |hello|--columns|1|                       => Hi/ :
@@ -63,6 +71,15 @@ const COMMANDS: &str = "
 |hello|--columns=|                        => : the command line is not understood
 |hello|--columns|80|--columns|80|         => : the command line is not understood
 |hello|--columns|18446744073709551617|    => : the command line is not understood
+|hello|--columns|00000000000000000080|    => Hi/ :
+|hello|--columns|255|                     => Hi/ :
+|hello|--columns=1|                       => Hi/ :
+|hello|--columns=0|                       => : the command line is not understood
+|hello|--columns=256|                     => : the command line is not understood
+|hello|--columns||                        => : the command line is not understood
+|hello|--columns|x|                       => : the command line is not understood
+|hello|--columns=-1|                      => : the command line is not understood
+|hello|--columns=80|--columns=80|         => : the command line is not understood
 |hello|--rows|1|                          => Hi/ :
 |hello|--rows=255|                        => Hi/ :
 |hello|--rows|024|                        => Hi/ :
@@ -71,6 +88,15 @@ const COMMANDS: &str = "
 |hello|--rows|                            => : the command line is not understood
 |hello|--rows=|                           => : the command line is not understood
 |hello|--rows=24|--rows|24|               => : the command line is not understood
+|hello|--rows|18446744073709551617|       => : the command line is not understood
+|hello|--rows|00000000000000000024|       => Hi/ :
+|hello|--rows|255|                        => Hi/ :
+|hello|--rows=1|                          => Hi/ :
+|hello|--rows=0|                          => : the command line is not understood
+|hello|--rows=256|                        => : the command line is not understood
+|hello|--rows||                           => : the command line is not understood
+|hello|--rows|x|                          => : the command line is not understood
+|hello|--rows=-1|                         => : the command line is not understood
 
 |hello|--echo|                            => Hi/ :
 |--echo|hello|                            => Hi/ :
@@ -78,6 +104,10 @@ const COMMANDS: &str = "
 |hello|--echo=true|                       => : the command line is not understood
 |hello|--echo=|                           => : the command line is not understood
 |hello|--echo|true|                       => : the command line is not understood
+|hello|--echo=false|                      => : the command line is not understood
+|hello|--echo||                           => : the command line is not understood
+|hello|--ECHO|                            => : the command line is not understood
+|hello|-e|                                => : the command line is not understood
 
 |hello|--help|                            => : the command line is not understood
 |--help|                                  => : the command line is not understood
@@ -93,11 +123,21 @@ const COMMANDS: &str = "
 |hello|--job|Play|                        => : the command line is not understood
 |hello|--job|plays|                       => : the command line is not understood
 |hello|--job|rewind|                      => : the command line is not understood
+|hello|--job||                            => : the command line is not understood
+|hello|--job|1|                           => : the command line is not understood
+|hello|--job=play |                       => : the command line is not understood
+|hello|--columns|80|--rows=24|--steps|12|--echo|--job|play| => Hi/ :
 |hello|--job|play|--job|play|             => : the command line is not understood
 
 |hello|--job|check|                       => checksum ok/ :
 |--job=check|hello|                       => checksum ok/ :
 |wrong|--job|check|                       => checksum differs/ : the checksum differs
+|wrong|                                   => Hi/ :
+|höle|--job=check|                        => checksum ok/ :
+|--job|check|--|-|                        => checksum ok/ :
+|hello|--job|check|--columns=1|--rows|255| => checksum ok/ :
+||--job|check|                            => : no story (0)
+|hello|--job|check|--echo=|               => : the command line is not understood
 |hell|--job|check|                        => : no story (0)
 |hello|--job|check|--steps|0|--echo|      => checksum ok/ :
 |hello|--job|check|--steps|x|             => : the command line is not understood
@@ -113,9 +153,22 @@ const COMMANDS: &str = "
 ||--job|work|                             => : the command line is not understood
 |-1|--job|work|                           => : the command line is not understood
 |4294967296|--job|work|                   => : the command line is not understood
+|18446744073709551615|--job|work|         => : the command line is not understood
+|00000000000000000007|--job|work|         => 2582 11 2955844608/ :
+|0|--job|work|--echo|--rows=255|          => 342 11 3111884960/ :
+|0|--job|work|--columns|0|                => : the command line is not understood
+|0|--job|work|--echo|--echo|              => : the command line is not understood
+|0|1|--job|work|                          => : the command line is not understood
+|--job|work|                              => : the command line is not understood
 |0|--job|work|--steps|18446744073709551616| => : the command line is not understood
 |0|--job|work|--rows|256|                 => : the command line is not understood
 |0|                                       => : no story (0)
+";
+
+/// The largest stories of job work: 1 MiB of memory, and 1.3 million steps.
+const LARGEST: &str = "
+|4095|--job|work|                         => 1310742 11 2250768384/ :
+|4294967295|--job=work|                   => 1310741 10 1713897472/ :
 ";
 
 /// What a command line comes to, and the text that was sent.
@@ -178,6 +231,12 @@ fn compare_all(rt: &impl Abort, alloc: Global, table: &str) -> Result<usize, Fai
 
 #[test]
 fn command_lines(rt: HostRuntime) -> Result<(), Fail> {
-    assert_eq!(rt; compare_all(&rt, rt.alloc(), COMMANDS)?, 95);
+    assert_eq!(rt; compare_all(&rt, rt.alloc(), COMMANDS)?, 142);
+    Ok(())
+}
+
+#[test]
+fn largest_work(rt: HostRuntime) -> Result<(), Fail> {
+    assert_eq!(rt; compare_all(&rt, rt.alloc(), LARGEST)?, 2);
     Ok(())
 }

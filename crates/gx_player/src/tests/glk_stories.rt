@@ -12,14 +12,15 @@
 //!   ends the program.
 //! - `at ADDRESS DATA` puts bytes into the story's file. `file NAME DATA` puts a file onto the shelf. `input DATA` is all
 //!   that the source has, which it gives in pieces of `piece BYTES`. `shelf NUMBERS`, `source NUMBERS` and `sink NUMBERS`
-//!   are the calls that fail, from 1 on. (The shelf's first call loads the story.)
+//!   are the calls that fail, from 1 on. (The shelf's first call loads the story.) `options WORDS` are the words of the
+//!   command line after the story's name, `--steps 1000000` where there is no such line.
 //! - `stack WORDS` is what the stack holds at the end, without the arguments of a call that wasn't answered (`WORD*COUNT`
 //!   is a word again and again), `text DATA` what was shown, `memory ADDRESS DATA` what memory holds, `after NAME DATA`
 //!   the file of a name, and `gone NAME` a name that has none. Without its line the stack has nothing, and no text was
 //!   shown.
 //! - `ends HOW` plays the story, and says how the run ends: `well`, for which `quit` is added, or the program's line
 //!   without its name. The steps are known from the lines before it.
-//! - `also LINE` plays the story in a run of its own as if this line stood in it, as another `piece`.
+//! - `also LINE, LINE..` plays the story in a run of its own as if these lines stood at its end, as another `piece`.
 //! - `faults NUMBER CALL` plays the lines before it and this call, which is the fault of that number, in a run of their
 //!   own.
 use super::selectors::selector_of;
@@ -53,6 +54,7 @@ const UNANSWERED: u32 = 0xEEEE_EEEE;
 #[derive(Drop)]
 struct Tale<'a> {
     name: &'a str,
+    options: &'a str,
     file: Vec<u8>,
     /// Where the next code goes.
     next: usize,
@@ -82,6 +84,7 @@ impl<'a> Tale<'a> {
     fn new(alloc: Global) -> Result<Tale<'a>, Fail> {
         let mut tale = Tale {
             name: "",
+            options: "--steps 1000000",
             file: vec![in alloc; 0; SIZE]?,
             next: 0,
             last: 0,
@@ -120,11 +123,13 @@ impl<'a> Tale<'a> {
         Ok(tale)
     }
 
-    /// A story of these lines and one more.
-    fn read_with(alloc: Global, lines: &'a str, line: &'a str) -> Result<Tale<'a>, Fail> {
+    /// A story of these lines and some more.
+    fn read_with(alloc: Global, lines: &'a str, more: &'a str) -> Result<Tale<'a>, Fail> {
         let mut tale = Tale::read(alloc, lines)?;
-        let (key, rest) = facts(line);
-        tale.take(alloc, key, rest)?;
+        for line in more.split(',') {
+            let (key, rest) = facts(line);
+            tale.take(alloc, key, rest)?;
+        }
         Ok(tale)
     }
 
@@ -199,6 +204,7 @@ impl<'a> Tale<'a> {
         match key {
             "" | "also" | "faults" | "file" | "memory" | "after" | "gone" => {}
             "story" => self.name = rest,
+            "options" => self.options = rest,
             "ends" => self.how = rest,
             "stack" => self.stack = rest,
             "piece" => self.piece = usize::from_str_radix(rest, 16)?,
@@ -305,7 +311,7 @@ impl<'a> Tale<'a> {
     fn play(&self, rt: &impl Abort, alloc: Global, lines: &str) -> Result<(), Fail> {
         let (name, how) = (self.name, self.how);
         let mut devices = self.devices(alloc, lines)?;
-        let ended = devices.play(alloc);
+        let ended = devices.play(alloc, self.options)?;
         self.compare_ending(rt, alloc, &ended)?;
         assert_eq!(rt;
             devices.sink.bytes(),
@@ -364,17 +370,23 @@ struct Devices {
 }
 
 impl Devices {
-    /// Plays the shelf's story.
-    fn play(&mut self, alloc: Global) -> Ended<Global> {
-        play(
+    /// Plays the shelf's story with these options.
+    fn play(&mut self, alloc: Global, options: &str) -> Result<Ended<Global>, Fail> {
+        let mut words = Vec::new(alloc);
+        words.push("gx_player")?;
+        words.push("story")?;
+        for word in options.split_whitespace() {
+            words.push(word)?;
+        }
+        Ok(play(
             alloc,
             alloc,
-            &["gx_player", "story", "--steps", "1000000"],
+            words.as_slice(),
             &mut self.source,
             &mut self.sink,
             &mut self.shelf,
             &mut ChaCha20Rng::from_seed([0; 32]),
-        )
+        ))
     }
 }
 
@@ -526,7 +538,7 @@ fn play_story(rt: &impl Abort, alloc: Global, lines: &str) -> Result<usize, Fail
     for line in lines.lines() {
         match facts(line) {
             ("ends", _) => Tale::read(alloc, lines)?.play(rt, alloc, lines)?,
-            ("also", line) => Tale::read_with(alloc, lines, line)?.play(rt, alloc, lines)?,
+            ("also", more) => Tale::read_with(alloc, lines, more)?.play(rt, alloc, lines)?,
             ("faults", fault) => {
                 let (before, _) = lines.split_once(line).unwrap_or((lines, ""));
                 Tale::read_faulty(alloc, before, fault)?.play(rt, alloc, before)?;

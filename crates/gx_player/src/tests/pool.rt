@@ -14,7 +14,7 @@ const LARGE: usize = 0x40_0000;
 
 /// A story with a page of ROM, a page of RAM and a stack of 2,048 bytes, whose start function is this code at
 /// 0x24.
-fn story(code: &[u8]) -> [u8; 256] {
+pub fn story(code: &[u8]) -> [u8; 256] {
     let mut file = [0; 256];
     let head = [
         0x47, 0x6C, 0x75, 0x6C, 0x00, 0x03, 0x01, 0x02, 0x00, 0x00, 0x01, 0x00, 0x00, 0x00, 0x01,
@@ -29,7 +29,7 @@ fn story(code: &[u8]) -> [u8; 256] {
 }
 
 /// What a story comes to within a budget, where its pages are placed by `pages`.
-fn played<A: Allocator + Clone>(
+pub fn played<A: Allocator + Clone>(
     alloc: Global,
     pages: A,
     file: &[u8],

@@ -3,16 +3,23 @@
 use super::glk_stories::play_calls;
 use std::test::Fail;
 
+mod contents;
 mod devices;
+mod echoed;
+mod endings;
 mod events;
+mod failing;
 mod files;
 mod grids;
 mod input;
 mod memory_streams;
 mod objects;
 mod output;
+mod places;
 mod program;
 mod references;
+mod screens;
+mod trees;
 mod waits;
 mod windows;
 
@@ -26,8 +33,10 @@ fn objects_and_windows(rt: HostRuntime) -> Result<(), Fail> {
         (windows::ARRANGEMENTS, 10),
         (windows::CLOSING, 18),
         (windows::ECHOES, 9),
+        (trees::TREES, 9),
         (grids::GRIDS, 14),
         (grids::SHOWN, 12),
+        (screens::SCREENS, 8),
     ];
     for (table, count) in tables {
         assert_eq!(rt; play_calls(&rt, rt.alloc(), table)?, count);
@@ -59,6 +68,14 @@ fn streams_and_files(rt: HostRuntime) -> Result<(), Fail> {
 }
 
 #[test]
+fn places_and_contents(rt: HostRuntime) -> Result<(), Fail> {
+    for (table, count) in [(places::PLACES, 25), (contents::CONTENTS, 10)] {
+        assert_eq!(rt; play_calls(&rt, rt.alloc(), table)?, count);
+    }
+    Ok(())
+}
+
+#[test]
 fn events_and_devices(rt: HostRuntime) -> Result<(), Fail> {
     let tables = [
         (events::LINES, 6),
@@ -66,11 +83,22 @@ fn events_and_devices(rt: HostRuntime) -> Result<(), Fail> {
         (events::REQUESTS, 21),
         (events::SELECTS, 35),
         (waits::WAITS, 18),
-        (waits::WHOLE, 11),
+        (waits::WHOLE, 12),
+        (echoed::ECHOED, 15),
+        (failing::READS, 14),
+        (failing::SENDS, 10),
+        (failing::SHELVES, 11),
         (devices::DEVICES, 21),
+        (endings::ENDINGS, 7),
     ];
     for (table, count) in tables {
         assert_eq!(rt; play_calls(&rt, rt.alloc(), table)?, count);
     }
+    Ok(())
+}
+
+#[test]
+fn largest_files(rt: HostRuntime) -> Result<(), Fail> {
+    assert_eq!(rt; play_calls(&rt, rt.alloc(), contents::LARGEST)?, 1);
     Ok(())
 }

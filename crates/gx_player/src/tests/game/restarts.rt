@@ -260,11 +260,11 @@ stack 00000005
 memory 100 00 00 00 06
 ends fault 10 at 0000003a after 5 steps
 
-story save isn't built, and its store isn't looked at
+story save to a word below RAMSTART, whose operand stays
 code 40 81 05                      ; copy 5 sp
 code 81 23 58 40                   ; save sp *0x40
 stack 00000005
-ends fault 1 at 0000002a after 1 steps
+ends fault 4 at 0000002a after 1 steps
 
 story save of a value that isn't there
 code 81 23 18 07                   ; save sp 7
@@ -274,11 +274,11 @@ story save to a constant
 code 81 23 10 07                   ; save 0 7
 ends fault 2 at 00000027 after 0 steps
 
-story restore isn't built, and its store isn't looked at
+story restore to a word below RAMSTART, whose operand stays
 code 40 81 05                      ; copy 5 sp
 code 81 24 58 40                   ; restore sp *0x40
 stack 00000005
-ends fault 1 at 0000002a after 1 steps
+ends fault 4 at 0000002a after 1 steps
 
 story restore of a value that isn't there
 code 81 24 18 07                   ; restore sp 7

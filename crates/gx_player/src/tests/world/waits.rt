@@ -149,6 +149,9 @@ story a hall: lines and a character
 also piece 1
 also piece 5
 also piece 64
+also sink 5
+also piece 5, source 5
+also piece 64, source 3
 input 'look' 0A 0A 'inventory'
 at E00 'HallHello' 0A '>'
 at E10 '[]' 0A '>'
@@ -179,55 +182,6 @@ select 1200
 text 'Hello' 0A '>' 0A '| Hall' 0A '[look]' 0A '>-6' 0A '>[inventory]' 0A '>'
 memory 1200 00000003 00000001 00000009 00000000
 ends input ended
-
-story the second read fails
-piece 5
-source 2
-input 'look' 0A 0A 'inventory'
-at E00 'HallHello' 0A '>'
-at E10 '[]' 0A '>'
-window_open 0 0 0 3 0 = 1
-window_open 1 12 1 4 0 = 3
-set_window 3
-put_buffer E00 4
-set_window 1
-put_buffer E04 7
-request_line_event 1 1100 8 0
-select 1200
-put_buffer E10 1
-put_buffer 1100 4
-put_buffer E11 3
-request_char_event 1
-select 1200
-text 'Hello' 0A '>' 0A '| Hall' 0A '[look]' 0A '>'
-ends input fault
-
-story the third send fails
-sink 3
-input 'look' 0A 0A 'inventory'
-at E00 'HallHello' 0A '>'
-at E10 '[]' 0A '>'
-code 81 49 01 02                   ; setiosys 2 0
-window_open 0 0 0 3 0 = 1
-window_open 1 12 1 4 0 = 3
-set_window 3
-put_buffer E00 4
-set_window 1
-put_buffer E04 7
-request_line_event 1 1100 8 0
-select 1200
-put_buffer E10 1
-put_buffer 1100 4
-put_buffer E11 3
-request_char_event 1
-select 1200
-code 71 06 12 08                   ; streamnum *0x1208
-spends 3
-put_buffer E12 2
-request_line_event 1 1100 10 0
-select 1200
-text 'Hello' 0A '>' 0A '| Hall' 0A '[look]' 0A '>'
-ends output fault
 
 story a text adventure with a transcript: what is shown and what is typed
 also piece 1

@@ -37,6 +37,22 @@ returns-in-Glk-clause-plays g c =
     let h : Held = held g.E.Engine.whole c.args.run.now x in
     plays start entry now (subst (Follows start entry h now c.args.left) c.in-Glk.is f))
 
+pub returns-in-Save-clause-plays : goal.returns-in-Save-clause-plays
+returns-in-Save-clause-plays g c =
+    fed-lines c.args.run.now.lines c.ask_save.new.run.lines (g.S.Source.seen c.args.input.now) _ c.ask_save.ensures.lines
+    (λ x start entry d f.
+    let now : Devices = record d { source = g.S.Source.seen c.args.input.now; sink = g.K.Sink.seen c.args.output.now; shelf = g.F.Shelf.seen c.args.shelf.now } in
+    let h : Held = held g.E.Engine.whole c.args.run.now x in
+    c.ask_save.ensures.plays x start entry now (subst (Follows start entry h now c.args.left) c.in-Save.is f))
+
+pub returns-in-Restore-clause-plays : goal.returns-in-Restore-clause-plays
+returns-in-Restore-clause-plays g c =
+    fed-lines c.args.run.now.lines c.ask_restore.new.run.lines (g.S.Source.seen c.args.input.now) _ c.ask_restore.ensures.lines
+    (λ x start entry d f.
+    let now : Devices = record d { source = g.S.Source.seen c.args.input.now; sink = g.K.Sink.seen c.args.output.now; shelf = g.F.Shelf.seen c.args.shelf.now } in
+    let h : Held = held g.E.Engine.whole c.args.run.now x in
+    c.ask_restore.ensures.plays x start entry now (subst (Follows start entry h now c.args.left) c.in-Restore.is f))
+
 pub returns-in-Quit-clause-plays : goal.returns-in-Quit-clause-plays
 returns-in-Quit-clause-plays g c =
     fed-same c.args.run.now.lines (g.S.Source.seen c.args.input.now) _
@@ -55,3 +71,9 @@ returns-in-Spent-clause-plays g c =
 
 pub returns-in-Put-clause-keeps : goal.returns-in-Put-clause-keeps
 returns-in-Put-clause-keeps g c d = c.ask_put.ensures.keeps (record d { source = g.S.Source.seen c.args.input.now; shelf = g.F.Shelf.seen c.args.shelf.now })
+
+pub returns-in-Save-clause-keeps : goal.returns-in-Save-clause-keeps
+returns-in-Save-clause-keeps g c d = c.ask_save.ensures.keeps (record d { source = g.S.Source.seen c.args.input.now; shelf = g.F.Shelf.seen c.args.shelf.now })
+
+pub returns-in-Restore-clause-keeps : goal.returns-in-Restore-clause-keeps
+returns-in-Restore-clause-keeps g c d = c.ask_restore.ensures.keeps (record d { source = g.S.Source.seen c.args.input.now; shelf = g.F.Shelf.seen c.args.shelf.now })

@@ -1,4 +1,4 @@
-use Rattle.std.proofs.Common.{◌≡◌, None, inr, refl, ap, ◌∙◌, arith}
+use Rattle.std.proofs.Common.{◌≡◌, None, inr, ap, ◌∙◌, arith}
 use Rattle.gx_machine.specs.Machine.{Whole}
 use Rattle.gx_session.specs.Devices.{Devices, devices}
 use Rattle.gx_session.specs.Playing.{Held, held}

@@ -1,7 +1,6 @@
 use Rattle.std.proofs.Common.{inr, refl, arith}
 use Rattle.std.proofs.lemmas.Result.{err_from_is_err_and}
 use Rattle.gx_session.specs.declared.ends.Next.{Next}
-use Rattle.gx_session.specs.declared.ends.Next.TheVariants as next
 use Rattle.gx_session.specs.Devices.{Devices, devices}
 use Rattle.gx_session.proofs.Feeding.{fed-same, fed-on}
 use Rattle.gx_session.proofs.Keeping.{stays-none, stays-of, stays-on, keeps-after, keeps-ok, keeps-err, or-untold}

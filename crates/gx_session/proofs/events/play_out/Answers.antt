@@ -1,10 +1,9 @@
-use Rattle.std.proofs.Common.{ap, Result, Ok}
+use Rattle.std.proofs.Common.{ap}
 use Rattle.std.proofs.lemmas.Result.{err_from_is_err_and}
-use Rattle.gx_session.specs.declared.ends.Halt.{Halt}
 use Rattle.gx_session.specs.declared.ends.Stop.{Stop}
 use Rattle.gx_session.specs.declared.running.Running.{Running}
 use Rattle.gx_session.specs.Devices.{Devices, devices}
-use Rattle.gx_session.proofs.Feeding.{fed-as, fed-coming}
+use Rattle.gx_session.proofs.Feeding.{fed-coming}
 use Rattle.gx_session.proofs.Keeping.{stays-of, keeps-after, keeps-ok, keeps-err, or-untold}
 use Rattle.gx_session.proofs.events.play_out.Goals as goal
 

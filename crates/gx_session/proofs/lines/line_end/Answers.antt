@@ -1,4 +1,4 @@
-use Rattle.std.proofs.Common.{◌<◌, ◌≤◌, length, get_or, sym, eq-eqb, arith}
+use Rattle.std.proofs.Common.{length, get_or, sym, eq-eqb, arith}
 use Rattle.std.proofs.lemmas.List.Sums.{position_or_len_is}
 use Rattle.gx_session.specs.Input.{is_line_feed}
 use Rattle.gx_session.proofs.lines.line_end.Goals as goal

@@ -1,5 +1,5 @@
-use Rattle.std.proofs.Common.{◌-◌, ◌<◌, ◌≤◌, ◌++◌, List, ℕ, None, refl, ap, subst, sym, arith}
-use Rattle.gx_session.specs.Session.{Configuration, start_of, steps}
+use Rattle.std.proofs.Common.{◌++◌, List, ℕ, None, refl, ap, subst}
+use Rattle.gx_session.specs.Session.{Configuration, start_of}
 use Rattle.gx_session.specs.Devices.{Devices, devices}
 use Rattle.gx_session.specs.Lines.{HeldLines}
 use Rattle.gx_session.specs.Playing.{Held, held, asking_in, Going}
@@ -31,6 +31,7 @@ returns-in-Ok g c =
       shelf_tells = keeps.shelf_tells;
       report = report-of-stop c.in-Ok.stop last.machine c.in-Ok.ensures.stop;
       undo = λ input. lasts_undo (record start { input = input });
+      saves = c.saves_read_back.ensures;
     })
 
 pub returns-in-Err : goal.returns-in-Err
@@ -55,4 +56,5 @@ returns-in-Err g c =
       shelf_tells = keeps.shelf_tells;
       report = report-of-halt c.in-Err.halt;
       undo = λ input. lasts_undo (record start { input = input });
+      saves = c.saves_read_back.ensures;
     })

@@ -1,4 +1,4 @@
-use Rattle.std.proofs.Common.{inr, refl, ap, subst, sym, ◌∙◌, Ok, Err}
+use Rattle.std.proofs.Common.{inr, refl, subst, sym, ◌∙◌, Ok, Err}
 use Rattle.gx_state.specs.declared.effects.Effect.TheVariants.{Glk}
 use Rattle.glk_dispatch.specs.declared.Turn.{Turn}
 use Rattle.glk_dispatch.specs.Calls.{glk_call}
@@ -43,4 +43,4 @@ returns-in-Ok-clause-plays g c =
     let w = world-ok {X = Turn} h.world c.call.new.world (glk_call h.world.scene c.state.result.now.flat c.args.wait.room c.args.selector c.as_slice.result.now) c.in-Ok.turn c.in-Ok.ensures.value in
     plays start entry now
     (call-turns start entry h now c.args.wait.left does a (asking_in g.E.Engine.whole c.args.run.now) c.call.new.world w.0 c.args.wait c.in-Ok.turn c.requires.asks w.2
-    (call-does start entry h now c.args.wait.left does a c.args.selector c.args.args.now c.as_slice.result.now c.args.wait c.state.result.now.flat (Ok (w.0, c.in-Ok.turn)) refl refl c.state.ensures c.as_slice.ensures.value w.1)))
+    (call-does start entry h now c.args.wait.left does a c.args.selector c.args.args.now c.as_slice.result.now c.args.wait c.state.result.now.flat (Ok (w.0, c.in-Ok.turn)) refl refl c.state.ensures c.as_slice.ensures.value w.1) (λ begins. begins)))

@@ -1,11 +1,12 @@
-use Rattle.std.proofs.Common.{inr, refl, ap, subst, sym, ◌∙◌, Ok, Err}
+use Rattle.std.proofs.Common.{inr, refl, subst, sym, ◌∙◌, Ok, Err}
 use Rattle.gx_state.specs.declared.effects.Effect.TheVariants.{Put}
+use Rattle.gx_machine.specs.Answer.{answer_of}
 use Rattle.glk_dispatch.specs.Output.{putting}
 use Rattle.gx_session.specs.Cuts.{HasNoFault}
 use Rattle.gx_session.specs.Devices.{Devices}
 use Rattle.gx_session.specs.Playing.{Held, held, asking_in}
 use Rattle.gx_session.specs.Session.{steps}
-use Rattle.gx_session.proofs.Asking.{asks-now, put-does, put-replies, fault-early, fault-stops, fault-gives, world-ok, world-err, world-fine}
+use Rattle.gx_session.proofs.Asking.{asks-now, put-does, asking-resumes, fault-early, fault-stops, fault-gives, world-ok, world-err, world-fine}
 use Rattle.gx_session.proofs.turns.ask_put.Goals as goal
 
 pub returns-in-Err-clause-plays : goal.returns-in-Err-clause-plays
@@ -31,5 +32,5 @@ returns-in-Ok-clause-plays g c coming start entry d f =
     let a = asks-now start entry h now c.args.left (Put c.args.c) f refl in
     let w = world-ok h.world c.put.new.world (putting h.world.scene c.state.result.now.flat c.args.c) c.in-Ok.reply c.in-Ok.ensures.value in
     c.answer.ensures.plays coming start entry d
-    (put-replies start entry h now c.args.left (Put c.args.c) a (asking_in g.E.Engine.whole c.args.run.now) c.put.new.world w.0 c.in-Ok.reply c.requires.asks w.2
-    (put-does start entry h now c.args.left (Put c.args.c) a c.args.c c.state.result.now.flat (Ok (w.0, c.in-Ok.reply)) refl c.state.ensures w.1))
+    (asking-resumes start entry h now c.args.left (Put c.args.c) a (asking_in g.E.Engine.whole c.args.run.now) c.put.new.world w.0 (answer_of h.machine c.in-Ok.reply) c.requires.asks w.2
+    (put-does start entry h now c.args.left (Put c.args.c) a c.args.c c.state.result.now.flat (Ok (w.0, c.in-Ok.reply)) refl c.state.ensures w.1) (λ begins. absurd begins))

@@ -2,7 +2,7 @@ use Rattle.std.proofs.Common.{inl, inr, refl, Result, Ok}
 use Rattle.std.proofs.lemmas.Result.{err_from_is_err_and}
 use Rattle.gx_session.specs.declared.ends.Halt.{Halt}
 use Rattle.gx_session.specs.Devices.{Devices}
-use Rattle.gx_session.specs.Playing.{Held, held, asking_in}
+use Rattle.gx_session.specs.Playing.{held, asking_in}
 use Rattle.gx_session.specs.Questions.{turn_of}
 use Rattle.gx_session.proofs.Consulting.{text-refused, shelf-refused, shelf-answered}
 use Rattle.gx_session.proofs.Keeping.{keeps-sink, stays-of, stays-shelf, keeps-after}

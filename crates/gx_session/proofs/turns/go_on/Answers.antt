@@ -1,4 +1,4 @@
-use Rattle.std.proofs.Common.{inr, refl, ap, subst, sym, ◌∙◌, Ok, Err}
+use Rattle.std.proofs.Common.{inr, subst, sym, Ok, Err}
 use Rattle.glk_dispatch.specs.declared.Turn.{Turn}
 use Rattle.glk_dispatch.specs.Going.{glk_go_on}
 use Rattle.gx_session.specs.Cuts.{HasNoFault}

@@ -1,4 +1,3 @@
-use Rattle.gx_session.specs.Devices.{Devices}
 use Rattle.gx_session.specs.Playing.{held, asking_in}
 use Rattle.gx_session.proofs.Asking.{given-answers}
 use Rattle.gx_session.proofs.turns.take_answer.Goals as goal

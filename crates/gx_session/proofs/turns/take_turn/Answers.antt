@@ -1,5 +1,4 @@
-use Rattle.std.proofs.Common.{inr, refl, ap, subst, sym}
-use Rattle.glk_dispatch.specs.declared.Turn.{Turn}
+use Rattle.std.proofs.Common.{inr, subst}
 use Rattle.glk_dispatch.specs.declared.Turn.TheVariants as turn
 use Rattle.gx_session.specs.declared.questions.Question.{Question}
 use Rattle.gx_session.specs.declared.questions.Question.TheVariants as question

@@ -1,4 +1,4 @@
-use Rattle.std.proofs.Common.{inr, refl, ap, subst, sym}
+use Rattle.std.proofs.Common.{inr, refl, subst, sym}
 use Rattle.std.proofs.lemmas.Result.{err_from_is_err_and}
 use Rattle.glk_world.specs.World.{FlatWorld}
 use Rattle.glk_dispatch.specs.Turns.{Awaits}

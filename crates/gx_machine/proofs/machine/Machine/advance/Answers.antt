@@ -1,5 +1,5 @@
 -- the steps of the quick way, and one more
-use Rattle.std.proofs.Common.{◌≡◌, ℕ, suc, refl, arith}
+use Rattle.std.proofs.Common.{suc, refl, arith}
 use Rattle.std.proofs.lemmas.Result.{err_from_is_err_and}
 use Rattle.gx_machine.proofs.Passing.{joined}
 use Rattle.gx_machine.proofs.Steps.{went_lower, went_asks}

@@ -1,5 +1,5 @@
 -- one step more, or the step that isn't made
-use Rattle.std.proofs.Common.{◌≡◌, ◌≤◌, ℕ, suc, subst, sym, arith}
+use Rattle.std.proofs.Common.{ℕ, suc, subst, sym, arith}
 use Rattle.std.proofs.lemmas.Result.{err_from_is_err_and}
 use Rattle.gx_words.specs.Faults.{IsRefused}
 use Rattle.gx_machine.specs.Machine.{Whole}

@@ -1,4 +1,4 @@
-use Rattle.std.proofs.Common.{◌≡◌, ◌+◌, ◌-◌, ◌*◌, ◌≤◌, ◌<◌, ◌++◌, ℕ, List, length, false, get_or, if◌then◌else◌}
+use Rattle.std.proofs.Common.{◌≡◌, ◌+◌, ◌-◌, ◌*◌, ◌≤◌, ◌<◌, ℕ, length, false, get_or, if◌then◌else◌}
 use Rattle.gx_session.specs.declared.lines.TheConstants.{LONGEST, PIECE}
 use Rattle.gx_session.specs.Input.{is_line_feed}
 use Rattle.gx_session.specs.Reading.{Fed, IsWhole}

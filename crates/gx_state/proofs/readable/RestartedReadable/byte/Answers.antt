@@ -1,5 +1,5 @@
 -- a byte that isn't protected, or isn't there
-use Rattle.std.proofs.Common.{◌≡◌, ℕ, ap, subst, sym, ◌∙◌, arith}
+use Rattle.std.proofs.Common.{◌≡◌, ℕ, ap, subst, sym, arith}
 use Rattle.gx_words.specs.Faults.{Reads}
 use Rattle.gx_pages.specs.Memory.{number_in}
 use Rattle.gx_story.specs.Stories.{FlatStory}

@@ -1,0 +1,179 @@
+//! Saves as the bytes of a stream (Glulx 3.1.2, "Game State"; specs/Saves): they are put as characters, and got from where
+//! the stream stands to its end.
+ghost use Rattle.std.specs.Prelude.{ℕ, ◌≡◌, ◌≢◌, ◌<◌, ◌≤◌, ◌^◌, ◌++◌, [], length, IfOk, IfSome, OnOk, OnErr, IsTrue};
+ghost use Rattle.gx_words.specs.Faults.{MayLose};
+ghost use Rattle.gx_state.specs.Replies.{IsReply};
+ghost use Rattle.glk_streams.specs.Streams as streams;
+ghost use Rattle.glk_world.specs.World.{after};
+ghost use Rattle.glk_dispatch.specs.Parts.{IsCharWidth, on_world, puts, put_all, laid, chars_bytes};
+ghost use Rattle.glk_dispatch.specs.Input.{chars_read};
+ghost use Rattle.glk_dispatch.specs.Saves.{takes_save, put_save, put_save_grows, rest_len, as_bytes, take_rest, take_rest_grows};
+
+use crate::input::{char_at, read_on};
+use crate::parts::{can_lay, push_char, reply};
+use glk_streams::{Places, Streams};
+use glk_world::World;
+use gx_state::{Reply, State};
+use gx_words::{Bytes, Fault, Writes};
+use std::alloc::{AllocError, Allocator, Global};
+
+/// The last character that is a byte.
+const LAST_BYTE: u32 = 0xFF;
+
+/// Whether a stream takes these bytes.
+fn takes_save(world: &World, stream: u32, bytes: &[u8]) -> bool
+    ensures value { result ≡ takes_save world.now.scene stream bytes.now }
+    ensures few { IsTrue result → length bytes.now < 2 ^ 32 }
+{
+    let streams = world.streams();
+    streams.has(stream) && streams.writable(stream) && streams.fits(stream, bytes)
+}
+
+/// Puts bytes to a stream, one after another.
+#[tactic(auto, using(crate::proofs::Puts::put_turns))]
+fn put_each(world: &mut World, stream: u32, bytes: &[u8]) -> Result<(), AllocError>
+    ensures ok { OnOk result (world.new ≡ after world.old (puts world.old.scene stream bytes.now)) }
+    ensures memory { OnErr result (bytes.now ≢ []) }
+{
+    for byte in bytes {
+        world.put(stream, u32::from(*byte))?;
+    }
+    Ok(())
+}
+
+/// The bytes of characters that are bytes.
+#[tactic(auto, using(crate::proofs::Laying::byte_turns))]
+fn in_width(alloc: Global, width: u32, bytes: &[u8]) -> Result<Bytes, AllocError>
+    ensures { IfOk result (λ all. all ≡ chars_bytes width bytes.now) }
+{
+    let mut all = Bytes::new(alloc);
+    for byte in bytes {
+        push_char(&mut all, width, u32::from(*byte))?;
+    }
+    Ok(all)
+}
+
+/// Adds the write of bytes to places that may be written.
+fn lay_bytes(
+    alloc: Global,
+    writes: &mut Writes,
+    places: Places,
+    bytes: &[u8],
+) -> Result<(), AllocError>
+    requires at { 0 < places.count → places.at < 2 ^ 32 }
+    requires count { places.count ≤ length bytes.now }
+    ensures ok { OnOk result (writes.new ≡ writes.old ++ laid places bytes.now) }
+    ensures memory { OnErr result (0 < places.count) }
+{
+    if places.count == 0 {
+        return Ok(());
+    }
+    let laid = in_width(alloc, places.width, &bytes[..places.count as usize])?;
+    writes.push((places.at as u32, laid))
+}
+
+/// Puts bytes to a stream.
+#[tactic(auto, using(crate::proofs::Puts::put_rules), unfolding(crate::specs::Parts::put_all, crate::specs::Parts::can_put))]
+fn put_bytes<A: Allocator + Clone>(
+    world: &mut World,
+    state: &State<A>,
+    stream: u32,
+    bytes: &[u8],
+) -> Result<Reply, Fault>
+    requires there { IsTrue (streams.has world.old.scene.streams stream) }
+    requires few { length bytes.now < 2 ^ 32 }
+    ensures value { MayLose (bytes.now ≢ []) (λ reply. reply) result world.old world.new (on_world world.old (put_all world.old.scene state.now.flat stream bytes.now)) }
+    ensures fits { (room : ℕ) → IfOk result (IsReply state.now.flat room) }
+{
+    let places = world.places(stream, bytes.len() as u32);
+    can_lay(state, places)?;
+    put_each(world, stream, bytes)?;
+    let mut reply = reply(world, 0);
+    lay_bytes(world.alloc(), &mut reply.writes, places, bytes)?;
+    Ok(reply)
+}
+
+/// Puts the bytes of a save to a stream that takes them, as characters; None where it doesn't take them.
+///
+/// The world stands where none is answered, and after a fault but for want of memory.
+#[tactic(auto, unfolding(crate::specs::Saves::put_save))]
+pub fn put_save<A: Allocator + Clone>(
+    world: &mut World,
+    state: &State<A>,
+    stream: u32,
+    bytes: &[u8],
+) -> Result<Option<Reply>, Fault>
+    ensures value { MayLose (IsTrue (put_save_grows world.old.scene stream bytes.now)) (λ reply. reply) result world.old world.new (on_world world.old (put_save world.old.scene state.now.flat stream bytes.now)) }
+    ensures fits { IfOk result (λ reply. IfSome reply (IsReply state.now.flat 0)) }
+{
+    if !takes_save(world, stream, bytes) {
+        return Ok(None);
+    }
+    let reply = put_bytes(world, state, stream, bytes)?;
+    Ok(Some(reply))
+}
+
+/// How many positions are left before a stream's end.
+fn rest_len(all: &Streams, stream: u32) -> u32
+    requires { IsTrue (streams.has all.now stream) }
+    ensures { result ≡ rest_len (streams.stream all.now stream) }
+{
+    all.end(stream) - all.position(stream)
+}
+
+/// So many characters as bytes; None where one isn't a byte.
+#[tactic(auto, using(crate::proofs::Reading::gather_turns))]
+fn bytes_read<A: Allocator + Clone>(
+    alloc: Global,
+    all: &Streams,
+    state: &State<A>,
+    stream: u32,
+    places: Places,
+    count: u32,
+) -> Result<Option<Bytes>, AllocError>
+    requires there { IsTrue (streams.has all.now stream) }
+    requires width { IsCharWidth places.width }
+    requires at { places.at < 2 ^ 40 }
+    ensures value { IfOk result (λ bytes. bytes ≡ as_bytes (chars_read count state.now.flat places (streams.stream all.now stream) 0 (streams.stream all.now stream).position)) }
+    ensures memory { OnErr result (0 < count) }
+{
+    let mut bytes = Bytes::new(alloc);
+    let mut position = all.position(stream);
+    for i in 0..count {
+        match char_at(all, state, stream, places, i, position) {
+            None => return Ok(Some(bytes)),
+            Some((c, next)) => {
+                if c > LAST_BYTE {
+                    return Ok(None);
+                }
+                bytes.push(c as u8)?;
+                position = next;
+            }
+        }
+    }
+    Ok(Some(bytes))
+}
+
+/// Takes the bytes from a stream's position to its end, where it then stands; None where a character isn't a byte, or
+/// the stream isn't open for reading.
+///
+/// The world stands where the stream isn't open for reading, and after a fault but for want of memory.
+#[tactic(auto, using(crate::proofs::Reading::reading_rules), unfolding(crate::specs::Saves::take_rest))]
+pub fn take_rest<A: Allocator + Clone>(
+    world: &mut World,
+    state: &State<A>,
+    stream: u32,
+) -> Result<Option<Bytes>, Fault>
+    ensures { MayLose (IsTrue (take_rest_grows world.old.scene state.now.flat stream)) (λ bytes. bytes) result world.old world.new (on_world world.old (take_rest world.old.scene state.now.flat stream)) }
+{
+    let all = world.streams();
+    if !all.has(stream) || !all.readable(stream) {
+        return Ok(None);
+    }
+    let most = rest_len(all, stream);
+    let places = world.places_read(stream, most);
+    let (count, position) = read_on(all, state, stream, places, most, false)?;
+    let bytes = bytes_read(world.alloc(), all, state, stream, places, count)?;
+    world.pass(stream, position, count);
+    Ok(bytes)
+}

@@ -1,0 +1,71 @@
+-- Saves and restores in a session (Glulx 3.1.2, "Game State"; Quetzal 1.4).
+--
+-- Both are done by Glk streams, and fail where the I/O system isn't Glk's. A failure is no fault: the story is answered 1.
+use Rattle.std.specs.Prelude.{◌≡◌, ℕ, ◌==◌, ◌&&◌, if◌then◌else◌, Bool, Option, Some, None, option_and_then, Result, Ok, Err}
+use Rattle.gx_words.specs.declared.faults.Fault.{Fault}
+use Rattle.gx_words.specs.declared.iosystems.TheConstants.{GLK_SYSTEM}
+use Rattle.gx_words.specs.Results.{◌>>=◌}
+use Rattle.gx_story.specs.Stories.{FlatStory}
+use Rattle.gx_state.specs.declared.effects.Reply.{Reply}
+use Rattle.gx_state.specs.Copies.{Copy, IsCopyFor}
+use Rattle.gx_state.specs.Flat.{FlatState}
+use Rattle.gx_machine.specs.Saves.{saved_copy}
+use Rattle.glk_streams.specs.Stream as one
+use Rattle.glk_streams.specs.Streams as streams
+use Rattle.glk_world.specs.World.{Scene, Said, silent}
+use Rattle.glk_dispatch.specs.Parts.{replies}
+use Rattle.glk_dispatch.specs.Saves.{put_save, take_rest}
+use Rattle.quetzal.specs.Saves.{save_of}
+use Rattle.quetzal.specs.Writing.{saved}
+use Rattle.quetzal.specs.declared.faults.SaveFault.{SaveFault}
+use Rattle.gx_session.specs.declared.saves.TheConstants.{FAILED}
+
+abbrev pub unless_failed : Said × Option Reply → Said × Reply
+unless_failed (said, Some reply) = (said, reply)
+unless_failed (said, None) = (said, replies FAILED)
+
+-- A save: the copy of the state is written as a save to the stream; nothing is written where the stream doesn't take it.
+unfoldable pub saving : Scene → FlatState → ℕ → Result (Said × Reply) Fault
+saving w f stream =
+    if f.iosys.0 == GLK_SYSTEM then (do
+      r ← put_save w f stream (saved f.story (saved_copy f))
+      Ok (unless_failed r))
+    else Ok (silent w, replies FAILED)
+
+-- the copy that a save of the story holds, if it is one
+abbrev pub unless_refused : Result Copy SaveFault → Option Copy
+unless_refused (Ok copy) = Some copy
+unless_refused (Err fault) = None
+
+-- A restore: the rest of the stream is taken, and is the copy of a save of the story, or isn't.
+unfoldable pub restoring : Scene → FlatState → ℕ → Result (Said × Option Copy) Fault
+restoring w f stream =
+    if f.iosys.0 == GLK_SYSTEM then (do
+      r ← take_rest w f stream
+      Ok (r.0, option_and_then (λ bytes. unless_refused (save_of bytes f.story)) r.1))
+    else Ok (silent w, None)
+
+-- A stream may take a save: it is there, open for writing and no window's. Whether it has room, and whether its places may
+-- be written where it ends in memory, depends on the length of the save.
+abbrev pub may_take : Scene → ℕ → Bool
+may_take w stream =
+    let s = streams.stream w.streams stream in
+    streams.has w.streams stream && one.writable s && one.window_of s == 0
+
+-- So a save is begun: the copy is made and written.
+abbrev pub is_begun : Scene → FlatState → ℕ → Bool
+is_begun w f stream = f.iosys.0 == GLK_SYSTEM && may_take w stream
+
+-- A stream may hold a save: it is there and open for reading. So a restore is begun: the stream is read.
+abbrev pub may_hold : Scene → ℕ → Bool
+may_hold w stream = streams.has w.streams stream && one.readable (streams.stream w.streams stream)
+
+abbrev pub is_read : Scene → FlatState → ℕ → Bool
+is_read w f stream = f.iosys.0 == GLK_SYSTEM && may_hold w stream
+
+-- THE ROUND TRIP: what is saved of a state is read back as it was. So is each copy that is fit for the story.
+abbrev pub IsReadBack : FlatState → Type 0
+IsReadBack f = save_of (saved f.story (saved_copy f)) f.story ≡ Ok (saved_copy f)
+
+abbrev pub SavesReadBack : FlatStory → Type 0
+SavesReadBack story = (copy : Copy) → IsCopyFor story copy → save_of (saved story copy) story ≡ Ok copy
