@@ -1,13 +1,11 @@
 -- Chunks of n bytes as one list of bytes.
-use Rattle.std.proofs.Common.{◌≡◌, ⊎_elim, ℕ, ◌+◌, ◌*◌, ◌-◌, ◌<◌, ◌≤◌, List, [], ◌∷◌, ◌++◌, length, take, drop, set, get_or, replicate, sym, refl, ap, ◌∙◌, arith, append_assoc, length-append, length-drop, add-one, zero, suc}
-use Rattle.std.proofs.lemmas.List.{drop_all, take_all, take-append-le, drop-append-le, drop-replicate, take-replicate, take-append-drop, length-take-le, take_at, length-replicate, replicate-append-replicate, append-nil}
+use Rattle.std.proofs.Common.{◌≡◌, ℕ, ◌+◌, ◌*◌, ◌-◌, ◌<◌, ◌≤◌, List, [], ◌∷◌, ◌++◌, length, take, drop, set, get_or, replicate, sym, refl, ap, ◌∙◌, arith, append_assoc, length-append, length-drop, add-one, zero, suc}
+use Rattle.std.proofs.lemmas.List.{drop_all, take_all, take-append-le, drop-append-le, take-replicate, take-append-drop, length-take-le, take_at, length-replicate, replicate-append-replicate, append-nil}
 use Rattle.std.proofs.Math.Nat.{mul-suc, mul-zero}
 use Rattle.std.proofs.Math.Seq.{take-append-add, drop-append-add}
-use Rattle.std.proofs.lemmas.Bool.{cases_lt}
-use borrow.Rule.Slice.PartMut.{mid_of, put_mid}
 use Rattle.std.specs.List.{AllZip}
 use Rattle.std.specs.declared.rc.Rc.{Rc}
-use Rattle.gx_pages.specs.Chunks.{AllChunks, IsTop, flat, padded}
+use Rattle.gx_pages.specs.Chunks.{AllChunks, IsTop, flat}
 use Rattle.gx_words.specs.Numbers.{spliced}
 use Rattle.gx_pages.proofs.Splice.{length-spliced, spliced_front, spliced_back}
 
@@ -82,34 +80,6 @@ module _ {Z : Type 0} where
   AllChunks-drop n [] (suc k) w = tt
   AllChunks-drop n (p ∷ ps) (suc k) w = AllChunks-drop n ps k w.1
 
-  -- the chunks before, among and after k of them
-  parts : (ps : List (Rc (List ℕ) Z)) (a k : ℕ) → flat ps ≡ flat (take a ps) ++ (flat (take k (drop a ps)) ++ flat (drop k (drop a ps)))
-  parts ps a k =
-      let rest : flat (drop a ps) ≡ flat (take k (drop a ps)) ++ flat (drop k (drop a ps)) = ap flat (sym (take-append-drop k (drop a ps))) ∙ flat-append (take k (drop a ps)) (drop k (drop a ps)) in
-      ap flat (sym (take-append-drop a ps)) ∙ flat-append (take a ps) (drop a ps) ∙ ap (λ u. flat (take a ps) ++ u) rest
-
-  joined : (ps qs : List (Rc (List ℕ) Z)) (a k : ℕ) → flat (put_mid a k ps qs) ≡ flat (take a ps) ++ (flat qs ++ flat (drop k (drop a ps)))
-  joined ps qs a k = flat-append (take a ps) (qs ++ drop k (drop a ps)) ∙ ap (λ u. flat (take a ps) ++ u) (flat-append qs (drop k (drop a ps)))
-
-  pub flat-put_mid_same : (ps qs : List (Rc (List ℕ) Z)) (a k : ℕ) → flat qs ≡ flat (mid_of a k ps) → flat (put_mid a k ps qs) ≡ flat ps
-  flat-put_mid_same ps qs a k e = joined ps qs a k ∙ ap (λ u. flat (take a ps) ++ (u ++ flat (drop k (drop a ps)))) e ∙ sym (parts ps a k)
-
-  -- bytes written over k chunks
-  pub flat-put_mid : (n : ℕ) (ps qs : List (Rc (List ℕ) Z)) (a k j m : ℕ) (ys : List ℕ) → a + k ≤ length ps → j + length ys ≤ n * k → m ≡ n * a + j → AllChunks n ps → flat qs ≡ spliced (flat (mid_of a k ps)) j ys → flat (put_mid a k ps qs) ≡ spliced (flat ps) m ys
-  flat-put_mid n ps qs a k j m ys b c e w v =
-      let mid = take k (drop a ps) in
-      let lf : length (flat (take a ps)) ≡ n * a = length-flat n (take a ps) (AllChunks-take n ps a w) ∙ ap (λ i. n * i) (length-take-le a ps (omega arith)) in
-      let ld : length (drop a ps) ≡ length ps - a = length-drop a ps in
-      let lm : length (flat mid) ≡ n * k = length-flat n mid (AllChunks-take n (drop a ps) k (AllChunks-drop n ps a w)) ∙ ap (λ i. n * i) (length-take-le k (drop a ps) (omega arith)) in
-      joined ps qs a k
-      ∙ ap (λ u. flat (take a ps) ++ (u ++ flat (drop k (drop a ps)))) v
-      ∙ ap (λ u. flat (take a ps) ++ u) (sym (spliced_front (flat mid) (flat (drop k (drop a ps))) ys j (omega arith)))
-      ∙ sym (spliced_back (flat (take a ps)) (flat mid ++ flat (drop k (drop a ps))) ys j m (omega arith))
-      ∙ ap (λ u. spliced u m ys) (sym (parts ps a k))
-
-  pub AllChunks-put_mid : (n : ℕ) (ps qs : List (Rc (List ℕ) Z)) (a k : ℕ) → AllChunks n ps → AllChunks n qs → AllChunks n (put_mid a k ps qs)
-  AllChunks-put_mid n ps qs a k w v = AllChunks-append n (take a ps) (qs ++ drop k (drop a ps)) (AllChunks-take n ps a w) (AllChunks-append n qs (drop k (drop a ps)) v (AllChunks-drop n (drop a ps) k (AllChunks-drop n ps a w)))
-
   pub clones_whole : (n : ℕ) (ps qs : List (Rc (List ℕ) Z)) → AllZip (λ x y. y.value ≡ x.value) ps qs → AllChunks n ps → AllChunks n qs
   clones_whole n [] [] z w = tt
   clones_whole n [] (q ∷ qs) z w = absurd z
@@ -127,47 +97,19 @@ module _ {Z : Type 0} where
       let f : n * (k + 1) ≡ n * k + n = rw (add-one k) (mul-suc n k) in
       flat-append ps (q ∷ []) ∙ ap (λ u. flat ps ++ u) (append-nil q.value ∙ v) ∙ ap (λ u. u ++ replicate n 0) z ∙ replicate-append-replicate {A = ℕ} (n * k) n 0 ∙ ap (λ m. replicate m 0) (sym f)
 
-  -- a page of zeros at the end changes nothing
-  pub padded-push : (n m : ℕ) (ps : List (Rc (List ℕ) Z)) (q : Rc (List ℕ) Z) → q.value ≡ replicate m 0 → length (flat ps) + m ≤ n → padded n (flat (ps ++ q ∷ [])) ≡ padded n (flat ps)
-  padded-push n m ps q v h =
-      let f : flat (ps ++ q ∷ []) ≡ flat ps ++ replicate m 0 = flat-append ps (q ∷ []) ∙ ap (λ u. flat ps ++ u) (append-nil q.value ∙ v) in
-      let l : length (flat ps ++ replicate m 0) ≡ length (flat ps) + m = length-append (flat ps) (replicate m 0) ∙ ap (λ k. length (flat ps) + k) (length-replicate {A = ℕ} m 0) in
-      let k : m + (n - (length (flat ps) + m)) ≡ n - length (flat ps) = omega arith in
-      rw (f, l, append_assoc (flat ps) (replicate m 0) (replicate (n - (length (flat ps) + m)) 0), replicate-append-replicate {A = ℕ} m (n - (length (flat ps) + m)) 0, k) refl
+  -- chunks of zeros
+  pub zeros_whole : (n : ℕ) (ps : List (Rc (List ℕ) Z)) → ((i : ℕ) (d : Rc (List ℕ) Z) → i < length ps → (get_or ps i d).value ≡ replicate n 0) → AllChunks n ps
+  zeros_whole n [] h = tt
+  zeros_whole n (p ∷ ps) h =
+      (ap (λ (v : List ℕ). length v) (h 0 p (omega arith)) ∙ length-replicate {A = ℕ} n 0, zeros_whole n ps (λ i d l. h (suc i) d (omega arith)))
 
-pub length-padded : (n : ℕ) (xs : List ℕ) → length xs ≤ n → length (padded n xs) ≡ n
-length-padded n xs h = omega (arith, length-append xs (replicate (n - length xs) 0), length-replicate {A = ℕ} (n - length xs) 0)
-
-pub padded-spliced : (n : ℕ) (xs ys : List ℕ) (at : ℕ) → at + length ys ≤ length xs → length (spliced xs at ys) ≡ length xs → padded n (spliced xs at ys) ≡ spliced (padded n xs) at ys
-padded-spliced n xs ys at h l = rw l (sym (spliced_front xs (replicate (n - length xs) 0) ys at h))
-
--- a window that ends before the zeros, and one among them
-pub window-padded_in : (n : ℕ) (xs : List ℕ) (at k : ℕ) → at + k ≤ length xs → take k (drop at (padded n xs)) ≡ take k (drop at xs)
-window-padded_in n xs at k h =
-    let l : length (drop at xs) ≡ length xs - at = length-drop at xs in
-    ap (take k) (drop-append-le at xs (replicate (n - length xs) 0) (omega arith)) ∙ take-append-le k (drop at xs) (replicate (n - length xs) 0) (omega arith)
-
-pub window-padded_past : (n : ℕ) (xs : List ℕ) (at k : ℕ) → length xs ≤ at → at + k ≤ n → take k (drop at (padded n xs)) ≡ replicate k 0
-window-padded_past n xs at k h b =
-    let f : at ≡ length xs + (at - length xs) = omega arith in
-    ap (λ u. take k (drop u (padded n xs))) f
-    ∙ ap (take k) (drop-append-add xs (replicate (n - length xs) 0) (at - length xs) ∙ drop-replicate {X = ℕ} (at - length xs) (n - length xs) 0)
-    ∙ take-replicate {X = ℕ} k (n - length xs - (at - length xs)) 0 (omega arith)
-
--- zeros over zeros
-pub zeros_over : (n : ℕ) (xs : List ℕ) (at k : ℕ) → length xs ≤ at → at + k ≤ n → spliced (padded n xs) at (replicate k 0) ≡ padded n xs
-zeros_over n xs at k h b =
-    let m : ℕ = n - length xs in
-    let j : ℕ = at - length xs in
-    let ys : List ℕ = replicate k 0 in
-    let l : length ys ≡ k = length-replicate {A = ℕ} k 0 in
-    let s : spliced (replicate m 0) j ys ≡ replicate m 0 =
-    ap (λ u. u ++ (ys ++ drop (j + length ys) (replicate m 0))) (take-replicate {X = ℕ} j m 0 (omega arith))
-    ∙ ap (λ u. replicate j 0 ++ (ys ++ u)) (drop-replicate {X = ℕ} (j + length ys) m 0)
-    ∙ ap (λ u. replicate j 0 ++ u) (replicate-append-replicate {A = ℕ} k (m - (j + length ys)) 0)
-    ∙ replicate-append-replicate {A = ℕ} j (k + (m - (j + length ys))) 0
-    ∙ ap (λ u. replicate u 0) (omega arith) in
-    spliced_back xs (replicate m 0) ys j at (omega arith) ∙ ap (λ u. xs ++ u) s
+  pub zeros_flat : (n : ℕ) (ps : List (Rc (List ℕ) Z)) → ((i : ℕ) (d : Rc (List ℕ) Z) → i < length ps → (get_or ps i d).value ≡ replicate n 0) → flat ps ≡ replicate (n * length ps) 0
+  zeros_flat n [] h = ap (λ k. replicate k 0) (sym (mul-zero n))
+  zeros_flat n (p ∷ ps) h =
+      let f : n + n * length ps ≡ n * suc (length ps) = omega (arith, mul-suc n (length ps)) in
+      ap (λ v. v ++ flat ps) (h 0 p (omega arith))
+      ∙ ap (λ v. replicate n 0 ++ v) (zeros_flat n ps (λ i d l. h (suc i) d (omega arith)))
+      ∙ replicate-append-replicate {A = ℕ} n (n * length ps) 0 ∙ ap (λ k. replicate k 0) f
 
 pub take-spliced : (xs ys : List ℕ) (at size : ℕ) → at + length ys ≤ size → size ≤ length xs → take size (spliced xs at ys) ≡ spliced (take size xs) at ys
 take-spliced xs ys at size h b =
@@ -175,33 +117,6 @@ take-spliced xs ys at size h b =
     let f : at + length ys ≤ length (take size xs) = omega arith in
     ap (take size) (ap (λ v. spliced v at ys) (sym (take-append-drop size xs)) ∙ spliced_front (take size xs) (drop size xs) ys at f)
     ∙ take_at (spliced (take size xs) at ys) (drop size xs) size (length-spliced (take size xs) ys at f ∙ l)
-
--- zeros from k on
-pub zeros_from : (n k : ℕ) (xs : List ℕ) → length xs ≤ n → k ≤ n → padded n (take k xs) ≡ spliced (padded n xs) k (replicate (n - k) 0)
-zeros_from n k xs h b =
-    let zs : List ℕ = replicate (n - length xs) 0 in
-    let ys : List ℕ = replicate (n - k) 0 in
-    let ly : length ys ≡ n - k = length-replicate {A = ℕ} (n - k) 0 in
-    let all : length (xs ++ zs) ≡ n = length-padded n xs h in
-    let none : drop (k + length ys) (xs ++ zs) ≡ [] = drop_all (k + length ys) (xs ++ zs) (omega arith) in
-    let tail : ys ++ drop (k + length ys) (xs ++ zs) ≡ ys = ap (λ u. ys ++ u) none ∙ append-nil ys in
-    let right : spliced (xs ++ zs) k ys ≡ take k (xs ++ zs) ++ ys = ap (λ u. take k (xs ++ zs) ++ u) tail in
-    ⊎_elim
-    (λ (lt : k < length xs).
-    let le : k ≤ length xs = omega arith in
-    let l : length (take k xs) ≡ k = length-take-le k xs le in
-    ap (λ m. take k xs ++ replicate (n - m) 0) l ∙ ap (λ u. u ++ ys) (sym (take-append-le k xs zs le)) ∙ sym right)
-    (λ (ge : length xs ≤ k).
-    let t : take k xs ≡ xs = take_all k xs ge in
-    let d : k ≡ length xs + (k - length xs) = omega arith in
-    let z : take k (xs ++ zs) ≡ xs ++ replicate (k - length xs) 0 =
-    ap (λ m. take m (xs ++ zs)) d ∙ take-append-add xs zs (k - length xs) ∙ ap (λ u. xs ++ u) (take-replicate {X = ℕ} (k - length xs) (n - length xs) 0 (omega arith)) in
-    let s : (k - length xs) + (n - k) ≡ n - length xs = omega arith in
-    ap (padded n) t
-    ∙ ap (λ u. xs ++ u) (ap (λ m. replicate m 0) (sym s) ∙ sym (replicate-append-replicate {A = ℕ} (k - length xs) (n - k) 0))
-    ∙ sym (append_assoc xs (replicate (k - length xs) 0) ys)
-    ∙ ap (λ u. u ++ ys) (sym z) ∙ sym right)
-    (cases_lt k (length xs))
 
 pub tail_front : (xs ys : List ℕ) (n z : ℕ) → n ≤ length xs → ys ≡ take n xs ++ replicate z 0 → take n ys ≡ take n xs
 tail_front xs ys n z h e = ap (take n) e ∙ take_at (take n xs) (replicate z 0) n (length-take-le n xs h)

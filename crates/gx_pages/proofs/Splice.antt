@@ -1,6 +1,6 @@
 -- Bytes written over a part of a list.
-use Rattle.std.proofs.Common.{◌≡◌, ◌⊎◌, ℕ, ◌+◌, ◌-◌, ◌<◌, ◌≤◌, List, ◌++◌, length, take, drop, get_or, sym, refl, ap, ◌∙◌, arith, zero-add, replicate, append_assoc, length-append, length-take, length-drop}
-use Rattle.std.proofs.lemmas.List.{take-append-le, drop-append-le, drop-drop, drop-replicate}
+use Rattle.std.proofs.Common.{◌≡◌, ◌⊎◌, ℕ, ◌+◌, ◌-◌, ◌<◌, ◌≤◌, List, [], ◌++◌, length, take, drop, get_or, sym, refl, ap, ◌∙◌, arith, zero-add, replicate, append_assoc, length-append, length-take, length-drop}
+use Rattle.std.proofs.lemmas.List.{take-append-le, drop-append-le, drop-drop, drop-replicate, drop_all, take-take, take-append-drop, length-replicate, append-nil, replicate-append-replicate}
 use Rattle.std.proofs.Math.Seq.{take-append-add, drop-append-add, take-add}
 use Rattle.std.proofs.lemmas.List.{take_at, get_or_append_left, get_or-append_right, get_or-take, get_or-drop}
 use Rattle.gx_words.specs.Numbers.{spliced}
@@ -60,6 +60,41 @@ get_or-spliced_above xs ys at k h l =
     ∙ get_or-append_right ys (drop (at + length ys) xs) (length ys) (k - at) 0 refl (omega arith)
     ∙ get_or-drop (at + length ys) xs (k - at - length ys) 0
     ∙ ap (λ n. get_or xs n 0) f
+
+-- bytes that are there already change nothing
+spliced_same : (xs ys : List ℕ) (at : ℕ) → take (length ys) (drop at xs) ≡ ys → spliced xs at ys ≡ xs
+spliced_same xs ys at e =
+    ap (λ u. take at xs ++ (u ++ drop (at + length ys) xs)) (sym e)
+    ∙ ap (λ u. take at xs ++ (take (length ys) (drop at xs) ++ u)) (sym (drop-drop (length ys) at xs))
+    ∙ ap (λ u. take at xs ++ u) (take-append-drop (length ys) (drop at xs))
+    ∙ take-append-drop at xs
+
+-- where the first bytes of a window are these, they may as well be written
+pub spliced_found : (xs ys piece : List ℕ) (at k : ℕ) → piece ≡ take k (drop at xs) → length ys ≤ k → take (length ys) piece ≡ ys → xs ≡ spliced xs at ys
+spliced_found xs ys piece at k made h e =
+    sym (spliced_same xs ys at (sym (take-take (length ys) k (drop at xs) h) ∙ ap (take (length ys)) (sym made) ∙ e))
+
+-- bytes over as many
+pub spliced_whole : (xs ys : List ℕ) (at : ℕ) → length ys ≡ length xs → at ≡ 0 → spliced xs at ys ≡ ys
+spliced_whole xs ys at l z =
+    rw z (ap (λ u. ys ++ u) (drop_all (0 + length ys) xs (omega arith)) ∙ append-nil ys)
+
+-- bytes, and zeros from their end on
+pub spliced_all : (xs ys : List ℕ) (n : ℕ) → length xs ≡ n → length ys ≤ n → spliced (spliced xs 0 ys) (length ys) (replicate (n - length ys) 0) ≡ ys ++ replicate (n - length ys) 0
+spliced_all xs ys n l h =
+    let zs : List ℕ = replicate (n - length ys) 0 in
+    let k : length zs ≡ n - length ys = length-replicate {A = ℕ} (n - length ys) 0 in
+    let all : length (ys ++ zs) ≡ n = omega (arith, length-append ys zs) in
+    let none : drop (0 + length (ys ++ zs)) xs ≡ [] = drop_all (0 + length (ys ++ zs)) xs (omega arith) in
+    spliced_more xs ys zs 0 (length ys) (sym (zero-add (length ys))) (omega arith)
+    ∙ ap (λ u. (ys ++ zs) ++ u) none ∙ append-nil (ys ++ zs)
+
+-- a loop that writes zeros piece by piece
+pub cleared_step : (xs ts : List ℕ) (at done n : ℕ) → at + done ≤ length xs → ts ≡ spliced xs at (replicate done 0) → spliced ts (at + done) (replicate n 0) ≡ spliced xs at (replicate (done + n) 0)
+cleared_step xs ts at done n h t =
+    let l : length (replicate {A = ℕ} done 0) ≡ done = length-replicate {A = ℕ} done 0 in
+    rw t (spliced_more xs (replicate done 0) (replicate n 0) at (at + done) (omega arith) (omega arith))
+    ∙ ap (spliced xs at) (replicate-append-replicate {A = ℕ} done n 0)
 
 -- the bytes of `now` over a part of `kept`
 pub put_back_spliced : (now kept ys : List ℕ) (from n count : ℕ) → from + n ≤ length kept → length ys ≡ n → n ≤ count → (n ≡ count) ⊎ (from + n ≡ length kept) → ((k : ℕ) → k < n → get_or ys k 0 ≡ get_or now (from + k) 0) → spliced kept from ys ≡ put_back_of now kept from count

@@ -1,5 +1,5 @@
--- Chunks of one size as one list of bytes: pages as a leaf, and leaves as memory.
-use Rattle.std.specs.Prelude.{◌≡◌, ℕ, ◌+◌, ◌*◌, ◌-◌, ◌<◌, ◌≤◌, List, [], ◌∷◌, ◌++◌, length, replicate}
+-- Chunks of one size as one list of bytes: pages as a group, groups as a leaf, and leaves as memory.
+use Rattle.std.specs.Prelude.{◌≡◌, ℕ, ◌+◌, ◌*◌, ◌<◌, ◌≤◌, List, [], ◌∷◌, ◌++◌, length}
 use Rattle.std.specs.declared.rc.Rc.{Rc}
 use Rattle.gx_pages.specs.Memory.{IsSize}
 
@@ -13,14 +13,10 @@ abbrev pub flat : {Z : Type 0} → List (Rc (List ℕ) Z) → List ℕ
 flat [] = []
 flat (c ∷ cs) = c.value ++ flat cs
 
--- with zeros up to n bytes
-abbrev pub padded : ℕ → List ℕ → List ℕ
-padded n xs = xs ++ replicate (n - length xs) 0
-
--- at most 256 pages of 256 bytes
-pub record IsLeaf {Z : Type 0} (pages : List (Rc (List ℕ) Z)) : Type 0 where
-  pub whole : AllChunks 256 pages
-  pub few : length pages ≤ 256
+-- 16 chunks of n bytes
+pub record AreSixteen {Z : Type 0} (n : ℕ) (chunks : List (Rc (List ℕ) Z)) : Type 0 where
+  pub whole : AllChunks n chunks
+  pub count : length chunks ≡ 16
 
 -- as many leaves of 256 pages as reach to the size of memory
 pub record IsTop {Z : Type 0} (leaves : List (Rc (List ℕ) Z)) (size : ℕ) : Type 0 where

@@ -5,11 +5,13 @@
 //! its condition allows; after a refusal the list is as it was.
 //!
 //! The bytes stand in pages of 256, the pages in leaves of 256, and a table has at most 1,024
-//! leaves. Pages and leaves are shared with what is kept, until one of the two changes a page. So a
-//! kept memory costs its table, and with it the pages, and their leaves, that were changed since. No
-//! clause says how the bytes are held or how much is shared.
+//! leaves. A leaf holds its pages by groups of 16. Pages, groups and leaves are shared with what is
+//! kept, until one of the two changes a page; the pages of zeros are one page. So a kept memory costs
+//! its table, and with it the pages, and their groups and leaves, that were changed since. No clause
+//! says how the bytes are held or how much is shared.
 #![tactic(auto)]
 
+mod group;
 mod leaf;
 mod memory;
 mod ranges;

@@ -3,39 +3,38 @@
 //! Each call is its definition of specs/Memory over one list of bytes. Sizes and addresses count
 //! bytes; a size is a multiple of 256, at most `CEILING`. Calls that read and `cut` take no memory.
 //!
-//! A write inside one leaf of 256 pages changes that leaf, and one inside one page that page, in place,
-//! once it is memory's own. A call that writes more goes to another table of the same leaves and takes
-//! that once all is written.
+//! A write inside one page changes that page in place, once it is memory's own. A call that writes more
+//! goes to another table of the same leaves and takes that once all is written. Pages of zeros are one
+//! page, and a write of what is there already leaves a page as shared as it was.
 ghost use Rattle.std.specs.Prelude.{◌≡◌, ◌⊎◌, ℕ, ◌+◌, ◌-◌, ◌%◌, ◌<◌, ◌≤◌, ◌^◌, ◌++◌, length, take, drop, slice_index, replicate, IfOk, OnOk, OnErr};
 ghost use Rattle.gx_words.specs.Numbers.{IsWidth, byte, half, word, number, spliced};
 ghost use Rattle.gx_words.specs.Faults.{Reads};
 ghost use Rattle.gx_words.specs.declared.limits.TheConstants.{CEILING};
 ghost use Rattle.gx_pages.specs.Memory.{IsSize, IsInside, AreInside, HasBytes, number_in, all_spliced, resized, put_back_of};
 
-use crate::leaf::zeros;
-use crate::ranges::{clear, copy_out, copy_there, has_bytes, put, put_each};
+use crate::group::{Page, zero_page, zeros};
+use crate::ranges::{add_to, clear, copy_out, copy_there, has_bytes, put, put_each};
 use crate::table::Table;
-use gx_words::{Fault, Writes, half_at, word_at};
+use gx_words::{Bytes, Fault, Writes, half_at, word_at};
 use std::alloc::{AllocError, Allocator, Global};
 use std::marker::Model;
-use std::rc::Rc;
 
 /// The memory of a machine.
 #[derive(Drop)]
 pub struct Pages<A: Allocator> {
     table: Table<A>,
-    pages: A,
+    zero: Page<A>,
 }
 
 impl<A: Allocator> Model for Pages<A> {
-    ghost use Rattle.std.specs.Prelude.{ℕ, List, length};
+    ghost use Rattle.std.specs.Prelude.{◌≡◌, ℕ, List, length, replicate};
     ghost use Rattle.gx_pages.specs.Memory.{IsSize};
 
     ghost Value = { List ℕ };
 
     ghost view = { λ memory. memory.table };
 
-    ghost invariant = { λ memory. IsSize (length memory.table) };
+    ghost invariant = { λ memory. IsSize (length memory.table) × (memory.zero.value ≡ replicate 256 0) };
 }
 
 /// Memory as it was when it was kept.
@@ -147,6 +146,15 @@ impl<A: Allocator> Pages<A> {
         }
     }
 
+    /// All bytes.
+    pub fn bytes(&self, alloc: Global) -> Result<Bytes, AllocError>
+        ensures { IfOk result (λ bytes. bytes ≡ self.now) }
+    {
+        let mut bytes = Bytes::new(alloc);
+        add_to(&self.table, &mut bytes)?;
+        Ok(bytes)
+    }
+
     /// Drops the bytes from `size` on.
     pub fn cut(&mut self, size: u32)
         requires whole { IsSize size }
@@ -161,8 +169,8 @@ impl<A: Allocator> Pages<A> {
 impl<A: Allocator + Clone> Pages<A> {
     /// Memory with these bytes, and zeros up to `size`.
     ///
-    /// Each page is placed by `pages`, and the table of the pages by `alloc`. A page takes memory only
-    /// once it holds a byte that isn't zero, or another behind it does.
+    /// Each page is placed by `pages`, and the table of the pages by `alloc`. The pages of zeros are one
+    /// page.
     pub fn from_bytes(
         alloc: Global,
         pages: A,
@@ -174,9 +182,10 @@ impl<A: Allocator + Clone> Pages<A> {
         ensures value { IfOk result (λ all. all ≡ bytes.now ++ replicate (size - length bytes.now) 0) }
         ensures size { IfOk result (λ all. length all ≡ size) }
     {
-        let mut table = Table::zeros(alloc, size)?;
-        put(&mut table, &pages, 0, bytes)?;
-        Ok(Pages { table, pages })
+        let zero = zero_page(pages)?;
+        let mut table = Table::zeros(alloc, &zero, size)?;
+        put(&mut table, &zero, 0, bytes)?;
+        Ok(Pages { table, zero })
     }
 
     /// Puts bytes over those from `at` on. An empty list of bytes may have any address.
@@ -191,11 +200,11 @@ impl<A: Allocator + Clone> Pages<A> {
         if bytes.is_empty() {
             return Ok(());
         }
-        if at as usize % 65536 + bytes.len() <= 65536 {
-            return self.table.write_in_leaf(&self.pages, at as usize, bytes);
+        if at as usize % 256 + bytes.len() <= 256 {
+            return self.table.write(&self.zero, at as usize, bytes);
         }
         let mut table = self.table.share()?;
-        put(&mut table, &self.pages, at, bytes)?;
+        put(&mut table, &self.zero, at, bytes)?;
         self.table = table;
         Ok(())
     }
@@ -212,7 +221,7 @@ impl<A: Allocator + Clone> Pages<A> {
             return Ok(());
         }
         let mut table = self.table.share()?;
-        put_each(&mut table, &self.pages, writes.as_slice())?;
+        put_each(&mut table, &self.zero, writes.as_slice())?;
         self.table = table;
         Ok(())
     }
@@ -235,8 +244,8 @@ impl<A: Allocator + Clone> Pages<A> {
             return self.write(at, bytes);
         }
         let mut table = self.table.share()?;
-        put_each(&mut table, &self.pages, writes.as_slice())?;
-        put(&mut table, &self.pages, at, bytes)?;
+        put_each(&mut table, &self.zero, writes.as_slice())?;
+        put(&mut table, &self.zero, at, bytes)?;
         self.table = table;
         Ok(())
     }
@@ -260,8 +269,8 @@ impl<A: Allocator + Clone> Pages<A> {
             return self.write(then, others);
         }
         let mut table = self.table.share()?;
-        put(&mut table, &self.pages, at, bytes)?;
-        put(&mut table, &self.pages, then, others)?;
+        put(&mut table, &self.zero, at, bytes)?;
+        put(&mut table, &self.zero, then, others)?;
         self.table = table;
         Ok(())
     }
@@ -277,9 +286,8 @@ impl<A: Allocator + Clone> Pages<A> {
         if count <= 256 - at % 256 {
             return self.write(at, zeros(count as usize));
         }
-        let zero = Rc::new(self.pages.clone()?, [0; 256])?;
         let mut table = self.table.share()?;
-        clear(&mut table, &zero, at, count)?;
+        clear(&mut table, &self.zero, at, count)?;
         self.table = table;
         Ok(())
     }
@@ -316,11 +324,7 @@ impl<A: Allocator + Clone> Pages<A> {
         ensures size { OnOk result (length self.new ≡ size) }
         ensures memory { OnErr result (length self.old < size) }
     {
-        if size <= self.size() {
-            self.cut(size);
-            return Ok(());
-        }
-        self.table.grow(size)
+        self.table.resize(&self.zero, size)
     }
 
     /// Memory at this time, whatever is written later.
@@ -346,13 +350,13 @@ impl<A: Allocator + Clone> Pages<A> {
         self.keep_present(&mut table, skip)?;
         Ok(Pages {
             table,
-            pages: self.pages.clone()?,
+            zero: self.zero.clone()?,
         })
     }
 
     /// Another memory, placed as this one is: these bytes and zeros up to `size`, but for the `skip.1`
     /// addresses from `skip.0` on, as `protect` sets them. They have the byte that is there now, or 0
-    /// where the present memory doesn't reach.
+    /// where the present memory doesn't reach. Pages that don't change stay shared with what is kept.
     pub fn begin_again(
         &self,
         bytes: &[u8],
@@ -364,11 +368,14 @@ impl<A: Allocator + Clone> Pages<A> {
         ensures value { IfOk result (λ all. all ≡ put_back_of self.now (bytes.now ++ replicate (size - length bytes.now) 0) skip.0 skip.1) }
         ensures size { IfOk result (λ all. length all ≡ size) }
     {
-        let pages = self.pages.clone()?;
-        let mut table = Table::zeros(self.table.allocator(), size)?;
-        put(&mut table, &pages, 0, bytes)?;
+        let zero = self.zero.clone()?;
+        let mut table = self.table.share()?;
+        table.resize(&self.zero, size)?;
+        put(&mut table, &self.zero, 0, bytes)?;
+        let end = bytes.len() as u32;
+        clear(&mut table, &self.zero, end, size - end)?;
         self.keep_present(&mut table, skip)?;
-        Ok(Pages { table, pages })
+        Ok(Pages { table, zero })
     }
 
     /// Gives another table the bytes that are there now at `skip.1` addresses from `skip.0` on.
@@ -383,7 +390,7 @@ impl<A: Allocator + Clone> Pages<A> {
             return Ok(());
         }
         let bytes = self.present(skip.0, end - from)?;
-        put(table, &self.pages, skip.0, bytes.as_slice())
+        put(table, &self.zero, skip.0, bytes.as_slice())
     }
 
     /// The `count` bytes from `from` on, with 0 where memory doesn't reach.

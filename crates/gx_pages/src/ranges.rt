@@ -2,32 +2,43 @@
 //!
 //! A call that is refused may have written a part: a caller that has to leave memory as it was
 //! writes to another table of the same leaves, and takes that once all is written.
-ghost use Rattle.std.specs.Prelude.{◌≡◌, ℕ, List, true, false, ◌%◌, ◌+◌, ◌<◌, ◌≤◌, length, take, drop, slice_index, replicate, OnOk, OnErr};
+ghost use Rattle.std.specs.Prelude.{◌≡◌, ℕ, List, true, false, ◌%◌, ◌+◌, ◌<◌, ◌≤◌, ◌++◌, length, take, drop, slice_index, replicate, OnOk, OnErr};
 ghost use Rattle.gx_words.specs.Numbers.{spliced};
 ghost use Rattle.gx_pages.specs.Memory.{IsInside, AreInside, HasBytes, all_spliced};
 
-use crate::leaf::{Page, in_one_page};
+use crate::group::{Page, zeros};
 use crate::table::Table;
 use gx_words::{Bytes, splice};
 use std::alloc::{AllocError, Allocator};
 
-/// Puts bytes over those from `at` on, leaf by leaf.
+/// How many of `count` bytes from `at` on lie in the page of the first.
+fn in_one_page(at: usize, count: usize) -> usize
+    requires { 0 < count }
+    ensures some { 0 < result }
+    ensures within { result ≤ count }
+    ensures page { at % 256 + result ≤ 256 }
+{
+    (256 - at % 256).min(count)
+}
+
+/// Puts bytes over those from `at` on, page by page.
 #[inline(never)]
 pub fn put<A: Allocator + Clone>(
     table: &mut Table<A>,
-    pages: &A,
+    zero: &Page<A>,
     at: u32,
     bytes: &[u8],
 ) -> Result<(), AllocError>
-    requires { IsInside at (length bytes.now) (length table.old) }
+    requires zero { zero.now.value ≡ replicate 256 0 }
+    requires inside { IsInside at (length bytes.now) (length table.old) }
     ensures ok { OnOk result (table.new ≡ spliced table.old at bytes.now) }
     ensures size { length table.new ≡ length table.old }
 {
     let mut done = 0;
     while done < bytes.len() {
         let place = at as usize + done;
-        let count = (65536 - place % 65536).min(bytes.len() - done);
-        table.write_in_leaf(pages, place, &bytes[done..done + count])?;
+        let count = in_one_page(place, bytes.len() - done);
+        table.write(zero, place, &bytes[done..done + count])?;
         done += count;
     }
     Ok(())
@@ -36,15 +47,16 @@ pub fn put<A: Allocator + Clone>(
 /// Makes each write, the first of them first.
 pub fn put_each<A: Allocator + Clone>(
     table: &mut Table<A>,
-    pages: &A,
+    zero: &Page<A>,
     writes: &[(u32, Bytes)],
 ) -> Result<(), AllocError>
-    requires { AreInside writes.now (length table.old) }
+    requires zero { zero.now.value ≡ replicate 256 0 }
+    requires inside { AreInside writes.now (length table.old) }
     ensures ok { OnOk result (table.new ≡ all_spliced table.old writes.now) }
     ensures size { length table.new ≡ length table.old }
 {
     for write in writes {
-        put(table, pages, write.0, write.1.as_slice())?;
+        put(table, zero, write.0, write.1.as_slice())?;
     }
     Ok(())
 }
@@ -65,8 +77,21 @@ pub fn clear<A: Allocator + Clone>(
     while done < count as usize {
         let place = at as usize + done;
         let piece = in_one_page(place, count as usize - done);
-        table.clear_in_page(zero, place, piece)?;
+        table.write(zero, place, zeros(piece))?;
         done += piece;
+    }
+    Ok(())
+}
+
+/// Adds all bytes to a list. After a refusal a part of them may be there.
+pub fn add_to<A: Allocator>(table: &Table<A>, bytes: &mut Bytes) -> Result<(), AllocError>
+    ensures { OnOk result (bytes.new ≡ bytes.old ++ table.now) }
+{
+    let size = table.size() as usize;
+    let mut done = 0;
+    while done < size {
+        bytes.extend_from_slice(table.rest_of_page(done))?;
+        done += 256;
     }
     Ok(())
 }

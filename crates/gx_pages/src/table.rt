@@ -1,14 +1,16 @@
 //! Memory as a table of shared leaves.
 //!
-//! Contracts see a table as one list of bytes. A table shares its leaves, and a leaf its pages, with
-//! other tables until they are written to: a write first makes the leaf and then the page its own.
+//! Contracts see a table as one list of bytes. A table shares its leaves, a leaf its groups, and a
+//! group its pages with other tables until they are written to: a write first makes the leaf, then the
+//! group and then the page its own, and a write of what is there already leaves a shared page shared.
 //! Past the size there may be bytes of a larger table that was cut; `grow` makes them zero.
-ghost use Rattle.std.specs.Prelude.{◌≡◌, ◌+◌, ◌*◌, ◌-◌, ◌/◌, ◌%◌, ◌<◌, ◌≤◌, ◌++◌, length, take, drop, replicate, IfOk, OnOk, OnErr};
+ghost use Rattle.std.specs.Prelude.{◌≡◌, true, ◌+◌, ◌*◌, ◌-◌, ◌/◌, ◌%◌, ◌<◌, ◌≤◌, ◌++◌, length, take, drop, replicate, IfOk, OnOk, OnErr};
 ghost use Rattle.gx_words.specs.Numbers.{spliced};
-ghost use Rattle.gx_pages.specs.Memory.{IsSize};
+ghost use Rattle.gx_pages.specs.Memory.{IsSize, resized};
 ghost use Rattle.gx_pages.specs.Chunks.{AllChunks, IsTop, flat};
 
-use crate::leaf::{Leaf, Page};
+use crate::group::{Page, zeros};
+use crate::leaf::Leaf;
 use std::alloc::{AllocError, Allocator, Global};
 use std::marker::Model;
 use std::rc::Rc;
@@ -76,54 +78,56 @@ impl<A: Allocator> Table<A> {
 }
 
 impl<A: Allocator + Clone> Table<A> {
-    /// A table of zeros.
-    pub fn zeros(alloc: Global, size: u32) -> Result<Table<A>, AllocError>
-        requires { IsSize size }
+    /// A table of zeros, which are one page.
+    pub fn zeros(alloc: Global, zero: &Page<A>, size: u32) -> Result<Table<A>, AllocError>
+        requires zero { zero.now.value ≡ replicate 256 0 }
+        requires size { IsSize size }
         ensures { IfOk result (λ table. table ≡ replicate size 0) }
     {
-        let leaves = zero_leaves(alloc, leaves_for(size as usize))?;
+        let leaves = zero_leaves(alloc, zero, leaves_for(size as usize))?;
         Ok(Table { leaves, size })
     }
 
-    /// Puts bytes over those from `at` on in one leaf. A page that isn't there is placed by `pages`.
+    /// Puts bytes over those from `at` on in one page. A whole page of zeros becomes `zero`, and a
+    /// shared page that has the bytes already stays.
     #[inline(always)]
-    pub fn write_in_leaf(&mut self, pages: &A, at: usize, bytes: &[u8]) -> Result<(), AllocError>
+    pub fn write(&mut self, zero: &Page<A>, at: usize, bytes: &[u8]) -> Result<(), AllocError>
+        requires zero { zero.now.value ≡ replicate 256 0 }
         requires inside { at + length bytes.now ≤ length self.old }
-        requires leaf { at % 65536 + length bytes.now ≤ 65536 }
+        requires page { at % 256 + length bytes.now ≤ 256 }
         requires some { 0 < length bytes.now }
         ensures ok { OnOk result (self.new ≡ spliced self.old at bytes.now) }
         ensures err { OnErr result (self.new ≡ self.old) }
         ensures size { length self.new ≡ length self.old }
     {
-        write_in_leaf(self.leaves.as_mut_slice(), pages, at, bytes)
+        write_in_leaf(self.leaves.as_mut_slice(), zero, at, bytes)
     }
 
-    /// Puts zeros over `count` bytes from `at` on in one page; a whole page becomes `zero`.
-    pub fn clear_in_page(
-        &mut self,
-        zero: &Page<A>,
-        at: usize,
-        count: usize,
-    ) -> Result<(), AllocError>
+    /// Drops the bytes from `size` on, or adds zeros up to `size`.
+    pub fn resize(&mut self, zero: &Page<A>, size: u32) -> Result<(), AllocError>
         requires zero { zero.now.value ≡ replicate 256 0 }
-        requires inside { at + count ≤ length self.old }
-        requires page { at % 256 + count ≤ 256 }
-        requires some { 0 < count }
-        ensures ok { OnOk result (self.new ≡ spliced self.old at (replicate count 0)) }
+        requires whole { IsSize size }
+        ensures ok { OnOk result (self.new ≡ resized self.old size) }
         ensures err { OnErr result (self.new ≡ self.old) }
-        ensures size { length self.new ≡ length self.old }
+        ensures size { OnOk result (length self.new ≡ size) }
+        ensures memory { OnErr result (length self.old < size) }
     {
-        clear_in_leaf(self.leaves.as_mut_slice(), zero, at, count)
+        if size <= self.size() {
+            self.cut(size);
+            return Ok(());
+        }
+        self.grow(zero, size)
     }
 
     /// Adds zeros up to `size`.
-    pub fn grow(&mut self, size: u32) -> Result<(), AllocError>
+    fn grow(&mut self, zero: &Page<A>, size: u32) -> Result<(), AllocError>
+        requires zero { zero.now.value ≡ replicate 256 0 }
         requires whole { IsSize size }
         requires more { length self.old < size }
         ensures ok { OnOk result (self.new ≡ self.old ++ replicate (size - length self.old) 0) }
         ensures err { OnErr result (self.new ≡ self.old) }
     {
-        grow(&mut self.leaves, self.size as usize, size as usize)?;
+        grow(&mut self.leaves, zero, self.size as usize, size as usize)?;
         self.size = size;
         Ok(())
     }
@@ -149,16 +153,21 @@ fn share<A: Allocator>(leaves: &Vec<Rc<Leaf<A>>>) -> Result<Vec<Rc<Leaf<A>>>, Al
 }
 
 /// `count` leaves of zeros, which are one leaf.
-fn zero_leaves<A: Allocator>(alloc: Global, count: usize) -> Result<Vec<Rc<Leaf<A>>>, AllocError>
-    requires { count ≤ 1024 }
+fn zero_leaves<A: Allocator>(
+    alloc: Global,
+    zero: &Page<A>,
+    count: usize,
+) -> Result<Vec<Rc<Leaf<A>>>, AllocError>
+    requires zero { zero.now.value ≡ replicate 256 0 }
+    requires few { count ≤ 1024 }
     ensures whole { IfOk result (λ leaves. AllChunks 65536 leaves.items) }
     ensures zero { IfOk result (λ leaves. flat leaves.items ≡ replicate (65536 * count) 0) }
     ensures count { IfOk result (λ leaves. length leaves.items ≡ count) }
 {
     let mut leaves = Vec::new(alloc);
-    let zeros = Rc::new(alloc, Leaf::zeros(alloc))?;
+    let leaf = Rc::new(alloc, Leaf::zeros(alloc, zero)?)?;
     for _leaf in 0..count {
-        leaves.push(zeros.clone()?)?;
+        leaves.push(leaf.clone()?)?;
     }
     Ok(leaves)
 }
@@ -173,78 +182,95 @@ fn rest_of_page<A: Allocator>(leaves: &[Rc<Leaf<A>>], at: usize) -> &[u8]
     leaves[at / 65536].rest_of_page(at % 65536)
 }
 
+/// Whether the page of `at`, its group or its leaf has another owner.
+#[inline(always)]
+fn is_shared<A: Allocator>(leaves: &[Rc<Leaf<A>>], at: usize) -> bool
+    requires { at < 65536 * length leaves.now }
+{
+    let leaf = &leaves[at / 65536];
+    Rc::strong_count(leaf) > 1 || leaf.is_shared(at % 65536)
+}
+
+/// Whether the bytes from `at` on are these.
+fn has_bytes<A: Allocator>(leaves: &[Rc<Leaf<A>>], at: usize, bytes: &[u8]) -> bool
+    requires whole { AllChunks 65536 leaves.now }
+    requires page { at % 256 + length bytes.now ≤ 256 }
+    requires inside { at < 65536 * length leaves.now }
+    ensures { result ≡ true → flat leaves.now ≡ spliced (flat leaves.now) at bytes.now }
+{
+    &rest_of_page(leaves, at)[..bytes.len()] == bytes
+}
+
 #[inline(always)]
 fn write_leaf<A: Allocator + Clone>(
     leaf: &mut Rc<Leaf<A>>,
-    pages: &A,
+    zero: &Page<A>,
     at: usize,
     bytes: &[u8],
 ) -> Result<(), AllocError>
-    requires some { 0 < length bytes.now }
-    requires inside { at + length bytes.now ≤ 65536 }
+    requires zero { zero.now.value ≡ replicate 256 0 }
+    requires inside { at < 65536 }
+    requires page { at % 256 + length bytes.now ≤ 256 }
     requires whole { length leaf.old.value ≡ 65536 }
     ensures ok { OnOk result (leaf.new.value ≡ spliced leaf.old.value at bytes.now) }
     ensures err { OnErr result (leaf.new.value ≡ leaf.old.value) }
     ensures size { length leaf.new.value ≡ 65536 }
 {
     let own = Rc::make_mut(leaf)?;
-    own.write(pages, at, bytes)
+    own.write(zero, at, bytes)
 }
 
+/// Puts bytes over those from `at` on in one page. A whole page of zeros becomes `zero`, and a shared
+/// page that has the bytes already stays.
 #[inline(always)]
 fn write_in_leaf<A: Allocator + Clone>(
     leaves: &mut [Rc<Leaf<A>>],
-    pages: &A,
+    zero: &Page<A>,
     at: usize,
     bytes: &[u8],
 ) -> Result<(), AllocError>
+    requires zero { zero.now.value ≡ replicate 256 0 }
     requires whole { AllChunks 65536 leaves.old }
-    requires some { 0 < length bytes.now }
-    requires leaf { at % 65536 + length bytes.now ≤ 65536 }
+    requires page { at % 256 + length bytes.now ≤ 256 }
     requires room { at / 65536 < length leaves.old }
     ensures whole { AllChunks 65536 leaves.new }
     ensures ok { OnOk result (flat leaves.new ≡ spliced (flat leaves.old) at bytes.now) }
     ensures err { OnErr result (flat leaves.new ≡ flat leaves.old) }
 {
-    write_leaf(&mut leaves[at / 65536], pages, at % 65536, bytes)
+    if is_shared(leaves, at) && has_bytes(leaves, at, bytes) {
+        return Ok(());
+    }
+    write_leaf(&mut leaves[at / 65536], zero, at % 65536, bytes)
 }
 
+/// Puts zeros over the bytes of a leaf from `from` on, page by page.
 fn clear_leaf<A: Allocator + Clone>(
     leaf: &mut Rc<Leaf<A>>,
     zero: &Page<A>,
-    at: usize,
-    count: usize,
+    from: usize,
 ) -> Result<(), AllocError>
     requires zero { zero.now.value ≡ replicate 256 0 }
-    requires inside { at < 65536 }
-    requires page { at % 256 + count ≤ 256 }
+    requires page { from % 256 ≡ 0 }
+    requires inside { from ≤ 65536 }
     requires whole { length leaf.old.value ≡ 65536 }
-    ensures ok { OnOk result (leaf.new.value ≡ spliced leaf.old.value at (replicate count 0)) }
-    ensures err { OnErr result (leaf.new.value ≡ leaf.old.value) }
+    ensures ok { OnOk result (leaf.new.value ≡ spliced leaf.old.value from (replicate (65536 - from) 0)) }
     ensures size { length leaf.new.value ≡ 65536 }
 {
-    let own = Rc::make_mut(leaf)?;
-    own.clear(zero, at, count)
+    let mut at = from;
+    while at < 65536 {
+        write_leaf(leaf, zero, at, zeros(256))?;
+        at += 256;
+    }
+    Ok(())
 }
 
-fn clear_in_leaf<A: Allocator + Clone>(
-    leaves: &mut [Rc<Leaf<A>>],
+/// Puts zeros over the bytes of a leaf from `from` on, all of them or none.
+fn cut_leaf<A: Allocator + Clone>(
+    leaf: &mut Rc<Leaf<A>>,
     zero: &Page<A>,
-    at: usize,
-    count: usize,
+    from: usize,
 ) -> Result<(), AllocError>
     requires zero { zero.now.value ≡ replicate 256 0 }
-    requires whole { AllChunks 65536 leaves.old }
-    requires page { at % 256 + count ≤ 256 }
-    requires room { at / 65536 < length leaves.old }
-    ensures whole { AllChunks 65536 leaves.new }
-    ensures ok { OnOk result (flat leaves.new ≡ spliced (flat leaves.old) at (replicate count 0)) }
-    ensures err { OnErr result (flat leaves.new ≡ flat leaves.old) }
-{
-    clear_leaf(&mut leaves[at / 65536], zero, at % 65536, count)
-}
-
-fn cut_leaf<A: Allocator + Clone>(leaf: &mut Rc<Leaf<A>>, from: usize) -> Result<(), AllocError>
     requires page { from % 256 ≡ 0 }
     requires inside { from ≤ 65536 }
     requires whole { length leaf.old.value ≡ 65536 }
@@ -252,16 +278,19 @@ fn cut_leaf<A: Allocator + Clone>(leaf: &mut Rc<Leaf<A>>, from: usize) -> Result
     ensures err { OnErr result (leaf.new.value ≡ leaf.old.value) }
     ensures size { length leaf.new.value ≡ 65536 }
 {
-    let own = Rc::make_mut(leaf)?;
-    own.clear_from(from);
+    let mut cut = leaf.clone()?;
+    clear_leaf(&mut cut, zero, from)?;
+    *leaf = cut;
     Ok(())
 }
 
 /// Puts zeros over the bytes from `from` on to the end of its leaf.
 fn cut_in_leaf<A: Allocator + Clone>(
     leaves: &mut [Rc<Leaf<A>>],
+    zero: &Page<A>,
     from: usize,
 ) -> Result<(), AllocError>
+    requires zero { zero.now.value ≡ replicate 256 0 }
     requires whole { AllChunks 65536 leaves.old }
     requires page { from % 256 ≡ 0 }
     requires room { from / 65536 < length leaves.old }
@@ -269,15 +298,17 @@ fn cut_in_leaf<A: Allocator + Clone>(
     ensures ok { OnOk result (flat leaves.new ≡ spliced (flat leaves.old) from (replicate (65536 - from % 65536) 0)) }
     ensures err { OnErr result (flat leaves.new ≡ flat leaves.old) }
 {
-    cut_leaf(&mut leaves[from / 65536], from % 65536)
+    cut_leaf(&mut leaves[from / 65536], zero, from % 65536)
 }
 
 /// Makes the bytes past the size zeros.
 fn clear_tail<A: Allocator + Clone>(
     leaves: &mut Vec<Rc<Leaf<A>>>,
+    zero: &Page<A>,
     size: usize,
 ) -> Result<(), AllocError>
-    requires { IsTop leaves.old.items size }
+    requires zero { zero.now.value ≡ replicate 256 0 }
+    requires top { IsTop leaves.old.items size }
     ensures top { IsTop leaves.new.items size }
     ensures ok { OnOk result (flat leaves.new.items ≡ take size (flat leaves.old.items) ++ replicate (65536 * length leaves.old.items - size) 0) }
     ensures err { OnErr result (flat leaves.new.items ≡ flat leaves.old.items) }
@@ -286,15 +317,17 @@ fn clear_tail<A: Allocator + Clone>(
     if size % 65536 == 0 {
         return Ok(());
     }
-    cut_in_leaf(leaves.as_mut_slice(), size)
+    cut_in_leaf(leaves.as_mut_slice(), zero, size)
 }
 
 /// Makes the bytes past the size zeros, and adds leaves of zeros up to another size.
 fn grow<A: Allocator + Clone>(
     leaves: &mut Vec<Rc<Leaf<A>>>,
+    zero: &Page<A>,
     old: usize,
     size: usize,
 ) -> Result<(), AllocError>
+    requires zero { zero.now.value ≡ replicate 256 0 }
     requires top { IsTop leaves.old.items old }
     requires whole { IsSize size }
     requires more { old < size }
@@ -303,8 +336,9 @@ fn grow<A: Allocator + Clone>(
     ensures kept { OnErr result (IsTop leaves.new.items old) }
     ensures err { OnErr result (take old (flat leaves.new.items) ≡ take old (flat leaves.old.items)) }
 {
-    clear_tail(leaves, old)?;
-    let mut more = zero_leaves(*leaves.allocator(), leaves_for(size) - leaves.len())?;
+    clear_tail(leaves, zero, old)?;
+    let count = leaves_for(size) - leaves.len();
+    let mut more = zero_leaves(*leaves.allocator(), zero, count)?;
     leaves.append(&mut more)?;
     Ok(())
 }

@@ -4,8 +4,8 @@ use Rattle.std.proofs.lemmas.Result.{on_ok_weaker, on_err_weaker}
 use Rattle.gx_pages.proofs.Chunks.{AllChunks-set, flat-set, flat-set_same, whole_at}
 use Rattle.gx_pages.proofs.table.cut_in_leaf.Goals as goal
 
-pub cut_leaf-requires-clause-whole : goal.cut_leaf-requires-clause-whole
-cut_leaf-requires-clause-whole g c = whole_at 65536 c.args.leaves.now (c.args.from / 65536) c.index-leaves-from.result c.requires.room c.requires.whole
+pub cut_leaf-requires : goal.cut_leaf-requires
+cut_leaf-requires g c = (omega arith, (c.requires.zero, (omega (arith, c.requires.page), (omega arith, whole_at 65536 c.args.leaves.now (c.args.from / 65536) c.index-leaves-from.result c.requires.room c.requires.whole))))
 
 pub returns-clause-whole : goal.returns-clause-whole
 returns-clause-whole g c =

@@ -4,7 +4,7 @@ use Rattle.std.proofs.lemmas.Result.{on_ok_weaker}
 use Rattle.gx_words.specs.Numbers.{spliced}
 use Rattle.gx_pages.specs.Chunks.{flat}
 use Rattle.gx_pages.proofs.Chunks.{length-flat, take-spliced}
-use Rattle.gx_pages.proofs.table.Table.write_in_leaf.Goals as goal
+use Rattle.gx_pages.proofs.table.Table.write.Goals as goal
 
 pub returns-clause-ok : goal.returns-clause-ok
 returns-clause-ok g c =

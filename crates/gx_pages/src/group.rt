@@ -1,0 +1,165 @@
+//! A group of memory: 16 pages of 256 bytes, each shared until it is written to.
+//!
+//! Contracts see a group as its 4096 bytes.
+ghost use Rattle.std.specs.Prelude.{◌≡◌, ℕ, true, ◌+◌, ◌*◌, ◌-◌, ◌/◌, ◌%◌, ◌<◌, ◌≤◌, length, take, drop, slice_index_or, replicate, IfOk, OnOk, OnErr};
+ghost use Rattle.std.specs.declared.rc.Rc.{Rc};
+ghost use Rattle.gx_words.specs.Numbers.{spliced};
+ghost use Rattle.gx_pages.specs.Chunks.{AllChunks, flat};
+
+use gx_words::splice;
+use std::alloc::{AllocError, Allocator, Global};
+use std::marker::Model;
+use std::rc::Rc;
+
+/// A page.
+pub type Page<A> = Rc<[u8; 256], A>;
+
+/// 16 pages.
+#[derive(Drop)]
+pub struct Group<A: Allocator> {
+    pages: [Page<A>; 16],
+}
+
+impl<A: Allocator> Model for Group<A> {
+    ghost use Rattle.std.specs.Prelude.{ℕ, List};
+    ghost use Rattle.gx_pages.specs.Chunks.{AreSixteen, flat};
+
+    ghost Value = { List ℕ };
+
+    ghost view = { λ group. flat group.pages };
+
+    ghost invariant = { λ group. AreSixteen 256 group.pages };
+}
+
+impl<A: Allocator> Clone for Group<A> {
+    ghost is_clone = { λ group copy. copy ≡ group };
+
+    fn clone(&self) -> Result<Group<A>, AllocError> {
+        Ok(Group {
+            pages: self.pages.clone()?,
+        })
+    }
+}
+
+impl<A: Allocator> Group<A> {
+    /// A group of zeros, which are one page.
+    pub fn zeros(alloc: Global, zero: &Page<A>) -> Result<Group<A>, AllocError>
+        requires { zero.now.value ≡ replicate 256 0 }
+        ensures { IfOk result (λ group. group ≡ replicate 4096 0) }
+    {
+        Ok(Group {
+            pages: owners(alloc, zero)?,
+        })
+    }
+
+    /// The bytes from `at` to the end of its page.
+    #[inline(always)]
+    pub fn rest_of_page(&self, at: usize) -> &[u8]
+        requires { at < 4096 }
+        ensures { result.now ≡ take (256 - at % 256) (drop at self.now) }
+    {
+        &self.pages[at / 256][at % 256..]
+    }
+
+    /// Whether the page of `at` has another owner.
+    #[inline(always)]
+    pub fn is_shared(&self, at: usize) -> bool
+        requires { at < 4096 }
+    {
+        Rc::strong_count(&self.pages[at / 256]) > 1
+    }
+}
+
+impl<A: Allocator + Clone> Group<A> {
+    /// Puts bytes over those from `at` on in one page. A whole page of zeros becomes `zero`.
+    #[inline(always)]
+    pub fn write(&mut self, zero: &Page<A>, at: usize, bytes: &[u8]) -> Result<(), AllocError>
+        requires zero { zero.now.value ≡ replicate 256 0 }
+        requires inside { at < 4096 }
+        requires page { at % 256 + length bytes.now ≤ 256 }
+        ensures ok { OnOk result (self.new ≡ spliced self.old at bytes.now) }
+        ensures err { OnErr result (self.new ≡ self.old) }
+    {
+        write_in_page(&mut self.pages, zero, at, bytes)
+    }
+}
+
+/// 16 owners of one value.
+pub fn owners<T: Drop, A: Allocator>(
+    alloc: Global,
+    one: &Rc<T, A>,
+) -> Result<[Rc<T, A>; 16], AllocError>
+    ensures count { IfOk result (λ all. length all ≡ 16) }
+    ensures same { IfOk result (λ all. (k : ℕ) (d : Rc T A) → k < 16 → (slice_index_or all k d).value ≡ one.now.value) }
+{
+    let all = Vec::from_elem(alloc, one.clone()?, 16)?;
+    match <[Rc<T, A>; 16]>::try_from(all) {
+        Ok(all) => Ok(all),
+        Err(_) => unreachable!(),
+    }
+}
+
+/// A page of zeros, placed by `pages`.
+pub fn zero_page<A: Allocator>(pages: A) -> Result<Page<A>, AllocError>
+    ensures { IfOk result (λ page. page.value ≡ replicate 256 0) }
+{
+    Ok(Rc::new(pages, [0; 256])?)
+}
+
+/// `count` zeros.
+pub fn zeros(count: usize) -> &'static [u8]
+    requires { count ≤ 256 }
+    ensures { result.now ≡ replicate count 0 }
+{
+    &[0; 256][..count]
+}
+
+/// Whether bytes are a whole page of zeros.
+fn is_zero_page(bytes: &[u8]) -> bool
+    ensures { result ≡ true → bytes.now ≡ replicate 256 0 }
+{
+    bytes == zeros(256)
+}
+
+#[inline(always)]
+fn write_page<A: Allocator + Clone>(
+    page: &mut Page<A>,
+    zero: &Page<A>,
+    at: usize,
+    bytes: &[u8],
+) -> Result<(), AllocError>
+    requires zero { zero.now.value ≡ replicate 256 0 }
+    requires page { at + length bytes.now ≤ 256 }
+    requires whole { length page.old.value ≡ 256 }
+    ensures ok { OnOk result (page.new.value ≡ spliced page.old.value at bytes.now) }
+    ensures err { OnErr result (page.new.value ≡ page.old.value) }
+    ensures size { length page.new.value ≡ length page.old.value }
+{
+    if bytes.len() == 256 && is_zero_page(bytes) {
+        *page = zero.clone()?;
+        return Ok(());
+    }
+    let own = Rc::make_mut(page)?;
+    splice(own, at, bytes);
+    Ok(())
+}
+
+/// Puts bytes over those from `at` on in one page. A whole page of zeros becomes `zero`.
+#[inline(always)]
+fn write_in_page<A: Allocator + Clone>(
+    pages: &mut [Page<A>],
+    zero: &Page<A>,
+    at: usize,
+    bytes: &[u8],
+) -> Result<(), AllocError>
+    requires zero { zero.now.value ≡ replicate 256 0 }
+    requires whole { AllChunks 256 pages.old }
+    requires page { at % 256 + length bytes.now ≤ 256 }
+    requires room { at / 256 < length pages.old }
+    ensures whole { AllChunks 256 pages.new }
+    ensures ok { OnOk result (flat pages.new ≡ spliced (flat pages.old) at bytes.now) }
+    ensures err { OnErr result (flat pages.new ≡ flat pages.old) }
+    ensures count { length pages.new ≡ length pages.old }
+{
+    write_page(&mut pages[at / 256], zero, at % 256, bytes)
+}
