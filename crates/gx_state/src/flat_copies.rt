@@ -69,7 +69,7 @@ impl<A: Allocator + Clone> State<A> {
         ensures value { IfOk result (λ copy. copy ≡ copy_of (cut self.now.flat sp) dest.now next) }
         ensures fit { HasPlaceFor self.now.flat dest.now → IfOk result (λ copy. IsCopyFor self.now.flat.story copy) }
     {
-        let memory = self.memory_bytes(alloc)?;
+        let memory = self.memory.bytes(alloc)?;
         let mut stack = self.stack.copy(alloc)?;
         stack.truncate(sp as usize);
         stack.extend_from_slice(&self.stub(dest, next).bytes())?;
@@ -80,17 +80,6 @@ impl<A: Allocator + Clone> State<A> {
             heap: self.heap.start(),
             blocks,
         })
-    }
-
-    /// All bytes of memory.
-    fn memory_bytes(&self, alloc: Global) -> Result<Bytes, AllocError>
-        ensures { IfOk result (λ bytes. bytes ≡ self.now.flat.memory) }
-    {
-        let mut bytes = Bytes::new(alloc);
-        for at in 0..self.memory.size() {
-            bytes.push(self.memory.byte(at) as u8)?;
-        }
-        Ok(bytes)
     }
 
     /// The blocks of the heap.

@@ -11,5 +11,5 @@ pub returns-clause-fit : goal.returns-clause-fit
 returns-clause-fit g c =
     λ takes.
     let sound = subst (λ (h : HeldState). IsSound h.flat) c.self.view_is c.self.invariant.sound in
-    let read = subst (λ (p : Stub). stub_below (stub_bytes p) 16 ≡ p) c.stub.ensures (subst (λ (xs : List ℕ). stub_below xs 16 ≡ c.stub.result) c.bytes.ensures.value c.bytes.ensures.read_back) in
+    let read = subst (λ (p : Stub). stub_below (stub_bytes p) 16 ≡ p) c.stub.ensures (subst (λ (xs : List ℕ). stub_below xs 16 ≡ c.stub.result) c.bytes-2.ensures.value c.bytes-2.ensures.read_back) in
     flat_fits c.args.self.now.flat c.args.sp c.args.dest.now c.args.next _ sound c.requires.height c.requires.room read takes (grind arith)
