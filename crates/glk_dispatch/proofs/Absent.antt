@@ -1,7 +1,5 @@
 -- Streams that aren't there, and files that have to be stored.
-use Rattle.std.proofs.Common.{◌≡◌, ◌≢◌, ◌==◌, ◌||◌, not, ℕ, Bool, true, false, if◌then◌else◌, List, [], ◌∷◌, length, refl, sym, subst, arith, Option, Some, None, Result, Ok, Err}
-use Rattle.std.specs.Option.{is_some}
-use Rattle.std.proofs.lemmas.Grind.{common_steps}
+use Rattle.std.proofs.Common.{◌≡◌, ◌==◌, ℕ, true, false, if◌then◌else◌, List, [], ◌∷◌, length, refl, Option, Some, None, Result, Ok, Err}
 use Rattle.gx_state.specs.Flat.{FlatState}
 use Rattle.glk_objects.proofs.Above.{at_absent}
 use Rattle.glk_streams.specs.declared.kinds.Stream.{Stream}

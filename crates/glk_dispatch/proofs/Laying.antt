@@ -1,6 +1,7 @@
 -- One turn of the loops over numbers and characters.
-use Rattle.std.proofs.Common.{zero, suc, ap, sym, subst, inl, inr, ◌≡◌, ◌≢◌, ◌<◌, ◌≤◌, ◌+◌, ◌-◌, ◌*◌, ℕ, List, [], ◌∷◌, ◌++◌, append_assoc, length, get_or, drop, drop-cons, refl, arith}
+use Rattle.std.proofs.Common.{zero, suc, ap, sym, subst, inl, inr, ◌≡◌, ◌<◌, ◌≤◌, ◌+◌, ◌*◌, ℕ, List, [], ◌∷◌, ◌++◌, append_assoc, length, get_or, drop, drop-cons, refl, ◌∙◌, arith, nat_lt, true, Result, Ok, Err, IfOk}
 use Rattle.std.proofs.lemmas.Grind.{common_steps}
+use Rattle.std.proofs.lemmas.Bool.Decides.{nat_tests}
 use Rattle.std.proofs.lemmas.List.{append-nil}
 use Rattle.std.proofs.Math.Nat.{mul-suc}
 use Rattle.gx_words.specs.Numbers.{number}
@@ -13,6 +14,18 @@ bytes_none width cs n out past = let none : drop n cs ≡ [] = grind (arith, com
 pub bytes_more : (width : ℕ) (cs : List ℕ) (i d : ℕ) (out : List ℕ) → i < length cs → (out ++ char_bytes width (get_or cs i d)) ++ chars_bytes width (drop (i + 1) cs) ≡ out ++ chars_bytes width (drop i cs)
 unfolding chars_bytes
 bytes_more width cs i d out within = let e : i + 1 ≡ suc i = omega arith in rw (e, drop-cons cs i d) (append_assoc out (char_bytes width (get_or cs i d)) (chars_bytes width (drop (suc i) cs)))
+
+-- bytes of one byte each are themselves
+pub bytes_themselves : (bs : List ℕ) → ((k : ℕ) → k < length bs → get_or bs k 0 < 256) → chars_bytes 1 bs ≡ bs
+unfolding chars_bytes
+bytes_themselves [] small = refl
+bytes_themselves (b ∷ bs) small =
+    let first : nat_lt b 256 ≡ true = grind (arith, nat_tests, small 0 (omega arith)) in
+    rw (first, bytes_themselves bs (λ k less. small (suc k) (omega arith))) refl
+
+pub copy_is : {E : Type 0} (r : Result (List ℕ) E) (width : ℕ) (bs : List ℕ) → width ≡ 1 → ((k : ℕ) → k < length bs → get_or bs k 0 < 256) → IfOk r (λ copy. copy ≡ bs) → IfOk r (λ copy. copy ≡ chars_bytes width bs)
+copy_is (Ok copy) width bs is small same = same ∙ sym (ap (λ (n : ℕ). chars_bytes n bs) is ∙ bytes_themselves bs small)
+copy_is (Err e) width bs is small same = tt
 
 pub ruleset byte_turns = (bytes_none, bytes_more)
 

@@ -11,4 +11,5 @@ pub mod Absent
 pub mod Counting
 pub mod Reading
 pub mod Saving
+pub mod Rests
 pub mod Resuming

@@ -3,12 +3,11 @@ use Rattle.std.proofs.Common.{◌≡◌, ◌≤◌, ◌<◌, ◌+◌, ◌++◌, 
 use Rattle.std.proofs.lemmas.Grind.{common_steps}
 use Rattle.std.proofs.lemmas.List.{length-append, append-nil}
 use Rattle.glk_events.specs.declared.requests.Request.{Request}
-use Rattle.glk_streams.specs.declared.kinds.Places.{Places}
 use Rattle.glk_streams.specs.Streams as streams
 use Rattle.glk_world.specs.World.{Scene}
 use Rattle.glk_world.specs.Putting.{places_of}
 use Rattle.gx_state.specs.Flat.{FlatState}
-use Rattle.gx_state.specs.Replies.{IsReply, AreInRam}
+use Rattle.gx_state.specs.Replies.{IsReply}
 use Rattle.glk_dispatch.specs.Parts.{IsCharWidth, pushed, laid, written, can_lay, can_give}
 use Rattle.glk_dispatch.specs.Events.{echoed, event_of, line_places, places_for, echo_places, echo_for, line_reply}
 use Rattle.glk_dispatch.proofs.Ram.{between_append, laid_in_ram, written_in_ram}

@@ -1,36 +1,19 @@
--- Characters that are put one after another, and their places.
-use Rattle.std.proofs.Common.{suc, ◌≡◌, ◌≢◌, ◌⊎◌, ◌<◌, ◌≤◌, ◌+◌, ◌==◌, ℕ, Bool, true, false, if◌then◌else◌, List, [], ◌∷◌, ◌++◌, append_assoc, length, get_or, drop, drop-cons, refl, sym, subst, inl, inr, arith, Result, Ok, Err}
-use Rattle.std.proofs.lemmas.Grind.{common_steps}
+-- Characters that are put, and their places.
+use Rattle.std.proofs.Common.{◌≡◌, ◌≢◌, ◌<◌, ◌≤◌, ◌==◌, ◌&&◌, not, ℕ, Bool, true, false, if◌then◌else◌, List, [], ◌∷◌, length, refl, ap, inl, inr, arith, Result, Ok}
 use Rattle.std.proofs.lemmas.List.{append-nil}
+use Rattle.gx_words.specs.declared.faults.Fault.{Fault}
 use Rattle.gx_state.specs.Flat.{FlatState}
+use Rattle.gx_state.specs.declared.effects.Reply.{Reply}
 use Rattle.gx_state.specs.Replies.{AreInRam}
-use Rattle.glk_streams.specs.declared.kinds.Places.{Places}
 use Rattle.glk_streams.specs.declared.kinds.Stream.{Stream}
 use Rattle.glk_streams.specs.declared.kinds.StreamKind.{StreamKind}
 use Rattle.glk_streams.specs.declared.kinds.StreamKind.TheVariants as kinds
 use Rattle.glk_streams.specs.Stream as one
 use Rattle.glk_streams.specs.Streams as streams
-use Rattle.glk_world.specs.World.{Scene, FlatWorld, after, silent}
-use Rattle.glk_world.specs.Putting.{put_of, places_of, end_of}
-use Rattle.glk_dispatch.specs.Parts.{IsCharWidth, can_lay, laid, puts}
+use Rattle.glk_world.specs.World.{Scene, FlatWorld, after}
+use Rattle.glk_world.specs.Putting.{window_of, entry_of, is_text, is_plain_text, put_of, puts, put_grows, places_of, end_of}
+use Rattle.glk_dispatch.specs.Parts.{IsCharWidth, on_world, replies, can_lay, laid, can_put, put_all, put_grows_one}
 use Rattle.glk_dispatch.proofs.Ram.{laid_in_ram}
-
-nothing_said : (w : FlatWorld) → after w (silent w.scene) ≡ w
-nothing_said w = grind (arith, common_steps, append-nil)
-
-pub puts_none : (w : FlatWorld) (stream : ℕ) (cs : List ℕ) (n : ℕ) → length cs ≤ n → after w (puts w.scene stream (drop n cs)) ≡ w
-unfolding puts
-puts_none w stream cs n past = let none : drop n cs ≡ [] = grind (arith, common_steps) in rw none (nothing_said w)
-
-pub puts_more : (w : FlatWorld) (stream : ℕ) (cs : List ℕ) (i d : ℕ) → i < length cs → after (after w (put_of w.scene stream (get_or cs i d))) (puts (put_of w.scene stream (get_or cs i d)).0 stream (drop (i + 1) cs)) ≡ after w (puts w.scene stream (drop i cs))
-unfolding puts
-puts_more w stream cs i d within = let e : i + 1 ≡ suc i = omega arith in rw (e, drop-cons cs i d, append_assoc) refl
-
-pub some_within : {A : Type 0} (xs : List A) (i : ℕ) → i < length xs → xs ≢ []
-some_within [] i within same = absurd (omega arith)
-some_within (x ∷ xs) i within same = cc
-
-pub ruleset put_turns = (puts_none, puts_more, some_within)
 
 -- one character
 pub puts_one : (w : FlatWorld) (stream c : ℕ) → after w (puts w.scene stream (c ∷ [])) ≡ after w (put_of w.scene stream c)
@@ -63,3 +46,26 @@ some_counted n [] some few same = absurd (omega arith)
 some_counted n (c ∷ cs) some few same = cc
 
 pub ruleset put_rules = (puts_one, put_in_ram, some_counted)
+
+and_first : (a b : Bool) → (a && b) ≡ true → a ≡ true
+and_first true b h = refl
+and_first false b h = absurd (cc)
+
+text_there : (w : Scene) (stream : ℕ) → is_plain_text w stream ≡ true → streams.has w.streams stream ≡ true
+text_there w stream plain =
+    let a = streams.has w.streams stream in
+    let b = not (window_of w stream == 0) in
+    and_first a b (and_first (a && b) (is_text w stream) (and_first (a && b && is_text w stream) ((entry_of w stream).echo == 0) plain))
+
+-- a character of the text
+pub text_put : (w : FlatWorld) (f : FlatState) (stream c : ℕ) → is_plain_text w.scene stream ≡ true → (places_of w.scene stream 1).count ≡ 0 → on_world w (put_all w.scene f stream (c ∷ [])) ≡ Ok (after w (put_of w.scene stream c), replies 0)
+unfolding put_all can_put can_lay
+text_put w f stream c plain none =
+    let there : streams.has w.scene.streams stream ≡ true = text_there w.scene stream plain in
+    let nowhere : (places_of w.scene stream 1).count == 0 ≡ true = rw none refl in
+    rw (there, nowhere) (ap (λ (v : FlatWorld). let both : Result (FlatWorld × Reply) Fault = Ok (v, replies 0) in both) (puts_one w stream c))
+
+pub text_grows : (w : Scene) (stream c : ℕ) → is_plain_text w stream ≡ true → put_grows w stream c ≡ true → put_grows_one w stream c ≡ true
+text_grows w stream c plain grows = rw (text_there w stream plain, grows) refl
+
+pub ruleset text_rules = (text_put, text_grows)

@@ -3,7 +3,6 @@ use Rattle.std.proofs.Common.{◌≡◌, ◌≢◌, ◌⊎◌, ◌<◌, ◌≤�
 use Rattle.std.proofs.lemmas.Grind.{common_steps}
 use Rattle.std.proofs.lemmas.Bool.Decides.{nat_tests}
 use Rattle.std.proofs.lemmas.List.{append-nil, length-append}
-use Rattle.gx_words.specs.Numbers.{bytes_of_word}
 use Rattle.gx_state.specs.Flat.{FlatState, write_fault}
 use Rattle.gx_state.specs.Replies.{AreBetween, AreInRam}
 use Rattle.glk_streams.specs.declared.kinds.Places.{Places}

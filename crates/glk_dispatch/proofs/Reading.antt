@@ -1,10 +1,7 @@
 -- Characters that are read, one after another.
-use Rattle.std.proofs.Common.{zero, suc, ◌≡◌, ◌≢◌, ◌⊎◌, ◌<◌, ◌≤◌, ◌+◌, ◌-◌, ◌*◌, ◌==◌, ◌^◌, ℕ, Bool, true, false, if◌then◌else◌, List, [], ◌∷◌, ◌++◌, append_assoc, length, refl, sym, ap, subst, ◌∙◌, inl, inr, arith, Option, Some, None, Result, Ok, Err}
-use Rattle.std.proofs.lemmas.Grind.{common_steps}
-use Rattle.std.proofs.lemmas.Bool.Decides.{nat_tests}
+use Rattle.std.proofs.Common.{zero, suc, ◌≡◌, ◌<◌, ◌≤◌, ◌+◌, ◌-◌, ◌*◌, ℕ, Bool, true, false, if◌then◌else◌, List, [], ◌∷◌, ◌++◌, append_assoc, length, refl, sym, ap, subst, ◌∙◌, inl, inr, arith, Option, Some, None, Result, Ok, Err}
 use Rattle.std.proofs.lemmas.List.{append-nil, length-append}
 use Rattle.gx_words.specs.declared.faults.Fault.{Fault}
-use Rattle.gx_words.specs.Results.{◌>>=◌}
 use Rattle.gx_state.specs.Flat.{FlatState}
 use Rattle.glk_streams.specs.declared.kinds.Places.{Places}
 use Rattle.glk_streams.specs.declared.kinds.Stream.{Stream}
@@ -65,7 +62,7 @@ stop_step more stops f p s i position c next is ends = rw (is, ends) refl
 pub count_stops : (most : ℕ) (stops : Bool) (f : FlatState) (p : Places) (s : Stream) (i position c next : ℕ) (t : Result (ℕ × ℕ) Fault) → i < most → next_char f p s i position ≡ Ok (Some (c, next)) → ends_line stops c ≡ true → read_on (most - i) stops f p s i position ≡ t → t ≡ Ok (i + 1, next)
 count_stops most stops f p s i position c next t less is ends h = sym h ∙ rw (fewer most i less) (stop_step (most - (i + 1)) stops f p s i position c next is ends)
 
-go_step : (more : ℕ) (stops : Bool) (f : FlatState) (p : Places) (s : Stream) (i position c next : ℕ) → next_char f p s i position ≡ Ok (Some (c, next)) → ends_line stops c ≡ false → read_on (suc more) stops f p s i position ≡ read_on more stops f p s (i + 1) next
+pub go_step : (more : ℕ) (stops : Bool) (f : FlatState) (p : Places) (s : Stream) (i position c next : ℕ) → next_char f p s i position ≡ Ok (Some (c, next)) → ends_line stops c ≡ false → read_on (suc more) stops f p s i position ≡ read_on more stops f p s (i + 1) next
 unfolding read_on
 go_step more stops f p s i position c next is on = rw (is, on) refl
 
@@ -83,7 +80,7 @@ pub ruleset count_turns = (count_begins, count_fails, count_none, count_stops, c
 pub gather_begins : (count : ℕ) (f : FlatState) (p : Places) (s : Stream) (position : ℕ) → [] ++ chars_read (count - 0) f p s 0 position ≡ chars_read count f p s 0 position
 gather_begins count f p s position = let e : count - 0 ≡ count = omega arith in rw e refl
 
-more_step : (more : ℕ) (f : FlatState) (p : Places) (s : Stream) (i position c next : ℕ) → char_at f p s i position ≡ Some (c, next) → chars_read (suc more) f p s i position ≡ c ∷ chars_read more f p s (i + 1) next
+pub more_step : (more : ℕ) (f : FlatState) (p : Places) (s : Stream) (i position c next : ℕ) → char_at f p s i position ≡ Some (c, next) → chars_read (suc more) f p s i position ≡ c ∷ chars_read more f p s (i + 1) next
 unfolding chars_read
 more_step more f p s i position c next is = rw (is, chars_read) refl
 
@@ -123,7 +120,7 @@ IsCounted f p s i position n = (i ≤ n) × (length (chars_read (n - i) f p s i 
 counted_none : (f : FlatState) (p : Places) (s : Stream) (i position n : ℕ) → i ≡ n → IsCounted f p s i position n
 counted_none f p s i position n same = let zero : n - i ≡ 0 = omega (arith, same) in (omega (arith, same), rw zero (nothing_read f p s i position))
 
-there : (f : FlatState) (p : Places) (s : Stream) (i position c next : ℕ) → next_char f p s i position ≡ Ok (Some (c, next)) → char_at f p s i position ≡ Some (c, next)
+pub there : (f : FlatState) (p : Places) (s : Stream) (i position c next : ℕ) → next_char f p s i position ≡ Ok (Some (c, next)) → char_at f p s i position ≡ Some (c, next)
 unfolding char_at
 there f p s i position c next is = rw (is, char_at) refl
 

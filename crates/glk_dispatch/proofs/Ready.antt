@@ -1,5 +1,5 @@
 -- The objects that a part needs are there once the arguments were looked at.
-use Rattle.std.proofs.Common.{◌≡◌, ◌≢◌, ◌⊎◌, ◌≤◌, ◌==◌, ◌||◌, ◌&&◌, nat_lt, nat_le, ℕ, Bool, true, false, List, length, refl, sym, subst, inl, inr, arith, Result, Ok, Err}
+use Rattle.std.proofs.Common.{◌≡◌, ◌⊎◌, ◌≤◌, ◌==◌, ◌||◌, ◌&&◌, nat_le, ℕ, Bool, true, false, List, refl, subst, inl, inr, arith, Ok}
 use Rattle.std.proofs.lemmas.Grind.{common_steps}
 use Rattle.std.proofs.lemmas.Bool.Decides.{nat_tests}
 use Rattle.glk_streams.specs.Streams as streams

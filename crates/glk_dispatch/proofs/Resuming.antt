@@ -1,5 +1,5 @@
 -- A call that waits goes on, and waits again after a fault.
-use Rattle.std.proofs.Common.{◌≡◌, List, [], ◌++◌, refl, Option, None}
+use Rattle.std.proofs.Common.{◌≡◌, [], ◌++◌, refl, Option, None}
 use Rattle.std.proofs.lemmas.List.{append-nil}
 use Rattle.glk_world.specs.World.{Call, FlatWorld, Said, after, silent}
 

@@ -1,5 +1,5 @@
 -- What is known of each row of the table.
-use Rattle.std.proofs.Common.{◌≡◌, ◌<◌, ◌==◌, ◌∙◌, ℕ, Bool, true, List, length, get_or, refl, sym, subst, arith, Option, Some, None}
+use Rattle.std.proofs.Common.{◌≡◌, ◌<◌, ◌==◌, ◌∙◌, ℕ, true, List, length, get_or, refl, sym, subst, arith, Option, Some, None}
 use Rattle.std.specs.List.{list_all, slice_get, find}
 use Rattle.std.proofs.lemmas.List.Sums.{AllPass-from_list_all}
 use Rattle.std.proofs.lemmas.Option.{slice_get-get_or}

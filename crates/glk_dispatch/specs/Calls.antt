@@ -12,8 +12,7 @@ use Rattle.gx_state.specs.Flat.{FlatState}
 use Rattle.gx_state.specs.declared.effects.Reply.{Reply}
 use Rattle.glk_streams.specs.Streams as streams
 use Rattle.glk_windows.specs.Windows.{is_window}
-use Rattle.glk_world.specs.World.{Scene, Said, silent, has_reference}
-use Rattle.glk_dispatch.specs.declared.Turn.{Turn}
+use Rattle.glk_world.specs.World.{Scene, silent, has_reference}
 use Rattle.glk_dispatch.specs.declared.Turn.TheVariants.{Answer, Exit as Exits}
 use Rattle.glk_dispatch.specs.declared.table.Class.{Class}
 use Rattle.glk_dispatch.specs.declared.table.Class.TheVariants.{Plain, Window, Stream, Reference}

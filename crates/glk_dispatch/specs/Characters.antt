@@ -1,5 +1,5 @@
 -- The case of characters (Glk 0.7.5, "Upper and Lower Case"): that of Latin-1 alone is changed.
-use Rattle.std.specs.Prelude.{◌≡◌, ℕ, ◌%◌, ◌*◌, ◌==◌, nat_lt, min, Bool, false, if◌then◌else◌, List, [], ◌∷◌, length, map, Err}
+use Rattle.std.specs.Prelude.{ℕ, ◌%◌, ◌*◌, ◌==◌, nat_lt, min, Bool, false, if◌then◌else◌, List, [], ◌∷◌, map, Err}
 use Rattle.gx_words.specs.declared.faults.Fault.TheVariants.{BadGlk}
 use Rattle.gx_words.specs.Results.{◌>>=◌}
 use Rattle.gx_state.specs.Flat.{FlatState}

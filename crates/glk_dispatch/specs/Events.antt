@@ -1,5 +1,5 @@
 -- The calls of events (Glk 0.7.5, "Events").
-use Rattle.std.specs.Prelude.{◌≡◌, ℕ, ◌==◌, ◌&&◌, ◌||◌, not, Bool, true, false, if◌then◌else◌, List, [], ◌∷◌, ◌++◌, take, map, length, Option, Some, None, is_none, Result, Ok, Err}
+use Rattle.std.specs.Prelude.{ℕ, ◌==◌, ◌&&◌, ◌||◌, not, Bool, true, false, if◌then◌else◌, List, [], ◌∷◌, ◌++◌, take, map, length, Option, Some, None, is_none, Result, Ok, Err}
 use Rattle.gx_words.specs.declared.faults.Fault.{Fault}
 use Rattle.gx_words.specs.declared.faults.Fault.TheVariants.{BadGlk}
 use Rattle.gx_words.specs.Results.{◌>>=◌}
@@ -21,7 +21,8 @@ use Rattle.glk_dispatch.specs.declared.Turn.TheVariants.{Wait, Stuck}
 use Rattle.glk_dispatch.specs.declared.selectors.TheConstants.{SELECT, REQUEST_LINE_EVENT, CANCEL_LINE_EVENT, REQUEST_CHAR_EVENT, CANCEL_CHAR_EVENT, REQUEST_CHAR_EVENT_UNI, REQUEST_LINE_EVENT_UNI}
 use Rattle.glk_dispatch.specs.declared.events.TheConstants.{NO_EVENT, CHAR_EVENT, LINE_EVENT}
 use Rattle.glk_dispatch.specs.Turns.{TurnOutcome, waits}
-use Rattle.glk_dispatch.specs.Parts.{Outcome, arg, replies, answered, can_lay, laid, pushed, written, can_give, fitting, give, puts}
+use Rattle.glk_dispatch.specs.Parts.{Outcome, arg, replies, answered, can_lay, laid, pushed, written, can_give, fitting, give}
+use Rattle.glk_world.specs.Putting.{puts}
 
 -- an event: its type, its window, and a value; a second value is 0
 abbrev pub event : ℕ → ℕ → ℕ → List ℕ

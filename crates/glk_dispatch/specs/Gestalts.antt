@@ -1,6 +1,6 @@
 -- What the library can do (Glk 0.7.5, "The Gestalt System"; its selectors under "The Version Number", "Output",
 -- "Line Input", "Character Input" and "Testing for Unicode Capabilities").
-use Rattle.std.specs.Prelude.{◌≡◌, ℕ, ◌==◌, ◌&&◌, ◌||◌, not, Bool, false, if◌then◌else◌, List, [], ◌∷◌, Err}
+use Rattle.std.specs.Prelude.{ℕ, ◌==◌, ◌&&◌, ◌||◌, not, Bool, false, if◌then◌else◌, List, [], ◌∷◌, Err}
 use Rattle.glk_text.specs.declared.characters.TheConstants.{LINE_FEED}
 use Rattle.glk_text.specs.Characters.{is_printable}
 use Rattle.glk_events.specs.declared.requests.TheConstants.{RETURN}

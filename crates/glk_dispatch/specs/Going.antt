@@ -1,5 +1,5 @@
 -- A call that waited goes on with what it was given: always to an answer.
-use Rattle.std.specs.Prelude.{ℕ, ◌==◌, ◌&&◌, not, if◌then◌else◌, Bool, false, List, Option, Some, None, Result, Ok, Err}
+use Rattle.std.specs.Prelude.{ℕ, ◌==◌, ◌&&◌, not, if◌then◌else◌, Bool, false, List, Option, Some, None, Ok, Err}
 use Rattle.gx_words.specs.declared.faults.Fault.TheVariants.{BadGlk}
 use Rattle.gx_words.specs.Results.{◌>>=◌}
 use Rattle.gx_state.specs.Flat.{FlatState}

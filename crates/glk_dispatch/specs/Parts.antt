@@ -13,8 +13,8 @@ use Rattle.gx_state.specs.declared.effects.Reply.{Reply}
 use Rattle.glk_text.specs.Characters.{latin_of}
 use Rattle.glk_streams.specs.declared.kinds.Places.{Places}
 use Rattle.glk_streams.specs.Streams as streams
-use Rattle.glk_world.specs.World.{Scene, FlatWorld, Said, after, silent, then_said}
-use Rattle.glk_world.specs.Putting.{put_of, put_grows, places_of}
+use Rattle.glk_world.specs.World.{Scene, FlatWorld, Said, after, silent}
+use Rattle.glk_world.specs.Putting.{puts, put_grows, places_of}
 use Rattle.glk_dispatch.specs.declared.parts.TheConstants.{ON_STACK}
 
 -- what a call that answers at once comes to: the scene after it, the text that it adds, and its reply
@@ -129,11 +129,6 @@ give_each f room value ats words = do
   Ok (record { value = value; pushes = pushed_each ats words; writes = written_each ats words })
 
 -- ---- putting
-
--- characters put one after another
-unfoldable pub puts : Scene → ℕ → List ℕ → Said
-puts w stream [] = silent w
-puts w stream (c ∷ cs) = then_said (put_of w stream c) (λ more. puts more stream cs)
 
 -- The places where so many characters end in memory may be written; a stream that isn't there is none.
 unfoldable pub can_put : Scene → FlatState → ℕ → ℕ → Result (Unit {0}) Fault

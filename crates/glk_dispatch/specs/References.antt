@@ -1,5 +1,5 @@
 -- The calls of file references (Glk 0.7.5, "File References" and "File Streams").
-use Rattle.std.specs.Prelude.{ℕ, ◌/◌, ◌%◌, ◌==◌, ◌&&◌, ◌||◌, not, if◌then◌else◌, Bool, true, false, List, [], ◌∷◌, ◌++◌, length, codes, decimal, Result, Ok, Err}
+use Rattle.std.specs.Prelude.{ℕ, ◌/◌, ◌%◌, ◌==◌, ◌&&◌, ◌||◌, not, if◌then◌else◌, Bool, true, false, List, [], ◌∷◌, ◌++◌, codes, decimal, Ok, Err}
 use Rattle.gx_words.specs.declared.faults.Fault.TheVariants.{BadGlk}
 use Rattle.gx_words.specs.Results.{◌>>=◌}
 use Rattle.gx_outside.specs.declared.devices.Load.{Load}

@@ -1,5 +1,5 @@
 -- The calls of streams (Glk 0.7.5, "Streams").
-use Rattle.std.specs.Prelude.{ℕ, ◌+◌, ◌==◌, ◌&&◌, ◌||◌, not, if◌then◌else◌, Bool, true, false, List, [], ◌∷◌, length, Option, Some, None, is_some, Result, Ok, Err}
+use Rattle.std.specs.Prelude.{ℕ, ◌==◌, ◌&&◌, ◌||◌, not, if◌then◌else◌, Bool, true, false, List, [], ◌∷◌, Option, Some, None, is_some, Ok, Err}
 use Rattle.gx_words.specs.declared.faults.Fault.TheVariants.{BadGlk}
 use Rattle.gx_words.specs.Results.{◌>>=◌}
 use Rattle.gx_state.specs.Flat.{FlatState}

@@ -1,7 +1,6 @@
 -- What a turn may ask of the machine, what is given for it, and what a call that waits goes on with.
 use Rattle.std.specs.Prelude.{◌≡◌, ◌⊎◌, ℕ, ◌≤◌, true, length, List, [], ◌∷◌, Option, Some, None, Result}
 use Rattle.gx_words.specs.declared.faults.Fault.{Fault}
-use Rattle.gx_outside.specs.declared.devices.Load.{Load}
 use Rattle.gx_outside.specs.Outside.{IsBounded}
 use Rattle.gx_state.specs.Flat.{FlatState}
 use Rattle.gx_state.specs.Replies.{IsReply}
@@ -9,7 +8,7 @@ use Rattle.glk_streams.specs.Stream as one
 use Rattle.glk_streams.specs.Streams as streams
 use Rattle.glk_streams.specs.declared.modes.TheConstants.{READ, READ_WRITE, WRITE_APPEND}
 use Rattle.glk_events.specs.declared.requests.Request.{Request}
-use Rattle.glk_world.specs.World.{Call, Scene, Said, silent, has_reference}
+use Rattle.glk_world.specs.World.{Call, Scene, Said, has_reference}
 use Rattle.glk_dispatch.specs.declared.selectors.TheConstants.{STREAM_OPEN_FILE, STREAM_CLOSE, FILEREF_CREATE_BY_PROMPT, FILEREF_DELETE_FILE, FILEREF_DOES_FILE_EXIST, SELECT, STREAM_OPEN_FILE_UNI}
 use Rattle.glk_dispatch.specs.declared.Turn.{Turn}
 use Rattle.glk_dispatch.specs.declared.Turn.TheVariants as turn

@@ -8,13 +8,13 @@ ghost use Rattle.gx_state.specs.Replies.{IsReply};
 ghost use Rattle.glk_windows.specs.Windows.{is_window};
 ghost use Rattle.glk_dispatch.specs.declared.Given.{Given};
 ghost use Rattle.glk_dispatch.specs.Turns.{HasRequest, IsTurnFor, IsGivenFor, Awaits};
-ghost use Rattle.glk_dispatch.specs.Parts.{IsCharWidth, arg, on_world, can_lay, laid, can_give, pushed, written, puts};
+ghost use Rattle.glk_dispatch.specs.Parts.{IsCharWidth, arg, on_world, can_lay, laid, can_give, pushed, written};
+ghost use Rattle.glk_world.specs.Putting.{puts};
 ghost use Rattle.glk_dispatch.specs.Events.{event, may_ask, line_request, char_request, requested, is_line, is_char, cancel_char_event, cancel_line_event, select_poll, select, select_grow, event_of, line_places, stored, echoed, places_for, echo_places, looked_at_line, line_reply, ended, met, met_oldest, select_goes_on, select_goes_on_grow, events, events_grow, on_events, on_events_grow};
 
 use crate::Turn;
 use crate::giving::{give, pushes};
 use crate::parts::{add_given, arg, can_give, can_lay, fitting, lay, reply};
-use crate::putting::puts;
 use crate::selectors::*;
 use crate::waiting::wait;
 use crate::windows::entry_at;
@@ -347,7 +347,7 @@ fn met<A: Allocator + Clone>(
     let chars = echoed(world.alloc(), request, line)?;
     let reply = line_reply(world, at, request, line, places, chars.as_slice())?;
     let echo = entry_at(world.windows(), request.win).echo;
-    puts(world, echo, chars.as_slice())?;
+    world.puts(echo, chars.as_slice())?;
     world.drop_request(request.win);
     world.line_taken();
     Ok(reply)

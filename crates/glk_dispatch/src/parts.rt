@@ -10,7 +10,7 @@ ghost use Rattle.gx_state.specs.Flat.{write_fault};
 ghost use Rattle.gx_state.specs.Replies.{IsReply};
 ghost use Rattle.glk_streams.specs.Streams as streams;
 ghost use Rattle.glk_world.specs.World.{after};
-ghost use Rattle.glk_dispatch.specs.Parts.{arg, replies, on_world, MayWant, IsCharWidth, can_read, numbers_in, char_bytes, chars_bytes, can_lay, laid, can_give, pushed, written, fitting, give, can_give_each, pushed_each, written_each, give_each, puts, put_all};
+ghost use Rattle.glk_dispatch.specs.Parts.{arg, replies, on_world, MayWant, IsCharWidth, can_read, numbers_in, char_bytes, chars_bytes, can_lay, laid, can_give, pushed, written, fitting, give, can_give_each, pushed_each, written_each, give_each, put_all};
 
 use glk_streams::Places;
 use glk_text::latin;

@@ -2,26 +2,13 @@
 ghost use Rattle.std.specs.Prelude.{ℕ, ◌≡◌, ◌≢◌, ◌==◌, ◌&&◌, ◌||◌, ◌∷◌, ◌<◌, ◌^◌, not, [], length, OnOk, OnErr, IfOk, IsTrue};
 ghost use Rattle.gx_words.specs.Faults.{Reads, MayLose};
 ghost use Rattle.gx_state.specs.Replies.{IsReply};
-ghost use Rattle.glk_world.specs.World.{after};
-ghost use Rattle.glk_dispatch.specs.Parts.{on_world, can_put, puts, put_all, put_grows_one};
+ghost use Rattle.glk_dispatch.specs.Parts.{on_world, can_put, put_all, put_grows_one};
 
 use crate::parts::{can_lay, lay, reply};
 use glk_world::World;
 use gx_state::{Reply, State};
 use gx_words::Fault;
-use std::alloc::{AllocError, Allocator};
-
-/// Puts characters to a stream, one after another.
-#[tactic(auto, using(crate::proofs::Puts::put_turns))]
-pub(crate) fn puts(world: &mut World, stream: u32, chars: &[u32]) -> Result<(), AllocError>
-    ensures ok { OnOk result (world.new ≡ after world.old (puts world.old.scene stream chars.now)) }
-    ensures memory { OnErr result (chars.now ≢ []) }
-{
-    for c in chars {
-        world.put(stream, *c)?;
-    }
-    Ok(())
-}
+use std::alloc::Allocator;
 
 /// Looks at the places where so many characters end in memory.
 #[tactic(auto, unfolding(crate::specs::Parts::can_put))]
@@ -56,14 +43,14 @@ pub(crate) fn put_all<A: Allocator + Clone>(
     }
     let places = world.places(stream, chars.len() as u32);
     can_lay(state, places)?;
-    puts(world, stream, chars)?;
+    world.puts(stream, chars)?;
     let mut reply = reply(world, 0);
     lay(world.alloc(), &mut reply.writes, places, chars)?;
     Ok(reply)
 }
 
-/// Puts one character to a stream.
-#[tactic(auto, using(crate::proofs::Puts::put_rules), unfolding(crate::specs::Parts::put_all, crate::specs::Parts::can_put))]
+/// Puts one character to a stream, which mostly is the stream of a text buffer window.
+#[tactic(auto, using(crate::proofs::Puts::put_rules, crate::proofs::Puts::text_rules), unfolding(crate::specs::Parts::put_all, crate::specs::Parts::can_put))]
 pub(crate) fn put_one<A: Allocator + Clone>(
     world: &mut World,
     state: &State<A>,
@@ -73,6 +60,9 @@ pub(crate) fn put_one<A: Allocator + Clone>(
     ensures value { MayLose (IsTrue (put_grows_one world.old.scene stream c)) (λ reply. reply) result world.old world.new (on_world world.old (put_all world.old.scene state.now.flat stream (c ∷ []))) }
     ensures fits { (room : ℕ) → IfOk result (IsReply state.now.flat room) }
 {
+    if world.put_text(stream, c)? {
+        return Ok(reply(world, 0));
+    }
     if !world.streams().has(stream) {
         return Ok(reply(world, 0));
     }

@@ -1,11 +1,14 @@
 //! Saves as the bytes of a stream (Glulx 3.1.2, "Game State"; specs/Saves): they are put as characters, and got from where
 //! the stream stands to its end.
-ghost use Rattle.std.specs.Prelude.{ℕ, ◌≡◌, ◌≢◌, ◌<◌, ◌≤◌, ◌^◌, ◌++◌, [], length, IfOk, IfSome, OnOk, OnErr, IsTrue};
+ghost use Rattle.std.specs.Prelude.{ℕ, ◌≡◌, ◌≢◌, ◌<◌, ◌≤◌, ◌^◌, ◌+◌, ◌++◌, [], length, take, drop, IfOk, IfSome, OnOk, OnErr, IsTrue, Ok, Some};
 ghost use Rattle.gx_words.specs.Faults.{MayLose};
 ghost use Rattle.gx_state.specs.Replies.{IsReply};
+ghost use Rattle.glk_streams.specs.Stream as one;
 ghost use Rattle.glk_streams.specs.Streams as streams;
-ghost use Rattle.glk_world.specs.World.{after};
-ghost use Rattle.glk_dispatch.specs.Parts.{IsCharWidth, on_world, puts, put_all, laid, chars_bytes};
+ghost use Rattle.glk_world.specs.World.{silent};
+ghost use Rattle.glk_world.specs.Putting.{places_read};
+ghost use Rattle.glk_world.specs.Calls.{passed};
+ghost use Rattle.glk_dispatch.specs.Parts.{IsCharWidth, on_world, put_all, laid, chars_bytes};
 ghost use Rattle.glk_dispatch.specs.Input.{chars_read};
 ghost use Rattle.glk_dispatch.specs.Saves.{takes_save, put_save, put_save_grows, rest_len, as_bytes, take_rest, take_rest_grows};
 
@@ -13,6 +16,7 @@ use crate::input::{char_at, read_on};
 use crate::parts::{can_lay, push_char, reply};
 use glk_streams::{Places, Streams};
 use glk_world::World;
+use gx_pages::Pages;
 use gx_state::{Reply, State};
 use gx_words::{Bytes, Fault, Writes};
 use std::alloc::{AllocError, Allocator, Global};
@@ -29,23 +33,14 @@ fn takes_save(world: &World, stream: u32, bytes: &[u8]) -> bool
     streams.has(stream) && streams.writable(stream) && streams.fits(stream, bytes)
 }
 
-/// Puts bytes to a stream, one after another.
-#[tactic(auto, using(crate::proofs::Puts::put_turns))]
-fn put_each(world: &mut World, stream: u32, bytes: &[u8]) -> Result<(), AllocError>
-    ensures ok { OnOk result (world.new ≡ after world.old (puts world.old.scene stream bytes.now)) }
-    ensures memory { OnErr result (bytes.now ≢ []) }
-{
-    for byte in bytes {
-        world.put(stream, u32::from(*byte))?;
-    }
-    Ok(())
-}
-
 /// The bytes of characters that are bytes.
 #[tactic(auto, using(crate::proofs::Laying::byte_turns))]
 fn in_width(alloc: Global, width: u32, bytes: &[u8]) -> Result<Bytes, AllocError>
     ensures { IfOk result (λ all. all ≡ chars_bytes width bytes.now) }
 {
+    if width == 1 {
+        return Bytes::from_slice(alloc, bytes);
+    }
     let mut all = Bytes::new(alloc);
     for byte in bytes {
         push_char(&mut all, width, u32::from(*byte))?;
@@ -87,7 +82,7 @@ fn put_bytes<A: Allocator + Clone>(
 {
     let places = world.places(stream, bytes.len() as u32);
     can_lay(state, places)?;
-    put_each(world, stream, bytes)?;
+    world.put_bytes(stream, bytes)?;
     let mut reply = reply(world, 0);
     lay_bytes(world.alloc(), &mut reply.writes, places, bytes)?;
     Ok(reply)
@@ -113,10 +108,23 @@ pub fn put_save<A: Allocator + Clone>(
     Ok(Some(reply))
 }
 
+/// A copy of bytes, which takes memory where there are some.
+fn copy_of(alloc: Global, bytes: &[u8]) -> Result<Bytes, AllocError>
+    ensures value { IfOk result (λ copy. copy ≡ bytes.now) }
+    ensures memory { OnErr result (0 < length bytes.now) }
+{
+    if bytes.is_empty() {
+        Ok(Bytes::new(alloc))
+    } else {
+        Bytes::from_slice(alloc, bytes)
+    }
+}
+
 /// How many positions are left before a stream's end.
 fn rest_len(all: &Streams, stream: u32) -> u32
     requires { IsTrue (streams.has all.now stream) }
-    ensures { result ≡ rest_len (streams.stream all.now stream) }
+    ensures value { result ≡ rest_len (streams.stream all.now stream) }
+    ensures within { (streams.stream all.now stream).position ≤ one.end_of (streams.stream all.now stream) }
 {
     all.end(stream) - all.position(stream)
 }
@@ -154,6 +162,78 @@ fn bytes_read<A: Allocator + Clone>(
     Ok(Some(bytes))
 }
 
+/// Whether so many characters, some, all stand in memory as one byte each.
+fn are_bytes<A: Allocator + Clone>(state: &State<A>, places: Places, count: u32) -> bool
+    requires { places.at < 2 ^ 40 }
+    ensures some { IsTrue result → 0 < count }
+    ensures all { IsTrue result → places.count ≡ count }
+    ensures width { IsTrue result → places.width ≡ 1 }
+    ensures there { IsTrue result → places.at + count ≤ length state.now.flat.memory }
+    ensures low { IsTrue result → places.at + count < 2 ^ 32 }
+{
+    count > 0
+        && places.width == 1
+        && places.count == count
+        && places.at + u64::from(count) <= u64::from(state.memory().size())
+}
+
+/// So many bytes of memory.
+fn bytes_at<A: Allocator>(
+    alloc: Global,
+    memory: &Pages<A>,
+    at: u32,
+    count: u32,
+) -> Result<Bytes, AllocError>
+    requires there { at + count ≤ length memory.now }
+    requires low { at + count < 2 ^ 32 }
+    ensures { IfOk result (λ bytes. bytes ≡ take count (drop at memory.now)) }
+{
+    let mut bytes = Bytes::new(alloc);
+    let mut done = 0;
+    while done < count {
+        let page = memory.bytes_in_page(at + done);
+        let piece = page.len().min((count - done) as usize);
+        bytes.extend_from_slice(&page[..piece])?;
+        done += piece as u32;
+    }
+    Ok(bytes)
+}
+
+/// Each byte is a character below 100.
+fn each_fits(_bytes: &[u8])
+    ensures { as_bytes _bytes.now ≡ Some _bytes.now }
+{}
+
+/// The bytes that are left of a stream where they are its characters: of a file in Latin-1, or of bytes in memory.
+fn bytes_left<A: Allocator + Clone>(
+    world: &World,
+    state: &State<A>,
+    stream: u32,
+    places: Places,
+    most: u32,
+) -> Result<Option<Bytes>, AllocError>
+    requires there { IsTrue (streams.has world.now.scene.streams stream) }
+    requires reads { IsTrue (one.readable (streams.stream world.now.scene.streams stream)) }
+    requires within { (streams.stream world.now.scene.streams stream).position ≤ one.end_of (streams.stream world.now.scene.streams stream) }
+    requires most { most ≡ rest_len (streams.stream world.now.scene.streams stream) }
+    requires places { places ≡ places_read world.now.scene stream most }
+    requires at { places.at < 2 ^ 40 }
+    ensures value { IfOk result (λ left. IfSome left (λ bytes. take_rest world.now.scene state.now.flat stream ≡ Ok (silent (passed world.now.scene stream (one.end_of (streams.stream world.now.scene.streams stream)) (rest_len (streams.stream world.now.scene.streams stream))), Some bytes))) }
+    ensures memory { OnErr result (IsTrue (take_rest_grows world.now.scene state.now.flat stream)) }
+{
+    if let Some(rest) = world.streams().latin_rest(stream) {
+        let bytes = copy_of(world.alloc(), rest)?;
+        each_fits(bytes.as_slice());
+        return Ok(Some(bytes));
+    }
+    if are_bytes(state, places, most) {
+        let bytes = bytes_at(world.alloc(), state.memory(), places.at as u32, most)?;
+        each_fits(bytes.as_slice());
+        return Ok(Some(bytes));
+    }
+    Ok(None)
+}
+
 /// Takes the bytes from a stream's position to its end, where it then stands; None where a character isn't a byte, or
 /// the stream isn't open for reading.
 ///
@@ -171,7 +251,12 @@ pub fn take_rest<A: Allocator + Clone>(
         return Ok(None);
     }
     let most = rest_len(all, stream);
+    let end = all.end(stream);
     let places = world.places_read(stream, most);
+    if let Some(bytes) = bytes_left(world, state, stream, places, most)? {
+        world.pass(stream, end, most);
+        return Ok(Some(bytes));
+    }
     let (count, position) = read_on(all, state, stream, places, most, false)?;
     let bytes = bytes_read(world.alloc(), all, state, stream, places, count)?;
     world.pass(stream, position, count);

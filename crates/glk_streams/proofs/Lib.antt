@@ -2,3 +2,4 @@ pub mod Contents
 pub mod Sounds
 pub mod Lists
 pub mod Sizes
+pub mod Filling

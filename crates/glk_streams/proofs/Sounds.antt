@@ -1,5 +1,5 @@
 -- Streams stay sound.
-use Rattle.std.proofs.Common.{◌≡◌, ◌≤◌, ◌<◌, ◌+◌, ◌^◌, ◌%◌, ◌==◌, max, nat_lt, ℕ, true, false, List, length, if◌then◌else◌, refl, arith}
+use Rattle.std.proofs.Common.{◌≡◌, ◌≢◌, ◌≤◌, ◌<◌, ◌+◌, ◌^◌, ◌%◌, ◌==◌, max, nat_lt, ℕ, true, false, List, length, if◌then◌else◌, refl, arith}
 use Rattle.std.proofs.lemmas.Bool.Decides.{nat_tests}
 use Rattle.glk_streams.specs.declared.kinds.FileForm.{FileForm}
 use Rattle.glk_streams.specs.declared.kinds.FileForm.TheVariants as forms
@@ -8,7 +8,7 @@ use Rattle.glk_streams.specs.declared.kinds.StreamKind.TheVariants as kinds
 use Rattle.glk_streams.specs.declared.kinds.Stream.{Stream}
 use Rattle.glk_streams.specs.declared.modes.TheConstants.{WRITE}
 use Rattle.glk_streams.specs.Files.{bytes_in, byte_at, positions_in, with_bytes, taken}
-use Rattle.glk_streams.specs.Stream.{writable, places_of, put_in, after_put, end_in, end_of}
+use Rattle.glk_streams.specs.Stream.{writable, places_of, put_in, after_put, end_in, end_of, window_in}
 use Rattle.glk_streams.specs.Sound.{IsSoundKind, IsSoundStream}
 use Rattle.glk_streams.proofs.Contents.{length_spliced}
 
@@ -57,3 +57,14 @@ sound_get s position read sound within = record { kind = sound.kind; position = 
 
 pub sound_move : (s : Stream) (position : ℕ) → IsSoundStream s → position ≤ end_of s → IsSoundStream (record s { position = position })
 sound_move s position sound within = record { kind = sound.kind; position = within }
+
+-- a window's stream is counted alone
+window_kind : (k : StreamKind) (s : Stream) (c : ℕ) → window_in k ≢ 0 → put_in k s c ≡ s
+window_kind (kinds.Window win) s c some = refl
+window_kind (kinds.Memory at len wide) s c some = absurd (some refl)
+window_kind (kinds.File name content form) s c some = absurd (some refl)
+
+pub window_put : (s : Stream) (c : ℕ) → window_in s.kind ≢ 0 → put_in s.kind (record s { written = (s.written + 1) % 2 ^ 32 }) c ≡ record s { written = (s.written + 1) % 2 ^ 32 }
+window_put s c some = window_kind s.kind (record s { written = (s.written + 1) % 2 ^ 32 }) c some
+
+pub ruleset window_count = (window_put, sound_get)

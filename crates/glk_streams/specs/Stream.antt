@@ -1,5 +1,6 @@
 -- One stream: what putting, getting and moving make of it (Glk 0.7.5, "Streams").
-use Rattle.std.specs.Prelude.{ℕ, ◌+◌, ◌-◌, ◌*◌, ◌^◌, ◌%◌, min, max, ◌==◌, nat_lt, nat_le, if◌then◌else◌, Bool, false, ◌||◌, ◌&&◌, List, length, Option, Some, None}
+use Rattle.std.specs.Prelude.{ℕ, ◌+◌, ◌-◌, ◌*◌, ◌^◌, ◌%◌, min, max, ◌==◌, nat_lt, nat_le, if◌then◌else◌, Bool, false, ◌||◌, ◌&&◌, List, [], ◌∷◌, length, drop, Option, Some, None}
+use Rattle.glk_streams.specs.declared.kinds.FileForm.TheVariants as forms
 use Rattle.glk_streams.specs.declared.kinds.StreamKind.{StreamKind}
 use Rattle.glk_streams.specs.declared.kinds.StreamKind.TheVariants as kinds
 use Rattle.glk_streams.specs.declared.kinds.Stream.{Stream}
@@ -64,6 +65,23 @@ unfoldable pub after_put : Stream → ℕ → Stream
 after_put s c =
     if writable s then put_in s.kind (record s { written = (s.written + 1) % 2 ^ 32 }) c else s
 
+-- characters are put one after another
+unfoldable pub after_puts : Stream → List ℕ → Stream
+after_puts s [] = s
+after_puts s (c ∷ cs) = after_puts (after_put s c) cs
+
+-- so many bytes go at once: to memory, which counts them in 32 bits, or to a file in Latin-1 with room for them
+abbrev pub takes_bytes_in : StreamKind → ℕ → ℕ → Bool
+takes_bytes_in (kinds.Window win) position count = false
+takes_bytes_in (kinds.Memory at len wide) position count = nat_lt count (2 ^ 32)
+takes_bytes_in (kinds.File name content forms.Latin) position count = nat_le (position + count) LARGEST
+takes_bytes_in (kinds.File name content forms.Wide) position count = false
+takes_bytes_in (kinds.File name content forms.Utf8) position count = false
+
+-- the same, where the stream is open for writing
+unfoldable pub takes_bytes : Stream → ℕ → Bool
+takes_bytes s count = writable s && takes_bytes_in s.kind s.position count
+
 -- putting a character makes a file longer
 abbrev pub lengthens : StreamKind → Stream → ℕ → Bool
 lengthens (kinds.Window win) s c = false
@@ -87,6 +105,17 @@ next_of s found = if readable s then next_in s.kind s found else None
 -- the same from another position
 abbrev pub next_from : Stream → ℕ → ℕ → Option (ℕ × ℕ)
 next_from s position found = next_of (record s { position = position }) found
+
+-- what is left of a file in Latin-1 that is open for reading: its bytes are the characters
+abbrev pub latin_rest_in : StreamKind → ℕ → Option (List ℕ)
+latin_rest_in (kinds.Window win) position = None
+latin_rest_in (kinds.Memory at len wide) position = None
+latin_rest_in (kinds.File name content forms.Latin) position = Some (drop position content)
+latin_rest_in (kinds.File name content forms.Wide) position = None
+latin_rest_in (kinds.File name content forms.Utf8) position = None
+
+unfoldable pub latin_rest : Stream → Option (List ℕ)
+latin_rest s = if readable s then latin_rest_in s.kind s.position else None
 
 -- so many characters were read, up to a position
 abbrev pub passed : Stream → ℕ → ℕ → Stream

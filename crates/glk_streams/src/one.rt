@@ -1,12 +1,12 @@
 //! One stream: a character is put, or got, or its position moves (Glk 0.7.5, "Streams").
-ghost use Rattle.std.specs.Prelude.{◌≡◌, ◌≤◌, ◌<◌, ◌+◌, ◌^◌, length, OnErr, OnOk, IfSome, MatchOption, IsTrue};
-ghost use Rattle.glk_streams.specs.Stream.{readable, writable, allows, opened, window_of, file_in, is_stored, places_of, end_of, after_put, lengthens, next_of, next_from, passed, char_of, after_get, clamped, moved, places, fits};
+ghost use Rattle.std.specs.Prelude.{ℕ, ◌≡◌, ◌≢◌, ◌≤◌, ◌<◌, ◌+◌, ◌^◌, not, length, OnErr, OnOk, IfOk, IfSome, MatchOption, IsTrue};
+ghost use Rattle.glk_streams.specs.Stream.{readable, writable, allows, opened, window_of, file_in, is_stored, places_of, end_of, after_put, after_puts, takes_bytes, latin_rest, lengthens, next_of, next_from, passed, char_of, after_get, clamped, moved, places, fits};
 ghost use Rattle.glk_streams.specs.Sound.{IsSoundKind, IsSoundStream};
 
 use crate::content::{byte_at, positions_in, put_in, read_in, saved_size};
 use crate::{
-    FROM_CURRENT, FROM_END, FROM_START, LARGEST, Places, READ, READ_WRITE, Stream, StreamKind,
-    WRITE, WRITE_APPEND,
+    FROM_CURRENT, FROM_END, FROM_START, FileForm, LARGEST, Places, READ, READ_WRITE, Stream,
+    StreamKind, WRITE, WRITE_APPEND,
 };
 use std::alloc::AllocError;
 
@@ -125,6 +125,69 @@ pub fn put(stream: &mut Stream, c: u32) -> Result<(), AllocError>
     Ok(())
 }
 
+/// Counts a character that is put to the stream of a window, which has it then.
+#[tactic(auto, using(crate::proofs::Sounds::window_count), unfolding(crate::specs::Stream::after_put))]
+pub fn count(stream: &mut Stream)
+    requires sound { IsSoundStream stream.old }
+    requires window { window_of stream.old ≢ 0 }
+    ensures new { (c : ℕ) → stream.new ≡ after_put stream.old c }
+    ensures sound { IsSoundStream stream.new }
+    ensures id { stream.new.id ≡ stream.old.id }
+{
+    if writable(stream) {
+        stream.written = stream.written.wrapping_add(1);
+    }
+}
+
+/// Puts the bytes of a slice as characters to a stream that takes them at once: one of memory, or a file in Latin-1 with
+/// room for them. Says whether it did.
+#[tactic(auto, using(crate::proofs::Filling::bytes_rules), unfolding(crate::specs::Stream::takes_bytes))]
+pub fn put_bytes(stream: &mut Stream, bytes: &[u8]) -> Result<bool, AllocError>
+    requires { IsSoundStream stream.old }
+    ensures value { IfOk result (λ put. put ≡ takes_bytes stream.old (length bytes.now)) }
+    ensures put { IfOk result (λ put. IsTrue put → stream.new ≡ after_puts stream.old bytes.now) }
+    ensures other { IfOk result (λ put. IsTrue (not put) → stream.new ≡ stream.old) }
+    ensures err { OnErr result (stream.new ≡ stream.old) }
+    ensures memory { OnErr result (IsTrue (takes_bytes stream.old (length bytes.now))) }
+    ensures longer { OnErr result (end_of stream.old < stream.old.position + length bytes.now) }
+    ensures some { OnErr result (0 < length bytes.now) }
+    ensures sound { IsSoundStream stream.new }
+    ensures id { stream.new.id ≡ stream.old.id }
+{
+    if !writable(stream) {
+        return Ok(false);
+    }
+    match &mut stream.kind {
+        StreamKind::Memory { at, len, .. } => {
+            if bytes.len() > u32::MAX as usize {
+                return Ok(false);
+            }
+            let room = places_of(*at, *len).saturating_sub(stream.position);
+            let count = room.min(bytes.len() as u32);
+            if count > 0 {
+                stream.position += count;
+                stream.highest = stream.position.max(stream.highest);
+            }
+            stream.written = stream.written.wrapping_add(bytes.len() as u32);
+            Ok(true)
+        }
+        StreamKind::File {
+            content,
+            form: FileForm::Latin,
+            ..
+        } => {
+            if bytes.len() > (LARGEST - stream.position) as usize {
+                return Ok(false);
+            }
+            content.splice(stream.position as usize, bytes)?;
+            stream.position += bytes.len() as u32;
+            stream.written = stream.written.wrapping_add(bytes.len() as u32);
+            Ok(true)
+        }
+        _ => Ok(false),
+    }
+}
+
 /// The character at a position and the position behind it, None at the end; `found` stands at the place of memory.
 #[tactic(auto, unfolding(crate::specs::Stream::next_of))]
 pub fn next_from(stream: &Stream, position: u32, found: u32) -> Option<(u32, u32)>
@@ -145,6 +208,25 @@ pub fn next_from(stream: &Stream, position: u32, found: u32) -> Option<(u32, u32
             }
         }
         StreamKind::File { content, form, .. } => { read_in(content.as_slice(), *form, position) }
+    }
+}
+
+/// The bytes that are left of a file in Latin-1 that is open for reading.
+#[tactic(auto, unfolding(crate::specs::Stream::latin_rest))]
+pub fn latin_rest(stream: &Stream) -> Option<&[u8]>
+    requires { IsSoundStream stream.now }
+    ensures { MatchOption result (latin_rest stream.now ≡ None) (λ rest. latin_rest stream.now ≡ Some rest.now) }
+{
+    if !readable(stream) {
+        return None;
+    }
+    match &stream.kind {
+        StreamKind::File {
+            content,
+            form: FileForm::Latin,
+            ..
+        } => Some(&content.as_slice()[stream.position as usize..]),
+        _ => None,
     }
 }
 

@@ -1,7 +1,7 @@
 //! All streams, in order of creation.
-ghost use Rattle.std.specs.Prelude.{◌≡◌, ◌≤◌, ◌<◌, ◌^◌, ◌++◌, ◌∷◌, ◌==◌, [], not, length, filter, IfOk, IfSome, MatchOption, OnErr, OnOk, IsTrue};
+ghost use Rattle.std.specs.Prelude.{ℕ, ◌≡◌, ◌≢◌, ◌≤◌, ◌<◌, ◌+◌, ◌^◌, ◌++◌, ◌∷◌, ◌==◌, [], true, false, not, length, filter, IfOk, IfSome, MatchOption, OnErr, OnOk, IsTrue};
 ghost use Rattle.std.specs.List.{list_any};
-ghost use Rattle.glk_objects.specs.Objects.{IsAbove};
+ghost use Rattle.glk_objects.specs.Objects.{IsAbove, place};
 ghost use Rattle.glk_streams.specs.Stream as one;
 ghost use Rattle.glk_streams.specs.Streams.{id_of, has, stream, with_stream, without, next, file_of, without_windows, open_files};
 ghost use Rattle.glk_streams.specs.Sound.{IsSoundKind};
@@ -111,6 +111,15 @@ impl Streams {
         one::window_of(&self.items[place(&self.items, id)])
     }
 
+    /// Where a stream stands, and its window, 0 for none; None where no stream has the identifier.
+    #[tactic(auto, using(crate::proofs::Lists::places))]
+    pub fn find(&self, id: u32) -> Option<(usize, u32)>
+        ensures { MatchOption result (has self.now id ≡ false) (λ found. (has self.now id ≡ true) × (found.0 ≡ place id_of self.now id) × (found.1 ≡ one.window_of (stream self.now id))) }
+    {
+        let at = place(&self.items, id);
+        Some((at, one::window_of(self.items.get(at)?)))
+    }
+
     /// Whether a stream is open for reading.
     #[tactic(auto, using(crate::proofs::Lists::places))]
     pub fn readable(&self, id: u32) -> bool
@@ -192,6 +201,44 @@ impl Streams {
     {
         let at = place(&self.items, id);
         one::put(&mut self.items[at], c)
+    }
+
+    /// Counts a character that is put to the stream of a window, which stands at a place.
+    #[tactic(auto, using(crate::proofs::Lists::places))]
+    pub fn count(&mut self, at: usize, _id: u32)
+        requires there { IsTrue (has self.old _id) }
+        requires place { at ≡ place id_of self.old _id }
+        requires window { one.window_of (stream self.old _id) ≢ 0 }
+        ensures { (c : ℕ) → self.new ≡ with_stream self.old (one.after_put (stream self.old _id) c) }
+    {
+        one::count(&mut self.items[at]);
+    }
+
+    /// Puts the bytes of a slice as characters to a stream that takes them at once: one of memory, or a file in Latin-1
+    /// with room for them. Says whether it did.
+    #[tactic(auto, using(crate::proofs::Lists::places))]
+    pub fn put_bytes(&mut self, id: u32, bytes: &[u8]) -> Result<bool, AllocError>
+        requires { IsTrue (has self.old id) }
+        ensures value { IfOk result (λ put. put ≡ one.takes_bytes (stream self.old id) (length bytes.now)) }
+        ensures put { IfOk result (λ put. IsTrue put → self.new ≡ with_stream self.old (one.after_puts (stream self.old id) bytes.now)) }
+        ensures other { IfOk result (λ put. IsTrue (not put) → self.new ≡ self.old) }
+        ensures err { OnErr result (self.new ≡ self.old) }
+        ensures memory { OnErr result (IsTrue (one.takes_bytes (stream self.old id) (length bytes.now))) }
+        ensures longer { OnErr result (one.end_of (stream self.old id) < (stream self.old id).position + length bytes.now) }
+        ensures some { OnErr result (0 < length bytes.now) }
+    {
+        let at = place(&self.items, id);
+        one::put_bytes(&mut self.items[at], bytes)
+    }
+
+    /// The bytes that are left of a file in Latin-1 that is open for reading, which are its characters; None for any
+    /// other stream.
+    #[tactic(auto, using(crate::proofs::Lists::places))]
+    pub fn latin_rest(&self, id: u32) -> Option<&[u8]>
+        requires { IsTrue (has self.now id) }
+        ensures { MatchOption result (one.latin_rest (stream self.now id) ≡ None) (λ rest. one.latin_rest (stream self.now id) ≡ Some rest.now) }
+    {
+        one::latin_rest(&self.items[place(&self.items, id)])
     }
 
     /// Gets the next character; None where the stream isn't open for reading or is at its end. For a memory

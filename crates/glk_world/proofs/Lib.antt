@@ -7,3 +7,4 @@ pub mod Found
 pub mod Ranks
 pub mod Links
 pub mod Echoes
+pub mod Alone

@@ -22,6 +22,7 @@ use Rattle.glk_world.specs.Calls.{window_stream, with_streams}
 use Rattle.glk_world.specs.Chains.{echo_in, EchoesBelow, AreLinked}
 use Rattle.glk_world.proofs.Found as found
 use Rattle.glk_world.proofs.Ranks.{IsEdge, ranked_within, with_edge, put_id, put_window}
+use Rattle.glk_world.proofs.Alone.{puts_id, puts_window}
 
 pub there_or_not : (b : Bool) → (b ≡ true) ⊎ (b ≡ false)
 there_or_not true = inl refl
@@ -342,6 +343,9 @@ module _ (es : List Entry) (xs : List Stream) (s n : ℕ) (there : streams.has x
 
   pub linked_put : (c : ℕ) → AreLinked es (streams.with_stream xs (one.after_put (streams.stream xs s) c)) n
   linked_put c = linked_same (one.after_put (streams.stream xs s) c) (put_id (streams.stream xs s) c) (put_window (streams.stream xs s) c)
+
+  pub linked_puts : (cs : List ℕ) → AreLinked es (streams.with_stream xs (one.after_puts (streams.stream xs s) cs)) n
+  linked_puts cs = linked_same (one.after_puts (streams.stream xs s) cs) (puts_id (streams.stream xs s) cs) (puts_window (streams.stream xs s) cs)
 
   pub linked_get : (got : Option (ℕ × ℕ)) → AreLinked es (streams.with_stream xs (one.after_get (streams.stream xs s) got)) n
   linked_get None = linked_same (streams.stream xs s) refl refl

@@ -111,14 +111,14 @@ window_put_entries : (w : Scene) (e : Entry) (win c : ℕ) → (window_put w e w
 unfolding window_put
 window_put_entries w e win c = elim (e.kind == TEXT_BUFFER) as (λ b. (if b then said_char w (shown c) else silent (record w { windows = put_to w.windows win (shown c) })).0.windows.entries ≡ w.windows.entries) [ true ↦ refl | false ↦ entries_put w.windows win (shown c) ]
 
-stream_put_streams : (w : Scene) (s c : ℕ) → (stream_put w s c).0.streams ≡ (counted w s c).streams
+pub stream_put_streams : (w : Scene) (s c : ℕ) → (stream_put w s c).0.streams ≡ (counted w s c).streams
 unfolding stream_put
 stream_put_streams w s c = elim (window_of w s == 0) as (λ b. (if b then silent (counted w s c) else window_put (counted w s c) (entry_of w s) (window_of w s) c).0.streams ≡ (counted w s c).streams) [
   | true ↦ refl
   | false ↦ window_put_streams (counted w s c) (entry_of w s) (window_of w s) c
 ]
 
-stream_put_entries : (w : Scene) (s c : ℕ) → (stream_put w s c).0.windows.entries ≡ w.windows.entries
+pub stream_put_entries : (w : Scene) (s c : ℕ) → (stream_put w s c).0.windows.entries ≡ w.windows.entries
 unfolding stream_put
 stream_put_entries w s c = elim (window_of w s == 0) as (λ b. (if b then silent (counted w s c) else window_put (counted w s c) (entry_of w s) (window_of w s) c).0.windows.entries ≡ w.windows.entries) [
   | true ↦ refl
@@ -147,12 +147,12 @@ with_edge es xs new s known same there echo =
 
 -- ---- the fuel is enough
 
-nothing_along : (n : ℕ) (w : Scene) (s c : ℕ) → streams.has w.streams s ≡ false → put_along n w s c ≡ silent w
+pub nothing_along : (n : ℕ) (w : Scene) (s c : ℕ) → streams.has w.streams s ≡ false → put_along n w s c ≡ silent w
 unfolding put_along
 nothing_along zero w s c gone = refl
 nothing_along (suc n) w s c gone = rw gone refl
 
-put_step : (n : ℕ) (w : Scene) (s c : ℕ) → streams.has w.streams s ≡ true → put_along (suc n) w s c ≡ then_said (stream_put w s c) (λ more. put_along n more (echo_of w s) c)
+pub put_step : (n : ℕ) (w : Scene) (s c : ℕ) → streams.has w.streams s ≡ true → put_along (suc n) w s c ≡ then_said (stream_put w s c) (λ more. put_along n more (echo_of w s) c)
 unfolding put_along
 put_step n w s c there = rw there refl
 

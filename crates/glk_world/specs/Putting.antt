@@ -1,5 +1,5 @@
 -- A character is put to a stream (Glk 0.7.5, "Streams" and "Echo Streams").
-use Rattle.std.specs.Prelude.{ℕ, zero, suc, ◌==◌, ◌&&◌, ◌||◌, if◌then◌else◌, Bool, false, length, encode_utf8}
+use Rattle.std.specs.Prelude.{ℕ, zero, suc, ◌==◌, ◌&&◌, ◌||◌, not, if◌then◌else◌, Bool, false, List, [], ◌∷◌, length, encode_utf8}
 use Rattle.glk_text.specs.declared.characters.TheConstants.{LINE_FEED}
 use Rattle.glk_text.specs.Characters.{shown}
 use Rattle.glk_streams.specs.declared.kinds.Places.{Places}
@@ -60,6 +60,16 @@ put_along (suc n) w stream c =
 -- since none comes back to where it was (specs/Chains).
 abbrev pub put_of : Scene → ℕ → ℕ → Said
 put_of w stream c = put_along (length w.streams) w stream c
+
+-- characters put one after another
+unfoldable pub puts : Scene → ℕ → List ℕ → Said
+puts w stream [] = silent w
+puts w stream (c ∷ cs) = then_said (put_of w stream c) (λ more. puts more stream cs)
+
+-- a stream of a text buffer window that has no echo stream
+abbrev pub is_plain_text : Scene → ℕ → Bool
+is_plain_text w stream =
+    streams.has w.streams stream && not (window_of w stream == 0) && is_text w stream && (entry_of w stream).echo == 0
 
 -- putting to one stream adds text, or makes a file longer
 abbrev pub stream_grows : Scene → ℕ → ℕ → Bool

@@ -1,12 +1,13 @@
 //! Characters that are put to streams and got from them (Glk 0.7.5, "Streams" and "Echo Streams").
-ghost use Rattle.std.specs.Prelude.{◌≡◌, ◌⊎◌, ℕ, ◌+◌, ◌≤◌, ◌<◌, ◌^◌, length, OnOk, OnErr, IsTrue};
+ghost use Rattle.std.specs.Prelude.{◌≡◌, ◌≢◌, ◌⊎◌, ℕ, ◌+◌, ◌≤◌, ◌<◌, ◌^◌, [], not, length, true, false, OnOk, OnErr, IfOk, MatchOption, IsTrue};
+ghost use Rattle.glk_objects.specs.Objects.{place};
 ghost use Rattle.glk_streams.specs.Stream as one;
 ghost use Rattle.glk_streams.specs.Streams as streams;
 ghost use Rattle.glk_windows.specs.Windows as windows;
 ghost use Rattle.glk_windows.specs.Windows.{entry_at};
 ghost use Rattle.glk_windows.specs.declared.methods.TheConstants.{TEXT_BUFFER as A_TEXT_BUFFER};
 ghost use Rattle.glk_world.specs.World.{after, silent};
-ghost use Rattle.glk_world.specs.Putting.{said_char, entry_of, is_text, window_of, window_put, stream_put, stream_grows, echo_of, put_along, put_of, grows_along, put_grows, end_along, end_of, places_of, places_read, leads_along, leads_to};
+ghost use Rattle.glk_world.specs.Putting.{said_char, entry_of, is_text, window_of, window_put, stream_put, stream_grows, echo_of, put_along, put_of, puts, is_plain_text, grows_along, put_grows, end_along, end_of, places_of, places_read, leads_along, leads_to};
 ghost use Rattle.glk_world.specs.Calls.{got_from, passed, after_get, with_echo};
 
 use crate::World;
@@ -50,6 +51,109 @@ impl World {
     {
         let streams = self.streams.len();
         self.put_along(streams, stream, c)
+    }
+
+    /// Puts a character to the stream of a text buffer window that has no echo stream; says whether it is one.
+    pub fn put_text(&mut self, stream: u32, c: u32) -> Result<bool, AllocError>
+        ensures value { IfOk result (λ put. put ≡ is_plain_text self.old.scene stream) }
+        ensures put { IfOk result (λ put. IsTrue put → self.new ≡ after self.old (put_of self.old.scene stream c)) }
+        ensures other { IfOk result (λ put. IsTrue (not put) → self.new ≡ self.old) }
+        ensures memory { OnErr result (IsTrue (is_plain_text self.old.scene stream)) }
+        ensures grows { OnErr result (IsTrue (put_grows self.old.scene stream c)) }
+        ensures places { IsTrue (is_plain_text self.old.scene stream) → (count : ℕ) → (places_of self.old.scene stream count).count ≡ 0 }
+    {
+        let Some(at) = self.find_text(stream) else {
+            return Ok(false);
+        };
+        self.put_found(at, stream, c)?;
+        Ok(true)
+    }
+
+    /// Puts characters, one after another.
+    #[tactic(auto, using(crate::proofs::Texts::puts_turns))]
+    pub fn puts(&mut self, stream: u32, chars: &[u32]) -> Result<(), AllocError>
+        ensures ok { OnOk result (self.new ≡ after self.old (puts self.old.scene stream chars.now)) }
+        ensures memory { OnErr result (chars.now ≢ []) }
+    {
+        if let Some(at) = self.find_text(stream) {
+            return self.puts_found(at, stream, chars);
+        }
+        for c in chars {
+            self.put(stream, *c)?;
+        }
+        Ok(())
+    }
+
+    /// Where the stream of a text buffer window stands that has no echo stream; None for any other stream.
+    fn find_text(&self, stream: u32) -> Option<usize>
+        ensures value { MatchOption result (is_plain_text self.now.scene stream ≡ false) (λ at. (is_plain_text self.now.scene stream ≡ true) × (at ≡ place streams.id_of self.now.scene.streams stream)) }
+        ensures places { IsTrue (is_plain_text self.now.scene stream) → (count : ℕ) → (places_of self.now.scene stream count).count ≡ 0 }
+    {
+        let (at, win) = self.streams.find(stream)?;
+        if win == 0 {
+            return None;
+        }
+        let entry = entry_at(&self.windows, win);
+        if entry.kind == TEXT_BUFFER && entry.echo == 0 {
+            Some(at)
+        } else {
+            None
+        }
+    }
+
+    /// Puts a character to such a stream.
+    fn put_found(&mut self, at: usize, stream: u32, c: u32) -> Result<(), AllocError>
+        requires text { IsTrue (is_plain_text self.old.scene stream) }
+        requires place { at ≡ place streams.id_of self.old.scene.streams stream }
+        ensures ok { OnOk result (self.new ≡ after self.old (put_of self.old.scene stream c)) }
+        ensures memory { OnErr result (IsTrue (put_grows self.old.scene stream c)) }
+        ensures text { OnOk result (IsTrue (is_plain_text self.new.scene stream)) }
+        ensures place { OnOk result (at ≡ place streams.id_of self.new.scene.streams stream) }
+    {
+        self.streams.count(at, stream);
+        self.show(show(c))
+    }
+
+    /// Puts characters to such a stream, one after another.
+    #[tactic(auto, using(crate::proofs::Texts::puts_turns))]
+    fn puts_found(&mut self, at: usize, stream: u32, chars: &[u32]) -> Result<(), AllocError>
+        requires text { IsTrue (is_plain_text self.old.scene stream) }
+        requires place { at ≡ place streams.id_of self.old.scene.streams stream }
+        ensures ok { OnOk result (self.new ≡ after self.old (puts self.old.scene stream chars.now)) }
+        ensures memory { OnErr result (chars.now ≢ []) }
+    {
+        for c in chars {
+            self.put_found(at, stream, *c)?;
+        }
+        Ok(())
+    }
+
+    /// Puts the bytes of a slice as characters, one after another: at once where the stream takes them so.
+    #[tactic(auto, using(crate::proofs::Texts::puts_turns))]
+    pub fn put_bytes(&mut self, stream: u32, bytes: &[u8]) -> Result<(), AllocError>
+        ensures ok { OnOk result (self.new ≡ after self.old (puts self.old.scene stream bytes.now)) }
+        ensures memory { OnErr result (bytes.now ≢ []) }
+    {
+        if self.put_at_once(stream, bytes)? {
+            return Ok(());
+        }
+        for byte in bytes {
+            self.put(stream, u32::from(*byte))?;
+        }
+        Ok(())
+    }
+
+    /// Puts bytes to a stream that takes them at once; says whether it did.
+    fn put_at_once(&mut self, stream: u32, bytes: &[u8]) -> Result<bool, AllocError>
+        ensures put { IfOk result (λ put. IsTrue put → self.new ≡ after self.old (puts self.old.scene stream bytes.now)) }
+        ensures other { IfOk result (λ put. IsTrue (not put) → self.new ≡ self.old) }
+        ensures memory { OnErr result (bytes.now ≢ []) }
+    {
+        if self.streams.has(stream) {
+            self.streams.put_bytes(stream, bytes)
+        } else {
+            Ok(false)
+        }
     }
 
     /// The same for so many streams at most.

@@ -1,4 +1,4 @@
-use Rattle.std.proofs.Common.{◌≡◌, ◌+◌, ◌-◌, ◌∷◌, ◌++◌, [], ℕ, List, ap, sym, subst, ◌∙◌}
+use Rattle.std.proofs.Common.{◌≡◌, ◌+◌, ◌-◌, ◌++◌, ℕ, List, sym, subst}
 use Rattle.glk_streams.specs.Streams as streams
 use Rattle.glk_dispatch.specs.Input.{chars_read}
 use Rattle.glk_dispatch.proofs.Reading.{gather_more, gather_none, gather_done}

@@ -1,4 +1,4 @@
-use Rattle.std.proofs.Common.{◌≡◌, ◌+◌, ◌*◌, ◌-◌, ◌≤◌, ◌<◌, ◌^◌, arith}
+use Rattle.std.proofs.Common.{◌-◌, ◌^◌, arith}
 use Rattle.glk_dispatch.proofs.Laying.{number_within}
 use Rattle.glk_dispatch.proofs.parts.numbers_at.Goals as goal
 

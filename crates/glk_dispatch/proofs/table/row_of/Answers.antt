@@ -1,4 +1,3 @@
-use Rattle.std.proofs.Common.{◌≡◌, ◌<◌}
 use Rattle.glk_dispatch.proofs.Rows.{missing, found}
 use Rattle.glk_dispatch.proofs.table.row_of.Goals as goal
 
