@@ -1,7 +1,9 @@
 //! One step of printing: the next item of a string or number, by the I/O system.
-ghost use Rattle.std.specs.Prelude.{◌≡◌, ◌<◌, IfOk};
+ghost use Rattle.std.specs.Prelude.{◌≡◌, ◌<◌, Ok, IfOk, IfSome};
 ghost use Rattle.gx_words.specs.Faults.{TakesNone};
 ghost use Rattle.gx_words.specs.Results.{Turns};
+ghost use Rattle.gx_state.specs.declared.effects.Effect.TheVariants.{Put};
+ghost use Rattle.gx_state.specs.declared.modes.Mode.TheVariants.{Printing as APrinting};
 ghost use Rattle.gx_state.specs.Flat.{sp_of};
 ghost use Rattle.gx_state.specs.Relations.{Goes};
 ghost use Rattle.ops_print.specs.Rows.{IsPutAtMost};
@@ -121,6 +123,27 @@ fn is_place(printing: &Printing) -> bool
     match printing.kind {
         PrintKind::E1 => printing.bit < 8,
         _ => true,
+    }
+}
+
+/// The character that the next step asks to be put, and the place behind it; None where it does something else, or
+/// may do so.
+#[inline(always)]
+#[tactic(auto, unfolding(crate::specs::Items::item, crate::specs::Items::item_printed, crate::specs::Items::character_printed, crate::specs::Items::mode_after))]
+pub fn next_put<A: Allocator + Clone>(state: &State<A>) -> Option<(u32, Printing)>
+    ensures value { IfSome result (λ r. printed state.now.flat ≡ Ok (state.now.flat, Put r.0)) }
+    ensures mode { IfSome result (λ r. mode_after state.now.flat ≡ APrinting r.1) }
+{
+    let Mode::Printing(printing) = state.mode() else {
+        return None;
+    };
+    let (system, _) = state.iosys();
+    if system != GLK_SYSTEM || !is_place(&printing) {
+        return None;
+    }
+    match next_item(state.memory(), state.table(), &printing) {
+        Ok(Item::Char { value, next }) => Some((value, next)),
+        _ => None,
     }
 }
 
