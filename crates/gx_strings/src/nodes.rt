@@ -1,5 +1,5 @@
 //! The nodes of a decoding table.
-ghost use Rattle.std.specs.Prelude.{◌≡◌, ◌⊎◌, ◌+◌, ◌*◌, ◌<◌, ◌≤◌, ◌^◌, drop, IsTrue, IfOk};
+ghost use Rattle.std.specs.Prelude.{◌≡◌, ◌⊎◌, ◌+◌, ◌*◌, ◌<◌, ◌≤◌, ◌^◌, drop, length, IsTrue, IfOk};
 ghost use Rattle.gx_words.specs.Numbers.{is_bit};
 ghost use Rattle.gx_words.specs.Faults.{Reads};
 ghost use Rattle.gx_words.specs.declared.limits.TheConstants.{CEILING};
@@ -16,7 +16,7 @@ use crate::node_types::{
 };
 use crate::objects::{as_inner, from_start, reference};
 use gx_pages::Pages;
-use gx_words::{Fault, PrintKind, Printing};
+use gx_words::{Fault, PrintKind, Printing, word_at};
 use std::alloc::Allocator;
 
 /// A bit of a byte, bit 0 being the lowest.
@@ -36,6 +36,23 @@ fn child<A: Allocator + Clone>(memory: &Pages<A>, node: u32, one: bool) -> Resul
     memory.try_number(4, if one { node + 5 } else { node + 1 })
 }
 
+/// The same for a node that is there: its page is looked up once where it holds the whole node.
+#[inline(always)]
+#[tactic(auto, unfolding(crate::specs::Nodes::child, gx_pages::specs::Memory::number_in))]
+fn child_of<A: Allocator + Clone>(memory: &Pages<A>, node: u32, one: bool) -> Result<u32, Fault>
+    requires there { node < length memory.now }
+    requires low { node ≤ CEILING }
+    ensures { Reads (λ v. v) result (child memory.now node one) }
+{
+    let page = memory.bytes_in_page(node);
+    let at = if one { 5 } else { 1 };
+    if at + 4 <= page.len() {
+        Ok(word_at(page, at))
+    } else {
+        child(memory, node, one)
+    }
+}
+
 /// Where a walk ends, and how many bits it used.
 #[derive(Clone, Copy)]
 pub struct Ending {
@@ -47,6 +64,7 @@ pub struct Ending {
 ///
 /// `from` is the index of the first bit among those of memory. It is `BadAddress` where a node or
 /// an address that is taken isn't in memory, or where the bits run out.
+#[inline(always)]
 #[tactic(auto, using(crate::proofs::Walks::turns))]
 pub fn walk<A: Allocator + Clone>(memory: &Pages<A>, root: u32, from: u64) -> Result<Ending, Fault>
     requires { from < 2 ^ 35 }
@@ -62,7 +80,7 @@ pub fn walk<A: Allocator + Clone>(memory: &Pages<A>, root: u32, from: u64) -> Re
             return Err(Fault::BadAddress);
         }
         let one = bit(memory.byte((place / 8) as u32), (place % 8) as u32);
-        node = child(memory, node, one)?;
+        node = child_of(memory, node, one)?;
         used += 1;
     }
     Ok(Ending { node, used })
@@ -86,6 +104,7 @@ fn indirect<A: Allocator + Clone>(memory: &Pages<A>, node: u32) -> Result<u32, F
 }
 
 /// What a node that is no branch gives; `next` is the place after the bits that led there.
+#[inline(always)]
 #[tactic(auto, unfolding(crate::specs::Nodes::node_item))]
 pub fn node_item<A: Allocator + Clone>(
     memory: &Pages<A>,

@@ -13,6 +13,7 @@ use itoa::Buffer;
 use std::alloc::Allocator;
 
 /// The byte at the place, where a zero byte is the end.
+#[inline(always)]
 #[tactic(auto, unfolding(crate::specs::Items::byte_item))]
 fn byte_item<A: Allocator + Clone>(memory: &Pages<A>, printing: &Printing) -> Result<Item, Fault>
     requires { HasBit printing.now }
@@ -31,6 +32,7 @@ fn byte_item<A: Allocator + Clone>(memory: &Pages<A>, printing: &Printing) -> Re
 }
 
 /// What the node gives to which the bits lead from the root of the table.
+#[inline(always)]
 #[tactic(auto, unfolding(crate::specs::Items::compressed_item))]
 fn compressed_item<A: Allocator + Clone>(
     memory: &Pages<A>,
@@ -57,6 +59,7 @@ fn compressed_item<A: Allocator + Clone>(
 }
 
 /// The word at the place, where a zero word is the end.
+#[inline(always)]
 #[tactic(auto, unfolding(crate::specs::Items::word_item))]
 fn word_item<A: Allocator + Clone>(memory: &Pages<A>, printing: &Printing) -> Result<Item, Fault>
     requires { HasBit printing.now }
@@ -100,6 +103,7 @@ fn number_item(printing: &Printing) -> Item
 /// `BadAddress` where a byte that is looked at isn't in memory, or where a compressed string has no
 /// bit left; `BadFunction` where a reference is to a function of no known type; `BadString` where
 /// it is to neither a string nor a function, or the table is 0 or has a node of no known type.
+#[inline(always)]
 #[tactic(auto, unfolding(crate::specs::Items::next_item))]
 pub fn next_item<A: Allocator + Clone>(
     memory: &Pages<A>,
