@@ -1,8 +1,10 @@
 //! The nodes of a decoding table.
-ghost use Rattle.std.specs.Prelude.{◌≡◌, ◌⊎◌, ◌+◌, ◌*◌, ◌<◌, ◌≤◌, ◌^◌, drop, length, IsTrue, IfOk};
+ghost use Rattle.std.specs.Prelude.{◌≡◌, ◌⊎◌, ◌+◌, ◌*◌, ◌<◌, ◌≤◌, ◌^◌, drop, length, Ok, IsTrue, IfOk, IfSome};
 ghost use Rattle.gx_words.specs.Numbers.{is_bit};
 ghost use Rattle.gx_words.specs.Faults.{Reads};
 ghost use Rattle.gx_words.specs.declared.limits.TheConstants.{CEILING};
+ghost use Rattle.gx_words.specs.declared.strings.Printing.{Printing as APrinting};
+ghost use Rattle.gx_strings.specs.declared.items.Item.TheVariants.{Char};
 ghost use Rattle.gx_strings.specs.Bits.{bit, bits};
 ghost use Rattle.gx_strings.specs.Nodes.{child, walk, direct, indirect, node_item};
 ghost use Rattle.gx_strings.specs.Items.{HasBit, HasBits};
@@ -151,5 +153,22 @@ pub fn node_item<A: Allocator + Clone>(
             reference(memory, next, object, Some(node + 5))
         }
         _ => Err(Fault::BadString),
+    }
+}
+
+/// The character that a node holds; None of any other node.
+#[inline(always)]
+#[tactic(auto, unfolding(crate::specs::Nodes::node_item))]
+pub fn node_char<A: Allocator + Clone>(memory: &Pages<A>, node: u32) -> Option<u32>
+    ensures { IfSome result (λ c. (next : APrinting) → node_item memory.now node next ≡ Ok (Char c next)) }
+{
+    let width = match memory.try_number(1, node) {
+        Ok(SINGLE_CHARACTER) => 1,
+        Ok(SINGLE_UNICODE_CHARACTER) => 4,
+        _ => return None,
+    };
+    match memory.try_number(width, node + 1) {
+        Ok(value) => Some(value),
+        Err(_) => None,
     }
 }
