@@ -24,7 +24,7 @@ use gx_operands::{Plan, arguments, can_store, decode_into};
 use gx_rows::Class;
 use gx_state::{Dest, Effect, Mode, State};
 use gx_undo::Undo;
-use gx_words::Fault;
+use gx_words::{Fault, Printing};
 use std::alloc::Allocator;
 
 /// How many words fit above a stack pointer, beside a result that is pushed.
@@ -164,8 +164,16 @@ pub(crate) fn next_put<A: Allocator + Clone>(
     ensures pends { IfSome pending.new (IsPending state.now.flat) }
     ensures none { result ≡ None → pending.new ≡ None }
 {
-    let (c, next) = ops_print::next_put(state)?;
+    let Mode::Printing(printing) = state.mode() else {
+        return None;
+    };
+    let (c, at, bit) = ops_print::next_put(state, &printing)?;
     let sp = state.stack().size();
+    let next = Printing {
+        at,
+        bit,
+        ..printing
+    };
     *pending = Some(put_pending(sp, state.pc(), Mode::Printing(next)));
     Some(c)
 }

@@ -12,7 +12,7 @@ ghost use Rattle.ops_print.specs.Items.{function_called, character_printed, stri
 use crate::arguments::arguments_in;
 use crate::stubs::{end_inner, resuming, to_code};
 use gx_state::{Effect, Mode, State};
-use gx_strings::{Item, next_item};
+use gx_strings::{Item, next_char, next_item};
 use gx_words::{FILTER_SYSTEM, Fault, GLK_SYSTEM, PrintKind, Printing};
 use std::alloc::Allocator;
 
@@ -126,25 +126,23 @@ fn is_place(printing: &Printing) -> bool
     }
 }
 
-/// The character that the next step asks to be put, and the place behind it; None where it does something else, or
-/// may do so.
+/// The character that the next step of a machine that prints asks to be put, with the address and the bit behind it;
+/// None where it does something else, or may do so.
 #[inline(always)]
 #[tactic(auto, unfolding(crate::specs::Items::item, crate::specs::Items::item_printed, crate::specs::Items::character_printed, crate::specs::Items::mode_after))]
-pub fn next_put<A: Allocator + Clone>(state: &State<A>) -> Option<(u32, Printing)>
+pub fn next_put<A: Allocator + Clone>(
+    state: &State<A>,
+    printing: &Printing,
+) -> Option<(u32, u32, u32)>
+    requires { state.now.flat.mode ≡ APrinting printing.now }
     ensures value { IfSome result (λ r. printed state.now.flat ≡ Ok (state.now.flat, Put r.0)) }
-    ensures mode { IfSome result (λ r. mode_after state.now.flat ≡ APrinting r.1) }
+    ensures mode { IfSome result (λ r. mode_after state.now.flat ≡ APrinting (record printing.now { at = r.1; bit = r.2 })) }
 {
-    let Mode::Printing(printing) = state.mode() else {
-        return None;
-    };
     let (system, _) = state.iosys();
-    if system != GLK_SYSTEM || !is_place(&printing) {
+    if system != GLK_SYSTEM || !is_place(printing) {
         return None;
     }
-    match next_item(state.memory(), state.table(), &printing) {
-        Ok(Item::Char { value, next }) => Some((value, next)),
-        _ => None,
-    }
+    next_char(state.memory(), state.table(), printing)
 }
 
 /// Makes one step of printing like `item`, and answers with it the mode behind the character, where the
