@@ -7,7 +7,7 @@ use Rattle.gx_session.proofs.Feeding.{fed-same, fed-as}
 use Rattle.gx_session.proofs.Passing.{passed-asks, passed-going, passed-lower}
 use Rattle.gx_session.proofs.Playing.{redrawn}
 use Rattle.gx_session.proofs.Steps.{step-answers, same-whole}
-use Rattle.gx_session.proofs.events.play_event.Goals as goal
+use Rattle.gx_session.proofs.events.play_step.Goals as goal
 
 pub follow-requires-clause-asks : goal.follow-requires-clause-asks
 follow-requires-clause-asks g c =
