@@ -18,7 +18,7 @@ use Rattle.gx_operands.specs.Instructions.{Instruction, instruction, L2, going_t
 use Rattle.gx_machine.specs.Answer.{answered_state, answered_in, answered_by, answered_row, replied, IsStoredAnswer, IsStoredIn, IsStoredBy}
 use Rattle.ops_game.specs.Rows.{IsAsking, IsSaveAtMost}
 use Rattle.ops_memory.specs.Costs.{EndsWithin}
-use Rattle.ops_print.specs.Items.{mode_after}
+use Rattle.ops_print.specs.Items.{item_by, mode_after}
 use Rattle.ops_print.specs.Rows.{IsPutAtMost}
 use Rattle.gx_state.specs.Stores.{store_fault}
 use Rattle.gx_undo.specs.Undo.{FlatUndo}
@@ -60,6 +60,11 @@ item_answered f reply (Printing p) is printing = refl
 pub item_answers : (f : FlatState) (reply : Reply) → (f.mode ≡ Running → ⊥) → answered_state f reply ≡ resumed (replied f (sp_of f) Nowhere reply) f.pc (mode_after f)
 unfolding answered_state
 item_answers f reply printing = item_answered f reply f.mode refl printing
+
+-- a machine that prints an item doesn't run code
+pub printing_of : (f : FlatState) (m : Mode) (x : FlatState × Effect) → item_by f m ≡ Ok x → m ≡ Running → ⊥
+printing_of f Running x h same = cc
+printing_of f (Printing p) x h same = cc
 
 -- the result of what asked is stored where its operand says
 stored_by : (f : FlatState) (i : Instruction) (c : Class) → f.mode ≡ Running → instruction f ≡ Ok i → i.row.class ≡ c → IsStoredBy c i → IsStoredAnswer f

@@ -1,5 +1,5 @@
 -- A step within a budget is one within what its own unit leaves.
-use Rattle.std.proofs.Common.{◌≡◌, ◌≢◌, ◌≤◌, ◌<◌, ◌+◌, ◌-◌, ◌==◌, ℕ, nat_lt, if◌then◌else◌, Bool, true, false, Option, Some, None, IsSome, Result, Ok, Err, IsOk, refl, ap, subst, sym, ◌∙◌, arith}
+use Rattle.std.proofs.Common.{◌≡◌, ◌≢◌, ◌≤◌, ◌<◌, ◌+◌, ◌-◌, ◌==◌, ℕ, nat_lt, if◌then◌else◌, Bool, true, false, Option, Some, None, IsSome, IfSome, Result, Ok, Err, IsOk, refl, ap, subst, sym, ◌∙◌, arith}
 use Rattle.std.proofs.lemmas.Bool.{lt-ltb, le-ltb, ltb-true, ltb-false, eq-eqb}
 use Rattle.std.proofs.lemmas.Bool.Decides.{nat_tests}
 use Rattle.gx_words.specs.declared.faults.Fault.{Fault}
@@ -7,7 +7,7 @@ use Rattle.gx_words.specs.declared.faults.Fault.TheVariants.{BadFrame}
 use Rattle.gx_words.specs.Faults.{IsRefused}
 use Rattle.gx_words.specs.Results.{◌>>=◌}
 use Rattle.gx_state.specs.declared.effects.Effect.{Effect}
-use Rattle.gx_state.specs.declared.effects.Effect.TheVariants.{Spent, Went}
+use Rattle.gx_state.specs.declared.effects.Effect.TheVariants.{Put, Spent, Went}
 use Rattle.gx_state.specs.declared.modes.Mode.{Mode}
 use Rattle.gx_state.specs.declared.modes.Mode.TheVariants.{Running, Printing}
 use Rattle.gx_state.specs.Flat.{FlatState, sp_of}
@@ -15,6 +15,7 @@ use Rattle.ops_memory.specs.Costs.{lowered, charged}
 use Rattle.ops_print.specs.Items.{item_by, printed}
 use Rattle.std.specs.Option.{option_map}
 use Rattle.gx_machine.specs.declared.askings.Asking.{Asking}
+use Rattle.gx_machine.specs.declared.askings.Asking.TheVariants as asking
 use Rattle.gx_machine.specs.declared.machine.Pending.{Pending}
 use Rattle.gx_machine.specs.Machine.{FlatMachine, Whole}
 use Rattle.gx_machine.specs.Rows.{with_copies}
@@ -174,6 +175,14 @@ pub print_ok : (w : Whole) (word budget : ℕ) (g : FlatState) (e : Effect) (ask
 print_ok w word budget g e asking some live printing asks h =
     printed-is w word budget some live printing ∙ ap (λ (r : Result (FlatState × Effect) Fault). paid budget 1 (with_copies w.machine.undo r)) h
     ∙ ap (λ (a : Option Asking). Ok ((record { machine = record { flat = g; undo = w.machine.undo }; asking = a }, budget - 1), e)) asks
+
+-- a character is asked to be put, and the machine stands
+pub puts_ok : (w : Whole) (budget : ℕ) (pending : Option Pending) (r : Option ℕ) → 1 ≤ budget → 0 < sp_of w.machine.flat
+    → IfSome r (λ c. printed w.machine.flat ≡ Ok (w.machine.flat, Put c)) → IfSome r (λ c. w.machine.flat.mode ≢ Running) → IfSome r (λ c. option_map (λ (p : Pending). p.asking) pending ≡ Some asking.Put)
+    → IfSome r (λ c. (word : ℕ) → stepped w word budget ≡ Ok ((record { machine = record { flat = w.machine.flat; undo = w.machine.undo }; asking = option_map (λ (p : Pending). p.asking) pending }, budget - 1), Put c))
+puts_ok w budget pending None some live value printing asks = tt
+puts_ok w budget pending (Some c) some live value printing asks =
+    λ word. print_ok w word budget w.machine.flat (Put c) (option_map (λ (p : Pending). p.asking) pending) some live printing (sym asks) value
 
 -- a fault leaves the machine and its budget, and so does want of memory
 pub run_err : (wants : Type 0) (w : Whole) (word budget left : ℕ) (m' : FlatMachine) (fault : Fault) → 1 ≤ budget → 0 < sp_of w.machine.flat → w.machine.flat.mode ≡ Running

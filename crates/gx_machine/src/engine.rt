@@ -1,6 +1,7 @@
 //! What a session runs on: a machine, or a tape over one.
-ghost use Rattle.std.specs.Prelude.{◌≡◌, length, Some, None, IsSome, IfOk, OnOk, OnErr};
+ghost use Rattle.std.specs.Prelude.{◌≡◌, ◌≤◌, ◌-◌, ℕ, length, Ok, Some, None, IsSome, IfSome, IfOk, OnOk, OnErr};
 ghost use Rattle.gx_words.specs.Faults.{Does};
+ghost use Rattle.gx_state.specs.declared.effects.Effect.TheVariants.{Put};
 ghost use Rattle.gx_state.specs.Copies.{IsCopyFor};
 ghost use Rattle.gx_machine.specs.Machine.{Whole};
 ghost use Rattle.gx_machine.specs.Answer.{answered, IsAnswer};
@@ -30,6 +31,16 @@ pub trait Engine<A: Allocator + Clone> {
     fn advance(&mut self, word: u32, budget: &mut u64, left: &mut u64) -> Result<Effect, Fault>
         requires { (whole self.old).asking ≡ None }
         ensures { Advances (λ machine. Unit {0}) word result (whole self.old, budget.old) budget.new (whole self.new, left.new) };
+
+    /// The character that the next step within the budget asks to be put, where it is an item of what is printed: the
+    /// step is made then. Else nothing is done.
+    fn next_put(&mut self, budget: u64) -> Option<u32>
+        requires { (whole self.old).asking ≡ None }
+        ensures value { IfSome result (λ c. (word : ℕ) → stepped (whole self.old) word budget ≡ Ok ((whole self.new, budget - 1), Put c)) }
+        ensures asks { IfSome result (λ c. (whole self.new).asking ≡ Some Asking.Put) }
+        ensures stands { (whole self.new).machine ≡ (whole self.old).machine }
+        ensures some { IfSome result (λ c. 1 ≤ budget) }
+        ensures none { result ≡ None → whole self.new ≡ whole self.old };
 
     /// Answers what the last step asked.
     fn finish(&mut self, reply: &Reply) -> Result<(), AllocError>

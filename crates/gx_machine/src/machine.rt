@@ -1,11 +1,13 @@
 //! The machine: one step, and the answer to what it asks.
-ghost use Rattle.std.specs.Prelude.{◌≡◌, ◌≢◌, ◌⊎◌, ◌+◌, ◌*◌, ◌<◌, ◌≤◌, ℕ, true, length, Ok, Some, None, IfOk, IsSome, OnOk, OnErr};
+ghost use Rattle.std.specs.Prelude.{◌≡◌, ◌≢◌, ◌⊎◌, ◌+◌, ◌-◌, ◌*◌, ◌<◌, ◌≤◌, ℕ, true, length, Ok, Some, None, IfOk, IfSome, IsSome, OnOk, OnErr};
 ghost use Rattle.gx_words.specs.Faults.{Does, Makes};
+ghost use Rattle.gx_state.specs.declared.effects.Effect.TheVariants.{Put};
 ghost use Rattle.gx_state.specs.Copies.{IsCopyFor};
 ghost use Rattle.gx_state.specs.Flat.{IsHeight, sp_of};
 ghost use Rattle.gx_state.specs.Replies.{AreInRam, IsReply};
 ghost use Rattle.gx_state.specs.Stores.{store_fault, IsMemory};
 ghost use Rattle.gx_pages.specs.Memory.{HasBytes};
+ghost use Rattle.gx_machine.specs.declared.askings.Asking.TheVariants as asking;
 ghost use Rattle.gx_machine.specs.Answer.{answered, answered_state, with_writes, with_pushes, IsAnswer, IsStoredAnswer};
 ghost use Rattle.gx_machine.specs.Quick.{Tries, Passed};
 ghost use Rattle.gx_machine.specs.Saves.{restored_whole, saved_copy};
@@ -14,7 +16,7 @@ ghost use Rattle.gx_machine.specs.Step.{asking_of, room_of, stepped, Advances, I
 ghost use Rattle.gx_machine.specs.Views.{IsPending, result_len};
 
 use crate::quick::quick;
-use crate::rows::{print, run};
+use crate::rows::{next_put, print, run};
 use crate::{Asking, Engine};
 use gx_operands::Plan;
 use gx_state::{Dest, Effect, FlatCopy, Mode, Reply, State};
@@ -101,6 +103,24 @@ impl<A: Allocator + Clone> Machine<A> {
         ensures stands { IfOk result (λ effect. IsSome (asking_of effect) → self.new.machine ≡ self.old.machine) }
     {
         self.turn(&mut Plan::new(), word, budget)
+    }
+
+    /// The character that the next step within the budget asks to be put, where it is an item of what is printed: the
+    /// step is made then. Else nothing is done.
+    #[inline(always)]
+    #[tactic(auto, using(crate::proofs::Steps::steps))]
+    pub fn next_put(&mut self, budget: u64) -> Option<u32>
+        requires { self.old.asking ≡ None }
+        ensures value { IfSome result (λ c. (word : ℕ) → stepped self.old word budget ≡ Ok ((self.new, budget - 1), Put c)) }
+        ensures asks { IfSome result (λ c. self.new.asking ≡ Some asking.Put) }
+        ensures stands { self.new.machine ≡ self.old.machine }
+        ensures some { IfSome result (λ c. 1 ≤ budget) }
+        ensures none { result ≡ None → self.new ≡ self.old }
+    {
+        if budget == 0 || self.state.stack().size() == 0 {
+            return None;
+        }
+        next_put(&self.state, &mut self.pending)
     }
 
     /// Steps within the budget, all with one random word, as long as they ask nothing and the word isn't used, and then
@@ -258,8 +278,8 @@ impl<A: Allocator + Clone> Machine<A> {
         ensures err { OnErr result (self.new ≡ self.old) }
         ensures memory { OnErr result (HasBytes reply.now.writes ⊎ IsStoredAnswer self.old.machine.flat) }
     {
-        if let Some(pending) = self.pending {
-            answer(&mut self.state, &pending, reply)?;
+        if let Some(pending) = &self.pending {
+            answer(&mut self.state, pending, reply)?;
         }
         self.pending = None;
         Ok(())
@@ -370,6 +390,10 @@ impl<A: Allocator + Clone> Engine<A> for Machine<A> {
 
     fn advance(&mut self, word: u32, budget: &mut u64, left: &mut u64) -> Result<Effect, Fault> {
         Machine::advance(self, word, budget, left)
+    }
+
+    fn next_put(&mut self, budget: u64) -> Option<u32> {
+        Machine::next_put(self, budget)
     }
 
     fn finish(&mut self, reply: &Reply) -> Result<(), AllocError> {

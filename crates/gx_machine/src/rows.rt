@@ -1,8 +1,8 @@
 //! The row of an instruction, class by class.
-ghost use Rattle.std.specs.Prelude.{◌≡◌, ◌≢◌, ◌<◌, ◌≤◌, ◌*◌, ◌+◌, Ok, None, IsSome, IfOk, IfSome, OnOk, OnErr};
+ghost use Rattle.std.specs.Prelude.{◌≡◌, ◌≢◌, ◌<◌, ◌≤◌, ◌*◌, ◌+◌, Ok, None, Some, IsSome, IfOk, IfSome, OnOk, OnErr};
 ghost use Rattle.std.specs.Option.{option_map};
 ghost use Rattle.gx_words.specs.Faults.{Does, Reads};
-ghost use Rattle.gx_state.specs.declared.effects.Effect.TheVariants.{Spent};
+ghost use Rattle.gx_state.specs.declared.effects.Effect.TheVariants.{Put, Spent};
 ghost use Rattle.gx_state.specs.declared.modes.Mode.TheVariants.{Running};
 ghost use Rattle.gx_state.specs.Flat.{FlatState, IsHeight, sp_of};
 ghost use Rattle.gx_operands.specs.Instructions.{instruction};
@@ -13,6 +13,7 @@ ghost use Rattle.ops_game.specs.Writes as game_writes;
 ghost use Rattle.ops_memory.specs.Costs.{probes_of, charged};
 ghost use Rattle.ops_print.specs.Rows as print;
 ghost use Rattle.ops_print.specs.Items.{printed};
+ghost use Rattle.gx_machine.specs.declared.askings.Asking.TheVariants as asking;
 ghost use Rattle.gx_machine.specs.Rows.{room_above, glk, row_effect, IsWriting};
 ghost use Rattle.gx_machine.specs.Step.{asking_of, mode_step, probes_in, IsModeWriting};
 ghost use Rattle.gx_machine.specs.Views.{IsPending, result_len, machine_of};
@@ -23,7 +24,7 @@ use gx_operands::{Plan, arguments, can_store, decode_into};
 use gx_rows::Class;
 use gx_state::{Dest, Effect, Mode, State};
 use gx_undo::Undo;
-use gx_words::Fault;
+use gx_words::{Fault, Printing};
 use std::alloc::Allocator;
 
 /// How many words fit above a stack pointer, beside a result that is pushed.
@@ -145,6 +146,36 @@ pub(crate) fn print<A: Allocator + Clone>(
         }
         effect => Ok(effect),
     }
+}
+
+/// The character of the next item, where that is to be put: it is pending then.
+#[inline(always)]
+#[tactic(auto, using(crate::proofs::Answers::answers))]
+pub(crate) fn next_put<A: Allocator + Clone>(
+    state: &State<A>,
+    pending: &mut Option<Pending>,
+) -> Option<u32>
+    requires free { pending.old ≡ None }
+    requires live { 0 < sp_of state.now.flat }
+    ensures value { IfSome result (λ c. printed state.now.flat ≡ Ok (state.now.flat, Put c)) }
+    ensures printing { IfSome result (λ c. state.now.flat.mode ≢ Running) }
+    ensures live { 0 < sp_of state.now.flat }
+    ensures asks { IfSome result (λ c. option_map (λ p. p.asking) pending.new ≡ Some asking.Put) }
+    ensures pends { IfSome pending.new (IsPending state.now.flat) }
+    ensures none { result ≡ None → pending.new ≡ None }
+{
+    let Mode::Printing(printing) = state.mode() else {
+        return None;
+    };
+    let (c, at, bit) = ops_print::next_put(state, &printing)?;
+    let sp = state.stack().size();
+    let next = Printing {
+        at,
+        bit,
+        ..printing
+    };
+    *pending = Some(put_pending(sp, state.pc(), Mode::Printing(next)));
+    Some(c)
 }
 
 /// What is pending after a row of Game asked.

@@ -78,7 +78,7 @@ fn follow<A: Allocator + Clone, E: Engine<A>, S: Source, K: Sink, F: Shelf>(
 }
 
 /// Steps that ask nothing, and then one event: a step, and the answer to what it asks.
-fn play_event<A: Allocator + Clone, E: Engine<A>, S: Source, K: Sink, F: Shelf, R: Rng>(
+fn play_step<A: Allocator + Clone, E: Engine<A>, S: Source, K: Sink, F: Shelf, R: Rng>(
     run: &mut Running<E>,
     input: &mut S,
     output: &mut K,
@@ -100,6 +100,34 @@ fn play_event<A: Allocator + Clone, E: Engine<A>, S: Source, K: Sink, F: Shelf, 
     match run.engine.advance(word, &mut run.left, &mut left) {
         Err(fault) => faulted(fault),
         Ok(effect) => follow(run, input, output, shelf, effect, left),
+    }
+}
+
+/// One event: a character of what is printed, or steps that ask nothing and then one that may.
+fn play_event<A: Allocator + Clone, E: Engine<A>, S: Source, K: Sink, F: Shelf, R: Rng>(
+    run: &mut Running<E>,
+    input: &mut S,
+    output: &mut K,
+    shelf: &mut F,
+    dice: &mut R,
+) -> Result<Next, Halt>
+    requires none { (E.whole run.old.engine).asking ≡ None }
+    ensures plays { Fed run.old.lines run.new.lines (S.seen input.old) (S.seen input.new) (λ coming after. (start : Configuration) (entry : Devices)
+        → Going start entry (held E.whole run.old coming) (devices (S.seen input.old) (K.seen output.old) (F.seen shelf.old) (R.stream dice.old))
+        → EventGives start entry (held E.whole run.new after) (asking_in E.whole run.new) (devices (S.seen input.new) (K.seen output.new) (F.seen shelf.new) (R.stream dice.new)) result) }
+    ensures none { result ≡ Ok Next.Goes → (E.whole run.new.engine).asking ≡ None }
+    ensures nearer { result ≡ Ok Next.Goes → run.new.left < run.old.left }
+    ensures no_more { run.new.left ≤ run.old.left }
+    ensures stop { IfOk result IsNext }
+    ensures keeps { Keeps (devices (S.seen input.old) (K.seen output.old) (F.seen shelf.old) (R.stream dice.old)) (devices (S.seen input.new) (K.seen output.new) (F.seen shelf.new) (R.stream dice.new)) result }
+{
+    match run.engine.next_put(run.left) {
+        Some(c) => {
+            draw(&mut run.word, dice);
+            let left = run.left - 1;
+            ask_put(run, output, c, left)
+        }
+        None => play_step(run, input, output, shelf, dice),
     }
 }
 

@@ -5,7 +5,7 @@
 //! - `objects` begins a string, and follows a reference to a string or function.
 //! - `nodes` walks the bits of a compressed string over its decoding table, whose nodes have the types of
 //!   `node_types`.
-//! - `printing` gives the next item of a string or number.
+//! - `printing` gives the next item of a string or number, and the next character alone.
 //!
 //! The files of specs/ define the items over the list of all bits of memory; the code has no such
 //! list, and each walk ends, since each branch takes a bit. Each call is its definition for all
@@ -21,4 +21,4 @@ mod printing;
 
 pub use items::Item;
 pub use objects::begin;
-pub use printing::next_item;
+pub use printing::{next_char, next_item};

@@ -1,8 +1,10 @@
 //! The nodes of a decoding table.
-ghost use Rattle.std.specs.Prelude.{◌≡◌, ◌⊎◌, ◌+◌, ◌*◌, ◌<◌, ◌≤◌, ◌^◌, drop, IsTrue, IfOk};
+ghost use Rattle.std.specs.Prelude.{◌≡◌, ◌⊎◌, ◌+◌, ◌*◌, ◌<◌, ◌≤◌, ◌^◌, drop, length, Ok, IsTrue, IfOk, IfSome};
 ghost use Rattle.gx_words.specs.Numbers.{is_bit};
 ghost use Rattle.gx_words.specs.Faults.{Reads};
 ghost use Rattle.gx_words.specs.declared.limits.TheConstants.{CEILING};
+ghost use Rattle.gx_words.specs.declared.strings.Printing.{Printing as APrinting};
+ghost use Rattle.gx_strings.specs.declared.items.Item.TheVariants.{Char};
 ghost use Rattle.gx_strings.specs.Bits.{bit, bits};
 ghost use Rattle.gx_strings.specs.Nodes.{child, walk, direct, indirect, node_item};
 ghost use Rattle.gx_strings.specs.Items.{HasBit, HasBits};
@@ -16,7 +18,7 @@ use crate::node_types::{
 };
 use crate::objects::{as_inner, from_start, reference};
 use gx_pages::Pages;
-use gx_words::{Fault, PrintKind, Printing};
+use gx_words::{Fault, PrintKind, Printing, word_at};
 use std::alloc::Allocator;
 
 /// A bit of a byte, bit 0 being the lowest.
@@ -36,6 +38,23 @@ fn child<A: Allocator + Clone>(memory: &Pages<A>, node: u32, one: bool) -> Resul
     memory.try_number(4, if one { node + 5 } else { node + 1 })
 }
 
+/// The same for a node that is there: its page is looked up once where it holds the whole node.
+#[inline(always)]
+#[tactic(auto, unfolding(crate::specs::Nodes::child, gx_pages::specs::Memory::number_in))]
+fn child_of<A: Allocator + Clone>(memory: &Pages<A>, node: u32, one: bool) -> Result<u32, Fault>
+    requires there { node < length memory.now }
+    requires low { node ≤ CEILING }
+    ensures { Reads (λ v. v) result (child memory.now node one) }
+{
+    let page = memory.bytes_in_page(node);
+    let at = if one { 5 } else { 1 };
+    if at + 4 <= page.len() {
+        Ok(word_at(page, at))
+    } else {
+        child(memory, node, one)
+    }
+}
+
 /// Where a walk ends, and how many bits it used.
 #[derive(Clone, Copy)]
 pub struct Ending {
@@ -47,6 +66,7 @@ pub struct Ending {
 ///
 /// `from` is the index of the first bit among those of memory. It is `BadAddress` where a node or
 /// an address that is taken isn't in memory, or where the bits run out.
+#[inline(always)]
 #[tactic(auto, using(crate::proofs::Walks::turns))]
 pub fn walk<A: Allocator + Clone>(memory: &Pages<A>, root: u32, from: u64) -> Result<Ending, Fault>
     requires { from < 2 ^ 35 }
@@ -62,7 +82,7 @@ pub fn walk<A: Allocator + Clone>(memory: &Pages<A>, root: u32, from: u64) -> Re
             return Err(Fault::BadAddress);
         }
         let one = bit(memory.byte((place / 8) as u32), (place % 8) as u32);
-        node = child(memory, node, one)?;
+        node = child_of(memory, node, one)?;
         used += 1;
     }
     Ok(Ending { node, used })
@@ -86,6 +106,7 @@ fn indirect<A: Allocator + Clone>(memory: &Pages<A>, node: u32) -> Result<u32, F
 }
 
 /// What a node that is no branch gives; `next` is the place after the bits that led there.
+#[inline(always)]
 #[tactic(auto, unfolding(crate::specs::Nodes::node_item))]
 pub fn node_item<A: Allocator + Clone>(
     memory: &Pages<A>,
@@ -132,5 +153,22 @@ pub fn node_item<A: Allocator + Clone>(
             reference(memory, next, object, Some(node + 5))
         }
         _ => Err(Fault::BadString),
+    }
+}
+
+/// The character that a node holds; None of any other node.
+#[inline(always)]
+#[tactic(auto, unfolding(crate::specs::Nodes::node_item))]
+pub fn node_char<A: Allocator + Clone>(memory: &Pages<A>, node: u32) -> Option<u32>
+    ensures { IfSome result (λ c. (next : APrinting) → node_item memory.now node next ≡ Ok (Char c next)) }
+{
+    let width = match memory.try_number(1, node) {
+        Ok(SINGLE_CHARACTER) => 1,
+        Ok(SINGLE_UNICODE_CHARACTER) => 4,
+        _ => return None,
+    };
+    match memory.try_number(width, node + 1) {
+        Ok(value) => Some(value),
+        Err(_) => None,
     }
 }

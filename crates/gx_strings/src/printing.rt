@@ -1,18 +1,22 @@
 //! The next item of a string or number.
-ghost use Rattle.std.specs.Prelude.{◌≡◌, IsTrue, IfOk};
+ghost use Rattle.std.specs.Prelude.{◌≡◌, ◌+◌, ◌<◌, ◌^◌, slice_get, Ok, IsTrue, IfOk, IfSome};
+ghost use Rattle.std.specs.Int.{w32, cast_signed};
+ghost use Rattle.std.specs.Fmt.{signed_decimal};
 ghost use Rattle.gx_words.specs.Numbers.{is_bit};
 ghost use Rattle.gx_words.specs.Faults.{Reads};
 ghost use Rattle.gx_words.specs.declared.strings.PrintKind.TheVariants.{Number};
+ghost use Rattle.gx_strings.specs.declared.items.Item.TheVariants.{Char};
 ghost use Rattle.gx_strings.specs.Items.{byte_item, compressed_item, word_item, number_item, next_item, HasBit, HasBits};
 
 use crate::Item;
-use crate::nodes::{node_item, walk};
+use crate::nodes::{node_char, node_item, walk};
 use gx_pages::Pages;
 use gx_words::{Fault, PrintKind, Printing};
 use itoa::Buffer;
 use std::alloc::Allocator;
 
 /// The byte at the place, where a zero byte is the end.
+#[inline(always)]
 #[tactic(auto, unfolding(crate::specs::Items::byte_item))]
 fn byte_item<A: Allocator + Clone>(memory: &Pages<A>, printing: &Printing) -> Result<Item, Fault>
     requires { HasBit printing.now }
@@ -31,6 +35,7 @@ fn byte_item<A: Allocator + Clone>(memory: &Pages<A>, printing: &Printing) -> Re
 }
 
 /// What the node gives to which the bits lead from the root of the table.
+#[inline(always)]
 #[tactic(auto, unfolding(crate::specs::Items::compressed_item))]
 fn compressed_item<A: Allocator + Clone>(
     memory: &Pages<A>,
@@ -57,6 +62,7 @@ fn compressed_item<A: Allocator + Clone>(
 }
 
 /// The word at the place, where a zero word is the end.
+#[inline(always)]
 #[tactic(auto, unfolding(crate::specs::Items::word_item))]
 fn word_item<A: Allocator + Clone>(memory: &Pages<A>, printing: &Printing) -> Result<Item, Fault>
     requires { HasBit printing.now }
@@ -74,6 +80,20 @@ fn word_item<A: Allocator + Clone>(memory: &Pages<A>, printing: &Printing) -> Re
     Ok(Item::Char { value, next })
 }
 
+/// The character of the number's decimal text at the index, None past the text.
+#[inline(always)]
+fn digit(printing: &Printing) -> Option<u32>
+    ensures value { result ≡ slice_get (signed_decimal (cast_signed w32 printing.now.at)) printing.now.bit }
+    ensures fits { IfSome result (λ c. printing.now.bit + 1 < 2 ^ 32) }
+{
+    let mut buffer = Buffer::new();
+    let text = buffer.format(printing.at.cast_signed()).as_bytes();
+    match text.get(printing.bit as usize) {
+        None => None,
+        Some(digit) => Some(u32::from(*digit)),
+    }
+}
+
 /// The character of the number's decimal text at the index; past the text is the end.
 #[tactic(auto, unfolding(crate::specs::Items::number_item))]
 fn number_item(printing: &Printing) -> Item
@@ -81,12 +101,10 @@ fn number_item(printing: &Printing) -> Item
     ensures value { result ≡ number_item printing.now }
     ensures bits { HasBits result }
 {
-    let mut buffer = Buffer::new();
-    let text = buffer.format(printing.at.cast_signed()).as_bytes();
-    match text.get(printing.bit as usize) {
+    match digit(printing) {
         None => Item::End,
-        Some(digit) => Item::Char {
-            value: u32::from(*digit),
+        Some(value) => Item::Char {
+            value,
             next: Printing {
                 bit: printing.bit + 1,
                 ..*printing
@@ -100,6 +118,7 @@ fn number_item(printing: &Printing) -> Item
 /// `BadAddress` where a byte that is looked at isn't in memory, or where a compressed string has no
 /// bit left; `BadFunction` where a reference is to a function of no known type; `BadString` where
 /// it is to neither a string nor a function, or the table is 0 or has a node of no known type.
+#[inline(always)]
 #[tactic(auto, unfolding(crate::specs::Items::next_item))]
 pub fn next_item<A: Allocator + Clone>(
     memory: &Pages<A>,
@@ -115,5 +134,57 @@ pub fn next_item<A: Allocator + Clone>(
         PrintKind::E1 => compressed_item(memory, table, printing),
         PrintKind::E2 => word_item(memory, printing),
         PrintKind::Number => Ok(number_item(printing)),
+    }
+}
+
+/// The character that a compressed string has next.
+#[inline(always)]
+#[tactic(auto, unfolding(crate::specs::Items::compressed_item))]
+fn compressed_char<A: Allocator + Clone>(
+    memory: &Pages<A>,
+    table: u32,
+    printing: &Printing,
+) -> Option<(u32, u32, u32)>
+    requires { IsTrue (is_bit printing.now.bit) }
+    ensures { IfSome result (λ r. compressed_item memory.now table printing.now ≡ Ok (Char r.0 (record printing.now { at = r.1; bit = r.2 }))) }
+{
+    if table == 0 {
+        return None;
+    }
+    let Ok(root) = memory.try_number(4, table.wrapping_add(8)) else {
+        return None;
+    };
+    let from = 8 * u64::from(printing.at) + u64::from(printing.bit);
+    let Ok(end) = walk(memory, root, from) else {
+        return None;
+    };
+    let place = from + end.used;
+    let value = node_char(memory, end.node)?;
+    Some((value, (place / 8) as u32, (place % 8) as u32))
+}
+
+/// The next character of what is printed, with the address and the bit behind it; None where what comes next is
+/// something else, or may be.
+#[inline(always)]
+#[tactic(auto, unfolding(crate::specs::Items::next_item, crate::specs::Items::byte_item, crate::specs::Items::word_item, crate::specs::Items::number_item))]
+pub fn next_char<A: Allocator + Clone>(
+    memory: &Pages<A>,
+    table: u32,
+    printing: &Printing,
+) -> Option<(u32, u32, u32)>
+    requires { HasBit printing.now }
+    ensures { IfSome result (λ r. next_item memory.now table printing.now ≡ Ok (Char r.0 (record printing.now { at = r.1; bit = r.2 }))) }
+{
+    match printing.kind {
+        PrintKind::E0 => match memory.try_number(1, printing.at) {
+            Ok(value) if value != 0 => Some((value, printing.at + 1, printing.bit)),
+            _ => None,
+        },
+        PrintKind::E1 => compressed_char(memory, table, printing),
+        PrintKind::E2 => match memory.try_number(4, printing.at) {
+            Ok(value) if value != 0 => Some((value, printing.at + 4, printing.bit)),
+            _ => None,
+        },
+        PrintKind::Number => Some((digit(printing)?, printing.at, printing.bit + 1)),
     }
 }

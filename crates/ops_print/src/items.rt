@@ -1,7 +1,9 @@
 //! One step of printing: the next item of a string or number, by the I/O system.
-ghost use Rattle.std.specs.Prelude.{◌≡◌, ◌<◌, IfOk};
+ghost use Rattle.std.specs.Prelude.{◌≡◌, ◌<◌, Ok, IfOk, IfSome};
 ghost use Rattle.gx_words.specs.Faults.{TakesNone};
 ghost use Rattle.gx_words.specs.Results.{Turns};
+ghost use Rattle.gx_state.specs.declared.effects.Effect.TheVariants.{Put};
+ghost use Rattle.gx_state.specs.declared.modes.Mode.TheVariants.{Printing as APrinting};
 ghost use Rattle.gx_state.specs.Flat.{sp_of};
 ghost use Rattle.gx_state.specs.Relations.{Goes};
 ghost use Rattle.ops_print.specs.Rows.{IsPutAtMost};
@@ -10,7 +12,7 @@ ghost use Rattle.ops_print.specs.Items.{function_called, character_printed, stri
 use crate::arguments::arguments_in;
 use crate::stubs::{end_inner, resuming, to_code};
 use gx_state::{Effect, Mode, State};
-use gx_strings::{Item, next_item};
+use gx_strings::{Item, next_char, next_item};
 use gx_words::{FILTER_SYSTEM, Fault, GLK_SYSTEM, PrintKind, Printing};
 use std::alloc::Allocator;
 
@@ -122,6 +124,25 @@ fn is_place(printing: &Printing) -> bool
         PrintKind::E1 => printing.bit < 8,
         _ => true,
     }
+}
+
+/// The character that the next step of a machine that prints asks to be put, with the address and the bit behind it;
+/// None where it does something else, or may do so.
+#[inline(always)]
+#[tactic(auto, unfolding(crate::specs::Items::item, crate::specs::Items::item_printed, crate::specs::Items::character_printed, crate::specs::Items::mode_after))]
+pub fn next_put<A: Allocator + Clone>(
+    state: &State<A>,
+    printing: &Printing,
+) -> Option<(u32, u32, u32)>
+    requires { state.now.flat.mode ≡ APrinting printing.now }
+    ensures value { IfSome result (λ r. printed state.now.flat ≡ Ok (state.now.flat, Put r.0)) }
+    ensures mode { IfSome result (λ r. mode_after state.now.flat ≡ APrinting (record printing.now { at = r.1; bit = r.2 })) }
+{
+    let (system, _) = state.iosys();
+    if system != GLK_SYSTEM || !is_place(printing) {
+        return None;
+    }
+    next_char(state.memory(), state.table(), printing)
 }
 
 /// Makes one step of printing like `item`, and answers with it the mode behind the character, where the
