@@ -25,11 +25,10 @@ fn in_one_page(at: usize, count: usize) -> usize
 #[inline(never)]
 pub fn put<A: Allocator + Clone>(
     table: &mut Table<A>,
-    zero: &Page<A>,
+    common: &Page<A>,
     at: u32,
     bytes: &[u8],
 ) -> Result<(), AllocError>
-    requires zero { zero.now.value ≡ replicate 256 0 }
     requires inside { IsInside at (length bytes.now) (length table.old) }
     ensures ok { OnOk result (table.new ≡ spliced table.old at bytes.now) }
     ensures size { length table.new ≡ length table.old }
@@ -38,7 +37,7 @@ pub fn put<A: Allocator + Clone>(
     while done < bytes.len() {
         let place = at as usize + done;
         let count = in_one_page(place, bytes.len() - done);
-        table.write(zero, place, &bytes[done..done + count])?;
+        table.write(common, place, &bytes[done..done + count])?;
         done += count;
     }
     Ok(())
@@ -47,16 +46,15 @@ pub fn put<A: Allocator + Clone>(
 /// Makes each write, the first of them first.
 pub fn put_each<A: Allocator + Clone>(
     table: &mut Table<A>,
-    zero: &Page<A>,
+    common: &Page<A>,
     writes: &[(u32, Bytes)],
 ) -> Result<(), AllocError>
-    requires zero { zero.now.value ≡ replicate 256 0 }
     requires inside { AreInside writes.now (length table.old) }
     ensures ok { OnOk result (table.new ≡ all_spliced table.old writes.now) }
     ensures size { length table.new ≡ length table.old }
 {
     for write in writes {
-        put(table, zero, write.0, write.1.as_slice())?;
+        put(table, common, write.0, write.1.as_slice())?;
     }
     Ok(())
 }
