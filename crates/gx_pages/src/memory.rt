@@ -7,14 +7,16 @@
 //! goes to another table of the same leaves and takes that once all is written. Pages of zeros are one
 //! page (there is none in memory that has no zeros to share it), and a write of what is there already
 //! leaves a page as shared as it was.
-ghost use Rattle.std.specs.Prelude.{◌≡◌, ◌⊎◌, ℕ, ◌+◌, ◌-◌, ◌%◌, ◌<◌, ◌≤◌, ◌^◌, ◌++◌, length, take, drop, slice_index, replicate, IfOk, OnOk, OnErr};
+ghost use Rattle.std.specs.Prelude.{◌≡◌, ◌⊎◌, ℕ, true, ◌+◌, ◌-◌, ◌%◌, ◌<◌, ◌≤◌, ◌^◌, ◌++◌, length, take, drop, slice_index, replicate, IfOk, OnOk, OnErr};
 ghost use Rattle.gx_words.specs.Numbers.{IsWidth, byte, half, word, number, spliced};
 ghost use Rattle.gx_words.specs.Faults.{Reads};
 ghost use Rattle.gx_words.specs.declared.limits.TheConstants.{CEILING};
 ghost use Rattle.gx_pages.specs.Memory.{IsSize, IsInside, AreInside, HasBytes, number_in, all_spliced, resized, put_back_of};
 
 use crate::group::{Page, has_zero_page, page_of, zero_of, zero_page, zeros};
-use crate::ranges::{add_to, clear, copy_out, copy_there, has_bytes, put, put_each};
+use crate::ranges::{
+    add_to, clear, copy_out, copy_there, has_bytes, has_whole_page, put, put_each,
+};
 use crate::table::Table;
 use gx_words::{Bytes, Fault, Writes, half_at, word_at};
 use std::alloc::{AllocError, Allocator, Global};
@@ -23,7 +25,7 @@ use std::marker::Model;
 /// The memory of a machine.
 ///
 /// `common` is what whole pages with its bytes become: a page of zeros, but in memory that began without
-/// one, until zeros are added to it or put over more than one page.
+/// one, until a call adds zeros to it or puts them over a whole page among others.
 #[derive(Drop)]
 pub struct Pages<A: Allocator> {
     table: Table<A>,
@@ -174,7 +176,7 @@ impl<A: Allocator + Clone> Pages<A> {
     /// Memory with these bytes, and zeros up to `size`.
     ///
     /// Each page is placed by `pages`, and the table of the pages by `alloc`. The pages of zeros are one
-    /// page, which is placed only if there are such pages, or no pages at all.
+    /// page, which is placed only if there are any, or no pages at all.
     pub fn from_bytes(
         alloc: Global,
         pages: A,
@@ -186,7 +188,7 @@ impl<A: Allocator + Clone> Pages<A> {
         ensures value { IfOk result (λ all. all ≡ bytes.now ++ replicate (size - length bytes.now) 0) }
         ensures size { IfOk result (λ all. length all ≡ size) }
     {
-        if !bytes.is_empty() && bytes.len() == size as usize && !has_zero_page(bytes) {
+        if is_full(bytes, size) {
             return Pages::of_bytes(alloc, pages, bytes);
         }
         let common = zero_page(pages)?;
@@ -195,7 +197,7 @@ impl<A: Allocator + Clone> Pages<A> {
         Ok(Pages { table, common })
     }
 
-    /// Memory with these bytes. What whole pages share is their first page.
+    /// Memory with these bytes, whose first page is what whole pages with its bytes become.
     fn of_bytes(alloc: Global, pages: A, bytes: &[u8]) -> Result<Pages<A>, AllocError>
         requires whole { IsSize (length bytes.now) }
         requires some { 0 < length bytes.now }
@@ -306,10 +308,14 @@ impl<A: Allocator + Clone> Pages<A> {
             return self.write(at, zeros(count as usize));
         }
         let mut table = self.table.share()?;
-        let zero = zero_of(&self.common)?;
-        clear(&mut table, &zero, at, count)?;
+        let common = if has_whole_page(at, count) {
+            zero_of(&self.common)?
+        } else {
+            self.common.clone()?
+        };
+        clear(&mut table, &common, at, count)?;
         self.table = table;
-        self.common = zero;
+        self.common = common;
         Ok(())
     }
 
@@ -396,7 +402,7 @@ impl<A: Allocator + Clone> Pages<A> {
         ensures value { IfOk result (λ all. all ≡ put_back_of self.now (bytes.now ++ replicate (size - length bytes.now) 0) skip.0 skip.1) }
         ensures size { IfOk result (λ all. length all ≡ size) }
     {
-        let common = zero_of(&self.common)?;
+        let common = self.common_for(bytes, size)?;
         let mut table = self.table.share()?;
         table.resize(&common, size)?;
         put(&mut table, &common, 0, bytes)?;
@@ -404,6 +410,18 @@ impl<A: Allocator + Clone> Pages<A> {
         clear(&mut table, &common, end, size - end)?;
         self.keep_present(&mut table, skip)?;
         Ok(Pages { table, common })
+    }
+
+    /// What whole pages become in another memory, with these bytes and zeros up to `size`: a page of zeros if
+    /// there are any, or pages are added.
+    fn common_for(&self, bytes: &[u8], size: u32) -> Result<Page<A>, AllocError>
+        ensures zero { length self.now < size → IfOk result (λ page. page.value ≡ replicate 256 0) }
+        ensures size { IfOk result (λ page. length page.value ≡ 256) }
+    {
+        if size <= self.size() && is_full(bytes, size) {
+            return Ok(self.common.clone()?);
+        }
+        zero_of(&self.common)
     }
 
     /// Gives another table the bytes that are there now at `skip.1` addresses from `skip.0` on.
@@ -431,4 +449,12 @@ impl<A: Allocator + Clone> Pages<A> {
         copy_there(&self.table, from, bytes.as_mut_slice());
         Ok(bytes)
     }
+}
+
+/// Whether there are bytes, they reach to `size`, and no whole page of them is zeros.
+fn is_full(bytes: &[u8], size: u32) -> bool
+    ensures reach { result ≡ true → length bytes.now ≡ size }
+    ensures some { result ≡ true → 0 < length bytes.now }
+{
+    !bytes.is_empty() && bytes.len() == size as usize && !has_zero_page(bytes)
 }

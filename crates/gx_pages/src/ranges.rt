@@ -59,14 +59,19 @@ pub fn put_each<A: Allocator + Clone>(
     Ok(())
 }
 
-/// Puts zeros over `count` bytes from `at` on; each whole page becomes `zero`.
+/// Whether a whole page lies in the `count` bytes from `at` on.
+pub fn has_whole_page(at: u32, count: u32) -> bool {
+    let before = (256 - at % 256) % 256;
+    count >= before + 256
+}
+
+/// Puts zeros over `count` bytes from `at` on, page by page.
 pub fn clear<A: Allocator + Clone>(
     table: &mut Table<A>,
-    zero: &Page<A>,
+    common: &Page<A>,
     at: u32,
     count: u32,
 ) -> Result<(), AllocError>
-    requires zero { zero.now.value ≡ replicate 256 0 }
     requires inside { IsInside at count (length table.old) }
     ensures ok { OnOk result (table.new ≡ spliced table.old at (replicate count 0)) }
     ensures size { length table.new ≡ length table.old }
@@ -75,7 +80,7 @@ pub fn clear<A: Allocator + Clone>(
     while done < count as usize {
         let place = at as usize + done;
         let piece = in_one_page(place, count as usize - done);
-        table.write(zero, place, zeros(piece))?;
+        table.write(common, place, zeros(piece))?;
         done += piece;
     }
     Ok(())

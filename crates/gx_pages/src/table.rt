@@ -105,7 +105,7 @@ impl<A: Allocator + Clone> Table<A> {
 
     /// Drops the bytes from `size` on, or adds zeros up to `size`.
     pub fn resize(&mut self, zero: &Page<A>, size: u32) -> Result<(), AllocError>
-        requires zero { zero.now.value ≡ replicate 256 0 }
+        requires zero { length self.old < size → zero.now.value ≡ replicate 256 0 }
         requires whole { IsSize size }
         ensures ok { OnOk result (self.new ≡ resized self.old size) }
         ensures err { OnErr result (self.new ≡ self.old) }
