@@ -14,6 +14,9 @@ module _ {Z : Type 0} where
   length-flat n [] w = sym (mul-zero n)
   length-flat n (p ∷ ps) w = omega (arith, length-append p.value (flat ps), w.0, length-flat n ps w.1, mul-suc n (length ps))
 
+  pub length-sixteen : (n : ℕ) (ps : List (Rc (List ℕ) Z)) → AllChunks n ps → length ps ≡ 16 → length (flat ps) ≡ n * 16
+  length-sixteen n ps w e = length-flat n ps w ∙ ap (λ (k : ℕ). n * k) e
+
   -- as many bytes as the size says
   pub length-view : (ps : List (Rc (List ℕ) Z)) (size : ℕ) → IsTop ps size → length (take size (flat ps)) ≡ size
   length-view ps size top = length-take-le size (flat ps) (omega (arith, length-flat 65536 ps top.whole, top.reach))
@@ -97,12 +100,11 @@ module _ {Z : Type 0} where
       let f : n * (k + 1) ≡ n * k + n = rw (add-one k) (mul-suc n k) in
       flat-append ps (q ∷ []) ∙ ap (λ u. flat ps ++ u) (append-nil q.value ∙ v) ∙ ap (λ u. u ++ replicate n 0) z ∙ replicate-append-replicate {A = ℕ} (n * k) n 0 ∙ ap (λ m. replicate m 0) (sym f)
 
-  -- chunks of zeros
-  pub zeros_whole : (n : ℕ) (ps : List (Rc (List ℕ) Z)) → ((i : ℕ) (d : Rc (List ℕ) Z) → i < length ps → (get_or ps i d).value ≡ replicate n 0) → AllChunks n ps
-  zeros_whole n [] h = tt
-  zeros_whole n (p ∷ ps) h =
-      (ap (λ (v : List ℕ). length v) (h 0 p (omega arith)) ∙ length-replicate {A = ℕ} n 0, zeros_whole n ps (λ i d l. h (suc i) d (omega arith)))
+  pub same_whole : (n : ℕ) (ps : List (Rc (List ℕ) Z)) → ((i : ℕ) (d : Rc (List ℕ) Z) → i < length ps → length (get_or ps i d).value ≡ n) → AllChunks n ps
+  same_whole n [] h = tt
+  same_whole n (p ∷ ps) h = (h 0 p (omega arith), same_whole n ps (λ i d l. h (suc i) d (omega arith)))
 
+  -- chunks of zeros
   pub zeros_flat : (n : ℕ) (ps : List (Rc (List ℕ) Z)) → ((i : ℕ) (d : Rc (List ℕ) Z) → i < length ps → (get_or ps i d).value ≡ replicate n 0) → flat ps ≡ replicate (n * length ps) 0
   zeros_flat n [] h = ap (λ k. replicate k 0) (sym (mul-zero n))
   zeros_flat n (p ∷ ps) h =

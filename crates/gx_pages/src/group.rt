@@ -42,13 +42,14 @@ impl<A: Allocator> Clone for Group<A> {
 }
 
 impl<A: Allocator> Group<A> {
-    /// A group of zeros, which are one page.
-    pub fn zeros(alloc: Global, zero: &Page<A>) -> Result<Group<A>, AllocError>
-        requires { zero.now.value ≡ replicate 256 0 }
-        ensures { IfOk result (λ group. group ≡ replicate 4096 0) }
+    /// A group whose pages are all one.
+    pub fn filled(alloc: Global, page: &Page<A>) -> Result<Group<A>, AllocError>
+        requires { length page.now.value ≡ 256 }
+        ensures size { IfOk result (λ group. length group ≡ 4096) }
+        ensures zero { page.now.value ≡ replicate 256 0 → IfOk result (λ group. group ≡ replicate 4096 0) }
     {
         Ok(Group {
-            pages: owners(alloc, zero)?,
+            pages: owners(alloc, page)?,
         })
     }
 
@@ -71,16 +72,16 @@ impl<A: Allocator> Group<A> {
 }
 
 impl<A: Allocator + Clone> Group<A> {
-    /// Puts bytes over those from `at` on in one page. A whole page of zeros becomes `zero`.
+    /// Puts bytes over those from `at` on in one page. A whole page that has the bytes of `common` then
+    /// becomes `common`.
     #[inline(always)]
-    pub fn write(&mut self, zero: &Page<A>, at: usize, bytes: &[u8]) -> Result<(), AllocError>
-        requires zero { zero.now.value ≡ replicate 256 0 }
+    pub fn write(&mut self, common: &Page<A>, at: usize, bytes: &[u8]) -> Result<(), AllocError>
         requires inside { at < 4096 }
         requires page { at % 256 + length bytes.now ≤ 256 }
         ensures ok { OnOk result (self.new ≡ spliced self.old at bytes.now) }
         ensures err { OnErr result (self.new ≡ self.old) }
     {
-        write_in_page(&mut self.pages, zero, at, bytes)
+        write_in_page(&mut self.pages, common, at, bytes)
     }
 }
 
@@ -101,9 +102,31 @@ pub fn owners<T: Drop, A: Allocator>(
 
 /// A page of zeros, placed by `pages`.
 pub fn zero_page<A: Allocator>(pages: A) -> Result<Page<A>, AllocError>
-    ensures { IfOk result (λ page. page.value ≡ replicate 256 0) }
+    ensures value { IfOk result (λ page. page.value ≡ replicate 256 0) }
+    ensures size { IfOk result (λ page. length page.value ≡ 256) }
 {
     Ok(Rc::new(pages, [0; 256])?)
+}
+
+/// A page with these bytes, placed by `pages`.
+pub fn page_of<A: Allocator>(pages: A, bytes: &[u8]) -> Result<Page<A>, AllocError>
+    requires { length bytes.now ≡ 256 }
+    ensures { IfOk result (λ page. length page.value ≡ 256) }
+{
+    let mut page = [0; 256];
+    page.copy_from_slice(bytes);
+    Ok(Rc::new(pages, page)?)
+}
+
+/// A page of zeros: `page` if that is one, or else a new one, placed as `page` is.
+pub fn zero_of<A: Allocator + Clone>(page: &Page<A>) -> Result<Page<A>, AllocError>
+    requires { length page.now.value ≡ 256 }
+    ensures value { IfOk result (λ zero. zero.value ≡ replicate 256 0) }
+    ensures size { IfOk result (λ zero. length zero.value ≡ 256) }
+{
+    let mut zero = page.clone()?;
+    write_page(&mut zero, page, 0, zeros(256))?;
+    Ok(zero)
 }
 
 /// `count` zeros.
@@ -114,29 +137,38 @@ pub fn zeros(count: usize) -> &'static [u8]
     &[0; 256][..count]
 }
 
-/// Whether bytes are a whole page of zeros.
-fn is_zero_page(bytes: &[u8]) -> bool
-    ensures { result ≡ true → bytes.now ≡ replicate 256 0 }
+/// Whether bytes are those of a page.
+fn is_page<A: Allocator>(page: &Page<A>, bytes: &[u8]) -> bool
+    ensures { result ≡ true → bytes.now ≡ page.now.value }
 {
-    bytes == zeros(256)
+    bytes == &page[..]
+}
+
+/// Whether a whole page of the bytes is zeros.
+pub fn has_zero_page(bytes: &[u8]) -> bool {
+    for page in bytes.chunks(256) {
+        if page == zeros(256) {
+            return true;
+        }
+    }
+    false
 }
 
 #[inline(always)]
 fn write_page<A: Allocator + Clone>(
     page: &mut Page<A>,
-    zero: &Page<A>,
+    common: &Page<A>,
     at: usize,
     bytes: &[u8],
 ) -> Result<(), AllocError>
-    requires zero { zero.now.value ≡ replicate 256 0 }
     requires page { at + length bytes.now ≤ 256 }
     requires whole { length page.old.value ≡ 256 }
     ensures ok { OnOk result (page.new.value ≡ spliced page.old.value at bytes.now) }
     ensures err { OnErr result (page.new.value ≡ page.old.value) }
     ensures size { length page.new.value ≡ length page.old.value }
 {
-    if bytes.len() == 256 && is_zero_page(bytes) {
-        *page = zero.clone()?;
+    if bytes.len() == 256 && is_page(common, bytes) {
+        *page = common.clone()?;
         return Ok(());
     }
     let own = Rc::make_mut(page)?;
@@ -144,15 +176,15 @@ fn write_page<A: Allocator + Clone>(
     Ok(())
 }
 
-/// Puts bytes over those from `at` on in one page. A whole page of zeros becomes `zero`.
+/// Puts bytes over those from `at` on in one page. A whole page that has the bytes of `common` then becomes
+/// `common`.
 #[inline(always)]
 fn write_in_page<A: Allocator + Clone>(
     pages: &mut [Page<A>],
-    zero: &Page<A>,
+    common: &Page<A>,
     at: usize,
     bytes: &[u8],
 ) -> Result<(), AllocError>
-    requires zero { zero.now.value ≡ replicate 256 0 }
     requires whole { AllChunks 256 pages.old }
     requires page { at % 256 + length bytes.now ≤ 256 }
     requires room { at / 256 < length pages.old }
@@ -161,5 +193,5 @@ fn write_in_page<A: Allocator + Clone>(
     ensures err { OnErr result (flat pages.new ≡ flat pages.old) }
     ensures count { length pages.new ≡ length pages.old }
 {
-    write_page(&mut pages[at / 256], zero, at % 256, bytes)
+    write_page(&mut pages[at / 256], common, at % 256, bytes)
 }

@@ -38,12 +38,13 @@ impl<A: Allocator> Clone for Leaf<A> {
 }
 
 impl<A: Allocator> Leaf<A> {
-    /// A leaf of zeros, which are one group.
-    pub fn zeros(alloc: Global, zero: &Page<A>) -> Result<Leaf<A>, AllocError>
-        requires { zero.now.value ≡ replicate 256 0 }
-        ensures { IfOk result (λ leaf. leaf ≡ replicate 65536 0) }
+    /// A leaf whose groups are all one, and its pages too.
+    pub fn filled(alloc: Global, page: &Page<A>) -> Result<Leaf<A>, AllocError>
+        requires { length page.now.value ≡ 256 }
+        ensures size { IfOk result (λ leaf. length leaf ≡ 65536) }
+        ensures zero { page.now.value ≡ replicate 256 0 → IfOk result (λ leaf. leaf ≡ replicate 65536 0) }
     {
-        let group = Rc::new(alloc, Group::zeros(alloc, zero)?)?;
+        let group = Rc::new(alloc, Group::filled(alloc, page)?)?;
         Ok(Leaf {
             groups: owners(alloc, &group)?,
         })
@@ -69,27 +70,26 @@ impl<A: Allocator> Leaf<A> {
 }
 
 impl<A: Allocator + Clone> Leaf<A> {
-    /// Puts bytes over those from `at` on in one page. A whole page of zeros becomes `zero`.
+    /// Puts bytes over those from `at` on in one page. A whole page that has the bytes of `common` then
+    /// becomes `common`.
     #[inline(always)]
-    pub fn write(&mut self, zero: &Page<A>, at: usize, bytes: &[u8]) -> Result<(), AllocError>
-        requires zero { zero.now.value ≡ replicate 256 0 }
+    pub fn write(&mut self, common: &Page<A>, at: usize, bytes: &[u8]) -> Result<(), AllocError>
         requires inside { at < 65536 }
         requires page { at % 256 + length bytes.now ≤ 256 }
         ensures ok { OnOk result (self.new ≡ spliced self.old at bytes.now) }
         ensures err { OnErr result (self.new ≡ self.old) }
     {
-        write_in_group(&mut self.groups, zero, at, bytes)
+        write_in_group(&mut self.groups, common, at, bytes)
     }
 }
 
 #[inline(always)]
 fn write_group<A: Allocator + Clone>(
     group: &mut Rc<Group<A>>,
-    zero: &Page<A>,
+    common: &Page<A>,
     at: usize,
     bytes: &[u8],
 ) -> Result<(), AllocError>
-    requires zero { zero.now.value ≡ replicate 256 0 }
     requires inside { at < 4096 }
     requires page { at % 256 + length bytes.now ≤ 256 }
     requires whole { length group.old.value ≡ 4096 }
@@ -98,18 +98,18 @@ fn write_group<A: Allocator + Clone>(
     ensures size { length group.new.value ≡ 4096 }
 {
     let own = Rc::make_mut(group)?;
-    own.write(zero, at, bytes)
+    own.write(common, at, bytes)
 }
 
-/// Puts bytes over those from `at` on in one page. A whole page of zeros becomes `zero`.
+/// Puts bytes over those from `at` on in one page. A whole page that has the bytes of `common` then becomes
+/// `common`.
 #[inline(always)]
 fn write_in_group<A: Allocator + Clone>(
     groups: &mut [Rc<Group<A>>],
-    zero: &Page<A>,
+    common: &Page<A>,
     at: usize,
     bytes: &[u8],
 ) -> Result<(), AllocError>
-    requires zero { zero.now.value ≡ replicate 256 0 }
     requires whole { AllChunks 4096 groups.old }
     requires page { at % 256 + length bytes.now ≤ 256 }
     requires room { at / 4096 < length groups.old }
@@ -118,5 +118,5 @@ fn write_in_group<A: Allocator + Clone>(
     ensures err { OnErr result (flat groups.new ≡ flat groups.old) }
     ensures count { length groups.new ≡ length groups.old }
 {
-    write_group(&mut groups[at / 4096], zero, at % 4096, bytes)
+    write_group(&mut groups[at / 4096], common, at % 4096, bytes)
 }

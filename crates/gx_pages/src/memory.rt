@@ -5,36 +5,42 @@
 //!
 //! A write inside one page changes that page in place, once it is memory's own. A call that writes more
 //! goes to another table of the same leaves and takes that once all is written. Pages of zeros are one
-//! page, and a write of what is there already leaves a page as shared as it was.
-ghost use Rattle.std.specs.Prelude.{◌≡◌, ◌⊎◌, ℕ, ◌+◌, ◌-◌, ◌%◌, ◌<◌, ◌≤◌, ◌^◌, ◌++◌, length, take, drop, slice_index, replicate, IfOk, OnOk, OnErr};
+//! page (there is none in memory that has no zeros to share it), and a write of what is there already
+//! leaves a page as shared as it was.
+ghost use Rattle.std.specs.Prelude.{◌≡◌, ◌⊎◌, ℕ, true, ◌+◌, ◌-◌, ◌%◌, ◌<◌, ◌≤◌, ◌^◌, ◌++◌, length, take, drop, slice_index, replicate, IfOk, OnOk, OnErr};
 ghost use Rattle.gx_words.specs.Numbers.{IsWidth, byte, half, word, number, spliced};
 ghost use Rattle.gx_words.specs.Faults.{Reads};
 ghost use Rattle.gx_words.specs.declared.limits.TheConstants.{CEILING};
 ghost use Rattle.gx_pages.specs.Memory.{IsSize, IsInside, AreInside, HasBytes, number_in, all_spliced, resized, put_back_of};
 
-use crate::group::{Page, zero_page, zeros};
-use crate::ranges::{add_to, clear, copy_out, copy_there, has_bytes, put, put_each};
+use crate::group::{Page, has_zero_page, page_of, zero_of, zero_page, zeros};
+use crate::ranges::{
+    add_to, clear, copy_out, copy_there, has_bytes, has_whole_page, put, put_each,
+};
 use crate::table::Table;
 use gx_words::{Bytes, Fault, Writes, half_at, word_at};
 use std::alloc::{AllocError, Allocator, Global};
 use std::marker::Model;
 
 /// The memory of a machine.
+///
+/// `common` is what whole pages with its bytes become: a page of zeros, but in memory that began without
+/// one, until a call adds zeros to it or puts them over a whole page among others.
 #[derive(Drop)]
 pub struct Pages<A: Allocator> {
     table: Table<A>,
-    zero: Page<A>,
+    common: Page<A>,
 }
 
 impl<A: Allocator> Model for Pages<A> {
-    ghost use Rattle.std.specs.Prelude.{◌≡◌, ℕ, List, length, replicate};
+    ghost use Rattle.std.specs.Prelude.{◌≡◌, ℕ, List, length};
     ghost use Rattle.gx_pages.specs.Memory.{IsSize};
 
     ghost Value = { List ℕ };
 
     ghost view = { λ memory. memory.table };
 
-    ghost invariant = { λ memory. IsSize (length memory.table) × (memory.zero.value ≡ replicate 256 0) };
+    ghost invariant = { λ memory. IsSize (length memory.table) × (length memory.common.value ≡ 256) };
 }
 
 /// Memory as it was when it was kept.
@@ -170,7 +176,7 @@ impl<A: Allocator + Clone> Pages<A> {
     /// Memory with these bytes, and zeros up to `size`.
     ///
     /// Each page is placed by `pages`, and the table of the pages by `alloc`. The pages of zeros are one
-    /// page.
+    /// page, which is placed only if there are any, or no pages at all.
     pub fn from_bytes(
         alloc: Global,
         pages: A,
@@ -182,10 +188,25 @@ impl<A: Allocator + Clone> Pages<A> {
         ensures value { IfOk result (λ all. all ≡ bytes.now ++ replicate (size - length bytes.now) 0) }
         ensures size { IfOk result (λ all. length all ≡ size) }
     {
-        let zero = zero_page(pages)?;
-        let mut table = Table::zeros(alloc, &zero, size)?;
-        put(&mut table, &zero, 0, bytes)?;
-        Ok(Pages { table, zero })
+        if is_full(bytes, size) {
+            return Pages::of_bytes(alloc, pages, bytes);
+        }
+        let common = zero_page(pages)?;
+        let mut table = Table::filled(alloc, &common, size)?;
+        put(&mut table, &common, 0, bytes)?;
+        Ok(Pages { table, common })
+    }
+
+    /// Memory with these bytes, whose first page is what whole pages with its bytes become.
+    fn of_bytes(alloc: Global, pages: A, bytes: &[u8]) -> Result<Pages<A>, AllocError>
+        requires whole { IsSize (length bytes.now) }
+        requires some { 0 < length bytes.now }
+        ensures { IfOk result (λ all. all ≡ bytes.now) }
+    {
+        let common = page_of(pages, &bytes[..256])?;
+        let mut table = Table::filled(alloc, &common, bytes.len() as u32)?;
+        put(&mut table, &common, 0, bytes)?;
+        Ok(Pages { table, common })
     }
 
     /// Puts bytes over those from `at` on. An empty list of bytes may have any address.
@@ -201,10 +222,10 @@ impl<A: Allocator + Clone> Pages<A> {
             return Ok(());
         }
         if at as usize % 256 + bytes.len() <= 256 {
-            return self.table.write(&self.zero, at as usize, bytes);
+            return self.table.write(&self.common, at as usize, bytes);
         }
         let mut table = self.table.share()?;
-        put(&mut table, &self.zero, at, bytes)?;
+        put(&mut table, &self.common, at, bytes)?;
         self.table = table;
         Ok(())
     }
@@ -221,7 +242,7 @@ impl<A: Allocator + Clone> Pages<A> {
             return Ok(());
         }
         let mut table = self.table.share()?;
-        put_each(&mut table, &self.zero, writes.as_slice())?;
+        put_each(&mut table, &self.common, writes.as_slice())?;
         self.table = table;
         Ok(())
     }
@@ -244,8 +265,8 @@ impl<A: Allocator + Clone> Pages<A> {
             return self.write(at, bytes);
         }
         let mut table = self.table.share()?;
-        put_each(&mut table, &self.zero, writes.as_slice())?;
-        put(&mut table, &self.zero, at, bytes)?;
+        put_each(&mut table, &self.common, writes.as_slice())?;
+        put(&mut table, &self.common, at, bytes)?;
         self.table = table;
         Ok(())
     }
@@ -269,8 +290,8 @@ impl<A: Allocator + Clone> Pages<A> {
             return self.write(then, others);
         }
         let mut table = self.table.share()?;
-        put(&mut table, &self.zero, at, bytes)?;
-        put(&mut table, &self.zero, then, others)?;
+        put(&mut table, &self.common, at, bytes)?;
+        put(&mut table, &self.common, then, others)?;
         self.table = table;
         Ok(())
     }
@@ -287,8 +308,14 @@ impl<A: Allocator + Clone> Pages<A> {
             return self.write(at, zeros(count as usize));
         }
         let mut table = self.table.share()?;
-        clear(&mut table, &self.zero, at, count)?;
+        let common = if has_whole_page(at, count) {
+            zero_of(&self.common)?
+        } else {
+            self.common.clone()?
+        };
+        clear(&mut table, &common, at, count)?;
         self.table = table;
+        self.common = common;
         Ok(())
     }
 
@@ -324,7 +351,14 @@ impl<A: Allocator + Clone> Pages<A> {
         ensures size { OnOk result (length self.new ≡ size) }
         ensures memory { OnErr result (length self.old < size) }
     {
-        self.table.resize(&self.zero, size)
+        if size <= self.size() {
+            self.table.cut(size);
+            return Ok(());
+        }
+        let zero = zero_of(&self.common)?;
+        self.table.grow(&zero, size)?;
+        self.common = zero;
+        Ok(())
     }
 
     /// Memory at this time, whatever is written later.
@@ -350,7 +384,7 @@ impl<A: Allocator + Clone> Pages<A> {
         self.keep_present(&mut table, skip)?;
         Ok(Pages {
             table,
-            zero: self.zero.clone()?,
+            common: self.common.clone()?,
         })
     }
 
@@ -368,14 +402,26 @@ impl<A: Allocator + Clone> Pages<A> {
         ensures value { IfOk result (λ all. all ≡ put_back_of self.now (bytes.now ++ replicate (size - length bytes.now) 0) skip.0 skip.1) }
         ensures size { IfOk result (λ all. length all ≡ size) }
     {
-        let zero = self.zero.clone()?;
+        let common = self.common_for(bytes, size)?;
         let mut table = self.table.share()?;
-        table.resize(&self.zero, size)?;
-        put(&mut table, &self.zero, 0, bytes)?;
+        table.resize(&common, size)?;
+        put(&mut table, &common, 0, bytes)?;
         let end = bytes.len() as u32;
-        clear(&mut table, &self.zero, end, size - end)?;
+        clear(&mut table, &common, end, size - end)?;
         self.keep_present(&mut table, skip)?;
-        Ok(Pages { table, zero })
+        Ok(Pages { table, common })
+    }
+
+    /// What whole pages become in another memory, with these bytes and zeros up to `size`: a page of zeros if
+    /// there are any, or pages are added.
+    fn common_for(&self, bytes: &[u8], size: u32) -> Result<Page<A>, AllocError>
+        ensures zero { length self.now < size → IfOk result (λ page. page.value ≡ replicate 256 0) }
+        ensures size { IfOk result (λ page. length page.value ≡ 256) }
+    {
+        if size <= self.size() && is_full(bytes, size) {
+            return Ok(self.common.clone()?);
+        }
+        zero_of(&self.common)
     }
 
     /// Gives another table the bytes that are there now at `skip.1` addresses from `skip.0` on.
@@ -390,7 +436,7 @@ impl<A: Allocator + Clone> Pages<A> {
             return Ok(());
         }
         let bytes = self.present(skip.0, end - from)?;
-        put(table, &self.zero, skip.0, bytes.as_slice())
+        put(table, &self.common, skip.0, bytes.as_slice())
     }
 
     /// The `count` bytes from `from` on, with 0 where memory doesn't reach.
@@ -403,4 +449,12 @@ impl<A: Allocator + Clone> Pages<A> {
         copy_there(&self.table, from, bytes.as_mut_slice());
         Ok(bytes)
     }
+}
+
+/// Whether there are bytes, they reach to `size`, and no whole page of them is zeros.
+fn is_full(bytes: &[u8], size: u32) -> bool
+    ensures reach { result ≡ true → length bytes.now ≡ size }
+    ensures some { result ≡ true → 0 < length bytes.now }
+{
+    !bytes.is_empty() && bytes.len() == size as usize && !has_zero_page(bytes)
 }

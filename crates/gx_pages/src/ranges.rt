@@ -25,11 +25,10 @@ fn in_one_page(at: usize, count: usize) -> usize
 #[inline(never)]
 pub fn put<A: Allocator + Clone>(
     table: &mut Table<A>,
-    zero: &Page<A>,
+    common: &Page<A>,
     at: u32,
     bytes: &[u8],
 ) -> Result<(), AllocError>
-    requires zero { zero.now.value ≡ replicate 256 0 }
     requires inside { IsInside at (length bytes.now) (length table.old) }
     ensures ok { OnOk result (table.new ≡ spliced table.old at bytes.now) }
     ensures size { length table.new ≡ length table.old }
@@ -38,7 +37,7 @@ pub fn put<A: Allocator + Clone>(
     while done < bytes.len() {
         let place = at as usize + done;
         let count = in_one_page(place, bytes.len() - done);
-        table.write(zero, place, &bytes[done..done + count])?;
+        table.write(common, place, &bytes[done..done + count])?;
         done += count;
     }
     Ok(())
@@ -47,28 +46,32 @@ pub fn put<A: Allocator + Clone>(
 /// Makes each write, the first of them first.
 pub fn put_each<A: Allocator + Clone>(
     table: &mut Table<A>,
-    zero: &Page<A>,
+    common: &Page<A>,
     writes: &[(u32, Bytes)],
 ) -> Result<(), AllocError>
-    requires zero { zero.now.value ≡ replicate 256 0 }
     requires inside { AreInside writes.now (length table.old) }
     ensures ok { OnOk result (table.new ≡ all_spliced table.old writes.now) }
     ensures size { length table.new ≡ length table.old }
 {
     for write in writes {
-        put(table, zero, write.0, write.1.as_slice())?;
+        put(table, common, write.0, write.1.as_slice())?;
     }
     Ok(())
 }
 
-/// Puts zeros over `count` bytes from `at` on; each whole page becomes `zero`.
+/// Whether a whole page lies in the `count` bytes from `at` on.
+pub fn has_whole_page(at: u32, count: u32) -> bool {
+    let before = (256 - at % 256) % 256;
+    count >= before + 256
+}
+
+/// Puts zeros over `count` bytes from `at` on, page by page.
 pub fn clear<A: Allocator + Clone>(
     table: &mut Table<A>,
-    zero: &Page<A>,
+    common: &Page<A>,
     at: u32,
     count: u32,
 ) -> Result<(), AllocError>
-    requires zero { zero.now.value ≡ replicate 256 0 }
     requires inside { IsInside at count (length table.old) }
     ensures ok { OnOk result (table.new ≡ spliced table.old at (replicate count 0)) }
     ensures size { length table.new ≡ length table.old }
@@ -77,7 +80,7 @@ pub fn clear<A: Allocator + Clone>(
     while done < count as usize {
         let place = at as usize + done;
         let piece = in_one_page(place, count as usize - done);
-        table.write(zero, place, zeros(piece))?;
+        table.write(common, place, zeros(piece))?;
         done += piece;
     }
     Ok(())

@@ -78,21 +78,21 @@ impl<A: Allocator> Table<A> {
 }
 
 impl<A: Allocator + Clone> Table<A> {
-    /// A table of zeros, which are one page.
-    pub fn zeros(alloc: Global, zero: &Page<A>, size: u32) -> Result<Table<A>, AllocError>
-        requires zero { zero.now.value ≡ replicate 256 0 }
+    /// A table whose pages are all one.
+    pub fn filled(alloc: Global, page: &Page<A>, size: u32) -> Result<Table<A>, AllocError>
+        requires page { length page.now.value ≡ 256 }
         requires size { IsSize size }
-        ensures { IfOk result (λ table. table ≡ replicate size 0) }
+        ensures size { IfOk result (λ table. length table ≡ size) }
+        ensures zero { page.now.value ≡ replicate 256 0 → IfOk result (λ table. table ≡ replicate size 0) }
     {
-        let leaves = zero_leaves(alloc, zero, leaves_for(size as usize))?;
+        let leaves = filled_leaves(alloc, page, leaves_for(size as usize))?;
         Ok(Table { leaves, size })
     }
 
-    /// Puts bytes over those from `at` on in one page. A whole page of zeros becomes `zero`, and a
-    /// shared page that has the bytes already stays.
+    /// Puts bytes over those from `at` on in one page. A whole page that has the bytes of `common` then
+    /// becomes `common`, and a shared page that has the bytes already stays.
     #[inline(always)]
-    pub fn write(&mut self, zero: &Page<A>, at: usize, bytes: &[u8]) -> Result<(), AllocError>
-        requires zero { zero.now.value ≡ replicate 256 0 }
+    pub fn write(&mut self, common: &Page<A>, at: usize, bytes: &[u8]) -> Result<(), AllocError>
         requires inside { at + length bytes.now ≤ length self.old }
         requires page { at % 256 + length bytes.now ≤ 256 }
         requires some { 0 < length bytes.now }
@@ -100,12 +100,12 @@ impl<A: Allocator + Clone> Table<A> {
         ensures err { OnErr result (self.new ≡ self.old) }
         ensures size { length self.new ≡ length self.old }
     {
-        write_in_leaf(self.leaves.as_mut_slice(), zero, at, bytes)
+        write_in_leaf(self.leaves.as_mut_slice(), common, at, bytes)
     }
 
     /// Drops the bytes from `size` on, or adds zeros up to `size`.
     pub fn resize(&mut self, zero: &Page<A>, size: u32) -> Result<(), AllocError>
-        requires zero { zero.now.value ≡ replicate 256 0 }
+        requires zero { length self.old < size → zero.now.value ≡ replicate 256 0 }
         requires whole { IsSize size }
         ensures ok { OnOk result (self.new ≡ resized self.old size) }
         ensures err { OnErr result (self.new ≡ self.old) }
@@ -120,7 +120,7 @@ impl<A: Allocator + Clone> Table<A> {
     }
 
     /// Adds zeros up to `size`.
-    fn grow(&mut self, zero: &Page<A>, size: u32) -> Result<(), AllocError>
+    pub fn grow(&mut self, zero: &Page<A>, size: u32) -> Result<(), AllocError>
         requires zero { zero.now.value ≡ replicate 256 0 }
         requires whole { IsSize size }
         requires more { length self.old < size }
@@ -152,20 +152,20 @@ fn share<A: Allocator>(leaves: &Vec<Rc<Leaf<A>>>) -> Result<Vec<Rc<Leaf<A>>>, Al
     leaves.clone()
 }
 
-/// `count` leaves of zeros, which are one leaf.
-fn zero_leaves<A: Allocator>(
+/// `count` leaves, which are one, and their pages too.
+fn filled_leaves<A: Allocator>(
     alloc: Global,
-    zero: &Page<A>,
+    page: &Page<A>,
     count: usize,
 ) -> Result<Vec<Rc<Leaf<A>>>, AllocError>
-    requires zero { zero.now.value ≡ replicate 256 0 }
+    requires page { length page.now.value ≡ 256 }
     requires few { count ≤ 1024 }
     ensures whole { IfOk result (λ leaves. AllChunks 65536 leaves.items) }
-    ensures zero { IfOk result (λ leaves. flat leaves.items ≡ replicate (65536 * count) 0) }
+    ensures zero { page.now.value ≡ replicate 256 0 → IfOk result (λ leaves. flat leaves.items ≡ replicate (65536 * count) 0) }
     ensures count { IfOk result (λ leaves. length leaves.items ≡ count) }
 {
     let mut leaves = Vec::new(alloc);
-    let leaf = Rc::new(alloc, Leaf::zeros(alloc, zero)?)?;
+    let leaf = Rc::new(alloc, Leaf::filled(alloc, page)?)?;
     for _leaf in 0..count {
         leaves.push(leaf.clone()?)?;
     }
@@ -204,11 +204,10 @@ fn has_bytes<A: Allocator>(leaves: &[Rc<Leaf<A>>], at: usize, bytes: &[u8]) -> b
 #[inline(always)]
 fn write_leaf<A: Allocator + Clone>(
     leaf: &mut Rc<Leaf<A>>,
-    zero: &Page<A>,
+    common: &Page<A>,
     at: usize,
     bytes: &[u8],
 ) -> Result<(), AllocError>
-    requires zero { zero.now.value ≡ replicate 256 0 }
     requires inside { at < 65536 }
     requires page { at % 256 + length bytes.now ≤ 256 }
     requires whole { length leaf.old.value ≡ 65536 }
@@ -217,19 +216,18 @@ fn write_leaf<A: Allocator + Clone>(
     ensures size { length leaf.new.value ≡ 65536 }
 {
     let own = Rc::make_mut(leaf)?;
-    own.write(zero, at, bytes)
+    own.write(common, at, bytes)
 }
 
-/// Puts bytes over those from `at` on in one page. A whole page of zeros becomes `zero`, and a shared
-/// page that has the bytes already stays.
+/// Puts bytes over those from `at` on in one page. A whole page that has the bytes of `common` then becomes
+/// `common`, and a shared page that has the bytes already stays.
 #[inline(always)]
 fn write_in_leaf<A: Allocator + Clone>(
     leaves: &mut [Rc<Leaf<A>>],
-    zero: &Page<A>,
+    common: &Page<A>,
     at: usize,
     bytes: &[u8],
 ) -> Result<(), AllocError>
-    requires zero { zero.now.value ≡ replicate 256 0 }
     requires whole { AllChunks 65536 leaves.old }
     requires page { at % 256 + length bytes.now ≤ 256 }
     requires room { at / 65536 < length leaves.old }
@@ -240,7 +238,7 @@ fn write_in_leaf<A: Allocator + Clone>(
     if is_shared(leaves, at) && has_bytes(leaves, at, bytes) {
         return Ok(());
     }
-    write_leaf(&mut leaves[at / 65536], zero, at % 65536, bytes)
+    write_leaf(&mut leaves[at / 65536], common, at % 65536, bytes)
 }
 
 /// Puts zeros over the bytes of a leaf from `from` on, page by page.
@@ -338,7 +336,7 @@ fn grow<A: Allocator + Clone>(
 {
     clear_tail(leaves, zero, old)?;
     let count = leaves_for(size) - leaves.len();
-    let mut more = zero_leaves(*leaves.allocator(), zero, count)?;
+    let mut more = filled_leaves(*leaves.allocator(), zero, count)?;
     leaves.append(&mut more)?;
     Ok(())
 }

@@ -62,7 +62,7 @@ fn write(pages: &mut Pages<&PagePool>, at: u32, bytes: &[u8]) -> Result<(), Fail
     Ok(())
 }
 
-/// Eight pages with different bytes beside that of zeros, a copy of them, and a write while it is kept.
+/// Eight pages with different bytes, a copy of them, and a write while it is kept.
 #[test]
 fn shares_pages(rt: HostRuntime) -> Result<(), Fail> {
     let pool = PagePool::new(rt.alloc(), 65);
@@ -71,16 +71,16 @@ fn shares_pages(rt: HostRuntime) -> Result<(), Fail> {
         *byte = (at / 256 % 8 + 1) as u8;
     }
     let mut pages = Pages::from_bytes(rt.alloc(), &pool, &bytes, 2048)?;
-    assert_eq!(rt; pool.out(), 9);
+    assert_eq!(rt; pool.out(), 8);
     let kept = pages.keep()?;
-    assert_eq!(rt; pool.out(), 9);
+    assert_eq!(rt; pool.out(), 8);
     write(&mut pages, 0x123, &[0xFF])?;
-    assert_eq!(rt; pool.out(), 10);
+    assert_eq!(rt; pool.out(), 9);
     let back = pages.put_back(&kept, (0, 0))?;
-    assert_eq!(rt; pool.out(), 10);
+    assert_eq!(rt; pool.out(), 9);
     assert_eq!(rt; back.try_number(1, 0x123), Ok(2));
     drop(pages);
-    assert_eq!(rt; pool.out(), 9);
+    assert_eq!(rt; pool.out(), 8);
     drop(kept);
     drop(back);
     assert_eq!(rt; pool.out(), 0);

@@ -6,7 +6,7 @@ use Rattle.gx_pages.proofs.leaf.write_in_group.Goals as goal
 pub write_group-requires : goal.write_group-requires
 write_group-requires g c =
     let same : c.args.at % 4096 % 256 ≡ c.args.at % 256 = omega arith in
-    (omega arith, (c.requires.zero, (omega arith, (omega (arith, c.requires.page), whole_at 4096 c.args.groups.now (c.args.at / 4096) c.index-groups-at.result c.requires.room c.requires.whole))))
+    (omega arith, (omega arith, (omega (arith, c.requires.page), whole_at 4096 c.args.groups.now (c.args.at / 4096) c.index-groups-at.result c.requires.room c.requires.whole)))
 
 pub returns-clause-whole : goal.returns-clause-whole
 returns-clause-whole g c =

@@ -30,7 +30,7 @@ returns-clause-ok g c =
     let full : length (flat ps) ≡ 65536 * length ps = length-flat 65536 ps c.requires.top.whole in
     let i : c.append.new.self.items ≡ ts ++ ms = c.in_ok-append.ensures.items in
     rw i (ap (take c.args.size) (flat-append ts ms)
-    ∙ tail_grown (flat ps) (flat ts) (flat ms) c.args.old c.args.size _ _ (omega (arith, c.requires.top.reach)) c.in_ok-clear_tail.ensures.ok c.in_ok-more.ensures.zero (omega arith) (omega (arith, c.in_ok-more.ensures.count, c.leaves_for.ensures.reach)))
+    ∙ tail_grown (flat ps) (flat ts) (flat ms) c.args.old c.args.size _ _ (omega (arith, c.requires.top.reach)) c.in_ok-clear_tail.ensures.ok (c.in_ok-more.ensures.zero c.requires.zero) (omega arith) (omega (arith, c.in_ok-more.ensures.count, c.leaves_for.ensures.reach)))
 
 pub returns-clause-top : goal.returns-clause-top
 returns-clause-top g c =

@@ -6,7 +6,7 @@ use Rattle.gx_pages.proofs.table.write_in_leaf.Goals as goal
 pub write_leaf-requires : goal.write_leaf-requires
 write_leaf-requires g c =
     let same : c.args.at % 65536 % 256 ≡ c.args.at % 256 = omega arith in
-    (omega arith, (c.requires.zero, (omega arith, (omega (arith, c.requires.page), whole_at 65536 c.args.leaves.now (c.args.at / 65536) c.index-leaves-at.result c.requires.room c.requires.whole))))
+    (omega arith, (omega arith, (omega (arith, c.requires.page), whole_at 65536 c.args.leaves.now (c.args.at / 65536) c.index-leaves-at.result c.requires.room c.requires.whole)))
 
 pub returns-clause-whole : goal.returns-clause-whole
 returns-clause-whole g c =
