@@ -43,7 +43,7 @@ use Rattle.gx_session.specs.Session.{Configuration, Doing, steps, asks, goes_on,
 use Rattle.gx_session.specs.Playing.{Held, WordIs, Past, configuration_of, IsPast, Standing, Ready, Going, Waits, Done, Early, Follows, IsAnswering, Resumes, Replies, Turns, GoesOn, TakesInput, Gives, FaultGives}
 use Rattle.gx_session.proofs.Steps.{step-does, step-faults, step-asks, step-effect, step-asks-nothing, ok-is, asked-same}
 use Rattle.gx_session.proofs.NextLines.{some-input, shorter-input}
-use Rattle.gx_session.proofs.Playing.{here, moves-on, stops-at, wants}
+use Rattle.gx_session.proofs.Playing.{here, moves-on, stops-at, wants, wants-line}
 use Rattle.gx_session.proofs.Saved.{unsaved, saved-of}
 use Rattle.rand_core.specs.Stream.{Stream, next_u32}
 
@@ -199,7 +199,7 @@ module _ (start : Configuration) (entry : Devices) (h : Held) (d : Devices) wher
         let is : IsOk (stepped (record { machine = h.machine; asking = None }) (next_u32 g.now.past.words).0 h.left) =
         subst (λ (x : ℕ). IsOk (stepped (record { machine = h.machine; asking = None }) x h.left)) (sym first)
         (subst (λ (a : Option Asking). IsOk (stepped (record { machine = h.machine; asking = a }) word h.left)) nothing fine) in
-        wants start entry h d steps g (record h { machine = machine }) d.source now (inl (nothing', is)) same refl
+        wants start entry h d steps g (record h { machine = machine }) now (inl (nothing', is)) same refl
 
     pub step-stops : (machine : FlatMachine) (f : Fault) (now : Option Asking) → machine ≡ h.machine → now ≡ None → stepped (record { machine = h.machine; asking = asking }) word h.left ≡ Err f
         → Done start entry (record h { machine = machine }) now d (stop.Faulted f)
@@ -269,7 +269,7 @@ module _ (start : Configuration) (entry : Devices) (h : Held) (d : Devices) wher
     pub fault-early : (world : FlatWorld) (asking : Option Asking) → asking ≡ asked (here start entry h d doing g.now) → HasNoFault (act_of (here start entry h d doing g.now))
         → Early start entry (record h { world = world }) asking d halt.NoMemory
     fault-early world asking same fine =
-        wants start entry h d doing g (record h { world = world }) d.source asking (wants-answer doing (here start entry h d doing g.now) asking is same fine) refl refl
+        wants start entry h d doing g (record h { world = world }) asking (wants-answer doing (here start entry h d doing g.now) asking is same fine) refl refl
 
     pub fault-stops : (f : Fault) (world : FlatWorld) (asking : Option Asking) → world ≡ h.world → asking ≡ asked (here start entry h d doing g.now)
         → act_of (here start entry h d doing g.now) ≡ stops (stop.Faulted f) (here start entry h d doing g.now) → Done start entry (record h { world = world }) asking d (stop.Faulted f)
@@ -303,7 +303,7 @@ module _ (start : Configuration) (entry : Devices) (h : Held) (d : Devices) wher
 
     pub resumed-early : (h' : Held) → h'.machine ≡ h.machine → h'.left ≡ h.left → (asking' : Option Asking) → asking' ≡ asking → Early start entry h' asking' d halt.NoMemory
     resumed-early h' stands units asking' same =
-        wants start entry before d r.doing r.going h' d.source asking'
+        wants start entry before d r.doing r.going h' asking'
         (wants-answer r.doing at asking' r.answering (same ∙ r.asks) (subst HasNoFault (sym r.event) tt)) stands units
 
   -- THE TURN OF A CALL
@@ -391,7 +391,7 @@ module _ (start : Configuration) (entry : Devices) (h : Held) (d : Devices) wher
     -- the showing of the grids wants memory
     pub turn-wants : (h' : Held) → h'.machine ≡ h.machine → h'.left ≡ h.left → Early start entry h' asking d halt.NoMemory
     turn-wants h' machine units =
-        wants start entry turning d steps r.going h' d.source asking (inr (r.asks, inl (subst HasNoFault (sym r.event) (fine-turn called w (r.said, t))))) machine units
+        wants start entry turning d steps r.going h' asking (inr (r.asks, inl (subst HasNoFault (sym r.event) (fine-turn called w (r.said, t))))) machine units
 
   -- A call goes on.
   abbrev pub on-ready : (asking : Option Asking) (g : Given) (w : Waiting) → Waits start entry h asking d (goes_on g w) → Ready start entry h d (goes_on g w)
@@ -473,7 +473,7 @@ module _ (start : Configuration) (entry : Devices) (h : Held) (d : Devices) wher
     -- the showing of the line wants memory
     pub line-wants : (h' : Held) → h'.machine ≡ h.machine → h'.left ≡ h.left → Early start entry h' asking d halt.NoMemory
     line-wants h' machine units =
-        wants start entry was d-was (asks r.turn w) r.going h' d.source asking (r.asking_is, r.is_wait, some-input (r.ahead ++ r.coming) chars (h.ahead ++ h.coming) r.taken) machine units
+        wants-line start entry was d-was (asks r.turn w) r.going h' d.source asking r.is_wait (r.asking_is, r.is_wait, some-input (r.ahead ++ r.coming) chars (h.ahead ++ h.coming) r.taken) machine units
 
     -- it is shown, where lines are
     pub line-taken : (world : FlatWorld) → world ≡ (if h.echo then after h.world (show_line h.world.scene chars) else h.world) → Waits start entry (record h { world = world }) asking d (goes_on (given.Line chars) w)
@@ -536,7 +536,7 @@ module _ (start : Configuration) (entry : Devices) (h : Held) (d : Devices) wher
         → Early start entry (record h { world = world }) asking d halt.NoMemory
     save-wants stream is begun world asking asks-is =
         let begins : BeginsSave asking-here (effect_at asking-here) = subst (BeginsSave asking-here) (sym (a.effect_is ∙ ap (λ (e : Effect). Some e) is)) begun in
-        wants start entry h d steps a.going (record h { world = world }) d.source asking (inr (asks-is ∙ sym a.asking_is, inr begins)) refl refl
+        wants start entry h d steps a.going (record h { world = world }) asking (inr (asks-is ∙ sym a.asking_is, inr begins)) refl refl
 
     -- the machine takes an answer, or goes back to a copy
     pub asking-resumes : (asking : Option Asking) (world : FlatWorld) (said : Said) (machine : FlatMachine) → asking ≡ asking_of does → world ≡ after h.world said

@@ -24,7 +24,7 @@ use Rattle.gx_session.specs.Session.{Configuration, asks, goes_on, asked}
 use Rattle.gx_session.specs.Playing.{Held, WordIs, Ready, Waits, Flushes, TakesInput, EventGives, Early, halt_of_shelf, without_line}
 use Rattle.gx_session.proofs.Asking.{question-is, shelf-answers, line-stops}
 use Rattle.gx_session.proofs.Feeding.{reads-on}
-use Rattle.gx_session.proofs.Playing.{here, flushed, cut-send, refused, unread, wants}
+use Rattle.gx_session.proofs.Playing.{here, flushed, cut-send, refused, unread, wants-line}
 use Rattle.gx_session.proofs.Steps.{asked-by-word}
 use Rattle.rand_core.specs.Stream.{Stream, next_u32}
 
@@ -136,4 +136,4 @@ module _ (start : Configuration) (entry : Devices) (h : Held) (asking : Option A
       no-line-came no.TooLong takes reads few =
           inr (line-stops start entry h1 d1 asking w t is ready asks-is stop.LineTooLong too_long h2 source takes.0 refl tt refl takes.1 told (reads-so 0 reads) (λ long. absurd (long refl)) refl)
       no-line-came no.Failed takes reads few = inr (unread start entry h1 d1 w t ready h2 source asking is told (reads-so 1 reads) few takes refl refl asks-is)
-      no-line-came no.NoMemory takes reads few = inr (wants start entry h1 d1 (asks t w) ready h2 source asking (asks-is, is, takes) refl refl)
+      no-line-came no.NoMemory takes reads few = inr (wants-line start entry h1 d1 (asks t w) ready h2 source asking is (asks-is, is, takes) refl refl)

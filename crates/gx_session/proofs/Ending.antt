@@ -74,7 +74,7 @@ module _ (start : Configuration) (entry : Devices) (h : Held) (asking : Option A
   listing-wants =
       cut-at start entry d h asking halt.NoMemory in_listing (told_all (stopped start)) t.past.sent [] (refl, refl, t.asking_is) (sym (ap (λ (m : Configuration). m.machine) t.is_end)) (sym (ap (λ (m : Configuration). m.left) t.is_end))
       (whole-text ∙ sym (append-nil t.past.sent)) sent-taken whole-front (omega (arith, sent-bytes)) (omega (arith, sent-bytes)) (sym (ap (λ (m : Configuration). m.files) t.is_end))
-      (t.is_past.asked ∙ ap (λ (m : Configuration). raised_by m.asked entry.shelf.calls.made) (sym t.is_end)) (λ other. absurd (other refl)) words-are t.saves
+      (t.is_past.asked ∙ ap (λ (m : Configuration). raised_by m.asked entry.shelf.calls.made) (sym t.is_end)) (λ other. input-are) words-are t.saves
 
   module _ (shelf : FlatShelf) where
     abbrev d-now : Devices

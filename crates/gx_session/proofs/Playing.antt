@@ -13,8 +13,7 @@ use Rattle.gx_session.specs.declared.ends.Halt.TheVariants as halt
 use Rattle.gx_session.specs.declared.lines.TheConstants.{PIECE}
 use Rattle.gx_session.specs.declared.running.TheConstants.{ENOUGH}
 use Rattle.gx_session.specs.declared.running.Waiting.{Waiting}
-use Rattle.gx_session.specs.declared.statuses.TheConstants.{NO_MEMORY}
-use Rattle.gx_session.specs.Cuts.{Cut, in_move, in_send, in_question, in_reading, in_last_send, IsCut, IsSendStatus, IsQuestion, IsWait, MayWant, LeavesFiles, WantsMemory, IsLineStop, AwaitedAt, LongAt, asking_between, stopped, asking_at_stop, most_sent, sends_at, asked_by_cut, FilesAt}
+use Rattle.gx_session.specs.Cuts.{Cut, in_move, in_send, in_question, in_reading, in_last_send, IsCut, IsLineCut, IsWaiting, IsSendStatus, IsQuestion, IsWait, MayWant, LeavesFiles, WantsMemory, IsLineStop, AwaitedAt, LongAt, asking_between, stopped, asking_at_stop, most_sent, sends_at, asked_by_cut, FilesAt}
 use Rattle.gx_session.specs.Devices.{Devices}
 use Rattle.gx_session.specs.Endings.{told_all}
 use Rattle.gx_session.specs.Reading.{IsPartial, spare, ReadsFew}
@@ -86,7 +85,7 @@ pub cut-at : (start : Configuration) (entry exit : Devices) (h : Held) (asking :
     → IsCut start cut m (status_of_halt why) asking → h.machine ≡ m.machine → h.left ≡ m.left → m.world.text ≡ sent ++ rest → HasTaken entry.sink exit.sink sent (sends_at cut m)
     → IsFront m.world.text (final_of start).configuration.world.text → m.sent.bytes ≤ length sent → length sent ≤ most_sent cut m
     → FilesAt cut m exit.shelf.files → exit.shelf.calls.made ≡ raised_by (asked_by_cut cut m) entry.shelf.calls.made
-    → (status_of_halt why ≢ NO_MEMORY → LeavesInput start.input m.input entry.source exit.source (AwaitedAt start cut) (LongAt start cut) (read_failures (status_of_halt why)))
+    → ((IsLineCut cut m → ⊥) → LeavesInput start.input m.input entry.source exit.source (AwaitedAt start cut) (LongAt start cut) (read_failures (status_of_halt why)))
     → AreDrawn m.words exit.words → SavedBy start cut → Early start entry h asking exit why
 cut-at start entry exit h asking why cut m sent rest is machine left text has shown least most files made input words saves =
     let front : take (length sent) m.world.text ≡ sent = ap (take (length sent)) text ∙ take-append_seam sent rest in
@@ -169,14 +168,27 @@ module _ (start : Configuration) (entry : Devices) (h : Held) (d : Devices) wher
           asking_is = asking-is;
         }
 
-    -- memory ran out
-    pub wants : (g : Ready start entry h d doing) (h' : Held) (source : FlatSource) (asking : Option Asking) → WantsMemory doing (here g.now) asking
+    -- memory ran out, with this input left
+    wants-by : (g : Ready start entry h d doing) (h' : Held) (source : FlatSource) (asking : Option Asking)
+        → ((IsWaiting doing → ⊥) → LeavesInput start.input (here g.now).input entry.source source ⊥ ⊥ 0) → WantsMemory doing (here g.now) asking
         → h'.machine ≡ h.machine → h'.left ≡ h.left → Early start entry h' asking (record d { source = source }) halt.NoMemory
-    wants g h' source asking is machine left =
+    wants-by g h' source asking input is machine left =
         let s = g.now in
         cut-at start entry (record d { source = source }) h' asking halt.NoMemory (in_move s.moves) (here s) s.past.sent h.world.text
-        (s.reached, g.quiet, refl, is) machine left refl s.is_past.taken (shown-is s) (omega arith) (omega arith) refl s.is_past.asked (λ other. absurd (other refl))
+        (s.reached, g.quiet, refl, is) machine left refl s.is_past.taken (shown-is s) (omega arith) (omega arith) refl s.is_past.asked input
         (words-left h.word d.words s.past.words s.is_past.word) s.saves
+
+    -- the source wasn't asked since then
+    pub wants : (g : Ready start entry h d doing) (h' : Held) (asking : Option Asking) → WantsMemory doing (here g.now) asking
+        → h'.machine ≡ h.machine → h'.left ≡ h.left → Early start entry h' asking d halt.NoMemory
+    wants g h' asking is machine left =
+        let s = g.now in
+        wants-by g h' d.source asking (λ other. input-left ⊥ ⊥ (λ short. s.few) (λ short. s.reads) s.is_past.reads s.is_past.left) is machine left
+
+    -- at a wait for a line
+    pub wants-line : (g : Ready start entry h d doing) (h' : Held) (source : FlatSource) (asking : Option Asking) → IsWaiting doing → WantsMemory doing (here g.now) asking
+        → h'.machine ≡ h.machine → h'.left ≡ h.left → Early start entry h' asking (record d { source = source }) halt.NoMemory
+    wants-line g h' source asking waiting is machine left = wants-by g h' source asking (λ other. absurd (other waiting)) is machine left
 
   module _ (w : Waiting) (turn : Turn) where
     -- the shelf refused
@@ -192,7 +204,7 @@ module _ (start : Configuration) (entry : Devices) (h : Held) (d : Devices) wher
         let s = g.now in
         cut-at start entry (record d { shelf = shelf }) h asking halt.NoMemory (in_question s.moves) (here (asks turn w) s) s.past.sent h.world.text
         (s.reached, g.quiet, (is, inr (refl, e.1)), asking-is) refl refl refl s.is_past.taken (shown-is (asks turn w) s) (omega arith) (omega arith) files
-        (made ∙ ap raised s.is_past.asked) (λ other. absurd (other refl)) (words-left h.word d.words s.past.words s.is_past.word) s.saves
+        (made ∙ ap raised s.is_past.asked) (λ other. input-left ⊥ ⊥ (λ short. s.few) (λ short. s.reads) s.is_past.reads s.is_past.left) (words-left h.word d.words s.past.words s.is_past.word) s.saves
     refused g shelf halt.NoMemory asking made is (inl e) files asking-is = cc
     refused g shelf halt.Shelf asking made is (inr e) files asking-is = absurd (let f = e.0 in cc)
     refused g shelf halt.Input asking made is (inl e) files asking-is = cc

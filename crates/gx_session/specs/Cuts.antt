@@ -88,6 +88,11 @@ abbrev pub IsWaiting : Doing → Type 0
 IsWaiting (asks t w) = IsWait t
 IsWaiting d = ⊥
 
+-- memory was wanted at a wait for a line
+abbrev pub IsLineCut : Cut → Configuration → Type 0
+IsLineCut (in_move j) m = IsWaiting m.doing
+IsLineCut cut m = ⊥
+
 abbrev pub IsSendStatus : ℕ → Type 0
 IsSendStatus status = (status ≡ OUTPUT_FAULT) ⊎ (status ≡ NO_MEMORY)
 

@@ -8,7 +8,7 @@ use Rattle.gx_session.specs.declared.session.EndedOn.{EndedOn}
 use Rattle.gx_session.specs.declared.statuses.TheConstants.{ENDED, FAULT, SHELF_FAULT, INPUT_FAULT, NO_MEMORY}
 use Rattle.gx_session.specs.declared.ends.Stop.TheVariants as stop
 use Rattle.gx_session.specs.Counts.{Counts, IsUntold}
-use Rattle.gx_session.specs.Cuts.{Cut, in_move, in_send, in_question, in_reading, IsCut, BeginsSave, IsLineStop, AwaitedAt, LongAt, most_sent, sends_at, asked_by_cut, FilesAt}
+use Rattle.gx_session.specs.Cuts.{Cut, in_move, in_send, in_question, in_reading, IsCut, IsLineCut, BeginsSave, IsLineStop, AwaitedAt, LongAt, most_sent, sends_at, asked_by_cut, FilesAt}
 use Rattle.gx_session.specs.Devices.{Devices}
 use Rattle.gx_session.specs.Endings.{last_of}
 use Rattle.gx_session.specs.Reading.{IsPartial}
@@ -94,7 +94,8 @@ pub record EndsAt (start : Configuration) (e : Ending) (entry exit : Devices) (r
   pub saves_are : SavedAll start
 
 -- The run was cut short, with so many units left. The text that was sent is a front of what was shown by then: all
--- that was due before, and some of a send that was refused.
+-- that was due before, and some of a send that was refused. Where memory was wanted at a wait for a line, nothing is said of the input:
+-- more of it may have been read.
 pub record StopsEarly (start : Configuration) (entry exit : Devices) (status left : ℕ) (machine : Whole) : Type 0 where
   pub cut : Cut
   pub configuration : Configuration
@@ -109,7 +110,7 @@ pub record StopsEarly (start : Configuration) (entry exit : Devices) (status lef
   pub sends_are : exit.sink.calls.made ≡ raised_by (sends_at cut configuration) entry.sink.calls.made
   pub files_are : FilesAt cut configuration exit.shelf.files
   pub asked_are : exit.shelf.calls.made ≡ raised_by (asked_by_cut cut configuration) entry.shelf.calls.made
-  pub input_is : status ≢ NO_MEMORY → LeavesInput start.input configuration.input entry.source exit.source (AwaitedAt start cut) (LongAt start cut) (read_failures status)
+  pub input_is : (IsLineCut cut configuration → ⊥) → LeavesInput start.input configuration.input entry.source exit.source (AwaitedAt start cut) (LongAt start cut) (read_failures status)
   pub words_are : AreDrawn configuration.words exit.words
   pub saves_are : SavedBy start cut
 
