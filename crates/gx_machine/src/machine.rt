@@ -88,6 +88,16 @@ impl<A: Allocator + Clone> Machine<A> {
         self.state.story()
     }
 
+    /// What it waits for; None where it may make a step.
+    pub fn asking(&self) -> Option<Asking>
+        ensures { result ≡ self.now.asking }
+    {
+        match self.pending {
+            Some(pending) => Some(pending.asking),
+            None => None,
+        }
+    }
+
     /// How many copies it keeps for undo.
     pub fn undo_len(&self) -> usize
         ensures { result ≡ length self.now.machine.undo.copies }
