@@ -1,15 +1,9 @@
 //! Files that are cut at each of their bytes, and memory that runs out at each of its pages.
 use super::{hello, played};
-use crate::play;
 use crate::tests::pool::{played as played_in, story};
-use glk_world::World;
 use gx_machine::Machine;
-use gx_outside::{MemShelf, MemSink, MemSource};
-use gx_pages::Pages;
 use gx_pool::PagePool;
-use gx_session::{Ended, run, statuses};
-use rand_chacha::ChaCha20Rng;
-use rand_core::SeedableRng;
+use gx_session::{Ended, statuses};
 use std::alloc::{Allocator, Global};
 use std::process::Abort;
 use std::test::Fail;
@@ -132,95 +126,5 @@ fn pages_run_out(rt: HostRuntime) -> Result<(), Fail> {
     }
     // Six pages are out at most: the story's, one of zeros, and four that were written.
     assert_eq!(rt; refused, 6);
-    Ok(())
-}
-
-/// It shows `A` in a window, asks for a file, closes the window, writes to a page of its own, and shows `B` in a window.
-const TWO_WINDOWS: &[u8] = &[
-    0xC1, 0x00, 0x00, //
-    0x81, 0x49, 0x01, 0x02, // setiosys 2 0
-    0x40, 0x80, 0x40, 0x81, 0x03, 0x40, 0x80, 0x40, 0x80, 0x40, 0x80, //
-    0x81, 0x30, 0x11, 0x08, 0x23, 0x05, // glk window_open 5 sp
-    0x81, 0x30, 0x11, 0x00, 0x2F, 0x01, // glk set_window 1 _
-    0x70, 0x01, 0x41, // streamchar A
-    0x40, 0x80, 0x40, 0x82, 0x00, 0xE0, 0x40, 0x80, //
-    0x81, 0x30, 0x11, 0x08, 0x61, 0x03, // glk fileref_create_by_name 3 sp
-    0x81, 0x30, 0x11, 0x00, 0x67, 0x01, // glk fileref_does_file_exist 1 _
-    0x40, 0x80, 0x81, 0x30, 0x01, 0x08, 0x22, // glk window_get_root 0 sp
-    0x81, 0x30, 0x11, 0x00, 0x24, 0x02, // glk window_close 2 _
-    0x40, 0x61, 0x01, 0x02, 0x00, // copy 1 *0x200
-    0x40, 0x80, 0x40, 0x81, 0x03, 0x40, 0x80, 0x40, 0x80, 0x40, 0x80, //
-    0x81, 0x30, 0x11, 0x08, 0x23, 0x05, // glk window_open 5 sp
-    0x81, 0x30, 0x11, 0x00, 0x2F, 0x01, // glk set_window 1 _
-    0x70, 0x01, 0x42, // streamchar B
-    0x81, 0x20, // quit
-];
-
-/// A run that is cut short at a write goes on from the machine that it left, over the same devices, once there is a page
-/// for it: the text of both is that of a run that isn't cut short, and so is the machine at the end.
-#[test]
-fn goes_on_where_memory_ran_out(rt: HostRuntime) -> Result<(), Fail> {
-    let alloc = rt.alloc();
-    let mut file = story(TWO_WINDOWS);
-    file[0x12] = 0x10;
-    file[0xE0..0xE3].copy_from_slice(&[0xE0, b'x', 0]);
-    let (whole, shown) = played(alloc, &["gx_player", "hello"], &file, &[], &[])?;
-    assert_eq!(rt;
-        (whole.status, shown.bytes()),
-        (statuses::ENDED, b"AB".as_slice())
-    );
-    let pool = PagePool::new(alloc, 3);
-    let taken = Pages::from_bytes(alloc, &pool, &[1; 256], 256)?;
-    let mut shelf = MemShelf::new(alloc, &[])?;
-    shelf.put("hello", &file)?;
-    let mut source = MemSource::new(alloc, b"", 1, &[])?;
-    let mut sink = MemSink::new(alloc, &[])?;
-    let mut dice = ChaCha20Rng::from_seed([0; 32]);
-    let words = ["gx_player", "hello"];
-    let cut = play(
-        alloc,
-        &pool,
-        &words,
-        &mut source,
-        &mut sink,
-        &mut shelf,
-        &mut dice,
-    );
-    assert_eq!(rt;
-        (cut.status, sink.bytes()),
-        (statuses::NO_MEMORY, b"A".as_slice())
-    );
-    drop(taken);
-    let before = cut.steps;
-    let machine = cut.machine.ok_or("a machine is left")?;
-    if machine.asking().is_some() {
-        return Err("the machine waits".into());
-    }
-    let world = World::new(alloc, 80, 24);
-    let ended = run(
-        alloc,
-        machine,
-        world,
-        false,
-        1000,
-        &mut source,
-        &mut sink,
-        &mut shelf,
-        &mut dice,
-    );
-    assert_eq!(rt;
-        (ended.status, sink.bytes()),
-        (statuses::ENDED, b"AB".as_slice())
-    );
-    let steps = before.saturating_add(ended.steps);
-    assert_eq!(rt; steps, whole.steps);
-    let (left, there) = (
-        ended.machine.ok_or("a machine")?,
-        whole.machine.ok_or("a machine")?,
-    );
-    assert_eq!(rt;
-        left_in(alloc, &left)?.as_str(),
-        left_in(alloc, &there)?.as_str()
-    );
     Ok(())
 }
