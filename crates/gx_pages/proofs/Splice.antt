@@ -70,9 +70,12 @@ spliced_same xs ys at e =
     ∙ take-append-drop at xs
 
 -- where the first bytes of a window are these, they may as well be written
-pub spliced_found : (xs ys piece : List ℕ) (at k : ℕ) → piece ≡ take k (drop at xs) → length ys ≤ k → take (length ys) piece ≡ ys → xs ≡ spliced xs at ys
+pub spliced_found : (xs ys piece : List ℕ) (at k : ℕ) → piece ≡ take k (drop at xs) → length ys ≤ length piece → take (length ys) piece ≡ ys → xs ≡ spliced xs at ys
 spliced_found xs ys piece at k made h e =
-    sym (spliced_same xs ys at (sym (take-take (length ys) k (drop at xs) h) ∙ ap (take (length ys)) (sym made) ∙ e))
+    let l : length piece ≡ length (take k (drop at xs)) = ap (λ (v : List ℕ). length v) made in
+    let m : length (take k (drop at xs)) ≤ k = simp length-take (omega arith) in
+    let few : length ys ≤ k = omega (arith, l, m, h) in
+    sym (spliced_same xs ys at (sym (take-take (length ys) k (drop at xs) few) ∙ ap (take (length ys)) (sym made) ∙ e))
 
 -- bytes over as many
 pub spliced_whole : (xs ys : List ℕ) (at : ℕ) → length ys ≡ length xs → at ≡ 0 → spliced xs at ys ≡ ys

@@ -1,7 +1,7 @@
 //! A group of memory: 16 pages of 256 bytes, each shared until it is written to.
 //!
 //! Contracts see a group as its 4096 bytes.
-ghost use Rattle.std.specs.Prelude.{◌≡◌, ℕ, true, ◌+◌, ◌*◌, ◌-◌, ◌/◌, ◌%◌, ◌<◌, ◌≤◌, length, take, drop, slice_index_or, replicate, IfOk, OnOk, OnErr};
+ghost use Rattle.std.specs.Prelude.{◌≡◌, ℕ, List, true, ◌+◌, ◌*◌, ◌-◌, ◌/◌, ◌%◌, ◌<◌, ◌≤◌, length, take, drop, slice_index_or, replicate, IfOk, OnOk, OnErr};
 ghost use Rattle.std.specs.declared.rc.Rc.{Rc};
 ghost use Rattle.gx_words.specs.Numbers.{spliced};
 ghost use Rattle.gx_pages.specs.Chunks.{AllChunks, flat};
@@ -61,19 +61,11 @@ impl<A: Allocator> Group<A> {
     {
         &self.pages[at / 256][at % 256..]
     }
-
-    /// Whether the page of `at` has another owner.
-    #[inline(always)]
-    pub fn is_shared(&self, at: usize) -> bool
-        requires { at < 4096 }
-    {
-        Rc::strong_count(&self.pages[at / 256]) > 1
-    }
 }
 
 impl<A: Allocator + Clone> Group<A> {
     /// Puts bytes over those from `at` on in one page. A whole page that has the bytes of `common` then
-    /// becomes `common`.
+    /// becomes `common`, and a shared page that has the bytes already stays.
     #[inline(always)]
     pub fn write(&mut self, common: &Page<A>, at: usize, bytes: &[u8]) -> Result<(), AllocError>
         requires inside { at < 4096 }
@@ -144,6 +136,14 @@ fn is_page<A: Allocator>(page: &Page<A>, bytes: &[u8]) -> bool
     bytes == &page[..]
 }
 
+/// Whether what is there begins with these bytes, so that they may as well be written.
+pub fn begins(there: &[u8], bytes: &[u8]) -> bool
+    requires { length bytes.now ≤ length there.now }
+    ensures { result ≡ true → (all : List ℕ) (at k : ℕ) → there.now ≡ take k (drop at all) → all ≡ spliced all at bytes.now }
+{
+    &there[..bytes.len()] == bytes
+}
+
 /// Whether a whole page of the bytes is zeros.
 pub fn has_zero_page(bytes: &[u8]) -> bool {
     for page in bytes.chunks(256) {
@@ -171,13 +171,38 @@ fn write_page<A: Allocator + Clone>(
         *page = common.clone()?;
         return Ok(());
     }
+    match Rc::get_mut(page) {
+        Some(own) => {
+            splice(own, at, bytes);
+            Ok(())
+        }
+        None => write_shared_page(page, at, bytes),
+    }
+}
+
+/// Puts bytes over those from `at` on in a page that has another owner: it stays where it has them already.
+#[inline(never)]
+fn write_shared_page<A: Allocator + Clone>(
+    page: &mut Page<A>,
+    at: usize,
+    bytes: &[u8],
+) -> Result<(), AllocError>
+    requires page { at + length bytes.now ≤ 256 }
+    requires whole { length page.old.value ≡ 256 }
+    ensures ok { OnOk result (page.new.value ≡ spliced page.old.value at bytes.now) }
+    ensures err { OnErr result (page.new.value ≡ page.old.value) }
+    ensures size { length page.new.value ≡ length page.old.value }
+{
+    if begins(&page[at..], bytes) {
+        return Ok(());
+    }
     let own = Rc::make_mut(page)?;
     splice(own, at, bytes);
     Ok(())
 }
 
 /// Puts bytes over those from `at` on in one page. A whole page that has the bytes of `common` then becomes
-/// `common`.
+/// `common`, and a shared page that has the bytes already stays.
 #[inline(always)]
 fn write_in_page<A: Allocator + Clone>(
     pages: &mut [Page<A>],

@@ -5,7 +5,7 @@ ghost use Rattle.std.specs.Prelude.{◌≡◌, ◌+◌, ◌*◌, ◌-◌, ◌/�
 ghost use Rattle.gx_words.specs.Numbers.{spliced};
 ghost use Rattle.gx_pages.specs.Chunks.{AllChunks, flat};
 
-use crate::group::{Group, Page, owners};
+use crate::group::{Group, Page, begins, owners};
 use std::alloc::{AllocError, Allocator, Global};
 use std::marker::Model;
 use std::rc::Rc;
@@ -58,20 +58,11 @@ impl<A: Allocator> Leaf<A> {
     {
         self.groups[at / 4096].rest_of_page(at % 4096)
     }
-
-    /// Whether the page of `at`, or its group, has another owner.
-    #[inline(always)]
-    pub fn is_shared(&self, at: usize) -> bool
-        requires { at < 65536 }
-    {
-        let group = &self.groups[at / 4096];
-        Rc::strong_count(group) > 1 || group.is_shared(at % 4096)
-    }
 }
 
 impl<A: Allocator + Clone> Leaf<A> {
     /// Puts bytes over those from `at` on in one page. A whole page that has the bytes of `common` then
-    /// becomes `common`.
+    /// becomes `common`, and a shared page that has the bytes already stays.
     #[inline(always)]
     pub fn write(&mut self, common: &Page<A>, at: usize, bytes: &[u8]) -> Result<(), AllocError>
         requires inside { at < 65536 }
@@ -97,12 +88,36 @@ fn write_group<A: Allocator + Clone>(
     ensures err { OnErr result (group.new.value ≡ group.old.value) }
     ensures size { length group.new.value ≡ 4096 }
 {
+    match Rc::get_mut(group) {
+        Some(own) => own.write(common, at, bytes),
+        None => write_shared_group(group, common, at, bytes),
+    }
+}
+
+/// The same in a group that has another owner: it stays where it has the bytes already.
+#[inline(never)]
+fn write_shared_group<A: Allocator + Clone>(
+    group: &mut Rc<Group<A>>,
+    common: &Page<A>,
+    at: usize,
+    bytes: &[u8],
+) -> Result<(), AllocError>
+    requires inside { at < 4096 }
+    requires page { at % 256 + length bytes.now ≤ 256 }
+    requires whole { length group.old.value ≡ 4096 }
+    ensures ok { OnOk result (group.new.value ≡ spliced group.old.value at bytes.now) }
+    ensures err { OnErr result (group.new.value ≡ group.old.value) }
+    ensures size { length group.new.value ≡ 4096 }
+{
+    if begins(group.rest_of_page(at), bytes) {
+        return Ok(());
+    }
     let own = Rc::make_mut(group)?;
     own.write(common, at, bytes)
 }
 
 /// Puts bytes over those from `at` on in one page. A whole page that has the bytes of `common` then becomes
-/// `common`.
+/// `common`, and a shared page that has the bytes already stays.
 #[inline(always)]
 fn write_in_group<A: Allocator + Clone>(
     groups: &mut [Rc<Group<A>>],

@@ -9,7 +9,7 @@ ghost use Rattle.gx_words.specs.Numbers.{spliced};
 ghost use Rattle.gx_pages.specs.Memory.{IsSize, resized};
 ghost use Rattle.gx_pages.specs.Chunks.{AllChunks, IsTop, flat};
 
-use crate::group::{Page, zeros};
+use crate::group::{Page, begins, zeros};
 use crate::leaf::Leaf;
 use std::alloc::{AllocError, Allocator, Global};
 use std::marker::Model;
@@ -182,25 +182,6 @@ fn rest_of_page<A: Allocator>(leaves: &[Rc<Leaf<A>>], at: usize) -> &[u8]
     leaves[at / 65536].rest_of_page(at % 65536)
 }
 
-/// Whether the page of `at`, its group or its leaf has another owner.
-#[inline(always)]
-fn is_shared<A: Allocator>(leaves: &[Rc<Leaf<A>>], at: usize) -> bool
-    requires { at < 65536 * length leaves.now }
-{
-    let leaf = &leaves[at / 65536];
-    Rc::strong_count(leaf) > 1 || leaf.is_shared(at % 65536)
-}
-
-/// Whether the bytes from `at` on are these.
-fn has_bytes<A: Allocator>(leaves: &[Rc<Leaf<A>>], at: usize, bytes: &[u8]) -> bool
-    requires whole { AllChunks 65536 leaves.now }
-    requires page { at % 256 + length bytes.now ≤ 256 }
-    requires inside { at < 65536 * length leaves.now }
-    ensures { result ≡ true → flat leaves.now ≡ spliced (flat leaves.now) at bytes.now }
-{
-    &rest_of_page(leaves, at)[..bytes.len()] == bytes
-}
-
 #[inline(always)]
 fn write_leaf<A: Allocator + Clone>(
     leaf: &mut Rc<Leaf<A>>,
@@ -215,6 +196,30 @@ fn write_leaf<A: Allocator + Clone>(
     ensures err { OnErr result (leaf.new.value ≡ leaf.old.value) }
     ensures size { length leaf.new.value ≡ 65536 }
 {
+    match Rc::get_mut(leaf) {
+        Some(own) => own.write(common, at, bytes),
+        None => write_shared_leaf(leaf, common, at, bytes),
+    }
+}
+
+/// The same in a leaf that has another owner: it stays where it has the bytes already.
+#[inline(never)]
+fn write_shared_leaf<A: Allocator + Clone>(
+    leaf: &mut Rc<Leaf<A>>,
+    common: &Page<A>,
+    at: usize,
+    bytes: &[u8],
+) -> Result<(), AllocError>
+    requires inside { at < 65536 }
+    requires page { at % 256 + length bytes.now ≤ 256 }
+    requires whole { length leaf.old.value ≡ 65536 }
+    ensures ok { OnOk result (leaf.new.value ≡ spliced leaf.old.value at bytes.now) }
+    ensures err { OnErr result (leaf.new.value ≡ leaf.old.value) }
+    ensures size { length leaf.new.value ≡ 65536 }
+{
+    if begins(leaf.rest_of_page(at), bytes) {
+        return Ok(());
+    }
     let own = Rc::make_mut(leaf)?;
     own.write(common, at, bytes)
 }
@@ -235,9 +240,6 @@ fn write_in_leaf<A: Allocator + Clone>(
     ensures ok { OnOk result (flat leaves.new ≡ spliced (flat leaves.old) at bytes.now) }
     ensures err { OnErr result (flat leaves.new ≡ flat leaves.old) }
 {
-    if is_shared(leaves, at) && has_bytes(leaves, at, bytes) {
-        return Ok(());
-    }
     write_leaf(&mut leaves[at / 65536], common, at % 65536, bytes)
 }
 
