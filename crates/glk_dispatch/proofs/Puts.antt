@@ -1,5 +1,5 @@
 -- Characters that are put, and their places.
-use Rattle.std.proofs.Common.{◌≡◌, ◌≢◌, ◌<◌, ◌≤◌, ◌==◌, ◌&&◌, not, ℕ, Bool, true, false, if◌then◌else◌, List, [], ◌∷◌, length, refl, ap, inl, inr, arith, Result, Ok}
+use Rattle.std.proofs.Common.{◌≡◌, ◌≢◌, ◌<◌, ◌≤◌, ◌==◌, ◌&&◌, not, ℕ, Bool, true, false, if◌then◌else◌, List, [], ◌∷◌, length, refl, ap, inl, inr, arith, Result, Ok, IsOk}
 use Rattle.std.proofs.lemmas.List.{append-nil}
 use Rattle.gx_words.specs.declared.faults.Fault.{Fault}
 use Rattle.gx_state.specs.Flat.{FlatState}
@@ -68,4 +68,8 @@ text_put w f stream c plain none =
 pub text_grows : (w : Scene) (stream c : ℕ) → is_plain_text w stream ≡ true → put_grows w stream c ≡ true → put_grows_one w stream c ≡ true
 text_grows w stream c plain grows = rw (text_there w stream plain, grows) refl
 
-pub ruleset text_rules = (text_put, text_grows)
+-- memory is wanted for it where it has no fault
+pub text_fine : (w : FlatWorld) (f : FlatState) (stream c : ℕ) → is_plain_text w.scene stream ≡ true → (places_of w.scene stream 1).count ≡ 0 → IsOk (on_world w (put_all w.scene f stream (c ∷ [])))
+text_fine w f stream c plain none = rw (text_put w f stream c plain none) tt
+
+pub ruleset text_rules = (text_put, text_grows, text_fine)

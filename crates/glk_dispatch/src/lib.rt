@@ -37,7 +37,7 @@ pub use going::go_on;
 use gx_outside::Load;
 use gx_state::Reply;
 use gx_words::{Bytes, Name, Numbers};
-pub use output::put;
+pub use output::{put, put_text};
 pub use saves::{put_save, take_rest};
 
 /// What a call asks next, or its answer.

@@ -1,11 +1,12 @@
 //! Putting to streams (Glk 0.7.5, "How To Print"; specs/Output).
 //!
 //! A character takes no memory but for its place in the text, in a file or in the reply.
-ghost use Rattle.std.specs.Prelude.{ℕ, ◌≡◌, ◌≢◌, ◌+◌, ◌*◌, ◌≤◌, ◌<◌, ◌^◌, ◌%◌, ◌==◌, not, length, IfOk, IsTrue};
+ghost use Rattle.std.specs.Prelude.{ℕ, ◌≡◌, ◌≢◌, ◌+◌, ◌*◌, ◌≤◌, ◌<◌, ◌^◌, ◌%◌, ◌==◌, not, length, Ok, IfOk, IsOk, OnErr, IsTrue};
 ghost use Rattle.gx_words.specs.Faults.{MayLose};
+ghost use Rattle.gx_state.specs.Flat.{FlatState};
 ghost use Rattle.gx_state.specs.Replies.{IsReply};
 ghost use Rattle.glk_streams.specs.Streams as streams;
-ghost use Rattle.glk_dispatch.specs.Parts.{IsCharWidth, arg, on_world, numbers_in, put_all, put_grows_one};
+ghost use Rattle.glk_dispatch.specs.Parts.{IsCharWidth, arg, replies, on_world, numbers_in, put_all, put_grows_one};
 ghost use Rattle.glk_dispatch.specs.Strings.{string_length};
 ghost use Rattle.glk_dispatch.specs.Output.{putting, put_char, put_string, put_buffer, output, output_grow, output_to, output_to_grow, has_length};
 
@@ -20,7 +21,7 @@ use crate::strings::string_length;
 use glk_world::World;
 use gx_state::{Reply, State};
 use gx_words::Fault;
-use std::alloc::Allocator;
+use std::alloc::{AllocError, Allocator};
 
 /// put_char: one character.
 #[tactic(auto, unfolding(crate::specs::Output::put_char))]
@@ -90,6 +91,20 @@ fn put_buffer<A: Allocator + Clone>(
 {
     can_read(state, u64::from(at), u64::from(width) * u64::from(count))?;
     put_numbers(world, state, stream, width, at, count)
+}
+
+/// The same where the current stream is that of a text buffer window without an echo stream, whose reply pushes and
+/// writes nothing; says whether it is one, and does nothing where it isn't.
+#[inline(always)]
+#[tactic(auto, using(crate::proofs::Puts::text_rules), unfolding(crate::specs::Output::putting))]
+pub fn put_text(world: &mut World, value: u32) -> Result<bool, AllocError>
+    ensures put { IfOk result (λ put. IsTrue put → (f : FlatState) → on_world world.old (putting world.old.scene f value) ≡ Ok (world.new, replies 0)) }
+    ensures other { IfOk result (λ put. IsTrue (not put) → world.new ≡ world.old) }
+    ensures fine { OnErr result ((f : FlatState) → IsOk (on_world world.old (putting world.old.scene f value))) }
+    ensures memory { OnErr result (IsTrue (put_grows_one world.old.scene world.old.scene.current value)) }
+{
+    let stream = world.current();
+    world.put_text(stream, value)
 }
 
 /// Puts a character that the program prints to the current stream.

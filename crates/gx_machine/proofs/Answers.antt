@@ -1,6 +1,7 @@
 -- What answers the instruction that asked.
-use Rattle.std.proofs.Common.{◌≡◌, ◌≤◌, ◌+◌, ◌-◌, ◌*◌, ◌%◌, ◌<◌, ℕ, Bool, true, false, nat_le, if◌then◌else◌, refl, ap, subst, sym, ◌∙◌, arith, Result, Ok, Err, IsOkAnd, Some, None}
+use Rattle.std.proofs.Common.{◌≡◌, ◌≤◌, ◌+◌, ◌-◌, ◌*◌, ◌%◌, ◌<◌, ℕ, Bool, true, false, nat_le, if◌then◌else◌, refl, ap, subst, sym, ◌∙◌, arith, List, [], take, Result, Ok, Err, IsOkAnd, Some, None}
 use Rattle.std.proofs.lemmas.Bool.{leb-true}
+use Rattle.std.proofs.lemmas.List.{append-nil}
 use Rattle.gx_words.specs.declared.faults.Fault.{Fault}
 use Rattle.gx_words.specs.declared.faults.Fault.TheVariants.{Overflow}
 use Rattle.gx_rows.specs.declared.instructions.Class.{Class}
@@ -12,7 +13,8 @@ use Rattle.gx_state.specs.declared.modes.Dest.{Dest}
 use Rattle.gx_state.specs.declared.modes.Dest.TheVariants.{Nowhere, Memory, Local, Push}
 use Rattle.gx_state.specs.declared.modes.Mode.{Mode}
 use Rattle.gx_state.specs.declared.modes.Mode.TheVariants.{Running, Printing}
-use Rattle.gx_state.specs.Flat.{FlatState, IsHeight, frame_of, sp_of}
+use Rattle.gx_stack.specs.Values.{in_order}
+use Rattle.gx_state.specs.Flat.{FlatState, IsHeight, frame_of, sp_of, cut}
 use Rattle.gx_state.specs.Replies.{IsDone}
 use Rattle.gx_operands.specs.Instructions.{Instruction, instruction, L2, going_to}
 use Rattle.gx_machine.specs.Answer.{answered_state, answered_in, answered_by, answered_row, replied, IsStoredAnswer, IsStoredIn, IsStoredBy}
@@ -23,6 +25,7 @@ use Rattle.ops_print.specs.Rows.{IsPutAtMost}
 use Rattle.gx_state.specs.Stores.{store_fault}
 use Rattle.gx_undo.specs.Undo.{FlatUndo}
 use Rattle.gx_machine.specs.declared.askings.Asking.{Asking}
+use Rattle.gx_machine.specs.declared.machine.Pending.{Pending}
 use Rattle.gx_machine.specs.declared.askings.Asking.TheVariants as asking
 use Rattle.gx_machine.specs.Saves.{copy_by, saved_copy}
 use Rattle.gx_machine.specs.Step.{asking_of, room_of}
@@ -121,6 +124,7 @@ print_pends f g i same running decoded is height fits =
       memory = λ none. absurd none;
       room = omega (arith, height.there);
       saves = λ none. absurd cc;
+      puts = λ put. refl;
       answers = λ reply. print_answers f i reply running decoded is;
     })
 
@@ -136,6 +140,7 @@ item_pends f g same printing live values aligned fits =
       memory = λ none. absurd none;
       room = omega arith;
       saves = λ none. absurd cc;
+      puts = λ put. refl;
       answers = λ reply. item_answers f reply printing;
     })
 
@@ -149,6 +154,7 @@ glk_pends f i count room running decoded is counted height stores fits = record 
   memory = stored_by f i class.Glk running decoded is;
   room = fits;
   saves = λ none. absurd cc;
+  puts = λ none. absurd cc;
   answers = λ reply. rw counted (glk_answers f i reply running decoded is);
 }
 
@@ -165,17 +171,18 @@ store_fits f (Local at) sp stores fits = omega arith
 store_fits f Push sp stores fits = push_fits (nat_le (sp + 4) f.stack.limit) sp f.stack.limit (leb-true (sp + 4) f.stack.limit) stores
 
 -- what is pending after a save or a restore
-game_pends : (f : FlatState) (i : Instruction) (a : Asking) (above : ℕ) → room_of (Some a) ≡ 0 → (a ≡ asking.Save → above ≡ 16)
+game_pends : (f : FlatState) (i : Instruction) (a : Asking) (above : ℕ) → room_of (Some a) ≡ 0 → (a ≡ asking.Save → above ≡ 16) → (a ≡ asking.Put → ⊥)
     → f.mode ≡ Running → instruction f ≡ Ok i → i.row.class ≡ class.Game → IsHeight f i.sp → i.sp + above ≤ f.stack.limit → store_fault f 4 i.dest i.sp ≡ Ok tt
     → IsPending f (record { asking = a; sp = i.sp; dest = i.dest; next = i.next; mode = Running })
 unfolding saved_copy
-game_pends f i a above none stub running decoded is height fits stores =
+game_pends f i a above none stub other running decoded is height fits stores =
     let within = store_fits f i.dest i.sp stores (omega arith) in
     record {
       height = height;
       stores = stores;
       memory = stored_by f i class.Game running decoded is;
       room = omega arith;
+      puts = λ put. absurd (other put);
       saves = λ saves. let is16 = stub saves in record { room = omega arith; copy = ap (copy_by f) decoded };
       answers = λ reply. game_answers f i reply running decoded is;
     }
@@ -185,11 +192,21 @@ pub save_pends : (f g : FlatState) (u v : FlatUndo) (i : Instruction) → IsAski
     → IsPending g (record { asking = asking.Save; sp = i.sp; dest = i.dest; next = i.next; mode = Running })
 save_pends f g u v i asks running decoded is height =
     subst (λ (x : FlatState × FlatUndo). IsPending x.0 (record { asking = asking.Save; sp = i.sp; dest = i.dest; next = i.next; mode = Running })) (sym asks.stands)
-    (game_pends f i asking.Save 16 refl (λ saves. refl) running decoded is height asks.room asks.stores)
+    (game_pends f i asking.Save 16 refl (λ saves. refl) (λ put. cc) running decoded is height asks.room asks.stores)
 
 pub restore_pends : (f g : FlatState) (u v : FlatUndo) (i : Instruction) → IsAsking (f, u) (g, v) i 0
     → f.mode ≡ Running → instruction f ≡ Ok i → i.row.class ≡ class.Game → IsHeight f i.sp
     → IsPending g (record { asking = asking.Restore; sp = i.sp; dest = i.dest; next = i.next; mode = Running })
 restore_pends f g u v i asks running decoded is height =
     subst (λ (x : FlatState × FlatUndo). IsPending x.0 (record { asking = asking.Restore; sp = i.sp; dest = i.dest; next = i.next; mode = Running })) (sym asks.stands)
-    (game_pends f i asking.Restore 0 refl (λ saves. absurd cc) running decoded is height asks.room asks.stores)
+    (game_pends f i asking.Restore 0 refl (λ saves. absurd cc) (λ put. cc) running decoded is height asks.room asks.stores)
+
+-- a character that was put is answered with nothing to push or to write
+pub put_answered : (f : FlatState) (p : Pending) → IsPending f p → p.asking ≡ asking.Put
+    → answered_state f (record { value = 0; pushes = []; writes = [] }) ≡ resumed (cut f p.sp) p.next p.mode
+unfolding in_order
+put_answered f p is asks =
+    let none : Reply = record { value = 0; pushes = []; writes = [] } in
+    is.answers none
+    ∙ ap (λ (d : Dest). resumed (replied f p.sp d none) p.next p.mode) (is.puts asks)
+    ∙ ap (λ (b : List ℕ). resumed (record f { stack = record f.stack { bytes = b } }) p.next p.mode) (append-nil (take p.sp f.stack.bytes))

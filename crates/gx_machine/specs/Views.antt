@@ -3,7 +3,7 @@ use Rattle.std.specs.Prelude.{◌≡◌, ℕ, ◌+◌, ◌*◌, ◌≤◌, Ok, S
 use Rattle.std.specs.Option.{option_map}
 use Rattle.gx_state.specs.declared.effects.Reply.{Reply}
 use Rattle.gx_state.specs.declared.modes.Dest.{Dest}
-use Rattle.gx_state.specs.declared.modes.Dest.TheVariants.{Push}
+use Rattle.gx_state.specs.declared.modes.Dest.TheVariants.{Nowhere, Push}
 use Rattle.gx_state.specs.declared.modes.Mode.{Mode}
 use Rattle.gx_state.specs.Copies.{copy_of}
 use Rattle.gx_state.specs.Flat.{FlatState, HeldState, IsHeight, cut}
@@ -45,6 +45,7 @@ pub record IsPending (f : FlatState) (p : Pending) : Type 0 where
   pub memory : IsMemory p.dest → IsStoredAnswer f
   pub room : p.sp + 4 * room_of (Some p.asking) + result_len p.dest ≤ f.stack.limit
   pub saves : p.asking ≡ asking.Save → IsSaving f p
+  pub puts : p.asking ≡ asking.Put → p.dest ≡ Nowhere
   pub answers : (reply : Reply) → answered_state f reply ≡ resumed (replied f p.sp p.dest reply) p.next p.mode
 
 -- the state that is seen, and what holds of the fields beside it

@@ -1,5 +1,5 @@
 //! What a session runs on: a machine, or a tape over one.
-ghost use Rattle.std.specs.Prelude.{◌≡◌, ◌≤◌, ◌-◌, ℕ, length, Ok, Some, None, IsSome, IfSome, IfOk, OnOk, OnErr};
+ghost use Rattle.std.specs.Prelude.{◌≡◌, ◌≤◌, ◌-◌, ℕ, [], length, Ok, Some, None, IsSome, IfSome, IfOk, OnOk, OnErr};
 ghost use Rattle.gx_words.specs.Faults.{Does};
 ghost use Rattle.gx_state.specs.declared.effects.Effect.TheVariants.{Put};
 ghost use Rattle.gx_state.specs.Copies.{IsCopyFor};
@@ -47,6 +47,11 @@ pub trait Engine<A: Allocator + Clone> {
         requires { IsAnswer (whole self.old) reply.now }
         ensures ok { OnOk result (whole self.new ≡ answered (whole self.old) reply.now) }
         ensures err { OnErr result (whole self.new ≡ whole self.old) };
+
+    /// The same for a character that was put, with a reply that pushes and writes nothing. It never wants memory.
+    fn finish_put(&mut self)
+        requires { (whole self.old).asking ≡ Some Asking.Put }
+        ensures { whole self.new ≡ answered (whole self.old) (record { value = 0; pushes = []; writes = [] }) };
 
     /// The copy that the save which the last step asked is to write.
     fn save_copy(&self, alloc: Global) -> Result<FlatCopy, AllocError>

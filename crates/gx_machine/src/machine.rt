@@ -1,5 +1,5 @@
 //! The machine: one step, and the answer to what it asks.
-ghost use Rattle.std.specs.Prelude.{◌≡◌, ◌≢◌, ◌⊎◌, ◌+◌, ◌-◌, ◌*◌, ◌<◌, ◌≤◌, ℕ, true, length, Ok, Some, None, IfOk, IfSome, IsSome, OnOk, OnErr};
+ghost use Rattle.std.specs.Prelude.{◌≡◌, ◌≢◌, ◌⊎◌, ◌+◌, ◌-◌, ◌*◌, ◌<◌, ◌≤◌, ℕ, true, [], length, Ok, Some, None, IfOk, IfSome, IsSome, OnOk, OnErr};
 ghost use Rattle.gx_words.specs.Faults.{Does, Makes};
 ghost use Rattle.gx_state.specs.declared.effects.Effect.TheVariants.{Put};
 ghost use Rattle.gx_state.specs.Copies.{IsCopyFor};
@@ -295,6 +295,19 @@ impl<A: Allocator + Clone> Machine<A> {
         Ok(())
     }
 
+    /// The same for a character that was put, with a reply that pushes and writes nothing; this takes no memory.
+    #[inline(always)]
+    #[tactic(auto, unfolding(crate::specs::Answer::answer_of))]
+    pub fn finish_put(&mut self)
+        requires { self.old.asking ≡ Some asking.Put }
+        ensures { self.new ≡ answered self.old (record { value = 0; pushes = []; writes = [] }) }
+    {
+        if let Some(pending) = &self.pending {
+            answer_put(&mut self.state, pending);
+        }
+        self.pending = None;
+    }
+
     /// The copy that the save which the last step asked is to write: the state once the operands are popped, with the
     /// stub of the store operand on top of its stack.
     #[tactic(auto, using(ops_game::proofs::Copies::place_found))]
@@ -391,6 +404,19 @@ fn answer<A: Allocator + Clone>(
     Ok(())
 }
 
+/// Answers a state that waits until a character is put: nothing is pushed, written or stored.
+#[inline(always)]
+#[tactic(auto, using(crate::proofs::Answers::put_answered))]
+fn answer_put<A: Allocator + Clone>(state: &mut State<A>, pending: &Pending)
+    requires pends { IsPending state.old.flat pending.now }
+    requires asks { pending.now.asking ≡ asking.Put }
+    ensures { state.new.flat ≡ answered_state state.old.flat (record { value = 0; pushes = []; writes = [] }) }
+{
+    state.cut_stack(pending.sp);
+    state.set_pc(pending.next);
+    state.set_mode(pending.mode);
+}
+
 impl<A: Allocator + Clone> Engine<A> for Machine<A> {
     ghost whole = { λ machine. machine };
 
@@ -408,6 +434,10 @@ impl<A: Allocator + Clone> Engine<A> for Machine<A> {
 
     fn finish(&mut self, reply: &Reply) -> Result<(), AllocError> {
         Machine::finish(self, reply)
+    }
+
+    fn finish_put(&mut self) {
+        Machine::finish_put(self);
     }
 
     fn save_copy(&self, alloc: Global) -> Result<FlatCopy, AllocError> {
