@@ -70,6 +70,6 @@ text_grows w stream c plain grows = rw (text_there w stream plain, grows) refl
 
 -- memory is wanted for it where it has no fault
 pub text_fine : (w : FlatWorld) (f : FlatState) (stream c : ℕ) → is_plain_text w.scene stream ≡ true → (places_of w.scene stream 1).count ≡ 0 → IsOk (on_world w (put_all w.scene f stream (c ∷ [])))
-text_fine w f stream c plain none = rw (text_put w f stream c plain none) tt
+text_fine w f stream c plain none = rw (text_put w f stream c plain none) refl
 
 pub ruleset text_rules = (text_put, text_grows, text_fine)

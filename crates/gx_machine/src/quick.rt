@@ -345,7 +345,6 @@ fn mode_pair<A: Allocator + Clone>(state: &State<A>, modes: u32) -> Result<u32, 
 }
 
 /// Reads and does a row of two loads and a store.
-#[inline(always)]
 #[tactic(auto, using(crate::proofs::Reading::two_and_store_reading))]
 fn two_and_store<A: Allocator + Clone>(
     state: &mut State<A>,
@@ -373,7 +372,6 @@ fn two_and_store<A: Allocator + Clone>(
 }
 
 /// Reads and does a row of three loads.
-#[inline(always)]
 #[tactic(auto, using(crate::proofs::Reading::three_reading))]
 fn three<A: Allocator + Clone>(state: &mut State<A>, row: &Row, modes: u32) -> Result<bool, Fault>
     requires live { 0 < sp_of state.old.flat }
@@ -397,7 +395,6 @@ fn three<A: Allocator + Clone>(state: &mut State<A>, row: &Row, modes: u32) -> R
 }
 
 /// Reads and does a row of two loads.
-#[inline(always)]
 #[tactic(auto, using(crate::proofs::Reading::two_reading))]
 fn two<A: Allocator + Clone>(state: &mut State<A>, row: &Row, modes: u32) -> Result<bool, Fault>
     requires live { 0 < sp_of state.old.flat }
@@ -420,7 +417,6 @@ fn two<A: Allocator + Clone>(state: &mut State<A>, row: &Row, modes: u32) -> Res
 }
 
 /// Reads and does a row of a load and a store.
-#[inline(always)]
 #[tactic(auto, using(crate::proofs::Reading::one_and_store_reading))]
 fn one_and_store<A: Allocator + Clone>(
     state: &mut State<A>,
@@ -447,7 +443,6 @@ fn one_and_store<A: Allocator + Clone>(
 }
 
 /// Reads and does a row of one load.
-#[inline(always)]
 #[tactic(auto, using(crate::proofs::Reading::one_reading))]
 fn one<A: Allocator + Clone>(state: &mut State<A>, row: &Row, modes: u32) -> Result<bool, Fault>
     requires live { 0 < sp_of state.old.flat }

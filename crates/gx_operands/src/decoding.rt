@@ -7,6 +7,7 @@ ghost use Rattle.arrayvec.specs.ArrayVec.{array_vec_len};
 ghost use Rattle.gx_words.specs.declared.faults.Fault.TheVariants.{BadOpcode};
 ghost use Rattle.gx_words.specs.Numbers.{IsWidth, extended};
 ghost use Rattle.gx_words.specs.Faults.{Reads};
+ghost use Rattle.gx_pages.specs.Memory.{number_in};
 ghost use Rattle.gx_rows.specs.Table.{row_of, row_at, RowFits};
 ghost use Rattle.gx_state.specs.Flat.{IsHeight, sp_of};
 ghost use Rattle.gx_operands.specs.Instructions.{opcode, addressing, HasWidth, HasValues, past, datum, load_by, load, destination_by, destination, with_operand, kind_of, nibble, operand, operands, all_operands, instruction};
@@ -92,6 +93,16 @@ fn constant<A: Allocator + Clone>(
     Ok(low(extended(n, v), width))
 }
 
+/// The number of so many bytes at an address. It stands apart, so that `load` stays small enough to be copied to where
+/// it is called.
+#[inline(never)]
+fn number<A: Allocator + Clone>(state: &State<A>, width: u32, at: u32) -> Result<u32, Fault>
+    requires { IsWidth width }
+    ensures { Reads (λ v. v) result (number_in width state.now.flat.memory at) }
+{
+    state.memory().try_number(width, at)
+}
+
 /// The contents of memory at an address of so many bytes.
 #[inline(always)]
 #[tactic(auto, unfolding(crate::specs::Instructions::load_by))]
@@ -108,7 +119,7 @@ fn contents<A: Allocator + Clone>(
     ensures popped { OnOk result (HasValues state.now.flat cursor.new.popped) }
 {
     let at = data(state, cursor, n)?;
-    state.memory().try_number(width, at)
+    number(state, width, at)
 }
 
 /// The contents of the RAM address of so many bytes.
@@ -128,7 +139,7 @@ fn ram_contents<A: Allocator + Clone>(
 {
     let offset = data(state, cursor, n)?;
     let at = state.ramstart().wrapping_add(offset);
-    state.memory().try_number(width, at)
+    number(state, width, at)
 }
 
 /// The local at an offset of so many bytes.
@@ -149,6 +160,24 @@ fn local<A: Allocator + Clone>(
 {
     let at = data(state, cursor, n)?;
     Ok(state.stack().local(&state.frame(), at, width)?)
+}
+
+/// The local at an offset of more than one byte, which is rare.
+#[inline(never)]
+fn far_local<A: Allocator + Clone>(
+    state: &State<A>,
+    width: u32,
+    n: u32,
+    cursor: &mut Cursor,
+) -> Result<u32, Fault>
+    requires live { 0 < sp_of state.now.flat }
+    requires width { IsWidth width }
+    requires bytes { IsWidth n }
+    requires popped { HasValues state.now.flat cursor.old.popped }
+    ensures value { Reads (λ v. (v, cursor.new)) result (load_by state.now.flat width (Addressing.Local n) cursor.old) }
+    ensures popped { OnOk result (HasValues state.now.flat cursor.new.popped) }
+{
+    local(state, width, n, cursor)
 }
 
 /// The value on top of the stack, below those that were popped.
@@ -196,8 +225,8 @@ pub fn load<A: Allocator + Clone>(
         ADDRESS_WORD => contents(state, width, 4, cursor),
         STACK_TOP => top(state, width, cursor),
         LOCAL_BYTE => local(state, width, 1, cursor),
-        LOCAL_SHORT => local(state, width, 2, cursor),
-        LOCAL_WORD => local(state, width, 4, cursor),
+        LOCAL_SHORT => far_local(state, width, 2, cursor),
+        LOCAL_WORD => far_local(state, width, 4, cursor),
         RAM_BYTE => ram_contents(state, width, 1, cursor),
         RAM_SHORT => ram_contents(state, width, 2, cursor),
         RAM_WORD => ram_contents(state, width, 4, cursor),

@@ -1,16 +1,17 @@
 -- The machine takes a reply, or goes back to a copy, and then the text is sent that is due.
-use Rattle.std.proofs.Common.{◌≡◌, ℕ, ◌⊎◌, inr, List, None, Result, Ok, Err, refl, ap, subst, sym, ◌∙◌}
+use Rattle.std.proofs.Common.{◌≡◌, ℕ, ◌≤◌, ◌⊎◌, inr, List, None, Result, Ok, Err, IfOk, refl, ap, subst, sym, ◌∙◌}
 use Rattle.gx_machine.specs.Machine.{FlatMachine, Whole}
 use Rattle.gx_outside.specs.Outside.{FlatSink}
 use Rattle.glk_world.specs.World.{FlatWorld}
 use Rattle.gx_session.specs.declared.ends.Halt.{Halt}
 use Rattle.gx_session.specs.declared.ends.Halt.TheVariants as halt
+use Rattle.gx_session.specs.declared.ends.Next.{Next}
 use Rattle.gx_session.specs.declared.ends.Next.TheVariants as next
 use Rattle.gx_session.specs.declared.running.TheConstants.{ENOUGH}
 use Rattle.gx_session.specs.declared.running.Running.{Running}
 use Rattle.gx_session.specs.Devices.{Devices}
 use Rattle.gx_session.specs.Session.{Configuration, steps}
-use Rattle.gx_session.specs.Playing.{Held, held, asking_in, Standing, Resumes, EventGives, Flushes, Becomes}
+use Rattle.gx_session.specs.Playing.{Held, held, asking_in, Standing, Resumes, EventGives, Flushes, Becomes, IsNext, Leads}
 use Rattle.gx_session.proofs.Asking.{resumed-on, resumed-early}
 use Rattle.gx_session.proofs.Playing.{flushed, cut-send}
 
@@ -37,7 +38,7 @@ module _ {E : Type 0} (whole : E → Whole) (old mid : Running E) (coming : List
         ap (λ (x : Running E). held whole x coming) g.ok.1
         ∙ ap (λ (w : Whole). let y : Held = record h { machine = w.machine; left = left } in y) g.ok.0
 
-    given-standing : Standing start entry (held whole mid coming) d steps
+    pub given-standing : Standing start entry (held whole mid coming) d steps
     given-standing = subst (λ (x : Held). Standing start entry x d steps) (sym given-held) (resumed-on start entry h d (asking_in whole old) left machine r)
 
     -- the text that was due then is refused
@@ -49,3 +50,19 @@ module _ {E : Type 0} (whole : E → Whole) (old mid : Running E) (coming : List
     pub flush-on : (world : FlatWorld) (sink : FlatSink) → Flushes ENOUGH d.sink sink mid.world world (Ok tt)
         → EventGives start entry (held whole (record mid { world = world }) coming) (asking_in whole mid) (record d { sink = sink }) (Ok next.Goes)
     flush-on world sink f = inr (flushed start entry (held whole mid coming) d world sink steps ENOUGH (λ s text. refl) given-standing f)
+
+goes-next : (result : Result Next Halt) → IfOk result (λ n. n ≡ next.Goes) → IfOk result IsNext
+goes-next (Ok n) goes = subst IsNext (sym goes) tt
+goes-next (Err why) goes = tt
+
+-- what follows changed the world alone
+pub given-leads : {E : Type 0} (whole : E → Whole) (old mid new : Running E) (machine : FlatMachine) (left : ℕ) → left ≤ old.left → (let q : Result (Unit {0}) Halt = Ok tt in Becomes whole old mid machine left q)
+    → new ≡ record mid { world = new.world } → (result : Result Next Halt) → IfOk result (λ n. n ≡ next.Goes) → Leads whole old new left result
+given-leads {E} whole old mid new machine left fewer g same result goes =
+    let units : new.left ≡ left = ap (λ (x : Running E). x.left) same ∙ ap (λ (x : Running E). x.left) g.ok.1 in
+    record {
+      none = λ e. ap (λ (x : Running E). (whole x.engine).asking) same ∙ ap (λ (w : Whole). w.asking) g.ok.0;
+      left_is = λ e. units;
+      no_more = subst (λ (n : ℕ). n ≤ old.left) (sym units) fewer;
+      stop_is = goes-next result goes;
+    }

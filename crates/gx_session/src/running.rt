@@ -3,11 +3,13 @@
 //! Each function of a run keeps what is held a configuration of the session (`Going` and `Waits` of specs/Playing),
 //! or comes to its stop (`Done`), or is cut short (`Early`).
 ghost use Rattle.std.specs.Prelude.{◌≡◌, ◌≢◌, ◌≤◌, ◌<◌, ◌⊎◌, ℕ, List, None, Some, Ok, Err, IfOk, IfErr};
-ghost use Rattle.gx_machine.specs.Answer.{IsAnswer};
+ghost use Rattle.gx_machine.specs.declared.askings.Asking.TheVariants as asking;
+ghost use Rattle.gx_machine.specs.Answer.{answered, IsAnswer};
+ghost use Rattle.glk_dispatch.specs.Parts.{replies};
 ghost use Rattle.gx_session.specs.Counts.{Blames};
 ghost use Rattle.gx_session.specs.Devices.{Devices};
-ghost use Rattle.gx_session.specs.Session.{Configuration};
-ghost use Rattle.gx_session.specs.Playing.{held, asking_in, WordIs, Replies, EventGives, IsNext, Flushes, TakesReply, FaultGives, Leads, Keeps};
+ghost use Rattle.gx_session.specs.Session.{Configuration, steps};
+ghost use Rattle.gx_session.specs.Playing.{held, asking_in, WordIs, Standing, Replies, EventGives, IsNext, Flushes, TakesReply, FaultGives, Leads, Keeps};
 ghost use Rattle.rand_core.specs.Stream.{Stream};
 
 use crate::ends::{Halt, Next, Stop};
@@ -64,6 +66,7 @@ pub fn flush<K: Sink>(world: &mut World, output: &mut K, enough: usize) -> Resul
 }
 
 /// The word for the next step: the one in hand, or one more.
+#[inline(always)]
 pub fn draw<R: Rng>(word: &mut Option<u32>, dice: &mut R) -> u32
     ensures is { (words : Stream)
         → WordIs word.old (R.stream dice.old) words
@@ -106,6 +109,24 @@ fn give<A: Allocator + Clone, E: Engine<A>>(
     Ok(())
 }
 
+/// Sends the pending text where it is long enough, and goes on.
+#[inline(always)]
+fn send_due<A: Allocator + Clone, E: Engine<A>, K: Sink>(
+    run: &mut Running<E>,
+    output: &mut K,
+) -> Result<Next, Halt>
+    requires { (E.whole run.old.engine).asking ≡ None }
+    ensures plays { (coming : List ℕ) (start : Configuration) (entry d : Devices)
+        → Standing start entry (held E.whole run.old coming) (record d { sink = K.seen output.old }) steps
+        → EventGives start entry (held E.whole run.new coming) (asking_in E.whole run.new) (record d { sink = K.seen output.new }) result }
+    ensures same { run.new ≡ record run.old { world = run.new.world } }
+    ensures goes { IfOk result (λ next. next ≡ Next.Goes) }
+    ensures keeps { (d : Devices) → Keeps (record d { sink = K.seen output.old }) (record d { sink = K.seen output.new }) result }
+{
+    flush(&mut run.world, output, ENOUGH)?;
+    Ok(Next::Goes)
+}
+
 /// Answers what the machine asked, and sends the pending text where it is long enough.
 pub fn answer<A: Allocator + Clone, E: Engine<A>, K: Sink>(
     run: &mut Running<E>,
@@ -123,6 +144,36 @@ pub fn answer<A: Allocator + Clone, E: Engine<A>, K: Sink>(
     ensures lines { run.new.lines ≡ run.old.lines }
 {
     give(run, reply, left)?;
-    flush(&mut run.world, output, ENOUGH)?;
-    Ok(Next::Goes)
+    send_due(run, output)
+}
+
+/// The machine takes the reply to a character that was put, which pushes and writes nothing.
+#[inline(always)]
+fn give_put<A: Allocator + Clone, E: Engine<A>>(run: &mut Running<E>, left: u64)
+    requires { (E.whole run.old.engine).asking ≡ Some asking.Put }
+    ensures engine { E.whole run.new.engine ≡ answered (E.whole run.old.engine) (replies 0) }
+    ensures same { run.new ≡ record run.old { engine = run.new.engine; left = left } }
+{
+    run.engine.finish_put();
+    run.left = left;
+}
+
+/// Answers a character that was put so, and sends the pending text where it is long enough.
+#[inline(always)]
+pub fn answer_put<A: Allocator + Clone, E: Engine<A>, K: Sink>(
+    run: &mut Running<E>,
+    output: &mut K,
+    left: u64,
+) -> Result<Next, Halt>
+    requires asks { (E.whole run.old.engine).asking ≡ Some asking.Put }
+    requires fewer { left ≤ run.old.left }
+    ensures plays { (coming : List ℕ) (start : Configuration) (entry d : Devices)
+        → Replies start entry (held E.whole run.old coming) (asking_in E.whole run.old) (record d { sink = K.seen output.old }) left (replies 0)
+        → EventGives start entry (held E.whole run.new coming) (asking_in E.whole run.new) (record d { sink = K.seen output.new }) result }
+    ensures leads { Leads E.whole run.old run.new left result }
+    ensures keeps { (d : Devices) → Keeps (record d { sink = K.seen output.old }) (record d { sink = K.seen output.new }) result }
+    ensures lines { run.new.lines ≡ run.old.lines }
+{
+    give_put(run, left);
+    send_due(run, output)
 }

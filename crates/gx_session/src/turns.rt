@@ -19,16 +19,41 @@ ghost use Rattle.gx_session.specs.Playing.{held, asking_in, Follows, Waits, Turn
 use crate::ends::{Halt, Next, Stop};
 use crate::lines::NoLine;
 use crate::questions::Question;
-use crate::running::{Running, Waiting, answer, faulted, flush};
+use crate::running::{Running, Waiting, answer, answer_put, faulted, flush};
 use arrayvec::ArrayVec;
 use glk_dispatch::{Given, Turn};
 use gx_machine::Engine;
 use gx_outside::{Shelf, Sink, Source};
 use gx_words::Numbers;
-use std::alloc::Allocator;
+use std::alloc::{AllocError, Allocator};
 
-/// Puts a character to Glk.
+/// Puts a character to Glk: at once where it comes to a text buffer window alone.
+#[inline(always)]
 pub fn ask_put<A: Allocator + Clone, E: Engine<A>, K: Sink>(
+    run: &mut Running<E>,
+    output: &mut K,
+    c: u32,
+    left: u64,
+) -> Result<Next, Halt>
+    requires asks { (E.whole run.old.engine).asking ≡ asking_of (Put c) }
+    requires fewer { left ≤ run.old.left }
+    ensures plays { (coming : List ℕ) (start : Configuration) (entry d : Devices)
+        → Follows start entry (held E.whole run.old coming) (record d { sink = K.seen output.old }) left (Put c)
+        → EventGives start entry (held E.whole run.new coming) (asking_in E.whole run.new) (record d { sink = K.seen output.new }) result }
+    ensures leads { Leads E.whole run.old run.new left result }
+    ensures keeps { (d : Devices) → Keeps (record d { sink = K.seen output.old }) (record d { sink = K.seen output.new }) result }
+    ensures lines { run.new.lines ≡ run.old.lines }
+{
+    match glk_dispatch::put_text(&mut run.world, c) {
+        Ok(true) => answer_put(run, output, left),
+        Ok(false) => ask_any_put(run, output, c, left),
+        Err(AllocError) => Err(Halt::NoMemory),
+    }
+}
+
+/// Puts a character to Glk, wherever it goes.
+#[inline(never)]
+fn ask_any_put<A: Allocator + Clone, E: Engine<A>, K: Sink>(
     run: &mut Running<E>,
     output: &mut K,
     c: u32,

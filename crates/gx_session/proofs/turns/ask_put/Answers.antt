@@ -1,12 +1,15 @@
-use Rattle.std.proofs.Common.{inr, refl, subst, sym, ◌∙◌, Ok, Err}
+-- a character that comes to a text buffer window alone is answered at once
+use Rattle.std.proofs.Common.{◌≡◌, inr, refl, subst, sym, ◌∙◌, Ok}
 use Rattle.gx_state.specs.declared.effects.Effect.TheVariants.{Put}
 use Rattle.gx_machine.specs.Answer.{answer_of}
+use Rattle.glk_world.specs.World.{FlatWorld}
 use Rattle.glk_dispatch.specs.Output.{putting}
+use Rattle.glk_dispatch.specs.Parts.{replies}
 use Rattle.gx_session.specs.Cuts.{HasNoFault}
 use Rattle.gx_session.specs.Devices.{Devices}
-use Rattle.gx_session.specs.Playing.{Held, held, asking_in}
+use Rattle.gx_session.specs.Playing.{Held, held, asking_in, Follows}
 use Rattle.gx_session.specs.Session.{steps}
-use Rattle.gx_session.proofs.Asking.{asks-now, put-does, asking-resumes, fault-early, fault-stops, fault-gives, world-ok, world-err, world-fine}
+use Rattle.gx_session.proofs.Asking.{asks-now, put-does, asking-resumes, fault-early, world-ok, world-fine}
 use Rattle.gx_session.proofs.turns.ask_put.Goals as goal
 
 pub returns-in-Err-clause-plays : goal.returns-in-Err-clause-plays
@@ -15,22 +18,24 @@ returns-in-Err-clause-plays g c coming start entry d f =
     let h : Held = held g.E.Engine.whole c.args.run.now coming in
     let asking = asking_in g.E.Engine.whole c.args.run.now in
     let a = asks-now start entry h now c.args.left (Put c.args.c) f refl in
-    let value = c.in-Err.ensures.value in
+    let fine = world-fine h.world (putting h.world.scene h.machine.flat c.args.c) (c.in-Err.ensures.fine h.machine.flat) in
     inr
-    (fault-gives start entry (record h { world = c.put.new.world }) asking now c.in-Err.fault _ c.faulted.ensures.gives
-    (λ wants. let fine = world-fine h.world (putting h.world.scene c.state.result.now.flat c.args.c) (value.1.1 wants).1 in
-    fault-early start entry h now steps a.going tt c.put.new.world asking (c.requires.asks ∙ sym a.asking_is)
-    (subst HasNoFault (sym (put-does start entry h now c.args.left (Put c.args.c) a c.args.c c.state.result.now.flat (Ok fine.0) refl c.state.ensures fine.1)) tt))
-    (λ other. fault-stops start entry h now steps a.going tt c.in-Err.fault c.put.new.world asking (value.0 other) (c.requires.asks ∙ sym a.asking_is)
-    (put-does start entry h now c.args.left (Put c.args.c) a c.args.c c.state.result.now.flat (Err c.in-Err.fault) refl c.state.ensures
-    (world-err h.world (putting h.world.scene c.state.result.now.flat c.args.c) c.in-Err.fault (value.1.0 other)))))
+    (fault-early start entry h now steps a.going tt c.put_text.new.world asking (c.requires.asks ∙ sym a.asking_is)
+    (subst HasNoFault (sym (put-does start entry h now c.args.left (Put c.args.c) a c.args.c h.machine.flat (Ok fine.0) refl refl fine.1)) tt))
 
-pub returns-in-Ok-clause-plays : goal.returns-in-Ok-clause-plays
-returns-in-Ok-clause-plays g c coming start entry d f =
+pub returns-in-Ok-true-clause-plays : goal.returns-in-Ok-true-clause-plays
+returns-in-Ok-true-clause-plays g c coming start entry d f =
     let now : Devices = record d { sink = g.K.Sink.seen c.args.output.now } in
     let h : Held = held g.E.Engine.whole c.args.run.now coming in
     let a = asks-now start entry h now c.args.left (Put c.args.c) f refl in
-    let w = world-ok h.world c.put.new.world (putting h.world.scene c.state.result.now.flat c.args.c) c.in-Ok.reply c.in-Ok.ensures.value in
-    c.answer.ensures.plays coming start entry d
-    (asking-resumes start entry h now c.args.left (Put c.args.c) a (asking_in g.E.Engine.whole c.args.run.now) c.put.new.world w.0 (answer_of h.machine c.in-Ok.reply) c.requires.asks w.2
-    (put-does start entry h now c.args.left (Put c.args.c) a c.args.c c.state.result.now.flat (Ok (w.0, c.in-Ok.reply)) refl c.state.ensures w.1) (λ begins. absurd begins))
+    let w = world-ok h.world c.put_text.new.world (putting h.world.scene h.machine.flat c.args.c) (replies 0) (c.in-Ok-true.ensures.put (rw c.in-Ok-true.field-0-test tt) h.machine.flat) in
+    c.answer_put.ensures.plays coming start entry d
+    (asking-resumes start entry h now c.args.left (Put c.args.c) a (asking_in g.E.Engine.whole c.args.run.now) c.put_text.new.world w.0 (answer_of h.machine (replies 0)) c.requires.asks w.2
+    (put-does start entry h now c.args.left (Put c.args.c) a c.args.c h.machine.flat (Ok (w.0, replies 0)) refl refl w.1) (λ begins. absurd begins))
+
+pub returns-in-Ok-false-clause-plays : goal.returns-in-Ok-false-clause-plays
+returns-in-Ok-false-clause-plays g c coming start entry d f =
+    let now : Devices = record d { sink = g.K.Sink.seen c.args.output.now } in
+    let h : Held = held g.E.Engine.whole c.args.run.now coming in
+    c.ask_any_put.ensures.plays coming start entry d
+    (subst (λ (w : FlatWorld). Follows start entry (record h { world = w }) now c.args.left (Put c.args.c)) (sym (c.in-Ok-false.ensures.other (rw c.in-Ok-false.field-0-test tt))) f)
