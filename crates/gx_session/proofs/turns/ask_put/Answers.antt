@@ -1,5 +1,5 @@
 -- a character that comes to a text buffer window alone is answered at once
-use Rattle.std.proofs.Common.{◌≡◌, inr, refl, subst, sym, ◌∙◌, Ok}
+use Rattle.std.proofs.Common.{inr, refl, subst, sym, ◌∙◌, Ok}
 use Rattle.gx_state.specs.declared.effects.Effect.TheVariants.{Put}
 use Rattle.gx_machine.specs.Answer.{answer_of}
 use Rattle.glk_world.specs.World.{FlatWorld}
@@ -28,7 +28,7 @@ returns-in-Ok-true-clause-plays g c coming start entry d f =
     let now : Devices = record d { sink = g.K.Sink.seen c.args.output.now } in
     let h : Held = held g.E.Engine.whole c.args.run.now coming in
     let a = asks-now start entry h now c.args.left (Put c.args.c) f refl in
-    let w = world-ok h.world c.put_text.new.world (putting h.world.scene h.machine.flat c.args.c) (replies 0) (c.in-Ok-true.ensures.put (rw c.in-Ok-true.field-0-test tt) h.machine.flat) in
+    let w = world-ok h.world c.put_text.new.world (putting h.world.scene h.machine.flat c.args.c) (replies 0) (c.in-Ok-true.ensures.put (rw c.in-Ok-true.field-0-test refl) h.machine.flat) in
     c.answer_put.ensures.plays coming start entry d
     (asking-resumes start entry h now c.args.left (Put c.args.c) a (asking_in g.E.Engine.whole c.args.run.now) c.put_text.new.world w.0 (answer_of h.machine (replies 0)) c.requires.asks w.2
     (put-does start entry h now c.args.left (Put c.args.c) a c.args.c h.machine.flat (Ok (w.0, replies 0)) refl refl w.1) (λ begins. absurd begins))
@@ -38,4 +38,4 @@ returns-in-Ok-false-clause-plays g c coming start entry d f =
     let now : Devices = record d { sink = g.K.Sink.seen c.args.output.now } in
     let h : Held = held g.E.Engine.whole c.args.run.now coming in
     c.ask_any_put.ensures.plays coming start entry d
-    (subst (λ (w : FlatWorld). Follows start entry (record h { world = w }) now c.args.left (Put c.args.c)) (sym (c.in-Ok-false.ensures.other (rw c.in-Ok-false.field-0-test tt))) f)
+    (subst (λ (w : FlatWorld). Follows start entry (record h { world = w }) now c.args.left (Put c.args.c)) (sym (c.in-Ok-false.ensures.other (rw c.in-Ok-false.field-0-test refl))) f)
