@@ -180,30 +180,45 @@ fn begun<A: Allocator + Clone>(
     Ok((ended, sink))
 }
 
-/// What a machine that was handed back comes to, and what is shown from there on.
+/// What a machine that was handed back comes to in a world without text.
 fn gone_on<A: Allocator + Clone>(
     alloc: Global,
     machine: Machine<A>,
-) -> Result<(Ended<A>, MemSink), Fail> {
-    if machine.asking().is_some() {
+    world: World,
+    source: &mut MemSource,
+    sink: &mut MemSink,
+    shelf: &mut MemShelf,
+    dice: &mut ChaCha20Rng,
+) -> Result<Ended<A>, Fail> {
+    let None = machine.asking() else {
         return Err("the machine waits".into());
+    };
+    if !world.pending().is_empty() {
+        return Err("text waits".into());
     }
+    Ok(run(
+        alloc, machine, world, false, 1000, source, sink, shelf, dice,
+    ))
+}
+
+/// What a machine that was handed back comes to in an empty world, and what is shown from there on.
+fn ended<A: Allocator + Clone>(
+    alloc: Global,
+    machine: Machine<A>,
+) -> Result<(Ended<A>, MemSink), Fail> {
     let mut shelf = MemShelf::new(alloc, &[])?;
     let mut source = MemSource::new(alloc, b"", 1, &[])?;
     let mut sink = MemSink::new(alloc, &[])?;
     let mut dice = ChaCha20Rng::from_seed([0; 32]);
-    let world = World::new(alloc, 80, 24);
-    let ended = run(
+    let ended = gone_on(
         alloc,
         machine,
-        world,
-        false,
-        1000,
+        World::new(alloc, 80, 24),
         &mut source,
         &mut sink,
         &mut shelf,
         &mut dice,
-    );
+    )?;
     Ok((ended, sink))
 }
 
@@ -229,7 +244,7 @@ fn goes_on_where_memory_ran_out(rt: HostRuntime) -> Result<(), Fail> {
     );
     drop(taken);
     let (before, left) = (cut.steps, cut.machine.ok_or("a machine")?);
-    let (ended, shown) = gone_on(alloc, left)?;
+    let (ended, shown) = ended(alloc, left)?;
     assert_eq!(rt;
         (ended.status, shown.bytes()),
         (statuses::ENDED, b"B".as_slice())
