@@ -1,15 +1,9 @@
 //! Files that are cut at each of their bytes, and memory that runs out at each of its pages.
 use super::{hello, played};
-use crate::play;
 use crate::tests::pool::{played as played_in, story};
-use glk_world::World;
 use gx_machine::Machine;
-use gx_outside::{MemShelf, MemSink, MemSource};
-use gx_pages::Pages;
 use gx_pool::PagePool;
-use gx_session::{Ended, run, statuses};
-use rand_chacha::ChaCha20Rng;
-use rand_core::SeedableRng;
+use gx_session::{Ended, statuses};
 use std::alloc::{Allocator, Global};
 use std::process::Abort;
 use std::test::Fail;
@@ -132,129 +126,5 @@ fn pages_run_out(rt: HostRuntime) -> Result<(), Fail> {
     }
     // Six pages are out at most: the story's, one of zeros, and four that were written.
     assert_eq!(rt; refused, 6);
-    Ok(())
-}
-
-/// It shows `A` in a window, asks for a file, closes the window, writes to a page of its own, and shows `B` in a window.
-const TWO_WINDOWS: &[u8] = &[
-    0xC1, 0x00, 0x00, //
-    0x81, 0x49, 0x01, 0x02, // setiosys 2 0
-    0x40, 0x80, 0x40, 0x81, 0x03, 0x40, 0x80, 0x40, 0x80, 0x40, 0x80, //
-    0x81, 0x30, 0x11, 0x08, 0x23, 0x05, // glk window_open 5 sp
-    0x81, 0x30, 0x11, 0x00, 0x2F, 0x01, // glk set_window 1 _
-    0x70, 0x01, 0x41, // streamchar A
-    0x40, 0x80, 0x40, 0x82, 0x00, 0xE0, 0x40, 0x80, //
-    0x81, 0x30, 0x11, 0x08, 0x61, 0x03, // glk fileref_create_by_name 3 sp
-    0x81, 0x30, 0x11, 0x00, 0x67, 0x01, // glk fileref_does_file_exist 1 _
-    0x40, 0x80, 0x81, 0x30, 0x01, 0x08, 0x22, // glk window_get_root 0 sp
-    0x81, 0x30, 0x11, 0x00, 0x24, 0x02, // glk window_close 2 _
-    0x40, 0x61, 0x01, 0x02, 0x00, // copy 1 *0x200
-    0x40, 0x80, 0x40, 0x81, 0x03, 0x40, 0x80, 0x40, 0x80, 0x40, 0x80, //
-    0x81, 0x30, 0x11, 0x08, 0x23, 0x05, // glk window_open 5 sp
-    0x81, 0x30, 0x11, 0x00, 0x2F, 0x01, // glk set_window 1 _
-    0x70, 0x01, 0x42, // streamchar B
-    0x81, 0x20, // quit
-];
-
-/// What a story comes to where its pages are placed by `pages`, and what it shows.
-fn begun<A: Allocator + Clone>(
-    alloc: Global,
-    pages: A,
-    file: &[u8],
-) -> Result<(Ended<A>, MemSink), Fail> {
-    let mut shelf = MemShelf::new(alloc, &[])?;
-    shelf.put("story", file)?;
-    let mut source = MemSource::new(alloc, b"", 1, &[])?;
-    let mut sink = MemSink::new(alloc, &[])?;
-    let mut dice = ChaCha20Rng::from_seed([0; 32]);
-    let words = ["gx_player", "story"];
-    let ended = play(
-        alloc,
-        pages,
-        &words,
-        &mut source,
-        &mut sink,
-        &mut shelf,
-        &mut dice,
-    );
-    Ok((ended, sink))
-}
-
-/// What a machine that was handed back comes to in a world without text.
-fn gone_on<A: Allocator + Clone>(
-    alloc: Global,
-    machine: Machine<A>,
-    world: World,
-    source: &mut MemSource,
-    sink: &mut MemSink,
-    shelf: &mut MemShelf,
-    dice: &mut ChaCha20Rng,
-) -> Result<Ended<A>, Fail> {
-    let None = machine.asking() else {
-        return Err("the machine waits".into());
-    };
-    if !world.pending().is_empty() {
-        return Err("text waits".into());
-    }
-    Ok(run(
-        alloc, machine, world, false, 1000, source, sink, shelf, dice,
-    ))
-}
-
-/// What a machine that was handed back comes to in an empty world, and what is shown from there on.
-fn ended<A: Allocator + Clone>(
-    alloc: Global,
-    machine: Machine<A>,
-) -> Result<(Ended<A>, MemSink), Fail> {
-    let mut shelf = MemShelf::new(alloc, &[])?;
-    let mut source = MemSource::new(alloc, b"", 1, &[])?;
-    let mut sink = MemSink::new(alloc, &[])?;
-    let mut dice = ChaCha20Rng::from_seed([0; 32]);
-    let ended = gone_on(
-        alloc,
-        machine,
-        World::new(alloc, 80, 24),
-        &mut source,
-        &mut sink,
-        &mut shelf,
-        &mut dice,
-    )?;
-    Ok((ended, sink))
-}
-
-/// A run that is cut short at a write goes on from the machine that it left once there is a page for it: the two show
-/// what a run shows that isn't cut short, and the machine at the end is the same, after as many steps.
-#[test]
-fn goes_on_where_memory_ran_out(rt: HostRuntime) -> Result<(), Fail> {
-    let alloc = rt.alloc();
-    let mut file = story(TWO_WINDOWS);
-    file[0x12] = 0x10;
-    file[0xE0..0xE3].copy_from_slice(&[0xE0, b'x', 0]);
-    let (whole, shown) = begun(alloc, alloc, &file)?;
-    assert_eq!(rt;
-        (whole.status, shown.bytes()),
-        (statuses::ENDED, b"AB".as_slice())
-    );
-    let pool = PagePool::new(alloc, 3);
-    let taken = Pages::from_bytes(alloc, &pool, &[1; 256], 256)?;
-    let (cut, shown) = begun(alloc, &pool, &file)?;
-    assert_eq!(rt;
-        (cut.status, shown.bytes()),
-        (statuses::NO_MEMORY, b"A".as_slice())
-    );
-    drop(taken);
-    let (before, left) = (cut.steps, cut.machine.ok_or("a machine")?);
-    let (ended, shown) = ended(alloc, left)?;
-    assert_eq!(rt;
-        (ended.status, shown.bytes()),
-        (statuses::ENDED, b"B".as_slice())
-    );
-    assert_eq!(rt; before.saturating_add(ended.steps), whole.steps);
-    let (left, there) = (
-        ended.machine.ok_or("a machine")?,
-        whole.machine.ok_or("a machine")?,
-    );
-    let (left, there) = (left_in(alloc, &left)?, left_in(alloc, &there)?);
-    assert_eq!(rt; left.as_str(), there.as_str());
     Ok(())
 }
