@@ -6,6 +6,7 @@ ghost use Rattle.gx_words.specs.Faults.{MayLose};
 ghost use Rattle.gx_state.specs.Flat.{FlatState};
 ghost use Rattle.gx_state.specs.Replies.{IsReply};
 ghost use Rattle.glk_streams.specs.Streams as streams;
+ghost use Rattle.glk_world.specs.Putting.{is_plain_text};
 ghost use Rattle.glk_dispatch.specs.Parts.{IsCharWidth, arg, replies, on_world, numbers_in, put_all, put_grows_one};
 ghost use Rattle.glk_dispatch.specs.Strings.{string_length};
 ghost use Rattle.glk_dispatch.specs.Output.{putting, put_char, put_string, put_buffer, output, output_grow, output_to, output_to_grow, has_length};
@@ -93,20 +94,6 @@ fn put_buffer<A: Allocator + Clone>(
     put_numbers(world, state, stream, width, at, count)
 }
 
-/// The same where the current stream is that of a text buffer window without an echo stream, whose reply pushes and
-/// writes nothing; says whether it is one, and does nothing where it isn't.
-#[inline(always)]
-#[tactic(auto, using(crate::proofs::Puts::text_rules), unfolding(crate::specs::Output::putting))]
-pub fn put_text(world: &mut World, value: u32) -> Result<bool, AllocError>
-    ensures put { IfOk result (λ put. IsTrue put → (f : FlatState) → on_world world.old (putting world.old.scene f value) ≡ Ok (world.new, replies 0)) }
-    ensures other { IfOk result (λ put. IsTrue (not put) → world.new ≡ world.old) }
-    ensures fine { OnErr result ((f : FlatState) → IsOk (on_world world.old (putting world.old.scene f value))) }
-    ensures memory { OnErr result (IsTrue (put_grows_one world.old.scene world.old.scene.current value)) }
-{
-    let stream = world.current();
-    world.put_text(stream, value)
-}
-
 /// Puts a character that the program prints to the current stream.
 #[tactic(auto, unfolding(crate::specs::Output::putting))]
 pub fn put<A: Allocator + Clone>(
@@ -119,6 +106,21 @@ pub fn put<A: Allocator + Clone>(
 {
     let stream = world.current();
     put_one(world, state, stream, value)
+}
+
+/// The same where the current stream is that of a text buffer window without an echo stream, whose reply pushes and
+/// writes nothing; says whether it is one, and does nothing where it isn't.
+#[inline(always)]
+#[tactic(auto, using(crate::proofs::Puts::text_rules), unfolding(crate::specs::Output::putting))]
+pub fn put_text(world: &mut World, value: u32) -> Result<bool, AllocError>
+    ensures value { IfOk result (λ put. put ≡ is_plain_text world.old.scene world.old.scene.current) }
+    ensures put { IfOk result (λ put. IsTrue put → (f : FlatState) → on_world world.old (putting world.old.scene f value) ≡ Ok (world.new, replies 0)) }
+    ensures other { IfOk result (λ put. IsTrue (not put) → world.new ≡ world.old) }
+    ensures fine { OnErr result ((f : FlatState) → IsOk (on_world world.old (putting world.old.scene f value))) }
+    ensures memory { OnErr result (IsTrue (put_grows_one world.old.scene world.old.scene.current value)) }
+{
+    let stream = world.current();
+    world.put_text(stream, value)
 }
 
 /// Calls that put to the current stream.
