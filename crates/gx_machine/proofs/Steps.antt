@@ -1,5 +1,5 @@
 -- A step within a budget is one within what its own unit leaves.
-use Rattle.std.proofs.Common.{◌≡◌, ◌≢◌, ◌≤◌, ◌<◌, ◌+◌, ◌-◌, ◌==◌, ℕ, nat_lt, if◌then◌else◌, Bool, true, false, Option, Some, None, IsSome, IfSome, Result, Ok, Err, IsOk, refl, ap, subst, sym, ◌∙◌, arith}
+use Rattle.std.proofs.Common.{◌≡◌, ◌≢◌, ◌≤◌, ◌<◌, ◌+◌, ◌-◌, ◌==◌, ℕ, nat_lt, if◌then◌else◌, Bool, true, false, Option, Some, None, IsSome, IfSome, ◌⊎◌, inl, inr, Result, Ok, Err, IsOk, IfOk, refl, ap, subst, sym, ◌∙◌, arith}
 use Rattle.std.proofs.lemmas.Bool.{lt-ltb, le-ltb, ltb-true, ltb-false, eq-eqb}
 use Rattle.std.proofs.lemmas.Bool.Decides.{nat_tests}
 use Rattle.gx_words.specs.declared.faults.Fault.{Fault}
@@ -12,8 +12,9 @@ use Rattle.gx_state.specs.declared.modes.Mode.{Mode}
 use Rattle.gx_state.specs.declared.modes.Mode.TheVariants.{Running, Printing}
 use Rattle.gx_state.specs.Flat.{FlatState, sp_of}
 use Rattle.ops_memory.specs.Costs.{lowered, charged}
-use Rattle.ops_print.specs.Items.{item_by, printed}
+use Rattle.ops_print.specs.Items.{item_by, printed, is_put}
 use Rattle.std.specs.Option.{option_map}
+use Rattle.gx_undo.specs.Undo.{FlatUndo}
 use Rattle.gx_machine.specs.declared.askings.Asking.{Asking}
 use Rattle.gx_machine.specs.declared.askings.Asking.TheVariants as asking
 use Rattle.gx_machine.specs.declared.machine.Pending.{Pending}
@@ -183,6 +184,21 @@ pub puts_ok : (w : Whole) (budget : ℕ) (pending : Option Pending) (r : Option 
 puts_ok w budget pending None some live value printing asks = tt
 puts_ok w budget pending (Some c) some live value printing asks =
     λ word. print_ok w word budget w.machine.flat (Put c) (option_map (λ (p : Pending). p.asking) pending) some live printing (sym asks) value
+
+-- a step of printing that puts no character, and one that isn't made
+paid-rest : (budget : ℕ) (undo : FlatUndo) (r : Result (FlatState × Effect) Fault) → IfOk r (λ x. is_put x.1 ≡ false) → IfOk (paid budget 1 (with_copies undo r)) (λ x. is_put x.1 ≡ false)
+paid-rest budget undo (Ok x) rest = rest
+paid-rest budget undo (Err fault) rest = tt
+
+pub prints_rest : (w : Whole) (word budget : ℕ) → 1 ≤ budget → 0 < sp_of w.machine.flat → (w.machine.flat.mode ≡ Running → ⊥)
+    → IfOk (printed w.machine.flat) (λ x. is_put x.1 ≡ false) → IfOk (stepped w word budget) (λ x. is_put x.1 ≡ false)
+prints_rest w word budget some live printing rest =
+    subst (λ (r : Result ((Whole × ℕ) × Effect) Fault). IfOk r (λ x. is_put x.1 ≡ false)) (sym (printed-is w word budget some live printing))
+    (paid-rest budget w.machine.undo (printed w.machine.flat) rest)
+
+pub unmade_rest : (w : Whole) (word budget : ℕ) → (budget ≡ 0) ⊎ (1 ≤ budget) × (sp_of w.machine.flat ≡ 0) → IfOk (stepped w word budget) (λ x. is_put x.1 ≡ false)
+unmade_rest w word budget (inl none) = subst (λ (r : Result ((Whole × ℕ) × Effect) Fault). IfOk r (λ x. is_put x.1 ≡ false)) (sym (step_none w word budget none)) refl
+unmade_rest w word budget (inr h) = subst (λ (r : Result ((Whole × ℕ) × Effect) Fault). IfOk r (λ x. is_put x.1 ≡ false)) (sym (step_empty w word budget h.0 h.1)) tt
 
 -- a fault leaves the machine and its budget, and so does want of memory
 pub run_err : (wants : Type 0) (w : Whole) (word budget left : ℕ) (m' : FlatMachine) (fault : Fault) → 1 ≤ budget → 0 < sp_of w.machine.flat → w.machine.flat.mode ≡ Running

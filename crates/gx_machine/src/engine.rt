@@ -1,8 +1,10 @@
 //! What a session runs on: a machine, or a tape over one.
-ghost use Rattle.std.specs.Prelude.{◌≡◌, ◌≤◌, ◌-◌, ℕ, [], length, Ok, Some, None, IsSome, IfSome, IfOk, OnOk, OnErr};
+ghost use Rattle.std.specs.Prelude.{◌≡◌, ◌≢◌, ◌≤◌, ◌-◌, ℕ, false, [], length, Ok, Some, None, IsSome, IfSome, IfOk, OnOk, OnErr};
 ghost use Rattle.gx_words.specs.Faults.{Does};
 ghost use Rattle.gx_state.specs.declared.effects.Effect.TheVariants.{Put};
+ghost use Rattle.gx_state.specs.declared.modes.Mode.TheVariants.{Running};
 ghost use Rattle.gx_state.specs.Copies.{IsCopyFor};
+ghost use Rattle.ops_print.specs.Items.{is_put};
 ghost use Rattle.gx_machine.specs.Machine.{Whole};
 ghost use Rattle.gx_machine.specs.Answer.{answered, IsAnswer};
 ghost use Rattle.gx_machine.specs.Saves.{restored_whole, saved_copy};
@@ -40,7 +42,8 @@ pub trait Engine<A: Allocator + Clone> {
         ensures asks { IfSome result (λ c. (whole self.new).asking ≡ Some Asking.Put) }
         ensures stands { (whole self.new).machine ≡ (whole self.old).machine }
         ensures some { IfSome result (λ c. 1 ≤ budget) }
-        ensures none { result ≡ None → whole self.new ≡ whole self.old };
+        ensures none { result ≡ None → whole self.new ≡ whole self.old }
+        ensures rest { result ≡ None → (whole self.old).machine.flat.mode ≢ Running → (word : ℕ) → IfOk (stepped (whole self.old) word budget) (λ r. is_put r.1 ≡ false) };
 
     /// Answers what the last step asked.
     fn finish(&mut self, reply: &Reply) -> Result<(), AllocError>

@@ -1,12 +1,14 @@
 //! The machine: one step, and the answer to what it asks.
-ghost use Rattle.std.specs.Prelude.{◌≡◌, ◌≢◌, ◌⊎◌, ◌+◌, ◌-◌, ◌*◌, ◌<◌, ◌≤◌, ℕ, true, [], length, Ok, Some, None, IfOk, IfSome, IsSome, OnOk, OnErr};
+ghost use Rattle.std.specs.Prelude.{◌≡◌, ◌≢◌, ◌⊎◌, ◌+◌, ◌-◌, ◌*◌, ◌<◌, ◌≤◌, ℕ, true, false, [], length, Ok, Some, None, IfOk, IfSome, IsSome, OnOk, OnErr};
 ghost use Rattle.gx_words.specs.Faults.{Does, Makes};
 ghost use Rattle.gx_state.specs.declared.effects.Effect.TheVariants.{Put};
+ghost use Rattle.gx_state.specs.declared.modes.Mode.TheVariants.{Running};
 ghost use Rattle.gx_state.specs.Copies.{IsCopyFor};
 ghost use Rattle.gx_state.specs.Flat.{IsHeight, sp_of};
 ghost use Rattle.gx_state.specs.Replies.{AreInRam, IsReply};
 ghost use Rattle.gx_state.specs.Stores.{store_fault, IsMemory};
 ghost use Rattle.gx_pages.specs.Memory.{HasBytes};
+ghost use Rattle.ops_print.specs.Items.{is_put};
 ghost use Rattle.gx_machine.specs.declared.askings.Asking.TheVariants as asking;
 ghost use Rattle.gx_machine.specs.Answer.{answered, answered_state, with_writes, with_pushes, IsAnswer, IsStoredAnswer};
 ghost use Rattle.gx_machine.specs.Quick.{Tries, Passed};
@@ -126,6 +128,7 @@ impl<A: Allocator + Clone> Machine<A> {
         ensures stands { self.new.machine ≡ self.old.machine }
         ensures some { IfSome result (λ c. 1 ≤ budget) }
         ensures none { result ≡ None → self.new ≡ self.old }
+        ensures rest { result ≡ None → self.old.machine.flat.mode ≢ Running → (word : ℕ) → IfOk (stepped self.old word budget) (λ r. is_put r.1 ≡ false) }
     {
         if budget == 0 || self.state.stack().size() == 0 {
             return None;

@@ -1,5 +1,5 @@
 //! The row of an instruction, class by class.
-ghost use Rattle.std.specs.Prelude.{◌≡◌, ◌≢◌, ◌<◌, ◌≤◌, ◌*◌, ◌+◌, Ok, None, Some, IsSome, IfOk, IfSome, OnOk, OnErr};
+ghost use Rattle.std.specs.Prelude.{◌≡◌, ◌≢◌, ◌<◌, ◌≤◌, ◌*◌, ◌+◌, Ok, None, Some, false, IsSome, IfOk, IfSome, OnOk, OnErr};
 ghost use Rattle.std.specs.Option.{option_map};
 ghost use Rattle.gx_words.specs.Faults.{Does, Reads};
 ghost use Rattle.gx_state.specs.declared.effects.Effect.TheVariants.{Put, Spent};
@@ -12,7 +12,7 @@ ghost use Rattle.ops_game.specs.Rows as game;
 ghost use Rattle.ops_game.specs.Writes as game_writes;
 ghost use Rattle.ops_memory.specs.Costs.{probes_of, charged};
 ghost use Rattle.ops_print.specs.Rows as print;
-ghost use Rattle.ops_print.specs.Items.{printed};
+ghost use Rattle.ops_print.specs.Items.{printed, is_put};
 ghost use Rattle.gx_machine.specs.declared.askings.Asking.TheVariants as asking;
 ghost use Rattle.gx_machine.specs.Rows.{room_above, glk, row_effect, IsWriting};
 ghost use Rattle.gx_machine.specs.Step.{asking_of, mode_step, probes_in, IsModeWriting};
@@ -163,6 +163,7 @@ pub(crate) fn next_put<A: Allocator + Clone>(
     ensures asks { IfSome result (λ c. option_map (λ p. p.asking) pending.new ≡ Some asking.Put) }
     ensures pends { IfSome pending.new (IsPending state.now.flat) }
     ensures none { result ≡ None → pending.new ≡ None }
+    ensures rest { result ≡ None → state.now.flat.mode ≢ Running → IfOk (printed state.now.flat) (λ r. is_put r.1 ≡ false) }
 {
     let Mode::Printing(printing) = state.mode() else {
         return None;

@@ -1,6 +1,6 @@
 -- The items of what is printed: strings of the three types, and numbers (Glulx 3.1.2, "Strings" and
 -- "Calling and Returning Within Strings").
-use Rattle.std.specs.Prelude.{◌≡◌, ℕ, ◌+◌, ◌%◌, ◌^◌, ◌==◌, if◌then◌else◌, List, drop, slice_get, Option, Some, None, Result, Ok, Err, IsTrue}
+use Rattle.std.specs.Prelude.{◌≡◌, ℕ, ◌+◌, ◌%◌, ◌^◌, ◌==◌, if◌then◌else◌, Bool, true, false, List, drop, slice_get, Option, Some, None, Result, Ok, Err, IsTrue}
 use Rattle.std.specs.Int.{w32, cast_signed}
 use Rattle.std.specs.Fmt.{signed_decimal}
 use Rattle.gx_words.specs.Numbers.{is_bit}
@@ -53,6 +53,11 @@ item_of Number memory table p = Ok (number_item p)
 
 unfoldable pub next_item : List ℕ → ℕ → Printing → Result Item Fault
 next_item memory table p = item_of p.kind memory table p
+
+-- whether it is a character
+abbrev pub is_char : Result Item Fault → Bool
+is_char (Ok (Char value next)) = true
+is_char _ = false
 
 -- a place in a compressed string is at one of the eight bits of a byte
 abbrev pub HasBit : Printing → Type 0

@@ -1,5 +1,5 @@
 //! The nodes of a decoding table.
-ghost use Rattle.std.specs.Prelude.{◌≡◌, ◌⊎◌, ◌+◌, ◌*◌, ◌<◌, ◌≤◌, ◌^◌, drop, length, Ok, IsTrue, IfOk, IfSome};
+ghost use Rattle.std.specs.Prelude.{◌≡◌, ◌⊎◌, ◌+◌, ◌*◌, ◌<◌, ◌≤◌, ◌^◌, drop, length, None, Ok, false, IsTrue, IfOk, IfSome};
 ghost use Rattle.gx_words.specs.Numbers.{is_bit};
 ghost use Rattle.gx_words.specs.Faults.{Reads};
 ghost use Rattle.gx_words.specs.declared.limits.TheConstants.{CEILING};
@@ -7,7 +7,7 @@ ghost use Rattle.gx_words.specs.declared.strings.Printing.{Printing as APrinting
 ghost use Rattle.gx_strings.specs.declared.items.Item.TheVariants.{Char};
 ghost use Rattle.gx_strings.specs.Bits.{bit, bits};
 ghost use Rattle.gx_strings.specs.Nodes.{child, walk, direct, indirect, node_item};
-ghost use Rattle.gx_strings.specs.Items.{HasBit, HasBits};
+ghost use Rattle.gx_strings.specs.Items.{is_char, HasBit, HasBits};
 
 use crate::Item;
 use crate::node_types::{
@@ -158,13 +158,17 @@ pub fn node_item<A: Allocator + Clone>(
 
 /// The character that a node holds; None of any other node.
 #[inline(always)]
-#[tactic(auto, unfolding(crate::specs::Nodes::node_item))]
+#[tactic(auto, using(crate::proofs::Chars::other_node), unfolding(crate::specs::Nodes::node_item))]
 pub fn node_char<A: Allocator + Clone>(memory: &Pages<A>, node: u32) -> Option<u32>
-    ensures { IfSome result (λ c. (next : APrinting) → node_item memory.now node next ≡ Ok (Char c next)) }
+    ensures value { IfSome result (λ c. (next : APrinting) → node_item memory.now node next ≡ Ok (Char c next)) }
+    ensures none { result ≡ None → (next : APrinting) → is_char (node_item memory.now node next) ≡ false }
 {
-    let width = match memory.try_number(1, node) {
-        Ok(SINGLE_CHARACTER) => 1,
-        Ok(SINGLE_UNICODE_CHARACTER) => 4,
+    let Ok(type_byte) = memory.try_number(1, node) else {
+        return None;
+    };
+    let width = match type_byte {
+        SINGLE_CHARACTER => 1,
+        SINGLE_UNICODE_CHARACTER => 4,
         _ => return None,
     };
     match memory.try_number(width, node + 1) {

@@ -1,12 +1,12 @@
 //! The next item of a string or number.
-ghost use Rattle.std.specs.Prelude.{◌≡◌, ◌+◌, ◌<◌, ◌^◌, slice_get, Ok, IsTrue, IfOk, IfSome};
+ghost use Rattle.std.specs.Prelude.{◌≡◌, ◌+◌, ◌<◌, ◌^◌, slice_get, None, Ok, false, IsTrue, IfOk, IfSome};
 ghost use Rattle.std.specs.Int.{w32, cast_signed};
 ghost use Rattle.std.specs.Fmt.{signed_decimal};
 ghost use Rattle.gx_words.specs.Numbers.{is_bit};
 ghost use Rattle.gx_words.specs.Faults.{Reads};
 ghost use Rattle.gx_words.specs.declared.strings.PrintKind.TheVariants.{Number};
 ghost use Rattle.gx_strings.specs.declared.items.Item.TheVariants.{Char};
-ghost use Rattle.gx_strings.specs.Items.{byte_item, compressed_item, word_item, number_item, next_item, HasBit, HasBits};
+ghost use Rattle.gx_strings.specs.Items.{byte_item, compressed_item, word_item, number_item, next_item, is_char, HasBit, HasBits};
 
 use crate::Item;
 use crate::nodes::{node_char, node_item, walk};
@@ -146,7 +146,8 @@ fn compressed_char<A: Allocator + Clone>(
     printing: &Printing,
 ) -> Option<(u32, u32, u32)>
     requires { IsTrue (is_bit printing.now.bit) }
-    ensures { IfSome result (λ r. compressed_item memory.now table printing.now ≡ Ok (Char r.0 (record printing.now { at = r.1; bit = r.2 }))) }
+    ensures value { IfSome result (λ r. compressed_item memory.now table printing.now ≡ Ok (Char r.0 (record printing.now { at = r.1; bit = r.2 }))) }
+    ensures none { result ≡ None → is_char (compressed_item memory.now table printing.now) ≡ false }
 {
     if table == 0 {
         return None;
@@ -164,7 +165,7 @@ fn compressed_char<A: Allocator + Clone>(
 }
 
 /// The next character of what is printed, with the address and the bit behind it; None where what comes next is
-/// something else, or may be.
+/// something else.
 #[inline(always)]
 #[tactic(auto, unfolding(crate::specs::Items::next_item, crate::specs::Items::byte_item, crate::specs::Items::word_item, crate::specs::Items::number_item))]
 pub fn next_char<A: Allocator + Clone>(
@@ -173,7 +174,8 @@ pub fn next_char<A: Allocator + Clone>(
     printing: &Printing,
 ) -> Option<(u32, u32, u32)>
     requires { HasBit printing.now }
-    ensures { IfSome result (λ r. next_item memory.now table printing.now ≡ Ok (Char r.0 (record printing.now { at = r.1; bit = r.2 }))) }
+    ensures value { IfSome result (λ r. next_item memory.now table printing.now ≡ Ok (Char r.0 (record printing.now { at = r.1; bit = r.2 }))) }
+    ensures none { result ≡ None → is_char (next_item memory.now table printing.now) ≡ false }
 {
     match printing.kind {
         PrintKind::E0 => match memory.try_number(1, printing.at) {

@@ -2,7 +2,7 @@
 -- and "Calling and Returning During Output Filtering").
 --
 -- A fault in any line leaves the state as it is.
-use Rattle.std.specs.Prelude.{ℕ, zero, suc, ◌+◌, ◌==◌, min, if◌then◌else◌, Bool, true, List, [], ◌∷◌, Result, Ok, Err}
+use Rattle.std.specs.Prelude.{ℕ, zero, suc, ◌+◌, ◌==◌, min, if◌then◌else◌, Bool, true, false, List, [], ◌∷◌, Result, Ok, Err}
 use Rattle.gx_words.specs.declared.faults.Fault.{Fault}
 use Rattle.gx_words.specs.declared.faults.Fault.TheVariants.{BadFrame}
 use Rattle.gx_words.specs.declared.iosystems.TheConstants.{FILTER_SYSTEM, GLK_SYSTEM}
@@ -115,3 +115,8 @@ mode_by f (mode.Printing p) = mode_behind f.mode (next_item f.memory f.table p)
 
 unfoldable pub mode_after : FlatState → Mode
 mode_after f = mode_by f f.mode
+
+-- whether a character is asked to be put
+abbrev pub is_put : Effect → Bool
+is_put (Put c) = true
+is_put _ = false

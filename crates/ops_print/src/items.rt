@@ -1,5 +1,5 @@
 //! One step of printing: the next item of a string or number, by the I/O system.
-ghost use Rattle.std.specs.Prelude.{◌≡◌, ◌<◌, Ok, IfOk, IfSome};
+ghost use Rattle.std.specs.Prelude.{◌≡◌, ◌<◌, None, Ok, false, IfOk, IfSome};
 ghost use Rattle.gx_words.specs.Faults.{TakesNone};
 ghost use Rattle.gx_words.specs.Results.{Turns};
 ghost use Rattle.gx_state.specs.declared.effects.Effect.TheVariants.{Put};
@@ -7,7 +7,7 @@ ghost use Rattle.gx_state.specs.declared.modes.Mode.TheVariants.{Printing as APr
 ghost use Rattle.gx_state.specs.Flat.{sp_of};
 ghost use Rattle.gx_state.specs.Relations.{Goes};
 ghost use Rattle.ops_print.specs.Rows.{IsPutAtMost};
-ghost use Rattle.ops_print.specs.Items.{function_called, character_printed, string_begun, reference_called, string_ended, is_place, printed, mode_after};
+ghost use Rattle.ops_print.specs.Items.{function_called, character_printed, string_begun, reference_called, string_ended, is_place, printed, mode_after, is_put};
 
 use crate::arguments::arguments_in;
 use crate::stubs::{end_inner, resuming, to_code};
@@ -127,9 +127,9 @@ fn is_place(printing: &Printing) -> bool
 }
 
 /// The character that the next step of a machine that prints asks to be put, with the address and the bit behind it;
-/// None where it does something else, or may do so.
+/// None where it does something else.
 #[inline(always)]
-#[tactic(auto, unfolding(crate::specs::Items::item, crate::specs::Items::item_printed, crate::specs::Items::character_printed, crate::specs::Items::mode_after))]
+#[tactic(auto, using(crate::proofs::Puts::quiet), unfolding(crate::specs::Items::item, crate::specs::Items::item_printed, crate::specs::Items::character_printed, crate::specs::Items::mode_after))]
 pub fn next_put<A: Allocator + Clone>(
     state: &State<A>,
     printing: &Printing,
@@ -137,6 +137,7 @@ pub fn next_put<A: Allocator + Clone>(
     requires { state.now.flat.mode ≡ APrinting printing.now }
     ensures value { IfSome result (λ r. printed state.now.flat ≡ Ok (state.now.flat, Put r.0)) }
     ensures mode { IfSome result (λ r. mode_after state.now.flat ≡ APrinting (record printing.now { at = r.1; bit = r.2 })) }
+    ensures none { result ≡ None → IfOk (printed state.now.flat) (λ r. is_put r.1 ≡ false) }
 {
     let (system, _) = state.iosys();
     if system != GLK_SYSTEM || !is_place(printing) {

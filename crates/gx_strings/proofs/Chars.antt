@@ -1,0 +1,69 @@
+-- Items that are no characters.
+use Rattle.std.proofs.Common.{◌≡◌, ◌+◌, ◌==◌, ◌||◌, ◌&&◌, nat_le, if◌then◌else◌, ℕ, Bool, true, false, List, refl, sym, subst, Option, Some, None, Result, Ok, Err}
+use Rattle.gx_words.specs.declared.faults.Fault.{Fault}
+use Rattle.gx_words.specs.declared.strings.Printing.{Printing}
+use Rattle.gx_words.specs.declared.typable.TheConstants.{STACK_FUNCTION, LOCALS_FUNCTION}
+use Rattle.gx_words.specs.Results.{◌>>=◌}
+use Rattle.gx_pages.specs.Memory.{number_in}
+use Rattle.gx_strings.specs.declared.node_types.TheConstants.{STRING_TERMINATOR, SINGLE_CHARACTER, C_STYLE_STRING, SINGLE_UNICODE_CHARACTER, C_STYLE_UNICODE_STRING, INDIRECT_REFERENCE, DOUBLE_INDIRECT_REFERENCE, INDIRECT_REFERENCE_WITH_ARGUMENTS, DOUBLE_INDIRECT_REFERENCE_WITH_ARGUMENTS}
+use Rattle.gx_strings.specs.declared.objects.TheConstants.{LAST_FUNCTION}
+use Rattle.gx_strings.specs.declared.items.Item.{Item}
+use Rattle.gx_strings.specs.Objects.{string_of, call_of, reference_by_type, reference}
+use Rattle.gx_strings.specs.Nodes.{direct, indirect, node_item}
+use Rattle.gx_strings.specs.Items.{is_char}
+
+-- an item, or a fault, that is no character
+record Other (r : Result Item Fault) : Type 0 where
+  is : is_char r ≡ false
+
+either : (b : Bool) {x y : Result Item Fault} → Other x → Other y → Other (if b then x else y)
+either true h k = h
+either false h k = k
+
+past : (b : Bool) (x y : Result Item Fault) → b ≡ false → Other y → Other (if b then x else y)
+past b x y not h = subst (λ (c : Bool). Other (if c then x else y)) (sym not) h
+
+at : (r : Result ℕ Fault) (f : ℕ → Result Item Fault) (t : ℕ) → r ≡ Ok t → Other (f t) → Other (r >>= f)
+at r f t is h = subst (λ (read : Result ℕ Fault). Other (read >>= f)) (sym is) h
+
+each : {A : Type 0} (r : Result A Fault) {f : A → Result Item Fault} → ((x : A) → Other (f x)) → Other (r >>= f)
+each (Ok x) h = h x
+each (Err fault) h = record { is = refl }
+
+-- ---- what a reference gives
+
+call-other : (memory : List ℕ) (back : Printing) (object : ℕ) (count_at : Option ℕ) → Other (call_of memory back object count_at)
+unfolding call_of
+call-other memory back object None = record { is = refl }
+call-other memory back object (Some count_at) = each (number_in 4 memory count_at) (λ count. record { is = refl })
+
+typed-other : (memory : List ℕ) (back : Printing) (object : ℕ) (count_at : Option ℕ) (t : ℕ) (string : Option Printing) → Other (reference_by_type memory back object count_at t string)
+unfolding reference_by_type
+typed-other memory back object count_at t (Some string) = record { is = refl }
+typed-other memory back object count_at t None =
+    either (t == STACK_FUNCTION || t == LOCALS_FUNCTION) (call-other memory back object count_at)
+    (either (nat_le STACK_FUNCTION t && nat_le t LAST_FUNCTION) (record { is = refl }) (record { is = refl }))
+
+reference-other : (memory : List ℕ) (back : Printing) (object : ℕ) (count_at : Option ℕ) → Other (reference memory back object count_at)
+unfolding reference
+reference-other memory back object count_at = each (number_in 1 memory object) (λ t. typed-other memory back object count_at t (string_of t object))
+
+-- ---- the nodes of other types than the two of one character
+
+node-other : (memory : List ℕ) (node t : ℕ) (next : Printing) → (t == SINGLE_CHARACTER) ≡ false → (t == SINGLE_UNICODE_CHARACTER) ≡ false → number_in 1 memory node ≡ Ok t → Other (node_item memory node next)
+unfolding node_item
+node-other memory node t next byte word is =
+    at (number_in 1 memory node) _ t is
+    (either (t == STRING_TERMINATOR) (record { is = refl })
+    (past (t == SINGLE_CHARACTER) _ _ byte
+    (either (t == C_STYLE_STRING) (record { is = refl })
+    (past (t == SINGLE_UNICODE_CHARACTER) _ _ word
+    (either (t == C_STYLE_UNICODE_STRING) (record { is = refl })
+    (either (t == INDIRECT_REFERENCE) (each (direct memory node) (λ object. reference-other memory next object None))
+    (either (t == DOUBLE_INDIRECT_REFERENCE) (each (indirect memory node) (λ object. reference-other memory next object None))
+    (either (t == INDIRECT_REFERENCE_WITH_ARGUMENTS) (each (direct memory node) (λ object. reference-other memory next object (Some (node + 5))))
+    (either (t == DOUBLE_INDIRECT_REFERENCE_WITH_ARGUMENTS) (each (indirect memory node) (λ object. reference-other memory next object (Some (node + 5)))) (record { is = refl }))))))))))
+
+pub other_node : (memory : List ℕ) (node t : ℕ) (next : Printing) → number_in 1 memory node ≡ Ok t → (t == SINGLE_CHARACTER) ≡ false → (t == SINGLE_UNICODE_CHARACTER) ≡ false
+    → is_char (node_item memory node next) ≡ false
+other_node memory node t next is byte word = (node-other memory node t next byte word is).is

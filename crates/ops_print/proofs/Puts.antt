@@ -1,0 +1,87 @@
+-- Steps of printing that put no character.
+use Rattle.std.proofs.Common.{◌≡◌, ◌==◌, if◌then◌else◌, ℕ, Bool, true, false, List, refl, sym, subst, ◌⊎◌, inl, inr, Result, Ok, Err, IfOk}
+use Rattle.gx_words.specs.declared.faults.Fault.{Fault}
+use Rattle.gx_words.specs.declared.iosystems.TheConstants.{FILTER_SYSTEM, GLK_SYSTEM}
+use Rattle.gx_words.specs.declared.strings.Printing.{Printing}
+use Rattle.gx_words.specs.Results.{◌>>=◌}
+use Rattle.gx_strings.specs.declared.items.Item.{Item}
+use Rattle.gx_strings.specs.declared.items.Item.TheVariants.{Char, Sub, Call, End}
+use Rattle.gx_strings.specs.Items.{next_item, is_char}
+use Rattle.gx_state.specs.declared.effects.Effect.{Effect}
+use Rattle.gx_state.specs.declared.modes.Mode.{Mode}
+use Rattle.gx_state.specs.declared.modes.Mode.TheVariants as mode
+use Rattle.gx_state.specs.Flat.{FlatState, sp_of}
+use Rattle.gx_state.specs.Entry.{entered}
+use Rattle.gx_state.specs.Returns.{pushed_stubs}
+use Rattle.ops_print.specs.Stubs.{ways_back, inner_ended}
+use Rattle.ops_print.specs.Items.{arguments_in, function_called, character_printed, string_begun, reference_called, string_ended, item_printed, is_place, item, item_by, printed, is_put}
+
+-- a step, or a fault, that puts no character
+record Quiet (r : Result (FlatState × Effect) Fault) : Type 0 where
+  is : IfOk r (λ (x : FlatState × Effect). is_put x.1 ≡ false)
+
+either : (b : Bool) {x y : Result (FlatState × Effect) Fault} → Quiet x → Quiet y → Quiet (if b then x else y)
+either true h k = h
+either false h k = k
+
+past : (b : Bool) (x y : Result (FlatState × Effect) Fault) → b ≡ false → Quiet y → Quiet (if b then x else y)
+past b x y not h = subst (λ (c : Bool). Quiet (if c then x else y)) (sym not) h
+
+each : {A : Type 0} (r : Result A Fault) {f : A → Result (FlatState × Effect) Fault} → ((x : A) → Quiet (f x)) → Quiet (r >>= f)
+each (Ok x) h = h x
+each (Err fault) h = record { is = tt }
+
+-- ---- what the items do
+
+called : (f : FlatState) (started : Bool) (back : Printing) (at : ℕ) (args : List ℕ) → Quiet (function_called f started back at args)
+unfolding function_called
+called f started back at args = each (entered f (sp_of f) (ways_back f started back) at args) (λ g. record { is = refl })
+
+begun : (f : FlatState) (started : Bool) (back inner : Printing) → Quiet (string_begun f started back inner)
+unfolding string_begun
+begun f started back inner = each (pushed_stubs f (ways_back f started back)) (λ g. record { is = refl })
+
+ended : (f : FlatState) (started : Bool) → Quiet (string_ended f started)
+unfolding string_ended
+ended f started = either started (each (inner_ended f) (λ g. record { is = refl })) (record { is = refl })
+
+-- a character under another system than Glk
+dropped : (f : FlatState) (started : Bool) (c : ℕ) (next : Printing) → (f.iosys.0 == GLK_SYSTEM) ≡ false → Quiet (character_printed f started c next)
+unfolding character_printed
+dropped f started c next other =
+    either (f.iosys.0 == FILTER_SYSTEM) (called f started next f.iosys.1 _) (past (f.iosys.0 == GLK_SYSTEM) _ _ other (record { is = refl }))
+
+true_is_not_false : true ≡ false → ⊥
+true_is_not_false same = cc
+
+-- an item that is no character, or that is printed under another system than Glk
+other : (f : FlatState) (started : Bool) (i : Item) → is_char (Ok i) ≡ false ⊎ ((f.iosys.0 == GLK_SYSTEM) ≡ false) → Quiet (item_printed f started i)
+unfolding item_printed reference_called
+other f started (Char c next) (inl plain) = absurd (true_is_not_false plain)
+other f started (Char c next) (inr system) = dropped f started c next system
+other f started (Sub back inner) h = begun f started back inner
+other f started (Call back at args_at count) h = each (arguments_in f.memory args_at count) (λ args. called f started back at args)
+other f started End h = ended f started
+
+-- ---- a step of printing
+
+step : (f : FlatState) (p : Printing) (r : Result Item Fault) → is_char r ≡ false ⊎ ((f.iosys.0 == GLK_SYSTEM) ≡ false) → Quiet (r >>= item_printed f p.started)
+step f p (Ok i) h = other f p.started i h
+step f p (Err fault) h = record { is = tt }
+
+printed-is : (f : FlatState) (p : Printing) → f.mode ≡ mode.Printing p → Quiet (item f p) → IfOk (printed f) (λ r. is_put r.1 ≡ false)
+printed-is f p mode h = (subst (λ (m : Mode). Quiet (item_by f m)) (sym mode) h).is
+
+pub quiet_item : (f : FlatState) (p : Printing) → f.mode ≡ mode.Printing p → is_char (next_item f.memory f.table p) ≡ false → IfOk (printed f) (λ r. is_put r.1 ≡ false)
+unfolding item
+quiet_item f p mode none = printed-is f p mode (either (is_place p.kind p.bit) (step f p (next_item f.memory f.table p) (inl none)) (record { is = tt }))
+
+pub quiet_system : (f : FlatState) (p : Printing) → f.mode ≡ mode.Printing p → (f.iosys.0 == GLK_SYSTEM) ≡ false → IfOk (printed f) (λ r. is_put r.1 ≡ false)
+unfolding item
+quiet_system f p mode system = printed-is f p mode (either (is_place p.kind p.bit) (step f p (next_item f.memory f.table p) (inr system)) (record { is = tt }))
+
+pub quiet_place : (f : FlatState) (p : Printing) → f.mode ≡ mode.Printing p → is_place p.kind p.bit ≡ false → IfOk (printed f) (λ r. is_put r.1 ≡ false)
+unfolding item
+quiet_place f p mode place = printed-is f p mode (past (is_place p.kind p.bit) _ _ place (record { is = tt }))
+
+pub ruleset quiet = (quiet_item, quiet_system, quiet_place)
