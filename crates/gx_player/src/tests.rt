@@ -17,6 +17,7 @@ mod flow;
 mod game;
 mod glk;
 mod glk_stories;
+mod going_on;
 mod hostile;
 mod memory;
 mod no_pages;

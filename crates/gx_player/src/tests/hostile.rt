@@ -74,7 +74,7 @@ const CODE: &[u8] = &[
 ];
 
 /// The first bytes of memory's pages, the stack and the number of copies, as a text.
-fn left_in<A: Allocator + Clone>(alloc: Global, machine: &Machine<A>) -> Result<String, Fail> {
+pub fn left_in<A: Allocator + Clone>(alloc: Global, machine: &Machine<A>) -> Result<String, Fail> {
     let memory = machine.state().memory();
     let mut text = format!(in alloc; "{} bytes, {} copies,", memory.size(), machine.undo_len())?;
     for page in 0..memory.size() / 256 {
