@@ -24,6 +24,7 @@ mod no_pages;
 mod operands;
 mod pool;
 mod replies;
+mod reports;
 mod saves;
 mod searches;
 mod selectors;

@@ -29,6 +29,3 @@ mod turns;
 pub use ended::Ended;
 pub use ends::Stop;
 pub use session::{EndedOn, run, run_on};
-
-#[cfg(test)]
-mod tests;

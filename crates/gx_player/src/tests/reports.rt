@@ -1,0 +1,48 @@
+//! The line that says how a run ended, for each status.
+use gx_session::Ended;
+use std::alloc::Global;
+use std::test::Fail;
+
+/// The status, the fault, its place, the steps, and the line.
+const REPORTS: [(u8, u8, u32, u64, &str); 14] = [
+    (0, 0, 0, 12, ""),
+    (1, 0, 0, 0, "gx_player: the command line is not understood"),
+    (2, 5, 0, 0, "gx_player: no story (5)"),
+    (
+        3,
+        16,
+        0x01AF,
+        18_446_744_073_709_551_615,
+        "gx_player: fault 16 at 000001af after 18446744073709551615 steps",
+    ),
+    (3, 0, 0, 0, "gx_player: the checksum differs"),
+    (4, 0, 0, 1000, "gx_player: budget spent after 1000 steps"),
+    (5, 0, 0, 0, "gx_player: input ended"),
+    (6, 0, 0, 0, "gx_player: nothing to wait for"),
+    (7, 0, 0, 0, "gx_player: input line too long"),
+    (8, 0, 0, 0, "gx_player: file fault"),
+    (9, 0, 0, 0, "gx_player: input fault"),
+    (10, 0, 0, 0, "gx_player: output fault"),
+    (11, 0, 0, 0, "gx_player: out of memory"),
+    (14, 0, 0, 0, ""),
+];
+
+/// A run that ended so, with no machine.
+fn ended(status: u8, fault: u8, at: u32, steps: u64) -> Ended<Global> {
+    Ended {
+        status,
+        fault,
+        at,
+        steps,
+        machine: None,
+    }
+}
+
+#[test]
+fn reports(rt: HostRuntime) -> Result<(), Fail> {
+    for (status, fault, at, steps, wanted) in REPORTS {
+        let line = ended(status, fault, at, steps).line(rt.alloc())?;
+        assert_eq!(rt; line.as_str(), wanted);
+    }
+    Ok(())
+}
