@@ -11,6 +11,3 @@ mod requests;
 
 pub use events::{char_value, line_length};
 pub use requests::{RETURN, Request, Requests, UNKNOWN};
-
-#[cfg(test)]
-mod tests;

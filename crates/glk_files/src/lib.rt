@@ -8,6 +8,3 @@
 mod names;
 
 pub use names::{INPUT_RECORD, SAVED_GAME, TRANSCRIPT, base_name, full_name};
-
-#[cfg(test)]
-mod tests;

@@ -12,6 +12,3 @@ mod utf8;
 
 pub use characters::{LINE_FEED, latin, lower, printable, show, upper};
 pub use utf8::{REPLACEMENT, as_char, push_utf8, read_utf8};
-
-#[cfg(test)]
-mod tests;

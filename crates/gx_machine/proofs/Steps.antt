@@ -1,5 +1,5 @@
 -- A step within a budget is one within what its own unit leaves.
-use Rattle.std.proofs.Common.{◌≡◌, ◌≢◌, ◌≤◌, ◌<◌, ◌+◌, ◌-◌, ◌==◌, ℕ, nat_lt, if◌then◌else◌, Bool, true, false, Option, Some, None, IsSome, IfSome, ◌⊎◌, inl, inr, Result, Ok, Err, IsOk, IfOk, refl, ap, subst, sym, ◌∙◌, arith}
+use Rattle.std.proofs.Common.{◌≡◌, ◌≢◌, ◌≤◌, ◌<◌, ◌+◌, ◌-◌, ◌==◌, ℕ, nat_lt, if◌then◌else◌, Bool, true, false, Option, Some, None, IsSome, IfSome, Result, Ok, Err, IsOk, IfOk, refl, ap, subst, sym, ◌∙◌, arith}
 use Rattle.std.proofs.lemmas.Bool.{lt-ltb, le-ltb, ltb-true, ltb-false, eq-eqb}
 use Rattle.std.proofs.lemmas.Bool.Decides.{nat_tests}
 use Rattle.gx_words.specs.declared.faults.Fault.{Fault}
@@ -195,10 +195,6 @@ pub prints_rest : (w : Whole) (word budget : ℕ) → 1 ≤ budget → 0 < sp_of
 prints_rest w word budget some live printing rest =
     subst (λ (r : Result ((Whole × ℕ) × Effect) Fault). IfOk r (λ x. is_put x.1 ≡ false)) (sym (printed-is w word budget some live printing))
     (paid-rest budget w.machine.undo (printed w.machine.flat) rest)
-
-pub unmade_rest : (w : Whole) (word budget : ℕ) → (budget ≡ 0) ⊎ (1 ≤ budget) × (sp_of w.machine.flat ≡ 0) → IfOk (stepped w word budget) (λ x. is_put x.1 ≡ false)
-unmade_rest w word budget (inl none) = subst (λ (r : Result ((Whole × ℕ) × Effect) Fault). IfOk r (λ x. is_put x.1 ≡ false)) (sym (step_none w word budget none)) refl
-unmade_rest w word budget (inr h) = subst (λ (r : Result ((Whole × ℕ) × Effect) Fault). IfOk r (λ x. is_put x.1 ≡ false)) (sym (step_empty w word budget h.0 h.1)) tt
 
 -- a fault leaves the machine and its budget, and so does want of memory
 pub run_err : (wants : Type 0) (w : Whole) (word budget left : ℕ) (m' : FlatMachine) (fault : Fault) → 1 ≤ budget → 0 < sp_of w.machine.flat → w.machine.flat.mode ≡ Running

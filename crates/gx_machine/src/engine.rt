@@ -1,4 +1,4 @@
-//! What a session runs on: a machine, or a tape over one.
+//! What a session runs on, seen through its steps and answers: a machine.
 ghost use Rattle.std.specs.Prelude.{◌≡◌, ◌≢◌, ◌≤◌, ◌-◌, ℕ, false, [], length, Ok, Some, None, IsSome, IfSome, IfOk, OnOk, OnErr};
 ghost use Rattle.gx_words.specs.Faults.{Does};
 ghost use Rattle.gx_state.specs.declared.effects.Effect.TheVariants.{Put};

@@ -8,7 +8,9 @@
 //! `Machine::step` is `stepped` of specs/Step for every machine, word and budget: each fault comes
 //! exactly where the definition has it, an asking leaves the state as it is, and the budget is lowered
 //! by the cost, but not after a fault. Want of memory comes only where the definition has no fault and
-//! the step writes, resizes or copies memory, and then everything is as before the step.
+//! the step writes, resizes or copies memory, and then everything is as before the step. A session makes
+//! its steps by `advance`, as many as ask nothing and then one more, and by `next_put`, where a character
+//! of a string or number is next: their contracts are steps of the same definition.
 //!
 //! What a step asks is answered by `finish`, by definitions of specs/Answer. A save is answered once the copy that
 //! `save_copy` gives was written, and a restore has `restore_copy` go back to a copy, or is answered where it fails

@@ -22,6 +22,3 @@ pub use devices::{Failed, Load, SendFault, Shelf, ShelfFault, Sink, Source};
 pub use mem_shelf::MemShelf;
 pub use mem_sink::MemSink;
 pub use mem_source::MemSource;
-
-#[cfg(test)]
-mod tests;

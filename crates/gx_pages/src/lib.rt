@@ -6,9 +6,9 @@
 //!
 //! The bytes stand in pages of 256, the pages in leaves of 256, and a table has at most 1,024
 //! leaves. A leaf holds its pages by groups of 16. Pages, groups and leaves are shared with what is
-//! kept, until one of the two changes a page; the pages of zeros are one page. So a kept memory costs
-//! its table, and with it the pages, and their groups and leaves, that were changed since. No clause
-//! says how the bytes are held or how much is shared.
+//! kept, until one of the two changes a page; the pages of zeros that memory begins with, grows by or is
+//! filled with are one page. So a kept memory costs its table, and with it the pages, and their groups
+//! and leaves, that were changed since. No clause says how the bytes are held or how much is shared.
 #![tactic(auto)]
 
 mod group;

@@ -2,30 +2,16 @@
 //! standard input, standard output and the files of the current folder, checks one, or measures the
 //! machine.
 //!
-//! - `command` reads the command line, whose words `words` matches.
-//! - `play` does all that the program does, over objects that are handed in; its contract is the
-//!   headline of the whole repository, and stands in specs/Headline.
-//! - `playing`, `checking` and `working` do the three jobs. `loading` takes the story from the shelf,
-//!   `telling` sends a job's line, `silent` has devices for a story that needs none.
-//! - `real` has the objects that the program hands in.
+//! `play` (gx_play) does all of it over objects that are handed in; `real` has those of the program.
 //!
 //! How the run ended is the status of the program, with a line on standard error.
 #![tactic(auto)]
 
-mod checking;
-mod command;
-mod loading;
-mod play;
-mod playing;
 mod real;
-mod silent;
-mod telling;
-mod words;
-mod working;
 
+use gx_play::play;
 use gx_pool::PagePool;
 use gx_session::statuses;
-pub use play::play;
 use rand_chacha::ChaCha20Rng;
 use rand_core::SeedableRng;
 use real::{FolderShelf, StdSink, StdSource};
@@ -52,7 +38,7 @@ fn play_words(rt: &HostRuntime, words: &[&str]) -> u8 {
     let alloc = rt.alloc();
     let pool = PagePool::new(alloc, MOST_PAGES);
     let mut source = StdSource::new(rt.reader());
-    let mut sink = StdSink::new(rt);
+    let mut sink = StdSink::new(io::writer(rt));
     let mut shelf = FolderShelf::new(alloc, rt);
     let mut dice = ChaCha20Rng::from_seed(seed(rt));
     let ended = play(
@@ -94,6 +80,3 @@ fn main(rt: HostRuntime) -> ExitCode {
     };
     ExitCode::from(status)
 }
-
-#[cfg(test)]
-mod tests;

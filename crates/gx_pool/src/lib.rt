@@ -76,6 +76,3 @@ unsafe impl<B: Allocator> Allocator for Pool<B> {
         self.alloc.deallocate(ptr, size, align);
     }
 }
-
-#[cfg(test)]
-mod tests;

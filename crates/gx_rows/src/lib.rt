@@ -32,6 +32,3 @@ pub use numbers::{
     STREAMNUM, STREAMSTR, STREAMUNICHAR, SUB, TAILCALL, THROW, USHIFTR, VERIFY,
 };
 pub use opcodes::read_opcode;
-
-#[cfg(test)]
-mod tests;

@@ -1,11 +1,11 @@
 -- What the parts of a save and of a restore make of it.
-use Rattle.std.proofs.Common.{◌≡◌, inl, inr, ℕ, ◌==◌, ◌&&◌, if◌then◌else◌, Bool, true, false, List, Option, Some, None, option_and_then, Result, Ok, Err, is_ok, IsOk, IsTrue, refl, ap, subst, sym, ◌∙◌}
+use Rattle.std.proofs.Common.{◌≡◌, ◌≢◌, inl, inr, ℕ, ◌==◌, ◌&&◌, if◌then◌else◌, Bool, true, false, List, Option, Some, None, option_and_then, Result, Ok, Err, is_ok, IsOk, IsTrue, refl, ap, subst, sym, ◌∙◌}
 use Rattle.std.specs.Cmp.Derive.{both_true}
 use Rattle.gx_words.specs.Faults.{MayLose}
 use Rattle.gx_words.specs.declared.faults.Fault.{Fault}
 use Rattle.gx_words.specs.declared.faults.Fault.TheVariants.{NoMemory}
 use Rattle.gx_words.specs.declared.iosystems.TheConstants.{GLK_SYSTEM}
-use Rattle.gx_words.specs.Results.{◌>>=◌, Gives}
+use Rattle.gx_words.specs.Results.{◌>>=◌}
 use Rattle.gx_story.specs.Stories.{FlatStory}
 use Rattle.gx_state.specs.Copies.{Copy}
 use Rattle.gx_state.specs.Flat.{FlatState}
@@ -207,9 +207,9 @@ module _ (w w' : FlatWorld) (f f' : FlatState) (same : f' ≡ f) (stream : ℕ) 
     read-found copy is = read-is (Some bytes) (Some copy) (ap unless_refused is) took
 
     -- it is none, or the reading wants memory
-    pub unread : (e : SaveFault) (result : Result (Option Copy) Fault) → (let r : Result Copy SaveFault = Err e in Gives of_save.NoMemory (λ copy. copy) r (save_of bytes f.story)) → Refuses e result
+    pub unread : (e : SaveFault) (result : Result (Option Copy) Fault) → (e ≢ of_save.NoMemory → save_of bytes f.story ≡ Err e) → Refuses e result
         → MayLose (IsTrue (is_read w.scene f stream)) (λ copy. copy) result w w' (on_world w (restoring w.scene f stream))
     unread e result gave (inl memory) = subst (λ (r : Result (Option Copy) Fault). MayLose (IsTrue (is_read w.scene f stream)) (λ copy. copy) r w w' (on_world w (restoring w.scene f stream))) (sym memory.1) read-wants
     unread e result gave (inr other) =
         subst (λ (r : Result (Option Copy) Fault). MayLose (IsTrue (is_read w.scene f stream)) (λ copy. copy) r w w' (on_world w (restoring w.scene f stream))) (sym other.1)
-        (read-is (Some bytes) None (ap unless_refused (gave.0 other.0)) took)
+        (read-is (Some bytes) None (ap unless_refused (gave other.0)) took)

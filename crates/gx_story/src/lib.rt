@@ -19,6 +19,3 @@ mod stories;
 
 pub use faults::StoryFault;
 pub use stories::Story;
-
-#[cfg(test)]
-mod tests;

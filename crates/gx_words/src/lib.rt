@@ -36,6 +36,3 @@ pub use limits::{CEILING, STACK_LIMIT};
 pub use lists::{Blocks, Bytes, Items, Name, Numbers, Writes};
 pub use strings::{PrintKind, Printing};
 pub use typable::{C_STRING, COMPRESSED_STRING, LOCALS_FUNCTION, STACK_FUNCTION, UNICODE_STRING};
-
-#[cfg(test)]
-mod tests;

@@ -100,6 +100,3 @@ fn ram_sum(number: u32, count: u32) -> u32
     }
     sum
 }
-
-#[cfg(test)]
-mod tests;

@@ -8,6 +8,3 @@
 mod blocks;
 
 pub use blocks::Heap;
-
-#[cfg(test)]
-mod tests;

@@ -20,6 +20,3 @@ pub use faults::IffFault;
 pub use forms::{Form, begins_form, find_part, read_form};
 pub use laws::written_forms_are_read;
 pub use parts::{Part, Sought};
-
-#[cfg(test)]
-mod tests;

@@ -1,4 +1,6 @@
 //! The conditions of the branches (Glulx 3.1.2, "Branches").
+#![tactic(auto, unfolding(crate::specs::Branches::test))]
+
 ghost use Rattle.std.specs.Prelude.{◌≡◌, IsTrue};
 ghost use Rattle.ops_calc.specs.Branches.{test, is_branch};
 
@@ -7,7 +9,6 @@ use gx_words::signed;
 /// Whether a branch is taken.
 ///
 /// `act` is the instruction's number. `jump` ignores both operands, `jz` and `jnz` ignore `b`.
-#[tactic(auto, unfolding(crate::specs::Branches::test))]
 #[inline(always)]
 pub fn test(act: u8, a: u32, b: u32) -> bool
     requires { IsTrue (is_branch act) }

@@ -16,6 +16,3 @@ mod random;
 pub use arithmetic::calc;
 pub use branches::test;
 pub use random::{Generator, pick};
-
-#[cfg(test)]
-mod tests;

@@ -6,7 +6,7 @@ use Rattle.std.proofs.lemmas.Bool.{le-ltb, lt-ltb, le-leb, lt-leb}
 use Rattle.std.proofs.lemmas.List.{append-nil, drop_more, drop_all}
 use Rattle.gx_words.specs.Numbers.{word}
 use Rattle.heap_blocks.specs.Heap.{Block, end_of}
-use Rattle.quetzal.specs.Blocks.{blocks_from, is_block, is_apart, are_apart, are_blocks, rises}
+use Rattle.quetzal.specs.Blocks.{blocks_from, is_block, rises}
 
 -- the block at an index, and those behind it
 abbrev at_index : List ℕ → ℕ → Block
@@ -33,69 +33,24 @@ all_gathered body all total count i le h = sym (append-nil all) ∙ ap (λ (bs :
 
 pub ruleset gather_turns = (block_gathered, all_gathered)
 
--- a block and those from an index on
-pub apart_goes_on : (block b : Block) (body : List ℕ) (count i : ℕ) (t : Bool) → i < count → b ≡ at_index body i → is_apart block b ≡ true → list_all (is_apart block) (blocks_from (count - i) body (8 + 8 * i)) ≡ t
-    → list_all (is_apart block) (blocks_from (count - (i + 1)) body (8 + 8 * (i + 1))) ≡ t
-apart_goes_on block b body count i t lt is apart h =
-    let one : list_all (is_apart block) (blocks_from (count - i) body (8 + 8 * i)) ≡ list_all (is_apart block) (b ∷ blocks_from (count - (i + 1)) body (8 + 8 * (i + 1))) = rw (one_block body count i lt, is) refl in
-    let two : list_all (is_apart block) (b ∷ blocks_from (count - (i + 1)) body (8 + 8 * (i + 1))) ≡ list_all (is_apart block) (blocks_from (count - (i + 1)) body (8 + 8 * (i + 1))) = rw apart refl in
+-- blocks that are looked at one by one
+pub within_goes_on : (start size : ℕ) (b : Block) (body : List ℕ) (count i : ℕ) (t : Bool) → i < count → b ≡ at_index body i → is_block start size b ≡ true → list_all (is_block start size) (blocks_from (count - i) body (8 + 8 * i)) ≡ t
+    → list_all (is_block start size) (blocks_from (count - (i + 1)) body (8 + 8 * (i + 1))) ≡ t
+within_goes_on start size b body count i t lt is within h =
+    let one : list_all (is_block start size) (blocks_from (count - i) body (8 + 8 * i)) ≡ list_all (is_block start size) (b ∷ blocks_from (count - (i + 1)) body (8 + 8 * (i + 1))) = rw (one_block body count i lt, is) refl in
+    let two : list_all (is_block start size) (b ∷ blocks_from (count - (i + 1)) body (8 + 8 * (i + 1))) ≡ list_all (is_block start size) (blocks_from (count - (i + 1)) body (8 + 8 * (i + 1))) = rw within refl in
     sym (one ∙ two) ∙ h
 
-pub apart_ends : (block b : Block) (body : List ℕ) (count i : ℕ) (t : Bool) → i < count → b ≡ at_index body i → is_apart block b ≡ false → list_all (is_apart block) (blocks_from (count - i) body (8 + 8 * i)) ≡ t → false ≡ t
-apart_ends block b body count i t lt is meets h =
-    let one : list_all (is_apart block) (blocks_from (count - i) body (8 + 8 * i)) ≡ list_all (is_apart block) (b ∷ blocks_from (count - (i + 1)) body (8 + 8 * (i + 1))) = rw (one_block body count i lt, is) refl in
-    let two : list_all (is_apart block) (b ∷ blocks_from (count - (i + 1)) body (8 + 8 * (i + 1))) ≡ false = rw meets refl in
+pub within_ends : (start size : ℕ) (b : Block) (body : List ℕ) (count i : ℕ) (t : Bool) → i < count → b ≡ at_index body i → is_block start size b ≡ false → list_all (is_block start size) (blocks_from (count - i) body (8 + 8 * i)) ≡ t → false ≡ t
+within_ends start size b body count i t lt is outside h =
+    let one : list_all (is_block start size) (blocks_from (count - i) body (8 + 8 * i)) ≡ list_all (is_block start size) (b ∷ blocks_from (count - (i + 1)) body (8 + 8 * (i + 1))) = rw (one_block body count i lt, is) refl in
+    let two : list_all (is_block start size) (b ∷ blocks_from (count - (i + 1)) body (8 + 8 * (i + 1))) ≡ false = rw outside refl in
     sym (one ∙ two) ∙ h
 
-pub apart_done : (block : Block) (body : List ℕ) (count i : ℕ) (t : Bool) → count ≤ i → list_all (is_apart block) (blocks_from (count - i) body (8 + 8 * i)) ≡ t → true ≡ t
-apart_done block body count i t le h = let none : list_all (is_apart block) (blocks_from (count - i) body (8 + 8 * i)) ≡ true = rw (no_block body count i le) refl in sym none ∙ h
+pub within_done : (start size : ℕ) (body : List ℕ) (count i : ℕ) (t : Bool) → count ≤ i → list_all (is_block start size) (blocks_from (count - i) body (8 + 8 * i)) ≡ t → true ≡ t
+within_done start size body count i t le h = let none : list_all (is_block start size) (blocks_from (count - i) body (8 + 8 * i)) ≡ true = rw (no_block body count i le) refl in sym none ∙ h
 
-pub ruleset apart_turns = (apart_goes_on, apart_ends, apart_done)
-
--- blocks of a heap, the first of them looked at
-both_pass : (p a : Bool) (all apart : Bool) → p ≡ true → a ≡ true → ((p && all) && (a && apart)) ≡ (all && apart)
-both_pass true true all apart p a = refl
-both_pass true false all apart p a = absurd cc
-both_pass false true all apart p a = absurd cc
-both_pass false false all apart p a = absurd cc
-
-first_fails : (p a : Bool) (all apart : Bool) → p ≡ false → ((p && all) && (a && apart)) ≡ false
-first_fails true a all apart p = absurd cc
-first_fails false a all apart p = refl
-
-second_fails : (p a : Bool) (all apart : Bool) → a ≡ false → ((p && all) && (a && apart)) ≡ false
-second_fails true true true apart a = absurd cc
-second_fails true true false apart a = absurd cc
-second_fails true false true apart a = refl
-second_fails true false false apart a = refl
-second_fails false a all apart h = refl
-
-look_at : (start size : ℕ) (b : Block) (bs : List Block) → are_blocks start size (b ∷ bs) ≡ ((is_block start size b && list_all (is_block start size) bs) && (list_all (is_apart b) bs && are_apart bs))
-look_at start size b bs = refl
-
-named : (start size : ℕ) (body : List ℕ) (count i : ℕ) (b : Block) → i < count → b ≡ at_index body i → are_blocks start size (blocks_from (count - i) body (8 + 8 * i)) ≡ are_blocks start size (b ∷ blocks_from (count - (i + 1)) body (8 + 8 * (i + 1)))
-named start size body count i b lt is = rw (one_block body count i lt, is) refl
-
-pub block_passes : (start size : ℕ) (body : List ℕ) (count i : ℕ) (b : Block) (t : Bool) → i < count → b ≡ at_index body i → is_block start size b ≡ true → list_all (is_apart b) (blocks_from (count - (i + 1)) body (8 + 8 * (i + 1))) ≡ true
-    → are_blocks start size (blocks_from (count - i) body (8 + 8 * i)) ≡ t → are_blocks start size (blocks_from (count - (i + 1)) body (8 + 8 * (i + 1))) ≡ t
-block_passes start size body count i b t lt is one apart h =
-    let rest = blocks_from (count - (i + 1)) body (8 + 8 * (i + 1)) in
-    sym (named start size body count i b lt is ∙ look_at start size b rest ∙ both_pass (is_block start size b) (list_all (is_apart b) rest) (list_all (is_block start size) rest) (are_apart rest) one apart) ∙ h
-
-pub block_fails : (start size : ℕ) (body : List ℕ) (count i : ℕ) (b : Block) (t : Bool) → i < count → b ≡ at_index body i → is_block start size b ≡ false → are_blocks start size (blocks_from (count - i) body (8 + 8 * i)) ≡ t → false ≡ t
-block_fails start size body count i b t lt is not h =
-    let rest = blocks_from (count - (i + 1)) body (8 + 8 * (i + 1)) in
-    sym (named start size body count i b lt is ∙ look_at start size b rest ∙ first_fails (is_block start size b) (list_all (is_apart b) rest) (list_all (is_block start size) rest) (are_apart rest) not) ∙ h
-
-pub block_meets : (start size : ℕ) (body : List ℕ) (count i : ℕ) (b : Block) (t : Bool) → i < count → b ≡ at_index body i → list_all (is_apart b) (blocks_from (count - (i + 1)) body (8 + 8 * (i + 1))) ≡ false → are_blocks start size (blocks_from (count - i) body (8 + 8 * i)) ≡ t → false ≡ t
-block_meets start size body count i b t lt is meets h =
-    let rest = blocks_from (count - (i + 1)) body (8 + 8 * (i + 1)) in
-    sym (named start size body count i b lt is ∙ look_at start size b rest ∙ second_fails (is_block start size b) (list_all (is_apart b) rest) (list_all (is_block start size) rest) (are_apart rest) meets) ∙ h
-
-pub blocks_done : (start size : ℕ) (body : List ℕ) (count i : ℕ) (t : Bool) → count ≤ i → are_blocks start size (blocks_from (count - i) body (8 + 8 * i)) ≡ t → true ≡ t
-blocks_done start size body count i t le h = let none : are_blocks start size (blocks_from (count - i) body (8 + 8 * i)) ≡ true = rw (no_block body count i le) refl in sym none ∙ h
-
-pub ruleset block_turns = (block_passes, block_fails, block_meets, blocks_done)
+pub ruleset within_turns = (within_goes_on, within_ends, within_done)
 
 -- blocks in rising order
 no_one : (a b : Bool) → (a && false && b) ≡ false

@@ -38,7 +38,7 @@ use Rattle.quetzal.specs.Faults.{allowed, of_form, of_runs}
 use Rattle.quetzal.specs.Chunks.{MemoryBody, Parts, body_in, cmem, ifhd, ifzs, mall, memory_in, needed, parts_in, stks, umem}
 use Rattle.quetzal.specs.Memory.{bytes_in, first_ram, is_size, memory_bytes, memory_of, ram_of, size_in, with_rom}
 use Rattle.quetzal.specs.Stacks.{has_height, is_place, is_stack, is_stub}
-use Rattle.quetzal.specs.Blocks.{are_apart, are_blocks, blocks_from, blocks_in, bytes_of_block, count_in, has_count, heap_bytes, heap_of, in_order, is_block, is_heap, is_start, rises, start_in}
+use Rattle.quetzal.specs.Blocks.{are_apart, are_blocks, blocks_from, blocks_in, bytes_of_block, count_in, has_count, has_no_heap, heap_bytes, heap_of, in_order, is_block, is_heap, is_start, rises, start_in}
 use Rattle.quetzal.specs.Saves.{save_of}
 use Rattle.quetzal.specs.Writing.{ReadsBack, chunk_len, form_len, heap_chunks, saved, saved_chunks}
 use Rattle.quetzal.proofs.Sorting.{both, rises_by, rises_parts, rising_blocks}
@@ -196,7 +196,9 @@ heap_by : (story : FlatStory) (size : ℕ) (body : List ℕ) (heap : FlatHeap) �
     → is_start story size heap.start ≡ true → are_blocks heap.start size heap.blocks ≡ true → heap_of story size body ≡ Ok heap
 unfolding heap_of is_heap
 heap_by story size body heap len some start count blocks order begins are =
-    let none : (length body == 0) ≡ false = grind (arith, nat_tests, len) in
+    let empty : (length body == 0) ≡ false = grind (arith, nat_tests, len) in
+    let short : (length body == 8) ≡ false = grind (arith, nat_tests, len, some) in
+    let none : has_no_heap body ≡ false = rw (empty, short) refl in
     let long : nat_le 8 (length body) ≡ true = le-leb _ _ (omega (arith, len)) in
     let whole : nat_eq (length body) (8 + 8 * length heap.blocks) ≡ true = eq-eqb _ _ len in
     let any : nat_lt 0 (length heap.blocks) ≡ true = lt-ltb _ _ some in

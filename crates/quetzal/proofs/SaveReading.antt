@@ -1,5 +1,5 @@
 -- What is read of a save: its exits, and that the copy is fit for the story.
-use Rattle.std.proofs.Common.{◌≡◌, ◌≢◌, ◌≤◌, ◌<◌, ◌+◌, ◌-◌, ◌*◌, ◌%◌, ◌==◌, ℕ, zero, suc, Bool, true, false, List, [], ◌∷◌, ◌++◌, length, take, drop, Option, Some, None, Result, Ok, Err, IsOk, IsTrue, if◌then◌else◌, refl, sym, ap, subst, ◌∙◌, arith, ltb as nat_lt, leb as nat_le, eqb as nat_eq, length-append}
+use Rattle.std.proofs.Common.{◌≡◌, ◌≢◌, ◌⊎◌, inl, inr, ◌≤◌, ◌<◌, ◌+◌, ◌-◌, ◌*◌, ◌%◌, ◌==◌, ℕ, zero, suc, Bool, true, false, List, [], ◌∷◌, ◌++◌, length, take, drop, Option, Some, None, Result, Ok, Err, IsOk, IsTrue, if◌then◌else◌, refl, sym, ap, subst, ◌∙◌, arith, ltb as nat_lt, leb as nat_le, eqb as nat_eq, length-append}
 use Rattle.std.specs.Prelude.{◌&&◌}
 use Rattle.std.specs.List.{list_all}
 use Rattle.std.proofs.lemmas.Bool.{le-ltb, lt-ltb, le-leb, lt-leb, leb-true, ltb-true, and_parts, eqb-true, eq-eqb, cases_lt}
@@ -22,9 +22,9 @@ use Rattle.quetzal.specs.Faults.{allowed}
 use Rattle.quetzal.specs.Chunks.{MemoryBody, Parts, parts_in}
 use Rattle.quetzal.specs.Memory.{is_size, size_in, memory_of}
 use Rattle.quetzal.specs.Stacks.{is_stack, is_stub, is_place, has_height}
-use Rattle.quetzal.specs.Blocks.{are_apart, are_blocks, blocks_from, blocks_in, count_in, has_count, heap_of, in_order, is_block, is_heap, is_start, ordered, rises, start_in}
-use Rattle.quetzal.specs.Saves.{save_of}
-use Rattle.quetzal.proofs.Sorting.{rises_parts, rises_size, order_rises}
+use Rattle.quetzal.specs.Blocks.{are_apart, are_blocks, blocks_from, blocks_in, count_in, has_count, has_no_heap, heap_of, in_order, is_block, is_heap, is_start, may_meet, ordered, rises, start_in}
+use Rattle.quetzal.specs.Saves.{MayMeet, save_of}
+use Rattle.quetzal.proofs.Sorting.{both, rises_parts, rises_size, order_none, order_rises, order_wanted}
 
 -- sizes
 pub record Sizes (story : FlatStory) (size : ℕ) : Type 0 where
@@ -86,7 +86,7 @@ some_within story size body capped h =
       within = record { start = begins; ends = up.1 };
     }
 
-none_within : (endmem size : ℕ) → IsHeapWithin endmem size inactive
+pub none_within : (endmem size : ℕ) → IsHeapWithin endmem size inactive
 none_within endmem size = record {
   blocks = record { rises = tt; ends = tt; none = λ _. refl };
   begins = λ some. absurd (omega (arith, some));
@@ -102,21 +102,70 @@ within_by story size body heap false false is capped h = absurd cc
 
 pub heap_within : (story : FlatStory) (size : ℕ) (body : List ℕ) (heap : FlatHeap) → size ≤ CEILING → heap_of story size body ≡ Ok heap → IsHeapWithin story.header.endmem size heap
 unfolding heap_of
-heap_within story size body heap capped h = within_by story size body heap (length body == 0) (is_heap story size body) refl capped h
+heap_within story size body heap capped h = within_by story size body heap (has_no_heap body) (is_heap story size body) refl capped h
 
-given_by : (story : FlatStory) (size start : ℕ) (body : List ℕ) (blocks : List Block) (are : Bool) → are_blocks start size (blocks_in body) ≡ are → start ≡ start_in body → (length body == 0) ≡ false → has_count body ≡ true → is_start story size start ≡ true
-    → ordered start size (blocks_in body) ≡ Ok blocks → heap_of story size body ≡ Ok (record { start = start; blocks = blocks })
+-- its exits
+pub no_heap : (story : FlatStory) (size : ℕ) (body : List ℕ) → has_no_heap body ≡ true → heap_of story size body ≡ Ok inactive
+unfolding heap_of
+no_heap story size body none = rw none refl
+
+pub no_count : (story : FlatStory) (size : ℕ) (body : List ℕ) → has_no_heap body ≡ false → has_count body ≡ false → heap_of story size body ≡ Err fault.Blocks
 unfolding heap_of is_heap
-given_by story size start body blocks true are is some counted begins h =
-    let e : in_order (blocks_in body) ≡ blocks = cc in
-    rw (some, counted, ← is, begins, are, e) refl
-given_by story size start body blocks false are is some counted begins h = absurd cc
+no_count story size body some not = rw (some, not) refl
 
-pub heap_given : (story : FlatStory) (size start : ℕ) (body : List ℕ) (blocks : List Block) → start ≡ start_in body → (length body == 0) ≡ false → has_count body ≡ true → is_start story size start ≡ true
-    → ordered start size (blocks_in body) ≡ Ok blocks → heap_of story size body ≡ Ok (record { start = start; blocks = blocks })
-heap_given story size start body blocks is some counted begins h = given_by story size start body blocks (are_blocks start size (blocks_in body)) refl is some counted begins h
+pub no_start : (story : FlatStory) (size start : ℕ) (body : List ℕ) → start ≡ start_in body → has_no_heap body ≡ false → has_count body ≡ true → is_start story size start ≡ false → heap_of story size body ≡ Err fault.Blocks
+unfolding heap_of is_heap
+no_start story size start body is some counted not = rw (some, counted, ← is, not) refl
 
-pub ruleset heaps = (heap_within)
+abbrev heap_at : ℕ → Result (List Block) SaveFault → Result FlatHeap SaveFault
+heap_at start (Ok blocks) = Ok (record { start = start; blocks = blocks })
+heap_at start (Err e) = Err e
+
+heap_at-fine : (start : ℕ) (r : Result (List Block) SaveFault) → IsOk r → IsOk (heap_at start r)
+heap_at-fine start (Ok blocks) fine = refl
+heap_at-fine start (Err e) fine = absurd cc
+
+ordered_by : (story : FlatStory) (size start : ℕ) (body : List ℕ) (are : Bool) → are_blocks start size (blocks_in body) ≡ are → start ≡ start_in body → has_no_heap body ≡ false → has_count body ≡ true → is_start story size start ≡ true
+    → heap_of story size body ≡ heap_at start (ordered start size (blocks_in body))
+unfolding heap_of is_heap
+ordered_by story size start body true are is some counted begins = rw (some, counted, ← is, begins, are) refl
+ordered_by story size start body false are is some counted begins = rw (some, counted, ← is, begins, are) refl
+
+module _ (story : FlatStory) (size start : ℕ) (body : List ℕ) (is : start ≡ start_in body) (some : has_no_heap body ≡ false) (counted : has_count body ≡ true) (begins : is_start story size start ≡ true) where
+  heap_ordered : heap_of story size body ≡ heap_at start (ordered start size (blocks_in body))
+  heap_ordered = ordered_by story size start body (are_blocks start size (blocks_in body)) refl is some counted begins
+
+  pub heap_given : (blocks : List Block) → ordered start size (blocks_in body) ≡ Ok blocks → heap_of story size body ≡ Ok (record { start = start; blocks = blocks })
+  heap_given blocks h = heap_ordered ∙ ap (heap_at start) h
+
+  pub order_fault : (e : SaveFault) → ordered start size (blocks_in body) ≡ Err e → heap_of story size body ≡ Err e
+  order_fault e h = heap_ordered ∙ ap (heap_at start) h
+
+  pub none_without : list_all (is_block start size) (blocks_in body) ≡ false → heap_of story size body ≡ Err fault.Blocks
+  none_without not = order_fault fault.Blocks (order_none (blocks_in body) start size not)
+
+  -- blocks that may meet
+  meeting : list_all (is_block start size) (blocks_in body) ≡ true → 1 < count_in body → may_meet story size body ≡ true
+  unfolding may_meet
+  meeting within two =
+      let first : is_start story size (start_in body) ≡ true = sym (ap (is_start story size) is) ∙ begins in
+      let each : list_all (is_block (start_in body) size) (blocks_in body) ≡ true = sym (ap (λ (s : ℕ). list_all (is_block s size) (blocks_in body)) is) ∙ within in
+      both (has_count body && is_start story size (start_in body) && list_all (is_block (start_in body) size) (blocks_in body)) (nat_lt 1 (count_in body))
+      (both (has_count body && is_start story size (start_in body)) (list_all (is_block (start_in body) size) (blocks_in body)) (both (has_count body) (is_start story size (start_in body)) counted first) each)
+      (lt-ltb _ _ two)
+
+  pub heap_wanted : list_all (is_block start size) (blocks_in body) ≡ true → IsOk (ordered start size (blocks_in body)) ⊎ ((ordered start size (blocks_in body) ≡ Err fault.Blocks) × (1 < count_in body))
+      → IsOk (heap_of story size body) ⊎ ((heap_of story size body ≡ Err fault.Blocks) × IsTrue (may_meet story size body))
+  heap_wanted within (inl fine) = inl (subst IsOk (sym heap_ordered) (heap_at-fine start (ordered start size (blocks_in body)) fine))
+  heap_wanted within (inr meet) = inr (order_fault fault.Blocks meet.0, meeting within meet.1)
+
+pub blocks_wanted : (start size : ℕ) (body : List ℕ) → list_all (is_block start size) (blocks_in body) ≡ true
+    → IsOk (ordered start size (blocks_in body)) ⊎ ((ordered start size (blocks_in body) ≡ Err fault.Blocks) × (1 < count_in body))
+blocks_wanted start size body within =
+    elim (order_wanted start size (blocks_in body) within) [
+      | inl fine ↦ inl fine
+      | inr meet ↦ inr (meet.0, omega (arith, meet.1, length-blocks_from (count_in body) body 8))
+    ]
 
 -- the stack
 pub record Stacks (story : FlatStory) (size : ℕ) (stack : List ℕ) : Type 0 where
@@ -210,11 +259,21 @@ pub heap_refused : (memory : Result (List ℕ) SaveFault) (stack : List ℕ) (he
 heap_refused (Ok memory) stack heap stacks e there good not = rw (good, not) refl
 heap_refused (Err d) stack heap stacks e there good not = absurd cc
 
--- want of memory comes only where the save is a good one
+-- want of memory comes only where the save is a good one, or its blocks meet
 pub save_there : (memory : Result (List ℕ) SaveFault) (stack : List ℕ) (heap : Result FlatHeap SaveFault) (stacks : Bool) → IsOk memory → stacks ≡ true → IsOk heap → IsOk (behind memory stacks stack heap)
 save_there (Ok memory) stack (Ok heap) stacks a good b = rw good refl
 save_there (Ok memory) stack (Err e) stacks a good b = absurd cc
 save_there (Err d) stack heap stacks a good b = absurd cc
+
+abbrev pub Wants : {A : Type 0} → Result A SaveFault → Type 0 → Type 0
+Wants r meet = IsOk r ⊎ ((r ≡ Err fault.Blocks) × meet)
+
+pub save_wanted : (memory : Result (List ℕ) SaveFault) (stack : List ℕ) (heap : Result FlatHeap SaveFault) (stacks : Bool) (meet all : Type 0) → IsOk memory → stacks ≡ true → (meet → all) → Wants heap meet → Wants (behind memory stacks stack heap) all
+save_wanted memory stack heap stacks meet all there good so (inl fine) = inl (save_there memory stack heap stacks there good fine)
+save_wanted memory stack heap stacks meet all there good so (inr is) = inr (heap_refused memory stack heap stacks fault.Blocks there good is.0, so is.1)
+
+pub meet_by : (save : List ℕ) (story : FlatStory) (p : Parts) (size : ℕ) → parts_in save story ≡ Ok p → size ≡ size_in p.memory → may_meet story size p.heap ≡ true → MayMeet save story
+meet_by save story p size h is meet = rw (h, ← is) (ap (λ (t : Bool). Ok t) meet)
 
 pub save_taken : (save : List ℕ) (story : FlatStory) (p : Parts) (size : ℕ) (memory : List ℕ) (heap : FlatHeap) → parts_in save story ≡ Ok p → size ≡ size_in p.memory → is_size story size ≡ true → memory_of story p.memory ≡ Ok memory → is_stack story size p.stack ≡ true → heap_of story size p.heap ≡ Ok heap
     → save_of save story ≡ Ok (record { memory = memory; stack = p.stack; heap = heap })

@@ -1,5 +1,5 @@
 -- Blocks sorted by their addresses: where they are blocks of a heap they are those of the definition, in its order.
-use Rattle.std.proofs.Common.{◌≡◌, ◌≤◌, ◌<◌, ◌+◌, ◌⊎◌, inl, inr, ℕ, suc, Bool, true, false, cond, List, [], ◌∷◌, length, get_or, Result, Ok, Err, refl, sym, ap, subst, ◌∙◌, arith, ltb as nat_lt, leb as nat_le, eqb as nat_eq}
+use Rattle.std.proofs.Common.{◌≡◌, ◌≤◌, ◌<◌, ◌+◌, ◌⊎◌, inl, inr, ℕ, suc, Bool, true, false, cond, List, [], ◌∷◌, length, get_or, Result, Ok, Err, IsOk, refl, sym, ap, subst, ◌∙◌, arith, ltb as nat_lt, leb as nat_le, eqb as nat_eq}
 use Rattle.std.specs.Prelude.{◌&&◌, ◌||◌}
 use Rattle.std.specs.List.{AllByRecursion, list_all, sum_by}
 use Rattle.std.specs.List.Sorted.{IsNonDecreasingBy}
@@ -300,4 +300,27 @@ order_refused bs sorted start size from le down =
     let not : are_blocks start size bs ≡ false = not_true (are_blocks start size bs) (λ are. sym down ∙ sorted_rises bs sorted start size from le are) in
     rw not refl
 
-pub ruleset order = (order_taken, order_refused)
+-- a block that can't be one of a heap
+pub order_none : (bs : List Block) (start size : ℕ) → list_all (is_block start size) bs ≡ false → ordered start size bs ≡ Err fault.Blocks
+order_none bs start size not = rw not refl
+
+-- among fewer than two blocks none meet
+either_way : (t : Bool) (n : ℕ) → 1 < n → (t ≡ true) ⊎ ((t ≡ false) × (1 < n))
+either_way true n two = inl refl
+either_way false n two = inr (refl, two)
+
+apart_or_two : (bs : List Block) → (are_apart bs ≡ true) ⊎ ((are_apart bs ≡ false) × (1 < length bs))
+apart_or_two [] = inl refl
+apart_or_two (b ∷ []) = inl refl
+apart_or_two (b ∷ c ∷ bs) = either_way (are_apart (b ∷ c ∷ bs)) (length (b ∷ c ∷ bs)) (omega arith)
+
+not_both : (x y : Bool) → y ≡ false → (x && y) ≡ false
+not_both true y h = h
+not_both false y h = refl
+
+pub order_wanted : (start size : ℕ) (bs : List Block) → list_all (is_block start size) bs ≡ true → IsOk (ordered start size bs) ⊎ ((ordered start size bs ≡ Err fault.Blocks) × (1 < length bs))
+order_wanted start size bs within =
+    elim (apart_or_two bs) [
+      | inl apart ↦ let are : are_blocks start size bs ≡ true = both (list_all (is_block start size) bs) (are_apart bs) within apart in inl (rw are refl)
+      | inr meet ↦ let not : are_blocks start size bs ≡ false = not_both (list_all (is_block start size) bs) (are_apart bs) meet.0 in inr (rw not refl, meet.1)
+    ]

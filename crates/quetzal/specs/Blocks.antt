@@ -23,6 +23,10 @@ count_in body = word body 4
 abbrev pub blocks_in : List ℕ → List Block
 blocks_in body = blocks_from (count_in body) body 8
 
+-- no heap: the chunk is empty or isn't there, or its start and its count are 0, which is the standard's form
+abbrev pub has_no_heap : List ℕ → Bool
+has_no_heap body = length body == 0 || (length body == 8 && start_in body == 0 && count_in body == 0)
+
 -- as many blocks as are counted, and one at least
 abbrev pub has_count : List ℕ → Bool
 has_count body = nat_le 8 (length body) && length body == 8 + 8 * count_in body && nat_lt 0 (count_in body)
@@ -50,6 +54,11 @@ unfoldable pub is_heap : FlatStory → ℕ → List ℕ → Bool
 is_heap story size body =
     has_count body && is_start story size (start_in body) && are_blocks (start_in body) size (blocks_in body)
 
+-- nothing else is wrong with the heap, and it has two blocks at least: they may still meet
+unfoldable pub may_meet : FlatStory → ℕ → List ℕ → Bool
+may_meet story size body =
+    has_count body && is_start story size (start_in body) && list_all (is_block (start_in body) size) (blocks_in body) && nat_lt 1 (count_in body)
+
 -- blocks by their address
 unfoldable pub in_order : List Block → List Block
 in_order [] = []
@@ -69,10 +78,10 @@ pub record IsSortedFrom (bs sorted : List Block) : Type 0 where
 abbrev pub ordered : ℕ → ℕ → List Block → Result (List Block) SaveFault
 ordered start size bs = if are_blocks start size bs then Ok (in_order bs) else Err fault.Blocks
 
--- no heap where the chunk is empty or isn't there
+-- the heap, if any
 unfoldable pub heap_of : FlatStory → ℕ → List ℕ → Result FlatHeap SaveFault
 heap_of story size body =
-    if length body == 0 then Ok inactive else
+    if has_no_heap body then Ok inactive else
     if is_heap story size body then Ok (record { start = start_in body; blocks = in_order (blocks_in body) }) else
     Err fault.Blocks
 

@@ -1,5 +1,6 @@
--- The faults of a save: their numbers, what the faults of a form and of packed bytes become, and how a test gives one.
-use Rattle.std.specs.Prelude.{ℕ, Bool, true, false, Result, Ok, Err}
+-- The faults of a save: their numbers, what the faults of a form and of packed bytes become, how a test gives one, and
+-- where want of memory may come.
+use Rattle.std.specs.Prelude.{◌≡◌, ◌≢◌, ℕ, ◌⊎◌, Bool, true, false, Result, Ok, Err, IsOk}
 use Rattle.iff_chunks.specs.declared.faults.IffFault.{IffFault}
 use Rattle.iff_chunks.specs.declared.faults.IffFault.TheVariants as iff
 use Rattle.zero_runs.specs.declared.faults.RunFault.{RunFault}
@@ -42,3 +43,10 @@ of_runs (Err e) = Err (fault_of_run e)
 abbrev pub allowed : Bool → SaveFault → Result (Unit {0}) SaveFault
 allowed true e = Ok tt
 allowed false e = Err e
+
+-- The answer, seen by `view`, is the definition's. Want of memory comes only where the definition has no fault, or in
+-- place of the fault of blocks that meet, where they may: to see whether they do they are sorted, in memory.
+abbrev pub MaySort : {X Y : Type 0} → Type 0 → (X → Y) → Result X SaveFault → Result Y SaveFault → Type 0
+MaySort meet view (Ok x) defined = defined ≡ Ok (view x)
+MaySort meet view (Err e) defined =
+    (e ≢ fault.NoMemory → defined ≡ Err e) × (e ≡ fault.NoMemory → IsOk defined ⊎ ((defined ≡ Err fault.Blocks) × meet))

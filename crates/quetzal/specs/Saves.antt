@@ -1,5 +1,5 @@
 -- What a save says (Quetzal 1.4; Glulx 3.1.2, "Saved Games"): the copy that it holds, or why it is refused.
-use Rattle.std.specs.Prelude.{ℕ, List, Result, Ok}
+use Rattle.std.specs.Prelude.{◌≡◌, ℕ, true, List, Result, Ok}
 use Rattle.gx_words.specs.Results.{◌>>=◌}
 use Rattle.gx_story.specs.Stories.{FlatStory}
 use Rattle.gx_state.specs.Copies.{Copy}
@@ -7,7 +7,7 @@ use Rattle.quetzal.specs.Faults.{allowed}
 use Rattle.quetzal.specs.Chunks.{parts_in}
 use Rattle.quetzal.specs.Memory.{size_in, is_size, memory_of}
 use Rattle.quetzal.specs.Stacks.{is_stack}
-use Rattle.quetzal.specs.Blocks.{heap_of}
+use Rattle.quetzal.specs.Blocks.{may_meet, heap_of}
 use Rattle.quetzal.specs.declared.faults.SaveFault.{SaveFault}
 use Rattle.quetzal.specs.declared.faults.SaveFault.TheVariants as fault
 
@@ -19,3 +19,7 @@ save_of save story = do
   _ ← allowed (is_stack story (size_in parts.memory) parts.stack) fault.Stack
   heap ← heap_of story (size_in parts.memory) parts.heap
   Ok (record { memory = memory; stack = parts.stack; heap = heap })
+
+-- the blocks of a save may meet, and nothing else is wrong with its heap
+abbrev pub MayMeet : List ℕ → FlatStory → Type 0
+MayMeet save story = (parts_in save story >>= λ parts. Ok (may_meet story (size_in parts.memory) parts.heap)) ≡ Ok true

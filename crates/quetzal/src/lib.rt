@@ -14,6 +14,3 @@ pub use faults::SaveFault;
 pub use laws::written_saves_are_read;
 pub use reading::read_save;
 pub use writing::{push_chunk, write_save};
-
-#[cfg(test)]
-mod tests;

@@ -1,10 +1,10 @@
 //! Reading a save.
 //!
-//! Each fault is looked for before memory is taken, but for blocks that have to be sorted first.
+//! Each fault is looked for before memory is taken, but for blocks that meet, which have to be sorted first.
 ghost use Rattle.std.specs.Prelude.{◌≡◌, IfOk};
-ghost use Rattle.gx_words.specs.Results.{Gives};
 ghost use Rattle.gx_state.specs.Copies.{IsCopyFor};
-ghost use Rattle.quetzal.specs.Saves.{save_of};
+ghost use Rattle.quetzal.specs.Faults.{MaySort};
+ghost use Rattle.quetzal.specs.Saves.{MayMeet, save_of};
 
 use crate::SaveFault;
 use crate::blocks::heap_of;
@@ -20,10 +20,11 @@ use std::alloc::Global;
 /// The copy that a save of a story holds.
 ///
 /// Chunks come in any order, and the first of each kind counts; others are passed over. A packed chunk of memory is
-/// taken before a plain one, and an empty chunk of the heap as none.
+/// taken before a plain one, and a chunk of the heap that is empty, or whose start and count are 0, as none. Blocks are
+/// sorted to see whether two of them meet; where memory for that is refused, it isn't seen.
 #[tactic(auto, using(crate::proofs::SaveReading::parts_refused))]
 pub fn read_save(alloc: Global, bytes: &[u8], story: &Story) -> Result<FlatCopy, SaveFault>
-    ensures value { Gives SaveFault.NoMemory (λ copy. copy) result (save_of bytes.now story.now) }
+    ensures value { MaySort (MayMeet bytes.now story.now) (λ copy. copy) result (save_of bytes.now story.now) }
     ensures sound { IfOk result (λ copy. IsCopyFor story.now copy) }
 {
     let parts = Parts::find(bytes, story)?;

@@ -45,10 +45,11 @@ fn push_parts(out: &mut Bytes, id: [u8; 4], body: &[u8]) -> Result<(), AllocErro
     fill_up(out, body.len())
 }
 
-/// Adds a zero byte after an odd length.
+/// Adds a zero byte after an odd length, and asks for no memory after an even one.
 fn fill_up(out: &mut Bytes, len: usize) -> Result<(), AllocError>
     ensures ok { OnOk result (out.new ≡ out.old ++ replicate (len % 2) 0) }
     ensures err { OnErr result (out.new ≡ out.old) }
+    ensures memory { OnErr result (len % 2 ≡ 1) }
 {
     if len % 2 == 1 { out.push(0) } else { Ok(()) }
 }
@@ -112,7 +113,7 @@ fn memory_body(alloc: Global, memory: &[u8], story: &Story) -> Result<Bytes, All
     Ok(body)
 }
 
-/// Adds the chunk `MAll`, where a heap is active.
+/// Adds the chunk `MAll`, where a heap is active; else no memory is asked for.
 #[tactic(auto, using(crate::proofs::SaveWriting::heap_facts))]
 fn push_heap(
     alloc: Global,
@@ -121,7 +122,8 @@ fn push_heap(
     blocks: &[(u32, u32)],
 ) -> Result<(), AllocError>
     requires { length blocks.now ≤ CEILING }
-    ensures { OnOk result (out.new ≡ out.old ++ flat_map bytes_of_chunk (heap_chunks (record { start = start; blocks = blocks.now }))) }
+    ensures ok { OnOk result (out.new ≡ out.old ++ flat_map bytes_of_chunk (heap_chunks (record { start = start; blocks = blocks.now }))) }
+    ensures memory { OnErr result (0 < length blocks.now) }
 {
     if blocks.is_empty() {
         return Ok(());

@@ -1,6 +1,6 @@
 -- One turn of each loop that writes packed bytes.
-use Rattle.std.proofs.Common.{◌≡◌, ◌≢◌, ◌<◌, ◌≤◌, ◌+◌, ℕ, zero, suc, List, [], ◌∷◌, ◌++◌, append_assoc, length, take, drop, get_or, refl, sym, ap, ◌∙◌, arith}
-use Rattle.std.proofs.lemmas.List.{append-nil, take_all, drop_more, drop-drop, drop_all, get_or-drop}
+use Rattle.std.proofs.Common.{◌≡◌, ◌≢◌, ◌<◌, ◌≤◌, ◌+◌, ℕ, zero, suc, List, [], ◌∷◌, ◌++◌, append_assoc, length, take, drop, get_or, refl, sym, ap, ◌∙◌, arith, length-append}
+use Rattle.std.proofs.lemmas.List.{append-nil, take_all, drop_more, drop-drop, drop_all, get_or-drop, length-take}
 use Rattle.std.specs.Int.Bits.{bit_xor}
 use Rattle.zero_runs.specs.Packing.{run, full_pairs, packed_behind, xored}
 
@@ -57,6 +57,16 @@ other_turn new old out total at n b within is other whole =
     let regrouped : ((out ++ run n) ++ b ∷ []) ++ packed_behind 0 (xored (drop (at + 1) new) (drop (at + 1) old)) ≡ out ++ (run n ++ b ∷ packed_behind 0 (xored (drop (at + 1) new) (drop (at + 1) old))) = simp append_assoc in
     regrouped ∙ ap (λ (ys : List ℕ). out ++ ys) (sym written) ∙ whole
 
+-- a byte that isn't 0 is written, so that something is
+pub some_written : (new old out front total : List ℕ) (at n b : ℕ) → at < length new → b ≡ bit_xor (get_or new at 0) (get_or old at 0) → b ≢ 0 → take (length front) out ≡ front
+    → out ++ packed_behind n (xored (drop at new) (drop at old)) ≡ front ++ total → total ≡ [] → ⊥
+some_written new old out front total at n b within is other grows whole none =
+    let first = xored-drop new old at within in
+    let left = packed_behind n (xored (drop at new) (drop at old)) in
+    let rest = packed_behind 0 (xored (drop (at + 1) new) (drop (at + 1) old)) in
+    let written : left ≡ run n ++ b ∷ rest = rw (first, ← is) (packed_behind-other n b _ other) in
+    omega (arith, ap length none, ap length whole, length-append out left, length-append front total, ap length written, length-append (run n) (b ∷ rest), ap length grows, length-take (length front) out)
+
 -- after the last byte the zeros that were counted are dropped
 pub last_turn : (new old out total : List ℕ) (at n : ℕ) → length new ≤ at → out ++ packed_behind n (xored (drop at new) (drop at old)) ≡ total → out ≡ total
 unfolding xored packed_behind
@@ -66,4 +76,4 @@ last_turn new old out total at n past whole =
 
 pub ruleset run_turns = (full_pairs_pushed, front_all, front_added, front_joined)
 
-pub ruleset pack_turns = (front_all, front_added, zero_turn, other_turn)
+pub ruleset pack_turns = (front_all, front_added, zero_turn, other_turn, some_written)

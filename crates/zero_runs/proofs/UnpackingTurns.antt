@@ -194,4 +194,14 @@ pub length-unpacked : (bytes old all : List ℕ) (size : ℕ) → unpacked bytes
 unfolding unpacked
 length-unpacked bytes old all size is = length-unpacked-parts (expand bytes) old all size is
 
+-- no bytes
+none_left : (r : Result (List ℕ) RunFault) → IsOk r → ((all : List ℕ) → r ≡ Ok all → length all ≡ 0) → r ≡ Ok []
+none_left (Ok []) ok none = refl
+none_left (Ok (x ∷ xs)) ok none = absurd (omega (arith, none (x ∷ xs) refl))
+none_left (Err e) ok none = absurd cc
+
+pub unpacked-none : (bytes old : List ℕ) (n size : ℕ) → expanded_len bytes ≡ Ok n → n ≤ size → size ≡ 0 → unpacked bytes old size ≡ Ok []
+unpacked-none bytes old n size len few none =
+    none_left (unpacked bytes old size) (IsOk-unpacked bytes old n size len few) (λ all is. length-unpacked bytes old all size is ∙ none)
+
 pub ruleset unpacked_parts = (length-all, unpacked-joined, IsOk-expanded_over, IsOk-unpacked, length-unpacked)

@@ -18,6 +18,3 @@ pub use faults::RunFault;
 pub use laws::unpack_inverts_pack;
 pub use packing::pack;
 pub use unpacking::{check, unpack};
-
-#[cfg(test)]
-mod tests;

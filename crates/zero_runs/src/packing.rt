@@ -1,8 +1,8 @@
 //! Writing: what differs from the old bytes, with its runs of zeros written short.
 //!
 //! Each run is as long as may be, and zeros at the end are left out. A refusal leaves the output as
-//! it was.
-ghost use Rattle.std.specs.Prelude.{◌≡◌, ◌++◌, length, take, slice_index, OnOk, OnErr};
+//! it was, and there is none where nothing is written.
+ghost use Rattle.std.specs.Prelude.{◌≡◌, ◌≢◌, [], ◌++◌, length, take, slice_index, OnOk, OnErr};
 ghost use Rattle.zero_runs.specs.Packing.{xored, run, packed};
 
 use gx_words::Bytes;
@@ -36,6 +36,7 @@ fn push_run(zeros: usize, out: &mut Bytes) -> Result<(), AllocError>
 fn push_packed(new: &[u8], old: &[u8], out: &mut Bytes) -> Result<(), AllocError>
     ensures ok { OnOk result (out.new ≡ out.old ++ packed (xored new.now old.now)) }
     ensures grows { take (length out.old) out.new ≡ out.old }
+    ensures memory { OnErr result (packed (xored new.now old.now) ≢ []) }
 {
     let mut zeros = 0usize;
     for (at, byte) in new.iter().enumerate() {
@@ -55,6 +56,7 @@ fn push_packed(new: &[u8], old: &[u8], out: &mut Bytes) -> Result<(), AllocError
 pub fn pack(new: &[u8], old: &[u8], out: &mut Bytes) -> Result<(), AllocError>
     ensures ok { OnOk result (out.new ≡ out.old ++ packed (xored new.now old.now)) }
     ensures err { OnErr result (out.new ≡ out.old) }
+    ensures memory { OnErr result (packed (xored new.now old.now) ≢ []) }
 {
     let before = out.len();
     match push_packed(new, old, out) {

@@ -1,7 +1,7 @@
 //! Reading: the bytes that packed bytes stand for over the old ones.
 //!
 //! The bytes are counted before memory is asked for, so what a file claims costs nothing.
-ghost use Rattle.std.specs.Prelude.{◌≡◌, ◌≢◌, ◌++◌, ℕ, List, length, drop, replicate, Err, OnOk, IfOk, IfErr, IsOk};
+ghost use Rattle.std.specs.Prelude.{◌≡◌, ◌≢◌, ◌<◌, ◌++◌, ℕ, List, length, drop, replicate, Err, OnOk, IfOk, IfErr, IsOk};
 ghost use Rattle.gx_words.specs.Results.{Gives};
 ghost use Rattle.zero_runs.specs.Packing.{xored};
 ghost use Rattle.zero_runs.specs.Unpacking.{expanded_len, expanded_over, unpacked};
@@ -91,14 +91,18 @@ pub fn check(packed: &[u8], size: usize) -> Result<(), RunFault>
 }
 
 /// The `size` bytes that packed bytes stand for over the old ones. Memory is taken only where they
-/// do.
+/// do, and none for no bytes.
 #[tactic(auto, using(crate::proofs::UnpackingTurns::unpacked_parts), unfolding(crate::specs::Unpacking::unpacked, crate::specs::Unpacking::filled))]
 pub fn unpack(alloc: Global, packed: &[u8], old: &[u8], size: usize) -> Result<Bytes, RunFault>
     ensures value { Gives RunFault.NoMemory (λ bytes. bytes) result (unpacked packed.now old.now size) }
     ensures len { IfOk result (λ bytes. length bytes ≡ size) }
+    ensures memory { IfErr result (λ fault. fault ≡ RunFault.NoMemory → 0 < size) }
 {
     if expanded_len(packed)? > size as u128 {
         return Err(RunFault::TooMany);
+    }
+    if size == 0 {
+        return Ok(Bytes::new(alloc));
     }
     let mut out = expanded_over(alloc, packed, old)?;
     push_old(old, size - out.len(), &mut out)?;

@@ -45,4 +45,4 @@ returns-clause-value g c =
     let same : save_of c.in-Some.bytes f.story ≡ save_of c.as_slice.result.now c.story.result.now =
     ap (λ (x : List ℕ). save_of x f.story) (sym c.as_slice.ensures) ∙ ap (λ (s : FlatStory). save_of c.as_slice.result.now s) (sym c.story.ensures) in
     unread c.args.world.now c.take_rest.new.world f c.state-2.result.now.flat c.state-2.ensures c.args.stream (eq-eqb f.iosys.0 GLK_SYSTEM (sym system ∙ c.if-iosys-ne-GLK_SYSTEM.false))
-    c.in-Some.bytes (rw c.in-Some.is at c.in_ok-bytes.ensures) c.in-Err.fault c.refused.result (rw same c.in-Err.ensures.value) c.refused.ensures
+    c.in-Some.bytes (rw c.in-Some.is at c.in_ok-bytes.ensures) c.in-Err.fault c.refused.result (λ other. same ∙ c.in-Err.ensures.value.0 other) c.refused.ensures

@@ -1,10 +1,15 @@
 -- each exit has the fault of the definition, and what is read is the copy of the definition, fit for the story
-use Rattle.std.proofs.Common.{◌≡◌, ◌∙◌, ap, sym, subst, Ok, IsOk, refl}
+use Rattle.std.proofs.Common.{◌≡◌, ◌∙◌, ap, sym, subst, inl, Ok, IsOk, refl}
 use Rattle.std.proofs.lemmas.Result.{err_from_is_err_and}
 use Rattle.quetzal.specs.declared.faults.SaveFault.TheVariants as fault
 use Rattle.quetzal.specs.Views.{parts_of}
-use Rattle.quetzal.proofs.SaveReading.{copy_fits, heap_refused, memory_refused, not_allowed, save_by, save_taken, save_there, size_parts, size_refused, stack_refused}
+use Rattle.quetzal.proofs.SaveReading.{copy_fits, heap_refused, meet_by, memory_refused, not_allowed, parts_refused, save_by, save_taken, save_there, save_wanted, size_parts, size_refused, stack_refused}
 use Rattle.quetzal.proofs.reading.read_save.Goals as goal
+
+pub returns-in_err-parts-clause-value : goal.returns-in_err-parts-clause-value
+returns-in_err-parts-clause-value c =
+    let p = err_from_is_err_and c.from_residual.result c.from_residual.ensures.1 in
+    rw (p.1, p.2) (λ _. parts_refused c.args.bytes.now c.args.story.now c.in_err-parts.field-0.0 c.in_err-parts.ensures.value, λ same. absurd (c.in_err-parts.ensures.memory same))
 
 pub returns-in_err-allowed-clause-value : goal.returns-in_err-allowed-clause-value
 returns-in_err-allowed-clause-value c =
@@ -35,7 +40,7 @@ returns-in_err-heap-clause-value c =
     let stack = sym c.is_stack.ensures ∙ c.in_ok-allowed-2.ensures.passes in
     let all = save_by c.args.bytes.now c.args.story.now (parts_of c.in_ok-parts.parts) c.size-size.result c.in_ok-parts.ensures.value c.size-size.ensures fits in
     rw (p.1, p.2, all)
-    (λ some. heap_refused _ _ _ _ _ c.in_ok-check.ensures.ok stack (c.in_err-heap.ensures.value.0 some), λ none. save_there _ _ _ _ c.in_ok-check.ensures.ok stack (c.in_err-heap.ensures.value.1 none))
+    (λ some. heap_refused _ _ _ _ _ c.in_ok-check.ensures.ok stack (c.in_err-heap.ensures.value.0 some), λ none. save_wanted _ _ _ _ _ _ c.in_ok-check.ensures.ok stack (λ meet. meet_by c.args.bytes.now c.args.story.now (parts_of c.in_ok-parts.parts) c.size-size.result c.in_ok-parts.ensures.value c.size-size.ensures meet) (c.in_err-heap.ensures.value.1 none))
 
 pub returns-in_err-memory-clause-value : goal.returns-in_err-memory-clause-value
 returns-in_err-memory-clause-value c =
@@ -45,7 +50,7 @@ returns-in_err-memory-clause-value c =
     let heap = subst IsOk (sym c.in_ok-heap.ensures.value) refl in
     let all = save_by c.args.bytes.now c.args.story.now (parts_of c.in_ok-parts.parts) c.size-size.result c.in_ok-parts.ensures.value c.size-size.ensures fits in
     rw (p.1, p.2)
-    (λ some. memory_refused c.args.bytes.now c.args.story.now (parts_of c.in_ok-parts.parts) c.size-size.result c.in_err-memory.field-0.0 c.in_ok-parts.ensures.value c.size-size.ensures fits (c.in_err-memory.ensures.value.0 some), λ none. subst IsOk (sym all) (save_there _ _ _ _ c.in_ok-check.ensures.ok stack heap))
+    (λ some. memory_refused c.args.bytes.now c.args.story.now (parts_of c.in_ok-parts.parts) c.size-size.result c.in_err-memory.field-0.0 c.in_ok-parts.ensures.value c.size-size.ensures fits (c.in_err-memory.ensures.value.0 some), λ none. inl (subst IsOk (sym all) (save_there _ _ _ _ c.in_ok-check.ensures.ok stack heap)))
 
 pub returns-in_err-stack-clause-value : goal.returns-in_err-stack-clause-value
 returns-in_err-stack-clause-value c =
@@ -54,7 +59,7 @@ returns-in_err-stack-clause-value c =
     let stack = sym c.is_stack.ensures ∙ c.in_ok-allowed-2.ensures.passes in
     let heap = subst IsOk (sym c.in_ok-heap.ensures.value) refl in
     let all = save_by c.args.bytes.now c.args.story.now (parts_of c.in_ok-parts.parts) c.size-size.result c.in_ok-parts.ensures.value c.size-size.ensures fits in
-    rw (p.1, p.2) (λ some. absurd (some refl), λ none. subst IsOk (sym all) (save_there _ _ _ _ c.in_ok-check.ensures.ok stack heap))
+    rw (p.1, p.2) (λ some. absurd (some refl), λ none. inl (subst IsOk (sym all) (save_there _ _ _ _ c.in_ok-check.ensures.ok stack heap)))
 
 pub returns-clause-value : goal.returns-clause-value
 returns-clause-value c =

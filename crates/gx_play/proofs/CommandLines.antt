@@ -1,0 +1,102 @@
+-- Command lines with what they ask for.
+use Rattle.std.proofs.Common.{refl, codes, ◌≡◌, true, false, List, [], ◌∷◌, Some, None}
+use Rattle.clap.specs.Words.{Text}
+use Rattle.clap.specs.declared.error.kind.ErrorKind.TheVariants as kind
+use Rattle.clap.proofs.OnLiterals.{clap_on_literals}
+use Rattle.gx_play.specs.declared.command.Job.TheVariants.{Play, Work}
+use Rattle.gx_play.specs.Commands.{Command, player, faults_of, found_in, command_of}
+
+-- after the program's name
+abbrev words : List Text → List Text
+words rest = codes "gx_player" ∷ rest
+
+-- a story that is played as usual
+abbrev usual : Text → Command
+usual story = record { story = story; steps = 1000000000000000; columns = 80; rows = 24; echo = false; job = Play }
+
+story-alone : command_of (words (codes "hall.ulx" ∷ [])) ≡ Some (usual (codes "hall.ulx"))
+unfolding clap_on_literals command_of faults_of found_in player
+story-alone = refl
+
+all-options : command_of (words (codes "--steps" ∷ codes "0011" ∷ codes "--echo" ∷ codes "7" ∷ codes "--rows" ∷ codes "1" ∷ codes "--columns=255" ∷ codes "--job=work" ∷ []))
+    ≡ Some (record { story = codes "7"; steps = 11; columns = 255; rows = 1; echo = true; job = Work 7 })
+unfolding clap_on_literals command_of faults_of found_in player
+all-options = refl
+
+most-steps : command_of (words ([] ∷ codes "--steps" ∷ codes "18446744073709551615" ∷ [])) ≡ Some (record (usual []) { steps = 18446744073709551615 })
+unfolding clap_on_literals command_of faults_of found_in player
+most-steps = refl
+
+too-many-steps : command_of (words (codes "hall.ulx" ∷ codes "--steps" ∷ codes "18446744073709551616" ∷ [])) ≡ None
+unfolding clap_on_literals command_of faults_of found_in player
+too-many-steps = refl
+
+no-number : command_of (words (codes "hall.ulx" ∷ codes "--steps=" ∷ [])) ≡ None
+unfolding clap_on_literals command_of faults_of found_in player
+no-number = refl
+
+a-sign : command_of (words (codes "hall.ulx" ∷ codes "--steps" ∷ codes "+5" ∷ [])) ≡ None
+unfolding clap_on_literals command_of faults_of found_in player
+a-sign = refl
+
+no-columns : command_of (words (codes "hall.ulx" ∷ codes "--columns" ∷ codes "0" ∷ [])) ≡ None
+unfolding clap_on_literals command_of faults_of found_in player
+no-columns = refl
+
+a-word-that-isn't-an-option : command_of (words (codes "--" ∷ codes "--echo" ∷ [])) ≡ Some (usual (codes "--echo"))
+unfolding clap_on_literals command_of faults_of found_in player
+a-word-that-isn't-an-option = refl
+
+a-dash : command_of (words (codes "-" ∷ [])) ≡ Some (usual (codes "-"))
+unfolding clap_on_literals command_of faults_of found_in player
+a-dash = refl
+
+most-work : command_of (words (codes "4294967295" ∷ codes "--job" ∷ codes "work" ∷ [])) ≡ Some (record (usual (codes "4294967295")) { job = Work 4294967295 })
+unfolding clap_on_literals command_of faults_of found_in player
+most-work = refl
+
+too-much-work : command_of (words (codes "4294967296" ∷ codes "--job" ∷ codes "work" ∷ [])) ≡ None
+unfolding clap_on_literals command_of faults_of found_in player
+too-much-work = refl
+
+other-job : command_of (words (codes "hall.ulx" ∷ codes "--job" ∷ codes "Check" ∷ [])) ≡ None
+unfolding clap_on_literals command_of faults_of found_in player
+other-job = refl
+
+-- options are looked at in every job
+steps-in-check : command_of (words (codes "hall.ulx" ∷ codes "--job=check" ∷ codes "--steps=x" ∷ [])) ≡ None
+unfolding clap_on_literals command_of faults_of found_in player
+steps-in-check = refl
+
+-- why other words have no matches
+repeated : faults_of (words (codes "hall.ulx" ∷ codes "--echo" ∷ codes "--echo" ∷ [])) ≡ kind.ArgumentConflict ∷ []
+unfolding clap_on_literals faults_of player
+repeated = refl
+
+help : faults_of (words (codes "--help" ∷ [])) ≡ kind.DisplayHelp ∷ []
+unfolding clap_on_literals faults_of player
+help = refl
+
+version : faults_of (words (codes "--version" ∷ [])) ≡ kind.UnknownArgument ∷ []
+unfolding clap_on_literals faults_of player
+version = refl
+
+no-words : faults_of [] ≡ kind.MissingRequiredArgument ∷ []
+unfolding clap_on_literals faults_of player
+no-words = refl
+
+two-stories : faults_of (words (codes "hall.ulx" ∷ codes "hall.ulx" ∷ [])) ≡ kind.UnknownArgument ∷ []
+unfolding clap_on_literals faults_of player
+two-stories = refl
+
+a-front-of-an-option : faults_of (words (codes "hall.ulx" ∷ codes "--step=5" ∷ [])) ≡ kind.UnknownArgument ∷ []
+unfolding clap_on_literals faults_of player
+a-front-of-an-option = refl
+
+a-value-for-the-flag : faults_of (words (codes "hall.ulx" ∷ codes "--echo=true" ∷ [])) ≡ kind.TooManyValues ∷ []
+unfolding clap_on_literals faults_of player
+a-value-for-the-flag = refl
+
+an-option-without-its-value : faults_of (words (codes "hall.ulx" ∷ codes "--steps" ∷ [])) ≡ kind.InvalidValue ∷ []
+unfolding clap_on_literals faults_of player
+an-option-without-its-value = refl

@@ -1,0 +1,75 @@
+-- What the run of a story that is made of a number comes to.
+use Rattle.std.proofs.Common.{◌≡◌, ℕ, ◌-◌, ◌<◌, ◌≤◌, ◌⊎◌, inl, inr, true, false, List, [], ◌∷◌, ◌++◌, length, Some, refl, ap, subst, ◌∙◌, arith, decimal}
+use Rattle.gx_outside.specs.Files.{no_files}
+use Rattle.gx_state.specs.Flat.{FlatState}
+use Rattle.gx_machine.specs.Machine.{Whole, FlatMachine}
+use Rattle.gx_session.specs.declared.statuses.TheConstants.{SHELF_FAULT, NO_MEMORY}
+use Rattle.gx_session.specs.Devices.{Devices, devices}
+use Rattle.gx_session.specs.Session.{Configuration, final_of}
+use Rattle.gx_session.specs.Runs.{IsRun, IsSession, Report, EndsAt}
+use Rattle.gx_play.specs.Jobs.{zeros, work_machine, work_start, work_line, ram_sum_of}
+
+-- devices that hold nothing but this text, and never failed, after so many calls
+abbrev pub quiet : ℕ → ℕ → List ℕ → ℕ → Devices
+quiet reads sends text asks =
+    devices (record { calls = record { made = reads; faults = 0; failing = false }; tells = true; left = [] })
+    (record { calls = record { made = sends; faults = 0; failing = false }; tells = true; taken = text })
+    (record { calls = record { made = asks; faults = 0; failing = false }; tells = true; files = no_files })
+    zeros
+
+-- the three numbers of a run, and the machine
+pub record Tells (start : Configuration) (text : List ℕ) (r : Report) : Type 0 where
+  pub steps : r.steps ≡ start.left - (final_of start).configuration.left
+  pub text_is : text ≡ (final_of start).configuration.world.text
+  pub machine : r.machine.machine ≡ (final_of start).configuration.machine
+
+module _ (w : Whole) (reads sends asks reads' sends' asks' : ℕ) (text : List ℕ) (r : Report) where
+  abbrev start : Configuration
+  start = work_start w
+
+  abbrev entry : Devices
+  entry = quiet reads sends [] asks
+
+  abbrev exit : Devices
+  exit = quiet reads' sends' text asks'
+
+  at-end : EndsAt start (final_of start) entry exit r → Tells start text r
+  at-end e =
+      let steps = e.steps_are in
+      record {
+        steps = omega (arith, steps);
+        text_is = e.text_is refl;
+        machine = ap (λ (x : Whole). x.machine) e.machine_is;
+      }
+
+  told : (input : List ℕ) → input ≡ [] → IsSession (record start { input = input }) entry exit r → r.status < SHELF_FAULT → Tells start text r
+  told input is session early =
+      at-end (subst (λ (i : List ℕ). EndsAt (record start { input = i }) (final_of (record start { input = i })) entry exit r) is (session.ended early))
+
+  below : (status : ℕ) → (status ≡ 0) ⊎ ((3 ≤ status) × (status ≤ 11)) → (status ≡ 8 → ⊥) → (status ≡ 9 → ⊥) → (status ≡ 10 → ⊥) → (status ≡ 11 → ⊥) → status < 8
+  below status (inl e) shelf source sink memory = omega (arith, e)
+  below status (inr b) shelf source sink memory = grind (arith, b.0, b.1, shelf, source, sink, memory)
+
+  came : IsRun start entry exit r → (r.status ≡ NO_MEMORY → ⊥) → Tells start text r
+  came run memory =
+      let early : r.status < SHELF_FAULT =
+      below r.status run.report.status_is
+      (λ e. let rose : 0 ≡ 1 = run.counts.shelf.rose e in absurd (omega (arith, rose)))
+      (λ e. let rose : 0 ≡ 1 = run.counts.source.rose e in absurd (omega (arith, rose)))
+      (λ e. let rose : 0 ≡ 1 = run.counts.sink.rose e in absurd (omega (arith, rose)))
+      memory in
+      elim run.session [
+        | inl untold ↦ let silent : true ≡ false = untold.silent in absurd cc
+        | inr some ↦ told some.input (some.input_is refl) some.session early
+      ]
+
+  pub tells-of : (before : List ℕ) → before ≡ [] → IsRun (work_start w) (quiet reads sends before asks) (quiet reads' sends' text asks') r → (r.status ≡ NO_MEMORY → ⊥) → Tells (work_start w) text r
+  tells-of before is run memory = came (subst (λ (b : List ℕ). IsRun (work_start w) (quiet reads sends b asks) exit r) is run) memory
+
+  -- the line that is made of them
+  pub line-is : (number : ℕ) (f : FlatState) (sum : ℕ) → work_machine number ≡ Some w → Tells (work_start w) text r → f ≡ r.machine.machine.flat → sum ≡ ram_sum_of f
+      → (decimal r.steps ++ 32 ∷ decimal (length text) ++ 32 ∷ decimal sum) ++ 10 ∷ [] ≡ work_line number
+  unfolding work_line
+  line-is number f sum is told flat sum-is =
+      let flat-is : f ≡ (final_of (work_start w)).configuration.machine.flat = flat ∙ ap (λ (m : FlatMachine). m.flat) told.machine in
+      rw (sum-is, flat-is, told.steps, told.text_is, is) refl

@@ -1,0 +1,41 @@
+use Rattle.std.proofs.Common.{◌≡◌, Result, Ok, Err, sym, subst}
+use Rattle.gx_outside.specs.Outside.{FlatShelf}
+use Rattle.gx_story.specs.Stories.{FlatStory}
+use Rattle.gx_session.specs.Devices.{Devices, devices}
+use Rattle.gx_play.specs.declared.command.Job.{Job}
+use Rattle.gx_play.specs.declared.command.Job.TheVariants.{Play}
+use Rattle.gx_play.specs.declared.loading.Refusal.{Refusal}
+use Rattle.gx_play.specs.declared.loading.Refusal.TheVariants as refusal
+use Rattle.gx_play.specs.Commands.{Command}
+use Rattle.gx_play.specs.Headline.{LoadsOnce}
+use Rattle.gx_play.specs.Reading.{seen}
+use Rattle.gx_play.proofs.Dones.{play-refused, parts-for}
+use Rattle.gx_play.proofs.Loads.{loadable}
+use Rattle.gx_play.proofs.Plays.{comes-out, counts-after}
+use Rattle.gx_play.proofs.playing.play_file.Goals as goal
+
+pub returns-in-Err : goal.returns-in-Err
+returns-in-Err g c =
+    let entry : Devices = devices (g.S.Source.seen c.args.input.now) (g.K.Sink.seen c.args.output.now) (g.F.Shelf.seen c.args.shelf.now) (g.R.Rng.stream c.args.dice.now) in
+    let l = c.in-Err.ensures in
+    play-refused c.without_story.result (seen c.args.command) entry entry.shelf (g.F.Shelf.seen c.load_story.new.shelf) c.in-Err.refusal l.value l.once l.count l.fault c.without_story.ensures
+
+pub returns-in-Ok : goal.returns-in-Ok
+returns-in-Ok g c =
+    let entry : Devices = devices (g.S.Source.seen c.args.input.now) (g.K.Sink.seen c.args.output.now) (g.F.Shelf.seen c.args.shelf.now) (g.R.Rng.stream c.args.dice.now) in
+    let exit : Devices = devices (g.S.Source.seen c.play_story.new.input) (g.K.Sink.seen c.play_story.new.output) (g.F.Shelf.seen c.play_story.new.shelf) (g.R.Rng.stream c.play_story.new.dice) in
+    let loaded : FlatShelf = g.F.Shelf.seen c.load_story.new.shelf in
+    let command : Command = seen c.args.command in
+    let l = c.in-Ok.ensures.value in
+    let p = c.play_story.ensures in
+    record {
+      file = l.file;
+      file_is = l.file_is;
+      plays = comes-out c.play_story.result command entry exit loaded l.file c.in-Ok.story l.gives p.sink c.in-Ok.ensures.once p.plays;
+      memory = λ _. loadable l.file c.in-Ok.story l.gives;
+      began = p.began;
+      loads = λ none. subst (LoadsOnce entry.shelf) {y = exit.shelf} (sym {a = exit.shelf} (p.shelf none)) c.in-Ok.ensures.once;
+      untouched = λ none. let u = p.untouched none in record { steps = u.steps; source = u.source; words = u.words };
+      counts = counts-after entry exit loaded _ (let r : Result FlatStory Refusal = Ok c.in-Ok.story in r ≡ Err refusal.Shelf) p.counts c.in-Ok.ensures.count (λ e. absurd cc);
+      parts = parts-for c.play_story.result (let job : Job = Play in job ≡ Play) p.parts;
+    }

@@ -1,0 +1,11 @@
+use Rattle.gx_session.specs.Devices.{Devices}
+use Rattle.gx_play.proofs.Dones.{work-unmade, work-told}
+use Rattle.gx_play.proofs.working.work.Goals as goal
+
+pub returns-in-Err : goal.returns-in-Err
+returns-in-Err g c = λ command d. let e : Devices = record d { sink = g.K.Sink.seen c.args.output.now } in work-unmade c.without_machine.result c.args.number command e c.without_machine.ensures
+
+pub returns-in-Ok : goal.returns-in-Ok
+returns-in-Ok g c = λ command d.
+    work-told c.send_line.result c.args.number command d (g.K.Sink.seen c.args.output.now) (g.K.Sink.seen c.send_line.new.output)
+    (rw (c.as_bytes.ensures.value, c.in-Ok.ensures) at c.send_line.ensures.sends) c.send_line.ensures.blames

@@ -1,0 +1,248 @@
+-- THE HEADLINE: what `play` does (crates/gx_play/src/entry.rt), the call that the program makes.
+--
+-- Give it a command line, and an input, an output, a shelf of files and random words of any kind. It comes to the
+-- outcome that `outcome_of` has for the command line and for the file under the story's name, and to nothing else:
+--
+-- - The words are not understood, which is so exactly where specs/Commands has no command for them: nothing at all is
+--   done. Or there is no story: the status and the number of the fault say so. No input is read, no text sent, no word
+--   drawn and no machine made.
+-- - The story's start function can't be entered: the same, with the fault and the function's address.
+-- - Else the story runs. The run is the session of gx_session/specs/Session, from the story's first machine to the
+--   session's end (`IsRun`): its status, fault, address and steps, the machine and what it asks, the text, the files, the
+--   random words and the input that is left; how often some of the text was sent, and how often the shelf was asked. Or it
+--   was cut short, because a device failed or memory ran out: then the machine stands at one of the session's
+--   configurations, a front of the text up to there was sent, and the files are those of that configuration, but for the
+--   one that a refused store or remove leaves open.
+-- - In the jobs check and work one line of specs/Jobs is sent, with its status, or a front of it where the output fails or
+--   wants memory. No machine is handed back. Every number has a story that can be started (`works`).
+-- - Or nothing was begun, because the shelf failed or memory ran out before.
+--
+-- The shelf is asked once for the story, and then exactly as the session asks it; in job work it isn't asked. Text is sent
+-- before the shelf or the source is asked for anything. Fewer than 4,096 bytes are read ahead of the lines that were taken,
+-- and none where no line is awaited. The status blames a device exactly where a call of it failed in this run, which was
+-- then its last one. Each restoreundo of the session goes back to the newest saveundo that was neither used nor dropped
+-- (`LastsUndo`), whatever was restored from files in between. Each save that the session makes is read back as the very copy
+-- that was saved (`SavedAll`, `SavedBy`), and so is every copy that fits the story (`SavesReadBack`). And where no count of
+-- failures rose the status is the outcome's, or memory ran out (`IsComplete`).
+--
+-- Premises: that the story's file is the one that the shelf holds is said of a shelf that tells what it holds, as one in
+-- memory does. A real one doesn't, and there the run is that of some file: of the bytes that it handed out. Nothing is
+-- said of the session once the story itself asks such a shelf for a file (`IsUntold`). Likewise the input is what a source that tells
+-- has left; for a real one there is some input with which the run is the session. Which bytes the sink took is said of one
+-- that tells, and how often it was called of every one.
+--
+-- Limits: nothing is said of time, nor of how much memory a run takes. Want of memory is a free answer wherever the
+-- definition has no fault, once a save is begun, and while the words are read. So a body would pass that answers NO_MEMORY
+-- before it does anything, once there are bytes to be loaded, or before any step that has no fault: that ample memory
+-- suffices is only tested. None would pass that asked for a file that isn't there and answers so, or where a device failed,
+-- where the next step meets a fault that isn't a save's, or where a line is awaited and no input is left.
+use Rattle.std.specs.Prelude.{◌≡◌, ◌≢◌, ℕ, ◌≤◌, nat_lt, if◌then◌else◌, length, List, ◌++◌, ◌⊎◌, ◌↔◌, true, Option, Some, None, IsSome, IsSomeAnd, Result, Ok, Err}
+use Rattle.gx_words.specs.declared.faults.Fault.{Fault}
+use Rattle.gx_words.specs.Faults.{number_of}
+use Rattle.gx_words.specs.declared.limits.TheConstants.{CEILING}
+use Rattle.gx_outside.specs.Files.{Files}
+use Rattle.gx_outside.specs.Outside.{FlatShelf, FlatSink, raised}
+use Rattle.gx_story.specs.declared.faults.StoryFault.{StoryFault}
+use Rattle.gx_story.specs.declared.faults.StoryFault.TheVariants.{TooLarge}
+use Rattle.gx_story.specs.Faults.{number_of as story_number_of}
+use Rattle.gx_story.specs.Stories.{FlatStory, accepted, is_checked}
+use Rattle.gx_machine.specs.Machine.{Whole}
+use Rattle.gx_machine.specs.Start.{first_machine}
+use Rattle.glk_world.specs.World.{empty_world}
+use Rattle.gx_session.specs.declared.ended.Ended.{Ended}
+use Rattle.gx_session.specs.declared.statuses.TheConstants.{ENDED, BAD_WORDS, BAD_STORY, FAULT, SPENT, SHELF_FAULT, OUTPUT_FAULT, NO_MEMORY}
+use Rattle.gx_session.specs.Devices.{Devices}
+use Rattle.gx_session.specs.Session.{Configuration, start_of, final_of, status_of}
+use Rattle.gx_session.specs.Counts.{Counts}
+use Rattle.gx_session.specs.Runs.{IsRun, IsFront, report_of}
+use Rattle.gx_play.specs.declared.loading.TheConstants.{NO_FILE}
+use Rattle.gx_play.specs.declared.playing.TheConstants.{UNDO_DEPTH}
+use Rattle.gx_play.specs.declared.command.Job.{Job}
+use Rattle.gx_play.specs.declared.command.Job.TheVariants.{Play, Check, Work}
+use Rattle.gx_play.specs.Commands.{Command, command_of}
+use Rattle.gx_play.specs.Jobs.{check_status, check_line, work_machine, work_line}
+
+-- THE OUTCOME of a command line.
+pub data Outcome : Type 0 where
+  -- no story, or no command: a status and a fault
+  refused : ℕ → ℕ → Outcome
+  -- a story whose start function can't be entered: the fault, and the function's address
+  unstarted : Fault → ℕ → Outcome
+  -- the session from this configuration to its end
+  runs : Configuration → Outcome
+  -- a line is sent, with this status
+  tells : ℕ → List ℕ → Outcome
+
+-- the story, or the number of its fault
+abbrev pub numbered : Result FlatStory StoryFault → Result FlatStory ℕ
+numbered (Ok story) = Ok story
+numbered (Err fault) = Err (story_number_of fault)
+
+-- the story in a file, or the number of why there is none
+abbrev pub story_of : Option (List ℕ) → Result FlatStory ℕ
+story_of None = Err NO_FILE
+story_of (Some bytes) = if nat_lt CEILING (length bytes) then Err (story_number_of TooLarge) else numbered (accepted bytes)
+
+-- JOB PLAY: the machine of a story runs from its start, on the command's screen, within its budget
+abbrev pub outcome_of_start : Command → FlatStory → Devices → Result Whole Fault → Outcome
+outcome_of_start command story entry (Ok whole) = runs (start_of whole.machine (empty_world command.columns command.rows) entry command.echo command.steps)
+outcome_of_start command story entry (Err fault) = unstarted fault story.header.start_function
+
+abbrev pub outcome_of_story : Command → Devices → Result FlatStory ℕ → Outcome
+outcome_of_story command entry (Ok story) = outcome_of_start command story entry (first_machine story UNDO_DEPTH)
+outcome_of_story command entry (Err fault) = refused BAD_STORY fault
+
+-- JOB CHECK
+abbrev pub outcome_of_check : Result FlatStory ℕ → Outcome
+outcome_of_check (Ok story) = tells (check_status (is_checked story)) (check_line (is_checked story))
+outcome_of_check (Err fault) = refused BAD_STORY fault
+
+abbrev pub outcome_of_job : Job → Command → Option (List ℕ) → Devices → Outcome
+outcome_of_job Play command file entry = outcome_of_story command entry (story_of file)
+outcome_of_job Check command file entry = outcome_of_check (story_of file)
+outcome_of_job (Work number) command file entry = tells ENDED (work_line number)
+
+-- The outcome of a command over what the devices hold, where this file stands under the story's name.
+abbrev pub outcome_of : Option Command → Option (List ℕ) → Devices → Outcome
+outcome_of None file entry = refused BAD_WORDS 0
+outcome_of (Some command) file entry = outcome_of_job command.job command file entry
+
+-- THE ANSWER where no machine was started, or where a job hands none back.
+pub record HasNoMachine {A : Type 0} (ended : Ended A) (status fault at : ℕ) : Type 0 where
+  pub status_is : ended.status ≡ status
+  pub fault_is : ended.fault ≡ fault
+  pub at_is : ended.at ≡ at
+  pub steps_are : ended.steps ≡ 0
+  pub machine_is : ended.machine ≡ None
+
+-- the run was never begun: the shelf failed, or memory ran out
+abbrev pub IsUnbegun : {A : Type 0} → Ended A → Type 0
+IsUnbegun ended = HasNoMachine ended SHELF_FAULT 0 0 ⊎ HasNoMachine ended NO_MEMORY 0 0
+
+-- a line wasn't sent whole: the sink failed, or wanted memory
+abbrev pub IsUnsent : {A : Type 0} → Ended A → Type 0
+IsUnsent ended = HasNoMachine ended OUTPUT_FAULT 0 0 ⊎ HasNoMachine ended NO_MEMORY 0 0
+
+-- The shelf was asked once, and its files stand.
+pub record LoadsOnce (before now : FlatShelf) : Type 0 where
+  pub made : now.calls.made ≡ raised before.calls.made
+  pub tells : now.tells ≡ before.tells
+  pub files : now.files ≡ before.files
+
+-- The sink was called once, and took these bytes.
+pub record TakesOnce (bytes : List ℕ) (before now : FlatSink) : Type 0 where
+  pub made : now.calls.made ≡ raised before.calls.made
+  pub tells : now.tells ≡ before.tells
+  pub taken : before.tells ≡ true → now.taken ≡ before.taken ++ bytes
+
+-- a line was sent, or a front of it
+abbrev pub SendsLine : {A : Type 0} → ℕ → List ℕ → FlatSink → FlatSink → Ended A → Type 0
+SendsLine status line before now ended =
+    (HasNoMachine ended status 0 0 × TakesOnce line before now)
+    ⊎ (IsUnsent ended × ((front : List ℕ) × IsFront front line × TakesOnce front before now))
+
+-- What is answered and left behind is the outcome's. The run finds the shelf as it is once the story was loaded.
+abbrev pub Plays : {A : Type 0} → Outcome → Devices → Devices → Ended A → Type 0
+Plays (refused status fault) entry exit ended = (HasNoMachine ended status fault 0 ⊎ IsUnbegun ended) × (exit.sink ≡ entry.sink)
+Plays (unstarted fault at) entry exit ended = (HasNoMachine ended FAULT (number_of fault) at ⊎ IsUnbegun ended) × (exit.sink ≡ entry.sink)
+Plays (runs start) entry exit ended =
+    ((shelf : FlatShelf) × LoadsOnce entry.shelf shelf × IsSomeAnd ended.machine (λ end. IsRun start (record entry { shelf = shelf }) exit (report_of ended end)))
+    ⊎ (IsUnbegun ended × (exit.sink ≡ entry.sink))
+Plays (tells status line) entry exit ended = SendsLine status line entry.sink exit.sink ended ⊎ (IsUnbegun ended × (exit.sink ≡ entry.sink))
+
+-- what a shelf that tells holds under the story's name
+abbrev pub IsFile : Option Command → FlatShelf → Option (List ℕ) → Type 0
+IsFile None shelf file = Unit {0}
+IsFile (Some command) shelf file = shelf.tells ≡ true → file ≡ shelf.files command.story
+
+-- a file that is there and isn't too long
+abbrev pub IsLoadable : Option (List ℕ) → Type 0
+IsLoadable file = IsSomeAnd file (λ bytes. length bytes ≤ CEILING)
+
+-- Once a device was called, memory is wanted in the jobs play and check only where there are bytes.
+abbrev pub MayWant : Job → Option (List ℕ) → Type 0
+MayWant (Work number) file = Unit {0}
+MayWant job file = IsLoadable file
+
+abbrev pub MayWantFor : Option Command → Option (List ℕ) → Type 0
+MayWantFor None file = ⊥
+MayWantFor (Some command) file = MayWant command.job file
+
+-- A command comes to its outcome.
+pub record ComesOut {A : Type 0} (command : Option Command) (entry exit : Devices) (ended : Ended A) : Type 0 where
+  pub file : Option (List ℕ)
+  pub file_is : IsFile command entry.shelf file
+  pub plays : Plays (outcome_of command file entry) entry exit ended
+  pub memory : ended.status ≡ NO_MEMORY → (exit ≡ entry) ⊎ MayWantFor command file
+
+-- WHATEVER THE DEVICES TELL
+-- No machine is handed back: the shelf was asked once for the story, or not at all in job work.
+abbrev pub Loads : Job → FlatShelf → FlatShelf → Type 0
+Loads (Work number) before now = now ≡ before
+Loads job before now = LoadsOnce before now
+
+-- Nothing was done without a command, nor where memory ran out while the words were read.
+abbrev pub LoadsFor : Option Command → Devices → Devices → ℕ → Type 0
+LoadsFor None entry exit status = exit ≡ entry
+LoadsFor (Some command) entry exit status = Loads command.job entry.shelf exit.shelf ⊎ ((status ≡ NO_MEMORY) × (exit ≡ entry))
+
+-- No step was done, no input was read and no random word was drawn.
+pub record IsUntouched {A : Type 0} (entry exit : Devices) (ended : Ended A) : Type 0 where
+  pub steps : ended.steps ≡ 0
+  pub source : exit.source ≡ entry.source
+  pub words : exit.words ≡ entry.words
+
+-- a command line that plays a story, or is none
+abbrev pub IsPlaying : Option Command → Type 0
+IsPlaying None = Unit {0}
+IsPlaying (Some command) = command.job ≡ Play
+
+-- The statuses, and what goes with each: the fault's number, its address, and where a story is played the machine.
+pub record HasItsParts {A : Type 0} (playing : Type 0) (ended : Ended A) : Type 0 where
+  pub status_is : ended.status ≤ NO_MEMORY
+  pub story_fault : ended.status ≡ BAD_STORY → ended.fault ≤ 7
+  pub run_fault : playing → ended.status ≡ FAULT → (1 ≤ ended.fault) × (ended.fault ≤ 16)
+  pub no_fault : ended.status ≢ BAD_STORY → ended.status ≢ FAULT → ended.fault ≡ 0
+  pub no_address : ended.status ≢ FAULT → ended.at ≡ 0
+  -- a machine is handed back where one ran, and none where none was started; a fault, a failing shelf and want of
+  -- memory may come before
+  pub ran : playing → (ended.status ≡ ENDED) ⊎ ((SPENT ≤ ended.status) × (ended.status ≤ OUTPUT_FAULT) × (ended.status ≢ SHELF_FAULT)) → IsSome ended.machine
+  pub not_run : (ended.status ≡ BAD_WORDS) ⊎ (ended.status ≡ BAD_STORY) → ended.machine ≡ None
+
+-- COMPLETENESS
+-- the status of an outcome, where nothing cuts it short
+abbrev pub status_of_outcome : Outcome → ℕ
+status_of_outcome (refused status fault) = status
+status_of_outcome (unstarted fault at) = FAULT
+status_of_outcome (runs start) = status_of (final_of start).stop
+status_of_outcome (tells status line) = status
+
+-- what stands under the story's name, if a command names one
+abbrev pub file_in : Option Command → Files → Option (List ℕ)
+file_in None files = None
+file_in (Some command) files = files command.story
+
+-- No count of failures rose. (One that stands at 2^64 - 1 counts as one that rose.)
+pub record HasNoFailure (entry exit : Devices) : Type 0 where
+  pub source : exit.source.calls.faults ≢ raised entry.source.calls.faults
+  pub sink : exit.sink.calls.faults ≢ raised entry.sink.calls.faults
+  pub shelf : exit.shelf.calls.faults ≢ raised entry.shelf.calls.faults
+
+-- Where the source and the shelf tell what they hold and no device failed, the status is the outcome's, or memory ran out.
+abbrev pub IsComplete : Option Command → Devices → Devices → ℕ → Type 0
+IsComplete command entry exit status =
+    entry.source.tells ≡ true → entry.shelf.tells ≡ true → HasNoFailure entry exit
+    → (status ≡ status_of_outcome (outcome_of command (file_in command entry.shelf.files) entry)) ⊎ (status ≡ NO_MEMORY)
+
+-- THE CONTRACT OF `play`, between what the devices hold at entry and at exit.
+pub record IsPlayed {A : Type 0} (words : List (List ℕ)) (entry exit : Devices) (ended : Ended A) : Type 0 where
+  pub headline : ComesOut (command_of words) entry exit ended
+  pub bad_words : (ended.status ≡ BAD_WORDS) ↔ ((command_of words ≡ None) × (ended.status ≢ NO_MEMORY))
+  pub unread : command_of words ≡ None → exit ≡ entry
+  pub loads : ended.machine ≡ None → LoadsFor (command_of words) entry exit ended.status
+  pub untouched : ended.machine ≡ None → IsUntouched entry exit ended
+  pub unsent : IsPlaying (command_of words) → ended.machine ≡ None → exit.sink ≡ entry.sink
+  pub counts : Counts entry exit ended.status
+  pub complete : IsComplete (command_of words) entry exit ended.status
+  pub parts : HasItsParts (IsPlaying (command_of words)) ended
+  pub works : (number : ℕ) → IsSome (work_machine number)

@@ -1,0 +1,80 @@
+-- The jobs check and work, each of which sends one line.
+use Rattle.std.specs.Prelude.{ℕ, zero, suc, ◌+◌, ◌-◌, ◌*◌, ◌/◌, ◌%◌, ◌^◌, Bool, true, false, List, [], ◌∷◌, ◌++◌, length, replicate, Option, Some, None, Result, Ok, Err, codes, decimal}
+use Rattle.gx_words.specs.Numbers.{word}
+use Rattle.gx_words.specs.declared.faults.Fault.{Fault}
+use Rattle.gx_outside.specs.Files.{no_files}
+use Rattle.gx_outside.specs.Outside.{no_call}
+use Rattle.gx_story.specs.declared.faults.StoryFault.{StoryFault}
+use Rattle.gx_story.specs.Stories.{FlatStory, accepted}
+use Rattle.gx_state.specs.Flat.{FlatState}
+use Rattle.gx_machine.specs.Machine.{Whole}
+use Rattle.gx_machine.specs.Start.{first_machine}
+use Rattle.glk_world.specs.World.{empty_world}
+use Rattle.gx_session.specs.declared.statuses.TheConstants.{ENDED, FAULT}
+use Rattle.gx_session.specs.Devices.{Devices, devices}
+use Rattle.gx_session.specs.Session.{Configuration, start_of, final_of}
+use Rattle.gx_work.specs.Work.{work_story}
+use Rattle.gx_play.specs.declared.playing.TheConstants.{UNDO_DEPTH}
+use Rattle.rand_core.specs.Stream.{Stream}
+
+-- a text and a line feed
+abbrev pub line_of : List ℕ → List ℕ
+line_of text = text ++ 10 ∷ []
+
+-- JOB CHECK: whether a story has the checksum that its header states. A wrong one is a fault without a number.
+abbrev pub check_status : Bool → ℕ
+check_status true = ENDED
+check_status false = FAULT
+
+abbrev pub check_line : Bool → List ℕ
+check_line true = line_of (codes "checksum ok")
+check_line false = line_of (codes "checksum differs")
+
+-- JOB WORK: the story of a number is played to its end over devices that hold nothing, on a screen of 80 columns and 24
+-- rows, within the largest budget; what it comes to is told in three numbers.
+
+-- every random word is 0
+abbrev pub zeros : Stream
+zeros = record { u32_after = λ calls. 0; u64_after = λ calls. 0; bytes_after = λ calls n. replicate n 0 }
+
+-- no input, no text, no files
+abbrev pub nothing : Devices
+nothing = devices (record { calls = no_call; tells = true; left = [] }) (record { calls = no_call; tells = true; taken = [] })
+    (record { calls = no_call; tells = true; files = no_files }) zeros
+
+-- the machine that starts the story of a number, where the story is accepted and can be started (every one is and can:
+-- `works` in specs/Headline)
+abbrev pub machine_of : Result Whole Fault → Option Whole
+machine_of (Ok whole) = Some whole
+machine_of (Err fault) = None
+
+abbrev pub machine_in : Result FlatStory StoryFault → Option Whole
+machine_in (Ok story) = machine_of (first_machine story UNDO_DEPTH)
+machine_in (Err fault) = None
+
+unfoldable pub work_machine : ℕ → Option Whole
+work_machine number = machine_in (accepted (work_story number))
+
+abbrev pub work_start : Whole → Configuration
+work_start whole = start_of whole.machine (empty_world 80 24) nothing false (2 ^ 64 - 1)
+
+-- the sum of so many words from an address on
+unfoldable pub sum_from : ℕ → List ℕ → ℕ → ℕ
+sum_from zero memory at = 0
+sum_from (suc n) memory at = sum_from n memory at + word memory (at + 4 * n)
+
+-- the sum modulo 2^32 of the words of RAM
+abbrev pub ram_sum_of : FlatState → ℕ
+ram_sum_of f = sum_from ((length f.memory - f.story.header.ramstart) / 4) f.memory f.story.header.ramstart % 2 ^ 32
+
+-- the units that were used up to the end of a run, the length of its text, and the sum of its RAM
+abbrev pub tells_end : Configuration → Configuration → List ℕ
+tells_end start end =
+    line_of (decimal (start.left - end.left) ++ 32 ∷ decimal (length end.world.text) ++ 32 ∷ decimal (ram_sum_of end.machine.flat))
+
+abbrev pub line_of_machine : Option Whole → List ℕ
+line_of_machine (Some whole) = tells_end (work_start whole) (final_of (work_start whole)).configuration
+line_of_machine None = []
+
+unfoldable pub work_line : ℕ → List ℕ
+work_line number = line_of_machine (work_machine number)

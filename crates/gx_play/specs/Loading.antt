@@ -1,0 +1,82 @@
+-- How the parts of `play` are put together: what loading a story comes to, what playing it comes to then, and what a command
+-- comes to once it is read.
+use Rattle.std.specs.Prelude.{◌≡◌, ◌≢◌, ◌⊎◌, ℕ, true, List, Option, None, IsSomeAnd, Result, Ok, Err}
+use Rattle.gx_words.specs.Faults.{number_of}
+use Rattle.gx_outside.specs.Outside.{FlatShelf, FlatSink}
+use Rattle.gx_outside.specs.declared.devices.ShelfFault.{ShelfFault}
+use Rattle.gx_outside.specs.declared.devices.ShelfFault.TheVariants as of_shelf
+use Rattle.gx_story.specs.declared.faults.StoryFault.{StoryFault}
+use Rattle.gx_story.specs.declared.faults.StoryFault.TheVariants as of_story
+use Rattle.gx_story.specs.Faults.{number_of as story_number_of}
+use Rattle.gx_story.specs.Stories.{FlatStory}
+use Rattle.gx_session.specs.declared.ended.Ended.{Ended}
+use Rattle.gx_session.specs.declared.statuses.TheConstants.{BAD_WORDS, BAD_STORY, FAULT, SHELF_FAULT, OUTPUT_FAULT, NO_MEMORY}
+use Rattle.gx_session.specs.Counts.{Blames, Counts}
+use Rattle.gx_session.specs.Devices.{Devices}
+use Rattle.gx_session.specs.Runs.{IsRun, report_of}
+use Rattle.gx_play.specs.declared.command.Job.{Job}
+use Rattle.gx_play.specs.declared.command.Job.TheVariants.{Play}
+use Rattle.gx_play.specs.declared.loading.Refusal.{Refusal}
+use Rattle.gx_play.specs.declared.loading.Refusal.TheVariants as refusal
+use Rattle.gx_play.specs.Commands.{Command}
+use Rattle.gx_play.specs.Headline.{Outcome, refused, unstarted, runs, tells, outcome_of_job, story_of, HasNoMachine, IsUnbegun, IsLoadable, HasItsParts, IsUntouched, Loads, MayWant, Plays}
+
+-- what a shelf's fault is to a story that is loaded
+abbrev pub refusal_of_shelf : ShelfFault → Refusal
+refusal_of_shelf of_shelf.Failed = refusal.Shelf
+refusal_of_shelf of_shelf.NoMemory = refusal.NoMemory
+
+-- what a story's fault is
+abbrev pub refusal_of_story : StoryFault → Refusal
+refusal_of_story of_story.NoMemory = refusal.NoMemory
+refusal_of_story fault = refusal.BadStory (story_number_of fault)
+
+-- the status and the fault of a refusal
+abbrev pub status_of : Refusal → ℕ
+status_of (refusal.BadStory fault) = BAD_STORY
+status_of refusal.Shelf = SHELF_FAULT
+status_of refusal.NoMemory = NO_MEMORY
+
+abbrev pub fault_of : Refusal → ℕ
+fault_of (refusal.BadStory fault) = fault
+fault_of r = 0
+
+-- The answer is the definition's, but for a shelf that failed, and for want of memory once there are bytes.
+abbrev pub LoadGives : Option (List ℕ) → Result FlatStory Refusal → Type 0
+LoadGives file (Ok story) = story_of file ≡ Ok story
+LoadGives file (Err (refusal.BadStory fault)) = story_of file ≡ Err fault
+LoadGives file (Err refusal.Shelf) = Unit {0}
+LoadGives file (Err refusal.NoMemory) = IsLoadable file
+
+-- The answer is that of some file, which a shelf that tells holds.
+pub record LoadsFile (shelf : FlatShelf) (name : List ℕ) (result : Result FlatStory Refusal) : Type 0 where
+  pub file : Option (List ℕ)
+  pub file_is : shelf.tells ≡ true → file ≡ shelf.files name
+  pub gives : LoadGives file result
+
+-- What a story that was loaded comes to, from the devices as they are then.
+abbrev pub StoryPlays : {A : Type 0} → Outcome → Devices → Devices → Ended A → Type 0
+StoryPlays (refused status fault) entry exit ended = HasNoMachine ended status fault 0 ⊎ IsUnbegun ended
+StoryPlays (unstarted fault at) entry exit ended = HasNoMachine ended FAULT (number_of fault) at ⊎ IsUnbegun ended
+StoryPlays (runs start) entry exit ended = IsSomeAnd ended.machine (λ end. IsRun start entry exit (report_of ended end)) ⊎ IsUnbegun ended
+StoryPlays (tells status line) entry exit ended = ⊥
+
+-- what goes with the status of a run
+abbrev pub HasRunParts : {A : Type 0} → Ended A → Type 0
+HasRunParts ended = HasItsParts (Unit {0}) ended
+
+-- the sink is blamed exactly where it failed
+abbrev pub BlamesSink : FlatSink → FlatSink → ℕ → Type 0
+BlamesSink before now status = Blames before.calls now.calls (status ≡ OUTPUT_FAULT)
+
+-- WHAT A COMMAND COMES TO with this job: the clauses of `play` for a command line that has one.
+pub record IsDone {A : Type 0} (job : Job) (command : Command) (entry exit : Devices) (ended : Ended A) : Type 0 where
+  pub file : Option (List ℕ)
+  pub file_is : entry.shelf.tells ≡ true → file ≡ entry.shelf.files command.story
+  pub plays : Plays (outcome_of_job job command file entry) entry exit ended
+  pub memory : ended.status ≡ NO_MEMORY → MayWant job file
+  pub began : ended.status ≢ BAD_WORDS
+  pub loads : ended.machine ≡ None → Loads job entry.shelf exit.shelf
+  pub untouched : ended.machine ≡ None → IsUntouched entry exit ended
+  pub counts : Counts entry exit ended.status
+  pub parts : HasItsParts (job ≡ Play) ended

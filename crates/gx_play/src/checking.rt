@@ -1,0 +1,42 @@
+//! Job check: tells whether the story has the checksum that its header states.
+ghost use Rattle.gx_session.specs.Devices.{Devices};
+ghost use Rattle.gx_play.specs.declared.command.Job.TheVariants.{Check};
+ghost use Rattle.gx_play.specs.Headline.{SendsLine};
+ghost use Rattle.gx_play.specs.Jobs.{check_status, check_line};
+ghost use Rattle.gx_play.specs.Loading.{IsDone, BlamesSink};
+ghost use Rattle.gx_play.specs.Reading.{seen};
+
+use crate::command::Command;
+use crate::loading::{load_story, without_story};
+use crate::telling::send_line;
+use gx_outside::{Shelf, Sink};
+use gx_session::{Ended, statuses};
+use std::alloc::{Allocator, Global};
+
+/// Tells whether the checksum of the story in the command's file is right.
+pub fn check_file<A: Allocator + Clone, K: Sink, F: Shelf>(
+    alloc: Global,
+    command: Command<'_>,
+    output: &mut K,
+    shelf: &mut F,
+) -> Ended<A>
+    ensures { (d : Devices) → IsDone Check (seen command.entry) (record d { sink = K.seen output.old; shelf = F.seen shelf.old })
+        (record d { sink = K.seen output.new; shelf = F.seen shelf.new }) result }
+{
+    match load_story(alloc, shelf, command.story) {
+        Err(refusal) => without_story(refusal),
+        Ok(story) => tell_checksum(story.checksum_ok(), output),
+    }
+}
+
+/// Tells that a checksum is right, or that it isn't.
+fn tell_checksum<A: Allocator + Clone, K: Sink>(is_right: bool, output: &mut K) -> Ended<A>
+    ensures sends { SendsLine (check_status is_right) (check_line is_right) (K.seen output.old) (K.seen output.new) result }
+    ensures blames { BlamesSink (K.seen output.old) (K.seen output.new) result.status }
+{
+    if is_right {
+        send_line(output, b"checksum ok\n", statuses::ENDED)
+    } else {
+        send_line(output, b"checksum differs\n", statuses::FAULT)
+    }
+}

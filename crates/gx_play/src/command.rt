@@ -1,0 +1,163 @@
+//! The command line: what its words ask for.
+//!
+//! `gx_player STORY [--steps N] [--columns N] [--rows N] [--echo] [--job JOB]`, read as specs/Commands
+//! has it: a command exactly where the words match and each text is as it has to be. All options are
+//! looked at in every job. Reading takes memory, so that want of memory may come for any words.
+ghost use Rattle.std.specs.Prelude.{◌≡◌, ◌-◌, ◌^◌, ◌≤◌, Some, map, MatchResult, IfOk, IfSome, option_map, codes};
+ghost use Rattle.std.specs.Char.{is_ascii_digit};
+ghost use Rattle.std.specs.List.{list_all};
+ghost use Rattle.clap.specs.Words.{first_value, found_of};
+ghost use Rattle.gx_play.specs.Commands.{command_of, command_in, number_of, job_of, is_set};
+ghost use Rattle.gx_play.specs.Reading.{seen, IsUnread, HasScreen};
+
+use crate::words::match_words;
+use clap::ArgMatches;
+use std::alloc::{AllocError, Global};
+
+/// What the program is to do.
+#[derive(Clone, Copy, Debug, PartialEq, Eq)]
+pub enum Job {
+    /// Play the story.
+    Play,
+    /// Tell whether the story's checksum is right.
+    Check,
+    /// Play the story that is made of this number, and tell how much work it was.
+    Work(u32),
+}
+
+/// What a command line asks for.
+#[derive(Clone, Copy, Debug)]
+pub struct Command<'a> {
+    /// The name of the story's file; the text of a number in job work.
+    pub story: &'a str,
+    /// The units of the budget.
+    pub steps: u64,
+    /// The size of the screen, each from 1 to 255.
+    pub columns: u32,
+    pub rows: u32,
+    /// Whether each line that is taken is shown.
+    pub echo: bool,
+    pub job: Job,
+}
+
+/// Why a command line asks for nothing.
+#[derive(Clone, Copy, Debug, PartialEq, Eq)]
+pub enum CommandFault {
+    /// It isn't understood.
+    BadWords,
+    /// Memory ran out.
+    NoMemory,
+}
+
+impl From<AllocError> for CommandFault {
+    ghost use Rattle.gx_play.specs.declared.command.CommandFault.TheVariants.{NoMemory};
+
+    ghost from_gives = { λ _ fault. fault ≡ NoMemory };
+
+    fn from(_refused: AllocError) -> CommandFault {
+        CommandFault::NoMemory
+    }
+}
+
+/// The command of a command line, of which the first word is the program's name.
+pub fn read_command<'a>(alloc: Global, words: &'a [&'a str]) -> Result<Command<'a>, CommandFault>
+    ensures command { let texts = map (λ word. word.now) words.entry.now in
+        MatchResult result (λ command. command_of texts ≡ Some (seen command)) (IsUnread texts) }
+    ensures screen { IfOk result HasScreen }
+{
+    let matches = match_words(alloc, words)?;
+    match read_matches(&matches) {
+        Some(command) => Ok(command),
+        None => Err(CommandFault::BadWords),
+    }
+}
+
+/// The command of what is matched.
+fn read_matches<'a>(matches: &ArgMatches<'a>) -> Option<Command<'a>>
+    ensures command { let found = found_of matches.now in
+        option_map seen result ≡ command_in (first_value found (codes "STORY")) (is_set (first_value found (codes "echo")))
+        (first_value found (codes "steps")) (first_value found (codes "columns")) (first_value found (codes "rows"))
+        (first_value found (codes "job")) }
+    ensures screen { IfSome result HasScreen }
+{
+    let echo = is_set(matches);
+    let story = matches.get_str("STORY")?;
+    let steps = matches.get_str("steps")?;
+    let columns = matches.get_str("columns")?;
+    let rows = matches.get_str("rows")?;
+    let job = matches.get_str("job")?;
+    read_texts(story, echo, steps, columns, rows, job)
+}
+
+/// Whether the flag is set.
+fn is_set(matches: &ArgMatches) -> bool
+    ensures { result ≡ is_set (first_value (found_of matches.now) (codes "echo")) }
+{
+    match matches.get_str("echo") {
+        Some(text) => text == "true",
+        None => false,
+    }
+}
+
+/// The command of these texts.
+fn read_texts<'a>(
+    story: &'a str,
+    echo: bool,
+    steps: &str,
+    columns: &str,
+    rows: &str,
+    job: &str,
+) -> Option<Command<'a>>
+    ensures command { option_map seen result ≡ command_in (Some story.entry.now) echo (Some steps.now) (Some columns.now) (Some rows.now) (Some job.now) }
+    ensures screen { IfSome result HasScreen }
+{
+    let steps = read_number(steps, 0, u64::MAX)?;
+    let columns = read_number(columns, 1, 255)?;
+    let rows = read_number(rows, 1, 255)?;
+    let job = read_job(story, job)?;
+    Some(Command {
+        story,
+        steps,
+        columns: columns as u32,
+        rows: rows as u32,
+        echo,
+        job,
+    })
+}
+
+/// The job of a name; in job work STORY is a number.
+fn read_job(story: &str, name: &str) -> Option<Job>
+    ensures { result ≡ job_of story.now name.now }
+{
+    match name {
+        "play" => Some(Job::Play),
+        "check" => Some(Job::Check),
+        "work" => match read_number(story, 0, u64::from(u32::MAX)) {
+            Some(number) => Some(Job::Work(number as u32)),
+            None => None,
+        },
+        _ => None,
+    }
+}
+
+/// The number that decimal digits spell, where it is from the least to the most.
+#[tactic(auto, using(crate::proofs::Digits::digits_are, crate::proofs::Digits::no_plus))]
+fn read_number(text: &str, least: u64, most: u64) -> Option<u64>
+    ensures value { result ≡ number_of least most text.now }
+    ensures range { IfSome result (λ number. (least ≤ number) × (number ≤ most)) }
+{
+    if text.is_empty() || !is_digits(text.as_bytes()) {
+        return None;
+    }
+    match text.parse::<u64>() {
+        Ok(number) if least <= number && number <= most => Some(number),
+        _ => None,
+    }
+}
+
+/// The text is decimal digits alone.
+fn is_digits(text: &[u8]) -> bool
+    ensures { result ≡ list_all is_ascii_digit text.now }
+{
+    text.iter().all(|byte| byte.is_ascii_digit())
+}

@@ -1,0 +1,69 @@
+//! All that the program does, over objects that are handed in.
+//!
+//! `play` comes to the outcome that specs/Headline has for its command line and for the file under the
+//! story's name, unless a device fails or memory runs out.
+ghost use Rattle.std.specs.Prelude.{map};
+ghost use Rattle.gx_session.specs.Devices.{devices};
+ghost use Rattle.gx_play.specs.Headline.{IsPlayed};
+ghost use Rattle.gx_play.specs.Loading.{IsDone};
+ghost use Rattle.gx_play.specs.Reading.{seen, HasScreen};
+
+use crate::checking::check_file;
+use crate::command::{Command, CommandFault, Job, read_command};
+use crate::loading::without_machine;
+use crate::playing::play_file;
+use crate::working::work;
+use gx_outside::{Shelf, Sink, Source};
+use gx_session::{Ended, statuses};
+use rand_core::Rng;
+use std::alloc::{Allocator, Global};
+
+/// Does what a command line asks for: plays a story, checks one, or plays the one that is made of a number.
+///
+/// `words` are the command line, the program's name first; `pages` is where the machine's memory
+/// comes from. The input, the text, the files and the random words are those of the objects handed
+/// in, and `dice` may be left one word after those that were used.
+///
+/// The machine that is handed back is as the run left it, and None where none was started, and in the jobs
+/// check and work.
+pub fn play<A: Allocator + Clone, S: Source, K: Sink, F: Shelf, R: Rng>(
+    alloc: Global,
+    pages: A,
+    words: &[&str],
+    input: &mut S,
+    output: &mut K,
+    shelf: &mut F,
+    dice: &mut R,
+) -> Ended<A>
+    ensures { let entry = devices (S.seen input.old) (K.seen output.old) (F.seen shelf.old) (R.stream dice.old) in
+        let exit = devices (S.seen input.new) (K.seen output.new) (F.seen shelf.new) (R.stream dice.new) in
+        IsPlayed (map (λ word. word.now) words.now) entry exit result }
+{
+    match read_command(alloc, words) {
+        Err(CommandFault::BadWords) => without_machine(statuses::BAD_WORDS, 0, 0),
+        Err(CommandFault::NoMemory) => without_machine(statuses::NO_MEMORY, 0, 0),
+        Ok(command) => do_job(alloc, pages, command, input, output, shelf, dice),
+    }
+}
+
+/// Does a command's job.
+fn do_job<A: Allocator + Clone, S: Source, K: Sink, F: Shelf, R: Rng>(
+    alloc: Global,
+    pages: A,
+    command: Command<'_>,
+    input: &mut S,
+    output: &mut K,
+    shelf: &mut F,
+    dice: &mut R,
+) -> Ended<A>
+    requires { HasScreen command }
+    ensures { let entry = devices (S.seen input.old) (K.seen output.old) (F.seen shelf.old) (R.stream dice.old) in
+        let exit = devices (S.seen input.new) (K.seen output.new) (F.seen shelf.new) (R.stream dice.new) in
+        IsDone command.entry.job (seen command.entry) entry exit result }
+{
+    match command.job {
+        Job::Play => play_file(alloc, pages, command, input, output, shelf, dice),
+        Job::Check => check_file(alloc, command, output, shelf),
+        Job::Work(number) => work(alloc, pages, number, output),
+    }
+}

@@ -1,0 +1,93 @@
+//! The story under a name, from the shelf.
+//!
+//! The shelf is asked once. There is no story where the file isn't there, where it is too long, or where
+//! it is no story that gx_story accepts; the numbers of these faults are the program's.
+ghost use Rattle.std.specs.Prelude.{◌≡◌, ◌≤◌, ℕ, Err};
+ghost use Rattle.gx_session.specs.Counts.{Blames};
+ghost use Rattle.gx_session.specs.declared.statuses.TheConstants.{BAD_STORY, SHELF_FAULT, NO_MEMORY};
+ghost use Rattle.gx_play.specs.Headline.{HasNoMachine, LoadsOnce};
+ghost use Rattle.gx_play.specs.Loading.{LoadsFile, status_of, fault_of};
+
+use gx_outside::{Load, Shelf, ShelfFault};
+use gx_session::{Ended, statuses};
+use gx_story::{Story, StoryFault};
+use gx_words::CEILING;
+use std::alloc::{Allocator, Global};
+
+/// The fault of a story whose file isn't there; the others are those of `StoryFault`.
+pub const NO_FILE: u8 = 0;
+
+/// Why there is no story.
+#[derive(Clone, Copy)]
+pub enum Refusal {
+    /// The number of the fault.
+    BadStory(u8),
+    /// The shelf failed.
+    Shelf,
+    /// Memory ran out.
+    NoMemory,
+}
+
+impl From<ShelfFault> for Refusal {
+    ghost use Rattle.gx_play.specs.Loading.{refusal_of_shelf};
+
+    ghost from_gives = { λ fault refusal. refusal ≡ refusal_of_shelf fault };
+
+    fn from(fault: ShelfFault) -> Refusal {
+        match fault {
+            ShelfFault::Failed => Refusal::Shelf,
+            ShelfFault::NoMemory => Refusal::NoMemory,
+        }
+    }
+}
+
+impl From<StoryFault> for Refusal {
+    ghost use Rattle.gx_play.specs.Loading.{refusal_of_story};
+
+    ghost from_gives = { λ fault refusal. refusal ≡ refusal_of_story fault };
+
+    fn from(fault: StoryFault) -> Refusal {
+        match fault {
+            StoryFault::NoMemory => Refusal::NoMemory,
+            _ => Refusal::BadStory(fault.number()),
+        }
+    }
+}
+
+/// The story under a name.
+pub fn load_story<F: Shelf>(alloc: Global, shelf: &mut F, name: &str) -> Result<Story, Refusal>
+    ensures value { LoadsFile (F.seen shelf.old) name.now result }
+    ensures once { LoadsOnce (F.seen shelf.old) (F.seen shelf.new) }
+    ensures count { Blames (F.seen shelf.old).calls (F.seen shelf.new).calls (result ≡ Err Refusal.Shelf) }
+    ensures fault { (fault : ℕ) → result ≡ Err (Refusal.BadStory fault) → fault ≤ 7 }
+{
+    match shelf.load(name, CEILING as usize)? {
+        Load::Missing => Err(Refusal::BadStory(NO_FILE)),
+        Load::TooLong => Err(Refusal::BadStory(StoryFault::TooLarge.number())),
+        Load::Found(bytes) => Ok(Story::read(alloc, bytes.as_slice())?),
+    }
+}
+
+/// The answer where there is no story.
+pub fn without_story<A: Allocator + Clone>(refusal: Refusal) -> Ended<A>
+    ensures { HasNoMachine result (status_of refusal) (fault_of refusal) 0 }
+{
+    match refusal {
+        Refusal::BadStory(fault) => without_machine(statuses::BAD_STORY, fault, 0),
+        Refusal::Shelf => without_machine(statuses::SHELF_FAULT, 0, 0),
+        Refusal::NoMemory => without_machine(statuses::NO_MEMORY, 0, 0),
+    }
+}
+
+/// An answer without a machine.
+pub fn without_machine<A: Allocator + Clone>(status: u8, fault: u8, at: u32) -> Ended<A>
+    ensures { HasNoMachine result status fault at }
+{
+    Ended {
+        status,
+        fault,
+        at,
+        steps: 0,
+        machine: None,
+    }
+}

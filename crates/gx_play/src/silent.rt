@@ -1,0 +1,125 @@
+//! Devices for a run that nothing is to come from: no input, no files, no chance. They never fail.
+ghost use Rattle.std.specs.Prelude.{◌≡◌, [], false, true, length};
+ghost use Rattle.gx_outside.specs.Files.{no_files};
+ghost use Rattle.gx_outside.specs.Outside.{no_call};
+ghost use Rattle.gx_play.specs.Jobs.{zeros};
+
+use gx_outside::{Failed, Load, SendFault, Shelf, ShelfFault, Sink, Source};
+use gx_words::Bytes;
+use rand_core::Rng;
+use std::alloc::Global;
+
+/// A source in which nothing is left.
+#[derive(Drop)]
+pub struct NoInput {
+    reads: u64,
+}
+
+impl NoInput {
+    pub fn new() -> NoInput {
+        NoInput { reads: 0 }
+    }
+}
+
+impl Source for NoInput {
+    ghost seen = { λ s. record { calls = record { made = s.reads; faults = 0; failing = false }; tells = true; left = [] } };
+
+    fn read(&mut self, _into: &mut [u8]) -> Result<usize, Failed> {
+        self.reads = self.reads.saturating_add(1);
+        Ok(0)
+    }
+}
+
+/// A shelf without files, and with room for none.
+#[derive(Drop)]
+pub struct NoFiles {
+    calls: u64,
+}
+
+impl NoFiles {
+    pub fn new() -> NoFiles {
+        NoFiles { calls: 0 }
+    }
+}
+
+impl Shelf for NoFiles {
+    ghost seen = { λ s. record { calls = record { made = s.calls; faults = 0; failing = false }; tells = true; files = no_files } };
+
+    fn load(&mut self, _name: &str, _most: usize) -> Result<Load, ShelfFault> {
+        self.calls = self.calls.saturating_add(1);
+        Ok(Load::Missing)
+    }
+
+    fn store(&mut self, _name: &str, _bytes: &[u8]) -> Result<(), ShelfFault> {
+        self.calls = self.calls.saturating_add(1);
+        Err(ShelfFault::NoMemory)
+    }
+
+    fn remove(&mut self, _name: &str) -> Result<bool, ShelfFault> {
+        self.calls = self.calls.saturating_add(1);
+        Ok(false)
+    }
+
+    fn has(&mut self, _name: &str) -> Result<bool, ShelfFault> {
+        self.calls = self.calls.saturating_add(1);
+        Ok(false)
+    }
+}
+
+/// A sink that counts the bytes which it takes.
+#[derive(Drop)]
+pub struct Gathered {
+    text: Bytes,
+    sends: u64,
+}
+
+impl Gathered {
+    pub fn new(alloc: Global) -> Gathered
+        ensures { result.text ≡ [] }
+    {
+        Gathered {
+            text: Bytes::new(alloc),
+            sends: 0,
+        }
+    }
+
+    /// How many bytes it has taken.
+    pub fn len(&self) -> usize
+        ensures { result ≡ length self.now.text }
+    {
+        self.text.len()
+    }
+}
+
+impl Sink for Gathered {
+    ghost seen = { λ s. record { calls = record { made = s.sends; faults = 0; failing = false }; tells = true; taken = s.text } };
+
+    fn send(&mut self, bytes: &[u8]) -> Result<(), SendFault> {
+        self.sends = self.sends.saturating_add(1);
+        self.text.extend_from_slice(bytes)?;
+        Ok(())
+    }
+}
+
+/// Random words that are all 0.
+#[derive(Drop)]
+pub struct Zeros;
+
+impl Rng for Zeros {
+    ghost stream = { λ _. zeros };
+
+    #[tactic(auto, unfolding(rand_core::specs::Stream::next_u32))]
+    fn next_u32(&mut self) -> u32 {
+        0
+    }
+
+    #[tactic(auto, unfolding(rand_core::specs::Stream::next_u64))]
+    fn next_u64(&mut self) -> u64 {
+        0
+    }
+
+    #[tactic(auto, unfolding(rand_core::specs::Stream::fill_bytes))]
+    fn fill_bytes(&mut self, into: &mut [u8]) {
+        into.fill(0);
+    }
+}

@@ -1,0 +1,73 @@
+//! The words of the command line, matched by `clap` with one simple command: STORY and five options,
+//! which are texts and one flag. What the texts are worth is no matter here.
+//!
+//! Why the words have no matches isn't told: a question for help is a faulty command line like any
+//! other.
+ghost use Rattle.std.specs.Prelude.{◌≡◌, IfOk, MatchResult, false, map};
+ghost use Rattle.clap.specs.Words.{app_of, rule_of};
+ghost use Rattle.gx_play.specs.Commands.{player, story_rule, text_rule, echo_rule};
+ghost use Rattle.gx_play.specs.Reading.{HasMatches, IsUnread};
+
+use crate::command::CommandFault;
+use clap::error::ErrorKind;
+use clap::{Arg, ArgAction, ArgMatches, Command};
+use std::alloc::{AllocError, Global};
+
+/// What is matched in the words, of which the first is the program's name.
+pub fn match_words<'a>(alloc: Global, words: &'a [&'a str]) -> Result<ArgMatches<'a>, CommandFault>
+    ensures { let texts = map (λ word. word.now) words.entry.now in
+        MatchResult result (HasMatches texts) (IsUnread texts) }
+{
+    let command = player(alloc)?;
+    match command.try_get_matches_from(words) {
+        Ok(matches) => Ok(matches),
+        Err(error) => match error.kind() {
+            ErrorKind::OutOfMemory => Err(CommandFault::NoMemory),
+            _ => Err(CommandFault::BadWords),
+        },
+    }
+}
+
+/// The one command.
+fn player<'a>(alloc: Global) -> Result<Command<'a>, AllocError>
+    ensures { IfOk result (λ command. app_of command ≡ player) }
+{
+    let story = story_arg(alloc);
+    let steps = text_arg(alloc, "steps", "1000000000000000");
+    let columns = text_arg(alloc, "columns", "80");
+    let rows = text_arg(alloc, "rows", "24");
+    let echo = echo_arg(alloc);
+    let job = text_arg(alloc, "job", "play");
+    let with_story = Command::new(alloc, "gx_player").arg(story)?;
+    let with_steps = with_story.arg(steps)?;
+    let with_columns = with_steps.arg(columns)?;
+    let with_rows = with_columns.arg(rows)?;
+    let with_echo = with_rows.arg(echo)?;
+    with_echo.arg(job)
+}
+
+/// STORY, which has to be there.
+fn story_arg<'a>(alloc: Global) -> Arg<'a>
+    ensures rule { rule_of result ≡ story_rule }
+    ensures global { result.global ≡ false }
+{
+    Arg::new(alloc, "STORY").required(true)
+}
+
+/// `--NAME TEXT`, with the text that stands for it where it isn't there.
+fn text_arg<'a>(alloc: Global, name: &'a str, usual: &'a str) -> Arg<'a>
+    ensures rule { rule_of result ≡ text_rule name.entry.now usual.entry.now }
+    ensures global { result.global ≡ false }
+{
+    Arg::new(alloc, name).long(name).default_value(usual)
+}
+
+/// `--echo`.
+fn echo_arg<'a>(alloc: Global) -> Arg<'a>
+    ensures rule { rule_of result ≡ echo_rule }
+    ensures global { result.global ≡ false }
+{
+    Arg::new(alloc, "echo")
+        .long("echo")
+        .action(ArgAction::SetTrue)
+}

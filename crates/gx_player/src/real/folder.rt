@@ -1,0 +1,131 @@
+//! The files of the current folder.
+//!
+//! A store puts a new file in the old one's place, whole or not at all (`replace`). What is read is
+//! what a name leads to, through links too; what is removed is the name.
+//!
+//! What is read is proved for every reader whose bytes std tells: all that it has left, or the answer
+//! that it has more than was asked for. std doesn't say which file a name opens, what is in it, what
+//! its metadata tell, what a removal takes away, nor when a call fails; no contract here does either.
+ghost use Rattle.std.specs.Prelude.{◌≡◌, ◌≢◌, ◌↔◌, true, false, Ok, Err, Some, IfOk, IfSome, MatchResult};
+ghost use Rattle.std.specs.IoError.{error_kind};
+ghost use Rattle.gx_outside.specs.Files.{no_files};
+ghost use Rattle.gx_outside.specs.Outside.{IsBounded, Loads, no_call};
+
+use super::replace::replace_file;
+use gx_outside::{Calls, Load, Shelf, ShelfFault};
+use gx_words::Bytes;
+use std::alloc::Global;
+use std::fs::OpenFile;
+use std::io::{ErrorKind, Read};
+use std::rt::Files;
+use std::{fs, io};
+
+/// The files of the current folder.
+#[derive(Drop)]
+pub struct FolderShelf<'a, R> {
+    rt: &'a R,
+    alloc: Global,
+    calls: Calls,
+}
+
+impl<'a, R: Files> FolderShelf<'a, R> {
+    /// The shelf takes the bytes that it loads from the allocator.
+    pub fn new(alloc: Global, rt: &'a R) -> FolderShelf<'a, R>
+        ensures { result.calls ≡ no_call }
+    {
+        FolderShelf {
+            rt,
+            alloc,
+            calls: Calls::none(),
+        }
+    }
+}
+
+/// What an error of a file is to a shelf.
+pub(super) fn fault_of(error: io::Error) -> ShelfFault
+    ensures { (result ≡ ShelfFault.NoMemory) ↔ (error_kind error ≡ ErrorKind.OutOfMemory) }
+{
+    match error.kind() {
+        ErrorKind::OutOfMemory => ShelfFault::NoMemory,
+        _ => ShelfFault::Failed,
+    }
+}
+
+/// All bytes that a reader has left, unless they are more than `most`.
+fn read_file<R: Read>(file: &mut R, alloc: Global, most: usize) -> Result<Load, ShelfFault>
+    ensures bound { IfOk result (IsBounded most) }
+    ensures there { result ≢ Ok Load.Missing }
+    ensures whole { IfSome (R.remaining file.old) (λ left. IfOk result (Loads (Some left) most)) }
+{
+    let mut bytes = Bytes::new(alloc);
+    let mut piece = [0u8; 4096];
+    'pieces: loop {
+        let count = file.read(&mut piece).map_err(fault_of)?;
+        if count == 0 {
+            return Ok(Load::Found(bytes));
+        }
+        if count > most - bytes.len() {
+            return Ok(Load::TooLong);
+        }
+        bytes.extend_from_slice(&piece[..count])?;
+    }
+}
+
+/// The file of a name, unless it has more than `most` bytes.
+fn load_file<R: Files>(rt: &R, alloc: Global, name: &str, most: usize) -> Result<Load, ShelfFault>
+    ensures { IfOk result (IsBounded most) }
+{
+    let mut file = match fs::open(rt, name) {
+        Ok(file) => file,
+        Err(error) if error.kind() == ErrorKind::NotFound => return Ok(Load::Missing),
+        Err(error) => return Err(fault_of(error)),
+    };
+    match file.metadata() {
+        Ok(attributes) if attributes.len() > most as u64 => Ok(Load::TooLong),
+        Ok(_) => read_file(&mut file, alloc, most),
+        Err(error) => Err(fault_of(error)),
+    }
+}
+
+/// Whether a call found the file of its name, and false where there is none.
+fn found<T: Drop>(answer: io::Result<T>) -> Result<bool, ShelfFault>
+    ensures { MatchResult answer (λ _. result ≡ Ok true) (λ error.
+        (error_kind error ≡ ErrorKind.NotFound → result ≡ Ok false)
+        × (error_kind error ≡ ErrorKind.OutOfMemory → result ≡ Err ShelfFault.NoMemory)
+        × (error_kind error ≢ ErrorKind.NotFound → error_kind error ≢ ErrorKind.OutOfMemory
+        → result ≡ Err ShelfFault.Failed)) }
+{
+    match answer {
+        Ok(_) => Ok(true),
+        Err(error) if error.kind() == ErrorKind::NotFound => Ok(false),
+        Err(error) => Err(fault_of(error)),
+    }
+}
+
+impl<R: Files> Shelf for FolderShelf<'_, R> {
+    ghost seen = { λ s. record { calls = s.calls; tells = false; files = no_files } };
+
+    fn load(&mut self, name: &str, most: usize) -> Result<Load, ShelfFault> {
+        let loaded = load_file(self.rt, self.alloc, name, most);
+        self.calls.note(matches!(loaded, Err(ShelfFault::Failed)));
+        loaded
+    }
+
+    fn store(&mut self, name: &str, bytes: &[u8]) -> Result<(), ShelfFault> {
+        let stored = replace_file(self.rt, self.alloc, name, bytes);
+        self.calls.note(stored == Err(ShelfFault::Failed));
+        stored
+    }
+
+    fn remove(&mut self, name: &str) -> Result<bool, ShelfFault> {
+        let removed = found(fs::remove_file(self.rt, name));
+        self.calls.note(removed == Err(ShelfFault::Failed));
+        removed
+    }
+
+    fn has(&mut self, name: &str) -> Result<bool, ShelfFault> {
+        let has = found(fs::metadata(self.rt, name));
+        self.calls.note(has == Err(ShelfFault::Failed));
+        has
+    }
+}

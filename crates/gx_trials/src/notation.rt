@@ -1,0 +1,145 @@
+//! How the stories are written: lines, numbers and data.
+//!
+//! A line is a word and what belongs to it; what follows `;` is a remark. Numbers are hexadecimal, or a character
+//! between `'`. DATA are bytes of two digits, words of eight, `BYTE*COUNT` for a byte again and again, and characters
+//! between `'`, in UTF-8. WORDS are numbers with `WORD*COUNT` for a word again and again.
+use anyhow::{Context, Result};
+use std::alloc::Global;
+
+/// A line's first word and the others, without a remark.
+pub fn facts(line: &str) -> (&str, &str) {
+    let facts = line.split(';').next().unwrap_or_default().trim();
+    let (key, rest) = facts.split_once(' ').unwrap_or((facts, ""));
+    (key, rest.trim())
+}
+
+/// Whether lines hold nothing but remarks.
+pub fn are_remarks(lines: &str) -> bool {
+    lines.lines().all(|line| facts(line).0.is_empty())
+}
+
+/// How many stories begin in lines.
+fn stories_in(lines: &str) -> usize {
+    let mut count = 0usize;
+    for line in lines.lines() {
+        if facts(line).0 == "story" {
+            count = count.saturating_add(1);
+        }
+    }
+    count
+}
+
+/// The name of the first story in lines; an empty one where there is none.
+fn first_name(lines: &str) -> &str {
+    for line in lines.lines() {
+        if let ("story", name) = facts(line) {
+            return name;
+        }
+    }
+    ""
+}
+
+/// The name of the story that these lines are; an empty one where there are several or none.
+pub fn name_of(lines: &str) -> &str {
+    match stories_in(lines) {
+        1 => first_name(lines),
+        _ => "",
+    }
+}
+
+/// A number in hexadecimal, or that of a character between `'`.
+pub fn number(text: &str) -> Result<u32> {
+    let text = text.trim();
+    match text.strip_prefix('\'') {
+        Some(quoted) => Ok(u32::from(quoted.chars().next().context("no character")?)),
+        None => Ok(u32::from_str_radix(text, 16)?),
+    }
+}
+
+/// The numbers of a list.
+pub fn numbers_of(alloc: Global, text: &str) -> Result<Vec<u32>> {
+    let mut numbers = Vec::new(alloc);
+    for word in text.split_whitespace() {
+        numbers.push(number(word)?)?;
+    }
+    Ok(numbers)
+}
+
+/// The numbers of calls.
+pub fn counts_of(alloc: Global, text: &str) -> Result<Vec<u64>> {
+    let mut counts = Vec::new(alloc);
+    for word in text.split_whitespace() {
+        counts.push(u64::from(number(word)?))?;
+    }
+    Ok(counts)
+}
+
+/// A word, and the data after it.
+pub fn named_data(alloc: Global, text: &str) -> Result<(&str, Vec<u8>)> {
+    let (name, data) = text.split_once(' ').unwrap_or((text, ""));
+    Ok((name, data_of(alloc, data)?))
+}
+
+/// The bytes of data.
+pub fn data_of(alloc: Global, data: &str) -> Result<Vec<u8>> {
+    let mut bytes = Vec::new(alloc);
+    for (index, piece) in data.split('\'').enumerate() {
+        if index % 2 == 1 {
+            bytes.extend_from_slice(piece.as_bytes())?;
+        } else {
+            add_numbers(alloc, &mut bytes, piece)?;
+        }
+    }
+    Ok(bytes)
+}
+
+/// Adds bytes of two digits, which may be repeated, and words of eight.
+fn add_numbers(alloc: Global, bytes: &mut Vec<u8>, items: &str) -> Result<()> {
+    for item in items.split_whitespace() {
+        let (item, count) = item.split_once('*').unwrap_or((item, "1"));
+        if item.len() == 8 {
+            bytes.extend_from_slice(&number(item)?.to_be_bytes())?;
+        } else {
+            add_repeated(alloc, bytes, u8::from_str_radix(item, 16)?, number(count)?)?;
+        }
+    }
+    Ok(())
+}
+
+fn add_repeated(alloc: Global, bytes: &mut Vec<u8>, byte: u8, count: u32) -> Result<()> {
+    let repeated = vec![in alloc; byte; usize::try_from(count)?]?;
+    bytes.extend_from_slice(repeated.as_slice())?;
+    Ok(())
+}
+
+/// A list of words in eight digits each.
+pub fn words_in(alloc: Global, list: &str) -> Result<String> {
+    let mut text = String::new(alloc);
+    for words in list.split_whitespace() {
+        let (word, count) = words.split_once('*').unwrap_or((words, "1"));
+        add_words(alloc, &mut text, number(word)?, number(count)?)?;
+    }
+    Ok(text)
+}
+
+/// Adds a word again and again to a text of words in hexadecimal.
+pub fn add_words(alloc: Global, text: &mut String, word: u32, count: u32) -> Result<()> {
+    for _ in 0..count {
+        let gap = if text.is_empty() { "" } else { " " };
+        text.push_str(&format!(in alloc; "{gap}{word:08X}")?)?;
+    }
+    Ok(())
+}
+
+/// Puts bytes into a file; where the next one goes.
+pub fn put(file: &mut Vec<u8>, at: usize, bytes: &[u8]) -> Result<usize> {
+    let mut at = at;
+    for byte in bytes {
+        *file
+            .as_mut_slice()
+            .get_mut(at)
+            .context("a byte past the file")? = *byte;
+        at = at.saturating_add(1);
+    }
+    Ok(at)
+}

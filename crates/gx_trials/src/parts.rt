@@ -1,0 +1,33 @@
+//! What no story can show: texts that the program doesn't print, what a pool counts and refuses, pages that are shared,
+//! and calls that nothing above makes.
+//!
+//! Each of these functions plays no story. It compares what calls of one crate answer, says with an error what differs,
+//! and counts as a run.
+mod devices;
+mod files;
+mod pages;
+mod pools;
+mod replies;
+mod reports;
+mod words;
+
+use crate::tally::Tally;
+use anyhow::Result;
+use std::alloc::Global;
+
+/// Calls each of them.
+pub fn try_all<P: Print>(rt: &P, alloc: Global, tally: &mut Tally) -> Result<()> {
+    tally.note(rt, words::texts(alloc))?;
+    tally.note(rt, words::sizes())?;
+    tally.note(rt, devices::texts(alloc))?;
+    tally.note(rt, files::chunks(alloc))?;
+    tally.note(rt, pools::counts(alloc))?;
+    tally.note(rt, pools::large_blocks(alloc))?;
+    tally.note(rt, pools::refusal_below(alloc))?;
+    tally.note(rt, pages::shares_pages(alloc))?;
+    tally.note(rt, pages::keeps_huge_memory(alloc))?;
+    tally.note(rt, replies::writes(alloc))?;
+    tally.note(rt, replies::writes_and(alloc))?;
+    tally.note(rt, replies::pushes(alloc))?;
+    tally.note(rt, reports::reports(alloc))
+}

@@ -1,9 +1,0 @@
-use Rattle.std.proofs.Common.{◌≡◌, ◌+◌, ◌-◌, ◌*◌}
-use Rattle.std.specs.List.{list_all}
-use Rattle.quetzal.specs.Blocks.{blocks_from, is_apart}
-use Rattle.quetzal.proofs.blocks.is_apart_from.Given as goal
-
-abbrev pub invariant-loop-index : goal.invariant-loop-index
-invariant-loop-index l =
-    list_all (is_apart l.block) (blocks_from (l.count - l.index) l.body (8 + 8 * l.index))
-    ≡ list_all (is_apart l.block) (blocks_from (l.count - l.from) l.body (8 + 8 * l.from))
