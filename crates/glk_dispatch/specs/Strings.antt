@@ -2,7 +2,7 @@
 use Rattle.std.specs.Prelude.{ℕ, zero, suc, ◌+◌, ◌==◌, if◌then◌else◌, List, length, Result, Ok, Err}
 use Rattle.gx_words.specs.declared.faults.Fault.{Fault}
 use Rattle.gx_words.specs.declared.faults.Fault.TheVariants.{BadAddress, BadString}
-use Rattle.gx_words.specs.declared.typable.TheConstants.{C_STRING, UNICODE_STRING}
+use Rattle.gx_words.specs.Constants.{c_string, unicode_string}
 use Rattle.gx_words.specs.Results.{◌>>=◌}
 use Rattle.gx_pages.specs.Memory.{number_in}
 use Rattle.gx_state.specs.Flat.{FlatState}
@@ -19,7 +19,7 @@ count_to_zero (suc most) width memory at = do
 
 -- a string of characters of a width: its first character stands one character behind the address
 abbrev pub string_type : ℕ → ℕ
-string_type width = if width == 1 then C_STRING else UNICODE_STRING
+string_type width = if width == 1 then c_string else unicode_string
 
 unfoldable pub string_length : FlatState → ℕ → ℕ → Result ℕ Fault
 string_length f width at = do

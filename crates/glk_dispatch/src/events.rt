@@ -1,7 +1,7 @@
 //! The calls of events (Glk 0.7.5, "Events"): requests, polling, waiting, and what a line gives to the request that it
 //! meets.
 ghost use Rattle.std.specs.Prelude.{◌≡◌, ℕ, ◌==◌, not, ◌<◌, ◌≤◌, ◌^◌, ◌≢◌, ◌⊎◌, ◌+◌, ◌*◌, ◌++◌, length, take, map, if◌then◌else◌, OnOk, OnErr, IfOk, IsTrue};
-ghost use Rattle.gx_words.specs.declared.limits.TheConstants.{CEILING};
+ghost use Rattle.gx_words.specs.Constants.{ceiling};
 ghost use Rattle.gx_words.specs.Faults.{Reads, MayLose};
 ghost use Rattle.gx_state.specs.Flat.{FlatState};
 ghost use Rattle.gx_state.specs.Replies.{IsReply};
@@ -222,7 +222,7 @@ fn line_places(request: &Request, line: &[u32]) -> Places
 /// How many characters are put to the window's echo stream after a line that gave those of some places.
 fn echoed_count(request: &Request, given: Places) -> u32
     requires width { IsCharWidth given.width }
-    requires low { 0 < given.count → given.at + given.width * given.count ≤ CEILING }
+    requires low { 0 < given.count → given.at + given.width * given.count ≤ ceiling }
     ensures { result ≡ (if request.now.line then given.count + 1 else 0) }
 {
     if request.line { given.count + 1 } else { 0 }

@@ -4,7 +4,7 @@
 //! The looks (`can_read`, `can_lay`, `can_give`, `fitting`) take no memory, and a call makes all of them before it takes
 //! any.
 ghost use Rattle.std.specs.Prelude.{◌≡◌, ◌≢◌, ◌+◌, ◌*◌, ◌≤◌, ◌<◌, ◌^◌, ◌++◌, [], length, OnOk, OnErr, IfOk, IsTrue};
-ghost use Rattle.gx_words.specs.declared.limits.TheConstants.{CEILING};
+ghost use Rattle.gx_words.specs.Constants.{ceiling};
 ghost use Rattle.gx_words.specs.Faults.{Reads, MayLose};
 ghost use Rattle.gx_state.specs.Flat.{write_fault};
 ghost use Rattle.gx_state.specs.Replies.{IsReply};
@@ -65,7 +65,7 @@ fn can_write<A: Allocator + Clone>(state: &State<A>, at: u64, count: u64) -> Res
     requires { at + count < 2 ^ 64 }
     ensures value { Reads (λ _. tt) result (write_fault state.now.flat at count) }
     ensures there { OnOk result (at < 2 ^ 32) }
-    ensures low { OnOk result (at + count ≤ CEILING) }
+    ensures low { OnOk result (at + count ≤ ceiling) }
 {
     if u64::from(state.memory().size()) < at + count {
         Err(Fault::BadAddress)
@@ -83,7 +83,7 @@ pub(crate) fn can_lay<A: Allocator + Clone>(state: &State<A>, places: Places) ->
     requires width { places.width ≤ 4 }
     ensures value { Reads (λ _. tt) result (can_lay state.now.flat places) }
     ensures there { OnOk result (0 < places.count → places.at < 2 ^ 32) }
-    ensures low { OnOk result (0 < places.count → places.at + places.width * places.count ≤ CEILING) }
+    ensures low { OnOk result (0 < places.count → places.at + places.width * places.count ≤ ceiling) }
 {
     if places.count == 0 {
         return Ok(());

@@ -9,8 +9,8 @@ use Rattle.gx_state.specs.declared.modes.Mode.TheVariants.{Running}
 use Rattle.gx_state.specs.Flat.{sp_of}
 use Rattle.ops_memory.specs.Costs.{lowered, charged}
 use Rattle.gx_machine.specs.Machine.{FlatMachine, Whole}
-use Rattle.gx_machine.specs.Step.{mode_step, probes_in, stepped, Passes}
-use Rattle.gx_machine.proofs.Steps.{step_ok, step_err, step_can}
+use Rattle.gx_machine.specs.Step.{mode_step, probes_in, stepped, IsModeWriting, IsStepWriting, Passes}
+use Rattle.gx_machine.proofs.Steps.{step_ok, step_err, step_can, step_writes}
 
 -- steps after steps
 pub joined : (word n m : ℕ) (a b c : Whole × ℕ) → Passes word n a b → Passes word m b c → (k : ℕ) × Passes word k a c
@@ -33,13 +33,13 @@ lowered-ok : (left : ℕ) (r : Result (FlatMachine × Effect) Fault) → IsOk r 
 lowered-ok left (Ok x) ok = ok
 lowered-ok left (Err e) ok = ok
 
-pub pass_refused : (wants : Type 0) (w : Whole) (word budget : ℕ) (e : Fault) → 1 ≤ budget → 0 < sp_of w.machine.flat → w.machine.flat.mode ≡ Running → probes_in w.machine.flat Running ≡ 0
-    → IsRefused wants e (mode_step w.machine word Running) → IsRefused wants e (stepped w word budget)
-pass_refused wants w word budget e some live running none refused =
+pub pass_refused : (w : Whole) (word budget : ℕ) (e : Fault) → 1 ≤ budget → 0 < sp_of w.machine.flat → w.machine.flat.mode ≡ Running → probes_in w.machine.flat Running ≡ 0
+    → IsRefused (IsModeWriting w.machine Running) e (mode_step w.machine word Running) → IsRefused (IsStepWriting w.machine budget) e (stepped w word budget)
+pass_refused w word budget e some live running none refused =
     let probes : ℕ = probes_in w.machine.flat Running in
     let same : charged (budget - 1) probes w.machine (mode_step w.machine word Running) ≡ lowered (budget - 1) 0 (mode_step w.machine word Running) = free (budget - 1) probes w.machine (mode_step w.machine word Running) none in (
       (λ given. step_err w word budget e some live running (same ∙ ap (lowered (budget - 1) 0) (refused.0 given))),
       (λ lacks.
           let lack = refused.1 lacks in
-          (lack.0, step_can w word budget some live running (subst IsOk (sym same) (lowered-ok (budget - 1) (mode_step w.machine word Running) lack.1)))),
+          (step_writes w.machine budget some live running (omega (arith, none)) lack.0, step_can w word budget some live running (subst IsOk (sym same) (lowered-ok (budget - 1) (mode_step w.machine word Running) lack.1)))),
     )

@@ -11,7 +11,7 @@ use Rattle.gx_state.specs.declared.effects.Effect.TheVariants.{Put, Spent, Went}
 use Rattle.gx_state.specs.declared.modes.Mode.{Mode}
 use Rattle.gx_state.specs.declared.modes.Mode.TheVariants.{Running, Printing}
 use Rattle.gx_state.specs.Flat.{FlatState, sp_of}
-use Rattle.ops_memory.specs.Costs.{lowered, charged}
+use Rattle.ops_memory.specs.Costs.{lowered, charged, IsAfforded}
 use Rattle.ops_print.specs.Items.{item_by, printed, is_put}
 use Rattle.std.specs.Option.{option_map}
 use Rattle.gx_undo.specs.Undo.{FlatUndo}
@@ -20,7 +20,7 @@ use Rattle.gx_machine.specs.declared.askings.Asking.TheVariants as asking
 use Rattle.gx_machine.specs.declared.machine.Pending.{Pending}
 use Rattle.gx_machine.specs.Machine.{FlatMachine, Whole}
 use Rattle.gx_machine.specs.Rows.{with_copies}
-use Rattle.gx_machine.specs.Step.{asking_of, cost_of, mode_step, probes_in, step_of, stepped}
+use Rattle.gx_machine.specs.Step.{asking_of, cost_of, mode_step, probes_in, step_of, stepped, IsModeWriting, IsStepWriting}
 
 -- what a step makes of a machine and its budget, where that has the step's cost
 abbrev paid : ℕ → ℕ → Result (FlatMachine × Effect) Fault → Result ((Whole × ℕ) × Effect) Fault
@@ -196,16 +196,31 @@ prints_rest w word budget some live printing rest =
     subst (λ (r : Result ((Whole × ℕ) × Effect) Fault). IfOk r (λ x. is_put x.1 ≡ false)) (sym (printed-is w word budget some live printing))
     (paid-rest budget w.machine.undo (printed w.machine.flat) rest)
 
+-- a step that the budget has the cost of, and that writes
+cost-by : (m : FlatMachine) (b : Bool) → b ≡ false → 1 + (if b then 0 else probes_in m.flat m.flat.mode) ≡ 1 + probes_in m.flat m.flat.mode
+cost-by m true has = absurd cc
+cost-by m false has = refl
+
+cost-is : (m : FlatMachine) → 0 < sp_of m.flat → m.flat.mode ≡ Running → cost_of m ≡ 1 + probes_in m.flat Running
+unfolding cost_of
+cost-is m live running = cost-by m (sp_of m.flat == 0) (not-zero (sp_of m.flat) live) ∙ ap (λ (d : Mode). 1 + probes_in m.flat d) running
+
+pub step_writes : (m : FlatMachine) (budget : ℕ) → 1 ≤ budget → 0 < sp_of m.flat → m.flat.mode ≡ Running → probes_in m.flat Running ≤ budget - 1 → IsModeWriting m Running → IsStepWriting m budget
+step_writes m budget some live running enough writes =
+    let cost = cost-is m live running in
+    (omega (arith, cost, some, enough), subst (λ (d : Mode). IsModeWriting m d) (sym running) writes)
+
 -- a fault leaves the machine and its budget, and so does want of memory
-pub run_err : (wants : Type 0) (w : Whole) (word budget left : ℕ) (m' : FlatMachine) (fault : Fault) → 1 ≤ budget → 0 < sp_of w.machine.flat → w.machine.flat.mode ≡ Running
+pub run_err : (w : Whole) (word budget left : ℕ) (m' : FlatMachine) (fault : Fault) → 1 ≤ budget → 0 < sp_of w.machine.flat → w.machine.flat.mode ≡ Running
     → ◌≡◌ {A = FlatMachine × ℕ} (m', left) (w.machine, budget - 1)
-    → IsRefused wants fault (charged (budget - 1) (probes_in w.machine.flat Running) w.machine (mode_step w.machine word Running))
-    → ◌≡◌ {A = Whole × ℕ} (record { machine = m'; asking = w.asking }, budget) (w, budget) × IsRefused wants fault (stepped w word budget)
-run_err wants w word budget left m' fault some live running same does = (
+    → IsAfforded (budget - 1) (probes_in w.machine.flat Running) fault
+    → IsRefused (IsModeWriting w.machine Running) fault (charged (budget - 1) (probes_in w.machine.flat Running) w.machine (mode_step w.machine word Running))
+    → ◌≡◌ {A = Whole × ℕ} (record { machine = m'; asking = w.asking }, budget) (w, budget) × IsRefused (IsStepWriting w.machine budget) fault (stepped w word budget)
+run_err w word budget left m' fault some live running same affords does = (
   ap (λ (x : FlatMachine × ℕ). (record { machine = x.0; asking = w.asking }, budget)) same,
   (
     (λ given. step_err w word budget fault some live running (does.0 given)),
-    (λ none. let free = does.1 none in (free.0, step_can w word budget some live running free.1)),
+    (λ none. let free = does.1 none in (step_writes w.machine budget some live running (affords none) free.0, step_can w word budget some live running free.1)),
   ),
 )
 

@@ -1,5 +1,5 @@
 -- What the quick way does is the machine's step.
-use Rattle.std.proofs.Common.{◌≡◌, ◌≤◌, ◌<◌, ◌==◌, ◌&&◌, ◌||◌, not, ℕ, Bool, true, false, nat_le, length, refl, ap, subst, sym, ◌∙◌, arith, Result, Ok, Err, IsOk, IsOkAnd}
+use Rattle.std.proofs.Common.{◌≡◌, ◌≤◌, ◌<◌, ◌==◌, ◌&&◌, ◌||◌, not, ℕ, Bool, true, false, nat_le, refl, ap, subst, sym, ◌∙◌, arith, Result, Ok, Err, IsOk, IsOkAnd}
 use Rattle.std.specs.List.{list_all}
 use Rattle.std.specs.Option.{ok_or}
 use Rattle.std.proofs.lemmas.Bool.Decides.{nat_tests}
@@ -10,8 +10,9 @@ use Rattle.gx_words.specs.Results.{◌>>=◌}
 use Rattle.gx_rows.specs.declared.instructions.Class.{Class}
 use Rattle.gx_rows.specs.declared.instructions.Class.TheVariants as class
 use Rattle.gx_rows.specs.declared.instructions.Row.{Row}
-use Rattle.gx_rows.specs.declared.numbers.TheConstants.{LINEARSEARCH, BINARYSEARCH, LINKEDSEARCH}
-use Rattle.gx_rows.specs.Table.{table, row_at, row_of}
+use Rattle.gx_rows.specs.Numbers as numbers
+use Rattle.gx_rows.specs.Table.{table, row_at, row_of, row_count}
+use Rattle.gx_rows.proofs.Places.{rows_counted}
 use Rattle.gx_state.specs.declared.effects.Effect.{Effect}
 use Rattle.gx_state.specs.declared.modes.Mode.TheVariants.{Running}
 use Rattle.gx_state.specs.Flat.{FlatState}
@@ -31,41 +32,37 @@ is_plain r = r.width == 4 && not r.store_first
 
 -- a row of at most three loads is no search, and is plain where it isn't a load and a store
 abbrev is_short : Row → Bool
-is_short r = nat_le 4 r.loads || (not (r.number == LINEARSEARCH || r.number == BINARYSEARCH || r.number == LINKEDSEARCH) && (r.loads == 0 || (r.loads == 1 && r.stores == 1) || is_plain r))
+is_short r = nat_le 4 r.loads || (not (r.number == numbers.linearsearch || r.number == numbers.binarysearch || r.number == numbers.linkedsearch) && (r.loads == 0 || (r.loads == 1 && r.stores == 1) || is_plain r))
 
 all_short : list_all is_short table ≡ true
 unfolding table
 all_short = refl
 
-long : length table ≡ 87
-unfolding table
-long = refl
-
-short : (place : ℕ) → place < 87 → is_short (row_at place) ≡ true
+short : (place : ℕ) → place < row_count → is_short (row_at place) ≡ true
 unfolding row_at
-short place within = AllPass-from_list_all is_short table all_short place _ (omega (arith, long))
+short place within = AllPass-from_list_all is_short table all_short place _ (omega (arith, rows_counted))
 
 plain_by : (r : Row) → is_plain r ≡ true → IsPlain r
 plain_by r is = record { width = grind (arith, nat_tests); in_order = grind (arith, nat_tests) }
 
-pub one_plain : (place : ℕ) → place < 87 → (row_at place).loads ≡ 1 → (row_at place).stores ≡ 0 → IsPlain (row_at place)
+pub one_plain : (place : ℕ) → place < row_count → (row_at place).loads ≡ 1 → (row_at place).stores ≡ 0 → IsPlain (row_at place)
 one_plain place within one none = let is = short place within in plain_by (row_at place) (grind (arith, nat_tests))
 
-pub two_plain : (place : ℕ) → place < 87 → (row_at place).loads ≡ 2 → IsPlain (row_at place)
+pub two_plain : (place : ℕ) → place < row_count → (row_at place).loads ≡ 2 → IsPlain (row_at place)
 two_plain place within two = let is = short place within in plain_by (row_at place) (grind (arith, nat_tests))
 
-pub three_plain : (place : ℕ) → place < 87 → (row_at place).loads ≡ 3 → IsPlain (row_at place)
+pub three_plain : (place : ℕ) → place < row_count → (row_at place).loads ≡ 3 → IsPlain (row_at place)
 three_plain place within three = let is = short place within in plain_by (row_at place) (grind (arith, nat_tests))
 
 -- ---- a short row begins no probes
 
-no_search : (place : ℕ) → place < 87 → (row_at place).loads ≤ 3 → (f : FlatState) (i : Instruction) → i.row ≡ row_at place → memory_probes f i ≡ 0
+no_search : (place : ℕ) → place < row_count → (row_at place).loads ≤ 3 → (f : FlatState) (i : Instruction) → i.row ≡ row_at place → memory_probes f i ≡ 0
 unfolding memory_probes
 no_search place within few f i is =
     let all = short place within in
-    let linear : ((row_at place).number == LINEARSEARCH) ≡ false = grind (arith, nat_tests) in
-    let binary : ((row_at place).number == BINARYSEARCH) ≡ false = grind (arith, nat_tests) in
-    let linked : ((row_at place).number == LINKEDSEARCH) ≡ false = grind (arith, nat_tests) in
+    let linear : ((row_at place).number == numbers.linearsearch) ≡ false = grind (arith, nat_tests) in
+    let binary : ((row_at place).number == numbers.binarysearch) ≡ false = grind (arith, nat_tests) in
+    let linked : ((row_at place).number == numbers.linkedsearch) ≡ false = grind (arith, nat_tests) in
     rw (is, linear, binary, linked) refl
 
 by_class : (c : Class) (f : FlatState) (i : Instruction) → memory_probes f i ≡ 0 → probes_of c f i ≡ 0
@@ -82,7 +79,7 @@ by_class class.Glk f i none = refl
 abbrev instruction_by : FlatState → Row → Result Operands Fault → Result Instruction Fault
 instruction_by f row r = r >>= (λ (o : Operands). Ok (read_as f row o))
 
-by_operands : (place : ℕ) → place < 87 → (row_at place).loads ≤ 3 → (f : FlatState) (r : Result Operands Fault) → probes_by f (instruction_by f (row_at place) r) ≡ 0
+by_operands : (place : ℕ) → place < row_count → (row_at place).loads ≤ 3 → (f : FlatState) (r : Result Operands Fault) → probes_by f (instruction_by f (row_at place) r) ≡ 0
 by_operands place within few f (Ok o) = by_class (row_at place).class f (read_as f (row_at place) o) (no_search place within few f (read_as f (row_at place) o) refl)
 by_operands place within few f (Err e) = refl
 
@@ -90,7 +87,7 @@ instruction_is : (f : FlatState) (number modes : ℕ) (row : Row) → opcode f �
 unfolding instruction
 instruction_is f number modes row read found = rw (read, found) refl
 
-pub no_probes : (f : FlatState) (number modes place : ℕ) → opcode f ≡ Ok (number, modes) → ok_or (row_of number) BadOpcode ≡ Ok (row_at place) → place < 87 → (row_at place).loads ≤ 3 → probes_in f Running ≡ 0
+pub no_probes : (f : FlatState) (number modes place : ℕ) → opcode f ≡ Ok (number, modes) → ok_or (row_of number) BadOpcode ≡ Ok (row_at place) → place < row_count → (row_at place).loads ≤ 3 → probes_in f Running ≡ 0
 no_probes f number modes place read found within few =
     ap (probes_by f) (instruction_is f number modes (row_at place) read found) ∙ by_operands place within few f (all_operands f (row_at place) modes)
 

@@ -121,4 +121,4 @@ pub record IsPlain (row : Row) : Type 0 where
 -- Steps that go on and ask nothing, and after them a fault where there is one: all stands then as the steps left it.
 abbrev pub Passed : ℕ → Result (Unit {0}) Fault → Whole × ℕ → Whole × ℕ → Type 0
 Passed word (Ok x) old new = (n : ℕ) × Passes word n old new
-Passed word (Err e) old new = (n : ℕ) × Passes word n old new × IsRefused (IsStepWriting new.0.machine) e (stepped new.0 word new.1)
+Passed word (Err e) old new = (n : ℕ) × Passes word n old new × IsRefused (IsStepWriting new.0.machine new.1) e (stepped new.0 word new.1)

@@ -1,5 +1,5 @@
 -- One step of the machine (Glulx 3.1.2, "Instruction Format"), and what it takes of a budget.
-use Rattle.std.specs.Prelude.{◌≡◌, ℕ, zero, suc, ◌+◌, ◌-◌, ◌==◌, nat_lt, if◌then◌else◌, Option, Some, None, IsSome, Result, Ok, Err, IfOk, IsOkAnd}
+use Rattle.std.specs.Prelude.{◌≡◌, ℕ, zero, suc, ◌+◌, ◌-◌, ◌≤◌, ◌==◌, nat_lt, if◌then◌else◌, Option, Some, None, IsSome, Result, Ok, Err, IfOk, IsOkAnd}
 use Rattle.gx_words.specs.declared.faults.Fault.{Fault}
 use Rattle.gx_words.specs.declared.faults.Fault.TheVariants.{BadFrame}
 use Rattle.gx_words.specs.Faults.{Does}
@@ -75,8 +75,9 @@ abbrev pub IsModeWriting : FlatMachine → Mode → Type 0
 IsModeWriting m mode.Running = IsOkAnd (instruction m.flat) (λ i. IsWriting i.row.class m i)
 IsModeWriting m (mode.Printing p) = ⊥
 
-abbrev pub IsStepWriting : FlatMachine → Type 0
-IsStepWriting m = IsModeWriting m m.flat.mode
+-- such a step, where the budget has its cost: one that isn't made wants none
+abbrev pub IsStepWriting : FlatMachine → ℕ → Type 0
+IsStepWriting m budget = (cost_of m ≤ budget) × IsModeWriting m m.flat.mode
 
 -- so many steps with one word, each of which goes on, asks nothing and leaves the word: from a machine and its budget to those that it
 -- comes to
@@ -85,9 +86,9 @@ Passes word zero start end = start ≡ end
 Passes word (suc n) start end = (before : Whole × ℕ) × Passes word n start before × (stepped before.0 word before.1 ≡ Ok (end, Went))
 
 -- Such steps, and then one more: the budget stands as before that last step, and `new` is the machine after it with what it leaves.
-pub record Advances (wants : FlatMachine → Type 0) (word : ℕ) (result : Result Effect Fault) (old : Whole × ℕ) (budget : ℕ) (new : Whole × ℕ) : Type 0 where
+pub record Advances (wants : FlatMachine → ℕ → Type 0) (word : ℕ) (result : Result Effect Fault) (old : Whole × ℕ) (budget : ℕ) (new : Whole × ℕ) : Type 0 where
   pub count : ℕ
   pub before : Whole
   pub passes : Passes word count old (before, budget)
-  pub last : Does (wants before.machine) (λ effect. effect) result (before, budget) new (stepped before word budget)
+  pub last : Does (wants before.machine budget) (λ effect. effect) result (before, budget) new (stepped before word budget)
   pub stands : IfOk result (λ effect. IsSome (asking_of effect) → new.0.machine ≡ before.machine)

@@ -32,7 +32,7 @@ pub trait Engine<A: Allocator + Clone> {
     /// one that may. The budget is lowered by all of them but the last, and `left` is what that one leaves.
     fn advance(&mut self, word: u32, budget: &mut u64, left: &mut u64) -> Result<Effect, Fault>
         requires { (whole self.old).asking ≡ None }
-        ensures { Advances (λ machine. Unit {0}) word result (whole self.old, budget.old) budget.new (whole self.new, left.new) };
+        ensures { Advances (λ machine budget. Unit {0}) word result (whole self.old, budget.old) budget.new (whole self.new, left.new) };
 
     /// The character that the next step within the budget asks to be put, where it is an item of what is printed: the
     /// step is made then. Else nothing is done.

@@ -7,8 +7,8 @@
 //!
 //! `Machine::step` is `stepped` of specs/Step for every machine, word and budget: each fault comes
 //! exactly where the definition has it, an asking leaves the state as it is, and the budget is lowered
-//! by the cost, but not after a fault. Want of memory comes only where the definition has no fault and
-//! the step writes, resizes or copies memory, and then everything is as before the step. A session makes
+//! by the cost, but not after a fault. Want of memory comes only where the definition has no fault, the
+//! budget has the cost and the step writes, resizes or copies memory, and then everything is as before the step. A session makes
 //! its steps by `advance`, as many as ask nothing and then one more, and by `next_put`, where a character
 //! of a string or number is next: their contracts are steps of the same definition.
 //!

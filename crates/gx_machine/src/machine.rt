@@ -9,12 +9,13 @@ ghost use Rattle.gx_state.specs.Replies.{AreInRam, IsReply};
 ghost use Rattle.gx_state.specs.Stores.{store_fault, IsMemory};
 ghost use Rattle.gx_pages.specs.Memory.{HasBytes};
 ghost use Rattle.ops_print.specs.Items.{is_put};
+ghost use Rattle.gx_undo.specs.Undo.{most_undo};
 ghost use Rattle.gx_machine.specs.declared.askings.Asking.TheVariants as asking;
 ghost use Rattle.gx_machine.specs.Answer.{answered, answered_state, with_writes, with_pushes, IsAnswer, IsStoredAnswer};
 ghost use Rattle.gx_machine.specs.Quick.{Tries, Passed};
 ghost use Rattle.gx_machine.specs.Saves.{restored_whole, saved_copy};
 ghost use Rattle.gx_machine.specs.Start.{first_machine};
-ghost use Rattle.gx_machine.specs.Step.{asking_of, room_of, stepped, Advances, IsModeWriting, IsStepWriting};
+ghost use Rattle.gx_machine.specs.Step.{asking_of, room_of, stepped, Advances, IsStepWriting};
 ghost use Rattle.gx_machine.specs.Views.{IsPending, result_len};
 
 use crate::quick::quick;
@@ -63,7 +64,7 @@ impl<A: Allocator + Clone> Machine<A> {
     /// A machine that starts a story, and keeps at most `depth` copies for undo.
     #[tactic(auto, unfolding(crate::specs::Start::first_machine))]
     pub fn start(alloc: Global, pages: A, story: Story, depth: usize) -> Result<Machine<A>, Fault>
-        requires { (1 ≤ depth) × (depth ≤ 64) }
+        requires { (1 ≤ depth) × (depth ≤ most_undo) }
         ensures value { Makes (λ machine. machine) result (first_machine story depth) }
         ensures asks { IfOk result (λ machine. machine.asking ≡ None) }
     {
@@ -111,7 +112,7 @@ impl<A: Allocator + Clone> Machine<A> {
     #[tactic(auto, using(crate::proofs::Steps::steps))]
     pub fn step(&mut self, word: u32, budget: &mut u64) -> Result<Effect, Fault>
         requires { self.old.asking ≡ None }
-        ensures step { Does (IsStepWriting self.old.machine) (λ effect. effect) result (self.old, budget.old) (self.new, budget.new) (stepped self.old word budget.old) }
+        ensures step { Does (IsStepWriting self.old.machine budget.old) (λ effect. effect) result (self.old, budget.old) (self.new, budget.new) (stepped self.old word budget.old) }
         ensures stands { IfOk result (λ effect. IsSome (asking_of effect) → self.new.machine ≡ self.old.machine) }
     {
         self.turn(&mut Plan::new(), word, budget)
@@ -187,7 +188,7 @@ impl<A: Allocator + Clone> Machine<A> {
     #[tactic(auto, using(crate::proofs::Steps::steps))]
     fn pass(&mut self, budget: &mut u64) -> Result<bool, Fault>
         requires asks { self.old.asking ≡ None }
-        ensures value { (word : ℕ) → Tries (IsStepWriting self.old.machine) result (self.old, budget.old) (self.new, budget.new) (stepped self.old word budget.old) }
+        ensures value { (word : ℕ) → Tries (IsStepWriting self.old.machine budget.old) result (self.old, budget.old) (self.new, budget.new) (stepped self.old word budget.old) }
         ensures asks { self.new.asking ≡ None }
         ensures fewer { result ≡ Ok true → budget.new < budget.old }
         ensures no_more { budget.new ≤ budget.old }
@@ -209,7 +210,7 @@ impl<A: Allocator + Clone> Machine<A> {
         requires some { 1 ≤ budget.old }
         requires live { 0 < sp_of self.old.machine.flat }
         requires running { self.old.machine.flat.mode ≡ Mode.Running }
-        ensures value { (word : ℕ) → Tries (IsModeWriting self.old.machine Mode.Running) result (self.old, budget.old) (self.new, budget.new) (stepped self.old word budget.old) }
+        ensures value { (word : ℕ) → Tries (IsStepWriting self.old.machine budget.old) result (self.old, budget.old) (self.new, budget.new) (stepped self.old word budget.old) }
         ensures asks { self.new.asking ≡ None }
         ensures fewer { result ≡ Ok true → budget.new < budget.old }
         ensures no_more { budget.new ≤ budget.old }
@@ -226,7 +227,7 @@ impl<A: Allocator + Clone> Machine<A> {
     #[tactic(auto, using(crate::proofs::Steps::steps))]
     fn turn(&mut self, plan: &mut Plan, word: u32, budget: &mut u64) -> Result<Effect, Fault>
         requires { self.old.asking ≡ None }
-        ensures step { Does (IsStepWriting self.old.machine) (λ effect. effect) result (self.old, budget.old) (self.new, budget.new) (stepped self.old word budget.old) }
+        ensures step { Does (IsStepWriting self.old.machine budget.old) (λ effect. effect) result (self.old, budget.old) (self.new, budget.new) (stepped self.old word budget.old) }
         ensures stands { IfOk result (λ effect. IsSome (asking_of effect) → self.new.machine ≡ self.old.machine) }
     {
         if *budget == 0 {
@@ -248,7 +249,7 @@ impl<A: Allocator + Clone> Machine<A> {
         requires some { 1 ≤ budget.old }
         requires live { 0 < sp_of self.old.machine.flat }
         requires running { self.old.machine.flat.mode ≡ Mode.Running }
-        ensures step { Does (IsModeWriting self.old.machine Mode.Running) (λ effect. effect) result (self.old, budget.old) (self.new, budget.new) (stepped self.old word budget.old) }
+        ensures step { Does (IsStepWriting self.old.machine budget.old) (λ effect. effect) result (self.old, budget.old) (self.new, budget.new) (stepped self.old word budget.old) }
         ensures stands { IfOk result (λ effect. IsSome (asking_of effect) → self.new.machine ≡ self.old.machine) }
     {
         let mut left = *budget - 1;

@@ -6,7 +6,7 @@
 //! speed alone: whatever it does is the definition's step, and so is every fault.
 ghost use Rattle.std.specs.Prelude.{◌≡◌, ◌≢◌, ◌<◌, ◌≤◌, ◌+◌, ◌*◌, ◌%◌, ◌^◌, false, if◌then◌else◌, length, Ok, None, IfOk, IfErr, OnOk, IsTrue, [], ◌∷◌, ℕ};
 ghost use Rattle.gx_words.specs.declared.faults.Fault.TheVariants.{BadAddress};
-ghost use Rattle.gx_words.specs.declared.limits.TheConstants.{CEILING};
+ghost use Rattle.gx_words.specs.Constants.{ceiling};
 ghost use Rattle.gx_words.specs.Numbers.{IsWidth, byte};
 ghost use Rattle.ops_calc.specs.Arithmetic as calc;
 ghost use Rattle.ops_calc.specs.Branches as branch;
@@ -336,7 +336,7 @@ fn do_one<A: Allocator + Clone>(
 #[tactic(auto, unfolding(gx_pages::specs::Memory::number_in))]
 fn mode_pair<A: Allocator + Clone>(state: &State<A>, modes: u32) -> Result<u32, Fault>
     ensures there { OnOk result (modes + 1 ≤ length state.now.flat.memory) }
-    ensures low { OnOk result (modes + 1 ≤ CEILING) }
+    ensures low { OnOk result (modes + 1 ≤ ceiling) }
     ensures value { IfOk result (λ pair. pair ≡ byte state.now.flat.memory modes) }
     ensures fits { IfOk result (λ pair. pair < 2 ^ 8) }
     ensures fault { IfErr result (λ fault. (fault ≡ BadAddress) × (length state.now.flat.memory < modes + 1)) }

@@ -1,5 +1,5 @@
 //! The row of an instruction, class by class.
-ghost use Rattle.std.specs.Prelude.{◌≡◌, ◌≢◌, ◌<◌, ◌≤◌, ◌*◌, ◌+◌, Ok, None, Some, false, IsSome, IfOk, IfSome, OnOk, OnErr};
+ghost use Rattle.std.specs.Prelude.{◌≡◌, ◌≢◌, ◌<◌, ◌≤◌, ◌*◌, ◌+◌, Ok, None, Some, false, IsSome, IfErr, IfOk, IfSome, OnOk, OnErr};
 ghost use Rattle.std.specs.Option.{option_map};
 ghost use Rattle.gx_words.specs.Faults.{Does, Reads};
 ghost use Rattle.gx_state.specs.declared.effects.Effect.TheVariants.{Put, Spent};
@@ -10,7 +10,7 @@ ghost use Rattle.gx_operands.specs.Plans.{instruction_of};
 ghost use Rattle.gx_undo.specs.Undo.{AreCopiesFor};
 ghost use Rattle.ops_game.specs.Rows as game;
 ghost use Rattle.ops_game.specs.Writes as game_writes;
-ghost use Rattle.ops_memory.specs.Costs.{probes_of, charged};
+ghost use Rattle.ops_memory.specs.Costs.{probes_of, charged, IsAfforded};
 ghost use Rattle.ops_print.specs.Rows as print;
 ghost use Rattle.ops_print.specs.Items.{printed, is_put};
 ghost use Rattle.gx_machine.specs.declared.askings.Asking.TheVariants as asking;
@@ -251,6 +251,7 @@ fn row<A: Allocator + Clone>(
     ensures pends { OnOk result (IfSome pending.new (IsPending state.new.flat)) }
     ensures stays { OnErr result (pending.new ≡ None) }
     ensures spent { IfOk result (λ effect. effect ≡ Spent → left.old < probes_of (instruction_of plan.now).row.class state.old.flat (instruction_of plan.now)) }
+    ensures affords { IfErr result (IsAfforded left.old (probes_of (instruction_of plan.now).row.class state.old.flat (instruction_of plan.now))) }
     ensures story { state.new.flat.story ≡ state.old.flat.story }
     ensures copies { AreCopiesFor state.new.flat.story undo.new.copies }
 {
@@ -284,6 +285,7 @@ pub(crate) fn run<A: Allocator + Clone>(
     ensures pends { OnOk result (IfSome pending.new (IsPending state.new.flat)) }
     ensures stays { OnErr result (pending.new ≡ None) }
     ensures spent { IfOk result (λ effect. effect ≡ Spent → left.old < probes_in state.old.flat Running) }
+    ensures affords { IfErr result (IsAfforded left.old (probes_in state.old.flat Running)) }
     ensures copies { AreCopiesFor state.new.flat.story undo.new.copies }
 {
     decode_into(state, plan)?;

@@ -8,7 +8,7 @@ ghost use Rattle.gx_words.specs.declared.faults.Fault.TheVariants.{BadOpcode};
 ghost use Rattle.gx_words.specs.Numbers.{IsWidth, extended};
 ghost use Rattle.gx_words.specs.Faults.{Reads};
 ghost use Rattle.gx_pages.specs.Memory.{number_in};
-ghost use Rattle.gx_rows.specs.Table.{row_of, row_at, RowFits};
+ghost use Rattle.gx_rows.specs.Table.{row_count, row_of, row_at, RowFits};
 ghost use Rattle.gx_state.specs.Flat.{IsHeight, sp_of};
 ghost use Rattle.gx_operands.specs.Instructions.{opcode, addressing, HasWidth, HasValues, past, datum, load_by, load, destination_by, destination, with_operand, kind_of, nibble, operand, operands, all_operands, instruction};
 ghost use Rattle.gx_operands.specs.Plans.{operands_of, instruction_of};
@@ -446,7 +446,7 @@ fn all_operands<A: Allocator + Clone>(
 #[inline(always)]
 pub fn find_row(number: u32) -> Result<usize, Fault>
     ensures row { Reads row_at result (ok_or (row_of number) BadOpcode) }
-    ensures place { IfOk result (λ place. place < 87) }
+    ensures place { IfOk result (λ place. place < row_count) }
     ensures fits { IfOk result (λ place. RowFits (row_at place)) }
 {
     match place_of(number) {

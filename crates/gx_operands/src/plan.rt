@@ -1,6 +1,7 @@
 //! An instruction that was read.
 ghost use Rattle.std.specs.Prelude.{◌≡◌, ◌+◌, ◌<◌, []};
 ghost use Rattle.arrayvec.specs.ArrayVec.{array_vec_len};
+ghost use Rattle.gx_rows.specs.Table.{row_count};
 
 use crate::Cursor;
 use arrayvec::ArrayVec;
@@ -23,7 +24,7 @@ pub struct Plan {
     pub(crate) popped: u32,
     /// Whether the destination of a store was read.
     pub(crate) stored: bool,
-    pub ghost in_table: { row < 87 },
+    pub ghost in_table: { row < row_count },
 }
 
 impl Plan {
@@ -110,7 +111,6 @@ impl Plan {
     }
 
     /// Its row of the table.
-    #[tactic(auto, using(crate::proofs::Shapes::fits_at))]
     #[inline(always)]
     pub fn row(&self) -> &'static Row
         ensures value { result.now ≡ (instruction_of self.now).row }

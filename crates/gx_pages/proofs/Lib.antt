@@ -1,3 +1,4 @@
 mod PutBack
 mod Splice
-mod Chunks
+mod Flat
+mod Top

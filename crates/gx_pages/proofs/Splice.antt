@@ -1,8 +1,9 @@
 -- Bytes written over a part of a list.
-use Rattle.std.proofs.Common.{◌≡◌, ◌⊎◌, ℕ, ◌+◌, ◌-◌, ◌<◌, ◌≤◌, List, [], ◌++◌, length, take, drop, get_or, sym, refl, ap, ◌∙◌, arith, zero-add, replicate, append_assoc, length-append, length-take, length-drop}
-use Rattle.std.proofs.lemmas.List.{take-append-le, drop-append-le, drop-drop, drop-replicate, drop_all, take-take, take-append-drop, length-replicate, append-nil, replicate-append-replicate}
+use Rattle.std.proofs.Common.{◌≡◌, ◌⊎◌, inl, inr, ℕ, ◌+◌, ◌-◌, ◌<◌, ◌≤◌, List, [], ◌++◌, length, take, drop, get_or, sym, refl, ap, ◌∙◌, arith, zero-add, replicate, append_assoc, length-append, length-take, length-drop}
+use Rattle.std.proofs.lemmas.List.{take-append-le, drop-append-le, drop-drop, drop-take, drop_all, length-take-le, take-take, take-append-drop, length-replicate, append-nil, replicate-append-replicate}
 use Rattle.std.proofs.Math.Seq.{take-append-add, drop-append-add, take-add}
-use Rattle.std.proofs.lemmas.List.{take_at, get_or_append_left, get_or-append_right, get_or-take, get_or-drop}
+use Rattle.std.proofs.lemmas.List.{take_at, get_or_append_left, get_or-append_right, get_or-take, get_or-drop, get_or_past, get_or-replicate}
+use Rattle.std.proofs.lemmas.Bool.{cases_lt}
 use Rattle.gx_words.specs.Numbers.{spliced}
 use Rattle.gx_pages.specs.Memory.{put_back_of}
 use Rattle.gx_pages.proofs.PutBack.{put_back_from}
@@ -10,6 +11,9 @@ use Rattle.gx_pages.proofs.PutBack.{put_back_from}
 pub length-spliced : (xs ys : List ℕ) (at : ℕ) → at + length ys ≤ length xs → length (spliced xs at ys) ≡ length xs
 length-spliced xs ys at h =
     simp (length-append, length-take, length-drop) (omega arith)
+
+pub take_before : (xs ys : List ℕ) (at : ℕ) → at ≤ length xs → take at (spliced xs at ys) ≡ take at xs
+take_before xs ys at h = take_at (take at xs) (ys ++ drop (at + length ys) xs) at (length-take-le at xs h)
 
 -- a write that ends before the second list
 pub spliced_front : (xs zs ys : List ℕ) (k : ℕ) → k + length ys ≤ length xs → spliced (xs ++ zs) k ys ≡ spliced xs k ys ++ zs
@@ -32,14 +36,50 @@ spliced_more xs ys zs at n e h =
     let d : drop (at + length (ys ++ zs)) xs ≡ drop (0 + length zs) (drop (at + length ys) xs) = ap (λ k. drop k xs) m ∙ sym (drop-drop (0 + length zs) (at + length ys) xs) in
     rw t (spliced_back (take at xs ++ ys) (drop (at + length ys) xs) zs 0 n l ∙ rw d (simp append_assoc))
 
+-- one write at the end of a list, and another at the start of the next
+pub spliced_pair : (xs ys es ss : List ℕ) (at : ℕ) → at + length es ≡ length xs → length ss ≤ length ys → spliced xs at es ++ spliced ys 0 ss ≡ spliced (xs ++ ys) at (es ++ ss)
+spliced_pair xs ys es ss at end few =
+    let l : length (spliced xs at es) ≡ length xs = length-spliced xs es at (omega arith) in
+    let m : length (xs ++ ys) ≡ length xs + length ys = length-append xs ys in
+    sym (spliced_back (spliced xs at es) ys ss 0 (length xs) (omega arith))
+    ∙ ap (λ u. spliced u (length xs) ss) (sym (spliced_front xs ys es at (omega arith)))
+    ∙ spliced_more (xs ++ ys) es ss at (length xs) (omega arith) (omega arith)
+
+-- a window that ends before a cut
+pub window_cut : (xs : List ℕ) (from k size : ℕ) → from + k ≤ size → take k (drop from (take size xs)) ≡ take k (drop from xs)
+window_cut xs from k size h =
+    let e : size ≡ from + (size - from) = omega arith in
+    ap (λ m. take k (drop from (take m xs))) e
+    ∙ ap (take k) (drop-take from (size - from) xs)
+    ∙ take-take k (size - from) (drop from xs) (omega arith)
+
+-- a window of a window
+drop_taken : (zs : List ℕ) (from k d n : ℕ) → d + n ≤ k → take n (drop d (take k (drop from zs))) ≡ take n (drop (from + d) zs)
+drop_taken zs from k d n h =
+    let e : k ≡ d + (k - d) = omega arith in
+    ap (λ m. take n (drop d (take m (drop from zs)))) e
+    ∙ ap (take n) (drop-take d (k - d) (drop from zs))
+    ∙ take-take n (k - d) (drop d (drop from zs)) (omega arith)
+    ∙ ap (take n) (drop-drop d from zs)
+
 -- a loop that writes ys piece by piece
 pub spliced_step : (xs ts ys : List ℕ) (at done n m : ℕ) → at + length ys ≤ length xs → done + n ≤ length ys → m ≡ n → ts ≡ spliced xs at (take done ys) → spliced ts (at + done) (take m (drop done ys)) ≡ spliced xs at (take (done + n) ys)
 spliced_step xs ts ys at done n m h k e t =
     let l : length (take done ys) ≡ done = simp length-take (omega arith) in
     rw (t, e, take-add done n ys) (spliced_more xs (take done ys) (take n (drop done ys)) at (at + done) (omega arith) (omega arith))
 
-pub spliced_zeros : (m : ℕ) (ys : List ℕ) → spliced (replicate m 0) 0 ys ≡ ys ++ replicate (m - length ys) 0
-spliced_zeros m ys = rw (zero-add (length ys), drop-replicate {X = ℕ} (length ys) m 0) refl
+-- a loop that takes the bytes of zs from one address up to another, piece by piece
+pub taken_step : (xs ts zs : List ℕ) (from end at n : ℕ) → end ≤ length xs → end ≤ length zs → from ≤ at → at + n ≤ end → ts ≡ spliced xs from (take (at - from) (take (end - from) (drop from zs))) → spliced ts at (take n (drop at zs)) ≡ spliced xs from (take (at + n - from) (take (end - from) (drop from zs)))
+taken_step xs ts zs from end at n h k l m made =
+    let ys = take (end - from) (drop from zs) in
+    let d = at - from in
+    let len : length ys ≡ end - from = simp (length-take, length-drop) (omega arith) in
+    let here : from + d ≡ at = omega arith in
+    let there : at + n - from ≡ d + n = omega arith in
+    let piece : take n (drop d ys) ≡ take n (drop at zs) = drop_taken zs from (end - from) d n (omega arith) ∙ ap (λ k. take n (drop k zs)) here in
+    ap (λ ps. spliced ts at ps) (sym piece) ∙ ap (λ k. spliced ts k (take n (drop d ys))) (sym here)
+    ∙ spliced_step xs ts ys from d n n (omega arith) (omega arith) refl made
+    ∙ ap (λ k. spliced xs from (take k ys)) (sym there)
 
 pub get_or-spliced_below : (xs ys : List ℕ) (at k : ℕ) → at + length ys ≤ length xs → k < at → get_or (spliced xs at ys) k 0 ≡ get_or xs k 0
 get_or-spliced_below xs ys at k h l =
@@ -111,6 +151,19 @@ put_back_spliced now kept ys from n count h l c e b =
     (λ k i. get_or-spliced_below kept ys from k (omega arith) i)
     (λ k i. get_or-spliced_above kept ys from k (omega arith) (omega arith))
 
+-- the bytes of a list from an address on, with 0 where it doesn't reach
+pub present_at : (zs : List ℕ) (from a m k : ℕ) → length (take a (drop from zs)) ≡ a → (0 < m → length zs ≤ from + a) → k < a + m → get_or (take a (drop from zs) ++ replicate m 0) k 0 ≡ get_or zs (from + k) 0
+present_at zs from a m k len past h =
+    elim (cases_lt k a) [
+      | inl below ↦
+          get_or_append_left (take a (drop from zs)) (replicate m 0) 0 k (omega arith) ∙ get_or-take a (drop from zs) k 0 below ∙ get_or-drop from zs k 0
+      | inr above ↦
+          let end : length zs ≤ from + a = past (omega arith) in
+          get_or-append_right (take a (drop from zs)) (replicate m 0) a k 0 len above
+          ∙ get_or-replicate {A = ℕ} m (k - a) 0 0 (omega arith)
+          ∙ sym (get_or_past zs (from + k) 0 (omega arith))
+    ]
+
 -- a slice that is filled piece by piece
 pub copy_step : (to all piece : List ℕ) (done n : ℕ) → done + n ≤ length to → length piece ≡ n → piece ≡ take n (drop done all) → take done to ≡ take done all → take (done + n) (spliced to done piece) ≡ take (done + n) all
 copy_step to all piece done n h l e made =
@@ -119,3 +172,18 @@ copy_step to all piece done n h l e made =
     ap (take (done + n)) (sym (append_assoc (take done to) piece (drop (done + length piece) to)))
     ∙ take_at (take done to ++ piece) (drop (done + length piece) to) (done + n) (sym f)
     ∙ ap (λ u. u ++ piece) made ∙ ap (λ u. take done all ++ u) e ∙ sym (take-add done n all)
+
+-- the bytes of `now` up to its end over a part of `kept`, and zeros from there on
+pub present_put : (now kept t new : List ℕ) (from there end count : ℕ) → from ≤ there → there ≤ end → end ≤ length kept → end ≤ from + count → (end ≡ from + count) ⊎ (end ≡ length kept) → (from ≡ there) ⊎ (there ≤ length now) → (there ≡ end) ⊎ (length now ≤ there) → t ≡ spliced kept from (take (there - from) (drop from now)) → new ≡ spliced t there (replicate (end - there) 0) → new ≡ put_back_of now kept from count
+present_put now kept t new from there end count h i j k until reach past made cleared =
+    let a = there - from in
+    let m = end - there in
+    let xs = take a (drop from now) in
+    let zs : List ℕ = replicate m 0 in
+    let len : length xs ≡ a = simp (length-take, length-drop) (omega arith) in
+    let none : length zs ≡ m = length-replicate {A = ℕ} m 0 in
+    let all : length (xs ++ zs) ≡ end - from = omega (arith, length-append xs zs) in
+    cleared ∙ ap (λ u. spliced u there zs) made
+    ∙ spliced_more kept xs zs from there (omega arith) (omega arith)
+    ∙ put_back_spliced now kept (xs ++ zs) from (end - from) count (omega arith) all (omega arith) (grind arith)
+    (λ p l. present_at now from a m p len (λ some. omega arith) (omega arith))

@@ -1,27 +1,18 @@
--- Chunks of one size as one list of bytes: pages as a group, groups as a leaf, and leaves as memory.
-use Rattle.std.specs.Prelude.{◌≡◌, ℕ, ◌+◌, ◌*◌, ◌<◌, ◌≤◌, List, [], ◌∷◌, ◌++◌, length}
+-- Chunks of memory in order, each known by a function that gives its bytes and by what it is to be whole.
+use Rattle.std.specs.Prelude.{◌≡◌, ℕ, List, [], ◌∷◌, ◌++◌, length}
 use Rattle.std.specs.declared.rc.Rc.{Rc}
-use Rattle.gx_pages.specs.Memory.{IsSize}
 
--- each chunk has n bytes
-abbrev pub AllChunks : {Z : Type 0} → ℕ → List (Rc (List ℕ) Z) → Type 0
-AllChunks n [] = Unit {0}
-AllChunks n (c ∷ cs) = (length c.value ≡ n) × AllChunks n cs
+-- each chunk is whole
+abbrev pub AllWhole : {C Z : Type 0} → (C → Type 0) → List (Rc C Z) → Type 0
+AllWhole IsWhole [] = Unit {0}
+AllWhole IsWhole (c ∷ cs) = IsWhole c.value × AllWhole IsWhole cs
 
 -- the bytes of the chunks, in order
-abbrev pub flat : {Z : Type 0} → List (Rc (List ℕ) Z) → List ℕ
-flat [] = []
-flat (c ∷ cs) = c.value ++ flat cs
+abbrev pub flat : {C Z : Type 0} → (C → List ℕ) → List (Rc C Z) → List ℕ
+flat bytes_of [] = []
+flat bytes_of (c ∷ cs) = bytes_of c.value ++ flat bytes_of cs
 
--- 16 chunks of n bytes
-pub record AreSixteen {Z : Type 0} (n : ℕ) (chunks : List (Rc (List ℕ) Z)) : Type 0 where
-  pub whole : AllChunks n chunks
+-- 16 whole chunks
+pub record AreSixteen {C Z : Type 0} (IsWhole : C → Type 0) (chunks : List (Rc C Z)) : Type 0 where
+  pub whole : AllWhole IsWhole chunks
   pub count : length chunks ≡ 16
-
--- as many leaves of 256 pages as reach to the size of memory
-pub record IsTop {Z : Type 0} (leaves : List (Rc (List ℕ) Z)) (size : ℕ) : Type 0 where
-  pub whole : AllChunks 65536 leaves
-  pub few : length leaves ≤ 1024
-  pub reach : size ≤ 65536 * length leaves
-  pub tight : 65536 * length leaves < size + 65536
-  pub sized : IsSize size

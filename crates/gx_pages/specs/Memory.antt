@@ -3,7 +3,7 @@
 -- An address is a place in the list, and a size is the list's length.
 use Rattle.std.specs.Prelude.{◌≡◌, ◌⊎◌, ℕ, ◌+◌, ◌-◌, ◌%◌, ◌<◌, ◌≤◌, ◌&&◌, nat_lt, nat_le, if◌then◌else◌, List, [], ◌∷◌, ◌++◌, length, take, map, slice_index, replicate, Result, Ok, Err}
 use Rattle.std.specs.List.{range_with_len}
-use Rattle.gx_words.specs.declared.limits.TheConstants.{CEILING}
+use Rattle.gx_words.specs.Constants.{ceiling}
 use Rattle.gx_words.specs.Numbers.{number, spliced}
 use Rattle.gx_words.specs.declared.faults.Fault.{Fault}
 use Rattle.gx_words.specs.declared.faults.Fault.TheVariants.{BadAddress}
@@ -11,7 +11,7 @@ use Rattle.gx_words.specs.declared.faults.Fault.TheVariants.{BadAddress}
 -- memory is whole pages of 256 bytes, up to the ceiling
 pub record IsSize (size : ℕ) : Type 0 where
   pub whole : size % 256 ≡ 0
-  pub capped : size ≤ CEILING
+  pub capped : size ≤ ceiling
 
 -- so many bytes from an address on lie in memory; where they are none, any address will do
 abbrev pub IsInside : ℕ → ℕ → ℕ → Type 0

@@ -3,20 +3,20 @@
 //! Each call is its definition of specs/Memory over one list of bytes. Sizes and addresses count
 //! bytes; a size is a multiple of 256, at most `CEILING`. Calls that read and `cut` take no memory.
 //!
-//! A write inside one page changes that page in place, once it is memory's own. A call that writes more
-//! goes to another table of the same leaves and takes that once all is written. Pages of zeros are one
-//! page (there is none in memory that has no zeros to share it), and a write of what is there already
-//! leaves a page as shared as it was.
-ghost use Rattle.std.specs.Prelude.{◌≡◌, ◌⊎◌, ℕ, true, ◌+◌, ◌-◌, ◌%◌, ◌<◌, ◌≤◌, ◌^◌, ◌++◌, length, take, drop, slice_index, replicate, IfOk, OnOk, OnErr};
+//! A write inside one page changes that page in place, once it is memory's own. One write over several pages
+//! goes to a copy of the least group, leaf or table that has them all, and a call that makes several goes to
+//! another table of the same leaves; that is taken once all is written. Pages of zeros are one page (there is
+//! none in memory that has no zeros to share it), and a write of what is there already inside one page leaves
+//! it as shared as it was.
+ghost use Rattle.std.specs.Prelude.{◌≡◌, ◌⊎◌, ℕ, true, ◌+◌, ◌-◌, ◌%◌, ◌<◌, ◌≤◌, ◌^◌, ◌++◌, length, take, drop, replicate, IfOk, OnOk, OnErr};
 ghost use Rattle.gx_words.specs.Numbers.{IsWidth, byte, half, word, number, spliced};
 ghost use Rattle.gx_words.specs.Faults.{Reads};
-ghost use Rattle.gx_words.specs.declared.limits.TheConstants.{CEILING};
+ghost use Rattle.gx_words.specs.Constants.{ceiling};
 ghost use Rattle.gx_pages.specs.Memory.{IsSize, IsInside, AreInside, HasBytes, number_in, all_spliced, resized, put_back_of};
 
-use crate::group::{Page, has_zero_page, page_of, zero_of, zero_page, zeros};
-use crate::ranges::{
-    add_to, clear, copy_out, copy_there, has_bytes, has_whole_page, put, put_each,
-};
+use crate::chunk::Page;
+use crate::page::{has_zero_page, page_of, zero_of, zero_page, zeros};
+use crate::ranges::{add_to, copy_out, has_bytes, has_whole_page, put_each, take_over};
 use crate::table::Table;
 use gx_words::{Bytes, Fault, Writes, half_at, word_at};
 use std::alloc::{AllocError, Allocator, Global};
@@ -76,7 +76,7 @@ impl<A: Allocator> Pages<A> {
         requires { at < length self.now }
         ensures value { result.now ≡ take (256 - at % 256) (drop at self.now) }
         ensures len { length result.now ≡ 256 - at % 256 }
-        ensures low { at < CEILING }
+        ensures low { at < ceiling }
     {
         self.table.rest_of_page(at as usize)
     }
@@ -142,7 +142,7 @@ impl<A: Allocator> Pages<A> {
         requires { IsWidth width }
         ensures value { Reads (λ v. v) result (number_in width self.now at) }
         ensures there { OnOk result (at + width ≤ length self.now) }
-        ensures low { OnOk result (at + width ≤ CEILING) }
+        ensures low { OnOk result (at + width ≤ ceiling) }
         ensures fits { IfOk result (λ v. v < 256 ^ width) }
     {
         if u64::from(at) + u64::from(width) <= u64::from(self.size()) {
@@ -193,7 +193,7 @@ impl<A: Allocator + Clone> Pages<A> {
         }
         let common = zero_page(pages)?;
         let mut table = Table::filled(alloc, &common, size)?;
-        put(&mut table, &common, 0, bytes)?;
+        table.put(&common, 0, bytes)?;
         Ok(Pages { table, common })
     }
 
@@ -205,7 +205,7 @@ impl<A: Allocator + Clone> Pages<A> {
     {
         let common = page_of(pages, &bytes[..256])?;
         let mut table = Table::filled(alloc, &common, bytes.len() as u32)?;
-        put(&mut table, &common, 0, bytes)?;
+        table.put(&common, 0, bytes)?;
         Ok(Pages { table, common })
     }
 
@@ -224,10 +224,7 @@ impl<A: Allocator + Clone> Pages<A> {
         if at as usize % 256 + bytes.len() <= 256 {
             return self.table.write(&self.common, at as usize, bytes);
         }
-        let mut table = self.table.share()?;
-        put(&mut table, &self.common, at, bytes)?;
-        self.table = table;
-        Ok(())
+        self.table.write_across(&self.common, at as usize, bytes)
     }
 
     /// Makes each write, the first of them first.
@@ -240,6 +237,9 @@ impl<A: Allocator + Clone> Pages<A> {
     {
         if !has_bytes(writes.as_slice()) {
             return Ok(());
+        }
+        if let [one] = writes.as_slice() {
+            return self.write(one.0, one.1.as_slice());
         }
         let mut table = self.table.share()?;
         put_each(&mut table, &self.common, writes.as_slice())?;
@@ -264,9 +264,12 @@ impl<A: Allocator + Clone> Pages<A> {
         if !has_bytes(writes.as_slice()) {
             return self.write(at, bytes);
         }
+        if bytes.is_empty() {
+            return self.write_all(writes);
+        }
         let mut table = self.table.share()?;
         put_each(&mut table, &self.common, writes.as_slice())?;
-        put(&mut table, &self.common, at, bytes)?;
+        table.put(&self.common, at as usize, bytes)?;
         self.table = table;
         Ok(())
     }
@@ -289,9 +292,12 @@ impl<A: Allocator + Clone> Pages<A> {
         if bytes.is_empty() {
             return self.write(then, others);
         }
+        if others.is_empty() {
+            return self.write(at, bytes);
+        }
         let mut table = self.table.share()?;
-        put(&mut table, &self.common, at, bytes)?;
-        put(&mut table, &self.common, then, others)?;
+        table.put(&self.common, at as usize, bytes)?;
+        table.put(&self.common, then as usize, others)?;
         self.table = table;
         Ok(())
     }
@@ -304,7 +310,7 @@ impl<A: Allocator + Clone> Pages<A> {
         ensures size { length self.new ≡ length self.old }
         ensures memory { OnErr result (0 < count) }
     {
-        if count <= 256 - at % 256 {
+        if count <= 256 {
             return self.write(at, zeros(count as usize));
         }
         let mut table = self.table.share()?;
@@ -313,7 +319,7 @@ impl<A: Allocator + Clone> Pages<A> {
         } else {
             self.common.clone()?
         };
-        clear(&mut table, &common, at, count)?;
+        table.clear(&common, at as usize, count as usize)?;
         self.table = table;
         self.common = common;
         Ok(())
@@ -363,7 +369,8 @@ impl<A: Allocator + Clone> Pages<A> {
 
     /// Memory at this time, whatever is written later.
     pub fn keep(&self) -> Result<Kept<A>, AllocError>
-        ensures { IfOk result (λ kept. kept ≡ self.now) }
+        ensures value { IfOk result (λ kept. kept ≡ self.now) }
+        ensures memory { OnErr result (0 < length self.now) }
     {
         Ok(Kept {
             table: self.table.share()?,
@@ -405,9 +412,8 @@ impl<A: Allocator + Clone> Pages<A> {
         let common = self.common_for(bytes, size)?;
         let mut table = self.table.share()?;
         table.resize(&common, size)?;
-        put(&mut table, &common, 0, bytes)?;
-        let end = bytes.len() as u32;
-        clear(&mut table, &common, end, size - end)?;
+        table.put(&common, 0, bytes)?;
+        table.clear(&common, bytes.len(), size as usize - bytes.len())?;
         self.keep_present(&mut table, skip)?;
         Ok(Pages { table, common })
     }
@@ -424,7 +430,8 @@ impl<A: Allocator + Clone> Pages<A> {
         zero_of(&self.common)
     }
 
-    /// Gives another table the bytes that are there now at `skip.1` addresses from `skip.0` on.
+    /// Gives another table the bytes that are there now at `skip.1` addresses from `skip.0` on, and 0 where memory
+    /// doesn't reach.
     fn keep_present(&self, table: &mut Table<A>, skip: (u32, u32)) -> Result<(), AllocError>
         ensures value { OnOk result (table.new ≡ put_back_of self.now table.old skip.0 skip.1) }
         ensures all_back { skip.1 ≡ 0 → OnOk result (table.new ≡ table.old) }
@@ -435,19 +442,9 @@ impl<A: Allocator + Clone> Pages<A> {
         if end <= from {
             return Ok(());
         }
-        let bytes = self.present(skip.0, end - from)?;
-        put(table, &self.common, skip.0, bytes.as_slice())
-    }
-
-    /// The `count` bytes from `from` on, with 0 where memory doesn't reach.
-    fn present(&self, from: u32, count: usize) -> Result<Vec<u8>, AllocError>
-        requires { from + count < 2 ^ 32 }
-        ensures count { IfOk result (λ bytes. length bytes.items ≡ count) }
-        ensures value { IfOk result (λ bytes. (k : ℕ) → k < count → slice_index bytes.items k ≡ slice_index self.now (from + k)) }
-    {
-        let mut bytes = Vec::from_elem(self.table.allocator(), 0, count)?;
-        copy_there(&self.table, from, bytes.as_mut_slice());
-        Ok(bytes)
+        let there = end.min(self.table.size() as usize).max(from);
+        take_over(table, &self.common, &self.table, from, there)?;
+        table.clear(&self.common, there, end - there)
     }
 }
 

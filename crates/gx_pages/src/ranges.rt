@@ -2,46 +2,14 @@
 //!
 //! A call that is refused may have written a part: a caller that has to leave memory as it was
 //! writes to another table of the same leaves, and takes that once all is written.
-ghost use Rattle.std.specs.Prelude.{◌≡◌, ℕ, List, true, false, ◌%◌, ◌+◌, ◌<◌, ◌≤◌, ◌++◌, length, take, drop, slice_index, replicate, OnOk, OnErr};
+ghost use Rattle.std.specs.Prelude.{◌≡◌, ℕ, List, true, false, ◌%◌, ◌+◌, ◌-◌, ◌<◌, ◌≤◌, ◌++◌, length, take, drop, OnOk, OnErr};
 ghost use Rattle.gx_words.specs.Numbers.{spliced};
 ghost use Rattle.gx_pages.specs.Memory.{IsInside, AreInside, HasBytes, all_spliced};
 
-use crate::group::{Page, zeros};
+use crate::chunk::{Page, in_one_page};
 use crate::table::Table;
 use gx_words::{Bytes, splice};
 use std::alloc::{AllocError, Allocator};
-
-/// How many of `count` bytes from `at` on lie in the page of the first.
-fn in_one_page(at: usize, count: usize) -> usize
-    requires { 0 < count }
-    ensures some { 0 < result }
-    ensures within { result ≤ count }
-    ensures page { at % 256 + result ≤ 256 }
-{
-    (256 - at % 256).min(count)
-}
-
-/// Puts bytes over those from `at` on, page by page.
-#[inline(never)]
-pub fn put<A: Allocator + Clone>(
-    table: &mut Table<A>,
-    common: &Page<A>,
-    at: u32,
-    bytes: &[u8],
-) -> Result<(), AllocError>
-    requires inside { IsInside at (length bytes.now) (length table.old) }
-    ensures ok { OnOk result (table.new ≡ spliced table.old at bytes.now) }
-    ensures size { length table.new ≡ length table.old }
-{
-    let mut done = 0;
-    while done < bytes.len() {
-        let place = at as usize + done;
-        let count = in_one_page(place, bytes.len() - done);
-        table.write(common, place, &bytes[done..done + count])?;
-        done += count;
-    }
-    Ok(())
-}
 
 /// Makes each write, the first of them first.
 pub fn put_each<A: Allocator + Clone>(
@@ -54,7 +22,7 @@ pub fn put_each<A: Allocator + Clone>(
     ensures size { length table.new ≡ length table.old }
 {
     for write in writes {
-        put(table, common, write.0, write.1.as_slice())?;
+        table.put(common, write.0 as usize, write.1.as_slice())?;
     }
     Ok(())
 }
@@ -65,25 +33,63 @@ pub fn has_whole_page(at: u32, count: u32) -> bool {
     count >= before + 256
 }
 
-/// Puts zeros over `count` bytes from `at` on, page by page.
-pub fn clear<A: Allocator + Clone>(
+/// Takes the bytes of another table from `from` up to `end`: whole pages by sharing them, and what is left at
+/// both ends by writing it.
+pub fn take_over<A: Allocator + Clone>(
     table: &mut Table<A>,
     common: &Page<A>,
-    at: u32,
-    count: u32,
+    other: &Table<A>,
+    from: usize,
+    end: usize,
 ) -> Result<(), AllocError>
-    requires inside { IsInside at count (length table.old) }
-    ensures ok { OnOk result (table.new ≡ spliced table.old at (replicate count 0)) }
+    requires order { from ≤ end }
+    requires inside { end ≤ length table.old }
+    requires there { from < end → end ≤ length other.now }
+    ensures ok { OnOk result (table.new ≡ spliced table.old from (take (end - from) (drop from other.now))) }
     ensures size { length table.new ≡ length table.old }
 {
-    let mut done = 0;
-    while done < count as usize {
-        let place = at as usize + done;
-        let piece = in_one_page(place, count as usize - done);
-        table.write(common, place, zeros(piece))?;
-        done += piece;
+    let mut at = from;
+    while at < end {
+        let next = at + whole_pages_or_less(at, end - at);
+        take_piece(table, common, other, at, next)?;
+        at = next;
     }
     Ok(())
+}
+
+/// How many of `count` bytes from `at` on lie in whole pages, or in the page of the first if that isn't whole.
+fn whole_pages_or_less(at: usize, count: usize) -> usize
+    requires { 0 < count }
+    ensures some { 0 < result }
+    ensures within { result ≤ count }
+    ensures page { result < 256 → at % 256 + result ≤ 256 }
+{
+    if at % 256 == 0 && count >= 256 {
+        return count - count % 256;
+    }
+    in_one_page(at, count)
+}
+
+/// Takes the bytes of another table from `from` up to `end`, which are whole pages or lie in one page.
+fn take_piece<A: Allocator + Clone>(
+    table: &mut Table<A>,
+    common: &Page<A>,
+    other: &Table<A>,
+    from: usize,
+    end: usize,
+) -> Result<(), AllocError>
+    requires some { from < end }
+    requires page { end < from + 256 → from % 256 + (end - from) ≤ 256 }
+    requires inside { end ≤ length table.old }
+    requires there { end ≤ length other.now }
+    ensures ok { OnOk result (table.new ≡ spliced table.old from (take (end - from) (drop from other.now))) }
+    ensures size { length table.new ≡ length table.old }
+{
+    let count = end - from;
+    if count < 256 {
+        return table.write(common, from, &other.rest_of_page(from)[..count]);
+    }
+    table.take_from(other, from, end)
 }
 
 /// Adds all bytes to a list. After a refusal a part of them may be there.
@@ -111,16 +117,6 @@ pub fn copy_out<A: Allocator>(table: &Table<A>, from: u32, to: &mut [u8])
         splice(to, done, &table.rest_of_page(place)[..count]);
         done += count;
     }
-}
-
-/// Fills a slice with the bytes from `from` on, as far as there are any; the rest of it stays.
-pub fn copy_there<A: Allocator>(table: &Table<A>, from: u32, to: &mut [u8])
-    ensures there { (k : ℕ) → k < length to.old → from + k < length table.now → slice_index to.new k ≡ slice_index table.now (from + k) }
-    ensures past { (k : ℕ) → length table.now ≤ from + k → slice_index to.new k ≡ slice_index to.old k }
-    ensures len { length to.new ≡ length to.old }
-{
-    let count = to.len().min(table.size().saturating_sub(from) as usize);
-    copy_out(table, from, &mut to[..count]);
 }
 
 /// Whether some write has a byte. Where none has, the writes change nothing.

@@ -12,14 +12,14 @@ words rest = codes "gx_player" ∷ rest
 
 -- a story that is played as usual
 abbrev usual : Text → Command
-usual story = record { story = story; steps = 1000000000000000; columns = 80; rows = 24; echo = false; job = Play }
+usual story = record { story = story; steps = 1000000000000000; columns = 80; rows = 24; undo = 16; seed = None; echo = false; job = Play }
 
 story-alone : command_of (words (codes "hall.ulx" ∷ [])) ≡ Some (usual (codes "hall.ulx"))
 unfolding clap_on_literals command_of faults_of found_in player
 story-alone = refl
 
-all-options : command_of (words (codes "--steps" ∷ codes "0011" ∷ codes "--echo" ∷ codes "7" ∷ codes "--rows" ∷ codes "1" ∷ codes "--columns=255" ∷ codes "--job=work" ∷ []))
-    ≡ Some (record { story = codes "7"; steps = 11; columns = 255; rows = 1; echo = true; job = Work 7 })
+all-options : command_of (words (codes "--steps" ∷ codes "0011" ∷ codes "--echo" ∷ codes "7" ∷ codes "--seed=5" ∷ codes "--rows" ∷ codes "1" ∷ codes "--undo" ∷ codes "064" ∷ codes "--columns=255" ∷ codes "--job=work" ∷ []))
+    ≡ Some (record { story = codes "7"; steps = 11; columns = 255; rows = 1; undo = 64; seed = Some 5; echo = true; job = Work 7 })
 unfolding clap_on_literals command_of faults_of found_in player
 all-options = refl
 
@@ -42,6 +42,30 @@ a-sign = refl
 no-columns : command_of (words (codes "hall.ulx" ∷ codes "--columns" ∷ codes "0" ∷ [])) ≡ None
 unfolding clap_on_literals command_of faults_of found_in player
 no-columns = refl
+
+no-undo : command_of (words (codes "hall.ulx" ∷ codes "--undo" ∷ codes "0" ∷ [])) ≡ None
+unfolding clap_on_literals command_of faults_of found_in player
+no-undo = refl
+
+least-undo : command_of (words (codes "hall.ulx" ∷ codes "--undo=1" ∷ [])) ≡ Some (record (usual (codes "hall.ulx")) { undo = 1 })
+unfolding clap_on_literals command_of faults_of found_in player
+least-undo = refl
+
+too-much-undo : command_of (words (codes "hall.ulx" ∷ codes "--undo" ∷ codes "65" ∷ [])) ≡ None
+unfolding clap_on_literals command_of faults_of found_in player
+too-much-undo = refl
+
+least-seed : command_of (words (codes "hall.ulx" ∷ codes "--seed" ∷ codes "0" ∷ [])) ≡ Some (record (usual (codes "hall.ulx")) { seed = Some 0 })
+unfolding clap_on_literals command_of faults_of found_in player
+least-seed = refl
+
+too-large-a-seed : command_of (words (codes "hall.ulx" ∷ codes "--seed" ∷ codes "18446744073709551616" ∷ [])) ≡ None
+unfolding clap_on_literals command_of faults_of found_in player
+too-large-a-seed = refl
+
+no-seed : command_of (words (codes "hall.ulx" ∷ codes "--seed" ∷ codes "x" ∷ [])) ≡ None
+unfolding clap_on_literals command_of faults_of found_in player
+no-seed = refl
 
 a-word-that-isn't-an-option : command_of (words (codes "--" ∷ codes "--echo" ∷ [])) ≡ Some (usual (codes "--echo"))
 unfolding clap_on_literals command_of faults_of found_in player
@@ -67,6 +91,14 @@ other-job = refl
 steps-in-check : command_of (words (codes "hall.ulx" ∷ codes "--job=check" ∷ codes "--steps=x" ∷ [])) ≡ None
 unfolding clap_on_literals command_of faults_of found_in player
 steps-in-check = refl
+
+undo-in-check : command_of (words (codes "hall.ulx" ∷ codes "--job=check" ∷ codes "--undo=65" ∷ [])) ≡ None
+unfolding clap_on_literals command_of faults_of found_in player
+undo-in-check = refl
+
+seed-in-work : command_of (words (codes "7" ∷ codes "--job=work" ∷ codes "--seed=" ∷ [])) ≡ None
+unfolding clap_on_literals command_of faults_of found_in player
+seed-in-work = refl
 
 -- why other words have no matches
 repeated : faults_of (words (codes "hall.ulx" ∷ codes "--echo" ∷ codes "--echo" ∷ [])) ≡ kind.ArgumentConflict ∷ []

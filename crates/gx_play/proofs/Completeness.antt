@@ -5,18 +5,18 @@ use Rattle.gx_outside.specs.Outside.{FlatShelf, FlatSink}
 use Rattle.gx_story.specs.Stories.{FlatStory}
 use Rattle.gx_machine.specs.Machine.{Whole}
 use Rattle.gx_machine.specs.Start.{first_machine}
-use Rattle.glk_world.specs.World.{empty_world}
 use Rattle.gx_session.specs.declared.ended.Ended.{Ended}
 use Rattle.gx_session.specs.declared.statuses.TheConstants.{SHELF_FAULT, NO_MEMORY}
 use Rattle.gx_session.specs.Counts.{Counts}
 use Rattle.gx_session.specs.Devices.{Devices}
 use Rattle.gx_session.specs.Runs.{IsRun, IsSession, Report, report_of}
-use Rattle.gx_session.specs.Session.{Configuration, start_of, final_of, status_of}
+use Rattle.gx_session.specs.Session.{Configuration, final_of, status_of}
 use Rattle.gx_play.specs.declared.command.Job.{Job}
 use Rattle.gx_play.specs.declared.command.Job.TheVariants.{Play}
-use Rattle.gx_play.specs.declared.playing.TheConstants.{UNDO_DEPTH}
 use Rattle.gx_play.specs.Commands.{Command}
-use Rattle.gx_play.specs.Headline.{Outcome, refused, unstarted, runs, tells, outcome_of, outcome_of_job, outcome_of_start, outcome_of_story, story_of, IsUnbegun, LoadsOnce, SendsLine, Plays, ComesOut, IsPlaying, HasNoFailure, IsComplete, file_in, status_of_outcome}
+use Rattle.gx_play.specs.Seeds.{devices_for, words_for}
+use Rattle.gx_play.specs.Headline.{Outcome, refused, unstarted, runs, tells, outcome_of, outcome_of_job, outcome_of_start, outcome_of_story, start_for, story_of, IsUnbegun, LoadsOnce, SendsLine, Plays, ComesOut, IsPlaying, HasNoFailure, IsComplete, file_in, status_of_outcome}
+use Rattle.rand_core.specs.Stream.{Stream}
 
 module _ {A : Type 0} (ended : Ended A) (entry exit : Devices) where
   -- WHERE NO DEVICE FAILED
@@ -30,15 +30,18 @@ module _ {A : Type 0} (ended : Ended A) (entry exit : Devices) where
     either status (inr b) shelf source sink = grind (arith, b.0, b.1, shelf, source, sink)
 
     -- a run that isn't cut short ends as the session does
-    module _ (start : Configuration) (shelf : FlatShelf) (r : Report) where
+    module _ (start : Configuration) (shelf : FlatShelf) (words left : Stream) (r : Report) where
       abbrev loaded : Devices
-      loaded = record entry { shelf = shelf }
+      loaded = record entry { shelf = shelf; words = words }
 
-      at-end : (input : List ℕ) → input ≡ start.input → IsSession (record start { input = input }) loaded exit r → r.status < SHELF_FAULT → r.status ≡ status_of (final_of start).stop
+      abbrev leaving : Devices
+      leaving = record exit { words = left }
+
+      at-end : (input : List ℕ) → input ≡ start.input → IsSession (record start { input = input }) loaded leaving r → r.status < SHELF_FAULT → r.status ≡ status_of (final_of start).stop
       at-end input is session early =
           subst (λ (i : List ℕ). r.status ≡ status_of (final_of (record start { input = i })).stop) is (session.ended early).status_is
 
-      run-ends : LoadsOnce entry.shelf shelf → IsRun start loaded exit r → r.status ≡ ended.status → entry.source.tells ≡ true → entry.shelf.tells ≡ true
+      run-ends : LoadsOnce entry.shelf shelf → IsRun start loaded leaving r → r.status ≡ ended.status → entry.source.tells ≡ true → entry.shelf.tells ≡ true
           → (r.status ≡ status_of (final_of start).stop) ⊎ (r.status ≡ NO_MEMORY)
       run-ends once run same source-tells shelf-tells =
           elim run.session [
@@ -51,10 +54,12 @@ module _ {A : Type 0} (ended : Ended A) (entry exit : Devices) where
                 ]
           ]
 
-    some-ends : (start : Configuration) (shelf : FlatShelf) (end : Option Whole) → LoadsOnce entry.shelf shelf → IsSomeAnd end (λ whole. IsRun start (record entry { shelf = shelf }) exit (report_of ended whole))
+    some-ends : (seed : Option ℕ) (start : Configuration) (shelf : FlatShelf) (left : Stream) (end : Option Whole) → LoadsOnce entry.shelf shelf
+        → IsSomeAnd end (λ whole. IsRun start (devices_for seed (record entry { shelf = shelf })) (record exit { words = left }) (report_of ended whole))
         → entry.source.tells ≡ true → entry.shelf.tells ≡ true → (ended.status ≡ status_of (final_of start).stop) ⊎ (ended.status ≡ NO_MEMORY)
-    some-ends start shelf None once run source-tells shelf-tells = absurd run
-    some-ends start shelf (Some whole) once run source-tells shelf-tells = run-ends start shelf (report_of ended whole) once run refl source-tells shelf-tells
+    some-ends seed start shelf left None once run source-tells shelf-tells = absurd run
+    some-ends seed start shelf left (Some whole) once run source-tells shelf-tells =
+        run-ends start shelf (words_for seed entry.words) left (report_of ended whole) once run refl source-tells shelf-tells
 
     line-ends : (status : ℕ) (line : List ℕ) (before now : FlatSink) → SendsLine status line before now ended → (ended.status ≡ 10 → ⊥) → (ended.status ≡ status) ⊎ (ended.status ≡ NO_MEMORY)
     line-ends status line before now (inl (absent, sent)) sink = inl absent.status_is
@@ -66,8 +71,8 @@ module _ {A : Type 0} (ended : Ended A) (entry exit : Devices) where
     outcome-ends (refused status fault) (inr is, same) source-tells shelf-tells = inr (unbegun is)
     outcome-ends (unstarted fault at) (inl absent, same) source-tells shelf-tells = inl absent.status_is
     outcome-ends (unstarted fault at) (inr is, same) source-tells shelf-tells = inr (unbegun is)
-    outcome-ends (runs start) (inl (shelf, once, run)) source-tells shelf-tells = some-ends start shelf ended.machine once run source-tells shelf-tells
-    outcome-ends (runs start) (inr (is, same)) source-tells shelf-tells = inr (unbegun is)
+    outcome-ends (runs seed start) (inl (shelf, once, run)) source-tells shelf-tells = some-ends seed start shelf run.0 ended.machine once run.2 source-tells shelf-tells
+    outcome-ends (runs seed start) (inr (is, same)) source-tells shelf-tells = inr (unbegun is)
     outcome-ends (tells status line) (inl sends) source-tells shelf-tells = line-ends status line entry.sink exit.sink sends (λ e. fine.sink (counts.sink.rose e))
     outcome-ends (tells status line) (inr (is, same)) source-tells shelf-tells = inr (unbegun is)
 
@@ -79,17 +84,18 @@ module _ {A : Type 0} (ended : Ended A) (entry exit : Devices) where
       (outcome-ends fine counts (outcome_of (Some command) comes.file entry) comes.plays source-tells shelf-tells)
 
   -- WHERE NO MACHINE IS HANDED BACK
-  run-none : (start : Configuration) (shelf : FlatShelf) (end : Option Whole) → IsSomeAnd end (λ whole. IsRun start (record entry { shelf = shelf }) exit (report_of ended whole)) → end ≡ None → ⊥
-  run-none start shelf None run none = run
-  run-none start shelf (Some whole) run none = absurd cc
+  run-none : (seed : Option ℕ) (start : Configuration) (shelf : FlatShelf) (left : Stream) (end : Option Whole)
+      → IsSomeAnd end (λ whole. IsRun start (devices_for seed (record entry { shelf = shelf })) (record exit { words = left }) (report_of ended whole)) → end ≡ None → ⊥
+  run-none seed start shelf left None run none = run
+  run-none seed start shelf left (Some whole) run none = absurd cc
 
   start-unsent : (command : Command) (story : FlatStory) (r : Result Whole Fault) → Plays (outcome_of_start command story entry r) entry exit ended → ended.machine ≡ None → exit.sink ≡ entry.sink
-  start-unsent command story (Ok whole) (inl (shelf, once, run)) none = absurd (run-none (start_of whole.machine (empty_world command.columns command.rows) entry command.echo command.steps) shelf ended.machine run none)
+  start-unsent command story (Ok whole) (inl (shelf, once, run)) none = absurd (run-none command.seed (start_for command whole entry) shelf run.0 ended.machine run.2 none)
   start-unsent command story (Ok whole) (inr (is, same)) none = same
   start-unsent command story (Err fault) (is, same) none = same
 
   story-unsent : (command : Command) (r : Result FlatStory ℕ) → Plays (outcome_of_story command entry r) entry exit ended → ended.machine ≡ None → exit.sink ≡ entry.sink
-  story-unsent command (Ok story) plays none = start-unsent command story (first_machine story UNDO_DEPTH) plays none
+  story-unsent command (Ok story) plays none = start-unsent command story (first_machine story command.undo) plays none
   story-unsent command (Err fault) (is, same) none = same
 
   pub unsent : (command : Option Command) → ComesOut command entry exit ended → IsPlaying command → ended.machine ≡ None → exit.sink ≡ entry.sink

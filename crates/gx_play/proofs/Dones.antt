@@ -17,6 +17,7 @@ use Rattle.gx_play.specs.Headline.{Outcome, refused, unstarted, runs, tells, out
 use Rattle.gx_play.specs.Loading.{status_of, fault_of, LoadGives, LoadsFile, BlamesSink, HasRunParts, IsDone}
 use Rattle.gx_play.proofs.Completeness.{complete, unsent}
 use Rattle.gx_play.proofs.Loads.{loadable}
+use Rattle.gx_play.proofs.Seeds.{undrawn, settled}
 use Rattle.gx_play.proofs.Works.{works}
 
 module _ {A : Type 0} (ended : Ended A) where
@@ -66,7 +67,7 @@ module _ {A : Type 0} (ended : Ended A) where
   unbegun-plays : (outcome : Outcome) (entry exit : Devices) → IsUnbegun ended → exit.sink ≡ entry.sink → Plays outcome entry exit ended
   unbegun-plays (refused status fault) entry exit is unsent = (inr is, unsent)
   unbegun-plays (unstarted fault at) entry exit is unsent = (inr is, unsent)
-  unbegun-plays (runs start) entry exit is unsent = inr (is, unsent)
+  unbegun-plays (runs seed start) entry exit is unsent = inr (is, unsent)
   unbegun-plays (tells status line) entry exit is unsent = inr (is, unsent)
 
   -- a line's answer is one of three
@@ -235,6 +236,8 @@ module _ {A : Type 0} (ended : Ended A) where
           unread = λ none. absurd cc;
           loads = λ absent. subst (λ (o : Option Command). LoadsFor o entry exit ended.status) (sym is) (inl (done.loads absent));
           untouched = done.untouched;
+          undrawn = undrawn ended entry exit done.untouched (command_of words) headline;
+          settled = settled (command_of words) entry;
           counts = done.counts;
           parts = subst (λ (o : Option Command). HasItsParts (IsPlaying o) ended) (sym is) done.parts;
           works = works;
@@ -262,6 +265,8 @@ module _ {A : Type 0} (ended : Ended A) where
           unread = λ _. refl;
           loads = λ _. subst (λ (o : Option Command). LoadsFor o entry entry ended.status) (sym none) refl;
           untouched = λ _. record { steps = absent.steps_are; source = refl; words = refl };
+          undrawn = λ _. refl;
+          settled = settled (command_of words) entry;
           counts = none-called BAD_WORDS s (inl refl);
           parts = parts-before (IsPlaying (command_of words)) BAD_WORDS 0 absent (inl refl) (omega arith) (λ _. refl);
           works = works;
@@ -292,6 +297,8 @@ module _ {A : Type 0} (ended : Ended A) where
           unread = λ _. refl;
           loads = λ _. unread-loads (command_of words) s;
           untouched = λ _. record { steps = absent.steps_are; source = refl; words = refl };
+          undrawn = λ _. refl;
+          settled = settled (command_of words) entry;
           counts = none-called NO_MEMORY s (inr refl);
           parts = parts-before (IsPlaying (command_of words)) NO_MEMORY 0 absent (inr (inr (inr refl))) (omega arith) (λ _. refl);
           works = works;

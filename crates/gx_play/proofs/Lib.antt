@@ -1,11 +1,13 @@
 pub mod Completeness
 pub mod CommandLines
+pub mod Constants
 pub mod Digits
 pub mod Dones
 pub mod Loads
 pub mod Matched
 pub mod Plays
 pub mod Samples
+pub mod Seeds
 pub mod Sums
 pub mod Tellings
 pub mod Works

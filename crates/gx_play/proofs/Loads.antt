@@ -2,7 +2,7 @@
 use Rattle.std.proofs.Common.{◌≡◌, ◌≢◌, ℕ, ◌+◌, ◌<◌, ◌≤◌, nat_lt, if◌then◌else◌, Bool, true, false, List, [], length, replicate, Option, Some, None, Result, Ok, Err, refl, ap, subst, sym, ◌∙◌, arith}
 use Rattle.std.proofs.lemmas.Bool.{lt-ltb, le-ltb, ltb-false}
 use Rattle.std.proofs.lemmas.List.{length-replicate}
-use Rattle.gx_words.specs.declared.limits.TheConstants.{CEILING}
+use Rattle.gx_words.specs.Constants.{ceiling}
 use Rattle.gx_outside.specs.Outside.{FlatShelf}
 use Rattle.gx_outside.specs.declared.devices.ShelfFault.{ShelfFault}
 use Rattle.gx_outside.specs.declared.devices.ShelfFault.TheVariants as of_shelf
@@ -22,13 +22,13 @@ some-longer most =
     let size : length zeros ≡ most + 1 = length-replicate (most + 1) 0 in
     (zeros, subst (λ (n : ℕ). most < n) (sym size) (omega arith))
 
-longer-story : (bytes : List ℕ) → CEILING < length bytes → story_of (Some bytes) ≡ Err (number_of of_story.TooLarge)
+longer-story : (bytes : List ℕ) → ceiling < length bytes → story_of (Some bytes) ≡ Err (number_of of_story.TooLarge)
 longer-story bytes more =
-    ap (λ (b : Bool). if b then Err (number_of of_story.TooLarge) else numbered (accepted bytes)) (lt-ltb CEILING (length bytes) more)
+    ap (λ (b : Bool). if b then Err (number_of of_story.TooLarge) else numbered (accepted bytes)) (lt-ltb ceiling (length bytes) more)
 
-shorter-story : (bytes : List ℕ) → length bytes ≤ CEILING → story_of (Some bytes) ≡ numbered (accepted bytes)
+shorter-story : (bytes : List ℕ) → length bytes ≤ ceiling → story_of (Some bytes) ≡ numbered (accepted bytes)
 shorter-story bytes fits =
-    ap (λ (b : Bool). if b then Err (number_of of_story.TooLarge) else numbered (accepted bytes)) (le-ltb CEILING (length bytes) fits)
+    ap (λ (b : Bool). if b then Err (number_of of_story.TooLarge) else numbered (accepted bytes)) (le-ltb ceiling (length bytes) fits)
 
 module _ (shelf : FlatShelf) (name : List ℕ) where
   -- a shelf that tells has a file, and for another there is some
@@ -42,14 +42,14 @@ module _ (shelf : FlatShelf) (name : List ℕ) where
   loads-refused of_shelf.NoMemory memory = told-or shelf.tells refl (Err refusal.NoMemory) (λ tells. memory tells refl) (Some []) (omega arith)
 
   -- the file is too long
-  pub loads-too-long : (shelf.tells ≡ true → (bytes : List ℕ) × (shelf.files name ≡ Some bytes) × (CEILING < length bytes)) → LoadsFile shelf name (Err (refusal.BadStory (number_of of_story.TooLarge)))
+  pub loads-too-long : (shelf.tells ≡ true → (bytes : List ℕ) × (shelf.files name ≡ Some bytes) × (ceiling < length bytes)) → LoadsFile shelf name (Err (refusal.BadStory (number_of of_story.TooLarge)))
   loads-too-long found =
-      let longer = some-longer CEILING in
+      let longer = some-longer ceiling in
       told-or shelf.tells refl (Err (refusal.BadStory (number_of of_story.TooLarge)))
       (λ tells. let f = found tells in ap story_of f.1 ∙ longer-story f.0 f.2)
       (Some longer.0) (longer-story longer.0 longer.1)
 
-  module _ (bytes : List ℕ) (fits : length bytes ≤ CEILING) (found : shelf.tells ≡ true → shelf.files name ≡ Some bytes) where
+  module _ (bytes : List ℕ) (fits : length bytes ≤ ceiling) (found : shelf.tells ≡ true → shelf.files name ≡ Some bytes) where
     -- the file is a story
     pub loads-story : (story : FlatStory) → accepted bytes ≡ Ok story → LoadsFile shelf name (Ok story)
     loads-story story good = record { file = Some bytes; file_is = λ tells. sym (found tells); gives = shorter-story bytes fits ∙ ap numbered good }
@@ -63,11 +63,11 @@ module _ (shelf : FlatShelf) (name : List ℕ) where
     loads-no-story f bad = record { file = Some bytes; file_is = λ tells. sym (found tells); gives = bad-story f bad }
 
 -- a file with a story can be loaded
-by-size : (bytes : List ℕ) (story : FlatStory) (b : Bool) → nat_lt CEILING (length bytes) ≡ b
-    → (let r : Result FlatStory ℕ = if b then Err (number_of of_story.TooLarge) else numbered (accepted bytes) in r ≡ Ok story) → length bytes ≤ CEILING
+by-size : (bytes : List ℕ) (story : FlatStory) (b : Bool) → nat_lt ceiling (length bytes) ≡ b
+    → (let r : Result FlatStory ℕ = if b then Err (number_of of_story.TooLarge) else numbered (accepted bytes) in r ≡ Ok story) → length bytes ≤ ceiling
 by-size bytes story true is e = absurd cc
-by-size bytes story false is e = ltb-false CEILING (length bytes) is
+by-size bytes story false is e = ltb-false ceiling (length bytes) is
 
 pub loadable : (file : Option (List ℕ)) (story : FlatStory) → story_of file ≡ Ok story → IsLoadable file
 loadable None story e = cc
-loadable (Some bytes) story e = by-size bytes story (nat_lt CEILING (length bytes)) refl e
+loadable (Some bytes) story e = by-size bytes story (nat_lt ceiling (length bytes)) refl e

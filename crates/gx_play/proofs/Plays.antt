@@ -1,5 +1,5 @@
 -- What a story that was loaded comes to.
-use Rattle.std.proofs.Common.{◌≡◌, ◌≢◌, ℕ, inl, inr, List, Option, None, IsSomeAnd, Result, Ok, Err, refl, ap, subst, sym}
+use Rattle.std.proofs.Common.{◌≡◌, ◌≢◌, ℕ, inl, inr, List, Option, None, Result, Ok, Err, refl, ap, subst, sym}
 use Rattle.gx_words.specs.declared.faults.Fault.{Fault}
 use Rattle.gx_words.specs.declared.faults.Fault.TheVariants.{NoMemory}
 use Rattle.gx_words.specs.Faults.{number_of}
@@ -8,16 +8,12 @@ use Rattle.gx_outside.specs.Outside.{FlatShelf}
 use Rattle.gx_story.specs.Stories.{FlatStory}
 use Rattle.gx_machine.specs.Machine.{Whole}
 use Rattle.gx_machine.specs.Start.{first_machine}
-use Rattle.glk_world.specs.World.{empty_world}
 use Rattle.gx_session.specs.declared.ended.Ended.{Ended}
 use Rattle.gx_session.specs.declared.statuses.TheConstants.{FAULT, SHELF_FAULT, NO_MEMORY}
 use Rattle.gx_session.specs.Devices.{Devices}
-use Rattle.gx_session.specs.Session.{start_of}
 use Rattle.gx_session.specs.Counts.{Blames, Counts}
-use Rattle.gx_session.specs.Runs.{IsRun, report_of}
-use Rattle.gx_play.specs.declared.playing.TheConstants.{UNDO_DEPTH}
 use Rattle.gx_play.specs.Commands.{Command}
-use Rattle.gx_play.specs.Headline.{Outcome, refused, unstarted, runs, tells, outcome_of_start, outcome_of_story, story_of, HasNoMachine, IsUnbegun, LoadsOnce, Plays}
+use Rattle.gx_play.specs.Headline.{Outcome, refused, unstarted, runs, tells, outcome_of_start, outcome_of_story, start_for, story_of, HasNoMachine, IsUnbegun, IsRunOf, LoadsOnce, Plays}
 use Rattle.gx_play.specs.Loading.{StoryPlays}
 use Rattle.gx_session.proofs.Counting.{well-of, blames-on}
 
@@ -41,7 +37,7 @@ module _ {A : Type 0} (ended : Ended A) where
 
   -- the story runs
   pub plays-run : (command : Command) (story : FlatStory) (entry exit : Devices) (r : Result Whole Fault) (whole : Whole) → r ≡ Ok whole
-      → IsSomeAnd ended.machine (λ end. IsRun (start_of whole.machine (empty_world command.columns command.rows) entry command.echo command.steps) entry exit (report_of ended end)) → StoryPlays (outcome_of_start command story entry r) entry exit ended
+      → IsRunOf command.seed (start_for command whole entry) entry exit ended → StoryPlays (outcome_of_start command story entry r) entry exit ended
   plays-run command story entry exit r whole e run =
       subst (λ (x : Result Whole Fault). StoryPlays (outcome_of_start command story entry x) entry exit ended) (sym e) (inl run)
 
@@ -55,18 +51,18 @@ module _ {A : Type 0} (ended : Ended A) where
   found entry exit shelf (refused status fault) unsent once (inr is) = (inr is, unsent (has-none is))
   found entry exit shelf (unstarted fault at) unsent once (inl absent) = (inl absent, unsent absent.machine_is)
   found entry exit shelf (unstarted fault at) unsent once (inr is) = (inr is, unsent (has-none is))
-  found entry exit shelf (runs start) unsent once (inl run) = inl (shelf, once, run)
-  found entry exit shelf (runs start) unsent once (inr is) = inr (is, unsent (has-none is))
+  found entry exit shelf (runs seed start) unsent once (inl run) = inl (shelf, once, run)
+  found entry exit shelf (runs seed start) unsent once (inr is) = inr (is, unsent (has-none is))
   found entry exit shelf (tells status line) unsent once none = absurd none
 
   -- the story that was loaded is played
   pub comes-out : (command : Command) (entry exit : Devices) (shelf : FlatShelf) (file : Option (List ℕ)) (story : FlatStory) → story_of file ≡ Ok story → (ended.machine ≡ None → exit.sink ≡ entry.sink) → LoadsOnce entry.shelf shelf
-      → StoryPlays (outcome_of_start command story (record entry { shelf = shelf }) (first_machine story UNDO_DEPTH)) (record entry { shelf = shelf }) exit ended
+      → StoryPlays (outcome_of_start command story (record entry { shelf = shelf }) (first_machine story command.undo)) (record entry { shelf = shelf }) exit ended
       → Plays (outcome_of_story command entry (story_of file)) entry exit ended
   comes-out command entry exit shelf file story good unsent once plays =
-      let o : Outcome = outcome_of_start command story (record entry { shelf = shelf }) (first_machine story UNDO_DEPTH) in
+      let o : Outcome = outcome_of_start command story (record entry { shelf = shelf }) (first_machine story command.undo) in
       subst (λ (x : Result FlatStory ℕ). Plays (outcome_of_story command entry x) entry exit ended) (sym good)
-      (subst (λ (x : Outcome). Plays x entry exit ended) (same-files command story entry shelf (first_machine story UNDO_DEPTH) once.files) (found entry exit shelf o unsent once plays))
+      (subst (λ (x : Outcome). Plays x entry exit ended) (same-files command story entry shelf (first_machine story command.undo) once.files) (found entry exit shelf o unsent once plays))
 
 -- the counts of a run after the story was loaded
 pub counts-after : (entry exit : Devices) (shelf : FlatShelf) (status : ℕ) (failed : Type 0) → Counts (record entry { shelf = shelf }) exit status → Blames entry.shelf.calls shelf.calls failed → (failed → ⊥) → Counts entry exit status

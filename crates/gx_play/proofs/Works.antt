@@ -4,7 +4,7 @@ use Rattle.std.proofs.lemmas.Bool.{le-leb}
 use Rattle.std.proofs.lemmas.Bool.Decides.{nat_tests}
 use Rattle.std.proofs.lemmas.List.{length-append, take_all}
 use Rattle.gx_words.specs.Numbers.{byte, word, sum_of_words}
-use Rattle.gx_words.specs.declared.header.TheConstants.{EXTSTART_AT}
+use Rattle.gx_words.specs.Constants.{ceiling, extstart_at}
 use Rattle.iff_chunks.specs.Chunks.{begins_form}
 use Rattle.gx_story.specs.Stories.{FlatStory, accepted, bare, header, header_at_start, stored_story, has_header, has_magic, has_version, has_sizes, is_within_limits, has_stored_part, is_whole}
 use Rattle.gx_pages.specs.Memory.{number_in}
@@ -15,7 +15,7 @@ use Rattle.gx_machine.specs.Start.{first_machine}
 use Rattle.gx_work.specs.Work.{page, ram, ram_count, story_with, work_story}
 use Rattle.gx_work.proofs.Pages.{length-page}
 use Rattle.gx_work.proofs.Stories.{length-work, headed}
-use Rattle.gx_play.specs.declared.playing.TheConstants.{UNDO_DEPTH}
+use Rattle.gx_play.specs.Constants.{usual_depth}
 use Rattle.gx_play.specs.Jobs.{work_machine, machine_in, machine_of}
 
 -- THE FILE
@@ -48,7 +48,7 @@ module _ (number : ℕ) where
   not-below : nat_le 0x100 (0x100 + 4 * ram_count number) ≡ true
   not-below = grind (arith, nat_tests)
 
-  not-above : nat_le (0x100 + 4 * ram_count number) 0x4000000 ≡ true
+  not-above : nat_le (0x100 + 4 * ram_count number) ceiling ≡ true
   not-above = grind (arith, nat_tests)
 
   itself : nat_le (0x100 + 4 * ram_count number) (0x100 + 4 * ram_count number) ≡ true
@@ -112,7 +112,7 @@ module _ (count checksum : ℕ) (rest : List ℕ) where
   function-is = rw (reads-type, reads-locals, reads-count, reads-end, reads-last) refl
 
 starts : (story : FlatStory) (memory : List ℕ) (x : ℕ × List ℕ) → (initial story).memory ≡ memory → story.header.start_function ≡ 0x24 → story.header.stack_size ≡ 0x100
-    → function_at memory 0x24 0 0 0x100 ≡ Ok x → is_some (machine_of (first_machine story UNDO_DEPTH)) ≡ true
+    → function_at memory 0x24 0 0 0x100 ≡ Ok x → is_some (machine_of (first_machine story usual_depth)) ≡ true
 unfolding first_machine started entered
 starts story memory x same start stack function = rw (same, start, stack, function) refl
 
@@ -121,12 +121,12 @@ module _ (number : ℕ) where
   abbrev checksum : ℕ
   checksum = sum_of_words (64 + ram_count number) (story_with number 0) % 2 ^ 32
 
-  begins : (zeros : List ℕ) → take (word (work_story number) EXTSTART_AT) (work_story number) ++ zeros ≡ page (ram_count number) checksum ++ (ram (ram_count number) number ++ zeros)
+  begins : (zeros : List ℕ) → take (word (work_story number) extstart_at) (work_story number) ++ zeros ≡ page (ram_count number) checksum ++ (ram (ram_count number) number ++ zeros)
   unfolding work_story story_with
   begins zeros =
       let h = headed number in
-      let short : length (work_story number) ≤ word (work_story number) EXTSTART_AT = omega (arith, h.extstart) in
-      ap (λ (b : List ℕ). b ++ zeros) (take_all (word (work_story number) EXTSTART_AT) (work_story number) short)
+      let short : length (work_story number) ≤ word (work_story number) extstart_at = omega (arith, h.extstart) in
+      ap (λ (b : List ℕ). b ++ zeros) (take_all (word (work_story number) extstart_at) (work_story number) short)
       ∙ append_assoc (page (ram_count number) checksum) (ram (ram_count number) number) zeros
 
   pub works : IsSome (work_machine number)
@@ -138,6 +138,6 @@ module _ (number : ℕ) where
       rw (accepts number) (starts s (page (ram_count number) checksum ++ (ram (ram_count number) number ++ zeros)) (0xC1, 4 ∷ 2 ∷ 0 ∷ 0 ∷ []) (begins zeros) h.start_function h.stack_size (function-is (ram_count number) checksum (ram (ram_count number) number ++ zeros)))
 
   -- the machine that was started
-  pub started-by : (bytes : List ℕ) (s : FlatStory) (w : Whole) → bytes ≡ work_story number → accepted bytes ≡ Ok s → first_machine s UNDO_DEPTH ≡ Ok w → work_machine number ≡ Some w
+  pub started-by : (bytes : List ℕ) (s : FlatStory) (w : Whole) → bytes ≡ work_story number → accepted bytes ≡ Ok s → first_machine s usual_depth ≡ Ok w → work_machine number ≡ Some w
   unfolding work_machine
   started-by bytes s w is accepts-it starts-it = ap machine_in (ap accepted (sym is) ∙ accepts-it) ∙ ap machine_of starts-it

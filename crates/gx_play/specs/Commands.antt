@@ -1,4 +1,4 @@
--- The command line: gx_player STORY [--steps N] [--columns N] [--rows N] [--echo] [--job JOB].
+-- The command line: gx_player STORY [--steps N] [--columns N] [--rows N] [--undo N] [--seed N] [--echo] [--job JOB].
 --
 -- The words are those of one simple command of clap, the program's name first, so `--steps N` and `--steps=N` are alike,
 -- options stand before or after STORY, and after `--` every word is STORY. A question for help is no command.
@@ -12,6 +12,8 @@ use Rattle.clap.specs.Words.{App, Kinds, Row, Rule, Text, first_of, fault_of, ma
 use Rattle.clap.specs.declared.builder.ArgAction.TheVariants.{SetTrue}
 use Rattle.gx_play.specs.declared.command.Job.{Job}
 use Rattle.gx_play.specs.declared.command.Job.TheVariants.{Play, Check, Work}
+use Rattle.gx_undo.specs.Undo.{most_undo}
+use Rattle.gx_play.specs.Constants.{usual_depth}
 
 -- THE RULES of the words
 -- STORY, which has to be there
@@ -22,16 +24,22 @@ story_rule = record (new_rule (codes "STORY")) { required = true }
 abbrev pub text_rule : Text → Text → Rule
 text_rule name usual = record (new_rule name) { long = Some name; defaults = usual ∷ [] }
 
+-- `--NAME TEXT`, for which nothing stands where it isn't there
+abbrev pub free_rule : Text → Rule
+free_rule name = record (new_rule name) { long = Some name }
+
 -- `--echo`
 abbrev pub echo_rule : Rule
 echo_rule = record (new_rule (codes "echo")) { long = Some (codes "echo"); action = Some SetTrue }
 
 unfoldable pub player : App
-player = with_rule (with_rule (with_rule (with_rule (with_rule (with_rule (new_app (codes "gx_player"))
+player = with_rule (with_rule (with_rule (with_rule (with_rule (with_rule (with_rule (with_rule (new_app (codes "gx_player"))
     story_rule)
     (text_rule (codes "steps") (codes "1000000000000000")))
     (text_rule (codes "columns") (codes "80")))
     (text_rule (codes "rows") (codes "24")))
+    (free_rule (codes "undo")))
+    (free_rule (codes "seed")))
     echo_rule)
     (text_rule (codes "job") (codes "play"))
 
@@ -43,13 +51,26 @@ faults_of words = fault_of player words
 unfoldable pub found_in : List Text → List Row
 found_in words = matches_of player words
 
--- WHAT A COMMAND LINE ASKS FOR: the name of the story's file, the budget of the run, the size of the screen, whether each
--- line that is taken is shown, and the job.
+-- THE TEXTS of a command line, where they are there, and whether the flag is set.
+pub record Texts : Type 0 where
+  pub story : Option Text
+  pub steps : Option Text
+  pub columns : Option Text
+  pub rows : Option Text
+  pub undo : Option Text
+  pub seed : Option Text
+  pub echo : Bool
+  pub job : Option Text
+
+-- WHAT A COMMAND LINE ASKS FOR: the name of the story's file, the budget of the run, the size of the screen, how many copies
+-- are kept for undo, the seed of the random words, if there is one, whether each line that is taken is shown, and the job.
 pub record Command : Type 0 where
   pub story : Text
   pub steps : ℕ
   pub columns : ℕ
   pub rows : ℕ
+  pub undo : ℕ
+  pub seed : Option ℕ
   pub echo : Bool
   pub job : Job
 
@@ -59,6 +80,20 @@ number_of least most text =
     if nat_lt 0 (length text) && (list_all is_ascii_digit text && (nat_le least (digits_value 10 text) && nat_le (digits_value 10 text) most))
     then Some (digits_value 10 text) else None
 
+abbrev pub number_in : ℕ → ℕ → Option Text → Option ℕ
+number_in least most None = None
+number_in least most (Some text) = number_of least most text
+
+-- the depth of undo
+abbrev pub depth_of : Option Text → Option ℕ
+depth_of None = Some usual_depth
+depth_of (Some text) = number_of 1 most_undo text
+
+-- the seed, if there is one
+abbrev pub seed_of : Option Text → Option (Option ℕ)
+seed_of None = Some None
+seed_of (Some text) = option_map (λ number. Some number) (number_of 0 (2 ^ 64 - 1) text)
+
 -- the job of this name; in job work STORY is a number
 abbrev pub job_of : Text → Text → Option Job
 job_of story name =
@@ -67,26 +102,38 @@ job_of story name =
     if bytes_eq name (codes "work") then option_map (λ number. Work number) (number_of 0 (2 ^ 32 - 1) story) else
     None
 
-abbrev pub command_with : Text → Bool → Option ℕ → Option ℕ → Option ℕ → Option Job → Option Command
-command_with story echo (Some steps) (Some columns) (Some rows) (Some job) =
-    Some (record { story = story; steps = steps; columns = columns; rows = rows; echo = echo; job = job })
-command_with story echo steps columns rows job = None
+abbrev pub job_in : Option Text → Option Text → Option Job
+job_in (Some story) (Some name) = job_of story name
+job_in story name = None
 
-abbrev pub command_in : Option Text → Bool → Option Text → Option Text → Option Text → Option Text → Option Command
-command_in (Some story) echo (Some steps) (Some columns) (Some rows) (Some job) =
-    command_with story echo (number_of 0 (2 ^ 64 - 1) steps) (number_of 1 255 columns) (number_of 1 255 rows) (job_of story job)
-command_in story echo steps columns rows job = None
+abbrev pub command_with : Option Text → Option ℕ → Option ℕ → Option ℕ → Option ℕ → Option (Option ℕ) → Bool → Option Job → Option Command
+command_with (Some story) (Some steps) (Some columns) (Some rows) (Some undo) (Some seed) echo (Some job) =
+    Some (record { story = story; steps = steps; columns = columns; rows = rows; undo = undo; seed = seed; echo = echo; job = job })
+command_with story steps columns rows undo seed echo job = None
+
+-- what the texts ask for, where each is as it has to be
+abbrev pub command_in : Texts → Option Command
+command_in texts =
+    command_with texts.story (number_in 0 (2 ^ 64 - 1) texts.steps) (number_in 1 255 texts.columns) (number_in 1 255 texts.rows)
+    (depth_of texts.undo) (seed_of texts.seed) texts.echo (job_in texts.story texts.job)
 
 -- the flag is set
 abbrev pub is_set : Option Text → Bool
 is_set None = false
 is_set (Some text) = bytes_eq text (codes "true")
 
--- what the matches ask for, where each text is as it has to be
-abbrev pub matched : List Row → Option Command
-matched rows =
-    command_in (first_of (codes "STORY") rows) (is_set (first_of (codes "echo") rows)) (first_of (codes "steps") rows)
-    (first_of (codes "columns") rows) (first_of (codes "rows") rows) (first_of (codes "job") rows)
+-- the texts of what is matched
+abbrev pub texts_of : List Row → Texts
+texts_of rows = record {
+  story = first_of (codes "STORY") rows;
+  steps = first_of (codes "steps") rows;
+  columns = first_of (codes "columns") rows;
+  rows = first_of (codes "rows") rows;
+  undo = first_of (codes "undo") rows;
+  seed = first_of (codes "seed") rows;
+  echo = is_set (first_of (codes "echo") rows);
+  job = first_of (codes "job") rows;
+}
 
 abbrev pub are_none : {X : Type 0} → List X → Bool
 are_none [] = true
@@ -94,4 +141,4 @@ are_none (x ∷ xs) = false
 
 -- THE COMMAND of the words, and none where they have no matches or a text isn't as it has to be.
 unfoldable pub command_of : List Text → Option Command
-command_of words = if are_none (faults_of words) then matched (found_in words) else None
+command_of words = if are_none (faults_of words) then command_in (texts_of (found_in words)) else None

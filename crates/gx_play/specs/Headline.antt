@@ -7,23 +7,29 @@
 --   done. Or there is no story: the status and the number of the fault say so. No input is read, no text sent, no word
 --   drawn and no machine made.
 -- - The story's start function can't be entered: the same, with the fault and the function's address.
--- - Else the story runs. The run is the session of gx_session/specs/Session, from the story's first machine to the
---   session's end (`IsRun`): its status, fault, address and steps, the machine and what it asks, the text, the files, the
---   random words and the input that is left; how often some of the text was sent, and how often the shelf was asked. Or it
---   was cut short, because a device failed or memory ran out: then the machine stands at one of the session's
---   configurations, a front of the text up to there was sent, and the files are those of that configuration, but for the
---   one that a refused store or remove leaves open.
+-- - Else the story runs. The run is the session of gx_session/specs/Session, from the story's first machine, with the
+--   command's depth of undo, to the session's end (`IsRun`): its status, fault, address and steps, the machine and what it
+--   asks, the text, the files, the random words and the input that is left; how often some of the text was sent, and how
+--   often the shelf was asked. Or it was cut short, because a device failed or memory ran out: then the machine stands at
+--   one of the session's configurations, a front of the text up to there was sent, and the files are those of that
+--   configuration, but for the one that a refused store or remove leaves open.
 -- - In the jobs check and work one line of specs/Jobs is sent, with its status, or a front of it where the output fails or
 --   wants memory. No machine is handed back. Every number has a story that can be started (`works`).
 -- - Or nothing was begun, because the shelf failed or memory ran out before.
 --
+-- The random words are the device's, or with `--seed` those of specs/Seeds. Then the device isn't drawn from at all, in any
+-- job and whatever the end (`undrawn`), and the outcome is the same over any other words that it might hold (`settled`): so
+-- status, fault, address, steps, text, files and machine of a session are a function of the command line, the story, the
+-- files and the input alone.
+--
 -- The shelf is asked once for the story, and then exactly as the session asks it; in job work it isn't asked. Text is sent
 -- before the shelf or the source is asked for anything. Fewer than 4,096 bytes are read ahead of the lines that were taken,
 -- and none where no line is awaited. The status blames a device exactly where a call of it failed in this run, which was
--- then its last one. Each restoreundo of the session goes back to the newest saveundo that was neither used nor dropped
--- (`LastsUndo`), whatever was restored from files in between. Each save that the session makes is read back as the very copy
--- that was saved (`SavedAll`, `SavedBy`), and so is every copy that fits the story (`SavesReadBack`). And where no count of
--- failures rose the status is the outcome's, or memory ran out (`IsComplete`).
+-- then its last one. Each restoreundo of the session goes back to the newest saveundo that was neither used, nor
+-- discarded, nor dropped as the oldest (`LastsUndo`), whatever was restored from files in between. Each save that the
+-- session makes is read back as the very copy that was saved (`SavedAll`, `SavedBy`). So is every copy that fits the story,
+-- and each save that was one while memory had a lower ceiling, such as 0x04000000, is restored as the same copy
+-- (`SavesReadBack`). And where no count of failures rose the status is the outcome's, or memory ran out (`IsComplete`).
 --
 -- Premises: that the story's file is the one that the shelf holds is said of a shelf that tells what it holds, as one in
 -- memory does. A real one doesn't, and there the run is that of some file: of the bytes that it handed out. Nothing is
@@ -31,15 +37,24 @@
 -- has left; for a real one there is some input with which the run is the session. Which bytes the sink took is said of one
 -- that tells, and how often it was called of every one.
 --
--- Limits: nothing is said of time, nor of how much memory a run takes. Want of memory is a free answer wherever the
--- definition has no fault, once a save is begun, and while the words are read. So a body would pass that answers NO_MEMORY
--- before it does anything, once there are bytes to be loaded, or before any step that has no fault: that ample memory
--- suffices is only tested. None would pass that asked for a file that isn't there and answers so, or where a device failed,
--- where the next step meets a fault that isn't a save's, or where a line is awaited and no input is left.
+-- Limits: nothing is said of time, nor of how much memory a run takes; that ample memory suffices is only tested. Status
+-- NO_MEMORY is a free answer in these places, and, of devices that tell, in no others:
+--
+-- - Before anything is done, whatever the words are. So a body that does nothing and answers NO_MEMORY meets the contract.
+-- - In the jobs play and check once the shelf was asked for the story, where it has one of at most 0x10000000 bytes; in
+--   job work anywhere. No machine is handed back then, and what was sent is a front of the line, nothing in job play.
+-- - In a run that was begun, with the machine, the text, the files and the input of that moment (`StopsEarly`, `IsCut`):
+--   at a step and at the answer to what a machine asked, where it has no fault, whether it takes memory or not; once a
+--   save is begun, also where a fault of it would follow; at a wait for a line where input is left; where text is due;
+--   where the shelf is asked, for a file to be loaded only where it is there and isn't too long; at the end where the
+--   open files are listed, and at the store of each.
+--
+-- So no body would pass that asks for a story that isn't there and answers so, or answers so where a device failed, where
+-- the next step meets a fault that isn't a save's, or where a line is awaited and no input is left.
 use Rattle.std.specs.Prelude.{◌≡◌, ◌≢◌, ℕ, ◌≤◌, nat_lt, if◌then◌else◌, length, List, ◌++◌, ◌⊎◌, ◌↔◌, true, Option, Some, None, IsSome, IsSomeAnd, Result, Ok, Err}
 use Rattle.gx_words.specs.declared.faults.Fault.{Fault}
 use Rattle.gx_words.specs.Faults.{number_of}
-use Rattle.gx_words.specs.declared.limits.TheConstants.{CEILING}
+use Rattle.gx_words.specs.Constants.{ceiling}
 use Rattle.gx_outside.specs.Files.{Files}
 use Rattle.gx_outside.specs.Outside.{FlatShelf, FlatSink, raised}
 use Rattle.gx_story.specs.declared.faults.StoryFault.{StoryFault}
@@ -55,12 +70,13 @@ use Rattle.gx_session.specs.Devices.{Devices}
 use Rattle.gx_session.specs.Session.{Configuration, start_of, final_of, status_of}
 use Rattle.gx_session.specs.Counts.{Counts}
 use Rattle.gx_session.specs.Runs.{IsRun, IsFront, report_of}
-use Rattle.gx_play.specs.declared.loading.TheConstants.{NO_FILE}
-use Rattle.gx_play.specs.declared.playing.TheConstants.{UNDO_DEPTH}
 use Rattle.gx_play.specs.declared.command.Job.{Job}
 use Rattle.gx_play.specs.declared.command.Job.TheVariants.{Play, Check, Work}
 use Rattle.gx_play.specs.Commands.{Command, command_of}
+use Rattle.gx_play.specs.Constants.{no_file}
 use Rattle.gx_play.specs.Jobs.{check_status, check_line, work_machine, work_line}
+use Rattle.gx_play.specs.Seeds.{devices_for, AreLeft}
+use Rattle.rand_core.specs.Stream.{Stream}
 
 -- THE OUTCOME of a command line.
 pub data Outcome : Type 0 where
@@ -68,8 +84,8 @@ pub data Outcome : Type 0 where
   refused : ℕ → ℕ → Outcome
   -- a story whose start function can't be entered: the fault, and the function's address
   unstarted : Fault → ℕ → Outcome
-  -- the session from this configuration to its end
-  runs : Configuration → Outcome
+  -- the session from this configuration to its end, with the words of a seed or of the device
+  runs : Option ℕ → Configuration → Outcome
   -- a line is sent, with this status
   tells : ℕ → List ℕ → Outcome
 
@@ -80,16 +96,20 @@ numbered (Err fault) = Err (story_number_of fault)
 
 -- the story in a file, or the number of why there is none
 abbrev pub story_of : Option (List ℕ) → Result FlatStory ℕ
-story_of None = Err NO_FILE
-story_of (Some bytes) = if nat_lt CEILING (length bytes) then Err (story_number_of TooLarge) else numbered (accepted bytes)
+story_of None = Err no_file
+story_of (Some bytes) = if nat_lt ceiling (length bytes) then Err (story_number_of TooLarge) else numbered (accepted bytes)
 
--- JOB PLAY: the machine of a story runs from its start, on the command's screen, within its budget
+-- JOB PLAY: the machine of a story runs from its start, with the command's random words, on its screen, within its budget.
+abbrev pub start_for : Command → Whole → Devices → Configuration
+start_for command whole entry =
+    start_of whole.machine (empty_world command.columns command.rows) (devices_for command.seed entry) command.echo command.steps
+
 abbrev pub outcome_of_start : Command → FlatStory → Devices → Result Whole Fault → Outcome
-outcome_of_start command story entry (Ok whole) = runs (start_of whole.machine (empty_world command.columns command.rows) entry command.echo command.steps)
+outcome_of_start command story entry (Ok whole) = runs command.seed (start_for command whole entry)
 outcome_of_start command story entry (Err fault) = unstarted fault story.header.start_function
 
 abbrev pub outcome_of_story : Command → Devices → Result FlatStory ℕ → Outcome
-outcome_of_story command entry (Ok story) = outcome_of_start command story entry (first_machine story UNDO_DEPTH)
+outcome_of_story command entry (Ok story) = outcome_of_start command story entry (first_machine story command.undo)
 outcome_of_story command entry (Err fault) = refused BAD_STORY fault
 
 -- JOB CHECK
@@ -141,12 +161,18 @@ SendsLine status line before now ended =
     (HasNoMachine ended status 0 0 × TakesOnce line before now)
     ⊎ (IsUnsent ended × ((front : List ℕ) × IsFront front line × TakesOnce front before now))
 
+-- The session from a start was run over these devices, with the words of the seed or the device's.
+abbrev pub IsRunOf : {A : Type 0} → Option ℕ → Configuration → Devices → Devices → Ended A → Type 0
+IsRunOf seed start entry exit ended =
+    (left : Stream) × AreLeft seed left entry.words exit.words
+    × IsSomeAnd ended.machine (λ end. IsRun start (devices_for seed entry) (record exit { words = left }) (report_of ended end))
+
 -- What is answered and left behind is the outcome's. The run finds the shelf as it is once the story was loaded.
 abbrev pub Plays : {A : Type 0} → Outcome → Devices → Devices → Ended A → Type 0
 Plays (refused status fault) entry exit ended = (HasNoMachine ended status fault 0 ⊎ IsUnbegun ended) × (exit.sink ≡ entry.sink)
 Plays (unstarted fault at) entry exit ended = (HasNoMachine ended FAULT (number_of fault) at ⊎ IsUnbegun ended) × (exit.sink ≡ entry.sink)
-Plays (runs start) entry exit ended =
-    ((shelf : FlatShelf) × LoadsOnce entry.shelf shelf × IsSomeAnd ended.machine (λ end. IsRun start (record entry { shelf = shelf }) exit (report_of ended end)))
+Plays (runs seed start) entry exit ended =
+    ((shelf : FlatShelf) × LoadsOnce entry.shelf shelf × IsRunOf seed start (record entry { shelf = shelf }) exit ended)
     ⊎ (IsUnbegun ended × (exit.sink ≡ entry.sink))
 Plays (tells status line) entry exit ended = SendsLine status line entry.sink exit.sink ended ⊎ (IsUnbegun ended × (exit.sink ≡ entry.sink))
 
@@ -157,7 +183,7 @@ IsFile (Some command) shelf file = shelf.tells ≡ true → file ≡ shelf.files
 
 -- a file that is there and isn't too long
 abbrev pub IsLoadable : Option (List ℕ) → Type 0
-IsLoadable file = IsSomeAnd file (λ bytes. length bytes ≤ CEILING)
+IsLoadable file = IsSomeAnd file (λ bytes. length bytes ≤ ceiling)
 
 -- Once a device was called, memory is wanted in the jobs play and check only where there are bytes.
 abbrev pub MayWant : Job → Option (List ℕ) → Type 0
@@ -209,12 +235,21 @@ pub record HasItsParts {A : Type 0} (playing : Type 0) (ended : Ended A) : Type 
   pub ran : playing → (ended.status ≡ ENDED) ⊎ ((SPENT ≤ ended.status) × (ended.status ≤ OUTPUT_FAULT) × (ended.status ≢ SHELF_FAULT)) → IsSome ended.machine
   pub not_run : (ended.status ≡ BAD_WORDS) ⊎ (ended.status ≡ BAD_STORY) → ended.machine ≡ None
 
+-- a command line with a seed
+abbrev pub IsSeeded : Option Command → Type 0
+IsSeeded None = ⊥
+IsSeeded (Some command) = IsSome command.seed
+
+-- The outcome is the same whatever words the device holds.
+abbrev pub IsSettled : Option Command → Devices → Type 0
+IsSettled command entry = (file : Option (List ℕ)) (other : Stream) → outcome_of command file (record entry { words = other }) ≡ outcome_of command file entry
+
 -- COMPLETENESS
 -- the status of an outcome, where nothing cuts it short
 abbrev pub status_of_outcome : Outcome → ℕ
 status_of_outcome (refused status fault) = status
 status_of_outcome (unstarted fault at) = FAULT
-status_of_outcome (runs start) = status_of (final_of start).stop
+status_of_outcome (runs seed start) = status_of (final_of start).stop
 status_of_outcome (tells status line) = status
 
 -- what stands under the story's name, if a command names one
@@ -242,6 +277,8 @@ pub record IsPlayed {A : Type 0} (words : List (List ℕ)) (entry exit : Devices
   pub loads : ended.machine ≡ None → LoadsFor (command_of words) entry exit ended.status
   pub untouched : ended.machine ≡ None → IsUntouched entry exit ended
   pub unsent : IsPlaying (command_of words) → ended.machine ≡ None → exit.sink ≡ entry.sink
+  pub undrawn : IsSeeded (command_of words) → exit.words ≡ entry.words
+  pub settled : IsSeeded (command_of words) → IsSettled (command_of words) entry
   pub counts : Counts entry exit ended.status
   pub complete : IsComplete (command_of words) entry exit ended.status
   pub parts : HasItsParts (IsPlaying (command_of words)) ended

@@ -14,7 +14,7 @@ use Rattle.gx_session.specs.declared.statuses.TheConstants.{ENDED, FAULT}
 use Rattle.gx_session.specs.Devices.{Devices, devices}
 use Rattle.gx_session.specs.Session.{Configuration, start_of, final_of}
 use Rattle.gx_work.specs.Work.{work_story}
-use Rattle.gx_play.specs.declared.playing.TheConstants.{UNDO_DEPTH}
+use Rattle.gx_play.specs.Constants.{usual_depth}
 use Rattle.rand_core.specs.Stream.{Stream}
 
 -- a text and a line feed
@@ -31,7 +31,8 @@ check_line true = line_of (codes "checksum ok")
 check_line false = line_of (codes "checksum differs")
 
 -- JOB WORK: the story of a number is played to its end over devices that hold nothing, on a screen of 80 columns and 24
--- rows, within the largest budget; what it comes to is told in three numbers.
+-- rows, with the usual depth of undo and within the largest budget, whatever the options say; what it comes to is told in
+-- three numbers.
 
 -- every random word is 0
 abbrev pub zeros : Stream
@@ -49,7 +50,7 @@ machine_of (Ok whole) = Some whole
 machine_of (Err fault) = None
 
 abbrev pub machine_in : Result FlatStory StoryFault → Option Whole
-machine_in (Ok story) = machine_of (first_machine story UNDO_DEPTH)
+machine_in (Ok story) = machine_of (first_machine story usual_depth)
 machine_in (Err fault) = None
 
 unfoldable pub work_machine : ℕ → Option Whole

@@ -1,5 +1,7 @@
 pub mod Commands
+pub mod Constants
 pub mod Headline
 pub mod Jobs
 pub mod Loading
 pub mod Reading
+pub mod Seeds

@@ -1,6 +1,6 @@
 -- How the parts of `play` are put together: what loading a story comes to, what playing it comes to then, and what a command
 -- comes to once it is read.
-use Rattle.std.specs.Prelude.{◌≡◌, ◌≢◌, ◌⊎◌, ℕ, true, List, Option, None, IsSomeAnd, Result, Ok, Err}
+use Rattle.std.specs.Prelude.{◌≡◌, ◌≢◌, ◌⊎◌, ℕ, true, List, Option, None, Result, Ok, Err}
 use Rattle.gx_words.specs.Faults.{number_of}
 use Rattle.gx_outside.specs.Outside.{FlatShelf, FlatSink}
 use Rattle.gx_outside.specs.declared.devices.ShelfFault.{ShelfFault}
@@ -13,13 +13,12 @@ use Rattle.gx_session.specs.declared.ended.Ended.{Ended}
 use Rattle.gx_session.specs.declared.statuses.TheConstants.{BAD_WORDS, BAD_STORY, FAULT, SHELF_FAULT, OUTPUT_FAULT, NO_MEMORY}
 use Rattle.gx_session.specs.Counts.{Blames, Counts}
 use Rattle.gx_session.specs.Devices.{Devices}
-use Rattle.gx_session.specs.Runs.{IsRun, report_of}
 use Rattle.gx_play.specs.declared.command.Job.{Job}
 use Rattle.gx_play.specs.declared.command.Job.TheVariants.{Play}
 use Rattle.gx_play.specs.declared.loading.Refusal.{Refusal}
 use Rattle.gx_play.specs.declared.loading.Refusal.TheVariants as refusal
 use Rattle.gx_play.specs.Commands.{Command}
-use Rattle.gx_play.specs.Headline.{Outcome, refused, unstarted, runs, tells, outcome_of_job, story_of, HasNoMachine, IsUnbegun, IsLoadable, HasItsParts, IsUntouched, Loads, MayWant, Plays}
+use Rattle.gx_play.specs.Headline.{Outcome, refused, unstarted, runs, tells, outcome_of_job, story_of, HasNoMachine, IsUnbegun, IsRunOf, IsLoadable, HasItsParts, IsUntouched, Loads, MayWant, Plays}
 
 -- what a shelf's fault is to a story that is loaded
 abbrev pub refusal_of_shelf : ShelfFault → Refusal
@@ -58,7 +57,7 @@ pub record LoadsFile (shelf : FlatShelf) (name : List ℕ) (result : Result Flat
 abbrev pub StoryPlays : {A : Type 0} → Outcome → Devices → Devices → Ended A → Type 0
 StoryPlays (refused status fault) entry exit ended = HasNoMachine ended status fault 0 ⊎ IsUnbegun ended
 StoryPlays (unstarted fault at) entry exit ended = HasNoMachine ended FAULT (number_of fault) at ⊎ IsUnbegun ended
-StoryPlays (runs start) entry exit ended = IsSomeAnd ended.machine (λ end. IsRun start entry exit (report_of ended end)) ⊎ IsUnbegun ended
+StoryPlays (runs seed start) entry exit ended = IsRunOf seed start entry exit ended ⊎ IsUnbegun ended
 StoryPlays (tells status line) entry exit ended = ⊥
 
 -- what goes with the status of a run

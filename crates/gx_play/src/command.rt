@@ -1,18 +1,23 @@
 //! The command line: what its words ask for.
 //!
-//! `gx_player STORY [--steps N] [--columns N] [--rows N] [--echo] [--job JOB]`, read as specs/Commands
-//! has it: a command exactly where the words match and each text is as it has to be. All options are
-//! looked at in every job. Reading takes memory, so that want of memory may come for any words.
+//! `gx_player STORY [--steps N] [--columns N] [--rows N] [--undo N] [--seed N] [--echo] [--job JOB]`, read as
+//! specs/Commands has it: a command exactly where the words match and each text is as it has to be. All options
+//! are looked at in every job. Reading takes memory, so that want of memory may come for any words.
 ghost use Rattle.std.specs.Prelude.{◌≡◌, ◌-◌, ◌^◌, ◌≤◌, Some, map, MatchResult, IfOk, IfSome, option_map, codes};
 ghost use Rattle.std.specs.Char.{is_ascii_digit};
 ghost use Rattle.std.specs.List.{list_all};
 ghost use Rattle.clap.specs.Words.{first_value, found_of};
-ghost use Rattle.gx_play.specs.Commands.{command_of, command_in, number_of, job_of, is_set};
-ghost use Rattle.gx_play.specs.Reading.{seen, IsUnread, HasScreen};
+ghost use Rattle.gx_undo.specs.Undo.{most_undo};
+ghost use Rattle.gx_play.specs.Commands.{command_of, command_in, number_of, depth_of, seed_of, job_of, is_set};
+ghost use Rattle.gx_play.specs.Reading.{seen, texts_seen, texts_in, IsUnread, IsInRange};
 
 use crate::words::match_words;
 use clap::ArgMatches;
+use gx_undo::MOST_UNDO;
 use std::alloc::{AllocError, Global};
+
+/// How many copies are kept for undo where the words say nothing of it, and in job work.
+pub const USUAL_DEPTH: usize = 16;
 
 /// What the program is to do.
 #[derive(Clone, Copy, Debug, PartialEq, Eq)]
@@ -35,9 +40,26 @@ pub struct Command<'a> {
     /// The size of the screen, each from 1 to 255.
     pub columns: u32,
     pub rows: u32,
+    /// How many copies are kept for undo, from 1 to 64.
+    pub undo: usize,
+    /// The seed of the random words; None where they are those from outside.
+    pub seed: Option<u64>,
     /// Whether each line that is taken is shown.
     pub echo: bool,
     pub job: Job,
+}
+
+/// The texts of a command line, of which but two have to be there.
+#[derive(Clone, Copy)]
+struct Texts<'a> {
+    story: &'a str,
+    steps: &'a str,
+    columns: &'a str,
+    rows: &'a str,
+    undo: Option<&'a str>,
+    seed: Option<&'a str>,
+    echo: bool,
+    job: &'a str,
 }
 
 /// Why a command line asks for nothing.
@@ -63,7 +85,7 @@ impl From<AllocError> for CommandFault {
 pub fn read_command<'a>(alloc: Global, words: &'a [&'a str]) -> Result<Command<'a>, CommandFault>
     ensures command { let texts = map (λ word. word.now) words.entry.now in
         MatchResult result (λ command. command_of texts ≡ Some (seen command)) (IsUnread texts) }
-    ensures screen { IfOk result HasScreen }
+    ensures range { IfOk result IsInRange }
 {
     let matches = match_words(alloc, words)?;
     match read_matches(&matches) {
@@ -74,19 +96,20 @@ pub fn read_command<'a>(alloc: Global, words: &'a [&'a str]) -> Result<Command<'
 
 /// The command of what is matched.
 fn read_matches<'a>(matches: &ArgMatches<'a>) -> Option<Command<'a>>
-    ensures command { let found = found_of matches.now in
-        option_map seen result ≡ command_in (first_value found (codes "STORY")) (is_set (first_value found (codes "echo")))
-        (first_value found (codes "steps")) (first_value found (codes "columns")) (first_value found (codes "rows"))
-        (first_value found (codes "job")) }
-    ensures screen { IfSome result HasScreen }
+    ensures command { option_map seen result ≡ command_in (texts_in (found_of matches.now)) }
+    ensures range { IfSome result IsInRange }
 {
-    let echo = is_set(matches);
-    let story = matches.get_str("STORY")?;
-    let steps = matches.get_str("steps")?;
-    let columns = matches.get_str("columns")?;
-    let rows = matches.get_str("rows")?;
-    let job = matches.get_str("job")?;
-    read_texts(story, echo, steps, columns, rows, job)
+    let texts = Texts {
+        story: matches.get_str("STORY")?,
+        steps: matches.get_str("steps")?,
+        columns: matches.get_str("columns")?,
+        rows: matches.get_str("rows")?,
+        undo: matches.get_str("undo"),
+        seed: matches.get_str("seed"),
+        echo: is_set(matches),
+        job: matches.get_str("job")?,
+    };
+    read_texts(texts)
 }
 
 /// Whether the flag is set.
@@ -100,29 +123,47 @@ fn is_set(matches: &ArgMatches) -> bool
 }
 
 /// The command of these texts.
-fn read_texts<'a>(
-    story: &'a str,
-    echo: bool,
-    steps: &str,
-    columns: &str,
-    rows: &str,
-    job: &str,
-) -> Option<Command<'a>>
-    ensures command { option_map seen result ≡ command_in (Some story.entry.now) echo (Some steps.now) (Some columns.now) (Some rows.now) (Some job.now) }
-    ensures screen { IfSome result HasScreen }
+fn read_texts<'a>(texts: Texts<'a>) -> Option<Command<'a>>
+    ensures command { option_map seen result ≡ command_in (texts_seen texts.entry) }
+    ensures range { IfSome result IsInRange }
 {
-    let steps = read_number(steps, 0, u64::MAX)?;
-    let columns = read_number(columns, 1, 255)?;
-    let rows = read_number(rows, 1, 255)?;
-    let job = read_job(story, job)?;
+    let steps = read_number(texts.steps, 0, u64::MAX)?;
+    let columns = read_number(texts.columns, 1, 255)?;
+    let rows = read_number(texts.rows, 1, 255)?;
+    let undo = read_depth(texts.undo)?;
+    let seed = read_seed(texts.seed)?;
+    let job = read_job(texts.story, texts.job)?;
     Some(Command {
-        story,
+        story: texts.story,
         steps,
         columns: columns as u32,
         rows: rows as u32,
-        echo,
+        undo,
+        seed,
+        echo: texts.echo,
         job,
     })
+}
+
+/// The depth of undo.
+fn read_depth(text: Option<&str>) -> Option<usize>
+    ensures value { result ≡ depth_of (option_map (λ text. text.now) text.entry) }
+    ensures range { IfSome result (λ depth. (1 ≤ depth) × (depth ≤ most_undo)) }
+{
+    match text {
+        Some(text) => Some(read_number(text, 1, MOST_UNDO as u64)? as usize),
+        None => Some(USUAL_DEPTH),
+    }
+}
+
+/// The seed, if there is one; None where the text is no seed.
+fn read_seed(text: Option<&str>) -> Option<Option<u64>>
+    ensures { result ≡ seed_of (option_map (λ text. text.now) text.entry) }
+{
+    match text {
+        Some(text) => Some(Some(read_number(text, 0, u64::MAX)?)),
+        None => Some(None),
+    }
 }
 
 /// The job of a name; in job work STORY is a number.

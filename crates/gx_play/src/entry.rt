@@ -6,7 +6,7 @@ ghost use Rattle.std.specs.Prelude.{map};
 ghost use Rattle.gx_session.specs.Devices.{devices};
 ghost use Rattle.gx_play.specs.Headline.{IsPlayed};
 ghost use Rattle.gx_play.specs.Loading.{IsDone};
-ghost use Rattle.gx_play.specs.Reading.{seen, HasScreen};
+ghost use Rattle.gx_play.specs.Reading.{seen, IsInRange};
 
 use crate::checking::check_file;
 use crate::command::{Command, CommandFault, Job, read_command};
@@ -22,7 +22,8 @@ use std::alloc::{Allocator, Global};
 ///
 /// `words` are the command line, the program's name first; `pages` is where the machine's memory
 /// comes from. The input, the text, the files and the random words are those of the objects handed
-/// in, and `dice` may be left one word after those that were used.
+/// in, and `dice` may be left one word after those that were used. With a seed on the command line no word
+/// is taken from `dice`.
 ///
 /// The machine that is handed back is as the run left it, and None where none was started, and in the jobs
 /// check and work.
@@ -56,7 +57,7 @@ fn do_job<A: Allocator + Clone, S: Source, K: Sink, F: Shelf, R: Rng>(
     shelf: &mut F,
     dice: &mut R,
 ) -> Ended<A>
-    requires { HasScreen command }
+    requires { IsInRange command }
     ensures { let entry = devices (S.seen input.old) (K.seen output.old) (F.seen shelf.old) (R.stream dice.old) in
         let exit = devices (S.seen input.new) (K.seen output.new) (F.seen shelf.new) (R.stream dice.new) in
         IsDone command.entry.job (seen command.entry) entry exit result }

@@ -1,4 +1,4 @@
-//! Job play: the story is loaded and played within a budget.
+//! Job play: the story is loaded and played within a budget, with the random words of a seed where there is one.
 ghost use Rattle.std.specs.Prelude.{◌≡◌, ◌≢◌, None};
 ghost use Rattle.gx_words.specs.declared.faults.Fault.TheVariants.{NoMemory};
 ghost use Rattle.gx_words.specs.Faults.{number_of};
@@ -7,9 +7,9 @@ ghost use Rattle.gx_session.specs.Devices.{devices};
 ghost use Rattle.gx_session.specs.Counts.{Counts};
 ghost use Rattle.gx_session.specs.declared.statuses.TheConstants.{BAD_WORDS, FAULT, NO_MEMORY};
 ghost use Rattle.gx_play.specs.declared.command.Job.TheVariants.{Play};
-ghost use Rattle.gx_play.specs.Headline.{outcome_of_start, HasNoMachine, IsUntouched};
+ghost use Rattle.gx_play.specs.Headline.{outcome_of_start, start_for, HasNoMachine, IsRunOf, IsUntouched};
 ghost use Rattle.gx_play.specs.Loading.{StoryPlays, HasRunParts, IsDone};
-ghost use Rattle.gx_play.specs.Reading.{seen, HasScreen};
+ghost use Rattle.gx_play.specs.Reading.{seen, IsInRange};
 
 use crate::command::Command;
 use crate::loading::{load_story, without_machine, without_story};
@@ -19,11 +19,9 @@ use gx_outside::{Shelf, Sink, Source};
 use gx_session::{Ended, run, statuses};
 use gx_story::Story;
 use gx_words::Fault;
-use rand_core::Rng;
+use rand_core::{Rng, SeedableRng};
+use rand_pcg::Pcg32;
 use std::alloc::{Allocator, Global};
-
-/// The most copies that a machine keeps for undo.
-pub const UNDO_DEPTH: usize = 16;
 
 /// Plays the story of the command's file.
 pub fn play_file<A: Allocator + Clone, S: Source, K: Sink, F: Shelf, R: Rng>(
@@ -35,7 +33,7 @@ pub fn play_file<A: Allocator + Clone, S: Source, K: Sink, F: Shelf, R: Rng>(
     shelf: &mut F,
     dice: &mut R,
 ) -> Ended<A>
-    requires { HasScreen command }
+    requires { IsInRange command }
     ensures { let entry = devices (S.seen input.old) (K.seen output.old) (F.seen shelf.old) (R.stream dice.old) in
         let exit = devices (S.seen input.new) (K.seen output.new) (F.seen shelf.new) (R.stream dice.new) in
         IsDone Play (seen command.entry) entry exit result }
@@ -57,10 +55,10 @@ fn play_story<A: Allocator + Clone, S: Source, K: Sink, F: Shelf, R: Rng>(
     shelf: &mut F,
     dice: &mut R,
 ) -> Ended<A>
-    requires { HasScreen command }
+    requires { IsInRange command }
     ensures plays { let entry = devices (S.seen input.old) (K.seen output.old) (F.seen shelf.old) (R.stream dice.old) in
         let exit = devices (S.seen input.new) (K.seen output.new) (F.seen shelf.new) (R.stream dice.new) in
-        StoryPlays (outcome_of_start (seen command.entry) story entry (first_machine story UNDO_DEPTH)) entry exit result }
+        StoryPlays (outcome_of_start (seen command.entry) story entry (first_machine story command.entry.undo)) entry exit result }
     ensures shelf { result.machine ≡ None → F.seen shelf.new ≡ F.seen shelf.old }
     ensures sink { result.machine ≡ None → K.seen output.new ≡ K.seen output.old }
     ensures untouched { let entry = devices (S.seen input.old) (K.seen output.old) (F.seen shelf.old) (R.stream dice.old) in
@@ -73,10 +71,49 @@ fn play_story<A: Allocator + Clone, S: Source, K: Sink, F: Shelf, R: Rng>(
     ensures began { result.status ≢ BAD_WORDS }
 {
     let start = story.start_function();
-    match Machine::start(alloc, pages, story, UNDO_DEPTH) {
+    match Machine::start(alloc, pages, story, command.undo) {
         Err(fault) => unstarted(fault, start),
-        Ok(machine) => {
-            let world = World::new(alloc, command.columns, command.rows);
+        Ok(machine) => run_machine(alloc, machine, command, input, output, shelf, dice),
+    }
+}
+
+/// Runs a machine with the command's random words: those of its seed, or else those of `dice`.
+fn run_machine<A: Allocator + Clone, S: Source, K: Sink, F: Shelf, R: Rng>(
+    alloc: Global,
+    machine: Machine<A>,
+    command: Command<'_>,
+    input: &mut S,
+    output: &mut K,
+    shelf: &mut F,
+    dice: &mut R,
+) -> Ended<A>
+    requires asks_nothing { machine.asking ≡ None }
+    requires range { IsInRange command }
+    ensures runs { let entry = devices (S.seen input.old) (K.seen output.old) (F.seen shelf.old) (R.stream dice.old) in
+        let exit = devices (S.seen input.new) (K.seen output.new) (F.seen shelf.new) (R.stream dice.new) in
+        IsRunOf command.entry.seed (start_for (seen command.entry) machine entry) entry exit result }
+    ensures counts { let entry = devices (S.seen input.old) (K.seen output.old) (F.seen shelf.old) (R.stream dice.old) in
+        let exit = devices (S.seen input.new) (K.seen output.new) (F.seen shelf.new) (R.stream dice.new) in
+        Counts entry exit result.status }
+    ensures parts { HasRunParts result }
+    ensures some { result.machine ≢ None }
+    ensures began { result.status ≢ BAD_WORDS }
+{
+    let world = World::new(alloc, command.columns, command.rows);
+    match command.seed {
+        None => run(
+            alloc,
+            machine,
+            world,
+            command.echo,
+            command.steps,
+            input,
+            output,
+            shelf,
+            dice,
+        ),
+        Some(seed) => {
+            let mut words = Pcg32::seed_from_u64(seed);
             run(
                 alloc,
                 machine,
@@ -86,7 +123,7 @@ fn play_story<A: Allocator + Clone, S: Source, K: Sink, F: Shelf, R: Rng>(
                 input,
                 output,
                 shelf,
-                dice,
+                &mut words,
             )
         }
     }

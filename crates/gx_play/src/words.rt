@@ -1,11 +1,11 @@
-//! The words of the command line, matched by `clap` with one simple command: STORY and five options,
+//! The words of the command line, matched by `clap` with one simple command: STORY and seven options,
 //! which are texts and one flag. What the texts are worth is no matter here.
 //!
 //! Why the words have no matches isn't told: a question for help is a faulty command line like any
 //! other.
 ghost use Rattle.std.specs.Prelude.{◌≡◌, IfOk, MatchResult, false, map};
 ghost use Rattle.clap.specs.Words.{app_of, rule_of};
-ghost use Rattle.gx_play.specs.Commands.{player, story_rule, text_rule, echo_rule};
+ghost use Rattle.gx_play.specs.Commands.{player, story_rule, text_rule, free_rule, echo_rule};
 ghost use Rattle.gx_play.specs.Reading.{HasMatches, IsUnread};
 
 use crate::command::CommandFault;
@@ -36,13 +36,17 @@ fn player<'a>(alloc: Global) -> Result<Command<'a>, AllocError>
     let steps = text_arg(alloc, "steps", "1000000000000000");
     let columns = text_arg(alloc, "columns", "80");
     let rows = text_arg(alloc, "rows", "24");
+    let undo = free_arg(alloc, "undo");
+    let seed = free_arg(alloc, "seed");
     let echo = echo_arg(alloc);
     let job = text_arg(alloc, "job", "play");
     let with_story = Command::new(alloc, "gx_player").arg(story)?;
     let with_steps = with_story.arg(steps)?;
     let with_columns = with_steps.arg(columns)?;
     let with_rows = with_columns.arg(rows)?;
-    let with_echo = with_rows.arg(echo)?;
+    let with_undo = with_rows.arg(undo)?;
+    let with_seed = with_undo.arg(seed)?;
+    let with_echo = with_seed.arg(echo)?;
     with_echo.arg(job)
 }
 
@@ -60,6 +64,14 @@ fn text_arg<'a>(alloc: Global, name: &'a str, usual: &'a str) -> Arg<'a>
     ensures global { result.global ≡ false }
 {
     Arg::new(alloc, name).long(name).default_value(usual)
+}
+
+/// `--NAME TEXT`, for which nothing stands where it isn't there.
+fn free_arg<'a>(alloc: Global, name: &'a str) -> Arg<'a>
+    ensures rule { rule_of result ≡ free_rule name.entry.now }
+    ensures global { result.global ≡ false }
+{
+    Arg::new(alloc, name).long(name)
 }
 
 /// `--echo`.

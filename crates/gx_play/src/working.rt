@@ -7,8 +7,8 @@ ghost use Rattle.gx_play.specs.Jobs.{work_machine, work_line, sum_from, ram_sum_
 ghost use Rattle.gx_play.specs.Loading.{IsDone};
 ghost use Rattle.gx_play.specs.Commands.{Command};
 
+use crate::command::USUAL_DEPTH;
 use crate::loading::without_machine;
-use crate::playing::UNDO_DEPTH;
 use crate::silent::{Gathered, NoFiles, NoInput, Zeros};
 use crate::telling::send_line;
 use glk_world::World;
@@ -86,7 +86,7 @@ fn start_work<A: Allocator + Clone>(
     let Ok(story) = Story::read(alloc, bytes.as_slice()) else {
         return Err(AllocError);
     };
-    match Machine::start(alloc, pages, story, UNDO_DEPTH) {
+    match Machine::start(alloc, pages, story, USUAL_DEPTH) {
         Ok(machine) => Ok(machine),
         Err(_) => Err(AllocError),
     }

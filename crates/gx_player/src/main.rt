@@ -1,6 +1,6 @@
-//! `gx_player STORY [--steps N] [--columns N] [--rows N] [--echo] [--job JOB]`: plays a Glulx story over
-//! standard input, standard output and the files of the current folder, checks one, or measures the
-//! machine.
+//! `gx_player STORY [--steps N] [--columns N] [--rows N] [--undo N] [--seed N] [--echo] [--job JOB]`: plays a
+//! Glulx story over standard input, standard output and the files of the current folder, checks one, or
+//! measures the machine.
 //!
 //! `play` (gx_play) does all of it over objects that are handed in; `real` has those of the program.
 //!
@@ -20,9 +20,9 @@ use std::process::ExitCode;
 use std::random::RandomSource;
 use std::{env, io};
 
-/// How many pages of memory may be out at once: 18 times those of the largest memory, which is room
-/// for the present memory, sixteen undo states and one in the making with no page in common.
-const MOST_PAGES: usize = 4_718_592;
+/// How many pages of memory may be out at once: 66 times those of the largest memory, which is room
+/// for the present memory, sixty-four undo states and one in the making with no page in common.
+const MOST_PAGES: usize = 69_206_016;
 
 /// A seed from the system's random source, and 32 zero bytes where that fails.
 fn seed(rt: &impl RandomSource) -> [u8; 32] {

@@ -1,12 +1,12 @@
 -- Where the numbers stand in the table.
-use Rattle.std.proofs.Common.{◌≡◌, ◌≢◌, ◌≤◌, ◌<◌, ◌+◌, ◌&&◌, ◌==◌, ℕ, zero, suc, Bool, true, false, nat_lt, not, List, [], ◌∷◌, length, get_or, slice_index, refl, sym, ◌∙◌, ap, subst, arith, Option, Some, None, option_map}
-use Rattle.std.specs.List.{list_all, position_or_len, slice_get, find}
+use Rattle.std.proofs.Common.{◌≡◌, ◌≢◌, ◌≤◌, ◌<◌, ◌+◌, ◌&&◌, ◌==◌, ℕ, zero, suc, Bool, true, false, nat_lt, not, List, [], ◌∷◌, length, slice_index, refl, sym, ◌∙◌, ap, subst, arith, Some, None, option_map}
+use Rattle.std.specs.List.{list_all, position_or_len, slice_get}
 use Rattle.std.proofs.lemmas.Bool.Decides.{nat_tests}
 use Rattle.std.proofs.lemmas.List.Folds.{find_at}
 use Rattle.std.proofs.lemmas.List.Sums.{AllPass-from_list_all, position_or_len_is, prefix_len-le-length}
 use Rattle.std.proofs.lemmas.Option.{slice_get_past, slice_get-get_or}
 use Rattle.gx_rows.specs.declared.instructions.Row.{Row}
-use Rattle.gx_rows.specs.Table.{table, row_of, row_at, row_fits, are_places, are_below, RowFits}
+use Rattle.gx_rows.specs.Table.{table, row_count, row_of, row_at, row_fits, are_places, are_below, RowFits}
 
 both : (a b : Bool) → (a && b) ≡ true → (a ≡ true) × (b ≡ true)
 both true b h = (refl, h)
@@ -15,7 +15,7 @@ both false b h = absurd (cc)
 same : (m n : ℕ) → (m == n) ≡ true → m ≡ n
 same m n h = grind (arith, nat_tests)
 
-rows_counted : length table ≡ 87
+pub rows_counted : length table ≡ row_count
 unfolding table
 rows_counted = refl
 
@@ -31,7 +31,7 @@ fits_by_test row fits = record {
   width = grind (arith, nat_tests);
 }
 
-pub fits_at : (place : ℕ) → place < 87 → RowFits (row_at place)
+pub fits_at : (place : ℕ) → place < row_count → RowFits (row_at place)
 unfolding row_at
 fits_at place within = fits_by_test _ (AllPass-from_list_all row_fits table all_fit place _ (omega (arith, rows_counted)))
 
@@ -55,24 +55,24 @@ stands_at : (number : ℕ) (places : List ℕ) → are_places 0 places ≡ true 
     → position_or_len (λ row. row.number == number) table ≡ slice_index places number
 stands_at number places all within = subst (λ (n : ℕ). position_or_len (λ row. row.number == n) table ≡ slice_index places number) (omega arith) (stands 0 number places all within)
 
-pub place_within : (places : List ℕ) (number : ℕ) → are_places 0 places ≡ true → number < length places → slice_index places number ≢ 87 → slice_index places number < 87
+pub place_within : (places : List ℕ) (number : ℕ) → are_places 0 places ≡ true → number < length places → slice_index places number ≢ row_count → slice_index places number < row_count
 place_within places number all within some =
     let most = prefix_len-le-length (λ row. not (row.number == number)) table in
     omega (arith, rows_counted, most, stands_at number places all within, some)
 
 -- a number that has a place
-pub number_found : (places : List ℕ) (number : ℕ) → are_places 0 places ≡ true → number < length places → slice_index places number ≢ 87
-    → (option_map row_at (Some (slice_index places number)) ≡ row_of number) × (slice_index places number < 87) × RowFits (row_at (slice_index places number))
+pub number_found : (places : List ℕ) (number : ℕ) → are_places 0 places ≡ true → number < length places → slice_index places number ≢ row_count
+    → (option_map row_at (Some (slice_index places number)) ≡ row_of number) × (slice_index places number < row_count) × RowFits (row_at (slice_index places number))
 unfolding row_at
 number_found places number all within some =
     let there = place_within places number all within some in
     (sym (row_found number (slice_index places number) (stands_at number places all within) ∙ slice_get-get_or table (slice_index places number) _ (omega (arith, rows_counted, there))), there, fits_at _ there)
 
 -- one that has none
-pub number_missing : (places : List ℕ) (number : ℕ) → are_places 0 places ≡ true → number < length places → slice_index places number ≡ 87
+pub number_missing : (places : List ℕ) (number : ℕ) → are_places 0 places ≡ true → number < length places → slice_index places number ≡ row_count
     → None ≡ row_of number
 number_missing places number all within none =
-    sym (row_found number 87 (stands_at number places all within ∙ none) ∙ slice_get_past table 87 (omega (arith, rows_counted)))
+    sym (row_found number row_count (stands_at number places all within ∙ none) ∙ slice_get_past table row_count (omega (arith, rows_counted)))
 
 -- one above them all
 too_great : (m n most : ℕ) → nat_lt m most ≡ true → most ≤ n → (m == n) ≡ false

@@ -24,6 +24,9 @@ const M_ALLOC: u32 = 7;
 
 const M_ALLOC_HEAP: u32 = 8;
 
+/// Whether there are hasundo and discardundo, which aren't of 3.1.2.
+const EXTENDED_UNDO: u32 = 12;
+
 /// How a selector is answered.
 #[derive(Clone, Copy)]
 enum Answer {
@@ -55,10 +58,10 @@ macro_rules! capabilities {
     };
 }
 
-/// The selectors that aren't always answered by 0, in rising order. The version of the interpreter
-/// is its own to choose.
-const CAPABILITIES: [Capability; 9] = capabilities! {
-    GLULX_VERSION => Answer::Fixed(0x0003_0102);
+/// The selectors that aren't always answered by 0, in rising order. The version of the interpreter is
+/// its own to choose, and the first answer says 3.1.2 with hasundo and discardundo.
+const CAPABILITIES: [Capability; 10] = capabilities! {
+    GLULX_VERSION => Answer::Fixed(0x0003_0103);
     TERP_VERSION => Answer::Fixed(0x0001_0000);
     RESIZE_MEM => Answer::Fixed(1);
     UNDO => Answer::Fixed(1);
@@ -67,6 +70,7 @@ const CAPABILITIES: [Capability; 9] = capabilities! {
     MEM_COPY => Answer::Fixed(1);
     M_ALLOC => Answer::Fixed(1);
     M_ALLOC_HEAP => Answer::HeapStart;
+    EXTENDED_UNDO => Answer::Fixed(1);
 };
 
 /// The answer to a selector with its argument; `heap_start` is 0 where the heap is inactive.

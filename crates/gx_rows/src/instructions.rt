@@ -5,7 +5,7 @@
 ghost use Rattle.std.specs.Prelude.{◌≡◌, ◌<◌, IsTrue, IfSome, option_map, length};
 ghost use Rattle.std.specs.List.{list_all};
 ghost use Rattle.gx_rows.specs.Keys.{is_rising};
-ghost use Rattle.gx_rows.specs.Table.{table, row_of, row_at, row_fits, RowFits, are_places, are_below};
+ghost use Rattle.gx_rows.specs.Table.{table, row_count, row_of, row_at, row_fits, RowFits, are_places, are_below};
 
 use crate::Keyed;
 use crate::numbers::*;
@@ -99,8 +99,11 @@ macro_rules! width {
     ($width:literal) => { $width };
 }
 
+/// How many instructions there are.
+pub const ROW_COUNT: usize = 89;
+
 /// The instructions in rising order of number, each with its loads (L) and stores (S) in order.
-pub const ROWS: [Row; 87] = rows! {
+pub const ROWS: [Row; ROW_COUNT] = rows! {
     // No operation
     NOP                          => Flow;
     // Integer math
@@ -181,6 +184,8 @@ pub const ROWS: [Row; 87] = rows! {
     SAVEUNDO S                   => Game;
     RESTOREUNDO S                => Game;
     PROTECT L L                  => Game;
+    HASUNDO S                    => Game;
+    DISCARDUNDO                  => Game;
     // Glk
     GLK L L S                    => Glk;
     // String decoding table, iosystem
@@ -209,53 +214,158 @@ pub const ROWS: [Row; 87] = rows! {
 };
 
 /// What stands in `PLACES` for a number that no instruction has.
-const NO: u8 = 87;
+const NO: u8 = ROW_COUNT as u8;
 
-/// The place in the table of each number below 0x182, above which no instruction has one. A line has
-/// sixteen numbers, from the one that stands at its end.
+/// How many numbers `PLACES` has: no instruction has a greater one.
+const PLACE_COUNT: usize = 0x182;
+
+/// The instructions in the order of the table: as a number, each is its place there.
+enum Place {
+    NOP,
+    ADD,
+    SUB,
+    MUL,
+    DIV,
+    MOD,
+    NEG,
+    BITAND,
+    BITOR,
+    BITXOR,
+    BITNOT,
+    SHIFTL,
+    SSHIFTR,
+    USHIFTR,
+    JUMP,
+    JZ,
+    JNZ,
+    JEQ,
+    JNE,
+    JLT,
+    JGE,
+    JGT,
+    JLE,
+    JLTU,
+    JGEU,
+    JGTU,
+    JLEU,
+    CALL,
+    RETURN,
+    CATCH,
+    THROW,
+    TAILCALL,
+    COPY,
+    COPYS,
+    COPYB,
+    SEXS,
+    SEXB,
+    ALOAD,
+    ALOADS,
+    ALOADB,
+    ALOADBIT,
+    ASTORE,
+    ASTORES,
+    ASTOREB,
+    ASTOREBIT,
+    STKCOUNT,
+    STKPEEK,
+    STKSWAP,
+    STKROLL,
+    STKCOPY,
+    STREAMCHAR,
+    STREAMNUM,
+    STREAMSTR,
+    STREAMUNICHAR,
+    GESTALT,
+    DEBUGTRAP,
+    GETMEMSIZE,
+    SETMEMSIZE,
+    JUMPABS,
+    RANDOM,
+    SETRANDOM,
+    QUIT,
+    VERIFY,
+    RESTART,
+    SAVE,
+    RESTORE,
+    SAVEUNDO,
+    RESTOREUNDO,
+    PROTECT,
+    HASUNDO,
+    DISCARDUNDO,
+    GLK,
+    GETSTRINGTBL,
+    SETSTRINGTBL,
+    GETIOSYS,
+    SETIOSYS,
+    LINEARSEARCH,
+    BINARYSEARCH,
+    LINKEDSEARCH,
+    CALLF,
+    CALLFI,
+    CALLFII,
+    CALLFIII,
+    MZERO,
+    MCOPY,
+    MALLOC,
+    MFREE,
+    ACCELFUNC,
+    ACCELPARAM,
+}
+
+/// The places of names in `PLACES`, with `_` for a number that no instruction has.
+macro_rules! places {
+    ($($name:tt)*) => { [$(place!($name)),*] };
+}
+
+macro_rules! place {
+    (_) => { NO };
+    ($name:ident) => { Place::$name as u8 };
+}
+
+/// The place in the table of each number. A line has sixteen numbers, from the one that stands at its end.
 #[rattlefmt::skip]
-const PLACES: [u8; 0x182] = [
-    0, NO, NO, NO, NO, NO, NO, NO, NO, NO, NO, NO, NO, NO, NO, NO, // 00
-    1, 2, 3, 4, 5, 6, NO, NO, 7, 8, 9, 10, 11, 12, 13, NO, // 10
-    14, NO, 15, 16, 17, 18, 19, 20, 21, 22, 23, 24, 25, 26, NO, NO, // 20
-    27, 28, 29, 30, 31, NO, NO, NO, NO, NO, NO, NO, NO, NO, NO, NO, // 30
-    32, 33, 34, NO, 35, 36, NO, NO, 37, 38, 39, 40, 41, 42, 43, 44, // 40
-    45, 46, 47, 48, 49, NO, NO, NO, NO, NO, NO, NO, NO, NO, NO, NO, // 50
-    NO, NO, NO, NO, NO, NO, NO, NO, NO, NO, NO, NO, NO, NO, NO, NO, // 60
-    50, 51, 52, 53, NO, NO, NO, NO, NO, NO, NO, NO, NO, NO, NO, NO, // 70
-    NO, NO, NO, NO, NO, NO, NO, NO, NO, NO, NO, NO, NO, NO, NO, NO, // 80
-    NO, NO, NO, NO, NO, NO, NO, NO, NO, NO, NO, NO, NO, NO, NO, NO, // 90
-    NO, NO, NO, NO, NO, NO, NO, NO, NO, NO, NO, NO, NO, NO, NO, NO, // A0
-    NO, NO, NO, NO, NO, NO, NO, NO, NO, NO, NO, NO, NO, NO, NO, NO, // B0
-    NO, NO, NO, NO, NO, NO, NO, NO, NO, NO, NO, NO, NO, NO, NO, NO, // C0
-    NO, NO, NO, NO, NO, NO, NO, NO, NO, NO, NO, NO, NO, NO, NO, NO, // D0
-    NO, NO, NO, NO, NO, NO, NO, NO, NO, NO, NO, NO, NO, NO, NO, NO, // E0
-    NO, NO, NO, NO, NO, NO, NO, NO, NO, NO, NO, NO, NO, NO, NO, NO, // F0
-    54, 55, 56, 57, 58, NO, NO, NO, NO, NO, NO, NO, NO, NO, NO, NO, // 100
-    59, 60, NO, NO, NO, NO, NO, NO, NO, NO, NO, NO, NO, NO, NO, NO, // 110
-    61, 62, 63, 64, 65, 66, 67, 68, NO, NO, NO, NO, NO, NO, NO, NO, // 120
-    69, NO, NO, NO, NO, NO, NO, NO, NO, NO, NO, NO, NO, NO, NO, NO, // 130
-    70, 71, NO, NO, NO, NO, NO, NO, 72, 73, NO, NO, NO, NO, NO, NO, // 140
-    74, 75, 76, NO, NO, NO, NO, NO, NO, NO, NO, NO, NO, NO, NO, NO, // 150
-    77, 78, 79, 80, NO, NO, NO, NO, NO, NO, NO, NO, NO, NO, NO, NO, // 160
-    81, 82, NO, NO, NO, NO, NO, NO, 83, 84, NO, NO, NO, NO, NO, NO, // 170
-    85, 86, // 180
-];
+const PLACES: [u8; PLACE_COUNT] = places! {
+    NOP _ _ _ _ _ _ _ _ _ _ _ _ _ _ _ // 00
+    ADD SUB MUL DIV MOD NEG _ _ BITAND BITOR BITXOR BITNOT SHIFTL SSHIFTR USHIFTR _ // 10
+    JUMP _ JZ JNZ JEQ JNE JLT JGE JGT JLE JLTU JGEU JGTU JLEU _ _ // 20
+    CALL RETURN CATCH THROW TAILCALL _ _ _ _ _ _ _ _ _ _ _ // 30
+    COPY COPYS COPYB _ SEXS SEXB _ _ ALOAD ALOADS ALOADB ALOADBIT ASTORE ASTORES ASTOREB ASTOREBIT // 40
+    STKCOUNT STKPEEK STKSWAP STKROLL STKCOPY _ _ _ _ _ _ _ _ _ _ _ // 50
+    _ _ _ _ _ _ _ _ _ _ _ _ _ _ _ _ // 60
+    STREAMCHAR STREAMNUM STREAMSTR STREAMUNICHAR _ _ _ _ _ _ _ _ _ _ _ _ // 70
+    _ _ _ _ _ _ _ _ _ _ _ _ _ _ _ _ // 80
+    _ _ _ _ _ _ _ _ _ _ _ _ _ _ _ _ // 90
+    _ _ _ _ _ _ _ _ _ _ _ _ _ _ _ _ // A0
+    _ _ _ _ _ _ _ _ _ _ _ _ _ _ _ _ // B0
+    _ _ _ _ _ _ _ _ _ _ _ _ _ _ _ _ // C0
+    _ _ _ _ _ _ _ _ _ _ _ _ _ _ _ _ // D0
+    _ _ _ _ _ _ _ _ _ _ _ _ _ _ _ _ // E0
+    _ _ _ _ _ _ _ _ _ _ _ _ _ _ _ _ // F0
+    GESTALT DEBUGTRAP GETMEMSIZE SETMEMSIZE JUMPABS _ _ _ _ _ _ _ _ _ _ _ // 100
+    RANDOM SETRANDOM _ _ _ _ _ _ _ _ _ _ _ _ _ _ // 110
+    QUIT VERIFY RESTART SAVE RESTORE SAVEUNDO RESTOREUNDO PROTECT HASUNDO DISCARDUNDO _ _ _ _ _ _ // 120
+    GLK _ _ _ _ _ _ _ _ _ _ _ _ _ _ _ // 130
+    GETSTRINGTBL SETSTRINGTBL _ _ _ _ _ _ GETIOSYS SETIOSYS _ _ _ _ _ _ // 140
+    LINEARSEARCH BINARYSEARCH LINKEDSEARCH _ _ _ _ _ _ _ _ _ _ _ _ _ // 150
+    CALLF CALLFI CALLFII CALLFIII _ _ _ _ _ _ _ _ _ _ _ _ // 160
+    MZERO MCOPY _ _ _ _ _ _ MALLOC MFREE _ _ _ _ _ _ // 170
+    ACCELFUNC ACCELPARAM // 180
+};
 
 /// The places of the numbers from 0 on.
 #[tactic(auto, unfolding(crate::specs::Table::table, crate::specs::Table::are_places, crate::specs::Table::are_below))]
-fn places() -> &'static [u8; 0x182]
+fn places() -> &'static [u8; PLACE_COUNT]
     ensures places { IsTrue (are_places 0 result.now) }
-    ensures all { IsTrue (are_below 0x182 table) }
+    ensures all { IsTrue (are_below PLACE_COUNT table) }
 {
     &PLACES
 }
 
 /// The table.
 #[tactic(auto, unfolding(crate::specs::Table::table))]
-pub fn rows() -> &'static [Row; 87]
+pub fn rows() -> &'static [Row; ROW_COUNT]
     ensures table { result.now ≡ table }
-    ensures count { length table ≡ 87 }
+    ensures count { length table ≡ row_count }
     ensures rising { IsTrue (is_rising (λ row. row.number) result.now) }
     ensures fits { IsTrue (list_all row_fits result.now) }
 {
@@ -266,11 +376,11 @@ pub fn rows() -> &'static [Row; 87]
 #[tactic(auto, using(crate::proofs::Places::places))]
 pub fn place_of(number: u32) -> Option<usize>
     ensures row { option_map row_at result ≡ row_of number }
-    ensures place { IfSome result (λ place. place < 87) }
+    ensures place { IfSome result (λ place. place < row_count) }
     ensures fits { IfSome result (λ place. RowFits (row_at place)) }
 {
     let places = places();
-    if number >= 0x182 {
+    if number >= PLACE_COUNT as u32 {
         return None;
     }
     match places[number as usize] {
@@ -282,7 +392,7 @@ pub fn place_of(number: u32) -> Option<usize>
 /// The row at a place of the table.
 #[tactic(auto, unfolding(crate::specs::Table::row_at))]
 pub fn row_at(place: usize) -> &'static Row
-    requires { place < 87 }
+    requires { place < row_count }
     ensures row { result.now ≡ row_at place }
     ensures fits { RowFits result.now }
 {

@@ -1,4 +1,6 @@
 //! The numbers of the instructions, each by its name in the standard (Glulx 3.1.2, "Dictionary of Opcodes").
+//!
+//! hasundo and discardundo aren't of 3.1.2: this machine has them beside it.
 
 // No operation
 pub const NOP: u32 = 0x00;
@@ -148,6 +150,11 @@ pub const SAVEUNDO: u32 = 0x125;
 pub const RESTOREUNDO: u32 = 0x126;
 
 pub const PROTECT: u32 = 0x127;
+
+// Game state, beside 3.1.2
+pub const HASUNDO: u32 = 0x128;
+
+pub const DISCARDUNDO: u32 = 0x129;
 
 // Glk
 pub const GLK: u32 = 0x130;

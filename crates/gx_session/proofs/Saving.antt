@@ -4,7 +4,7 @@ use Rattle.std.specs.Cmp.Derive.{both_true}
 use Rattle.gx_words.specs.Faults.{MayLose}
 use Rattle.gx_words.specs.declared.faults.Fault.{Fault}
 use Rattle.gx_words.specs.declared.faults.Fault.TheVariants.{NoMemory}
-use Rattle.gx_words.specs.declared.iosystems.TheConstants.{GLK_SYSTEM}
+use Rattle.gx_words.specs.Constants.{ceiling, glk_system}
 use Rattle.gx_words.specs.Results.{◌>>=◌}
 use Rattle.gx_story.specs.Stories.{FlatStory}
 use Rattle.gx_state.specs.Copies.{Copy}
@@ -52,11 +52,11 @@ saved-by w r true is = replied-on w r
 saved-by w r false is = cc
 
 -- a save that is put
-pub saving-is : (w : FlatWorld) (f : FlatState) (stream : ℕ) (bytes : List ℕ) → (f.iosys.0 == GLK_SYSTEM) ≡ true → bytes ≡ saved f.story (saved_copy f)
+pub saving-is : (w : FlatWorld) (f : FlatState) (stream : ℕ) (bytes : List ℕ) → (f.iosys.0 == glk_system) ≡ true → bytes ≡ saved f.story (saved_copy f)
     → on_world w (saving w.scene f stream) ≡ with_reply (on_world w (put_save w.scene f stream bytes))
 unfolding saving
 saving-is w f stream bytes glk is =
-    saved-by w (put_save w.scene f stream (saved f.story (saved_copy f))) (f.iosys.0 == GLK_SYSTEM) glk
+    saved-by w (put_save w.scene f stream (saved f.story (saved_copy f))) (f.iosys.0 == glk_system) glk
     ∙ ap (λ (x : List ℕ). with_reply (on_world w (put_save w.scene f stream x))) (sym is)
 
 -- a window takes no save
@@ -93,14 +93,14 @@ not-saved w f stream true takes none is =
 -- one that isn't begun
 pub saving-fails : (w : FlatWorld) (f : FlatState) (stream : ℕ) → is_begun w.scene f stream ≡ false → on_world w (saving w.scene f stream) ≡ Ok (w, replies FAILED)
 unfolding saving
-saving-fails w f stream none = not-saved w f stream (f.iosys.0 == GLK_SYSTEM) (may_take w.scene stream) none refl
+saving-fails w f stream none = not-saved w f stream (f.iosys.0 == glk_system) (may_take w.scene stream) none refl
 
 and-left : (a b : Bool) → (a && b) ≡ true → a ≡ true
 and-left true b both = refl
 and-left false b both = cc
 
-pub begun-glk : (w : Scene) (f : FlatState) (stream : ℕ) → is_begun w f stream ≡ true → (f.iosys.0 == GLK_SYSTEM) ≡ true
-begun-glk w f stream begun = and-left (f.iosys.0 == GLK_SYSTEM) (may_take w stream) begun
+pub begun-glk : (w : Scene) (f : FlatState) (stream : ℕ) → is_begun w f stream ≡ true → (f.iosys.0 == glk_system) ≡ true
+begun-glk w f stream begun = and-left (f.iosys.0 == glk_system) (may_take w stream) begun
 
 -- how a save that is begun ends, by how its put does
 abbrev pub answer_of : Result (Option Reply) Fault → Result Reply Fault
@@ -126,7 +126,7 @@ save-by w w' f f' same stream bytes (Err e) begun is put = (
 
 -- the copy that was read, if any
 abbrev pub copy_in : FlatStory → Option (List ℕ) → Option Copy
-copy_in story read = option_and_then (λ bytes. unless_refused (save_of bytes story)) read
+copy_in story read = option_and_then (λ bytes. unless_refused (save_of ceiling bytes story)) read
 
 abbrev pub with_copy : FlatStory → Result (FlatWorld × Option (List ℕ)) Fault → Result (FlatWorld × Option Copy) Fault
 with_copy story (Ok r) = Ok (r.0, copy_in story r.1)
@@ -143,26 +143,26 @@ read-by w story r true is = read-on w story r
 read-by w story r false is = cc
 
 -- what is taken of a stream and read
-pub restoring-is : (w : FlatWorld) (f : FlatState) (stream : ℕ) → (f.iosys.0 == GLK_SYSTEM) ≡ true
+pub restoring-is : (w : FlatWorld) (f : FlatState) (stream : ℕ) → (f.iosys.0 == glk_system) ≡ true
     → on_world w (restoring w.scene f stream) ≡ with_copy f.story (on_world w (take_rest w.scene f stream))
 unfolding restoring
-restoring-is w f stream glk = read-by w f.story (take_rest w.scene f stream) (f.iosys.0 == GLK_SYSTEM) glk
+restoring-is w f stream glk = read-by w f.story (take_rest w.scene f stream) (f.iosys.0 == glk_system) glk
 
 -- nothing is, where the I/O system isn't Glk's
 not-read : (w : FlatWorld) (r : Result (Said × Option Copy) Fault) (b : Bool) → b ≡ false → on_world w (if b then r else Ok (silent w.scene, None)) ≡ Ok (w, None)
 not-read w r true none = cc
 not-read w r false none = ap (λ (x : FlatWorld). Ok (x, None)) (nothing_said w)
 
-pub restoring-fails : (w : FlatWorld) (f : FlatState) (stream : ℕ) → (f.iosys.0 == GLK_SYSTEM) ≡ false → on_world w (restoring w.scene f stream) ≡ Ok (w, None)
+pub restoring-fails : (w : FlatWorld) (f : FlatState) (stream : ℕ) → (f.iosys.0 == glk_system) ≡ false → on_world w (restoring w.scene f stream) ≡ Ok (w, None)
 unfolding restoring
 restoring-fails w f stream other =
-    not-read w (take_rest w.scene f stream >>= (λ x. Ok (x.0, copy_in f.story x.1))) (f.iosys.0 == GLK_SYSTEM) other
+    not-read w (take_rest w.scene f stream >>= (λ x. Ok (x.0, copy_in f.story x.1))) (f.iosys.0 == glk_system) other
 
 with-copy-fine : (story : FlatStory) (r : Result (FlatWorld × Option (List ℕ)) Fault) → IsOk r → IsOk (with_copy story r)
 with-copy-fine story (Ok r) fine = refl
 with-copy-fine story (Err e) fine = cc
 
-module _ (w w' : FlatWorld) (f f' : FlatState) (same : f' ≡ f) (stream : ℕ) (glk : (f.iosys.0 == GLK_SYSTEM) ≡ true) where
+module _ (w w' : FlatWorld) (f f' : FlatState) (same : f' ≡ f) (stream : ℕ) (glk : (f.iosys.0 == glk_system) ≡ true) where
   restoring-so : on_world w (restoring w.scene f stream) ≡ with_copy f.story (on_world w (take_rest w.scene f' stream))
   restoring-so = restoring-is w f stream glk ∙ ap (λ (x : FlatState). with_copy f.story (on_world w (take_rest w.scene x stream))) (sym same)
 
@@ -203,11 +203,11 @@ module _ (w w' : FlatWorld) (f f' : FlatState) (same : f' ≡ f) (stream : ℕ) 
     )
 
     -- it is the save of a copy
-    pub read-found : (copy : Copy) → save_of bytes f.story ≡ Ok copy → on_world w (restoring w.scene f stream) ≡ Ok (w', Some copy)
+    pub read-found : (copy : Copy) → save_of ceiling bytes f.story ≡ Ok copy → on_world w (restoring w.scene f stream) ≡ Ok (w', Some copy)
     read-found copy is = read-is (Some bytes) (Some copy) (ap unless_refused is) took
 
     -- it is none, or the reading wants memory
-    pub unread : (e : SaveFault) (result : Result (Option Copy) Fault) → (e ≢ of_save.NoMemory → save_of bytes f.story ≡ Err e) → Refuses e result
+    pub unread : (e : SaveFault) (result : Result (Option Copy) Fault) → (e ≢ of_save.NoMemory → save_of ceiling bytes f.story ≡ Err e) → Refuses e result
         → MayLose (IsTrue (is_read w.scene f stream)) (λ copy. copy) result w w' (on_world w (restoring w.scene f stream))
     unread e result gave (inl memory) = subst (λ (r : Result (Option Copy) Fault). MayLose (IsTrue (is_read w.scene f stream)) (λ copy. copy) r w w' (on_world w (restoring w.scene f stream))) (sym memory.1) read-wants
     unread e result gave (inr other) =

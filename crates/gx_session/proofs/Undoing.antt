@@ -4,7 +4,7 @@ use Rattle.std.proofs.lemmas.Bool.{eqb-true}
 use Rattle.gx_words.specs.declared.faults.Fault.{Fault}
 use Rattle.gx_words.specs.declared.faults.Fault.TheVariants.{BadOpcode, BadFrame, Overflow}
 use Rattle.gx_words.specs.Results.{◌>>=◌}
-use Rattle.gx_rows.specs.declared.numbers.TheConstants.{SAVEUNDO, RESTOREUNDO}
+use Rattle.gx_rows.specs.Numbers as numbers
 use Rattle.gx_rows.specs.declared.instructions.Class.{Class}
 use Rattle.gx_rows.specs.declared.instructions.Class.TheVariants as class
 use Rattle.gx_state.specs.declared.effects.Effect.{Effect}
@@ -12,7 +12,7 @@ use Rattle.gx_state.specs.declared.effects.Effect.TheVariants as effect
 use Rattle.gx_state.specs.declared.effects.Reply.{Reply}
 use Rattle.gx_state.specs.declared.modes.Mode.{Mode}
 use Rattle.gx_state.specs.declared.modes.Mode.TheVariants as mode
-use Rattle.gx_state.specs.Flat.{FlatState, sp_of}
+use Rattle.gx_state.specs.Flat.{FlatState, cut, sp_of}
 use Rattle.gx_state.specs.Copies.{Copy, copy_of, gone_back}
 use Rattle.gx_undo.specs.Undo.{FlatUndo, with_newest, without_newest}
 use Rattle.gx_operands.specs.Instructions.{Instruction, instruction, going_to}
@@ -39,7 +39,7 @@ use Rattle.gx_session.specs.declared.running.Waiting.{Waiting}
 use Rattle.gx_session.specs.Input.{next_line}
 use Rattle.gx_session.specs.Saving.{saving, restoring}
 use Rattle.gx_session.specs.Session.{Configuration, Doing, steps, asks as asks-for, goes_on, Verdict, goes, stops, after_reply, after_restoring, after_turn, after_given, after_asking, after_effect, after_step, step_from, act_by, act_of, sends_now, all_sent, move_of, next_of, run_of}
-use Rattle.gx_session.specs.Undoing.{Undoing, saves, restores, neither, undoing, undoing_next, undoing_move, undoing_row, undoing_by, undoing_in, alive, alive_by, alive_from, IsTaken, AreTaken, LastsUndo}
+use Rattle.gx_session.specs.Undoing.{Undoing, saves, restores, discards, neither, undoing, undoing_next, undoing_move, undoing_row, undoing_by, undoing_in, alive, alive_by, alive_from, IsTaken, AreTaken, LastsUndo}
 use Rattle.gx_session.proofs.Cases.{turn-cases, given-cases, line-cases, asking-cases}
 use Rattle.gx_session.proofs.Steps.{ok-is}
 use Rattle.rand_core.specs.Stream.{next_u32}
@@ -48,6 +48,7 @@ use Rattle.rand_core.specs.Stream.{next_u32}
 abbrev Undone : FlatMachine → FlatUndo → Effect → Undoing → Type 0
 Undone m u e saves = (i : Instruction) × (instruction m.flat ≡ Ok i) × (u ≡ with_newest m.undo (copy_of m.flat i.dest i.next)) × (e ≡ effect.Went)
 Undone m u e restores = (u ≡ without_newest m.undo) × (e ≡ effect.Went)
+Undone m u e discards = (u ≡ without_newest m.undo) × (e ≡ effect.Went)
 Undone m u e neither = u ≡ m.undo
 
 -- THE ROWS OF GAME
@@ -74,10 +75,11 @@ stays-unless : (u : FlatUndo) (b : Bool) (x y : Result ((FlatState × FlatUndo) 
 stays-unless u true x y isnt other = absurd cc
 stays-unless u false x y isnt other = other
 
--- every row but saveundo and restoreundo
-others-stay : (f : FlatState) (u : FlatUndo) (word : ℕ) (i : Instruction) → (i.row.number == SAVEUNDO) ≡ false → (i.row.number == RESTOREUNDO) ≡ false → Stays u (game.row_effect f u word i)
+-- every row but saveundo, restoreundo and discardundo
+others-stay : (f : FlatState) (u : FlatUndo) (word : ℕ) (i : Instruction) → (i.row.number == numbers.saveundo) ≡ false → (i.row.number == numbers.restoreundo) ≡ false → (i.row.number == numbers.discardundo) ≡ false
+    → Stays u (game.row_effect f u word i)
 unfolding game.row_effect
-others-stay f u word i not-saves not-restores =
+others-stay f u word i not-saves not-restores not-discards =
     stays-if u _ _ _ (stays-lifted u (game.gestalt f i)) (
     stays-if u _ _ _ (stays-lifted u (game.debugtrap f i)) (
     stays-if u _ _ _ (stays-lifted u (game.random f word i)) (
@@ -90,21 +92,27 @@ others-stay f u word i not-saves not-restores =
     stays-unless u _ _ _ not-saves (
     stays-unless u _ _ _ not-restores (
     stays-if u _ _ _ (stays-lifted u (game.protect f i)) (
+    stays-if u _ _ _ (stays-lifted u (game.hasundo f u i)) (
+    stays-unless u _ _ _ not-discards (
     stays-if u _ _ _ (stays-lifted u (game.getstringtbl f i)) (
     stays-if u _ _ _ (stays-lifted u (game.setstringtbl f i)) (
     stays-if u _ _ _ (stays-lifted u (game.getiosys f i)) (
     stays-if u _ _ _ (stays-lifted u (game.setiosys f i)) (
     stays-if u _ _ _ (stays-lifted u (game.accelerate f i)) (
     stays-if u _ _ _ (stays-lifted u (game.accelerate f i)) (
-    stays-faulted u BadOpcode))))))))))))))))))
+    stays-faulted u BadOpcode))))))))))))))))))))
 
-saves-row : (f : FlatState) (u : FlatUndo) (word : ℕ) (i : Instruction) → i.row.number ≡ SAVEUNDO → game.row_effect f u word i ≡ game.saveundo f u i
+saves-row : (f : FlatState) (u : FlatUndo) (word : ℕ) (i : Instruction) → i.row.number ≡ numbers.saveundo → game.row_effect f u word i ≡ game.saveundo f u i
 unfolding game.row_effect
 saves-row f u word i is = rw is refl
 
-restores-row : (f : FlatState) (u : FlatUndo) (word : ℕ) (i : Instruction) → i.row.number ≡ RESTOREUNDO → game.row_effect f u word i ≡ game.restoreundo f u i
+restores-row : (f : FlatState) (u : FlatUndo) (word : ℕ) (i : Instruction) → i.row.number ≡ numbers.restoreundo → game.row_effect f u word i ≡ game.restoreundo f u i
 unfolding game.row_effect
 restores-row f u word i is = rw is refl
+
+discards-row : (f : FlatState) (u : FlatUndo) (word : ℕ) (i : Instruction) → i.row.number ≡ numbers.discardundo → game.row_effect f u word i ≡ game.discardundo f u i
+unfolding game.row_effect
+discards-row f u word i is = rw is refl
 
 -- saveundo keeps one more copy
 record Saved (f : FlatState) (u : FlatUndo) (i : Instruction) (p : (FlatState × FlatUndo) × Effect) : Type 0 where
@@ -123,7 +131,7 @@ saved : (f : FlatState) (u : FlatUndo) (i : Instruction) (p : (FlatState × Flat
 unfolding game.saveundo
 saved f u i p h = saved-by f u i (nat_lt f.stack.limit (sp_of f + 16)) (settled f i.sp 4 i.dest 0) p h
 
--- restoreundo drops the newest copy, where there is one
+-- restoreundo and discardundo drop the newest copy, where there is one
 record Restored (u : FlatUndo) (p : (FlatState × FlatUndo) × Effect) : Type 0 where
   copies : p.0.1 ≡ without_newest u
   went : p.1 ≡ effect.Went
@@ -146,21 +154,34 @@ restored : (f : FlatState) (u : FlatUndo) (i : Instruction) (p : (FlatState × F
 unfolding game.restoreundo
 restored f u i p h = restored-by f u i u.copies p refl h
 
+discarded : (f : FlatState) (u : FlatUndo) (i : Instruction) (p : (FlatState × FlatUndo) × Effect) → game.discardundo f u i ≡ Ok p → Restored u p
+unfolding game.discardundo
+discarded f u i p h =
+    let same : ((going_to (cut f i.sp) i.next, without_newest u), effect.Went) ≡ p = ok-is {A = (FlatState × FlatUndo) × Effect} ((going_to (cut f i.sp) i.next, without_newest u), effect.Went) p h in
+    record { copies = sym (ap (λ (y : (FlatState × FlatUndo) × Effect). y.0.1) same); went = sym (ap (λ (y : (FlatState × FlatUndo) × Effect). y.1) same) }
+
 -- each row of Game, by its number
-game-rows : (m : FlatMachine) (word : ℕ) (i : Instruction) (p : (FlatState × FlatUndo) × Effect) (saving restoring : Bool) → (i.row.number == SAVEUNDO) ≡ saving → (i.row.number == RESTOREUNDO) ≡ restoring
-    → instruction m.flat ≡ Ok i → game.row_effect m.flat m.undo word i ≡ Ok p → Undone m p.0.1 p.1 (if saving then saves else if restoring then restores else neither)
-game-rows m word i p true restoring saving-is restoring-is decoded h =
-    let done : Saved m.flat m.undo i p = saved m.flat m.undo i p (sym (saves-row m.flat m.undo word i (eqb-true i.row.number SAVEUNDO saving-is)) ∙ h) in
+abbrev kind-by : Bool → Bool → Bool → Undoing
+kind-by saving restoring discarding = if saving then saves else if restoring then restores else if discarding then discards else neither
+
+game-rows : (m : FlatMachine) (word : ℕ) (i : Instruction) (p : (FlatState × FlatUndo) × Effect) (saving restoring discarding : Bool)
+    → (i.row.number == numbers.saveundo) ≡ saving → (i.row.number == numbers.restoreundo) ≡ restoring → (i.row.number == numbers.discardundo) ≡ discarding
+    → instruction m.flat ≡ Ok i → game.row_effect m.flat m.undo word i ≡ Ok p → Undone m p.0.1 p.1 (kind-by saving restoring discarding)
+game-rows m word i p true restoring discarding saving-is restoring-is discarding-is decoded h =
+    let done : Saved m.flat m.undo i p = saved m.flat m.undo i p (sym (saves-row m.flat m.undo word i (eqb-true i.row.number numbers.saveundo saving-is)) ∙ h) in
     (i, decoded, done.copies, done.went)
-game-rows m word i p false true saving-is restoring-is decoded h =
-    let done : Restored m.undo p = restored m.flat m.undo i p (sym (restores-row m.flat m.undo word i (eqb-true i.row.number RESTOREUNDO restoring-is)) ∙ h) in
+game-rows m word i p false true discarding saving-is restoring-is discarding-is decoded h =
+    let done : Restored m.undo p = restored m.flat m.undo i p (sym (restores-row m.flat m.undo word i (eqb-true i.row.number numbers.restoreundo restoring-is)) ∙ h) in
     (done.copies, done.went)
-game-rows m word i p false false saving-is restoring-is decoded h = (others-stay m.flat m.undo word i saving-is restoring-is).stays p h
+game-rows m word i p false false true saving-is restoring-is discarding-is decoded h =
+    let done : Restored m.undo p = discarded m.flat m.undo i p (sym (discards-row m.flat m.undo word i (eqb-true i.row.number numbers.discardundo discarding-is)) ∙ h) in
+    (done.copies, done.went)
+game-rows m word i p false false false saving-is restoring-is discarding-is decoded h = (others-stay m.flat m.undo word i saving-is restoring-is discarding-is).stays p h
 
 game-both : (m : FlatMachine) (word : ℕ) (i : Instruction) (r : Result ((FlatState × FlatUndo) × Effect) Fault) (m' : FlatMachine) (e : Effect) → game.row_effect m.flat m.undo word i ≡ r
     → instruction m.flat ≡ Ok i → with_both r ≡ Ok (m', e) → Undone m m'.undo e (undoing_row class.Game i.row.number)
 game-both m word i (Ok p) m' e is decoded h =
-    let done : Undone m p.0.1 p.1 (undoing_row class.Game i.row.number) = game-rows m word i p (i.row.number == SAVEUNDO) (i.row.number == RESTOREUNDO) refl refl decoded is in
+    let done : Undone m p.0.1 p.1 (undoing_row class.Game i.row.number) = game-rows m word i p (i.row.number == numbers.saveundo) (i.row.number == numbers.restoreundo) (i.row.number == numbers.discardundo) refl refl refl decoded is in
     let same : (record { flat = p.0.0; undo = p.0.1 }, p.1) ≡ (m', e) = ok-is {A = FlatMachine × Effect} (record { flat = p.0.0; undo = p.0.1 }, p.1) (m', e) h in
     subst (λ (y : FlatMachine × Effect). Undone m y.0.undo y.1 (undoing_row class.Game i.row.number)) same done
 game-both m word i (Err fault) m' e is decoded h = absurd cc
@@ -208,6 +229,7 @@ step-undone m word m' e h = tested-undone m word m' e (sp_of m.flat == 0) h
 asks-neither : (m : FlatMachine) (u : FlatUndo) (e : Effect) (kind : Undoing) → (e ≡ effect.Went → ⊥) → Undone m u e kind → Undone m m.undo e kind
 asks-neither m u e saves asks is = absurd (asks is.3)
 asks-neither m u e restores asks is = absurd (asks is.1)
+asks-neither m u e discards asks is = absurd (asks is.1)
 asks-neither m u e neither asks is = refl
 
 -- what a verdict makes of the copies of an asking, or of a move that is no step
@@ -333,6 +355,11 @@ lasts-on start m m' j live does saves reached now is =
       taken = subst (λ (u : FlatUndo). AreTaken start u.copies (take start.machine.undo.depth (j ∷ live))) (sym is.2) deep;
     }
 lasts-on start m m' j live does restores reached now is =
+    record {
+      depth = ap (λ (u : FlatUndo). u.depth) is.0 ∙ now.depth;
+      taken = subst (λ (u : FlatUndo). AreTaken start u.copies (drop 1 live)) (sym is.0) (taken-drop start m.machine.undo.copies live now.taken);
+    }
+lasts-on start m m' j live does discards reached now is =
     record {
       depth = ap (λ (u : FlatUndo). u.depth) is.0 ∙ now.depth;
       taken = subst (λ (u : FlatUndo). AreTaken start u.copies (drop 1 live)) (sym is.0) (taken-drop start m.machine.undo.copies live now.taken);

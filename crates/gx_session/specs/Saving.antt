@@ -1,9 +1,9 @@
 -- Saves and restores in a session (Glulx 3.1.2, "Game State"; Quetzal 1.4).
 --
 -- Both are done by Glk streams, and fail where the I/O system isn't Glk's. A failure is no fault: the story is answered 1.
-use Rattle.std.specs.Prelude.{◌≡◌, ℕ, ◌==◌, ◌&&◌, if◌then◌else◌, Bool, Option, Some, None, option_and_then, Result, Ok, Err}
+use Rattle.std.specs.Prelude.{◌≡◌, ℕ, ◌≤◌, ◌==◌, ◌&&◌, if◌then◌else◌, Bool, List, Option, Some, None, option_and_then, Result, Ok, Err}
 use Rattle.gx_words.specs.declared.faults.Fault.{Fault}
-use Rattle.gx_words.specs.declared.iosystems.TheConstants.{GLK_SYSTEM}
+use Rattle.gx_words.specs.Constants.{ceiling, glk_system}
 use Rattle.gx_words.specs.Results.{◌>>=◌}
 use Rattle.gx_story.specs.Stories.{FlatStory}
 use Rattle.gx_state.specs.declared.effects.Reply.{Reply}
@@ -27,7 +27,7 @@ unless_failed (said, None) = (said, replies FAILED)
 -- A save: the copy of the state is written as a save to the stream; nothing is written where the stream doesn't take it.
 unfoldable pub saving : Scene → FlatState → ℕ → Result (Said × Reply) Fault
 saving w f stream =
-    if f.iosys.0 == GLK_SYSTEM then (do
+    if f.iosys.0 == glk_system then (do
       r ← put_save w f stream (saved f.story (saved_copy f))
       Ok (unless_failed r))
     else Ok (silent w, replies FAILED)
@@ -40,9 +40,9 @@ unless_refused (Err fault) = None
 -- A restore: the rest of the stream is taken, and is the copy of a save of the story, or isn't.
 unfoldable pub restoring : Scene → FlatState → ℕ → Result (Said × Option Copy) Fault
 restoring w f stream =
-    if f.iosys.0 == GLK_SYSTEM then (do
+    if f.iosys.0 == glk_system then (do
       r ← take_rest w f stream
-      Ok (r.0, option_and_then (λ bytes. unless_refused (save_of bytes f.story)) r.1))
+      Ok (r.0, option_and_then (λ bytes. unless_refused (save_of ceiling bytes f.story)) r.1))
     else Ok (silent w, None)
 
 -- A stream may take a save: it is there, open for writing and no window's. Whether it has room, and whether its places may
@@ -54,18 +54,21 @@ may_take w stream =
 
 -- So a save is begun: the copy is made and written.
 abbrev pub is_begun : Scene → FlatState → ℕ → Bool
-is_begun w f stream = f.iosys.0 == GLK_SYSTEM && may_take w stream
+is_begun w f stream = f.iosys.0 == glk_system && may_take w stream
 
 -- A stream may hold a save: it is there and open for reading. So a restore is begun: the stream is read.
 abbrev pub may_hold : Scene → ℕ → Bool
 may_hold w stream = streams.has w.streams stream && one.readable (streams.stream w.streams stream)
 
 abbrev pub is_read : Scene → FlatState → ℕ → Bool
-is_read w f stream = f.iosys.0 == GLK_SYSTEM && may_hold w stream
+is_read w f stream = f.iosys.0 == glk_system && may_hold w stream
 
--- THE ROUND TRIP: what is saved of a state is read back as it was. So is each copy that is fit for the story.
+-- THE ROUND TRIP: what is saved of a state is read back as it was.
 abbrev pub IsReadBack : FlatState → Type 0
-IsReadBack f = save_of (saved f.story (saved_copy f)) f.story ≡ Ok (saved_copy f)
+IsReadBack f = save_of ceiling (saved f.story (saved_copy f)) f.story ≡ Ok (saved_copy f)
 
-abbrev pub SavesReadBack : FlatStory → Type 0
-SavesReadBack story = (copy : Copy) → IsCopyFor story copy → save_of (saved story copy) story ≡ Ok copy
+-- So is each copy that is fit for the story. And each save that was a copy while memory had a lower ceiling, such as
+-- 0x04000000, is restored as the same copy.
+pub record SavesReadBack (story : FlatStory) : Type 0 where
+  pub round_trip : (copy : Copy) → IsCopyFor story copy → save_of ceiling (saved story copy) story ≡ Ok copy
+  pub old_saves : (old : ℕ) (save : List ℕ) (copy : Copy) → old ≤ ceiling → save_of old save story ≡ Ok copy → save_of ceiling save story ≡ Ok copy

@@ -4,7 +4,7 @@
 -- alive by now is a law over the configurations of the run.
 use Rattle.std.specs.Prelude.{◌≡◌, ℕ, zero, suc, ◌==◌, if◌then◌else◌, List, [], ◌∷◌, take, drop, Option, Some, None, Result, Ok, Err}
 use Rattle.gx_words.specs.declared.faults.Fault.{Fault}
-use Rattle.gx_rows.specs.declared.numbers.TheConstants.{SAVEUNDO, RESTOREUNDO}
+use Rattle.gx_rows.specs.Numbers as numbers
 use Rattle.gx_rows.specs.declared.instructions.Class.{Class}
 use Rattle.gx_rows.specs.declared.instructions.Class.TheVariants as class
 use Rattle.gx_state.specs.declared.modes.Mode.{Mode}
@@ -20,11 +20,17 @@ pub data Undoing : Type 0 where
   saves : Undoing
   -- restoreundo
   restores : Undoing
-  -- every other instruction, save and restore among them, and what is printed
+  -- discardundo
+  discards : Undoing
+  -- every other instruction, save, restore and hasundo among them, and what is printed
   neither : Undoing
 
 abbrev pub undoing_row : Class → ℕ → Undoing
-undoing_row class.Game number = if number == SAVEUNDO then saves else if number == RESTOREUNDO then restores else neither
+undoing_row class.Game number =
+    if number == numbers.saveundo then saves else
+    if number == numbers.restoreundo then restores else
+    if number == numbers.discardundo then discards else
+    neither
 undoing_row c number = neither
 
 abbrev pub undoing_by : Result Instruction Fault → Undoing
@@ -48,10 +54,12 @@ abbrev pub undoing_move : Configuration → Undoing
 undoing_move m = if sends_now m then neither else undoing_next m.doing m.machine.flat
 
 -- The saveundos that are alive, each by the number of moves before it, the newest first: a saveundo comes
--- in front, and the oldest drops out where there are as many as the depth; a restoreundo takes the newest.
+-- in front, and the oldest drops out where there are as many as the depth; a restoreundo takes the newest, and so
+-- does a discardundo.
 abbrev pub alive_by : ℕ → ℕ → List ℕ → Undoing → List ℕ
 alive_by depth j live saves = take depth (j ∷ live)
 alive_by depth j live restores = drop 1 live
+alive_by depth j live discards = drop 1 live
 alive_by depth j live neither = live
 
 abbrev pub alive_from : ℕ → ℕ → List ℕ → Option Configuration → List ℕ
@@ -80,7 +88,8 @@ AreTaken start (c ∷ cs) [] = ⊥
 
 -- In a run that begins without copies, those of each configuration are, in order, the copies that the saveundos took
 -- which are alive there. So a restoreundo goes back to the whole copy of the newest saveundo that was neither
--- used nor dropped, and finds none exactly where there is none. A restore leaves these copies, so
--- that a restoreundo after it goes back to a saveundo before it.
+-- used, nor discarded, nor dropped as the oldest; it finds none exactly where there is none, and hasundo answers 1
+-- exactly there. A discardundo takes exactly that newest copy away. A restore leaves these copies, so that a
+-- restoreundo after it goes back to a saveundo before it.
 unfoldable pub LastsUndo : Configuration → Type 0
 LastsUndo start = start.machine.undo.copies ≡ [] → (j : ℕ) (m : Configuration) → run_of start j ≡ Some m → AreTaken start m.machine.undo.copies (alive start j)

@@ -194,10 +194,11 @@ pub fn ask_restore<A: Allocator + Clone, E: Engine<A>, K: Sink>(
     }
 }
 
-/// What is saved of a machine's story is read back: a law, which costs nothing.
+/// What is saved of a machine's story is read back, and saves of a lower ceiling load: laws, which cost nothing.
 pub fn saves_read_back<A: Allocator + Clone, E: Engine<A>>(engine: &E)
     ensures { SavesReadBack (E.whole engine.now).machine.flat.story }
 {
     quetzal::written_saves_are_read();
+    quetzal::old_saves_load();
     let _ramstart = engine.state().ramstart(); // a state's story is one
 }

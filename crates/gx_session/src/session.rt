@@ -42,7 +42,7 @@ fn fault_address<A: Allocator + Clone, E: Engine<A>>(engine: &E, stop: Stop) -> 
 }
 
 /// Runs an engine within a budget of units. Where it keeps no copy at first, each restoreundo goes back to the
-/// copy of the newest saveundo that is neither used nor dropped.
+/// copy of the newest saveundo that is neither used, nor discarded, nor dropped as the oldest.
 ///
 /// After a fault or a spent budget, and where no line can be taken, the engine stands before the step,
 /// which isn't counted; at the program's end the last step is counted. A Glk call that is stopped there,

@@ -1,3 +1,4 @@
+pub mod Constants
 pub mod Turns
 pub mod Pieces
 pub mod Kept

@@ -1,3 +1,4 @@
+pub mod Constants
 pub mod Faults
 pub mod Flat
 pub mod Formats

@@ -1,6 +1,6 @@
 -- What holds of every stack.
 use Rattle.std.specs.Prelude.{◌≡◌, ◌%◌, ◌≤◌, length, vec_capacity}
-use Rattle.gx_words.specs.declared.limits.TheConstants.{STACK_LIMIT}
+use Rattle.gx_words.specs.Constants.{stack_limit}
 use Rattle.gx_stack.specs.Flat.{FlatStack}
 use Rattle.gx_stack.specs.declared.Stack.TheInside.{Inside}
 
@@ -11,5 +11,5 @@ flat_of s = record { bytes = s.bytes.items; limit = s.limit }
 pub record IsSound (s : Inside) : Type 0 where
   pub size : length s.bytes.items ≤ s.limit
   pub aligned : length s.bytes.items % 4 ≡ 0
-  pub limit : s.limit ≤ STACK_LIMIT
+  pub limit : s.limit ≤ stack_limit
   pub room : s.limit ≤ vec_capacity s.bytes

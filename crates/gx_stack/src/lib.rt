@@ -12,8 +12,8 @@
 //! the stack wasn't cut below its values since. A format has at most 64 pairs.
 #![tactic(auto)]
 
-ghost use Rattle.std.specs.Prelude.{◌≡◌, ◌%◌, ◌≤◌, [], length, IfOk};
-ghost use Rattle.gx_words.specs.declared.limits.TheConstants.{STACK_LIMIT};
+ghost use Rattle.std.specs.Prelude.{◌≡◌, ◌%◌, ◌<◌, ◌≤◌, [], length, IfOk, OnErr};
+ghost use Rattle.gx_words.specs.Constants.{stack_limit};
 
 mod faults;
 mod formats;
@@ -56,11 +56,18 @@ impl Model for Stack {
 }
 
 impl Stack {
-    /// An empty stack that has the room for `limit` bytes.
+    /// An empty stack that has the room for `limit` bytes. No memory is asked for where it is none.
     pub fn new(alloc: Global, limit: u32) -> Result<Stack, AllocError>
-        requires { limit ≤ STACK_LIMIT }
-        ensures { IfOk result (λ stack. stack ≡ record { bytes = []; limit = limit }) }
+        requires { limit ≤ stack_limit }
+        ensures value { IfOk result (λ stack. stack ≡ record { bytes = []; limit = limit }) }
+        ensures memory { OnErr result (0 < limit) }
     {
+        if limit == 0 {
+            return Ok(Stack {
+                bytes: Vec::new(alloc),
+                limit,
+            });
+        }
         let bytes = Vec::with_capacity(alloc, limit as usize)?;
         Ok(Stack { bytes, limit })
     }
@@ -79,7 +86,7 @@ impl Stack {
         ensures value { result ≡ length self.now.bytes }
         ensures fits { result ≤ self.now.limit }
         ensures aligned { result % 4 ≡ 0 }
-        ensures bound { result ≤ STACK_LIMIT }
+        ensures bound { result ≤ stack_limit }
     {
         self.bytes.len() as u32
     }
@@ -89,7 +96,7 @@ impl Stack {
         ensures value { result ≡ self.now.limit }
         ensures fits { length self.now.bytes ≤ result }
         ensures aligned { length self.now.bytes % 4 ≡ 0 }
-        ensures bound { result ≤ STACK_LIMIT }
+        ensures bound { result ≤ stack_limit }
     {
         self.limit
     }
@@ -99,10 +106,14 @@ impl Stack {
         *self.bytes.allocator()
     }
 
-    /// The bytes as a list of their own.
+    /// The bytes as a list of their own. No memory is asked for where there is none.
     pub fn copy(&self, alloc: Global) -> Result<Bytes, AllocError>
-        ensures { IfOk result (λ copy. copy ≡ self.now.bytes) }
+        ensures value { IfOk result (λ copy. copy ≡ self.now.bytes) }
+        ensures memory { OnErr result (0 < length self.now.bytes) }
     {
+        if self.bytes.is_empty() {
+            return Ok(Bytes::new(alloc));
+        }
         Bytes::from_slice(alloc, &self.bytes)
     }
 

@@ -3,7 +3,7 @@
 //! Each call that is given a frame keeps it good. Beside what it makes of the bytes, a clause
 //! `values` says what it makes of the list of the frame's values, the deepest first.
 ghost use Rattle.std.specs.Prelude.{◌≡◌, ◌+◌, ◌-◌, ◌*◌, ◌≤◌, ◌<◌, ◌++◌, ◌%◌, ◌^◌, [], ◌∷◌, length, slice_index, IfOk, OnOk};
-ghost use Rattle.gx_words.specs.declared.limits.TheConstants.{STACK_LIMIT};
+ghost use Rattle.gx_words.specs.Constants.{stack_limit};
 ghost use Rattle.gx_words.specs.Numbers.{IsWidth};
 ghost use Rattle.gx_words.specs.Results.{Alters};
 ghost use Rattle.gx_stack.specs.Frames.{IsFrame, KeepsFrames};
@@ -16,7 +16,7 @@ use gx_words::{number_at, word_at};
 /// How many places up the top n values go.
 fn places(n: u32, by: i32) -> u32
     requires some { 0 < n }
-    requires few { n ≤ STACK_LIMIT }
+    requires few { n ≤ stack_limit }
     ensures value { result ≡ places n by }
     ensures fits { result < n }
 {

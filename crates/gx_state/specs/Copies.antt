@@ -2,7 +2,7 @@
 use Rattle.std.specs.Prelude.{◌≡◌, ℕ, Bool, ◌+◌, ◌-◌, ◌%◌, ◌≤◌, List, [], ◌++◌, length, take, None, Result, Ok, Err, IsTrue}
 use Rattle.gx_words.specs.declared.faults.Fault.{Fault}
 use Rattle.gx_pages.specs.Memory.{IsSize, put_back_of}
-use Rattle.gx_stack.specs.declared.kinds.TheConstants.{TO_MEMORY, TO_LOCAL, TO_STACK}
+use Rattle.gx_stack.specs.Constants.{to_memory, to_local, to_stack}
 use Rattle.gx_stack.specs.declared.stubs.Stub.{Stub}
 use Rattle.gx_stack.specs.Frames.{IsGood, has_local, parts}
 use Rattle.gx_stack.specs.Stubs.{stub_bytes, stub_below}
@@ -69,10 +69,10 @@ pub record IsCopyFor (story : FlatStory) (c : Copy) : Type 0 where
   pub aligned : length c.stack % 4 ≡ 0
   pub height : length c.stack ≤ story.header.stack_size
   pub stub : 16 ≤ length c.stack
-  pub kind : (stub_in c).kind ≤ TO_STACK
+  pub kind : (stub_in c).kind ≤ to_stack
   pub framed : IsGood (below_stub c) (stub_in c).fp
-  pub word : (stub_in c).kind ≡ TO_MEMORY → (story.header.ramstart ≤ (stub_in c).addr) × ((stub_in c).addr + 4 ≤ length c.memory)
-  pub local : (stub_in c).kind ≡ TO_LOCAL → IsTrue (has_local (parts (below_stub c) (stub_in c).fp) (stub_in c).addr 4)
+  pub word : (stub_in c).kind ≡ to_memory → (story.header.ramstart ≤ (stub_in c).addr) × ((stub_in c).addr + 4 ≤ length c.memory)
+  pub local : (stub_in c).kind ≡ to_local → IsTrue (has_local (parts (below_stub c) (stub_in c).fp) (stub_in c).addr 4)
   pub heap : IsHeapWithin story.header.endmem (length c.memory) c.heap
 
 -- a word can be stored there: in RAM or in a local of the frame

@@ -5,7 +5,7 @@
 use Rattle.std.specs.Prelude.{ℕ, zero, suc, Bool, ◌+◌, ◌-◌, ◌*◌, ◌==◌, ◌||◌, nat_lt, if◌then◌else◌, List, [], ◌∷◌, ◌++◌, length, take, replicate, Result, Ok, Err}
 use Rattle.gx_words.specs.declared.faults.Fault.{Fault}
 use Rattle.gx_words.specs.declared.faults.Fault.TheVariants.{BadFunction, Overflow}
-use Rattle.gx_words.specs.declared.typable.TheConstants.{STACK_FUNCTION, LOCALS_FUNCTION}
+use Rattle.gx_words.specs.Constants.{stack_function, locals_function}
 use Rattle.gx_words.specs.Results.{◌>>=◌}
 use Rattle.gx_pages.specs.Memory.{number_in}
 use Rattle.gx_stack.specs.declared.stubs.Stub.{Stub}
@@ -22,7 +22,7 @@ use Rattle.gx_state.specs.Flat.{FlatState}
 unfoldable pub kind_at : List ℕ → ℕ → Result ℕ Fault
 kind_at memory at = do
   kind ← number_in 1 memory at
-  if kind == STACK_FUNCTION || kind == LOCALS_FUNCTION then Ok kind else Err BadFunction
+  if kind == stack_function || kind == locals_function then Ok kind else Err BadFunction
 
 -- the types of locals
 abbrev pub is_type : ℕ → Bool
@@ -55,10 +55,10 @@ format_at memory at = format_from memory at 64
 -- what an entry pushes: a function of type C0 has its arguments on the stack and their count on top,
 -- one of type C1 has them in its locals
 abbrev pub entry_bytes : ℕ → List ℕ → List ℕ → List ℕ
-entry_bytes kind format args = if kind == STACK_FUNCTION then with_args (frame format []) args else frame format args
+entry_bytes kind format args = if kind == stack_function then with_args (frame format []) args else frame format args
 
 abbrev pub entry_len : ℕ → List ℕ → ℕ → ℕ
-entry_len kind format count = if kind == STACK_FUNCTION then frame_len format + 4 * (count + 1) else frame_len format
+entry_len kind format count = if kind == stack_function then frame_len format + 4 * (count + 1) else frame_len format
 
 -- What an entry with so many arguments reads of the function at an address: its type and its locals format. Its
 -- frame, at a place on the stack, has to fit below a limit.

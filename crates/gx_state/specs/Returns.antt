@@ -7,7 +7,7 @@ use Rattle.gx_words.specs.declared.faults.Fault.{Fault}
 use Rattle.gx_words.specs.declared.faults.Fault.TheVariants.{BadFrame}
 use Rattle.gx_words.specs.Numbers.{bytes_of_word, is_bit, spliced}
 use Rattle.gx_words.specs.Results.{◌>>=◌}
-use Rattle.gx_stack.specs.declared.kinds.TheConstants.{TO_NOWHERE, TO_MEMORY, TO_LOCAL, TO_STACK, RESUME_COMPRESSED, RESUME_NUMBER, RESUME_C_STRING, RESUME_UNICODE}
+use Rattle.gx_stack.specs.Constants.{to_nowhere, to_memory, to_local, to_stack, resume_compressed, resume_number, resume_c_string, resume_unicode}
 use Rattle.gx_stack.specs.declared.stubs.Stub.{Stub}
 use Rattle.gx_stack.specs.Faults.{lifted}
 use Rattle.gx_stack.specs.Frames.{frame_in}
@@ -21,18 +21,18 @@ use Rattle.gx_state.specs.Stores.{stored}
 
 -- the stub of a store operand: DestType, DestAddr, the next instruction, the present frame
 abbrev pub stub_of : FlatState → Dest → ℕ → Stub
-stub_of f Nowhere next = record { kind = TO_NOWHERE; addr = 0; pc = next; fp = f.fp }
-stub_of f (Memory at) next = record { kind = TO_MEMORY; addr = at; pc = next; fp = f.fp }
-stub_of f (Local at) next = record { kind = TO_LOCAL; addr = at; pc = next; fp = f.fp }
-stub_of f Push next = record { kind = TO_STACK; addr = 0; pc = next; fp = f.fp }
+stub_of f Nowhere next = record { kind = to_nowhere; addr = 0; pc = next; fp = f.fp }
+stub_of f (Memory at) next = record { kind = to_memory; addr = at; pc = next; fp = f.fp }
+stub_of f (Local at) next = record { kind = to_local; addr = at; pc = next; fp = f.fp }
+stub_of f Push next = record { kind = to_stack; addr = 0; pc = next; fp = f.fp }
 
 -- the store operand of a stub; one of another DestType has none
 unfoldable pub dest_of : Stub → Option Dest
 dest_of p =
-    if p.kind == TO_NOWHERE then Some Nowhere else
-    if p.kind == TO_MEMORY then Some (Memory p.addr) else
-    if p.kind == TO_LOCAL then Some (Local p.addr) else
-    if p.kind == TO_STACK then Some Push else
+    if p.kind == to_nowhere then Some Nowhere else
+    if p.kind == to_memory then Some (Memory p.addr) else
+    if p.kind == to_local then Some (Local p.addr) else
+    if p.kind == to_stack then Some Push else
     None
 
 -- stubs pushed, the first deepest
@@ -74,10 +74,10 @@ IsWordInRam f w = IfSome w (λ x. f.story.header.ramstart ≤ x.0) × IfSome w (
 -- below 8, a number at a digit, a C-style or a Unicode string.
 unfoldable pub printing_of : Stub → Option Printing
 printing_of p =
-    if p.kind == RESUME_COMPRESSED then (if is_bit p.addr then Some (record { kind = E1; at = p.pc; bit = p.addr; started = true }) else None) else
-    if p.kind == RESUME_NUMBER then Some (record { kind = Number; at = p.pc; bit = p.addr; started = true }) else
-    if p.kind == RESUME_C_STRING then Some (record { kind = E0; at = p.pc; bit = 0; started = true }) else
-    if p.kind == RESUME_UNICODE then Some (record { kind = E2; at = p.pc; bit = 0; started = true }) else
+    if p.kind == resume_compressed then (if is_bit p.addr then Some (record { kind = E1; at = p.pc; bit = p.addr; started = true }) else None) else
+    if p.kind == resume_number then Some (record { kind = Number; at = p.pc; bit = p.addr; started = true }) else
+    if p.kind == resume_c_string then Some (record { kind = E0; at = p.pc; bit = 0; started = true }) else
+    if p.kind == resume_unicode then Some (record { kind = E2; at = p.pc; bit = 0; started = true }) else
     None
 
 unfoldable pub printing_on : FlatState → Stub → Result FlatState Fault
@@ -106,4 +106,4 @@ returned f sp v before =
 
 -- it writes to memory: the word before it, or the value where the stub says so
 abbrev pub IsReturnWriting : FlatState → ℕ → Option (ℕ × ℕ) → Type 0
-IsReturnWriting f sp before = IsSome before ⊎ ((16 ≤ sp) × ((stub_below f.stack.bytes sp).kind ≡ TO_MEMORY))
+IsReturnWriting f sp before = IsSome before ⊎ ((16 ≤ sp) × ((stub_below f.stack.bytes sp).kind ≡ to_memory))

@@ -4,6 +4,7 @@
 //! refused comes first, so that the state is as before after every refusal.
 ghost use Rattle.std.specs.Prelude.{◌≡◌, ◌≢◌, ◌+◌, ◌-◌, ◌<◌, ◌≤◌, ◌==◌, if◌then◌else◌, Some, None, Ok, length, take, IfOk, OnOk, OnErr, IsTrue};
 ghost use Rattle.gx_pages.specs.Memory.{put_back_of};
+ghost use Rattle.gx_stack.specs.Constants.{to_memory, to_local, to_stack};
 ghost use Rattle.gx_stack.specs.Frames.{has_local};
 ghost use Rattle.gx_stack.specs.Stubs.{stub_below};
 ghost use Rattle.gx_state.specs.Flat.{frame_of, sp_of};
@@ -88,7 +89,7 @@ impl<A: Allocator + Clone> State<A> {
     fn memory_of(&self, copy: &Moment<A>, stub: &Stub) -> Result<Pages<A>, AllocError>
         requires fit { IsCopyFor self.now.flat.story copy.now }
         requires stub { stub.now ≡ stub_in copy.now }
-        ensures value { IfOk result (λ all. all ≡ wrote (put_back_of self.now.flat.memory copy.now.memory self.now.flat.protected.0 self.now.flat.protected.1) (if stub.now.kind == TO_MEMORY then Some (stub.now.addr, 0xFFFFFFFF) else None)) }
+        ensures value { IfOk result (λ all. all ≡ wrote (put_back_of self.now.flat.memory copy.now.memory self.now.flat.protected.0 self.now.flat.protected.1) (if stub.now.kind == to_memory then Some (stub.now.addr, 0xFFFFFFFF) else None)) }
         ensures size { IfOk result (λ all. length all ≡ length copy.now.memory) }
         ensures rom { IfOk result (λ all. take self.now.flat.story.header.ramstart all ≡ take self.now.flat.story.header.ramstart self.now.flat.story.bytes) }
     {
@@ -120,12 +121,12 @@ impl<A: Allocator + Clone> State<A> {
     #[tactic(auto, unfolding(crate::specs::Returns::delivered, crate::specs::Returns::dest_of, crate::specs::Stores::stored, crate::specs::Stores::store_fault, crate::specs::Flat::with_local, crate::specs::Flat::pushed, gx_stack::specs::Values::with_local, gx_stack::specs::Values::pushed))]
     pub(crate) fn answer(&mut self, stub: &Stub)
         requires live { 0 < sp_of self.old.flat }
-        requires kind { stub.now.kind ≤ TO_STACK }
+        requires kind { stub.now.kind ≤ to_stack }
         requires pc { self.old.flat.pc ≡ stub.now.pc }
-        requires local { stub.now.kind ≡ TO_LOCAL → IsTrue (has_local (frame_of self.old.flat) stub.now.addr 4) }
+        requires local { stub.now.kind ≡ to_local → IsTrue (has_local (frame_of self.old.flat) stub.now.addr 4) }
         requires room { sp_of self.old.flat + 4 ≤ self.old.flat.stack.limit }
-        ensures other { stub.now.kind ≢ TO_MEMORY → delivered self.old.flat stub.now 0xFFFFFFFF ≡ Ok self.new.flat }
-        ensures memory { stub.now.kind ≡ TO_MEMORY → self.new ≡ self.old }
+        ensures other { stub.now.kind ≢ to_memory → delivered self.old.flat stub.now 0xFFFFFFFF ≡ Ok self.new.flat }
+        ensures memory { stub.now.kind ≡ to_memory → self.new ≡ self.old }
         ensures story { self.new.flat.story ≡ self.old.flat.story }
         ensures live { 0 < sp_of self.new.flat }
     {

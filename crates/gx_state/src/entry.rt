@@ -3,7 +3,7 @@
 //! The faults of an entry are looked for before anything changes, and before a start or a restart asks
 //! for memory.
 ghost use Rattle.std.specs.Prelude.{ℕ, List, ◌≡◌, ◌≢◌, ◌+◌, ◌*◌, ◌%◌, ◌≤◌, ◌<◌, ◌^◌, ◌++◌, length, take, slice_range, Ok, Err, IfSome, IfOk, IfErr, IsOk, OnOk};
-ghost use Rattle.gx_words.specs.declared.limits.TheConstants.{CEILING};
+ghost use Rattle.gx_words.specs.Constants.{ceiling};
 ghost use Rattle.gx_words.specs.declared.faults.Fault.TheVariants.{NoMemory};
 ghost use Rattle.gx_words.specs.Faults.{Makes, Reads};
 ghost use Rattle.gx_stack.specs.Formats.{IsFormat, frame_len};
@@ -30,7 +30,7 @@ use std::alloc::{Allocator, Global};
 #[inline(always)]
 fn kind_at<M: Readable>(memory: &M, at: u32) -> Result<u32, Fault>
     ensures value { Reads (λ v. v) result (kind_at (M.bytes memory.now) at) }
-    ensures low { OnOk result (at < CEILING) }
+    ensures low { OnOk result (at < ceiling) }
 {
     let kind = u32::from(memory.byte(at)?);
     match kind {
@@ -68,7 +68,7 @@ pub fn function_at<M: Readable>(
     ensures count { OnOk result (count ≤ 255) }
     ensures format { IfOk result (λ r. IsFormat r.1.items) }
     ensures room { IfOk result (λ r. fp + entry_len r.0 r.1.items count ≤ limit) }
-    ensures low { OnOk result (at < CEILING) }
+    ensures low { OnOk result (at < ceiling) }
 {
     let kind = kind_at(memory, at)?;
     if count > 255 {

@@ -5,6 +5,7 @@
 //! and the heap. What may be refused comes first, so that the state is as before after every refusal.
 ghost use Rattle.std.specs.Prelude.{◌≡◌, ◌+◌, ◌-◌, ◌<◌, ◌≤◌, ◌==◌, if◌then◌else◌, Some, None, length, take, IfOk, OnOk, OnErr};
 ghost use Rattle.gx_pages.specs.Memory.{put_back_of};
+ghost use Rattle.gx_stack.specs.Constants.{to_memory};
 ghost use Rattle.gx_stack.specs.Stubs.{stub_below};
 ghost use Rattle.gx_state.specs.Flat.{IsHeight, cut, sp_of};
 ghost use Rattle.gx_state.specs.Copies.{IsCopyFor, HasPlaceFor, copy_of, gone_back, stub_in};
@@ -82,9 +83,10 @@ impl<A: Allocator + Clone> State<A> {
         })
     }
 
-    /// The blocks of the heap.
+    /// The blocks of the heap. No memory is asked for where there is none.
     fn heap_list(&self, alloc: Global) -> Result<Blocks, AllocError>
-        ensures { IfOk result (λ blocks. blocks ≡ self.now.flat.heap.blocks) }
+        ensures value { IfOk result (λ blocks. blocks ≡ self.now.flat.heap.blocks) }
+        ensures memory { OnErr result (0 < length self.now.flat.heap.blocks) }
     {
         let mut blocks = Blocks::new(alloc);
         for block in self.heap.blocks() {
@@ -118,7 +120,7 @@ impl<A: Allocator + Clone> State<A> {
     fn memory_with(&self, copy: &FlatCopy, stub: &Stub) -> Result<Pages<A>, AllocError>
         requires fit { IsCopyFor self.now.flat.story copy.now }
         requires stub { stub.now ≡ stub_in copy.now }
-        ensures value { IfOk result (λ all. all ≡ wrote (put_back_of self.now.flat.memory copy.now.memory self.now.flat.protected.0 self.now.flat.protected.1) (if stub.now.kind == TO_MEMORY then Some (stub.now.addr, 0xFFFFFFFF) else None)) }
+        ensures value { IfOk result (λ all. all ≡ wrote (put_back_of self.now.flat.memory copy.now.memory self.now.flat.protected.0 self.now.flat.protected.1) (if stub.now.kind == to_memory then Some (stub.now.addr, 0xFFFFFFFF) else None)) }
         ensures size { IfOk result (λ all. length all ≡ length copy.now.memory) }
         ensures rom { IfOk result (λ all. take self.now.flat.story.header.ramstart all ≡ take self.now.flat.story.header.ramstart self.now.flat.story.bytes) }
     {

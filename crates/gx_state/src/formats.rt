@@ -4,7 +4,7 @@
 //! of the pair's locals in bytes. At most 64 pairs may stand before the ending one.
 ghost use Rattle.std.specs.Prelude.{◌≡◌, ◌+◌, ◌*◌, ◌≤◌, length, slice_range, IfOk, OnOk};
 ghost use Rattle.arrayvec.specs.ArrayVec.{array_vec_len};
-ghost use Rattle.gx_words.specs.declared.limits.TheConstants.{CEILING};
+ghost use Rattle.gx_words.specs.Constants.{ceiling};
 ghost use Rattle.gx_words.specs.Faults.{Reads};
 ghost use Rattle.gx_stack.specs.Formats.{ArePairs, IsFormat};
 ghost use Rattle.gx_state.specs.Entry.{format_from, format_at, behind, is_type};
@@ -70,7 +70,7 @@ pub fn format_end<M: Readable>(memory: &M, at: u32) -> Result<u32, Fault>
     ensures format { IfOk result (λ end. IsFormat (slice_range (M.bytes memory.now) at end)) }
     ensures behind { IfOk result (λ end. at + 2 ≤ end) }
     ensures there { IfOk result (λ end. end ≤ length (M.bytes memory.now)) }
-    ensures low { IfOk result (λ end. end ≤ CEILING) }
+    ensures low { IfOk result (λ end. end ≤ ceiling) }
 {
     let mut here = at;
     let mut left = 64u32;

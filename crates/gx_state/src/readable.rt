@@ -2,7 +2,7 @@
 //!
 //! So the faults of an entry are found before memory is asked for.
 ghost use Rattle.std.specs.Prelude.{ℕ, ◌<◌, List, length, OnOk};
-ghost use Rattle.gx_words.specs.declared.limits.TheConstants.{CEILING};
+ghost use Rattle.gx_words.specs.Constants.{ceiling};
 ghost use Rattle.gx_words.specs.Faults.{Reads};
 ghost use Rattle.gx_pages.specs.Memory.{number_in};
 ghost use Rattle.gx_state.specs.Entry.{initial};
@@ -22,7 +22,7 @@ pub trait Readable {
     fn byte(&self, at: u32) -> Result<u8, Fault>
         ensures value { Reads (λ v. v) result (number_in 1 (bytes self.now) at) }
         ensures there { OnOk result (at < length (bytes self.now)) }
-        ensures low { OnOk result (at < CEILING) };
+        ensures low { OnOk result (at < ceiling) };
 }
 
 impl<A: Allocator> Readable for Pages<A> {

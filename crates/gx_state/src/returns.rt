@@ -5,6 +5,7 @@
 //! back to the stub's frame. Nothing has changed after a refusal.
 ghost use Rattle.std.specs.Prelude.{◌≡◌, ◌⊎◌, ◌+◌, ◌-◌, ◌*◌, ◌%◌, ◌<◌, ◌≤◌, ◌==◌, length, take, IfOk, OnOk, OnErr, IsSome};
 ghost use Rattle.gx_words.specs.Faults.{Reads};
+ghost use Rattle.gx_stack.specs.Constants.{to_memory, to_local, to_stack};
 ghost use Rattle.gx_stack.specs.Frames.{IsFrame, IsGood};
 ghost use Rattle.gx_stack.specs.Stubs.{stub_below};
 ghost use Rattle.gx_state.specs.Flat.{cut, frame_of, sp_of};
@@ -217,7 +218,7 @@ impl<A: Allocator + Clone> State<A> {
         requires aligned { sp % 4 ≡ 0 }
         requires before { IsWordInRam self.old.flat before }
         requires good { IsGood (take (sp - 16) self.old.flat.stack.bytes) stub.now.fp }
-        requires kind { stub.now.kind ≡ TO_MEMORY }
+        requires kind { stub.now.kind ≡ to_memory }
         ensures { Stores (Unit {0}) result self.old self.new (delivered (back (with_word self.old.flat before) sp stub.now) stub.now value) }
     {
         self.can_write(stub.addr, 4)?;
@@ -242,7 +243,7 @@ impl<A: Allocator + Clone> State<A> {
         requires before { IsWordInRam self.old.flat before }
         requires frame { IsFrame (take (sp - 16) self.old.flat.stack.bytes) frame.now }
         requires fp { frame.now.fp ≡ stub.now.fp }
-        requires kind { stub.now.kind ≡ TO_LOCAL }
+        requires kind { stub.now.kind ≡ to_local }
         ensures { Stores (IsSome before) result self.old self.new (delivered (back (with_word self.old.flat before) sp stub.now) stub.now value) }
     {
         if u64::from(stub.addr) + 4 > u64::from(frame.values - frame.locals) {
@@ -271,7 +272,7 @@ impl<A: Allocator + Clone> State<A> {
         requires aligned { sp % 4 ≡ 0 }
         requires before { IsWordInRam self.old.flat before }
         requires good { IsGood (take (sp - 16) self.old.flat.stack.bytes) stub.now.fp }
-        requires kind { stub.now.kind ≡ TO_STACK }
+        requires kind { stub.now.kind ≡ to_stack }
         ensures { Stores (IsSome before) result self.old self.new (delivered (back (with_word self.old.flat before) sp stub.now) stub.now value) }
     {
         self.write_words(before, None)?;

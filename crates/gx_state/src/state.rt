@@ -1,6 +1,6 @@
 //! The state, its readers, and the calls that set one part.
 ghost use Rattle.std.specs.Prelude.{◌≡◌, ◌+◌, ◌<◌, ◌≤◌, ◌^◌, length, IfOk, IfErr, OnOk};
-ghost use Rattle.gx_words.specs.declared.limits.TheConstants.{CEILING};
+ghost use Rattle.gx_words.specs.Constants.{ceiling};
 ghost use Rattle.gx_words.specs.Numbers.{IsWidth, byte};
 ghost use Rattle.gx_words.specs.declared.faults.Fault.TheVariants.{BadAddress};
 ghost use Rattle.gx_words.specs.Faults.{Reads};
@@ -166,7 +166,7 @@ impl<A: Allocator + Clone> State<A> {
     pub fn code(&self, width: u32, at: u32) -> Result<u32, Fault>
         requires { IsWidth width }
         ensures value { Reads (λ v. v) result (number_in width self.now.flat.memory at) }
-        ensures low { OnOk result (at + width ≤ CEILING) }
+        ensures low { OnOk result (at + width ≤ ceiling) }
         ensures fits { IfOk result (λ v. v < 256 ^ width) }
     {
         if u64::from(at) + u64::from(width) <= u64::from(self.story.ramstart()) {
@@ -180,7 +180,7 @@ impl<A: Allocator + Clone> State<A> {
     fn number_in_ram(&self, width: u32, at: u32) -> Result<u32, Fault>
         requires { IsWidth width }
         ensures value { Reads (λ v. v) result (number_in width self.now.flat.memory at) }
-        ensures low { OnOk result (at + width ≤ CEILING) }
+        ensures low { OnOk result (at + width ≤ ceiling) }
         ensures fits { IfOk result (λ v. v < 256 ^ width) }
     {
         self.memory.try_number(width, at)
@@ -191,7 +191,7 @@ impl<A: Allocator + Clone> State<A> {
     #[tactic(auto, using(crate::proofs::Bytes::code_byte))]
     pub fn code_pair(&self, at: u32) -> Result<(u32, u32), Fault>
         ensures there { OnOk result (at + 2 ≤ length self.now.flat.memory) }
-        ensures low { OnOk result (at + 2 ≤ CEILING) }
+        ensures low { OnOk result (at + 2 ≤ ceiling) }
         ensures value { IfOk result (λ pair. (pair.0 ≡ byte self.now.flat.memory at) × (pair.1 ≡ byte self.now.flat.memory (at + 1))) }
         ensures fits { IfOk result (λ pair. (pair.0 < 2 ^ 8) × (pair.1 < 2 ^ 8)) }
         ensures fault { IfErr result (λ fault. (fault ≡ BadAddress) × (length self.now.flat.memory < at + 2)) }

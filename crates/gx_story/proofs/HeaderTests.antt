@@ -3,10 +3,10 @@ use Rattle.std.proofs.Common.{◌≡◌, ◌≤◌, ℕ, true, List, length}
 use Rattle.std.proofs.lemmas.Bool.{leb-true, and_parts, eqb-true}
 use Rattle.std.proofs.lemmas.List.{length-take-le}
 use Rattle.gx_story.specs.declared.headers.Header.{Header}
-use Rattle.gx_words.specs.declared.limits.TheConstants.{CEILING, STACK_LIMIT}
+use Rattle.gx_words.specs.Constants.{ceiling, stack_limit}
 use Rattle.gx_story.specs.Stories.{IsStory, has_sizes, stored_story}
 
-pub is_story : (header : Header) (bytes : List ℕ) → has_sizes header ≡ true → header.endmem ≤ CEILING → header.stack_size ≤ STACK_LIMIT → header.extstart ≤ length bytes → IsStory (stored_story header bytes)
+pub is_story : (header : Header) (bytes : List ℕ) → has_sizes header ≡ true → header.endmem ≤ ceiling → header.stack_size ≤ stack_limit → header.extstart ≤ length bytes → IsStory (stored_story header bytes)
 is_story header bytes sizes memory stack stored =
     let g = and_parts _ _ sizes in
     let f = and_parts _ _ g.0 in

@@ -1,2 +1,3 @@
+pub mod Constants
 pub mod Entries
 pub mod HeaderTests

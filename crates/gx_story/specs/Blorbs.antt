@@ -9,6 +9,7 @@ use Rattle.iff_chunks.specs.Chunks.{id_at, chunks, part_found, body}
 use Rattle.iff_chunks.specs.declared.parts.Part.{Part}
 use Rattle.iff_chunks.specs.declared.parts.Sought.{Sought}
 use Rattle.iff_chunks.specs.declared.parts.Sought.TheVariants.{Letters, Place}
+use Rattle.gx_story.specs.Constants.{count_len, entry_len}
 use Rattle.gx_story.specs.Faults.{of_form}
 use Rattle.gx_story.specs.declared.blorbs.Entry.{Entry}
 use Rattle.gx_story.specs.declared.faults.StoryFault.{StoryFault}
@@ -27,14 +28,14 @@ exec = 0x45 ∷ 0x78 ∷ 0x65 ∷ 0x63 ∷ []
 abbrev pub glul : List ℕ
 glul = 0x47 ∷ 0x4C ∷ 0x55 ∷ 0x4C ∷ []
 
--- the entry of twelve bytes at a place of an index
+-- the entry at a place of an index
 abbrev pub entry_at : List ℕ → ℕ → Entry
 entry_at index at = record { usage = id_at index at; number = word index (at + 4); start = word index (at + 8) }
 
 -- so many entries from a place on
 unfoldable pub entries_from : ℕ → List ℕ → ℕ → List Entry
 entries_from zero index at = []
-entries_from (suc count) index at = entry_at index at ∷ entries_from count index (at + 12)
+entries_from (suc count) index at = entry_at index at ∷ entries_from count index (at + entry_len)
 
 -- the entry names the story
 abbrev pub is_story : Entry → Bool
@@ -42,16 +43,16 @@ is_story entry = bytes_eq entry.usage exec && entry.number == 0
 
 -- an index has a count and as many entries
 abbrev pub has_count : List ℕ → Bool
-has_count index = nat_le 4 (length index)
+has_count index = nat_le count_len (length index)
 
 abbrev pub has_entries : List ℕ → Bool
-has_entries index = nat_le (4 + 12 * word index 0) (length index)
+has_entries index = nat_le (count_len + entry_len * word index 0) (length index)
 
 -- the first entry of an index that names the story
 unfoldable pub story_entry : List ℕ → Option Entry
 story_entry index =
     if has_count index && has_entries index
-    then find is_story (entries_from (word index 0) index 4)
+    then find is_story (entries_from (word index 0) index count_len)
     else None
 
 -- the first chunk of a Blorb that is sought

@@ -1,16 +1,15 @@
 -- Story files (Glulx 3.1.2, "The Header"): which are accepted, as what, and with which fault others
 -- are refused.
 use Rattle.std.specs.Prelude.{◌≡◌, ℕ, ◌/◌, ◌%◌, ◌^◌, ◌≤◌, ◌==◌, nat_le, ◌&&◌, Bool, not, if◌then◌else◌, List, length, take, Result, Ok, Err}
-use Rattle.gx_words.specs.declared.limits.TheConstants.{CEILING, STACK_LIMIT}
-use Rattle.gx_words.specs.declared.header.TheConstants.{MAGIC, MAGIC_AT, VERSION_AT, RAMSTART_AT, EXTSTART_AT, ENDMEM_AT, STACK_SIZE_AT, START_FUNCTION_AT, TABLE_AT, CHECKSUM_AT, HEADER_LEN}
+use Rattle.gx_words.specs.Constants.{ceiling, stack_limit, magic, magic_at, version_at, ramstart_at, extstart_at, endmem_at, stack_size_at, start_function_at, table_at, checksum_at, header_len}
 use Rattle.gx_words.specs.Numbers.{word, sum_of_words}
 use Rattle.gx_words.specs.Results.{◌>>=◌}
 use Rattle.iff_chunks.specs.Chunks.{begins_form}
 use Rattle.gx_story.specs.Blorbs.{story_in}
+use Rattle.gx_story.specs.Constants.{first_version, last_version}
 use Rattle.gx_story.specs.declared.faults.StoryFault.{StoryFault}
 use Rattle.gx_story.specs.declared.faults.StoryFault.TheVariants as fault
 use Rattle.gx_story.specs.declared.headers.Header.{Header}
-use Rattle.gx_story.specs.declared.headers.TheConstants.{FIRST_VERSION, LAST_VERSION}
 
 -- a header, and the stored part
 pub record FlatStory : Type 0 where
@@ -26,32 +25,32 @@ pub record IsStory (story : FlatStory) : Type 0 where
   pub header_first : 256 ≤ story.header.ramstart
   pub ramstart_first : story.header.ramstart ≤ story.header.extstart
   pub extstart_first : story.header.extstart ≤ story.header.endmem
-  pub memory_limited : story.header.endmem ≤ CEILING
-  pub stack_limited : story.header.stack_size ≤ STACK_LIMIT
+  pub memory_limited : story.header.endmem ≤ ceiling
+  pub stack_limited : story.header.stack_size ≤ stack_limit
   pub stored_whole : length story.bytes ≡ story.header.extstart
 
 -- the words of a header in their order, the magic left out
 abbrev pub header_at_start : List ℕ → Header
 header_at_start bytes = record {
-  version = word bytes VERSION_AT;
-  ramstart = word bytes RAMSTART_AT;
-  extstart = word bytes EXTSTART_AT;
-  endmem = word bytes ENDMEM_AT;
-  stack_size = word bytes STACK_SIZE_AT;
-  start_function = word bytes START_FUNCTION_AT;
-  table = word bytes TABLE_AT;
-  checksum = word bytes CHECKSUM_AT;
+  version = word bytes version_at;
+  ramstart = word bytes ramstart_at;
+  extstart = word bytes extstart_at;
+  endmem = word bytes endmem_at;
+  stack_size = word bytes stack_size_at;
+  start_function = word bytes start_function_at;
+  table = word bytes table_at;
+  checksum = word bytes checksum_at;
 }
 
 -- the tests that a header has to pass, one for each fault
 abbrev pub has_header : List ℕ → Bool
-has_header bytes = nat_le HEADER_LEN (length bytes)
+has_header bytes = nat_le header_len (length bytes)
 
 abbrev pub has_magic : List ℕ → Bool
-has_magic bytes = word bytes MAGIC_AT == MAGIC
+has_magic bytes = word bytes magic_at == magic
 
 abbrev pub has_version : Header → Bool
-has_version header = nat_le FIRST_VERSION header.version && nat_le header.version LAST_VERSION
+has_version header = nat_le first_version header.version && nat_le header.version last_version
 
 abbrev pub is_whole : ℕ → Bool
 is_whole size = size % 256 == 0
@@ -64,7 +63,7 @@ has_sizes header =
     nat_le header.extstart header.endmem
 
 abbrev pub is_within_limits : Header → Bool
-is_within_limits header = nat_le header.endmem CEILING && nat_le header.stack_size STACK_LIMIT
+is_within_limits header = nat_le header.endmem ceiling && nat_le header.stack_size stack_limit
 
 abbrev pub has_stored_part : Header → List ℕ → Bool
 has_stored_part header bytes = nat_le header.extstart (length bytes)

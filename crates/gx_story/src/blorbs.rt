@@ -8,6 +8,7 @@
 ghost use Rattle.std.specs.Prelude.{◌≡◌, ◌≢◌, ◌+◌, ◌*◌, ◌≤◌, length, IfErr};
 ghost use Rattle.std.specs.List.{find};
 ghost use Rattle.gx_words.specs.Results.{Is};
+ghost use Rattle.gx_story.specs.Constants.{count_len, entry_len};
 ghost use Rattle.gx_story.specs.Blorbs.{blorb_part, entries_from, entry_at, is_story, story_entry, story_in};
 
 use crate::StoryFault;
@@ -31,7 +32,7 @@ pub(crate) struct Entry {
 impl Entry {
     /// The entry at a place of an index.
     fn read(index: &[u8], at: usize) -> Entry
-        requires { at + 12 ≤ length index.now }
+        requires { at + entry_len ≤ length index.now }
         ensures { result ≡ entry_at index.now at }
     {
         Entry {
@@ -91,8 +92,8 @@ fn story_entry(index: &[u8]) -> Option<Entry>
 /// The first of so many entries that names the story.
 #[tactic(auto, using(crate::proofs::Entries::entry_turns))]
 fn first_story(index: &[u8], count: usize) -> Option<Entry>
-    requires { 4 + 12 * count ≤ length index.now }
-    ensures { result ≡ find is_story (entries_from count index.now 4) }
+    requires { count_len + entry_len * count ≤ length index.now }
+    ensures { result ≡ find is_story (entries_from count index.now count_len) }
 {
     for number in 0..count {
         let entry = Entry::read(index, COUNT_LEN + ENTRY_LEN * number);

@@ -1,7 +1,7 @@
 //! The header of a story (Glulx 3.1.2, "The Header"): nine words, of which the first is the magic.
 ghost use Rattle.std.specs.Prelude.{◌≡◌, ◌≢◌, ◌≤◌, length, IfOk, IfErr};
 ghost use Rattle.gx_words.specs.Results.{Is};
-ghost use Rattle.gx_words.specs.declared.header.TheConstants.{HEADER_LEN};
+ghost use Rattle.gx_words.specs.Constants.{header_len};
 ghost use Rattle.gx_story.specs.Stories.{IsStory, header, header_at_start, has_sizes, stored_story};
 
 use crate::StoryFault;
@@ -10,7 +10,7 @@ use gx_words::{
     STACK_LIMIT, STACK_SIZE_AT, START_FUNCTION_AT, TABLE_AT, VERSION_AT, word_at,
 };
 
-/// Versions 2.0.0 to 3.1.255: the major number in two bytes, the minor and the last in one each.
+/// The versions that are run: 2.0.0 to 3.1.255.
 const FIRST_VERSION: u32 = 0x0002_0000;
 
 const LAST_VERSION: u32 = 0x0003_01FF;
@@ -60,7 +60,7 @@ impl Header {
 
     /// The words at the start of a story, unchecked.
     fn at_start(bytes: &[u8]) -> Header
-        requires { HEADER_LEN ≤ length bytes.now }
+        requires { header_len ≤ length bytes.now }
         ensures { result ≡ header_at_start bytes.now }
     {
         Header {

@@ -2,7 +2,7 @@
 use Rattle.std.proofs.Common.{◌≡◌, ◌+◌, ◌==◌, ◌||◌, ◌&&◌, nat_le, if◌then◌else◌, ℕ, Bool, true, false, List, refl, sym, subst, Option, Some, None, Result, Ok, Err}
 use Rattle.gx_words.specs.declared.faults.Fault.{Fault}
 use Rattle.gx_words.specs.declared.strings.Printing.{Printing}
-use Rattle.gx_words.specs.declared.typable.TheConstants.{STACK_FUNCTION, LOCALS_FUNCTION}
+use Rattle.gx_words.specs.Constants.{stack_function, locals_function}
 use Rattle.gx_words.specs.Results.{◌>>=◌}
 use Rattle.gx_pages.specs.Memory.{number_in}
 use Rattle.gx_strings.specs.declared.node_types.TheConstants.{STRING_TERMINATOR, SINGLE_CHARACTER, C_STYLE_STRING, SINGLE_UNICODE_CHARACTER, C_STYLE_UNICODE_STRING, INDIRECT_REFERENCE, DOUBLE_INDIRECT_REFERENCE, INDIRECT_REFERENCE_WITH_ARGUMENTS, DOUBLE_INDIRECT_REFERENCE_WITH_ARGUMENTS}
@@ -41,8 +41,8 @@ typed-other : (memory : List ℕ) (back : Printing) (object : ℕ) (count_at : O
 unfolding reference_by_type
 typed-other memory back object count_at t (Some string) = record { is = refl }
 typed-other memory back object count_at t None =
-    either (t == STACK_FUNCTION || t == LOCALS_FUNCTION) (call-other memory back object count_at)
-    (either (nat_le STACK_FUNCTION t && nat_le t LAST_FUNCTION) (record { is = refl }) (record { is = refl }))
+    either (t == stack_function || t == locals_function) (call-other memory back object count_at)
+    (either (nat_le stack_function t && nat_le t LAST_FUNCTION) (record { is = refl }) (record { is = refl }))
 
 reference-other : (memory : List ℕ) (back : Printing) (object : ℕ) (count_at : Option ℕ) → Other (reference memory back object count_at)
 unfolding reference

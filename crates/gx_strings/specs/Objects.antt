@@ -6,7 +6,7 @@ use Rattle.gx_words.specs.declared.faults.Fault.TheVariants.{BadFunction, BadStr
 use Rattle.gx_words.specs.declared.strings.Printing.{Printing}
 use Rattle.gx_words.specs.declared.strings.PrintKind.{PrintKind}
 use Rattle.gx_words.specs.declared.strings.PrintKind.TheVariants.{E0, E1, E2}
-use Rattle.gx_words.specs.declared.typable.TheConstants.{STACK_FUNCTION, LOCALS_FUNCTION, C_STRING, COMPRESSED_STRING, UNICODE_STRING}
+use Rattle.gx_words.specs.Constants.{stack_function, locals_function, c_string, compressed_string, unicode_string}
 use Rattle.gx_words.specs.Results.{◌>>=◌}
 use Rattle.gx_pages.specs.Memory.{number_in}
 use Rattle.gx_strings.specs.declared.objects.TheConstants.{LAST_FUNCTION}
@@ -24,9 +24,9 @@ as_inner p = record p { started = true }
 -- The string that an object of a type is. Three bytes that aren't looked at follow the type of a Unicode string.
 abbrev pub string_of : ℕ → ℕ → Option Printing
 string_of type_byte at =
-    if type_byte == C_STRING then Some (from_start E0 (at + 1)) else
-    if type_byte == COMPRESSED_STRING then Some (from_start E1 (at + 1)) else
-    if type_byte == UNICODE_STRING then Some (from_start E2 (at + 4)) else
+    if type_byte == c_string then Some (from_start E0 (at + 1)) else
+    if type_byte == compressed_string then Some (from_start E1 (at + 1)) else
+    if type_byte == unicode_string then Some (from_start E2 (at + 4)) else
     None
 
 -- the string at an address
@@ -47,8 +47,8 @@ call_of memory back object (Some count_at) = do
 unfoldable pub reference_by_type : List ℕ → Printing → ℕ → Option ℕ → ℕ → Option Printing → Result Item Fault
 reference_by_type memory back object count_at type_byte (Some string) = Ok (Sub back (as_inner string))
 reference_by_type memory back object count_at type_byte None =
-    if type_byte == STACK_FUNCTION || type_byte == LOCALS_FUNCTION then call_of memory back object count_at else
-    if nat_le STACK_FUNCTION type_byte && nat_le type_byte LAST_FUNCTION then Err BadFunction else
+    if type_byte == stack_function || type_byte == locals_function then call_of memory back object count_at else
+    if nat_le stack_function type_byte && nat_le type_byte LAST_FUNCTION then Err BadFunction else
     Err BadString
 
 -- the reference to the object at an address; `back` is the place after it

@@ -2,7 +2,7 @@
 ghost use Rattle.std.specs.Prelude.{◌≡◌, ◌⊎◌, ◌+◌, ◌*◌, ◌<◌, ◌≤◌, ◌^◌, drop, length, None, Ok, false, IsTrue, IfOk, IfSome};
 ghost use Rattle.gx_words.specs.Numbers.{is_bit};
 ghost use Rattle.gx_words.specs.Faults.{Reads};
-ghost use Rattle.gx_words.specs.declared.limits.TheConstants.{CEILING};
+ghost use Rattle.gx_words.specs.Constants.{ceiling};
 ghost use Rattle.gx_words.specs.declared.strings.Printing.{Printing as APrinting};
 ghost use Rattle.gx_strings.specs.declared.items.Item.TheVariants.{Char};
 ghost use Rattle.gx_strings.specs.Bits.{bit, bits};
@@ -32,7 +32,7 @@ fn bit(byte: u32, i: u32) -> bool
 /// The node to which a bit leads from a branch.
 #[tactic(auto, unfolding(crate::specs::Nodes::child))]
 fn child<A: Allocator + Clone>(memory: &Pages<A>, node: u32, one: bool) -> Result<u32, Fault>
-    requires { node ≤ CEILING }
+    requires { node ≤ ceiling }
     ensures { Reads (λ v. v) result (child memory.now node one) }
 {
     memory.try_number(4, if one { node + 5 } else { node + 1 })
@@ -43,7 +43,7 @@ fn child<A: Allocator + Clone>(memory: &Pages<A>, node: u32, one: bool) -> Resul
 #[tactic(auto, unfolding(crate::specs::Nodes::child, gx_pages::specs::Memory::number_in))]
 fn child_of<A: Allocator + Clone>(memory: &Pages<A>, node: u32, one: bool) -> Result<u32, Fault>
     requires there { node < length memory.now }
-    requires low { node ≤ CEILING }
+    requires low { node ≤ ceiling }
     ensures { Reads (λ v. v) result (child memory.now node one) }
 {
     let page = memory.bytes_in_page(node);
@@ -71,7 +71,7 @@ pub struct Ending {
 pub fn walk<A: Allocator + Clone>(memory: &Pages<A>, root: u32, from: u64) -> Result<Ending, Fault>
     requires { from < 2 ^ 35 }
     ensures value { Reads (λ e. (e.node, e.used)) result (walk memory.now root 0 (drop from (bits memory.now))) }
-    ensures used { IfOk result (λ e. (e.used ≡ 0) ⊎ (from + e.used ≤ 8 * CEILING)) }
+    ensures used { IfOk result (λ e. (e.used ≡ 0) ⊎ (from + e.used ≤ 8 * ceiling)) }
 {
     let size = u64::from(memory.size());
     let mut node = root;
@@ -90,7 +90,7 @@ pub fn walk<A: Allocator + Clone>(memory: &Pages<A>, root: u32, from: u64) -> Re
 
 /// The address in a node.
 fn direct<A: Allocator + Clone>(memory: &Pages<A>, node: u32) -> Result<u32, Fault>
-    requires { node ≤ CEILING }
+    requires { node ≤ ceiling }
     ensures { Reads (λ v. v) result (direct memory.now node) }
 {
     memory.try_number(4, node + 1)
@@ -98,7 +98,7 @@ fn direct<A: Allocator + Clone>(memory: &Pages<A>, node: u32) -> Result<u32, Fau
 
 /// The address that stands at the address in a node.
 fn indirect<A: Allocator + Clone>(memory: &Pages<A>, node: u32) -> Result<u32, Fault>
-    requires { node ≤ CEILING }
+    requires { node ≤ ceiling }
     ensures { Reads (λ v. v) result (indirect memory.now node) }
 {
     let at = direct(memory, node)?;

@@ -1,7 +1,7 @@
 //! String objects, and references from a string to an object.
 ghost use Rattle.std.specs.Prelude.{◌≡◌, ◌≤◌, IfOk};
 ghost use Rattle.gx_words.specs.Faults.{Reads};
-ghost use Rattle.gx_words.specs.declared.limits.TheConstants.{CEILING};
+ghost use Rattle.gx_words.specs.Constants.{ceiling};
 ghost use Rattle.gx_strings.specs.Objects.{from_start, as_inner, string_of, string_at, call_of, reference};
 ghost use Rattle.gx_strings.specs.Items.{HasBit, HasBits};
 
@@ -40,7 +40,7 @@ pub fn as_inner(string: Printing) -> Printing
 
 /// The string that an object of a type is.
 fn string_of(type_byte: u32, at: u32) -> Option<Printing>
-    requires { at ≤ CEILING }
+    requires { at ≤ ceiling }
     ensures { result ≡ string_of type_byte at }
 {
     match type_byte {

@@ -13,7 +13,7 @@ use rand_core::SeedableRng;
 use std::alloc::Global;
 
 /// How many pages a run may have out where its story doesn't say it: as many as one of the program.
-pub const MOST_PAGES: usize = 4_718_592;
+pub const MOST_PAGES: usize = 69_206_016;
 
 /// The bytes of the start function's frame before its values.
 const FRAME: usize = 12;

@@ -9,7 +9,8 @@
 //!   up to 0x400; without its line 0x200 are.
 //! - `window` puts the eight instructions that select Glk and open the current window.
 //! - `code DATA` puts bytes after those before it, the first at 0x27, or at 0x42 after `window`.
-//! - `budget STEPS` is the budget, and `pool PAGES` how many pages of memory may be out at a time.
+//! - `budget STEPS` is the budget, `pool PAGES` how many pages of memory may be out at a time, and `options WORDS` are
+//!   the words that the command line has at its end.
 //! - `stack WORDS` is what the stack holds at the end above the fixed part of the start function's frame,
 //!   `text TEXT` what was shown, or `shown DATA`, `memory ADDRESS DATA` what memory holds there, `size NUMBER` how
 //!   large it is, `copies COPIES` how many copies are kept for undo. Without its line the stack has nothing, no text
@@ -57,6 +58,7 @@ struct Tale<'a> {
     /// Where the next code goes.
     next: usize,
     budget: &'a str,
+    options: &'a str,
     pool: usize,
     stack: String,
     text: Vec<u8>,
@@ -79,6 +81,7 @@ impl<'a> Tale<'a> {
             bytes: SIZE,
             next: 0,
             budget: "1000000",
+            options: "",
             pool: MOST_PAGES,
             stack: String::new(alloc),
             text: Vec::new(alloc),
@@ -128,6 +131,7 @@ impl<'a> Tale<'a> {
     fn take(&mut self, alloc: Global, key: &str, rest: &'a str) -> Result<()> {
         match key {
             "budget" => self.budget = rest,
+            "options" => self.options = rest,
             "pool" => self.pool = rest.parse()?,
             "bytes" => self.bytes = usize::from_str_radix(rest, 16)?,
             "ends" | "unbegun" => {
@@ -202,8 +206,20 @@ impl<'a> Tale<'a> {
     }
 
     fn run(&self, alloc: Global, pool: usize, budget: &str, devices: &mut Devices) -> Result<Told> {
-        let words = ["gx_player", "story", "--steps", budget];
-        run(alloc, pool, &words, devices)
+        let words = self.words(alloc, budget)?;
+        run(alloc, pool, words.as_slice(), devices)
+    }
+
+    /// The words of the command line.
+    fn words<'b>(&'b self, alloc: Global, budget: &'b str) -> Result<Vec<&'b str>> {
+        let mut words = Vec::new(alloc);
+        for word in ["gx_player", "story", "--steps", budget] {
+            words.push(word)?;
+        }
+        for word in self.options.split_whitespace() {
+            words.push(word)?;
+        }
+        Ok(words)
     }
 
     /// Compares a run of the story, and others with it.
@@ -269,8 +285,8 @@ impl<'a> Tale<'a> {
     /// Plays the story over too few pages and goes on, and compares both runs with one that has them all.
     fn compare_sequel(&self, alloc: Global, whole: &Told) -> Result<()> {
         let (pages, first) = self.goes_on.split_once(' ').unwrap_or((self.goes_on, ""));
-        let words = ["gx_player", "story", "--steps", self.budget];
-        let sequel = play_sequel(alloc, pages.parse()?, &words, self.there())?;
+        let words = self.words(alloc, self.budget)?;
+        let sequel = play_sequel(alloc, pages.parse()?, words.as_slice(), self.there())?;
         self.compare_shown(alloc, first, &sequel)?;
         compare_end(&sequel, whole)
     }

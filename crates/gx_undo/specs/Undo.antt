@@ -1,5 +1,5 @@
--- The copies that a machine keeps for restoreundo (Glulx 3.1.2, "Game State").
-use Rattle.std.specs.Prelude.{◌≤◌, ℕ, List, ◌∷◌, length, take, drop, All}
+-- The copies that a machine keeps for restoreundo and discardundo (Glulx 3.1.2, "Game State"; discardundo isn't of 3.1.2).
+use Rattle.std.specs.Prelude.{ℕ, List, ◌∷◌, take, drop, All}
 use Rattle.gx_story.specs.Stories.{FlatStory}
 use Rattle.gx_state.specs.Copies.{Copy, IsCopyFor}
 
@@ -8,11 +8,15 @@ pub record FlatUndo : Type 0 where
   pub copies : List Copy
   pub depth : ℕ
 
+-- the greatest depth
+abbrev pub most_undo : ℕ
+most_undo = 64
+
 -- saveundo: one more copy; the oldest is dropped where as many are kept as may be
 abbrev pub with_newest : FlatUndo → Copy → FlatUndo
 with_newest u c = record u { copies = take u.depth (c ∷ u.copies) }
 
--- restoreundo: the newest is taken away
+-- restoreundo, discardundo: the newest is taken away, where there is one
 abbrev pub without_newest : FlatUndo → FlatUndo
 without_newest u = record u { copies = drop 1 u.copies }
 

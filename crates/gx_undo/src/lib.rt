@@ -1,4 +1,4 @@
-//! The copies that saveundo keeps and restoreundo goes back to (Glulx 3.1.2, "Game State").
+//! The copies that saveundo keeps, restoreundo goes back to and discardundo drops (Glulx 3.1.2, "Game State").
 //!
 //! Contracts see an `Undo` as its copies, the newest first, and its depth: how many it keeps at most,
 //! which the standard leaves to the interpreter. The room for all of them is asked for at once, so that
@@ -8,15 +8,18 @@
 //! are fit for a story.
 #![tactic(auto)]
 
-ghost use Rattle.std.specs.Prelude.{◌≡◌, ◌≤◌, [], ◌∷◌, length, drop, slice_get, IfOk, IfSome};
+ghost use Rattle.std.specs.Prelude.{◌≡◌, ◌≤◌, ◌==◌, [], ◌∷◌, length, drop, slice_get, IfOk, IfSome};
 ghost use Rattle.gx_story.specs.Stories.{FlatStory};
 ghost use Rattle.gx_state.specs.Copies.{IsCopyFor};
-ghost use Rattle.gx_undo.specs.Undo.{AreCopiesFor, with_newest, without_newest};
+ghost use Rattle.gx_undo.specs.Undo.{AreCopiesFor, most_undo, with_newest, without_newest};
 
 use circular_buffer::HeapCircularBuffer;
 use gx_state::Moment;
 use std::alloc::{AllocError, Allocator, Global};
 use std::marker::Model;
+
+/// The greatest depth.
+pub const MOST_UNDO: usize = 64;
 
 /// The newest copies.
 #[derive(Drop)]
@@ -39,7 +42,7 @@ impl<A: Allocator + Clone> Model for Undo<A> {
 impl<A: Allocator + Clone> Undo<A> {
     /// No copies, and the room for `depth` of them.
     pub fn new(alloc: Global, depth: usize) -> Result<Undo<A>, AllocError>
-        requires { (1 ≤ depth) × (depth ≤ 64) }
+        requires { (1 ≤ depth) × (depth ≤ most_undo) }
         ensures { IfOk result (λ undo. undo ≡ record { copies = []; depth = depth }) }
     {
         let ring = HeapCircularBuffer::with_capacity(alloc, depth)?;
@@ -63,6 +66,13 @@ impl<A: Allocator + Clone> Undo<A> {
         ensures newest { (story : FlatStory) → AreCopiesFor story self.old.copies → IfSome result (IsCopyFor story) }
     {
         self.ring.pop_front()
+    }
+
+    /// Whether there is no copy.
+    pub fn is_empty(&self) -> bool
+        ensures { result ≡ (length self.now.copies == 0) }
+    {
+        self.ring.is_empty()
     }
 
     /// How many copies there are.

@@ -1,6 +1,6 @@
 -- Numbers (Glulx 3.1.2, "The Memory Map"): big-endian in a list of bytes, and arithmetic modulo 2^32.
 use Rattle.std.specs.Prelude.{◌≡◌, ◌⊎◌, ℕ, zero, suc, Bool, ◌+◌, ◌*◌, ◌/◌, ◌%◌, ◌^◌, ◌==◌, nat_lt, if◌then◌else◌, List, [], ◌∷◌, ◌++◌, length, take, drop, slice_index}
-use Rattle.gx_words.specs.declared.header.TheConstants.{CHECKSUM_AT}
+use Rattle.gx_words.specs.Constants.{checksum_at}
 
 -- numbers in a story have one of these widths in bytes
 abbrev pub IsWidth : ℕ → Type 0
@@ -57,4 +57,4 @@ is_bit bit = nat_lt bit 8
 -- The sum of the first words of a story, that of its checksum taken as zero ("The Header").
 unfoldable pub sum_of_words : ℕ → List ℕ → ℕ
 sum_of_words zero bytes = 0
-sum_of_words (suc n) bytes = sum_of_words n bytes + (if 4 * n == CHECKSUM_AT then 0 else word bytes (4 * n))
+sum_of_words (suc n) bytes = sum_of_words n bytes + (if 4 * n == checksum_at then 0 else word bytes (4 * n))

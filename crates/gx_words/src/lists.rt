@@ -45,6 +45,15 @@ impl<T> Items<T> {
         }
     }
 
+    /// An empty list, with room for `count` items.
+    pub fn with_capacity(alloc: Global, count: usize) -> Result<Self, AllocError>
+        ensures { IfOk result (λ items. items ≡ []) }
+    {
+        Ok(Items {
+            all: Vec::with_capacity(alloc, count)?,
+        })
+    }
+
     pub fn len(&self) -> usize
         ensures { result ≡ length self.now }
     {

@@ -1,7 +1,7 @@
 -- The page before RAM, whose bytes are known but for the sizes, the count and the checksum.
 use Rattle.std.proofs.Common.{◌≡◌, ◌<◌, ◌^◌, ◌++◌, ℕ, ◌+◌, ◌*◌, List, length, replicate, refl, sym, ◌∙◌}
 use Rattle.gx_words.specs.Numbers.{word, bytes_of_word, bytes_of_number, spliced, sum_of_words}
-use Rattle.gx_words.specs.declared.header.TheConstants.{EXTSTART_AT, ENDMEM_AT, CHECKSUM_AT}
+use Rattle.gx_words.specs.Constants.{extstart_at, endmem_at, checksum_at}
 use Rattle.gx_work.specs.Work.{page, HasHeader}
 use Rattle.gx_work.specs.declared.TheConstants.{HEAD, COUNT_AT}
 use Rattle.gx_work.proofs.Words.{read_back}
@@ -12,12 +12,12 @@ length-page count checksum = refl
 
 -- the checksum's word isn't summed up
 pub page_put : (count checksum : ℕ)
-    → spliced (page count 0) CHECKSUM_AT (bytes_of_number 4 checksum) ≡ page count checksum
+    → spliced (page count 0) checksum_at (bytes_of_number 4 checksum) ≡ page count checksum
 unfolding page
 page_put count checksum = refl
 
 pub page_read : (count checksum : ℕ) (rest : List ℕ) → checksum < 2 ^ 32
-    → word (page count checksum ++ rest) CHECKSUM_AT ≡ checksum
+    → word (page count checksum ++ rest) checksum_at ≡ checksum
 unfolding page
 page_read count checksum rest fits = read_back checksum fits
 
@@ -28,7 +28,7 @@ page_sum count checksum = refl
 -- the page is made of the constant part and what depends on the count
 pub page_made : (count : ℕ) (size_bytes count_bytes : List ℕ) (a b c d : List ℕ)
     → size_bytes ≡ bytes_of_word (0x100 + 4 * count) → count_bytes ≡ bytes_of_word count
-    → a ≡ spliced (replicate 256 0) 0 HEAD → b ≡ spliced a EXTSTART_AT size_bytes → c ≡ spliced b ENDMEM_AT size_bytes
+    → a ≡ spliced (replicate 256 0) 0 HEAD → b ≡ spliced a extstart_at size_bytes → c ≡ spliced b endmem_at size_bytes
     → d ≡ spliced c COUNT_AT count_bytes
     → d ≡ page count 0
 unfolding page

@@ -2,7 +2,7 @@
 use Rattle.std.proofs.Common.{◌≡◌, ◌<◌, ◌≤◌, ◌+◌, ◌*◌, ◌/◌, ◌%◌, ◌^◌, ◌++◌, ℕ, List, length, refl, ap, ◌∙◌, append_assoc, append-nil, arith}
 use Rattle.std.proofs.lemmas.List.{length-append}
 use Rattle.gx_words.specs.Numbers.{word, bytes_of_word, bytes_of_number, spliced, sum_of_words}
-use Rattle.gx_words.specs.declared.header.TheConstants.{CHECKSUM_AT}
+use Rattle.gx_words.specs.Constants.{checksum_at}
 use Rattle.gx_work.specs.Work.{page, ram, ram_count, ram_word, ram_sum, story_with, work_story, HasHeader}
 use Rattle.gx_work.proofs.Words.{length-ram, sum_with_ram}
 use Rattle.gx_work.proofs.Pages.{length-page, page_header, page_put, page_read, page_sum}
@@ -25,13 +25,13 @@ pub length-work : (number : ℕ) → length (work_story number) ≡ 0x100 + 4 * 
 unfolding work_story
 length-work number = length-story number (sum_of_words (64 + ram_count number) (story_with number 0) % 2 ^ 32)
 
-checksum_read : (number checksum : ℕ) → checksum < 2 ^ 32 → word (story_with number checksum) CHECKSUM_AT ≡ checksum
+checksum_read : (number checksum : ℕ) → checksum < 2 ^ 32 → word (story_with number checksum) checksum_at ≡ checksum
 unfolding story_with
 checksum_read number checksum fits = page_read (ram_count number) checksum (ram (ram_count number) number) fits
 
 -- the checksum's word is the sum of the others
 pub checked : (number : ℕ)
-    → word (work_story number) CHECKSUM_AT ≡ sum_of_words (length (work_story number) / 4) (work_story number) % 2 ^ 32
+    → word (work_story number) checksum_at ≡ sum_of_words (length (work_story number) / 4) (work_story number) % 2 ^ 32
 unfolding work_story
 checked number =
     let count = ram_count number in
@@ -57,7 +57,7 @@ made number page_part ram_part a b =
 
 -- the turns of the loop that adds RAM
 pub begun : (number count page_part ram_part : ℕ) (blank put story : List ℕ) → blank ≡ page count 0
-    → put ≡ spliced blank CHECKSUM_AT (bytes_of_number 4 ((page_part + ram_part) % 2 ^ 32)) → story ≡ put
+    → put ≡ spliced blank checksum_at (bytes_of_number 4 ((page_part + ram_part) % 2 ^ 32)) → story ≡ put
     → story ≡ page count ((page_part + ram_part) % 2 ^ 32) ++ ram 0 number
 begun number count page_part ram_part blank put story blank_is put_is story_is =
     rw (story_is, put_is, blank_is, page_put count ((page_part + ram_part) % 2 ^ 32), ram_first number, append-nil) refl

@@ -5,7 +5,7 @@ use Rattle.std.proofs.lemmas.List.{length-append, get_or-append-add}
 use Rattle.std.proofs.Math.ListN.{get_or-append}
 use Rattle.gx_words.specs.Numbers.{word, bytes_of_word, sum_of_words}
 use Rattle.gx_work.specs.Work.{ram, ram_word, ram_sum}
-use Rattle.gx_words.specs.declared.header.TheConstants.{CHECKSUM_AT}
+use Rattle.gx_words.specs.Constants.{checksum_at}
 use Rattle.gx_words.proofs.Sums.{sum_more}
 
 -- the bytes of a word are read back
@@ -60,6 +60,6 @@ sum_with_ram (suc n) number xs is =
     let before = sum_before (64 + n) front new (omega (arith, size)) in
     let here : word (front ++ new) (4 * (64 + n)) ≡ ram_word number n =
     word_behind front new (4 * (64 + n)) (sym size) ∙ read_back (ram_word number n) (omega arith) in
-    let other : nat_eq (4 * (64 + n)) CHECKSUM_AT ≡ false = grind (arith, nat_tests) in
+    let other : nat_eq (4 * (64 + n)) checksum_at ≡ false = grind (arith, nat_tests) in
     let rest = sum_with_ram n number xs is in
     rw (joined, next, sum_more (64 + n) (front ++ new), before, here, other, rest) (omega arith)

@@ -1,7 +1,7 @@
 -- The story of a number (Glulx 3.1.2, "The Memory Map"): a page with header and code, and RAM.
 use Rattle.std.specs.Prelude.{◌≡◌, ℕ, zero, suc, ◌+◌, ◌*◌, ◌%◌, ◌^◌, List, [], ◌∷◌, ◌++◌, length, replicate}
 use Rattle.std.specs.List.{flat_map}
-use Rattle.gx_words.specs.declared.header.TheConstants.{MAGIC, MAGIC_AT, VERSION_AT, RAMSTART_AT, EXTSTART_AT, ENDMEM_AT, STACK_SIZE_AT, START_FUNCTION_AT, TABLE_AT}
+use Rattle.gx_words.specs.Constants.{magic, magic_at, version_at, ramstart_at, extstart_at, endmem_at, stack_size_at, start_function_at, table_at}
 use Rattle.gx_words.specs.Numbers.{word, bytes_of_word, sum_of_words}
 
 -- RAM has from 64 to 262,144 words
@@ -24,7 +24,7 @@ ram_sum (suc n) number = ram_sum n number + ram_word number n
 -- magic, version 3.1.2, RAMSTART, EXTSTART, ENDMEM, stack size, start function, no table, checksum
 abbrev pub header : ℕ → ℕ → List ℕ
 header size checksum =
-    flat_map bytes_of_word (MAGIC ∷ 0x00030102 ∷ 0x100 ∷ size ∷ size ∷ 0x100 ∷ 0x24 ∷ 0 ∷ checksum ∷ [])
+    flat_map bytes_of_word (magic ∷ 0x00030102 ∷ 0x100 ∷ size ∷ size ∷ 0x100 ∷ 0x24 ∷ 0 ∷ checksum ∷ [])
 
 -- sends output to Glk and opens a text window for it
 abbrev pub opening : List ℕ
@@ -63,11 +63,11 @@ work_story number = story_with number (sum_of_words (64 + ram_count number) (sto
 
 -- what the header says of the story
 pub record HasHeader (story : List ℕ) : Type 0 where
-  pub magic : word story MAGIC_AT ≡ MAGIC
-  pub version : word story VERSION_AT ≡ 0x00030102
-  pub ramstart : word story RAMSTART_AT ≡ 0x100
-  pub extstart : word story EXTSTART_AT ≡ length story
-  pub endmem : word story ENDMEM_AT ≡ length story
-  pub stack_size : word story STACK_SIZE_AT ≡ 0x100
-  pub start_function : word story START_FUNCTION_AT ≡ 0x24
-  pub table : word story TABLE_AT ≡ 0
+  pub magic : word story magic_at ≡ magic
+  pub version : word story version_at ≡ 0x00030102
+  pub ramstart : word story ramstart_at ≡ 0x100
+  pub extstart : word story extstart_at ≡ length story
+  pub endmem : word story endmem_at ≡ length story
+  pub stack_size : word story stack_size_at ≡ 0x100
+  pub start_function : word story start_function_at ≡ 0x24
+  pub table : word story table_at ≡ 0

@@ -6,7 +6,7 @@
 #![tactic(auto)]
 
 ghost use Rattle.std.specs.Prelude.{◌≡◌, ◌+◌, ◌*◌, ◌/◌, ◌%◌, ◌^◌, ◌≤◌, length, IfOk};
-ghost use Rattle.gx_words.specs.declared.header.TheConstants.{CHECKSUM_AT};
+ghost use Rattle.gx_words.specs.Constants.{checksum_at};
 ghost use Rattle.gx_words.specs.Numbers.{word, sum_of_words};
 ghost use Rattle.gx_work.specs.Work.{page, ram_count, ram_word, ram_sum, work_story, HasHeader};
 
@@ -55,7 +55,7 @@ pub fn make_story(alloc: Global, number: u32) -> Result<Bytes, AllocError>
     ensures story { IfOk result (λ story. story ≡ work_story number) }
     ensures size { IfOk result (λ story. length story ≡ 0x100 + 4 * ram_count number) }
     ensures header { IfOk result HasHeader }
-    ensures checksum { IfOk result (λ story. word story CHECKSUM_AT ≡ sum_of_words (length story / 4) story % 2 ^ 32) }
+    ensures checksum { IfOk result (λ story. word story checksum_at ≡ sum_of_words (length story / 4) story % 2 ^ 32) }
 {
     let count = 64 * (1 + number % 4096);
     let mut page = first_page(count);

@@ -41,11 +41,15 @@ impl Heap {
         }
     }
 
-    /// The heap with this start and these blocks.
+    /// The heap with this start and these blocks. No memory is asked for where there is no block.
     pub fn from_blocks(alloc: Global, start: u32, blocks: &[(u32, u32)]) -> Result<Heap, AllocError>
         requires { IsSound (record { start = start; blocks = blocks.now }) }
-        ensures { IfOk result (λ made. made.heap ≡ record { start = start; blocks = blocks.now }) }
+        ensures value { IfOk result (λ made. made.heap ≡ record { start = start; blocks = blocks.now }) }
+        ensures memory { OnErr result (0 < length blocks.now) }
     {
+        if blocks.is_empty() {
+            return Ok(Heap::new(alloc));
+        }
         Ok(Heap {
             start,
             blocks: Vec::from_slice(alloc, blocks)?,
@@ -147,9 +151,10 @@ impl Heap {
         Some(last)
     }
 
-    /// A heap with the same start and blocks.
+    /// A heap with the same start and blocks. No memory is asked for where there is no block.
     pub fn copy(&self, alloc: Global) -> Result<Heap, AllocError>
-        ensures { IfOk result (λ copy. copy.heap ≡ self.now.heap) }
+        ensures value { IfOk result (λ copy. copy.heap ≡ self.now.heap) }
+        ensures memory { OnErr result (0 < length self.now.heap.blocks) }
     {
         Heap::from_blocks(alloc, self.start, &self.blocks)
     }

@@ -1,11 +1,12 @@
 -- The acts of the rows of a class, by looking at the whole table.
-use Rattle.std.proofs.Common.{◌≡◌, ◌<◌, ℕ, Bool, true, length, refl, subst, arith}
+use Rattle.std.proofs.Common.{◌≡◌, ◌<◌, ℕ, Bool, true, refl, subst, arith}
 use Rattle.std.specs.List.{list_all}
 use Rattle.std.proofs.lemmas.List.Sums.{AllPass-from_list_all}
 use Rattle.gx_rows.specs.declared.instructions.Row.{Row}
 use Rattle.gx_rows.specs.declared.instructions.Class.{Class}
 use Rattle.gx_rows.specs.declared.instructions.Class.TheVariants as class
-use Rattle.gx_rows.specs.Table.{table, row_at}
+use Rattle.gx_rows.specs.Table.{table, row_at, row_count}
+use Rattle.gx_rows.proofs.Places.{rows_counted}
 use Rattle.ops_calc.specs.Arithmetic.{is_calc}
 use Rattle.ops_calc.specs.Branches.{is_branch}
 
@@ -25,19 +26,15 @@ all_fit : list_all (λ (r : Row). act_fits r.class r.act) table ≡ true
 unfolding table act_fits
 all_fit = refl
 
-long : length table ≡ 87
-unfolding table
-long = refl
-
-fits : (place : ℕ) → place < 87 → act_fits (row_at place).class (row_at place).act ≡ true
+fits : (place : ℕ) → place < row_count → act_fits (row_at place).class (row_at place).act ≡ true
 unfolding row_at
-fits place within = AllPass-from_list_all (λ (r : Row). act_fits r.class r.act) table all_fit place _ (omega (arith, long))
+fits place within = AllPass-from_list_all (λ (r : Row). act_fits r.class r.act) table all_fit place _ (omega (arith, rows_counted))
 
-pub calc_act : (place : ℕ) → place < 87 → (row_at place).class ≡ class.Calc → is_calc (row_at place).act ≡ true
+pub calc_act : (place : ℕ) → place < row_count → (row_at place).class ≡ class.Calc → is_calc (row_at place).act ≡ true
 unfolding act_fits
 calc_act place within is = subst (λ (c : Class). act_fits c (row_at place).act ≡ true) is (fits place within)
 
-pub branch_act : (place : ℕ) → place < 87 → (row_at place).class ≡ class.Branch → is_branch (row_at place).act ≡ true
+pub branch_act : (place : ℕ) → place < row_count → (row_at place).class ≡ class.Branch → is_branch (row_at place).act ≡ true
 unfolding act_fits
 branch_act place within is = subst (λ (c : Class). act_fits c (row_at place).act ≡ true) is (fits place within)
 

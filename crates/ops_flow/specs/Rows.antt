@@ -9,7 +9,7 @@ use Rattle.gx_words.specs.declared.faults.Fault.{Fault}
 use Rattle.gx_words.specs.declared.faults.Fault.TheVariants.{BadOpcode, Divide, Overflow, Underflow, BadToken}
 use Rattle.gx_words.specs.Numbers.{word}
 use Rattle.gx_words.specs.Results.{◌>>=◌}
-use Rattle.gx_rows.specs.declared.numbers.TheConstants.{NOP, CALL, RETURN, CATCH, THROW, TAILCALL, JUMPABS, CALLF, CALLFI, CALLFII, CALLFIII, STKCOUNT, STKPEEK, STKSWAP, STKROLL, STKCOPY}
+use Rattle.gx_rows.specs.Numbers as numbers
 use Rattle.gx_rows.specs.declared.instructions.Class.{Class}
 use Rattle.gx_rows.specs.declared.instructions.Class.TheVariants as class
 use Rattle.gx_stack.specs.Stubs.{stub_bytes}
@@ -167,23 +167,23 @@ stkcopy f i = do
 
 unfoldable pub flow : FlatState → Instruction → Result (FlatState × Effect) Fault
 flow f i =
-    if i.row.number == NOP then nop f i else
-    if i.row.number == CALL then call f i else
-    if i.row.number == RETURN then return_ f i else
-    if i.row.number == CATCH then catch f i else
-    if i.row.number == THROW then throw f i else
-    if i.row.number == TAILCALL then tailcall f i else
-    if i.row.number == JUMPABS then jumpabs f i else
-    if i.row.number == CALLF || i.row.number == CALLFI || i.row.number == CALLFII || i.row.number == CALLFIII then callf f i else
+    if i.row.number == numbers.nop then nop f i else
+    if i.row.number == numbers.call then call f i else
+    if i.row.number == numbers.return then return_ f i else
+    if i.row.number == numbers.catch then catch f i else
+    if i.row.number == numbers.throw then throw f i else
+    if i.row.number == numbers.tailcall then tailcall f i else
+    if i.row.number == numbers.jumpabs then jumpabs f i else
+    if i.row.number == numbers.callf || i.row.number == numbers.callfi || i.row.number == numbers.callfii || i.row.number == numbers.callfiii then callf f i else
     Err BadOpcode
 
 unfoldable pub stack : FlatState → Instruction → Result (FlatState × Effect) Fault
 stack f i =
-    if i.row.number == STKCOUNT then stkcount f i else
-    if i.row.number == STKPEEK then stkpeek f i else
-    if i.row.number == STKSWAP then stkswap f i else
-    if i.row.number == STKROLL then stkroll f i else
-    if i.row.number == STKCOPY then stkcopy f i else
+    if i.row.number == numbers.stkcount then stkcount f i else
+    if i.row.number == numbers.stkpeek then stkpeek f i else
+    if i.row.number == numbers.stkswap then stkswap f i else
+    if i.row.number == numbers.stkroll then stkroll f i else
+    if i.row.number == numbers.stkcopy then stkcopy f i else
     Err BadOpcode
 
 abbrev pub row_effect : Class → FlatState → Instruction → Result (FlatState × Effect) Fault

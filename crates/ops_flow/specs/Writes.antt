@@ -1,7 +1,7 @@
 -- Which of these rows write memory, and so may want some: no other ever does. A call stores its result when its
 -- function returns.
 use Rattle.std.specs.Prelude.{ℕ, ◌+◌, ◌==◌, nat_lt, MatchBool, None}
-use Rattle.gx_rows.specs.declared.numbers.TheConstants.{RETURN, CATCH, THROW}
+use Rattle.gx_rows.specs.Numbers as numbers
 use Rattle.gx_rows.specs.declared.instructions.Class.{Class}
 use Rattle.gx_rows.specs.declared.instructions.Class.TheVariants as class
 use Rattle.ops_calc.specs.Branches.{test}
@@ -24,9 +24,9 @@ IsCatchWriting f i = MatchBool (nat_lt (L1 i) 2) (IsReturnWriting f f.fp (lastin
 
 abbrev pub IsFlowWriting : FlatState → Instruction → Type 0
 IsFlowWriting f i =
-    MatchBool (i.row.number == RETURN) (IsReturnWriting f f.fp None) (
-    MatchBool (i.row.number == CATCH) (IsCatchWriting f i) (
-    MatchBool (i.row.number == THROW) (IsReturnWriting f (L2 i) None)
+    MatchBool (i.row.number == numbers.return) (IsReturnWriting f f.fp None) (
+    MatchBool (i.row.number == numbers.catch) (IsCatchWriting f i) (
+    MatchBool (i.row.number == numbers.throw) (IsReturnWriting f (L2 i) None)
     ⊥))
 
 abbrev pub IsWriting : Class → FlatState → Instruction → Type 0

@@ -3,12 +3,12 @@
 --
 -- An instruction's pops are made in its `sp`, and PC becomes `next` where nothing else is said. A fault in any
 -- line leaves the state and the copies as they are. `word` is the random word from outside that a step may use.
-use Rattle.std.specs.Prelude.{◌≡◌, ℕ, ◌+◌, ◌≤◌, ◌==◌, nat_lt, if◌then◌else◌, List, [], ◌∷◌, Result, Ok, Err}
+use Rattle.std.specs.Prelude.{◌≡◌, ℕ, ◌+◌, ◌≤◌, ◌==◌, nat_lt, if◌then◌else◌, List, [], ◌∷◌, length, Result, Ok, Err}
 use Rattle.gx_words.specs.declared.faults.Fault.{Fault}
 use Rattle.gx_words.specs.declared.faults.Fault.TheVariants.{BadOpcode, Overflow, DebugTrap}
-use Rattle.gx_words.specs.declared.iosystems.TheConstants.{NULL_SYSTEM}
+use Rattle.gx_words.specs.Constants.{null_system}
 use Rattle.gx_words.specs.Results.{◌>>=◌}
-use Rattle.gx_rows.specs.declared.numbers.TheConstants as numbers
+use Rattle.gx_rows.specs.Numbers as numbers
 use Rattle.gx_rows.specs.Gestalts.{gestalt_of, is_iosystem}
 use Rattle.gx_story.specs.Stories.{is_checked}
 use Rattle.ops_calc.specs.declared.random.Generator.{Generator}
@@ -24,7 +24,7 @@ use Rattle.gx_operands.specs.Stores.{settled, stores, goes}
 
 -- WHAT ROWS SHARE
 
--- a row that leaves the copies
+-- a row of the state alone, with the copies that it leaves
 abbrev pub leaving_copies : FlatUndo → Result (FlatState × Effect) Fault → Result ((FlatState × FlatUndo) × Effect) Fault
 leaving_copies u (Ok r) = Ok ((r.0, u), r.1)
 leaving_copies u (Err fault) = Err fault
@@ -113,6 +113,14 @@ restoreundo f u i = restored_from f u i u.copies
 unfoldable pub protect : FlatState → Instruction → Result (FlatState × Effect) Fault
 protect f i = goes (record f { protected = (L1 i, L2 i) }) i
 
+-- 128 hasundo (S1): S1 = 0 where a copy is kept, else 1; this instruction isn't of 3.1.2
+unfoldable pub hasundo : FlatState → FlatUndo → Instruction → Result (FlatState × Effect) Fault
+hasundo f u i = stores f i (if length u.copies == 0 then 1 else 0)
+
+-- 129 discardundo: drops the newest copy; nothing where there is none; this instruction isn't of 3.1.2
+unfoldable pub discardundo : FlatState → FlatUndo → Instruction → Result ((FlatState × FlatUndo) × Effect) Fault
+discardundo f u i = leaving_copies (without_newest u) (goes f i)
+
 -- OUTPUT
 
 -- 140 getstringtbl (S1): S1 = the address of the string decoding table
@@ -137,7 +145,7 @@ getiosys f i = do
 
 -- 149 setiosys (L1 L2): the I/O system is L1 with rock L2; one that isn't there is the null system with rock 0
 unfoldable pub setiosys : FlatState → Instruction → Result (FlatState × Effect) Fault
-setiosys f i = goes (record f { iosys = if is_iosystem (L1 i) then (L1 i, L2 i) else (NULL_SYSTEM, 0) }) i
+setiosys f i = goes (record f { iosys = if is_iosystem (L1 i) then (L1 i, L2 i) else (null_system, 0) }) i
 
 -- ACCELERATED FUNCTIONS
 
@@ -149,24 +157,26 @@ accelerate f i = goes f i
 
 unfoldable pub row_effect : FlatState → FlatUndo → ℕ → Instruction → Result ((FlatState × FlatUndo) × Effect) Fault
 row_effect f u word i =
-    if i.row.number == numbers.GESTALT then leaving_copies u (gestalt f i) else
-    if i.row.number == numbers.DEBUGTRAP then leaving_copies u (debugtrap f i) else
-    if i.row.number == numbers.RANDOM then leaving_copies u (random f word i) else
-    if i.row.number == numbers.SETRANDOM then leaving_copies u (setrandom f i) else
-    if i.row.number == numbers.QUIT then leaving_copies u (quit f i) else
-    if i.row.number == numbers.VERIFY then leaving_copies u (verify f i) else
-    if i.row.number == numbers.RESTART then leaving_copies u (restart f) else
-    if i.row.number == numbers.SAVE then leaving_copies u (save f i) else
-    if i.row.number == numbers.RESTORE then leaving_copies u (restore f i) else
-    if i.row.number == numbers.SAVEUNDO then saveundo f u i else
-    if i.row.number == numbers.RESTOREUNDO then restoreundo f u i else
-    if i.row.number == numbers.PROTECT then leaving_copies u (protect f i) else
-    if i.row.number == numbers.GETSTRINGTBL then leaving_copies u (getstringtbl f i) else
-    if i.row.number == numbers.SETSTRINGTBL then leaving_copies u (setstringtbl f i) else
-    if i.row.number == numbers.GETIOSYS then leaving_copies u (getiosys f i) else
-    if i.row.number == numbers.SETIOSYS then leaving_copies u (setiosys f i) else
-    if i.row.number == numbers.ACCELFUNC then leaving_copies u (accelerate f i) else
-    if i.row.number == numbers.ACCELPARAM then leaving_copies u (accelerate f i) else
+    if i.row.number == numbers.gestalt then leaving_copies u (gestalt f i) else
+    if i.row.number == numbers.debugtrap then leaving_copies u (debugtrap f i) else
+    if i.row.number == numbers.random then leaving_copies u (random f word i) else
+    if i.row.number == numbers.setrandom then leaving_copies u (setrandom f i) else
+    if i.row.number == numbers.quit then leaving_copies u (quit f i) else
+    if i.row.number == numbers.verify then leaving_copies u (verify f i) else
+    if i.row.number == numbers.restart then leaving_copies u (restart f) else
+    if i.row.number == numbers.save then leaving_copies u (save f i) else
+    if i.row.number == numbers.restore then leaving_copies u (restore f i) else
+    if i.row.number == numbers.saveundo then saveundo f u i else
+    if i.row.number == numbers.restoreundo then restoreundo f u i else
+    if i.row.number == numbers.protect then leaving_copies u (protect f i) else
+    if i.row.number == numbers.hasundo then leaving_copies u (hasundo f u i) else
+    if i.row.number == numbers.discardundo then discardundo f u i else
+    if i.row.number == numbers.getstringtbl then leaving_copies u (getstringtbl f i) else
+    if i.row.number == numbers.setstringtbl then leaving_copies u (setstringtbl f i) else
+    if i.row.number == numbers.getiosys then leaving_copies u (getiosys f i) else
+    if i.row.number == numbers.setiosys then leaving_copies u (setiosys f i) else
+    if i.row.number == numbers.accelfunc then leaving_copies u (accelerate f i) else
+    if i.row.number == numbers.accelparam then leaving_copies u (accelerate f i) else
     Err BadOpcode
 
 -- What holds of a step that asks for a save or a restore: the state and the copies stand, so many bytes fit above the

@@ -1,7 +1,7 @@
 -- Which of these rows write memory or copy the state, and so may want some: no other ever does. (save and restore only
 -- ask: the memory that they need is wanted after the step.)
 use Rattle.std.specs.Prelude.{◌⊎◌, ◌==◌, ◌&&◌, ◌||◌, nat_lt, if◌then◌else◌, length, Bool, IsTrue}
-use Rattle.gx_rows.specs.declared.numbers.TheConstants.{GESTALT, RANDOM, VERIFY, RESTART, SAVEUNDO, RESTOREUNDO, GETSTRINGTBL, GETIOSYS}
+use Rattle.gx_rows.specs.Numbers as numbers
 use Rattle.gx_state.specs.declared.modes.Dest.{Dest}
 use Rattle.gx_state.specs.declared.modes.Dest.TheVariants.{Nowhere}
 use Rattle.gx_state.specs.Stores.{IsMemory}
@@ -11,26 +11,27 @@ use Rattle.gx_operands.specs.Instructions.{Instruction}
 -- restart and saveundo do, and restoreundo where there is a copy
 abbrev pub is_copying : FlatUndo → Instruction → Bool
 is_copying u i =
-    i.row.number == RESTART ||
-    i.row.number == SAVEUNDO ||
-    (i.row.number == RESTOREUNDO && nat_lt 0 (length u.copies))
+    i.row.number == numbers.restart ||
+    i.row.number == numbers.saveundo ||
+    (i.row.number == numbers.restoreundo && nat_lt 0 (length u.copies))
 
 -- these do where their result is stored in memory
 abbrev pub has_result : Instruction → Bool
 has_result i =
-    i.row.number == GESTALT ||
-    i.row.number == RANDOM ||
-    i.row.number == VERIFY ||
-    i.row.number == RESTOREUNDO ||
-    i.row.number == GETSTRINGTBL ||
-    i.row.number == GETIOSYS
+    i.row.number == numbers.gestalt ||
+    i.row.number == numbers.random ||
+    i.row.number == numbers.verify ||
+    i.row.number == numbers.restoreundo ||
+    i.row.number == numbers.hasundo ||
+    i.row.number == numbers.getstringtbl ||
+    i.row.number == numbers.getiosys
 
 abbrev pub result_of : Instruction → Dest
 result_of i = if has_result i then i.dest else Nowhere
 
 -- getiosys has a second one
 abbrev pub second_of : Instruction → Dest
-second_of i = if i.row.number == GETIOSYS then i.second else Nowhere
+second_of i = if i.row.number == numbers.getiosys then i.second else Nowhere
 
 abbrev pub IsWriting : FlatUndo → Instruction → Type 0
 IsWriting u i = IsMemory (result_of i) ⊎ IsMemory (second_of i) ⊎ IsTrue (is_copying u i)

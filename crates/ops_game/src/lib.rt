@@ -6,7 +6,7 @@
 //! fault. save and restore ask, with the state and the copies standing, and never want memory.
 //! - `chances` has random and setrandom.
 //! - `saves` has save and restore.
-//! - `undos` has saveundo and restoreundo.
+//! - `undos` has saveundo, restoreundo, hasundo and discardundo; the last two aren't of 3.1.2.
 //! - `outputs` has the rows of the string decoding table and the iosystem.
 #![tactic(auto)]
 
@@ -29,9 +29,9 @@ mod undos;
 use chances::{random, setrandom};
 use gx_operands::{Plan, goes, stores};
 use gx_rows::{
-    ACCELFUNC, ACCELPARAM, DEBUGTRAP, GESTALT, GETIOSYS, GETSTRINGTBL, PROTECT, QUIT, RANDOM,
-    RESTART, RESTORE, RESTOREUNDO, SAVE, SAVEUNDO, SETIOSYS, SETRANDOM, SETSTRINGTBL, VERIFY,
-    gestalt as answer_to,
+    ACCELFUNC, ACCELPARAM, DEBUGTRAP, DISCARDUNDO, GESTALT, GETIOSYS, GETSTRINGTBL, HASUNDO,
+    PROTECT, QUIT, RANDOM, RESTART, RESTORE, RESTOREUNDO, SAVE, SAVEUNDO, SETIOSYS, SETRANDOM,
+    SETSTRINGTBL, VERIFY, gestalt as answer_to,
 };
 use gx_state::{Effect, State};
 use gx_undo::Undo;
@@ -39,7 +39,7 @@ use gx_words::Fault;
 use outputs::{getiosys, getstringtbl, setiosys, setstringtbl};
 use saves::{restore, save};
 use std::alloc::Allocator;
-use undos::{restoreundo, saveundo};
+use undos::{discardundo, hasundo, restoreundo, saveundo};
 
 /// gestalt
 #[tactic(auto, unfolding(crate::specs::Rows::gestalt))]
@@ -127,6 +127,8 @@ pub fn act<A: Allocator + Clone>(
         SAVEUNDO => saveundo(state, plan, undo),
         RESTOREUNDO => restoreundo(state, plan, undo),
         PROTECT => Ok(protect(state, plan)),
+        HASUNDO => hasundo(state, plan, undo),
+        DISCARDUNDO => Ok(discardundo(state, plan, undo)),
         GETSTRINGTBL => getstringtbl(state, plan),
         SETSTRINGTBL => Ok(setstringtbl(state, plan)),
         GETIOSYS => getiosys(state, plan),

@@ -1,16 +1,17 @@
-//! saveundo and restoreundo (Glulx 3.1.2, "Game State").
+//! saveundo and restoreundo (Glulx 3.1.2, "Game State"), hasundo and discardundo (not of 3.1.2).
 //!
 //! A saveundo that is refused keeps no copy, and a restoreundo that is refused drops none.
-ghost use Rattle.std.specs.Prelude.{◌≡◌, ◌<◌, ◌⊎◌, length, IfOk};
+ghost use Rattle.std.specs.Prelude.{◌≡◌, ◌<◌, ◌⊎◌, length, Ok, IfOk};
 ghost use Rattle.gx_words.specs.Faults.{Does};
 ghost use Rattle.gx_state.specs.Flat.{IsHeight};
+ghost use Rattle.gx_state.specs.Relations.{Works};
 ghost use Rattle.gx_state.specs.Replies.{IsDone};
 ghost use Rattle.gx_state.specs.Stores.{IsMemory};
 ghost use Rattle.gx_operands.specs.Plans.{instruction_of};
 ghost use Rattle.gx_undo.specs.Undo.{AreCopiesFor};
-ghost use Rattle.ops_game.specs.Rows.{saveundo, restoreundo};
+ghost use Rattle.ops_game.specs.Rows.{discardundo, hasundo, restoreundo, saveundo};
 
-use gx_operands::{Plan, can_store, settle, stores};
+use gx_operands::{Plan, can_store, goes, settle, stores};
 use gx_state::{Effect, State};
 use gx_undo::Undo;
 use gx_words::Fault;
@@ -68,4 +69,37 @@ pub fn restoreundo<A: Allocator + Clone>(
             Err(Fault::NoMemory)
         }
     }
+}
+
+/// hasundo
+#[tactic(auto, unfolding(crate::specs::Rows::hasundo))]
+pub fn hasundo<A: Allocator + Clone>(
+    state: &mut State<A>,
+    plan: &Plan,
+    undo: &Undo<A>,
+) -> Result<Effect, Fault>
+    requires { IsHeight state.old.flat plan.now.sp }
+    ensures value { Works (IsMemory plan.now.dest) result state.old.flat state.new.flat (hasundo state.old.flat undo.now (instruction_of plan.now)) }
+    ensures done { IfOk result IsDone }
+{
+    let value = u32::from(undo.is_empty());
+    stores(state, plan, value)
+}
+
+/// discardundo
+#[tactic(auto, unfolding(crate::specs::Rows::discardundo))]
+pub fn discardundo<A: Allocator + Clone>(
+    state: &mut State<A>,
+    plan: &Plan,
+    undo: &mut Undo<A>,
+) -> Effect
+    requires sp { IsHeight state.old.flat plan.now.sp }
+    requires copies { AreCopiesFor state.old.flat.story undo.old.copies }
+    ensures value { discardundo state.old.flat undo.old (instruction_of plan.now) ≡ Ok ((state.new.flat, undo.new), result) }
+    ensures done { IsDone result }
+    ensures story { state.new.flat.story ≡ state.old.flat.story }
+    ensures copies { AreCopiesFor state.old.flat.story undo.new.copies }
+{
+    let _newest = undo.pop(); // dropped, where there is one
+    goes(state, plan)
 }

@@ -1,5 +1,5 @@
 -- A row within a budget costs the probes that it begins.
-use Rattle.std.proofs.Common.{◌≡◌, ◌≤◌, ◌<◌, ℕ, Result, Ok, Err, IfOk, if◌then◌else◌, refl}
+use Rattle.std.proofs.Common.{◌≡◌, ◌≤◌, ◌<◌, ℕ, Result, Ok, Err, IfOk, if◌then◌else◌, refl, arith}
 use Rattle.std.proofs.lemmas.Bool.{lt-ltb, le-ltb}
 use Rattle.gx_words.specs.declared.faults.Fault.{Fault}
 use Rattle.gx_search.specs.declared.asks.Found.TheVariants.{At, Nothing, More}
@@ -65,4 +65,14 @@ none_within left probes s is = (is_answer left s (Ok (Nothing probes)) is).2
 pub more_within : (left : ℕ) (s : Search) → found_within left s ≡ Ok More → left < s.probes
 more_within left s is = is_answer left s (Ok More) is
 
-pub ruleset charges = (at_charged, none_charged, more_charged, fault_charged, at_within, none_within, more_within, done_within)
+-- a search that ends begins no more probes than the budget has
+pub at_enough : (left address index probes : ℕ) (s : Search) → found_within left s ≡ Ok (At address index probes) → s.probes ≤ left
+at_enough left address index probes s is = let told = is_answer left s (Ok (At address index probes)) is in omega (arith, told.1, told.2)
+
+pub none_enough : (left probes : ℕ) (s : Search) → found_within left s ≡ Ok (Nothing probes) → s.probes ≤ left
+none_enough left probes s is = let told = is_answer left s (Ok (Nothing probes)) is in omega (arith, told.1, told.2)
+
+pub fault_enough : (left : ℕ) (e : Fault) (s : Search) → found_within left s ≡ Err e → s.probes ≤ left
+fault_enough left e s is = (is_answer left s (Err e) is).1
+
+pub ruleset charges = (at_enough, none_enough, fault_enough, at_charged, none_charged, more_charged, fault_charged, at_within, none_within, more_within, done_within)

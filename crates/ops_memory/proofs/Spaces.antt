@@ -6,7 +6,7 @@ use Rattle.std.proofs.Math.Seq.{take-append-add}
 use Rattle.std.proofs.lemmas.Bool.Decides.{nat_tests}
 use Rattle.gx_words.specs.declared.faults.Fault.{Fault}
 use Rattle.gx_words.specs.declared.faults.Fault.TheVariants.{BadAddress, ReadOnly}
-use Rattle.gx_words.specs.declared.limits.TheConstants.{CEILING}
+use Rattle.gx_words.specs.Constants.{ceiling}
 use Rattle.gx_words.specs.Numbers.{spliced, bytes_of_number}
 use Rattle.gx_words.specs.Results.{◌>>=◌}
 use Rattle.gx_pages.specs.Memory.{IsSize, resized}
@@ -166,7 +166,7 @@ pub ruleset shrinks = (shrink_after, settled_cut, settled_fits, settled_ok)
 pub ruleset grows = (shrink_back, size_back, settled_ok)
 
 -- a block may be entered in memory that covers it, after the store
-pub may_enter : (f g : FlatState) (sp v size end at n : ℕ) (d : Dest) → settled (with_size f size) sp 4 d v ≡ Ok g → 0 < n → IsPlace f.heap end n CEILING at → at + n ≤ size
+pub may_enter : (f g : FlatState) (sp v size end at n : ℕ) (d : Dest) → settled (with_size f size) sp 4 d v ≡ Ok g → 0 < n → IsPlace f.heap end n ceiling at → at + n ≤ size
     → end % 256 ≡ 0 → f.story.header.endmem ≤ end → IsNewBlock g end at n
 may_enter f g sp v size end at n d is some place there whole endmem =
     let keeps = settled_keeps (with_size f size) g sp v d is in

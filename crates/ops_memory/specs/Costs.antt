@@ -1,9 +1,10 @@
 -- What the rows cost beside their own steps: a search costs the probes that it begins (Glulx 3.1.2,
 -- "Searching"). One without an end costs more than any budget has, and is never done.
-use Rattle.std.specs.Prelude.{ℕ, ◌-◌, ◌<◌, ◌==◌, nat_lt, if◌then◌else◌, Result, Ok}
+use Rattle.std.specs.Prelude.{◌≡◌, ℕ, ◌-◌, ◌<◌, ◌≤◌, ◌==◌, nat_lt, if◌then◌else◌, Result, Ok}
 use Rattle.gx_words.specs.declared.faults.Fault.{Fault}
+use Rattle.gx_words.specs.declared.faults.Fault.TheVariants.{NoMemory}
 use Rattle.gx_words.specs.Results.{◌>>=◌}
-use Rattle.gx_rows.specs.declared.numbers.TheConstants.{LINEARSEARCH, BINARYSEARCH, LINKEDSEARCH}
+use Rattle.gx_rows.specs.Numbers as numbers
 use Rattle.gx_rows.specs.declared.instructions.Class.{Class}
 use Rattle.gx_rows.specs.declared.instructions.Class.TheVariants as class
 use Rattle.gx_state.specs.declared.effects.Effect.{Effect}
@@ -17,9 +18,9 @@ use Rattle.ops_memory.specs.Rows.{search_by, row_effect}
 -- how many probes a row of Memory begins
 unfoldable pub memory_probes : FlatState → Instruction → ℕ
 memory_probes f i =
-    if i.row.number == LINEARSEARCH then (search_by Linear f i).probes else
-    if i.row.number == BINARYSEARCH then (search_by Binary f i).probes else
-    if i.row.number == LINKEDSEARCH then (search_by Linked f i).probes else
+    if i.row.number == numbers.linearsearch then (search_by Linear f i).probes else
+    if i.row.number == numbers.binarysearch then (search_by Binary f i).probes else
+    if i.row.number == numbers.linkedsearch then (search_by Linked f i).probes else
     0
 
 abbrev pub probes_of : Class → FlatState → Instruction → ℕ
@@ -40,6 +41,10 @@ charged left probes s r = if nat_lt left probes then Ok ((s, left), Spent) else 
 abbrev pub EndsWithin : ℕ → ℕ → Effect → Type 0
 EndsWithin left probes Spent = left < probes
 EndsWithin left probes e = IsDone e
+
+-- memory is wanted only where the budget has the probes: a row that isn't done takes none
+abbrev pub IsAfforded : ℕ → ℕ → Fault → Type 0
+IsAfforded left probes e = e ≡ NoMemory → probes ≤ left
 
 -- The row of an instruction, with the budget that its own step left.
 unfoldable pub acted : Class → FlatState → Instruction → ℕ → Result ((FlatState × ℕ) × Effect) Fault

@@ -10,9 +10,9 @@ use Rattle.gx_words.specs.declared.faults.Fault.{Fault}
 use Rattle.gx_words.specs.declared.faults.Fault.TheVariants.{BadOpcode, BadAddress, MemSize, HeapUse}
 use Rattle.gx_words.specs.Numbers.{rounded_up}
 use Rattle.gx_words.specs.Results.{◌>>=◌}
-use Rattle.gx_words.specs.declared.limits.TheConstants.{CEILING}
+use Rattle.gx_words.specs.Constants.{ceiling}
 use Rattle.gx_pages.specs.Memory.{number_in}
-use Rattle.gx_rows.specs.declared.numbers.TheConstants.{ALOAD, ALOADS, ALOADB, ALOADBIT, ASTORE, ASTORES, ASTOREB, ASTOREBIT, GETMEMSIZE, SETMEMSIZE, LINEARSEARCH, BINARYSEARCH, LINKEDSEARCH, MZERO, MCOPY, MALLOC, MFREE}
+use Rattle.gx_rows.specs.Numbers as numbers
 use Rattle.gx_rows.specs.declared.instructions.Class.{Class}
 use Rattle.gx_rows.specs.declared.instructions.Class.TheVariants as class
 use Rattle.gx_search.specs.declared.asks.Ask.{Ask}
@@ -128,7 +128,7 @@ getmemsize f i = stores f i (length f.memory)
 
 -- memory can't be so large, or its size can't be set since the heap is active
 abbrev pub is_refused : FlatState → ℕ → Bool
-is_refused f size = nat_lt CEILING size || not (is_inactive f.heap)
+is_refused f size = nat_lt ceiling size || not (is_inactive f.heap)
 
 -- 103 setmemsize (L1 S1): sets the size of memory to L1; S1 = 0, or 1 where it is refused and stays. S1 is
 -- stored in memory of the new size.
@@ -218,7 +218,7 @@ allocated_at f i (Some at) = allocated f i at
 unfoldable pub malloc : FlatState → Instruction → Result (FlatState × Effect) Fault
 malloc f i =
     if L1 i == 0 then Err HeapUse else
-    allocated_at f i (place f.heap (length f.memory) (L1 i) CEILING)
+    allocated_at f i (place f.heap (length f.memory) (L1 i) ceiling)
 
 -- 179 mfree (L1): frees the block at L1
 unfoldable pub mfree : FlatState → Instruction → Result (FlatState × Effect) Fault
@@ -230,23 +230,23 @@ mfree f i = do
 
 unfoldable pub memory : FlatState → Instruction → Result (FlatState × Effect) Fault
 memory f i =
-    if i.row.number == ALOAD then aload f i else
-    if i.row.number == ALOADS then aloads f i else
-    if i.row.number == ALOADB then aloadb f i else
-    if i.row.number == ALOADBIT then aloadbit f i else
-    if i.row.number == ASTORE then astore f i else
-    if i.row.number == ASTORES then astores f i else
-    if i.row.number == ASTOREB then astoreb f i else
-    if i.row.number == ASTOREBIT then astorebit f i else
-    if i.row.number == GETMEMSIZE then getmemsize f i else
-    if i.row.number == SETMEMSIZE then setmemsize f i else
-    if i.row.number == LINEARSEARCH then linearsearch f i else
-    if i.row.number == BINARYSEARCH then binarysearch f i else
-    if i.row.number == LINKEDSEARCH then linkedsearch f i else
-    if i.row.number == MZERO then mzero f i else
-    if i.row.number == MCOPY then mcopy f i else
-    if i.row.number == MALLOC then malloc f i else
-    if i.row.number == MFREE then mfree f i else
+    if i.row.number == numbers.aload then aload f i else
+    if i.row.number == numbers.aloads then aloads f i else
+    if i.row.number == numbers.aloadb then aloadb f i else
+    if i.row.number == numbers.aloadbit then aloadbit f i else
+    if i.row.number == numbers.astore then astore f i else
+    if i.row.number == numbers.astores then astores f i else
+    if i.row.number == numbers.astoreb then astoreb f i else
+    if i.row.number == numbers.astorebit then astorebit f i else
+    if i.row.number == numbers.getmemsize then getmemsize f i else
+    if i.row.number == numbers.setmemsize then setmemsize f i else
+    if i.row.number == numbers.linearsearch then linearsearch f i else
+    if i.row.number == numbers.binarysearch then binarysearch f i else
+    if i.row.number == numbers.linkedsearch then linkedsearch f i else
+    if i.row.number == numbers.mzero then mzero f i else
+    if i.row.number == numbers.mcopy then mcopy f i else
+    if i.row.number == numbers.malloc then malloc f i else
+    if i.row.number == numbers.mfree then mfree f i else
     Err BadOpcode
 
 abbrev pub row_effect : Class → FlatState → Instruction → Result (FlatState × Effect) Fault

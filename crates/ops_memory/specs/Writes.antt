@@ -1,7 +1,7 @@
 -- Which of these rows write memory or make it larger, and so may want some: no other ever does.
 use Rattle.std.specs.Prelude.{◌⊎◌, ◌<◌, ◌==◌, ◌||◌, length, IsFalse, IsSome, MatchBool}
-use Rattle.gx_words.specs.declared.limits.TheConstants.{CEILING}
-use Rattle.gx_rows.specs.declared.numbers.TheConstants.{ASTORE, ASTORES, ASTOREB, ASTOREBIT, SETMEMSIZE, MZERO, MCOPY, MALLOC, MFREE}
+use Rattle.gx_words.specs.Constants.{ceiling}
+use Rattle.gx_rows.specs.Numbers as numbers
 use Rattle.gx_rows.specs.declared.instructions.Class.{Class}
 use Rattle.gx_rows.specs.declared.instructions.Class.TheVariants as class
 use Rattle.heap_blocks.specs.Heap.{place}
@@ -15,17 +15,17 @@ abbrev pub IsSizeWriting : FlatState → Instruction → Type 0
 IsSizeWriting f i = IsMemory i.dest ⊎ (IsFalse (is_refused f (L1 i)) × (length f.memory < L1 i))
 
 abbrev pub IsBlockWriting : FlatState → Instruction → Type 0
-IsBlockWriting f i = IsMemory i.dest ⊎ IsSome (place f.heap (length f.memory) (L1 i) CEILING)
+IsBlockWriting f i = IsMemory i.dest ⊎ IsSome (place f.heap (length f.memory) (L1 i) ceiling)
 
 -- astore, astores, astoreb and astorebit do; mzero and mcopy do unless their count is 0; mfree never does, and
 -- others do where their result is stored in memory
 abbrev pub IsMemoryWriting : FlatState → Instruction → Type 0
 IsMemoryWriting f i =
-    MatchBool (i.row.number == ASTORE || i.row.number == ASTORES || i.row.number == ASTOREB || i.row.number == ASTOREBIT) (Unit {0}) (
-    MatchBool (i.row.number == SETMEMSIZE) (IsSizeWriting f i) (
-    MatchBool (i.row.number == MZERO || i.row.number == MCOPY) (0 < L1 i) (
-    MatchBool (i.row.number == MALLOC) (IsBlockWriting f i) (
-    MatchBool (i.row.number == MFREE) ⊥ (IsMemory i.dest)))))
+    MatchBool (i.row.number == numbers.astore || i.row.number == numbers.astores || i.row.number == numbers.astoreb || i.row.number == numbers.astorebit) (Unit {0}) (
+    MatchBool (i.row.number == numbers.setmemsize) (IsSizeWriting f i) (
+    MatchBool (i.row.number == numbers.mzero || i.row.number == numbers.mcopy) (0 < L1 i) (
+    MatchBool (i.row.number == numbers.malloc) (IsBlockWriting f i) (
+    MatchBool (i.row.number == numbers.mfree) ⊥ (IsMemory i.dest)))))
 
 abbrev pub IsWriting : Class → FlatState → Instruction → Type 0
 IsWriting class.Calc f i = ⊥

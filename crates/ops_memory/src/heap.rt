@@ -3,7 +3,7 @@
 //! malloc looks for faults first, and then asks for room in the list of blocks, for memory, and for the page of
 //! its result.
 ghost use Rattle.std.specs.Prelude.{◌≡◌, ◌+◌, ◌<◌, ◌≤◌, length, IfOk};
-ghost use Rattle.gx_words.specs.declared.limits.TheConstants.{CEILING};
+ghost use Rattle.gx_words.specs.Constants.{ceiling};
 ghost use Rattle.gx_pages.specs.Memory.{IsSize};
 ghost use Rattle.heap_blocks.specs.Heap.{IsPlace};
 ghost use Rattle.gx_state.specs.Flat.{IsHeight};
@@ -23,7 +23,7 @@ use std::alloc::Allocator;
 /// The size of memory that covers all below an address.
 fn covering(size: u32, end: u32) -> u32
     requires size { IsSize size }
-    requires end { end ≤ CEILING }
+    requires end { end ≤ ceiling }
     ensures value { result ≡ covering size end }
     ensures whole { IsSize result }
     ensures above { size ≤ result }
@@ -41,7 +41,7 @@ fn allocate<A: Allocator + Clone>(
 ) -> Result<Effect, Fault>
     requires sp { IsHeight state.old.flat plan.now.sp }
     requires some { 0 < L1 (instruction_of plan.now) }
-    requires place { IsPlace state.old.flat.heap (length state.old.flat.memory) (L1 (instruction_of plan.now)) CEILING at }
+    requires place { IsPlace state.old.flat.heap (length state.old.flat.memory) (L1 (instruction_of plan.now)) ceiling at }
     ensures value { Works (Unit {0}) result state.old.flat state.new.flat (allocated state.old.flat (instruction_of plan.now) at) }
     ensures done { IfOk result IsDone }
 {

@@ -10,7 +10,7 @@
 //! - `sizes` has setmemsize, and `heap` has malloc and mfree.
 #![tactic(auto)]
 
-ghost use Rattle.std.specs.Prelude.{◌≡◌, IfOk};
+ghost use Rattle.std.specs.Prelude.{◌≡◌, IfErr, IfOk};
 ghost use Rattle.gx_words.specs.Faults.{Does};
 ghost use Rattle.gx_state.specs.Flat.{IsHeight};
 ghost use Rattle.gx_state.specs.Relations.{Works};
@@ -18,7 +18,7 @@ ghost use Rattle.gx_state.specs.Replies.{IsDone};
 ghost use Rattle.gx_state.specs.Stores.{IsMemory};
 ghost use Rattle.gx_operands.specs.Plans.{instruction_of};
 ghost use Rattle.ops_memory.specs.Rows.{copy, memory};
-ghost use Rattle.ops_memory.specs.Costs.{charged, memory_probes, acted, EndsWithin, probes_of};
+ghost use Rattle.ops_memory.specs.Costs.{charged, memory_probes, acted, EndsWithin, IsAfforded, probes_of};
 ghost use Rattle.ops_memory.specs.Writes.{IsMemoryWriting, IsWriting};
 
 mod arrays;
@@ -66,6 +66,7 @@ fn memory<A: Allocator + Clone>(
     requires { IsHeight state.old.flat plan.now.sp }
     ensures value { Does (IsMemoryWriting state.old.flat (instruction_of plan.now)) (λ effect. effect) result (state.old.flat, left.old) (state.new.flat, left.new) (charged left.old (memory_probes state.old.flat (instruction_of plan.now)) state.old.flat (memory state.old.flat (instruction_of plan.now))) }
     ensures done { IfOk result (EndsWithin left.old (memory_probes state.old.flat (instruction_of plan.now))) }
+    ensures affords { IfErr result (IsAfforded left.old (memory_probes state.old.flat (instruction_of plan.now))) }
     ensures story { state.new.flat.story ≡ state.old.flat.story }
 {
     match plan.row().number {
@@ -106,6 +107,7 @@ pub fn act<A: Allocator + Clone>(
     requires { IsHeight state.old.flat plan.now.sp }
     ensures value { Does (IsWriting (instruction_of plan.now).row.class state.old.flat (instruction_of plan.now)) (λ effect. effect) result (state.old.flat, left.old) (state.new.flat, left.new) (acted (instruction_of plan.now).row.class state.old.flat (instruction_of plan.now) left.old) }
     ensures done { IfOk result (EndsWithin left.old (probes_of (instruction_of plan.now).row.class state.old.flat (instruction_of plan.now))) }
+    ensures affords { IfErr result (IsAfforded left.old (probes_of (instruction_of plan.now).row.class state.old.flat (instruction_of plan.now))) }
     ensures story { state.new.flat.story ≡ state.old.flat.story }
 {
     match plan.row().class {

@@ -2,7 +2,7 @@
 //!
 //! A search has the budget that is left as its bound of probes. It isn't done where it would begin more; else
 //! `left` is lowered by its probes, but stands after a fault.
-ghost use Rattle.std.specs.Prelude.{◌≡◌, ◌≤◌, if◌then◌else◌, IfOk};
+ghost use Rattle.std.specs.Prelude.{◌≡◌, ◌≤◌, if◌then◌else◌, IfErr, IfOk};
 ghost use Rattle.gx_words.specs.Faults.{Reads, Does};
 ghost use Rattle.gx_search.specs.Searches.{found_within};
 ghost use Rattle.gx_state.specs.Flat.{IsHeight};
@@ -11,7 +11,7 @@ ghost use Rattle.gx_state.specs.Replies.{IsDone};
 ghost use Rattle.gx_operands.specs.Plans.{instruction_of};
 ghost use Rattle.gx_operands.specs.Stores.{stores};
 ghost use Rattle.ops_memory.specs.Rows.{row_ask, list_ask, search_by, is_indexed, searches};
-ghost use Rattle.ops_memory.specs.Costs.{lowered, charged, EndsWithin};
+ghost use Rattle.ops_memory.specs.Costs.{lowered, charged, EndsWithin, IsAfforded};
 
 use gx_operands::{Plan, stores};
 use gx_search::{Ask, Found, RETURN_INDEX, binary, linear, linked};
@@ -125,6 +125,7 @@ pub fn searches<A: Allocator + Clone>(
     requires { IsHeight state.old.flat plan.now.sp }
     ensures value { Does (IsMemory plan.now.dest) (λ effect. effect) result (state.old.flat, left.old) (state.new.flat, left.new) (charged left.old (search_by method state.old.flat (instruction_of plan.now)).probes state.old.flat (searches method state.old.flat (instruction_of plan.now))) }
     ensures done { IfOk result (EndsWithin left.old (search_by method state.old.flat (instruction_of plan.now)).probes) }
+    ensures affords { IfErr result (IsAfforded left.old (search_by method state.old.flat (instruction_of plan.now)).probes) }
     ensures story { state.new.flat.story ≡ state.old.flat.story }
 {
     let indexed = is_indexed(plan, method);

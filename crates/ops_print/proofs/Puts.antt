@@ -1,7 +1,7 @@
 -- Steps of printing that put no character.
 use Rattle.std.proofs.Common.{◌≡◌, ◌==◌, if◌then◌else◌, ℕ, Bool, true, false, List, refl, sym, subst, ◌⊎◌, inl, inr, Result, Ok, Err, IfOk}
 use Rattle.gx_words.specs.declared.faults.Fault.{Fault}
-use Rattle.gx_words.specs.declared.iosystems.TheConstants.{FILTER_SYSTEM, GLK_SYSTEM}
+use Rattle.gx_words.specs.Constants.{filter_system, glk_system}
 use Rattle.gx_words.specs.declared.strings.Printing.{Printing}
 use Rattle.gx_words.specs.Results.{◌>>=◌}
 use Rattle.gx_strings.specs.declared.items.Item.{Item}
@@ -46,16 +46,16 @@ unfolding string_ended
 ended f started = either started (each (inner_ended f) (λ g. record { is = refl })) (record { is = refl })
 
 -- a character under another system than Glk
-dropped : (f : FlatState) (started : Bool) (c : ℕ) (next : Printing) → (f.iosys.0 == GLK_SYSTEM) ≡ false → Quiet (character_printed f started c next)
+dropped : (f : FlatState) (started : Bool) (c : ℕ) (next : Printing) → (f.iosys.0 == glk_system) ≡ false → Quiet (character_printed f started c next)
 unfolding character_printed
 dropped f started c next other =
-    either (f.iosys.0 == FILTER_SYSTEM) (called f started next f.iosys.1 _) (past (f.iosys.0 == GLK_SYSTEM) _ _ other (record { is = refl }))
+    either (f.iosys.0 == filter_system) (called f started next f.iosys.1 _) (past (f.iosys.0 == glk_system) _ _ other (record { is = refl }))
 
 true_is_not_false : true ≡ false → ⊥
 true_is_not_false same = cc
 
 -- an item that is no character, or that is printed under another system than Glk
-other : (f : FlatState) (started : Bool) (i : Item) → is_char (Ok i) ≡ false ⊎ ((f.iosys.0 == GLK_SYSTEM) ≡ false) → Quiet (item_printed f started i)
+other : (f : FlatState) (started : Bool) (i : Item) → is_char (Ok i) ≡ false ⊎ ((f.iosys.0 == glk_system) ≡ false) → Quiet (item_printed f started i)
 unfolding item_printed reference_called
 other f started (Char c next) (inl plain) = absurd (true_is_not_false plain)
 other f started (Char c next) (inr system) = dropped f started c next system
@@ -65,7 +65,7 @@ other f started End h = ended f started
 
 -- ---- a step of printing
 
-step : (f : FlatState) (p : Printing) (r : Result Item Fault) → is_char r ≡ false ⊎ ((f.iosys.0 == GLK_SYSTEM) ≡ false) → Quiet (r >>= item_printed f p.started)
+step : (f : FlatState) (p : Printing) (r : Result Item Fault) → is_char r ≡ false ⊎ ((f.iosys.0 == glk_system) ≡ false) → Quiet (r >>= item_printed f p.started)
 step f p (Ok i) h = other f p.started i h
 step f p (Err fault) h = record { is = tt }
 
@@ -76,7 +76,7 @@ pub quiet_item : (f : FlatState) (p : Printing) → f.mode ≡ mode.Printing p �
 unfolding item
 quiet_item f p mode none = printed-is f p mode (either (is_place p.kind p.bit) (step f p (next_item f.memory f.table p) (inl none)) (record { is = tt }))
 
-pub quiet_system : (f : FlatState) (p : Printing) → f.mode ≡ mode.Printing p → (f.iosys.0 == GLK_SYSTEM) ≡ false → IfOk (printed f) (λ r. is_put r.1 ≡ false)
+pub quiet_system : (f : FlatState) (p : Printing) → f.mode ≡ mode.Printing p → (f.iosys.0 == glk_system) ≡ false → IfOk (printed f) (λ r. is_put r.1 ≡ false)
 unfolding item
 quiet_system f p mode system = printed-is f p mode (either (is_place p.kind p.bit) (step f p (next_item f.memory f.table p) (inr system)) (record { is = tt }))
 

@@ -5,7 +5,7 @@
 use Rattle.std.specs.Prelude.{ℕ, zero, suc, ◌+◌, ◌==◌, min, if◌then◌else◌, Bool, true, false, List, [], ◌∷◌, Result, Ok, Err}
 use Rattle.gx_words.specs.declared.faults.Fault.{Fault}
 use Rattle.gx_words.specs.declared.faults.Fault.TheVariants.{BadFrame}
-use Rattle.gx_words.specs.declared.iosystems.TheConstants.{FILTER_SYSTEM, GLK_SYSTEM}
+use Rattle.gx_words.specs.Constants.{filter_system, glk_system}
 use Rattle.gx_words.specs.declared.strings.Printing.{Printing}
 use Rattle.gx_words.specs.declared.strings.PrintKind.{PrintKind}
 use Rattle.gx_words.specs.declared.strings.PrintKind.TheVariants.{E0, E1, E2, Number}
@@ -47,8 +47,8 @@ function_called f started back at args = do
 -- asked to be put to the current stream, with the state standing; the null system drops it.
 unfoldable pub character_printed : FlatState → Bool → ℕ → Printing → Result (FlatState × Effect) Fault
 character_printed f started c next =
-    if f.iosys.0 == FILTER_SYSTEM then function_called f started next f.iosys.1 (c ∷ []) else
-    if f.iosys.0 == GLK_SYSTEM then Ok (f, Put c) else
+    if f.iosys.0 == filter_system then function_called f started next f.iosys.1 (c ∷ []) else
+    if f.iosys.0 == glk_system then Ok (f, Put c) else
     Ok (record f { mode = mode.Printing next }, Went)
 
 -- an inner string is begun

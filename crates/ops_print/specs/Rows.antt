@@ -6,11 +6,11 @@
 use Rattle.std.specs.Prelude.{ℕ, ◌%◌, ◌==◌, if◌then◌else◌, false, [], ◌∷◌, Result, Ok, Err}
 use Rattle.gx_words.specs.declared.faults.Fault.{Fault}
 use Rattle.gx_words.specs.declared.faults.Fault.TheVariants.{BadOpcode}
-use Rattle.gx_words.specs.declared.iosystems.TheConstants.{FILTER_SYSTEM, GLK_SYSTEM}
+use Rattle.gx_words.specs.Constants.{filter_system, glk_system}
 use Rattle.gx_words.specs.declared.strings.Printing.{Printing}
 use Rattle.gx_words.specs.declared.strings.PrintKind.TheVariants.{Number}
 use Rattle.gx_words.specs.Results.{◌>>=◌}
-use Rattle.gx_rows.specs.declared.numbers.TheConstants.{STREAMCHAR, STREAMNUM, STREAMSTR, STREAMUNICHAR}
+use Rattle.gx_rows.specs.Numbers as numbers
 use Rattle.gx_strings.specs.Objects.{string_at}
 use Rattle.gx_state.specs.declared.effects.Effect.{Effect}
 use Rattle.gx_state.specs.declared.effects.Effect.TheVariants.{Went, Put}
@@ -29,10 +29,10 @@ use Rattle.gx_operands.specs.Stores.{goes}
 -- the null system drops it.
 abbrev pub character_streamed : FlatState → Instruction → ℕ → Result (FlatState × Effect) Fault
 character_streamed f i c =
-    if f.iosys.0 == FILTER_SYSTEM then (do
+    if f.iosys.0 == filter_system then (do
       g ← entered f i.sp (stub_of f Nowhere i.next ∷ []) f.iosys.1 (c ∷ [])
       Ok (g, Went)) else
-    if f.iosys.0 == GLK_SYSTEM then Ok (f, Put c) else
+    if f.iosys.0 == glk_system then Ok (f, Put c) else
     goes f i
 
 -- a string or number is printed from now on, and then the next instruction follows
@@ -63,10 +63,10 @@ streamunichar f i = character_streamed f i (L1 i)
 
 abbrev pub row_effect : FlatState → Instruction → Result (FlatState × Effect) Fault
 row_effect f i =
-    if i.row.number == STREAMCHAR then streamchar f i else
-    if i.row.number == STREAMNUM then streamnum f i else
-    if i.row.number == STREAMSTR then streamstr f i else
-    if i.row.number == STREAMUNICHAR then streamunichar f i else
+    if i.row.number == numbers.streamchar then streamchar f i else
+    if i.row.number == numbers.streamnum then streamnum f i else
+    if i.row.number == numbers.streamstr then streamstr f i else
+    if i.row.number == numbers.streamunichar then streamunichar f i else
     Err BadOpcode
 
 -- A step of this class is done, or asks for a character to be put: then `stands` holds.

@@ -8,7 +8,7 @@ use Rattle.gx_words.specs.declared.strings.Printing.{Printing}
 use Rattle.gx_words.specs.declared.strings.PrintKind.{PrintKind}
 use Rattle.gx_words.specs.declared.strings.PrintKind.TheVariants.{E0, E1, E2, Number}
 use Rattle.gx_words.specs.Results.{◌>>=◌}
-use Rattle.gx_stack.specs.declared.kinds.TheConstants.{RESUME_COMPRESSED, RESUME_CODE, RESUME_NUMBER, RESUME_C_STRING, RESUME_UNICODE}
+use Rattle.gx_stack.specs.Constants.{resume_compressed, resume_code, resume_number, resume_c_string, resume_unicode}
 use Rattle.gx_stack.specs.declared.stubs.Stub.{Stub}
 use Rattle.gx_state.specs.declared.modes.Mode.TheVariants as mode
 use Rattle.gx_state.specs.Flat.{FlatState}
@@ -17,17 +17,17 @@ use Rattle.gx_state.specs.Returns.{popped_stub, printing_on}
 -- The stub that resumes a string or number: at a bit of a compressed string, at a digit of a number, at the next
 -- character of another string.
 unfoldable pub resuming_by : PrintKind → FlatState → Printing → Stub
-resuming_by E0 f p = record { kind = RESUME_C_STRING; addr = 0; pc = p.at; fp = f.fp }
-resuming_by E1 f p = record { kind = RESUME_COMPRESSED; addr = p.bit; pc = p.at; fp = f.fp }
-resuming_by E2 f p = record { kind = RESUME_UNICODE; addr = 0; pc = p.at; fp = f.fp }
-resuming_by Number f p = record { kind = RESUME_NUMBER; addr = p.bit; pc = p.at; fp = f.fp }
+resuming_by E0 f p = record { kind = resume_c_string; addr = 0; pc = p.at; fp = f.fp }
+resuming_by E1 f p = record { kind = resume_compressed; addr = p.bit; pc = p.at; fp = f.fp }
+resuming_by E2 f p = record { kind = resume_unicode; addr = 0; pc = p.at; fp = f.fp }
+resuming_by Number f p = record { kind = resume_number; addr = p.bit; pc = p.at; fp = f.fp }
 
 abbrev pub resuming : FlatState → Printing → Stub
 resuming f p = resuming_by p.kind f p
 
 -- the stub that goes back to the code once a string or number has ended
 unfoldable pub to_code : FlatState → Stub
-to_code f = record { kind = RESUME_CODE; addr = 0; pc = f.pc; fp = f.fp }
+to_code f = record { kind = resume_code; addr = 0; pc = f.pc; fp = f.fp }
 
 -- The stubs that are pushed, the first deepest, before an inner string is begun or a function is called: that
 -- of the code where it was not pushed before, and that of the place to go on at.
@@ -37,8 +37,8 @@ ways_back f started back = if started then resuming f back ∷ [] else to_code f
 -- The stub was popped at the end of a string or number: code goes on, or the compressed string around it.
 unfoldable pub gone_on : FlatState → Stub → Result FlatState Fault
 gone_on f p =
-    if p.kind == RESUME_COMPRESSED then printing_on f p else
-    if p.kind == RESUME_CODE then Ok (record f { pc = p.pc; mode = mode.Running }) else
+    if p.kind == resume_compressed then printing_on f p else
+    if p.kind == resume_code then Ok (record f { pc = p.pc; mode = mode.Running }) else
     Err BadFrame
 
 -- The end of a string or number that another string's reference began or a stub resumed.

@@ -5,7 +5,7 @@ use Rattle.std.specs.List.{list_all}
 use Rattle.std.proofs.lemmas.Bool.{le-ltb, lt-ltb, le-leb, lt-leb}
 use Rattle.std.proofs.lemmas.List.{append-nil, drop_more, drop_all}
 use Rattle.gx_words.specs.Numbers.{word}
-use Rattle.heap_blocks.specs.Heap.{Block, end_of}
+use Rattle.heap_blocks.specs.Heap.{Block}
 use Rattle.quetzal.specs.Blocks.{blocks_from, is_block, rises}
 
 -- the block at an index, and those behind it

@@ -1,15 +1,15 @@
 -- A copy that is fit for its story and is written as a save is read back.
-use Rattle.std.proofs.Common.{◌≡◌, ◌≢◌, inl, inr, ◌≤◌, ◌<◌, ◌+◌, ◌-◌, ◌*◌, ◌/◌, ◌%◌, ◌^◌, ◌==◌, ℕ, zero, suc, Bool, true, false, cond, List, [], ◌∷◌, ◌++◌, append_assoc, length, take, drop, map, Option, Some, None, Result, Ok, Err, IsTrue, if◌then◌else◌, refl, sym, ap, subst, ◌∙◌, arith, ltb as nat_lt, leb as nat_le, eqb as nat_eq, length-append}
+use Rattle.std.proofs.Common.{◌≡◌, inl, inr, ◌≤◌, ◌<◌, ◌+◌, ◌-◌, ◌*◌, ◌/◌, ◌%◌, ◌^◌, ◌==◌, ℕ, Bool, true, false, cond, List, [], ◌∷◌, ◌++◌, append_assoc, length, take, drop, map, Option, Some, None, Result, Ok, Err, IsTrue, if◌then◌else◌, refl, sym, ap, subst, ◌∙◌, arith, ltb as nat_lt, leb as nat_le, eqb as nat_eq, length-append}
 use Rattle.std.specs.Prelude.{◌&&◌}
 use Rattle.std.specs.List.{AllByRecursion, find, flat_map, list_all}
-use Rattle.std.specs.Option.{ok_or, option_map}
+use Rattle.std.specs.Option.{option_map}
 use Rattle.std.specs.Str.{bytes_eq}
-use Rattle.std.proofs.lemmas.Bool.{le-ltb, lt-ltb, le-leb, lt-leb, leb-true, ltb-true, and_parts, eqb-true, eq-eqb, cases_lt}
+use Rattle.std.proofs.lemmas.Bool.{le-ltb, lt-ltb, le-leb, leb-true, eqb-true, eq-eqb, cases_lt}
 use Rattle.std.proofs.lemmas.Bool.Decides.{nat_tests}
 use Rattle.std.proofs.lemmas.Cmp.{nat_list_eq_equiv}
 use Rattle.std.proofs.lemmas.Grind.{common_steps}
 use Rattle.std.proofs.lemmas.List.{append-nil, take-append-drop, length-take, length-drop}
-use Rattle.gx_words.specs.declared.limits.TheConstants.{CEILING}
+use Rattle.gx_words.specs.Constants.{ceiling}
 use Rattle.gx_words.specs.Numbers.{word, bytes_of_word}
 use Rattle.gx_words.specs.Results.{◌>>=◌}
 use Rattle.gx_stack.specs.declared.frames.Frame.{Frame}
@@ -25,21 +25,18 @@ use Rattle.iff_chunks.specs.declared.parts.Part.{Part}
 use Rattle.iff_chunks.specs.declared.parts.Sought.TheVariants.{Letters}
 use Rattle.iff_chunks.specs.Faults.{◌>>=◌ as ◌iff>>=◌}
 use Rattle.iff_chunks.specs.Chunks.{body, chunks, is_sought, part_found}
-use Rattle.iff_chunks.specs.Writing.{Chunk, IsChunk, IsForm, bytes_of_chunk, bytes_of_form, chunk_of, chunks_in}
+use Rattle.iff_chunks.specs.Writing.{Chunk, IsChunk, IsForm, bytes_of_chunk, chunk_of, chunks_in}
 use Rattle.iff_chunks.proofs.ReadingBack as iff
 use Rattle.iff_chunks.proofs.ReadingBack.{length-bytes_of_chunk}
 use Rattle.zero_runs.specs.Packing.{packed, xored}
 use Rattle.zero_runs.specs.Unpacking.{unpacked}
 use Rattle.zero_runs.proofs.RoundTrip.{unpacked-packed, length-packed}
 use Rattle.zero_runs.proofs.UnpackingTurns.{length-xored}
-use Rattle.quetzal.specs.declared.faults.SaveFault.{SaveFault}
-use Rattle.quetzal.specs.declared.faults.SaveFault.TheVariants as fault
-use Rattle.quetzal.specs.Faults.{allowed, of_form, of_runs}
-use Rattle.quetzal.specs.Chunks.{MemoryBody, Parts, body_in, cmem, ifhd, ifzs, mall, memory_in, needed, parts_in, stks, umem}
-use Rattle.quetzal.specs.Memory.{bytes_in, first_ram, is_size, memory_bytes, memory_of, ram_of, size_in, with_rom}
+use Rattle.quetzal.specs.Faults.{of_form}
+use Rattle.quetzal.specs.Chunks.{MemoryBody, body_in, cmem, ifhd, ifzs, mall, memory_in, needed, parts_in, stks, umem}
+use Rattle.quetzal.specs.Memory.{bytes_in, first_ram, is_size, memory_bytes, memory_of, ram_of, size_in}
 use Rattle.quetzal.specs.Stacks.{has_height, is_place, is_stack, is_stub}
 use Rattle.quetzal.specs.Blocks.{are_apart, are_blocks, blocks_from, blocks_in, bytes_of_block, count_in, has_count, has_no_heap, heap_bytes, heap_of, in_order, is_block, is_heap, is_start, rises, start_in}
-use Rattle.quetzal.specs.Saves.{save_of}
 use Rattle.quetzal.specs.Writing.{ReadsBack, chunk_len, form_len, heap_chunks, saved, saved_chunks}
 use Rattle.quetzal.proofs.Sorting.{both, rises_by, rises_parts, rising_blocks}
 use Rattle.quetzal.proofs.SaveReading.{save_taken}
@@ -81,7 +78,7 @@ parts_by save story header stack memory None rest a b c d e f g h = rw (a, b, c,
 parts_by save story header stack memory (Some heap) rest a b c d e f g h = rw (a, b, c, d, e, f, g, ← h) refl
 
 -- memory
-memory_word : (story : FlatStory) (memory : List ℕ) → length memory ≤ CEILING → word (memory_bytes story memory) 0 ≡ length memory
+memory_word : (story : FlatStory) (memory : List ℕ) → length memory ≤ ceiling → word (memory_bytes story memory) 0 ≡ length memory
 unfolding memory_bytes
 memory_word story memory le = digits (length memory) (omega (arith, le))
 
@@ -93,7 +90,7 @@ memory_long : (story : FlatStory) (memory : List ℕ) → nat_le 4 (length (memo
 unfolding memory_bytes
 memory_long story memory = le-leb _ _ (omega arith)
 
-pub length-memory_bytes : (story : FlatStory) (memory : List ℕ) → length memory ≤ CEILING → length (memory_bytes story memory) ≤ 0x08000004
+pub length-memory_bytes : (story : FlatStory) (memory : List ℕ) → length memory ≤ ceiling → length (memory_bytes story memory) ≤ 0x20000004
 unfolding memory_bytes
 length-memory_bytes story memory le = omega (arith, le, length-packed (xored (drop story.header.ramstart memory) (first_ram story)), length-xored (drop story.header.ramstart memory) (first_ram story), length-drop story.header.ramstart memory)
 
@@ -101,7 +98,7 @@ ram_by : (story : FlatStory) (chunk : MemoryBody) (bytes ram : List ℕ) (size :
 unfolding ram_of
 ram_by story chunk bytes ram size a b c d = rw (a, b, c, d) refl
 
-memory_again : (story : FlatStory) (memory : List ℕ) → length memory ≤ CEILING → story.header.ramstart ≤ length memory → take story.header.ramstart memory ≡ take story.header.ramstart story.bytes
+memory_again : (story : FlatStory) (memory : List ℕ) → length memory ≤ ceiling → story.header.ramstart ≤ length memory → take story.header.ramstart memory ≡ take story.header.ramstart story.bytes
     → memory_of story (record { is_packed = true; body = memory_bytes story memory }) ≡ Ok memory
 memory_again story memory small low rom =
     let len : length memory - story.header.ramstart ≡ length (drop story.header.ramstart memory) = sym (length-drop story.header.ramstart memory) in
@@ -111,7 +108,7 @@ memory_again story memory small low rom =
     rw ram (ap (λ (xs : List ℕ). Ok xs) (ap (λ (front : List ℕ). front ++ drop story.header.ramstart memory) (sym rom) ∙ take-append-drop story.header.ramstart memory))
 
 -- the tests of a copy that is fit
-size_there : (story : FlatStory) (c : Copy) → IsCopyFor story c → is_size story (length c.memory) ≡ true
+size_there : (story : FlatStory) (c : Copy) → IsCopyFor story c → is_size ceiling story (length c.memory) ≡ true
 size_there story c fit = both _ _ (both _ _ (eq-eqb _ _ fit.size.whole) (le-leb _ _ fit.endmem)) (le-leb _ _ fit.size.capped)
 
 good_there : (s : List ℕ) (fp : ℕ) → IsGood s fp → is_good s fp ≡ true
@@ -146,7 +143,7 @@ rises_count (b ∷ bs) at size h = let p = rises_parts b bs at size h in omega (
 abbrev AreWords : List Block → Type 0
 AreWords bs = AllByRecursion (λ (b : Block). (b.0 < 2 ^ 32) × (b.1 < 2 ^ 32)) bs
 
-rises_words : (bs : List Block) (at size : ℕ) → size ≤ CEILING → rises at size bs ≡ true → AreWords bs
+rises_words : (bs : List Block) (at size : ℕ) → size ≤ ceiling → rises at size bs ≡ true → AreWords bs
 rises_words [] at size small h = tt
 rises_words (b ∷ bs) at size small h =
     let p = rises_parts b bs at size h in
@@ -207,7 +204,7 @@ heap_by story size body heap len some start count blocks order begins are =
     both (has_count body && is_start story size (start_in body)) (are_blocks (start_in body) size (blocks_in body)) (both (has_count body) (is_start story size (start_in body)) counted (rw start begins)) (rw (start, blocks) are) in
     rw (none, test, start, blocks, order) refl
 
-some_again : (story : FlatStory) (size : ℕ) (heap : FlatHeap) → size ≤ CEILING → 0 < length heap.blocks → IsHeapWithin story.header.endmem size heap → heap_of story size (heap_bytes heap) ≡ Ok heap
+some_again : (story : FlatStory) (size : ℕ) (heap : FlatHeap) → size ≤ ceiling → 0 < length heap.blocks → IsHeapWithin story.header.endmem size heap → heap_of story size (heap_bytes heap) ≡ Ok heap
 some_again story size heap small some fit =
     let up = heap_rises story.header.endmem size heap fit in
     let n = rises_count heap.blocks heap.start size up in
@@ -234,7 +231,7 @@ empty_heap : (start : ℕ) (bs : List Block) → (length bs == 0) ≡ true → s
 empty_heap start [] none is = ap (λ (n : ℕ). record { start = n; blocks = [] }) is
 empty_heap start (b ∷ bs) none is = absurd (grind (arith, nat_tests, none))
 
-heap_again : (story : FlatStory) (size : ℕ) (heap : FlatHeap) (none : Bool) → is_inactive heap ≡ none → size ≤ CEILING → IsHeapWithin story.header.endmem size heap → heap_of story size (heap_body heap) ≡ Ok heap
+heap_again : (story : FlatStory) (size : ℕ) (heap : FlatHeap) (none : Bool) → is_inactive heap ≡ none → size ≤ ceiling → IsHeapWithin story.header.endmem size heap → heap_of story size (heap_body heap) ≡ Ok heap
 heap_again story size heap true none small fit =
     rw none (none_again story size ∙ ap (λ (h : FlatHeap). Ok h) (sym (empty_heap heap.start heap.blocks none (fit.blocks.none (eqb-true _ _ none)))))
 heap_again story size heap false none small fit = let some : 0 < length heap.blocks = grind (arith, nat_tests, none) in rw none (some_again story size heap small some fit)
@@ -275,11 +272,11 @@ length-saved_chunks story c none is header =
 -- what the writer asks of a copy that is fit
 pub record Small (story : FlatStory) (c : Copy) : Type 0 where
   pub header : 128 ≤ length story.bytes
-  pub memory : length c.memory ≤ CEILING
+  pub memory : length c.memory ≤ ceiling
   pub low : story.header.ramstart ≤ length c.memory
-  pub packed : length (memory_bytes story c.memory) ≤ 0x08000004
+  pub packed : length (memory_bytes story c.memory) ≤ 0x20000004
   pub stack : length c.stack ≤ 0x01000000
-  pub blocks : length c.heap.blocks ≤ CEILING
+  pub blocks : length c.heap.blocks ≤ ceiling
 
 pub small : (story : FlatStory) (c : Copy) → IsStory story → IsCopyFor story c → Small story c
 small story c good fit =
@@ -293,11 +290,11 @@ small story c good fit =
       blocks = omega (arith, n, fit.size.capped);
     }
 
-heap_is_chunk : (heap : FlatHeap) (none : Bool) → is_inactive heap ≡ none → length heap.blocks ≤ CEILING → AllByRecursion IsChunk (heap_chunks heap)
+heap_is_chunk : (heap : FlatHeap) (none : Bool) → is_inactive heap ≡ none → length heap.blocks ≤ ceiling → AllByRecursion IsChunk (heap_chunks heap)
 heap_is_chunk heap true none few = rw none tt
 heap_is_chunk heap false none few = rw none ((refl, omega (arith, few, length-heap_bytes heap)), tt)
 
-pub form_fits : (memory stack blocks : ℕ) → memory ≤ 0x08000004 → stack ≤ 0x01000000 → blocks ≤ CEILING → form_len memory stack blocks < 2 ^ 32
+pub form_fits : (memory stack blocks : ℕ) → memory ≤ 0x20000004 → stack ≤ 0x01000000 → blocks ≤ ceiling → form_len memory stack blocks < 2 ^ 32
 form_fits memory stack blocks a b c = elim (cases_lt 0 blocks) [ inl some ↦ (let t : (blocks == 0) ≡ false = grind (arith, nat_tests, some) in rw t (omega (arith, a, b, c))) | inr none ↦ (let t : (blocks == 0) ≡ true = grind (arith, nat_tests, none) in rw t (omega (arith, a, b, c))) ]
 
 is_form : (story : FlatStory) (c : Copy) → Small story c → IsForm ifzs (saved_chunks story c)

@@ -1,12 +1,9 @@
 -- What is read of a save: its exits, and that the copy is fit for the story.
-use Rattle.std.proofs.Common.{◌≡◌, ◌≢◌, ◌⊎◌, inl, inr, ◌≤◌, ◌<◌, ◌+◌, ◌-◌, ◌*◌, ◌%◌, ◌==◌, ℕ, zero, suc, Bool, true, false, List, [], ◌∷◌, ◌++◌, length, take, drop, Option, Some, None, Result, Ok, Err, IsOk, IsTrue, if◌then◌else◌, refl, sym, ap, subst, ◌∙◌, arith, ltb as nat_lt, leb as nat_le, eqb as nat_eq, length-append}
+use Rattle.std.proofs.Common.{◌≡◌, ◌⊎◌, inl, inr, ◌≤◌, ◌<◌, ◌+◌, ◌-◌, ◌*◌, ◌%◌, ℕ, zero, suc, Bool, true, false, List, [], ◌∷◌, length, take, Result, Ok, Err, IsOk, IsTrue, if◌then◌else◌, refl, sym, ap, subst, ◌∙◌, arith, ltb as nat_lt, leb as nat_le, eqb as nat_eq}
 use Rattle.std.specs.Prelude.{◌&&◌}
 use Rattle.std.specs.List.{list_all}
-use Rattle.std.proofs.lemmas.Bool.{le-ltb, lt-ltb, le-leb, lt-leb, leb-true, ltb-true, and_parts, eqb-true, eq-eqb, cases_lt}
-use Rattle.std.proofs.lemmas.Bool.Decides.{nat_tests}
-use Rattle.std.proofs.lemmas.List.{take-append-le, take_at, length-take-le}
-use Rattle.gx_words.specs.declared.limits.TheConstants.{CEILING}
-use Rattle.gx_words.specs.Numbers.{word}
+use Rattle.std.proofs.lemmas.Bool.{lt-ltb, leb-true, ltb-true, and_parts, eqb-true}
+use Rattle.gx_words.specs.Constants.{ceiling}
 use Rattle.gx_words.specs.Results.{◌>>=◌}
 use Rattle.gx_stack.specs.declared.stubs.Stub.{Stub}
 use Rattle.gx_stack.specs.Frames.{IsGood, is_good, has_local, parts}
@@ -19,9 +16,9 @@ use Rattle.gx_state.specs.Copies.{Copy, IsCopyFor}
 use Rattle.quetzal.specs.declared.faults.SaveFault.{SaveFault}
 use Rattle.quetzal.specs.declared.faults.SaveFault.TheVariants as fault
 use Rattle.quetzal.specs.Faults.{allowed}
-use Rattle.quetzal.specs.Chunks.{MemoryBody, Parts, parts_in}
+use Rattle.quetzal.specs.Chunks.{Parts, parts_in}
 use Rattle.quetzal.specs.Memory.{is_size, size_in, memory_of}
-use Rattle.quetzal.specs.Stacks.{is_stack, is_stub, is_place, has_height}
+use Rattle.quetzal.specs.Stacks.{is_stack, is_place, has_height}
 use Rattle.quetzal.specs.Blocks.{are_apart, are_blocks, blocks_from, blocks_in, count_in, has_count, has_no_heap, heap_of, in_order, is_block, is_heap, is_start, may_meet, ordered, rises, start_in}
 use Rattle.quetzal.specs.Saves.{MayMeet, save_of}
 use Rattle.quetzal.proofs.Sorting.{both, rises_parts, rises_size, order_none, order_rises, order_wanted}
@@ -30,15 +27,15 @@ use Rattle.quetzal.proofs.Sorting.{both, rises_parts, rises_size, order_none, or
 pub record Sizes (story : FlatStory) (size : ℕ) : Type 0 where
   pub whole : size % 256 ≡ 0
   pub endmem : story.header.endmem ≤ size
-  pub capped : size ≤ CEILING
+  pub capped : size ≤ ceiling
 
-pub size_parts : (story : FlatStory) (size : ℕ) → is_size story size ≡ true → Sizes story size
+pub size_parts : (story : FlatStory) (size : ℕ) → is_size ceiling story size ≡ true → Sizes story size
 size_parts story size h =
     let a = and_parts _ _ h in
     let b = and_parts _ _ a.0 in
     record { whole = eqb-true _ _ b.0; endmem = leb-true _ _ b.1; capped = leb-true _ _ a.1 }
 
-pub rom_there : (story : FlatStory) (size : ℕ) → IsStory story → is_size story size ≡ true → (story.header.ramstart ≤ size) × (story.header.ramstart ≤ length story.bytes)
+pub rom_there : (story : FlatStory) (size : ℕ) → IsStory story → is_size ceiling story size ≡ true → (story.header.ramstart ≤ size) × (story.header.ramstart ≤ length story.bytes)
 rom_there story size good h =
     let s = size_parts story size h in
     (omega (arith, good.ramstart_first, good.extstart_first, s.endmem), omega (arith, good.ramstart_first, good.stored_whole))
@@ -67,7 +64,7 @@ unfolding blocks_from
 length-blocks_from zero body at = refl
 length-blocks_from (suc count) body at = ap suc (length-blocks_from count body (at + 8))
 
-some_within : (story : FlatStory) (size : ℕ) (body : List ℕ) → size ≤ CEILING → is_heap story size body ≡ true → IsHeapWithin story.header.endmem size (record { start = start_in body; blocks = in_order (blocks_in body) })
+some_within : (story : FlatStory) (size : ℕ) (body : List ℕ) → size ≤ ceiling → is_heap story size body ≡ true → IsHeapWithin story.header.endmem size (record { start = start_in body; blocks = in_order (blocks_in body) })
 unfolding is_heap
 some_within story size body capped h =
     let start = start_in body in
@@ -94,13 +91,13 @@ none_within endmem size = record {
   within = record { start = omega arith; ends = tt };
 }
 
-within_by : (story : FlatStory) (size : ℕ) (body : List ℕ) (heap : FlatHeap) (none some : Bool) → is_heap story size body ≡ some → size ≤ CEILING
+within_by : (story : FlatStory) (size : ℕ) (body : List ℕ) (heap : FlatHeap) (none some : Bool) → is_heap story size body ≡ some → size ≤ ceiling
     → (let r : Result FlatHeap SaveFault = if none then Ok inactive else if some then Ok (record { start = start_in body; blocks = in_order (blocks_in body) }) else Err fault.Blocks in r ≡ Ok heap) → IsHeapWithin story.header.endmem size heap
 within_by story size body heap true some is capped h = let e : inactive ≡ heap = cc in subst (IsHeapWithin story.header.endmem size) e (none_within story.header.endmem size)
 within_by story size body heap false true is capped h = let made : FlatHeap = record { start = start_in body; blocks = in_order (blocks_in body) } in let e : made ≡ heap = cc in subst (IsHeapWithin story.header.endmem size) e (some_within story size body capped is)
 within_by story size body heap false false is capped h = absurd cc
 
-pub heap_within : (story : FlatStory) (size : ℕ) (body : List ℕ) (heap : FlatHeap) → size ≤ CEILING → heap_of story size body ≡ Ok heap → IsHeapWithin story.header.endmem size heap
+pub heap_within : (story : FlatStory) (size : ℕ) (body : List ℕ) (heap : FlatHeap) → size ≤ ceiling → heap_of story size body ≡ Ok heap → IsHeapWithin story.header.endmem size heap
 unfolding heap_of
 heap_within story size body heap capped h = within_by story size body heap (has_no_heap body) (is_heap story size body) refl capped h
 
@@ -205,7 +202,7 @@ local_by : (story : FlatStory) (size : ℕ) (below : List ℕ) (p : Stub) → is
 local_by story size below p h two = rw two at h
 
 -- what is read is fit for the story
-pub copy_fits : (story : FlatStory) (size : ℕ) (c : Copy) → length c.memory ≡ size → take story.header.ramstart c.memory ≡ take story.header.ramstart story.bytes → is_size story size ≡ true → is_stack story size c.stack ≡ true → IsHeapWithin story.header.endmem size c.heap → IsCopyFor story c
+pub copy_fits : (story : FlatStory) (size : ℕ) (c : Copy) → length c.memory ≡ size → take story.header.ramstart c.memory ≡ take story.header.ramstart story.bytes → is_size ceiling story size ≡ true → is_stack story size c.stack ≡ true → IsHeapWithin story.header.endmem size c.heap → IsCopyFor story c
 copy_fits story size c len rom sizes stack heap =
     let s = size_parts story size sizes in
     let t = stack_parts story size c.stack stack in
@@ -226,7 +223,7 @@ copy_fits story size c len rom sizes stack heap =
 pub ruleset copies = (copy_fits)
 
 -- the exits
-pub parts_refused : (save : List ℕ) (story : FlatStory) (e : SaveFault) → parts_in save story ≡ Err e → save_of save story ≡ Err e
+pub parts_refused : (save : List ℕ) (story : FlatStory) (e : SaveFault) → parts_in save story ≡ Err e → save_of ceiling save story ≡ Err e
 unfolding save_of
 parts_refused save story e h = rw h refl
 
@@ -234,11 +231,11 @@ pub not_allowed : (passes : Bool) (e given : SaveFault) → (let r : Result (Uni
 not_allowed true e given h = absurd cc
 not_allowed false e given h = (refl, cc)
 
-pub size_refused : (save : List ℕ) (story : FlatStory) (p : Parts) (size : ℕ) → parts_in save story ≡ Ok p → size ≡ size_in p.memory → is_size story size ≡ false → save_of save story ≡ Err fault.Size
+pub size_refused : (save : List ℕ) (story : FlatStory) (p : Parts) (size : ℕ) → parts_in save story ≡ Ok p → size ≡ size_in p.memory → is_size ceiling story size ≡ false → save_of ceiling save story ≡ Err fault.Size
 unfolding save_of
 size_refused save story p size h is not = rw (h, ← is, not) refl
 
-pub memory_refused : (save : List ℕ) (story : FlatStory) (p : Parts) (size : ℕ) (e : SaveFault) → parts_in save story ≡ Ok p → size ≡ size_in p.memory → is_size story size ≡ true → memory_of story p.memory ≡ Err e → save_of save story ≡ Err e
+pub memory_refused : (save : List ℕ) (story : FlatStory) (p : Parts) (size : ℕ) (e : SaveFault) → parts_in save story ≡ Ok p → size ≡ size_in p.memory → is_size ceiling story size ≡ true → memory_of story p.memory ≡ Err e → save_of ceiling save story ≡ Err e
 unfolding save_of
 memory_refused save story p size e h is fits not = rw (h, ← is, fits, not) refl
 
@@ -246,8 +243,8 @@ memory_refused save story p size e h is fits not = rw (h, ← is, fits, not) ref
 abbrev pub behind : Result (List ℕ) SaveFault → Bool → List ℕ → Result FlatHeap SaveFault → Result Copy SaveFault
 behind memory stacks stack heap = memory >>= (λ m. allowed stacks fault.Stack >>= (λ _. heap >>= (λ g. let made : Copy = record { memory = m; stack = stack; heap = g } in Ok made)))
 
-pub save_by : (save : List ℕ) (story : FlatStory) (p : Parts) (size : ℕ) → parts_in save story ≡ Ok p → size ≡ size_in p.memory → is_size story size ≡ true
-    → save_of save story ≡ behind (memory_of story p.memory) (is_stack story size p.stack) p.stack (heap_of story size p.heap)
+pub save_by : (save : List ℕ) (story : FlatStory) (p : Parts) (size : ℕ) → parts_in save story ≡ Ok p → size ≡ size_in p.memory → is_size ceiling story size ≡ true
+    → save_of ceiling save story ≡ behind (memory_of story p.memory) (is_stack story size p.stack) p.stack (heap_of story size p.heap)
 unfolding save_of
 save_by save story p size h is fits = rw (h, ← is, fits) refl
 
@@ -275,6 +272,6 @@ save_wanted memory stack heap stacks meet all there good so (inr is) = inr (heap
 pub meet_by : (save : List ℕ) (story : FlatStory) (p : Parts) (size : ℕ) → parts_in save story ≡ Ok p → size ≡ size_in p.memory → may_meet story size p.heap ≡ true → MayMeet save story
 meet_by save story p size h is meet = rw (h, ← is) (ap (λ (t : Bool). Ok t) meet)
 
-pub save_taken : (save : List ℕ) (story : FlatStory) (p : Parts) (size : ℕ) (memory : List ℕ) (heap : FlatHeap) → parts_in save story ≡ Ok p → size ≡ size_in p.memory → is_size story size ≡ true → memory_of story p.memory ≡ Ok memory → is_stack story size p.stack ≡ true → heap_of story size p.heap ≡ Ok heap
-    → save_of save story ≡ Ok (record { memory = memory; stack = p.stack; heap = heap })
+pub save_taken : (save : List ℕ) (story : FlatStory) (p : Parts) (size : ℕ) (memory : List ℕ) (heap : FlatHeap) → parts_in save story ≡ Ok p → size ≡ size_in p.memory → is_size ceiling story size ≡ true → memory_of story p.memory ≡ Ok memory → is_stack story size p.stack ≡ true → heap_of story size p.heap ≡ Ok heap
+    → save_of ceiling save story ≡ Ok (record { memory = memory; stack = p.stack; heap = heap })
 save_taken save story p size memory heap h is fits ram stack there = save_by save story p size h is fits ∙ rw (ram, stack, there) refl

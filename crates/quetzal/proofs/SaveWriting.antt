@@ -1,25 +1,25 @@
 -- What is written is what is defined.
-use Rattle.std.proofs.Common.{◌≡◌, ◌≤◌, ◌<◌, ◌+◌, ◌*◌, ◌^◌, ℕ, Bool, true, false, List, [], ◌∷◌, ◌++◌, append_assoc, length, take, get_or, refl, sym, ap, ◌∙◌, arith, length-append}
+use Rattle.std.proofs.Common.{◌≡◌, ◌≤◌, ◌<◌, ◌+◌, ◌*◌, ◌^◌, ℕ, Bool, true, false, List, [], ◌∷◌, ◌++◌, append_assoc, length, take, get_or, refl, sym, ap, subst, ◌∙◌, arith, length-append}
 use Rattle.std.proofs.lemmas.Bool.Decides.{nat_tests}
 use Rattle.std.proofs.lemmas.List.{take_more, flat_map_more, take_all, append-nil}
 use Rattle.std.specs.List.{flat_map}
-use Rattle.gx_words.specs.declared.limits.TheConstants.{CEILING}
+use Rattle.gx_words.specs.Constants.{ceiling}
 use Rattle.gx_words.specs.Numbers.{bytes_of_word}
 use Rattle.heap_blocks.specs.Heap.{Block, FlatHeap, is_inactive}
 use Rattle.iff_chunks.specs.Writing.{Chunk, bytes_of_chunk, bytes_of_form}
 use Rattle.zero_runs.proofs.PackingTurns.{front_all, front_added, front_joined}
-use Rattle.gx_story.specs.Stories.{FlatStory, IsStory}
-use Rattle.gx_state.specs.Copies.{Copy, IsCopyFor}
+use Rattle.gx_story.specs.Stories.{FlatStory}
+use Rattle.gx_state.specs.Copies.{Copy}
 use Rattle.quetzal.specs.Chunks.{cmem, ifhd, ifzs, mall, stks}
 use Rattle.quetzal.specs.Memory.{memory_bytes}
 use Rattle.quetzal.specs.Blocks.{bytes_of_block, heap_bytes}
-use Rattle.quetzal.specs.Writing.{form_len, heap_chunks, saved, saved_chunks}
-use Rattle.quetzal.proofs.ReadingBack.{Small, small, form_fits, length-heap_bytes, length-saved_chunks}
+use Rattle.quetzal.specs.Writing.{form_len, heap_chunks, saved}
+use Rattle.quetzal.proofs.ReadingBack.{Small, form_fits, length-heap_bytes, length-saved_chunks}
 
 pub blocks_more : (bs : List Block) (i : ℕ) → i < length bs → flat_map bytes_of_block (take (i + 1) bs) ≡ flat_map bytes_of_block (take i bs) ++ bytes_of_block (get_or bs i (0, 0))
 blocks_more bs i lt = ap (flat_map bytes_of_block) (take_more bs i (0, 0) lt) ∙ sym (flat_map_more bytes_of_block [] (take i bs) (get_or bs i (0, 0)))
 
-pub heap_short : (body : List ℕ) (start : ℕ) (bs : List Block) → body ≡ heap_bytes (record { start = start; blocks = bs }) → length bs ≤ CEILING → length body < 2 ^ 32
+pub heap_short : (body : List ℕ) (start : ℕ) (bs : List Block) → body ≡ heap_bytes (record { start = start; blocks = bs }) → length bs ≤ ceiling → length body < 2 ^ 32
 heap_short body start bs is few = omega (arith, few, ap length is, length-heap_bytes (record { start = start; blocks = bs }))
 
 heap_alone : (heap : FlatHeap) → is_inactive heap ≡ false → heap_chunks heap ≡ record { id = mall; body = heap_bytes heap } ∷ []
@@ -36,6 +36,11 @@ heap_some body start bs out some is =
 pub heap_none : (start : ℕ) (bs : List Block) (out : List ℕ) → length bs ≡ 0 → out ≡ out ++ flat_map bytes_of_chunk (heap_chunks (record { start = start; blocks = bs }))
 heap_none start [] out none = sym (append-nil out)
 heap_none start (b ∷ bs) out none = absurd (omega arith)
+
+-- the length of a form fits a word
+pub len_fits : (story : FlatStory) (c : Copy) (memory stack blocks len : ℕ) → Small story c → memory ≡ length (memory_bytes story c.memory) → stack ≡ length c.stack → blocks ≡ length c.heap.blocks → len ≡ form_len memory stack blocks → len < 2 ^ 32
+len_fits story c memory stack blocks len s long height count is =
+    subst (λ (n : ℕ). n < 2 ^ 32) (sym is) (form_fits memory stack blocks (omega (arith, long, s.packed)) (omega (arith, height, s.stack)) (omega (arith, count, s.blocks)))
 
 -- a form as its parts are added
 pub form_written : (story : FlatStory) (c : Copy) (front out : List ℕ) → Small story c

@@ -6,13 +6,14 @@ use Rattle.std.specs.List.Sorted.{IsPermutation, IsNonDecreasingBy}
 use Rattle.gx_words.specs.Numbers.{word, bytes_of_word}
 use Rattle.heap_blocks.specs.Heap.{Block, FlatHeap, end_of, inactive, inserted}
 use Rattle.gx_story.specs.Stories.{FlatStory}
+use Rattle.quetzal.specs.Constants.{heap_header_len, block_len}
 use Rattle.quetzal.specs.declared.faults.SaveFault.{SaveFault}
 use Rattle.quetzal.specs.declared.faults.SaveFault.TheVariants as fault
 
 -- so many blocks from a place on
 unfoldable pub blocks_from : ℕ → List ℕ → ℕ → List Block
 blocks_from zero body at = []
-blocks_from (suc count) body at = (word body at, word body (at + 4)) ∷ blocks_from count body (at + 8)
+blocks_from (suc count) body at = (word body at, word body (at + 4)) ∷ blocks_from count body (at + block_len)
 
 abbrev pub start_in : List ℕ → ℕ
 start_in body = word body 0
@@ -21,15 +22,15 @@ abbrev pub count_in : List ℕ → ℕ
 count_in body = word body 4
 
 abbrev pub blocks_in : List ℕ → List Block
-blocks_in body = blocks_from (count_in body) body 8
+blocks_in body = blocks_from (count_in body) body heap_header_len
 
 -- no heap: the chunk is empty or isn't there, or its start and its count are 0, which is the standard's form
 abbrev pub has_no_heap : List ℕ → Bool
-has_no_heap body = length body == 0 || (length body == 8 && start_in body == 0 && count_in body == 0)
+has_no_heap body = length body == 0 || (length body == heap_header_len && start_in body == 0 && count_in body == 0)
 
 -- as many blocks as are counted, and one at least
 abbrev pub has_count : List ℕ → Bool
-has_count body = nat_le 8 (length body) && length body == 8 + 8 * count_in body && nat_lt 0 (count_in body)
+has_count body = nat_le heap_header_len (length body) && length body == heap_header_len + block_len * count_in body && nat_lt 0 (count_in body)
 
 -- a size at which memory may have ended before the heap began
 abbrev pub is_start : FlatStory → ℕ → ℕ → Bool

@@ -6,6 +6,7 @@ use Rattle.gx_words.specs.Results.{◌>>=◌}
 use Rattle.iff_chunks.specs.Chunks.{body, chunks, part_found}
 use Rattle.iff_chunks.specs.declared.parts.Sought.TheVariants.{Letters}
 use Rattle.gx_story.specs.Stories.{FlatStory}
+use Rattle.quetzal.specs.Constants.{story_start, size_len}
 use Rattle.quetzal.specs.Faults.{of_form, allowed}
 use Rattle.quetzal.specs.declared.faults.SaveFault.{SaveFault}
 use Rattle.quetzal.specs.declared.faults.SaveFault.TheVariants as fault
@@ -57,11 +58,11 @@ memory_in save = do
 -- it begins with a word, the size of memory
 abbrev pub has_size : Option MemoryBody → Bool
 has_size None = true
-has_size (Some memory) = nat_le 4 (length memory.body)
+has_size (Some memory) = nat_le size_len (length memory.body)
 
 -- the save is of this story: its chunk IFhd has the story's first 128 bytes
 abbrev pub is_of_story : FlatStory → List ℕ → Bool
-is_of_story story header = bytes_eq header (take 128 story.bytes)
+is_of_story story header = bytes_eq header (take story_start story.bytes)
 
 -- what is looked at of a save; the heap's chunk is empty where there is none
 pub record Parts : Type 0 where

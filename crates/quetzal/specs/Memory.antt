@@ -1,11 +1,11 @@
 -- The memory of a save (Glulx 3.1.2, "Contents of the Save File").
 use Rattle.std.specs.Prelude.{ℕ, Bool, ◌-◌, ◌%◌, ◌==◌, nat_le, ◌&&◌, if◌then◌else◌, List, ◌++◌, length, take, drop, Result, Ok, Err}
-use Rattle.gx_words.specs.declared.limits.TheConstants.{CEILING}
 use Rattle.gx_words.specs.Numbers.{word, bytes_of_word}
 use Rattle.gx_words.specs.Results.{◌>>=◌}
 use Rattle.zero_runs.specs.Packing.{packed, xored}
 use Rattle.zero_runs.specs.Unpacking.{unpacked}
 use Rattle.gx_story.specs.Stories.{FlatStory}
+use Rattle.quetzal.specs.Constants.{size_len}
 use Rattle.quetzal.specs.Faults.{of_runs}
 use Rattle.quetzal.specs.Chunks.{MemoryBody}
 use Rattle.quetzal.specs.declared.faults.SaveFault.{SaveFault}
@@ -16,11 +16,11 @@ abbrev pub size_in : MemoryBody → ℕ
 size_in memory = word memory.body 0
 
 abbrev pub bytes_in : MemoryBody → List ℕ
-bytes_in memory = drop 4 memory.body
+bytes_in memory = drop size_len memory.body
 
--- a size that memory may have
-abbrev pub is_size : FlatStory → ℕ → Bool
-is_size story size = size % 256 == 0 && nat_le story.header.endmem size && nat_le size CEILING
+-- a size that memory may have under a ceiling
+abbrev pub is_size : ℕ → FlatStory → ℕ → Bool
+is_size ceiling story size = size % 256 == 0 && nat_le story.header.endmem size && nat_le size ceiling
 
 -- the first bytes of RAM, which is zero past the stored part
 abbrev pub first_ram : FlatStory → List ℕ

@@ -6,8 +6,9 @@ ghost use Rattle.std.specs.Prelude.{◌≡◌, ◌≢◌, ◌+◌, ◌-◌, ◌*
 ghost use Rattle.std.specs.List.{list_all};
 ghost use Rattle.gx_words.specs.Numbers.{word};
 ghost use Rattle.quetzal.specs.Faults.{MaySort};
+ghost use Rattle.quetzal.specs.Constants.{block_len};
 ghost use Rattle.quetzal.specs.Blocks.{IsSortedFrom, may_meet, blocks_in, count_in, has_count, has_no_heap, heap_of, is_block, is_start, ordered, rises};
-ghost use Rattle.gx_words.specs.declared.limits.TheConstants.{CEILING};
+ghost use Rattle.gx_words.specs.Constants.{ceiling};
 ghost use Rattle.gx_state.specs.Sound.{IsHeapWithin};
 ghost use Rattle.quetzal.specs.Views.{heap_from};
 
@@ -16,10 +17,11 @@ use gx_story::Story;
 use gx_words::{Blocks, word_at};
 use std::alloc::{AllocError, Global};
 
-/// The length of the start and the count, and of a block.
-const HEADER_LEN: usize = 8;
+/// The length of the start and the count.
+pub(crate) const HEAP_HEADER_LEN: usize = 8;
 
-const BLOCK_LEN: usize = 8;
+/// The length of a block: its address and its length.
+pub(crate) const BLOCK_LEN: usize = 8;
 
 /// The start and the blocks of a heap, 0 and none where there is no heap. Memory is taken for blocks alone.
 pub(crate) fn heap_of(
@@ -29,7 +31,7 @@ pub(crate) fn heap_of(
     body: &[u8],
 ) -> Result<(u32, Blocks), SaveFault>
     ensures value { MaySort (IsTrue (may_meet story.now size body.now)) heap_from result (heap_of story.now size body.now) }
-    ensures within { size ≤ CEILING → IfOk result (λ heap. IsHeapWithin story.now.header.endmem size (heap_from heap)) }
+    ensures within { size ≤ ceiling → IfOk result (λ heap. IsHeapWithin story.now.header.endmem size (heap_from heap)) }
     ensures memory { IfErr result (λ fault. fault ≡ SaveFault.NoMemory → IsTrue (has_count body.now)) }
 {
     if has_no_heap(body) {
@@ -56,7 +58,7 @@ fn has_no_heap(body: &[u8]) -> bool
     if body.is_empty() {
         return true;
     }
-    if body.len() != HEADER_LEN {
+    if body.len() != HEAP_HEADER_LEN {
         return false;
     }
     let start = word_at(body, 0);
@@ -68,11 +70,11 @@ fn has_no_heap(body: &[u8]) -> bool
 fn has_count(body: &[u8]) -> bool
     ensures { result ≡ has_count body.now }
 {
-    if body.len() < HEADER_LEN {
+    if body.len() < HEAP_HEADER_LEN {
         return false;
     }
     let count = word_at(body, 4) as usize;
-    body.len() == HEADER_LEN + BLOCK_LEN * count && 0 < count
+    body.len() == HEAP_HEADER_LEN + BLOCK_LEN * count && 0 < count
 }
 
 /// Whether a heap may begin at an address.
@@ -90,7 +92,7 @@ fn are_within(body: &[u8], start: u32, size: u32) -> bool
 {
     let count = word_at(body, 4) as usize;
     for index in 0..count {
-        let block = block_at(body, HEADER_LEN + BLOCK_LEN * index);
+        let block = block_at(body, HEAP_HEADER_LEN + BLOCK_LEN * index);
         if !is_block(start, size, block) {
             return false;
         }
@@ -133,7 +135,7 @@ fn sorted_blocks(alloc: Global, body: &[u8]) -> Result<Vec<(u32, u32)>, AllocErr
 
 /// The block at a place of a chunk.
 fn block_at(body: &[u8], at: usize) -> (u32, u32)
-    requires { at + 8 ≤ length body.now }
+    requires { at + block_len ≤ length body.now }
     ensures { result ≡ (word body.now at, word body.now (at + 4)) }
 {
     (word_at(body, at), word_at(body, at + 4))
@@ -148,7 +150,7 @@ fn gathered(alloc: Global, body: &[u8]) -> Result<Vec<(u32, u32)>, AllocError>
     let count = word_at(body, 4) as usize;
     let mut all = Vec::with_capacity(alloc, count)?;
     for index in 0..count {
-        all.push(block_at(body, HEADER_LEN + BLOCK_LEN * index))?;
+        all.push(block_at(body, HEAP_HEADER_LEN + BLOCK_LEN * index))?;
     }
     Ok(all)
 }

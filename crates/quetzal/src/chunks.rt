@@ -4,6 +4,7 @@
 ghost use Rattle.std.specs.Prelude.{◌≡◌, ◌≢◌, ◌≤◌, length, IfOk, IfErr};
 ghost use Rattle.std.specs.Option.{option_map};
 ghost use Rattle.gx_words.specs.Results.{Is};
+ghost use Rattle.quetzal.specs.Constants.{size_len};
 ghost use Rattle.quetzal.specs.Chunks.{body_in, either, has_size, is_of_story, memory_in, needed, parts_in};
 ghost use Rattle.quetzal.specs.Views.{memory_body, parts_of};
 
@@ -39,7 +40,7 @@ impl<'a> Parts<'a> {
     pub fn find(save: &'a [u8], story: &Story) -> Result<Parts<'a>, SaveFault>
         ensures value { Is parts_of result (parts_in save.now story.now) }
         ensures memory { IfErr result (λ fault. fault ≢ SaveFault.NoMemory) }
-        ensures size { IfOk result (λ parts. 4 ≤ length parts.memory.body.now) }
+        ensures size { IfOk result (λ parts. size_len ≤ length parts.memory.body.now) }
     {
         let header = needed(save, *b"IFhd")?;
         let stack = needed(save, *b"Stks")?;

@@ -11,6 +11,6 @@ mod stacks;
 mod writing;
 
 pub use faults::SaveFault;
-pub use laws::written_saves_are_read;
+pub use laws::{old_saves_load, written_saves_are_read};
 pub use reading::read_save;
 pub use writing::{push_chunk, write_save};

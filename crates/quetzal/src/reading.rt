@@ -2,6 +2,7 @@
 //!
 //! Each fault is looked for before memory is taken, but for blocks that meet, which have to be sorted first.
 ghost use Rattle.std.specs.Prelude.{◌≡◌, IfOk};
+ghost use Rattle.gx_words.specs.Constants.{ceiling};
 ghost use Rattle.gx_state.specs.Copies.{IsCopyFor};
 ghost use Rattle.quetzal.specs.Faults.{MaySort};
 ghost use Rattle.quetzal.specs.Saves.{MayMeet, save_of};
@@ -24,7 +25,7 @@ use std::alloc::Global;
 /// sorted to see whether two of them meet; where memory for that is refused, it isn't seen.
 #[tactic(auto, using(crate::proofs::SaveReading::parts_refused))]
 pub fn read_save(alloc: Global, bytes: &[u8], story: &Story) -> Result<FlatCopy, SaveFault>
-    ensures value { MaySort (MayMeet bytes.now story.now) (λ copy. copy) result (save_of bytes.now story.now) }
+    ensures value { MaySort (MayMeet bytes.now story.now) (λ copy. copy) result (save_of ceiling bytes.now story.now) }
     ensures sound { IfOk result (λ copy. IsCopyFor story.now copy) }
 {
     let parts = Parts::find(bytes, story)?;

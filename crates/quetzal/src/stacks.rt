@@ -1,6 +1,6 @@
 //! The stack of a save.
 ghost use Rattle.std.specs.Prelude.{◌≡◌, ◌≤◌, length, if◌then◌else◌, Some, None};
-ghost use Rattle.gx_words.specs.declared.limits.TheConstants.{STACK_LIMIT};
+ghost use Rattle.gx_words.specs.Constants.{stack_limit};
 ghost use Rattle.gx_stack.specs.Frames.{is_good, parts};
 ghost use Rattle.quetzal.specs.Stacks.{is_place, is_stack};
 
@@ -30,7 +30,7 @@ pub(crate) fn is_stack(story: &Story, size: u32, stack: &[u8]) -> bool
 
 /// The frame at a place of a stack, where it is good.
 fn good_frame(stack: &[u8], fp: u32) -> Option<Frame>
-    requires { length stack.now ≤ STACK_LIMIT }
+    requires { length stack.now ≤ stack_limit }
     ensures { result ≡ (if is_good stack.now fp then Some (parts stack.now fp) else None) }
 {
     let at = fp as usize;

@@ -1,7 +1,7 @@
 //! Writing a save: the chunks `IFhd`, `CMem`, `Stks` and, where a heap is active, `MAll`.
 ghost use Rattle.std.specs.Prelude.{◌≡◌, ◌+◌, ◌%◌, ◌^◌, ◌<◌, ◌≤◌, ◌++◌, length, take, replicate, Ok, IfOk, OnOk, OnErr};
 ghost use Rattle.std.specs.List.{flat_map};
-ghost use Rattle.gx_words.specs.declared.limits.TheConstants.{CEILING};
+ghost use Rattle.gx_words.specs.Constants.{ceiling};
 ghost use Rattle.iff_chunks.specs.Writing.{bytes_of_chunk};
 ghost use Rattle.gx_state.specs.Copies.{IsCopyFor};
 ghost use Rattle.quetzal.specs.Memory.{memory_bytes};
@@ -9,12 +9,16 @@ ghost use Rattle.quetzal.specs.Blocks.{bytes_of_block, heap_bytes};
 ghost use Rattle.quetzal.specs.Saves.{save_of};
 ghost use Rattle.quetzal.specs.Writing.{chunk_len, form_len, heap_chunks, saved};
 
+use crate::blocks::{BLOCK_LEN, HEAP_HEADER_LEN};
 use crate::chunks::STORY_START;
 use gx_state::FlatCopy;
 use gx_story::Story;
 use gx_words::{Bytes, word_bytes};
 use std::alloc::{AllocError, Global};
 use zero_runs::pack;
+
+/// The length of the letters FORM and of the length behind them.
+const FORM_HEADER_LEN: usize = 8;
 
 /// Adds a chunk: its letters, the length of its body, the body, and a zero byte after an odd length.
 pub fn push_chunk(out: &mut Bytes, id: [u8; 4], body: &[u8]) -> Result<(), AllocError>
@@ -54,17 +58,17 @@ fn fill_up(out: &mut Bytes, len: usize) -> Result<(), AllocError>
     if len % 2 == 1 { out.push(0) } else { Ok(()) }
 }
 
-/// The save of a copy. It is read back as the same copy.
+/// The save of a copy. It is read back as the same copy. The list of its bytes is asked for once.
 pub fn write_save(alloc: Global, copy: &FlatCopy, story: &Story) -> Result<Bytes, AllocError>
     requires { IsCopyFor story.now copy.now }
     ensures value { IfOk result (λ save. save ≡ saved story.now copy.now) }
-    ensures read_back { IfOk result (λ save. save_of save story.now ≡ Ok copy.now) }
+    ensures read_back { IfOk result (λ save. save_of ceiling save story.now ≡ Ok copy.now) }
 {
     let stored = story.bytes();
     let memory = memory_body(alloc, copy.memory.as_slice(), story)?;
     let blocks = copy.blocks.as_slice();
     let len = form_len(memory.len(), copy.stack.len(), blocks.len());
-    let mut save = Bytes::new(alloc);
+    let mut save = Bytes::with_capacity(alloc, FORM_HEADER_LEN + len)?;
     save.extend_from_slice(b"FORM")?;
     save.extend_from_slice(&word_bytes(len as u32))?;
     save.extend_from_slice(b"IFZS")?;
@@ -85,7 +89,7 @@ fn form_len(memory: usize, stack: usize, blocks: usize) -> usize
     let heap = if blocks == 0 {
         0
     } else {
-        chunk_len(8 + 8 * blocks)
+        chunk_len(HEAP_HEADER_LEN + BLOCK_LEN * blocks)
     };
     4 + chunk_len(STORY_START) + chunk_len(memory) + chunk_len(stack) + heap
 }
@@ -101,7 +105,7 @@ fn chunk_len(body: usize) -> usize
 /// The body of the chunk `CMem`: the size of memory, and what differs from the story's first bytes.
 #[tactic(auto, unfolding(crate::specs::Memory::memory_bytes))]
 fn memory_body(alloc: Global, memory: &[u8], story: &Story) -> Result<Bytes, AllocError>
-    requires size { length memory.now ≤ CEILING }
+    requires size { length memory.now ≤ ceiling }
     requires low { story.now.header.ramstart ≤ length memory.now }
     ensures { IfOk result (λ body. body ≡ memory_bytes story.now memory.now) }
 {
@@ -121,7 +125,7 @@ fn push_heap(
     start: u32,
     blocks: &[(u32, u32)],
 ) -> Result<(), AllocError>
-    requires { length blocks.now ≤ CEILING }
+    requires { length blocks.now ≤ ceiling }
     ensures ok { OnOk result (out.new ≡ out.old ++ flat_map bytes_of_chunk (heap_chunks (record { start = start; blocks = blocks.now }))) }
     ensures memory { OnErr result (0 < length blocks.now) }
 {
@@ -134,7 +138,7 @@ fn push_heap(
 
 /// The body of the chunk `MAll`: the heap's start, the count of its blocks, and each block.
 fn heap_body(alloc: Global, start: u32, blocks: &[(u32, u32)]) -> Result<Bytes, AllocError>
-    requires { length blocks.now ≤ CEILING }
+    requires { length blocks.now ≤ ceiling }
     ensures { IfOk result (λ body. body ≡ heap_bytes (record { start = start; blocks = blocks.now })) }
 {
     let mut body = Bytes::new(alloc);

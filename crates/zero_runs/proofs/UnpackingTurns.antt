@@ -1,13 +1,14 @@
 -- One turn of each loop that reads packed bytes, and what the parts of unpacking make together.
 use Rattle.std.proofs.Common.{◌≡◌, ◌≢◌, ◌≤◌, ◌+◌, ◌-◌, ℕ, zero, suc, List, [], ◌∷◌, ◌++◌, append_assoc, length, take, drop, min, get_or, replicate, Result, Ok, Err, IsOk, refl, sym, ap, ◌∙◌, inl, inr, arith, length-append}
-use Rattle.std.proofs.lemmas.List.{append-nil, length-replicate, drop-drop, get_or-drop, take_min, drop_all, length-take}
+use Rattle.std.proofs.lemmas.List.{append-nil, take-append-drop, length-replicate, drop-drop, get_or-drop, take_min, drop_all, length-take}
 use Rattle.std.proofs.lemmas.Bool.{le-ltb, lt-ltb, cases_lt}
 use Rattle.std.specs.Int.Bits.{bit_xor, xor_zero_l}
 use Rattle.gx_words.specs.Results.{◌>>=◌}
 use Rattle.zero_runs.specs.declared.faults.RunFault.{RunFault}
 use Rattle.zero_runs.specs.declared.faults.RunFault.TheVariants.{Cut}
 use Rattle.zero_runs.specs.Packing.{xored}
-use Rattle.zero_runs.specs.Unpacking.{expand, expanded_len, expanded_over, filled, unpacked}
+use Rattle.zero_runs.specs.Unpacking.{expand, expanded_len, filled, unpacked, unpacked_onto}
+use Rattle.zero_runs.proofs.PackingTurns.{front_added}
 
 -- a list behind what is written already, over the old bytes from there on
 abbrev pub behind : List ℕ → List ℕ → Result (List ℕ) RunFault → Result (List ℕ) RunFault
@@ -93,7 +94,7 @@ unfolding expand
 expand_end [] none = refl
 expand_end (x ∷ rest) none = absurd cc
 
--- the turns of expanded_over
+-- the turns of push_expanded
 pub pair_written : (out old rest after next : List ℕ) (byte more : ℕ) (t : Result (List ℕ) RunFault) → rest ≡ byte ∷ after → after ≡ more ∷ next → byte ≡ 0 → behind out old (expand rest) ≡ t
     → behind (out ++ xored (replicate (more + 1) 0) (drop (length out) old)) old (expand next) ≡ t
 pair_written out old rest after next byte more t first second is_zero whole =
@@ -108,8 +109,16 @@ byte_written out old rest after byte t first other whole =
     ∙ behind-front out old (byte ∷ []) (expand after)
     ∙ ap (behind out old) (sym (ap expand first ∙ expand_other byte after other)) ∙ whole
 
-pub cut_found : (out old rest after : List ℕ) (byte : ℕ) (t : Result (List ℕ) RunFault) → rest ≡ byte ∷ after → length after ≡ 0 → byte ≡ 0 → behind out old (expand rest) ≡ t → t ≡ Err Cut
-cut_found out old rest after byte t first none is_zero whole = sym whole ∙ ap (behind out old) (expand_cut rest after byte first none is_zero)
+-- no count is missing where the bytes stand for a list
+behind_fine : (out old : List ℕ) (r : Result (List ℕ) RunFault) → IsOk r → IsOk (behind out old r)
+behind_fine out old (Ok xs) fine = refl
+behind_fine out old (Err e) fine = absurd cc
+
+pub none_cut : (first out old packed rest after : List ℕ) (byte : ℕ) → rest ≡ byte ∷ after → length after ≡ 0 → byte ≡ 0 → behind out old (expand rest) ≡ behind first old (expand packed) → IsOk (expand packed) → ⊥
+none_cut first out old packed rest after byte head none is_zero whole fine =
+    let cut : behind first old (expand packed) ≡ Err Cut = sym whole ∙ ap (behind out old) (expand_cut rest after byte head none is_zero) in
+    let there = behind_fine first old (expand packed) fine in
+    absurd cc
 
 pub all_written : (out old rest : List ℕ) (t : Result (List ℕ) RunFault) → length rest ≡ 0 → behind out old (expand rest) ≡ t → t ≡ Ok out
 unfolding xored
@@ -130,38 +139,90 @@ cut_counted n rest after byte t first none is_zero whole = sym whole ∙ ap (cou
 pub all_counted : (n : ℕ) (rest : List ℕ) (t : Result ℕ RunFault) → length rest ≡ 0 → counted n (expand rest) ≡ t → t ≡ Ok n
 all_counted n rest t none whole = sym whole ∙ ap (counted n) (expand_end rest none) ∙ ap (λ (m : ℕ). Ok m) (omega arith)
 
--- the parts of unpack
-lens_agree : (r : Result (List ℕ) RunFault) (old all : List ℕ) (n : ℕ) → (r >>= λ xs. Ok (length xs)) ≡ Ok n → (r >>= λ xs. Ok (xored xs old)) ≡ Ok all → length all ≡ n
-lens_agree (Ok xs) old all n len over = let e : xored xs old ≡ all = cc in let f : length xs ≡ n = cc in sym (ap length e) ∙ length-xored xs old ∙ f
-lens_agree (Err e) old all n len over = absurd cc
+-- what is in front stays there through two turns
+pub front_chained : (xs ys zs : List ℕ) → take (length xs) ys ≡ xs → take (length ys) zs ≡ ys → take (length xs) zs ≡ xs
+front_chained xs ys zs first then =
+    let split : zs ≡ ys ++ drop (length ys) zs = sym (take-append-drop (length ys) zs) ∙ ap (λ (front : List ℕ). front ++ drop (length ys) zs) then in
+    ap (take (length xs)) split ∙ front_added xs ys (drop (length ys) zs) first
 
-pub length-all : (bytes old all : List ℕ) (n : ℕ) → expanded_len bytes ≡ Ok n → expanded_over bytes old ≡ Ok all → length all ≡ n
-length-all bytes old all n len over = lens_agree (expand bytes) old all n len over
+-- the parts of unpacking onto a list: what was expanded, and the old bytes that are left
+abbrev onto_by : Result (List ℕ) RunFault → List ℕ → List ℕ → ℕ → Result (List ℕ) RunFault
+onto_by r out old size = (r >>= (λ xs. filled size xs >>= (λ ys. Ok (xored ys (drop (length out) old))))) >>= (λ added. Ok (out ++ added))
 
-over_all : (r : Result (List ℕ) RunFault) (old : List ℕ) (n : ℕ) → (r >>= λ xs. Ok (length xs)) ≡ Ok n → IsOk (r >>= λ xs. Ok (xored xs old))
-over_all (Ok xs) old n len = refl
-over_all (Err e) old n len = absurd cc
-
--- bytes that can be counted can be written
-pub IsOk-expanded_over : (bytes old : List ℕ) (n : ℕ) → expanded_len bytes ≡ Ok n → IsOk (expanded_over bytes old)
-IsOk-expanded_over bytes old n len = over_all (expand bytes) old n len
-
-joined : (r : Result (List ℕ) RunFault) (old all : List ℕ) (n size : ℕ) → (r >>= λ xs. Ok (length xs)) ≡ Ok n → n ≤ size → (r >>= λ xs. Ok (xored xs old)) ≡ Ok all
-    → (r >>= λ xs. filled size xs >>= λ ys. Ok (xored ys old)) ≡ Ok (all ++ xored (replicate (size - length all) 0) (drop (length all) old))
+few_onto : (out old xs : List ℕ) (size : ℕ) → IsOk (onto_by (Ok xs) out old size) → length xs ≤ size
 unfolding filled
-joined (Ok xs) old all n size len few over =
-    let e : xored xs old ≡ all = cc in
-    let f : length xs ≡ n = cc in
-    let g : length xs ≡ length all = sym (length-xored xs old) ∙ ap length e in
-    let le : length xs ≤ size = omega arith in
-    let test = le-ltb _ _ le in
-    rw (test, xored-append xs (replicate (size - length xs) 0) old, e, g) refl
-joined (Err e) old all n size len few over = absurd cc
+few_onto out old xs size fine =
+    elim (cases_lt size (length xs)) [
+      | inl more ↦ let test = lt-ltb _ _ more in let h = rw test at fine in absurd cc
+      | inr few ↦ few
+    ]
 
-pub unpacked-joined : (bytes old all : List ℕ) (n size : ℕ) → expanded_len bytes ≡ Ok n → n ≤ size → expanded_over bytes old ≡ Ok all
-    → unpacked bytes old size ≡ Ok (all ++ xored (replicate (size - length all) 0) (drop (length all) old))
+filled_onto : (out old xs : List ℕ) (size : ℕ) → length xs ≤ size → onto_by (Ok xs) out old size ≡ Ok (out ++ xored (xs ++ replicate (size - length xs) 0) (drop (length out) old))
+unfolding filled
+filled_onto out old xs size few = let test = le-ltb _ _ few in rw test refl
+
+length-behind : (out old xs mid : List ℕ) → behind out old (Ok xs) ≡ Ok mid → length mid ≡ length out + length xs
+length-behind out old xs mid is =
+    let e : out ++ xored xs (drop (length out) old) ≡ mid = cc in
+    sym (ap length e) ∙ length-append out _ ∙ ap (λ (n : ℕ). length out + n) (length-xored xs _)
+
+fits_by : (r : Result (List ℕ) RunFault) (out old mid : List ℕ) (size : ℕ) → IsOk (onto_by r out old size) → behind out old r ≡ Ok mid → (length out ≤ length mid) × (length mid - length out ≤ size)
+fits_by (Ok xs) out old mid size fine is =
+    let len = length-behind out old xs mid is in
+    let few = few_onto out old xs size fine in
+    (omega (arith, len), omega (arith, len, few))
+fits_by (Err e) out old mid size fine is = absurd cc
+
+pub onto_fits : (out packed old mid : List ℕ) (size : ℕ) → IsOk (unpacked_onto out packed old size) → behind out old (expand packed) ≡ Ok mid → (length out ≤ length mid) × (length mid - length out ≤ size)
 unfolding unpacked
-unpacked-joined bytes old all n size len few over = joined (expand bytes) old all n size len few over
+onto_fits out packed old mid size fine is = fits_by (expand packed) out old mid size fine is
+
+wrote_by : (r : Result (List ℕ) RunFault) (out old mid new : List ℕ) (size left : ℕ) → IsOk (onto_by r out old size) → behind out old r ≡ Ok mid → left ≡ size - (length mid - length out) → new ≡ mid ++ xored (replicate left 0) (drop (length mid) old) → onto_by r out old size ≡ Ok new
+wrote_by (Ok xs) out old mid new size left fine is rest made =
+    let e : out ++ xored xs (drop (length out) old) ≡ mid = cc in
+    let len = length-behind out old xs mid is in
+    let count : left ≡ size - length xs = omega (arith, len, rest) in
+    let seam : drop (length xs) (drop (length out) old) ≡ drop (length mid) old = drop-drop (length xs) (length out) old ∙ ap (λ (n : ℕ). drop n old) (sym len) in
+    let all : out ++ xored (xs ++ replicate (size - length xs) 0) (drop (length out) old) ≡ new =
+    ap (λ (ys : List ℕ). out ++ ys) (xored-append xs (replicate (size - length xs) 0) (drop (length out) old))
+    ∙ sym (append_assoc out (xored xs (drop (length out) old)) _)
+    ∙ ap (λ (ys : List ℕ). ys ++ xored (replicate (size - length xs) 0) (drop (length xs) (drop (length out) old))) e
+    ∙ ap (λ (ys : List ℕ). mid ++ xored (replicate (size - length xs) 0) ys) seam
+    ∙ ap (λ (n : ℕ). mid ++ xored (replicate n 0) (drop (length mid) old)) (sym count) ∙ sym made in
+    filled_onto out old xs size (few_onto out old xs size fine) ∙ ap (λ (ys : List ℕ). Ok ys) all
+wrote_by (Err d) out old mid new size left fine is rest made = absurd cc
+
+pub onto_wrote : (out packed old mid new : List ℕ) (size left : ℕ) → IsOk (unpacked_onto out packed old size) → behind out old (expand packed) ≡ Ok mid → left ≡ size - (length mid - length out) → new ≡ mid ++ xored (replicate left 0) (drop (length mid) old)
+    → unpacked_onto out packed old size ≡ Ok new
+unfolding unpacked
+onto_wrote out packed old mid new size left fine is rest made = wrote_by (expand packed) out old mid new size left fine is rest made
+
+expand_by : (r : Result (List ℕ) RunFault) (out old : List ℕ) (size : ℕ) → IsOk (onto_by r out old size) → IsOk r
+expand_by (Ok xs) out old size fine = refl
+expand_by (Err e) out old size fine = absurd cc
+
+pub IsOk-expand : (out packed old : List ℕ) (size : ℕ) → IsOk (unpacked_onto out packed old size) → IsOk (expand packed)
+unfolding unpacked
+IsOk-expand out packed old size fine = expand_by (expand packed) out old size fine
+
+-- onto a list there is a fault where there is one without it
+onto_fine : (r : Result (List ℕ) RunFault) (out : List ℕ) → IsOk r → IsOk (r >>= λ added. Ok (out ++ added))
+onto_fine (Ok xs) out fine = refl
+onto_fine (Err e) out fine = absurd cc
+
+pub IsOk-unpacked_onto : (out packed old : List ℕ) (size : ℕ) → ((bytes : List ℕ) → IsOk (unpacked packed bytes size)) → IsOk (unpacked_onto out packed old size)
+IsOk-unpacked_onto out packed old size fine = onto_fine (unpacked packed (drop (length out) old) size) out (fine (drop (length out) old))
+
+pub onto_fault : (out packed old : List ℕ) (size : ℕ) (e : RunFault) → ((bytes : List ℕ) → unpacked packed bytes size ≡ Err e) → unpacked_onto out packed old size ≡ Err e
+onto_fault out packed old size e fault = ap (λ (r : Result (List ℕ) RunFault). r >>= λ added. Ok (out ++ added)) (fault (drop (length out) old))
+
+-- behind no list
+behind_none : (r : Result (List ℕ) RunFault) → (r >>= λ added. Ok ([] ++ added)) ≡ r
+behind_none (Ok xs) = refl
+behind_none (Err e) = refl
+
+pub onto_nothing : (packed old : List ℕ) (size : ℕ) → unpacked_onto [] packed old size ≡ unpacked packed old size
+onto_nothing packed old size = behind_none (unpacked packed old size)
 
 accepted : (r : Result (List ℕ) RunFault) (old : List ℕ) (n size : ℕ) → (r >>= λ xs. Ok (length xs)) ≡ Ok n → n ≤ size → IsOk (r >>= λ xs. filled size xs >>= λ ys. Ok (xored ys old))
 unfolding filled
@@ -194,14 +255,27 @@ pub length-unpacked : (bytes old all : List ℕ) (size : ℕ) → unpacked bytes
 unfolding unpacked
 length-unpacked bytes old all size is = length-unpacked-parts (expand bytes) old all size is
 
+length-onto_by : (r : Result (List ℕ) RunFault) (out all : List ℕ) (size : ℕ) → ((xs : List ℕ) → r ≡ Ok xs → length xs ≡ size) → (r >>= λ added. Ok (out ++ added)) ≡ Ok all → length all ≡ length out + size
+length-onto_by (Ok xs) out all size len is =
+    let e : out ++ xs ≡ all = cc in
+    sym (ap length e) ∙ length-append out xs ∙ ap (λ (n : ℕ). length out + n) (len xs refl)
+length-onto_by (Err e) out all size len is = absurd cc
+
+pub length-onto : (out packed old all : List ℕ) (size : ℕ) → unpacked_onto out packed old size ≡ Ok all → length all ≡ length out + size
+length-onto out packed old all size is =
+    length-onto_by (unpacked packed (drop (length out) old) size) out all size (λ xs there. length-unpacked packed (drop (length out) old) xs size there) is
+
 -- no bytes
 none_left : (r : Result (List ℕ) RunFault) → IsOk r → ((all : List ℕ) → r ≡ Ok all → length all ≡ 0) → r ≡ Ok []
 none_left (Ok []) ok none = refl
 none_left (Ok (x ∷ xs)) ok none = absurd (omega (arith, none (x ∷ xs) refl))
 none_left (Err e) ok none = absurd cc
 
-pub unpacked-none : (bytes old : List ℕ) (n size : ℕ) → expanded_len bytes ≡ Ok n → n ≤ size → size ≡ 0 → unpacked bytes old size ≡ Ok []
-unpacked-none bytes old n size len few none =
-    none_left (unpacked bytes old size) (IsOk-unpacked bytes old n size len few) (λ all is. length-unpacked bytes old all size is ∙ none)
+pub unpacked-none : (packed old : List ℕ) (size : ℕ) → ((bytes : List ℕ) → IsOk (unpacked packed bytes size)) → size ≡ 0 → unpacked packed old size ≡ Ok []
+unpacked-none packed old size fine none = none_left (unpacked packed old size) (fine old) (λ all is. length-unpacked packed old all size is ∙ none)
 
-pub ruleset unpacked_parts = (length-all, unpacked-joined, IsOk-expanded_over, IsOk-unpacked, length-unpacked)
+pub onto-none : (out packed old : List ℕ) (size : ℕ) → ((bytes : List ℕ) → IsOk (unpacked packed bytes size)) → size ≡ 0 → unpacked_onto out packed old size ≡ Ok out
+onto-none out packed old size fine none =
+    ap (λ (r : Result (List ℕ) RunFault). r >>= λ added. Ok (out ++ added)) (unpacked-none packed (drop (length out) old) size fine none) ∙ ap (λ (xs : List ℕ). Ok xs) (append-nil out)
+
+pub ruleset unpacked_parts = (IsOk-unpacked)

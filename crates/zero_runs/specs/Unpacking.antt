@@ -1,5 +1,5 @@
 -- Packed bytes as they are read (Quetzal 1.4, section 3).
-use Rattle.std.specs.Prelude.{ℕ, zero, suc, ◌+◌, ◌-◌, nat_lt, if◌then◌else◌, List, [], ◌∷◌, ◌++◌, length, replicate, Result, Ok, Err}
+use Rattle.std.specs.Prelude.{ℕ, zero, suc, ◌+◌, ◌-◌, nat_lt, if◌then◌else◌, List, [], ◌∷◌, ◌++◌, length, drop, replicate, Result, Ok, Err}
 use Rattle.gx_words.specs.Results.{◌>>=◌}
 use Rattle.zero_runs.specs.Packing.{xored}
 use Rattle.zero_runs.specs.declared.faults.RunFault.{RunFault}
@@ -16,9 +16,9 @@ expand (suc x ∷ bytes) = expand bytes >>= λ xs. Ok (suc x ∷ xs)
 abbrev pub expanded_len : List ℕ → Result ℕ RunFault
 expanded_len bytes = expand bytes >>= λ xs. Ok (length xs)
 
--- its bytes xor the old ones
-abbrev pub expanded_over : List ℕ → List ℕ → Result (List ℕ) RunFault
-expanded_over bytes old = expand bytes >>= λ xs. Ok (xored xs old)
+-- a list with its bytes behind it, xor the old ones from there on
+abbrev pub expanded_onto : List ℕ → List ℕ → List ℕ → Result (List ℕ) RunFault
+expanded_onto out bytes old = expand bytes >>= λ xs. Ok (out ++ xored xs (drop (length out) old))
 
 -- a list with zeros at its end, up to a size
 unfoldable pub filled : ℕ → List ℕ → Result (List ℕ) RunFault
@@ -30,6 +30,10 @@ unpacked bytes old size = do
   xs ← expand bytes
   all ← filled size xs
   Ok (xored all old)
+
+-- a list with so many bytes behind it, over the old bytes from there on
+abbrev pub unpacked_onto : List ℕ → List ℕ → List ℕ → ℕ → Result (List ℕ) RunFault
+unpacked_onto out bytes old size = unpacked bytes (drop (length out) old) size >>= λ added. Ok (out ++ added)
 
 -- a byte before a list that ends in no zero: a zero before nothing is dropped
 abbrev pub before : ℕ → List ℕ → List ℕ

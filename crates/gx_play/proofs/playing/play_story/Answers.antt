@@ -11,5 +11,5 @@ returns-in-Err-clause-plays g c =
 pub returns-in-Ok-clause-plays : goal.returns-in-Ok-clause-plays
 returns-in-Ok-clause-plays g c =
     let entry : Devices = devices (g.S.Source.seen c.args.input.now) (g.K.Sink.seen c.args.output.now) (g.F.Shelf.seen c.args.shelf.now) (g.R.Rng.stream c.args.dice.now) in
-    let exit : Devices = devices (g.S.Source.seen c.run.new.input) (g.K.Sink.seen c.run.new.output) (g.F.Shelf.seen c.run.new.shelf) (g.R.Rng.stream c.run.new.dice) in
-    plays-run c.run.result (seen c.args.command) c.args.story entry exit _ c.in-Ok.machine c.in-Ok.ensures.value (rw c.new-world.ensures at c.run.ensures)
+    let exit : Devices = devices (g.S.Source.seen c.run_machine.new.input) (g.K.Sink.seen c.run_machine.new.output) (g.F.Shelf.seen c.run_machine.new.shelf) (g.R.Rng.stream c.run_machine.new.dice) in
+    plays-run c.run_machine.result (seen c.args.command) c.args.story entry exit _ c.in-Ok.machine c.in-Ok.ensures.value c.run_machine.ensures.runs

@@ -1,5 +1,5 @@
 -- the blocks as they come, one a turn
-use Rattle.std.proofs.Common.{◌≡◌, ◌∙◌, ap, sym}
+use Rattle.std.proofs.Common.{◌∙◌, ap}
 use Rattle.quetzal.specs.Blocks.{blocks_from}
 use Rattle.quetzal.proofs.Listing.{block_gathered, all_gathered}
 use Rattle.quetzal.proofs.blocks.gathered.Goals as goal

@@ -1,5 +1,5 @@
 use Rattle.std.proofs.Common.{◌≡◌, ◌++◌, ◌+◌, ◌-◌, ◌*◌}
-use Rattle.quetzal.specs.Blocks.{blocks_from, blocks_in}
+use Rattle.quetzal.specs.Blocks.{blocks_from}
 use Rattle.quetzal.proofs.blocks.gathered.Given as goal
 
 abbrev pub invariant-loop-index : goal.invariant-loop-index

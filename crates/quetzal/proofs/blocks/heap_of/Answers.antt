@@ -1,5 +1,5 @@
 -- the exits, and a heap that is taken lies in its memory
-use Rattle.std.proofs.Common.{◌≡◌, ◌∙◌, ap, sym}
+use Rattle.std.proofs.Common.{◌∙◌, sym}
 use Rattle.std.proofs.lemmas.Result.{err_from_is_err_and}
 use Rattle.quetzal.proofs.SaveReading.{heap_given, heap_wanted, heap_within, no_count, no_heap, no_start, none_within, none_without, order_fault}
 use Rattle.quetzal.proofs.blocks.heap_of.Goals as goal

@@ -1,7 +1,6 @@
 -- sorted blocks that rise are those of the definition, and others are refused
-use Rattle.std.proofs.Common.{◌≡◌, ◌∙◌, ap, sym, subst, inl, Ok, IsOk, List, refl}
+use Rattle.std.proofs.Common.{◌∙◌, ap, sym, subst, inl, IsOk, refl}
 use Rattle.std.proofs.lemmas.Result.{err_from_is_err_and}
-use Rattle.heap_blocks.specs.Heap.{Block}
 use Rattle.quetzal.specs.Blocks.{blocks_in, rises}
 use Rattle.quetzal.proofs.Sorting.{order_taken, order_refused}
 use Rattle.quetzal.proofs.SaveReading.{blocks_wanted}

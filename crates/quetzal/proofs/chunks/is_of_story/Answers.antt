@@ -1,5 +1,5 @@
 -- a story has 256 bytes at least
-use Rattle.std.proofs.Common.{◌≡◌, ◌∙◌, ap, sym, arith, length}
+use Rattle.std.proofs.Common.{ap, arith, length}
 use Rattle.std.proofs.lemmas.List.{length-take}
 use Rattle.quetzal.proofs.chunks.is_of_story.Goals as goal
 

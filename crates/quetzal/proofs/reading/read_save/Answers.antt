@@ -1,5 +1,5 @@
 -- each exit has the fault of the definition, and what is read is the copy of the definition, fit for the story
-use Rattle.std.proofs.Common.{◌≡◌, ◌∙◌, ap, sym, subst, inl, Ok, IsOk, refl}
+use Rattle.std.proofs.Common.{◌∙◌, sym, subst, inl, IsOk, refl}
 use Rattle.std.proofs.lemmas.Result.{err_from_is_err_and}
 use Rattle.quetzal.specs.declared.faults.SaveFault.TheVariants as fault
 use Rattle.quetzal.specs.Views.{parts_of}

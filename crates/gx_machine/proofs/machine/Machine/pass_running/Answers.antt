@@ -6,7 +6,7 @@ use Rattle.gx_state.specs.declared.effects.Effect.TheVariants.{Went}
 use Rattle.gx_state.specs.declared.modes.Mode.TheVariants.{Running}
 use Rattle.gx_state.specs.Flat.{sp_of}
 use Rattle.gx_machine.specs.Machine.{FlatMachine, Whole}
-use Rattle.gx_machine.specs.Step.{stepped, IsModeWriting}
+use Rattle.gx_machine.specs.Step.{stepped, IsStepWriting}
 use Rattle.gx_machine.specs.Views.{whole_of}
 use Rattle.gx_machine.proofs.Passing.{pass_ok, pass_refused}
 use Rattle.gx_machine.proofs.machine.Machine.pass_running.Goals as goal
@@ -20,10 +20,10 @@ returns-in_err-quick-clause-value g c =
     let free = c.in_err-quick.ensures.free (λ same. cc) in
     rw (p.1, p.2) (λ word.
     let t = c.in_err-quick.ensures.value c.self.inside.undo word in
-    subst (λ (x : Whole). ◌≡◌ {A = Whole × ℕ} (record { machine = record { flat = c.quick.new.state.flat; undo = c.self.inside.undo }; asking = w.asking }, c.args.budget.now) (x, c.args.budget.now) × IsRefused (IsModeWriting x.machine Running) c.in_err-quick.field-0.0 (stepped x word c.args.budget.now))
+    subst (λ (x : Whole). ◌≡◌ {A = Whole × ℕ} (record { machine = record { flat = c.quick.new.state.flat; undo = c.self.inside.undo }; asking = w.asking }, c.args.budget.now) (x, c.args.budget.now) × IsRefused (IsStepWriting x.machine c.args.budget.now) c.in_err-quick.field-0.0 (stepped x word c.args.budget.now))
     c.self.view_is (
       ap (λ (m : FlatMachine). (record { machine = m; asking = w.asking }, c.args.budget.now)) t.0,
-      pass_refused (IsModeWriting w.machine Running) w word c.args.budget.now c.in_err-quick.field-0.0 c.requires.some live running free t.1,
+      pass_refused w word c.args.budget.now c.in_err-quick.field-0.0 c.requires.some live running free t.1,
     ))
 
 pub returns-then-branch-clause-value : goal.returns-then-branch-clause-value

@@ -12,7 +12,7 @@ returns-in_err-pass-clause-value g c =
     rw (p.1, p.2) (λ word.
     let t = c.in_err-pass.ensures.value word in
     let before = c.loop.invariant.passes word in
-    subst (λ (x : Whole × ℕ). (n : ℕ) × Passes word n (c.args.self.now, c.args.budget.now) x × IsRefused (IsStepWriting x.0.machine) c.in_err-pass.field-0.0 (stepped x.0 word x.1)) (sym t.0) (before.0, before.1, t.1))
+    subst (λ (x : Whole × ℕ). (n : ℕ) × Passes word n (c.args.self.now, c.args.budget.now) x × IsRefused (IsStepWriting x.0.machine x.1) c.in_err-pass.field-0.0 (stepped x.0 word x.1)) (sym t.0) (before.0, before.1, t.1))
 
 pub loop-preserved : goal.loop-preserved
 loop-preserved g c =

@@ -8,7 +8,7 @@ use Rattle.gx_state.specs.Flat.{sp_of}
 use Rattle.gx_machine.specs.declared.askings.Asking.{Asking}
 use Rattle.gx_machine.specs.declared.machine.Pending.{Pending}
 use Rattle.gx_machine.specs.Machine.{Whole}
-use Rattle.gx_machine.specs.Step.{stepped, IsModeWriting}
+use Rattle.gx_machine.specs.Step.{stepped, IsStepWriting}
 use Rattle.gx_machine.specs.Views.{whole_of}
 use Rattle.gx_machine.proofs.Steps.{run_err, some_of, step_ok}
 use Rattle.gx_machine.proofs.machine.Machine.run.Goals as goal
@@ -23,11 +23,11 @@ returns-in_err-effect-clause-step g c =
     let none : w.asking ≡ None = subst (λ (x : Whole). x.asking ≡ None) (sym c.self.view_is) c.requires.asks in
     let same : w.asking ≡ option_map (λ (q : Pending). q.asking) c.run.new.pending = none ∙ sym (ap (option_map (λ (q : Pending). q.asking)) e.stays) in
     rw (p.1, p.2)
-    (subst (λ (x : Whole). ◌≡◌ {A = Whole × ℕ} (record { machine = record { flat = c.run.new.state.flat; undo = c.run.new.undo }; asking = option_map (λ (q : Pending). q.asking) c.run.new.pending }, c.args.budget.now) (x, c.args.budget.now) × IsRefused (IsModeWriting x.machine Running) c.in_err-effect.field-0.0 (stepped x c.args.word c.args.budget.now))
+    (subst (λ (x : Whole). ◌≡◌ {A = Whole × ℕ} (record { machine = record { flat = c.run.new.state.flat; undo = c.run.new.undo }; asking = option_map (λ (q : Pending). q.asking) c.run.new.pending }, c.args.budget.now) (x, c.args.budget.now) × IsRefused (IsStepWriting x.machine c.args.budget.now) c.in_err-effect.field-0.0 (stepped x c.args.word c.args.budget.now))
     c.self.view_is
-    (subst (λ (a : Option Asking). ◌≡◌ {A = Whole × ℕ} (record { machine = record { flat = c.run.new.state.flat; undo = c.run.new.undo }; asking = a }, c.args.budget.now) (w, c.args.budget.now) × IsRefused (IsModeWriting w.machine Running) c.in_err-effect.field-0.0 (stepped w c.args.word c.args.budget.now))
+    (subst (λ (a : Option Asking). ◌≡◌ {A = Whole × ℕ} (record { machine = record { flat = c.run.new.state.flat; undo = c.run.new.undo }; asking = a }, c.args.budget.now) (w, c.args.budget.now) × IsRefused (IsStepWriting w.machine c.args.budget.now) c.in_err-effect.field-0.0 (stepped w c.args.word c.args.budget.now))
     same
-    (run_err (IsModeWriting w.machine Running) w c.args.word c.args.budget.now c.run.new.left _ c.in_err-effect.field-0.0 c.requires.some live running e.value.0 e.value.1)))
+    (run_err w c.args.word c.args.budget.now c.run.new.left _ c.in_err-effect.field-0.0 c.requires.some live running e.value.0 e.affords e.value.1)))
 
 pub returns : goal.returns
 returns g c =

@@ -1,14 +1,15 @@
 use Rattle.std.proofs.Common.{◌≡◌, ℕ, ◌*◌, List, length, take, ap, ◌∙◌, arith}
 use Rattle.std.proofs.lemmas.List.{length-take-le, take-replicate}
 use Rattle.gx_pages.specs.Chunks.{flat}
-use Rattle.gx_pages.proofs.Chunks.{length-flat}
+use Rattle.gx_pages.specs.Leaves.{leaf_bytes}
+use Rattle.gx_pages.proofs.Top.{length-leaves}
 use Rattle.gx_pages.proofs.table.Table.filled.Goals as goal
 
 pub returns-clause-size : goal.returns-clause-size
 returns-clause-size g c =
     let all = c.in_ok-leaves.leaves.items in
-    let full : length (flat all) ≡ 65536 * length all = length-flat 65536 all c.in_ok-leaves.ensures.whole in
-    length-take-le c.args.size (flat all) (omega (arith, c.in_ok-leaves.ensures.count, c.leaves_for.ensures.reach))
+    let full : length (flat leaf_bytes all) ≡ 65536 * length all = length-leaves all c.in_ok-leaves.ensures.whole in
+    length-take-le c.args.size (flat leaf_bytes all) (omega (arith, c.in_ok-leaves.ensures.count, c.leaves_for.ensures.reach))
 
 pub returns-clause-zero : goal.returns-clause-zero
 returns-clause-zero g c = λ zero.

@@ -1,23 +1,33 @@
-use Rattle.std.proofs.Common.{◌≡◌, ℕ, ◌*◌, ◌≤◌, List, length, take, ap, sym, ◌∙◌, arith}
-use Rattle.std.proofs.lemmas.List.{with_items_is, length-take-le}
+use Rattle.std.proofs.Common.{◌≡◌, length, ap, sym, subst, ◌∙◌, OnOk, arith}
+use Rattle.std.proofs.lemmas.List.{with_items_is, take_at}
 use Rattle.std.proofs.lemmas.Result.{on_ok_weaker}
 use Rattle.gx_words.specs.Numbers.{spliced}
-use Rattle.gx_pages.specs.Chunks.{flat}
-use Rattle.gx_pages.proofs.Chunks.{length-flat, take-spliced}
+use Rattle.gx_pages.specs.Chunks.{AllWhole, flat}
+use Rattle.gx_pages.specs.Leaves.{IsLeaf, leaf_bytes}
+use Rattle.gx_pages.proofs.Top.{top_kept, view_spliced}
 use Rattle.gx_pages.proofs.table.Table.write.Goals as goal
+
+pub write-requires-clause-whole : goal.write-requires-clause-whole
+write-requires-clause-whole g c =
+    subst (λ ps. AllWhole IsLeaf ps) (sym c.as_mut_slice.ensures.value) c.self.invariant.whole
+
+pub invariant_of-self : goal.invariant_of-self
+invariant_of-self g c =
+    let v = c.self.inside.leaves in
+    let ns = c.write.new.chunks in
+    let whole : AllWhole IsLeaf ns = c.write.ensures.whole in
+    let len : length ns ≡ v.len = omega arith in
+    rw (take_at ns _ _ len) (top_kept v.items ns c.self.inside.size c.self.invariant whole (omega arith))
 
 pub returns-clause-ok : goal.returns-clause-ok
 returns-clause-ok g c =
     let v = c.self.inside.leaves in
-    let n = c.self.inside.size in
-    let full : length (flat v.items) ≡ 65536 * length v.items = length-flat 65536 v.items c.self.invariant.whole in
+    let ns = c.write.new.chunks in
+    let len : length ns ≡ v.len = omega arith in
     let now : c.as_mut_slice.result.now ≡ v.items = c.as_mut_slice.ensures.value in
-    let len : length c.write_in_leaf.new.leaves ≡ v.len = omega arith in
-    let reach : n ≤ length (flat v.items) = omega (arith, c.self.invariant.reach) in
-    let view : length c.args.self.now ≡ n = ap (λ (m : List ℕ). length m) (sym c.self.view_is) ∙ length-take-le n (flat v.items) reach in
-    on_ok_weaker c.write_in_leaf.result
-    (λ e. rw (with_items_is v c.write_in_leaf.new.leaves len)
-    (ap (take n) (e ∙ ap (λ t. spliced (flat t) c.args.at c.args.bytes.now) now)
-    ∙ take-spliced (flat v.items) c.args.bytes.now c.args.at n (omega (arith, c.requires.inside)) reach
-    ∙ ap (λ m. spliced m c.args.at c.args.bytes.now) c.self.view_is))
-    c.write_in_leaf.ensures.ok
+    let made : OnOk c.write.result (flat leaf_bytes ns ≡ spliced (flat leaf_bytes c.as_mut_slice.result.now) c.args.at (c.args.bytes.now)) = c.write.ensures.ok in
+    on_ok_weaker c.write.result
+    (λ e. rw (with_items_is v ns len)
+    (view_spliced v.items ns c.self.inside.size c.args.at (c.args.bytes.now) c.args.self.now c.self.invariant c.self.view_is (omega (arith, c.requires.inside))
+    (e ∙ ap (λ ps. spliced (flat leaf_bytes ps) c.args.at (c.args.bytes.now)) now)))
+    made

@@ -1,0 +1,10 @@
+-- The numbers that stand in the definitions by name. The constants of the same names in code are tied to these.
+use Rattle.std.specs.Prelude.{ℕ}
+
+-- how many copies are kept for undo where the words say nothing of it, and in job work
+abbrev pub usual_depth : ℕ
+usual_depth = 16
+
+-- the fault of a story whose file isn't there; the others are those of gx_story
+abbrev pub no_file : ℕ
+no_file = 0
