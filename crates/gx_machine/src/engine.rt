@@ -1,14 +1,15 @@
 //! What a session runs on, seen through its steps and answers: a machine.
-ghost use Rattle.std.specs.Prelude.{◌≡◌, ◌≢◌, ◌≤◌, ◌-◌, ℕ, false, [], length, Ok, Some, None, IsSome, IfSome, IfOk, OnOk, OnErr};
+ghost use Rattle.std.specs.Prelude.{◌≡◌, ◌≢◌, ◌≤◌, ◌-◌, ◌⊎◌, ℕ, false, [], length, Ok, Some, None, IsSome, IfSome, IfOk, OnOk, OnErr};
 ghost use Rattle.gx_words.specs.Faults.{Does};
+ghost use Rattle.gx_pages.specs.Memory.{HasBytes};
 ghost use Rattle.gx_state.specs.declared.effects.Effect.TheVariants.{Put};
 ghost use Rattle.gx_state.specs.declared.modes.Mode.TheVariants.{Running};
 ghost use Rattle.gx_state.specs.Copies.{IsCopyFor};
 ghost use Rattle.ops_print.specs.Items.{is_put};
 ghost use Rattle.gx_machine.specs.Machine.{Whole};
-ghost use Rattle.gx_machine.specs.Answer.{answered, IsAnswer};
+ghost use Rattle.gx_machine.specs.Answer.{answered, IsAnswer, IsStoredAnswer};
 ghost use Rattle.gx_machine.specs.Saves.{restored_whole, saved_copy};
-ghost use Rattle.gx_machine.specs.Step.{stepped, asking_of, Advances};
+ghost use Rattle.gx_machine.specs.Step.{stepped, asking_of, Advances, IsStepWriting};
 
 use crate::Asking;
 use gx_state::{Effect, FlatCopy, Reply, State};
@@ -18,21 +19,21 @@ use std::alloc::{AllocError, Allocator, Global};
 
 /// Steps and the answers to what they ask.
 ///
-/// Every step that has no fault may want memory, and so may every answer and every copy; nothing has changed then.
+/// A step and an answer want memory only where they write, resize or copy memory; nothing has changed then.
 pub trait Engine<A: Allocator + Clone> {
     ghost whole: { Self → Whole };
 
     /// One step within the budget, with a random word that it may use.
     fn step(&mut self, word: u32, budget: &mut u64) -> Result<Effect, Fault>
         requires { (whole self.old).asking ≡ None }
-        ensures step { Does (Unit {0}) (λ effect. effect) result (whole self.old, budget.old) (whole self.new, budget.new) (stepped (whole self.old) word budget.old) }
+        ensures step { Does (IsStepWriting (whole self.old).machine budget.old) (λ effect. effect) result (whole self.old, budget.old) (whole self.new, budget.new) (stepped (whole self.old) word budget.old) }
         ensures stands { IfOk result (λ effect. IsSome (asking_of effect) → (whole self.new).machine ≡ (whole self.old).machine) };
 
     /// Steps within the budget, all with one random word, as long as they ask nothing and the word isn't used, and then
     /// one that may. The budget is lowered by all of them but the last, and `left` is what that one leaves.
     fn advance(&mut self, word: u32, budget: &mut u64, left: &mut u64) -> Result<Effect, Fault>
         requires { (whole self.old).asking ≡ None }
-        ensures { Advances (λ machine budget. Unit {0}) word result (whole self.old, budget.old) budget.new (whole self.new, left.new) };
+        ensures { Advances IsStepWriting word result (whole self.old, budget.old) budget.new (whole self.new, left.new) };
 
     /// The character that the next step within the budget asks to be put, where it is an item of what is printed: the
     /// step is made then. Else nothing is done.
@@ -49,7 +50,8 @@ pub trait Engine<A: Allocator + Clone> {
     fn finish(&mut self, reply: &Reply) -> Result<(), AllocError>
         requires { IsAnswer (whole self.old) reply.now }
         ensures ok { OnOk result (whole self.new ≡ answered (whole self.old) reply.now) }
-        ensures err { OnErr result (whole self.new ≡ whole self.old) };
+        ensures err { OnErr result (whole self.new ≡ whole self.old) }
+        ensures memory { OnErr result (HasBytes reply.now.writes ⊎ IsStoredAnswer (whole self.old).machine.flat) };
 
     /// The same for a character that was put, with a reply that pushes and writes nothing. It never wants memory.
     fn finish_put(&mut self)

@@ -6,7 +6,7 @@ use Rattle.gx_story.specs.Stories.{FlatStory}
 use Rattle.gx_machine.specs.Machine.{Whole}
 use Rattle.gx_machine.specs.Start.{first_machine}
 use Rattle.gx_session.specs.declared.ended.Ended.{Ended}
-use Rattle.gx_session.specs.declared.statuses.TheConstants.{SHELF_FAULT, NO_MEMORY}
+use Rattle.gx_session.specs.Constants.{status_shelf_fault, status_no_memory}
 use Rattle.gx_session.specs.Counts.{Counts}
 use Rattle.gx_session.specs.Devices.{Devices}
 use Rattle.gx_session.specs.Runs.{IsRun, IsSession, Report, report_of}
@@ -19,9 +19,9 @@ use Rattle.gx_play.specs.Headline.{Outcome, refused, unstarted, runs, tells, out
 use Rattle.rand_core.specs.Stream.{Stream}
 
 module _ {A : Type 0} (ended : Ended A) (entry exit : Devices) where
-  -- WHERE NO DEVICE FAILED
+  -- WHERE NO DEVICE failed
   module _ (fine : HasNoFailure entry exit) (counts : Counts entry exit ended.status) where
-    unbegun : IsUnbegun ended → ended.status ≡ NO_MEMORY
+    unbegun : IsUnbegun ended → ended.status ≡ status_no_memory
     unbegun (inl absent) = absurd (fine.shelf (counts.shelf.rose absent.status_is))
     unbegun (inr absent) = absent.status_is
 
@@ -37,12 +37,12 @@ module _ {A : Type 0} (ended : Ended A) (entry exit : Devices) where
       abbrev leaving : Devices
       leaving = record exit { words = left }
 
-      at-end : (input : List ℕ) → input ≡ start.input → IsSession (record start { input = input }) loaded leaving r → r.status < SHELF_FAULT → r.status ≡ status_of (final_of start).stop
+      at-end : (input : List ℕ) → input ≡ start.input → IsSession (record start { input = input }) loaded leaving r → r.status < status_shelf_fault → r.status ≡ status_of (final_of start).stop
       at-end input is session early =
           subst (λ (i : List ℕ). r.status ≡ status_of (final_of (record start { input = i })).stop) is (session.ended early).status_is
 
       run-ends : LoadsOnce entry.shelf shelf → IsRun start loaded leaving r → r.status ≡ ended.status → entry.source.tells ≡ true → entry.shelf.tells ≡ true
-          → (r.status ≡ status_of (final_of start).stop) ⊎ (r.status ≡ NO_MEMORY)
+          → (r.status ≡ status_of (final_of start).stop) ⊎ (r.status ≡ status_no_memory)
       run-ends once run same source-tells shelf-tells =
           elim run.session [
             | inl untold ↦ let no : true ≡ false = sym shelf-tells ∙ sym once.tells ∙ untold.silent in absurd cc
@@ -56,17 +56,17 @@ module _ {A : Type 0} (ended : Ended A) (entry exit : Devices) where
 
     some-ends : (seed : Option ℕ) (start : Configuration) (shelf : FlatShelf) (left : Stream) (end : Option Whole) → LoadsOnce entry.shelf shelf
         → IsSomeAnd end (λ whole. IsRun start (devices_for seed (record entry { shelf = shelf })) (record exit { words = left }) (report_of ended whole))
-        → entry.source.tells ≡ true → entry.shelf.tells ≡ true → (ended.status ≡ status_of (final_of start).stop) ⊎ (ended.status ≡ NO_MEMORY)
+        → entry.source.tells ≡ true → entry.shelf.tells ≡ true → (ended.status ≡ status_of (final_of start).stop) ⊎ (ended.status ≡ status_no_memory)
     some-ends seed start shelf left None once run source-tells shelf-tells = absurd run
     some-ends seed start shelf left (Some whole) once run source-tells shelf-tells =
         run-ends start shelf (words_for seed entry.words) left (report_of ended whole) once run refl source-tells shelf-tells
 
-    line-ends : (status : ℕ) (line : List ℕ) (before now : FlatSink) → SendsLine status line before now ended → (ended.status ≡ 10 → ⊥) → (ended.status ≡ status) ⊎ (ended.status ≡ NO_MEMORY)
+    line-ends : (status : ℕ) (line : List ℕ) (before now : FlatSink) → SendsLine status line before now ended → (ended.status ≡ 10 → ⊥) → (ended.status ≡ status) ⊎ (ended.status ≡ status_no_memory)
     line-ends status line before now (inl (absent, sent)) sink = inl absent.status_is
     line-ends status line before now (inr (inl absent, sent)) sink = absurd (sink absent.status_is)
     line-ends status line before now (inr (inr absent, sent)) sink = inr absent.status_is
 
-    outcome-ends : (outcome : Outcome) → Plays outcome entry exit ended → entry.source.tells ≡ true → entry.shelf.tells ≡ true → (ended.status ≡ status_of_outcome outcome) ⊎ (ended.status ≡ NO_MEMORY)
+    outcome-ends : (outcome : Outcome) → Plays outcome entry exit ended → entry.source.tells ≡ true → entry.shelf.tells ≡ true → (ended.status ≡ status_of_outcome outcome) ⊎ (ended.status ≡ status_no_memory)
     outcome-ends (refused status fault) (inl absent, same) source-tells shelf-tells = inl absent.status_is
     outcome-ends (refused status fault) (inr is, same) source-tells shelf-tells = inr (unbegun is)
     outcome-ends (unstarted fault at) (inl absent, same) source-tells shelf-tells = inl absent.status_is
@@ -80,7 +80,7 @@ module _ {A : Type 0} (ended : Ended A) (entry exit : Devices) where
   complete None comes counts = λ source-tells shelf-tells fine. outcome-ends fine counts (outcome_of None comes.file entry) comes.plays source-tells shelf-tells
   complete (Some command) comes counts =
       λ source-tells shelf-tells fine.
-      subst (λ (file : Option (List ℕ)). (ended.status ≡ status_of_outcome (outcome_of (Some command) file entry)) ⊎ (ended.status ≡ NO_MEMORY)) (comes.file_is shelf-tells)
+      subst (λ (file : Option (List ℕ)). (ended.status ≡ status_of_outcome (outcome_of (Some command) file entry)) ⊎ (ended.status ≡ status_no_memory)) (comes.file_is shelf-tells)
       (outcome-ends fine counts (outcome_of (Some command) comes.file entry) comes.plays source-tells shelf-tells)
 
   -- WHERE NO MACHINE IS HANDED BACK

@@ -3,7 +3,7 @@ use Rattle.std.proofs.Common.{◌≡◌, ◌≢◌, ℕ, ◌≤◌, ◌⊎◌, i
 use Rattle.gx_outside.specs.Outside.{FlatShelf, FlatSink}
 use Rattle.gx_story.specs.Stories.{FlatStory, is_checked}
 use Rattle.gx_session.specs.declared.ended.Ended.{Ended}
-use Rattle.gx_session.specs.declared.statuses.TheConstants.{ENDED, BAD_WORDS, BAD_STORY, SHELF_FAULT, INPUT_FAULT, OUTPUT_FAULT, NO_MEMORY}
+use Rattle.gx_session.specs.Constants.{status_ended, status_bad_words, status_bad_story, status_shelf_fault, status_input_fault, status_output_fault, status_no_memory}
 use Rattle.gx_session.specs.Devices.{Devices}
 use Rattle.gx_session.specs.Counts.{Blames, Counts}
 use Rattle.gx_session.proofs.Counting.{blames-none, blames-same}
@@ -71,36 +71,36 @@ module _ {A : Type 0} (ended : Ended A) where
   unbegun-plays (tells status line) entry exit is unsent = inr (is, unsent)
 
   -- a line's answer is one of three
-  idle : (status : ℕ) (line : List ℕ) (before now : FlatSink) → SendsLine status line before now ended → (s : ℕ) × HasNoMachine ended s 0 0 × ((s ≡ status) ⊎ (s ≡ OUTPUT_FAULT) ⊎ (s ≡ NO_MEMORY))
+  idle : (status : ℕ) (line : List ℕ) (before now : FlatSink) → SendsLine status line before now ended → (s : ℕ) × HasNoMachine ended s 0 0 × ((s ≡ status) ⊎ (s ≡ status_output_fault) ⊎ (s ≡ status_no_memory))
   idle status line before now (inl (absent, sent)) = (status, absent, inl refl)
-  idle status line before now (inr (inl absent, sent)) = (OUTPUT_FAULT, absent, inr (inl refl))
-  idle status line before now (inr (inr absent, sent)) = (NO_MEMORY, absent, inr (inr refl))
+  idle status line before now (inr (inl absent, sent)) = (status_output_fault, absent, inr (inl refl))
+  idle status line before now (inr (inr absent, sent)) = (status_no_memory, absent, inr (inr refl))
 
   -- JOB WORK
   module _ (number : ℕ) (command : Command) where
-    pub work-unmade : (d : Devices) → HasNoMachine ended NO_MEMORY 0 0 → IsDone (Work number) command d d ended
+    pub work-unmade : (d : Devices) → HasNoMachine ended status_no_memory 0 0 → IsDone (Work number) command d d ended
     work-unmade d absent =
         let s = absent.status_is in
         record {
           file = d.shelf.files command.story;
           file_is = λ _. refl;
-          plays = unbegun-plays (tells ENDED (work_line number)) d d (inr absent) refl;
+          plays = unbegun-plays (tells status_ended (work_line number)) d d (inr absent) refl;
           memory = λ _. tt;
           began = λ e. absurd (omega (arith, s, e));
           loads = λ _. refl;
           untouched = λ _. record { steps = absent.steps_are; source = refl; words = refl };
           counts = record {
-            shelf = blames-none d.shelf.calls d.shelf.calls (ended.status ≡ SHELF_FAULT) refl (λ e. absurd (omega (arith, s, e)));
-            source = blames-none d.source.calls d.source.calls (ended.status ≡ INPUT_FAULT) refl (λ e. absurd (omega (arith, s, e)));
-            sink = blames-none d.sink.calls d.sink.calls (ended.status ≡ OUTPUT_FAULT) refl (λ e. absurd (omega (arith, s, e)));
+            shelf = blames-none d.shelf.calls d.shelf.calls (ended.status ≡ status_shelf_fault) refl (λ e. absurd (omega (arith, s, e)));
+            source = blames-none d.source.calls d.source.calls (ended.status ≡ status_input_fault) refl (λ e. absurd (omega (arith, s, e)));
+            sink = blames-none d.sink.calls d.sink.calls (ended.status ≡ status_output_fault) refl (λ e. absurd (omega (arith, s, e)));
           };
-          parts = parts-told (let job : Job = Work number in job ≡ Play) NO_MEMORY (λ e. cc) absent (inr (inr (inr refl)));
+          parts = parts-told (let job : Job = Work number in job ≡ Play) status_no_memory (λ e. cc) absent (inr (inr (inr refl)));
         }
 
-    pub work-told : (d : Devices) (before now : FlatSink) → SendsLine ENDED (work_line number) before now ended → BlamesSink before now ended.status
+    pub work-told : (d : Devices) (before now : FlatSink) → SendsLine status_ended (work_line number) before now ended → BlamesSink before now ended.status
         → IsDone (Work number) command (record d { sink = before }) (record d { sink = now }) ended
     work-told d before now sends blames =
-        let i = idle ENDED (work_line number) before now sends in
+        let i = idle status_ended (work_line number) before now sends in
         let s = i.1.status_is in
         let which = i.2 in
         record {
@@ -112,8 +112,8 @@ module _ {A : Type 0} (ended : Ended A) where
           loads = λ _. refl;
           untouched = λ _. record { steps = i.1.steps_are; source = refl; words = refl };
           counts = record {
-            shelf = blames-none d.shelf.calls d.shelf.calls (ended.status ≡ SHELF_FAULT) refl (λ e. absurd (grind (arith, s, which, e)));
-            source = blames-none d.source.calls d.source.calls (ended.status ≡ INPUT_FAULT) refl (λ e. absurd (grind (arith, s, which, e)));
+            shelf = blames-none d.shelf.calls d.shelf.calls (ended.status ≡ status_shelf_fault) refl (λ e. absurd (grind (arith, s, which, e)));
+            source = blames-none d.source.calls d.source.calls (ended.status ≡ status_input_fault) refl (λ e. absurd (grind (arith, s, which, e)));
             sink = blames;
           };
           parts = parts-told (let job : Job = Work number in job ≡ Play) i.0 (λ e. cc) i.1 (grind (arith, which));
@@ -127,30 +127,30 @@ module _ {A : Type 0} (ended : Ended A) where
     abbrev pub exit : Devices
     exit = record d { shelf = now }
 
-    no-story : (file : Option (List ℕ)) (r : Refusal) (of : Result FlatStory ℕ → Outcome) → ((fault : ℕ) → of (Err fault) ≡ refused BAD_STORY fault) → LoadGives file (Err r) → HasNoMachine ended (status_of r) (fault_of r) 0
+    no-story : (file : Option (List ℕ)) (r : Refusal) (of : Result FlatStory ℕ → Outcome) → ((fault : ℕ) → of (Err fault) ≡ refused status_bad_story fault) → LoadGives file (Err r) → HasNoMachine ended (status_of r) (fault_of r) 0
         → Plays (of (story_of file)) entry exit ended
     no-story file (refusal.BadStory fault) of bad gives absent =
         subst (λ (o : Outcome). Plays o entry exit ended) (sym (ap of gives ∙ bad fault)) (inl absent, refl)
     no-story file refusal.Shelf of bad gives absent = unbegun-plays (of (story_of file)) entry exit (inl absent) refl
     no-story file refusal.NoMemory of bad gives absent = unbegun-plays (of (story_of file)) entry exit (inr absent) refl
 
-    wants : (file : Option (List ℕ)) (r : Refusal) → LoadGives file (Err r) → HasNoMachine ended (status_of r) (fault_of r) 0 → ended.status ≡ NO_MEMORY → IsLoadable file
+    wants : (file : Option (List ℕ)) (r : Refusal) → LoadGives file (Err r) → HasNoMachine ended (status_of r) (fault_of r) 0 → ended.status ≡ status_no_memory → IsLoadable file
     wants file (refusal.BadStory fault) gives absent e = let s = absent.status_is in absurd (omega (arith, s, e))
     wants file refusal.Shelf gives absent e = let s = absent.status_is in absurd (omega (arith, s, e))
     wants file refusal.NoMemory gives absent e = gives
 
     refusal-parts : (playing : Type 0) (r : Refusal) → HasNoMachine ended (status_of r) (fault_of r) 0 → ((fault : ℕ) → (let e : Result FlatStory Refusal = Err r in e ≡ Err (refusal.BadStory fault)) → fault ≤ 7) → HasItsParts playing ended
-    refusal-parts playing (refusal.BadStory fault) absent small = parts-before playing BAD_STORY fault absent (inr (inl refl)) (small fault refl) (λ e. absurd (e refl))
-    refusal-parts playing refusal.Shelf absent small = parts-before playing SHELF_FAULT 0 absent (inr (inr (inl refl))) (omega arith) (λ _. refl)
-    refusal-parts playing refusal.NoMemory absent small = parts-before playing NO_MEMORY 0 absent (inr (inr (inr refl))) (omega arith) (λ _. refl)
+    refusal-parts playing (refusal.BadStory fault) absent small = parts-before playing status_bad_story fault absent (inr (inl refl)) (small fault refl) (λ e. absurd (e refl))
+    refusal-parts playing refusal.Shelf absent small = parts-before playing status_shelf_fault 0 absent (inr (inr (inl refl))) (omega arith) (λ _. refl)
+    refusal-parts playing refusal.NoMemory absent small = parts-before playing status_no_memory 0 absent (inr (inr (inr refl))) (omega arith) (λ _. refl)
 
     refusal-blames : (r : Refusal) → HasNoMachine ended (status_of r) (fault_of r) 0 → Blames before.calls now.calls (let e : Result FlatStory Refusal = Err r in e ≡ Err refusal.Shelf)
-        → Blames before.calls now.calls (ended.status ≡ SHELF_FAULT)
+        → Blames before.calls now.calls (ended.status ≡ status_shelf_fault)
     refusal-blames (refusal.BadStory fault) absent blames =
-        let s = absent.status_is in blames-same before.calls now.calls _ (ended.status ≡ SHELF_FAULT) blames (λ e. absurd cc) (λ e. absurd (omega (arith, s, e)))
-    refusal-blames refusal.Shelf absent blames = blames-same before.calls now.calls _ (ended.status ≡ SHELF_FAULT) blames (λ _. absent.status_is) (λ _. refl)
+        let s = absent.status_is in blames-same before.calls now.calls _ (ended.status ≡ status_shelf_fault) blames (λ e. absurd cc) (λ e. absurd (omega (arith, s, e)))
+    refusal-blames refusal.Shelf absent blames = blames-same before.calls now.calls _ (ended.status ≡ status_shelf_fault) blames (λ _. absent.status_is) (λ _. refl)
     refusal-blames refusal.NoMemory absent blames =
-        let s = absent.status_is in blames-same before.calls now.calls _ (ended.status ≡ SHELF_FAULT) blames (λ e. absurd cc) (λ e. absurd (omega (arith, s, e)))
+        let s = absent.status_is in blames-same before.calls now.calls _ (ended.status ≡ status_shelf_fault) blames (λ e. absurd cc) (λ e. absurd (omega (arith, s, e)))
 
     which-of : (r : Refusal) → HasNoMachine ended (status_of r) (fault_of r) 0 → (ended.status ≡ 2) ⊎ (ended.status ≡ 8) ⊎ (ended.status ≡ 11)
     which-of (refusal.BadStory fault) absent = inl absent.status_is
@@ -172,8 +172,8 @@ module _ {A : Type 0} (ended : Ended A) where
             untouched = λ _. record { steps = absent.steps_are; source = refl; words = refl };
             counts = record {
               shelf = refusal-blames r absent count;
-              source = blames-none d.source.calls d.source.calls (ended.status ≡ INPUT_FAULT) refl (λ e. absurd (grind (arith, which, e)));
-              sink = blames-none d.sink.calls d.sink.calls (ended.status ≡ OUTPUT_FAULT) refl (λ e. absurd (grind (arith, which, e)));
+              source = blames-none d.source.calls d.source.calls (ended.status ≡ status_input_fault) refl (λ e. absurd (grind (arith, which, e)));
+              sink = blames-none d.sink.calls d.sink.calls (ended.status ≡ status_output_fault) refl (λ e. absurd (grind (arith, which, e)));
             };
             parts = refusal-parts (job ≡ Play) r absent small;
           }
@@ -214,8 +214,8 @@ module _ {A : Type 0} (ended : Ended A) where
         loads = λ _. once;
         untouched = λ _. record { steps = i.1.steps_are; source = refl; words = refl };
         counts = record {
-          shelf = blames-same before.calls now.calls _ (ended.status ≡ SHELF_FAULT) count (λ e. absurd cc) (λ e. absurd (grind (arith, s, which, e)));
-          source = blames-none d.source.calls d.source.calls (ended.status ≡ INPUT_FAULT) refl (λ e. absurd (grind (arith, s, which, e)));
+          shelf = blames-same before.calls now.calls _ (ended.status ≡ status_shelf_fault) count (λ e. absurd cc) (λ e. absurd (grind (arith, s, which, e)));
+          source = blames-none d.source.calls d.source.calls (ended.status ≡ status_input_fault) refl (λ e. absurd (grind (arith, s, which, e)));
           sink = blames;
         };
         parts = parts-told (let job : Job = Check in job ≡ Play) i.0 (λ e. cc) i.1 which;
@@ -246,13 +246,13 @@ module _ {A : Type 0} (ended : Ended A) where
     -- no device was called
     none-called : (status : ℕ) → ended.status ≡ status → (status ≡ 1) ⊎ (status ≡ 11) → Counts entry entry ended.status
     none-called status s which = record {
-      shelf = blames-none entry.shelf.calls entry.shelf.calls (ended.status ≡ SHELF_FAULT) refl (λ e. absurd (grind (arith, s, which, e)));
-      source = blames-none entry.source.calls entry.source.calls (ended.status ≡ INPUT_FAULT) refl (λ e. absurd (grind (arith, s, which, e)));
-      sink = blames-none entry.sink.calls entry.sink.calls (ended.status ≡ OUTPUT_FAULT) refl (λ e. absurd (grind (arith, s, which, e)));
+      shelf = blames-none entry.shelf.calls entry.shelf.calls (ended.status ≡ status_shelf_fault) refl (λ e. absurd (grind (arith, s, which, e)));
+      source = blames-none entry.source.calls entry.source.calls (ended.status ≡ status_input_fault) refl (λ e. absurd (grind (arith, s, which, e)));
+      sink = blames-none entry.sink.calls entry.sink.calls (ended.status ≡ status_output_fault) refl (λ e. absurd (grind (arith, s, which, e)));
     }
 
     -- it has none
-    pub played-none : command_of words ≡ None → HasNoMachine ended BAD_WORDS 0 0 → IsPlayed words entry entry ended
+    pub played-none : command_of words ≡ None → HasNoMachine ended status_bad_words 0 0 → IsPlayed words entry entry ended
     played-none none absent =
         let s = absent.status_is in
         let headline : ComesOut (command_of words) entry entry ended =
@@ -260,19 +260,19 @@ module _ {A : Type 0} (ended : Ended A) where
         record {
           headline = headline;
           unsent = λ _ _. refl;
-          complete = complete ended entry entry (command_of words) headline (none-called BAD_WORDS s (inl refl));
+          complete = complete ended entry entry (command_of words) headline (none-called status_bad_words s (inl refl));
           bad_words = (λ _. (none, λ e. absurd (omega (arith, s, e))), λ _. s);
           unread = λ _. refl;
           loads = λ _. subst (λ (o : Option Command). LoadsFor o entry entry ended.status) (sym none) refl;
           untouched = λ _. record { steps = absent.steps_are; source = refl; words = refl };
           undrawn = λ _. refl;
           settled = settled (command_of words) entry;
-          counts = none-called BAD_WORDS s (inl refl);
-          parts = parts-before (IsPlaying (command_of words)) BAD_WORDS 0 absent (inl refl) (omega arith) (λ _. refl);
+          counts = none-called status_bad_words s (inl refl);
+          parts = parts-before (IsPlaying (command_of words)) status_bad_words 0 absent (inl refl) (omega arith) (λ _. refl);
           works = works;
         }
 
-    unread-comes : (o : Option Command) → HasNoMachine ended NO_MEMORY 0 0 → ComesOut o entry entry ended
+    unread-comes : (o : Option Command) → HasNoMachine ended status_no_memory 0 0 → ComesOut o entry entry ended
     unread-comes None absent = record { file = None; file_is = tt; plays = (inr (inr absent), refl); memory = λ _. inl refl }
     unread-comes (Some command) absent = record {
       file = entry.shelf.files command.story;
@@ -281,12 +281,12 @@ module _ {A : Type 0} (ended : Ended A) where
       memory = λ _. inl refl;
     }
 
-    unread-loads : (o : Option Command) → ended.status ≡ NO_MEMORY → LoadsFor o entry entry ended.status
+    unread-loads : (o : Option Command) → ended.status ≡ status_no_memory → LoadsFor o entry entry ended.status
     unread-loads None s = refl
     unread-loads (Some command) s = inr (s, refl)
 
     -- memory ran out while the words were read
-    pub played-unread : HasNoMachine ended NO_MEMORY 0 0 → IsPlayed words entry entry ended
+    pub played-unread : HasNoMachine ended status_no_memory 0 0 → IsPlayed words entry entry ended
     played-unread absent =
         let s = absent.status_is in
         record {
@@ -299,7 +299,7 @@ module _ {A : Type 0} (ended : Ended A) where
           untouched = λ _. record { steps = absent.steps_are; source = refl; words = refl };
           undrawn = λ _. refl;
           settled = settled (command_of words) entry;
-          counts = none-called NO_MEMORY s (inr refl);
-          parts = parts-before (IsPlaying (command_of words)) NO_MEMORY 0 absent (inr (inr (inr refl))) (omega arith) (λ _. refl);
+          counts = none-called status_no_memory s (inr refl);
+          parts = parts-before (IsPlaying (command_of words)) status_no_memory 0 absent (inr (inr (inr refl))) (omega arith) (λ _. refl);
           works = works;
         }

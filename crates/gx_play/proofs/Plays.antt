@@ -9,7 +9,7 @@ use Rattle.gx_story.specs.Stories.{FlatStory}
 use Rattle.gx_machine.specs.Machine.{Whole}
 use Rattle.gx_machine.specs.Start.{first_machine}
 use Rattle.gx_session.specs.declared.ended.Ended.{Ended}
-use Rattle.gx_session.specs.declared.statuses.TheConstants.{FAULT, SHELF_FAULT, NO_MEMORY}
+use Rattle.gx_session.specs.Constants.{status_fault, status_shelf_fault, status_no_memory}
 use Rattle.gx_session.specs.Devices.{Devices}
 use Rattle.gx_session.specs.Counts.{Blames, Counts}
 use Rattle.gx_play.specs.Commands.{Command}
@@ -30,7 +30,7 @@ module _ {A : Type 0} (ended : Ended A) where
 
   -- the start function can't be entered, or memory ran out
   pub plays-unstarted : (command : Command) (story : FlatStory) (entry exit : Devices) (r : Result Whole Fault) (f : Fault) → (f ≢ NoMemory → r ≡ Err f)
-      → (f ≡ NoMemory → HasNoMachine ended NO_MEMORY 0 0) → (f ≢ NoMemory → HasNoMachine ended FAULT (number_of f) story.header.start_function) → StoryPlays (outcome_of_start command story entry r) entry exit ended
+      → (f ≡ NoMemory → HasNoMachine ended status_no_memory 0 0) → (f ≢ NoMemory → HasNoMachine ended status_fault (number_of f) story.header.start_function) → StoryPlays (outcome_of_start command story entry r) entry exit ended
   plays-unstarted command story entry exit r NoMemory is memory stands = unbegun command story entry exit r (inr (memory refl))
   plays-unstarted command story entry exit r f is memory stands =
       subst (λ (x : Result Whole Fault). StoryPlays (outcome_of_start command story entry x) entry exit ended) (sym (is (λ e. cc))) (inl (stands (λ e. cc)))
@@ -67,7 +67,7 @@ module _ {A : Type 0} (ended : Ended A) where
 -- the counts of a run after the story was loaded
 pub counts-after : (entry exit : Devices) (shelf : FlatShelf) (status : ℕ) (failed : Type 0) → Counts (record entry { shelf = shelf }) exit status → Blames entry.shelf.calls shelf.calls failed → (failed → ⊥) → Counts entry exit status
 counts-after entry exit shelf status failed counts blames fine = record {
-  shelf = blames-on entry.shelf.calls shelf.calls exit.shelf.calls (status ≡ SHELF_FAULT) (well-of entry.shelf.calls shelf.calls failed blames fine) counts.shelf;
+  shelf = blames-on entry.shelf.calls shelf.calls exit.shelf.calls (status ≡ status_shelf_fault) (well-of entry.shelf.calls shelf.calls failed blames fine) counts.shelf;
   source = counts.source;
   sink = counts.sink;
 }

@@ -8,7 +8,7 @@ use Rattle.gx_machine.specs.Start.{first_machine}
 use Rattle.glk_world.specs.World.{empty_world}
 use Rattle.gx_session.specs.declared.ended.Ended.{Ended}
 use Rattle.gx_session.specs.Devices.{Devices}
-use Rattle.gx_session.specs.declared.statuses.TheConstants.{ENDED}
+use Rattle.gx_session.specs.Constants.{status_ended}
 use Rattle.gx_session.specs.Runs.{IsRun, report_of}
 use Rattle.gx_session.specs.Session.{Configuration, start_of}
 use Rattle.gx_play.specs.declared.command.Job.{Job}
@@ -75,7 +75,7 @@ module _ {A : Type 0} (ended : Ended A) (entry exit : Devices) (untouched : ende
   job-undrawn : (job : Job) (command : Command) (file : Option (List ℕ)) → IsSome command.seed → Plays (outcome_of_job job command file entry) entry exit ended → exit.words ≡ entry.words
   job-undrawn Play command file is plays = story-undrawn command (story_of file) is plays
   job-undrawn Check command file is plays = check-undrawn (story_of file) plays
-  job-undrawn (Work number) command file is plays = tells-undrawn ENDED (work_line number) plays
+  job-undrawn (Work number) command file is plays = tells-undrawn status_ended (work_line number) plays
 
   -- THE DEVICE has the words that it had
   pub undrawn : (command : Option Command) → ComesOut command entry exit ended → IsSeeded command → exit.words ≡ entry.words

@@ -3,7 +3,7 @@ use Rattle.std.proofs.Common.{◌≡◌, ℕ, ◌-◌, ◌<◌, ◌≤◌, ◌�
 use Rattle.gx_outside.specs.Files.{no_files}
 use Rattle.gx_state.specs.Flat.{FlatState}
 use Rattle.gx_machine.specs.Machine.{Whole, FlatMachine}
-use Rattle.gx_session.specs.declared.statuses.TheConstants.{SHELF_FAULT, NO_MEMORY}
+use Rattle.gx_session.specs.Constants.{status_shelf_fault, status_no_memory}
 use Rattle.gx_session.specs.Devices.{Devices, devices}
 use Rattle.gx_session.specs.Session.{Configuration, final_of}
 use Rattle.gx_session.specs.Runs.{IsRun, IsSession, Report, EndsAt}
@@ -42,7 +42,7 @@ module _ (w : Whole) (reads sends asks reads' sends' asks' : ℕ) (text : List �
         machine = ap (λ (x : Whole). x.machine) e.machine_is;
       }
 
-  told : (input : List ℕ) → input ≡ [] → IsSession (record start { input = input }) entry exit r → r.status < SHELF_FAULT → Tells start text r
+  told : (input : List ℕ) → input ≡ [] → IsSession (record start { input = input }) entry exit r → r.status < status_shelf_fault → Tells start text r
   told input is session early =
       at-end (subst (λ (i : List ℕ). EndsAt (record start { input = i }) (final_of (record start { input = i })) entry exit r) is (session.ended early))
 
@@ -50,9 +50,9 @@ module _ (w : Whole) (reads sends asks reads' sends' asks' : ℕ) (text : List �
   below status (inl e) shelf source sink memory = omega (arith, e)
   below status (inr b) shelf source sink memory = grind (arith, b.0, b.1, shelf, source, sink, memory)
 
-  came : IsRun start entry exit r → (r.status ≡ NO_MEMORY → ⊥) → Tells start text r
+  came : IsRun start entry exit r → (r.status ≡ status_no_memory → ⊥) → Tells start text r
   came run memory =
-      let early : r.status < SHELF_FAULT =
+      let early : r.status < status_shelf_fault =
       below r.status run.report.status_is
       (λ e. let rose : 0 ≡ 1 = run.counts.shelf.rose e in absurd (omega (arith, rose)))
       (λ e. let rose : 0 ≡ 1 = run.counts.source.rose e in absurd (omega (arith, rose)))
@@ -63,7 +63,7 @@ module _ (w : Whole) (reads sends asks reads' sends' asks' : ℕ) (text : List �
         | inr some ↦ told some.input (some.input_is refl) some.session early
       ]
 
-  pub tells-of : (before : List ℕ) → before ≡ [] → IsRun (work_start w) (quiet reads sends before asks) (quiet reads' sends' text asks') r → (r.status ≡ NO_MEMORY → ⊥) → Tells (work_start w) text r
+  pub tells-of : (before : List ℕ) → before ≡ [] → IsRun (work_start w) (quiet reads sends before asks) (quiet reads' sends' text asks') r → (r.status ≡ status_no_memory → ⊥) → Tells (work_start w) text r
   tells-of before is run memory = came (subst (λ (b : List ℕ). IsRun (work_start w) (quiet reads sends b asks) exit r) is run) memory
 
   -- the line that is made of them

@@ -38,19 +38,23 @@
 -- that tells, and how often it was called of every one.
 --
 -- Limits: nothing is said of time, nor of how much memory a run takes; that ample memory suffices is only tested. Status
--- NO_MEMORY is a free answer in these places, and, of devices that tell, in no others:
+-- 11 (`status_no_memory`) is a free answer in these places, and, of devices that tell, in no others:
 --
--- - Before anything is done, whatever the words are. So a body that does nothing and answers NO_MEMORY meets the contract.
+-- - Before anything is done, whatever the words are. So a body that does nothing and answers so meets the contract.
 -- - In the jobs play and check once the shelf was asked for the story, where it has one of at most 0x10000000 bytes; in
 --   job work anywhere. No machine is handed back then, and what was sent is a front of the line, nothing in job play.
 -- - In a run that was begun, with the machine, the text, the files and the input of that moment (`StopsEarly`, `IsCut`):
---   at a step and at the answer to what a machine asked, where it has no fault, whether it takes memory or not; once a
---   save is begun, also where a fault of it would follow; at a wait for a line where input is left; where text is due;
---   where the shelf is asked, for a file to be loaded only where it is there and isn't too long; at the end where the
---   open files are listed, and at the store of each.
+--   at a step within the budget that writes, resizes or copies memory and has no fault; at what a step asks, where the
+--   Glk call, the put character or the restore makes something grow and has no fault, where a save is begun (also where
+--   a fault of it would follow), where grids are shown before a line is awaited, where the machine goes back to a copy,
+--   and where the answer writes bytes or is stored in memory (`WantsMemory`); at a wait for a line where input is left;
+--   where text is due; where the shelf is asked, for a file to be loaded only where it is there and isn't too long; at
+--   the end where the open files are listed, even if there are none, and at the store of each.
 --
--- So no body would pass that asks for a story that isn't there and answers so, or answers so where a device failed, where
--- the next step meets a fault that isn't a save's, or where a line is awaited and no input is left.
+-- So no body would pass that asks for a story that isn't there and answers so, or answers so where a device failed,
+-- where the next step meets a fault that isn't a save's, or writes nothing and asks nothing, or where a line is awaited
+-- and no input is left. So it is no answer in place of a step that ends the program or is above the budget, or of a Glk
+-- call that ends the program or waits in vain; but it is one at the ending that follows, whose parts are named above.
 use Rattle.std.specs.Prelude.{◌≡◌, ◌≢◌, ℕ, ◌≤◌, nat_lt, if◌then◌else◌, length, List, ◌++◌, ◌⊎◌, ◌↔◌, true, Option, Some, None, IsSome, IsSomeAnd, Result, Ok, Err}
 use Rattle.gx_words.specs.declared.faults.Fault.{Fault}
 use Rattle.gx_words.specs.Faults.{number_of}
@@ -65,7 +69,7 @@ use Rattle.gx_machine.specs.Machine.{Whole}
 use Rattle.gx_machine.specs.Start.{first_machine}
 use Rattle.glk_world.specs.World.{empty_world}
 use Rattle.gx_session.specs.declared.ended.Ended.{Ended}
-use Rattle.gx_session.specs.declared.statuses.TheConstants.{ENDED, BAD_WORDS, BAD_STORY, FAULT, SPENT, SHELF_FAULT, OUTPUT_FAULT, NO_MEMORY}
+use Rattle.gx_session.specs.Constants.{status_ended, status_bad_words, status_bad_story, status_fault, status_spent, status_shelf_fault, status_output_fault, status_no_memory}
 use Rattle.gx_session.specs.Devices.{Devices}
 use Rattle.gx_session.specs.Session.{Configuration, start_of, final_of, status_of}
 use Rattle.gx_session.specs.Counts.{Counts}
@@ -110,21 +114,21 @@ outcome_of_start command story entry (Err fault) = unstarted fault story.header.
 
 abbrev pub outcome_of_story : Command → Devices → Result FlatStory ℕ → Outcome
 outcome_of_story command entry (Ok story) = outcome_of_start command story entry (first_machine story command.undo)
-outcome_of_story command entry (Err fault) = refused BAD_STORY fault
+outcome_of_story command entry (Err fault) = refused status_bad_story fault
 
 -- JOB CHECK
 abbrev pub outcome_of_check : Result FlatStory ℕ → Outcome
 outcome_of_check (Ok story) = tells (check_status (is_checked story)) (check_line (is_checked story))
-outcome_of_check (Err fault) = refused BAD_STORY fault
+outcome_of_check (Err fault) = refused status_bad_story fault
 
 abbrev pub outcome_of_job : Job → Command → Option (List ℕ) → Devices → Outcome
 outcome_of_job Play command file entry = outcome_of_story command entry (story_of file)
 outcome_of_job Check command file entry = outcome_of_check (story_of file)
-outcome_of_job (Work number) command file entry = tells ENDED (work_line number)
+outcome_of_job (Work number) command file entry = tells status_ended (work_line number)
 
 -- The outcome of a command over what the devices hold, where this file stands under the story's name.
 abbrev pub outcome_of : Option Command → Option (List ℕ) → Devices → Outcome
-outcome_of None file entry = refused BAD_WORDS 0
+outcome_of None file entry = refused status_bad_words 0
 outcome_of (Some command) file entry = outcome_of_job command.job command file entry
 
 -- THE ANSWER where no machine was started, or where a job hands none back.
@@ -137,11 +141,11 @@ pub record HasNoMachine {A : Type 0} (ended : Ended A) (status fault at : ℕ) :
 
 -- the run was never begun: the shelf failed, or memory ran out
 abbrev pub IsUnbegun : {A : Type 0} → Ended A → Type 0
-IsUnbegun ended = HasNoMachine ended SHELF_FAULT 0 0 ⊎ HasNoMachine ended NO_MEMORY 0 0
+IsUnbegun ended = HasNoMachine ended status_shelf_fault 0 0 ⊎ HasNoMachine ended status_no_memory 0 0
 
 -- a line wasn't sent whole: the sink failed, or wanted memory
 abbrev pub IsUnsent : {A : Type 0} → Ended A → Type 0
-IsUnsent ended = HasNoMachine ended OUTPUT_FAULT 0 0 ⊎ HasNoMachine ended NO_MEMORY 0 0
+IsUnsent ended = HasNoMachine ended status_output_fault 0 0 ⊎ HasNoMachine ended status_no_memory 0 0
 
 -- The shelf was asked once, and its files stand.
 pub record LoadsOnce (before now : FlatShelf) : Type 0 where
@@ -170,7 +174,7 @@ IsRunOf seed start entry exit ended =
 -- What is answered and left behind is the outcome's. The run finds the shelf as it is once the story was loaded.
 abbrev pub Plays : {A : Type 0} → Outcome → Devices → Devices → Ended A → Type 0
 Plays (refused status fault) entry exit ended = (HasNoMachine ended status fault 0 ⊎ IsUnbegun ended) × (exit.sink ≡ entry.sink)
-Plays (unstarted fault at) entry exit ended = (HasNoMachine ended FAULT (number_of fault) at ⊎ IsUnbegun ended) × (exit.sink ≡ entry.sink)
+Plays (unstarted fault at) entry exit ended = (HasNoMachine ended status_fault (number_of fault) at ⊎ IsUnbegun ended) × (exit.sink ≡ entry.sink)
 Plays (runs seed start) entry exit ended =
     ((shelf : FlatShelf) × LoadsOnce entry.shelf shelf × IsRunOf seed start (record entry { shelf = shelf }) exit ended)
     ⊎ (IsUnbegun ended × (exit.sink ≡ entry.sink))
@@ -199,7 +203,7 @@ pub record ComesOut {A : Type 0} (command : Option Command) (entry exit : Device
   pub file : Option (List ℕ)
   pub file_is : IsFile command entry.shelf file
   pub plays : Plays (outcome_of command file entry) entry exit ended
-  pub memory : ended.status ≡ NO_MEMORY → (exit ≡ entry) ⊎ MayWantFor command file
+  pub memory : ended.status ≡ status_no_memory → (exit ≡ entry) ⊎ MayWantFor command file
 
 -- WHATEVER THE DEVICES TELL
 -- No machine is handed back: the shelf was asked once for the story, or not at all in job work.
@@ -210,7 +214,7 @@ Loads job before now = LoadsOnce before now
 -- Nothing was done without a command, nor where memory ran out while the words were read.
 abbrev pub LoadsFor : Option Command → Devices → Devices → ℕ → Type 0
 LoadsFor None entry exit status = exit ≡ entry
-LoadsFor (Some command) entry exit status = Loads command.job entry.shelf exit.shelf ⊎ ((status ≡ NO_MEMORY) × (exit ≡ entry))
+LoadsFor (Some command) entry exit status = Loads command.job entry.shelf exit.shelf ⊎ ((status ≡ status_no_memory) × (exit ≡ entry))
 
 -- No step was done, no input was read and no random word was drawn.
 pub record IsUntouched {A : Type 0} (entry exit : Devices) (ended : Ended A) : Type 0 where
@@ -225,15 +229,15 @@ IsPlaying (Some command) = command.job ≡ Play
 
 -- The statuses, and what goes with each: the fault's number, its address, and where a story is played the machine.
 pub record HasItsParts {A : Type 0} (playing : Type 0) (ended : Ended A) : Type 0 where
-  pub status_is : ended.status ≤ NO_MEMORY
-  pub story_fault : ended.status ≡ BAD_STORY → ended.fault ≤ 7
-  pub run_fault : playing → ended.status ≡ FAULT → (1 ≤ ended.fault) × (ended.fault ≤ 16)
-  pub no_fault : ended.status ≢ BAD_STORY → ended.status ≢ FAULT → ended.fault ≡ 0
-  pub no_address : ended.status ≢ FAULT → ended.at ≡ 0
+  pub status_is : ended.status ≤ status_no_memory
+  pub story_fault : ended.status ≡ status_bad_story → ended.fault ≤ 7
+  pub run_fault : playing → ended.status ≡ status_fault → (1 ≤ ended.fault) × (ended.fault ≤ 16)
+  pub no_fault : ended.status ≢ status_bad_story → ended.status ≢ status_fault → ended.fault ≡ 0
+  pub no_address : ended.status ≢ status_fault → ended.at ≡ 0
   -- a machine is handed back where one ran, and none where none was started; a fault, a failing shelf and want of
   -- memory may come before
-  pub ran : playing → (ended.status ≡ ENDED) ⊎ ((SPENT ≤ ended.status) × (ended.status ≤ OUTPUT_FAULT) × (ended.status ≢ SHELF_FAULT)) → IsSome ended.machine
-  pub not_run : (ended.status ≡ BAD_WORDS) ⊎ (ended.status ≡ BAD_STORY) → ended.machine ≡ None
+  pub ran : playing → (ended.status ≡ status_ended) ⊎ ((status_spent ≤ ended.status) × (ended.status ≤ status_output_fault) × (ended.status ≢ status_shelf_fault)) → IsSome ended.machine
+  pub not_run : (ended.status ≡ status_bad_words) ⊎ (ended.status ≡ status_bad_story) → ended.machine ≡ None
 
 -- a command line with a seed
 abbrev pub IsSeeded : Option Command → Type 0
@@ -248,7 +252,7 @@ IsSettled command entry = (file : Option (List ℕ)) (other : Stream) → outcom
 -- the status of an outcome, where nothing cuts it short
 abbrev pub status_of_outcome : Outcome → ℕ
 status_of_outcome (refused status fault) = status
-status_of_outcome (unstarted fault at) = FAULT
+status_of_outcome (unstarted fault at) = status_fault
 status_of_outcome (runs seed start) = status_of (final_of start).stop
 status_of_outcome (tells status line) = status
 
@@ -267,12 +271,12 @@ pub record HasNoFailure (entry exit : Devices) : Type 0 where
 abbrev pub IsComplete : Option Command → Devices → Devices → ℕ → Type 0
 IsComplete command entry exit status =
     entry.source.tells ≡ true → entry.shelf.tells ≡ true → HasNoFailure entry exit
-    → (status ≡ status_of_outcome (outcome_of command (file_in command entry.shelf.files) entry)) ⊎ (status ≡ NO_MEMORY)
+    → (status ≡ status_of_outcome (outcome_of command (file_in command entry.shelf.files) entry)) ⊎ (status ≡ status_no_memory)
 
 -- THE CONTRACT OF `play`, between what the devices hold at entry and at exit.
 pub record IsPlayed {A : Type 0} (words : List (List ℕ)) (entry exit : Devices) (ended : Ended A) : Type 0 where
   pub headline : ComesOut (command_of words) entry exit ended
-  pub bad_words : (ended.status ≡ BAD_WORDS) ↔ ((command_of words ≡ None) × (ended.status ≢ NO_MEMORY))
+  pub bad_words : (ended.status ≡ status_bad_words) ↔ ((command_of words ≡ None) × (ended.status ≢ status_no_memory))
   pub unread : command_of words ≡ None → exit ≡ entry
   pub loads : ended.machine ≡ None → LoadsFor (command_of words) entry exit ended.status
   pub untouched : ended.machine ≡ None → IsUntouched entry exit ended

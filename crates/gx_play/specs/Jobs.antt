@@ -10,7 +10,7 @@ use Rattle.gx_state.specs.Flat.{FlatState}
 use Rattle.gx_machine.specs.Machine.{Whole}
 use Rattle.gx_machine.specs.Start.{first_machine}
 use Rattle.glk_world.specs.World.{empty_world}
-use Rattle.gx_session.specs.declared.statuses.TheConstants.{ENDED, FAULT}
+use Rattle.gx_session.specs.Constants.{status_ended, status_fault}
 use Rattle.gx_session.specs.Devices.{Devices, devices}
 use Rattle.gx_session.specs.Session.{Configuration, start_of, final_of}
 use Rattle.gx_work.specs.Work.{work_story}
@@ -23,8 +23,8 @@ line_of text = text ++ 10 ∷ []
 
 -- JOB CHECK: whether a story has the checksum that its header states. A wrong one is a fault without a number.
 abbrev pub check_status : Bool → ℕ
-check_status true = ENDED
-check_status false = FAULT
+check_status true = status_ended
+check_status false = status_fault
 
 abbrev pub check_line : Bool → List ℕ
 check_line true = line_of (codes "checksum ok")

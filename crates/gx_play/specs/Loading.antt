@@ -10,7 +10,7 @@ use Rattle.gx_story.specs.declared.faults.StoryFault.TheVariants as of_story
 use Rattle.gx_story.specs.Faults.{number_of as story_number_of}
 use Rattle.gx_story.specs.Stories.{FlatStory}
 use Rattle.gx_session.specs.declared.ended.Ended.{Ended}
-use Rattle.gx_session.specs.declared.statuses.TheConstants.{BAD_WORDS, BAD_STORY, FAULT, SHELF_FAULT, OUTPUT_FAULT, NO_MEMORY}
+use Rattle.gx_session.specs.Constants.{status_bad_words, status_bad_story, status_fault, status_shelf_fault, status_output_fault, status_no_memory}
 use Rattle.gx_session.specs.Counts.{Blames, Counts}
 use Rattle.gx_session.specs.Devices.{Devices}
 use Rattle.gx_play.specs.declared.command.Job.{Job}
@@ -32,9 +32,9 @@ refusal_of_story fault = refusal.BadStory (story_number_of fault)
 
 -- the status and the fault of a refusal
 abbrev pub status_of : Refusal → ℕ
-status_of (refusal.BadStory fault) = BAD_STORY
-status_of refusal.Shelf = SHELF_FAULT
-status_of refusal.NoMemory = NO_MEMORY
+status_of (refusal.BadStory fault) = status_bad_story
+status_of refusal.Shelf = status_shelf_fault
+status_of refusal.NoMemory = status_no_memory
 
 abbrev pub fault_of : Refusal → ℕ
 fault_of (refusal.BadStory fault) = fault
@@ -56,7 +56,7 @@ pub record LoadsFile (shelf : FlatShelf) (name : List ℕ) (result : Result Flat
 -- What a story that was loaded comes to, from the devices as they are then.
 abbrev pub StoryPlays : {A : Type 0} → Outcome → Devices → Devices → Ended A → Type 0
 StoryPlays (refused status fault) entry exit ended = HasNoMachine ended status fault 0 ⊎ IsUnbegun ended
-StoryPlays (unstarted fault at) entry exit ended = HasNoMachine ended FAULT (number_of fault) at ⊎ IsUnbegun ended
+StoryPlays (unstarted fault at) entry exit ended = HasNoMachine ended status_fault (number_of fault) at ⊎ IsUnbegun ended
 StoryPlays (runs seed start) entry exit ended = IsRunOf seed start entry exit ended ⊎ IsUnbegun ended
 StoryPlays (tells status line) entry exit ended = ⊥
 
@@ -66,15 +66,15 @@ HasRunParts ended = HasItsParts (Unit {0}) ended
 
 -- the sink is blamed exactly where it failed
 abbrev pub BlamesSink : FlatSink → FlatSink → ℕ → Type 0
-BlamesSink before now status = Blames before.calls now.calls (status ≡ OUTPUT_FAULT)
+BlamesSink before now status = Blames before.calls now.calls (status ≡ status_output_fault)
 
 -- WHAT A COMMAND COMES TO with this job: the clauses of `play` for a command line that has one.
 pub record IsDone {A : Type 0} (job : Job) (command : Command) (entry exit : Devices) (ended : Ended A) : Type 0 where
   pub file : Option (List ℕ)
   pub file_is : entry.shelf.tells ≡ true → file ≡ entry.shelf.files command.story
   pub plays : Plays (outcome_of_job job command file entry) entry exit ended
-  pub memory : ended.status ≡ NO_MEMORY → MayWant job file
-  pub began : ended.status ≢ BAD_WORDS
+  pub memory : ended.status ≡ status_no_memory → MayWant job file
+  pub began : ended.status ≢ status_bad_words
   pub loads : ended.machine ≡ None → Loads job entry.shelf exit.shelf
   pub untouched : ended.machine ≡ None → IsUntouched entry exit ended
   pub counts : Counts entry exit ended.status

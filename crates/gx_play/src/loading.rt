@@ -4,7 +4,7 @@
 //! it is no story that gx_story accepts; the numbers of these faults are the program's.
 ghost use Rattle.std.specs.Prelude.{◌≡◌, ◌≤◌, ℕ, Err};
 ghost use Rattle.gx_session.specs.Counts.{Blames};
-ghost use Rattle.gx_session.specs.declared.statuses.TheConstants.{BAD_STORY, SHELF_FAULT, NO_MEMORY};
+ghost use Rattle.gx_session.specs.Constants.{status_bad_story, status_shelf_fault, status_no_memory};
 ghost use Rattle.gx_play.specs.Headline.{HasNoMachine, LoadsOnce};
 ghost use Rattle.gx_play.specs.Loading.{LoadsFile, status_of, fault_of};
 

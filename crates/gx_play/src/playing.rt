@@ -5,7 +5,7 @@ ghost use Rattle.gx_words.specs.Faults.{number_of};
 ghost use Rattle.gx_machine.specs.Start.{first_machine};
 ghost use Rattle.gx_session.specs.Devices.{devices};
 ghost use Rattle.gx_session.specs.Counts.{Counts};
-ghost use Rattle.gx_session.specs.declared.statuses.TheConstants.{BAD_WORDS, FAULT, NO_MEMORY};
+ghost use Rattle.gx_session.specs.Constants.{status_bad_words, status_fault, status_no_memory};
 ghost use Rattle.gx_play.specs.declared.command.Job.TheVariants.{Play};
 ghost use Rattle.gx_play.specs.Headline.{outcome_of_start, start_for, HasNoMachine, IsRunOf, IsUntouched};
 ghost use Rattle.gx_play.specs.Loading.{StoryPlays, HasRunParts, IsDone};
@@ -68,7 +68,7 @@ fn play_story<A: Allocator + Clone, S: Source, K: Sink, F: Shelf, R: Rng>(
         let exit = devices (S.seen input.new) (K.seen output.new) (F.seen shelf.new) (R.stream dice.new) in
         Counts entry exit result.status }
     ensures parts { HasRunParts result }
-    ensures began { result.status ≢ BAD_WORDS }
+    ensures began { result.status ≢ status_bad_words }
 {
     let start = story.start_function();
     match Machine::start(alloc, pages, story, command.undo) {
@@ -97,7 +97,7 @@ fn run_machine<A: Allocator + Clone, S: Source, K: Sink, F: Shelf, R: Rng>(
         Counts entry exit result.status }
     ensures parts { HasRunParts result }
     ensures some { result.machine ≢ None }
-    ensures began { result.status ≢ BAD_WORDS }
+    ensures began { result.status ≢ status_bad_words }
 {
     let world = World::new(alloc, command.columns, command.rows);
     match command.seed {
@@ -131,8 +131,8 @@ fn run_machine<A: Allocator + Clone, S: Source, K: Sink, F: Shelf, R: Rng>(
 
 /// The answer where the start function, at this address, can't be entered.
 fn unstarted<A: Allocator + Clone>(fault: Fault, at: u32) -> Ended<A>
-    ensures memory { fault ≡ NoMemory → HasNoMachine result NO_MEMORY 0 0 }
-    ensures fault { fault ≢ NoMemory → HasNoMachine result FAULT (number_of fault) at }
+    ensures memory { fault ≡ NoMemory → HasNoMachine result status_no_memory 0 0 }
+    ensures fault { fault ≢ NoMemory → HasNoMachine result status_fault (number_of fault) at }
     ensures parts { HasRunParts result }
 {
     match fault {

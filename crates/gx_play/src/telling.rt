@@ -1,6 +1,6 @@
 //! One line for the output, whole or not.
 ghost use Rattle.std.specs.Prelude.{◌≢◌};
-ghost use Rattle.gx_session.specs.declared.statuses.TheConstants.{OUTPUT_FAULT};
+ghost use Rattle.gx_session.specs.Constants.{status_output_fault};
 ghost use Rattle.gx_play.specs.Headline.{SendsLine};
 ghost use Rattle.gx_play.specs.Loading.{BlamesSink};
 
@@ -11,7 +11,7 @@ use std::alloc::Allocator;
 
 /// Sends a line; the answer with this status where it was sent whole.
 pub fn send_line<A: Allocator + Clone, K: Sink>(output: &mut K, line: &[u8], status: u8) -> Ended<A>
-    requires { status ≢ OUTPUT_FAULT }
+    requires { status ≢ status_output_fault }
     ensures sends { SendsLine status line.now (K.seen output.old) (K.seen output.new) result }
     ensures blames { BlamesSink (K.seen output.old) (K.seen output.new) result.status }
 {

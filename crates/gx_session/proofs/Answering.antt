@@ -7,7 +7,7 @@ use Rattle.gx_session.specs.declared.ends.Halt.{Halt}
 use Rattle.gx_session.specs.declared.ends.Halt.TheVariants as halt
 use Rattle.gx_session.specs.declared.ends.Next.{Next}
 use Rattle.gx_session.specs.declared.ends.Next.TheVariants as next
-use Rattle.gx_session.specs.declared.running.TheConstants.{ENOUGH}
+use Rattle.gx_session.specs.Constants.{enough}
 use Rattle.gx_session.specs.declared.running.Running.{Running}
 use Rattle.gx_session.specs.Devices.{Devices}
 use Rattle.gx_session.specs.Session.{Configuration, steps}
@@ -15,18 +15,18 @@ use Rattle.gx_session.specs.Playing.{Held, held, asking_in, Standing, Resumes, E
 use Rattle.gx_session.proofs.Asking.{resumed-on, resumed-early}
 use Rattle.gx_session.proofs.Playing.{flushed, cut-send}
 
-module _ {E : Type 0} (whole : E → Whole) (old mid : Running E) (coming : List ℕ) (machine : FlatMachine) (left : ℕ) (start : Configuration) (entry d : Devices)
-    (r : Resumes start entry (held whole old coming) (asking_in whole old) d left machine) where
+module _ {E : Type 0} (whole : E → Whole) (old mid : Running E) (coming : List ℕ) (machine : FlatMachine) (left : ℕ) (start : Configuration) (entry d : Devices) (wanted : Type 0)
+    (r : Resumes start entry (held whole old coming) (asking_in whole old) d left machine wanted) where
   abbrev h : Held
   h = held whole old coming
 
   -- the machine wants memory
-  pub give-early : (e : Halt) → e ≡ halt.NoMemory → (let q : Result (Unit {0}) Halt = Err e in Becomes whole old mid machine left q)
+  pub give-early : (e : Halt) → e ≡ halt.NoMemory → wanted → (let q : Result (Unit {0}) Halt = Err e in Becomes whole old mid machine left q)
       → EventGives start entry (held whole mid coming) (asking_in whole mid) d (Err e)
-  give-early e memory g =
+  give-early e memory wants g =
       subst (λ (x : Halt). EventGives start entry (held whole mid coming) (asking_in whole mid) d (Err x)) (sym memory)
       (inr
-      (resumed-early start entry h d (asking_in whole old) left machine r (held whole mid coming) (ap (λ (w : Whole). w.machine) g.err.0) (ap (λ (x : Running E). x.left) g.err.1) (asking_in whole mid)
+      (resumed-early start entry h d (asking_in whole old) left machine wanted r wants (held whole mid coming) (ap (λ (w : Whole). w.machine) g.err.0) (ap (λ (x : Running E). x.left) g.err.1) (asking_in whole mid)
       (ap (λ (w : Whole). w.asking) g.err.0)))
 
   module _ (g : (let q : Result (Unit {0}) Halt = Ok tt in Becomes whole old mid machine left q)) where
@@ -39,17 +39,17 @@ module _ {E : Type 0} (whole : E → Whole) (old mid : Running E) (coming : List
         ∙ ap (λ (w : Whole). let y : Held = record h { machine = w.machine; left = left } in y) g.ok.0
 
     pub given-standing : Standing start entry (held whole mid coming) d steps
-    given-standing = subst (λ (x : Held). Standing start entry x d steps) (sym given-held) (resumed-on start entry h d (asking_in whole old) left machine r)
+    given-standing = subst (λ (x : Held). Standing start entry x d steps) (sym given-held) (resumed-on start entry h d (asking_in whole old) left machine wanted r)
 
     -- the text that was due then is refused
-    pub flush-early : (world : FlatWorld) (sink : FlatSink) (e : Halt) → (e ≡ halt.Output) ⊎ (e ≡ halt.NoMemory) → Flushes ENOUGH d.sink sink mid.world world (Err e)
+    pub flush-early : (world : FlatWorld) (sink : FlatSink) (e : Halt) → (e ≡ halt.Output) ⊎ (e ≡ halt.NoMemory) → Flushes enough d.sink sink mid.world world (Err e)
         → EventGives start entry (held whole (record mid { world = world }) coming) (asking_in whole mid) (record d { sink = sink }) (Err e)
-    flush-early world sink e only f = inr (cut-send start entry (held whole mid coming) d world sink steps ENOUGH (λ s text. refl) (asking_in whole mid) e given-standing none-asked only f)
+    flush-early world sink e only f = inr (cut-send start entry (held whole mid coming) d world sink steps enough (λ s text. refl) (asking_in whole mid) e given-standing none-asked only f)
 
     -- it was sent
-    pub flush-on : (world : FlatWorld) (sink : FlatSink) → Flushes ENOUGH d.sink sink mid.world world (Ok tt)
+    pub flush-on : (world : FlatWorld) (sink : FlatSink) → Flushes enough d.sink sink mid.world world (Ok tt)
         → EventGives start entry (held whole (record mid { world = world }) coming) (asking_in whole mid) (record d { sink = sink }) (Ok next.Goes)
-    flush-on world sink f = inr (flushed start entry (held whole mid coming) d world sink steps ENOUGH (λ s text. refl) given-standing f)
+    flush-on world sink f = inr (flushed start entry (held whole mid coming) d world sink steps enough (λ s text. refl) given-standing f)
 
 goes-next : (result : Result Next Halt) → IfOk result (λ n. n ≡ next.Goes) → IfOk result IsNext
 goes-next (Ok n) goes = subst IsNext (sym goes) tt

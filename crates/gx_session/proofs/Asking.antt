@@ -1,5 +1,5 @@
 -- What the effects of a step, and the answers to what it asks, make of a run.
-use Rattle.std.proofs.Common.{◌≡◌, ◌≢◌, ℕ, suc, ◌<◌, ◌≤◌, List, ◌++◌, length, inl, inr, Bool, true, false, Option, Some, None, is_some, IsSome, IsTrue, Result, Ok, Err, IsOk, if◌then◌else◌, refl, ap, subst, sym, ◌∙◌, append_assoc, arith}
+use Rattle.std.proofs.Common.{◌≡◌, ◌≢◌, ℕ, suc, ◌<◌, ◌≤◌, List, [], ◌++◌, length, inl, inr, Bool, true, false, Option, Some, None, is_some, IsSome, IsTrue, Result, Ok, Err, IsOk, if◌then◌else◌, refl, ap, subst, sym, ◌∙◌, append_assoc, arith}
 use Rattle.arrayvec.specs.ArrayVec.{ArrayVec}
 use Rattle.gx_words.specs.declared.faults.Fault.{Fault}
 use Rattle.gx_words.specs.declared.faults.Fault.TheVariants as fault
@@ -10,7 +10,7 @@ use Rattle.gx_state.specs.declared.effects.Effect.TheVariants as effect
 use Rattle.gx_state.specs.declared.effects.Reply.{Reply}
 use Rattle.gx_machine.specs.declared.askings.Asking.{Asking}
 use Rattle.gx_machine.specs.Machine.{FlatMachine, Whole}
-use Rattle.gx_machine.specs.Step.{asking_of, stepped}
+use Rattle.gx_machine.specs.Step.{asking_of, stepped, IsStepWriting}
 use Rattle.gx_outside.specs.Files.{Files}
 use Rattle.gx_outside.specs.Outside.{FlatSource, FlatShelf, raised}
 use Rattle.glk_world.specs.World.{Scene, FlatWorld, Said, after}
@@ -20,27 +20,27 @@ use Rattle.glk_dispatch.specs.declared.Turn.TheVariants as turn
 use Rattle.glk_dispatch.specs.declared.Given.{Given}
 use Rattle.glk_dispatch.specs.declared.Given.TheVariants as given
 use Rattle.glk_dispatch.specs.Turns.{IsAnswered}
-use Rattle.glk_dispatch.specs.Calls.{glk_call}
-use Rattle.glk_dispatch.specs.Going.{glk_go_on}
+use Rattle.glk_dispatch.specs.Calls.{glk_call, IsGrowing}
+use Rattle.glk_dispatch.specs.Going.{glk_go_on, go_grows}
 use Rattle.glk_dispatch.specs.Output.{putting}
-use Rattle.glk_dispatch.specs.Parts.{on_world}
+use Rattle.glk_dispatch.specs.Parts.{on_world, put_grows_one}
 use Rattle.gx_session.specs.declared.ends.Stop.{Stop}
 use Rattle.gx_session.specs.declared.ends.Stop.TheVariants as stop
 use Rattle.gx_session.specs.declared.ends.Halt.{Halt}
 use Rattle.gx_session.specs.declared.ends.Halt.TheVariants as halt
 use Rattle.gx_session.specs.declared.ends.Next.{Next}
-use Rattle.gx_session.specs.declared.lines.TheConstants.{PIECE}
+use Rattle.gx_session.specs.Constants.{piece}
 use Rattle.gx_session.specs.declared.questions.Question.{Question}
 use Rattle.gx_session.specs.declared.questions.Question.TheVariants as asks-for
 use Rattle.gx_session.specs.declared.running.Waiting.{Waiting}
-use Rattle.gx_session.specs.Cuts.{IsLineStop, IsWait, IsQuestion, HasNoFault, BeginsSave, WantsMemory}
+use Rattle.gx_session.specs.Cuts.{IsLineStop, IsWait, IsQuestion, BeginsSave, ReplyWants, AnswerWants, TurnWants, RestoreWants, AskingWants, WantsMemory}
 use Rattle.gx_session.specs.Devices.{Devices}
 use Rattle.gx_session.specs.Input.{NextLine, line, next_line}
 use Rattle.gx_session.specs.Questions.{turn_of, files_after, given_for}
 use Rattle.gx_session.specs.Reading.{ReadsFew}
-use Rattle.gx_session.specs.Saving.{is_begun, saving, restoring, IsReadBack}
+use Rattle.gx_session.specs.Saving.{is_begun, is_read, saving, restoring, IsReadBack}
 use Rattle.gx_session.specs.Session.{Configuration, Doing, steps, asks, goes_on, goes, stops, after_reply, after_restoring, waiting_for, asking_for, after_turn, after_given, after_line, after_asking, shelf_gives, after_effect, act_of, effect_at, asked, asked_at}
-use Rattle.gx_session.specs.Playing.{Held, WordIs, Past, configuration_of, IsPast, Standing, Ready, Going, Waits, Done, Early, Follows, IsAnswering, Resumes, Replies, Turns, GoesOn, TakesInput, Gives, FaultGives}
+use Rattle.gx_session.specs.Playing.{Held, WordIs, Past, configuration_of, IsPast, Standing, Ready, Going, Waits, Done, Early, Follows, Resumes, Replies, Turns, GoesOn, TakesInput, Gives, FaultGives}
 use Rattle.gx_session.proofs.Steps.{step-does, step-faults, step-asks, step-effect, step-asks-nothing, ok-is, asked-same}
 use Rattle.gx_session.proofs.NextLines.{some-input, shorter-input}
 use Rattle.gx_session.proofs.Playing.{here, moves-on, stops-at, wants, wants-line}
@@ -61,9 +61,9 @@ world-err w (Err g) f e =
     ap (λ (x : Fault). Err x) same
 
 -- one that has no fault
-pub world-fine : {X : Type 0} (w : FlatWorld) (r : Result (Said × X) Fault) → IsOk (on_world w r) → (p : Said × X) × (r ≡ Ok p)
-world-fine w (Ok p) fine = (p, refl)
-world-fine w (Err g) fine = cc
+pub world-fine : {X : Type 0} (w : FlatWorld) (r : Result (Said × X) Fault) → IsOk (on_world w r) → IsOk r
+world-fine w (Ok p) fine = refl
+world-fine w (Err g) fine = fine
 
 word-drawn : (word : ℕ) (mine : Option ℕ) (stream words : Stream) → mine ≡ Some word → WordIs mine stream words → next_u32 words ≡ (word, stream)
 word-drawn word mine stream words drawn is = subst (λ (w : Option ℕ). WordIs w stream words) drawn is
@@ -75,38 +75,17 @@ pub fault-gives : (start : Configuration) (entry : Devices) (h : Held) (asking :
 fault-gives start entry h asking d f result (inl e) early stopped = subst (Gives start entry h asking d) (sym e.1) (early e.0)
 fault-gives start entry h asking d f result (inr e) early stopped = subst (Gives start entry h asking d) (sym e.1) (stopped e.0)
 
--- A call that is done has no fault.
-pub fine-turn : (m : Configuration) (w : Waiting) (p : Said × Turn) → HasNoFault (after_turn m w (Ok p))
-fine-turn m w (said, turn.Answer reply) = tt
-fine-turn m w (said, turn.Wait) = tt
-fine-turn m w (said, turn.Stuck) = tt
-fine-turn m w (said, turn.Prompt) = tt
-fine-turn m w (said, turn.Load name) = tt
-fine-turn m w (said, turn.Store name bytes) = tt
-fine-turn m w (said, turn.Remove name) = tt
-fine-turn m w (said, turn.Has name) = tt
-fine-turn m w (said, turn.Exit) = tt
-
-pub fine-given : (m : Configuration) (w : Waiting) (p : Said × Turn) → HasNoFault (after_given m w (Ok p))
-fine-given m w (said, turn.Answer reply) = tt
-fine-given m w (said, turn.Wait) = tt
-fine-given m w (said, turn.Stuck) = tt
-fine-given m w (said, turn.Prompt) = tt
-fine-given m w (said, turn.Load name) = tt
-fine-given m w (said, turn.Store name bytes) = tt
-fine-given m w (said, turn.Remove name) = tt
-fine-given m w (said, turn.Has name) = tt
-fine-given m w (said, turn.Exit) = tt
-
-pub fine-restoring : (m : Configuration) (left : ℕ) (p : Said × Option Copy) → HasNoFault (after_restoring m left (Ok p))
-fine-restoring m left (said, Some copy) = tt
-fine-restoring m left (said, None) = tt
-
--- an answer may want memory where it has no fault
-wants-answer : (doing : Doing) (m : Configuration) (asking : Option Asking) → IsAnswering doing → asking ≡ asked m → HasNoFault (act_of m) → WantsMemory doing m asking
-wants-answer steps m asking is same fine = inr (same, inl fine)
-wants-answer (goes_on g w) m asking is same fine = (same, fine)
-wants-answer (asks t w) m asking is same fine = absurd is
+-- a turn that waits may want memory where there are grids
+wait-wants : (machine : FlatMachine) (said : Said) (t : Turn) → IsWait t → said.0.windows.grids ≢ [] → TurnWants machine (Ok (said, t))
+wait-wants machine said turn.Wait is some = some
+wait-wants machine said turn.Prompt is some = some
+wait-wants machine said (turn.Answer reply) is some = absurd is
+wait-wants machine said turn.Stuck is some = absurd is
+wait-wants machine said (turn.Load name) is some = absurd is
+wait-wants machine said (turn.Store name bytes) is some = absurd is
+wait-wants machine said (turn.Remove name) is some = absurd is
+wait-wants machine said (turn.Has name) is some = absurd is
+wait-wants machine said turn.Exit is some = absurd is
 
 -- an effect that asks is done
 not-spent : (does : Effect) → IsSome (asking_of does) → does ≢ effect.Spent
@@ -193,13 +172,13 @@ module _ (start : Configuration) (entry : Devices) (h : Held) (d : Devices) wher
     }
 
     -- a step that wants memory
-    pub step-wants : (now : Option Asking) (machine : FlatMachine) → machine ≡ h.machine → asking ≡ None → now ≡ None → IsOk (stepped (record { machine = h.machine; asking = asking }) word h.left)
+    pub step-wants : (now : Option Asking) (machine : FlatMachine) → machine ≡ h.machine → asking ≡ None → now ≡ None → IsStepWriting h.machine h.left → IsOk (stepped (record { machine = h.machine; asking = asking }) word h.left)
         → Early start entry (record h { machine = machine }) now d halt.NoMemory
-    step-wants now machine same nothing nothing' fine =
+    step-wants now machine same nothing nothing' writes fine =
         let is : IsOk (stepped (record { machine = h.machine; asking = None }) (next_u32 g.now.past.words).0 h.left) =
         subst (λ (x : ℕ). IsOk (stepped (record { machine = h.machine; asking = None }) x h.left)) (sym first)
         (subst (λ (a : Option Asking). IsOk (stepped (record { machine = h.machine; asking = a }) word h.left)) nothing fine) in
-        wants start entry h d steps g (record h { machine = machine }) now (inl (nothing', is)) same refl
+        wants start entry h d steps g (record h { machine = machine }) now (inl (nothing', writes, is)) same refl
 
     pub step-stops : (machine : FlatMachine) (f : Fault) (now : Option Asking) → machine ≡ h.machine → now ≡ None → stepped (record { machine = h.machine; asking = asking }) word h.left ≡ Err f
         → Done start entry (record h { machine = machine }) now d (stop.Faulted f)
@@ -264,13 +243,8 @@ module _ (start : Configuration) (entry : Devices) (h : Held) (d : Devices) wher
         let at_before : Asks f.before does = record { going = f.going; event = f.event; asking_is = f.asks some; effect_is = f.effect (not-spent does some) } in
         subst (λ (x : FlatMachine). Asks x does) (sym (f.stands some)) at_before
 
-  -- A move from here wants memory, or has a fault.
-  module _ (doing : Doing) (g : Ready start entry h d doing) (is : IsAnswering doing) where
-    pub fault-early : (world : FlatWorld) (asking : Option Asking) → asking ≡ asked (here start entry h d doing g.now) → HasNoFault (act_of (here start entry h d doing g.now))
-        → Early start entry (record h { world = world }) asking d halt.NoMemory
-    fault-early world asking same fine =
-        wants start entry h d doing g (record h { world = world }) asking (wants-answer doing (here start entry h d doing g.now) asking is same fine) refl refl
-
+  -- A move from here has a fault.
+  module _ (doing : Doing) (g : Ready start entry h d doing) where
     pub fault-stops : (f : Fault) (world : FlatWorld) (asking : Option Asking) → world ≡ h.world → asking ≡ asked (here start entry h d doing g.now)
         → act_of (here start entry h d doing g.now) ≡ stops (stop.Faulted f) (here start entry h d doing g.now) → Done start entry (record h { world = world }) asking d (stop.Faulted f)
     fault-stops f world asking same asks-is e =
@@ -278,7 +252,7 @@ module _ (start : Configuration) (entry : Devices) (h : Held) (d : Devices) wher
         (stops-at start entry h d doing g (stop.Faulted f) g.now.past doing h d asking g.now.is_past (λ long. g.now.few) (λ wait. g.now.reads) e asks-is)
 
   -- THE ANSWER TO AN ASKING, or the way back to a copy
-  module _ (asking : Option Asking) (left : ℕ) (machine : FlatMachine) (r : Resumes start entry h asking d left machine) where
+  module _ (asking : Option Asking) (left : ℕ) (machine : FlatMachine) (wanted : Type 0) (r : Resumes start entry h asking d left machine wanted) where
     abbrev before : Held
     before = record h { world = r.world }
 
@@ -301,10 +275,10 @@ module _ (start : Configuration) (entry : Devices) (h : Held) (d : Devices) wher
     pub resumed-on : Standing start entry resumed-held d steps
     resumed-on = moves-on start entry before d r.doing r.going r.going.now.past steps resumed-held d resumed-past r.going.now.few r.going.now.reads resumed-act r.saved
 
-    pub resumed-early : (h' : Held) → h'.machine ≡ h.machine → h'.left ≡ h.left → (asking' : Option Asking) → asking' ≡ asking → Early start entry h' asking' d halt.NoMemory
-    resumed-early h' stands units asking' same =
+    pub resumed-early : wanted → (h' : Held) → h'.machine ≡ h.machine → h'.left ≡ h.left → (asking' : Option Asking) → asking' ≡ asking → Early start entry h' asking' d halt.NoMemory
+    resumed-early wants-it h' stands units asking' same =
         wants start entry before d r.doing r.going h' asking'
-        (wants-answer r.doing at asking' r.answering (same ∙ r.asks) (subst HasNoFault (sym r.event) tt)) stands units
+        (subst (WantsMemory r.doing at) (sym same) (r.memory wants-it)) stands units
 
   -- THE TURN OF A CALL
   module _ (asking : Option Asking) (w : Waiting) (t : Turn) (r : Turns start entry h asking d w t) where
@@ -382,16 +356,18 @@ module _ (start : Configuration) (entry : Devices) (h : Held) (d : Devices) wher
       doing = steps;
       moved = r.moved;
       going = r.going;
-      answering = tt;
       event = r.event ∙ ap (λ (x : Turn). after_turn called w (Ok (r.said, x))) e;
       saved = r.saved;
       asks = r.asks;
+      memory = λ takes. r.memory (subst (λ (x : Turn). TurnWants h.machine (Ok (r.said, x))) (sym e) takes);
     }
 
     -- the showing of the grids wants memory
-    pub turn-wants : (h' : Held) → h'.machine ≡ h.machine → h'.left ≡ h.left → Early start entry h' asking d halt.NoMemory
-    turn-wants h' machine units =
-        wants start entry turning d steps r.going h' asking (inr (r.asks, inl (subst HasNoFault (sym r.event) (fine-turn called w (r.said, t))))) machine units
+    pub turn-wants : IsWait t → h.world.scene.windows.grids ≢ [] → (h' : Held) → h'.machine ≡ h.machine → h'.left ≡ h.left → Early start entry h' asking d halt.NoMemory
+    turn-wants is some h' machine units =
+        let scene : r.said.0 ≡ h.world.scene = ap (λ (x : FlatWorld). x.scene) (sym r.moved) in
+        wants start entry turning d steps r.going h' asking
+        (r.memory (wait-wants h.machine r.said t is (subst (λ (x : Scene). x.windows.grids ≢ []) (sym scene) some))) machine units
 
   -- A call goes on.
   abbrev pub on-ready : (asking : Option Asking) (g : Given) (w : Waiting) → Waits start entry h asking d (goes_on g w) → Ready start entry h d (goes_on g w)
@@ -446,7 +422,7 @@ module _ (start : Configuration) (entry : Devices) (h : Held) (d : Devices) wher
     pub line-stops : (why : Stop) (l : NextLine) (h' : Held) (source : FlatSource) → next_line (h.ahead ++ h.coming) ≡ l → after_line awaiting w l ≡ stops why awaiting → IsLineStop why
         → h' ≡ record h { ahead = h'.ahead; coming = h'.coming; over = h'.over } → h'.ahead ++ h'.coming ≡ h.ahead ++ h.coming → (source.tells ≡ true → h'.coming ≡ source.left)
         → ReadsFew false h'.over entry.source source start.input h'.coming 0
-        → (why ≢ stop.LineTooLong → length h'.ahead < PIECE) → asked_at why awaiting ≡ asked awaiting → Done start entry h' asking (record d { source = source }) why
+        → (why ≢ stop.LineTooLong → length h'.ahead < piece) → asked_at why awaiting ≡ asked awaiting → Done start entry h' asking (record d { source = source }) why
     line-stops why l h' source e e' line-stop held same left reads few at =
         let p : Past = g.now.past in
         let same-configuration : configuration_of p (asks t w) h' (record d { source = source }) ≡ awaiting =
@@ -531,32 +507,80 @@ module _ (start : Configuration) (entry : Devices) (h : Held) (d : Devices) wher
         → act_of asking-here ≡ after_restoring asking-here left r
     restoring-does stream r is e = a.event ∙ ap (after_effect asking-here left h.machine) is ∙ ap (after_restoring asking-here left) e
 
-    -- a save that is begun wants memory
-    pub save-wants : (stream : ℕ) → does ≡ effect.Save stream → IsTrue (is_begun h.world.scene h.machine.flat stream) → (world : FlatWorld) (asking : Option Asking) → asking ≡ asking_of does
-        → Early start entry (record h { world = world }) asking d halt.NoMemory
-    save-wants stream is begun world asking asks-is =
-        let begins : BeginsSave asking-here (effect_at asking-here) = subst (BeginsSave asking-here) (sym (a.effect_is ∙ ap (λ (e : Effect). Some e) is)) begun in
-        wants start entry h d steps a.going (record h { world = world }) asking (inr (asks-is ∙ sym a.asking_is, inr begins)) refl refl
+    -- What Glk does for it may want memory, and so may the reply.
+    abbrev AsksMemory : Type 0
+    AsksMemory = AskingWants asking-here (Some does)
+
+    pub put-grows : (c : ℕ) (flat : FlatState) → does ≡ effect.Put c → flat ≡ h.machine.flat → IsTrue (put_grows_one h.world.scene h.world.scene.current c)
+        → IsOk (on_world h.world (putting h.world.scene flat c)) → AsksMemory
+    put-grows c flat is same grows fine =
+        subst (λ (e : Effect). AskingWants asking-here (Some e)) (sym is)
+        (inl (grows, subst (λ (x : FlatState). IsOk (putting h.world.scene x c)) same (world-fine h.world (putting h.world.scene flat c) fine)))
+
+    pub put-takes : (c : ℕ) (flat : FlatState) (said : Said) (reply : Reply) → does ≡ effect.Put c → flat ≡ h.machine.flat → putting h.world.scene flat c ≡ Ok (said, reply) → ReplyWants h.machine reply → AsksMemory
+    put-takes c flat said reply is same e takes =
+        subst (λ (x : Effect). AskingWants asking-here (Some x)) (sym is)
+        (inr (subst (AnswerWants h.machine) (sym (subst (λ (x : FlatState). putting h.world.scene x c ≡ Ok (said, reply)) same e)) takes))
+
+    pub call-grows : (selector : ℕ) (args : ArrayVec ℕ) (xs : List ℕ) (w : Waiting) (flat : FlatState) → does ≡ effect.Glk selector args w.room → flat ≡ h.machine.flat → xs ≡ args.items
+        → IsGrowing h.world.scene flat selector xs → IsOk (on_world h.world (glk_call h.world.scene flat w.room selector xs)) → AsksMemory
+    call-grows selector args xs w flat is same listed grows fine =
+        let ok : IsOk (glk_call h.world.scene flat w.room selector xs) = world-fine {X = Turn} h.world (glk_call h.world.scene flat w.room selector xs) fine in
+        subst (λ (e : Effect). AskingWants asking-here (Some e)) (sym is)
+        (inl (
+          subst (λ (ys : List ℕ). IsGrowing h.world.scene h.machine.flat selector ys) listed (subst (λ (x : FlatState). IsGrowing h.world.scene x selector xs) same grows),
+          subst (λ (ys : List ℕ). IsOk (glk_call h.world.scene h.machine.flat w.room selector ys)) listed (subst (λ (x : FlatState). IsOk (glk_call h.world.scene x w.room selector xs)) same ok),
+        ))
+
+    pub call-takes : (selector : ℕ) (args : ArrayVec ℕ) (xs : List ℕ) (w : Waiting) (flat : FlatState) (said : Said) (t : Turn) → does ≡ effect.Glk selector args w.room → flat ≡ h.machine.flat → xs ≡ args.items
+        → glk_call h.world.scene flat w.room selector xs ≡ Ok (said, t) → TurnWants h.machine (Ok (said, t)) → AsksMemory
+    call-takes selector args xs w flat said t is same listed e takes =
+        let call : glk_call h.world.scene h.machine.flat w.room selector args.items ≡ Ok (said, t) =
+        subst (λ (ys : List ℕ). glk_call h.world.scene h.machine.flat w.room selector ys ≡ Ok (said, t)) listed
+        (subst (λ (x : FlatState). glk_call h.world.scene x w.room selector xs ≡ Ok (said, t)) same e) in
+        subst (λ (x : Effect). AskingWants asking-here (Some x)) (sym is) (inr (subst (TurnWants h.machine) (sym call) takes))
+
+    pub save-begun : (stream : ℕ) → does ≡ effect.Save stream → IsTrue (is_begun h.world.scene h.machine.flat stream) → AsksMemory
+    save-begun stream is begun = subst (λ (e : Effect). AskingWants asking-here (Some e)) (sym is) (inl begun)
+
+    pub save-takes : (stream : ℕ) (said : Said) (reply : Reply) → does ≡ effect.Save stream → saving h.world.scene h.machine.flat stream ≡ Ok (said, reply) → ReplyWants h.machine reply → AsksMemory
+    save-takes stream said reply is e takes =
+        subst (λ (x : Effect). AskingWants asking-here (Some x)) (sym is) (inr (subst (AnswerWants h.machine) (sym e) takes))
+
+    pub restore-reads : (stream : ℕ) → does ≡ effect.Restore stream → IsTrue (is_read h.world.scene h.machine.flat stream) → IsOk (on_world h.world (restoring h.world.scene h.machine.flat stream)) → AsksMemory
+    restore-reads stream is reads fine =
+        subst (λ (e : Effect). AskingWants asking-here (Some e)) (sym is)
+        (inl (reads, world-fine {X = Option Copy} h.world (restoring h.world.scene h.machine.flat stream) fine))
+
+    pub restore-takes : (stream : ℕ) (said : Said) (r : Option Copy) → does ≡ effect.Restore stream → restoring h.world.scene h.machine.flat stream ≡ Ok (said, r) → RestoreWants h.machine (Ok (said, r)) → AsksMemory
+    restore-takes stream said r is e takes =
+        subst (λ (x : Effect). AskingWants asking-here (Some x)) (sym is) (inr (subst (RestoreWants h.machine) (sym e) takes))
+
+    asking-wants : (asking : Option Asking) → asking ≡ asking_of does → AsksMemory → WantsMemory steps asking-here asking
+    asking-wants asking asks-is takes = inr (asks-is ∙ sym a.asking_is, subst (AskingWants asking-here) (sym a.effect_is) takes)
+
+    pub asking-early : (world : FlatWorld) (asking : Option Asking) → asking ≡ asking_of does → AsksMemory → Early start entry (record h { world = world }) asking d halt.NoMemory
+    asking-early world asking asks-is takes = wants start entry h d steps a.going (record h { world = world }) asking (asking-wants asking asks-is takes) refl refl
 
     -- the machine takes an answer, or goes back to a copy
-    pub asking-resumes : (asking : Option Asking) (world : FlatWorld) (said : Said) (machine : FlatMachine) → asking ≡ asking_of does → world ≡ after h.world said
+    pub asking-resumes : (asking : Option Asking) (world : FlatWorld) (said : Said) (machine : FlatMachine) (wanted : Type 0) → asking ≡ asking_of does → world ≡ after h.world said
         → act_of asking-here ≡ goes (record asking-here { machine = machine; world = after asking-here.world said; left = left; doing = steps })
-        → (BeginsSave asking-here (Some does) → IsReadBack h.machine.flat) → Resumes start entry (record h { world = world }) asking d left machine
-    asking-resumes asking world said machine asks-is moved e saved = record {
+        → (BeginsSave asking-here (Some does) → IsReadBack h.machine.flat) → (wanted → AsksMemory) → Resumes start entry (record h { world = world }) asking d left machine wanted
+    asking-resumes asking world said machine wanted asks-is moved e saved takes = record {
       world = h.world;
       said = said;
       doing = steps;
       moved = moved;
       going = a.going;
-      answering = tt;
       event = e;
       saved = saved-of asking-here does a.effect_is saved;
       asks = asks-is ∙ sym a.asking_is;
+      memory = λ x. asking-wants asking asks-is (takes x);
     }
 
     pub call-turns : (asking : Option Asking) (world : FlatWorld) (said : Said) (w : Waiting) (t : Turn) → asking ≡ asking_of does → world ≡ after h.world said → act_of asking-here ≡ after_turn asking-here w (Ok (said, t))
-        → (BeginsSave asking-here (Some does) → ⊥) → Turns start entry (record h { world = world }) asking d w t
-    call-turns asking world said w t asks-is moved e unsaving = record {
+        → (BeginsSave asking-here (Some does) → ⊥) → (TurnWants h.machine (Ok (said, t)) → AsksMemory) → Turns start entry (record h { world = world }) asking d w t
+    call-turns asking world said w t asks-is moved e unsaving takes = record {
       world = h.world;
       said = said;
       moved = moved;
@@ -564,6 +588,7 @@ module _ (start : Configuration) (entry : Devices) (h : Held) (d : Devices) wher
       event = e;
       saved = saved-of asking-here does a.effect_is (λ begins. absurd (unsaving begins));
       asks = asks-is ∙ sym a.asking_is;
+      memory = λ x. asking-wants asking asks-is (takes x);
     }
 
   module _ (asking : Option Asking) (g : Given) (w : Waiting) (waits : Waits start entry h asking d (goes_on g w)) where
@@ -573,9 +598,25 @@ module _ (start : Configuration) (entry : Devices) (h : Held) (d : Devices) wher
     pub given-does : (flat : FlatState) (r : Result (Said × Turn) Fault) → flat ≡ h.machine.flat → glk_go_on h.world.scene flat w.room g ≡ r → act_of going-on ≡ after_given going-on w r
     given-does flat r same e = ap (after_given going-on w) (subst (λ (x : FlatState). glk_go_on h.world.scene x w.room g ≡ r) same e)
 
-    pub given-turns : (world : FlatWorld) (said : Said) (t : Turn) → world ≡ after h.world said → act_of going-on ≡ after_given going-on w (Ok (said, t)) → GoesOn start entry (record h { world = world }) asking d w t
-    given-turns world said t moved e =
-        record { world = h.world; said = said; given = g; moved = moved; going = on-ready asking g w waits; event = e; asks = waits.asking_is }
+    -- it wants memory
+    pub given-early : (world : FlatWorld) (flat : FlatState) → flat ≡ h.machine.flat → IsTrue (go_grows h.world.scene flat g) → IsOk (glk_go_on h.world.scene flat w.room g)
+        → Early start entry (record h { world = world }) asking d halt.NoMemory
+    given-early world flat same grows fine =
+        wants start entry h d (goes_on g w) (on-ready asking g w waits) (record h { world = world }) asking
+        (waits.asking_is, inl (subst (λ (x : FlatState). IsTrue (go_grows h.world.scene x g)) same grows, subst (λ (x : FlatState). IsOk (glk_go_on h.world.scene x w.room g)) same fine)) refl refl
+
+    pub given-turns : (world : FlatWorld) (said : Said) (t : Turn) (flat : FlatState) → world ≡ after h.world said → flat ≡ h.machine.flat → glk_go_on h.world.scene flat w.room g ≡ Ok (said, t)
+        → GoesOn start entry (record h { world = world }) asking d w t
+    given-turns world said t flat moved same e = record {
+      world = h.world;
+      said = said;
+      given = g;
+      moved = moved;
+      going = on-ready asking g w waits;
+      event = given-does flat (Ok (said, t)) same e;
+      asks = waits.asking_is;
+      memory = λ takes. (waits.asking_is, inr (subst (TurnWants h.machine) (sym (subst (λ (x : FlatState). glk_go_on h.world.scene x w.room g ≡ Ok (said, t)) same e)) takes));
+    }
 
   -- it is answered
   pub given-answers : (asking : Option Asking) (w : Waiting) (t : Turn) (reply : Reply) → t ≡ turn.Answer reply → GoesOn start entry h asking d w t → Replies start entry h asking d w.left reply
@@ -585,8 +626,8 @@ module _ (start : Configuration) (entry : Devices) (h : Held) (d : Devices) wher
     doing = goes_on r.given w;
     moved = r.moved;
     going = r.going;
-    answering = tt;
     event = r.event ∙ ap (λ (x : Turn). after_given (here start entry (record h { world = r.world }) d (goes_on r.given w) r.going.now) w (Ok (r.said, x))) is;
     saved = unsaved (here start entry (record h { world = r.world }) d (goes_on r.given w) r.going.now) (λ e. cc);
     asks = r.asks;
+    memory = λ takes. r.memory (subst (λ (x : Turn). TurnWants h.machine (Ok (r.said, x))) (sym is) takes);
   }

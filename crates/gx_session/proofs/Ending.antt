@@ -12,7 +12,7 @@ use Rattle.gx_session.specs.declared.ends.Stop.{Stop}
 use Rattle.gx_session.specs.declared.ends.Stop.TheVariants as stop
 use Rattle.gx_session.specs.declared.ends.Halt.{Halt}
 use Rattle.gx_session.specs.declared.ends.Halt.TheVariants as halt
-use Rattle.gx_session.specs.declared.statuses.TheConstants.{SHELF_FAULT, INPUT_FAULT, OUTPUT_FAULT}
+use Rattle.gx_session.specs.Constants.{status_shelf_fault, status_input_fault, status_output_fault}
 use Rattle.gx_session.specs.Counts.{Counts, IsUntold}
 use Rattle.gx_session.specs.Cuts.{in_listing, in_store, IsLineStop, IsShelfStatus, stopped}
 use Rattle.gx_session.specs.Devices.{Devices}
@@ -24,7 +24,7 @@ use Rattle.gx_session.proofs.Counting.{blames-same}
 use Rattle.gx_session.proofs.Playing.{cut-at, input-left, words-left}
 use Rattle.gx_session.proofs.Storing.{raised-more}
 
-pub status-low : (why : Stop) → status_of why < SHELF_FAULT
+pub status-low : (why : Stop) → status_of why < status_shelf_fault
 status-low stop.Ended = omega arith
 status-low stop.Exited = omega arith
 status-low (stop.Faulted f) = omega arith
@@ -33,7 +33,7 @@ status-low stop.InputEnded = omega arith
 status-low stop.Stuck = omega arith
 status-low stop.LineTooLong = omega arith
 
-pub status-high : (why : Halt) → SHELF_FAULT ≤ status_of_halt why
+pub status-high : (why : Halt) → status_shelf_fault ≤ status_of_halt why
 status-high halt.Shelf = omega arith
 status-high halt.Input = omega arith
 status-high halt.Output = omega arith
@@ -206,24 +206,24 @@ report-of-halt halt.NoMemory = record { status_is = inr (omega arith, omega arit
 -- the counts of a run that came to its end, and of one that was cut short
 pub counts-of-stop : (entry exit : Devices) (why : Stop) → (let r : Result Stop Halt = Ok why in Keeps entry exit r) → Counts entry exit (status_of why)
 counts-of-stop entry exit why k =
-    let low : status_of why < SHELF_FAULT = status-low why in
+    let low : status_of why < status_shelf_fault = status-low why in
     let r : Result Stop Halt = Ok why in
     record {
-      shelf = blames-same entry.shelf.calls exit.shelf.calls (r ≡ Err halt.Shelf) (status_of why ≡ SHELF_FAULT) k.shelf (λ e. absurd cc) (λ e. absurd (omega arith));
-      source = blames-same entry.source.calls exit.source.calls (r ≡ Err halt.Input) (status_of why ≡ INPUT_FAULT) k.source (λ e. absurd cc) (λ e. absurd (omega arith));
-      sink = blames-same entry.sink.calls exit.sink.calls (r ≡ Err halt.Output) (status_of why ≡ OUTPUT_FAULT) k.sink (λ e. absurd cc) (λ e. absurd (omega arith));
+      shelf = blames-same entry.shelf.calls exit.shelf.calls (r ≡ Err halt.Shelf) (status_of why ≡ status_shelf_fault) k.shelf (λ e. absurd cc) (λ e. absurd (omega arith));
+      source = blames-same entry.source.calls exit.source.calls (r ≡ Err halt.Input) (status_of why ≡ status_input_fault) k.source (λ e. absurd cc) (λ e. absurd (omega arith));
+      sink = blames-same entry.sink.calls exit.sink.calls (r ≡ Err halt.Output) (status_of why ≡ status_output_fault) k.sink (λ e. absurd cc) (λ e. absurd (omega arith));
     }
 
 abbrev halt-of : ℕ → Halt
-halt-of n = if n == SHELF_FAULT then halt.Shelf else if n == INPUT_FAULT then halt.Input else if n == OUTPUT_FAULT then halt.Output else halt.NoMemory
+halt-of n = if n == status_shelf_fault then halt.Shelf else if n == status_input_fault then halt.Input else if n == status_output_fault then halt.Output else halt.NoMemory
 
 pub counts-of-halt : (entry exit : Devices) (why : Halt) → (let r : Result Stop Halt = Err why in Keeps entry exit r) → Counts entry exit (status_of_halt why)
 counts-of-halt entry exit why k =
     let r : Result Stop Halt = Err why in
     record {
-      shelf = blames-same entry.shelf.calls exit.shelf.calls (r ≡ Err halt.Shelf) (status_of_halt why ≡ SHELF_FAULT) k.shelf (λ e. status-to why halt.Shelf e) (λ e. status-from why halt.Shelf e);
-      source = blames-same entry.source.calls exit.source.calls (r ≡ Err halt.Input) (status_of_halt why ≡ INPUT_FAULT) k.source (λ e. status-to why halt.Input e) (λ e. status-from why halt.Input e);
-      sink = blames-same entry.sink.calls exit.sink.calls (r ≡ Err halt.Output) (status_of_halt why ≡ OUTPUT_FAULT) k.sink (λ e. status-to why halt.Output e) (λ e. status-from why halt.Output e);
+      shelf = blames-same entry.shelf.calls exit.shelf.calls (r ≡ Err halt.Shelf) (status_of_halt why ≡ status_shelf_fault) k.shelf (λ e. status-to why halt.Shelf e) (λ e. status-from why halt.Shelf e);
+      source = blames-same entry.source.calls exit.source.calls (r ≡ Err halt.Input) (status_of_halt why ≡ status_input_fault) k.source (λ e. status-to why halt.Input e) (λ e. status-from why halt.Input e);
+      sink = blames-same entry.sink.calls exit.sink.calls (r ≡ Err halt.Output) (status_of_halt why ≡ status_output_fault) k.sink (λ e. status-to why halt.Output e) (λ e. status-from why halt.Output e);
     }
   where
     status-to : (why one : Halt) → (let r : Result Stop Halt = Err why in r ≡ Err one) → status_of_halt why ≡ status_of_halt one
@@ -246,13 +246,13 @@ module _ (start : Configuration) (entry : Devices) (h : Held) (asking : Option A
   pub session-of-stop : (why : Stop) → RunGives start entry h asking d (Ok why) → IsUntold entry.shelf d.shelf ⊎ IsSession start entry d (report-at (status_of why) (fault_number why) (fault_address why h.machine))
   session-of-stop why (inl untold) = inl untold
   session-of-stop why (inr f) =
-      let low : status_of why < SHELF_FAULT = status-low why in
+      let low : status_of why < status_shelf_fault = status-low why in
       inr (record { ended = λ _. ended-at start entry h asking d why fewer f; early = λ high. absurd (omega arith) })
 
   pub session-of-halt : (why : Halt) → RunGives start entry h asking d (Err why) → IsUntold entry.shelf d.shelf ⊎ IsSession start entry d (report-at (status_of_halt why) 0 0)
   session-of-halt why (inl untold) = inl untold
   session-of-halt why (inr early) =
-      let high : SHELF_FAULT ≤ status_of_halt why = status-high why in
+      let high : status_shelf_fault ≤ status_of_halt why = status-high why in
       inr (record { ended = λ low. absurd (omega arith); early = λ _. units-left start entry d (status_of_halt why) h.left (record { machine = h.machine; asking = asking }) fewer early })
 
 -- with some input

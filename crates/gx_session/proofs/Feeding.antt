@@ -4,7 +4,7 @@ use Rattle.std.proofs.lemmas.Bool.{cases_lt}
 use Rattle.gx_outside.specs.Outside.{FlatSource, raised, raised_by}
 use Rattle.gx_session.specs.declared.lines.NoLine.{NoLine}
 use Rattle.gx_session.specs.declared.lines.NoLine.TheVariants as no
-use Rattle.gx_session.specs.declared.lines.TheConstants.{LONGEST, PIECE}
+use Rattle.gx_session.specs.Constants.{longest, piece}
 use Rattle.gx_session.specs.Input.{line, chars_of, next_line}
 use Rattle.gx_session.specs.Lines.{HeldLines}
 use Rattle.gx_session.specs.Reading.{IsComing, IsOver, Fed, spare, ReadsFew, Takes, GrowsBy, Fills, IsPartial, HoldsFew}
@@ -62,12 +62,12 @@ pub record ReadOn (first now : HeldLines) (before source : FlatSource) (x y : Li
   pub reads : ReadsFew first.ended now.ended before source x y 0
 
 module _ (first now : HeldLines) (before source : FlatSource) (fed : Fed first now before source (ReadOn first now before source)) where
-  pub too-long : LONGEST ≤ pos now.held → Fed first now before source (λ x y. Takes first now before source x y (Err no.TooLong))
+  pub too-long : longest ≤ pos now.held → Fed first now before source (λ x y. Takes first now before source x y (Err no.TooLong))
   too-long long =
       fed-as first now before source (ReadOn first now before source) (λ x y. Takes first now before source x y (Err no.TooLong)) fed
       (λ x y r. record { line = (ap next_line r.same ∙ next-long now.held y long, sym r.same); reads = r.reads })
 
-  pub few-held : (searched : ℕ) (later : HeldLines) (r : Result (List ℕ) NoLine) → pos now.held < length now.held → searched ≤ pos now.held → length now.held ≤ searched + PIECE
+  pub few-held : (searched : ℕ) (later : HeldLines) (r : Result (List ℕ) NoLine) → pos now.held < length now.held → searched ≤ pos now.held → length now.held ≤ searched + piece
       → IfOk r (λ chars. (chars ≡ chars_of (take (pos now.held) now.held)) × (later ≡ record now { held = drop (pos now.held + 1) now.held }))
       → IfErr r (λ e. (e ≡ no.NoMemory) × (later ≡ now)) → HoldsFew later.held r
   few-held searched later (Ok chars) here after few ok err =
@@ -88,7 +88,7 @@ module _ (first now : HeldLines) (before source : FlatSource) (fed : Fed first n
       omega arith
 
   -- a line that is held
-  pub takes-held : (later : HeldLines) (r : Result (List ℕ) NoLine) → pos now.held < length now.held → pos now.held < LONGEST
+  pub takes-held : (later : HeldLines) (r : Result (List ℕ) NoLine) → pos now.held < length now.held → pos now.held < longest
       → IfOk r (λ chars. (chars ≡ chars_of (take (pos now.held) now.held)) × (later ≡ record now { held = drop (pos now.held + 1) now.held }))
       → IfErr r (λ e. (e ≡ no.NoMemory) × (later ≡ now)) → Fed first later before source (λ x y. Takes first later before source x y r)
   takes-held later (Ok chars) here short ok err =
@@ -107,7 +107,7 @@ module _ (first now : HeldLines) (before source : FlatSource) (fed : Fed first n
       (record { line = some-held x y (omega arith) r.same; reads = read-still later (ap (λ (l : HeldLines). l.ended) err.1) x y z r same }))
 
   -- the last line, or none
-  module _ (over : now.ended ≡ true) (all : pos now.held ≡ length now.held) (short : length now.held < LONGEST) where
+  module _ (over : now.ended ≡ true) (all : pos now.held ≡ length now.held) (short : length now.held < longest) where
     -- what comes is nothing
     record Nothing (later : HeldLines) (x y : List ℕ) : Type 0 where
       same : first.held ++ x ≡ now.held ++ []
@@ -217,7 +217,7 @@ module _ (first now : HeldLines) (before source : FlatSource) (fed : Fed first n
     fails no.Ended is = absurd is
     fails no.TooLong is = absurd is
 
-    pub fails-few : (e : NoLine) → Fills now later source source' (Err e) → pos now.held ≡ length now.held → length now.held < LONGEST → HoldsFew later.held (let r : Result (List ℕ) NoLine = Err e in r)
+    pub fails-few : (e : NoLine) → Fills now later source source' (Err e) → pos now.held ≡ length now.held → length now.held < longest → HoldsFew later.held (let r : Result (List ℕ) NoLine = Err e in r)
     fails-few no.Failed is all short = subst IsPartial (ap (λ (l : HeldLines). l.held) (sym is.0)) (all, short)
     fails-few no.NoMemory is all short = tt
     fails-few no.Ended is all short = absurd is

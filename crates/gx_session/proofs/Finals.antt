@@ -17,7 +17,7 @@ use Rattle.glk_dispatch.specs.Going.{glk_go_on}
 use Rattle.glk_dispatch.specs.Output.{putting}
 use Rattle.gx_session.specs.declared.ends.Stop.{Stop}
 use Rattle.gx_session.specs.declared.ends.Stop.TheVariants as stop
-use Rattle.gx_session.specs.declared.running.TheConstants.{ENOUGH}
+use Rattle.gx_session.specs.Constants.{enough as enough_text}
 use Rattle.gx_session.specs.declared.running.Waiting.{Waiting}
 use Rattle.gx_session.specs.Input.{next_line}
 use Rattle.gx_session.specs.Saving.{saving, restoring}
@@ -35,7 +35,7 @@ none-due : (enough : ℕ) (s : Sent) (text : List ℕ) → 0 < enough → is_due
 none-due enough s text some = lt-leb enough (length text - length text) (omega arith)
 
 pub quiet-sent : (doing : Doing) (s : Sent) (text : List ℕ) → is_due_by doing (with_all s text) text ≡ false
-quiet-sent steps s text = none-due ENOUGH s text (omega arith)
+quiet-sent steps s text = none-due enough_text s text (omega arith)
 quiet-sent (asks t w) s text = none-due 1 s text (omega arith)
 quiet-sent (goes_on g w) s text = refl
 
@@ -51,16 +51,16 @@ nearer base extra n b less =
 
 replied-near : (n : ℕ) (m : Configuration) (left : ℕ) (r : Result (Said × Reply) Fault) → 5 * left + 1 < n → Near n (after_reply m left r)
 replied-near n m left (Ok r) less =
-    let few : (if is_due ENOUGH m.sent (m.world.text ++ r.0.1) then 1 else 0) ≤ 1 = at-most-one (is_due ENOUGH m.sent (m.world.text ++ r.0.1)) in
+    let few : (if is_due enough_text m.sent (m.world.text ++ r.0.1) then 1 else 0) ≤ 1 = at-most-one (is_due enough_text m.sent (m.world.text ++ r.0.1)) in
     omega arith
 replied-near n m left (Err f) less = tt
 
 restored-near : (n : ℕ) (m : Configuration) (left : ℕ) (r : Result (Said × Option Copy) Fault) → 5 * left + 1 < n → Near n (after_restoring m left r)
 restored-near n m left (Ok (said, Some copy)) less =
-    let few : (if is_due ENOUGH m.sent (m.world.text ++ said.1) then 1 else 0) ≤ 1 = at-most-one (is_due ENOUGH m.sent (m.world.text ++ said.1)) in
+    let few : (if is_due enough_text m.sent (m.world.text ++ said.1) then 1 else 0) ≤ 1 = at-most-one (is_due enough_text m.sent (m.world.text ++ said.1)) in
     omega arith
 restored-near n m left (Ok (said, None)) less =
-    let few : (if is_due ENOUGH m.sent (m.world.text ++ said.1) then 1 else 0) ≤ 1 = at-most-one (is_due ENOUGH m.sent (m.world.text ++ said.1)) in
+    let few : (if is_due enough_text m.sent (m.world.text ++ said.1) then 1 else 0) ≤ 1 = at-most-one (is_due enough_text m.sent (m.world.text ++ said.1)) in
     omega arith
 restored-near n m left (Err f) less = tt
 
@@ -84,9 +84,9 @@ went-near n left b less =
 -- a step that leaves so many units
 effected-near : (n : ℕ) (m : Configuration) (left : ℕ) (machine : FlatMachine) (does : Effect) → m.doing ≡ steps → 5 * left + 4 < n → Near n (after_effect m left machine does)
 effected-near n m left machine effect.Went is less =
-    subst (λ (d : Doing). moves_by d left + (if is_due_by d m.sent m.world.text then 1 else 0) < n) (sym is) (went-near n left (is_due ENOUGH m.sent m.world.text) less)
+    subst (λ (d : Doing). moves_by d left + (if is_due_by d m.sent m.world.text then 1 else 0) < n) (sym is) (went-near n left (is_due enough_text m.sent m.world.text) less)
 effected-near n m left machine effect.Drew is less =
-    subst (λ (d : Doing). moves_by d left + (if is_due_by d m.sent m.world.text then 1 else 0) < n) (sym is) (went-near n left (is_due ENOUGH m.sent m.world.text) less)
+    subst (λ (d : Doing). moves_by d left + (if is_due_by d m.sent m.world.text then 1 else 0) < n) (sym is) (went-near n left (is_due enough_text m.sent m.world.text) less)
 effected-near n m left machine (effect.Put c) is less = replied-near n m left (putting m.world.scene m.machine.flat c) (omega arith)
 effected-near n m left machine (effect.Glk selector args room) is less =
     turned-near n m (record { room = room; left = left }) (glk_call m.world.scene m.machine.flat room selector args.items) less

@@ -2,6 +2,7 @@ pub mod Answering
 pub mod Asked
 pub mod Asking
 pub mod Cases
+pub mod Constants
 pub mod Consulting
 pub mod Counting
 pub mod Steps

@@ -10,8 +10,7 @@ use Rattle.gx_session.specs.declared.ends.Stop.{Stop}
 use Rattle.gx_session.specs.declared.ends.Stop.TheVariants as stop
 use Rattle.gx_session.specs.declared.ends.Halt.{Halt}
 use Rattle.gx_session.specs.declared.ends.Halt.TheVariants as halt
-use Rattle.gx_session.specs.declared.lines.TheConstants.{PIECE}
-use Rattle.gx_session.specs.declared.running.TheConstants.{ENOUGH}
+use Rattle.gx_session.specs.Constants.{piece, enough as enough_text}
 use Rattle.gx_session.specs.declared.running.Waiting.{Waiting}
 use Rattle.gx_session.specs.Cuts.{Cut, in_move, in_send, in_question, in_reading, in_last_send, IsCut, IsLineCut, IsWaiting, IsSendStatus, IsQuestion, IsWait, MayWant, LeavesFiles, WantsMemory, IsLineStop, AwaitedAt, LongAt, asking_between, stopped, asking_at_stop, most_sent, sends_at, asked_by_cut, FilesAt}
 use Rattle.gx_session.specs.Devices.{Devices}
@@ -30,8 +29,8 @@ use Rattle.rand_core.specs.Stream.{Stream}
 abbrev pub no_past : Devices → Past
 no_past d = record { sent = []; sends = 0; asked = 0; words = d.words }
 
-due-of-none : (text : List ℕ) → text ≡ [] → is_due ENOUGH (record { bytes = 0; calls = 0 }) text ≡ false
-due-of-none text none = subst (λ (x : List ℕ). is_due ENOUGH (record { bytes = 0; calls = 0 }) x ≡ false) (sym none) refl
+due-of-none : (text : List ℕ) → text ≡ [] → is_due enough_text (record { bytes = 0; calls = 0 }) text ≡ false
+due-of-none text none = subst (λ (x : List ℕ). is_due enough_text (record { bytes = 0; calls = 0 }) x ≡ false) (sym none) refl
 
 -- a run begins at its start
 pub starts : (d : Devices) (h : Held) → h.word ≡ None → h.ahead ≡ [] → h.over ≡ false → h.world.text ≡ [] → (d.source.tells ≡ true → h.coming ≡ d.source.left) → Going (configuration_of (no_past d) steps h d) d h d
@@ -110,7 +109,7 @@ cut-at start entry exit h asking why cut m sent rest is machine left text has sh
 
 module _ (start : Configuration) (entry : Devices) (h : Held) (d : Devices) where
   -- the input that is left
-  pub input-left : (awaited long : Type 0) → ((long → ⊥) → length h.ahead < PIECE) → ((awaited → ⊥) → IsRead start.input entry h d) → ReadsFew false h.over entry.source d.source start.input h.coming 0
+  pub input-left : (awaited long : Type 0) → ((long → ⊥) → length h.ahead < piece) → ((awaited → ⊥) → IsRead start.input entry h d) → ReadsFew false h.over entry.source d.source start.input h.coming 0
       → (d.source.tells ≡ true → h.coming ≡ d.source.left) → LeavesInput start.input (h.ahead ++ h.coming) entry.source d.source awaited long 0
   input-left awaited long few unread reads left =
       let less : reads.reads + length h.coming + spare h.over ≤ length start.input + 1 + 0 = reads.few in
@@ -136,7 +135,7 @@ module _ (start : Configuration) (entry : Devices) (h : Held) (d : Devices) wher
     shown-is s = subst (λ (e : Ending). IsFront (here s).world.text e.configuration.world.text) s.same_end (final-grows (here s))
 
     -- the run goes on
-    abbrev pub moves-on : (g : Ready start entry h d doing) (p' : Past) (doing' : Doing) (h' : Held) (d' : Devices) → IsPast start.input entry p' h' d' → length h'.ahead < PIECE → IsRead start.input entry h' d'
+    abbrev pub moves-on : (g : Ready start entry h d doing) (p' : Past) (doing' : Doing) (h' : Held) (d' : Devices) → IsPast start.input entry p' h' d' → length h'.ahead < piece → IsRead start.input entry h' d'
         → act_of (here g.now) ≡ goes (configuration_of p' doing' h' d') → IsSaved (here g.now) → Standing start entry h' d' doing'
     moves-on g p' doing' h' d' is few reads act saved =
         let move : move_of (here g.now) ≡ goes (configuration_of p' doing' h' d') = move-acts (here g.now) g.quiet ∙ act in
@@ -153,7 +152,7 @@ module _ (start : Configuration) (entry : Devices) (h : Held) (d : Devices) wher
 
     -- the run stops
     pub stops-at : (g : Ready start entry h d doing) (why : Stop) (p' : Past) (doing' : Doing) (h' : Held) (d' : Devices) (asking : Option Asking) → IsPast start.input entry p' h' d'
-        → (why ≢ stop.LineTooLong → length h'.ahead < PIECE) → ((IsLineStop why → ⊥) → IsRead start.input entry h' d') → act_of (here g.now) ≡ stops why (configuration_of p' doing' h' d')
+        → (why ≢ stop.LineTooLong → length h'.ahead < piece) → ((IsLineStop why → ⊥) → IsRead start.input entry h' d') → act_of (here g.now) ≡ stops why (configuration_of p' doing' h' d')
         → asking ≡ asked_at why (configuration_of p' doing' h' d') → Done start entry h' asking d' why
     stops-at g why p' doing' h' d' asking is few reads act asking-is =
         let move : move_of (here g.now) ≡ stops why (configuration_of p' doing' h' d') = move-acts (here g.now) g.quiet ∙ act in

@@ -26,7 +26,7 @@ use Rattle.quetzal.specs.Writing.{saved}
 use Rattle.quetzal.specs.declared.faults.SaveFault.{SaveFault}
 use Rattle.quetzal.specs.declared.faults.SaveFault.TheVariants as of_save
 use Rattle.gx_session.specs.Playing.{MaySave, Refuses}
-use Rattle.gx_session.specs.declared.saves.TheConstants.{FAILED}
+use Rattle.gx_session.specs.Constants.{failed}
 use Rattle.gx_session.specs.Saving.{unless_failed, unless_refused, saving, restoring, may_take, may_hold, is_begun, is_read}
 use Rattle.gx_session.proofs.Steps.{ok-is}
 
@@ -35,7 +35,7 @@ use Rattle.gx_session.proofs.Steps.{ok-is}
 -- what is answered where a stream takes a save, or doesn't
 abbrev pub reply_of : Option Reply → Reply
 reply_of (Some reply) = reply
-reply_of None = replies FAILED
+reply_of None = replies failed
 
 abbrev pub with_reply : Result (FlatWorld × Option Reply) Fault → Result (FlatWorld × Reply) Fault
 with_reply (Ok r) = Ok (r.0, reply_of r.1)
@@ -47,7 +47,7 @@ replied-on w (Ok (said, None)) = refl
 replied-on w (Err fault) = refl
 
 saved-by : (w : FlatWorld) (r : Result (Said × Option Reply) Fault) (b : Bool) → b ≡ true
-    → on_world w (if b then (r >>= (λ x. Ok (unless_failed x))) else Ok (silent w.scene, replies FAILED)) ≡ with_reply (on_world w r)
+    → on_world w (if b then (r >>= (λ x. Ok (unless_failed x))) else Ok (silent w.scene, replies failed)) ≡ with_reply (on_world w r)
 saved-by w r true is = replied-on w r
 saved-by w r false is = cc
 
@@ -83,15 +83,15 @@ not-put w f stream bytes none =
     ap (λ (b : Bool). if b then (put_all w f stream bytes >>= (λ r. Ok (r.0, Some r.1))) else Ok (silent w, None)) takes
 
 not-saved : (w : FlatWorld) (f : FlatState) (stream : ℕ) (glk takes : Bool) → (glk && takes) ≡ false → may_take w.scene stream ≡ takes
-    → on_world w (if glk then (put_save w.scene f stream (saved f.story (saved_copy f)) >>= (λ x. Ok (unless_failed x))) else Ok (silent w.scene, replies FAILED)) ≡ Ok (w, replies FAILED)
-not-saved w f stream false takes none is = ap (λ (x : FlatWorld). Ok (x, replies FAILED)) (nothing_said w)
+    → on_world w (if glk then (put_save w.scene f stream (saved f.story (saved_copy f)) >>= (λ x. Ok (unless_failed x))) else Ok (silent w.scene, replies failed)) ≡ Ok (w, replies failed)
+not-saved w f stream false takes none is = ap (λ (x : FlatWorld). Ok (x, replies failed)) (nothing_said w)
 not-saved w f stream true takes none is =
     replied-on w (put_save w.scene f stream (saved f.story (saved_copy f)))
     ∙ ap (λ (r : Result (Said × Option Reply) Fault). with_reply (on_world w r)) (not-put w.scene f stream (saved f.story (saved_copy f)) (is ∙ none))
-    ∙ ap (λ (x : FlatWorld). Ok (x, replies FAILED)) (nothing_said w)
+    ∙ ap (λ (x : FlatWorld). Ok (x, replies failed)) (nothing_said w)
 
 -- one that isn't begun
-pub saving-fails : (w : FlatWorld) (f : FlatState) (stream : ℕ) → is_begun w.scene f stream ≡ false → on_world w (saving w.scene f stream) ≡ Ok (w, replies FAILED)
+pub saving-fails : (w : FlatWorld) (f : FlatState) (stream : ℕ) → is_begun w.scene f stream ≡ false → on_world w (saving w.scene f stream) ≡ Ok (w, replies failed)
 unfolding saving
 saving-fails w f stream none = not-saved w f stream (f.iosys.0 == glk_system) (may_take w.scene stream) none refl
 

@@ -33,7 +33,7 @@ use Rattle.glk_dispatch.specs.Calls.{glk_call}
 use Rattle.glk_dispatch.specs.Going.{glk_go_on}
 use Rattle.glk_dispatch.specs.Output.{putting}
 use Rattle.glk_dispatch.specs.Parts.{replies}
-use Rattle.gx_session.specs.declared.saves.TheConstants.{FAILED}
+use Rattle.gx_session.specs.Constants.{failed}
 use Rattle.gx_session.specs.declared.ends.Stop.TheVariants as stop
 use Rattle.gx_session.specs.declared.running.Waiting.{Waiting}
 use Rattle.gx_session.specs.Input.{next_line}
@@ -246,7 +246,7 @@ replied-undo m left (Err f) = tt
 back-undo : (m : Configuration) (left : ℕ) (r : Result (Said × Option Copy) Fault) → KeepsUndo m.machine.undo (after_restoring m left r)
 unfolding whole.restored
 back-undo m left (Ok (said, Some copy)) = refl
-back-undo m left (Ok (said, None)) = replied-undo m left (Ok (said, replies FAILED))
+back-undo m left (Ok (said, None)) = replied-undo m left (Ok (said, replies failed))
 back-undo m left (Err f) = tt
 
 turned-undo : (m : Configuration) (w : Waiting) (r : Result (Said × Turn) Fault) → KeepsUndo m.machine.undo (after_turn m w r)

@@ -3,7 +3,7 @@ use Rattle.std.specs.Prelude.{◌≡◌, ◌≤◌, ◌⊎◌, ℕ, suc, true, f
 use Rattle.gx_outside.specs.Outside.{FlatShelf, raised, raised_by}
 use Rattle.gx_outside.specs.declared.calls.Calls.{Calls}
 use Rattle.gx_session.specs.Devices.{Devices}
-use Rattle.gx_session.specs.declared.statuses.TheConstants.{SHELF_FAULT, INPUT_FAULT, OUTPUT_FAULT}
+use Rattle.gx_session.specs.Constants.{status_shelf_fault, status_input_fault, status_output_fault}
 
 -- The failures of a device don't fall. Where the run failed for its sake, one of its calls failed, the last one.
 -- Where the run didn't, none did.
@@ -16,9 +16,9 @@ pub record Blames (before now : Calls) (failed : Type 0) : Type 0 where
 
 -- The failures of the three devices.
 pub record Counts (entry exit : Devices) (status : ℕ) : Type 0 where
-  pub shelf : Blames entry.shelf.calls exit.shelf.calls (status ≡ SHELF_FAULT)
-  pub source : Blames entry.source.calls exit.source.calls (status ≡ INPUT_FAULT)
-  pub sink : Blames entry.sink.calls exit.sink.calls (status ≡ OUTPUT_FAULT)
+  pub shelf : Blames entry.shelf.calls exit.shelf.calls (status ≡ status_shelf_fault)
+  pub source : Blames entry.source.calls exit.source.calls (status ≡ status_input_fault)
+  pub sink : Blames entry.sink.calls exit.sink.calls (status ≡ status_output_fault)
 
 -- A shelf that tells nothing was asked. What it holds then is no matter of proof, and nothing is said of what
 -- follows.

@@ -1,19 +1,31 @@
 -- The ways in which a run is cut short: memory ran out, or a device failed.
-use Rattle.std.specs.Prelude.{◌≡◌, ℕ, suc, ◌<◌, ◌≤◌, List, ◌∷◌, ◌++◌, length, ◌⊎◌, false, true, Option, Some, None, IsOk, IsSomeAnd, IsTrue}
+use Rattle.std.specs.Prelude.{◌≡◌, ◌≢◌, ℕ, suc, ◌<◌, ◌≤◌, List, [], ◌∷◌, ◌++◌, length, ◌⊎◌, false, true, Option, Some, None, Result, Ok, Err, IsOk, IsSomeAnd, IsTrue}
+use Rattle.gx_words.specs.declared.faults.Fault.{Fault}
+use Rattle.gx_pages.specs.Memory.{HasBytes}
 use Rattle.gx_state.specs.declared.effects.Effect.{Effect}
 use Rattle.gx_state.specs.declared.effects.Effect.TheVariants as effect
+use Rattle.gx_state.specs.declared.effects.Reply.{Reply}
+use Rattle.gx_state.specs.Copies.{Copy}
 use Rattle.gx_machine.specs.declared.askings.Asking.{Asking}
-use Rattle.gx_machine.specs.Step.{stepped}
+use Rattle.gx_machine.specs.Answer.{IsStoredAnswer}
+use Rattle.gx_machine.specs.Machine.{FlatMachine}
+use Rattle.gx_machine.specs.Step.{stepped, IsStepWriting}
 use Rattle.gx_outside.specs.Files.{Files}
 use Rattle.gx_outside.specs.Outside.{KeepsOthers}
+use Rattle.glk_world.specs.World.{Said}
+use Rattle.glk_dispatch.specs.declared.Given.{Given}
 use Rattle.glk_dispatch.specs.declared.Turn.{Turn}
 use Rattle.glk_dispatch.specs.declared.Turn.TheVariants as turn
+use Rattle.glk_dispatch.specs.Calls.{IsGrowing, glk_call}
+use Rattle.glk_dispatch.specs.Going.{go_grows, glk_go_on}
+use Rattle.glk_dispatch.specs.Output.{putting}
+use Rattle.glk_dispatch.specs.Parts.{put_grows_one, replies}
 use Rattle.gx_session.specs.declared.ends.Stop.{Stop}
 use Rattle.gx_session.specs.declared.ends.Stop.TheVariants as stop
-use Rattle.gx_session.specs.declared.running.TheConstants.{MOST_LOADED}
-use Rattle.gx_session.specs.declared.statuses.TheConstants.{SHELF_FAULT, INPUT_FAULT, OUTPUT_FAULT, NO_MEMORY}
-use Rattle.gx_session.specs.Session.{Configuration, Doing, steps, asks, goes_on, Verdict, goes, stops, act_of, sends_now, run_of, final_of, effect_at, asked, asked_at}
-use Rattle.gx_session.specs.Saving.{is_begun}
+use Rattle.gx_session.specs.Constants.{status_shelf_fault, status_input_fault, status_output_fault, status_no_memory, most_loaded, failed}
+use Rattle.gx_session.specs.declared.running.Waiting.{Waiting}
+use Rattle.gx_session.specs.Session.{Configuration, Doing, steps, asks, goes_on, sends_now, run_of, final_of, effect_at, asked, asked_at}
+use Rattle.gx_session.specs.Saving.{saving, restoring, is_begun, is_read}
 use Rattle.gx_session.specs.Sending.{is_due}
 use Rattle.gx_session.specs.Endings.{Store, stores_of, told_all, after_stores}
 use Rattle.rand_core.specs.Stream.{next_u32}
@@ -34,12 +46,6 @@ pub data Cut : Type 0 where
   -- after these stores of the ending this one was refused
   in_store : List Store → Store → Cut
 
--- a verdict that is no fault
-abbrev pub HasNoFault : Verdict → Type 0
-HasNoFault (goes m) = Unit {0}
-HasNoFault (stops (stop.Faulted fault) m) = ⊥
-HasNoFault (stops s m) = Unit {0}
-
 -- a turn that waits for a line
 abbrev pub IsWait : Turn → Type 0
 IsWait turn.Wait = Unit {0}
@@ -56,7 +62,7 @@ IsQuestion t = ⊥
 
 -- The shelf may want memory: at a load only where there are bytes to be handed out.
 abbrev pub MayWant : Files → Turn → Type 0
-MayWant files (turn.Load name) = IsSomeAnd (files name) (λ bytes. length bytes ≤ MOST_LOADED)
+MayWant files (turn.Load name) = IsSomeAnd (files name) (λ bytes. length bytes ≤ most_loaded)
 MayWant files t = Unit {0}
 
 -- This effect asks for a save, which is begun: the I/O system is Glk's, and the stream may take one.
@@ -64,15 +70,59 @@ abbrev pub BeginsSave : Configuration → Option Effect → Type 0
 BeginsSave m (Some (effect.Save stream)) = IsTrue (is_begun m.world.scene m.machine.flat stream)
 BeginsSave m e = ⊥
 
--- What comes next may want memory, with a machine that asks this: a step, or the answer to what it asked, where it
--- has no fault; a wait where there is input. A save that is begun may want memory before its fault is met: which places of a
--- stream in memory it takes depends on its length, which isn't known before the save is made.
+-- WHERE MEMORY MAY BE WANTED
+-- The machine takes a reply, which writes bytes or whose value is stored in memory.
+abbrev pub ReplyWants : FlatMachine → Reply → Type 0
+ReplyWants machine reply = HasBytes reply.writes ⊎ IsStoredAnswer machine.flat
+
+abbrev pub AnswerWants : FlatMachine → Result (Said × Reply) Fault → Type 0
+AnswerWants machine (Ok r) = ReplyWants machine r.1
+AnswerWants machine (Err fault) = ⊥
+
+-- So it is with the turn of a call. Before a line is awaited the grids are shown, if there are some.
+abbrev pub TurnWants : FlatMachine → Result (Said × Turn) Fault → Type 0
+TurnWants machine (Ok (said, turn.Answer reply)) = ReplyWants machine reply
+TurnWants machine (Ok (said, turn.Wait)) = said.0.windows.grids ≢ []
+TurnWants machine (Ok (said, turn.Prompt)) = said.0.windows.grids ≢ []
+TurnWants machine r = ⊥
+
+-- A machine that is restored takes the memory of the copy.
+abbrev pub RestoreWants : FlatMachine → Result (Said × Option Copy) Fault → Type 0
+RestoreWants machine (Ok (said, Some copy)) = Unit {0}
+RestoreWants machine (Ok (said, None)) = ReplyWants machine (replies failed)
+RestoreWants machine (Err fault) = ⊥
+
+-- What this effect asks: what Glk does for it, where it makes something grow and has no fault, and the reply. A save
+-- that is begun may want memory before its fault is met: which places of a stream in memory it takes depends on its
+-- length, which isn't known before the save is made.
+abbrev pub AskingWants : Configuration → Option Effect → Type 0
+AskingWants m (Some (effect.Put c)) =
+    (IsTrue (put_grows_one m.world.scene m.world.scene.current c) × IsOk (putting m.world.scene m.machine.flat c))
+    ⊎ AnswerWants m.machine (putting m.world.scene m.machine.flat c)
+AskingWants m (Some (effect.Glk selector args room)) =
+    (IsGrowing m.world.scene m.machine.flat selector args.items × IsOk (glk_call m.world.scene m.machine.flat room selector args.items))
+    ⊎ TurnWants m.machine (glk_call m.world.scene m.machine.flat room selector args.items)
+AskingWants m (Some (effect.Save stream)) =
+    IsTrue (is_begun m.world.scene m.machine.flat stream) ⊎ AnswerWants m.machine (saving m.world.scene m.machine.flat stream)
+AskingWants m (Some (effect.Restore stream)) =
+    (IsTrue (is_read m.world.scene m.machine.flat stream) × IsOk (restoring m.world.scene m.machine.flat stream))
+    ⊎ RestoreWants m.machine (restoring m.world.scene m.machine.flat stream)
+AskingWants m e = ⊥
+
+-- a call that goes on with what it was given
+abbrev pub GivenWants : Configuration → Given → Waiting → Type 0
+GivenWants m g w =
+    (IsTrue (go_grows m.world.scene m.machine.flat g) × IsOk (glk_go_on m.world.scene m.machine.flat w.room g))
+    ⊎ TurnWants m.machine (glk_go_on m.world.scene m.machine.flat w.room g)
+
+-- What comes next may want memory, with a machine that asks this: a step that has no fault, writes, resizes or copies
+-- memory and is within the budget; what a step asks; a wait where there is input; a call that goes on.
 abbrev pub WantsMemory : Doing → Configuration → Option Asking → Type 0
 WantsMemory steps m asking =
-    ((asking ≡ None) × IsOk (stepped (record { machine = m.machine; asking = None }) (next_u32 m.words).0 m.left))
-    ⊎ ((asking ≡ asked m) × (HasNoFault (act_of m) ⊎ BeginsSave m (effect_at m)))
+    ((asking ≡ None) × IsStepWriting m.machine m.left × IsOk (stepped (record { machine = m.machine; asking = None }) (next_u32 m.words).0 m.left))
+    ⊎ ((asking ≡ asked m) × AskingWants m (effect_at m))
 WantsMemory (asks t w) m asking = (asking ≡ asked m) × IsWait t × (0 < length m.input)
-WantsMemory (goes_on g w) m asking = (asking ≡ asked m) × HasNoFault (act_of m)
+WantsMemory (goes_on g w) m asking = (asking ≡ asked m) × GivenWants m g w
 
 -- what the machine asks between two moves
 abbrev pub asking_between : Doing → Configuration → Option Asking
@@ -81,7 +131,7 @@ asking_between d m = asked m
 
 -- a turn that is pending is refused by the shelf
 abbrev pub IsRefusedBy : Doing → Configuration → ℕ → Type 0
-IsRefusedBy (asks t w) m status = IsQuestion t × ((status ≡ SHELF_FAULT) ⊎ ((status ≡ NO_MEMORY) × MayWant m.files t))
+IsRefusedBy (asks t w) m status = IsQuestion t × ((status ≡ status_shelf_fault) ⊎ ((status ≡ status_no_memory) × MayWant m.files t))
 IsRefusedBy d m status = ⊥
 
 abbrev pub IsWaiting : Doing → Type 0
@@ -94,10 +144,10 @@ IsLineCut (in_move j) m = IsWaiting m.doing
 IsLineCut cut m = ⊥
 
 abbrev pub IsSendStatus : ℕ → Type 0
-IsSendStatus status = (status ≡ OUTPUT_FAULT) ⊎ (status ≡ NO_MEMORY)
+IsSendStatus status = (status ≡ status_output_fault) ⊎ (status ≡ status_no_memory)
 
 abbrev pub IsShelfStatus : ℕ → Type 0
-IsShelfStatus status = (status ≡ SHELF_FAULT) ⊎ (status ≡ NO_MEMORY)
+IsShelfStatus status = (status ≡ status_shelf_fault) ⊎ (status ≡ status_no_memory)
 
 -- the configuration of the stop
 abbrev pub stopped : Configuration → Configuration
@@ -108,15 +158,15 @@ abbrev pub asking_at_stop : Configuration → Option Asking
 asking_at_stop start = asked_at (final_of start).stop (stopped start)
 
 -- The run is cut short so, at this configuration, with this status and with a machine that asks this. Memory is
--- wanted only where the definition has no fault, or a save is begun; a send is refused only where it is due, and the shelf and the source
+-- wanted only where `WantsMemory` has it; a send is refused only where it is due, and the shelf and the source
 -- fail only where they are asked, once all text was sent.
 abbrev pub IsCut : Configuration → Cut → Configuration → ℕ → Option Asking → Type 0
-IsCut start (in_move j) m status asking = (run_of start j ≡ Some m) × (sends_now m ≡ false) × (status ≡ NO_MEMORY) × WantsMemory m.doing m asking
+IsCut start (in_move j) m status asking = (run_of start j ≡ Some m) × (sends_now m ≡ false) × (status ≡ status_no_memory) × WantsMemory m.doing m asking
 IsCut start (in_send j) m status asking = (run_of start j ≡ Some m) × (sends_now m ≡ true) × IsSendStatus status × (asking ≡ asking_between m.doing m)
 IsCut start (in_question j) m status asking = (run_of start j ≡ Some m) × (sends_now m ≡ false) × IsRefusedBy m.doing m status × (asking ≡ asked m)
-IsCut start (in_reading j) m status asking = (run_of start j ≡ Some m) × (sends_now m ≡ false) × (status ≡ INPUT_FAULT) × IsWaiting m.doing × (asking ≡ asked m)
+IsCut start (in_reading j) m status asking = (run_of start j ≡ Some m) × (sends_now m ≡ false) × (status ≡ status_input_fault) × IsWaiting m.doing × (asking ≡ asked m)
 IsCut start in_last_send m status asking = (m ≡ stopped start) × (is_due 1 m.sent m.world.text ≡ true) × IsSendStatus status × (asking ≡ asking_at_stop start)
-IsCut start in_listing m status asking = (m ≡ told_all (stopped start)) × (status ≡ NO_MEMORY) × (asking ≡ asking_at_stop start)
+IsCut start in_listing m status asking = (m ≡ told_all (stopped start)) × (status ≡ status_no_memory) × (asking ≡ asking_at_stop start)
 IsCut start (in_store stores next) m status asking =
     (m ≡ after_stores (told_all (stopped start)) stores) × IsShelfStatus status × (asking ≡ asking_at_stop start)
     × ((rest : List Store) × (stores_of m.world.scene ≡ stores ++ next ∷ rest))

@@ -1,3 +1,4 @@
+pub mod Constants
 pub mod Devices
 pub mod Sending
 pub mod Input

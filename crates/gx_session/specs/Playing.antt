@@ -30,12 +30,11 @@ use Rattle.gx_session.specs.declared.ends.Next.{Next}
 use Rattle.gx_session.specs.declared.ends.Next.TheVariants as next
 use Rattle.gx_session.specs.declared.lines.NoLine.{NoLine}
 use Rattle.gx_session.specs.declared.lines.NoLine.TheVariants as no
-use Rattle.gx_session.specs.declared.lines.TheConstants.{PIECE}
+use Rattle.gx_session.specs.Constants.{status_shelf_fault, status_input_fault, status_output_fault, status_no_memory, piece}
 use Rattle.gx_session.specs.declared.running.Running.{Running}
 use Rattle.gx_session.specs.declared.running.Waiting.{Waiting}
-use Rattle.gx_session.specs.declared.statuses.TheConstants.{SHELF_FAULT, INPUT_FAULT, OUTPUT_FAULT, NO_MEMORY}
 use Rattle.gx_session.specs.Counts.{Blames, IsUntold}
-use Rattle.gx_session.specs.Cuts.{IsWait, IsLineStop, stopped, asking_at_stop}
+use Rattle.gx_session.specs.Cuts.{IsWait, IsLineStop, ReplyWants, TurnWants, WantsMemory, stopped, asking_at_stop}
 use Rattle.gx_session.specs.Devices.{Devices}
 use Rattle.gx_session.specs.Endings.{Store, stores_of, stored, told_all, StoredAll, StoredSome}
 use Rattle.gx_session.specs.Input.{line, next_line}
@@ -125,7 +124,7 @@ pub record Standing (start : Configuration) (entry : Devices) (h : Held) (d : De
   pub past : Past
   pub moves : ℕ
   pub is_past : IsPast start.input entry past h d
-  pub few : length h.ahead < PIECE
+  pub few : length h.ahead < piece
   pub reads : IsRead start.input entry h d
   pub reached : run_of start moves ≡ Some (configuration_of past doing h d)
   pub saves : SavedBefore start moves
@@ -150,7 +149,7 @@ pub record Done (start : Configuration) (entry : Devices) (h : Held) (asking : O
   pub past : Past
   pub doing : Doing
   pub is_past : IsPast start.input entry past h d
-  pub few : why ≢ stop.LineTooLong → length h.ahead < PIECE
+  pub few : why ≢ stop.LineTooLong → length h.ahead < piece
   pub reads : (IsLineStop why → ⊥) → IsRead start.input entry h d
   pub is_end : final_of start ≡ record { stop = why; configuration = configuration_of past doing h d }
   pub saves : SavedAll start
@@ -158,10 +157,10 @@ pub record Done (start : Configuration) (entry : Devices) (h : Held) (asking : O
 
 -- the status of a run that is cut short
 abbrev pub status_of_halt : Halt → ℕ
-status_of_halt halt.Shelf = SHELF_FAULT
-status_of_halt halt.Input = INPUT_FAULT
-status_of_halt halt.Output = OUTPUT_FAULT
-status_of_halt halt.NoMemory = NO_MEMORY
+status_of_halt halt.Shelf = status_shelf_fault
+status_of_halt halt.Input = status_input_fault
+status_of_halt halt.Output = status_output_fault
+status_of_halt halt.NoMemory = status_no_memory
 
 -- what a refused send, or a refused question, is to a run
 abbrev pub halt_of_send : SendFault → Halt
@@ -188,33 +187,28 @@ pub record Follows (start : Configuration) (entry : Devices) (h : Held) (d : Dev
   pub effect : let m = configuration_of going.now.past steps (record h { machine = before }) d in does ≢ Spent → effect_at m ≡ Some does
   pub stands : IsSome (asking_of does) → h.machine ≡ before
 
--- what may be answered at once: a step, and a call that goes on
-abbrev pub IsAnswering : Doing → Type 0
-IsAnswering steps = Unit {0}
-IsAnswering (asks t w) = ⊥
-IsAnswering (goes_on g w) = Unit {0}
-
--- From a configuration of the run the Glk world has moved on, and the machine becomes this one.
-pub record Resumes (start : Configuration) (entry : Devices) (h : Held) (asking : Option Asking) (d : Devices) (left : ℕ) (machine : FlatMachine) : Type 0 where
+-- From a configuration of the run the Glk world has moved on, and the machine becomes this one, for which it may want
+-- memory where this holds.
+pub record Resumes (start : Configuration) (entry : Devices) (h : Held) (asking : Option Asking) (d : Devices) (left : ℕ) (machine : FlatMachine) (wants : Type 0) : Type 0 where
   -- the world before
   pub world : FlatWorld
   pub said : Said
   pub doing : Doing
   pub moved : h.world ≡ after world said
   pub going : Ready start entry (record h { world = world }) d doing
-  pub answering : IsAnswering doing
   pub event : let m = configuration_of going.now.past doing (record h { world = world }) d in
       act_of m ≡ goes (record m { machine = machine; world = after m.world said; left = left; doing = steps })
   pub saved : IsSaved (configuration_of going.now.past doing (record h { world = world }) d)
   pub asks : let m = configuration_of going.now.past doing (record h { world = world }) d in asking ≡ asked m
+  pub memory : let m = configuration_of going.now.past doing (record h { world = world }) d in wants → WantsMemory doing m asking
 
 -- It takes a reply.
 abbrev pub Replies : Configuration → Devices → Held → Option Asking → Devices → ℕ → Reply → Type 0
-Replies start entry h asking d left reply = Resumes start entry h asking d left (answer_of h.machine reply)
+Replies start entry h asking d left reply = Resumes start entry h asking d left (answer_of h.machine reply) (ReplyWants h.machine reply)
 
 -- It goes back to a copy.
 abbrev pub GoesBack : Configuration → Devices → Held → Option Asking → Devices → ℕ → Copy → Type 0
-GoesBack start entry h asking d left copy = Resumes start entry h asking d left (restored h.machine copy)
+GoesBack start entry h asking d left copy = Resumes start entry h asking d left (restored h.machine copy) (Unit {0})
 
 -- A Glk call has come to a turn from a configuration of the run.
 pub record Turns (start : Configuration) (entry : Devices) (h : Held) (asking : Option Asking) (d : Devices) (w : Waiting) (turn : Turn) : Type 0 where
@@ -225,6 +219,7 @@ pub record Turns (start : Configuration) (entry : Devices) (h : Held) (asking : 
   pub event : let m = configuration_of going.now.past steps (record h { world = world }) d in act_of m ≡ after_turn m w (Ok (said, turn))
   pub saved : IsSaved (configuration_of going.now.past steps (record h { world = world }) d)
   pub asks : let m = configuration_of going.now.past steps (record h { world = world }) d in asking ≡ asked m
+  pub memory : let m = configuration_of going.now.past steps (record h { world = world }) d in TurnWants h.machine (Ok (said, turn)) → WantsMemory steps m asking
 
 -- Want of memory is no fault that a run stops at.
 abbrev pub IsStop : Stop → Type 0
@@ -320,6 +315,7 @@ pub record GoesOn (start : Configuration) (entry : Devices) (h : Held) (asking :
   pub going : Ready start entry (record h { world = world }) d (goes_on given w)
   pub event : let m = configuration_of going.now.past (goes_on given w) (record h { world = world }) d in act_of m ≡ after_given m w (Ok (said, turn))
   pub asks : let m = configuration_of going.now.past (goes_on given w) (record h { world = world }) d in asking ≡ asked m
+  pub memory : let m = configuration_of going.now.past (goes_on given w) (record h { world = world }) d in TurnWants h.machine (Ok (said, turn)) → WantsMemory (goes_on given w) m asking
 
 -- A line was taken at a wait.
 pub record TakesInput (start : Configuration) (entry : Devices) (h : Held) (asking : Option Asking) (d : Devices) (chars : List ℕ) (w : Waiting) : Type 0 where
@@ -332,7 +328,7 @@ pub record TakesInput (start : Configuration) (entry : Devices) (h : Held) (aski
   pub is_wait : IsWait turn
   pub going : Ready start entry (record h { ahead = ahead; coming = coming; over = over }) (record d { source = source }) (asks turn w)
   pub taken : next_line (ahead ++ coming) ≡ line chars (h.ahead ++ h.coming)
-  pub few : length h.ahead < PIECE
+  pub few : length h.ahead < piece
   pub left : d.source.tells ≡ true → h.coming ≡ d.source.left
   pub reads : ReadsFew false h.over entry.source d.source start.input h.coming 0
   pub asking_is : asking ≡ asked (configuration_of going.now.past (asks turn w) (record h { ahead = ahead; coming = coming; over = over }) (record d { source = source }))
@@ -350,7 +346,7 @@ pub record Told (start : Configuration) (entry : Devices) (h : Held) (asking : O
   pub past : Past
   pub doing : Doing
   pub is_past : IsPast start.input entry past h d
-  pub few : why ≢ stop.LineTooLong → length h.ahead < PIECE
+  pub few : why ≢ stop.LineTooLong → length h.ahead < piece
   pub reads : (IsLineStop why → ⊥) → IsRead start.input entry h d
   pub stop_is : (final_of start).stop ≡ why
   pub is_end : told_all (stopped start) ≡ configuration_of past doing h d

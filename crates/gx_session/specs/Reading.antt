@@ -7,7 +7,7 @@ use Rattle.std.specs.List.{position_or_len}
 use Rattle.gx_outside.specs.Outside.{FlatSource, raised_by}
 use Rattle.gx_session.specs.declared.lines.NoLine.{NoLine}
 use Rattle.gx_session.specs.declared.lines.NoLine.TheVariants as no
-use Rattle.gx_session.specs.declared.lines.TheConstants.{LONGEST, PIECE}
+use Rattle.gx_session.specs.Constants.{longest, piece}
 use Rattle.gx_session.specs.Input.{is_line_feed, too_long, none, line, next_line}
 use Rattle.gx_session.specs.Lines.{HeldLines}
 
@@ -31,7 +31,7 @@ IsWhole held = position_or_len is_line_feed held < length held
 
 -- none is, and the bytes are not too many for a line
 abbrev pub IsPartial : List ℕ → Type 0
-IsPartial held = (position_or_len is_line_feed held ≡ length held) × (length held < LONGEST)
+IsPartial held = (position_or_len is_line_feed held ≡ length held) × (length held < longest)
 
 -- what the taking of a line makes of the input
 abbrev pub TakesLine : List ℕ → List ℕ → Result (List ℕ) NoLine → Type 0
@@ -43,15 +43,15 @@ TakesLine old new (Err no.NoMemory) = 0 < length old
 
 -- how much is held once a line was taken, or not
 abbrev pub HoldsFew : List ℕ → Result (List ℕ) NoLine → Type 0
-HoldsFew held (Ok chars) = length held < PIECE
-HoldsFew held (Err no.Ended) = length held < PIECE
+HoldsFew held (Ok chars) = length held < piece
+HoldsFew held (Err no.Ended) = length held < piece
 HoldsFew held (Err no.Failed) = IsPartial held
 HoldsFew held (Err e) = Unit {0}
 
 -- One piece was read, and nothing only at the end.
 pub record GrowsBy (old new : HeldLines) (before now : FlatSource) (got : List ℕ) : Type 0 where
   pub held : new.held ≡ old.held ++ got
-  pub few : length got ≤ PIECE
+  pub few : length got ≤ piece
   pub more : new.ended ≡ false → 0 < length got
   pub end : new.ended ≡ true → got ≡ []
   pub over : IsOver new now

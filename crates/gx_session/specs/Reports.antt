@@ -1,6 +1,6 @@
 -- The line that says how a run ended.
 use Rattle.std.specs.Prelude.{ℕ, ◌+◌, ◌/◌, ◌%◌, ◌^◌, ◌==◌, suc, zero, nat_lt, if◌then◌else◌, List, [], ◌∷◌, ◌++◌, decimal, codes}
-use Rattle.gx_session.specs.declared.statuses.TheConstants.{BAD_WORDS, BAD_STORY, FAULT, SPENT, INPUT_ENDED, STUCK, LINE_TOO_LONG, SHELF_FAULT, INPUT_FAULT, OUTPUT_FAULT, NO_MEMORY}
+use Rattle.gx_session.specs.Constants.{status_bad_words, status_bad_story, status_fault, status_spent, status_input_ended, status_stuck, status_line_too_long, status_shelf_fault, status_input_fault, status_output_fault, status_no_memory}
 
 -- a hexadecimal digit in lower case
 abbrev pub hex_digit : ℕ → ℕ
@@ -21,15 +21,15 @@ fault_line fault at steps =
 -- so has a status in no row.
 unfoldable pub line_of : ℕ → ℕ → ℕ → ℕ → List ℕ
 line_of status fault at steps =
-    if status == BAD_WORDS then codes "gx_player: the command line is not understood" else
-    if status == BAD_STORY then codes "gx_player: no story (" ++ decimal fault ++ codes ")" else
-    if status == FAULT then fault_line fault at steps else
-    if status == SPENT then codes "gx_player: budget spent after " ++ decimal steps ++ codes " steps" else
-    if status == INPUT_ENDED then codes "gx_player: input ended" else
-    if status == STUCK then codes "gx_player: nothing to wait for" else
-    if status == LINE_TOO_LONG then codes "gx_player: input line too long" else
-    if status == SHELF_FAULT then codes "gx_player: file fault" else
-    if status == INPUT_FAULT then codes "gx_player: input fault" else
-    if status == OUTPUT_FAULT then codes "gx_player: output fault" else
-    if status == NO_MEMORY then codes "gx_player: out of memory" else
+    if status == status_bad_words then codes "gx_player: the command line is not understood" else
+    if status == status_bad_story then codes "gx_player: no story (" ++ decimal fault ++ codes ")" else
+    if status == status_fault then fault_line fault at steps else
+    if status == status_spent then codes "gx_player: budget spent after " ++ decimal steps ++ codes " steps" else
+    if status == status_input_ended then codes "gx_player: input ended" else
+    if status == status_stuck then codes "gx_player: nothing to wait for" else
+    if status == status_line_too_long then codes "gx_player: input line too long" else
+    if status == status_shelf_fault then codes "gx_player: file fault" else
+    if status == status_input_fault then codes "gx_player: input fault" else
+    if status == status_output_fault then codes "gx_player: output fault" else
+    if status == status_no_memory then codes "gx_player: out of memory" else
     []

@@ -3,9 +3,8 @@ use Rattle.std.specs.Prelude.{◌≡◌, ◌≢◌, ℕ, suc, ◌+◌, ◌<◌, 
 use Rattle.gx_machine.specs.Machine.{Whole}
 use Rattle.gx_outside.specs.Outside.{FlatSource, raised_by}
 use Rattle.gx_session.specs.declared.ended.Ended.{Ended}
-use Rattle.gx_session.specs.declared.lines.TheConstants.{PIECE}
+use Rattle.gx_session.specs.Constants.{status_ended, status_fault, status_shelf_fault, status_input_fault, status_no_memory, piece}
 use Rattle.gx_session.specs.declared.session.EndedOn.{EndedOn}
-use Rattle.gx_session.specs.declared.statuses.TheConstants.{ENDED, FAULT, SHELF_FAULT, INPUT_FAULT, NO_MEMORY}
 use Rattle.gx_session.specs.declared.ends.Stop.TheVariants as stop
 use Rattle.gx_session.specs.Counts.{Counts, IsUntold}
 use Rattle.gx_session.specs.Cuts.{Cut, in_move, in_send, in_question, in_reading, IsCut, IsLineCut, BeginsSave, IsLineStop, AwaitedAt, LongAt, most_sent, sends_at, asked_by_cut, FilesAt}
@@ -48,7 +47,7 @@ pub record LeavesInput (first input : List ℕ) (before now : FlatSource) (await
   pub coming : List ℕ
   pub split : input ≡ ahead ++ coming
   pub left : now.tells ≡ true → coming ≡ now.left
-  pub few : (long → ⊥) → failures ≡ 0 → length ahead < PIECE
+  pub few : (long → ⊥) → failures ≡ 0 → length ahead < piece
   pub partial : failures ≢ 0 → IsPartial ahead
   pub reads : ℕ
   pub made : now.calls.made ≡ raised_by reads before.calls.made
@@ -76,7 +75,7 @@ SavedBy start cut = SavedAll start
 
 -- one read failed at this status
 abbrev pub read_failures : ℕ → ℕ
-read_failures status = if status == INPUT_FAULT then 1 else 0
+read_failures status = if status == status_input_fault then 1 else 0
 
 -- The run came to its end: all text was sent and all open files were stored.
 pub record EndsAt (start : Configuration) (e : Ending) (entry exit : Devices) (r : Report) : Type 0 where
@@ -116,14 +115,14 @@ pub record StopsEarly (start : Configuration) (entry exit : Devices) (status lef
 
 -- The statuses of a run. A fault has a number from 1 to 16, and only a fault has one and an address.
 pub record IsReport (status fault at : ℕ) : Type 0 where
-  pub status_is : (status ≡ ENDED) ⊎ ((FAULT ≤ status) × (status ≤ NO_MEMORY))
-  pub fault_is : status ≡ FAULT → (1 ≤ fault) × (fault ≤ 16)
-  pub no_fault : status ≢ FAULT → (fault ≡ 0) × (at ≡ 0)
+  pub status_is : (status ≡ status_ended) ⊎ ((status_fault ≤ status) × (status ≤ status_no_memory))
+  pub fault_is : status ≡ status_fault → (1 ≤ fault) × (fault ≤ 16)
+  pub no_fault : status ≢ status_fault → (fault ≡ 0) × (at ≡ 0)
 
--- The run is the session from a start. The statuses from SHELF_FAULT on are those of a run that was cut short.
+-- The run is the session from a start. The statuses from `status_shelf_fault` on are those of a run that was cut short.
 pub record IsSession (start : Configuration) (entry exit : Devices) (r : Report) : Type 0 where
-  pub ended : r.status < SHELF_FAULT → EndsAt start (final_of start) entry exit r
-  pub early : SHELF_FAULT ≤ r.status → (left : ℕ) × (r.steps + left ≡ start.left) × StopsEarly start entry exit r.status left r.machine
+  pub ended : r.status < status_shelf_fault → EndsAt start (final_of start) entry exit r
+  pub early : status_shelf_fault ≤ r.status → (left : ℕ) × (r.steps + left ≡ start.left) × StopsEarly start entry exit r.status left r.machine
 
 -- It is that with some input: with what the source has left, where the source tells it.
 pub record IsSomeSession (start : Configuration) (entry exit : Devices) (r : Report) : Type 0 where

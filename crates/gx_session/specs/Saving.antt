@@ -18,11 +18,11 @@ use Rattle.glk_dispatch.specs.Saves.{put_save, take_rest}
 use Rattle.quetzal.specs.Saves.{save_of}
 use Rattle.quetzal.specs.Writing.{saved}
 use Rattle.quetzal.specs.declared.faults.SaveFault.{SaveFault}
-use Rattle.gx_session.specs.declared.saves.TheConstants.{FAILED}
+use Rattle.gx_session.specs.Constants.{failed}
 
 abbrev pub unless_failed : Said × Option Reply → Said × Reply
 unless_failed (said, Some reply) = (said, reply)
-unless_failed (said, None) = (said, replies FAILED)
+unless_failed (said, None) = (said, replies failed)
 
 -- A save: the copy of the state is written as a save to the stream; nothing is written where the stream doesn't take it.
 unfoldable pub saving : Scene → FlatState → ℕ → Result (Said × Reply) Fault
@@ -30,7 +30,7 @@ saving w f stream =
     if f.iosys.0 == glk_system then (do
       r ← put_save w f stream (saved f.story (saved_copy f))
       Ok (unless_failed r))
-    else Ok (silent w, replies FAILED)
+    else Ok (silent w, replies failed)
 
 -- the copy that a save of the story holds, if it is one
 abbrev pub unless_refused : Result Copy SaveFault → Option Copy

@@ -3,7 +3,7 @@
 -- A step of the machine that asks nothing is one move. One that makes a Glk call is followed by the moves of the
 -- call: what it asks of a device, and the answer that it goes on to. All of them are one event, which takes the units of
 -- the step once it is answered; until then the machine stands as before the step. In between pending text is sent: before a device is
--- asked for anything, and after an event that leaves ENOUGH bytes pending.
+-- asked for anything, and after an event that leaves `enough` bytes pending.
 use Rattle.std.specs.Prelude.{ℕ, suc, zero, ◌+◌, ◌-◌, ◌*◌, nat_lt, if◌then◌else◌, Bool, false, List, length, Option, Some, None, is_some, option_and_then, Result, Ok, Err}
 use Rattle.gx_words.specs.declared.faults.Fault.{Fault}
 use Rattle.gx_words.specs.Faults.{number_of}
@@ -35,10 +35,8 @@ use Rattle.gx_session.specs.Input.{NextLine, too_long, none, line, next_line}
 use Rattle.gx_session.specs.Sending.{Sent, none_sent, is_due, with_all}
 use Rattle.gx_session.specs.declared.ends.Stop.{Stop}
 use Rattle.gx_session.specs.declared.ends.Stop.TheVariants as stop
-use Rattle.gx_session.specs.declared.running.TheConstants.{ENOUGH, MOST_LOADED}
+use Rattle.gx_session.specs.Constants.{status_ended, status_fault, status_spent, status_input_ended, status_stuck, status_line_too_long, enough, most_loaded, failed}
 use Rattle.gx_session.specs.declared.running.Waiting.{Waiting}
-use Rattle.gx_session.specs.declared.saves.TheConstants.{FAILED}
-use Rattle.gx_session.specs.declared.statuses.TheConstants.{ENDED, FAULT, SPENT, INPUT_ENDED, STUCK, LINE_TOO_LONG}
 use Rattle.rand_core.specs.Stream.{Stream, next_u32}
 
 -- What comes next.
@@ -128,12 +126,12 @@ shelf_gives m w files g = goes (record m { files = files; asked = suc m.asked; d
 -- what is handed out of a file
 abbrev pub load_of : Option (List ℕ) → Load
 load_of None = of_load.Missing
-load_of (Some bytes) = if nat_lt MOST_LOADED (length bytes) then of_load.TooLong else of_load.Found bytes
+load_of (Some bytes) = if nat_lt most_loaded (length bytes) then of_load.TooLong else of_load.Found bytes
 
 -- A restore: the machine goes back to the copy that was read, or takes the answer of one that fails.
 abbrev pub after_restoring : Configuration → ℕ → Result (Said × Option Copy) Fault → Verdict
 after_restoring m left (Ok (said, Some copy)) = goes (record m { machine = restored m.machine copy; world = after m.world said; left = left; doing = steps })
-after_restoring m left (Ok (said, None)) = after_reply m left (Ok (said, replies FAILED))
+after_restoring m left (Ok (said, None)) = after_reply m left (Ok (said, replies failed))
 after_restoring m left (Err fault) = stops (stop.Faulted fault) m
 
 -- What a device gives for a turn. (The other turns ask for nothing.)
@@ -179,9 +177,10 @@ act_by (goes_on g w) m = after_given m w (glk_go_on m.world.scene m.machine.flat
 abbrev pub act_of : Configuration → Verdict
 act_of m = act_by m.doing m
 
--- The pending text is due: before a device is asked where there is some, and between two events where it has ENOUGH bytes.
+-- The pending text is due: before a device is asked where there is some, and between two events where it has
+-- `enough` bytes.
 abbrev pub is_due_by : Doing → Sent → List ℕ → Bool
-is_due_by steps s text = is_due ENOUGH s text
+is_due_by steps s text = is_due enough s text
 is_due_by (asks t w) s text = is_due 1 s text
 is_due_by (goes_on g w) s text = false
 
@@ -276,13 +275,13 @@ start_of machine world d echo left = record {
 
 -- the status of each stop
 abbrev pub status_of : Stop → ℕ
-status_of stop.Ended = ENDED
-status_of stop.Exited = ENDED
-status_of (stop.Faulted fault) = FAULT
-status_of stop.Spent = SPENT
-status_of stop.InputEnded = INPUT_ENDED
-status_of stop.Stuck = STUCK
-status_of stop.LineTooLong = LINE_TOO_LONG
+status_of stop.Ended = status_ended
+status_of stop.Exited = status_ended
+status_of (stop.Faulted fault) = status_fault
+status_of stop.Spent = status_spent
+status_of stop.InputEnded = status_input_ended
+status_of stop.Stuck = status_stuck
+status_of stop.LineTooLong = status_line_too_long
 
 -- the number of the fault, and 0 without one
 abbrev pub fault_number : Stop → ℕ

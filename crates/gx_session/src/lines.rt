@@ -5,6 +5,7 @@
 ghost use Rattle.std.specs.Prelude.{◌≡◌, ◌+◌, ◌≤◌, ◌<◌, ◌++◌, ℕ, List, [], length, take, drop, Err, IfOk, IfErr, false, slice_index};
 ghost use Rattle.std.specs.List.{position_or_len};
 ghost use Rattle.gx_outside.specs.Outside.{HasCause};
+ghost use Rattle.gx_session.specs.Constants.{piece as one_piece};
 ghost use Rattle.gx_session.specs.Input.{is_line_feed, chars_of};
 ghost use Rattle.gx_session.specs.Reading.{Fed, Takes, HoldsFew, IsWhole, Fills, is_failed};
 ghost use Rattle.gx_session.specs.Counts.{Blames};
@@ -161,7 +162,7 @@ impl Lines {
     /// Takes the next line of the source: its characters.
     pub fn next<S: Source>(&mut self, source: &mut S) -> Result<Numbers, NoLine>
         ensures takes { Fed self.old self.new (S.seen source.old) (S.seen source.new) (λ coming after. Takes self.old self.new (S.seen source.old) (S.seen source.new) coming after result) }
-        ensures few { length self.old.held < PIECE → HoldsFew self.new.held result }
+        ensures few { length self.old.held < one_piece → HoldsFew self.new.held result }
         ensures unread { IsWhole self.old.held → S.seen source.new ≡ S.seen source.old }
         ensures count { Blames (S.seen source.old).calls (S.seen source.new).calls (result ≡ Err NoLine.Failed) }
         ensures tells { (S.seen source.new).tells ≡ (S.seen source.old).tells }

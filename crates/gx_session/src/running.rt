@@ -2,11 +2,12 @@
 //!
 //! Each function of a run keeps what is held a configuration of the session (`Going` and `Waits` of specs/Playing),
 //! or comes to its stop (`Done`), or is cut short (`Early`).
-ghost use Rattle.std.specs.Prelude.{◌≡◌, ◌≢◌, ◌≤◌, ◌<◌, ◌⊎◌, ℕ, List, None, Some, Ok, Err, IfOk, IfErr};
+ghost use Rattle.std.specs.Prelude.{◌≡◌, ◌≢◌, ◌≤◌, ◌<◌, ◌⊎◌, ℕ, List, None, Some, Ok, Err, IfOk, IfErr, OnErr};
 ghost use Rattle.gx_machine.specs.declared.askings.Asking.TheVariants as asking;
 ghost use Rattle.gx_machine.specs.Answer.{answered, IsAnswer};
 ghost use Rattle.glk_dispatch.specs.Parts.{replies};
 ghost use Rattle.gx_session.specs.Counts.{Blames};
+ghost use Rattle.gx_session.specs.Cuts.{ReplyWants};
 ghost use Rattle.gx_session.specs.Devices.{Devices};
 ghost use Rattle.gx_session.specs.Session.{Configuration, steps};
 ghost use Rattle.gx_session.specs.Playing.{held, asking_in, WordIs, Standing, Replies, EventGives, IsNext, Flushes, TakesReply, FaultGives, Leads, Keeps};
@@ -103,6 +104,7 @@ fn give<A: Allocator + Clone, E: Engine<A>>(
     requires { IsAnswer (E.whole run.old.engine) reply.now }
     ensures gives { TakesReply E.whole run.old run.new reply.now left result }
     ensures memory { IfErr result (λ halt. halt ≡ Halt.NoMemory) }
+    ensures wants { OnErr result (ReplyWants (E.whole run.old.engine).machine reply.now) }
 {
     run.engine.finish(reply)?;
     run.left = left;

@@ -10,6 +10,7 @@ ghost use Rattle.gx_machine.specs.declared.askings.Asking.TheVariants as asking;
 ghost use Rattle.gx_machine.specs.Saves.{restored};
 ghost use Rattle.gx_machine.specs.Step.{asking_of};
 ghost use Rattle.glk_dispatch.specs.Parts.{on_world, replies};
+ghost use Rattle.gx_session.specs.Constants.{failed as failed_value};
 ghost use Rattle.gx_session.specs.Devices.{Devices};
 ghost use Rattle.gx_session.specs.Playing.{held, asking_in, Follows, GoesBack, Becomes, MaySave, Refuses, EventGives, Leads, Keeps};
 ghost use Rattle.gx_session.specs.Saving.{may_take, is_begun, is_read, saving, restoring, IsReadBack, SavesReadBack};
@@ -30,7 +31,7 @@ pub const FAILED: u32 = 1;
 
 /// The reply to a save or a restore that fails.
 fn failed(world: &World) -> Reply
-    ensures { result ≡ replies FAILED }
+    ensures { result ≡ replies failed_value }
 {
     Reply {
         value: FAILED,

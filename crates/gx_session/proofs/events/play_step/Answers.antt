@@ -51,7 +51,7 @@ returns-in-Err-clause-plays g c =
     inr
     (fault-gives start entry (record mid { machine = (g.E.Engine.whole c.advance.new.self).machine }) (g.E.Engine.whole c.advance.new.self).asking now c.in-Err.fault _ c.faulted.ensures.gives
     (λ wants. step-wants start entry mid now a.before.asking c.draw-word.result c.draw-word.ensures.in_hand reached
-    (g.E.Engine.whole c.advance.new.self).asking (g.E.Engine.whole c.advance.new.self).machine machine none nothing (a.last.1.1 wants).1)
+    (g.E.Engine.whole c.advance.new.self).asking (g.E.Engine.whole c.advance.new.self).machine machine none nothing (a.last.1.1 wants).0 (a.last.1.1 wants).1)
     (λ other. step-stops start entry mid now a.before.asking c.draw-word.result c.draw-word.ensures.in_hand reached
     (g.E.Engine.whole c.advance.new.self).machine c.in-Err.fault (g.E.Engine.whole c.advance.new.self).asking machine nothing (a.last.1.0 other))))
 

@@ -5,13 +5,13 @@ use Rattle.gx_state.specs.declared.effects.Reply.{Reply}
 use Rattle.gx_machine.specs.Answer.{answer_of}
 use Rattle.gx_machine.specs.Saves.{restored}
 use Rattle.glk_dispatch.specs.Parts.{replies}
-use Rattle.gx_session.specs.declared.saves.TheConstants.{FAILED}
-use Rattle.gx_session.specs.Cuts.{HasNoFault}
+use Rattle.gx_session.specs.Constants.{failed}
+use Rattle.gx_session.specs.Cuts.{ReplyWants}
 use Rattle.gx_session.specs.Devices.{Devices}
 use Rattle.gx_session.specs.Playing.{Held, held, asking_in, Replies}
 use Rattle.gx_session.specs.Saving.{restoring}
 use Rattle.gx_session.specs.Session.{steps}
-use Rattle.gx_session.proofs.Asking.{asks-now, asking-here, restoring-does, fine-restoring, asking-resumes, fault-early, fault-stops, fault-gives, world-ok, world-err, world-fine}
+use Rattle.gx_session.proofs.Asking.{asks-now, restoring-does, restore-reads, restore-takes, asking-early, asking-resumes, fault-stops, fault-gives, world-ok, world-err}
 use Rattle.gx_session.proofs.saves.ask_restore.Goals as goal
 
 pub returns-in-Err-clause-plays : goal.returns-in-Err-clause-plays
@@ -24,11 +24,9 @@ returns-in-Err-clause-plays g c coming start entry d f =
     let told = restoring h.world.scene h.machine.flat c.args.stream in
     inr
     (fault-gives start entry (record h { world = c.read.new.world }) asking now c.in-Err.fault _ c.faulted.ensures.gives
-    (λ wants. let fine = world-fine {X = Option Copy} h.world told (value.1.1 wants).1 in
-    fault-early start entry h now steps a.going tt c.read.new.world asking (c.requires.asks ∙ sym a.asking_is)
-    (subst HasNoFault (sym (restoring-does start entry h now c.args.left (Restore c.args.stream) a c.args.stream (Ok fine.0) refl fine.1))
-    (fine-restoring (asking-here start entry h now c.args.left (Restore c.args.stream) a) c.args.left fine.0)))
-    (λ other. fault-stops start entry h now steps a.going tt c.in-Err.fault c.read.new.world asking (value.0 other) (c.requires.asks ∙ sym a.asking_is)
+    (λ wants. asking-early start entry h now c.args.left (Restore c.args.stream) a c.read.new.world asking c.requires.asks
+    (restore-reads start entry h now c.args.left (Restore c.args.stream) a c.args.stream refl (value.1.1 wants).0 (value.1.1 wants).1))
+    (λ other. fault-stops start entry h now steps a.going c.in-Err.fault c.read.new.world asking (value.0 other) (c.requires.asks ∙ sym a.asking_is)
     (restoring-does start entry h now c.args.left (Restore c.args.stream) a c.args.stream (Err c.in-Err.fault) refl (world-err {X = Option Copy} h.world told c.in-Err.fault (value.1.0 other)))))
 
 pub returns-in-Ok-None-clause-plays : goal.returns-in-Ok-None-clause-plays
@@ -39,8 +37,9 @@ returns-in-Ok-None-clause-plays g c coming start entry d f =
     let w = world-ok {X = Option Copy} h.world c.read.new.world (restoring h.world.scene h.machine.flat c.args.stream) None (rw c.in-Ok-None.field-0-is at c.in-Ok-None.ensures.value) in
     c.answer.ensures.plays coming start entry d
     (subst (λ (r : Reply). Replies start entry (record h { world = c.read.new.world }) (asking_in g.E.Engine.whole c.args.run.now) now c.args.left r) (sym c.failed-reply.ensures)
-    (asking-resumes start entry h now c.args.left (Restore c.args.stream) a (asking_in g.E.Engine.whole c.args.run.now) c.read.new.world w.0 (answer_of h.machine (replies FAILED)) c.requires.asks w.2
-    (restoring-does start entry h now c.args.left (Restore c.args.stream) a c.args.stream (Ok (w.0, None)) refl w.1) (λ begins. absurd begins)))
+    (asking-resumes start entry h now c.args.left (Restore c.args.stream) a (asking_in g.E.Engine.whole c.args.run.now) c.read.new.world w.0 (answer_of h.machine (replies failed)) (ReplyWants h.machine (replies failed)) c.requires.asks w.2
+    (restoring-does start entry h now c.args.left (Restore c.args.stream) a c.args.stream (Ok (w.0, None)) refl w.1) (λ begins. absurd begins)
+    (restore-takes start entry h now c.args.left (Restore c.args.stream) a c.args.stream w.0 None refl w.1)))
 
 pub returns-in-Ok-Some-clause-plays : goal.returns-in-Ok-Some-clause-plays
 returns-in-Ok-Some-clause-plays g c coming start entry d f =
@@ -49,5 +48,6 @@ returns-in-Ok-Some-clause-plays g c coming start entry d f =
     let a = asks-now start entry h now c.args.left (Restore c.args.stream) f refl in
     let w = world-ok {X = Option Copy} h.world c.read.new.world (restoring h.world.scene h.machine.flat c.args.stream) (Some c.in-Ok-Some.copy) (rw c.in-Ok-Some.field-0-is at c.in-Ok-Some.ensures.value) in
     c.resume.ensures.plays coming start entry d
-    (asking-resumes start entry h now c.args.left (Restore c.args.stream) a (asking_in g.E.Engine.whole c.args.run.now) c.read.new.world w.0 (restored h.machine c.in-Ok-Some.copy) c.requires.asks w.2
-    (restoring-does start entry h now c.args.left (Restore c.args.stream) a c.args.stream (Ok (w.0, Some c.in-Ok-Some.copy)) refl w.1) (λ begins. absurd begins))
+    (asking-resumes start entry h now c.args.left (Restore c.args.stream) a (asking_in g.E.Engine.whole c.args.run.now) c.read.new.world w.0 (restored h.machine c.in-Ok-Some.copy) (Unit {0}) c.requires.asks w.2
+    (restoring-does start entry h now c.args.left (Restore c.args.stream) a c.args.stream (Ok (w.0, Some c.in-Ok-Some.copy)) refl w.1) (λ begins. absurd begins)
+    (restore-takes start entry h now c.args.left (Restore c.args.stream) a c.args.stream w.0 (Some c.in-Ok-Some.copy) refl w.1))

@@ -1,11 +1,12 @@
 use Rattle.std.proofs.Common.{inr, refl, ◌∙◌, sym, Ok, Err}
 use Rattle.gx_state.specs.declared.effects.Effect.TheVariants.{Save}
 use Rattle.gx_machine.specs.Answer.{answer_of}
+use Rattle.gx_session.specs.Cuts.{ReplyWants}
 use Rattle.gx_session.specs.Devices.{Devices}
 use Rattle.gx_session.specs.Playing.{Held, held, asking_in}
 use Rattle.gx_session.specs.Saving.{saving}
 use Rattle.gx_session.specs.Session.{steps}
-use Rattle.gx_session.proofs.Asking.{asks-now, saving-does, save-wants, asking-resumes, fault-stops, fault-gives, world-ok, world-err}
+use Rattle.gx_session.proofs.Asking.{asks-now, saving-does, save-begun, save-takes, asking-early, asking-resumes, fault-stops, fault-gives, world-ok, world-err}
 use Rattle.gx_session.proofs.saves.ask_save.Goals as goal
 
 pub returns-in-Err-clause-plays : goal.returns-in-Err-clause-plays
@@ -17,8 +18,8 @@ returns-in-Err-clause-plays g c coming start entry d f =
     let value = c.in-Err.ensures.value in
     inr
     (fault-gives start entry (record h { world = c.save.new.world }) asking now c.in-Err.fault _ c.faulted.ensures.gives
-    (λ wants. save-wants start entry h now c.args.left (Save c.args.stream) a c.args.stream refl (value.1 wants) c.save.new.world asking c.requires.asks)
-    (λ other. fault-stops start entry h now steps a.going tt c.in-Err.fault c.save.new.world asking (value.0 other).0 (c.requires.asks ∙ sym a.asking_is)
+    (λ wants. asking-early start entry h now c.args.left (Save c.args.stream) a c.save.new.world asking c.requires.asks (save-begun start entry h now c.args.left (Save c.args.stream) a c.args.stream refl (value.1 wants)))
+    (λ other. fault-stops start entry h now steps a.going c.in-Err.fault c.save.new.world asking (value.0 other).0 (c.requires.asks ∙ sym a.asking_is)
     (saving-does start entry h now c.args.left (Save c.args.stream) a c.args.stream (Err c.in-Err.fault) refl
     (world-err h.world (saving h.world.scene h.machine.flat c.args.stream) c.in-Err.fault (value.0 other).1))))
 
@@ -29,5 +30,6 @@ returns-in-Ok-clause-plays g c coming start entry d f =
     let a = asks-now start entry h now c.args.left (Save c.args.stream) f refl in
     let w = world-ok h.world c.save.new.world (saving h.world.scene h.machine.flat c.args.stream) c.in-Ok.reply c.in-Ok.ensures.value in
     c.answer.ensures.plays coming start entry d
-    (asking-resumes start entry h now c.args.left (Save c.args.stream) a (asking_in g.E.Engine.whole c.args.run.now) c.save.new.world w.0 (answer_of h.machine c.in-Ok.reply) c.requires.asks w.2
-    (saving-does start entry h now c.args.left (Save c.args.stream) a c.args.stream (Ok (w.0, c.in-Ok.reply)) refl w.1) c.in-Ok.ensures.read_back)
+    (asking-resumes start entry h now c.args.left (Save c.args.stream) a (asking_in g.E.Engine.whole c.args.run.now) c.save.new.world w.0 (answer_of h.machine c.in-Ok.reply) (ReplyWants h.machine c.in-Ok.reply) c.requires.asks w.2
+    (saving-does start entry h now c.args.left (Save c.args.stream) a c.args.stream (Ok (w.0, c.in-Ok.reply)) refl w.1) c.in-Ok.ensures.read_back
+    (save-takes start entry h now c.args.left (Save c.args.stream) a c.args.stream w.0 c.in-Ok.reply refl w.1))

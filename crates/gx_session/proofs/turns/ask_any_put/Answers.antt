@@ -1,12 +1,12 @@
-use Rattle.std.proofs.Common.{inr, refl, subst, sym, ◌∙◌, Ok, Err}
+use Rattle.std.proofs.Common.{inr, refl, sym, ◌∙◌, Ok, Err}
 use Rattle.gx_state.specs.declared.effects.Effect.TheVariants.{Put}
 use Rattle.gx_machine.specs.Answer.{answer_of}
 use Rattle.glk_dispatch.specs.Output.{putting}
-use Rattle.gx_session.specs.Cuts.{HasNoFault}
+use Rattle.gx_session.specs.Cuts.{ReplyWants}
 use Rattle.gx_session.specs.Devices.{Devices}
 use Rattle.gx_session.specs.Playing.{Held, held, asking_in}
 use Rattle.gx_session.specs.Session.{steps}
-use Rattle.gx_session.proofs.Asking.{asks-now, put-does, asking-resumes, fault-early, fault-stops, fault-gives, world-ok, world-err, world-fine}
+use Rattle.gx_session.proofs.Asking.{asks-now, put-does, put-grows, put-takes, asking-early, asking-resumes, fault-stops, fault-gives, world-ok, world-err}
 use Rattle.gx_session.proofs.turns.ask_any_put.Goals as goal
 
 pub returns-in-Err-clause-plays : goal.returns-in-Err-clause-plays
@@ -18,10 +18,9 @@ returns-in-Err-clause-plays g c coming start entry d f =
     let value = c.in-Err.ensures.value in
     inr
     (fault-gives start entry (record h { world = c.put.new.world }) asking now c.in-Err.fault _ c.faulted.ensures.gives
-    (λ wants. let fine = world-fine h.world (putting h.world.scene c.state.result.now.flat c.args.c) (value.1.1 wants).1 in
-    fault-early start entry h now steps a.going tt c.put.new.world asking (c.requires.asks ∙ sym a.asking_is)
-    (subst HasNoFault (sym (put-does start entry h now c.args.left (Put c.args.c) a c.args.c c.state.result.now.flat (Ok fine.0) refl c.state.ensures fine.1)) tt))
-    (λ other. fault-stops start entry h now steps a.going tt c.in-Err.fault c.put.new.world asking (value.0 other) (c.requires.asks ∙ sym a.asking_is)
+    (λ wants. asking-early start entry h now c.args.left (Put c.args.c) a c.put.new.world asking c.requires.asks
+    (put-grows start entry h now c.args.left (Put c.args.c) a c.args.c c.state.result.now.flat refl c.state.ensures (value.1.1 wants).0 (value.1.1 wants).1))
+    (λ other. fault-stops start entry h now steps a.going c.in-Err.fault c.put.new.world asking (value.0 other) (c.requires.asks ∙ sym a.asking_is)
     (put-does start entry h now c.args.left (Put c.args.c) a c.args.c c.state.result.now.flat (Err c.in-Err.fault) refl c.state.ensures
     (world-err h.world (putting h.world.scene c.state.result.now.flat c.args.c) c.in-Err.fault (value.1.0 other)))))
 
@@ -32,5 +31,6 @@ returns-in-Ok-clause-plays g c coming start entry d f =
     let a = asks-now start entry h now c.args.left (Put c.args.c) f refl in
     let w = world-ok h.world c.put.new.world (putting h.world.scene c.state.result.now.flat c.args.c) c.in-Ok.reply c.in-Ok.ensures.value in
     c.answer.ensures.plays coming start entry d
-    (asking-resumes start entry h now c.args.left (Put c.args.c) a (asking_in g.E.Engine.whole c.args.run.now) c.put.new.world w.0 (answer_of h.machine c.in-Ok.reply) c.requires.asks w.2
-    (put-does start entry h now c.args.left (Put c.args.c) a c.args.c c.state.result.now.flat (Ok (w.0, c.in-Ok.reply)) refl c.state.ensures w.1) (λ begins. absurd begins))
+    (asking-resumes start entry h now c.args.left (Put c.args.c) a (asking_in g.E.Engine.whole c.args.run.now) c.put.new.world w.0 (answer_of h.machine c.in-Ok.reply) (ReplyWants h.machine c.in-Ok.reply) c.requires.asks w.2
+    (put-does start entry h now c.args.left (Put c.args.c) a c.args.c c.state.result.now.flat (Ok (w.0, c.in-Ok.reply)) refl c.state.ensures w.1) (λ begins. absurd begins)
+    (put-takes start entry h now c.args.left (Put c.args.c) a c.args.c c.state.result.now.flat w.0 c.in-Ok.reply refl c.state.ensures w.1))

@@ -1,12 +1,11 @@
-use Rattle.std.proofs.Common.{inr, refl, subst, sym, ◌∙◌, Ok, Err}
+use Rattle.std.proofs.Common.{inr, refl, sym, ◌∙◌, Ok, Err}
 use Rattle.gx_state.specs.declared.effects.Effect.TheVariants.{Glk}
 use Rattle.glk_dispatch.specs.declared.Turn.{Turn}
 use Rattle.glk_dispatch.specs.Calls.{glk_call}
-use Rattle.gx_session.specs.Cuts.{HasNoFault}
 use Rattle.gx_session.specs.Devices.{Devices}
 use Rattle.gx_session.specs.Playing.{Held, held, asking_in}
 use Rattle.gx_session.specs.Session.{steps}
-use Rattle.gx_session.proofs.Asking.{asks-now, asking-here, call-does, call-turns, fine-turn, fault-early, fault-stops, fault-gives, world-ok, world-err, world-fine}
+use Rattle.gx_session.proofs.Asking.{asks-now, call-does, call-grows, call-takes, call-turns, asking-early, fault-stops, fault-gives, world-ok, world-err}
 use Rattle.gx_session.proofs.Feeding.{fed-same, fed-as}
 use Rattle.gx_session.proofs.turns.ask_glk.Goals as goal
 
@@ -23,12 +22,9 @@ returns-in-Err-clause-plays g c =
     let told = glk_call h.world.scene c.state.result.now.flat c.args.wait.room c.args.selector c.as_slice.result.now in
     inr
     (fault-gives start entry (record h { world = c.call.new.world }) asking now c.in-Err.fault _ c.faulted.ensures.gives
-    (λ wants. let fine = world-fine {X = Turn} h.world told (value.1.1 wants).1 in
-    fault-early start entry h now steps a.going tt c.call.new.world asking (c.requires.asks ∙ sym a.asking_is)
-    (subst HasNoFault
-    (sym (call-does start entry h now c.args.wait.left does a c.args.selector c.args.args.now c.as_slice.result.now c.args.wait c.state.result.now.flat (Ok fine.0) refl refl c.state.ensures c.as_slice.ensures.value fine.1))
-    (fine-turn (asking-here start entry h now c.args.wait.left does a) c.args.wait fine.0)))
-    (λ other. fault-stops start entry h now steps a.going tt c.in-Err.fault c.call.new.world asking (value.0 other) (c.requires.asks ∙ sym a.asking_is)
+    (λ wants. asking-early start entry h now c.args.wait.left does a c.call.new.world asking c.requires.asks
+    (call-grows start entry h now c.args.wait.left does a c.args.selector c.args.args.now c.as_slice.result.now c.args.wait c.state.result.now.flat refl c.state.ensures c.as_slice.ensures.value (value.1.1 wants).0 (value.1.1 wants).1))
+    (λ other. fault-stops start entry h now steps a.going c.in-Err.fault c.call.new.world asking (value.0 other) (c.requires.asks ∙ sym a.asking_is)
     (call-does start entry h now c.args.wait.left does a c.args.selector c.args.args.now c.as_slice.result.now c.args.wait c.state.result.now.flat (Err c.in-Err.fault) refl refl c.state.ensures c.as_slice.ensures.value
     (world-err {X = Turn} h.world told c.in-Err.fault (value.1.0 other))))))
 
@@ -43,4 +39,5 @@ returns-in-Ok-clause-plays g c =
     let w = world-ok {X = Turn} h.world c.call.new.world (glk_call h.world.scene c.state.result.now.flat c.args.wait.room c.args.selector c.as_slice.result.now) c.in-Ok.turn c.in-Ok.ensures.value in
     plays start entry now
     (call-turns start entry h now c.args.wait.left does a (asking_in g.E.Engine.whole c.args.run.now) c.call.new.world w.0 c.args.wait c.in-Ok.turn c.requires.asks w.2
-    (call-does start entry h now c.args.wait.left does a c.args.selector c.args.args.now c.as_slice.result.now c.args.wait c.state.result.now.flat (Ok (w.0, c.in-Ok.turn)) refl refl c.state.ensures c.as_slice.ensures.value w.1) (λ begins. begins)))
+    (call-does start entry h now c.args.wait.left does a c.args.selector c.args.args.now c.as_slice.result.now c.args.wait c.state.result.now.flat (Ok (w.0, c.in-Ok.turn)) refl refl c.state.ensures c.as_slice.ensures.value w.1) (λ begins. begins)
+    (call-takes start entry h now c.args.wait.left does a c.args.selector c.args.args.now c.as_slice.result.now c.args.wait c.state.result.now.flat w.0 c.in-Ok.turn refl c.state.ensures c.as_slice.ensures.value w.1)))

@@ -5,11 +5,10 @@ use Rattle.gx_machine.specs.Answer.{answer_of}
 use Rattle.glk_world.specs.World.{FlatWorld}
 use Rattle.glk_dispatch.specs.Output.{putting}
 use Rattle.glk_dispatch.specs.Parts.{replies}
-use Rattle.gx_session.specs.Cuts.{HasNoFault}
+use Rattle.gx_session.specs.Cuts.{ReplyWants}
 use Rattle.gx_session.specs.Devices.{Devices}
 use Rattle.gx_session.specs.Playing.{Held, held, asking_in, Follows}
-use Rattle.gx_session.specs.Session.{steps}
-use Rattle.gx_session.proofs.Asking.{asks-now, put-does, asking-resumes, fault-early, world-ok, world-fine}
+use Rattle.gx_session.proofs.Asking.{asks-now, put-does, put-grows, put-takes, asking-early, asking-resumes, world-ok}
 use Rattle.gx_session.proofs.turns.ask_put.Goals as goal
 
 pub returns-in-Err-clause-plays : goal.returns-in-Err-clause-plays
@@ -18,10 +17,9 @@ returns-in-Err-clause-plays g c coming start entry d f =
     let h : Held = held g.E.Engine.whole c.args.run.now coming in
     let asking = asking_in g.E.Engine.whole c.args.run.now in
     let a = asks-now start entry h now c.args.left (Put c.args.c) f refl in
-    let fine = world-fine h.world (putting h.world.scene h.machine.flat c.args.c) (c.in-Err.ensures.fine h.machine.flat) in
     inr
-    (fault-early start entry h now steps a.going tt c.put_text.new.world asking (c.requires.asks ∙ sym a.asking_is)
-    (subst HasNoFault (sym (put-does start entry h now c.args.left (Put c.args.c) a c.args.c h.machine.flat (Ok fine.0) refl refl fine.1)) tt))
+    (asking-early start entry h now c.args.left (Put c.args.c) a c.put_text.new.world asking c.requires.asks
+    (put-grows start entry h now c.args.left (Put c.args.c) a c.args.c h.machine.flat refl refl c.in-Err.ensures.memory (c.in-Err.ensures.fine h.machine.flat)))
 
 pub returns-in-Ok-true-clause-plays : goal.returns-in-Ok-true-clause-plays
 returns-in-Ok-true-clause-plays g c coming start entry d f =
@@ -30,8 +28,9 @@ returns-in-Ok-true-clause-plays g c coming start entry d f =
     let a = asks-now start entry h now c.args.left (Put c.args.c) f refl in
     let w = world-ok h.world c.put_text.new.world (putting h.world.scene h.machine.flat c.args.c) (replies 0) (c.in-Ok-true.ensures.put (rw c.in-Ok-true.field-0-test refl) h.machine.flat) in
     c.answer_put.ensures.plays coming start entry d
-    (asking-resumes start entry h now c.args.left (Put c.args.c) a (asking_in g.E.Engine.whole c.args.run.now) c.put_text.new.world w.0 (answer_of h.machine (replies 0)) c.requires.asks w.2
-    (put-does start entry h now c.args.left (Put c.args.c) a c.args.c h.machine.flat (Ok (w.0, replies 0)) refl refl w.1) (λ begins. absurd begins))
+    (asking-resumes start entry h now c.args.left (Put c.args.c) a (asking_in g.E.Engine.whole c.args.run.now) c.put_text.new.world w.0 (answer_of h.machine (replies 0)) (ReplyWants h.machine (replies 0)) c.requires.asks w.2
+    (put-does start entry h now c.args.left (Put c.args.c) a c.args.c h.machine.flat (Ok (w.0, replies 0)) refl refl w.1) (λ begins. absurd begins)
+    (put-takes start entry h now c.args.left (Put c.args.c) a c.args.c h.machine.flat w.0 (replies 0) refl refl w.1))
 
 pub returns-in-Ok-false-clause-plays : goal.returns-in-Ok-false-clause-plays
 returns-in-Ok-false-clause-plays g c coming start entry d f =

@@ -1,11 +1,10 @@
-use Rattle.std.proofs.Common.{inr, subst, sym, Ok, Err}
+use Rattle.std.proofs.Common.{inr, Err}
 use Rattle.glk_dispatch.specs.declared.Turn.{Turn}
 use Rattle.glk_dispatch.specs.Going.{glk_go_on}
-use Rattle.gx_session.specs.Cuts.{HasNoFault}
 use Rattle.gx_session.specs.Devices.{Devices}
 use Rattle.gx_session.specs.Playing.{Held, held, asking_in}
 use Rattle.gx_session.specs.Session.{goes_on}
-use Rattle.gx_session.proofs.Asking.{on-ready, given-does, given-turns, going-on, fine-given, fault-early, fault-stops, fault-gives, world-ok, world-err, world-fine}
+use Rattle.gx_session.proofs.Asking.{on-ready, given-does, given-early, given-turns, fault-stops, fault-gives, world-ok, world-err, world-fine}
 use Rattle.gx_session.proofs.turns.go_on.Goals as goal
 
 pub returns-in-Err-clause-plays : goal.returns-in-Err-clause-plays
@@ -18,11 +17,8 @@ returns-in-Err-clause-plays g c coming start entry d waits =
     let told = glk_go_on h.world.scene c.state.result.now.flat c.args.wait.room c.args.given in
     inr
     (fault-gives start entry (record h { world = c.go_on.new.world }) asking now c.in-Err.fault _ c.faulted.ensures.gives
-    (λ wants. let fine = world-fine {X = Turn} h.world told (value.1.1 wants).1 in
-    fault-early start entry h now (goes_on c.args.given c.args.wait) ready tt c.go_on.new.world asking waits.asking_is
-    (subst HasNoFault (sym (given-does start entry h now asking c.args.given c.args.wait waits c.state.result.now.flat (Ok fine.0) c.state.ensures fine.1))
-    (fine-given (going-on start entry h now asking c.args.given c.args.wait waits) c.args.wait fine.0)))
-    (λ other. fault-stops start entry h now (goes_on c.args.given c.args.wait) ready tt c.in-Err.fault c.go_on.new.world asking (value.0 other) waits.asking_is
+    (λ wants. given-early start entry h now asking c.args.given c.args.wait waits c.go_on.new.world c.state.result.now.flat c.state.ensures (value.1.1 wants).0 (world-fine {X = Turn} h.world told (value.1.1 wants).1))
+    (λ other. fault-stops start entry h now (goes_on c.args.given c.args.wait) ready c.in-Err.fault c.go_on.new.world asking (value.0 other) waits.asking_is
     (given-does start entry h now asking c.args.given c.args.wait waits c.state.result.now.flat (Err c.in-Err.fault) c.state.ensures (world-err {X = Turn} h.world told c.in-Err.fault (value.1.0 other)))))
 
 pub returns-in-Ok-clause-plays : goal.returns-in-Ok-clause-plays
@@ -32,5 +28,4 @@ returns-in-Ok-clause-plays g c coming start entry d waits =
     let asking = asking_in g.E.Engine.whole c.args.run.now in
     let w = world-ok {X = Turn} h.world c.go_on.new.world (glk_go_on h.world.scene c.state.result.now.flat c.args.wait.room c.args.given) c.in-Ok.turn c.in-Ok.ensures.value in
     c.take_answer.ensures.plays coming start entry d
-    (given-turns start entry h now asking c.args.given c.args.wait waits c.go_on.new.world w.0 c.in-Ok.turn w.2
-    (given-does start entry h now asking c.args.given c.args.wait waits c.state.result.now.flat (Ok (w.0, c.in-Ok.turn)) c.state.ensures w.1))
+    (given-turns start entry h now asking c.args.given c.args.wait waits c.go_on.new.world w.0 c.in-Ok.turn c.state.result.now.flat w.2 c.state.ensures w.1)

@@ -17,7 +17,7 @@ returns-in_err-show_grids-clause-plays g c =
     (fed-same c.args.run.now.lines (g.S.Source.seen c.args.input.now) _
     (λ x turn start entry d is r.
     let h : Held = held g.E.Engine.whole c.args.run.now x in
-    inr (turn-wants start entry h (record d { source = g.S.Source.seen c.args.input.now; sink = g.K.Sink.seen c.args.output.now }) (asking_in g.E.Engine.whole c.args.run.now) c.args.wait turn r (record h { world = c.show_grids.new.self }) refl refl)))
+    inr (turn-wants start entry h (record d { source = g.S.Source.seen c.args.input.now; sink = g.K.Sink.seen c.args.output.now }) (asking_in g.E.Engine.whole c.args.run.now) c.args.wait turn r is c.in_err-show_grids.ensures.memory (record h { world = c.show_grids.new.self }) refl refl)))
 
 pub await_line-requires-clause-awaits : goal.await_line-requires-clause-awaits
 await_line-requires-clause-awaits g c line =

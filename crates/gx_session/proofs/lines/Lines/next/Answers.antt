@@ -2,7 +2,7 @@ use Rattle.std.proofs.Common.{◌≡◌, ◌+◌, ◌<◌, ◌≤◌, ℕ, List,
 use Rattle.std.proofs.lemmas.List.{get_or_append_left}
 use Rattle.std.proofs.lemmas.List.Sums.{fails_before_first}
 use Rattle.std.proofs.lemmas.Result.{err_from_is_err_and}
-use Rattle.gx_session.specs.declared.lines.TheConstants.{PIECE}
+use Rattle.gx_session.specs.Constants.{piece}
 use Rattle.gx_session.specs.Input.{is_line_feed, chars_of}
 use Rattle.gx_session.specs.Lines.{HeldLines}
 use Rattle.gx_session.proofs.Counting.{blames-call, well-none, well-on}
@@ -73,7 +73,7 @@ loop-self-preserved g c =
     let got = c.in_ok-fill.ensures.grows.0 in
     let more = c.in_ok-fill.ensures.grows.1 in
     let len : length c.fill.new.self.held ≡ length c.loop-self.self.held + length got = ap length more.held ∙ length-append c.loop-self.self.held got in
-    let few : length got ≤ PIECE = more.few in
+    let few : length got ≤ piece = more.few in
     record {
       within = omega arith;
       before = λ k less.

@@ -1,5 +1,5 @@
 use Rattle.std.proofs.Common.{◌≡◌, ◌+◌, ◌-◌, ◌*◌, ◌≤◌, ◌<◌, ℕ, length, false, get_or, if◌then◌else◌}
-use Rattle.gx_session.specs.declared.lines.TheConstants.{LONGEST, PIECE}
+use Rattle.gx_session.specs.Constants.{longest, piece}
 use Rattle.gx_session.specs.Input.{is_line_feed}
 use Rattle.gx_session.specs.Reading.{Fed, IsWhole}
 use Rattle.gx_session.proofs.Counting.{IsWell}
@@ -10,7 +10,7 @@ abbrev pub invariant-loop-self : goal.invariant-loop-self
 invariant-loop-self g l = record {
   within : l.searched ≤ length l.self.held;
   before : (k : ℕ) → k < l.searched → is_line_feed (get_or l.self.held k 0) ≡ false;
-  few : length l.initial.self.held < PIECE → length l.self.held ≤ l.searched + PIECE;
+  few : length l.initial.self.held < piece → length l.self.held ≤ l.searched + piece;
   fed : Fed l.initial.self l.self (g.S.Source.seen l.initial.source) (g.S.Source.seen l.source) (ReadOn l.initial.self l.self (g.S.Source.seen l.initial.source) (g.S.Source.seen l.source));
   whole : IsWhole l.initial.self.held → (g.S.Source.seen l.source ≡ g.S.Source.seen l.initial.source) × (l.self ≡ l.initial.self);
   count : IsWell (g.S.Source.seen l.initial.source).calls (g.S.Source.seen l.source).calls;
@@ -18,4 +18,4 @@ invariant-loop-self g l = record {
 }
 
 abbrev pub decreases-loop-self : goal.decreases-loop-self
-decreases-loop-self g l = 2 * (LONGEST - length l.self.held) + (if l.self.ended then 0 else 1)
+decreases-loop-self g l = 2 * (longest - length l.self.held) + (if l.self.ended then 0 else 1)
