@@ -11,7 +11,7 @@ use Rattle.glk_streams.specs.Streams.{id_of, no_stream}
 use Rattle.glk_world.specs.World.{Scene, FlatWorld}
 use Rattle.gx_words.specs.declared.faults.Fault.{Fault}
 use Rattle.gx_words.specs.Results.{◌>>=◌}
-use Rattle.glk_dispatch.specs.declared.parts.TheConstants.{ON_STACK}
+use Rattle.glk_dispatch.specs.Constants.{on_stack}
 use Rattle.gx_state.specs.declared.effects.Reply.{Reply}
 use Rattle.glk_world.specs.World.{Said, reference_id, no_reference, reference_at, has_reference}
 use Rattle.glk_dispatch.specs.declared.Turn.TheVariants.{Answer}
@@ -43,15 +43,15 @@ both_faults (Ok _) (Ok _) e x y z h = absurd (cc)
 both_faults (Ok _) (Err d) e x y z h = cc
 both_faults (Err d) s e x y z h = cc
 
-pair_length : (at a b : ℕ) → length (pushed at (a ∷ b ∷ [])) ≡ (if at == ON_STACK then 2 else 0)
-pair_length at a b = elim (at == ON_STACK) as (λ c. length (if c then a ∷ b ∷ [] else []) ≡ (if c then 2 else 0)) [ true ↦ refl | false ↦ refl ]
+pair_length : (at a b : ℕ) → length (pushed at (a ∷ b ∷ [])) ≡ (if at == on_stack then 2 else 0)
+pair_length at a b = elim (at == on_stack) as (λ c. length (if c then a ∷ b ∷ [] else []) ≡ (if c then 2 else 0)) [ true ↦ refl | false ↦ refl ]
 
 pub closing_faults : (w : Scene) (f : FlatState) (room : ℕ) (args : List ℕ) (e : Fault) (file : Option (List ℕ × List ℕ)) → can_give_pair f room (arg args 1) ≡ Err e → closing_by file w f room args ≡ Err e
 unfolding can_give_pair close give
 closing_faults w f room args e (Some file) h = rw h refl
 closing_faults w f room args e None h =
     let s = streams.stream w.streams (arg args 0) in
-    rw (pair_length (arg args 1) s.read s.written) (both_faults {X = Reply} {Y = Said × Reply} (can_give f (arg args 1) 2) (fitting room (if arg args 1 == ON_STACK then 2 else 0)) e (record { value = 0; pushes = pushed (arg args 1) (counts w (arg args 0)); writes = written (arg args 1) (counts w (arg args 0)) }) (answered (closed w (arg args 0))) (λ done. Ok (done.0, Answer done.1)) h)
+    rw (pair_length (arg args 1) s.read s.written) (both_faults {X = Reply} {Y = Said × Reply} (can_give f (arg args 1) 2) (fitting room (if arg args 1 == on_stack then 2 else 0)) e (record { value = 0; pushes = pushed (arg args 1) (counts w (arg args 0)); writes = written (arg args 1) (counts w (arg args 0)) }) (answered (closed w (arg args 0))) (λ done. Ok (done.0, Answer done.1)) h)
 
 pub closing_refused : (w : FlatWorld) (f : FlatState) (room selector : ℕ) (args : List ℕ) (e : Fault) → can_give_pair f room (arg args 1) ≡ Err e → on_world w (closing w.scene f room selector args) ≡ Err e
 unfolding closing

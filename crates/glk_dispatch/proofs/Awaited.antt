@@ -2,7 +2,7 @@
 -- were shown, and whether something was shown since the last line feed.
 use Rattle.std.proofs.Common.{◌≡◌, ℕ, ◌==◌, Bool, true, false, if◌then◌else◌, List, [], ◌∷◌, ◌++◌, length, map, codes, refl, sym, subst, ap, ◌∙◌}
 use Rattle.std.specs.Str.{encode_utf8_all}
-use Rattle.glk_text.specs.declared.characters.TheConstants.{LINE_FEED}
+use Rattle.glk_text.specs.Constants.{line_feed}
 use Rattle.glk_text.specs.Characters.{shown}
 use Rattle.glk_world.specs.World.{Scene, Said, silent}
 use Rattle.glk_world.specs.Shown.{said_row, said_rows, said_grid, said_grids, show_grids, show_line, same_rows, last_rows, shown_grid, on_a_new_line}
@@ -21,7 +21,7 @@ IsShown w v = v ≡ with_mark w v.fresh
 row_shown : (w : Scene) (row : List ℕ) → IsShown w (said_row w row).0
 unfolding said_row
 row_shown w row =
-    elim (length row == 0) as (λ none. let v : Said = if none then silent w else (record w { fresh = true }, on_a_new_line w ++ (codes "| " ++ (encode_utf8_all (map shown row) ++ LINE_FEED ∷ []))) in IsShown w v.0) [
+    elim (length row == 0) as (λ none. let v : Said = if none then silent w else (record w { fresh = true }, on_a_new_line w ++ (codes "| " ++ (encode_utf8_all (map shown row) ++ line_feed ∷ []))) in IsShown w v.0) [
       | true ↦ refl
       | false ↦ refl
     ]

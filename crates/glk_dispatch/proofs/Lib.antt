@@ -1,3 +1,4 @@
+mod Constants
 pub mod Laying
 pub mod Ram
 pub mod Rows

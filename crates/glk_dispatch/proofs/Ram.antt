@@ -6,7 +6,7 @@ use Rattle.std.proofs.lemmas.List.{append-nil, length-append}
 use Rattle.gx_state.specs.Flat.{FlatState, write_fault}
 use Rattle.gx_state.specs.Replies.{AreBetween, AreInRam}
 use Rattle.glk_streams.specs.declared.kinds.Places.{Places}
-use Rattle.glk_dispatch.specs.declared.parts.TheConstants.{ON_STACK}
+use Rattle.glk_dispatch.specs.Constants.{on_stack}
 use Rattle.glk_dispatch.specs.Parts.{IsCharWidth, char_bytes, chars_bytes, can_lay, laid, can_give, written, can_give_each, written_each}
 
 pub between_append : (low high : ℕ) (ws vs : List (ℕ × List ℕ)) → AreBetween low high ws → AreBetween low high vs → AreBetween low high (ws ++ vs)
@@ -43,7 +43,7 @@ laid_in_ram f p cs width few ok =
 pub written_in_ram : (f : FlatState) (at : ℕ) (words : List ℕ) → can_give f at (length words) ≡ Ok tt → AreInRam f (written at words)
 unfolding can_give
 written_in_ram f at words ok =
-    elim (at == 0 || at == ON_STACK) as (λ none. (at == 0 || at == ON_STACK) ≡ none → AreInRam f (if none then [] else (at, chars_bytes 4 words) ∷ [])) [
+    elim (at == 0 || at == on_stack) as (λ none. (at == 0 || at == on_stack) ≡ none → AreInRam f (if none then [] else (at, chars_bytes 4 words) ∷ [])) [
       | true ↦ λ same. tt
       | false ↦ λ same.
           let there = writable f at (4 * length words) (grind (arith, common_steps, nat_tests)) in

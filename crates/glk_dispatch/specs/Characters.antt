@@ -6,7 +6,7 @@ use Rattle.gx_state.specs.Flat.{FlatState}
 use Rattle.glk_streams.specs.declared.kinds.Places.{Places}
 use Rattle.glk_text.specs.Characters.{lower_of, upper_of}
 use Rattle.glk_world.specs.World.{Scene}
-use Rattle.glk_dispatch.specs.declared.selectors.TheConstants.{CHAR_TO_LOWER, CHAR_TO_UPPER, BUFFER_TO_LOWER_CASE_UNI, BUFFER_TO_UPPER_CASE_UNI, BUFFER_TO_TITLE_CASE_UNI}
+use Rattle.glk_dispatch.specs.Numbers as selectors
 use Rattle.glk_dispatch.specs.declared.characters.Case.{Case}
 use Rattle.glk_dispatch.specs.declared.characters.Case.TheVariants.{Lower, Upper, Same}
 use Rattle.glk_dispatch.specs.Parts.{Outcome, arg, replies, answered, can_read, can_lay, laid, numbers_in}
@@ -48,16 +48,16 @@ rest_of args = if arg args 3 == 0 then Same else Lower
 
 unfoldable pub characters : Scene → FlatState → ℕ → ℕ → List ℕ → Outcome
 characters w f room selector args =
-    if selector == CHAR_TO_LOWER then char_to_case w Lower args else
-    if selector == CHAR_TO_UPPER then char_to_case w Upper args else
-    if selector == BUFFER_TO_LOWER_CASE_UNI then buffer_to_case w f Lower Lower args else
-    if selector == BUFFER_TO_UPPER_CASE_UNI then buffer_to_case w f Upper Upper args else
-    if selector == BUFFER_TO_TITLE_CASE_UNI then buffer_to_case w f Upper (rest_of args) args else
+    if selector == selectors.char_to_lower then char_to_case w Lower args else
+    if selector == selectors.char_to_upper then char_to_case w Upper args else
+    if selector == selectors.buffer_to_lower_case_uni then buffer_to_case w f Lower Lower args else
+    if selector == selectors.buffer_to_upper_case_uni then buffer_to_case w f Upper Upper args else
+    if selector == selectors.buffer_to_title_case_uni then buffer_to_case w f Upper (rest_of args) args else
     Err BadGlk
 
 -- where it may want memory
 unfoldable pub characters_grow : Scene → FlatState → ℕ → List ℕ → Bool
 characters_grow w f selector args =
-    if selector == CHAR_TO_LOWER then false else
-    if selector == CHAR_TO_UPPER then false else
+    if selector == selectors.char_to_lower then false else
+    if selector == selectors.char_to_upper then false else
     nat_lt 0 (buffer_of args).count

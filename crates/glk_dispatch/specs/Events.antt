@@ -5,7 +5,7 @@ use Rattle.gx_words.specs.declared.faults.Fault.TheVariants.{BadGlk}
 use Rattle.gx_words.specs.Results.{◌>>=◌}
 use Rattle.gx_state.specs.Flat.{FlatState}
 use Rattle.gx_state.specs.declared.effects.Reply.{Reply}
-use Rattle.glk_text.specs.declared.characters.TheConstants.{LINE_FEED}
+use Rattle.glk_text.specs.Constants.{line_feed}
 use Rattle.glk_text.specs.Characters.{latin_of}
 use Rattle.glk_streams.specs.declared.kinds.Places.{Places}
 use Rattle.glk_streams.specs.Streams as streams
@@ -18,8 +18,8 @@ use Rattle.glk_world.specs.Putting.{places_of, no_places}
 use Rattle.glk_world.specs.Shown.{line_taken}
 use Rattle.glk_dispatch.specs.declared.Turn.{Turn}
 use Rattle.glk_dispatch.specs.declared.Turn.TheVariants.{Wait, Stuck}
-use Rattle.glk_dispatch.specs.declared.selectors.TheConstants.{SELECT, REQUEST_LINE_EVENT, CANCEL_LINE_EVENT, REQUEST_CHAR_EVENT, CANCEL_CHAR_EVENT, REQUEST_CHAR_EVENT_UNI, REQUEST_LINE_EVENT_UNI}
-use Rattle.glk_dispatch.specs.declared.events.TheConstants.{NO_EVENT, CHAR_EVENT, LINE_EVENT}
+use Rattle.glk_dispatch.specs.Numbers as selectors
+use Rattle.glk_dispatch.specs.Constants.{no_event_type, char_event_type, line_event_type}
 use Rattle.glk_dispatch.specs.Turns.{TurnOutcome, waits}
 use Rattle.glk_dispatch.specs.Parts.{Outcome, arg, replies, answered, can_lay, laid, pushed, written, can_give, fitting, give}
 use Rattle.glk_world.specs.Putting.{puts}
@@ -29,7 +29,7 @@ abbrev pub event : ℕ → ℕ → ℕ → List ℕ
 event kind win value = kind ∷ win ∷ value ∷ 0 ∷ []
 
 abbrev pub no_event : List ℕ
-no_event = event NO_EVENT 0 0
+no_event = event no_event_type 0 0
 
 -- ---- "Line Input Events" and "Character Input Events"
 
@@ -73,7 +73,7 @@ cancel_char_event w args =
 unfoldable pub cancel_line_event : Scene → FlatState → ℕ → List ℕ → Outcome
 cancel_line_event w f room args =
     if is_line (requests.of w.requests (arg args 0)) then (do
-      reply ← give f room 0 (arg args 1) (event LINE_EVENT (arg args 0) 0)
+      reply ← give f room 0 (arg args 1) (event line_event_type (arg args 0) 0)
       answered (without_request w (arg args 0)) reply)
     else (do
       reply ← give f room 0 (arg args 1) no_event
@@ -90,7 +90,7 @@ select_poll w f room args = do
 -- with no request nothing could come; else the call waits
 abbrev pub waits_for : Scene → List ℕ → Option Request → Said × Turn
 waits_for w args None = (silent w, Stuck)
-waits_for w args (Some r) = (silent (waits w SELECT args), Wait)
+waits_for w args (Some r) = (silent (waits w selectors.select args), Wait)
 
 -- The wait for an event, whose place is looked at before.
 unfoldable pub select : Scene → FlatState → ℕ → ℕ → List ℕ → TurnOutcome
@@ -105,7 +105,8 @@ select_grow w f selector args = false
 
 -- the event that a line gives to a request
 abbrev pub event_of : Request → List ℕ → List ℕ
-event_of r line = if r.line then event LINE_EVENT r.win (line_length r line) else event CHAR_EVENT r.win (char_value r line)
+event_of r line =
+    if r.line then event line_event_type r.win (line_length r line) else event char_event_type r.win (char_value r line)
 
 -- the places of a line request's characters; a character request has none
 abbrev pub line_places : Request → List ℕ → Places
@@ -118,7 +119,7 @@ stored wide c = if wide then c else latin_of c
 
 -- what is put to the window's echo stream: the characters that were stored, and a line feed
 abbrev pub echoed : Request → List ℕ → List ℕ
-echoed r line = if r.line then map (stored r.wide) (take (line_length r line) line) ++ LINE_FEED ∷ [] else []
+echoed r line = if r.line then map (stored r.wide) (take (line_length r line) line) ++ line_feed ∷ [] else []
 
 -- the echo stream of a request's window, 0 for none
 abbrev pub echo_for : Scene → Request → ℕ
@@ -181,16 +182,16 @@ events_grow w f selector args = not (arg args 0 == 0)
 -- Requests of a window.
 unfoldable pub on_events : Scene → FlatState → ℕ → ℕ → List ℕ → Outcome
 on_events w f room selector args =
-    if selector == REQUEST_LINE_EVENT then requested w (line_request false args) else
-    if selector == CANCEL_LINE_EVENT then cancel_line_event w f room args else
-    if selector == REQUEST_CHAR_EVENT then requested w (char_request false args) else
-    if selector == CANCEL_CHAR_EVENT then cancel_char_event w args else
-    if selector == REQUEST_CHAR_EVENT_UNI then requested w (char_request true args) else
-    if selector == REQUEST_LINE_EVENT_UNI then requested w (line_request true args) else
+    if selector == selectors.request_line_event then requested w (line_request false args) else
+    if selector == selectors.cancel_line_event then cancel_line_event w f room args else
+    if selector == selectors.request_char_event then requested w (char_request false args) else
+    if selector == selectors.cancel_char_event then cancel_char_event w args else
+    if selector == selectors.request_char_event_uni then requested w (char_request true args) else
+    if selector == selectors.request_line_event_uni then requested w (line_request true args) else
     Err BadGlk
 
 unfoldable pub on_events_grow : Scene → FlatState → ℕ → List ℕ → Bool
 on_events_grow w f selector args =
-    if selector == CANCEL_LINE_EVENT then not (arg args 1 == 0) else
-    if selector == CANCEL_CHAR_EVENT then false else
+    if selector == selectors.cancel_line_event then not (arg args 1 == 0) else
+    if selector == selectors.cancel_char_event then false else
     may_ask w (arg args 0)

@@ -1,26 +1,26 @@
 -- What the library can do (Glk 0.7.5, "The Gestalt System"; its selectors under "The Version Number", "Output",
 -- "Line Input", "Character Input" and "Testing for Unicode Capabilities").
 use Rattle.std.specs.Prelude.{ℕ, ◌==◌, ◌&&◌, ◌||◌, not, Bool, false, if◌then◌else◌, List, [], ◌∷◌, Err}
-use Rattle.glk_text.specs.declared.characters.TheConstants.{LINE_FEED}
+use Rattle.glk_text.specs.Constants.{line_feed}
 use Rattle.glk_text.specs.Characters.{is_printable}
-use Rattle.glk_events.specs.declared.requests.TheConstants.{RETURN}
+use Rattle.glk_events.specs.Constants.{return_key}
 use Rattle.glk_streams.specs.declared.kinds.Places.{Places}
 use Rattle.gx_words.specs.declared.faults.Fault.TheVariants.{BadGlk}
 use Rattle.gx_words.specs.Results.{◌>>=◌}
 use Rattle.gx_state.specs.Flat.{FlatState}
 use Rattle.glk_world.specs.World.{Scene}
-use Rattle.glk_dispatch.specs.declared.selectors.TheConstants.{GESTALT, GESTALT_EXT}
-use Rattle.glk_dispatch.specs.declared.gestalts.TheConstants.{VERSION, CHAR_INPUT, LINE_INPUT, CHAR_OUTPUT, UNICODE, CANNOT_PRINT, EXACT_PRINT}
+use Rattle.glk_dispatch.specs.Numbers as selectors
+use Rattle.glk_dispatch.specs.Constants.{version, char_input, line_input, char_output, unicode, cannot_print, exact_print}
 use Rattle.glk_dispatch.specs.Parts.{Outcome, arg, replies, answered, can_lay, laid}
 
 -- by selector and value
 unfoldable pub gestalt_of : ℕ → ℕ → ℕ
 gestalt_of sel val =
-    if sel == VERSION then 0x00000705 else  -- 0.7.5
-    if sel == CHAR_INPUT then (if is_printable val || val == RETURN then 1 else 0) else
-    if sel == LINE_INPUT then (if is_printable val then 1 else 0) else
-    if sel == CHAR_OUTPUT then (if is_printable val || val == LINE_FEED then EXACT_PRINT else CANNOT_PRINT) else
-    if sel == UNICODE then 1 else
+    if sel == version then 0x00000705 else  -- 0.7.5
+    if sel == char_input then (if is_printable val || val == return_key then 1 else 0) else
+    if sel == line_input then (if is_printable val then 1 else 0) else
+    if sel == char_output then (if is_printable val || val == line_feed then exact_print else cannot_print) else
+    if sel == unicode then 1 else
     0  -- the mouse, timers, graphics, sounds, links, others
 
 -- gestalt
@@ -29,7 +29,7 @@ gestalt w args = answered w (replies (gestalt_of (arg args 0) (arg args 1)))
 
 -- the number of glyphs of a character has a place in the array
 abbrev pub has_glyphs : List ℕ → Bool
-has_glyphs args = arg args 0 == CHAR_OUTPUT && not (arg args 2 == 0) && not (arg args 3 == 0)
+has_glyphs args = arg args 0 == char_output && not (arg args 2 == 0) && not (arg args 3 == 0)
 
 -- that place
 abbrev pub glyphs_place : List ℕ → Places
@@ -44,10 +44,10 @@ gestalt_ext w f args = do
 -- Calls that ask what the library can do.
 unfoldable pub gestalts : Scene → FlatState → ℕ → ℕ → List ℕ → Outcome
 gestalts w f room selector args =
-    if selector == GESTALT then gestalt w args else
-    if selector == GESTALT_EXT then gestalt_ext w f args else
+    if selector == selectors.gestalt then gestalt w args else
+    if selector == selectors.gestalt_ext then gestalt_ext w f args else
     Err BadGlk
 
 -- where it may want memory
 unfoldable pub gestalts_grow : Scene → FlatState → ℕ → List ℕ → Bool
-gestalts_grow w f selector args = if selector == GESTALT then false else has_glyphs args
+gestalts_grow w f selector args = if selector == selectors.gestalt then false else has_glyphs args

@@ -7,7 +7,7 @@ use Rattle.glk_world.specs.World.{Call, Scene}
 use Rattle.glk_dispatch.specs.declared.Turn.TheVariants.{Answer}
 use Rattle.glk_dispatch.specs.declared.Given.{Given}
 use Rattle.glk_dispatch.specs.declared.Given.TheVariants as given
-use Rattle.glk_dispatch.specs.declared.selectors.TheConstants.{FILEREF_DOES_FILE_EXIST, SELECT}
+use Rattle.glk_dispatch.specs.Numbers as selectors
 use Rattle.glk_dispatch.specs.Parts.{Outcome, arg, replies, answered}
 use Rattle.glk_dispatch.specs.Turns.{TurnOutcome}
 use Rattle.glk_dispatch.specs.Streams.{close}
@@ -17,12 +17,12 @@ use Rattle.glk_dispatch.specs.Events.{select_goes_on, select_goes_on_grow}
 -- a line for the call that waits for an event, or for a prompt
 abbrev pub with_line : Scene → FlatState → ℕ → Call → List ℕ → Outcome
 with_line w f room call line =
-    if call.selector == SELECT then select_goes_on w f room call.arguments line
+    if call.selector == selectors.select then select_goes_on w f room call.arguments line
     else prompt_goes_on w call.arguments line
 
 -- a file was removed, or looked for
 abbrev pub was_of : ℕ → Bool → ℕ
-was_of selector was = if selector == FILEREF_DOES_FILE_EXIST && was then 1 else 0
+was_of selector was = if selector == selectors.fileref_does_file_exist && was then 1 else 0
 
 abbrev pub resumed : Scene → FlatState → ℕ → Call → Given → Outcome
 resumed w f room call (given.Line line) = with_line w f room call line
@@ -44,7 +44,9 @@ glk_go_on w f room g = go_by w.waiting w f room g
 
 abbrev pub with_line_grow : Scene → FlatState → Call → List ℕ → Bool
 with_line_grow w f call line =
-    if call.selector == SELECT then select_goes_on_grow w f call.arguments line else prompt_goes_on_grow w line
+    if call.selector == selectors.select
+    then select_goes_on_grow w f call.arguments line
+    else prompt_goes_on_grow w line
 
 abbrev pub resumed_grow : Scene → FlatState → Call → Given → Bool
 resumed_grow w f call (given.Line line) = with_line_grow w f call line

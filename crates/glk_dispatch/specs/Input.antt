@@ -7,7 +7,7 @@ use Rattle.gx_words.specs.declared.faults.Fault.TheVariants.{BadGlk}
 use Rattle.gx_words.specs.Numbers.{number}
 use Rattle.gx_words.specs.Results.{◌>>=◌}
 use Rattle.gx_state.specs.Flat.{FlatState}
-use Rattle.glk_text.specs.declared.characters.TheConstants.{LINE_FEED}
+use Rattle.glk_text.specs.Constants.{line_feed}
 use Rattle.glk_text.specs.Characters.{latin_of}
 use Rattle.glk_streams.specs.declared.kinds.Places.{Places}
 use Rattle.glk_streams.specs.declared.kinds.Stream.{Stream}
@@ -16,8 +16,8 @@ use Rattle.glk_streams.specs.Streams as streams
 use Rattle.glk_world.specs.World.{Scene, silent}
 use Rattle.glk_world.specs.Putting.{places_read}
 use Rattle.glk_world.specs.Calls.{got_from, after_get, passed}
-use Rattle.glk_dispatch.specs.declared.selectors.TheConstants.{GET_CHAR_STREAM, GET_LINE_STREAM, GET_BUFFER_STREAM, GET_CHAR_STREAM_UNI, GET_BUFFER_STREAM_UNI, GET_LINE_STREAM_UNI}
-use Rattle.glk_dispatch.specs.declared.input.TheConstants.{NO_CHARACTER}
+use Rattle.glk_dispatch.specs.Numbers as selectors
+use Rattle.glk_dispatch.specs.Constants.{no_character}
 use Rattle.glk_dispatch.specs.Parts.{Outcome, arg, replies, answered, can_read, can_lay, laid}
 
 -- the number at one of the places of a memory stream; other streams have none
@@ -36,7 +36,7 @@ next_char f p s i position = do
 
 -- a line ends behind a line feed
 abbrev pub ends_line : Bool → ℕ → Bool
-ends_line stops c = stops && c == LINE_FEED
+ends_line stops c = stops && c == line_feed
 
 -- how many characters are read where so many more may be, and the position behind them
 unfoldable pub read_on : ℕ → Bool → FlatState → Places → Stream → ℕ → ℕ → Result (ℕ × ℕ) Fault
@@ -101,7 +101,7 @@ get_line w f width args =
 
 -- what stands for a character that was read
 abbrev pub char_value : Bool → Option ℕ → ℕ
-char_value latin None = NO_CHARACTER
+char_value latin None = no_character
 char_value latin (Some c) = if latin then latin_of c else c
 
 -- get_char_stream
@@ -113,12 +113,12 @@ get_char w f stream latin = do
 -- Calls that get from a stream.
 unfoldable pub input : Scene → FlatState → ℕ → ℕ → List ℕ → Outcome
 input w f room selector args =
-    if selector == GET_CHAR_STREAM then get_char w f (arg args 0) true else
-    if selector == GET_LINE_STREAM then get_line w f 1 args else
-    if selector == GET_BUFFER_STREAM then get_buffer w f 1 args else
-    if selector == GET_CHAR_STREAM_UNI then get_char w f (arg args 0) false else
-    if selector == GET_BUFFER_STREAM_UNI then get_buffer w f 4 args else
-    if selector == GET_LINE_STREAM_UNI then get_line w f 4 args else
+    if selector == selectors.get_char_stream then get_char w f (arg args 0) true else
+    if selector == selectors.get_line_stream then get_line w f 1 args else
+    if selector == selectors.get_buffer_stream then get_buffer w f 1 args else
+    if selector == selectors.get_char_stream_uni then get_char w f (arg args 0) false else
+    if selector == selectors.get_buffer_stream_uni then get_buffer w f 4 args else
+    if selector == selectors.get_line_stream_uni then get_line w f 4 args else
     Err BadGlk
 
 -- ---- where memory may be wanted: for characters that are read, and for the end of a line
@@ -132,6 +132,8 @@ get_buffer_grows w f args = has_read (reading w f (arg args 0) false (arg args 2
 
 unfoldable pub input_grow : Scene → FlatState → ℕ → List ℕ → Bool
 input_grow w f selector args =
-    if selector == GET_LINE_STREAM || selector == GET_LINE_STREAM_UNI then not (arg args 2 == 0) else
-    if selector == GET_BUFFER_STREAM || selector == GET_BUFFER_STREAM_UNI then get_buffer_grows w f args else
+    if selector == selectors.get_line_stream || selector == selectors.get_line_stream_uni
+    then not (arg args 2 == 0) else
+    if selector == selectors.get_buffer_stream || selector == selectors.get_buffer_stream_uni
+    then get_buffer_grows w f args else
     false

@@ -1,3 +1,5 @@
+pub mod Constants
+pub mod Numbers
 pub mod Table
 pub mod Parts
 pub mod Strings

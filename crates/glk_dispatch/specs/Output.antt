@@ -5,7 +5,7 @@ use Rattle.gx_words.specs.declared.faults.Fault.TheVariants.{BadGlk}
 use Rattle.gx_words.specs.Results.{◌>>=◌}
 use Rattle.gx_state.specs.Flat.{FlatState}
 use Rattle.glk_world.specs.World.{Scene}
-use Rattle.glk_dispatch.specs.declared.selectors.TheConstants.{PUT_CHAR, PUT_CHAR_STREAM, PUT_STRING, PUT_STRING_STREAM, PUT_BUFFER, PUT_BUFFER_STREAM, PUT_CHAR_UNI, PUT_STRING_UNI, PUT_BUFFER_UNI, PUT_CHAR_STREAM_UNI, PUT_STRING_STREAM_UNI, PUT_BUFFER_STREAM_UNI}
+use Rattle.glk_dispatch.specs.Numbers as selectors
 use Rattle.glk_dispatch.specs.Parts.{Outcome, arg, can_read, numbers_in, put_all, put_grows_one}
 use Rattle.glk_dispatch.specs.Strings.{string_length, string_chars}
 
@@ -32,23 +32,23 @@ putting w f c = put_all w f w.current (c ∷ [])
 -- to the current stream; put_char takes the low eight bits
 unfoldable pub output : Scene → FlatState → ℕ → ℕ → List ℕ → Outcome
 output w f room selector args =
-    if selector == PUT_CHAR then put_char w f w.current (arg args 0 % 256) else
-    if selector == PUT_CHAR_UNI then put_char w f w.current (arg args 0) else
-    if selector == PUT_STRING then put_string w f w.current 1 (arg args 0) else
-    if selector == PUT_STRING_UNI then put_string w f w.current 4 (arg args 0) else
-    if selector == PUT_BUFFER then put_buffer w f w.current 1 (arg args 0) (arg args 1) else
-    if selector == PUT_BUFFER_UNI then put_buffer w f w.current 4 (arg args 0) (arg args 1) else
+    if selector == selectors.put_char then put_char w f w.current (arg args 0 % 256) else
+    if selector == selectors.put_char_uni then put_char w f w.current (arg args 0) else
+    if selector == selectors.put_string then put_string w f w.current 1 (arg args 0) else
+    if selector == selectors.put_string_uni then put_string w f w.current 4 (arg args 0) else
+    if selector == selectors.put_buffer then put_buffer w f w.current 1 (arg args 0) (arg args 1) else
+    if selector == selectors.put_buffer_uni then put_buffer w f w.current 4 (arg args 0) (arg args 1) else
     Err BadGlk
 
 -- to a stream
 unfoldable pub output_to : Scene → FlatState → ℕ → ℕ → List ℕ → Outcome
 output_to w f room selector args =
-    if selector == PUT_CHAR_STREAM then put_char w f (arg args 0) (arg args 1 % 256) else
-    if selector == PUT_CHAR_STREAM_UNI then put_char w f (arg args 0) (arg args 1) else
-    if selector == PUT_STRING_STREAM then put_string w f (arg args 0) 1 (arg args 1) else
-    if selector == PUT_STRING_STREAM_UNI then put_string w f (arg args 0) 4 (arg args 1) else
-    if selector == PUT_BUFFER_STREAM then put_buffer w f (arg args 0) 1 (arg args 1) (arg args 2) else
-    if selector == PUT_BUFFER_STREAM_UNI then put_buffer w f (arg args 0) 4 (arg args 1) (arg args 2) else
+    if selector == selectors.put_char_stream then put_char w f (arg args 0) (arg args 1 % 256) else
+    if selector == selectors.put_char_stream_uni then put_char w f (arg args 0) (arg args 1) else
+    if selector == selectors.put_string_stream then put_string w f (arg args 0) 1 (arg args 1) else
+    if selector == selectors.put_string_stream_uni then put_string w f (arg args 0) 4 (arg args 1) else
+    if selector == selectors.put_buffer_stream then put_buffer w f (arg args 0) 1 (arg args 1) (arg args 2) else
+    if selector == selectors.put_buffer_stream_uni then put_buffer w f (arg args 0) 4 (arg args 1) (arg args 2) else
     Err BadGlk
 
 -- ---- where memory may be wanted: for a character as it says, for a string or a buffer that isn't empty
@@ -59,20 +59,20 @@ has_length (Err e) = false
 
 unfoldable pub output_grow : Scene → FlatState → ℕ → List ℕ → Bool
 output_grow w f selector args =
-    if selector == PUT_CHAR then put_grows_one w w.current (arg args 0 % 256) else
-    if selector == PUT_CHAR_UNI then put_grows_one w w.current (arg args 0) else
-    if selector == PUT_STRING then has_length (string_length f 1 (arg args 0)) else
-    if selector == PUT_STRING_UNI then has_length (string_length f 4 (arg args 0)) else
-    if selector == PUT_BUFFER then not (arg args 1 == 0) else
-    if selector == PUT_BUFFER_UNI then not (arg args 1 == 0) else
+    if selector == selectors.put_char then put_grows_one w w.current (arg args 0 % 256) else
+    if selector == selectors.put_char_uni then put_grows_one w w.current (arg args 0) else
+    if selector == selectors.put_string then has_length (string_length f 1 (arg args 0)) else
+    if selector == selectors.put_string_uni then has_length (string_length f 4 (arg args 0)) else
+    if selector == selectors.put_buffer then not (arg args 1 == 0) else
+    if selector == selectors.put_buffer_uni then not (arg args 1 == 0) else
     false
 
 unfoldable pub output_to_grow : Scene → FlatState → ℕ → List ℕ → Bool
 output_to_grow w f selector args =
-    if selector == PUT_CHAR_STREAM then put_grows_one w (arg args 0) (arg args 1 % 256) else
-    if selector == PUT_CHAR_STREAM_UNI then put_grows_one w (arg args 0) (arg args 1) else
-    if selector == PUT_STRING_STREAM then has_length (string_length f 1 (arg args 1)) else
-    if selector == PUT_STRING_STREAM_UNI then has_length (string_length f 4 (arg args 1)) else
-    if selector == PUT_BUFFER_STREAM then not (arg args 2 == 0) else
-    if selector == PUT_BUFFER_STREAM_UNI then not (arg args 2 == 0) else
+    if selector == selectors.put_char_stream then put_grows_one w (arg args 0) (arg args 1 % 256) else
+    if selector == selectors.put_char_stream_uni then put_grows_one w (arg args 0) (arg args 1) else
+    if selector == selectors.put_string_stream then has_length (string_length f 1 (arg args 1)) else
+    if selector == selectors.put_string_stream_uni then has_length (string_length f 4 (arg args 1)) else
+    if selector == selectors.put_buffer_stream then not (arg args 2 == 0) else
+    if selector == selectors.put_buffer_stream_uni then not (arg args 2 == 0) else
     false

@@ -15,7 +15,7 @@ use Rattle.glk_streams.specs.declared.kinds.Places.{Places}
 use Rattle.glk_streams.specs.Streams as streams
 use Rattle.glk_world.specs.World.{Scene, FlatWorld, Said, after, silent}
 use Rattle.glk_world.specs.Putting.{puts, put_grows, places_of}
-use Rattle.glk_dispatch.specs.declared.parts.TheConstants.{ON_STACK}
+use Rattle.glk_dispatch.specs.Constants.{on_stack}
 
 -- what a call that answers at once comes to: the scene after it, the text that it adds, and its reply
 abbrev pub Outcome : Type 0
@@ -76,18 +76,18 @@ can_lay f p = if p.count == 0 then Ok tt else write_fault f p.at (p.width * p.co
 abbrev pub laid : Places → List ℕ → List (ℕ × List ℕ)
 laid p cs = if p.count == 0 then [] else (p.at, chars_bytes p.width (take p.count cs)) ∷ []
 
--- ---- references ("The Dispatch Layer"): 0 is none, ON_STACK pushes, and any other is an address of words
+-- ---- references ("The Dispatch Layer"): 0 is none, on_stack pushes, and any other is an address of words
 
 -- so many words may be given to a reference
 unfoldable pub can_give : FlatState → ℕ → ℕ → Result (Unit {0}) Fault
-can_give f at words = if at == 0 || at == ON_STACK then Ok tt else write_fault f at (4 * words)
+can_give f at words = if at == 0 || at == on_stack then Ok tt else write_fault f at (4 * words)
 
 -- what is pushed for a reference, and what is written
 abbrev pub pushed : ℕ → List ℕ → List ℕ
-pushed at words = if at == ON_STACK then words else []
+pushed at words = if at == on_stack then words else []
 
 abbrev pub written : ℕ → List ℕ → List (ℕ × List ℕ)
-written at words = if at == 0 || at == ON_STACK then [] else (at, chars_bytes 4 words) ∷ []
+written at words = if at == 0 || at == on_stack then [] else (at, chars_bytes 4 words) ∷ []
 
 -- so many values may be pushed
 unfoldable pub fitting : ℕ → ℕ → Result (Unit {0}) Fault
@@ -151,4 +151,4 @@ put_grows_one w stream c =
 unfoldable pub can_give_pair : FlatState → ℕ → ℕ → Result (Unit {0}) Fault
 can_give_pair f room at = do
   there ← can_give f at 2
-  fitting room (if at == ON_STACK then 2 else 0)
+  fitting room (if at == on_stack then 2 else 0)

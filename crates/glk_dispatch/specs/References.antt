@@ -6,7 +6,7 @@ use Rattle.gx_outside.specs.declared.devices.Load.{Load}
 use Rattle.gx_outside.specs.declared.devices.Load.TheVariants as of_load
 use Rattle.gx_state.specs.Flat.{FlatState}
 use Rattle.glk_files.specs.Names.{base_of, suffix_of}
-use Rattle.glk_streams.specs.declared.modes.TheConstants.{WRITE, READ, READ_WRITE, WRITE_APPEND}
+use Rattle.glk_streams.specs.Constants.{write_mode, read_mode, read_write_mode, write_append_mode}
 use Rattle.glk_streams.specs.declared.kinds.FileForm.{FileForm}
 use Rattle.glk_streams.specs.declared.kinds.FileForm.TheVariants as forms
 use Rattle.glk_streams.specs.declared.kinds.StreamKind.{StreamKind}
@@ -15,8 +15,8 @@ use Rattle.glk_world.specs.World.{Scene, silent, has_reference, reference_at, ne
 use Rattle.glk_world.specs.Calls.{is_identifier, new_id, with_reference, without_reference, with_stream}
 use Rattle.glk_world.specs.Shown.{show_prompt, line_taken}
 use Rattle.glk_dispatch.specs.declared.Turn.TheVariants as turn
-use Rattle.glk_dispatch.specs.declared.references.TheConstants.{TEXT_MODE}
-use Rattle.glk_dispatch.specs.declared.selectors.TheConstants.{STREAM_OPEN_FILE, FILEREF_CREATE_TEMP, FILEREF_CREATE_BY_NAME, FILEREF_CREATE_BY_PROMPT, FILEREF_DESTROY, FILEREF_ITERATE, FILEREF_GET_ROCK, FILEREF_DELETE_FILE, FILEREF_DOES_FILE_EXIST, FILEREF_CREATE_FROM_FILEREF, STREAM_OPEN_FILE_UNI}
+use Rattle.glk_dispatch.specs.Constants.{text_mode}
+use Rattle.glk_dispatch.specs.Numbers as selectors
 use Rattle.glk_dispatch.specs.Parts.{Outcome, arg, replies, answered, give}
 use Rattle.glk_dispatch.specs.Strings.{string_length, string_chars}
 use Rattle.glk_dispatch.specs.Turns.{TurnOutcome, waits}
@@ -55,19 +55,20 @@ fileref_iterate w f room args = do
 
 unfoldable pub references : Scene → FlatState → ℕ → ℕ → List ℕ → Outcome
 references w f room selector args =
-    if selector == FILEREF_CREATE_TEMP then fileref_create_temp w args else
-    if selector == FILEREF_CREATE_BY_NAME then fileref_create_by_name w f args else
-    if selector == FILEREF_ITERATE then fileref_iterate w f room args else
-    if selector == FILEREF_CREATE_FROM_FILEREF then fileref_create_from_fileref w args else
+    if selector == selectors.fileref_create_temp then fileref_create_temp w args else
+    if selector == selectors.fileref_create_by_name then fileref_create_by_name w f args else
+    if selector == selectors.fileref_iterate then fileref_iterate w f room args else
+    if selector == selectors.fileref_create_from_fileref then fileref_create_from_fileref w args else
     Err BadGlk
 
 -- Memory is wanted for what is written or pushed, and for a new file reference.
 unfoldable pub references_grow : Scene → FlatState → ℕ → List ℕ → Bool
 references_grow w f selector args =
-    if selector == FILEREF_CREATE_TEMP then is_identifier w.next_id else
-    if selector == FILEREF_CREATE_BY_NAME then is_identifier w.next_id else
-    if selector == FILEREF_ITERATE then not (arg args 1 == 0) else
-    if selector == FILEREF_CREATE_FROM_FILEREF then has_reference w (arg args 1) && is_identifier w.next_id else
+    if selector == selectors.fileref_create_temp then is_identifier w.next_id else
+    if selector == selectors.fileref_create_by_name then is_identifier w.next_id else
+    if selector == selectors.fileref_iterate then not (arg args 1 == 0) else
+    if selector == selectors.fileref_create_from_fileref
+    then has_reference w (arg args 1) && is_identifier w.next_id else
     false
 
 -- ---- calls on a file reference
@@ -81,8 +82,8 @@ fileref_get_rock w args = answered w (replies (reference_at w (arg args 0)).rock
 
 unfoldable pub on_reference : Scene → FlatState → ℕ → ℕ → List ℕ → Outcome
 on_reference w f room selector args =
-    if selector == FILEREF_DESTROY then fileref_destroy w args else
-    if selector == FILEREF_GET_ROCK then fileref_get_rock w args else
+    if selector == selectors.fileref_destroy then fileref_destroy w args else
+    if selector == selectors.fileref_get_rock then fileref_get_rock w args else
     Err BadGlk
 
 -- nothing is made, written or pushed
@@ -94,7 +95,7 @@ on_reference_grow w f selector args = false
 unfoldable pub prompt : Scene → FlatState → ℕ → ℕ → List ℕ → TurnOutcome
 prompt w f room selector args =
     let shown = show_prompt w in
-    Ok ((waits shown.0 FILEREF_CREATE_BY_PROMPT args, shown.1), turn.Prompt)
+    Ok ((waits shown.0 selectors.fileref_create_by_prompt args, shown.1), turn.Prompt)
 
 -- Memory is wanted for the words of the prompt.
 abbrev pub prompt_grow : Scene → FlatState → ℕ → List ℕ → Bool
@@ -118,7 +119,7 @@ file_name w id = (reference_at w id).base ++ suffix_of (reference_at w id).usage
 -- the form of the file's characters: in the Unicode form UTF-8 for a text, else four bytes each
 abbrev pub form_for : ℕ → ℕ → FileForm
 form_for selector usage =
-    if selector == STREAM_OPEN_FILE_UNI then (if usage / TEXT_MODE % 2 == 1 then forms.Utf8 else forms.Wide)
+    if selector == selectors.stream_open_file_uni then (if usage / text_mode % 2 == 1 then forms.Utf8 else forms.Wide)
     else forms.Latin
 
 abbrev pub file_kind : Scene → ℕ → List ℕ → List ℕ → StreamKind
@@ -132,12 +133,12 @@ open_with w selector args content =
 
 -- a mode in which a file is loaded
 abbrev pub loads : ℕ → Bool
-loads mode = mode == READ || mode == READ_WRITE || mode == WRITE_APPEND
+loads mode = mode == read_mode || mode == read_write_mode || mode == write_append_mode
 
 -- stream_open_file: for writing alone the file begins empty, else it is loaded; another mode is refused
 unfoldable pub stream_open_file : Scene → ℕ → List ℕ → TurnOutcome
 stream_open_file w selector args =
-    if arg args 1 == WRITE then (do
+    if arg args 1 == write_mode then (do
       done ← open_with w selector args []
       Ok (done.0, turn.Answer done.1)) else
     if loads (arg args 1) then Ok (silent (waits w selector args), turn.Load (file_name w (arg args 0))) else
@@ -146,24 +147,28 @@ stream_open_file w selector args =
 -- the file was loaded: one that is missing begins empty, unless it was to be read alone
 abbrev pub open_goes_on : Scene → ℕ → List ℕ → Load → Outcome
 open_goes_on w selector args of_load.Missing =
-    if arg args 1 == READ then answered w (replies 0) else open_with w selector args []
+    if arg args 1 == read_mode then answered w (replies 0) else open_with w selector args []
 open_goes_on w selector args of_load.TooLong = answered w (replies 0)
 open_goes_on w selector args (of_load.Found bytes) = open_with w selector args bytes
 
 abbrev pub open_goes_on_grow : List ℕ → Load → Bool
-open_goes_on_grow args of_load.Missing = not (arg args 1 == READ)
+open_goes_on_grow args of_load.Missing = not (arg args 1 == read_mode)
 open_goes_on_grow args of_load.TooLong = false
 open_goes_on_grow args (of_load.Found bytes) = true
 
 unfoldable pub files : Scene → FlatState → ℕ → ℕ → List ℕ → TurnOutcome
 files w f room selector args =
-    if selector == STREAM_OPEN_FILE || selector == STREAM_OPEN_FILE_UNI then stream_open_file w selector args else
-    if selector == FILEREF_DELETE_FILE then Ok (silent (waits w selector args), turn.Remove (file_name w (arg args 0))) else
-    if selector == FILEREF_DOES_FILE_EXIST then Ok (silent (waits w selector args), turn.Has (file_name w (arg args 0))) else
+    if selector == selectors.stream_open_file || selector == selectors.stream_open_file_uni
+    then stream_open_file w selector args else
+    if selector == selectors.fileref_delete_file
+    then Ok (silent (waits w selector args), turn.Remove (file_name w (arg args 0))) else
+    if selector == selectors.fileref_does_file_exist
+    then Ok (silent (waits w selector args), turn.Has (file_name w (arg args 0))) else
     Err BadGlk
 
 -- Memory is wanted for the name of the file.
 unfoldable pub files_grow : Scene → FlatState → ℕ → List ℕ → Bool
 files_grow w f selector args =
-    if selector == STREAM_OPEN_FILE || selector == STREAM_OPEN_FILE_UNI then (arg args 1 == WRITE || loads (arg args 1)) else
+    if selector == selectors.stream_open_file || selector == selectors.stream_open_file_uni
+    then (arg args 1 == write_mode || loads (arg args 1)) else
     true

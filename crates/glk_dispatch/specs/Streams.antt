@@ -11,7 +11,7 @@ use Rattle.glk_streams.specs.Streams as streams_of
 use Rattle.glk_world.specs.World.{Scene, silent}
 use Rattle.glk_world.specs.Calls.{is_identifier, new_id, with_stream, without_stream, sought}
 use Rattle.glk_dispatch.specs.declared.Turn.TheVariants.{Answer, Store}
-use Rattle.glk_dispatch.specs.declared.selectors.TheConstants.{STREAM_ITERATE, STREAM_GET_ROCK, STREAM_OPEN_MEMORY, STREAM_CLOSE, STREAM_SET_POSITION, STREAM_GET_POSITION, STREAM_SET_CURRENT, STREAM_GET_CURRENT, STREAM_OPEN_MEMORY_UNI}
+use Rattle.glk_dispatch.specs.Numbers as selectors
 use Rattle.glk_dispatch.specs.Parts.{Outcome, arg, replies, answered, give, can_give_pair}
 use Rattle.glk_dispatch.specs.Turns.{TurnOutcome, waits}
 
@@ -47,18 +47,18 @@ stream_get_current w = answered w (replies w.current)
 
 unfoldable pub streams : Scene → FlatState → ℕ → ℕ → List ℕ → Outcome
 streams w f room selector args =
-    if selector == STREAM_ITERATE then stream_iterate w f room args else
-    if selector == STREAM_OPEN_MEMORY then stream_open_memory w args false else
-    if selector == STREAM_OPEN_MEMORY_UNI then stream_open_memory w args true else
-    if selector == STREAM_SET_CURRENT then stream_set_current w args else
-    if selector == STREAM_GET_CURRENT then stream_get_current w else
+    if selector == selectors.stream_iterate then stream_iterate w f room args else
+    if selector == selectors.stream_open_memory then stream_open_memory w args false else
+    if selector == selectors.stream_open_memory_uni then stream_open_memory w args true else
+    if selector == selectors.stream_set_current then stream_set_current w args else
+    if selector == selectors.stream_get_current then stream_get_current w else
     Err BadGlk
 
 -- Memory is wanted for what is written or pushed, and for a new stream.
 unfoldable pub streams_grow : Scene → FlatState → ℕ → List ℕ → Bool
 streams_grow w f selector args =
-    if selector == STREAM_ITERATE then not (arg args 1 == 0) else
-    if selector == STREAM_OPEN_MEMORY || selector == STREAM_OPEN_MEMORY_UNI
+    if selector == selectors.stream_iterate then not (arg args 1 == 0) else
+    if selector == selectors.stream_open_memory || selector == selectors.stream_open_memory_uni
     then one.allows (memory_kind args false) (arg args 2) && is_identifier w.next_id
     else false
 
@@ -77,9 +77,9 @@ stream_get_position w args = answered w (replies (stream_of w (arg args 0)).posi
 
 unfoldable pub on_stream : Scene → FlatState → ℕ → ℕ → List ℕ → Outcome
 on_stream w f room selector args =
-    if selector == STREAM_GET_ROCK then stream_get_rock w args else
-    if selector == STREAM_SET_POSITION then stream_set_position w args else
-    if selector == STREAM_GET_POSITION then stream_get_position w args else
+    if selector == selectors.stream_get_rock then stream_get_rock w args else
+    if selector == selectors.stream_set_position then stream_set_position w args else
+    if selector == selectors.stream_get_position then stream_get_position w args else
     Err BadGlk
 
 -- nothing is made, written or pushed
@@ -111,7 +111,7 @@ closing_by None w f room args = do
   Ok (done.0, Answer done.1)
 closing_by (Some file) w f room args = do
   there ← can_give_pair f room (arg args 1)
-  Ok (silent (waits w STREAM_CLOSE args), Store file.0 file.1)
+  Ok (silent (waits w selectors.stream_close args), Store file.0 file.1)
 
 unfoldable pub closing : Scene → FlatState → ℕ → ℕ → List ℕ → TurnOutcome
 closing w f room selector args = closing_by (stored w (arg args 0)) w f room args

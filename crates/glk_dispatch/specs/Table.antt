@@ -5,7 +5,7 @@
 -- one. `naming` says the same of another argument, `giving` which references are given 0 where nothing is done.
 use Rattle.std.specs.Prelude.{◌==◌, ◌&&◌, ◌||◌, nat_le, ℕ, Bool, true, false, List, [], ◌∷◌, Option, find}
 use Rattle.std.specs.Int.{is_in_range}
-use Rattle.glk_dispatch.specs.declared.selectors.TheConstants.{EXIT, TICK, GESTALT, GESTALT_EXT, WINDOW_ITERATE, WINDOW_GET_ROCK, WINDOW_GET_ROOT, WINDOW_OPEN, WINDOW_CLOSE, WINDOW_GET_SIZE, WINDOW_SET_ARRANGEMENT, WINDOW_GET_ARRANGEMENT, WINDOW_GET_TYPE, WINDOW_GET_PARENT, WINDOW_CLEAR, WINDOW_MOVE_CURSOR, WINDOW_GET_STREAM, WINDOW_SET_ECHO_STREAM, WINDOW_GET_ECHO_STREAM, SET_WINDOW, WINDOW_GET_SIBLING, STREAM_ITERATE, STREAM_GET_ROCK, STREAM_OPEN_FILE, STREAM_OPEN_MEMORY, STREAM_CLOSE, STREAM_SET_POSITION, STREAM_GET_POSITION, STREAM_SET_CURRENT, STREAM_GET_CURRENT, FILEREF_CREATE_TEMP, FILEREF_CREATE_BY_NAME, FILEREF_CREATE_BY_PROMPT, FILEREF_DESTROY, FILEREF_ITERATE, FILEREF_GET_ROCK, FILEREF_DELETE_FILE, FILEREF_DOES_FILE_EXIST, FILEREF_CREATE_FROM_FILEREF, PUT_CHAR, PUT_CHAR_STREAM, PUT_STRING, PUT_STRING_STREAM, PUT_BUFFER, PUT_BUFFER_STREAM, SET_STYLE, SET_STYLE_STREAM, GET_CHAR_STREAM, GET_LINE_STREAM, GET_BUFFER_STREAM, CHAR_TO_LOWER, CHAR_TO_UPPER, STYLEHINT_SET, STYLEHINT_CLEAR, STYLE_DISTINGUISH, STYLE_MEASURE, SELECT, SELECT_POLL, REQUEST_LINE_EVENT, CANCEL_LINE_EVENT, REQUEST_CHAR_EVENT, CANCEL_CHAR_EVENT, BUFFER_TO_LOWER_CASE_UNI, BUFFER_TO_UPPER_CASE_UNI, BUFFER_TO_TITLE_CASE_UNI, PUT_CHAR_UNI, PUT_STRING_UNI, PUT_BUFFER_UNI, PUT_CHAR_STREAM_UNI, PUT_STRING_STREAM_UNI, PUT_BUFFER_STREAM_UNI, GET_CHAR_STREAM_UNI, GET_BUFFER_STREAM_UNI, GET_LINE_STREAM_UNI, STREAM_OPEN_FILE_UNI, STREAM_OPEN_MEMORY_UNI, REQUEST_CHAR_EVENT_UNI, REQUEST_LINE_EVENT_UNI, SET_ECHO_LINE_EVENT}
+use Rattle.glk_dispatch.specs.Numbers as selectors
 use Rattle.glk_dispatch.specs.declared.table.Class.{Class}
 use Rattle.glk_dispatch.specs.declared.table.Class.TheVariants.{Plain, Window, Stream, Reference}
 use Rattle.glk_dispatch.specs.declared.table.Part.{Part}
@@ -32,100 +32,100 @@ giving references words r = record r { references = references; words = words }
 unfoldable pub table : List Selector
 table =
     -- The program
-    row EXIT 0 Exit ∷
-    row TICK 0 Nothing ∷
+    row selectors.exit 0 Exit ∷
+    row selectors.tick 0 Nothing ∷
     -- What the library can do
-    row GESTALT 2 Gestalts ∷
-    row GESTALT_EXT 4 Gestalts ∷
+    row selectors.gestalt 2 Gestalts ∷
+    row selectors.gestalt_ext 4 Gestalts ∷
     -- Windows
-    of Window (row WINDOW_ITERATE 2 Windows) ∷
-    on Window (row WINDOW_GET_ROCK 1 OnWindow) ∷
-    row WINDOW_GET_ROOT 0 Windows ∷
-    of Window (row WINDOW_OPEN 5 Opening) ∷
-    giving 1 2 (on Window (row WINDOW_CLOSE 2 OnWindow)) ∷
-    giving 2 1 (on Window (row WINDOW_GET_SIZE 3 OnWindow)) ∷
-    naming Window 3 (on Window (row WINDOW_SET_ARRANGEMENT 4 OnWindow)) ∷
-    giving 3 1 (on Window (row WINDOW_GET_ARRANGEMENT 4 OnWindow)) ∷
-    on Window (row WINDOW_GET_TYPE 1 OnWindow) ∷
-    on Window (row WINDOW_GET_PARENT 1 OnWindow) ∷
-    on Window (row WINDOW_CLEAR 1 OnWindow) ∷
-    on Window (row WINDOW_MOVE_CURSOR 3 OnWindow) ∷
-    on Window (row WINDOW_GET_STREAM 1 OnWindow) ∷
-    naming Stream 1 (on Window (row WINDOW_SET_ECHO_STREAM 2 Echo)) ∷
-    on Window (row WINDOW_GET_ECHO_STREAM 1 OnWindow) ∷
-    of Window (row SET_WINDOW 1 Windows) ∷
-    on Window (row WINDOW_GET_SIBLING 1 OnWindow) ∷
+    of Window (row selectors.window_iterate 2 Windows) ∷
+    on Window (row selectors.window_get_rock 1 OnWindow) ∷
+    row selectors.window_get_root 0 Windows ∷
+    of Window (row selectors.window_open 5 Opening) ∷
+    giving 1 2 (on Window (row selectors.window_close 2 OnWindow)) ∷
+    giving 2 1 (on Window (row selectors.window_get_size 3 OnWindow)) ∷
+    naming Window 3 (on Window (row selectors.window_set_arrangement 4 OnWindow)) ∷
+    giving 3 1 (on Window (row selectors.window_get_arrangement 4 OnWindow)) ∷
+    on Window (row selectors.window_get_type 1 OnWindow) ∷
+    on Window (row selectors.window_get_parent 1 OnWindow) ∷
+    on Window (row selectors.window_clear 1 OnWindow) ∷
+    on Window (row selectors.window_move_cursor 3 OnWindow) ∷
+    on Window (row selectors.window_get_stream 1 OnWindow) ∷
+    naming Stream 1 (on Window (row selectors.window_set_echo_stream 2 Echo)) ∷
+    on Window (row selectors.window_get_echo_stream 1 OnWindow) ∷
+    of Window (row selectors.set_window 1 Windows) ∷
+    on Window (row selectors.window_get_sibling 1 OnWindow) ∷
     -- Streams
-    of Stream (row STREAM_ITERATE 2 Streams) ∷
-    on Stream (row STREAM_GET_ROCK 1 OnStream) ∷
-    on Reference (row STREAM_OPEN_FILE 3 Files) ∷
-    row STREAM_OPEN_MEMORY 4 Streams ∷
-    giving 1 2 (on Stream (row STREAM_CLOSE 2 Closing)) ∷
-    on Stream (row STREAM_SET_POSITION 3 OnStream) ∷
-    on Stream (row STREAM_GET_POSITION 1 OnStream) ∷
-    of Stream (row STREAM_SET_CURRENT 1 Streams) ∷
-    row STREAM_GET_CURRENT 0 Streams ∷
+    of Stream (row selectors.stream_iterate 2 Streams) ∷
+    on Stream (row selectors.stream_get_rock 1 OnStream) ∷
+    on Reference (row selectors.stream_open_file 3 Files) ∷
+    row selectors.stream_open_memory 4 Streams ∷
+    giving 1 2 (on Stream (row selectors.stream_close 2 Closing)) ∷
+    on Stream (row selectors.stream_set_position 3 OnStream) ∷
+    on Stream (row selectors.stream_get_position 1 OnStream) ∷
+    of Stream (row selectors.stream_set_current 1 Streams) ∷
+    row selectors.stream_get_current 0 Streams ∷
     -- File references
-    row FILEREF_CREATE_TEMP 2 References ∷
-    row FILEREF_CREATE_BY_NAME 3 References ∷
-    row FILEREF_CREATE_BY_PROMPT 3 Prompt ∷
-    on Reference (row FILEREF_DESTROY 1 OnReference) ∷
-    of Reference (row FILEREF_ITERATE 2 References) ∷
-    on Reference (row FILEREF_GET_ROCK 1 OnReference) ∷
-    on Reference (row FILEREF_DELETE_FILE 1 Files) ∷
-    on Reference (row FILEREF_DOES_FILE_EXIST 1 Files) ∷
-    naming Reference 1 (row FILEREF_CREATE_FROM_FILEREF 3 References) ∷
+    row selectors.fileref_create_temp 2 References ∷
+    row selectors.fileref_create_by_name 3 References ∷
+    row selectors.fileref_create_by_prompt 3 Prompt ∷
+    on Reference (row selectors.fileref_destroy 1 OnReference) ∷
+    of Reference (row selectors.fileref_iterate 2 References) ∷
+    on Reference (row selectors.fileref_get_rock 1 OnReference) ∷
+    on Reference (row selectors.fileref_delete_file 1 Files) ∷
+    on Reference (row selectors.fileref_does_file_exist 1 Files) ∷
+    naming Reference 1 (row selectors.fileref_create_from_fileref 3 References) ∷
     -- Output
-    row PUT_CHAR 1 Output ∷
-    on Stream (row PUT_CHAR_STREAM 2 OutputTo) ∷
-    row PUT_STRING 1 Output ∷
-    on Stream (row PUT_STRING_STREAM 2 OutputTo) ∷
-    row PUT_BUFFER 2 Output ∷
-    on Stream (row PUT_BUFFER_STREAM 3 OutputTo) ∷
-    row SET_STYLE 1 Nothing ∷
-    on Stream (row SET_STYLE_STREAM 2 Nothing) ∷
+    row selectors.put_char 1 Output ∷
+    on Stream (row selectors.put_char_stream 2 OutputTo) ∷
+    row selectors.put_string 1 Output ∷
+    on Stream (row selectors.put_string_stream 2 OutputTo) ∷
+    row selectors.put_buffer 2 Output ∷
+    on Stream (row selectors.put_buffer_stream 3 OutputTo) ∷
+    row selectors.set_style 1 Nothing ∷
+    on Stream (row selectors.set_style_stream 2 Nothing) ∷
     -- Input
-    on Stream (row GET_CHAR_STREAM 1 Input) ∷
-    on Stream (row GET_LINE_STREAM 3 Input) ∷
-    on Stream (row GET_BUFFER_STREAM 3 Input) ∷
+    on Stream (row selectors.get_char_stream 1 Input) ∷
+    on Stream (row selectors.get_line_stream 3 Input) ∷
+    on Stream (row selectors.get_buffer_stream 3 Input) ∷
     -- The case of characters
-    row CHAR_TO_LOWER 1 Characters ∷
-    row CHAR_TO_UPPER 1 Characters ∷
+    row selectors.char_to_lower 1 Characters ∷
+    row selectors.char_to_upper 1 Characters ∷
     -- Styles
-    row STYLEHINT_SET 4 Nothing ∷
-    row STYLEHINT_CLEAR 3 Nothing ∷
-    on Window (row STYLE_DISTINGUISH 3 Nothing) ∷
-    on Window (row STYLE_MEASURE 4 Nothing) ∷
+    row selectors.stylehint_set 4 Nothing ∷
+    row selectors.stylehint_clear 3 Nothing ∷
+    on Window (row selectors.style_distinguish 3 Nothing) ∷
+    on Window (row selectors.style_measure 4 Nothing) ∷
     -- Events
-    row SELECT 1 Select ∷
-    row SELECT_POLL 1 Events ∷
-    on Window (row REQUEST_LINE_EVENT 4 OnEvents) ∷
-    giving 1 4 (on Window (row CANCEL_LINE_EVENT 2 OnEvents)) ∷
-    on Window (row REQUEST_CHAR_EVENT 1 OnEvents) ∷
-    on Window (row CANCEL_CHAR_EVENT 1 OnEvents) ∷
+    row selectors.select 1 Select ∷
+    row selectors.select_poll 1 Events ∷
+    on Window (row selectors.request_line_event 4 OnEvents) ∷
+    giving 1 4 (on Window (row selectors.cancel_line_event 2 OnEvents)) ∷
+    on Window (row selectors.request_char_event 1 OnEvents) ∷
+    on Window (row selectors.cancel_char_event 1 OnEvents) ∷
     -- Unicode: the case of characters
-    row BUFFER_TO_LOWER_CASE_UNI 3 Characters ∷
-    row BUFFER_TO_UPPER_CASE_UNI 3 Characters ∷
-    row BUFFER_TO_TITLE_CASE_UNI 4 Characters ∷
+    row selectors.buffer_to_lower_case_uni 3 Characters ∷
+    row selectors.buffer_to_upper_case_uni 3 Characters ∷
+    row selectors.buffer_to_title_case_uni 4 Characters ∷
     -- Unicode: output
-    row PUT_CHAR_UNI 1 Output ∷
-    row PUT_STRING_UNI 1 Output ∷
-    row PUT_BUFFER_UNI 2 Output ∷
-    on Stream (row PUT_CHAR_STREAM_UNI 2 OutputTo) ∷
-    on Stream (row PUT_STRING_STREAM_UNI 2 OutputTo) ∷
-    on Stream (row PUT_BUFFER_STREAM_UNI 3 OutputTo) ∷
+    row selectors.put_char_uni 1 Output ∷
+    row selectors.put_string_uni 1 Output ∷
+    row selectors.put_buffer_uni 2 Output ∷
+    on Stream (row selectors.put_char_stream_uni 2 OutputTo) ∷
+    on Stream (row selectors.put_string_stream_uni 2 OutputTo) ∷
+    on Stream (row selectors.put_buffer_stream_uni 3 OutputTo) ∷
     -- Unicode: input
-    on Stream (row GET_CHAR_STREAM_UNI 1 Input) ∷
-    on Stream (row GET_BUFFER_STREAM_UNI 3 Input) ∷
-    on Stream (row GET_LINE_STREAM_UNI 3 Input) ∷
+    on Stream (row selectors.get_char_stream_uni 1 Input) ∷
+    on Stream (row selectors.get_buffer_stream_uni 3 Input) ∷
+    on Stream (row selectors.get_line_stream_uni 3 Input) ∷
     -- Unicode: streams
-    on Reference (row STREAM_OPEN_FILE_UNI 3 Files) ∷
-    row STREAM_OPEN_MEMORY_UNI 4 Streams ∷
+    on Reference (row selectors.stream_open_file_uni 3 Files) ∷
+    row selectors.stream_open_memory_uni 4 Streams ∷
     -- Unicode: events
-    on Window (row REQUEST_CHAR_EVENT_UNI 1 OnEvents) ∷
-    on Window (row REQUEST_LINE_EVENT_UNI 4 OnEvents) ∷
+    on Window (row selectors.request_char_event_uni 1 OnEvents) ∷
+    on Window (row selectors.request_line_event_uni 4 OnEvents) ∷
     -- Echo of line input
-    on Window (row SET_ECHO_LINE_EVENT 2 Nothing) ∷
+    on Window (row selectors.set_echo_line_event 2 Nothing) ∷
     []
 
 -- the one row of a selector

@@ -6,10 +6,10 @@ use Rattle.gx_state.specs.Flat.{FlatState}
 use Rattle.gx_state.specs.Replies.{IsReply}
 use Rattle.glk_streams.specs.Stream as one
 use Rattle.glk_streams.specs.Streams as streams
-use Rattle.glk_streams.specs.declared.modes.TheConstants.{READ, READ_WRITE, WRITE_APPEND}
+use Rattle.glk_streams.specs.Constants.{read_mode, read_write_mode, write_append_mode}
 use Rattle.glk_events.specs.declared.requests.Request.{Request}
 use Rattle.glk_world.specs.World.{Call, Scene, Said, has_reference}
-use Rattle.glk_dispatch.specs.declared.selectors.TheConstants.{STREAM_OPEN_FILE, STREAM_CLOSE, FILEREF_CREATE_BY_PROMPT, FILEREF_DELETE_FILE, FILEREF_DOES_FILE_EXIST, SELECT, STREAM_OPEN_FILE_UNI}
+use Rattle.glk_dispatch.specs.Numbers as selectors
 use Rattle.glk_dispatch.specs.declared.Turn.{Turn}
 use Rattle.glk_dispatch.specs.declared.Turn.TheVariants as turn
 use Rattle.glk_dispatch.specs.declared.Given.{Given}
@@ -54,20 +54,20 @@ HasRequest (r ∷ rs) = Unit {0}
 
 -- modes in which a file is loaded when it is opened
 abbrev pub IsLoading : ℕ → Type 0
-IsLoading mode = (mode ≡ READ) ⊎ (mode ≡ READ_WRITE) ⊎ (mode ≡ WRITE_APPEND)
+IsLoading mode = (mode ≡ read_mode) ⊎ (mode ≡ read_write_mode) ⊎ (mode ≡ write_append_mode)
 
 -- what the waiting call goes on with, and what it needs then
 abbrev pub IsAwaited : Scene → Call → Given → Type 0
 IsAwaited w call (given.Line line) =
-    ((call.selector ≡ SELECT) × HasRequest w.requests) ⊎ (call.selector ≡ FILEREF_CREATE_BY_PROMPT)
+    ((call.selector ≡ selectors.select) × HasRequest w.requests) ⊎ (call.selector ≡ selectors.fileref_create_by_prompt)
 IsAwaited w call (given.Loaded load) =
-    ((call.selector ≡ STREAM_OPEN_FILE) ⊎ (call.selector ≡ STREAM_OPEN_FILE_UNI))
+    ((call.selector ≡ selectors.stream_open_file) ⊎ (call.selector ≡ selectors.stream_open_file_uni))
     × (has_reference w (arg call.arguments 0) ≡ true) × IsLoading (arg call.arguments 1) × IsBounded 0x01000000 load
 IsAwaited w call given.Stored =
-    (call.selector ≡ STREAM_CLOSE)
+    (call.selector ≡ selectors.stream_close)
     × (streams.has w.streams (arg call.arguments 0) ≡ true) × (one.window_of (streams.stream w.streams (arg call.arguments 0)) ≡ 0)
 IsAwaited w call (given.Was was) =
-    (call.selector ≡ FILEREF_DELETE_FILE) ⊎ (call.selector ≡ FILEREF_DOES_FILE_EXIST)
+    (call.selector ≡ selectors.fileref_delete_file) ⊎ (call.selector ≡ selectors.fileref_does_file_exist)
 
 abbrev pub AwaitsIn : Scene → Option Call → Given → Type 0
 AwaitsIn w None g = ⊥

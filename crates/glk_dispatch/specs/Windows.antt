@@ -12,7 +12,7 @@ use Rattle.glk_windows.specs.Windows.{FlatWindows, entry_at}
 use Rattle.glk_world.specs.World.{Scene}
 use Rattle.glk_windows.specs.Changes.{arranging_grows}
 use Rattle.glk_world.specs.Calls.{can_open, opened_id, with_window, window_counts, without_window, arranged, cleared, moved, with_echo}
-use Rattle.glk_dispatch.specs.declared.selectors.TheConstants.{WINDOW_ITERATE, WINDOW_GET_ROCK, WINDOW_GET_ROOT, WINDOW_CLOSE, WINDOW_GET_SIZE, WINDOW_SET_ARRANGEMENT, WINDOW_GET_ARRANGEMENT, WINDOW_GET_TYPE, WINDOW_GET_PARENT, WINDOW_CLEAR, WINDOW_MOVE_CURSOR, WINDOW_GET_STREAM, WINDOW_GET_ECHO_STREAM, SET_WINDOW, WINDOW_GET_SIBLING}
+use Rattle.glk_dispatch.specs.Numbers as selectors
 use Rattle.glk_dispatch.specs.Parts.{Outcome, arg, replies, answered, give, give_each}
 
 -- the window of the first argument; that of 0 has neither rock nor stream
@@ -111,13 +111,13 @@ is_given at = not (at == 0)
 -- Those that need no window.
 unfoldable pub windows : Scene → FlatState → ℕ → ℕ → List ℕ → Outcome
 windows w f room selector args =
-    if selector == WINDOW_ITERATE then window_iterate w f room args else
-    if selector == WINDOW_GET_ROOT then tells w (all.root w.windows) else
-    if selector == SET_WINDOW then set_window w args else
+    if selector == selectors.window_iterate then window_iterate w f room args else
+    if selector == selectors.window_get_root then tells w (all.root w.windows) else
+    if selector == selectors.set_window then set_window w args else
     Err BadGlk
 
 unfoldable pub windows_grow : Scene → FlatState → ℕ → List ℕ → Bool
-windows_grow w f selector args = selector == WINDOW_ITERATE && is_given (arg args 1)
+windows_grow w f selector args = selector == selectors.window_iterate && is_given (arg args 1)
 
 -- The opening of a window.
 unfoldable pub opening : Scene → FlatState → ℕ → ℕ → List ℕ → Outcome
@@ -129,26 +129,28 @@ opening_grow w f selector args = can_open w (arg args 0) (arg args 1) (arg args 
 -- Those on a window.
 unfoldable pub on_window : Scene → FlatState → ℕ → ℕ → List ℕ → Outcome
 on_window w f room selector args =
-    if selector == WINDOW_GET_ROCK then tells w (window_of w args).rock else
-    if selector == WINDOW_CLOSE then window_close w f room args else
-    if selector == WINDOW_GET_SIZE then window_get_size w f room args else
-    if selector == WINDOW_SET_ARRANGEMENT then window_set_arrangement w args else
-    if selector == WINDOW_GET_ARRANGEMENT then window_get_arrangement w f room args else
-    if selector == WINDOW_GET_TYPE then tells w (window_of w args).kind else
-    if selector == WINDOW_GET_PARENT then tells w (all.parent w.windows (arg args 0)) else
-    if selector == WINDOW_CLEAR then window_clear w args else
-    if selector == WINDOW_MOVE_CURSOR then window_move_cursor w args else
-    if selector == WINDOW_GET_STREAM then tells w (window_of w args).stream else
-    if selector == WINDOW_GET_ECHO_STREAM then tells w (window_of w args).echo else
-    if selector == WINDOW_GET_SIBLING then tells w (sibling w.windows (arg args 0)) else
+    if selector == selectors.window_get_rock then tells w (window_of w args).rock else
+    if selector == selectors.window_close then window_close w f room args else
+    if selector == selectors.window_get_size then window_get_size w f room args else
+    if selector == selectors.window_set_arrangement then window_set_arrangement w args else
+    if selector == selectors.window_get_arrangement then window_get_arrangement w f room args else
+    if selector == selectors.window_get_type then tells w (window_of w args).kind else
+    if selector == selectors.window_get_parent then tells w (all.parent w.windows (arg args 0)) else
+    if selector == selectors.window_clear then window_clear w args else
+    if selector == selectors.window_move_cursor then window_move_cursor w args else
+    if selector == selectors.window_get_stream then tells w (window_of w args).stream else
+    if selector == selectors.window_get_echo_stream then tells w (window_of w args).echo else
+    if selector == selectors.window_get_sibling then tells w (sibling w.windows (arg args 0)) else
     Err BadGlk
 
 unfoldable pub on_window_grow : Scene → FlatState → ℕ → List ℕ → Bool
 on_window_grow w f selector args =
-    if selector == WINDOW_CLOSE then true else
-    if selector == WINDOW_GET_SIZE then is_given (arg args 1) || is_given (arg args 2) else
-    if selector == WINDOW_SET_ARRANGEMENT then arranging_grows w.windows (arg args 0) (arg args 1) (arg args 2) (arg args 3) else
-    if selector == WINDOW_GET_ARRANGEMENT then is_given (arg args 1) || is_given (arg args 2) || is_given (arg args 3) else
+    if selector == selectors.window_close then true else
+    if selector == selectors.window_get_size then is_given (arg args 1) || is_given (arg args 2) else
+    if selector == selectors.window_set_arrangement
+    then arranging_grows w.windows (arg args 0) (arg args 1) (arg args 2) (arg args 3) else
+    if selector == selectors.window_get_arrangement
+    then is_given (arg args 1) || is_given (arg args 2) || is_given (arg args 3) else
     false
 
 -- The setting of a window's echo stream.

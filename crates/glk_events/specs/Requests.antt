@@ -2,7 +2,7 @@
 -- line that is taken gives.
 use Rattle.std.specs.Prelude.{ℕ, ◌||◌, ◌==◌, nat_le, not, min, if◌then◌else◌, List, [], ◌∷◌, ◌++◌, length, Option, slice_get, find, filter}
 use Rattle.glk_events.specs.declared.requests.Request.{Request}
-use Rattle.glk_events.specs.declared.requests.TheConstants.{RETURN, UNKNOWN}
+use Rattle.glk_events.specs.Constants.{return_key, unknown_key}
 
 -- the request of a window, which has at most one
 abbrev pub of : List Request → ℕ → Option Request
@@ -27,5 +27,5 @@ line_length r line = min r.max (length line)
 -- "Character Input Events": the character that a line gives, its first one; a line without one is the key
 -- Return, and a character that isn't Latin-1 is an unknown key where Latin-1 was asked for
 abbrev pub char_value : Request → List ℕ → ℕ
-char_value r [] = RETURN
-char_value r (c ∷ _) = if r.wide || nat_le c 0xFF then c else UNKNOWN
+char_value r [] = return_key
+char_value r (c ∷ _) = if r.wide || nat_le c 0xFF then c else unknown_key

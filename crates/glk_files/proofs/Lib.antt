@@ -1,1 +1,2 @@
+mod Constants
 pub mod Stem

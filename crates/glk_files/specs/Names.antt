@@ -3,7 +3,7 @@ use Rattle.std.specs.Prelude.{ℕ, ◌%◌, ◌==◌, Bool, not, ◌&&◌, ◌||
 use Rattle.std.specs.List.{list_any}
 use Rattle.std.specs.Str.{encode_utf8_all}
 use Rattle.glk_text.specs.Characters.{is_printable}
-use Rattle.glk_files.specs.declared.names.TheConstants.{LONGEST, SAVED_GAME, TRANSCRIPT, INPUT_RECORD}
+use Rattle.glk_files.specs.Constants.{longest, saved_game, transcript, input_record}
 
 -- the characters that mean something to a file system: / \ < > : " | ? *
 abbrev pub is_reserved : ℕ → Bool
@@ -24,7 +24,7 @@ abbrev pub stem_within : ℕ → List ℕ → List ℕ
 stem_within room chars = take room (take_while (λ v. not (is_period v)) (filter is_allowed chars))
 
 abbrev pub stem_of : List ℕ → List ℕ
-stem_of chars = stem_within LONGEST chars
+stem_of chars = stem_within longest chars
 
 -- the base of the name, in UTF-8
 abbrev pub base_of : List ℕ → List ℕ
@@ -36,6 +36,6 @@ base_of chars =
 abbrev pub suffix_of : ℕ → List ℕ
 suffix_of usage =
     let kind = usage % 16 in
-    if kind == SAVED_GAME then codes ".glksave" else
-    if kind == TRANSCRIPT || kind == INPUT_RECORD then codes ".txt" else
+    if kind == saved_game then codes ".glksave" else
+    if kind == transcript || kind == input_record then codes ".txt" else
     codes ".glkdata"

@@ -1,3 +1,4 @@
+mod Constants
 pub mod Contents
 pub mod Sounds
 pub mod Lists

@@ -6,7 +6,7 @@ use Rattle.glk_streams.specs.declared.kinds.FileForm.TheVariants as forms
 use Rattle.glk_streams.specs.declared.kinds.StreamKind.{StreamKind}
 use Rattle.glk_streams.specs.declared.kinds.StreamKind.TheVariants as kinds
 use Rattle.glk_streams.specs.declared.kinds.Stream.{Stream}
-use Rattle.glk_streams.specs.declared.modes.TheConstants.{WRITE}
+use Rattle.glk_streams.specs.Constants.{write_mode}
 use Rattle.glk_streams.specs.Files.{bytes_in, byte_at, positions_in, with_bytes, taken}
 use Rattle.glk_streams.specs.Stream.{writable, places_of, put_in, after_put, end_in, end_of, window_in}
 use Rattle.glk_streams.specs.Sound.{IsSoundKind, IsSoundStream}
@@ -27,7 +27,7 @@ there_in forms.Latin content position there = there
 there_in forms.Wide content position there = omega arith
 there_in forms.Utf8 content position there = there
 
-memory_end : (position highest places mode : ℕ) → position < places → position + 1 ≤ (if mode == WRITE then max highest (position + 1) else places)
+memory_end : (position highest places mode : ℕ) → position < places → position + 1 ≤ (if mode == write_mode then max highest (position + 1) else places)
 memory_end position highest places mode less = grind (arith, nat_tests)
 
 put_kind : (k : StreamKind) (s : Stream) (c : ℕ) → IsSoundKind k → s.position ≤ end_in k s.mode s.highest

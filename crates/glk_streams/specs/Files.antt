@@ -5,7 +5,7 @@ use Rattle.glk_text.specs.Characters.{latin_of}
 use Rattle.glk_text.specs.Utf8.{written, read}
 use Rattle.glk_streams.specs.declared.kinds.FileForm.{FileForm}
 use Rattle.glk_streams.specs.declared.kinds.FileForm.TheVariants as forms
-use Rattle.glk_streams.specs.declared.content.TheConstants.{LARGEST}
+use Rattle.glk_streams.specs.Constants.{largest}
 
 -- the bytes of a character
 abbrev pub bytes_in : FileForm → ℕ → List ℕ
@@ -27,7 +27,7 @@ positions_in forms.Utf8 bytes = bytes
 
 -- bytes from a place on end within the most that a file holds
 abbrev pub has_room : ℕ → List ℕ → Bool
-has_room place bytes = nat_le (place + length bytes) LARGEST
+has_room place bytes = nat_le (place + length bytes) largest
 
 -- a content with bytes put over those from a place on, if there is room for them
 abbrev pub with_bytes : List ℕ → ℕ → List ℕ → List ℕ

@@ -1,3 +1,4 @@
+pub mod Constants
 pub mod Files
 pub mod Stream
 pub mod Streams

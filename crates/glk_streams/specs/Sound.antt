@@ -4,7 +4,7 @@ use Rattle.glk_objects.specs.Objects.{Rises}
 use Rattle.glk_streams.specs.declared.kinds.StreamKind.{StreamKind}
 use Rattle.glk_streams.specs.declared.kinds.StreamKind.TheVariants as kinds
 use Rattle.glk_streams.specs.declared.kinds.Stream.{Stream}
-use Rattle.glk_streams.specs.declared.content.TheConstants.{LARGEST}
+use Rattle.glk_streams.specs.Constants.{largest}
 use Rattle.glk_streams.specs.Stream.{end_of}
 use Rattle.glk_streams.specs.Streams.{id_of}
 
@@ -12,7 +12,7 @@ use Rattle.glk_streams.specs.Streams.{id_of}
 abbrev pub IsSoundKind : StreamKind → Type 0
 IsSoundKind (kinds.Window win) = Unit {0}
 IsSoundKind (kinds.Memory at len wide) = Unit {0}
-IsSoundKind (kinds.File name content form) = length content ≤ LARGEST
+IsSoundKind (kinds.File name content form) = length content ≤ largest
 
 -- and no position is past the end
 pub record IsSoundStream (s : Stream) : Type 0 where

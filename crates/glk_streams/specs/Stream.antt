@@ -5,21 +5,22 @@ use Rattle.glk_streams.specs.declared.kinds.StreamKind.{StreamKind}
 use Rattle.glk_streams.specs.declared.kinds.StreamKind.TheVariants as kinds
 use Rattle.glk_streams.specs.declared.kinds.Stream.{Stream}
 use Rattle.glk_streams.specs.declared.kinds.Places.{Places}
-use Rattle.glk_streams.specs.declared.modes.TheConstants.{WRITE, READ, READ_WRITE, WRITE_APPEND, FROM_START, FROM_CURRENT, FROM_END}
-use Rattle.glk_streams.specs.declared.content.TheConstants.{LARGEST}
+use Rattle.glk_streams.specs.Constants.{write_mode, read_mode, read_write_mode, write_append_mode, largest}
+use Rattle.glk_streams.specs.Constants.{from_start, from_current, from_end}
 use Rattle.glk_streams.specs.Files.{bytes_in, byte_at, positions_in, has_room, with_bytes, taken, read_in, saved_size}
 
 abbrev pub readable : Stream → Bool
-readable s = s.mode == READ || s.mode == READ_WRITE
+readable s = s.mode == read_mode || s.mode == read_write_mode
 
 abbrev pub writable : Stream → Bool
-writable s = s.mode == WRITE || s.mode == READ_WRITE || s.mode == WRITE_APPEND
+writable s = s.mode == write_mode || s.mode == read_write_mode || s.mode == write_append_mode
 
 -- the modes in which a kind of stream may be open
 abbrev pub allows : StreamKind → ℕ → Bool
-allows (kinds.Window win) mode = mode == WRITE
-allows (kinds.Memory at len wide) mode = mode == WRITE || mode == READ || mode == READ_WRITE
-allows (kinds.File name content form) mode = mode == WRITE || mode == READ || mode == READ_WRITE || mode == WRITE_APPEND
+allows (kinds.Window win) mode = mode == write_mode
+allows (kinds.Memory at len wide) mode = mode == write_mode || mode == read_mode || mode == read_write_mode
+allows (kinds.File name content form) mode =
+    mode == write_mode || mode == read_mode || mode == read_write_mode || mode == write_append_mode
 
 -- a buffer at 0 has no places
 abbrev pub places_of : ℕ → ℕ → ℕ
@@ -28,7 +29,7 @@ places_of at len = if at == 0 then 0 else len
 -- the position behind the last character
 abbrev pub end_in : StreamKind → ℕ → ℕ → ℕ
 end_in (kinds.Window win) mode highest = 0
-end_in (kinds.Memory at len wide) mode highest = if mode == WRITE then highest else places_of at len
+end_in (kinds.Memory at len wide) mode highest = if mode == write_mode then highest else places_of at len
 end_in (kinds.File name content form) mode highest = positions_in form (length content)
 
 abbrev pub end_of : Stream → ℕ
@@ -41,7 +42,7 @@ opened id kind mode rock = record {
   kind = kind;
   mode = mode;
   rock = rock;
-  position = if mode == WRITE_APPEND then end_in kind mode 0 else 0;
+  position = if mode == write_append_mode then end_in kind mode 0 else 0;
   highest = 0;
   read = 0;
   written = 0;
@@ -74,7 +75,7 @@ after_puts s (c ∷ cs) = after_puts (after_put s c) cs
 abbrev pub takes_bytes_in : StreamKind → ℕ → ℕ → Bool
 takes_bytes_in (kinds.Window win) position count = false
 takes_bytes_in (kinds.Memory at len wide) position count = nat_lt count (2 ^ 32)
-takes_bytes_in (kinds.File name content forms.Latin) position count = nat_le (position + count) LARGEST
+takes_bytes_in (kinds.File name content forms.Latin) position count = nat_le (position + count) largest
 takes_bytes_in (kinds.File name content forms.Wide) position count = false
 takes_bytes_in (kinds.File name content forms.Utf8) position count = false
 
@@ -138,9 +139,9 @@ clamped base by end =
 -- the position is set (Glk 0.7.5, "Stream Positions"); another seek does nothing
 unfoldable pub moved : Stream → ℕ → ℕ → Stream
 moved s pos seek =
-    if seek == FROM_START then record s { position = clamped 0 pos (end_of s) } else
-    if seek == FROM_CURRENT then record s { position = clamped s.position pos (end_of s) } else
-    if seek == FROM_END then record s { position = clamped (end_of s) pos (end_of s) } else
+    if seek == from_start then record s { position = clamped 0 pos (end_of s) } else
+    if seek == from_current then record s { position = clamped s.position pos (end_of s) } else
+    if seek == from_end then record s { position = clamped (end_of s) pos (end_of s) } else
     s
 
 -- the places of memory that so many characters use next
@@ -159,7 +160,7 @@ abbrev pub fits_in : StreamKind → ℕ → List ℕ → Bool
 fits_in (kinds.Window win) position bytes = false
 fits_in (kinds.Memory at len wide) position bytes = nat_le (length bytes) (places_of at len - position)
 fits_in (kinds.File name content form) position bytes =
-    nat_le (byte_at form position + saved_size form bytes) LARGEST
+    nat_le (byte_at form position + saved_size form bytes) largest
 
 unfoldable pub fits : Stream → List ℕ → Bool
 fits s bytes = fits_in s.kind s.position bytes

@@ -5,7 +5,7 @@ ghost use Rattle.glk_objects.specs.Objects.{IsAbove, place};
 ghost use Rattle.glk_streams.specs.Stream as one;
 ghost use Rattle.glk_streams.specs.Streams.{id_of, has, stream, with_stream, without, next, file_of, without_windows, open_files};
 ghost use Rattle.glk_streams.specs.Sound.{IsSoundKind};
-ghost use Rattle.glk_streams.specs.declared.content.TheConstants.{LARGEST};
+ghost use Rattle.glk_streams.specs.Constants.{largest};
 
 use crate::{Places, Stream, StreamKind, one};
 use glk_objects::{next, place};
@@ -289,7 +289,7 @@ impl Streams {
     #[tactic(auto, using(crate::proofs::Lists::places))]
     pub fn file(&self, id: u32) -> Option<(&str, &[u8])>
         ensures value { MatchOption result (file_of self.now id ≡ None) (λ file. file_of self.now id ≡ Some (file.0.now, file.1.now)) }
-        ensures fits { IfSome result (λ file. length file.1.now ≤ LARGEST) }
+        ensures fits { IfSome result (λ file. length file.1.now ≤ largest) }
     {
         one::file_in(self.items.get(place(&self.items, id))?)
     }

@@ -13,7 +13,7 @@ use Rattle.bstr.proofs.lemmas.EncodeLemmas.{decoded-encode}
 use Rattle.bstr.proofs.lemmas.PieceLemmas.{size-within}
 use Rattle.bstr.proofs.lemmas.SoundLemmas.{SpellsChar-decoded}
 use Rattle.glk_text.specs.Characters.{question_mark}
-use Rattle.glk_text.specs.declared.utf8.TheConstants.{REPLACEMENT}
+use Rattle.glk_text.specs.Constants.{replacement}
 use Rattle.glk_text.specs.Utf8.{as_scalar, written, taken_at, read, IsWellFormed, IsReading}
 
 -- where nothing decodes, no character begins
@@ -46,7 +46,7 @@ module _ (bytes : List ℕ) (at : ℕ) (char : Option ℕ) (size : ℕ) (char_is
       let end : at + size ≡ at + (decoded (drop at bytes)).size = ap (λ (n : ℕ). at + n) (size_is ∙ ap (λ (xs : List ℕ). (decoded xs).size) (rest_is at bytes)) in
       rw (same, end) (inl (well_formed bytes at c (here ∙ is)))
 
-  pub reading_none : char ≡ None → IsReading bytes at REPLACEMENT (at + 1)
+  pub reading_none : char ≡ None → IsReading bytes at replacement (at + 1)
   reading_none is = inr (record { none = no_char (drop at bytes) (here ∙ is); replaced = refl; size = refl })
 
   pub reading_within : at ≤ length bytes → at + size ≤ length bytes

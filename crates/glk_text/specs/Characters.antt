@@ -1,7 +1,7 @@
 -- What is done with one character (Glk 0.7.5, "Character Encoding").
 use Rattle.std.specs.Prelude.{ℕ, ◌+◌, ◌-◌, ◌==◌, Bool, ◌||◌, nat_lt, if◌then◌else◌}
 use Rattle.std.specs.Int.{is_in_range}
-use Rattle.glk_text.specs.declared.characters.TheConstants.{LINE_FEED}
+use Rattle.glk_text.specs.Constants.{line_feed}
 
 -- what stands for a character that has no place
 abbrev pub question_mark : ℕ
@@ -13,7 +13,7 @@ is_printable v = is_in_range 0x20 0x7E v || is_in_range 0xA0 0xD7FF v || is_in_r
 
 -- the character that is shown for it: itself, also where it is a line feed, else a question mark
 abbrev pub shown : ℕ → ℕ
-shown v = if v == LINE_FEED || is_printable v then v else question_mark
+shown v = if v == line_feed || is_printable v then v else question_mark
 
 -- its byte in Latin-1
 abbrev pub latin_of : ℕ → ℕ

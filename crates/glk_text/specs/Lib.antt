@@ -1,2 +1,3 @@
+pub mod Constants
 pub mod Characters
 pub mod Utf8

@@ -5,7 +5,7 @@ use Rattle.std.specs.Char.{IsScalar, encode_utf8}
 use Rattle.std.specs.Str.{StartsWithNoChar}
 use Rattle.bstr.specs.Utf8.{decoded}
 use Rattle.glk_text.specs.Characters.{question_mark}
-use Rattle.glk_text.specs.declared.utf8.TheConstants.{REPLACEMENT}
+use Rattle.glk_text.specs.Constants.{replacement}
 
 -- the number itself where it is a Unicode scalar value, else a question mark
 abbrev pub as_scalar : ℕ → ℕ
@@ -18,7 +18,7 @@ written v = encode_utf8 (as_scalar v)
 -- what stands at a place: the character there and the place behind it, or U+FFFD for one byte
 abbrev pub taken_at : ℕ → Option ℕ → ℕ → ℕ × ℕ
 taken_at at (Some c) size = (c, at + size)
-taken_at at None size = (REPLACEMENT, at + 1)
+taken_at at None size = (replacement, at + 1)
 
 -- the character at a place of some bytes, and the place behind it
 abbrev pub read : List ℕ → ℕ → Option (ℕ × ℕ)
@@ -35,7 +35,7 @@ pub record IsWellFormed (bytes : List ℕ) (at v next : ℕ) : Type 0 where
 -- no well-formed character begins at a place, of which one byte is taken
 pub record IsIllFormed (bytes : List ℕ) (at v next : ℕ) : Type 0 where
   pub none : StartsWithNoChar (drop at bytes)
-  pub replaced : v ≡ REPLACEMENT
+  pub replaced : v ≡ replacement
   pub size : next ≡ at + 1
 
 -- what is read is one of these, and no other

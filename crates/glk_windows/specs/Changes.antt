@@ -4,7 +4,7 @@ use Rattle.std.specs.Prelude.{ℕ, ◌+◌, ◌%◌, ◌==◌, not, Bool, false,
 use Rattle.std.specs.Option.{option_map}
 use Rattle.std.specs.List.{list_any}
 use Rattle.glk_objects.specs.Objects as objects
-use Rattle.glk_windows.specs.declared.methods.TheConstants.{PAIR, BLANK_WINDOW, TEXT_GRID}
+use Rattle.glk_windows.specs.Constants.{pair_window, blank_window, text_grid}
 use Rattle.glk_windows.specs.declared.tree.Arrangement.{Arrangement}
 use Rattle.glk_windows.specs.declared.entries.Entry.{Entry}
 use Rattle.glk_windows.specs.declared.grid.Grid.{Grid}
@@ -31,12 +31,12 @@ new_entry id kind rock = record { id = id; kind = kind; rock = rock; stream = id
 
 -- a grid window has a grid
 abbrev pub with_grid : List Grid → ℕ → ℕ → List Grid
-with_grid grids kind id = if kind == TEXT_GRID then grids ++ empty_grid id ∷ [] else grids
+with_grid grids kind id = if kind == text_grid then grids ++ empty_grid id ∷ [] else grids
 
 -- the pair of a new window, which is its key
 abbrev pub new_pair : ℕ → ℕ → ℕ → ℕ → Arrangement
 new_pair method size kind id =
-    record { id = id + 2; method = method % 256; size = size; key = id; key_is_blank = kind == BLANK_WINDOW }
+    record { id = id + 2; method = method % 256; size = size; key = id; key_is_blank = kind == blank_window }
 
 -- the first window, which is the root
 abbrev pub rooted : FlatWindows → ℕ → ℕ → ℕ → FlatWindows
@@ -49,7 +49,7 @@ rooted f kind rock id = record f {
 -- a window beside one that is split
 abbrev pub split_by : FlatWindows → ℕ → ℕ → ℕ → ℕ → ℕ → ℕ → FlatWindows
 split_by f split method size kind rock id = record f {
-  entries = (f.entries ++ new_entry id kind rock ∷ []) ++ new_entry (id + 2) PAIR 0 ∷ [];
+  entries = (f.entries ++ new_entry id kind rock ∷ []) ++ new_entry (id + 2) pair_window 0 ∷ [];
   tree = option_map (λ t. split_in t split (new_pair method size kind id) id) f.tree;
   grids = with_grid f.grids kind id;
 }
@@ -106,7 +106,7 @@ allows f win method key =
 -- the tree with another arrangement of a pair
 abbrev pub arranged_tree : FlatWindows → ℕ → ℕ → ℕ → ℕ → Option Shape
 arranged_tree f win method size key =
-    option_map (λ t. arranged_in t win method size key ((entry_at f.entries key).kind == BLANK_WINDOW)) f.tree
+    option_map (λ t. arranged_in t win method size key ((entry_at f.entries key).kind == blank_window)) f.tree
 
 -- a pair gets another arrangement; nothing changes where it may not
 unfoldable pub arranged : FlatWindows → ℕ → ℕ → ℕ → ℕ → FlatWindows

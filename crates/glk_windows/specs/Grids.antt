@@ -1,8 +1,9 @@
 -- Grids of text grid windows (Glk 0.7.5, "Text Grid Windows"): cells in rows, and a cursor.
 use Rattle.std.specs.Prelude.{ℕ, ◌+◌, ◌-◌, ◌==◌, ◌||◌, nat_lt, nat_le, Bool, if◌then◌else◌, List, [], ◌++◌, length, map, take, replicate, slice_set, slice_index_or}
 use Rattle.std.specs.List.{list_any}
+use Rattle.glk_text.specs.Constants.{line_feed}
 use Rattle.glk_windows.specs.declared.grid.Grid.{Grid}
-use Rattle.glk_windows.specs.declared.grid.TheConstants.{BLANK, LINE_FEED}
+use Rattle.glk_windows.specs.Constants.{blank_cell}
 
 abbrev pub grid_id : Grid → ℕ
 grid_id g = g.id
@@ -17,7 +18,7 @@ fit n blank xs = take n xs ++ replicate (n - length xs) blank
 
 -- a grid at a size: cells inside both sizes stay, and new ones are blank
 abbrev pub resized : ℕ × ℕ → Grid → Grid
-resized area g = record g { columns = area.0; rows = map (fit area.0 BLANK) (fit area.1 [] g.rows) }
+resized area g = record g { columns = area.0; rows = map (fit area.0 blank_cell) (fit area.1 [] g.rows) }
 
 -- a size has a row more than the grid, or a cell more in one of its rows
 abbrev pub grows : ℕ × ℕ → Grid → Bool
@@ -28,7 +29,7 @@ abbrev pub row_of : Grid → ℕ → List ℕ
 row_of g y = slice_index_or g.rows y []
 
 abbrev pub cell_of : Grid → ℕ → ℕ → ℕ
-cell_of g x y = slice_index_or (row_of g y) x BLANK
+cell_of g x y = slice_index_or (row_of g y) x blank_cell
 
 -- the row below; the last number of a row stays
 abbrev pub row_below : ℕ → ℕ
@@ -42,7 +43,7 @@ wrapped g = if nat_lt g.x g.columns then g else record g { x = 0; y = row_below 
 unfoldable pub put_at : Grid → ℕ → Grid
 put_at g c =
     if nat_le (length g.rows) g.y || g.columns == 0 then g else
-    if c == LINE_FEED then record g { x = 0; y = row_below g.y } else
+    if c == line_feed then record g { x = 0; y = row_below g.y } else
     record g { rows = slice_set g.rows g.y (slice_set (row_of g g.y) g.x c); x = g.x + 1 }
 
 -- a character is put
@@ -51,7 +52,7 @@ put g c = put_at (wrapped g) c
 
 -- all cells become blank, and the cursor goes to the first
 abbrev pub cleared : Grid → Grid
-cleared g = record g { rows = map (λ row. replicate (length row) BLANK) g.rows; x = 0; y = 0 }
+cleared g = record g { rows = map (λ row. replicate (length row) blank_cell) g.rows; x = 0; y = 0 }
 
 -- the cursor is moved; it may be anywhere
 abbrev pub moved : Grid → ℕ → ℕ → Grid

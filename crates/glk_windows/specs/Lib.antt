@@ -1,3 +1,4 @@
+pub mod Constants
 pub mod Methods
 pub mod Tree
 pub mod Grids

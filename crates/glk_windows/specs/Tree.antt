@@ -1,7 +1,7 @@
 -- The tree of windows (Glk 0.7.5, "Window Arrangement"): a pair window has two children, every other window none.
 use Rattle.std.specs.Prelude.{ℕ, ◌-◌, ◌*◌, ◌/◌, ◌%◌, ◌==◌, ◌||◌, ◌&&◌, min, Bool, false, if◌then◌else◌, List, [], ◌∷◌, ◌++◌, Option, Some, None}
 use Rattle.std.specs.List.{list_any}
-use Rattle.glk_windows.specs.declared.methods.TheConstants.{FIXED}
+use Rattle.glk_windows.specs.Constants.{fixed}
 use Rattle.glk_windows.specs.declared.tree.Arrangement.{Arrangement}
 use Rattle.glk_windows.specs.declared.tree.Pair.{Pair}
 use Rattle.glk_windows.specs.declared.tree.Tree.{Tree}
@@ -30,7 +30,7 @@ or_else None other = other
 -- what a pair's second child gets of so many columns or rows
 abbrev pub share : Arrangement → ℕ → ℕ
 share a total =
-    if division a.method == FIXED
+    if division a.method == fixed
     then (if a.key == 0 || a.key_is_blank then 0 else min total a.size)
     else min total (total * a.size / 100)
 

@@ -2,7 +2,7 @@
 use Rattle.std.specs.Prelude.{ℕ, ◌+◌, ◌==◌, ◌||◌, ◌&&◌, nat_lt, not, Bool, if◌then◌else◌, List, [], Option, Some, None, is_some, unwrap_or, option_and_then, count_by}
 use Rattle.std.specs.Option.{option_map}
 use Rattle.glk_objects.specs.Objects as objects
-use Rattle.glk_windows.specs.declared.methods.TheConstants.{PAIR, BLANK_WINDOW, TEXT_BUFFER, TEXT_GRID, MOST_WINDOWS}
+use Rattle.glk_windows.specs.Constants.{pair_window, blank_window, text_buffer, text_grid, most_windows}
 use Rattle.glk_windows.specs.declared.tree.Pair.{Pair}
 use Rattle.glk_windows.specs.declared.tree.Tree.{Tree}
 use Rattle.glk_windows.specs.declared.entries.Entry.{Entry}
@@ -50,7 +50,7 @@ entry f win = if is_window f win then Some (entry_at f.entries win) else None
 
 -- windows of this type show text
 abbrev pub has_text : ℕ → Bool
-has_text kind = kind == TEXT_BUFFER || kind == TEXT_GRID
+has_text kind = kind == text_buffer || kind == text_grid
 
 -- the next window above an identifier, 0 for none
 abbrev pub next : FlatWindows → ℕ → ℕ
@@ -110,16 +110,17 @@ pub record IsNewId (f : FlatWindows) (id : ℕ) : Type 0 where
 
 -- a story may open a window of this type
 abbrev pub is_openable : ℕ → Bool
-is_openable kind = kind == BLANK_WINDOW || kind == TEXT_BUFFER || kind == TEXT_GRID
+is_openable kind = kind == blank_window || kind == text_buffer || kind == text_grid
 
 -- how many windows aren't pairs
 abbrev pub leaf_count : List Entry → ℕ
-leaf_count entries = count_by (λ e. not (e.kind == PAIR)) entries
+leaf_count entries = count_by (λ e. not (e.kind == pair_window)) entries
 
 -- a window may be opened: the first one with split 0, every other one by a split with a method
 abbrev pub can_add : FlatWindows → ℕ → ℕ → ℕ → Bool
 can_add f split method kind =
-    not (split == 0 && is_some f.tree) && is_openable kind && nat_lt (leaf_count f.entries) MOST_WINDOWS && (split == 0 || is_method method)
+    not (split == 0 && is_some f.tree) && is_openable kind
+    && nat_lt (leaf_count f.entries) most_windows && (split == 0 || is_method method)
 
 -- the last identifier that opening a window gives: that of its stream, or of the pair's stream
 abbrev pub last_given : ℕ → ℕ → ℕ

@@ -6,14 +6,12 @@ ghost use Rattle.std.specs.List.{list_any};
 ghost use Rattle.glk_windows.specs.Grids.{empty_grid, fit, resized, grows, row_below, wrapped, put_at, put, cleared, moved};
 
 use glk_objects::Object;
+use glk_text::LINE_FEED;
 use std::alloc::{AllocError, Global};
 use std::marker::Model;
 
 /// What stands in a cell in which nothing was put.
 pub const BLANK: u32 = 0x20;
-
-/// The character that ends a line.
-pub const LINE_FEED: u32 = 0x0A;
 
 /// One row of cells.
 #[derive(Drop)]

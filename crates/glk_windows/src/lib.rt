@@ -17,7 +17,7 @@ mod tree;
 mod windows;
 
 pub use entries::{Entry, Window};
-pub use grid::{BLANK, Grid, LINE_FEED, Rows};
+pub use grid::{BLANK, Grid, Rows};
 pub use methods::{
     ABOVE, BELOW, BLANK_WINDOW, FIXED, LEFT, MOST_WINDOWS, PAIR, PROPORTIONAL, RIGHT, TEXT_BUFFER,
     TEXT_GRID,

@@ -2,7 +2,7 @@
 use Rattle.std.proofs.Common.{◌≡◌, ◌≢◌, Result, Ok, Err, OnOk, OnErr, IfOk, subst, ◌<◌, ◌≤◌, ◌+◌, ◌==◌, ℕ, true, false, if◌then◌else◌, List, [], ◌∷◌, ◌++◌, map, not, refl, arith}
 use Rattle.std.specs.List.{filter}
 use Rattle.std.proofs.lemmas.Bool.Decides.{nat_tests}
-use Rattle.glk_windows.specs.declared.methods.TheConstants.{PAIR, TEXT_GRID}
+use Rattle.glk_windows.specs.Constants.{pair_window, text_grid}
 use Rattle.glk_world.specs.declared.references.FileReference.{FileReference}
 use Rattle.glk_world.specs.World.{reference_id}
 use Rattle.glk_objects.specs.Objects as objects
@@ -63,7 +63,7 @@ arranged_new f win method size key n new = elim (allows f win method key) as (λ
 ]
 
 with_grid_new : (grids : List Grid) (kind id n : ℕ) → IsAbove grid_id grids n → id < n → IsAbove grid_id (with_grid grids kind id) n
-with_grid_new grids kind id n above less = elim (kind == TEXT_GRID) as (λ b. IsAbove grid_id (if b then grids ++ empty_grid id ∷ [] else grids) n) [
+with_grid_new grids kind id n above less = elim (kind == text_grid) as (λ b. IsAbove grid_id (if b then grids ++ empty_grid id ∷ [] else grids) n) [
   | true ↦ above_end grid_id grids (empty_grid id) n above less
   | false ↦ above
 ]
@@ -77,7 +77,7 @@ added_new f split method size kind rock id new =
         grids = with_grid_new f.grids kind id (id + 1 + 1) (above_more grid_id f.grids id (id + 1 + 1) new.grids (omega arith)) (omega arith);
       })
       | false ↦ fitted_new (split_by f split method size kind rock id) (id + 3 + 1) (record {
-        entries = above_end entry_id (f.entries ++ new_entry id kind rock ∷ []) (new_entry (id + 2) PAIR 0) (id + 3 + 1)
+        entries = above_end entry_id (f.entries ++ new_entry id kind rock ∷ []) (new_entry (id + 2) pair_window 0) (id + 3 + 1)
             (above_end entry_id f.entries (new_entry id kind rock) (id + 3 + 1) (above_more entry_id f.entries id (id + 3 + 1) new.entries (omega arith)) (omega arith)) (omega arith);
         grids = with_grid_new f.grids kind id (id + 3 + 1) (above_more grid_id f.grids id (id + 3 + 1) new.grids (omega arith)) (omega arith);
       })

@@ -1,3 +1,4 @@
+mod Constants
 pub mod Turns
 pub mod Kept
 pub mod Closing

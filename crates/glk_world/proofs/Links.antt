@@ -13,7 +13,7 @@ use Rattle.glk_streams.specs.Stream as one
 use Rattle.glk_streams.specs.Streams as streams
 use Rattle.glk_windows.specs.declared.entries.Entry.{Entry}
 use Rattle.glk_windows.specs.Tree.{is_among}
-use Rattle.glk_windows.specs.declared.methods.TheConstants.{PAIR}
+use Rattle.glk_windows.specs.Constants.{pair_window}
 use Rattle.glk_windows.specs.Windows.{FlatWindows, entry_id, stream_id, no_entry, entry_at, no_windows, has_grid, grid_at, last_given, IsNewId}
 use Rattle.glk_windows.specs.declared.grid.Grid.{Grid}
 use Rattle.glk_windows.specs.Grids as grids
@@ -295,17 +295,17 @@ linked_first es xs kind rock n new above linked =
     linked_stream es1 xs (window_stream n) n (linked_entry es (new_entry n kind rock) xs n refl linked) above (omega arith) (window_stream_none es1 n none)
 
 linked_pair : (es : List Entry) (xs : List Stream) (kind rock n : ℕ) → IsAbove entry_id es n → IsAbove streams.id_of xs n → AreLinked es xs n
-    → AreLinked ((es ++ new_entry n kind rock ∷ []) ++ new_entry (n + 2) PAIR 0 ∷ []) ((xs ++ window_stream n ∷ []) ++ window_stream (n + 2) ∷ []) (n + 3 + 1)
+    → AreLinked ((es ++ new_entry n kind rock ∷ []) ++ new_entry (n + 2) pair_window 0 ∷ []) ((xs ++ window_stream n ∷ []) ++ window_stream (n + 2) ∷ []) (n + 3 + 1)
 unfolding one.opened
 linked_pair es xs kind rock n new above linked =
     let es1 = es ++ new_entry n kind rock ∷ [] in
-    let es2 = es1 ++ new_entry (n + 2) PAIR 0 ∷ [] in
+    let es2 = es1 ++ new_entry (n + 2) pair_window 0 ∷ [] in
     let xs1 = xs ++ window_stream n ∷ [] in
     let first = linked_first es xs kind rock n new above linked in
-    let more = linked_entry es1 (new_entry (n + 2) PAIR 0) xs1 (n + 1 + 1) refl first in
+    let more = linked_entry es1 (new_entry (n + 2) pair_window 0) xs1 (n + 1 + 1) refl first in
     let above1 : IsAbove streams.id_of xs1 (n + 1 + 1) = above_end streams.id_of xs (window_stream n) (n + 1 + 1) (above_more streams.id_of xs n (n + 1 + 1) above (omega arith)) (omega arith) in
     let none : (entry_at es2 (n + 2)).echo ≡ 0 =
-    entry_end_echo es1 (new_entry (n + 2) PAIR 0) (n + 2) refl ∙ entry_end_echo es (new_entry n kind rock) (n + 2) refl ∙ absent_echo es n (n + 2) new (omega arith) in
+    entry_end_echo es1 (new_entry (n + 2) pair_window 0) (n + 2) refl ∙ entry_end_echo es (new_entry n kind rock) (n + 2) refl ∙ absent_echo es n (n + 2) new (omega arith) in
     let result : AreLinked es2 (xs1 ++ window_stream (n + 2) ∷ []) (n + 2 + 1 + 1) = linked_stream es2 xs1 (window_stream (n + 2)) (n + 1 + 1) more above1 (omega arith) (window_stream_none es2 (n + 2) none) in
     let same : n + 3 + 1 ≡ n + 2 + 1 + 1 = omega arith in
     rw same result

@@ -12,7 +12,7 @@ use Rattle.glk_windows.specs.declared.entries.Entry.{Entry}
 use Rattle.glk_windows.specs.Windows.{FlatWindows, has_grid, grid_at}
 use Rattle.glk_windows.specs.Grids as grids
 use Rattle.glk_windows.specs.Changes.{put_to}
-use Rattle.glk_windows.specs.declared.methods.TheConstants.{TEXT_BUFFER}
+use Rattle.glk_windows.specs.Constants.{text_buffer}
 use Rattle.glk_text.specs.Characters.{shown}
 use Rattle.glk_world.specs.World.{Scene, Said, silent, then_said}
 use Rattle.glk_world.specs.Putting.{said_char, window_of, entry_of, window_put, counted, stream_put, echo_of, put_along, put_of, end_along, end_of}
@@ -105,11 +105,11 @@ entries_put f win c = elim (has_grid f win) as (λ b. (if b then record f { grid
 
 window_put_streams : (w : Scene) (e : Entry) (win c : ℕ) → (window_put w e win c).0.streams ≡ w.streams
 unfolding window_put
-window_put_streams w e win c = elim (e.kind == TEXT_BUFFER) as (λ b. (if b then said_char w (shown c) else silent (record w { windows = put_to w.windows win (shown c) })).0.streams ≡ w.streams) [ true ↦ refl | false ↦ refl ]
+window_put_streams w e win c = elim (e.kind == text_buffer) as (λ b. (if b then said_char w (shown c) else silent (record w { windows = put_to w.windows win (shown c) })).0.streams ≡ w.streams) [ true ↦ refl | false ↦ refl ]
 
 window_put_entries : (w : Scene) (e : Entry) (win c : ℕ) → (window_put w e win c).0.windows.entries ≡ w.windows.entries
 unfolding window_put
-window_put_entries w e win c = elim (e.kind == TEXT_BUFFER) as (λ b. (if b then said_char w (shown c) else silent (record w { windows = put_to w.windows win (shown c) })).0.windows.entries ≡ w.windows.entries) [ true ↦ refl | false ↦ entries_put w.windows win (shown c) ]
+window_put_entries w e win c = elim (e.kind == text_buffer) as (λ b. (if b then said_char w (shown c) else silent (record w { windows = put_to w.windows win (shown c) })).0.windows.entries ≡ w.windows.entries) [ true ↦ refl | false ↦ entries_put w.windows win (shown c) ]
 
 pub stream_put_streams : (w : Scene) (s c : ℕ) → (stream_put w s c).0.streams ≡ (counted w s c).streams
 unfolding stream_put

@@ -1,7 +1,7 @@
 -- What the calls that change the world make of a scene (Glk 0.7.5).
 use Rattle.std.specs.Prelude.{ℕ, ◌+◌, ◌==◌, ◌&&◌, nat_le, if◌then◌else◌, Bool, List, [], ◌∷◌, ◌++◌, Option}
 use Rattle.glk_objects.specs.Objects as objects
-use Rattle.glk_streams.specs.declared.modes.TheConstants.{WRITE}
+use Rattle.glk_streams.specs.Constants.{write_mode}
 use Rattle.glk_streams.specs.declared.kinds.Stream.{Stream}
 use Rattle.glk_streams.specs.declared.kinds.StreamKind.{StreamKind}
 use Rattle.glk_streams.specs.declared.kinds.StreamKind.TheVariants as kinds
@@ -13,11 +13,11 @@ use Rattle.glk_events.specs.declared.requests.Request.{Request}
 use Rattle.glk_events.specs.Requests as requests
 use Rattle.glk_world.specs.World.{Scene, reference_id}
 use Rattle.glk_world.specs.Putting.{leads_to}
-use Rattle.glk_world.specs.declared.identifiers.TheConstants.{LAST_IDENTIFIER}
+use Rattle.glk_world.specs.Constants.{last_identifier}
 
 -- an identifier may be given
 abbrev pub is_identifier : ℕ → Bool
-is_identifier id = nat_le id LAST_IDENTIFIER
+is_identifier id = nat_le id last_identifier
 
 -- the identifier of a new object, 0 where none may be given
 abbrev pub new_id : Scene → ℕ
@@ -48,7 +48,7 @@ opened_id w split method kind = if can_open w split method kind then w.next_id e
 
 -- the stream of a window, whose identifier is the next
 abbrev pub window_stream : ℕ → Stream
-window_stream win = one.opened (win + 1) (kinds.Window win) WRITE 0
+window_stream win = one.opened (win + 1) (kinds.Window win) write_mode 0
 
 -- the streams of a new window and, beside another window, of its pair
 abbrev pub with_streams : List Stream → ℕ → ℕ → List Stream

@@ -1,3 +1,4 @@
+pub mod Constants
 pub mod World
 pub mod Putting
 pub mod Chains

@@ -1,11 +1,11 @@
 -- A character is put to a stream (Glk 0.7.5, "Streams" and "Echo Streams").
 use Rattle.std.specs.Prelude.{ℕ, zero, suc, ◌==◌, ◌&&◌, ◌||◌, not, if◌then◌else◌, Bool, false, List, [], ◌∷◌, length, encode_utf8}
-use Rattle.glk_text.specs.declared.characters.TheConstants.{LINE_FEED}
+use Rattle.glk_text.specs.Constants.{line_feed}
 use Rattle.glk_text.specs.Characters.{shown}
 use Rattle.glk_streams.specs.declared.kinds.Places.{Places}
 use Rattle.glk_streams.specs.Stream as one
 use Rattle.glk_streams.specs.Streams as streams
-use Rattle.glk_windows.specs.declared.methods.TheConstants.{TEXT_BUFFER}
+use Rattle.glk_windows.specs.Constants.{text_buffer}
 use Rattle.glk_windows.specs.declared.entries.Entry.{Entry}
 use Rattle.glk_windows.specs.Windows.{entry_at}
 use Rattle.glk_windows.specs.Changes.{put_to}
@@ -13,7 +13,7 @@ use Rattle.glk_world.specs.World.{Scene, Said, silent, then_said}
 
 -- a character of the text, in UTF-8
 abbrev pub said_char : Scene → ℕ → Said
-said_char w c = (record w { fresh = c == LINE_FEED }, encode_utf8 c)
+said_char w c = (record w { fresh = c == line_feed }, encode_utf8 c)
 
 -- the window of a stream, 0 for none
 abbrev pub window_of : Scene → ℕ → ℕ
@@ -24,13 +24,13 @@ abbrev pub entry_of : Scene → ℕ → Entry
 entry_of w stream = entry_at w.windows.entries (window_of w stream)
 
 abbrev pub is_text : Scene → ℕ → Bool
-is_text w stream = (entry_of w stream).kind == TEXT_BUFFER
+is_text w stream = (entry_of w stream).kind == text_buffer
 
 -- A character comes to a window as it is shown: a text buffer shows it, a grid has a place for it, and other
 -- windows drop it.
 unfoldable pub window_put : Scene → Entry → ℕ → ℕ → Said
 window_put w entry win c =
-    if entry.kind == TEXT_BUFFER then said_char w (shown c) else
+    if entry.kind == text_buffer then said_char w (shown c) else
     silent (record w { windows = put_to w.windows win (shown c) })
 
 -- a stream counts a character, and puts it where it belongs

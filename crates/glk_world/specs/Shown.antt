@@ -3,10 +3,10 @@ use Rattle.std.specs.Prelude.{ℕ, ◌+◌, ◌==◌, ◌&&◌, if◌then◌else
 use Rattle.std.specs.Cmp.Lexicographic.{pointwise}
 use Rattle.std.specs.Str.{encode_utf8_all}
 use Rattle.glk_objects.specs.Objects as objects
-use Rattle.glk_text.specs.declared.characters.TheConstants.{LINE_FEED}
+use Rattle.glk_text.specs.Constants.{line_feed}
 use Rattle.glk_text.specs.Characters.{shown}
 use Rattle.glk_windows.specs.declared.grid.Grid.{Grid}
-use Rattle.glk_windows.specs.declared.grid.TheConstants.{BLANK}
+use Rattle.glk_windows.specs.Constants.{blank_cell}
 use Rattle.glk_world.specs.declared.grids.ShownGrid.{ShownGrid}
 use Rattle.glk_world.specs.World.{Scene, Said, silent, then_said}
 
@@ -15,7 +15,7 @@ use Rattle.glk_world.specs.World.{Scene, Said, silent, then_said}
 -- how many cells of a row are left then
 unfoldable pub kept : List ℕ → ℕ
 kept [] = 0
-kept (c ∷ cs) = if kept cs == 0 && c == BLANK then 0 else kept cs + 1
+kept (c ∷ cs) = if kept cs == 0 && c == blank_cell then 0 else kept cs + 1
 
 abbrev pub trimmed : List ℕ → List ℕ
 trimmed row = take (kept row) row
@@ -47,13 +47,13 @@ same_rows rows others = pointwise (pointwise (λ c d. c == d)) rows others
 
 -- a line feed where something stands on the last line
 abbrev pub on_a_new_line : Scene → List ℕ
-on_a_new_line w = if w.fresh then [] else LINE_FEED ∷ []
+on_a_new_line w = if w.fresh then [] else line_feed ∷ []
 
 -- a row that isn't blank is shown behind a bar, on a line of its own
 unfoldable pub said_row : Scene → List ℕ → Said
 said_row w row =
     if length row == 0 then silent w else
-    (record w { fresh = true }, on_a_new_line w ++ (codes "| " ++ (encode_utf8_all (map shown row) ++ LINE_FEED ∷ [])))
+    (record w { fresh = true }, on_a_new_line w ++ (codes "| " ++ (encode_utf8_all (map shown row) ++ line_feed ∷ [])))
 
 unfoldable pub said_rows : Scene → List (List ℕ) → Said
 said_rows w [] = silent w
@@ -81,7 +81,7 @@ show_prompt w = (record w { fresh = false }, codes "File name: ")
 
 -- a line that was taken, as shown
 unfoldable pub show_line : Scene → List ℕ → Said
-show_line w line = (record w { fresh = true }, encode_utf8_all (map shown line) ++ LINE_FEED ∷ [])
+show_line w line = (record w { fresh = true }, encode_utf8_all (map shown line) ++ line_feed ∷ [])
 
 -- a line was taken: nothing was shown since then
 abbrev pub line_taken : Scene → Scene

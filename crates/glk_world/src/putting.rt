@@ -5,7 +5,7 @@ ghost use Rattle.glk_streams.specs.Stream as one;
 ghost use Rattle.glk_streams.specs.Streams as streams;
 ghost use Rattle.glk_windows.specs.Windows as windows;
 ghost use Rattle.glk_windows.specs.Windows.{entry_at};
-ghost use Rattle.glk_windows.specs.declared.methods.TheConstants.{TEXT_BUFFER as A_TEXT_BUFFER};
+ghost use Rattle.glk_windows.specs.Constants.{text_buffer};
 ghost use Rattle.glk_world.specs.World.{after, silent};
 ghost use Rattle.glk_world.specs.Putting.{said_char, entry_of, is_text, window_of, window_put, stream_put, stream_grows, echo_of, put_along, put_of, puts, is_plain_text, grows_along, put_grows, end_along, end_of, places_of, places_read, leads_along, leads_to};
 ghost use Rattle.glk_world.specs.Calls.{got_from, passed, after_get, with_echo};
@@ -203,7 +203,7 @@ impl World {
     #[tactic(auto, using(crate::proofs::Kept::windows_kept), unfolding(crate::specs::Putting::window_put))]
     fn window_put(&mut self, win: u32, c: u32) -> Result<(), AllocError>
         ensures ok { OnOk result (self.new ≡ after self.old (window_put self.old.scene (entry_at self.old.scene.windows.entries win) win c)) }
-        ensures memory { OnErr result ((entry_at self.old.scene.windows.entries win).kind ≡ A_TEXT_BUFFER) }
+        ensures memory { OnErr result ((entry_at self.old.scene.windows.entries win).kind ≡ text_buffer) }
     {
         if entry_at(&self.windows, win).kind == TEXT_BUFFER {
             self.show(show(c))

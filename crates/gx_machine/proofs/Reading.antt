@@ -9,7 +9,7 @@ use Rattle.gx_rows.specs.declared.instructions.Row.{Row}
 use Rattle.gx_state.specs.declared.modes.Dest.{Dest}
 use Rattle.gx_state.specs.declared.modes.Dest.TheVariants as dest
 use Rattle.gx_state.specs.Flat.{FlatState}
-use Rattle.gx_operands.specs.declared.addressing.Cursor.{Cursor}
+use Rattle.gx_operands.specs.declared.cursor.Cursor.{Cursor}
 use Rattle.gx_operands.specs.Instructions.{Operands, all_operands, operands, operand, with_operand, load, destination}
 use Rattle.gx_machine.specs.Quick.{Tries, IsPlain, IsRowWriting, IsQuickWriting, quick_effect, quick_row, read_as, operands_read}
 

@@ -18,7 +18,7 @@ use Rattle.gx_state.specs.Flat.{FlatState, cut, sp_of}
 use Rattle.gx_state.specs.Entry.{entered}
 use Rattle.gx_state.specs.Returns.{stub_of}
 use Rattle.ops_calc.specs.Arithmetic.{calc}
-use Rattle.gx_operands.specs.declared.addressing.Cursor.{Cursor}
+use Rattle.gx_operands.specs.declared.cursor.Cursor.{Cursor}
 use Rattle.gx_operands.specs.Instructions.{Operands, Instruction, all_operands, going_to}
 use Rattle.gx_operands.specs.Stores.{settled, goes_to}
 use Rattle.gx_machine.specs.Machine.{Whole}

@@ -10,16 +10,16 @@ use Rattle.gx_pages.specs.Memory.{number_in}
 use Rattle.gx_stack.specs.Faults.{lifted}
 use Rattle.gx_stack.specs.Values.{count, peeked, local_at}
 use Rattle.gx_rows.specs.declared.instructions.Row.{Row}
+use Rattle.gx_rows.specs.Modes.{addressing, kind_of}
 use Rattle.gx_rows.specs.Table.{row_of}
 use Rattle.gx_state.specs.declared.modes.Dest.{Dest}
 use Rattle.gx_state.specs.declared.modes.Dest.TheVariants as dest
 use Rattle.gx_state.specs.Flat.{FlatState, frame_of, sp_of}
-use Rattle.gx_operands.specs.declared.addressing.TheConstants.{CONSTANT_ZERO, CONSTANT_BYTE, CONSTANT_SHORT, CONSTANT_WORD, ADDRESS_BYTE, ADDRESS_SHORT, ADDRESS_WORD, STACK_TOP, LOCAL_BYTE, LOCAL_SHORT, LOCAL_WORD, RAM_BYTE, RAM_SHORT, RAM_WORD}
-use Rattle.gx_operands.specs.declared.addressing.Addressing.{Addressing}
-use Rattle.gx_operands.specs.declared.addressing.Addressing.TheVariants.{Zero, Constant, Memory, Top, Local, Ram}
-use Rattle.gx_operands.specs.declared.addressing.Kind.{Kind}
-use Rattle.gx_operands.specs.declared.addressing.Kind.TheVariants.{Load, Store}
-use Rattle.gx_operands.specs.declared.addressing.Cursor.{Cursor}
+use Rattle.gx_rows.specs.declared.modes.Addressing.{Addressing}
+use Rattle.gx_rows.specs.declared.modes.Addressing.TheVariants.{Zero, Constant, Memory, Top, Local, Ram}
+use Rattle.gx_rows.specs.declared.modes.Kind.{Kind}
+use Rattle.gx_rows.specs.declared.modes.Kind.TheVariants.{Load, Store}
+use Rattle.gx_operands.specs.declared.cursor.Cursor.{Cursor}
 
 -- the number at PC in one, two or four bytes, and the address after them
 unfoldable pub opcode : FlatState → Result (ℕ × ℕ) Fault
@@ -31,34 +31,6 @@ opcode f = do
         Ok (number - 0x8000, f.pc + 2)) else (do
           number ← number_in 4 f.memory f.pc
           Ok (number - 0xC0000000, f.pc + 4))
-
--- the addressing mode of a nibble
-unfoldable pub addressing : ℕ → Result Addressing Fault
-addressing nibble =
-    if nibble == CONSTANT_ZERO then Ok Zero else
-    if nibble == CONSTANT_BYTE then Ok (Constant 1) else
-    if nibble == CONSTANT_SHORT then Ok (Constant 2) else
-    if nibble == CONSTANT_WORD then Ok (Constant 4) else
-    if nibble == ADDRESS_BYTE then Ok (Memory 1) else
-    if nibble == ADDRESS_SHORT then Ok (Memory 2) else
-    if nibble == ADDRESS_WORD then Ok (Memory 4) else
-    if nibble == STACK_TOP then Ok Top else
-    if nibble == LOCAL_BYTE then Ok (Local 1) else
-    if nibble == LOCAL_SHORT then Ok (Local 2) else
-    if nibble == LOCAL_WORD then Ok (Local 4) else
-    if nibble == RAM_BYTE then Ok (Ram 1) else
-    if nibble == RAM_SHORT then Ok (Ram 2) else
-    if nibble == RAM_WORD then Ok (Ram 4) else
-    Err BadMode
-
--- the data of an operand is 1, 2 or 4 bytes
-abbrev pub HasWidth : Addressing → Type 0
-HasWidth Zero = Unit {0}
-HasWidth (Constant n) = IsWidth n
-HasWidth (Memory n) = IsWidth n
-HasWidth Top = Unit {0}
-HasWidth (Local n) = IsWidth n
-HasWidth (Ram n) = IsWidth n
 
 -- the frame has so many values
 abbrev pub HasValues : FlatState → ℕ → Type 0
@@ -103,7 +75,7 @@ load_by f width (Ram n) p = do
 
 unfoldable pub load : FlatState → ℕ → ℕ → Cursor → Result (ℕ × Cursor) Fault
 load f width nibble p = do
-  mode ← addressing nibble
+  mode ← ok_or (addressing nibble) BadMode
   load_by f width mode p
 
 -- Where a store operand points, and the cursor after it.
@@ -123,7 +95,7 @@ destination_by f (Ram n) p = do
 
 unfoldable pub destination : FlatState → ℕ → Cursor → Result (Dest × Cursor) Fault
 destination f nibble p = do
-  mode ← addressing nibble
+  mode ← ok_or (addressing nibble) BadMode
   destination_by f mode p
 
 -- What the operands so far gave.
@@ -151,10 +123,6 @@ with_operand f width Load nibble o = do
 with_operand f width Store nibble o = do
   d ← destination f nibble o.cursor
   Ok (with_destination o d.0 d.1)
-
--- the loads of a row stand before its stores, but for one whose store stands first
-abbrev pub kind_of : Row → ℕ → Kind
-kind_of row i = if row.store_first then (if nat_lt i row.stores then Store else Load) else (if nat_lt i row.loads then Load else Store)
 
 -- the nibble of an operand's mode: two in a byte, the low one first
 abbrev pub nibble : List ℕ → ℕ → ℕ → ℕ

@@ -10,14 +10,15 @@ ghost use Rattle.gx_words.specs.Faults.{Reads};
 ghost use Rattle.gx_pages.specs.Memory.{number_in};
 ghost use Rattle.gx_rows.specs.Table.{row_count, row_of, row_at, RowFits};
 ghost use Rattle.gx_state.specs.Flat.{IsHeight, sp_of};
-ghost use Rattle.gx_operands.specs.Instructions.{opcode, addressing, HasWidth, HasValues, past, datum, load_by, load, destination_by, destination, with_operand, kind_of, nibble, operand, operands, all_operands, instruction};
+ghost use Rattle.gx_operands.specs.Instructions.{opcode, HasValues, past, datum, load_by, load, destination_by, destination, with_operand, nibble, operand, operands, all_operands, instruction};
 ghost use Rattle.gx_operands.specs.Plans.{operands_of, instruction_of};
 
 use crate::Plan;
-use crate::addressing::{
+use crate::cursor::Cursor;
+use gx_rows::modes::{
     ADDRESS_BYTE, ADDRESS_SHORT, ADDRESS_WORD, Addressing, CONSTANT_BYTE, CONSTANT_SHORT,
-    CONSTANT_WORD, CONSTANT_ZERO, Cursor, Kind, LOCAL_BYTE, LOCAL_SHORT, LOCAL_WORD, RAM_BYTE,
-    RAM_SHORT, RAM_WORD, STACK_TOP,
+    CONSTANT_WORD, CONSTANT_ZERO, Kind, LOCAL_BYTE, LOCAL_SHORT, LOCAL_WORD, RAM_BYTE, RAM_SHORT,
+    RAM_WORD, STACK_TOP, kind_of,
 };
 use gx_rows::{Row, place_of, row_at};
 use gx_state::{Dest, State};
@@ -201,7 +202,7 @@ fn top<A: Allocator + Clone>(
 
 /// What a load operand gives by its mode's nibble; the cursor goes behind it.
 #[inline(always)]
-#[tactic(auto, unfolding(crate::specs::Instructions::load, crate::specs::Instructions::addressing, crate::specs::Instructions::load_by))]
+#[tactic(auto, unfolding(crate::specs::Instructions::load, gx_rows::specs::Modes::addressing, crate::specs::Instructions::load_by))]
 pub fn load<A: Allocator + Clone>(
     state: &State<A>,
     width: u32,
@@ -282,7 +283,7 @@ fn to_local<A: Allocator + Clone>(
 
 /// Where a store operand points by its mode's nibble; the cursor goes behind it.
 #[inline(always)]
-#[tactic(auto, unfolding(crate::specs::Instructions::destination, crate::specs::Instructions::addressing, crate::specs::Instructions::destination_by))]
+#[tactic(auto, unfolding(crate::specs::Instructions::destination, gx_rows::specs::Modes::addressing, crate::specs::Instructions::destination_by))]
 pub fn destination<A: Allocator + Clone>(
     state: &State<A>,
     nibble: u32,
@@ -339,23 +340,6 @@ fn take<A: Allocator + Clone>(
         }
     }
     Ok(())
-}
-
-/// Whether the operand of an index is loaded or stored to.
-fn kind_of(row: &Row, i: u32) -> Kind
-    ensures { result ≡ kind_of row.now i }
-{
-    if row.store_first {
-        if i < u32::from(row.stores) {
-            Kind::Store
-        } else {
-            Kind::Load
-        }
-    } else if i < u32::from(row.loads) {
-        Kind::Load
-    } else {
-        Kind::Store
-    }
 }
 
 /// The nibble of an operand's mode.

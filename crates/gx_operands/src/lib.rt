@@ -3,7 +3,7 @@
 //!
 //! - `decoding` reads an instruction into a `plan`, and changes nothing: the plan is `instruction` of
 //!   specs/Instructions, or its first fault.
-//! - `addressing` has the addressing modes.
+//! - `cursor` is where that reading stands.
 //! - `popped` reads what an instruction pops beside its operands.
 //! - `storing` makes one store, or tells its fault in advance.
 //! - `rows` has what the rows of all classes share: a result, and the next instruction.
@@ -11,14 +11,14 @@
 //! Only a store to memory may want memory, and nothing has changed then.
 #![tactic(auto)]
 
-mod addressing;
+mod cursor;
 mod decoding;
 mod plan;
 mod popped;
 mod rows;
 mod storing;
 
-pub use addressing::{Addressing, Cursor, Kind};
+pub use cursor::Cursor;
 pub use decoding::{decode, decode_into, destination, find_row, load, opcode, stack_pointer};
 pub use plan::Plan;
 pub use popped::{arguments, values_to};

@@ -1,6 +1,6 @@
 -- A list that has the present bytes in a range, and the kept ones elsewhere, is the kept list put
 -- back.
-use Rattle.std.proofs.Common.{◌≡◌, ℕ, ◌+◌, ◌<◌, ◌≤◌, ◌&&◌, nat_le, nat_lt, List, length, get_or, cond, refl, sym, arith}
+use Rattle.std.proofs.Common.{◌≡◌, ℕ, ◌+◌, ◌<◌, ◌≤◌, ◌&&◌, nat_le, nat_lt, List, length, get_or, cond, arith}
 use Rattle.std.proofs.lemmas.List.FromFn.{fill_by_all}
 use Rattle.std.proofs.lemmas.Bool.Decides.{nat_tests}
 use Rattle.gx_pages.specs.Memory.{put_back_of}
@@ -13,12 +13,3 @@ pub put_back_from : (present kept new : List ℕ) (from count : ℕ) → length 
 put_back_from present kept new from count same within below above =
     fill_by_all _ new (length kept) 0 same
     (λ a h. at_place from count a _ _ _ (λ l u. within a l u h) (below a) (above a))
-
--- where no address is skipped, all is as it was kept
-pub put_back_of-none : (present kept : List ℕ) (from count : ℕ) → count ≡ 0 → put_back_of present kept from count ≡ kept
-put_back_of-none present kept from count none =
-    sym
-    (put_back_from present kept kept from count refl
-    (λ a l u h. absurd (omega arith))
-    (λ a h. refl)
-    (λ a h. refl))

@@ -152,11 +152,11 @@ impl<A: Allocator> Pages<A> {
         }
     }
 
-    /// All bytes.
+    /// All bytes, as a list that is asked for once.
     pub fn bytes(&self, alloc: Global) -> Result<Bytes, AllocError>
         ensures { IfOk result (λ bytes. bytes ≡ self.now) }
     {
-        let mut bytes = Bytes::new(alloc);
+        let mut bytes = Bytes::with_capacity(alloc, self.size() as usize)?;
         add_to(&self.table, &mut bytes)?;
         Ok(bytes)
     }

@@ -3,7 +3,7 @@ use Rattle.std.proofs.Common.{refl, codes, ◌≡◌, true, false, List, [], ◌
 use Rattle.clap.specs.Words.{Text}
 use Rattle.clap.specs.declared.error.kind.ErrorKind.TheVariants as kind
 use Rattle.clap.proofs.OnLiterals.{clap_on_literals}
-use Rattle.gx_play.specs.declared.command.Job.TheVariants.{Play, Work}
+use Rattle.gx_play.specs.declared.command.Job.TheVariants.{Play, Work, Asm, List as Listing}
 use Rattle.gx_play.specs.Commands.{Command, player, faults_of, found_in, command_of}
 
 -- after the program's name
@@ -82,6 +82,14 @@ most-work = refl
 too-much-work : command_of (words (codes "4294967296" ∷ codes "--job" ∷ codes "work" ∷ [])) ≡ None
 unfolding clap_on_literals command_of faults_of found_in player
 too-much-work = refl
+
+a-text : command_of (words (codes "hall.txt" ∷ codes "--job" ∷ codes "asm" ∷ [])) ≡ Some (record (usual (codes "hall.txt")) { job = Asm })
+unfolding clap_on_literals command_of faults_of found_in player
+a-text = refl
+
+a-listing : command_of (words (codes "--job=list" ∷ codes "hall.ulx" ∷ [])) ≡ Some (record (usual (codes "hall.ulx")) { job = Listing })
+unfolding clap_on_literals command_of faults_of found_in player
+a-listing = refl
 
 other-job : command_of (words (codes "hall.ulx" ∷ codes "--job" ∷ codes "Check" ∷ [])) ≡ None
 unfolding clap_on_literals command_of faults_of found_in player

@@ -15,7 +15,7 @@ use Rattle.gx_play.specs.declared.command.Job.{Job}
 use Rattle.gx_play.specs.declared.command.Job.TheVariants.{Play}
 use Rattle.gx_play.specs.Commands.{Command}
 use Rattle.gx_play.specs.Seeds.{devices_for, words_for}
-use Rattle.gx_play.specs.Headline.{Outcome, refused, unstarted, runs, tells, outcome_of, outcome_of_job, outcome_of_start, outcome_of_story, start_for, story_of, IsUnbegun, LoadsOnce, SendsLine, Plays, ComesOut, IsPlaying, HasNoFailure, IsComplete, file_in, status_of_outcome}
+use Rattle.gx_play.specs.Headline.{Outcome, refused, unstarted, runs, tells, outcome_of, outcome_of_job, outcome_of_start, outcome_of_story, start_for, story_of, IsUnbegun, LoadsOnce, SendsOutput, Plays, ComesOut, IsPlaying, HasNoFailure, IsComplete, file_in, status_of_outcome}
 use Rattle.rand_core.specs.Stream.{Stream}
 
 module _ {A : Type 0} (ended : Ended A) (entry exit : Devices) where
@@ -61,20 +61,20 @@ module _ {A : Type 0} (ended : Ended A) (entry exit : Devices) where
     some-ends seed start shelf left (Some whole) once run source-tells shelf-tells =
         run-ends start shelf (words_for seed entry.words) left (report_of ended whole) once run refl source-tells shelf-tells
 
-    line-ends : (status : ℕ) (line : List ℕ) (before now : FlatSink) → SendsLine status line before now ended → (ended.status ≡ 10 → ⊥) → (ended.status ≡ status) ⊎ (ended.status ≡ status_no_memory)
-    line-ends status line before now (inl (absent, sent)) sink = inl absent.status_is
-    line-ends status line before now (inr (inl absent, sent)) sink = absurd (sink absent.status_is)
-    line-ends status line before now (inr (inr absent, sent)) sink = inr absent.status_is
+    output-ends : (status : ℕ) (output : List ℕ) (before now : FlatSink) → SendsOutput status output before now ended → (ended.status ≡ 10 → ⊥) → (ended.status ≡ status) ⊎ (ended.status ≡ status_no_memory)
+    output-ends status output before now (inl (absent, sent)) sink = inl absent.status_is
+    output-ends status output before now (inr (inl absent, sent)) sink = absurd (sink absent.status_is)
+    output-ends status output before now (inr (inr absent, sent)) sink = inr absent.status_is
 
     outcome-ends : (outcome : Outcome) → Plays outcome entry exit ended → entry.source.tells ≡ true → entry.shelf.tells ≡ true → (ended.status ≡ status_of_outcome outcome) ⊎ (ended.status ≡ status_no_memory)
-    outcome-ends (refused status fault) (inl absent, same) source-tells shelf-tells = inl absent.status_is
-    outcome-ends (refused status fault) (inr is, same) source-tells shelf-tells = inr (unbegun is)
+    outcome-ends (refused status fault at) (inl absent, same) source-tells shelf-tells = inl absent.status_is
+    outcome-ends (refused status fault at) (inr is, same) source-tells shelf-tells = inr (unbegun is)
     outcome-ends (unstarted fault at) (inl absent, same) source-tells shelf-tells = inl absent.status_is
     outcome-ends (unstarted fault at) (inr is, same) source-tells shelf-tells = inr (unbegun is)
     outcome-ends (runs seed start) (inl (shelf, once, run)) source-tells shelf-tells = some-ends seed start shelf run.0 ended.machine once run.2 source-tells shelf-tells
     outcome-ends (runs seed start) (inr (is, same)) source-tells shelf-tells = inr (unbegun is)
-    outcome-ends (tells status line) (inl sends) source-tells shelf-tells = line-ends status line entry.sink exit.sink sends (λ e. fine.sink (counts.sink.rose e))
-    outcome-ends (tells status line) (inr (is, same)) source-tells shelf-tells = inr (unbegun is)
+    outcome-ends (tells status output) (inl sends) source-tells shelf-tells = output-ends status output entry.sink exit.sink sends (λ e. fine.sink (counts.sink.rose e))
+    outcome-ends (tells status output) (inr (is, same)) source-tells shelf-tells = inr (unbegun is)
 
   pub complete : (command : Option Command) → ComesOut command entry exit ended → Counts entry exit ended.status → IsComplete command entry exit ended.status
   complete None comes counts = λ source-tells shelf-tells fine. outcome-ends fine counts (outcome_of None comes.file entry) comes.plays source-tells shelf-tells

@@ -2,23 +2,40 @@
 use Rattle.std.proofs.Common.{◌≡◌, ◌≢◌, ℕ, ◌≤◌, ◌⊎◌, inl, inr, Bool, true, false, List, Option, Some, None, Result, Ok, Err, refl, ap, subst, sym, ◌∙◌, arith}
 use Rattle.gx_outside.specs.Outside.{FlatShelf, FlatSink}
 use Rattle.gx_story.specs.Stories.{FlatStory, is_checked}
+use Rattle.gx_asm.specs.declared.faults.AsmFault.{AsmFault}
+use Rattle.gx_asm.specs.declared.faults.ListFault.{ListFault}
+use Rattle.gx_asm.specs.Faults.{number_in_text, line_in_text, number_in_code, place_in_code}
+use Rattle.gx_asm.specs.Texts.{assembled}
+use Rattle.gx_asm.specs.Stories.{wrapped, listed_story}
 use Rattle.gx_session.specs.declared.ended.Ended.{Ended}
-use Rattle.gx_session.specs.Constants.{status_ended, status_bad_words, status_bad_story, status_shelf_fault, status_input_fault, status_output_fault, status_no_memory}
+use Rattle.gx_session.specs.Constants.{status_ended, status_bad_words, status_bad_story, status_shelf_fault, status_input_fault, status_output_fault, status_no_memory, status_bad_text, status_no_listing}
 use Rattle.gx_session.specs.Devices.{Devices}
 use Rattle.gx_session.specs.Counts.{Blames, Counts}
 use Rattle.gx_session.proofs.Counting.{blames-none, blames-same}
 use Rattle.gx_play.specs.declared.command.Job.{Job}
-use Rattle.gx_play.specs.declared.command.Job.TheVariants.{Play, Check, Work}
+use Rattle.gx_play.specs.declared.command.Job.TheVariants.{Play, Check, Work, Asm, List as Listing}
 use Rattle.gx_play.specs.declared.loading.Refusal.{Refusal}
 use Rattle.gx_play.specs.declared.loading.Refusal.TheVariants as refusal
 use Rattle.gx_play.specs.Commands.{Command, command_of}
 use Rattle.gx_play.specs.Jobs.{work_line, check_status, check_line}
-use Rattle.gx_play.specs.Headline.{Outcome, refused, unstarted, runs, tells, outcome_of_job, outcome_of_story, outcome_of_check, story_of, HasNoMachine, IsUnbegun, IsLoadable, LoadsOnce, SendsLine, Plays, MayWant, Loads, LoadsFor, ComesOut, HasItsParts, IsPlaying, IsPlayed}
-use Rattle.gx_play.specs.Loading.{status_of, fault_of, LoadGives, LoadsFile, BlamesSink, HasRunParts, IsDone}
+use Rattle.gx_play.specs.Headline.{Outcome, refused, unstarted, runs, tells, outcome_of_job, outcome_of_check, outcome_of_text, outcome_of_code, outcome_of_list, outcome_of_listing, story_of, text_of, HasNoMachine, IsUnbegun, IsLoadable, LoadsOnce, SendsOutput, Plays, MayWant, Loads, LoadsFor, ComesOut, HasItsParts, IsPlaying, IsPlayed}
+use Rattle.gx_play.specs.Loading.{status_of, fault_of, LoadGives, LoadsFile, JobTells, BlamesSink, HasRunParts, IsDone}
 use Rattle.gx_play.proofs.Completeness.{complete, unsent}
-use Rattle.gx_play.proofs.Loads.{loadable}
+use Rattle.gx_play.proofs.Loads.{loadable, text-loadable}
 use Rattle.gx_play.proofs.Seeds.{undrawn, settled}
+use Rattle.gx_play.proofs.Spellings.{spelling}
 use Rattle.gx_play.proofs.Works.{works}
+
+-- AN ANSWER of a job that hands no machine back: no fault, or one of a text or of a listing.
+record IsTold {A : Type 0} (ended : Ended A) : Type 0 where
+  status : ℕ
+  fault : ℕ
+  place : ℕ
+  absent : HasNoMachine ended status fault place
+  which : (status ≡ 0) ⊎ (status ≡ 3) ⊎ (status ≡ 10) ⊎ (status ≡ 11) ⊎ (status ≡ 12) ⊎ (status ≡ 13)
+  none : status ≤ 11 → (fault ≡ 0) × (place ≡ 0)
+  text_fault : status ≡ 12 → (1 ≤ fault) × (fault ≤ 4)
+  listing_fault : status ≡ 13 → (1 ≤ fault) × (fault ≤ 5)
 
 module _ {A : Type 0} (ended : Ended A) where
   -- the parts of an answer that was given before anything ran
@@ -29,122 +46,191 @@ module _ {A : Type 0} (ended : Ended A) where
       let f = absent.fault_is in
       record {
         status_is = grind (arith, s, which);
+        played = λ _. grind (arith, s, which);
         story_fault = λ _. omega (arith, f, small);
         run_fault = λ _ e. absurd (grind (arith, s, which, e));
-        no_fault = λ other _. f ∙ none (λ e. other (s ∙ e));
-        no_address = λ _. absent.at_is;
+        text_fault = λ e. absurd (grind (arith, s, which, e));
+        listing_fault = λ e. absurd (grind (arith, s, which, e));
+        no_fault = λ other _ _. f ∙ none (λ e. other (s ∙ e));
+        no_place = λ _ _. absent.at_is;
         ran = λ _ e. absurd (grind (arith, s, which, e));
         not_run = λ _. absent.machine_is;
       }
 
-  -- the parts of a line's answer
-  parts-told : (playing : Type 0) (status : ℕ) → (playing → ⊥) → HasNoMachine ended status 0 0 → (status ≡ 0) ⊎ (status ≡ 3) ⊎ (status ≡ 10) ⊎ (status ≡ 11) → HasItsParts playing ended
-  parts-told playing status idle absent which =
-      let s = absent.status_is in
-      let f = absent.fault_is in
+  -- its parts
+  parts-told : (playing : Type 0) → (playing → ⊥) → IsTold ended → HasItsParts playing ended
+  parts-told playing idle t =
+      let s = t.absent.status_is in
+      let f = t.absent.fault_is in
+      let p = t.absent.at_is in
+      let which = t.which in
       record {
         status_is = grind (arith, s, which);
-        story_fault = λ _. omega (arith, f);
-        run_fault = λ p _. absurd (idle p);
-        no_fault = λ _ _. f;
-        no_address = λ _. absent.at_is;
-        ran = λ p _. absurd (idle p);
-        not_run = λ _. absent.machine_is;
+        played = λ playing. absurd (idle playing);
+        story_fault = λ e. absurd (grind (arith, s, which, e));
+        run_fault = λ playing _. absurd (idle playing);
+        text_fault = λ e. let range = t.text_fault (sym s ∙ e) in (omega (arith, f, range.0), omega (arith, f, range.1));
+        listing_fault = λ e. let range = t.listing_fault (sym s ∙ e) in (omega (arith, f, range.0), omega (arith, f, range.1));
+        no_fault = λ _ _ early. f ∙ (t.none (omega (arith, s, early))).0;
+        no_place = λ _ early. p ∙ (t.none (omega (arith, s, early))).1;
+        ran = λ playing _. absurd (idle playing);
+        not_run = λ _. t.absent.machine_is;
       }
 
   -- the parts of a run
   pub parts-for : (playing : Type 0) → HasRunParts ended → HasItsParts playing ended
   parts-for playing p = record {
     status_is = p.status_is;
+    played = λ _. p.played tt;
     story_fault = p.story_fault;
     run_fault = λ _ e. p.run_fault tt e;
+    text_fault = p.text_fault;
+    listing_fault = p.listing_fault;
     no_fault = p.no_fault;
-    no_address = p.no_address;
+    no_place = p.no_place;
     ran = λ _ e. p.ran tt e;
     not_run = p.not_run;
   }
 
   unbegun-plays : (outcome : Outcome) (entry exit : Devices) → IsUnbegun ended → exit.sink ≡ entry.sink → Plays outcome entry exit ended
-  unbegun-plays (refused status fault) entry exit is unsent = (inr is, unsent)
+  unbegun-plays (refused status fault at) entry exit is unsent = (inr is, unsent)
   unbegun-plays (unstarted fault at) entry exit is unsent = (inr is, unsent)
   unbegun-plays (runs seed start) entry exit is unsent = inr (is, unsent)
-  unbegun-plays (tells status line) entry exit is unsent = inr (is, unsent)
+  unbegun-plays (tells status output) entry exit is unsent = inr (is, unsent)
 
-  -- a line's answer is one of three
-  idle : (status : ℕ) (line : List ℕ) (before now : FlatSink) → SendsLine status line before now ended → (s : ℕ) × HasNoMachine ended s 0 0 × ((s ≡ status) ⊎ (s ≡ status_output_fault) ⊎ (s ≡ status_no_memory))
-  idle status line before now (inl (absent, sent)) = (status, absent, inl refl)
-  idle status line before now (inr (inl absent, sent)) = (status_output_fault, absent, inr (inl refl))
-  idle status line before now (inr (inr absent, sent)) = (status_no_memory, absent, inr (inr refl))
+  -- AN OUTPUT that was sent, or a front of it
+  quiet : (status : ℕ) → HasNoMachine ended status 0 0 → (status ≡ 0) ⊎ (status ≡ 3) ⊎ (status ≡ 10) ⊎ (status ≡ 11) → IsTold ended
+  quiet status absent which = record {
+    status = status;
+    fault = 0;
+    place = 0;
+    absent = absent;
+    which = grind (arith, which);
+    none = λ _. (refl, refl);
+    text_fault = λ e. absurd (grind (arith, which, e));
+    listing_fault = λ e. absurd (grind (arith, which, e));
+  }
 
-  -- JOB WORK
-  module _ (number : ℕ) (command : Command) where
-    pub work-unmade : (d : Devices) → HasNoMachine ended status_no_memory 0 0 → IsDone (Work number) command d d ended
-    work-unmade d absent =
-        let s = absent.status_is in
+  sent : (status : ℕ) (output : List ℕ) (before now : FlatSink) → (status ≡ 0) ⊎ (status ≡ 3) → SendsOutput status output before now ended → IsTold ended
+  sent status output before now which (inl (absent, took)) = quiet status absent (grind (arith, which))
+  sent status output before now which (inr (inl absent, took)) = quiet status_output_fault absent (inr (inr (inl refl)))
+  sent status output before now which (inr (inr absent, took)) = quiet status_no_memory absent (inr (inr (inr refl)))
+
+  -- a text's code, or its fault
+  code-told : (r : Result (List ℕ) AsmFault) (before now : FlatSink) → (ended.status ≡ status_bad_text → (1 ≤ ended.fault) × (ended.fault ≤ 4)) → JobTells (outcome_of_code r) before now ended → IsTold ended
+  code-told (Ok code) before now number (inl sends) = sent status_ended (wrapped code) before now (inl refl) sends
+  code-told (Ok code) before now number (inr (absent, same)) = quiet status_no_memory absent (inr (inr (inr refl)))
+  code-told (Err fault) before now number (absent, same) =
+      let range = number absent.status_is in
+      let f = absent.fault_is in
+      record {
+        status = status_bad_text;
+        fault = number_in_text fault;
+        place = line_in_text fault;
+        absent = absent;
+        which = inr (inr (inr (inr (inl refl))));
+        none = λ e. absurd (omega (arith, e));
+        text_fault = λ _. (omega (arith, f, range.0), omega (arith, f, range.1));
+        listing_fault = λ e. absurd (omega (arith, e));
+      }
+
+  -- a story's listing, or its fault
+  listing-told : (r : Result (List ℕ) ListFault) (before now : FlatSink) → (ended.status ≡ status_no_listing → (1 ≤ ended.fault) × (ended.fault ≤ 5)) → JobTells (outcome_of_listing r) before now ended → IsTold ended
+  listing-told (Ok text) before now number (inl sends) = sent status_ended text before now (inl refl) sends
+  listing-told (Ok text) before now number (inr (absent, same)) = quiet status_no_memory absent (inr (inr (inr refl)))
+  listing-told (Err fault) before now number (absent, same) =
+      let range = number absent.status_is in
+      let f = absent.fault_is in
+      record {
+        status = status_no_listing;
+        fault = number_in_code fault;
+        place = place_in_code fault;
+        absent = absent;
+        which = inr (inr (inr (inr (inr refl))));
+        none = λ e. absurd (omega (arith, e));
+        text_fault = λ e. absurd (omega (arith, e));
+        listing_fault = λ _. (omega (arith, f, range.0), omega (arith, f, range.1));
+      }
+
+  plays-told : (outcome : Outcome) (entry exit : Devices) → JobTells outcome entry.sink exit.sink ended → Plays outcome entry exit ended
+  plays-told (refused status fault at) entry exit (absent, same) = (inl absent, same)
+  plays-told (unstarted fault at) entry exit none = absurd none
+  plays-told (runs seed start) entry exit none = absurd none
+  plays-told (tells status output) entry exit (inl sends) = inl sends
+  plays-told (tells status output) entry exit (inr (absent, same)) = inr (inr absent, same)
+
+  -- A JOB that hands no machine back, over the file that was loaded
+  module _ (job : Job) (command : Command) (d : Devices) (before now : FlatShelf) (taken took : FlatSink) where
+    abbrev at-entry : Devices
+    at-entry = record d { sink = taken; shelf = before }
+
+    abbrev at-exit : Devices
+    at-exit = record d { sink = took; shelf = now }
+
+    told-done : (file : Option (List ℕ)) (outcome : Outcome) (failed : Type 0) → (job ≡ Play → ⊥) → (before.tells ≡ true → file ≡ before.files command.story) → outcome_of_job job command file at-entry ≡ outcome
+        → MayWant job file → Loads job before now → Blames before.calls now.calls failed → (failed → ⊥) → IsTold ended → JobTells outcome taken took ended → BlamesSink taken took ended.status
+        → IsDone job command at-entry at-exit ended
+    told-done file outcome failed idle holds is may loads count fine t tell blames =
+        let s = t.absent.status_is in
+        let which = t.which in
         record {
-          file = d.shelf.files command.story;
-          file_is = λ _. refl;
-          plays = unbegun-plays (tells status_ended (work_line number)) d d (inr absent) refl;
-          memory = λ _. tt;
-          began = λ e. absurd (omega (arith, s, e));
-          loads = λ _. refl;
-          untouched = λ _. record { steps = absent.steps_are; source = refl; words = refl };
-          counts = record {
-            shelf = blames-none d.shelf.calls d.shelf.calls (ended.status ≡ status_shelf_fault) refl (λ e. absurd (omega (arith, s, e)));
-            source = blames-none d.source.calls d.source.calls (ended.status ≡ status_input_fault) refl (λ e. absurd (omega (arith, s, e)));
-            sink = blames-none d.sink.calls d.sink.calls (ended.status ≡ status_output_fault) refl (λ e. absurd (omega (arith, s, e)));
-          };
-          parts = parts-told (let job : Job = Work number in job ≡ Play) status_no_memory (λ e. cc) absent (inr (inr (inr refl)));
-        }
-
-    pub work-told : (d : Devices) (before now : FlatSink) → SendsLine status_ended (work_line number) before now ended → BlamesSink before now ended.status
-        → IsDone (Work number) command (record d { sink = before }) (record d { sink = now }) ended
-    work-told d before now sends blames =
-        let i = idle status_ended (work_line number) before now sends in
-        let s = i.1.status_is in
-        let which = i.2 in
-        record {
-          file = d.shelf.files command.story;
-          file_is = λ _. refl;
-          plays = inl sends;
-          memory = λ _. tt;
+          file = file;
+          file_is = holds;
+          plays = subst (λ (o : Outcome). Plays o at-entry at-exit ended) (sym is) (plays-told outcome at-entry at-exit tell);
+          memory = λ _. may;
           began = λ e. absurd (grind (arith, s, which, e));
-          loads = λ _. refl;
-          untouched = λ _. record { steps = i.1.steps_are; source = refl; words = refl };
+          loads = λ _. loads;
+          untouched = λ _. record { steps = t.absent.steps_are; source = refl; words = refl };
           counts = record {
-            shelf = blames-none d.shelf.calls d.shelf.calls (ended.status ≡ status_shelf_fault) refl (λ e. absurd (grind (arith, s, which, e)));
+            shelf = blames-same before.calls now.calls failed (ended.status ≡ status_shelf_fault) count (λ e. absurd (fine e)) (λ e. absurd (grind (arith, s, which, e)));
             source = blames-none d.source.calls d.source.calls (ended.status ≡ status_input_fault) refl (λ e. absurd (grind (arith, s, which, e)));
             sink = blames;
           };
-          parts = parts-told (let job : Job = Work number in job ≡ Play) i.0 (λ e. cc) i.1 (grind (arith, which));
+          parts = parts-told (job ≡ Play) idle t;
         }
 
-  -- THE STORY of the jobs play and check
-  module _ (command : Command) (d : Devices) (before now : FlatShelf) where
-    abbrev pub entry : Devices
+  -- JOB WORK
+  module _ (number : ℕ) (command : Command) (d : Devices) (before now : FlatSink) where
+    work-done : IsTold ended → JobTells (tells status_ended (work_line number)) before now ended → BlamesSink before now ended.status → IsDone (Work number) command (record d { sink = before }) (record d { sink = now }) ended
+    work-done t tell blames =
+        told-done (Work number) command d d.shelf d.shelf before now (d.shelf.files command.story) (tells status_ended (work_line number)) ⊥ (λ e. cc) (λ _. refl) refl tt refl
+        (blames-none d.shelf.calls d.shelf.calls ⊥ refl (λ e. e)) (λ e. e) t tell blames
+
+    pub work-told : SendsOutput status_ended (work_line number) before now ended → BlamesSink before now ended.status → IsDone (Work number) command (record d { sink = before }) (record d { sink = now }) ended
+    work-told sends blames = work-done (sent status_ended (work_line number) before now (inl refl) sends) (inl sends) blames
+
+  pub work-unmade : (number : ℕ) (command : Command) (d : Devices) → HasNoMachine ended status_no_memory 0 0 → IsDone (Work number) command d d ended
+  work-unmade number command d absent =
+      let s = absent.status_is in
+      work-done number command d d.sink d.sink (quiet status_no_memory absent (inr (inr (inr refl)))) (inr (absent, refl))
+      (blames-none d.sink.calls d.sink.calls (ended.status ≡ status_output_fault) refl (λ e. absurd (omega (arith, s, e))))
+
+  -- NOTHING WAS LOADED in a job that loads a file
+  module _ {X : Type 0} (most : ℕ) (defined : Option (List ℕ) → Result X ℕ) (command : Command) (d : Devices) (before now : FlatShelf) where
+    abbrev entry : Devices
     entry = record d { shelf = before }
 
-    abbrev pub exit : Devices
+    abbrev exit : Devices
     exit = record d { shelf = now }
 
-    no-story : (file : Option (List ℕ)) (r : Refusal) (of : Result FlatStory ℕ → Outcome) → ((fault : ℕ) → of (Err fault) ≡ refused status_bad_story fault) → LoadGives file (Err r) → HasNoMachine ended (status_of r) (fault_of r) 0
-        → Plays (of (story_of file)) entry exit ended
-    no-story file (refusal.BadStory fault) of bad gives absent =
-        subst (λ (o : Outcome). Plays o entry exit ended) (sym (ap of gives ∙ bad fault)) (inl absent, refl)
-    no-story file refusal.Shelf of bad gives absent = unbegun-plays (of (story_of file)) entry exit (inl absent) refl
-    no-story file refusal.NoMemory of bad gives absent = unbegun-plays (of (story_of file)) entry exit (inr absent) refl
+    not-loaded : (file : Option (List ℕ)) (r : Refusal) (outcome : Outcome) → ((fault : ℕ) → defined file ≡ Err fault → outcome ≡ refused status_bad_story fault 0) → LoadGives most defined file (Err r) → HasNoMachine ended (status_of r) (fault_of r) 0
+        → Plays outcome entry exit ended
+    not-loaded file (refusal.BadStory fault) outcome bad gives absent =
+        subst (λ (o : Outcome). Plays o entry exit ended) (sym (bad fault gives)) (inl absent, refl)
+    not-loaded file refusal.Shelf outcome bad gives absent = unbegun-plays outcome entry exit (inl absent) refl
+    not-loaded file refusal.NoMemory outcome bad gives absent = unbegun-plays outcome entry exit (inr absent) refl
 
-    wants : (file : Option (List ℕ)) (r : Refusal) → LoadGives file (Err r) → HasNoMachine ended (status_of r) (fault_of r) 0 → ended.status ≡ status_no_memory → IsLoadable file
+    wants : (file : Option (List ℕ)) (r : Refusal) → LoadGives most defined file (Err r) → HasNoMachine ended (status_of r) (fault_of r) 0 → ended.status ≡ status_no_memory → IsLoadable most file
     wants file (refusal.BadStory fault) gives absent e = let s = absent.status_is in absurd (omega (arith, s, e))
     wants file refusal.Shelf gives absent e = let s = absent.status_is in absurd (omega (arith, s, e))
     wants file refusal.NoMemory gives absent e = gives
 
-    refusal-parts : (playing : Type 0) (r : Refusal) → HasNoMachine ended (status_of r) (fault_of r) 0 → ((fault : ℕ) → (let e : Result FlatStory Refusal = Err r in e ≡ Err (refusal.BadStory fault)) → fault ≤ 7) → HasItsParts playing ended
+    refusal-parts : (playing : Type 0) (r : Refusal) → HasNoMachine ended (status_of r) (fault_of r) 0 → ((fault : ℕ) → (let e : Result X Refusal = Err r in e ≡ Err (refusal.BadStory fault)) → fault ≤ 7) → HasItsParts playing ended
     refusal-parts playing (refusal.BadStory fault) absent small = parts-before playing status_bad_story fault absent (inr (inl refl)) (small fault refl) (λ e. absurd (e refl))
     refusal-parts playing refusal.Shelf absent small = parts-before playing status_shelf_fault 0 absent (inr (inr (inl refl))) (omega arith) (λ _. refl)
     refusal-parts playing refusal.NoMemory absent small = parts-before playing status_no_memory 0 absent (inr (inr (inr refl))) (omega arith) (λ _. refl)
 
-    refusal-blames : (r : Refusal) → HasNoMachine ended (status_of r) (fault_of r) 0 → Blames before.calls now.calls (let e : Result FlatStory Refusal = Err r in e ≡ Err refusal.Shelf)
+    refusal-blames : (r : Refusal) → HasNoMachine ended (status_of r) (fault_of r) 0 → Blames before.calls now.calls (let e : Result X Refusal = Err r in e ≡ Err refusal.Shelf)
         → Blames before.calls now.calls (ended.status ≡ status_shelf_fault)
     refusal-blames (refusal.BadStory fault) absent blames =
         let s = absent.status_is in blames-same before.calls now.calls _ (ended.status ≡ status_shelf_fault) blames (λ e. absurd cc) (λ e. absurd (omega (arith, s, e)))
@@ -157,69 +243,51 @@ module _ {A : Type 0} (ended : Ended A) where
     which-of refusal.Shelf absent = inr (inl absent.status_is)
     which-of refusal.NoMemory absent = inr (inr absent.status_is)
 
-    module _ (r : Refusal) (l : LoadsFile before command.story (Err r)) (once : LoadsOnce before now) (count : Blames before.calls now.calls (let e : Result FlatStory Refusal = Err r in e ≡ Err refusal.Shelf))
-        (small : (fault : ℕ) → (let e : Result FlatStory Refusal = Err r in e ≡ Err (refusal.BadStory fault)) → fault ≤ 7) (absent : HasNoMachine ended (status_of r) (fault_of r) 0) where
-      refused-done : (job : Job) → Plays (outcome_of_job job command l.file entry) entry exit ended → (IsLoadable l.file → MayWant job l.file) → (LoadsOnce before now → Loads job before now) → IsDone job command entry exit ended
-      refused-done job plays may load =
-          let which = which-of r absent in
-          record {
-            file = l.file;
-            file_is = l.file_is;
-            plays = plays;
-            memory = λ e. may (wants l.file r l.gives absent e);
-            began = λ e. absurd (grind (arith, which, e));
-            loads = λ _. load once;
-            untouched = λ _. record { steps = absent.steps_are; source = refl; words = refl };
-            counts = record {
-              shelf = refusal-blames r absent count;
-              source = blames-none d.source.calls d.source.calls (ended.status ≡ status_input_fault) refl (λ e. absurd (grind (arith, which, e)));
-              sink = blames-none d.sink.calls d.sink.calls (ended.status ≡ status_output_fault) refl (λ e. absurd (grind (arith, which, e)));
-            };
-            parts = refusal-parts (job ≡ Play) r absent small;
-          }
+    pub refused-done : (job : Job) (r : Refusal) (l : LoadsFile most defined before command.story (Err r)) → LoadsOnce before now → Blames before.calls now.calls (let e : Result X Refusal = Err r in e ≡ Err refusal.Shelf)
+        → ((fault : ℕ) → (let e : Result X Refusal = Err r in e ≡ Err (refusal.BadStory fault)) → fault ≤ 7) → HasNoMachine ended (status_of r) (fault_of r) 0
+        → ((fault : ℕ) → defined l.file ≡ Err fault → outcome_of_job job command l.file entry ≡ refused status_bad_story fault 0) → (IsLoadable most l.file → MayWant job l.file) → (LoadsOnce before now → Loads job before now)
+        → IsDone job command entry exit ended
+    refused-done job r l once count small absent bad may load =
+        let which = which-of r absent in
+        record {
+          file = l.file;
+          file_is = l.file_is;
+          plays = not-loaded l.file r (outcome_of_job job command l.file entry) bad l.gives absent;
+          memory = λ e. may (wants l.file r l.gives absent e);
+          began = λ e. absurd (grind (arith, which, e));
+          loads = λ _. load once;
+          untouched = λ _. record { steps = absent.steps_are; source = refl; words = refl };
+          counts = record {
+            shelf = refusal-blames r absent count;
+            source = blames-none d.source.calls d.source.calls (ended.status ≡ status_input_fault) refl (λ e. absurd (grind (arith, which, e)));
+            sink = blames-none d.sink.calls d.sink.calls (ended.status ≡ status_output_fault) refl (λ e. absurd (grind (arith, which, e)));
+          };
+          parts = refusal-parts (job ≡ Play) r absent small;
+        }
 
-      pub check-refused : IsDone Check command entry exit ended
-      check-refused = refused-done Check (no-story l.file r outcome_of_check (λ fault. refl) l.gives absent) (λ x. x) (λ x. x)
+  -- THE JOBS check, asm and list of what was loaded
+  either : (right : Bool) → (check_status right ≡ 0) ⊎ (check_status right ≡ 3)
+  either true = inl refl
+  either false = inr refl
 
-      pub play-refused : IsDone Play command entry exit ended
-      play-refused = refused-done Play (no-story l.file r (outcome_of_story command entry) (λ fault. refl) l.gives absent) (λ x. x) (λ x. x)
+  module _ (command : Command) (d : Devices) (before now : FlatShelf) (taken took : FlatSink) (file : Option (List ℕ)) (holds : before.tells ≡ true → file ≡ before.files command.story) (once : LoadsOnce before now) (blames : BlamesSink taken took ended.status) where
+    pub check-told : (story : FlatStory) → story_of file ≡ Ok story → Blames before.calls now.calls (let e : Result FlatStory Refusal = Ok story in e ≡ Err refusal.Shelf)
+        → SendsOutput (check_status (is_checked story)) (check_line (is_checked story)) taken took ended → IsDone Check command (record d { sink = taken; shelf = before }) (record d { sink = took; shelf = now }) ended
+    check-told story good count sends =
+        told-done Check command d before now taken took file (tells (check_status (is_checked story)) (check_line (is_checked story))) _ (λ e. cc) holds (ap outcome_of_check good) (loadable file story good) once count (λ e. absurd cc)
+        (sent (check_status (is_checked story)) (check_line (is_checked story)) taken took (either (is_checked story)) sends) (inl sends) blames
 
-  -- JOB CHECK of a story that was loaded
-  either : (right : Bool) (s : ℕ) → s ≡ check_status right → (s ≡ 0) ⊎ (s ≡ 3)
-  either true s e = inl e
-  either false s e = inr e
+    pub asm-told : (text : List ℕ) → text_of file ≡ Ok text → Blames before.calls now.calls (let e : Result (List ℕ) Refusal = Ok text in e ≡ Err refusal.Shelf) → (ended.status ≡ status_bad_text → (1 ≤ ended.fault) × (ended.fault ≤ 4))
+        → JobTells (outcome_of_code (assembled text)) taken took ended → IsDone Asm command (record d { sink = taken; shelf = before }) (record d { sink = took; shelf = now }) ended
+    asm-told text good count number tell =
+        told-done Asm command d before now taken took file (outcome_of_code (assembled text)) _ (λ e. cc) holds (ap outcome_of_text good) (text-loadable file text good) once count (λ e. absurd cc)
+        (code-told (assembled text) taken took number tell) tell blames
 
-  pub check-told : (command : Command) (d : Devices) (before now : FlatShelf) (taken took : FlatSink) (file : Option (List ℕ)) (story : FlatStory) → (before.tells ≡ true → file ≡ before.files command.story) → story_of file ≡ Ok story → LoadsOnce before now
-      → Blames before.calls now.calls (let e : Result FlatStory Refusal = Ok story in e ≡ Err refusal.Shelf)
-      → SendsLine (check_status (is_checked story)) (check_line (is_checked story)) taken took ended → BlamesSink taken took ended.status
-      → IsDone Check command (record d { sink = taken; shelf = before }) (record d { sink = took; shelf = now }) ended
-  check-told command d before now taken took file story told good once count sends blames =
-      let i = idle (check_status (is_checked story)) (check_line (is_checked story)) taken took sends in
-      let s = i.1.status_is in
-      let which : (i.0 ≡ 0) ⊎ (i.0 ≡ 3) ⊎ (i.0 ≡ 10) ⊎ (i.0 ≡ 11) =
-      elim i.2 [
-        | inl e ↦ elim (either (is_checked story) i.0 e) [
-          | inl zero ↦ inl zero
-          | inr three ↦ inr (inl three)
-        ]
-        | inr (inl e) ↦ inr (inr (inl e))
-        | inr (inr e) ↦ inr (inr (inr e))
-      ] in
-      record {
-        file = file;
-        file_is = told;
-        plays = subst (λ (r : Result FlatStory ℕ). Plays (outcome_of_check r) (record d { sink = taken; shelf = before }) (record d { sink = took; shelf = now }) ended) (sym good) (inl sends);
-        memory = λ _. loadable file story good;
-        began = λ e. absurd (grind (arith, s, which, e));
-        loads = λ _. once;
-        untouched = λ _. record { steps = i.1.steps_are; source = refl; words = refl };
-        counts = record {
-          shelf = blames-same before.calls now.calls _ (ended.status ≡ status_shelf_fault) count (λ e. absurd cc) (λ e. absurd (grind (arith, s, which, e)));
-          source = blames-none d.source.calls d.source.calls (ended.status ≡ status_input_fault) refl (λ e. absurd (grind (arith, s, which, e)));
-          sink = blames;
-        };
-        parts = parts-told (let job : Job = Check in job ≡ Play) i.0 (λ e. cc) i.1 which;
-      }
+    pub list-told : (story : FlatStory) → story_of file ≡ Ok story → Blames before.calls now.calls (let e : Result FlatStory Refusal = Ok story in e ≡ Err refusal.Shelf) → (ended.status ≡ status_no_listing → (1 ≤ ended.fault) × (ended.fault ≤ 5))
+        → JobTells (outcome_of_listing (listed_story story)) taken took ended → IsDone Listing command (record d { sink = taken; shelf = before }) (record d { sink = took; shelf = now }) ended
+    list-told story good count number tell =
+        told-done Listing command d before now taken took file (outcome_of_listing (listed_story story)) _ (λ e. cc) holds (ap outcome_of_list good) (loadable file story good) once count (λ e. absurd cc)
+        (listing-told (listed_story story) taken took number tell) tell blames
 
   -- THE WHOLE CALL
   module _ (words : List (List ℕ)) (entry : Devices) where
@@ -241,6 +309,7 @@ module _ {A : Type 0} (ended : Ended A) where
           counts = done.counts;
           parts = subst (λ (o : Option Command). HasItsParts (IsPlaying o) ended) (sym is) done.parts;
           works = works;
+          spelling = spelling;
         }
 
     -- no device was called
@@ -270,6 +339,7 @@ module _ {A : Type 0} (ended : Ended A) where
           counts = none-called status_bad_words s (inl refl);
           parts = parts-before (IsPlaying (command_of words)) status_bad_words 0 absent (inl refl) (omega arith) (λ _. refl);
           works = works;
+          spelling = spelling;
         }
 
     unread-comes : (o : Option Command) → HasNoMachine ended status_no_memory 0 0 → ComesOut o entry entry ended
@@ -302,4 +372,5 @@ module _ {A : Type 0} (ended : Ended A) where
           counts = none-called status_no_memory s (inr refl);
           parts = parts-before (IsPlaying (command_of words)) status_no_memory 0 absent (inr (inr (inr refl))) (omega arith) (λ _. refl);
           works = works;
+          spelling = spelling;
         }

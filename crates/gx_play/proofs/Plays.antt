@@ -47,13 +47,13 @@ module _ {A : Type 0} (ended : Ended A) where
 
   -- the shelf of a run is that after the story was loaded
   found : (entry exit : Devices) (shelf : FlatShelf) (outcome : Outcome) → (ended.machine ≡ None → exit.sink ≡ entry.sink) → LoadsOnce entry.shelf shelf → StoryPlays outcome (record entry { shelf = shelf }) exit ended → Plays outcome entry exit ended
-  found entry exit shelf (refused status fault) unsent once (inl absent) = (inl absent, unsent absent.machine_is)
-  found entry exit shelf (refused status fault) unsent once (inr is) = (inr is, unsent (has-none is))
+  found entry exit shelf (refused status fault at) unsent once (inl absent) = (inl absent, unsent absent.machine_is)
+  found entry exit shelf (refused status fault at) unsent once (inr is) = (inr is, unsent (has-none is))
   found entry exit shelf (unstarted fault at) unsent once (inl absent) = (inl absent, unsent absent.machine_is)
   found entry exit shelf (unstarted fault at) unsent once (inr is) = (inr is, unsent (has-none is))
   found entry exit shelf (runs seed start) unsent once (inl run) = inl (shelf, once, run)
   found entry exit shelf (runs seed start) unsent once (inr is) = inr (is, unsent (has-none is))
-  found entry exit shelf (tells status line) unsent once none = absurd none
+  found entry exit shelf (tells status output) unsent once none = absurd none
 
   -- the story that was loaded is played
   pub comes-out : (command : Command) (entry exit : Devices) (shelf : FlatShelf) (file : Option (List ℕ)) (story : FlatStory) → story_of file ≡ Ok story → (ended.machine ≡ None → exit.sink ≡ entry.sink) → LoadsOnce entry.shelf shelf

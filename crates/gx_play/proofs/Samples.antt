@@ -3,18 +3,24 @@ use Rattle.std.proofs.Common.{◌≡◌, ℕ, List, [], ◌∷◌, ◌++◌, rep
 use Rattle.gx_story.specs.Stories.{accepted, bare, header}
 use Rattle.gx_session.specs.Constants.{status_bad_words, status_bad_story}
 use Rattle.gx_session.specs.Devices.{Devices}
-use Rattle.gx_play.specs.declared.command.Job.TheVariants.{Play, Check}
+use Rattle.gx_play.specs.declared.command.Job.TheVariants.{Play, Check, Asm, List as Listing}
 use Rattle.gx_play.specs.Commands.{Command}
 use Rattle.gx_play.specs.Headline.{outcome_of, refused, story_of}
 
-bad-words : (file : Option (List ℕ)) (d : Devices) → outcome_of None file d ≡ refused status_bad_words 0
+bad-words : (file : Option (List ℕ)) (d : Devices) → outcome_of None file d ≡ refused status_bad_words 0 0
 bad-words file d = refl
 
-no-such-file : (command : Command) (d : Devices) → outcome_of (Some (record command { job = Play })) None d ≡ refused status_bad_story 0
+no-such-file : (command : Command) (d : Devices) → outcome_of (Some (record command { job = Play })) None d ≡ refused status_bad_story 0 0
 no-such-file command d = refl
 
-nothing-to-check : (command : Command) (d : Devices) → outcome_of (Some (record command { job = Check })) None d ≡ refused status_bad_story 0
+nothing-to-check : (command : Command) (d : Devices) → outcome_of (Some (record command { job = Check })) None d ≡ refused status_bad_story 0 0
 nothing-to-check command d = refl
+
+nothing-to-assemble : (command : Command) (d : Devices) → outcome_of (Some (record command { job = Asm })) None d ≡ refused status_bad_story 0 0
+nothing-to-assemble command d = refl
+
+nothing-to-list : (command : Command) (d : Devices) → outcome_of (Some (record command { job = Listing })) None d ≡ refused status_bad_story 0 0
+nothing-to-list command d = refl
 
 -- a story of one page with this magic and version
 abbrev page : List ℕ → List ℕ → List ℕ

@@ -3,6 +3,10 @@ use Rattle.std.proofs.Common.{◌≡◌, ℕ, inl, inr, List, Option, Some, None
 use Rattle.gx_words.specs.declared.faults.Fault.{Fault}
 use Rattle.gx_outside.specs.Outside.{FlatSink}
 use Rattle.gx_story.specs.Stories.{FlatStory, is_checked}
+use Rattle.gx_asm.specs.declared.faults.AsmFault.{AsmFault}
+use Rattle.gx_asm.specs.declared.faults.ListFault.{ListFault}
+use Rattle.gx_asm.specs.Stories.{wrapped, listed_story}
+use Rattle.gx_asm.specs.Texts.{assembled}
 use Rattle.gx_machine.specs.Machine.{Whole}
 use Rattle.gx_machine.specs.Start.{first_machine}
 use Rattle.glk_world.specs.World.{empty_world}
@@ -12,11 +16,11 @@ use Rattle.gx_session.specs.Constants.{status_ended}
 use Rattle.gx_session.specs.Runs.{IsRun, report_of}
 use Rattle.gx_session.specs.Session.{Configuration, start_of}
 use Rattle.gx_play.specs.declared.command.Job.{Job}
-use Rattle.gx_play.specs.declared.command.Job.TheVariants.{Play, Check, Work}
+use Rattle.gx_play.specs.declared.command.Job.TheVariants.{Play, Check, Work, Asm, List as Listing}
 use Rattle.gx_play.specs.Commands.{Command}
 use Rattle.gx_play.specs.Jobs.{check_status, check_line, work_line}
 use Rattle.gx_play.specs.Seeds.{seeded_words, words_for, devices_for, AreLeft}
-use Rattle.gx_play.specs.Headline.{runs, tells, outcome_of_job, outcome_of_check, outcome_of_start, outcome_of_story, start_for, story_of, IsUnbegun, IsUntouched, IsRunOf, SendsLine, Plays, ComesOut, IsSeeded, IsSettled}
+use Rattle.gx_play.specs.Headline.{runs, tells, outcome_of_job, outcome_of_check, outcome_of_code, outcome_of_text, outcome_of_listing, outcome_of_list, text_of, outcome_of_start, outcome_of_story, start_for, story_of, IsUnbegun, IsUntouched, IsRunOf, SendsOutput, Plays, ComesOut, IsSeeded, IsSettled}
 use Rattle.rand_core.specs.Stream.{Stream}
 
 module _ {A : Type 0} (ended : Ended A) (entry exit : Devices) (command : Command) (whole : Whole) where
@@ -58,24 +62,46 @@ module _ {A : Type 0} (ended : Ended A) (entry exit : Devices) (untouched : ende
   story-undrawn command (Err fault) is (inl absent, same) = (untouched absent.machine_is).words
   story-undrawn command (Err fault) is (inr not, same) = unbegun not
 
-  line-undrawn : (status : ℕ) (line : List ℕ) (before now : FlatSink) → SendsLine status line before now ended → exit.words ≡ entry.words
-  line-undrawn status line before now (inl (absent, sent)) = (untouched absent.machine_is).words
-  line-undrawn status line before now (inr (inl absent, sent)) = (untouched absent.machine_is).words
-  line-undrawn status line before now (inr (inr absent, sent)) = (untouched absent.machine_is).words
+  output-undrawn : (status : ℕ) (output : List ℕ) (before now : FlatSink) → SendsOutput status output before now ended → exit.words ≡ entry.words
+  output-undrawn status output before now (inl (absent, sent)) = (untouched absent.machine_is).words
+  output-undrawn status output before now (inr (inl absent, sent)) = (untouched absent.machine_is).words
+  output-undrawn status output before now (inr (inr absent, sent)) = (untouched absent.machine_is).words
 
-  tells-undrawn : (status : ℕ) (line : List ℕ) → Plays (tells status line) entry exit ended → exit.words ≡ entry.words
-  tells-undrawn status line (inl sends) = line-undrawn status line entry.sink exit.sink sends
-  tells-undrawn status line (inr (not, same)) = unbegun not
+  tells-undrawn : (status : ℕ) (output : List ℕ) → Plays (tells status output) entry exit ended → exit.words ≡ entry.words
+  tells-undrawn status output (inl sends) = output-undrawn status output entry.sink exit.sink sends
+  tells-undrawn status output (inr (not, same)) = unbegun not
 
   check-undrawn : (r : Result FlatStory ℕ) → Plays (outcome_of_check r) entry exit ended → exit.words ≡ entry.words
   check-undrawn (Ok story) plays = tells-undrawn (check_status (is_checked story)) (check_line (is_checked story)) plays
   check-undrawn (Err fault) (inl absent, same) = (untouched absent.machine_is).words
   check-undrawn (Err fault) (inr not, same) = unbegun not
 
+  code-undrawn : (r : Result (List ℕ) AsmFault) → Plays (outcome_of_code r) entry exit ended → exit.words ≡ entry.words
+  code-undrawn (Ok code) plays = tells-undrawn status_ended (wrapped code) plays
+  code-undrawn (Err fault) (inl absent, same) = (untouched absent.machine_is).words
+  code-undrawn (Err fault) (inr not, same) = unbegun not
+
+  text-undrawn : (r : Result (List ℕ) ℕ) → Plays (outcome_of_text r) entry exit ended → exit.words ≡ entry.words
+  text-undrawn (Ok text) plays = code-undrawn (assembled text) plays
+  text-undrawn (Err fault) (inl absent, same) = (untouched absent.machine_is).words
+  text-undrawn (Err fault) (inr not, same) = unbegun not
+
+  listing-undrawn : (r : Result (List ℕ) ListFault) → Plays (outcome_of_listing r) entry exit ended → exit.words ≡ entry.words
+  listing-undrawn (Ok text) plays = tells-undrawn status_ended text plays
+  listing-undrawn (Err fault) (inl absent, same) = (untouched absent.machine_is).words
+  listing-undrawn (Err fault) (inr not, same) = unbegun not
+
+  list-undrawn : (r : Result FlatStory ℕ) → Plays (outcome_of_list r) entry exit ended → exit.words ≡ entry.words
+  list-undrawn (Ok story) plays = listing-undrawn (listed_story story) plays
+  list-undrawn (Err fault) (inl absent, same) = (untouched absent.machine_is).words
+  list-undrawn (Err fault) (inr not, same) = unbegun not
+
   job-undrawn : (job : Job) (command : Command) (file : Option (List ℕ)) → IsSome command.seed → Plays (outcome_of_job job command file entry) entry exit ended → exit.words ≡ entry.words
   job-undrawn Play command file is plays = story-undrawn command (story_of file) is plays
   job-undrawn Check command file is plays = check-undrawn (story_of file) plays
   job-undrawn (Work number) command file is plays = tells-undrawn status_ended (work_line number) plays
+  job-undrawn Asm command file is plays = text-undrawn (text_of file) plays
+  job-undrawn Listing command file is plays = list-undrawn (story_of file) plays
 
   -- THE DEVICE has the words that it had
   pub undrawn : (command : Option Command) → ComesOut command entry exit ended → IsSeeded command → exit.words ≡ entry.words
@@ -102,6 +128,8 @@ module _ (command : Command) (entry : Devices) (other : Stream) (is : IsSome com
   job-settled Play file = story-settled (story_of file)
   job-settled Check file = refl
   job-settled (Work number) file = refl
+  job-settled Asm file = refl
+  job-settled Listing file = refl
 
 pub settled : (command : Option Command) (entry : Devices) → IsSeeded command → IsSettled command entry
 settled None entry is = absurd is

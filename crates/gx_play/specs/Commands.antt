@@ -11,7 +11,7 @@ use Rattle.std.specs.Str.Parse.{digits_value}
 use Rattle.clap.specs.Words.{App, Kinds, Row, Rule, Text, first_of, fault_of, matches_of, new_app, new_rule, with_rule}
 use Rattle.clap.specs.declared.builder.ArgAction.TheVariants.{SetTrue}
 use Rattle.gx_play.specs.declared.command.Job.{Job}
-use Rattle.gx_play.specs.declared.command.Job.TheVariants.{Play, Check, Work}
+use Rattle.gx_play.specs.declared.command.Job.TheVariants.{Play, Check, Work, Asm, List as Listing}
 use Rattle.gx_undo.specs.Undo.{most_undo}
 use Rattle.gx_play.specs.Constants.{usual_depth}
 
@@ -62,7 +62,7 @@ pub record Texts : Type 0 where
   pub echo : Bool
   pub job : Option Text
 
--- WHAT A COMMAND LINE ASKS FOR: the name of the story's file, the budget of the run, the size of the screen, how many copies
+-- WHAT A COMMAND LINE ASKS FOR: the name of the file, the budget of the run, the size of the screen, how many copies
 -- are kept for undo, the seed of the random words, if there is one, whether each line that is taken is shown, and the job.
 pub record Command : Type 0 where
   pub story : Text
@@ -100,6 +100,8 @@ job_of story name =
     if bytes_eq name (codes "play") then Some Play else
     if bytes_eq name (codes "check") then Some Check else
     if bytes_eq name (codes "work") then option_map (λ number. Work number) (number_of 0 (2 ^ 32 - 1) story) else
+    if bytes_eq name (codes "asm") then Some Asm else
+    if bytes_eq name (codes "list") then Some Listing else
     None
 
 abbrev pub job_in : Option Text → Option Text → Option Job

@@ -8,3 +8,7 @@ usual_depth = 16
 -- the fault of a story whose file isn't there; the others are those of gx_story
 abbrev pub no_file : ℕ
 no_file = 0
+
+-- a text of more bytes isn't assembled
+abbrev pub most_text : ℕ
+most_text = 0x01000000

@@ -1,7 +1,7 @@
 -- THE HEADLINE: what `play` does (crates/gx_play/src/entry.rt), the call that the program makes.
 --
 -- Give it a command line, and an input, an output, a shelf of files and random words of any kind. It comes to the
--- outcome that `outcome_of` has for the command line and for the file under the story's name, and to nothing else:
+-- outcome that `outcome_of` has for the command line and for the file under the name there, and to nothing else:
 --
 -- - The words are not understood, which is so exactly where specs/Commands has no command for them: nothing at all is
 --   done. Or there is no story: the status and the number of the fault say so. No input is read, no text sent, no word
@@ -15,6 +15,9 @@
 --   configuration, but for the one that a refused store or remove leaves open.
 -- - In the jobs check and work one line of specs/Jobs is sent, with its status, or a front of it where the output fails or
 --   wants memory. No machine is handed back. Every number has a story that can be started (`works`).
+-- - In job asm the story of the code that the file's text spells is sent, in job list the text of the story's start function,
+--   or a front of it. A text without a code, and a story without a listing, come to a status of their own, with the fault
+--   that the definitions of gx_asm have for it and the line or the address where it stands; nothing is sent then.
 -- - Or nothing was begun, because the shelf failed or memory ran out before.
 --
 -- The random words are the device's, or with `--seed` those of specs/Seeds. Then the device isn't drawn from at all, in any
@@ -22,7 +25,11 @@
 -- status, fault, address, steps, text, files and machine of a session are a function of the command line, the story, the
 -- files and the input alone.
 --
--- The shelf is asked once for the story, and then exactly as the session asks it; in job work it isn't asked. Text is sent
+-- Text and code spell each other (`spelling`): a text is assembled to a code exactly where it spells it, and a code is listed
+-- as a text exactly where the text spells it, so that each undoes the other; the story of a code is accepted, and listed as
+-- its instructions up to the first quit or return; and a machine that comes to an instruction's bytes sees that instruction.
+--
+-- The shelf is asked once for the file, and then exactly as the session asks it; in job work it isn't asked. Text is sent
 -- before the shelf or the source is asked for anything. Fewer than 4,096 bytes are read ahead of the lines that were taken,
 -- and none where no line is awaited. The status blames a device exactly where a call of it failed in this run, which was
 -- then its last one. Each restoreundo of the session goes back to the newest saveundo that was neither used, nor
@@ -41,8 +48,9 @@
 -- 11 (`status_no_memory`) is a free answer in these places, and, of devices that tell, in no others:
 --
 -- - Before anything is done, whatever the words are. So a body that does nothing and answers so meets the contract.
--- - In the jobs play and check once the shelf was asked for the story, where it has one of at most 0x10000000 bytes; in
---   job work anywhere. No machine is handed back then, and what was sent is a front of the line, nothing in job play.
+-- - In the jobs play, check, asm and list once the shelf was asked for the file, where it has one of at most 0x10000000
+--   bytes, in job asm of at most 0x01000000; in job work anywhere. No machine is handed back then, and what was sent is a
+--   front of the output, nothing in job play.
 -- - In a run that was begun, with the machine, the text, the files and the input of that moment (`StopsEarly`, `IsCut`):
 --   at a step within the budget that writes, resizes or copies memory and has no fault; at what a step asks, where the
 --   Glk call, the put character or the restore makes something grow and has no fault, where a save is begun (also where
@@ -55,7 +63,7 @@
 -- where the next step meets a fault that isn't a save's, or writes nothing and asks nothing, or where a line is awaited
 -- and no input is left. So it is no answer in place of a step that ends the program or is above the budget, or of a Glk
 -- call that ends the program or waits in vain; but it is one at the ending that follows, whose parts are named above.
-use Rattle.std.specs.Prelude.{◌≡◌, ◌≢◌, ℕ, ◌≤◌, nat_lt, if◌then◌else◌, length, List, ◌++◌, ◌⊎◌, ◌↔◌, true, Option, Some, None, IsSome, IsSomeAnd, Result, Ok, Err}
+use Rattle.std.specs.Prelude.{◌≡◌, ◌≢◌, ℕ, ◌<◌, ◌≤◌, nat_lt, if◌then◌else◌, length, List, ◌++◌, ◌⊎◌, ◌↔◌, true, Option, Some, None, IsSome, IsSomeAnd, Result, Ok, Err}
 use Rattle.gx_words.specs.declared.faults.Fault.{Fault}
 use Rattle.gx_words.specs.Faults.{number_of}
 use Rattle.gx_words.specs.Constants.{ceiling}
@@ -65,32 +73,38 @@ use Rattle.gx_story.specs.declared.faults.StoryFault.{StoryFault}
 use Rattle.gx_story.specs.declared.faults.StoryFault.TheVariants.{TooLarge}
 use Rattle.gx_story.specs.Faults.{number_of as story_number_of}
 use Rattle.gx_story.specs.Stories.{FlatStory, accepted, is_checked}
+use Rattle.gx_asm.specs.declared.faults.AsmFault.{AsmFault}
+use Rattle.gx_asm.specs.declared.faults.ListFault.{ListFault}
+use Rattle.gx_asm.specs.Faults.{number_in_text, line_in_text, number_in_code, place_in_code}
+use Rattle.gx_asm.specs.Texts.{assembled}
+use Rattle.gx_asm.specs.Stories.{wrapped, listed_story}
 use Rattle.gx_machine.specs.Machine.{Whole}
 use Rattle.gx_machine.specs.Start.{first_machine}
 use Rattle.glk_world.specs.World.{empty_world}
 use Rattle.gx_session.specs.declared.ended.Ended.{Ended}
-use Rattle.gx_session.specs.Constants.{status_ended, status_bad_words, status_bad_story, status_fault, status_spent, status_shelf_fault, status_output_fault, status_no_memory}
+use Rattle.gx_session.specs.Constants.{status_ended, status_bad_words, status_bad_story, status_fault, status_spent, status_shelf_fault, status_output_fault, status_no_memory, status_bad_text, status_no_listing}
 use Rattle.gx_session.specs.Devices.{Devices}
 use Rattle.gx_session.specs.Session.{Configuration, start_of, final_of, status_of}
 use Rattle.gx_session.specs.Counts.{Counts}
 use Rattle.gx_session.specs.Runs.{IsRun, IsFront, report_of}
 use Rattle.gx_play.specs.declared.command.Job.{Job}
-use Rattle.gx_play.specs.declared.command.Job.TheVariants.{Play, Check, Work}
+use Rattle.gx_play.specs.declared.command.Job.TheVariants.{Play, Check, Work, Asm, List as Listing}
 use Rattle.gx_play.specs.Commands.{Command, command_of}
-use Rattle.gx_play.specs.Constants.{no_file}
+use Rattle.gx_play.specs.Constants.{no_file, most_text}
 use Rattle.gx_play.specs.Jobs.{check_status, check_line, work_machine, work_line}
 use Rattle.gx_play.specs.Seeds.{devices_for, AreLeft}
+use Rattle.gx_play.specs.Spelling.{IsSpelling}
 use Rattle.rand_core.specs.Stream.{Stream}
 
 -- THE OUTCOME of a command line.
 pub data Outcome : Type 0 where
-  -- no story, or no command: a status and a fault
-  refused : ℕ → ℕ → Outcome
+  -- no command, no story, a text without a code, or a story without a listing: a status, a fault and its place
+  refused : ℕ → ℕ → ℕ → Outcome
   -- a story whose start function can't be entered: the fault, and the function's address
   unstarted : Fault → ℕ → Outcome
   -- the session from this configuration to its end, with the words of a seed or of the device
   runs : Option ℕ → Configuration → Outcome
-  -- a line is sent, with this status
+  -- an output is sent, with this status: a line, a story or a listing
   tells : ℕ → List ℕ → Outcome
 
 -- the story, or the number of its fault
@@ -114,21 +128,46 @@ outcome_of_start command story entry (Err fault) = unstarted fault story.header.
 
 abbrev pub outcome_of_story : Command → Devices → Result FlatStory ℕ → Outcome
 outcome_of_story command entry (Ok story) = outcome_of_start command story entry (first_machine story command.undo)
-outcome_of_story command entry (Err fault) = refused status_bad_story fault
+outcome_of_story command entry (Err fault) = refused status_bad_story fault 0
 
 -- JOB CHECK
 abbrev pub outcome_of_check : Result FlatStory ℕ → Outcome
 outcome_of_check (Ok story) = tells (check_status (is_checked story)) (check_line (is_checked story))
-outcome_of_check (Err fault) = refused status_bad_story fault
+outcome_of_check (Err fault) = refused status_bad_story fault 0
+
+-- JOB ASM: the story of a text's code. A text isn't understood exactly where no code is spelled by it.
+abbrev pub outcome_of_code : Result (List ℕ) AsmFault → Outcome
+outcome_of_code (Ok code) = tells status_ended (wrapped code)
+outcome_of_code (Err fault) = refused status_bad_text (number_in_text fault) (line_in_text fault)
+
+-- the text in a file, or the number of why there is none
+abbrev pub text_of : Option (List ℕ) → Result (List ℕ) ℕ
+text_of None = Err no_file
+text_of (Some bytes) = if nat_lt most_text (length bytes) then Err (story_number_of TooLarge) else Ok bytes
+
+abbrev pub outcome_of_text : Result (List ℕ) ℕ → Outcome
+outcome_of_text (Ok text) = outcome_of_code (assembled text)
+outcome_of_text (Err fault) = refused status_bad_story fault 0
+
+-- JOB LIST: the text of a story's start function, up to the first quit or return.
+abbrev pub outcome_of_listing : Result (List ℕ) ListFault → Outcome
+outcome_of_listing (Ok text) = tells status_ended text
+outcome_of_listing (Err fault) = refused status_no_listing (number_in_code fault) (place_in_code fault)
+
+abbrev pub outcome_of_list : Result FlatStory ℕ → Outcome
+outcome_of_list (Ok story) = outcome_of_listing (listed_story story)
+outcome_of_list (Err fault) = refused status_bad_story fault 0
 
 abbrev pub outcome_of_job : Job → Command → Option (List ℕ) → Devices → Outcome
 outcome_of_job Play command file entry = outcome_of_story command entry (story_of file)
 outcome_of_job Check command file entry = outcome_of_check (story_of file)
 outcome_of_job (Work number) command file entry = tells status_ended (work_line number)
+outcome_of_job Asm command file entry = outcome_of_text (text_of file)
+outcome_of_job Listing command file entry = outcome_of_list (story_of file)
 
--- The outcome of a command over what the devices hold, where this file stands under the story's name.
+-- The outcome of a command over what the devices hold, where this file stands under the name.
 abbrev pub outcome_of : Option Command → Option (List ℕ) → Devices → Outcome
-outcome_of None file entry = refused status_bad_words 0
+outcome_of None file entry = refused status_bad_words 0 0
 outcome_of (Some command) file entry = outcome_of_job command.job command file entry
 
 -- THE ANSWER where no machine was started, or where a job hands none back.
@@ -143,7 +182,7 @@ pub record HasNoMachine {A : Type 0} (ended : Ended A) (status fault at : ℕ) :
 abbrev pub IsUnbegun : {A : Type 0} → Ended A → Type 0
 IsUnbegun ended = HasNoMachine ended status_shelf_fault 0 0 ⊎ HasNoMachine ended status_no_memory 0 0
 
--- a line wasn't sent whole: the sink failed, or wanted memory
+-- an output wasn't sent whole: the sink failed, or wanted memory
 abbrev pub IsUnsent : {A : Type 0} → Ended A → Type 0
 IsUnsent ended = HasNoMachine ended status_output_fault 0 0 ⊎ HasNoMachine ended status_no_memory 0 0
 
@@ -159,11 +198,11 @@ pub record TakesOnce (bytes : List ℕ) (before now : FlatSink) : Type 0 where
   pub tells : now.tells ≡ before.tells
   pub taken : before.tells ≡ true → now.taken ≡ before.taken ++ bytes
 
--- a line was sent, or a front of it
-abbrev pub SendsLine : {A : Type 0} → ℕ → List ℕ → FlatSink → FlatSink → Ended A → Type 0
-SendsLine status line before now ended =
-    (HasNoMachine ended status 0 0 × TakesOnce line before now)
-    ⊎ (IsUnsent ended × ((front : List ℕ) × IsFront front line × TakesOnce front before now))
+-- an output was sent, or a front of it
+abbrev pub SendsOutput : {A : Type 0} → ℕ → List ℕ → FlatSink → FlatSink → Ended A → Type 0
+SendsOutput status output before now ended =
+    (HasNoMachine ended status 0 0 × TakesOnce output before now)
+    ⊎ (IsUnsent ended × ((front : List ℕ) × IsFront front output × TakesOnce front before now))
 
 -- The session from a start was run over these devices, with the words of the seed or the device's.
 abbrev pub IsRunOf : {A : Type 0} → Option ℕ → Configuration → Devices → Devices → Ended A → Type 0
@@ -173,26 +212,27 @@ IsRunOf seed start entry exit ended =
 
 -- What is answered and left behind is the outcome's. The run finds the shelf as it is once the story was loaded.
 abbrev pub Plays : {A : Type 0} → Outcome → Devices → Devices → Ended A → Type 0
-Plays (refused status fault) entry exit ended = (HasNoMachine ended status fault 0 ⊎ IsUnbegun ended) × (exit.sink ≡ entry.sink)
+Plays (refused status fault at) entry exit ended = (HasNoMachine ended status fault at ⊎ IsUnbegun ended) × (exit.sink ≡ entry.sink)
 Plays (unstarted fault at) entry exit ended = (HasNoMachine ended status_fault (number_of fault) at ⊎ IsUnbegun ended) × (exit.sink ≡ entry.sink)
 Plays (runs seed start) entry exit ended =
     ((shelf : FlatShelf) × LoadsOnce entry.shelf shelf × IsRunOf seed start (record entry { shelf = shelf }) exit ended)
     ⊎ (IsUnbegun ended × (exit.sink ≡ entry.sink))
-Plays (tells status line) entry exit ended = SendsLine status line entry.sink exit.sink ended ⊎ (IsUnbegun ended × (exit.sink ≡ entry.sink))
+Plays (tells status output) entry exit ended = SendsOutput status output entry.sink exit.sink ended ⊎ (IsUnbegun ended × (exit.sink ≡ entry.sink))
 
--- what a shelf that tells holds under the story's name
+-- what a shelf that tells holds under the file's name
 abbrev pub IsFile : Option Command → FlatShelf → Option (List ℕ) → Type 0
 IsFile None shelf file = Unit {0}
 IsFile (Some command) shelf file = shelf.tells ≡ true → file ≡ shelf.files command.story
 
 -- a file that is there and isn't too long
-abbrev pub IsLoadable : Option (List ℕ) → Type 0
-IsLoadable file = IsSomeAnd file (λ bytes. length bytes ≤ ceiling)
+abbrev pub IsLoadable : ℕ → Option (List ℕ) → Type 0
+IsLoadable most file = IsSomeAnd file (λ bytes. length bytes ≤ most)
 
--- Once a device was called, memory is wanted in the jobs play and check only where there are bytes.
+-- Once a device was called, memory is wanted in the jobs that load a file only where there are bytes.
 abbrev pub MayWant : Job → Option (List ℕ) → Type 0
 MayWant (Work number) file = Unit {0}
-MayWant job file = IsLoadable file
+MayWant Asm file = IsLoadable most_text file
+MayWant job file = IsLoadable ceiling file
 
 abbrev pub MayWantFor : Option Command → Option (List ℕ) → Type 0
 MayWantFor None file = ⊥
@@ -206,7 +246,7 @@ pub record ComesOut {A : Type 0} (command : Option Command) (entry exit : Device
   pub memory : ended.status ≡ status_no_memory → (exit ≡ entry) ⊎ MayWantFor command file
 
 -- WHATEVER THE DEVICES TELL
--- No machine is handed back: the shelf was asked once for the story, or not at all in job work.
+-- No machine is handed back: the shelf was asked once for the file, or not at all in job work.
 abbrev pub Loads : Job → FlatShelf → FlatShelf → Type 0
 Loads (Work number) before now = now ≡ before
 Loads job before now = LoadsOnce before now
@@ -227,17 +267,20 @@ abbrev pub IsPlaying : Option Command → Type 0
 IsPlaying None = Unit {0}
 IsPlaying (Some command) = command.job ≡ Play
 
--- The statuses, and what goes with each: the fault's number, its address, and where a story is played the machine.
+-- The statuses, and what goes with each: the fault's number, its place, and where a story is played the machine.
 pub record HasItsParts {A : Type 0} (playing : Type 0) (ended : Ended A) : Type 0 where
-  pub status_is : ended.status ≤ status_no_memory
+  pub status_is : ended.status ≤ status_no_listing
+  pub played : playing → ended.status ≤ status_no_memory
   pub story_fault : ended.status ≡ status_bad_story → ended.fault ≤ 7
   pub run_fault : playing → ended.status ≡ status_fault → (1 ≤ ended.fault) × (ended.fault ≤ 16)
-  pub no_fault : ended.status ≢ status_bad_story → ended.status ≢ status_fault → ended.fault ≡ 0
-  pub no_address : ended.status ≢ status_fault → ended.at ≡ 0
+  pub text_fault : ended.status ≡ status_bad_text → (1 ≤ ended.fault) × (ended.fault ≤ 4)
+  pub listing_fault : ended.status ≡ status_no_listing → (1 ≤ ended.fault) × (ended.fault ≤ 5)
+  pub no_fault : ended.status ≢ status_bad_story → ended.status ≢ status_fault → ended.status ≤ status_no_memory → ended.fault ≡ 0
+  pub no_place : ended.status ≢ status_fault → ended.status ≤ status_no_memory → ended.at ≡ 0
   -- a machine is handed back where one ran, and none where none was started; a fault, a failing shelf and want of
   -- memory may come before
   pub ran : playing → (ended.status ≡ status_ended) ⊎ ((status_spent ≤ ended.status) × (ended.status ≤ status_output_fault) × (ended.status ≢ status_shelf_fault)) → IsSome ended.machine
-  pub not_run : (ended.status ≡ status_bad_words) ⊎ (ended.status ≡ status_bad_story) → ended.machine ≡ None
+  pub not_run : (ended.status ≡ status_bad_words) ⊎ (ended.status ≡ status_bad_story) ⊎ (status_no_memory < ended.status) → ended.machine ≡ None
 
 -- a command line with a seed
 abbrev pub IsSeeded : Option Command → Type 0
@@ -251,12 +294,12 @@ IsSettled command entry = (file : Option (List ℕ)) (other : Stream) → outcom
 -- COMPLETENESS
 -- the status of an outcome, where nothing cuts it short
 abbrev pub status_of_outcome : Outcome → ℕ
-status_of_outcome (refused status fault) = status
+status_of_outcome (refused status fault at) = status
 status_of_outcome (unstarted fault at) = status_fault
 status_of_outcome (runs seed start) = status_of (final_of start).stop
-status_of_outcome (tells status line) = status
+status_of_outcome (tells status output) = status
 
--- what stands under the story's name, if a command names one
+-- what stands under the file's name, if a command names one
 abbrev pub file_in : Option Command → Files → Option (List ℕ)
 file_in None files = None
 file_in (Some command) files = files command.story
@@ -287,3 +330,4 @@ pub record IsPlayed {A : Type 0} (words : List (List ℕ)) (entry exit : Devices
   pub complete : IsComplete (command_of words) entry exit ended.status
   pub parts : HasItsParts (IsPlaying (command_of words)) ended
   pub works : (number : ℕ) → IsSome (work_machine number)
+  pub spelling : IsSpelling

@@ -5,3 +5,4 @@ pub mod Jobs
 pub mod Loading
 pub mod Reading
 pub mod Seeds
+pub mod Spelling

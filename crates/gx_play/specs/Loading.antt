@@ -1,5 +1,5 @@
--- How the parts of `play` are put together: what loading a story comes to, what playing it comes to then, and what a command
--- comes to once it is read.
+-- How the parts of `play` are put together: what loading a file comes to, what playing or telling it comes to then, and what
+-- a command comes to once it is read.
 use Rattle.std.specs.Prelude.{◌≡◌, ◌≢◌, ◌⊎◌, ℕ, true, List, Option, None, Result, Ok, Err}
 use Rattle.gx_words.specs.Faults.{number_of}
 use Rattle.gx_outside.specs.Outside.{FlatShelf, FlatSink}
@@ -8,7 +8,6 @@ use Rattle.gx_outside.specs.declared.devices.ShelfFault.TheVariants as of_shelf
 use Rattle.gx_story.specs.declared.faults.StoryFault.{StoryFault}
 use Rattle.gx_story.specs.declared.faults.StoryFault.TheVariants as of_story
 use Rattle.gx_story.specs.Faults.{number_of as story_number_of}
-use Rattle.gx_story.specs.Stories.{FlatStory}
 use Rattle.gx_session.specs.declared.ended.Ended.{Ended}
 use Rattle.gx_session.specs.Constants.{status_bad_words, status_bad_story, status_fault, status_shelf_fault, status_output_fault, status_no_memory}
 use Rattle.gx_session.specs.Counts.{Blames, Counts}
@@ -18,7 +17,7 @@ use Rattle.gx_play.specs.declared.command.Job.TheVariants.{Play}
 use Rattle.gx_play.specs.declared.loading.Refusal.{Refusal}
 use Rattle.gx_play.specs.declared.loading.Refusal.TheVariants as refusal
 use Rattle.gx_play.specs.Commands.{Command}
-use Rattle.gx_play.specs.Headline.{Outcome, refused, unstarted, runs, tells, outcome_of_job, story_of, HasNoMachine, IsUnbegun, IsRunOf, IsLoadable, HasItsParts, IsUntouched, Loads, MayWant, Plays}
+use Rattle.gx_play.specs.Headline.{Outcome, refused, unstarted, runs, tells, outcome_of_job, HasNoMachine, IsUnbegun, SendsOutput, IsRunOf, IsLoadable, HasItsParts, IsUntouched, Loads, MayWant, Plays}
 
 -- what a shelf's fault is to a story that is loaded
 abbrev pub refusal_of_shelf : ShelfFault → Refusal
@@ -40,25 +39,35 @@ abbrev pub fault_of : Refusal → ℕ
 fault_of (refusal.BadStory fault) = fault
 fault_of r = 0
 
--- The answer is the definition's, but for a shelf that failed, and for want of memory once there are bytes.
-abbrev pub LoadGives : Option (List ℕ) → Result FlatStory Refusal → Type 0
-LoadGives file (Ok story) = story_of file ≡ Ok story
-LoadGives file (Err (refusal.BadStory fault)) = story_of file ≡ Err fault
-LoadGives file (Err refusal.Shelf) = Unit {0}
-LoadGives file (Err refusal.NoMemory) = IsLoadable file
+-- The answer is the definition's for a file of at most so many bytes, but for a shelf that failed, and for want of memory
+-- once there are bytes.
+abbrev pub LoadGives : {X : Type 0} → ℕ → (Option (List ℕ) → Result X ℕ) → Option (List ℕ) → Result X Refusal → Type 0
+LoadGives most defined file (Ok x) = defined file ≡ Ok x
+LoadGives most defined file (Err (refusal.BadStory fault)) = defined file ≡ Err fault
+LoadGives most defined file (Err refusal.Shelf) = Unit {0}
+LoadGives most defined file (Err refusal.NoMemory) = IsLoadable most file
 
 -- The answer is that of some file, which a shelf that tells holds.
-pub record LoadsFile (shelf : FlatShelf) (name : List ℕ) (result : Result FlatStory Refusal) : Type 0 where
+pub record LoadsFile {X : Type 0} (most : ℕ) (defined : Option (List ℕ) → Result X ℕ) (shelf : FlatShelf) (name : List ℕ) (result : Result X Refusal) : Type 0 where
   pub file : Option (List ℕ)
   pub file_is : shelf.tells ≡ true → file ≡ shelf.files name
-  pub gives : LoadGives file result
+  pub gives : LoadGives most defined file result
 
 -- What a story that was loaded comes to, from the devices as they are then.
 abbrev pub StoryPlays : {A : Type 0} → Outcome → Devices → Devices → Ended A → Type 0
-StoryPlays (refused status fault) entry exit ended = HasNoMachine ended status fault 0 ⊎ IsUnbegun ended
+StoryPlays (refused status fault at) entry exit ended = HasNoMachine ended status fault at ⊎ IsUnbegun ended
 StoryPlays (unstarted fault at) entry exit ended = HasNoMachine ended status_fault (number_of fault) at ⊎ IsUnbegun ended
 StoryPlays (runs seed start) entry exit ended = IsRunOf seed start entry exit ended ⊎ IsUnbegun ended
-StoryPlays (tells status line) entry exit ended = ⊥
+StoryPlays (tells status output) entry exit ended = ⊥
+
+-- What a file that was loaded is told as, where no machine is started: nothing is sent with a refusal; and before an output
+-- is sent, memory may run out.
+abbrev pub JobTells : {A : Type 0} → Outcome → FlatSink → FlatSink → Ended A → Type 0
+JobTells (refused status fault at) before now ended = HasNoMachine ended status fault at × (now ≡ before)
+JobTells (unstarted fault at) before now ended = ⊥
+JobTells (runs seed start) before now ended = ⊥
+JobTells (tells status output) before now ended =
+    SendsOutput status output before now ended ⊎ (HasNoMachine ended status_no_memory 0 0 × (now ≡ before))
 
 -- what goes with the status of a run
 abbrev pub HasRunParts : {A : Type 0} → Ended A → Type 0

@@ -1,14 +1,14 @@
 //! Job check: tells whether the story has the checksum that its header states.
 ghost use Rattle.gx_session.specs.Devices.{Devices};
 ghost use Rattle.gx_play.specs.declared.command.Job.TheVariants.{Check};
-ghost use Rattle.gx_play.specs.Headline.{SendsLine};
+ghost use Rattle.gx_play.specs.Headline.{SendsOutput};
 ghost use Rattle.gx_play.specs.Jobs.{check_status, check_line};
 ghost use Rattle.gx_play.specs.Loading.{IsDone, BlamesSink};
 ghost use Rattle.gx_play.specs.Reading.{seen};
 
 use crate::command::Command;
 use crate::loading::{load_story, without_story};
-use crate::telling::send_line;
+use crate::telling::send_output;
 use gx_outside::{Shelf, Sink};
 use gx_session::{Ended, statuses};
 use std::alloc::{Allocator, Global};
@@ -31,12 +31,12 @@ pub fn check_file<A: Allocator + Clone, K: Sink, F: Shelf>(
 
 /// Tells that a checksum is right, or that it isn't.
 fn tell_checksum<A: Allocator + Clone, K: Sink>(is_right: bool, output: &mut K) -> Ended<A>
-    ensures sends { SendsLine (check_status is_right) (check_line is_right) (K.seen output.old) (K.seen output.new) result }
+    ensures sends { SendsOutput (check_status is_right) (check_line is_right) (K.seen output.old) (K.seen output.new) result }
     ensures blames { BlamesSink (K.seen output.old) (K.seen output.new) result.status }
 {
     if is_right {
-        send_line(output, b"checksum ok\n", statuses::ENDED)
+        send_output(output, b"checksum ok\n", statuses::ENDED)
     } else {
-        send_line(output, b"checksum differs\n", statuses::FAULT)
+        send_output(output, b"checksum differs\n", statuses::FAULT)
     }
 }

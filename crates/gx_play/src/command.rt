@@ -28,12 +28,16 @@ pub enum Job {
     Check,
     /// Play the story that is made of this number, and tell how much work it was.
     Work(u32),
+    /// Assemble the text, and send the story of its code.
+    Asm,
+    /// List the instructions of the story's start function.
+    List,
 }
 
 /// What a command line asks for.
 #[derive(Clone, Copy, Debug)]
 pub struct Command<'a> {
-    /// The name of the story's file; the text of a number in job work.
+    /// The name of the file of the story, or of the text in job asm; the text of a number in job work.
     pub story: &'a str,
     /// The units of the budget.
     pub steps: u64,
@@ -177,6 +181,8 @@ fn read_job(story: &str, name: &str) -> Option<Job>
             Some(number) => Some(Job::Work(number as u32)),
             None => None,
         },
+        "asm" => Some(Job::Asm),
+        "list" => Some(Job::List),
         _ => None,
     }
 }

@@ -1,15 +1,17 @@
 //! All that the program does, over objects that are handed in.
 //!
 //! `play` comes to the outcome that specs/Headline has for its command line and for the file under the
-//! story's name, unless a device fails or memory runs out.
+//! name there, unless a device fails or memory runs out.
 ghost use Rattle.std.specs.Prelude.{map};
 ghost use Rattle.gx_session.specs.Devices.{devices};
 ghost use Rattle.gx_play.specs.Headline.{IsPlayed};
 ghost use Rattle.gx_play.specs.Loading.{IsDone};
 ghost use Rattle.gx_play.specs.Reading.{seen, IsInRange};
 
+use crate::assembling::assemble_file;
 use crate::checking::check_file;
 use crate::command::{Command, CommandFault, Job, read_command};
+use crate::listing::list_file;
 use crate::loading::without_machine;
 use crate::playing::play_file;
 use crate::working::work;
@@ -18,15 +20,16 @@ use gx_session::{Ended, statuses};
 use rand_core::Rng;
 use std::alloc::{Allocator, Global};
 
-/// Does what a command line asks for: plays a story, checks one, or plays the one that is made of a number.
+/// Does what a command line asks for: plays a story, checks or lists one, plays the one that is made of a number, or
+/// assembles a text.
 ///
 /// `words` are the command line, the program's name first; `pages` is where the machine's memory
 /// comes from. The input, the text, the files and the random words are those of the objects handed
 /// in, and `dice` may be left one word after those that were used. With a seed on the command line no word
 /// is taken from `dice`.
 ///
-/// The machine that is handed back is as the run left it, and None where none was started, and in the jobs
-/// check and work.
+/// The machine that is handed back is as the run left it, and None where none was started, and in every job
+/// but play.
 pub fn play<A: Allocator + Clone, S: Source, K: Sink, F: Shelf, R: Rng>(
     alloc: Global,
     pages: A,
@@ -66,5 +69,7 @@ fn do_job<A: Allocator + Clone, S: Source, K: Sink, F: Shelf, R: Rng>(
         Job::Play => play_file(alloc, pages, command, input, output, shelf, dice),
         Job::Check => check_file(alloc, command, output, shelf),
         Job::Work(number) => work(alloc, pages, number, output),
+        Job::Asm => assemble_file(alloc, command, output, shelf),
+        Job::List => list_file(alloc, command, output, shelf),
     }
 }

@@ -1,17 +1,19 @@
-//! All that the program does: the command line, the three jobs, and `play`, the call that the program makes.
+//! All that the program does: the command line, the five jobs, and `play`, the call that the program makes.
 //!
 //! - `command` reads the command line, whose words `words` matches.
 //! - `entry` has `play`, which does all of it over objects that are handed in; its contract is the headline of the
 //!   whole repository, and stands in specs/Headline.
-//! - `playing`, `checking` and `working` do the three jobs. `loading` takes the story from the shelf, `telling` sends
-//!   a job's line, `silent` has devices for a story that needs none.
+//! - `playing`, `checking`, `working`, `assembling` and `listing` do the five jobs. `loading` takes the file from the
+//!   shelf, `telling` sends a job's output, `silent` has devices for a story that needs none.
 //!
 //! The objects that a run is played with, and the status of the process, are the program's.
 #![tactic(auto)]
 
+mod assembling;
 mod checking;
 mod command;
 mod entry;
+mod listing;
 mod loading;
 mod playing;
 mod silent;

@@ -1,23 +1,28 @@
-//! The story under a name, from the shelf.
+//! The story or the text under a name, from the shelf.
 //!
-//! The shelf is asked once. There is no story where the file isn't there, where it is too long, or where
-//! it is no story that gx_story accepts; the numbers of these faults are the program's.
-ghost use Rattle.std.specs.Prelude.{◌≡◌, ◌≤◌, ℕ, Err};
+//! The shelf is asked once. There is none where the file isn't there or is too long, and no story where
+//! it is none that gx_story accepts; the numbers of these faults are the program's.
+ghost use Rattle.std.specs.Prelude.{◌≡◌, ◌≤◌, ℕ, Err, IfOk, length};
+ghost use Rattle.gx_words.specs.Constants.{ceiling};
 ghost use Rattle.gx_session.specs.Counts.{Blames};
 ghost use Rattle.gx_session.specs.Constants.{status_bad_story, status_shelf_fault, status_no_memory};
-ghost use Rattle.gx_play.specs.Headline.{HasNoMachine, LoadsOnce};
+ghost use Rattle.gx_play.specs.Constants.{most_text};
+ghost use Rattle.gx_play.specs.Headline.{HasNoMachine, LoadsOnce, story_of, text_of};
 ghost use Rattle.gx_play.specs.Loading.{LoadsFile, status_of, fault_of};
 
 use gx_outside::{Load, Shelf, ShelfFault};
 use gx_session::{Ended, statuses};
 use gx_story::{Story, StoryFault};
-use gx_words::CEILING;
+use gx_words::{Bytes, CEILING};
 use std::alloc::{Allocator, Global};
 
-/// The fault of a story whose file isn't there; the others are those of `StoryFault`.
+/// The fault of a file that isn't there; the others are those of `StoryFault`.
 pub const NO_FILE: u8 = 0;
 
-/// Why there is no story.
+/// A text of more bytes isn't assembled.
+pub const MOST_TEXT: usize = 0x0100_0000;
+
+/// Why there is no story, or no text.
 #[derive(Clone, Copy)]
 pub enum Refusal {
     /// The number of the fault.
@@ -56,7 +61,7 @@ impl From<StoryFault> for Refusal {
 
 /// The story under a name.
 pub fn load_story<F: Shelf>(alloc: Global, shelf: &mut F, name: &str) -> Result<Story, Refusal>
-    ensures value { LoadsFile (F.seen shelf.old) name.now result }
+    ensures value { LoadsFile ceiling story_of (F.seen shelf.old) name.now result }
     ensures once { LoadsOnce (F.seen shelf.old) (F.seen shelf.new) }
     ensures count { Blames (F.seen shelf.old).calls (F.seen shelf.new).calls (result ≡ Err Refusal.Shelf) }
     ensures fault { (fault : ℕ) → result ≡ Err (Refusal.BadStory fault) → fault ≤ 7 }
@@ -68,7 +73,22 @@ pub fn load_story<F: Shelf>(alloc: Global, shelf: &mut F, name: &str) -> Result<
     }
 }
 
-/// The answer where there is no story.
+/// The text under a name.
+pub fn load_text<F: Shelf>(shelf: &mut F, name: &str) -> Result<Bytes, Refusal>
+    ensures value { LoadsFile most_text text_of (F.seen shelf.old) name.now result }
+    ensures once { LoadsOnce (F.seen shelf.old) (F.seen shelf.new) }
+    ensures count { Blames (F.seen shelf.old).calls (F.seen shelf.new).calls (result ≡ Err Refusal.Shelf) }
+    ensures fault { (fault : ℕ) → result ≡ Err (Refusal.BadStory fault) → fault ≤ 7 }
+    ensures bound { IfOk result (λ text. length text ≤ most_text) }
+{
+    match shelf.load(name, MOST_TEXT)? {
+        Load::Missing => Err(Refusal::BadStory(NO_FILE)),
+        Load::TooLong => Err(Refusal::BadStory(StoryFault::TooLarge.number())),
+        Load::Found(text) => Ok(text),
+    }
+}
+
+/// The answer where nothing was loaded.
 pub fn without_story<A: Allocator + Clone>(refusal: Refusal) -> Ended<A>
     ensures { HasNoMachine result (status_of refusal) (fault_of refusal) 0 }
 {

@@ -10,7 +10,7 @@ ghost use Rattle.gx_play.specs.Commands.{Command};
 use crate::command::USUAL_DEPTH;
 use crate::loading::without_machine;
 use crate::silent::{Gathered, NoFiles, NoInput, Zeros};
-use crate::telling::send_line;
+use crate::telling::send_output;
 use glk_world::World;
 use gx_machine::Machine;
 use gx_outside::Sink;
@@ -33,7 +33,7 @@ pub fn work<A: Allocator + Clone, K: Sink>(
 {
     match work_line(alloc, pages, number) {
         Err(_) => without_machine(statuses::NO_MEMORY, 0, 0),
-        Ok(line) => send_line(output, line.as_bytes(), statuses::ENDED),
+        Ok(line) => send_output(output, line.as_bytes(), statuses::ENDED),
     }
 }
 

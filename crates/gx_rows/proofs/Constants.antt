@@ -3,8 +3,10 @@ use Rattle.std.proofs.Common.{◌≡◌, refl}
 use Rattle.gx_rows.specs.declared.numbers.TheConstants as code
 use Rattle.gx_rows.specs.declared.instructions.TheConstants as table
 use Rattle.gx_rows.specs.declared.capabilities.TheConstants as selector
+use Rattle.gx_rows.specs.declared.modes.TheConstants as mode
 use Rattle.gx_rows.specs.Gestalts.{glulx_version, terp_version, resize_mem, undo, io_system, unicode, mem_copy, m_alloc, m_alloc_heap, extended_undo}
 use Rattle.gx_rows.specs.Table.{row_count}
+use Rattle.gx_rows.specs.Modes as modes
 use Rattle.gx_rows.specs.Numbers as numbers
 
 pub NOP_is : code.NOP ≡ numbers.nop
@@ -306,3 +308,45 @@ M_ALLOC_HEAP_is = refl
 
 pub EXTENDED_UNDO_is : selector.EXTENDED_UNDO ≡ extended_undo
 EXTENDED_UNDO_is = refl
+
+pub CONSTANT_ZERO_is : mode.CONSTANT_ZERO ≡ modes.constant_zero
+CONSTANT_ZERO_is = refl
+
+pub CONSTANT_BYTE_is : mode.CONSTANT_BYTE ≡ modes.constant_byte
+CONSTANT_BYTE_is = refl
+
+pub CONSTANT_SHORT_is : mode.CONSTANT_SHORT ≡ modes.constant_short
+CONSTANT_SHORT_is = refl
+
+pub CONSTANT_WORD_is : mode.CONSTANT_WORD ≡ modes.constant_word
+CONSTANT_WORD_is = refl
+
+pub ADDRESS_BYTE_is : mode.ADDRESS_BYTE ≡ modes.address_byte
+ADDRESS_BYTE_is = refl
+
+pub ADDRESS_SHORT_is : mode.ADDRESS_SHORT ≡ modes.address_short
+ADDRESS_SHORT_is = refl
+
+pub ADDRESS_WORD_is : mode.ADDRESS_WORD ≡ modes.address_word
+ADDRESS_WORD_is = refl
+
+pub STACK_TOP_is : mode.STACK_TOP ≡ modes.stack_top
+STACK_TOP_is = refl
+
+pub LOCAL_BYTE_is : mode.LOCAL_BYTE ≡ modes.local_byte
+LOCAL_BYTE_is = refl
+
+pub LOCAL_SHORT_is : mode.LOCAL_SHORT ≡ modes.local_short
+LOCAL_SHORT_is = refl
+
+pub LOCAL_WORD_is : mode.LOCAL_WORD ≡ modes.local_word
+LOCAL_WORD_is = refl
+
+pub RAM_BYTE_is : mode.RAM_BYTE ≡ modes.ram_byte
+RAM_BYTE_is = refl
+
+pub RAM_SHORT_is : mode.RAM_SHORT ≡ modes.ram_short
+RAM_SHORT_is = refl
+
+pub RAM_WORD_is : mode.RAM_WORD ≡ modes.ram_word
+RAM_WORD_is = refl

@@ -6,7 +6,7 @@ use Rattle.std.proofs.lemmas.List.Folds.{find_at}
 use Rattle.std.proofs.lemmas.List.Sums.{AllPass-from_list_all, position_or_len_is, prefix_len-le-length}
 use Rattle.std.proofs.lemmas.Option.{slice_get_past, slice_get-get_or}
 use Rattle.gx_rows.specs.declared.instructions.Row.{Row}
-use Rattle.gx_rows.specs.Table.{table, row_count, row_of, row_at, row_fits, are_places, are_below, RowFits}
+use Rattle.gx_rows.specs.Table.{table, row_count, row_of, row_at, place_of, row_fits, are_places, are_below, RowFits}
 
 both : (a b : Bool) → (a && b) ≡ true → (a ≡ true) × (b ≡ true)
 both true b h = (refl, h)
@@ -68,6 +68,18 @@ number_found places number all within some =
     let there = place_within places number all within some in
     (sym (row_found number (slice_index places number) (stands_at number places all within) ∙ slice_get-get_or table (slice_index places number) _ (omega (arith, rows_counted, there))), there, fits_at _ there)
 
+-- where it stands
+pub place_found : (places : List ℕ) (number : ℕ) → are_places 0 places ≡ true → number < length places → slice_index places number ≢ row_count
+    → Some (slice_index places number) ≡ place_of number
+unfolding place_of
+place_found places number all within some =
+    grind (arith, nat_tests, stands_at number places all within, place_within places number all within some)
+
+pub place_missing : (places : List ℕ) (number : ℕ) → are_places 0 places ≡ true → number < length places → slice_index places number ≡ row_count
+    → None ≡ place_of number
+unfolding place_of
+place_missing places number all within none = grind (arith, nat_tests, stands_at number places all within)
+
 -- one that has none
 pub number_missing : (places : List ℕ) (number : ℕ) → are_places 0 places ≡ true → number < length places → slice_index places number ≡ row_count
     → None ≡ row_of number
@@ -78,6 +90,14 @@ number_missing places number all within none =
 too_great : (m n most : ℕ) → nat_lt m most ≡ true → most ≤ n → (m == n) ≡ false
 too_great m n most less there = grind (arith, nat_tests)
 
+pub place_above : (most number : ℕ) → are_below most table ≡ true → most ≤ number → None ≡ place_of number
+unfolding are_below place_of
+place_above most number all there =
+    let passes = AllPass-from_list_all (λ row. nat_lt row.number most) table all in
+    let past = position_or_len_is (λ row. row.number == number) table (length table) (row_at 0) (omega arith)
+    (λ k less. too_great _ number most (passes k _ less) there) (λ less. absurd (omega (arith, less))) in
+    grind (arith, nat_tests, rows_counted, past)
+
 pub number_above : (most number : ℕ) → are_below most table ≡ true → most ≤ number → None ≡ row_of number
 unfolding are_below
 number_above most number all there =
@@ -86,4 +106,4 @@ number_above most number all there =
     (position_or_len_is (λ row. row.number == number) table (length table) (row_at 0) (omega arith) (λ k less. too_great _ number most (passes k _ less) there) (λ less. absurd (omega (arith, less))))
     ∙ slice_get_past table (length table) (omega arith))
 
-pub ruleset places = (place_within, number_found, number_missing, number_above)
+pub ruleset places = (place_within, number_found, number_missing, number_above, place_found, place_missing, place_above)

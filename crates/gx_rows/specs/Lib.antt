@@ -2,4 +2,5 @@ pub mod Numbers
 pub mod Keys
 pub mod Table
 pub mod Opcodes
+pub mod Modes
 pub mod Gestalts

@@ -14,3 +14,7 @@ opcode_of bytes =
 abbrev pub spelled : ℕ → ℕ → List ℕ
 spelled number size =
     bytes_of_number size (number + (if size == 1 then 0 else if size == 2 then 0x8000 else 0xC0000000))
+
+-- how many bytes the shortest form of a number has
+abbrev pub shortest : ℕ → ℕ
+shortest number = if nat_lt number 0x80 then 1 else if nat_lt number 0x4000 then 2 else 4

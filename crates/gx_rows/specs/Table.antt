@@ -4,7 +4,7 @@
 --
 -- A line says the number by its name, how many operands are loaded and stored, and the class. What an
 -- instruction does is said by the definitions of its class.
-use Rattle.std.specs.Prelude.{◌≤◌, ◌==◌, ◌+◌, ◌%◌, ◌&&◌, ◌||◌, ℕ, Bool, true, false, nat_le, nat_lt, List, [], ◌∷◌, Option, find, slice_index_or}
+use Rattle.std.specs.Prelude.{◌≤◌, ◌==◌, ◌+◌, ◌%◌, ◌&&◌, ◌||◌, ℕ, Bool, true, false, nat_le, nat_lt, List, [], ◌∷◌, Option, Some, None, find, slice_index_or, if◌then◌else◌}
 use Rattle.std.specs.List.{list_all, position_or_len}
 use Rattle.gx_words.specs.Numbers.{IsWidth}
 use Rattle.gx_rows.specs.Numbers as numbers
@@ -142,6 +142,14 @@ table =
 -- the one row of a number
 unfoldable pub row_of : ℕ → Option Row
 row_of number = find (λ row. row.number == number) table
+
+-- a place of the table
+abbrev pub place_within : ℕ → Option ℕ
+place_within place = if nat_lt place row_count then Some place else None
+
+-- the place of a number's row
+unfoldable pub place_of : ℕ → Option ℕ
+place_of number = place_within (position_or_len (λ row. row.number == number) table)
 
 -- the numbers from one on stand at these places of the table; its length is the place of those that no row has
 unfoldable pub are_places : ℕ → List ℕ → Bool

@@ -5,7 +5,7 @@
 ghost use Rattle.std.specs.Prelude.{◌≡◌, ◌<◌, IsTrue, IfSome, option_map, length};
 ghost use Rattle.std.specs.List.{list_all};
 ghost use Rattle.gx_rows.specs.Keys.{is_rising};
-ghost use Rattle.gx_rows.specs.Table.{table, row_count, row_of, row_at, row_fits, RowFits, are_places, are_below};
+ghost use Rattle.gx_rows.specs.Table.{table, row_count, row_of, row_at, place_of, row_fits, RowFits, are_places, are_below};
 
 use crate::Keyed;
 use crate::numbers::*;
@@ -375,6 +375,7 @@ pub fn rows() -> &'static [Row; ROW_COUNT]
 /// The place of an instruction in the table; None where it has no such number.
 #[tactic(auto, using(crate::proofs::Places::places))]
 pub fn place_of(number: u32) -> Option<usize>
+    ensures is { result ≡ place_of number }
     ensures row { option_map row_at result ≡ row_of number }
     ensures place { IfSome result (λ place. place < row_count) }
     ensures fits { IfSome result (λ place. RowFits (row_at place)) }

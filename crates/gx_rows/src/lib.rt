@@ -4,7 +4,7 @@
 //! - `instructions` has the table: one row for each instruction of Glulx 3.1.2 that the machine knows,
 //!   and for hasundo and discardundo, in rising order of number.
 //! - `keys` finds the one row of a key in any table whose keys rise.
-//! - `opcodes` reads the number with which an instruction begins.
+//! - `opcodes` reads the number with which an instruction begins, `modes` has the addressing modes of its operands.
 //! - `capabilities` answers the gestalt selectors.
 //!
 //! The table is proved equal to that of specs/Table, which has a line for each instruction of the
@@ -15,6 +15,7 @@
 mod capabilities;
 mod instructions;
 mod keys;
+pub mod modes;
 mod numbers;
 mod opcodes;
 

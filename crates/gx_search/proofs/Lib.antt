@@ -1,3 +1,4 @@
+mod Constants
 pub mod Comparing
 pub mod Within
 pub mod Finding

@@ -9,7 +9,7 @@ use Rattle.gx_words.specs.declared.faults.Fault.{Fault}
 use Rattle.gx_words.specs.declared.faults.Fault.TheVariants.{BadAddress}
 use Rattle.gx_words.specs.Numbers.{bytes_of_number}
 use Rattle.gx_search.specs.declared.asks.Ask.{Ask}
-use Rattle.gx_search.specs.declared.asks.TheConstants.{KEY_INDIRECT, ZERO_KEY_TERMINATES}
+use Rattle.gx_search.specs.Constants.{key_indirect, zero_key_terminates}
 use Rattle.gx_search.specs.declared.keys.Seen.{Seen}
 use Rattle.gx_search.specs.declared.keys.Seen.TheVariants.{Match, Zero, Other}
 
@@ -19,11 +19,11 @@ has_option ask option = ask.options / option % 2 == 1
 
 -- the key is the bytes at an address
 abbrev pub is_indirect : Ask → Bool
-is_indirect ask = has_option ask KEY_INDIRECT
+is_indirect ask = has_option ask key_indirect
 
 -- a key of zeros ends the search
 abbrev pub stops_at_zero : Ask → Bool
-stops_at_zero ask = has_option ask ZERO_KEY_TERMINATES
+stops_at_zero ask = has_option ask zero_key_terminates
 
 -- a key that isn't at an address has 1, 2 or 4 bytes
 abbrev pub has_size : Ask → Bool

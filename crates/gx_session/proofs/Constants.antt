@@ -4,7 +4,7 @@ use Rattle.gx_session.specs.declared.lines.TheConstants as lines
 use Rattle.gx_session.specs.declared.running.TheConstants as running
 use Rattle.gx_session.specs.declared.saves.TheConstants as saves
 use Rattle.gx_session.specs.declared.statuses.TheConstants as statuses
-use Rattle.gx_session.specs.Constants.{status_ended, status_bad_words, status_bad_story, status_fault, status_spent, status_input_ended, status_stuck, status_line_too_long, status_shelf_fault, status_input_fault, status_output_fault, status_no_memory, longest, piece, enough, most_loaded, failed}
+use Rattle.gx_session.specs.Constants.{status_ended, status_bad_words, status_bad_story, status_fault, status_spent, status_input_ended, status_stuck, status_line_too_long, status_shelf_fault, status_input_fault, status_output_fault, status_no_memory, status_bad_text, status_no_listing, longest, piece, enough, most_loaded, failed}
 
 pub ENDED_is : statuses.ENDED ≡ status_ended
 ENDED_is = refl
@@ -41,6 +41,12 @@ OUTPUT_FAULT_is = refl
 
 pub NO_MEMORY_is : statuses.NO_MEMORY ≡ status_no_memory
 NO_MEMORY_is = refl
+
+pub BAD_TEXT_is : statuses.BAD_TEXT ≡ status_bad_text
+BAD_TEXT_is = refl
+
+pub NO_LISTING_is : statuses.NO_LISTING ≡ status_no_listing
+NO_LISTING_is = refl
 
 pub LONGEST_is : lines.LONGEST ≡ longest
 LONGEST_is = refl

@@ -34,7 +34,7 @@ status_stuck = 6
 abbrev pub status_line_too_long : ℕ
 status_line_too_long = 7
 
--- the shelf failed; this status and the later ones are those of a run that was cut short
+-- the shelf failed; this status and those up to `status_no_memory` are those of a run that was cut short
 abbrev pub status_shelf_fault : ℕ
 status_shelf_fault = 8
 
@@ -49,6 +49,14 @@ status_output_fault = 10
 -- memory ran out
 abbrev pub status_no_memory : ℕ
 status_no_memory = 11
+
+-- a text has no code; this status and the next one are of no run
+abbrev pub status_bad_text : ℕ
+status_bad_text = 12
+
+-- a story has no listing
+abbrev pub status_no_listing : ℕ
+status_no_listing = 13
 
 -- so many bytes with no line feed among them are no line
 abbrev pub longest : ℕ

@@ -1,6 +1,6 @@
 -- The line that says how a run ended.
 use Rattle.std.specs.Prelude.{ℕ, ◌+◌, ◌/◌, ◌%◌, ◌^◌, ◌==◌, suc, zero, nat_lt, if◌then◌else◌, List, [], ◌∷◌, ◌++◌, decimal, codes}
-use Rattle.gx_session.specs.Constants.{status_bad_words, status_bad_story, status_fault, status_spent, status_input_ended, status_stuck, status_line_too_long, status_shelf_fault, status_input_fault, status_output_fault, status_no_memory}
+use Rattle.gx_session.specs.Constants.{status_bad_words, status_bad_story, status_fault, status_spent, status_input_ended, status_stuck, status_line_too_long, status_shelf_fault, status_input_fault, status_output_fault, status_no_memory, status_bad_text, status_no_listing}
 
 -- a hexadecimal digit in lower case
 abbrev pub hex_digit : ℕ → ℕ
@@ -17,6 +17,14 @@ fault_line fault at steps =
     if fault == 0 then codes "gx_player: the checksum differs" else
     codes "gx_player: fault " ++ decimal fault ++ codes " at " ++ hex_of 8 at ++ codes " after " ++ decimal steps ++ codes " steps"
 
+-- the line of a text that has no code: its fault and the number of a line
+abbrev pub text_line : ℕ → ℕ → List ℕ
+text_line fault line = codes "gx_player: text not understood (" ++ decimal fault ++ codes " at line " ++ decimal line ++ codes ")"
+
+-- the line of a story that has no listing: the fault and its address
+abbrev pub listing_line : ℕ → ℕ → List ℕ
+listing_line fault at = codes "gx_player: no listing (" ++ decimal fault ++ codes " at " ++ hex_of 8 at ++ codes ")"
+
 -- The line of a status with its fault, place and steps. The end of the program has an empty one, and
 -- so has a status in no row.
 unfoldable pub line_of : ℕ → ℕ → ℕ → ℕ → List ℕ
@@ -32,4 +40,6 @@ line_of status fault at steps =
     if status == status_input_fault then codes "gx_player: input fault" else
     if status == status_output_fault then codes "gx_player: output fault" else
     if status == status_no_memory then codes "gx_player: out of memory" else
+    if status == status_bad_text then text_line fault at else
+    if status == status_no_listing then listing_line fault at else
     []

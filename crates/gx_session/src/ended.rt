@@ -1,6 +1,6 @@
 //! How a run ended, and the line that says so.
 ghost use Rattle.std.specs.Prelude.{◌≡◌, ◌≢◌, ◌<◌, ◌++◌, ◌∷◌, [], OnOk, OnErr, IfOk, string_bytes, codes, decimal};
-ghost use Rattle.gx_session.specs.Reports.{line_of, fault_line, hex_digit, hex_of};
+ghost use Rattle.gx_session.specs.Reports.{line_of, fault_line, text_line, listing_line, hex_digit, hex_of};
 
 use crate::statuses;
 use gx_machine::Machine;
@@ -12,9 +12,10 @@ use std::alloc::{AllocError, Allocator, Global};
 pub struct Ended<A: Allocator + Clone> {
     /// One of `statuses`.
     pub status: u8,
-    /// The fault's number at BAD_STORY and FAULT, else 0.
+    /// The fault's number at BAD_STORY, FAULT, BAD_TEXT and NO_LISTING, else 0.
     pub fault: u8,
-    /// The PC before the faulting step at FAULT, else 0.
+    /// The PC before the faulting step at FAULT, the number of a line at BAD_TEXT, an address at
+    /// NO_LISTING, else 0.
     pub at: u32,
     /// The units of the budget that were used.
     pub steps: u64,
@@ -45,6 +46,8 @@ impl<A: Allocator + Clone> Ended<A> {
             statuses::INPUT_FAULT => String::from_str(alloc, "gx_player: input fault"),
             statuses::OUTPUT_FAULT => String::from_str(alloc, "gx_player: output fault"),
             statuses::NO_MEMORY => String::from_str(alloc, "gx_player: out of memory"),
+            statuses::BAD_TEXT => self.text_line(alloc),
+            statuses::NO_LISTING => self.listing_line(alloc),
             _ => Ok(String::new(alloc)),
         }
     }
@@ -82,6 +85,28 @@ impl<A: Allocator + Clone> Ended<A> {
         let mut line = String::from_str(alloc, "gx_player: budget spent after ")?;
         push_number(&mut line, self.steps)?;
         line.push_str(" steps")?;
+        Ok(line)
+    }
+
+    fn text_line(&self, alloc: Global) -> Result<String, AllocError>
+        ensures { IfOk result (λ line. string_bytes line ≡ text_line self.now.fault self.now.at) }
+    {
+        let mut line = String::from_str(alloc, "gx_player: text not understood (")?;
+        push_number(&mut line, u64::from(self.fault))?;
+        line.push_str(" at line ")?;
+        push_number(&mut line, u64::from(self.at))?;
+        line.push_str(")")?;
+        Ok(line)
+    }
+
+    fn listing_line(&self, alloc: Global) -> Result<String, AllocError>
+        ensures { IfOk result (λ line. string_bytes line ≡ listing_line self.now.fault self.now.at) }
+    {
+        let mut line = String::from_str(alloc, "gx_player: no listing (")?;
+        push_number(&mut line, u64::from(self.fault))?;
+        line.push_str(" at ")?;
+        push_hex(&mut line, self.at)?;
+        line.push_str(")")?;
         Ok(line)
     }
 }

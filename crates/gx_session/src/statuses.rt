@@ -1,5 +1,5 @@
-//! The statuses of a run, and of a command line that comes to none. Those from `SHELF_FAULT` on say
-//! that a run was cut short.
+//! The statuses of a run, and of a command line that comes to none. Those from `SHELF_FAULT` to `NO_MEMORY`
+//! say that a run was cut short; `BAD_TEXT` and `NO_LISTING` are of no run.
 
 /// The program ended.
 pub const ENDED: u8 = 0;
@@ -25,3 +25,7 @@ pub const INPUT_FAULT: u8 = 9;
 pub const OUTPUT_FAULT: u8 = 10;
 /// Memory ran out.
 pub const NO_MEMORY: u8 = 11;
+/// The text has no code.
+pub const BAD_TEXT: u8 = 12;
+/// The story has no listing.
+pub const NO_LISTING: u8 = 13;

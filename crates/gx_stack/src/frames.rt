@@ -1,5 +1,6 @@
 //! Call frames on the stack (Glulx 3.1.2, "Call Frames"): finding, entering and leaving them.
 ghost use Rattle.std.specs.Prelude.{◌≡◌, ◌+◌, ◌*◌, ◌%◌, ◌≤◌, ◌++◌, [], length, take, IfOk, OnOk};
+ghost use Rattle.gx_words.specs.Constants.{stack_limit};
 ghost use Rattle.gx_words.specs.Results.{Alters};
 ghost use Rattle.gx_stack.specs.Formats.{IsFormat, pairs_of, locals_pos, frame_len, frame, local_places, held, numbers_at};
 ghost use Rattle.gx_stack.specs.Frames.{IsGood, IsFrame, KeepsFrames, has_local, parts, frame_in, entered, with_args};
@@ -21,6 +22,31 @@ pub struct Frame {
 }
 
 impl Frame {
+    /// The frame at a place of a stack's bytes.
+    #[tactic(auto, unfolding(crate::specs::Frames::frame_in))]
+    #[inline(always)]
+    pub fn of(stack: &[u8], fp: u32) -> Result<Frame, StackFault>
+        requires { length stack.now ≤ stack_limit }
+        ensures value { result ≡ frame_in stack.now fp }
+        ensures good { IfOk result (λ frame. IsFrame stack.now frame) }
+        ensures place { IfOk result (λ frame. frame.fp ≡ fp) }
+    {
+        let at = fp as usize;
+        if at + 8 > stack.len() || fp % 4 != 0 {
+            return Err(StackFault::BadFrame);
+        }
+        let len = word_at(stack, at);
+        let locals = word_at(stack, at + 4);
+        if len % 4 != 0 || locals < 8 || len < locals || at + len as usize > stack.len() {
+            return Err(StackFault::BadFrame);
+        }
+        Ok(Frame {
+            fp,
+            locals: fp + locals,
+            values: fp + len,
+        })
+    }
+
     /// Whether so many bytes at an offset into its locals are all in its locals.
     #[inline(always)]
     pub fn has_local(&self, at: u32, width: u32) -> bool
@@ -41,7 +67,6 @@ impl Stack {
     }
 
     /// The frame at a place of the stack cut to `sp`.
-    #[tactic(auto, unfolding(crate::specs::Frames::frame_in), using(crate::proofs::Kept::cuts))]
     #[inline(always)]
     pub fn frame_at(&self, fp: u32, sp: u32) -> Result<Frame, StackFault>
         requires there { sp ≤ length self.now.bytes }
@@ -50,23 +75,7 @@ impl Stack {
         ensures good { IfOk result (λ frame. IsFrame (take sp self.now.bytes) frame) }
         ensures place { IfOk result (λ frame. frame.fp ≡ fp) }
     {
-        if u64::from(fp) + 8 > u64::from(sp) || fp % 4 != 0 {
-            return Err(StackFault::BadFrame);
-        }
-        let len = word_at(&self.bytes, fp as usize);
-        let locals = word_at(&self.bytes, fp as usize + 4);
-        if len % 4 != 0
-            || locals < 8
-            || len < locals
-            || u64::from(fp) + u64::from(len) > u64::from(sp)
-        {
-            return Err(StackFault::BadFrame);
-        }
-        Ok(Frame {
-            fp,
-            locals: fp + locals,
-            values: fp + len,
-        })
+        Frame::of(&self.bytes[..sp as usize], fp)
     }
 
     /// The frame at a place where one is known to be good.

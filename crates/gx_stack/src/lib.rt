@@ -6,14 +6,15 @@
 //! - `values` has the values of a frame and its locals.
 //!
 //! Contracts see a stack as its bytes and its limit. The whole limit is asked for at once, so that
-//! only `new` and `copy` may want memory. After a refusal the stack is as before.
+//! only `new` and the copies may want memory. After a refusal the stack is as before.
 //!
 //! A call that is given a frame wants a good one: one that `frame` or an entry answered, as long as
 //! the stack wasn't cut below its values since. A format has at most 64 pairs.
 #![tactic(auto)]
 
-ghost use Rattle.std.specs.Prelude.{◌≡◌, ◌%◌, ◌<◌, ◌≤◌, [], length, IfOk, OnErr};
+ghost use Rattle.std.specs.Prelude.{◌≡◌, ◌%◌, ◌<◌, ◌≤◌, ◌++◌, [], length, take, IfOk, OnErr};
 ghost use Rattle.gx_words.specs.Constants.{stack_limit};
+ghost use Rattle.gx_stack.specs.Stubs.{stub_bytes, stub_below};
 
 mod faults;
 mod formats;
@@ -115,6 +116,21 @@ impl Stack {
             return Ok(Bytes::new(alloc));
         }
         Bytes::from_slice(alloc, &self.bytes)
+    }
+
+    /// The bytes of the stack cut to `sp`, with a stub on top, as a list of their own. It is asked for once.
+    #[tactic(auto, using(crate::proofs::Pieces::stub_on_top))]
+    pub fn copy_with(&self, alloc: Global, sp: u32, stub: &Stub) -> Result<Bytes, AllocError>
+        requires { sp ≤ length self.now.bytes }
+        ensures value { IfOk result (λ copy. copy ≡ take sp self.now.bytes ++ stub_bytes stub.now) }
+        ensures top { IfOk result (λ copy. stub_below copy (length copy) ≡ stub.now) }
+    {
+        let below = &self.bytes[..sp as usize];
+        let stub = stub.bytes();
+        let mut copy = Bytes::with_capacity(alloc, below.len() + stub.len())?;
+        copy.extend_from_slice(below)?;
+        copy.extend_from_slice(&stub)?;
+        Ok(copy)
     }
 
     /// Makes these the bytes of the stack.

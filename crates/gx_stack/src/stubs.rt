@@ -35,6 +35,21 @@ impl Stub {
         let [m, n, o, p] = word_bytes(self.fp);
         [a, b, c, d, e, f, g, h, i, j, k, l, m, n, o, p]
     }
+
+    /// The stub on top of a stack's bytes.
+    #[inline(always)]
+    pub fn on_top(stack: &[u8]) -> Stub
+        requires { 16 ≤ length stack.now }
+        ensures { result ≡ stub_below stack.now (length stack.now) }
+    {
+        let sp = stack.len();
+        Stub {
+            kind: word_at(stack, sp - 16),
+            addr: word_at(stack, sp - 12),
+            pc: word_at(stack, sp - 8),
+            fp: word_at(stack, sp - 4),
+        }
+    }
 }
 
 impl Stack {
@@ -83,13 +98,7 @@ impl Stack {
         if sp < 16 {
             return Err(StackFault::Underflow);
         }
-        let sp = sp as usize;
-        Ok(Stub {
-            kind: word_at(&self.bytes, sp - 16),
-            addr: word_at(&self.bytes, sp - 12),
-            pc: word_at(&self.bytes, sp - 8),
-            fp: word_at(&self.bytes, sp - 4),
-        })
+        Ok(Stub::on_top(&self.bytes[..sp as usize]))
     }
 
     /// Takes the stub off the top.

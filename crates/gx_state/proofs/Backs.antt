@@ -9,7 +9,6 @@ use Rattle.gx_pages.specs.Memory.{put_back_of}
 use Rattle.gx_stack.specs.declared.stubs.Stub.{Stub}
 use Rattle.gx_stack.specs.Frames.{IsGood, has_local, is_good, frame_in, parts}
 use Rattle.gx_stack.specs.Stubs.{stub_bytes, stub_below}
-use Rattle.gx_stack.proofs.Pieces.{stub_on_top}
 use Rattle.heap_blocks.specs.Heap.{inactive}
 use Rattle.gx_story.specs.Stories.{FlatStory}
 use Rattle.gx_state.specs.declared.modes.Dest.{Dest}
@@ -134,11 +133,11 @@ stub_length : (p : Stub) → length (stub_bytes p) ≡ 16
 unfolding stub_bytes
 stub_length p = refl
 
-pub copy_fits : (f : FlatState) (d : Dest) (next : ℕ) (c : Copy) → IsSound f → 0 < sp_of f → sp_of f + 16 ≤ f.stack.limit → stub_below (stub_bytes (stub_of f d next)) 16 ≡ stub_of f d next → HasPlaceFor f d → c ≡ copy_of f d next → IsCopyFor f.story c
-copy_fits f d next c sound live room read takes is =
+pub copy_fits : (f : FlatState) (d : Dest) (next : ℕ) (c : Copy) → IsSound f → 0 < sp_of f → sp_of f + 16 ≤ f.stack.limit → stub_in c ≡ stub_of f d next → HasPlaceFor f d → c ≡ copy_of f d next → IsCopyFor f.story c
+copy_fits f d next c sound live room on_top takes is =
     let p = stub_of f d next in
     let long : length (f.stack.bytes ++ stub_bytes p) ≡ sp_of f + 16 = length-append f.stack.bytes (stub_bytes p) ∙ ap (λ (n : ℕ). sp_of f + n) (stub_length p) in
-    let top : stub_in (copy_of f d next) ≡ p = stub_on_top f.stack.bytes (stub_bytes p) (length (f.stack.bytes ++ stub_bytes p)) long ∙ read in
+    let top : stub_in (copy_of f d next) ≡ p = subst (λ (copy : Copy). stub_in copy ≡ p) is on_top in
     let under : below_stub (copy_of f d next) ≡ f.stack.bytes = rw long (grind (arith, common_steps)) in
     let same = stub_frame f d next in
     let good : IsGood f.stack.bytes p.fp = subst (IsGood f.stack.bytes) (sym same) (sound.framed.good live) in

@@ -1,10 +1,9 @@
 -- Copies of a state whose stack was cut, and the ways back to a copy.
-use Rattle.std.proofs.Common.{◌≡◌, ◌≤◌, ◌<◌, ◌+◌, ◌-◌, ℕ, List, ◌++◌, length, take, replicate, IsTrue, refl, subst, sym, arith}
+use Rattle.std.proofs.Common.{◌≡◌, ◌≤◌, ◌<◌, ◌+◌, ◌-◌, ℕ, List, ◌++◌, length, take, replicate, IsTrue, refl, subst, sym, ◌∙◌, arith}
 use Rattle.std.proofs.lemmas.List.{append-nil, length-take-le}
 use Rattle.gx_stack.specs.declared.stubs.Stub.{Stub}
 use Rattle.gx_stack.specs.declared.frames.Frame.{Frame}
 use Rattle.gx_stack.specs.Frames.{has_local}
-use Rattle.gx_stack.specs.Stubs.{stub_bytes, stub_below}
 use Rattle.heap_blocks.specs.Heap.{FlatHeap}
 use Rattle.gx_story.specs.Stories.{FlatStory}
 use Rattle.gx_state.specs.declared.modes.Dest.{Dest}
@@ -13,7 +12,7 @@ use Rattle.gx_state.specs.declared.modes.Mode.TheVariants.{Running}
 use Rattle.gx_state.specs.Flat.{FlatState, IsHeight, cut, frame_of}
 use Rattle.gx_state.specs.Sound.{IsSound}
 use Rattle.gx_state.specs.Returns.{stub_of}
-use Rattle.gx_state.specs.Copies.{Copy, IsCopyFor, HasPlaceFor, copy_of}
+use Rattle.gx_state.specs.Copies.{Copy, IsCopyFor, HasPlaceFor, copy_of, stub_in}
 use Rattle.gx_state.proofs.Kept.{framed_cut, values_cut}
 use Rattle.gx_state.proofs.Backs.{copy_fits, placed}
 
@@ -73,13 +72,13 @@ cut_sound f sp sound height =
     }
 
 -- what a copy of a cut state is, and that it is fit
-pub flat_fits : (f : FlatState) (sp : ℕ) (d : Dest) (next : ℕ) (c : Copy) → IsSound f → IsHeight f sp → sp + 16 ≤ f.stack.limit → stub_below (stub_bytes (stub_of f d next)) 16 ≡ stub_of f d next → HasPlaceFor f d → c ≡ copy_of (cut f sp) d next → IsCopyFor f.story c
-flat_fits f sp d next c sound height room read takes is =
+pub flat_fits : (f : FlatState) (sp : ℕ) (d : Dest) (next : ℕ) (c : Copy) → IsSound f → IsHeight f sp → sp + 16 ≤ f.stack.limit → stub_in c ≡ stub_of f d next → HasPlaceFor f d → c ≡ copy_of (cut f sp) d next → IsCopyFor f.story c
+flat_fits f sp d next c sound height room on_top takes is =
     let good = sound.framed.good height.live in
     let long : length (take sp f.stack.bytes) ≡ sp = length-take-le sp f.stack.bytes height.there in
     let live : 0 < length (take sp f.stack.bytes) = omega (arith, long, height.values, good.locals, good.order) in
     let same = values_cut f.stack.bytes f.fp sp height.live sound.framed height.values height.there in
-    copy_fits (cut f sp) d next c (cut_sound f sp sound height) live (omega (arith, long, room)) (subst (λ (p : Stub). stub_below (stub_bytes p) 16 ≡ p) (sym (stub_cut f sp d next)) read) (place_cut f sp d same takes) is
+    copy_fits (cut f sp) d next c (cut_sound f sp sound height) live (omega (arith, long, room)) (on_top ∙ sym (stub_cut f sp d next)) (place_cut f sp d same takes) is
 
 -- what is laid, named by the copy
 pub laid_as : (f : FlatState) (c : Copy) (p : Stub) (m stack : List ℕ) (heap : FlatHeap) → stack ≡ c.stack → heap ≡ c.heap

@@ -13,7 +13,6 @@ ghost use Rattle.gx_state.specs.Relations.{Begins};
 ghost use Rattle.gx_state.specs.Returns.{delivered, wrote};
 
 use crate::entry::{function_at, push_call};
-use crate::flat_copies::stub_on_top;
 use crate::readable::Restarted;
 use crate::{Dest, Mode, State};
 use gx_pages::{Kept, Pages};
@@ -47,6 +46,7 @@ impl<A: Allocator + Clone> Model for Moment<A> {
 impl<A: Allocator + Clone> State<A> {
     /// A copy of the state, with the stub of a store operand on top of its stack; `next` is the
     /// address at which the machine goes on. It is fit for the story where the operand takes a word.
+    #[tactic(auto, using(std::proofs::lemmas::List::take_all))]
     pub fn keep(&self, dest: &Dest, next: u32) -> Result<Moment<A>, AllocError>
         requires live { 0 < sp_of self.now.flat }
         requires room { sp_of self.now.flat + 16 ≤ self.now.flat.stack.limit }
@@ -55,8 +55,8 @@ impl<A: Allocator + Clone> State<A> {
     {
         let alloc = self.stack.allocator();
         let memory = self.memory.keep()?;
-        let mut stack = self.stack.copy(alloc)?;
-        stack.extend_from_slice(&self.stub(dest, next).bytes())?;
+        let sp = self.stack.size();
+        let stack = self.stack.copy_with(alloc, sp, &self.stub(dest, next))?;
         let heap = self.heap.copy(alloc)?;
         Ok(Moment {
             memory,
@@ -75,7 +75,7 @@ impl<A: Allocator + Clone> State<A> {
         ensures story { self.new.flat.story ≡ self.old.flat.story }
         ensures live { OnOk result (0 < sp_of self.new.flat) }
     {
-        let stub = stub_on_top(copy.stack.as_slice());
+        let stub = Stub::on_top(copy.stack.as_slice());
         let memory = self.memory_of(copy, &stub)?;
         let heap = copy.heap.copy(self.stack.allocator())?;
         self.lay(memory, heap, copy.stack.as_slice(), &stub);

@@ -6,7 +6,6 @@
 ghost use Rattle.std.specs.Prelude.{◌≡◌, ◌+◌, ◌-◌, ◌<◌, ◌≤◌, ◌==◌, if◌then◌else◌, Some, None, length, take, IfOk, OnOk, OnErr};
 ghost use Rattle.gx_pages.specs.Memory.{put_back_of};
 ghost use Rattle.gx_stack.specs.Constants.{to_memory};
-ghost use Rattle.gx_stack.specs.Stubs.{stub_below};
 ghost use Rattle.gx_state.specs.Flat.{IsHeight, cut, sp_of};
 ghost use Rattle.gx_state.specs.Copies.{IsCopyFor, HasPlaceFor, copy_of, gone_back, stub_in};
 ghost use Rattle.gx_state.specs.Returns.{wrote};
@@ -15,7 +14,7 @@ use crate::copies::MINUS_ONE;
 use crate::{Dest, State};
 use gx_pages::Pages;
 use gx_stack::{Stub, TO_MEMORY};
-use gx_words::{Blocks, Bytes, word_at, word_bytes};
+use gx_words::{Blocks, Bytes, word_bytes};
 use heap_blocks::Heap;
 use std::alloc::{AllocError, Allocator, Global};
 use std::marker::Model;
@@ -40,20 +39,6 @@ impl Model for FlatCopy {
     ghost view = { copy_in };
 }
 
-/// The stub on top of a stack.
-pub fn stub_on_top(stack: &[u8]) -> Stub
-    requires { 16 ≤ length stack.now }
-    ensures { result ≡ stub_below stack.now (length stack.now) }
-{
-    let sp = stack.len();
-    Stub {
-        kind: word_at(stack, sp - 16),
-        addr: word_at(stack, sp - 12),
-        pc: word_at(stack, sp - 8),
-        fp: word_at(stack, sp - 4),
-    }
-}
-
 impl<A: Allocator + Clone> State<A> {
     /// A copy of the state after its stack was cut to `sp`, with the stub of a store operand on top; `next` is the
     /// address at which the machine goes on. It is fit for the story where the operand takes a word.
@@ -71,9 +56,7 @@ impl<A: Allocator + Clone> State<A> {
         ensures fit { HasPlaceFor self.now.flat dest.now → IfOk result (λ copy. IsCopyFor self.now.flat.story copy) }
     {
         let memory = self.memory.bytes(alloc)?;
-        let mut stack = self.stack.copy(alloc)?;
-        stack.truncate(sp as usize);
-        stack.extend_from_slice(&self.stub(dest, next).bytes())?;
+        let stack = self.stack.copy_with(alloc, sp, &self.stub(dest, next))?;
         let blocks = self.heap_list(alloc)?;
         Ok(FlatCopy {
             memory,
@@ -83,13 +66,14 @@ impl<A: Allocator + Clone> State<A> {
         })
     }
 
-    /// The blocks of the heap. No memory is asked for where there is none.
+    /// The blocks of the heap, as a list that is asked for once. No memory is asked for where there is none.
     fn heap_list(&self, alloc: Global) -> Result<Blocks, AllocError>
         ensures value { IfOk result (λ blocks. blocks ≡ self.now.flat.heap.blocks) }
         ensures memory { OnErr result (0 < length self.now.flat.heap.blocks) }
     {
-        let mut blocks = Blocks::new(alloc);
-        for block in self.heap.blocks() {
+        let all = self.heap.blocks();
+        let mut blocks = Blocks::with_capacity(alloc, all.len())?;
+        for block in all {
             blocks.push(*block)?;
         }
         Ok(blocks)
@@ -105,7 +89,7 @@ impl<A: Allocator + Clone> State<A> {
         ensures story { self.new.flat.story ≡ self.old.flat.story }
         ensures live { OnOk result (0 < sp_of self.new.flat) }
     {
-        let stub = stub_on_top(copy.stack.as_slice());
+        let stub = Stub::on_top(copy.stack.as_slice());
         let memory = self.memory_with(copy, &stub)?;
         let alloc = self.stack.allocator();
         let heap = Heap::from_blocks(alloc, copy.heap, copy.blocks.as_slice())?;

@@ -30,7 +30,7 @@ mod state;
 
 pub use copies::Moment;
 pub use effects::{Effect, Reply};
-pub use flat_copies::{FlatCopy, stub_on_top};
+pub use flat_copies::FlatCopy;
 pub use modes::{Dest, Mode};
 pub use returns::printing_of;
 pub use state::State;

@@ -5,8 +5,7 @@ use Rattle.gx_words.specs.declared.strings.Printing.{Printing}
 use Rattle.gx_words.specs.Constants.{stack_function, locals_function}
 use Rattle.gx_words.specs.Results.{◌>>=◌}
 use Rattle.gx_pages.specs.Memory.{number_in}
-use Rattle.gx_strings.specs.declared.node_types.TheConstants.{STRING_TERMINATOR, SINGLE_CHARACTER, C_STYLE_STRING, SINGLE_UNICODE_CHARACTER, C_STYLE_UNICODE_STRING, INDIRECT_REFERENCE, DOUBLE_INDIRECT_REFERENCE, INDIRECT_REFERENCE_WITH_ARGUMENTS, DOUBLE_INDIRECT_REFERENCE_WITH_ARGUMENTS}
-use Rattle.gx_strings.specs.declared.objects.TheConstants.{LAST_FUNCTION}
+use Rattle.gx_strings.specs.Constants.{string_terminator, single_character, c_style_string, single_unicode_character, c_style_unicode_string, indirect_reference, double_indirect_reference, indirect_reference_with_arguments, double_indirect_reference_with_arguments, last_function}
 use Rattle.gx_strings.specs.declared.items.Item.{Item}
 use Rattle.gx_strings.specs.Objects.{string_of, call_of, reference_by_type, reference}
 use Rattle.gx_strings.specs.Nodes.{direct, indirect, node_item}
@@ -42,7 +41,7 @@ unfolding reference_by_type
 typed-other memory back object count_at t (Some string) = record { is = refl }
 typed-other memory back object count_at t None =
     either (t == stack_function || t == locals_function) (call-other memory back object count_at)
-    (either (nat_le stack_function t && nat_le t LAST_FUNCTION) (record { is = refl }) (record { is = refl }))
+    (either (nat_le stack_function t && nat_le t last_function) (record { is = refl }) (record { is = refl }))
 
 reference-other : (memory : List ℕ) (back : Printing) (object : ℕ) (count_at : Option ℕ) → Other (reference memory back object count_at)
 unfolding reference
@@ -50,20 +49,20 @@ reference-other memory back object count_at = each (number_in 1 memory object) (
 
 -- ---- the nodes of other types than the two of one character
 
-node-other : (memory : List ℕ) (node t : ℕ) (next : Printing) → (t == SINGLE_CHARACTER) ≡ false → (t == SINGLE_UNICODE_CHARACTER) ≡ false → number_in 1 memory node ≡ Ok t → Other (node_item memory node next)
+node-other : (memory : List ℕ) (node t : ℕ) (next : Printing) → (t == single_character) ≡ false → (t == single_unicode_character) ≡ false → number_in 1 memory node ≡ Ok t → Other (node_item memory node next)
 unfolding node_item
 node-other memory node t next byte word is =
     at (number_in 1 memory node) _ t is
-    (either (t == STRING_TERMINATOR) (record { is = refl })
-    (past (t == SINGLE_CHARACTER) _ _ byte
-    (either (t == C_STYLE_STRING) (record { is = refl })
-    (past (t == SINGLE_UNICODE_CHARACTER) _ _ word
-    (either (t == C_STYLE_UNICODE_STRING) (record { is = refl })
-    (either (t == INDIRECT_REFERENCE) (each (direct memory node) (λ object. reference-other memory next object None))
-    (either (t == DOUBLE_INDIRECT_REFERENCE) (each (indirect memory node) (λ object. reference-other memory next object None))
-    (either (t == INDIRECT_REFERENCE_WITH_ARGUMENTS) (each (direct memory node) (λ object. reference-other memory next object (Some (node + 5))))
-    (either (t == DOUBLE_INDIRECT_REFERENCE_WITH_ARGUMENTS) (each (indirect memory node) (λ object. reference-other memory next object (Some (node + 5)))) (record { is = refl }))))))))))
+    (either (t == string_terminator) (record { is = refl })
+    (past (t == single_character) _ _ byte
+    (either (t == c_style_string) (record { is = refl })
+    (past (t == single_unicode_character) _ _ word
+    (either (t == c_style_unicode_string) (record { is = refl })
+    (either (t == indirect_reference) (each (direct memory node) (λ object. reference-other memory next object None))
+    (either (t == double_indirect_reference) (each (indirect memory node) (λ object. reference-other memory next object None))
+    (either (t == indirect_reference_with_arguments) (each (direct memory node) (λ object. reference-other memory next object (Some (node + 5))))
+    (either (t == double_indirect_reference_with_arguments) (each (indirect memory node) (λ object. reference-other memory next object (Some (node + 5)))) (record { is = refl }))))))))))
 
-pub other_node : (memory : List ℕ) (node t : ℕ) (next : Printing) → number_in 1 memory node ≡ Ok t → (t == SINGLE_CHARACTER) ≡ false → (t == SINGLE_UNICODE_CHARACTER) ≡ false
+pub other_node : (memory : List ℕ) (node t : ℕ) (next : Printing) → number_in 1 memory node ≡ Ok t → (t == single_character) ≡ false → (t == single_unicode_character) ≡ false
     → is_char (node_item memory node next) ≡ false
 other_node memory node t next is byte word = (node-other memory node t next byte word is).is

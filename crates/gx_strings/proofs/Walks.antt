@@ -6,7 +6,7 @@ use Rattle.gx_words.specs.declared.faults.Fault.TheVariants.{BadAddress}
 use Rattle.gx_words.specs.Numbers.{byte}
 use Rattle.gx_words.specs.Results.{◌>>=◌}
 use Rattle.gx_pages.specs.Memory.{number_in}
-use Rattle.gx_strings.specs.declared.node_types.TheConstants.{BRANCH}
+use Rattle.gx_strings.specs.Constants.{branch}
 use Rattle.gx_strings.specs.Bits.{bit, bits}
 use Rattle.gx_strings.specs.Nodes.{child, walk}
 
@@ -48,7 +48,7 @@ one_bit (b ∷ m) (suc (suc (suc (suc (suc (suc (suc (suc n)))))))) h =
 abbrev walk_by : List ℕ → ℕ → ℕ → ℕ → Bool → Result (ℕ × ℕ) Fault
 walk_by m node used n more = do
   type_byte ← number_in 1 m node
-  if type_byte == BRANCH then (if more then (do
+  if type_byte == branch then (if more then (do
     next ← child m node (bit (byte m (n / 8)) (n % 8))
     walk m next (used + 1) (drop (n + 1) (bits m))) else Err BadAddress) else Ok (node, used)
 

@@ -1,3 +1,4 @@
+pub mod Constants
 pub mod Bits
 pub mod Objects
 pub mod Nodes

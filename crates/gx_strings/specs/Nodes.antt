@@ -6,7 +6,7 @@ use Rattle.gx_words.specs.declared.strings.Printing.{Printing}
 use Rattle.gx_words.specs.declared.strings.PrintKind.TheVariants.{E0, E2}
 use Rattle.gx_words.specs.Results.{◌>>=◌}
 use Rattle.gx_pages.specs.Memory.{number_in}
-use Rattle.gx_strings.specs.declared.node_types.TheConstants as types
+use Rattle.gx_strings.specs.Constants as types
 use Rattle.gx_strings.specs.declared.items.Item.{Item}
 use Rattle.gx_strings.specs.declared.items.Item.TheVariants.{Char, Sub, End}
 use Rattle.gx_strings.specs.Objects.{from_start, as_inner, reference}
@@ -20,10 +20,10 @@ child memory node one = number_in 4 memory (if one then node + 5 else node + 1)
 unfoldable pub walk : List ℕ → ℕ → ℕ → List Bool → Result (ℕ × ℕ) Fault
 walk memory node used [] = do
   type_byte ← number_in 1 memory node
-  if type_byte == types.BRANCH then Err BadAddress else Ok (node, used)
+  if type_byte == types.branch then Err BadAddress else Ok (node, used)
 walk memory node used (one ∷ rest) = do
   type_byte ← number_in 1 memory node
-  if type_byte == types.BRANCH then (do
+  if type_byte == types.branch then (do
     next ← child memory node one
     walk memory next (used + 1) rest) else Ok (node, used)
 
@@ -40,25 +40,25 @@ indirect memory node = do
 unfoldable pub node_item : List ℕ → ℕ → Printing → Result Item Fault
 node_item memory node next = do
   type_byte ← number_in 1 memory node
-  if type_byte == types.STRING_TERMINATOR then Ok End else
-      if type_byte == types.SINGLE_CHARACTER then (do
+  if type_byte == types.string_terminator then Ok End else
+      if type_byte == types.single_character then (do
         value ← number_in 1 memory (node + 1)
         Ok (Char value next)) else
-      if type_byte == types.C_STYLE_STRING then Ok (Sub next (as_inner (from_start E0 (node + 1)))) else
-      if type_byte == types.SINGLE_UNICODE_CHARACTER then (do
+      if type_byte == types.c_style_string then Ok (Sub next (as_inner (from_start E0 (node + 1)))) else
+      if type_byte == types.single_unicode_character then (do
         value ← number_in 4 memory (node + 1)
         Ok (Char value next)) else
-      if type_byte == types.C_STYLE_UNICODE_STRING then Ok (Sub next (as_inner (from_start E2 (node + 1)))) else
-      if type_byte == types.INDIRECT_REFERENCE then (do
+      if type_byte == types.c_style_unicode_string then Ok (Sub next (as_inner (from_start E2 (node + 1)))) else
+      if type_byte == types.indirect_reference then (do
         object ← direct memory node
         reference memory next object None) else
-      if type_byte == types.DOUBLE_INDIRECT_REFERENCE then (do
+      if type_byte == types.double_indirect_reference then (do
         object ← indirect memory node
         reference memory next object None) else
-      if type_byte == types.INDIRECT_REFERENCE_WITH_ARGUMENTS then (do
+      if type_byte == types.indirect_reference_with_arguments then (do
         object ← direct memory node
         reference memory next object (Some (node + 5))) else
-      if type_byte == types.DOUBLE_INDIRECT_REFERENCE_WITH_ARGUMENTS then (do
+      if type_byte == types.double_indirect_reference_with_arguments then (do
         object ← indirect memory node
         reference memory next object (Some (node + 5))) else
       Err BadString

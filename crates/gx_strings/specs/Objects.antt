@@ -9,7 +9,7 @@ use Rattle.gx_words.specs.declared.strings.PrintKind.TheVariants.{E0, E1, E2}
 use Rattle.gx_words.specs.Constants.{stack_function, locals_function, c_string, compressed_string, unicode_string}
 use Rattle.gx_words.specs.Results.{◌>>=◌}
 use Rattle.gx_pages.specs.Memory.{number_in}
-use Rattle.gx_strings.specs.declared.objects.TheConstants.{LAST_FUNCTION}
+use Rattle.gx_strings.specs.Constants.{last_function}
 use Rattle.gx_strings.specs.declared.items.Item.{Item}
 use Rattle.gx_strings.specs.declared.items.Item.TheVariants.{Sub, Call}
 
@@ -48,7 +48,7 @@ unfoldable pub reference_by_type : List ℕ → Printing → ℕ → Option ℕ 
 reference_by_type memory back object count_at type_byte (Some string) = Ok (Sub back (as_inner string))
 reference_by_type memory back object count_at type_byte None =
     if type_byte == stack_function || type_byte == locals_function then call_of memory back object count_at else
-    if nat_le stack_function type_byte && nat_le type_byte LAST_FUNCTION then Err BadFunction else
+    if nat_le stack_function type_byte && nat_le type_byte last_function then Err BadFunction else
     Err BadString
 
 -- the reference to the object at an address; `back` is the place after it

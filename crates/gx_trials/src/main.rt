@@ -8,8 +8,9 @@
 //! Glk's calls those of `world`, in the order of the standard, and of `saves`, most of which begin with a jump over
 //! the first 128 bytes, which a save repeats.
 //!
-//! - `small`, `calls` and `commands` read and play the three kinds of files, by their endings. `notation` has what
-//!   their lines have in common, `wanted` what is compared in each.
+//! - `stories` plays files of stories, run by run, whose two kinds `small` and `calls` read and compare; `commands` has
+//!   those of command lines. Each is known by its ending. `notation` has what their lines have in common, `lines` those
+//!   of a run, `story_files` the file that they make, `wanted` what is compared.
 //! - `runs` plays a command line over objects in memory, `fronts` a file that is cut at each byte, and `sequel` a story
 //!   that goes on where memory ran out.
 //! - `parts` calls parts of the machine by themselves, for what no story shows.
@@ -19,11 +20,14 @@
 mod calls;
 mod commands;
 mod fronts;
+mod lines;
 mod notation;
 mod parts;
 mod runs;
 mod sequel;
 mod small;
+mod stories;
+mod story_files;
 mod tally;
 mod wanted;
 
@@ -31,6 +35,7 @@ use anyhow::{Result, anyhow, bail, ensure};
 use std::alloc::Global;
 use std::rt::Files;
 use std::{env, fs};
+use stories::{Kind, play_all};
 use tally::Tally;
 
 /// What several files have need of.
@@ -63,9 +68,10 @@ fn play_file<R: Files + Alloc + Print>(
     let table = table.as_str();
     let before = tally.counted();
     match name.rsplit('.').next() {
-        Some("small") => small::play_all(rt, alloc, name, table, tally)?,
+        Some("small") => play_all(rt, alloc, Kind::Small, name, table, tally)?,
         Some("calls") => {
-            calls::play_all(rt, alloc, common.selectors.as_str(), name, table, tally)?;
+            let kind = Kind::Calls(common.selectors.as_str());
+            play_all(rt, alloc, kind, name, table, tally)?;
         }
         Some("commands") => {
             commands::compare_all(rt, alloc, common.hello.as_slice(), name, table, tally)?;

@@ -2,7 +2,8 @@
 //!
 //! A line is a word and what belongs to it; what follows `;` is a remark. Numbers are hexadecimal, or a character
 //! between `'`. DATA are bytes of two digits, words of eight, `BYTE*COUNT` for a byte again and again, and characters
-//! between `'`, in UTF-8. WORDS are numbers with `WORD*COUNT` for a word again and again.
+//! between `'`, in UTF-8. WORDS are numbers with `WORD*COUNT` for a word again and again. An INSTRUCTION is a line as
+//! gx_asm takes it: `add @0100 #01 sp`.
 use anyhow::{Context, Result};
 use std::alloc::Global;
 

@@ -148,7 +148,7 @@ fn stack_of(alloc: Global, machine: &Machine<&PagePool>) -> Result<(String, Stri
 fn ending(alloc: Global, ended: &Ended<&PagePool>) -> Result<String> {
     let (status, fault, at, steps) = (ended.status, ended.fault, ended.at, ended.steps);
     let told = match status {
-        statuses::FAULT => true,
+        statuses::FAULT | statuses::BAD_TEXT | statuses::NO_LISTING => true,
         statuses::BAD_STORY => at == 0,
         _ => fault == 0 && at == 0,
     };

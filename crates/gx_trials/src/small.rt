@@ -1,14 +1,15 @@
-//! Stories of a small machine, whose code is written byte by byte (files `.small`).
+//! Stories of a small machine, whose code is written instruction by instruction (files `.small`).
 //!
 //! A file has one story after another, with an empty line between them, and a line a fact. How numbers, DATA and WORDS
 //! are written is said in `notation`; STEPS, COPIES and PAGES are decimal.
 //!
 //! - `story NAME` begins a story: a page of ROM, a page of RAM from 0x100 on, a stack of 0x800 bytes, and a
 //!   start function of format `00 00` at 0x24; all else is zero.
-//! - `at ADDRESS DATA` puts bytes into the file, its header included, and `bytes NUMBER` is how many of them are there,
-//!   up to 0x400; without its line 0x200 are.
+//! - `at ADDRESS DATA` and `at ADDRESS code INSTRUCTION` put bytes into the file, its header included, and `bytes
+//!   NUMBER` is how many of them are there, up to 0x400; without its line 0x200 are.
 //! - `window` puts the eight instructions that select Glk and open the current window.
-//! - `code DATA` puts bytes after those before it, the first at 0x27, or at 0x42 after `window`.
+//! - `code INSTRUCTION` and `data DATA` put bytes after those before them, the first at 0x27, or at 0x42 after
+//!   `window`.
 //! - `budget STEPS` is the budget, `pool PAGES` how many pages of memory may be out at a time, and `options WORDS` are
 //!   the words that the command line has at its end.
 //! - `stack WORDS` is what the stack holds at the end above the fixed part of the start function's frame,
@@ -26,10 +27,11 @@
 //! - `goes on PAGES DATA` says that the story, over a pool of so many pages of which one is taken away, is cut short
 //!   behind the text DATA, and from the machine that it left goes on to the same end once that page is back.
 use crate::fronts::compare_fronts;
-use crate::notation::{are_remarks, data_of, facts, name_of, named_data, put, words_in};
+use crate::lines::Lines;
+use crate::notation::{data_of, facts, words_in};
 use crate::runs::{Devices, Left, MOST_PAGES, Told, run};
 use crate::sequel::{Sequel, play_sequel};
-use crate::tally::{Place, Tally};
+use crate::story_files::StoryFile;
 use crate::wanted::{compare_memory, compare_stack, compare_text};
 use anyhow::{Context, Result, anyhow, bail, ensure};
 use std::alloc::Global;
@@ -40,7 +42,7 @@ const HEAD: &str =
 
 /// What opens the current window.
 const WINDOW: &str =
-    "81 49 01 02 40 80 40 81 03 40 80 40 80 40 80 81 30 11 08 23 05 81 30 11 00 2F 01";
+    "setiosys #02 z\ncopy z sp\ncopy #03 sp\ncopy z sp\ncopy z sp\ncopy z sp\nglk #23 #05 sp\nglk #2f #01 z\n";
 
 /// The bytes of a story's file.
 const SIZE: usize = 0x200;
@@ -48,161 +50,46 @@ const SIZE: usize = 0x200;
 /// The most that a story's file has room for.
 const MOST_SIZE: usize = 0x400;
 
-/// A story, as far as its lines were read.
+/// The budget of a run where its story doesn't say it.
+const BUDGET: &str = "1000000";
+
+/// A story, and what its lines say of its run.
 #[derive(Drop)]
-struct Tale<'a> {
-    lines: &'a str,
-    file: Vec<u8>,
+struct Story<'a> {
+    lines: Lines<'a>,
+    file: StoryFile,
     /// How many bytes of the file are there.
-    bytes: usize,
-    /// Where the next code goes.
-    next: usize,
-    budget: &'a str,
-    options: &'a str,
-    pool: usize,
-    stack: String,
-    text: Vec<u8>,
-    size: &'a str,
-    copies: usize,
-    steps: &'a str,
-    out: &'a str,
-    how: &'a str,
-    begun: bool,
-    as_spent: bool,
-    fronts: &'a str,
-    goes_on: &'a str,
+    size: usize,
 }
 
-impl<'a> Tale<'a> {
-    fn new(alloc: Global, lines: &'a str) -> Result<Tale<'a>> {
-        let mut tale = Tale {
-            lines,
-            file: vec![in alloc; 0; MOST_SIZE]?,
-            bytes: SIZE,
-            next: 0,
-            budget: "1000000",
-            options: "",
-            pool: MOST_PAGES,
-            stack: String::new(alloc),
-            text: Vec::new(alloc),
-            size: "",
-            copies: 0,
-            steps: "",
-            out: "",
-            how: "",
-            begun: true,
-            as_spent: false,
-            fronts: "",
-            goes_on: "",
+impl<'a> Story<'a> {
+    fn read(alloc: Global, lines: Lines<'a>) -> Result<Story<'a>> {
+        let file = file_of(alloc, lines)?;
+        let size = match lines.last("bytes") {
+            Some(size) => usize::from_str_radix(size, 16)?,
+            None => SIZE,
         };
-        tale.code(alloc, HEAD)?;
-        Ok(tale)
-    }
-
-    /// A story of these lines.
-    fn read(alloc: Global, lines: &'a str) -> Result<Tale<'a>> {
-        let mut tale = Tale::new(alloc, lines)?;
-        for line in lines.lines() {
-            let (key, rest) = facts(line);
-            match key {
-                "" | "also" | "story" | "memory" => {}
-                _ => tale.take(alloc, key, rest)?,
-            }
-        }
-        Ok(tale)
-    }
-
-    /// A story of these lines and some more.
-    fn read_with(alloc: Global, lines: &'a str, more: &'a str) -> Result<Tale<'a>> {
-        let mut tale = Tale::read(alloc, lines)?;
-        for line in more.split(',') {
-            let (key, rest) = facts(line);
-            tale.take(alloc, key, rest)?;
-        }
-        Ok(tale)
-    }
-
-    fn code(&mut self, alloc: Global, data: &str) -> Result<()> {
-        self.next = put(&mut self.file, self.next, data_of(alloc, data)?.as_slice())?;
-        Ok(())
-    }
-
-    /// Takes a line.
-    fn take(&mut self, alloc: Global, key: &str, rest: &'a str) -> Result<()> {
-        match key {
-            "budget" => self.budget = rest,
-            "options" => self.options = rest,
-            "pool" => self.pool = rest.parse()?,
-            "bytes" => self.bytes = usize::from_str_radix(rest, 16)?,
-            "ends" | "unbegun" => {
-                self.how = rest;
-                self.begun = key == "ends";
-            }
-            "at" | "window" | "code" => self.take_code(alloc, key, rest)?,
-            _ => self.take_wanted(alloc, key, rest)?,
-        }
-        Ok(())
-    }
-
-    /// Takes a line that goes into the file.
-    fn take_code(&mut self, alloc: Global, key: &str, rest: &str) -> Result<()> {
-        match key {
-            "at" => {
-                let (at, data) = named_data(alloc, rest)?;
-                put(
-                    &mut self.file,
-                    usize::from_str_radix(at, 16)?,
-                    data.as_slice(),
-                )?;
-            }
-            "window" => self.code(alloc, WINDOW)?,
-            _ => self.code(alloc, rest)?,
-        }
-        Ok(())
-    }
-
-    /// Takes a line that says what is wanted.
-    fn take_wanted(&mut self, alloc: Global, key: &str, rest: &'a str) -> Result<()> {
-        match key {
-            "stack" => self.stack = words_in(alloc, rest)?,
-            "text" => self.text = Vec::from_slice(alloc, rest.as_bytes())?,
-            "shown" => self.text = data_of(alloc, rest)?,
-            "size" => self.size = rest,
-            "copies" => self.copies = rest.parse()?,
-            "steps" => self.steps = rest,
-            "out" => self.out = rest,
-            "as" if rest == "spent" => self.as_spent = true,
-            "fronts" => self.fronts = rest,
-            "goes" => {
-                self.goes_on = rest.strip_prefix("on ").context("goes where?")?;
-            }
-            _ => return Err(anyhow!("a line of no known kind: {key} {rest}")),
-        }
-        Ok(())
+        Ok(Story { lines, file, size })
     }
 
     /// The bytes of the file that are there.
     fn there(&self) -> &[u8] {
-        self.file.as_slice().get(..self.bytes).unwrap_or_default()
+        self.file.bytes().get(..self.size).unwrap_or_default()
     }
 
-    /// The size that memory has to have at the end.
-    fn last_size(&self) -> Result<usize> {
-        if !self.size.is_empty() {
-            return Ok(usize::from_str_radix(self.size, 16)?);
-        }
-        let mut word = 0usize;
-        for byte in self.file.as_slice().iter().skip(0x10).take(4) {
-            word = word.wrapping_mul(256).wrapping_add(usize::from(*byte));
-        }
-        Ok(word)
-    }
-
-    /// Plays the story, and compares all that it says.
+    /// Plays the story, and compares all that its lines say.
     fn play(&self, alloc: Global) -> Result<()> {
+        let pool = match self.lines.last("pool") {
+            Some(pages) => pages.parse()?,
+            None => MOST_PAGES,
+        };
         let mut devices = Devices::with_story(alloc, "story", self.there())?;
-        let told = self.run(alloc, self.pool, self.budget, &mut devices)?;
+        let told = self.run(alloc, pool, self.budget(), &mut devices)?;
         self.compare_all(alloc, &told, devices.sink.bytes())
+    }
+
+    fn budget(&self) -> &'a str {
+        self.lines.last("budget").unwrap_or(BUDGET)
     }
 
     fn run(&self, alloc: Global, pool: usize, budget: &str, devices: &mut Devices) -> Result<Told> {
@@ -216,7 +103,7 @@ impl<'a> Tale<'a> {
         for word in ["gx_player", "story", "--steps", budget] {
             words.push(word)?;
         }
-        for word in self.options.split_whitespace() {
+        for word in self.lines.text("options").split_whitespace() {
             words.push(word)?;
         }
         Ok(words)
@@ -225,25 +112,26 @@ impl<'a> Tale<'a> {
     /// Compares a run of the story, and others with it.
     fn compare_all(&self, alloc: Global, told: &Told, shown: &[u8]) -> Result<()> {
         self.compare(alloc, told, shown)?;
-        if self.as_spent {
+        if let Some("spent") = self.lines.last("as") {
             self.compare_spent(alloc, told)?;
         }
-        if !self.goes_on.is_empty() {
-            self.compare_sequel(alloc, told)?;
+        if let Some(rest) = self.lines.last("goes") {
+            self.compare_sequel(alloc, rest, told)?;
         }
-        if !self.fronts.is_empty() {
-            compare_fronts(alloc, self.there(), self.fronts)?;
+        if let Some(wanted) = self.lines.last("fronts") {
+            compare_fronts(alloc, self.there(), wanted)?;
         }
         Ok(())
     }
 
     /// Compares how the story ended, and what it left; where it isn't begun, it leaves nothing.
     fn compare(&self, alloc: Global, told: &Told, shown: &[u8]) -> Result<()> {
+        let (kind, how) = self.lines.last_of("ends", "unbegun").context("no end")?;
         let line = told.line.as_str();
-        ensure!(line == self.how, "it ends {line}");
-        compare_text(shown, self.text.as_slice())?;
-        self.compare_counts(told)?;
-        match (&told.left, self.begun) {
+        ensure!(line == how, "it ends {line}");
+        compare_text(shown, text_of(alloc, self.lines)?.as_slice())?;
+        compare_counts(self.lines, told)?;
+        match (&told.left, kind == "ends") {
             (Some(left), true) => self.compare_left(alloc, left),
             (None, false) => Ok(()),
             (Some(_), false) => Err(anyhow!("a machine is begun")),
@@ -251,25 +139,26 @@ impl<'a> Tale<'a> {
         }
     }
 
-    /// Compares the steps that were done, and the pages that were out.
-    fn compare_counts(&self, told: &Told) -> Result<()> {
-        let (steps, out) = (told.steps, told.out);
-        if !self.steps.is_empty() {
-            ensure!(steps == self.steps.parse()?, "{steps} steps are done");
-        }
-        if !self.out.is_empty() {
-            ensure!(out == self.out.parse()?, "{out} pages are out");
-        }
-        Ok(())
-    }
-
     /// Compares what the story left in the machine.
     fn compare_left(&self, alloc: Global, left: &Left) -> Result<()> {
         let (size, copies) = (left.memory.len(), left.copies);
-        compare_stack(left.stack.as_str(), self.stack.as_str())?;
+        let wanted_stack = words_in(alloc, self.lines.text("stack"))?;
+        compare_stack(left.stack.as_str(), wanted_stack.as_str())?;
         ensure!(size == self.last_size()?, "the size is {size:X}");
-        ensure!(copies == self.copies, "{copies} copies are kept");
-        compare_memory(alloc, left.memory.as_slice(), self.lines)
+        ensure!(copies == copies_of(self.lines)?, "{copies} copies are kept");
+        compare_memory(alloc, left.memory.as_slice(), self.lines.story)
+    }
+
+    /// The size that memory has to have at the end.
+    fn last_size(&self) -> Result<usize> {
+        if let Some(size) = self.lines.last("size") {
+            return Ok(usize::from_str_radix(size, 16)?);
+        }
+        let mut word = 0usize;
+        for byte in self.file.bytes().iter().skip(0x10).take(4) {
+            word = word.wrapping_mul(256).wrapping_add(usize::from(*byte));
+        }
+        Ok(word)
     }
 
     /// Compares what a run that memory cut short left with what a budget of its steps leaves.
@@ -283,21 +172,103 @@ impl<'a> Tale<'a> {
     }
 
     /// Plays the story over too few pages and goes on, and compares both runs with one that has them all.
-    fn compare_sequel(&self, alloc: Global, whole: &Told) -> Result<()> {
-        let (pages, first) = self.goes_on.split_once(' ').unwrap_or((self.goes_on, ""));
-        let words = self.words(alloc, self.budget)?;
+    fn compare_sequel(&self, alloc: Global, rest: &str, whole: &Told) -> Result<()> {
+        let rest = rest.strip_prefix("on ").context("goes where?")?;
+        let (pages, first) = rest.split_once(' ').unwrap_or((rest, ""));
+        let words = self.words(alloc, self.budget())?;
         let sequel = play_sequel(alloc, pages.parse()?, words.as_slice(), self.there())?;
-        self.compare_shown(alloc, first, &sequel)?;
+        compare_shown(alloc, self.lines, first, &sequel)?;
         compare_end(&sequel, whole)
     }
+}
 
-    /// Compares what both runs show.
-    fn compare_shown(&self, alloc: Global, first: &str, sequel: &Sequel) -> Result<()> {
-        let mut shown = data_of(alloc, first)?;
-        compare_cut(sequel, shown.as_slice())?;
-        shown.extend_from_slice(sequel.shown_then.as_slice())?;
-        compare_text(shown.as_slice(), self.text.as_slice())
+/// The file of a story, with all that it has room for.
+fn file_of(alloc: Global, lines: Lines<'_>) -> Result<StoryFile> {
+    ensure!(lines.fault == None, "a line of no known kind: faults");
+    let mut file = StoryFile::new(alloc, MOST_SIZE, HEAD)?;
+    for line in lines.story.lines() {
+        let (key, rest) = facts(line);
+        match key {
+            "" | "also" | "story" | "memory" => {}
+            _ => take(alloc, &mut file, key, rest)?,
+        }
     }
+    take_more(alloc, &mut file, lines.more)?;
+    file.compare_listing(alloc)?;
+    Ok(file)
+}
+
+/// Takes the lines of one run.
+fn take_more(alloc: Global, file: &mut StoryFile, more: &str) -> Result<()> {
+    if more.is_empty() {
+        return Ok(());
+    }
+    for line in more.split(',') {
+        let (key, rest) = facts(line);
+        take(alloc, file, key, rest)?;
+    }
+    Ok(())
+}
+
+/// Takes a line, of which only some go into the file.
+fn take(alloc: Global, file: &mut StoryFile, key: &str, rest: &str) -> Result<()> {
+    match key {
+        "window" => file.put_code(alloc, WINDOW),
+        "as" if rest == "spent" => Ok(()),
+        "budget"
+        | "pool"
+        | "options"
+        | "bytes"
+        | "ends"
+        | "unbegun"
+        | "stack"
+        | "text"
+        | "shown"
+        | "size"
+        | "copies"
+        | "steps"
+        | "out"
+        | "fronts"
+        | "goes" => Ok(()),
+        _ => file.take(alloc, key, rest),
+    }
+}
+
+/// The text that has to be shown.
+fn text_of(alloc: Global, lines: Lines<'_>) -> Result<Vec<u8>> {
+    match lines.last_of("text", "shown") {
+        Some(("shown", data)) => data_of(alloc, data),
+        Some((_, text)) => Ok(Vec::from_slice(alloc, text.as_bytes())?),
+        None => Ok(Vec::new(alloc)),
+    }
+}
+
+/// How many copies have to be kept for undo.
+fn copies_of(lines: Lines<'_>) -> Result<usize> {
+    match lines.last("copies") {
+        Some(copies) => Ok(copies.parse()?),
+        None => Ok(0),
+    }
+}
+
+/// Compares the steps that were done, and the pages that were out.
+fn compare_counts(lines: Lines<'_>, told: &Told) -> Result<()> {
+    let (steps, out) = (told.steps, told.out);
+    if let Some(wanted) = lines.last("steps") {
+        ensure!(steps == wanted.parse()?, "{steps} steps are done");
+    }
+    if let Some(wanted) = lines.last("out") {
+        ensure!(out == wanted.parse()?, "{out} pages are out");
+    }
+    Ok(())
+}
+
+/// Compares what a run that was cut short and the one that goes on show.
+fn compare_shown(alloc: Global, lines: Lines<'_>, first: &str, sequel: &Sequel) -> Result<()> {
+    let mut shown = data_of(alloc, first)?;
+    compare_cut(sequel, shown.as_slice())?;
+    shown.extend_from_slice(sequel.shown_then.as_slice())?;
+    compare_text(shown.as_slice(), text_of(alloc, lines)?.as_slice())
 }
 
 /// Compares the end of the second of two runs with that of a run that wasn't cut short.
@@ -338,56 +309,7 @@ fn compare_same(one: &Option<Left>, other: &Option<Left>) -> Result<()> {
     Ok(())
 }
 
-/// Plays one run of a story.
-fn play_run(alloc: Global, lines: &str, line: &str) -> Result<()> {
-    match facts(line) {
-        ("also", more) => Tale::read_with(alloc, lines, more)?.play(alloc),
-        _ => Tale::read(alloc, lines)?.play(alloc),
-    }
-}
-
-/// Plays all runs of a story; an error where there is none.
-fn play_story<P: Print>(
-    rt: &P,
-    alloc: Global,
-    file: &str,
-    lines: &str,
-    tally: &mut Tally,
-) -> Result<()> {
-    let story = name_of(lines);
-    let before = tally.counted();
-    for line in lines.lines() {
-        if let ("ends" | "unbegun" | "also", _) = facts(line) {
-            tally.note_at(
-                rt,
-                Place { file, story, line },
-                play_run(alloc, lines, line),
-            )?;
-        }
-    }
-    if story.is_empty() || tally.counted() == before {
-        let line = "";
-        tally.note_at(
-            rt,
-            Place { file, story, line },
-            Err(anyhow!("not one story with a name and an end")),
-        )?;
-    }
-    Ok(())
-}
-
-/// Plays the stories of a table.
-pub fn play_all<P: Print>(
-    rt: &P,
-    alloc: Global,
-    file: &str,
-    table: &str,
-    tally: &mut Tally,
-) -> Result<()> {
-    for lines in table.split("\n\n") {
-        if !are_remarks(lines) {
-            play_story(rt, alloc, file, lines, tally)?;
-        }
-    }
-    Ok(())
+/// Plays a run of a story, and compares what it comes to.
+pub fn play(alloc: Global, lines: Lines<'_>) -> Result<()> {
+    Story::read(alloc, lines)?.play(alloc)
 }

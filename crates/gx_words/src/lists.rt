@@ -45,9 +45,10 @@ impl<T> Items<T> {
         }
     }
 
-    /// An empty list, with room for `count` items.
+    /// An empty list, with room for `count` items. No memory is asked for where it is none.
     pub fn with_capacity(alloc: Global, count: usize) -> Result<Self, AllocError>
-        ensures { IfOk result (λ items. items ≡ []) }
+        ensures value { IfOk result (λ items. items ≡ []) }
+        ensures memory { OnErr result (0 < count) }
     {
         Ok(Items {
             all: Vec::with_capacity(alloc, count)?,

@@ -4,7 +4,7 @@ use Rattle.std.proofs.lemmas.Bool.{cases_lt, lt-ltb, le-ltb}
 use Rattle.std.proofs.lemmas.Bool.Decides.{nat_tests}
 use Rattle.std.specs.List.{insert, remove}
 use Rattle.std.specs.List.Sorted.{IsNonDecreasingBy}
-use Rattle.heap_blocks.specs.Heap.{Block, IsRising, IsEndedBy, IsFree, end_of, inserted, without}
+use Rattle.heap_blocks.specs.Heap.{Block, FlatHeap, IsRising, IsEndedBy, IsSound, IsFree, end_of, inserted, without}
 
 -- ---- a block put in
 
@@ -70,6 +70,14 @@ IsEndedBy-remove (b ∷ bs) limit (suc i) ends = (ends.0, IsEndedBy-remove bs li
 pub IsRising-none : (bs : List Block) (from : ℕ) → length bs ≡ 0 → IsRising from bs
 IsRising-none [] from h = tt
 IsRising-none (b ∷ bs) from h = absurd (omega arith)
+
+-- a heap that keeps blocks is sound without one
+pub IsSound-remove : (h : FlatHeap) (i : ℕ) (bs : List Block) → bs ≡ remove h.blocks i → 0 < length bs → IsSound h → IsSound (record { start = h.start; blocks = bs })
+IsSound-remove h i bs is some sound = record {
+  rises = rw is (IsRising-remove h.blocks h.start i sound.rises);
+  ends = rw is (IsEndedBy-remove h.blocks 0xFFFFFFFF i sound.ends);
+  none = λ none. absurd (omega arith);
+}
 
 differs : (a b : ℕ) → a ≢ b → nat_eq a b ≡ false
 differs a b h = grind (arith, nat_tests)

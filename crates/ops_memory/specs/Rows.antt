@@ -16,7 +16,7 @@ use Rattle.gx_rows.specs.Numbers as numbers
 use Rattle.gx_rows.specs.declared.instructions.Class.{Class}
 use Rattle.gx_rows.specs.declared.instructions.Class.TheVariants as class
 use Rattle.gx_search.specs.declared.asks.Ask.{Ask}
-use Rattle.gx_search.specs.declared.asks.TheConstants.{RETURN_INDEX}
+use Rattle.gx_search.specs.Constants.{return_index}
 use Rattle.gx_search.specs.Keys.{has_option}
 use Rattle.gx_search.specs.Searches.{Struct, Search, linear, linked}
 use Rattle.gx_search.specs.Halving.{binary}
@@ -157,8 +157,8 @@ search_by Binary f i = binary f.memory (row_ask i)
 search_by Linked f i = linked f.memory (list_ask i)
 
 abbrev pub is_indexed : Method → Instruction → Bool
-is_indexed Linear i = has_option (row_ask i) RETURN_INDEX
-is_indexed Binary i = has_option (row_ask i) RETURN_INDEX
+is_indexed Linear i = has_option (row_ask i) return_index
+is_indexed Binary i = has_option (row_ask i) return_index
 is_indexed Linked i = false
 
 -- S1 = the address of the struct that is found, or 0; as an index, or FFFFFFFF

@@ -162,11 +162,11 @@ fn sort(all: &mut [(u32, u32)])
     all.sort_unstable_by_key(|block| block.0);
 }
 
-/// Blocks as a list of their own.
+/// Blocks as a list of their own, which is asked for once.
 fn listed(alloc: Global, all: &[(u32, u32)]) -> Result<Blocks, AllocError>
     ensures { IfOk result (λ blocks. blocks ≡ all.now) }
 {
-    let mut blocks = Blocks::new(alloc);
+    let mut blocks = Blocks::with_capacity(alloc, all.len())?;
     for block in all {
         blocks.push(*block)?;
     }

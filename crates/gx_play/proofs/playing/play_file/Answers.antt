@@ -1,4 +1,5 @@
-use Rattle.std.proofs.Common.{◌≡◌, Result, Ok, Err, sym, subst}
+use Rattle.std.proofs.Common.{◌≡◌, Result, Ok, Err, ap, sym, subst}
+use Rattle.gx_words.specs.Constants.{ceiling}
 use Rattle.gx_outside.specs.Outside.{FlatShelf}
 use Rattle.gx_story.specs.Stories.{FlatStory}
 use Rattle.gx_session.specs.Devices.{Devices, devices}
@@ -7,9 +8,9 @@ use Rattle.gx_play.specs.declared.command.Job.TheVariants.{Play}
 use Rattle.gx_play.specs.declared.loading.Refusal.{Refusal}
 use Rattle.gx_play.specs.declared.loading.Refusal.TheVariants as refusal
 use Rattle.gx_play.specs.Commands.{Command}
-use Rattle.gx_play.specs.Headline.{LoadsOnce}
+use Rattle.gx_play.specs.Headline.{LoadsOnce, outcome_of_story, story_of}
 use Rattle.gx_play.specs.Reading.{seen}
-use Rattle.gx_play.proofs.Dones.{play-refused, parts-for}
+use Rattle.gx_play.proofs.Dones.{refused-done, parts-for}
 use Rattle.gx_play.proofs.Loads.{loadable}
 use Rattle.gx_play.proofs.Plays.{comes-out, counts-after}
 use Rattle.gx_play.proofs.playing.play_file.Goals as goal
@@ -17,8 +18,10 @@ use Rattle.gx_play.proofs.playing.play_file.Goals as goal
 pub returns-in-Err : goal.returns-in-Err
 returns-in-Err g c =
     let entry : Devices = devices (g.S.Source.seen c.args.input.now) (g.K.Sink.seen c.args.output.now) (g.F.Shelf.seen c.args.shelf.now) (g.R.Rng.stream c.args.dice.now) in
+    let command : Command = seen c.args.command in
     let l = c.in-Err.ensures in
-    play-refused c.without_story.result (seen c.args.command) entry entry.shelf (g.F.Shelf.seen c.load_story.new.shelf) c.in-Err.refusal l.value l.once l.count l.fault c.without_story.ensures
+    refused-done c.without_story.result ceiling story_of command entry entry.shelf (g.F.Shelf.seen c.load_story.new.shelf) Play c.in-Err.refusal l.value l.once l.count l.fault c.without_story.ensures
+    (λ fault bad. ap (outcome_of_story command entry) bad) (λ x. x) (λ x. x)
 
 pub returns-in-Ok : goal.returns-in-Ok
 returns-in-Ok g c =

@@ -1,6 +1,7 @@
 use Rattle.std.proofs.Common.{ap, refl}
 use Rattle.gx_session.specs.Devices.{Devices, devices}
 use Rattle.gx_play.specs.Reading.{seen}
+use Rattle.gx_play.proofs.RunParts.{run-parts}
 use Rattle.gx_play.proofs.Seeds.{run-drawn, run-seeded}
 use Rattle.gx_play.proofs.playing.run_machine.Goals as goal
 use Rattle.rand_core.specs.Steps.{stream_of, steps_u32}
@@ -20,3 +21,9 @@ returns-in-Some-clause-runs g c =
     let exit : Devices = devices (g.S.Source.seen r.new.input) (g.K.Sink.seen r.new.output) (g.F.Shelf.seen r.new.shelf) (g.R.Rng.stream c.args.dice.now) in
     run-seeded r.result entry exit (seen c.args.command) c.args.machine c.in-Some.seed (stream_of (steps_u32 pcg32) c.seed_from_u64-words.result) (stream_of (steps_u32 pcg32) r.new.dice)
     c.in-Some.is (ap (λ (l : Lcg). stream_of (steps_u32 pcg32) l) c.seed_from_u64-words.ensures) refl (rw c.new-world.ensures at r.ensures)
+
+pub returns-in-None-clause-parts : goal.returns-in-None-clause-parts
+returns-in-None-clause-parts g c = run-parts c.run.result _ _ _ c.run.ensures
+
+pub returns-in-Some-clause-parts : goal.returns-in-Some-clause-parts
+returns-in-Some-clause-parts g c = run-parts c.run-in-Some.result _ _ _ c.run-in-Some.ensures

@@ -7,5 +7,5 @@ returns-in-Err g c = λ command d. let e : Devices = record d { sink = g.K.Sink.
 
 pub returns-in-Ok : goal.returns-in-Ok
 returns-in-Ok g c = λ command d.
-    work-told c.send_line.result c.args.number command d (g.K.Sink.seen c.args.output.now) (g.K.Sink.seen c.send_line.new.output)
-    (rw (c.as_bytes.ensures.value, c.in-Ok.ensures) at c.send_line.ensures.sends) c.send_line.ensures.blames
+    work-told c.send_output.result c.args.number command d (g.K.Sink.seen c.args.output.now) (g.K.Sink.seen c.send_output.new.output)
+    (rw (c.as_bytes.ensures.value, c.in-Ok.ensures) at c.send_output.ensures.sends) c.send_output.ensures.blames

@@ -51,7 +51,7 @@ returns-clause-value c =
     let s = subst (Small c.args.story.now) (sym c.copy.view_is) (small c.args.story.now c.args.copy.now c.bytes-stored.ensures.sound c.requires) in
     let memory = c.in_ok-memory.ensures ∙ ap (memory_bytes c.args.story.now) c.as_slice.ensures in
     subst (λ (x : Copy). c.push_heap.new.out ≡ saved c.args.story.now x) c.copy.view_is (form_written c.args.story.now _ c.extend_from_slice-3.new.self c.push_heap.new.out s
-    (rw (c.in_ok-extend_from_slice-3.ensures.ok, c.in_ok-extend_from_slice-2.ensures.ok, c.in_ok-extend_from_slice.ensures.ok, c.in_ok-save.ensures, c.word_bytes.ensures.bytes, c.form_len-len.ensures, c.len.ensures, c.len-2.ensures, memory, c.as_slice-blocks.ensures) refl)
+    (rw (c.in_ok-extend_from_slice-3.ensures.ok, c.in_ok-extend_from_slice-2.ensures.ok, c.in_ok-extend_from_slice.ensures.ok, c.in_ok-save.ensures.value, c.word_bytes.ensures.bytes, c.form_len-len.ensures, c.len.ensures, c.len-2.ensures, memory, c.as_slice-blocks.ensures) refl)
     (rw (c.in_ok-push_heap.ensures.ok, c.in_ok-push_chunk-3.ensures.ok, c.in_ok-push_chunk-2.ensures.ok, c.in_ok-push_chunk.ensures.ok, c.as_slice-3.ensures, c.as_slice-2.ensures, memory, c.as_slice-blocks.ensures, c.bytes-stored.ensures.value) refl))
 
 pub returns-clause-read_back : goal.returns-clause-read_back

@@ -10,7 +10,7 @@ returns-then-size-eq0-clause-value c = rw c.new.ensures (unpacked-none c.args.pa
 pub returns-clause-value : goal.returns-clause-value
 returns-clause-value c =
     sym (onto_nothing c.args.packed.now c.args.old.now c.args.size)
-    ∙ subst (λ (out : List ℕ). unpacked_onto out c.args.packed.now c.args.old.now c.args.size ≡ Ok c.push_unpacked.new.out) c.in_ok-out.ensures c.in_ok-push_unpacked.ensures.ok
+    ∙ subst (λ (out : List ℕ). unpacked_onto out c.args.packed.now c.args.old.now c.args.size ≡ Ok c.push_unpacked.new.out) c.in_ok-out.ensures.value c.in_ok-push_unpacked.ensures.ok
 
 pub returns-clause-len : goal.returns-clause-len
 returns-clause-len c = length-unpacked c.args.packed.now c.args.old.now _ c.args.size (returns-clause-value c)

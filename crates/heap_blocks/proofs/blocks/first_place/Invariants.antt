@@ -1,6 +1,6 @@
 use Rattle.std.proofs.Common.{◌≡◌, ◌<◌, ◌^◌, drop}
 use Rattle.heap_blocks.specs.Heap.{free_place}
-use Rattle.heap_blocks.proofs.blocks.free_place.Given as goal
+use Rattle.heap_blocks.proofs.blocks.first_place.Given as goal
 
 abbrev pub invariant-loop-block : goal.invariant-loop-block
 invariant-loop-block l = record {

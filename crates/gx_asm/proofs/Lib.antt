@@ -1,0 +1,15 @@
+pub mod Words
+pub mod NameLaws
+pub mod Reading
+pub mod ReadingTurns
+pub mod TextLaws
+pub mod Nibbles
+pub mod BytesOpcodes
+pub mod CodesRead
+pub mod CodesText
+pub mod CodesLoops
+pub mod LineTurns
+pub mod StoryFormats
+pub mod StoryListings
+pub mod Wrapped
+pub mod Lengths
