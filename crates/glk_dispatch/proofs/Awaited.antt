@@ -1,11 +1,13 @@
--- What a call that waits goes on with stays the same while grids and lines are shown: that changes only which grids
--- were shown, and whether something was shown since the last line feed.
-use Rattle.std.proofs.Common.{◌≡◌, ℕ, ◌==◌, Bool, true, false, if◌then◌else◌, List, [], ◌∷◌, ◌++◌, length, map, codes, refl, sym, subst, ap, ◌∙◌}
+-- What a call that waits goes on with stays the same while grids, lines and the screen are shown: that changes only
+-- what was shown last, and whether something was shown since the last line feed.
+use Rattle.std.proofs.Common.{◌≡◌, ℕ, ◌==◌, Bool, true, false, if◌then◌else◌, List, [], ◌∷◌, ◌++◌, length, map, codes, Option, Some, refl, sym, subst, ap, ◌∙◌}
 use Rattle.std.specs.Str.{encode_utf8_all}
 use Rattle.glk_text.specs.Constants.{line_feed}
 use Rattle.glk_text.specs.Characters.{shown}
-use Rattle.glk_world.specs.World.{Scene, Said, silent}
-use Rattle.glk_world.specs.Shown.{said_row, said_rows, said_grid, said_grids, show_grids, show_line, same_rows, last_rows, shown_grid, on_a_new_line}
+use Rattle.glk_world.specs.declared.views.View.{View}
+use Rattle.glk_world.specs.declared.views.View.TheVariants as view
+use Rattle.glk_world.specs.World.{Scene, Said, silent, is_composed}
+use Rattle.glk_world.specs.Shown.{said_row, said_rows, said_grid, said_grids, show_rows, screen_of, show_screen, shown_in, show_grids, show_line, same_rows, last_rows, shown_grid, on_a_new_line}
 use Rattle.glk_world.specs.declared.grids.ShownGrid.{ShownGrid}
 use Rattle.glk_dispatch.specs.declared.Given.{Given}
 use Rattle.glk_dispatch.specs.declared.Given.TheVariants as given
@@ -49,19 +51,36 @@ grids_shown w [] = refl
 grids_shown w (grid ∷ grids) = both_shown w (said_grid w grid).0 (said_grids (said_grid w grid).0 grids).0 (grid_shown w grid) (grids_shown (said_grid w grid).0 grids)
 
 -- what is shown isn't looked at
-awaits_still : (w : Scene) (shown : List ShownGrid) (fresh : Bool) (g : Given) → Awaits w g → Awaits (record w { shown = shown; fresh = fresh }) g
+awaits_still : (w : Scene) (shown : List ShownGrid) (last : Option (List ℕ)) (fresh : Bool) (g : Given) → Awaits w g → Awaits (record w { shown = shown; last_screen = last; fresh = fresh }) g
 unfolding Awaits
-awaits_still w shown fresh (given.Line line) is = is
-awaits_still w shown fresh (given.Loaded load) is = is
-awaits_still w shown fresh given.Stored is = is
-awaits_still w shown fresh (given.Was was) is = is
+awaits_still w shown last fresh (given.Line line) is = is
+awaits_still w shown last fresh (given.Loaded load) is = is
+awaits_still w shown last fresh given.Stored is = is
+awaits_still w shown last fresh (given.Was was) is = is
 
 pub awaits-line : (w : Scene) (line : List ℕ) (g : Given) → Awaits w g → Awaits (show_line w line).0 g
 unfolding show_line
-awaits-line w line g is = awaits_still w w.shown true g is
+awaits-line w line g is =
+    elim (is_composed w) as (λ b. Awaits (if b then silent w else (record w { fresh = true }, encode_utf8_all (map shown line) ++ line_feed ∷ [])).0 g) [
+      | true ↦ is
+      | false ↦ awaits_still w w.shown w.last_screen true g is
+    ]
+
+awaits_rows : (w : Scene) (g : Given) → Awaits w g → Awaits (show_rows w).0 g
+unfolding show_rows
+awaits_rows w g is =
+    let grids : List ShownGrid = map shown_grid w.windows.grids in
+    subst (λ (x : Scene). Awaits (record x { shown = grids }) g) (sym (grids_shown w grids)) (awaits_still w grids w.last_screen (said_grids w grids).0.fresh g is)
+
+awaits_screen : (w : Scene) (g : Given) → Awaits w g → Awaits (show_screen w).0 g
+unfolding show_screen
+awaits_screen w g is = awaits_still w w.shown (Some (screen_of w)) w.fresh g is
+
+awaits_view : (v : View) (w : Scene) (g : Given) → Awaits w g → Awaits (shown_in v w).0 g
+awaits_view view.Rows w g is = awaits_rows w g is
+awaits_view view.Plain w g is = is
+awaits_view view.Screen w g is = awaits_screen w g is
 
 pub awaits-grids : (w : Scene) (g : Given) → Awaits w g → Awaits (show_grids w).0 g
 unfolding show_grids
-awaits-grids w g is =
-    let grids : List ShownGrid = map shown_grid w.windows.grids in
-    subst (λ (x : Scene). Awaits (record x { shown = grids }) g) (sym (grids_shown w grids)) (awaits_still w grids (said_grids w grids).0.fresh g is)
+awaits-grids w g is = awaits_view w.view w g is

@@ -39,7 +39,8 @@ rest_len s = one.end_of s - s.position
 abbrev pub as_bytes : List ℕ → Option (List ℕ)
 as_bytes chars = if list_all (λ c. nat_lt c 256) chars then Some chars else None
 
--- The bytes from a stream's position to its end, where it then stands. Where it isn't open for reading it stands as it was.
+-- The bytes from a stream's position to its end, where it then stands. Where it isn't open for reading it stands as it
+-- was.
 unfoldable pub take_rest : Scene → FlatState → ℕ → Result (Said × Option (List ℕ)) Fault
 take_rest w f id =
     let s = streams.stream w.streams id in

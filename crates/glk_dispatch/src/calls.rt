@@ -1,5 +1,5 @@
-//! The one way that every call goes (Glk 0.7.5, "The Dispatch Layer"; specs/Calls): its row, the looks at its arguments,
-//! and the part that carries it out.
+//! The one way that every call goes (Glk 0.7.5, "The Dispatch Layer"; specs/Calls): its row, the looks at its
+//! arguments, and the part that carries it out.
 ghost use Rattle.std.specs.Prelude.{◌≡◌, ◌≤◌, length, replicate, false, true, IfOk, IsTrue};
 ghost use Rattle.gx_words.specs.Faults.{Reads, MayLose};
 ghost use Rattle.gx_state.specs.Replies.{IsReply};

@@ -1,5 +1,5 @@
-//! Getting from streams (Glk 0.7.5, "How To Read"; specs/Input): characters are counted first, while each place in memory
-//! is looked at, and then gathered.
+//! Getting from streams (Glk 0.7.5, "How To Read"; specs/Input): characters are counted first, while each place in
+//! memory is looked at, and then gathered.
 ghost use Rattle.std.specs.Prelude.{ℕ, [], ◌≡◌, ◌≢◌, ◌⊎◌, ◌+◌, ◌≤◌, ◌<◌, ◌^◌, ◌++◌, length, not, ◌==◌, IfOk, IfSome, OnErr, IsTrue, Ok, Some, true};
 ghost use Rattle.gx_words.specs.Faults.{Reads, MayLose};
 ghost use Rattle.gx_state.specs.Replies.{IsReply};

@@ -1,8 +1,9 @@
 //! The calls of Glk by their selectors (Glk 0.7.5, "The Dispatch Layer").
 //!
 //! `call` makes a call, `go_on` goes on with one that waited, and both are their definitions of specs/Calls and
-//! specs/Going. A fault leaves the world as it was, but for want of memory, after which it can only be dropped; memory is
-//! wanted only where `grows` and `go_grows` say so. A reply writes in RAM alone and pushes no more than there is room for.
+//! specs/Going. A fault leaves the world as it was, but for want of memory, after which it can only be dropped; memory
+//! is wanted only where `grows` and `go_grows` say so. A reply writes in RAM alone and pushes no more than there is
+//! room for.
 //!
 //! - `selectors` and `table` have the calls: what each needs of its arguments, and the part that carries it out.
 //! - `calls` is the one way that every call goes; `going` goes on, and `waiting` keeps the call that waits.

@@ -1,8 +1,8 @@
 //! What the calls are made of (specs/Parts): arguments, replies, looks at memory, references that are given words,
 //! and characters that are put to a stream.
 //!
-//! The looks (`can_read`, `can_lay`, `can_give`, `fitting`) take no memory, and a call makes all of them before it takes
-//! any.
+//! The looks (`can_read`, `can_lay`, `can_give`, `fitting`) take no memory, and a call makes all of them before it
+//! takes any.
 ghost use Rattle.std.specs.Prelude.{◌≡◌, ◌≢◌, ◌+◌, ◌*◌, ◌≤◌, ◌<◌, ◌^◌, ◌++◌, [], length, OnOk, OnErr, IfOk, IsTrue};
 ghost use Rattle.gx_words.specs.Constants.{ceiling};
 ghost use Rattle.gx_words.specs.Faults.{Reads, MayLose};

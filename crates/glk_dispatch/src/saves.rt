@@ -1,5 +1,5 @@
-//! Saves as the bytes of a stream (Glulx 3.1.2, "Game State"; specs/Saves): they are put as characters, and got from where
-//! the stream stands to its end.
+//! Saves as the bytes of a stream (Glulx 3.1.2, "Game State"; specs/Saves): they are put as characters, and got from
+//! where the stream stands to its end.
 ghost use Rattle.std.specs.Prelude.{ℕ, ◌≡◌, ◌≢◌, ◌<◌, ◌≤◌, ◌^◌, ◌+◌, ◌++◌, [], length, take, drop, IfOk, IfSome, OnOk, OnErr, IsTrue, Ok, Some};
 ghost use Rattle.gx_words.specs.Faults.{MayLose};
 ghost use Rattle.gx_state.specs.Replies.{IsReply};

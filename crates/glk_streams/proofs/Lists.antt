@@ -1,5 +1,5 @@
 -- The streams stay sound, and what stands at a place.
-use Rattle.std.proofs.Common.{zero, suc, length, get_or, set, ◌<◌, ◌≡◌, ◌≤◌, ◌+◌, ℕ, Bool, true, false, if◌then◌else◌, List, [], ◌∷◌, ◌++◌, map, drop, drop-cons, refl, arith, append_assoc}
+use Rattle.std.proofs.Common.{zero, suc, length, get_or, set, ◌<◌, ◌≡◌, ◌≢◌, ◌≤◌, ◌+◌, ℕ, Bool, true, false, if◌then◌else◌, List, [], ◌∷◌, ◌++◌, map, drop, drop-cons, refl, arith, append_assoc}
 use Rattle.std.proofs.lemmas.Grind.{common_steps}
 use Rattle.std.proofs.lemmas.List.{append-nil}
 use Rattle.std.specs.List.{filter, remove}
@@ -72,4 +72,13 @@ files_more ss i d out h = let e : i + 1 ≡ suc i = omega arith in rw (e, drop-c
 pub files_none : (ss : List Stream) (n : ℕ) (out : List ℕ) → length ss ≤ n → out ++ open_files (drop n ss) ≡ out
 files_none ss n out h = let none : drop n ss ≡ [] = grind (arith, common_steps) in rw none (append-nil out)
 
-pub ruleset files = (files_more, files_none)
+-- where a file is stored there are some
+pub files_some : (ss : List Stream) (i : ℕ) (d : Stream) → i < length ss → is_stored (get_or ss i d).kind (get_or ss i d) ≡ true → open_files ss ≢ []
+files_some [] i d within is = absurd (omega arith)
+files_some (s ∷ ss) zero d within is = rw is (λ same. cc)
+files_some (s ∷ ss) (suc i) d within is = elim (is_stored s.kind s) as (λ b. map id_of (if b then s ∷ filter (λ t. is_stored t.kind t) ss else filter (λ t. is_stored t.kind t) ss) ≢ []) [
+  | true ↦ (λ same. cc)
+  | false ↦ files_some ss i d (omega arith) is
+]
+
+pub ruleset files = (files_more, files_none, files_some)

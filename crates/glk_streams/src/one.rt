@@ -139,8 +139,8 @@ pub fn count(stream: &mut Stream)
     }
 }
 
-/// Puts the bytes of a slice as characters to a stream that takes them at once: one of memory, or a file in Latin-1 with
-/// room for them. Says whether it did.
+/// Puts the bytes of a slice as characters to a stream that takes them at once: one of memory, or a file in Latin-1
+/// with room for them. Says whether it did.
 #[tactic(auto, using(crate::proofs::Filling::bytes_rules), unfolding(crate::specs::Stream::takes_bytes))]
 pub fn put_bytes(stream: &mut Stream, bytes: &[u8]) -> Result<bool, AllocError>
     requires { IsSoundStream stream.old }

@@ -297,7 +297,8 @@ impl Streams {
     /// The files that are open for writing, in order of creation: they are stored when they are closed.
     #[tactic(auto, using(crate::proofs::Lists::files))]
     pub fn open_files(&self, alloc: Global) -> Result<Numbers, AllocError>
-        ensures { IfOk result (λ ids. ids ≡ open_files self.now) }
+        ensures value { IfOk result (λ ids. ids ≡ open_files self.now) }
+        ensures memory { OnErr result (open_files self.now ≢ []) }
     {
         let mut ids = Numbers::new(alloc);
         for stream in &self.items {

@@ -22,5 +22,5 @@ pub use methods::{
     ABOVE, BELOW, BLANK_WINDOW, FIXED, LEFT, MOST_WINDOWS, PAIR, PROPORTIONAL, RIGHT, TEXT_BUFFER,
     TEXT_GRID,
 };
-pub use tree::Pair;
+pub use tree::{Arrangement, Pair, Tree};
 pub use windows::Windows;

@@ -2,6 +2,7 @@
 //! (Glk 0.7.5, "Window Arrangement").
 ghost use Rattle.std.specs.Prelude.{◌≡◌, ◌≤◌, ◌++◌, ◌+◌, OnOk};
 ghost use Rattle.std.specs.Option.{option_map};
+ghost use Rattle.glk_windows.specs.Methods.{direction};
 ghost use Rattle.glk_windows.specs.Tree.{One, Two, shape_of, id_of, share, second_area, first_area, area_in, part_from, ids_in, has_leaf, parent_in, pair_of, split_in, closed_in, is_among, unkeyed, can_arrange, rearranged, arranged_in};
 
 use crate::methods::{FIXED, direction, division, is_across, is_method, is_on_axis};
@@ -53,41 +54,50 @@ pub(crate) fn id_of(tree: &Tree) -> u32
     }
 }
 
-/// What a pair's second child gets of so many columns or rows.
-fn share(arrangement: &Arrangement, total: u32) -> u32
-    ensures value { result ≡ share arrangement.now total }
-    ensures fits { result ≤ total }
-{
-    if division(arrangement.method) != FIXED {
-        let wanted = total as u64 * arrangement.size as u64 / 100;
-        return wanted.min(total as u64) as u32;
+impl Arrangement {
+    /// The side of the second child: `LEFT`, `RIGHT`, `ABOVE` or `BELOW` in every pair window that was opened.
+    pub fn direction(&self) -> u32
+        ensures { result ≡ direction self.now.method }
+    {
+        direction(self.method)
     }
-    if arrangement.key == 0 || arrangement.key_is_blank {
-        0
-    } else {
-        total.min(arrangement.size)
-    }
-}
 
-/// The columns and rows of a pair's second child.
-fn second_area(arrangement: &Arrangement, area: (u32, u32)) -> (u32, u32)
-    ensures { result ≡ second_area arrangement.now area }
-{
-    if is_across(arrangement.method) {
-        (share(arrangement, area.0), area.1)
-    } else {
-        (area.0, share(arrangement, area.1))
+    /// What the second child gets of so many columns or rows.
+    fn share(&self, total: u32) -> u32
+        ensures value { result ≡ share self.now total }
+        ensures fits { result ≤ total }
+    {
+        if division(self.method) != FIXED {
+            let wanted = total as u64 * self.size as u64 / 100;
+            return wanted.min(total as u64) as u32;
+        }
+        if self.key == 0 || self.key_is_blank {
+            0
+        } else {
+            total.min(self.size)
+        }
     }
-}
 
-/// The columns and rows of a pair's first child.
-fn first_area(arrangement: &Arrangement, area: (u32, u32)) -> (u32, u32)
-    ensures { result ≡ first_area arrangement.now area }
-{
-    if is_across(arrangement.method) {
-        (area.0 - share(arrangement, area.0), area.1)
-    } else {
-        (area.0, area.1 - share(arrangement, area.1))
+    /// The columns and rows of the second child, where the pair has `area`.
+    pub fn second_area(&self, area: (u32, u32)) -> (u32, u32)
+        ensures { result ≡ second_area self.now area }
+    {
+        if is_across(self.method) {
+            (self.share(area.0), area.1)
+        } else {
+            (area.0, self.share(area.1))
+        }
+    }
+
+    /// The columns and rows of the first child, which has the rest.
+    pub fn first_area(&self, area: (u32, u32)) -> (u32, u32)
+        ensures { result ≡ first_area self.now area }
+    {
+        if is_across(self.method) {
+            (area.0 - self.share(area.0), area.1)
+        } else {
+            (area.0, area.1 - self.share(area.1))
+        }
     }
 }
 
@@ -101,9 +111,9 @@ pub(crate) fn area_in(tree: &Tree, area: (u32, u32), win: u32) -> Option<(u32, u
             if arrangement.id == win {
                 return Some(area);
             }
-            match area_in(first, first_area(arrangement, area), win) {
+            match area_in(first, arrangement.first_area(area), win) {
                 Some(found) => Some(found),
-                None => area_in(second, second_area(arrangement, area), win),
+                None => area_in(second, arrangement.second_area(area), win),
             }
         }
     }

@@ -1,9 +1,9 @@
 //! All windows of a screen (Glk 0.7.5, "Windows").
-ghost use Rattle.std.specs.Prelude.{◌≡◌, ◌+◌, ◌<◌, ◌≤◌, ◌^◌, ◌⊎◌, ◌∷◌, [], ◌++◌, map, filter, not, IsTrue, OnOk, OnErr, IfOk};
+ghost use Rattle.std.specs.Prelude.{◌≡◌, ◌+◌, ◌<◌, ◌≤◌, ◌^◌, ◌⊎◌, ◌∷◌, [], ◌++◌, map, filter, not, IsTrue, OnOk, OnErr, IfOk, MatchOption, Some, None};
 ghost use Rattle.std.specs.Option.{option_map};
 ghost use Rattle.std.specs.List.Sorted.{IsStrictlyIncreasing};
 ghost use Rattle.glk_objects.specs.Objects as objects;
-ghost use Rattle.glk_windows.specs.Tree.{is_among, arranged_in};
+ghost use Rattle.glk_windows.specs.Tree.{shape_of, is_among, arranged_in};
 ghost use Rattle.glk_windows.specs.Grids.{grid_id};
 ghost use Rattle.glk_windows.specs.Windows.{tree_of, no_windows, entry_id, is_window, entry, next, root, parent, window, pair, sizes_in, sizes, text_size, cell, row, is_openable, can_add, last_given, IsNewId};
 ghost use Rattle.glk_windows.specs.Changes.{fitted_to, fitted, some_grow, with_grid, rooted, split_by, added, leaving, chosen, gone, without_ids, closed_tree, closed, allows, arranged, arranging_grows, put_to, cleared_in, moved_in, echoed, without_stream};
@@ -61,6 +61,20 @@ impl Windows {
             columns,
             rows,
         }
+    }
+
+    /// The columns and rows of the screen.
+    pub fn size(&self) -> (u32, u32)
+        ensures { result ≡ (self.now.columns, self.now.rows) }
+    {
+        (self.columns, self.rows)
+    }
+
+    /// The tree, `None` where there is no window.
+    pub fn tree(&self) -> Option<&Tree>
+        ensures { MatchOption result (self.now.tree ≡ None) (λ tree. self.now.tree ≡ Some (shape_of tree.now)) }
+    {
+        self.tree.as_ref()
     }
 
     /// The identifier of the root, 0 where there is no window.

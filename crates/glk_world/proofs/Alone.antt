@@ -11,10 +11,11 @@ use Rattle.glk_streams.specs.declared.kinds.StreamKind.{StreamKind}
 use Rattle.glk_streams.specs.declared.kinds.StreamKind.TheVariants as kinds
 use Rattle.glk_streams.specs.Stream as one
 use Rattle.glk_streams.specs.Streams as streams
-use Rattle.glk_world.specs.World.{Scene, FlatWorld, Said, after, silent, then_said}
-use Rattle.glk_world.specs.Putting.{said_char, window_of, entry_of, is_text, is_plain_text, window_put, counted, stream_put, echo_of, put_along, put_of, puts, grows_along, put_grows, end_of, places_of, no_places}
+use Rattle.glk_screen.specs.Texts.{screen_put}
+use Rattle.glk_world.specs.World.{Scene, FlatWorld, Said, after, silent, then_said, is_composed}
+use Rattle.glk_world.specs.Putting.{said_char, buffer_put, window_of, entry_of, is_text, is_plain_text, window_put, counted, stream_put, echo_of, put_along, put_of, puts, grows_along, put_grows, end_of, places_of, no_places}
 use Rattle.glk_world.proofs.Found.{has_with, has_below, at_with_here, below_with}
-use Rattle.glk_world.proofs.Ranks.{nothing_along, stream_put_streams, put_step, put_id, put_window}
+use Rattle.glk_world.proofs.Ranks.{nothing_along, stream_put_streams, put_step, put_id, put_window, buffer_put_streams}
 use Rattle.glk_world.proofs.Turns.{end_here}
 
 -- ---- no stream has the identifier 0
@@ -185,8 +186,8 @@ plain w s h =
 plain_echo : (w : Scene) (s : ℕ) → IsPlain w s → echo_of w s ≡ 0
 plain_echo w s is = rw is.own is.echo
 
--- a character comes to the text
-pub text_put : (w : FlatWorld) (s c : ℕ) → IsBelow streams.id_of w.scene.streams 0 → is_plain_text w.scene s ≡ true → after w (said_char (counted w.scene s c) (shown c)) ≡ after w (put_of w.scene s c)
+-- a character comes to the text, or to the composed screen
+pub text_put : (w : FlatWorld) (s c : ℕ) → IsBelow streams.id_of w.scene.streams 0 → is_plain_text w.scene s ≡ true → after w (buffer_put (counted w.scene s c) (window_of w.scene s) (shown c)) ≡ after w (put_of w.scene s c)
 unfolding stream_put window_put
 text_put w s c first h =
     let is = plain w.scene s h in
@@ -213,23 +214,42 @@ plain_there w s h = (plain w s h).there
 pub plain_window : (w : Scene) (s : ℕ) → is_plain_text w s ≡ true → window_of w s ≢ 0
 plain_window w s h = let is = plain w s h in grind (arith, nat_tests, is.own)
 
--- and so it is after a character
-pub plain_stays : (w : Scene) (s c : ℕ) (fresh : Bool) → is_plain_text w s ≡ true → is_plain_text (record (counted w s c) { fresh = fresh }) s ≡ true
-plain_stays w s c fresh h =
+-- the window of a stream that has counted a character, and whether it shows text
+window_counted : (w : Scene) (s c : ℕ) → streams.has w.streams s ≡ true → window_of (counted w s c) s ≡ window_of w s
+window_counted w s c there =
     let new = one.after_put (streams.stream w.streams s) c in
-    let id : new.id ≡ s = put_id (streams.stream w.streams s) c ∙ id_at streams.id_of streams.no_stream w.streams s (plain w s h).there in
-    let here : streams.stream (streams.with_stream w.streams new) new.id ≡ new = at_with_here streams.id_of streams.no_stream w.streams new (rw id (plain w s h).there) in
+    let id : new.id ≡ s = put_id (streams.stream w.streams s) c ∙ id_at streams.id_of streams.no_stream w.streams s there in
+    let here : streams.stream (streams.with_stream w.streams new) new.id ≡ new = at_with_here streams.id_of streams.no_stream w.streams new (rw id there) in
     let found : streams.stream (streams.with_stream w.streams new) s ≡ new = ap (λ (i : ℕ). streams.stream (streams.with_stream w.streams new) i) (sym id) ∙ here in
-    let window : one.window_of (streams.stream (streams.with_stream w.streams new) s) ≡ window_of w s = ap one.window_of found ∙ put_window (streams.stream w.streams s) c in
-    rw (has_with streams.id_of streams.no_stream w.streams new s, window) h
+    ap one.window_of found ∙ put_window (streams.stream w.streams s) c
+
+plain_counted : (w : Scene) (s c : ℕ) → is_plain_text w s ≡ true → is_plain_text (counted w s c) s ≡ true
+plain_counted w s c h =
+    rw (has_with streams.id_of streams.no_stream w.streams (one.after_put (streams.stream w.streams s) c) s, window_counted w s c (plain w s h).there) h
+
+-- and so it is after a character
+pub plain_stays : (w : Scene) (s c win d : ℕ) → is_plain_text w s ≡ true → is_plain_text (buffer_put (counted w s c) win d).0 s ≡ true
+unfolding buffer_put
+plain_stays w s c win d h =
+    let v = counted w s c in
+    elim (is_composed w) as (λ b. is_plain_text (if b then silent (record v { screen = screen_put v.screen win d }) else said_char v d).0 s ≡ true) [
+      | true ↦ plain_counted w s c h
+      | false ↦ plain_counted w s c h
+    ]
+
+pub window_stays : (w : Scene) (s c win d : ℕ) → is_plain_text w s ≡ true → win ≡ window_of w s → win ≡ window_of (buffer_put (counted w s c) win d).0 s
+window_stays w s c win d h is =
+    is ∙ sym (ap (λ (all : List Stream). one.window_of (streams.stream all s)) (buffer_put_streams (counted w s c) win d) ∙ window_counted w s c (plain w s h).there)
 
 place_with : (xs : List Stream) (new : Stream) (s : ℕ) → objects.place streams.id_of (streams.with_stream xs new) s ≡ objects.place streams.id_of xs s
 unfolding objects.with objects.place
 place_with [] new s = refl
 place_with (x ∷ xs) new s = grind (arith, nat_tests, place_with xs new s)
 
-pub place_stays : (w : Scene) (s c at : ℕ) → at ≡ objects.place streams.id_of w.streams s → at ≡ objects.place streams.id_of (counted w s c).streams s
-place_stays w s c at is = is ∙ sym (place_with w.streams (one.after_put (streams.stream w.streams s) c) s)
+pub place_stays : (w : Scene) (s c win d at : ℕ) → at ≡ objects.place streams.id_of w.streams s → at ≡ objects.place streams.id_of (buffer_put (counted w s c) win d).0.streams s
+place_stays w s c win d at is =
+    rw (buffer_put_streams (counted w s c) win d)
+    (is ∙ sym (place_with w.streams (one.after_put (streams.stream w.streams s) c) s))
 
 -- ---- a stream with no window
 

@@ -14,8 +14,9 @@ use Rattle.glk_windows.specs.Grids as grids
 use Rattle.glk_windows.specs.Changes.{put_to}
 use Rattle.glk_windows.specs.Constants.{text_buffer}
 use Rattle.glk_text.specs.Characters.{shown}
-use Rattle.glk_world.specs.World.{Scene, Said, silent, then_said}
-use Rattle.glk_world.specs.Putting.{said_char, window_of, entry_of, window_put, counted, stream_put, echo_of, put_along, put_of, end_along, end_of}
+use Rattle.glk_screen.specs.Texts.{screen_put}
+use Rattle.glk_world.specs.World.{Scene, Said, silent, then_said, is_composed}
+use Rattle.glk_world.specs.Putting.{said_char, buffer_put, window_of, entry_of, window_put, counted, stream_put, echo_of, put_along, put_of, end_along, end_of}
 use Rattle.glk_world.specs.Chains.{echo_in, IsRanked}
 use Rattle.glk_world.proofs.Found.{has_with, at_with, at_with_here}
 
@@ -103,13 +104,21 @@ pub entries_put : (f : FlatWindows) (win c : ℕ) → (put_to f win c).entries �
 unfolding put_to
 entries_put f win c = elim (has_grid f win) as (λ b. (if b then record f { grids = objects.with grids.grid_id f.grids (grids.put (grid_at f.grids win) c) } else f).entries ≡ f.entries) [ true ↦ refl | false ↦ refl ]
 
+pub buffer_put_streams : (w : Scene) (win c : ℕ) → (buffer_put w win c).0.streams ≡ w.streams
+unfolding buffer_put
+buffer_put_streams w win c = elim (is_composed w) as (λ b. (if b then silent (record w { screen = screen_put w.screen win c }) else said_char w c).0.streams ≡ w.streams) [ true ↦ refl | false ↦ refl ]
+
+buffer_put_entries : (w : Scene) (win c : ℕ) → (buffer_put w win c).0.windows.entries ≡ w.windows.entries
+unfolding buffer_put
+buffer_put_entries w win c = elim (is_composed w) as (λ b. (if b then silent (record w { screen = screen_put w.screen win c }) else said_char w c).0.windows.entries ≡ w.windows.entries) [ true ↦ refl | false ↦ refl ]
+
 window_put_streams : (w : Scene) (e : Entry) (win c : ℕ) → (window_put w e win c).0.streams ≡ w.streams
 unfolding window_put
-window_put_streams w e win c = elim (e.kind == text_buffer) as (λ b. (if b then said_char w (shown c) else silent (record w { windows = put_to w.windows win (shown c) })).0.streams ≡ w.streams) [ true ↦ refl | false ↦ refl ]
+window_put_streams w e win c = elim (e.kind == text_buffer) as (λ b. (if b then buffer_put w win (shown c) else silent (record w { windows = put_to w.windows win (shown c) })).0.streams ≡ w.streams) [ true ↦ buffer_put_streams w win (shown c) | false ↦ refl ]
 
 window_put_entries : (w : Scene) (e : Entry) (win c : ℕ) → (window_put w e win c).0.windows.entries ≡ w.windows.entries
 unfolding window_put
-window_put_entries w e win c = elim (e.kind == text_buffer) as (λ b. (if b then said_char w (shown c) else silent (record w { windows = put_to w.windows win (shown c) })).0.windows.entries ≡ w.windows.entries) [ true ↦ refl | false ↦ entries_put w.windows win (shown c) ]
+window_put_entries w e win c = elim (e.kind == text_buffer) as (λ b. (if b then buffer_put w win (shown c) else silent (record w { windows = put_to w.windows win (shown c) })).0.windows.entries ≡ w.windows.entries) [ true ↦ buffer_put_entries w win (shown c) | false ↦ entries_put w.windows win (shown c) ]
 
 pub stream_put_streams : (w : Scene) (s c : ℕ) → (stream_put w s c).0.streams ≡ (counted w s c).streams
 unfolding stream_put

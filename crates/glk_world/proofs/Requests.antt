@@ -1,9 +1,10 @@
--- One turn of the dropping of requests.
+-- One turn of the dropping of requests, and of texts.
 use Rattle.std.proofs.Common.{suc, ◌≡◌, ◌<◌, ◌≤◌, ◌+◌, ℕ, List, [], length, get_or, drop, drop-cons, refl, arith}
 use Rattle.std.proofs.lemmas.Grind.{common_steps}
 use Rattle.glk_events.specs.declared.requests.Request.{Request}
 use Rattle.glk_events.specs.Requests as requests
-use Rattle.glk_world.specs.Calls.{without_requests}
+use Rattle.glk_screen.specs.Texts.{FlatText, screen_gone}
+use Rattle.glk_world.specs.Calls.{without_requests, without_texts}
 
 pub drop_none : (all : List Request) (gone : List ℕ) (n : ℕ) → length gone ≤ n → without_requests all (drop n gone) ≡ all
 unfolding without_requests
@@ -13,4 +14,12 @@ pub drop_more : (all : List Request) (gone : List ℕ) (i d : ℕ) → i < lengt
 unfolding without_requests
 drop_more all gone i d within = let e : i + 1 ≡ suc i = omega arith in rw (e, drop-cons gone i d) refl
 
-pub ruleset turns = (drop_none, drop_more)
+pub texts_none : (texts : List FlatText) (gone : List ℕ) (n : ℕ) → length gone ≤ n → without_texts texts (drop n gone) ≡ texts
+unfolding without_texts
+texts_none texts gone n past = let none : drop n gone ≡ [] = grind (arith, common_steps) in rw none refl
+
+pub texts_more : (texts : List FlatText) (gone : List ℕ) (i d : ℕ) → i < length gone → without_texts (screen_gone texts (get_or gone i d)) (drop (i + 1) gone) ≡ without_texts texts (drop i gone)
+unfolding without_texts
+texts_more texts gone i d within = let e : i + 1 ≡ suc i = omega arith in rw (e, drop-cons gone i d) refl
+
+pub ruleset turns = (drop_none, drop_more, texts_none, texts_more)

@@ -11,6 +11,7 @@ use Rattle.glk_windows.specs.Windows.{can_add, last_given, entry_at}
 use Rattle.glk_windows.specs.Changes as windows
 use Rattle.glk_events.specs.declared.requests.Request.{Request}
 use Rattle.glk_events.specs.Requests as requests
+use Rattle.glk_screen.specs.Texts.{FlatText, screen_cleared, screen_gone}
 use Rattle.glk_world.specs.World.{Scene, reference_id}
 use Rattle.glk_world.specs.Putting.{leads_to}
 use Rattle.glk_world.specs.Constants.{last_identifier}
@@ -74,12 +75,17 @@ unfoldable pub without_requests : List Request → List ℕ → List Request
 without_requests all [] = all
 without_requests all (win ∷ gone) = without_requests (requests.removed all win) gone
 
+-- so are their texts
+unfoldable pub without_texts : List FlatText → List ℕ → List FlatText
+without_texts texts [] = texts
+without_texts texts (win ∷ gone) = without_texts (screen_gone texts win) gone
+
 -- the counts of a window's stream
 abbrev pub window_counts : Scene → ℕ → ℕ × ℕ
 window_counts w win =
     let s = streams.stream w.streams (entry_at w.windows.entries win).stream in (s.read, s.written)
 
--- A window is closed with all windows below it and their pair; their streams and requests go too.
+-- A window is closed with all windows below it and their pair; their streams, requests and texts go too.
 unfoldable pub without_window : Scene → ℕ → Scene
 without_window w win =
     let gone = windows.gone w.windows win in
@@ -88,6 +94,7 @@ without_window w win =
       windows = windows.closed w.windows win;
       streams = left;
       requests = without_requests w.requests gone;
+      screen = without_texts w.screen gone;
       current = unless_gone left w.current;
     }
 
@@ -95,7 +102,8 @@ unfoldable pub arranged : Scene → ℕ → ℕ → ℕ → ℕ → Scene
 arranged w win method size key = record w { windows = windows.arranged w.windows win method size key }
 
 unfoldable pub cleared : Scene → ℕ → Scene
-cleared w win = record w { windows = windows.cleared_in w.windows win }
+cleared w win =
+    record w { windows = windows.cleared_in w.windows win; screen = screen_cleared w.screen win }
 
 unfoldable pub moved : Scene → ℕ → ℕ → ℕ → Scene
 moved w win x y = record w { windows = windows.moved_in w.windows win x y }

@@ -1,5 +1,6 @@
 -- What contracts see of a world, and what holds of its fields.
 use Rattle.std.specs.Prelude.{string_bytes, Option, Some, None}
+use Rattle.std.specs.Option.{option_map}
 use Rattle.glk_objects.specs.Objects.{Rises, IsAbove}
 use Rattle.glk_streams.specs.Streams as streams
 use Rattle.glk_windows.specs.Windows.{IsNewId}
@@ -20,7 +21,10 @@ abbrev pub flat_of : Inside → FlatWorld
 flat_of w = record {
   scene = record {
     windows = w.windows;
+    view = w.view;
     shown = w.shown.items;
+    screen = w.screen;
+    last_screen = option_map string_bytes w.last_screen;
     streams = w.streams;
     references = w.references.items;
     requests = w.requests;

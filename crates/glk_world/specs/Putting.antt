@@ -9,7 +9,8 @@ use Rattle.glk_windows.specs.Constants.{text_buffer}
 use Rattle.glk_windows.specs.declared.entries.Entry.{Entry}
 use Rattle.glk_windows.specs.Windows.{entry_at}
 use Rattle.glk_windows.specs.Changes.{put_to}
-use Rattle.glk_world.specs.World.{Scene, Said, silent, then_said}
+use Rattle.glk_screen.specs.Texts.{screen_put}
+use Rattle.glk_world.specs.World.{Scene, Said, silent, then_said, is_composed}
 
 -- a character of the text, in UTF-8
 abbrev pub said_char : Scene → ℕ → Said
@@ -26,11 +27,16 @@ entry_of w stream = entry_at w.windows.entries (window_of w stream)
 abbrev pub is_text : Scene → ℕ → Bool
 is_text w stream = (entry_of w stream).kind == text_buffer
 
+-- A character comes to a text buffer: it is text, or has its place on the composed screen.
+unfoldable pub buffer_put : Scene → ℕ → ℕ → Said
+buffer_put w win c =
+    if is_composed w then silent (record w { screen = screen_put w.screen win c }) else said_char w c
+
 -- A character comes to a window as it is shown: a text buffer shows it, a grid has a place for it, and other
 -- windows drop it.
 unfoldable pub window_put : Scene → Entry → ℕ → ℕ → Said
 window_put w entry win c =
-    if entry.kind == text_buffer then said_char w (shown c) else
+    if entry.kind == text_buffer then buffer_put w win (shown c) else
     silent (record w { windows = put_to w.windows win (shown c) })
 
 -- a stream counts a character, and puts it where it belongs

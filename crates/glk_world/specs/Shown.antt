@@ -1,24 +1,20 @@
--- The text beside that of buffer windows: grids, prompts and lines that were taken.
-use Rattle.std.specs.Prelude.{ℕ, ◌+◌, ◌==◌, ◌&&◌, if◌then◌else◌, Bool, true, false, List, [], ◌∷◌, ◌++◌, length, map, take, codes}
+-- The text beside that of buffer windows: grids, prompts and lines that were taken; or the composed screen.
+use Rattle.std.specs.Prelude.{◌≢◌, ℕ, ◌+◌, ◌==◌, ◌&&◌, not, if◌then◌else◌, Bool, true, false, List, [], ◌∷◌, ◌++◌, length, map, take, codes, Option, Some, None}
 use Rattle.std.specs.Cmp.Lexicographic.{pointwise}
 use Rattle.std.specs.Str.{encode_utf8_all}
 use Rattle.glk_objects.specs.Objects as objects
 use Rattle.glk_text.specs.Constants.{line_feed}
 use Rattle.glk_text.specs.Characters.{shown}
 use Rattle.glk_windows.specs.declared.grid.Grid.{Grid}
-use Rattle.glk_windows.specs.Constants.{blank_cell}
+use Rattle.glk_screen.specs.Rows.{trimmed}
+use Rattle.glk_screen.specs.Screen.{composed}
 use Rattle.glk_world.specs.declared.grids.ShownGrid.{ShownGrid}
-use Rattle.glk_world.specs.World.{Scene, Said, silent, then_said}
+use Rattle.glk_world.specs.declared.views.View.{View}
+use Rattle.glk_world.specs.declared.views.View.TheVariants as view
+use Rattle.glk_world.specs.Constants.{prompt_selector}
+use Rattle.glk_world.specs.World.{Call, Scene, Said, silent, then_said, is_composed}
 
 -- ---- grids: rows without trailing blanks, without trailing empty rows
-
--- how many cells of a row are left then
-unfoldable pub kept : List ℕ → ℕ
-kept [] = 0
-kept (c ∷ cs) = if kept cs == 0 && c == blank_cell then 0 else kept cs + 1
-
-abbrev pub trimmed : List ℕ → List ℕ
-trimmed row = take (kept row) row
 
 -- how many rows are left
 unfoldable pub kept_rows : List (List ℕ) → ℕ
@@ -67,21 +63,74 @@ unfoldable pub said_grids : Scene → List ShownGrid → Said
 said_grids w [] = silent w
 said_grids w (grid ∷ grids) = then_said (said_grid w grid) (λ more. said_grids more grids)
 
--- The grids at a wait, in order of identifiers.
-unfoldable pub show_grids : Scene → Said
-show_grids w =
+-- the grids at a wait, in order of identifiers
+unfoldable pub show_rows : Scene → Said
+show_rows w =
     let grids = map shown_grid w.windows.grids in
     then_said (said_grids w grids) (λ more. silent (record more { shown = grids }))
 
--- ---- prompts and lines
+-- ---- the composed screen
+
+abbrev pub screen_of : Scene → List ℕ
+screen_of w = composed w.screen w.windows (w.windows.columns, w.windows.rows)
+
+abbrev pub prompt_words : List ℕ
+prompt_words = codes "File name: "
+
+-- a prompt for a file's name waits
+abbrev pub is_prompting : Option Call → Bool
+is_prompting None = false
+is_prompting (Some call) = call.selector == prompt_selector
+
+-- the screen at a wait, and behind it the words of a prompt that waits
+unfoldable pub show_screen : Scene → Said
+show_screen w =
+    (record w { last_screen = Some (screen_of w) }, screen_of w ++ (if is_prompting w.waiting then prompt_words else []))
+
+-- a screen is the one that was shown last
+abbrev pub is_last : Option (List ℕ) → List ℕ → Bool
+is_last None screen = false
+is_last (Some last) screen = pointwise (λ c d. c == d) last screen
+
+-- At the end of a run: the screen once more, where it differs from the one shown last.
+unfoldable pub end_text : Scene → Said
+end_text w =
+    if is_composed w && not (is_last w.last_screen (screen_of w))
+    then (record w { last_screen = Some (screen_of w) }, screen_of w)
+    else silent w
+
+-- ---- at a wait
+
+-- what is shown in each view
+abbrev pub shown_in : View → Scene → Said
+shown_in view.Rows w = show_rows w
+shown_in view.Plain w = silent w
+shown_in view.Screen w = show_screen w
+
+-- What is shown at a wait.
+unfoldable pub show_grids : Scene → Said
+show_grids w = shown_in w.view w
+
+-- where that may want memory
+abbrev pub WantsIn : View → List Grid → Type 0
+WantsIn view.Rows grids = grids ≢ []
+WantsIn view.Plain grids = ⊥
+WantsIn view.Screen grids = Unit {0}
+
+abbrev pub ShowWants : Scene → Type 0
+ShowWants w = WantsIn w.view w.windows.grids
+
+-- ---- prompts and lines: nothing stands beside the composed screen
 
 -- the words of a prompt for a file's name
 unfoldable pub show_prompt : Scene → Said
-show_prompt w = (record w { fresh = false }, codes "File name: ")
+show_prompt w = if is_composed w then silent w else (record w { fresh = false }, prompt_words)
 
 -- a line that was taken, as shown
 unfoldable pub show_line : Scene → List ℕ → Said
-show_line w line = (record w { fresh = true }, encode_utf8_all (map shown line) ++ line_feed ∷ [])
+show_line w line =
+    if is_composed w then silent w else
+    (record w { fresh = true }, encode_utf8_all (map shown line) ++ line_feed ∷ [])
 
 -- a line was taken: nothing was shown since then
 abbrev pub line_taken : Scene → Scene

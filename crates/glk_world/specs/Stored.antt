@@ -12,6 +12,10 @@ use Rattle.glk_windows.specs.Stored.{windows_code}
 use Rattle.glk_events.specs.declared.requests.Request.{Request}
 use Rattle.glk_world.specs.declared.references.FileReference.{FileReference}
 use Rattle.glk_world.specs.declared.grids.ShownGrid.{ShownGrid}
+use Rattle.glk_screen.specs.Texts.{FlatText}
+use Rattle.glk_screen.specs.Stored.{screen_code}
+use Rattle.glk_world.specs.declared.views.View.{View}
+use Rattle.glk_world.specs.declared.views.View.TheVariants as view
 use Rattle.glk_world.specs.World.{Call, Scene, FlatWorld}
 
 -- ---- streams
@@ -78,9 +82,25 @@ call_code =
 
 -- ---- the world
 
+abbrev pub view_number : View → ℕ
+view_number view.Rows = 0
+view_number view.Plain = 1
+view_number view.Screen = 2
+
+abbrev pub view_of : ℕ → View
+view_of n = if n == 0 then view.Rows else if n == 1 then view.Plain else view.Screen
+
+abbrev pub view_back : (v : View) → view_of (view_number v) ≡ v
+view_back view.Rows = refl
+view_back view.Plain = refl
+view_back view.Screen = refl
+
+abbrev pub view_code : Coded View
+view_code = code_by ℕ coded_ℕ view_number view_of view_back
+
 abbrev pub scene_code : Coded Scene
 scene_code =
-    code_by (FlatWindows × (List ShownGrid × (List Stream × (List FileReference × (List Request × (ℕ × (ℕ × (Bool × Option Call)))))))) (coded× windows_code (coded× (coded_list shown_code) (coded× (coded_list stream_code) (coded× (coded_list reference_code) (coded× (coded_list request_code) (coded× coded_ℕ (coded× coded_ℕ (coded× coded_bool (coded_option call_code))))))))) (λ w. (w.windows, (w.shown, (w.streams, (w.references, (w.requests, (w.current, (w.next_id, (w.fresh, w.waiting))))))))) (λ p. record { windows = p.0; shown = p.1.0; streams = p.1.1.0; references = p.1.1.1.0; requests = p.1.1.1.1.0; current = p.1.1.1.1.1.0; next_id = p.1.1.1.1.1.1.0; fresh = p.1.1.1.1.1.1.1.0; waiting = p.1.1.1.1.1.1.1.1 }) (λ _. refl)
+    code_by (FlatWindows × (View × (List ShownGrid × (List FlatText × (Option (List ℕ) × (List Stream × (List FileReference × (List Request × (ℕ × (ℕ × (Bool × Option Call))))))))))) (coded× windows_code (coded× view_code (coded× (coded_list shown_code) (coded× screen_code (coded× (coded_option (coded_list coded_ℕ)) (coded× (coded_list stream_code) (coded× (coded_list reference_code) (coded× (coded_list request_code) (coded× coded_ℕ (coded× coded_ℕ (coded× coded_bool (coded_option call_code)))))))))))) (λ w. (w.windows, (w.view, (w.shown, (w.screen, (w.last_screen, (w.streams, (w.references, (w.requests, (w.current, (w.next_id, (w.fresh, w.waiting)))))))))))) (λ p. record { windows = p.0; view = p.1.0; shown = p.1.1.0; screen = p.1.1.1.0; last_screen = p.1.1.1.1.0; streams = p.1.1.1.1.1.0; references = p.1.1.1.1.1.1.0; requests = p.1.1.1.1.1.1.1.0; current = p.1.1.1.1.1.1.1.1.0; next_id = p.1.1.1.1.1.1.1.1.1.0; fresh = p.1.1.1.1.1.1.1.1.1.1.0; waiting = p.1.1.1.1.1.1.1.1.1.1.1 }) (λ _. refl)
 
 abbrev pub world_code : Coded FlatWorld
 world_code =

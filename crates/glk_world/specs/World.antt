@@ -1,11 +1,14 @@
 -- The Glk world (Glk 0.7.5): all that its calls look at, and the text that is shown.
-use Rattle.std.specs.Prelude.{ℕ, List, [], ◌++◌, Bool, true, Option, None}
+use Rattle.std.specs.Prelude.{ℕ, List, [], ◌++◌, Bool, true, false, Option, None}
 use Rattle.glk_objects.specs.Objects as objects
 use Rattle.glk_streams.specs.declared.kinds.Stream.{Stream}
 use Rattle.glk_windows.specs.Windows.{FlatWindows, no_windows}
 use Rattle.glk_events.specs.declared.requests.Request.{Request}
+use Rattle.glk_screen.specs.Texts.{FlatText}
 use Rattle.glk_world.specs.declared.references.FileReference.{FileReference}
 use Rattle.glk_world.specs.declared.grids.ShownGrid.{ShownGrid}
+use Rattle.glk_world.specs.declared.views.View.{View}
+use Rattle.glk_world.specs.declared.views.View.TheVariants as view
 
 -- a Glk call that waits to go on: its selector and its arguments
 pub record Call : Type 0 where
@@ -15,7 +18,10 @@ pub record Call : Type 0 where
 -- What Glk calls look at. Objects of all classes take their identifiers from one sequence.
 pub record Scene : Type 0 where
   pub windows : FlatWindows  -- with their tree, their grids and the size of the screen
+  pub view : View  -- how the text is put together
   pub shown : List ShownGrid  -- the grids as they were shown last
+  pub screen : List FlatText  -- for the composed screen: the text of each buffer window
+  pub last_screen : Option (List ℕ)  -- the screen as it was shown last
   pub streams : List Stream
   pub references : List FileReference
   pub requests : List Request
@@ -45,11 +51,23 @@ silent w = (w, [])
 abbrev pub then_said : Said → (Scene → Said) → Said
 then_said first more = ((more first.0).0, first.1 ++ (more first.0).1)
 
+-- the screen is composed, and no text stands beside it
+abbrev pub is_composing : View → Bool
+is_composing view.Rows = false
+is_composing view.Plain = false
+is_composing view.Screen = true
+
+abbrev pub is_composed : Scene → Bool
+is_composed w = is_composing w.view
+
 -- the world before any call, on a screen of so many columns and rows
-abbrev pub empty_scene : ℕ → ℕ → Scene
-empty_scene columns rows = record {
+abbrev pub empty_scene : View → ℕ → ℕ → Scene
+empty_scene v columns rows = record {
   windows = no_windows columns rows;
+  view = v;
   shown = [];
+  screen = [];
+  last_screen = None;
   streams = [];
   references = [];
   requests = [];
@@ -59,8 +77,8 @@ empty_scene columns rows = record {
   waiting = None;
 }
 
-abbrev pub empty_world : ℕ → ℕ → FlatWorld
-empty_world columns rows = record { scene = empty_scene columns rows; text = [] }
+abbrev pub empty_world : View → ℕ → ℕ → FlatWorld
+empty_world v columns rows = record { scene = empty_scene v columns rows; text = [] }
 
 -- ---- file references
 

@@ -2,10 +2,12 @@
 ghost use Rattle.std.specs.Prelude.{◌≡◌, ◌≢◌, ◌≤◌, ◌==◌, [], length, map, take, IfOk, OnErr};
 ghost use Rattle.std.specs.Cmp.Lexicographic.{pointwise};
 ghost use Rattle.glk_objects.specs.Objects as objects;
-ghost use Rattle.glk_world.specs.Shown.{kept, trimmed, kept_rows, shown_rows, shown_grid, shown_id, no_grid, same_rows};
+ghost use Rattle.glk_screen.specs.Rows.{trimmed};
+ghost use Rattle.glk_world.specs.Shown.{kept_rows, shown_rows, shown_grid, shown_id, no_grid, same_rows};
 
 use glk_objects::{Object, first_place};
-use glk_windows::{BLANK, Grid, Rows};
+use glk_screen::kept;
+use glk_windows::{Grid, Rows};
 use gx_words::{Items, Numbers};
 use std::alloc::{AllocError, Global};
 
@@ -22,25 +24,6 @@ impl Object for ShownGrid {
 
     fn id(&self) -> u32 {
         self.id
-    }
-}
-
-/// How many cells of a row are left without its trailing blanks.
-#[tactic(auto, unfolding(crate::specs::Shown::kept))]
-fn kept(row: &[u32]) -> usize
-    ensures value { result ≡ kept row.now }
-    ensures within { result ≤ length row.now }
-{
-    match row {
-        [] => 0,
-        [c, rest @ ..] => {
-            let count = kept(rest);
-            if count == 0 && *c == BLANK {
-                0
-            } else {
-                count + 1
-            }
-        }
     }
 }
 

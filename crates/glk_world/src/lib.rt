@@ -4,7 +4,8 @@
 //! - `world` has all objects, the current stream, the call that waits, and the text that no one has sent yet.
 //! - `putting` puts characters to streams, their windows and their echo streams, and gets them.
 //! - `objects` opens, changes and closes windows, streams and file references.
-//! - `showing` adds to the text what stands in no buffer window: grids, prompts, lines that were taken.
+//! - `showing` adds to the text what stands in no buffer window: grids, prompts, lines that were taken; or the
+//!   composed screen. `views` says which.
 //! - `references`, `grids`, `identifiers`: a file reference, a grid as it was shown last, the last identifier.
 //!
 //! Contracts see a scene, which is all that a call looks at, and the text. Each call is its definition of
@@ -22,9 +23,11 @@ mod objects;
 mod putting;
 mod references;
 mod showing;
+mod views;
 mod world;
 
 pub use grids::ShownGrid;
 pub use identifiers::LAST_IDENTIFIER;
 pub use references::FileReference;
+pub use views::View;
 pub use world::{Waiting, World};

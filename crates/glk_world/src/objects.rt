@@ -10,12 +10,13 @@ ghost use Rattle.glk_windows.specs.Changes.{arranging_grows};
 ghost use Rattle.glk_events.specs.Requests as requests;
 ghost use Rattle.glk_world.specs.World.{after, silent, has_reference, reference_id};
 ghost use Rattle.glk_world.specs.Shown.{line_taken};
-ghost use Rattle.glk_world.specs.Calls.{is_identifier, new_id, with_reference, without_reference, can_open, opened_id, with_streams, window_stream, with_window, unless_gone, without_requests, window_counts, without_window, arranged, cleared, moved, with_stream, without_stream, sought};
+ghost use Rattle.glk_world.specs.Calls.{is_identifier, new_id, with_reference, without_reference, can_open, opened_id, with_streams, window_stream, with_window, unless_gone, without_requests, without_texts, window_counts, without_window, arranged, cleared, moved, with_stream, without_stream, sought};
 
 use crate::putting::entry_at;
 use crate::{FileReference, LAST_IDENTIFIER, World};
 use glk_events::{Request, Requests};
 use glk_objects::place;
+use glk_screen::Screen;
 use glk_streams::{StreamKind, Streams, WRITE};
 use glk_windows::Windows;
 use gx_words::Name;
@@ -93,6 +94,7 @@ impl World {
         let gone = or_none(&mut self.windows, self.alloc, removed)?;
         self.streams.remove_windows(gone.as_slice());
         drop_requests(&mut self.requests, gone.as_slice());
+        drop_texts(&mut self.screen, gone.as_slice());
         self.current = unless_gone(&self.streams, self.current);
         Ok(counts)
     }
@@ -108,12 +110,13 @@ impl World {
         or_none(&mut self.windows, self.alloc, changed)
     }
 
-    /// Clears a window's grid; nothing changes where it has none.
+    /// Clears a window's grid, or its text on the composed screen; nothing changes where it has none.
     #[tactic(auto, using(crate::proofs::Kept::windows_kept), unfolding(crate::specs::Calls::cleared))]
     pub fn clear_window(&mut self, win: u32)
         ensures { self.new ≡ after self.old (silent (cleared self.old.scene win)) }
     {
         self.windows.clear(win);
+        self.screen.clear(win);
     }
 
     /// Moves the cursor of a window's grid; nothing changes where it has none.
@@ -255,6 +258,16 @@ fn drop_requests(requests: &mut Requests, gone: &[u32])
 {
     for win in gone {
         requests.remove(*win);
+    }
+}
+
+/// Forgets the texts of windows that are gone.
+#[tactic(auto, using(crate::proofs::Requests::turns))]
+fn drop_texts(screen: &mut Screen, gone: &[u32])
+    ensures { screen.new ≡ without_texts screen.old gone.now }
+{
+    for win in gone {
+        screen.gone(*win);
     }
 }
 

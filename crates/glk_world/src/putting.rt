@@ -7,10 +7,10 @@ ghost use Rattle.glk_windows.specs.Windows as windows;
 ghost use Rattle.glk_windows.specs.Windows.{entry_at};
 ghost use Rattle.glk_windows.specs.Constants.{text_buffer};
 ghost use Rattle.glk_world.specs.World.{after, silent};
-ghost use Rattle.glk_world.specs.Putting.{said_char, entry_of, is_text, window_of, window_put, stream_put, stream_grows, echo_of, put_along, put_of, puts, is_plain_text, grows_along, put_grows, end_along, end_of, places_of, places_read, leads_along, leads_to};
+ghost use Rattle.glk_world.specs.Putting.{said_char, buffer_put, entry_of, is_text, window_of, window_put, stream_put, stream_grows, echo_of, put_along, put_of, puts, is_plain_text, grows_along, put_grows, end_along, end_of, places_of, places_read, leads_along, leads_to};
 ghost use Rattle.glk_world.specs.Calls.{got_from, passed, after_get, with_echo};
 
-use crate::World;
+use crate::{View, World};
 use glk_streams::Places;
 use glk_text::{LINE_FEED, show};
 use glk_windows::{Entry, TEXT_BUFFER, Windows};
@@ -62,10 +62,10 @@ impl World {
         ensures grows { OnErr result (IsTrue (put_grows self.old.scene stream c)) }
         ensures places { IsTrue (is_plain_text self.old.scene stream) → (count : ℕ) → (places_of self.old.scene stream count).count ≡ 0 }
     {
-        let Some(at) = self.find_text(stream) else {
+        let Some((at, win)) = self.find_text(stream) else {
             return Ok(false);
         };
-        self.put_found(at, stream, c)?;
+        self.put_found(at, win, stream, c)?;
         Ok(true)
     }
 
@@ -75,8 +75,8 @@ impl World {
         ensures ok { OnOk result (self.new ≡ after self.old (puts self.old.scene stream chars.now)) }
         ensures memory { OnErr result (chars.now ≢ []) }
     {
-        if let Some(at) = self.find_text(stream) {
-            return self.puts_found(at, stream, chars);
+        if let Some((at, win)) = self.find_text(stream) {
+            return self.puts_found(at, win, stream, chars);
         }
         for c in chars {
             self.put(stream, *c)?;
@@ -84,9 +84,10 @@ impl World {
         Ok(())
     }
 
-    /// Where the stream of a text buffer window stands that has no echo stream; None for any other stream.
-    fn find_text(&self, stream: u32) -> Option<usize>
-        ensures value { MatchOption result (is_plain_text self.now.scene stream ≡ false) (λ at. (is_plain_text self.now.scene stream ≡ true) × (at ≡ place streams.id_of self.now.scene.streams stream)) }
+    /// Where the stream of a text buffer window stands that has no echo stream, and the window; None for any other
+    /// stream.
+    fn find_text(&self, stream: u32) -> Option<(usize, u32)>
+        ensures value { MatchOption result (is_plain_text self.now.scene stream ≡ false) (λ found. (is_plain_text self.now.scene stream ≡ true) × (found.0 ≡ place streams.id_of self.now.scene.streams stream) × (found.1 ≡ window_of self.now.scene stream)) }
         ensures places { IsTrue (is_plain_text self.now.scene stream) → (count : ℕ) → (places_of self.now.scene stream count).count ≡ 0 }
     {
         let (at, win) = self.streams.find(stream)?;
@@ -95,35 +96,44 @@ impl World {
         }
         let entry = entry_at(&self.windows, win);
         if entry.kind == TEXT_BUFFER && entry.echo == 0 {
-            Some(at)
+            Some((at, win))
         } else {
             None
         }
     }
 
     /// Puts a character to such a stream.
-    fn put_found(&mut self, at: usize, stream: u32, c: u32) -> Result<(), AllocError>
+    fn put_found(&mut self, at: usize, win: u32, stream: u32, c: u32) -> Result<(), AllocError>
         requires text { IsTrue (is_plain_text self.old.scene stream) }
         requires place { at ≡ place streams.id_of self.old.scene.streams stream }
+        requires window { win ≡ window_of self.old.scene stream }
         ensures ok { OnOk result (self.new ≡ after self.old (put_of self.old.scene stream c)) }
         ensures memory { OnErr result (IsTrue (put_grows self.old.scene stream c)) }
         ensures text { OnOk result (IsTrue (is_plain_text self.new.scene stream)) }
         ensures place { OnOk result (at ≡ place streams.id_of self.new.scene.streams stream) }
+        ensures window { OnOk result (win ≡ window_of self.new.scene stream) }
     {
         self.streams.count(at, stream);
-        self.show(show(c))
+        self.buffer_put(win, show(c))
     }
 
     /// Puts characters to such a stream, one after another.
     #[tactic(auto, using(crate::proofs::Texts::puts_turns))]
-    fn puts_found(&mut self, at: usize, stream: u32, chars: &[u32]) -> Result<(), AllocError>
+    fn puts_found(
+        &mut self,
+        at: usize,
+        win: u32,
+        stream: u32,
+        chars: &[u32],
+    ) -> Result<(), AllocError>
         requires text { IsTrue (is_plain_text self.old.scene stream) }
         requires place { at ≡ place streams.id_of self.old.scene.streams stream }
+        requires window { win ≡ window_of self.old.scene stream }
         ensures ok { OnOk result (self.new ≡ after self.old (puts self.old.scene stream chars.now)) }
         ensures memory { OnErr result (chars.now ≢ []) }
     {
         for c in chars {
-            self.put_found(at, stream, *c)?;
+            self.put_found(at, win, stream, *c)?;
         }
         Ok(())
     }
@@ -206,15 +216,27 @@ impl World {
         ensures memory { OnErr result ((entry_at self.old.scene.windows.entries win).kind ≡ text_buffer) }
     {
         if entry_at(&self.windows, win).kind == TEXT_BUFFER {
-            self.show(show(c))
+            self.buffer_put(win, show(c))
         } else {
             self.windows.put(win, u32::from(show(c)));
             Ok(())
         }
     }
 
+    /// Puts a character to a text buffer window: to the text, or to the composed screen.
+    #[tactic(auto, using(crate::proofs::Texts::silences), unfolding(crate::specs::Putting::buffer_put))]
+    fn buffer_put(&mut self, win: u32, c: char) -> Result<(), AllocError>
+        ensures { OnOk result (self.new ≡ after self.old (buffer_put self.old.scene win c)) }
+    {
+        if self.view == View::Screen {
+            self.screen.put(win, u32::from(c))
+        } else {
+            self.show(c)
+        }
+    }
+
     /// Adds a character to the text.
-    pub(crate) fn show(&mut self, c: char) -> Result<(), AllocError>
+    fn show(&mut self, c: char) -> Result<(), AllocError>
         ensures { OnOk result (self.new ≡ after self.old (said_char self.old.scene c)) }
     {
         self.text.push(c)?;

@@ -1,27 +1,97 @@
-//! Text that stands in no buffer window: grids at a wait, prompts, and lines that were taken.
-ghost use Rattle.std.specs.Prelude.{◌≡◌, ◌≢◌, ◌++◌, ◌∷◌, [], map, string_bytes, OnErr, OnOk};
+//! Text that stands in no buffer window: grids at a wait, prompts, and lines that were taken; or the composed screen.
+ghost use Rattle.std.specs.Prelude.{◌≡◌, ◌≢◌, ◌++◌, ◌∷◌, [], map, string_bytes, IfOk, IsTrue, OnErr, OnOk};
+ghost use Rattle.std.specs.Option.{option_map};
 ghost use Rattle.std.specs.Str.{encode_utf8_all};
 ghost use Rattle.glk_text.specs.Characters.{shown};
-ghost use Rattle.glk_world.specs.World.{after};
-ghost use Rattle.glk_world.specs.Shown.{said_row, said_rows, said_grid, said_grids, show_grids, show_prompt, show_line};
+ghost use Rattle.glk_world.specs.World.{after, is_composed};
+ghost use Rattle.glk_world.specs.Shown.{said_row, said_rows, said_grid, said_grids, show_rows, screen_of, is_prompting, show_screen, is_last, end_text, show_grids, ShowWants, show_prompt, show_line};
 
 use crate::grids::{shown_grids, was_shown};
-use crate::{ShownGrid, World};
+use crate::{ShownGrid, View, World};
 use glk_text::show;
 use gx_words::Numbers;
 use std::alloc::AllocError;
 
+/// The selector of glk_fileref_create_by_prompt.
+pub(crate) const PROMPT_SELECTOR: u32 = 0x62;
+
+/// The words of a prompt for a file's name.
+const PROMPT_WORDS: &str = "File name: ";
+
 impl World {
-    /// Shows at a wait, in order of identifiers, each grid that differs from what was shown of it last: its rows
-    /// that aren't blank, each behind a bar on a line of its own.
+    /// Shows at a wait what the view shows then: the rows of grids that changed, nothing, or the whole screen.
     #[tactic(auto, unfolding(crate::specs::Shown::show_grids))]
     pub fn show_grids(&mut self) -> Result<(), AllocError>
         ensures ok { OnOk result (self.new ≡ after self.old (show_grids self.old.scene)) }
+        ensures memory { OnErr result (ShowWants self.old.scene) }
+    {
+        match self.view {
+            View::Rows => self.show_rows(),
+            View::Plain => Ok(()),
+            View::Screen => self.show_screen(),
+        }
+    }
+
+    /// Shows, in order of identifiers, each grid that differs from what was shown of it last: its rows that aren't
+    /// blank, each behind a bar on a line of its own.
+    #[tactic(auto, unfolding(crate::specs::Shown::show_rows))]
+    fn show_rows(&mut self) -> Result<(), AllocError>
+        ensures ok { OnOk result (self.new ≡ after self.old (show_rows self.old.scene)) }
         ensures memory { OnErr result (self.old.scene.windows.grids ≢ []) }
     {
         let grids = shown_grids(self.alloc, self.windows.grids())?;
         self.say_grids(&grids)?;
         self.shown = grids;
+        Ok(())
+    }
+
+    /// The composed screen.
+    fn compose(&self) -> Result<String, AllocError>
+        ensures { IfOk result (λ screen. string_bytes screen ≡ screen_of self.now.scene) }
+    {
+        let (columns, rows) = self.windows.size();
+        self.screen
+            .compose(self.alloc, &self.windows, columns, rows)
+    }
+
+    /// Shows the composed screen, and behind it the words of a prompt that waits.
+    #[tactic(auto, unfolding(crate::specs::Shown::show_screen))]
+    fn show_screen(&mut self) -> Result<(), AllocError>
+        ensures { OnOk result (self.new ≡ after self.old (show_screen self.old.scene)) }
+    {
+        let screen = self.compose()?;
+        self.text.push_str(&screen)?;
+        if self.is_prompting() {
+            self.text.push_str(PROMPT_WORDS)?;
+        }
+        self.last_screen = Some(screen);
+        Ok(())
+    }
+
+    /// Whether a prompt for a file's name waits.
+    fn is_prompting(&self) -> bool
+        ensures { result ≡ is_prompting self.now.scene.waiting }
+    {
+        match &self.waiting {
+            Some(call) => call.selector == PROMPT_SELECTOR,
+            None => false,
+        }
+    }
+
+    /// At the end of a run: shows the composed screen once more, where it differs from the one shown last.
+    #[tactic(auto, using(crate::proofs::Texts::silences), unfolding(crate::specs::Shown::end_text))]
+    pub fn end_text(&mut self) -> Result<(), AllocError>
+        ensures ok { OnOk result (self.new ≡ after self.old (end_text self.old.scene)) }
+        ensures memory { OnErr result (IsTrue (is_composed self.old.scene)) }
+    {
+        if self.view != View::Screen {
+            return Ok(());
+        }
+        let screen = self.compose()?;
+        if !is_last(&self.last_screen, &screen) {
+            self.text.push_str(&screen)?;
+            self.last_screen = Some(screen);
+        }
         Ok(())
     }
 
@@ -76,24 +146,40 @@ impl World {
         Ok(())
     }
 
-    /// Shows the words of a prompt for a file's name.
-    #[tactic(auto, unfolding(crate::specs::Shown::show_prompt))]
+    /// Shows the words of a prompt for a file's name. On the composed screen they come at the wait.
+    #[tactic(auto, using(crate::proofs::Texts::silences), unfolding(crate::specs::Shown::show_prompt))]
     pub fn show_prompt(&mut self) -> Result<(), AllocError>
         ensures { OnOk result (self.new ≡ after self.old (show_prompt self.old.scene)) }
     {
-        self.text.push_str("File name: ")?;
+        if self.view == View::Screen {
+            return Ok(());
+        }
+        self.text.push_str(PROMPT_WORDS)?;
         self.fresh = false;
         Ok(())
     }
 
-    /// Shows a line that was taken.
-    #[tactic(auto, unfolding(crate::specs::Shown::show_line))]
+    /// Shows a line that was taken, unless the screen is composed.
+    #[tactic(auto, using(crate::proofs::Texts::silences), unfolding(crate::specs::Shown::show_line))]
     pub fn show_line(&mut self, line: &Numbers) -> Result<(), AllocError>
         ensures { OnOk result (self.new ≡ after self.old (show_line self.old.scene line.now)) }
     {
+        if self.view == View::Screen {
+            return Ok(());
+        }
         push_line(&mut self.text, line.as_slice())?;
         self.fresh = true;
         Ok(())
+    }
+}
+
+/// Whether a screen is the one that was shown last.
+fn is_last(last: &Option<String>, screen: &str) -> bool
+    ensures { result ≡ is_last (option_map string_bytes last.now) screen.now }
+{
+    match last {
+        Some(last) => last.as_str() == screen,
+        None => false,
     }
 }
 

@@ -1,13 +1,15 @@
 //! The world of a run, and what can be looked at.
-ghost use Rattle.std.specs.Prelude.{◌≡◌, ◌≤◌, [], IfOk, MatchOption, None, true, false};
+ghost use Rattle.std.specs.Prelude.{◌≡◌, ◌≢◌, ◌≤◌, [], IfOk, OnErr, MatchOption, None, true, false};
 ghost use Rattle.glk_streams.specs.Streams as streams;
+ghost use Rattle.glk_world.specs.declared.views.View.TheVariants as view;
 ghost use Rattle.glk_world.specs.World.{after, silent, empty_world, has_reference, reference_at, next_reference};
 ghost use Rattle.glk_world.specs.Kept.{call_of, waiting_of};
 
-use crate::{FileReference, ShownGrid};
+use crate::{FileReference, ShownGrid, View};
 use arrayvec::ArrayVec;
 use glk_events::Requests;
 use glk_objects::{next, place};
+use glk_screen::Screen;
 use glk_streams::Streams;
 use glk_windows::Windows;
 use gx_words::{Numbers, Writes};
@@ -26,7 +28,12 @@ pub struct Waiting {
 pub struct World {
     pub(crate) alloc: Global,
     pub(crate) windows: Windows,
+    pub(crate) view: View,
+    /// The grids as they were shown last, behind a bar.
     pub(crate) shown: Vec<ShownGrid>,
+    /// The texts of buffer windows, where the screen is composed.
+    pub(crate) screen: Screen,
+    pub(crate) last_screen: Option<String>,
     pub(crate) streams: Streams,
     pub(crate) references: Vec<FileReference>,
     pub(crate) requests: Requests,
@@ -53,16 +60,46 @@ impl Model for World {
 }
 
 impl World {
-    /// An empty world on a screen of so many columns and rows, each from 1 to 255.
+    /// An empty world on a screen of so many columns and rows, each from 1 to 255. Rows of grids are shown
+    /// behind a bar.
     pub fn new(alloc: Global, columns: u32, rows: u32) -> World
         requires columns { (1 ≤ columns) × (columns ≤ 255) }
         requires rows { (1 ≤ rows) × (rows ≤ 255) }
-        ensures { result ≡ empty_world columns rows }
+        ensures { result ≡ empty_world view.Rows columns rows }
+    {
+        World::viewed(alloc, View::Rows, columns, rows)
+    }
+
+    /// The same, where grids are shown nowhere.
+    pub fn plain(alloc: Global, columns: u32, rows: u32) -> World
+        requires columns { (1 ≤ columns) × (columns ≤ 255) }
+        requires rows { (1 ≤ rows) × (rows ≤ 255) }
+        ensures { result ≡ empty_world view.Plain columns rows }
+    {
+        World::viewed(alloc, View::Plain, columns, rows)
+    }
+
+    /// The same, where the whole screen is shown at each wait.
+    pub fn screened(alloc: Global, columns: u32, rows: u32) -> World
+        requires columns { (1 ≤ columns) × (columns ≤ 255) }
+        requires rows { (1 ≤ rows) × (rows ≤ 255) }
+        ensures { result ≡ empty_world view.Screen columns rows }
+    {
+        World::viewed(alloc, View::Screen, columns, rows)
+    }
+
+    fn viewed(alloc: Global, view: View, columns: u32, rows: u32) -> World
+        requires columns { (1 ≤ columns) × (columns ≤ 255) }
+        requires rows { (1 ≤ rows) × (rows ≤ 255) }
+        ensures { result ≡ empty_world view columns rows }
     {
         World {
             alloc,
             windows: Windows::new(alloc, columns, rows),
+            view,
             shown: Vec::new(alloc),
+            screen: Screen::new(alloc),
+            last_screen: None,
             streams: Streams::new(alloc),
             references: Vec::new(alloc),
             requests: Requests::new(alloc),
@@ -190,7 +227,8 @@ impl World {
 
     /// The streams that have to be stored at the end: files that are open for writing.
     pub fn open_files(&self, alloc: Global) -> Result<Numbers, AllocError>
-        ensures { IfOk result (λ ids. ids ≡ streams.open_files self.now.scene.streams) }
+        ensures value { IfOk result (λ ids. ids ≡ streams.open_files self.now.scene.streams) }
+        ensures memory { OnErr result (streams.open_files self.now.scene.streams ≢ []) }
     {
         self.streams.open_files(alloc)
     }

@@ -1,5 +1,5 @@
--- THE TEXT OF A CODE, or why it has none. The first bad instruction decides, and in it the first of its parts: number, modes,
--- data.
+-- THE TEXT OF A CODE, or why it has none. The first bad instruction decides, and in it the first of its parts: number,
+-- modes, data.
 use Rattle.std.specs.Prelude.{ℕ, zero, suc, ◌+◌, ◌/◌, ◌%◌, ◌==◌, ◌&&◌, ◌||◌, nat_lt, if◌then◌else◌, Bool, false, List, [], ◌∷◌, ◌++◌, length, take, drop, Result, Ok, Err}
 use Rattle.std.specs.Option.{ok_or}
 use Rattle.gx_words.specs.Results.{◌>>=◌}
@@ -67,8 +67,8 @@ instruction_at at code = do
 abbrev pub is_end : Written → Bool
 is_end w = number_of w == numbers.quit || number_of w == numbers.return
 
--- The text of the instructions from a place on: of all of them, or up to the first that ends, which has to be there. `fuel` is
--- no smaller than their length.
+-- The text of the instructions from a place on: of all of them, or up to the first that ends, which has to be there.
+-- `fuel` is no smaller than their length.
 unfoldable pub text_from : ℕ → Bool → ℕ → List ℕ → Result (List ℕ) ListFault
 text_from fuel ends at [] = if ends then Err (of_code.Cut at) else Ok []
 text_from zero ends at (b ∷ rest) = Ok []

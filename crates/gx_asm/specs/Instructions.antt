@@ -1,10 +1,10 @@
--- AN INSTRUCTION AS IT IS WRITTEN, in a text and in bytes (Glulx 3.1.2, "Instruction Format"), and what it means that a text
--- spells a code.
+-- AN INSTRUCTION AS IT IS WRITTEN, in a text and in bytes (Glulx 3.1.2, "Instruction Format"), and what it means that a
+-- text spells a code.
 --
--- In a text an instruction is a line: its name, then each operand behind one blank, and a line feed. An operand is `z` for a
--- constant zero, `sp` for the top of the stack, or a sign and its data in hexadecimal digits: # for a constant, @ for an
--- address, % for a local, ! for a RAM address. In bytes it is its number in the shortest form, the modes of its operands,
--- two in a byte with the low nibble first and a spare nibble 0, and their data.
+-- In a text an instruction is a line: its name, then each operand behind one blank, and a line feed. An operand is `z`
+-- for a constant zero, `sp` for the top of the stack, or a sign and its data in hexadecimal digits: # for a constant, @
+-- for an address, % for a local, ! for a RAM address. In bytes it is its number in the shortest form, the modes of its
+-- operands, two in a byte with the low nibble first and a spare nibble 0, and their data.
 use Rattle.std.specs.Prelude.{◌≡◌, ℕ, ◌+◌, ◌*◌, ◌/◌, ◌%◌, ◌<◌, ◌==◌, nat_lt, if◌then◌else◌, Bool, true, false, List, [], ◌∷◌, ◌++◌, length, map, take, drop, codes, All}
 use Rattle.std.specs.List.{flat_map}
 use Rattle.gx_rows.specs.declared.instructions.Row.{Row}

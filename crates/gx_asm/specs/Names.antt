@@ -1,5 +1,5 @@
--- The names of the instructions, in the order of their table (Glulx 3.1.2, "Dictionary of Opcodes"), each behind the number
--- of its instruction.
+-- The names of the instructions, in the order of their table (Glulx 3.1.2, "Dictionary of Opcodes"), each behind the
+-- number of its instruction.
 use Rattle.std.specs.Prelude.{ℕ, nat_lt, if◌then◌else◌, List, [], ◌∷◌, map, codes, get_or, Option, Some, None}
 use Rattle.std.specs.List.{position_or_len}
 use Rattle.std.specs.Str.{bytes_eq}

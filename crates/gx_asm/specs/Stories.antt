@@ -26,7 +26,8 @@ abbrev pub longer : Option ℕ → Option ℕ
 longer None = None
 longer (Some len) = Some (len + 2)
 
--- How long a locals format is, which has at most so many pairs of a type and a count before its ending pair, whose type is 0.
+-- How long a locals format is, which has at most so many pairs of a type and a count before its ending pair, whose type
+-- is 0.
 unfoldable pub format_len : ℕ → List ℕ → Option ℕ
 format_len left [] = None
 format_len left (t ∷ []) = None
@@ -34,7 +35,8 @@ format_len zero (t ∷ n ∷ rest) = if t == 0 then Some 2 else None
 format_len (suc left) (t ∷ n ∷ rest) =
     if t == 0 then Some 2 else if is_type t then longer (format_len left rest) else None
 
--- a function's first instruction is behind its type and its locals format, of at most 64 pairs, which the standard leaves open
+-- a function's first instruction is behind its type and its locals format, of at most 64 pairs, which the standard
+-- leaves open
 abbrev pub head_len : List ℕ → Option ℕ
 head_len [] = None
 head_len (kind ∷ format) = if is_function kind then format_len 64 format else None

@@ -5,12 +5,12 @@
 //! - `quick` reads and does the commonest instructions in one go, by the same definitions.
 //! - `engine` has the trait that a session runs on.
 //!
-//! `Machine::step` is `stepped` of specs/Step for every machine, word and budget: each fault comes
-//! exactly where the definition has it, an asking leaves the state as it is, and the budget is lowered
-//! by the cost, but not after a fault. Want of memory comes only where the definition has no fault, the
-//! budget has the cost and the step writes, resizes or copies memory, and then everything is as before the step. A session makes
-//! its steps by `advance`, as many as ask nothing and then one more, and by `next_put`, where a character
-//! of a string or number is next: their contracts are steps of the same definition.
+//! `Machine::step` is `stepped` of specs/Step for every machine, word and budget: each fault comes exactly where the
+//! definition has it, an asking leaves the state as it is, and the budget is lowered by the cost, but not after a
+//! fault. Want of memory comes only where the definition has no fault, the budget has the cost and the step writes,
+//! resizes or copies memory, and then everything is as before the step. A session makes its steps by `advance`, as many
+//! as ask nothing and then one more, and by `next_put`, where a character of a string or number is next: their
+//! contracts are steps of the same definition.
 //!
 //! What a step asks is answered by `finish`, by definitions of specs/Answer. A save is answered once the copy that
 //! `save_copy` gives was written, and a restore has `restore_copy` go back to a copy, or is answered where it fails

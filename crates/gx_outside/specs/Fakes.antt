@@ -24,9 +24,9 @@ no_calls fails = record { fails = fails; counts = no_call }
 abbrev pub fails_next : HeldCalls → Bool
 fails_next c = list_any (λ n. n == raised c.counts.made) c.fails
 
--- one more call was made
-abbrev pub after_call : HeldCalls → HeldCalls
-after_call c = record c { counts = counted c.counts (fails_next c) }
+-- one more call was made, and wanted memory or didn't
+abbrev pub after_call : HeldCalls → Bool → HeldCalls
+after_call c wanted = record c { counts = counted c.counts (fails_next c) wanted }
 
 -- a sink in memory: the bytes that it has taken
 pub record HeldSink : Type 0 where
@@ -51,9 +51,10 @@ pub record HeldShelf : Type 0 where
 -- The three that follow are of no account to a reader: a proof tells values apart by their codes.
 abbrev calls_code : Coded HeldCalls
 calls_code =
-    code_by (List ℕ × (ℕ × (ℕ × Bool))) (coded× (coded_list coded_ℕ) (coded× coded_ℕ (coded× coded_ℕ coded_bool)))
-    (λ c. (c.fails, (c.counts.made, (c.counts.faults, c.counts.failing))))
-    (λ p. record { fails = p.0; counts = record { made = p.1.0; faults = p.1.1.0; failing = p.1.1.1 } })
+    code_by (List ℕ × (ℕ × (ℕ × (Bool × Bool))))
+    (coded× (coded_list coded_ℕ) (coded× coded_ℕ (coded× coded_ℕ (coded× coded_bool coded_bool))))
+    (λ c. (c.fails, (c.counts.made, (c.counts.faults, (c.counts.failing, c.counts.wanting)))))
+    (λ p. record { fails = p.0; counts = record { made = p.1.0; faults = p.1.1.0; failing = p.1.1.1.0; wanting = p.1.1.1.1 } })
     (λ _. refl)
 
 abbrev files_code : Coded FilesByName

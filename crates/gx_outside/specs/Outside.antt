@@ -29,7 +29,7 @@ pub record FlatShelf : Type 0 where
 
 -- the counts before the first call
 abbrev pub no_call : Calls
-no_call = record { made = 0; faults = 0; failing = false }
+no_call = record { made = 0; faults = 0; failing = false; wanting = false }
 
 -- a count one higher, which stands still at 2^64 - 1
 abbrev pub raised : ℕ → ℕ
@@ -40,18 +40,20 @@ abbrev pub raised_by : ℕ → ℕ → ℕ
 raised_by zero count = count
 raised_by (suc n) count = raised (raised_by n count)
 
--- the counts after one more call, which failed or not
-abbrev pub counted : Calls → Bool → Calls
-counted c failed = record { made = raised c.made; faults = if failed then raised c.faults else c.faults; failing = failed }
+-- the counts after one more call, which failed or not, and wanted memory or not
+abbrev pub counted : Calls → Bool → Bool → Calls
+counted c failed wanted =
+    record { made = raised c.made; faults = if failed then raised c.faults else c.faults; failing = failed; wanting = wanted }
 
 -- One more call was made. The failures rose by it where it failed, and stand where it didn't; the device knows
--- whether it failed.
-pub record HasCause (before now : Calls) (failed : Bool) : Type 0 where
+-- whether it failed, and whether it wanted memory.
+pub record HasCause (before now : Calls) (failed wanted : Bool) : Type 0 where
   pub made : now.made ≡ raised before.made
   pub later : before.faults ≤ now.faults
   pub rose : failed ≡ true → now.faults ≡ raised before.faults
   pub kept : failed ≡ false → now.faults ≡ before.faults
   pub last : now.failing ≡ failed
+  pub want : now.wanting ≡ wanted
 
 -- whether a call of a sink or a shelf failed; want of memory is no failure of the device
 abbrev pub send_failed : {T : Type 0} → Result T SendFault → Bool
@@ -63,6 +65,17 @@ abbrev pub shelf_failed : {T : Type 0} → Result T ShelfFault → Bool
 shelf_failed (Ok x) = false
 shelf_failed (Err of_shelf.Failed) = true
 shelf_failed (Err of_shelf.NoMemory) = false
+
+-- whether memory ran out in a call of a sink or a shelf
+abbrev pub send_wanted : {T : Type 0} → Result T SendFault → Bool
+send_wanted (Ok x) = false
+send_wanted (Err of_send.Failed) = false
+send_wanted (Err of_send.NoMemory) = true
+
+abbrev pub shelf_wanted : {T : Type 0} → Result T ShelfFault → Bool
+shelf_wanted (Ok x) = false
+shelf_wanted (Err of_shelf.Failed) = false
+shelf_wanted (Err of_shelf.NoMemory) = true
 
 -- A front of the slice is what was next. Nothing in a slice that isn't empty says that nothing is left.
 pub record TakesFront (before after into : List ℕ) (count : ℕ) : Type 0 where

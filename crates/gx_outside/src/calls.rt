@@ -1,4 +1,4 @@
-//! How often a device was called, and how often it failed.
+//! How often a device was called, how often it failed, and whether memory ran out in the last call.
 ghost use Rattle.std.specs.Prelude.{◌≡◌};
 ghost use Rattle.gx_outside.specs.Outside.{HasCause, no_call, counted};
 
@@ -11,6 +11,8 @@ pub struct Calls {
     pub faults: u64,
     /// Whether the last one failed.
     pub failing: bool,
+    /// Whether memory ran out in the last one.
+    pub wanting: bool,
 }
 
 impl Calls {
@@ -22,16 +24,18 @@ impl Calls {
             made: 0,
             faults: 0,
             failing: false,
+            wanting: false,
         }
     }
 
-    /// Notes one more call, and whether it failed.
-    pub fn note(&mut self, failed: bool)
-        ensures after { self.new ≡ counted self.old failed }
-        ensures cause { HasCause self.old self.new failed }
+    /// Notes one more call, whether it failed, and whether memory ran out in it.
+    pub fn note(&mut self, failed: bool, wanted: bool)
+        ensures after { self.new ≡ counted self.old failed wanted }
+        ensures cause { HasCause self.old self.new failed wanted }
     {
         self.made = self.made.saturating_add(1);
         self.failing = failed;
+        self.wanting = wanted;
         if failed {
             self.faults = self.faults.saturating_add(1);
         }

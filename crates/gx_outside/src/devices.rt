@@ -3,14 +3,15 @@
 //! Contracts see each device as a record: its counts, whether it tells what it holds, and, where it
 //! tells, what that is. Each call raises the count of calls by one. The count of failures rises by
 //! one where the call answers `Failed`, and stands where it doesn't, so that a device which isn't
-//! blamed didn't fail; a count at 2^64 - 1, which no run reaches, stands still. A device that tells
-//! goes on telling, whatever it answers, and one that doesn't never begins to.
+//! blamed didn't fail; a count at 2^64 - 1, which no run reaches, stands still. The counts also tell
+//! whether the last call failed, and whether memory ran out in it. A device that tells goes on
+//! telling, whatever it answers, and one that doesn't never begins to.
 //!
 //! Want of memory, which is no failure of the device, may come at any call that has an answer for
 //! it; at `load` it comes only where there are bytes to be handed out.
-ghost use Rattle.std.specs.Prelude.{◌≡◌, ◌≤◌, true, length, is_err, is_some, IfOk, IsErrOf, IsSomeAnd, OnOk};
+ghost use Rattle.std.specs.Prelude.{◌≡◌, ◌≤◌, false, true, length, is_err, is_some, IfOk, IsErrOf, IsSomeAnd, OnOk};
 ghost use Rattle.gx_outside.specs.Files.{with_file};
-ghost use Rattle.gx_outside.specs.Outside.{FlatSource, FlatSink, FlatShelf, HasCause, ReadGives, Sends, Loads, IsBounded, KeepsOthers, send_failed, shelf_failed};
+ghost use Rattle.gx_outside.specs.Outside.{FlatSource, FlatSink, FlatShelf, HasCause, ReadGives, Sends, Loads, IsBounded, KeepsOthers, send_failed, send_wanted, shelf_failed, shelf_wanted};
 
 use gx_words::Bytes;
 use std::alloc::{AllocError, AllocFailed};
@@ -83,7 +84,7 @@ pub trait Source {
     /// 0 for a slice that isn't empty means that nothing is left.
     fn read(&mut self, into: &mut [u8]) -> Result<usize, Failed>
         ensures bound { IfOk result (λ count. count ≤ length into.old) }
-        ensures cause { HasCause (seen self.old).calls (seen self.new).calls (is_err result) }
+        ensures cause { HasCause (seen self.old).calls (seen self.new).calls (is_err result) false }
         ensures tells { (seen self.new).tells ≡ (seen self.old).tells }
         ensures bytes { (seen self.old).tells ≡ true
             → ReadGives (seen self.old).left (seen self.new).left into.new result };
@@ -95,7 +96,7 @@ pub trait Sink {
 
     /// Adds all the bytes; after a refusal it has added a front of them, none or all of them too.
     fn send(&mut self, bytes: &[u8]) -> Result<(), SendFault>
-        ensures cause { HasCause (seen self.old).calls (seen self.new).calls (send_failed result) }
+        ensures cause { HasCause (seen self.old).calls (seen self.new).calls (send_failed result) (send_wanted result) }
         ensures tells { (seen self.new).tells ≡ (seen self.old).tells }
         ensures bytes { Sends (seen self.old).tells (seen self.old).taken (seen self.new).taken bytes.now result };
 }
@@ -106,7 +107,7 @@ pub trait Shelf {
 
     /// The file of a name, if it has at most `most` bytes. No file changes.
     fn load(&mut self, name: &str, most: usize) -> Result<Load, ShelfFault>
-        ensures cause { HasCause (seen self.old).calls (seen self.new).calls (shelf_failed result) }
+        ensures cause { HasCause (seen self.old).calls (seen self.new).calls (shelf_failed result) (shelf_wanted result) }
         ensures tells { (seen self.new).tells ≡ (seen self.old).tells }
         ensures bound { IfOk result (IsBounded most) }
         ensures found { (seen self.old).tells ≡ true → IfOk result (Loads ((seen self.old).files name.now) most) }
@@ -117,7 +118,7 @@ pub trait Shelf {
     /// Makes the name hold the bytes. After a refusal the file of this one name is open: it may
     /// be the old one, the new one, a part of the new one, or gone.
     fn store(&mut self, name: &str, bytes: &[u8]) -> Result<(), ShelfFault>
-        ensures cause { HasCause (seen self.old).calls (seen self.new).calls (shelf_failed result) }
+        ensures cause { HasCause (seen self.old).calls (seen self.new).calls (shelf_failed result) (shelf_wanted result) }
         ensures tells { (seen self.new).tells ≡ (seen self.old).tells }
         ensures stored { (seen self.old).tells ≡ true
             → OnOk result ((seen self.new).files ≡ with_file (seen self.old).files name.now (Some bytes.now)) }
@@ -126,7 +127,7 @@ pub trait Shelf {
     /// Removes the file of a name, and answers whether there was one. After a refusal the file of
     /// this one name is open.
     fn remove(&mut self, name: &str) -> Result<bool, ShelfFault>
-        ensures cause { HasCause (seen self.old).calls (seen self.new).calls (shelf_failed result) }
+        ensures cause { HasCause (seen self.old).calls (seen self.new).calls (shelf_failed result) (shelf_wanted result) }
         ensures tells { (seen self.new).tells ≡ (seen self.old).tells }
         ensures was { (seen self.old).tells ≡ true → IfOk result (λ was. was ≡ is_some ((seen self.old).files name.now)) }
         ensures removed { (seen self.old).tells ≡ true
@@ -135,7 +136,7 @@ pub trait Shelf {
 
     /// Whether the name has a file. No file changes.
     fn has(&mut self, name: &str) -> Result<bool, ShelfFault>
-        ensures cause { HasCause (seen self.old).calls (seen self.new).calls (shelf_failed result) }
+        ensures cause { HasCause (seen self.old).calls (seen self.new).calls (shelf_failed result) (shelf_wanted result) }
         ensures tells { (seen self.new).tells ≡ (seen self.old).tells }
         ensures was { (seen self.old).tells ≡ true → IfOk result (λ was. was ≡ is_some ((seen self.old).files name.now)) }
         ensures same { (seen self.new).files ≡ (seen self.old).files };

@@ -1,10 +1,10 @@
 //! A shelf in memory.
-ghost use Rattle.std.specs.Prelude.{◌≡◌, ◌≤◌, true, length, is_err, is_some, IfOk, IsErrOf, IsSomeAnd, OnOk, OnErr};
+ghost use Rattle.std.specs.Prelude.{◌≡◌, ◌≤◌, false, true, length, is_err, is_some, IfOk, IsErrOf, IsSomeAnd, OnOk, OnErr};
 ghost use Rattle.std.specs.Option.{option_copied};
 ghost use Rattle.std.specs.FinMap.{empty, insert, remove};
 ghost use Rattle.gx_outside.specs.Files.{with_file, no_files};
 ghost use Rattle.gx_outside.specs.Fakes.{no_calls, fails_next, after_call, seen_shelf, files_of};
-ghost use Rattle.gx_outside.specs.Outside.{HasCause, Loads, IsBounded, KeepsOthers, shelf_failed};
+ghost use Rattle.gx_outside.specs.Outside.{HasCause, Loads, IsBounded, KeepsOthers, shelf_failed, shelf_wanted};
 
 use crate::numbered::NumberedCalls;
 use crate::{Load, Shelf, ShelfFault};
@@ -69,6 +69,20 @@ impl MemShelf {
         }
     }
 
+    /// The file of a name, if it has at most `most` bytes.
+    fn find(&self, name: &str, most: usize) -> Result<Load, AllocError>
+        ensures bound { IfOk result (IsBounded most) }
+        ensures found { IfOk result (Loads (files_of self.now.files name.now) most) }
+        ensures memory { OnErr result
+            (IsSomeAnd (files_of self.now.files name.now) (λ bytes. length bytes ≤ most)) }
+    {
+        match self.get(name) {
+            None => Ok(Load::Missing),
+            Some(bytes) if bytes.len() > most => Ok(Load::TooLong),
+            Some(bytes) => Ok(Load::Found(Bytes::from_slice(self.alloc, bytes)?)),
+        }
+    }
+
     /// Takes the file of a name away, and says whether there was one.
     fn take_away(&mut self, name: &str) -> bool
         ensures was { result ≡ is_some (files_of self.old.files name.now) }
@@ -84,9 +98,9 @@ impl Shelf for MemShelf {
 
     fn load(&mut self, name: &str, most: usize) -> Result<Load, ShelfFault>
         ensures fails { shelf_failed result ≡ fails_next self.old.calls }
-        ensures calls { self.new ≡ record self.old { calls = after_call self.old.calls } }
+        ensures calls { self.new ≡ record self.old { calls = after_call self.old.calls (shelf_wanted result) } }
         ensures bound { IfOk result (IsBounded most) }
-        ensures cause { HasCause self.old.calls.counts self.new.calls.counts (shelf_failed result) }
+        ensures cause { HasCause self.old.calls.counts self.new.calls.counts (shelf_failed result) (shelf_wanted result) }
         ensures found { IfOk result (Loads (files_of self.old.files name.now) most) }
         ensures memory { IsErrOf result ShelfFault.NoMemory
             → IsSomeAnd (files_of self.old.files name.now) (λ bytes. length bytes ≤ most) }
@@ -94,20 +108,18 @@ impl Shelf for MemShelf {
         if self.calls.begin() {
             return Err(ShelfFault::Failed);
         }
-        match self.get(name) {
-            None => Ok(Load::Missing),
-            Some(bytes) if bytes.len() > most => Ok(Load::TooLong),
-            Some(bytes) => Ok(Load::Found(Bytes::from_slice(self.alloc, bytes)?)),
-        }
+        let found = self.find(name, most);
+        self.calls.end(found.is_err());
+        Ok(found?)
     }
 
     #[tactic(auto, using(crate::proofs::ByName::changes))]
     fn store(&mut self, name: &str, bytes: &[u8]) -> Result<(), ShelfFault>
         ensures fails { shelf_failed result ≡ fails_next self.old.calls }
-        ensures calls { self.new.calls ≡ after_call self.old.calls }
+        ensures calls { self.new.calls ≡ after_call self.old.calls (shelf_wanted result) }
         ensures ok { OnOk result (self.new.files ≡ insert self.old.files name.now bytes.now) }
         ensures err { OnErr result (self.new.files ≡ self.old.files) }
-        ensures cause { HasCause self.old.calls.counts self.new.calls.counts (shelf_failed result) }
+        ensures cause { HasCause self.old.calls.counts self.new.calls.counts (shelf_failed result) (shelf_wanted result) }
         ensures stored { OnOk result (files_of self.new.files
             ≡ with_file (files_of self.old.files) name.now (Some bytes.now)) }
         ensures others { KeepsOthers (files_of self.old.files) (files_of self.new.files) name.now }
@@ -115,17 +127,19 @@ impl Shelf for MemShelf {
         if self.calls.begin() {
             return Err(ShelfFault::Failed);
         }
-        self.put(name, bytes)?;
+        let stored = self.put(name, bytes);
+        self.calls.end(stored.is_err());
+        stored?;
         Ok(())
     }
 
     #[tactic(auto, using(crate::proofs::ByName::changes))]
     fn remove(&mut self, name: &str) -> Result<bool, ShelfFault>
         ensures fails { is_err result ≡ fails_next self.old.calls }
-        ensures calls { self.new.calls ≡ after_call self.old.calls }
+        ensures calls { self.new.calls ≡ after_call self.old.calls false }
         ensures ok { OnOk result (self.new.files ≡ remove self.old.files name.now) }
         ensures err { OnErr result (self.new.files ≡ self.old.files) }
-        ensures cause { HasCause self.old.calls.counts self.new.calls.counts (shelf_failed result) }
+        ensures cause { HasCause self.old.calls.counts self.new.calls.counts (shelf_failed result) (shelf_wanted result) }
         ensures was { IfOk result (λ was. was ≡ is_some (files_of self.old.files name.now)) }
         ensures removed { OnOk result (files_of self.new.files
             ≡ with_file (files_of self.old.files) name.now None) }
@@ -139,8 +153,8 @@ impl Shelf for MemShelf {
 
     fn has(&mut self, name: &str) -> Result<bool, ShelfFault>
         ensures fails { is_err result ≡ fails_next self.old.calls }
-        ensures calls { self.new ≡ record self.old { calls = after_call self.old.calls } }
-        ensures cause { HasCause self.old.calls.counts self.new.calls.counts (shelf_failed result) }
+        ensures calls { self.new ≡ record self.old { calls = after_call self.old.calls false } }
+        ensures cause { HasCause self.old.calls.counts self.new.calls.counts (shelf_failed result) (shelf_wanted result) }
         ensures was { IfOk result (λ was. was ≡ is_some (files_of self.old.files name.now)) }
     {
         if self.calls.begin() {

@@ -1,7 +1,7 @@
 //! A sink in memory.
 ghost use Rattle.std.specs.Prelude.{◌≡◌, [], ◌++◌, true, IfOk, OnOk, OnErr};
 ghost use Rattle.gx_outside.specs.Fakes.{no_calls, fails_next, after_call, seen_sink};
-ghost use Rattle.gx_outside.specs.Outside.{HasCause, Sends, send_failed};
+ghost use Rattle.gx_outside.specs.Outside.{HasCause, Sends, send_failed, send_wanted};
 
 use crate::numbered::NumberedCalls;
 use crate::{SendFault, Sink};
@@ -49,16 +49,18 @@ impl Sink for MemSink {
 
     fn send(&mut self, bytes: &[u8]) -> Result<(), SendFault>
         ensures fails { send_failed result ≡ fails_next self.old.calls }
-        ensures calls { self.new.calls ≡ after_call self.old.calls }
+        ensures calls { self.new.calls ≡ after_call self.old.calls (send_wanted result) }
         ensures ok { OnOk result (self.new.taken ≡ self.old.taken ++ bytes.now) }
         ensures err { OnErr result (self.new.taken ≡ self.old.taken) }
-        ensures cause { HasCause self.old.calls.counts self.new.calls.counts (send_failed result) }
+        ensures cause { HasCause self.old.calls.counts self.new.calls.counts (send_failed result) (send_wanted result) }
         ensures bytes { Sends true self.old.taken self.new.taken bytes.now result }
     {
         if self.calls.begin() {
             return Err(SendFault::Failed);
         }
-        self.taken.extend_from_slice(bytes)?;
+        let sent = self.taken.extend_from_slice(bytes);
+        self.calls.end(sent.is_err());
+        sent?;
         Ok(())
     }
 }

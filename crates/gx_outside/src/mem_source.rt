@@ -1,5 +1,5 @@
 //! A source in memory.
-ghost use Rattle.std.specs.Prelude.{◌≡◌, ◌≤◌, ◌++◌, min, length, take, drop, is_err, IfOk, OnErr};
+ghost use Rattle.std.specs.Prelude.{◌≡◌, ◌≤◌, ◌++◌, min, length, false, take, drop, is_err, IfOk, OnErr};
 ghost use Rattle.gx_outside.specs.Fakes.{no_calls, fails_next, after_call, seen_source};
 ghost use Rattle.gx_outside.specs.Outside.{HasCause, ReadGives};
 
@@ -56,7 +56,7 @@ impl Source for MemSource {
 
     fn read(&mut self, into: &mut [u8]) -> Result<usize, Failed>
         ensures fails { is_err result ≡ fails_next self.old.calls }
-        ensures calls { self.new.calls ≡ after_call self.old.calls }
+        ensures calls { self.new.calls ≡ after_call self.old.calls false }
         ensures piece { self.new.piece ≡ self.old.piece }
         ensures count { IfOk result (λ count. count
             ≡ min (min (length into.old) self.old.piece) (length self.old.left)) }
@@ -64,7 +64,7 @@ impl Source for MemSource {
         ensures left { IfOk result (λ count. self.new.left ≡ drop count self.old.left) }
         ensures err { OnErr result ((self.new.left ≡ self.old.left) × (into.new ≡ into.old)) }
         ensures bound { IfOk result (λ count. count ≤ length into.old) }
-        ensures cause { HasCause self.old.calls.counts self.new.calls.counts (is_err result) }
+        ensures cause { HasCause self.old.calls.counts self.new.calls.counts (is_err result) false }
         ensures bytes { ReadGives self.old.left self.new.left into.new result }
     {
         if self.calls.begin() {

@@ -1,5 +1,5 @@
 //! The calls of a device in memory: how many there were, and which of them fail.
-ghost use Rattle.std.specs.Prelude.{◌≡◌, IfOk};
+ghost use Rattle.std.specs.Prelude.{◌≡◌, false, IfOk};
 ghost use Rattle.gx_outside.specs.Fakes.{no_calls, fails_next, after_call};
 ghost use Rattle.gx_outside.specs.Outside.{HasCause};
 
@@ -35,12 +35,19 @@ impl NumberedCalls {
     /// Begins the next call, and answers whether it fails.
     pub fn begin(&mut self) -> bool
         ensures fails { result ≡ fails_next self.old }
-        ensures after { self.new ≡ after_call self.old }
-        ensures cause { HasCause self.old.counts self.new.counts result }
+        ensures after { self.new ≡ after_call self.old false }
+        ensures cause { HasCause self.old.counts self.new.counts result false }
     {
         let next = self.counts.made.saturating_add(1);
         let fails = self.fails.contains(&next);
-        self.counts.note(fails);
+        self.counts.note(fails, false);
         fails
+    }
+
+    /// Ends the call, and notes whether memory ran out in it.
+    pub fn end(&mut self, wanted: bool)
+        ensures { self.new ≡ record self.old { counts = record self.old.counts { wanting = wanted } } }
+    {
+        self.counts.wanting = wanted;
     }
 }

@@ -3,7 +3,8 @@ use Rattle.std.proofs.Common.{refl, codes, ◌≡◌, true, false, List, [], ◌
 use Rattle.clap.specs.Words.{Text}
 use Rattle.clap.specs.declared.error.kind.ErrorKind.TheVariants as kind
 use Rattle.clap.proofs.OnLiterals.{clap_on_literals}
-use Rattle.gx_play.specs.declared.command.Job.TheVariants.{Play, Work, Asm, List as Listing}
+use Rattle.glk_world.specs.declared.views.View.TheVariants as view
+use Rattle.gx_play.specs.declared.command.Job.TheVariants.{Play, Check, Work, Asm, List as Listing}
 use Rattle.gx_play.specs.Commands.{Command, player, faults_of, found_in, command_of}
 
 -- after the program's name
@@ -12,14 +13,38 @@ words rest = codes "gx_player" ∷ rest
 
 -- a story that is played as usual
 abbrev usual : Text → Command
-usual story = record { story = story; steps = 1000000000000000; columns = 80; rows = 24; undo = 16; seed = None; echo = false; job = Play }
+usual story = record {
+  story = story;
+  steps = 1000000000000000;
+  columns = 80;
+  rows = 24;
+  undo = 16;
+  seed = None;
+  echo = false;
+  view = view.Rows;
+  job = Play;
+}
 
 story-alone : command_of (words (codes "hall.ulx" ∷ [])) ≡ Some (usual (codes "hall.ulx"))
 unfolding clap_on_literals command_of faults_of found_in player
 story-alone = refl
 
-all-options : command_of (words (codes "--steps" ∷ codes "0011" ∷ codes "--echo" ∷ codes "7" ∷ codes "--seed=5" ∷ codes "--rows" ∷ codes "1" ∷ codes "--undo" ∷ codes "064" ∷ codes "--columns=255" ∷ codes "--job=work" ∷ []))
-    ≡ Some (record { story = codes "7"; steps = 11; columns = 255; rows = 1; undo = 64; seed = Some 5; echo = true; job = Work 7 })
+abbrev many-options : List Text
+many-options =
+    codes "--steps" ∷ codes "0011" ∷ codes "--echo" ∷ codes "--plain" ∷ codes "7" ∷ codes "--seed=5" ∷ codes "--rows" ∷
+    codes "1" ∷ codes "--undo" ∷ codes "064" ∷ codes "--columns=255" ∷ codes "--job=work" ∷ []
+
+all-options : command_of (words many-options) ≡ Some (record {
+  story = codes "7";
+  steps = 11;
+  columns = 255;
+  rows = 1;
+  undo = 64;
+  seed = Some 5;
+  echo = true;
+  view = view.Plain;
+  job = Work 7;
+})
 unfolding clap_on_literals command_of faults_of found_in player
 all-options = refl
 
@@ -94,6 +119,39 @@ a-listing = refl
 other-job : command_of (words (codes "hall.ulx" ∷ codes "--job" ∷ codes "Check" ∷ [])) ≡ None
 unfolding clap_on_literals command_of faults_of found_in player
 other-job = refl
+
+-- how the text is put together
+the-screen : command_of (words (codes "hall.ulx" ∷ codes "--screen" ∷ []))
+    ≡ Some (record (usual (codes "hall.ulx")) { view = view.Screen })
+unfolding clap_on_literals command_of faults_of found_in player
+the-screen = refl
+
+text-alone : command_of (words (codes "hall.ulx" ∷ codes "--plain" ∷ []))
+    ≡ Some (record (usual (codes "hall.ulx")) { view = view.Plain })
+unfolding clap_on_literals command_of faults_of found_in player
+text-alone = refl
+
+text-alone-with-lines : command_of (words (codes "--plain" ∷ codes "--echo" ∷ codes "hall.ulx" ∷ []))
+    ≡ Some (record (usual (codes "hall.ulx")) { echo = true; view = view.Plain })
+unfolding clap_on_literals command_of faults_of found_in player
+text-alone-with-lines = refl
+
+text-alone-in-check : command_of (words (codes "hall.ulx" ∷ codes "--plain" ∷ codes "--job=check" ∷ []))
+    ≡ Some (record (usual (codes "hall.ulx")) { view = view.Plain; job = Check })
+unfolding clap_on_literals command_of faults_of found_in player
+text-alone-in-check = refl
+
+both-views : command_of (words (codes "hall.ulx" ∷ codes "--screen" ∷ codes "--plain" ∷ [])) ≡ None
+unfolding clap_on_literals command_of faults_of found_in player
+both-views = refl
+
+the-screen-with-lines : command_of (words (codes "hall.ulx" ∷ codes "--echo" ∷ codes "--screen" ∷ [])) ≡ None
+unfolding clap_on_literals command_of faults_of found_in player
+the-screen-with-lines = refl
+
+the-screen-in-check : command_of (words (codes "hall.ulx" ∷ codes "--screen" ∷ codes "--job=check" ∷ [])) ≡ None
+unfolding clap_on_literals command_of faults_of found_in player
+the-screen-in-check = refl
 
 -- options are looked at in every job
 steps-in-check : command_of (words (codes "hall.ulx" ∷ codes "--job=check" ∷ codes "--steps=x" ∷ [])) ≡ None

@@ -64,7 +64,7 @@ module _ {A : Type 0} (ended : Ended A) (entry exit : Devices) where
     output-ends : (status : ℕ) (output : List ℕ) (before now : FlatSink) → SendsOutput status output before now ended → (ended.status ≡ 10 → ⊥) → (ended.status ≡ status) ⊎ (ended.status ≡ status_no_memory)
     output-ends status output before now (inl (absent, sent)) sink = inl absent.status_is
     output-ends status output before now (inr (inl absent, sent)) sink = absurd (sink absent.status_is)
-    output-ends status output before now (inr (inr absent, sent)) sink = inr absent.status_is
+    output-ends status output before now (inr (inr (absent, wanted), sent)) sink = inr absent.status_is
 
     outcome-ends : (outcome : Outcome) → Plays outcome entry exit ended → entry.source.tells ≡ true → entry.shelf.tells ≡ true → (ended.status ≡ status_of_outcome outcome) ⊎ (ended.status ≡ status_no_memory)
     outcome-ends (refused status fault at) (inl absent, same) source-tells shelf-tells = inl absent.status_is

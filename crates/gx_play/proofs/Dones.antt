@@ -114,7 +114,7 @@ module _ {A : Type 0} (ended : Ended A) where
   sent : (status : ℕ) (output : List ℕ) (before now : FlatSink) → (status ≡ 0) ⊎ (status ≡ 3) → SendsOutput status output before now ended → IsTold ended
   sent status output before now which (inl (absent, took)) = quiet status absent (grind (arith, which))
   sent status output before now which (inr (inl absent, took)) = quiet status_output_fault absent (inr (inr (inl refl)))
-  sent status output before now which (inr (inr absent, took)) = quiet status_no_memory absent (inr (inr (inr refl)))
+  sent status output before now which (inr (inr (absent, wanted), took)) = quiet status_no_memory absent (inr (inr (inr refl)))
 
   -- a text's code, or its fault
   code-told : (r : Result (List ℕ) AsmFault) (before now : FlatSink) → (ended.status ≡ status_bad_text → (1 ≤ ended.fault) × (ended.fault ≤ 4)) → JobTells (outcome_of_code r) before now ended → IsTold ended

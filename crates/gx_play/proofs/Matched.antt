@@ -15,6 +15,8 @@ texts_matched f = rw (
   first_value-rows f (codes "undo"),
   first_value-rows f (codes "seed"),
   first_value-rows f (codes "echo"),
+  first_value-rows f (codes "screen"),
+  first_value-rows f (codes "plain"),
   first_value-rows f (codes "job"),
 ) refl
 

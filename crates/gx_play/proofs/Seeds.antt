@@ -25,7 +25,8 @@ use Rattle.rand_core.specs.Stream.{Stream}
 
 module _ {A : Type 0} (ended : Ended A) (entry exit : Devices) (command : Command) (whole : Whole) where
   abbrev start_with : Devices → Configuration
-  start_with d = start_of whole.machine (empty_world command.columns command.rows) d command.echo command.steps
+  start_with d =
+      start_of whole.machine (empty_world command.view command.columns command.rows) d command.echo command.steps
 
   abbrev RunsWith : Stream → Stream → Option Whole → Type 0
   RunsWith words left machine = IsSomeAnd machine (λ end. IsRun (start_with (record entry { words = words })) (record entry { words = words }) (record exit { words = left }) (report_of ended end))
@@ -65,7 +66,7 @@ module _ {A : Type 0} (ended : Ended A) (entry exit : Devices) (untouched : ende
   output-undrawn : (status : ℕ) (output : List ℕ) (before now : FlatSink) → SendsOutput status output before now ended → exit.words ≡ entry.words
   output-undrawn status output before now (inl (absent, sent)) = (untouched absent.machine_is).words
   output-undrawn status output before now (inr (inl absent, sent)) = (untouched absent.machine_is).words
-  output-undrawn status output before now (inr (inr absent, sent)) = (untouched absent.machine_is).words
+  output-undrawn status output before now (inr (inr (absent, wanted), sent)) = (untouched absent.machine_is).words
 
   tells-undrawn : (status : ℕ) (output : List ℕ) → Plays (tells status output) entry exit ended → exit.words ≡ entry.words
   tells-undrawn status output (inl sends) = output-undrawn status output entry.sink exit.sink sends
@@ -116,7 +117,9 @@ same-words (Some seed) is a b = refl
 module _ (command : Command) (entry : Devices) (other : Stream) (is : IsSome command.seed) where
   start-settled : (story : FlatStory) (r : Result Whole Fault) → outcome_of_start command story (record entry { words = other }) r ≡ outcome_of_start command story entry r
   start-settled story (Ok whole) =
-      ap (λ (w : Stream). runs command.seed (start_of whole.machine (empty_world command.columns command.rows) (record entry { words = w }) command.echo command.steps))
+      ap (λ (w : Stream). runs command.seed
+      (start_of whole.machine (empty_world command.view command.columns command.rows) (record entry { words = w })
+      command.echo command.steps))
       (same-words command.seed is other entry.words)
   start-settled story (Err fault) = refl
 

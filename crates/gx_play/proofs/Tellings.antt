@@ -1,5 +1,5 @@
 -- What the run of a story that is made of a number comes to.
-use Rattle.std.proofs.Common.{◌≡◌, ℕ, ◌-◌, ◌<◌, ◌≤◌, ◌⊎◌, inl, inr, true, false, List, [], ◌∷◌, ◌++◌, length, Some, refl, ap, subst, ◌∙◌, arith, decimal}
+use Rattle.std.proofs.Common.{◌≡◌, ℕ, ◌-◌, ◌<◌, ◌≤◌, ◌⊎◌, inl, inr, Bool, true, false, List, [], ◌∷◌, ◌++◌, length, Some, refl, ap, subst, ◌∙◌, arith, decimal}
 use Rattle.gx_outside.specs.Files.{no_files}
 use Rattle.gx_state.specs.Flat.{FlatState}
 use Rattle.gx_machine.specs.Machine.{Whole, FlatMachine}
@@ -9,12 +9,13 @@ use Rattle.gx_session.specs.Session.{Configuration, final_of}
 use Rattle.gx_session.specs.Runs.{IsRun, IsSession, Report, EndsAt}
 use Rattle.gx_play.specs.Jobs.{zeros, work_machine, work_start, work_line, ram_sum_of}
 
--- devices that hold nothing but this text, and never failed, after so many calls
-abbrev pub quiet : ℕ → ℕ → List ℕ → ℕ → Devices
-quiet reads sends text asks =
-    devices (record { calls = record { made = reads; faults = 0; failing = false }; tells = true; left = [] })
-    (record { calls = record { made = sends; faults = 0; failing = false }; tells = true; taken = text })
-    (record { calls = record { made = asks; faults = 0; failing = false }; tells = true; files = no_files })
+-- devices that hold nothing but this text, and never failed, after so many calls; whether the last send wanted memory,
+-- and the last call of the shelf
+abbrev pub quiet : ℕ → ℕ → List ℕ → ℕ → Bool → Bool → Devices
+quiet reads sends text asks send-wanted shelf-wanted =
+    devices (record { calls = record { made = reads; faults = 0; failing = false; wanting = false }; tells = true; left = [] })
+    (record { calls = record { made = sends; faults = 0; failing = false; wanting = send-wanted }; tells = true; taken = text })
+    (record { calls = record { made = asks; faults = 0; failing = false; wanting = shelf-wanted }; tells = true; files = no_files })
     zeros
 
 -- the three numbers of a run, and the machine
@@ -23,15 +24,15 @@ pub record Tells (start : Configuration) (text : List ℕ) (r : Report) : Type 0
   pub text_is : text ≡ (final_of start).configuration.world.text
   pub machine : r.machine.machine ≡ (final_of start).configuration.machine
 
-module _ (w : Whole) (reads sends asks reads' sends' asks' : ℕ) (text : List ℕ) (r : Report) where
+module _ (w : Whole) (reads sends asks reads' sends' asks' : ℕ) (send shelf send' shelf' : Bool) (text : List ℕ) (r : Report) where
   abbrev start : Configuration
   start = work_start w
 
   abbrev entry : Devices
-  entry = quiet reads sends [] asks
+  entry = quiet reads sends [] asks send shelf
 
   abbrev exit : Devices
-  exit = quiet reads' sends' text asks'
+  exit = quiet reads' sends' text asks' send' shelf'
 
   at-end : EndsAt start (final_of start) entry exit r → Tells start text r
   at-end e =
@@ -63,8 +64,8 @@ module _ (w : Whole) (reads sends asks reads' sends' asks' : ℕ) (text : List �
         | inr some ↦ told some.input (some.input_is refl) some.session early
       ]
 
-  pub tells-of : (before : List ℕ) → before ≡ [] → IsRun (work_start w) (quiet reads sends before asks) (quiet reads' sends' text asks') r → (r.status ≡ status_no_memory → ⊥) → Tells (work_start w) text r
-  tells-of before is run memory = came (subst (λ (b : List ℕ). IsRun (work_start w) (quiet reads sends b asks) exit r) is run) memory
+  pub tells-of : (before : List ℕ) → before ≡ [] → IsRun (work_start w) (quiet reads sends before asks send shelf) exit r → (r.status ≡ status_no_memory → ⊥) → Tells (work_start w) text r
+  tells-of before is run memory = came (subst (λ (b : List ℕ). IsRun (work_start w) (quiet reads sends b asks send shelf) exit r) is run) memory
 
   -- the line that is made of them
   pub line-is : (number : ℕ) (f : FlatState) (sum : ℕ) → work_machine number ≡ Some w → Tells (work_start w) text r → f ≡ r.machine.machine.flat → sum ≡ ram_sum_of f

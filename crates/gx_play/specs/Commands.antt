@@ -1,8 +1,9 @@
--- The command line: gx_player STORY [--steps N] [--columns N] [--rows N] [--undo N] [--seed N] [--echo] [--job JOB].
+-- The command line: gx_player STORY [--steps N] [--columns N] [--rows N] [--undo N] [--seed N] [--echo]
+-- [--screen | --plain] [--job JOB].
 --
--- The words are those of one simple command of clap, the program's name first, so `--steps N` and `--steps=N` are alike,
--- options stand before or after STORY, and after `--` every word is STORY. A question for help is no command.
--- N is one decimal digit or more. All options are looked at in every job, also where it uses them for nothing.
+-- The words are those of one simple command of clap, the program's name first, so `--steps N` and `--steps=N` are
+-- alike, options stand before or after STORY, and after `--` every word is STORY. A question for help is no command. N
+-- is one decimal digit or more. All options are looked at in every job, also where it uses them for nothing.
 use Rattle.std.specs.Prelude.{ℕ, ◌-◌, ◌^◌, ◌&&◌, Bool, true, false, List, [], ◌∷◌, Option, Some, None, codes, length, nat_le, nat_lt, if◌then◌else◌, option_map}
 use Rattle.std.specs.Char.{is_ascii_digit}
 use Rattle.std.specs.List.{list_all}
@@ -12,6 +13,8 @@ use Rattle.clap.specs.Words.{App, Kinds, Row, Rule, Text, first_of, fault_of, ma
 use Rattle.clap.specs.declared.builder.ArgAction.TheVariants.{SetTrue}
 use Rattle.gx_play.specs.declared.command.Job.{Job}
 use Rattle.gx_play.specs.declared.command.Job.TheVariants.{Play, Check, Work, Asm, List as Listing}
+use Rattle.glk_world.specs.declared.views.View.{View}
+use Rattle.glk_world.specs.declared.views.View.TheVariants as view
 use Rattle.gx_undo.specs.Undo.{most_undo}
 use Rattle.gx_play.specs.Constants.{usual_depth}
 
@@ -28,19 +31,23 @@ text_rule name usual = record (new_rule name) { long = Some name; defaults = usu
 abbrev pub free_rule : Text → Rule
 free_rule name = record (new_rule name) { long = Some name }
 
--- `--echo`
-abbrev pub echo_rule : Rule
-echo_rule = record (new_rule (codes "echo")) { long = Some (codes "echo"); action = Some SetTrue }
+-- `--NAME`, which is set or not
+abbrev pub flag_rule : Text → Rule
+flag_rule name = record (new_rule name) { long = Some name; action = Some SetTrue }
 
 unfoldable pub player : App
-player = with_rule (with_rule (with_rule (with_rule (with_rule (with_rule (with_rule (with_rule (new_app (codes "gx_player"))
+player =
+    with_rule (with_rule (with_rule (with_rule (with_rule (with_rule (with_rule (with_rule (with_rule (with_rule
+    (new_app (codes "gx_player"))
     story_rule)
     (text_rule (codes "steps") (codes "1000000000000000")))
     (text_rule (codes "columns") (codes "80")))
     (text_rule (codes "rows") (codes "24")))
     (free_rule (codes "undo")))
     (free_rule (codes "seed")))
-    echo_rule)
+    (flag_rule (codes "echo")))
+    (flag_rule (codes "screen")))
+    (flag_rule (codes "plain")))
     (text_rule (codes "job") (codes "play"))
 
 -- why the words have no matches: nothing where they have
@@ -51,7 +58,7 @@ faults_of words = fault_of player words
 unfoldable pub found_in : List Text → List Row
 found_in words = matches_of player words
 
--- THE TEXTS of a command line, where they are there, and whether the flag is set.
+-- THE TEXTS of a command line, where they are there, and which flags are set.
 pub record Texts : Type 0 where
   pub story : Option Text
   pub steps : Option Text
@@ -60,10 +67,13 @@ pub record Texts : Type 0 where
   pub undo : Option Text
   pub seed : Option Text
   pub echo : Bool
+  pub screen : Bool
+  pub plain : Bool
   pub job : Option Text
 
 -- WHAT A COMMAND LINE ASKS FOR: the name of the file, the budget of the run, the size of the screen, how many copies
--- are kept for undo, the seed of the random words, if there is one, whether each line that is taken is shown, and the job.
+-- are kept for undo, the seed of the random words, if there is one, whether each line that is taken is shown, how the
+-- text is put together, and the job.
 pub record Command : Type 0 where
   pub story : Text
   pub steps : ℕ
@@ -72,6 +82,7 @@ pub record Command : Type 0 where
   pub undo : ℕ
   pub seed : Option ℕ
   pub echo : Bool
+  pub view : View
   pub job : Job
 
 -- the number that one decimal digit or more spell, where it is from the least to the most
@@ -108,18 +119,43 @@ abbrev pub job_in : Option Text → Option Text → Option Job
 job_in (Some story) (Some name) = job_of story name
 job_in story name = None
 
-abbrev pub command_with : Option Text → Option ℕ → Option ℕ → Option ℕ → Option ℕ → Option (Option ℕ) → Bool → Option Job → Option Command
-command_with (Some story) (Some steps) (Some columns) (Some rows) (Some undo) (Some seed) echo (Some job) =
-    Some (record { story = story; steps = steps; columns = columns; rows = rows; undo = undo; seed = seed; echo = echo; job = job })
-command_with story steps columns rows undo seed echo job = None
+-- HOW THE TEXT IS PUT TOGETHER, by the flags screen, plain and echo, and the job. With `--screen` the screen is
+-- composed; that isn't understood with `--plain` or `--echo`, nor in a job other than play. With `--plain` grids are
+-- shown nowhere. Else rows of grids stand behind a bar.
+abbrev pub view_of : Bool → Bool → Bool → Job → Option View
+view_of false false echo job = Some view.Rows
+view_of false true echo job = Some view.Plain
+view_of true false false Play = Some view.Screen
+view_of screen plain echo job = None
+
+abbrev pub view_in : Bool → Bool → Bool → Option Job → Option View
+view_in screen plain echo None = None
+view_in screen plain echo (Some job) = view_of screen plain echo job
+
+abbrev pub command_with : Option Text → Option ℕ → Option ℕ → Option ℕ → Option ℕ → Option (Option ℕ) → Bool
+    → Option View → Option Job → Option Command
+command_with (Some story) (Some steps) (Some columns) (Some rows) (Some undo) (Some seed) echo (Some view) (Some job) =
+    Some (record {
+      story = story;
+      steps = steps;
+      columns = columns;
+      rows = rows;
+      undo = undo;
+      seed = seed;
+      echo = echo;
+      view = view;
+      job = job;
+    })
+command_with story steps columns rows undo seed echo view job = None
 
 -- what the texts ask for, where each is as it has to be
 abbrev pub command_in : Texts → Option Command
 command_in texts =
     command_with texts.story (number_in 0 (2 ^ 64 - 1) texts.steps) (number_in 1 255 texts.columns) (number_in 1 255 texts.rows)
-    (depth_of texts.undo) (seed_of texts.seed) texts.echo (job_in texts.story texts.job)
+    (depth_of texts.undo) (seed_of texts.seed) texts.echo
+    (view_in texts.screen texts.plain texts.echo (job_in texts.story texts.job)) (job_in texts.story texts.job)
 
--- the flag is set
+-- a flag is set
 abbrev pub is_set : Option Text → Bool
 is_set None = false
 is_set (Some text) = bytes_eq text (codes "true")
@@ -134,6 +170,8 @@ texts_of rows = record {
   undo = first_of (codes "undo") rows;
   seed = first_of (codes "seed") rows;
   echo = is_set (first_of (codes "echo") rows);
+  screen = is_set (first_of (codes "screen") rows);
+  plain = is_set (first_of (codes "plain") rows);
   job = first_of (codes "job") rows;
 }
 

@@ -8,56 +8,74 @@
 --   drawn and no machine made.
 -- - The story's start function can't be entered: the same, with the fault and the function's address.
 -- - Else the story runs. The run is the session of gx_session/specs/Session, from the story's first machine, with the
---   command's depth of undo, to the session's end (`IsRun`): its status, fault, address and steps, the machine and what it
---   asks, the text, the files, the random words and the input that is left; how often some of the text was sent, and how
---   often the shelf was asked. Or it was cut short, because a device failed or memory ran out: then the machine stands at
---   one of the session's configurations, a front of the text up to there was sent, and the files are those of that
---   configuration, but for the one that a refused store or remove leaves open.
--- - In the jobs check and work one line of specs/Jobs is sent, with its status, or a front of it where the output fails or
---   wants memory. No machine is handed back. Every number has a story that can be started (`works`).
--- - In job asm the story of the code that the file's text spells is sent, in job list the text of the story's start function,
---   or a front of it. A text without a code, and a story without a listing, come to a status of their own, with the fault
---   that the definitions of gx_asm have for it and the line or the address where it stands; nothing is sent then.
+--   command's depth of undo, to the session's end (`IsRun`): its status, fault, address and steps, the machine and what
+--   it asks, the text, the files, the random words and the input that is left; how often some of the text was sent, and
+--   how often the shelf was asked. Or it was cut short, because a device failed or memory ran out: then the machine
+--   stands at one of the session's configurations, a front of the text up to there was sent, and the files are those of
+--   that configuration, but for the one that a refused store or remove leaves open.
+-- - In the jobs check and work one line of specs/Jobs is sent, with its status, or a front of it where the output fails
+--   or wants memory. No machine is handed back. Every number has a story that can be started (`works`).
+-- - In job asm the story of the code that the file's text spells is sent, in job list the text of the story's start
+--   function, or a front of it. A text without a code, and a story without a listing, come to a status of their own,
+--   with the fault that the definitions of gx_asm have for it and the line or the address where it stands; nothing is
+--   sent then.
 -- - Or nothing was begun, because the shelf failed or memory ran out before.
 --
--- The random words are the device's, or with `--seed` those of specs/Seeds. Then the device isn't drawn from at all, in any
--- job and whatever the end (`undrawn`), and the outcome is the same over any other words that it might hold (`settled`): so
--- status, fault, address, steps, text, files and machine of a session are a function of the command line, the story, the
--- files and the input alone.
+-- The text of a session is that of the view that the command line chooses (`view_of` in specs/Commands; what each view
+-- shows is said in glk_world/specs/Shown), and all of this holds with each of the three:
 --
--- Text and code spell each other (`spelling`): a text is assembled to a code exactly where it spells it, and a code is listed
--- as a text exactly where the text spells it, so that each undoes the other; the story of a code is accepted, and listed as
--- its instructions up to the first quit or return; and a machine that comes to an instruction's bytes sees that instruction.
+-- - As usual it is what is put to text buffer windows, in that order, with the prompts for names of files, and with
+--   `--echo` the lines that are taken; and before a line is awaited the rows of each grid that has changed, each row
+--   behind a bar.
+-- - With `--plain` it is the same without the rows of grids: text alone.
+-- - With `--screen` it is the whole screen, composed of all windows (`composed` in glk_screen/specs/Screen): at each
+--   wait for a line, with the prompt behind it where a name is asked for, and at the end once more, where it differs
+--   from the screen that was shown last (`final_of`). Nothing else is text then.
 --
--- The shelf is asked once for the file, and then exactly as the session asks it; in job work it isn't asked. Text is sent
--- before the shelf or the source is asked for anything. Fewer than 4,096 bytes are read ahead of the lines that were taken,
--- and none where no line is awaited. The status blames a device exactly where a call of it failed in this run, which was
--- then its last one. Each restoreundo of the session goes back to the newest saveundo that was neither used, nor
--- discarded, nor dropped as the oldest (`LastsUndo`), whatever was restored from files in between. Each save that the
--- session makes is read back as the very copy that was saved (`SavedAll`, `SavedBy`). So is every copy that fits the story,
--- and each save that was one while memory had a lower ceiling, such as 0x04000000, is restored as the same copy
--- (`SavesReadBack`). And where no count of failures rose the status is the outcome's, or memory ran out (`IsComplete`).
+-- The random words are the device's, or with `--seed` those of specs/Seeds. Then the device isn't drawn from at all, in
+-- any job and whatever the end (`undrawn`), and the outcome is the same over any other words that it might hold
+-- (`settled`): so status, fault, address, steps, text, files and machine of a session are a function of the command
+-- line, the story, the files and the input alone.
 --
--- Premises: that the story's file is the one that the shelf holds is said of a shelf that tells what it holds, as one in
--- memory does. A real one doesn't, and there the run is that of some file: of the bytes that it handed out. Nothing is
--- said of the session once the story itself asks such a shelf for a file (`IsUntold`). Likewise the input is what a source that tells
--- has left; for a real one there is some input with which the run is the session. Which bytes the sink took is said of one
--- that tells, and how often it was called of every one.
+-- Text and code spell each other (`spelling`): a text is assembled to a code exactly where it spells it, and a code is
+-- listed as a text exactly where the text spells it, so that each undoes the other; the story of a code is accepted,
+-- and listed as its instructions up to the first quit or return; and a machine that comes to an instruction's bytes
+-- sees that instruction.
 --
--- Limits: nothing is said of time, nor of how much memory a run takes; that ample memory suffices is only tested. Status
--- 11 (`status_no_memory`) is a free answer in these places, and, of devices that tell, in no others:
+-- The shelf is asked once for the file, and then exactly as the session asks it; in job work it isn't asked. Text is
+-- sent before the shelf or the source is asked for anything. Fewer than 4,096 bytes are read ahead of the lines that
+-- were taken, and none where no line is awaited. The status blames a device exactly where a call of it failed in this
+-- run, which was then its last one. Each restoreundo of the session goes back to the newest saveundo that was neither
+-- used, nor discarded, nor dropped as the oldest (`LastsUndo`), whatever was restored from files in between. Each save
+-- that the session makes is read back as the very copy that was saved (`SavedAll`, `SavedBy`). So is every copy that
+-- fits the story, and each save that was one while memory had a lower ceiling, such as 0x04000000, is restored as the
+-- same copy (`SavesReadBack`). And where no count of failures rose the status is the outcome's, or memory ran out
+-- (`IsComplete`).
+--
+-- Premises: that the story's file is the one that the shelf holds is said of a shelf that tells what it holds, as one
+-- in memory does. A real one doesn't, and there the run is that of some file: of the bytes that it handed out. Nothing
+-- is said of the session once the story itself asks such a shelf for a file (`IsUntold`). Likewise the input is what a
+-- source that tells has left; for a real one there is some input with which the run is the session. Which bytes the
+-- sink took is said of one that tells, and how often it was called of every one.
+--
+-- Limits: nothing is said of time, nor of how much memory a run takes; that ample memory suffices is only tested.
+-- Nothing is said of what a terminal makes of the text: the composed screen counts columns by the crate unicode_width.
+-- Status 11 (`status_no_memory`) is a free answer in these places, and, of devices that tell, in no others:
 --
 -- - Before anything is done, whatever the words are. So a body that does nothing and answers so meets the contract.
 -- - In the jobs play, check, asm and list once the shelf was asked for the file, where it has one of at most 0x10000000
---   bytes, in job asm of at most 0x01000000; in job work anywhere. No machine is handed back then, and what was sent is a
---   front of the output, nothing in job play.
--- - In a run that was begun, with the machine, the text, the files and the input of that moment (`StopsEarly`, `IsCut`):
---   at a step within the budget that writes, resizes or copies memory and has no fault; at what a step asks, where the
---   Glk call, the put character or the restore makes something grow and has no fault, where a save is begun (also where
---   a fault of it would follow), where grids are shown before a line is awaited, where the machine goes back to a copy,
---   and where the answer writes bytes or is stored in memory (`WantsMemory`); at a wait for a line where input is left;
---   where text is due; where the shelf is asked, for a file to be loaded only where it is there and isn't too long; at
---   the end where the open files are listed, even if there are none, and at the store of each.
+--   bytes, in job asm of at most 0x01000000; in job work anywhere. No machine is handed back then, and nothing was
+--   sent, or, but in job play, a front of the output in a call of the sink that wanted memory (`IsUnsent`).
+-- - In a run that was begun, with the machine, the text, the files and the input of that moment (`StopsEarly`,
+--   `IsCut`): at a step within the budget that writes, resizes or copies memory and has no fault; at what a step asks,
+--   where the Glk call, the put character or the restore makes something grow and has no fault, where a save is begun
+--   (also where a fault of it would follow), where grids or the composed screen are shown before a line is awaited
+--   (with `--plain` nothing is), where the machine goes back to a copy, and where the answer writes bytes or is stored
+--   in memory (`WantsMemory`); at a wait for a line where input is left; where text is due; where the shelf is asked,
+--   for a file to be loaded only where it is there and isn't too long; at the end with `--screen`, where the last
+--   screen is composed, and in each view where the open files are listed, if there are some, and at the store of each.
+--   Where text is due, where the shelf is asked and at a store it is one only if the device says so: that memory ran
+--   out in the last call that it had (`WantedBy`).
 --
 -- So no body would pass that asks for a story that isn't there and answers so, or answers so where a device failed,
 -- where the next step meets a fault that isn't a save's, or writes nothing and asks nothing, or where a line is awaited
@@ -117,10 +135,12 @@ abbrev pub story_of : Option (List ℕ) → Result FlatStory ℕ
 story_of None = Err no_file
 story_of (Some bytes) = if nat_lt ceiling (length bytes) then Err (story_number_of TooLarge) else numbered (accepted bytes)
 
--- JOB PLAY: the machine of a story runs from its start, with the command's random words, on its screen, within its budget.
+-- JOB PLAY: the machine of a story runs from its start, with the command's random words, in its view and on its screen,
+-- within its budget.
 abbrev pub start_for : Command → Whole → Devices → Configuration
 start_for command whole entry =
-    start_of whole.machine (empty_world command.columns command.rows) (devices_for command.seed entry) command.echo command.steps
+    start_of whole.machine (empty_world command.view command.columns command.rows) (devices_for command.seed entry)
+    command.echo command.steps
 
 abbrev pub outcome_of_start : Command → FlatStory → Devices → Result Whole Fault → Outcome
 outcome_of_start command story entry (Ok whole) = runs command.seed (start_for command whole entry)
@@ -182,9 +202,10 @@ pub record HasNoMachine {A : Type 0} (ended : Ended A) (status fault at : ℕ) :
 abbrev pub IsUnbegun : {A : Type 0} → Ended A → Type 0
 IsUnbegun ended = HasNoMachine ended status_shelf_fault 0 0 ⊎ HasNoMachine ended status_no_memory 0 0
 
--- an output wasn't sent whole: the sink failed, or wanted memory
-abbrev pub IsUnsent : {A : Type 0} → Ended A → Type 0
-IsUnsent ended = HasNoMachine ended status_output_fault 0 0 ⊎ HasNoMachine ended status_no_memory 0 0
+-- an output wasn't sent whole: the sink failed, or it says that it wanted memory
+abbrev pub IsUnsent : {A : Type 0} → FlatSink → Ended A → Type 0
+IsUnsent sink ended =
+    HasNoMachine ended status_output_fault 0 0 ⊎ (HasNoMachine ended status_no_memory 0 0 × (sink.calls.wanting ≡ true))
 
 -- The shelf was asked once, and its files stand.
 pub record LoadsOnce (before now : FlatShelf) : Type 0 where
@@ -202,7 +223,7 @@ pub record TakesOnce (bytes : List ℕ) (before now : FlatSink) : Type 0 where
 abbrev pub SendsOutput : {A : Type 0} → ℕ → List ℕ → FlatSink → FlatSink → Ended A → Type 0
 SendsOutput status output before now ended =
     (HasNoMachine ended status 0 0 × TakesOnce output before now)
-    ⊎ (IsUnsent ended × ((front : List ℕ) × IsFront front output × TakesOnce front before now))
+    ⊎ (IsUnsent now ended × ((front : List ℕ) × IsFront front output × TakesOnce front before now))
 
 -- The session from a start was run over these devices, with the words of the seed or the device's.
 abbrev pub IsRunOf : {A : Type 0} → Option ℕ → Configuration → Devices → Devices → Ended A → Type 0
@@ -310,7 +331,8 @@ pub record HasNoFailure (entry exit : Devices) : Type 0 where
   pub sink : exit.sink.calls.faults ≢ raised entry.sink.calls.faults
   pub shelf : exit.shelf.calls.faults ≢ raised entry.shelf.calls.faults
 
--- Where the source and the shelf tell what they hold and no device failed, the status is the outcome's, or memory ran out.
+-- Where the source and the shelf tell what they hold and no device failed, the status is the outcome's, or memory ran
+-- out.
 abbrev pub IsComplete : Option Command → Devices → Devices → ℕ → Type 0
 IsComplete command entry exit status =
     entry.source.tells ≡ true → entry.shelf.tells ≡ true → HasNoFailure entry exit

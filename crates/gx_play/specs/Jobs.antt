@@ -9,6 +9,7 @@ use Rattle.gx_story.specs.Stories.{FlatStory, accepted}
 use Rattle.gx_state.specs.Flat.{FlatState}
 use Rattle.gx_machine.specs.Machine.{Whole}
 use Rattle.gx_machine.specs.Start.{first_machine}
+use Rattle.glk_world.specs.declared.views.View.TheVariants as view
 use Rattle.glk_world.specs.World.{empty_world}
 use Rattle.gx_session.specs.Constants.{status_ended, status_fault}
 use Rattle.gx_session.specs.Devices.{Devices, devices}
@@ -30,9 +31,9 @@ abbrev pub check_line : Bool → List ℕ
 check_line true = line_of (codes "checksum ok")
 check_line false = line_of (codes "checksum differs")
 
--- JOB WORK: the story of a number is played to its end over devices that hold nothing, on a screen of 80 columns and 24
--- rows, with the usual depth of undo and within the largest budget, whatever the options say; what it comes to is told in
--- three numbers.
+-- JOB WORK: the story of a number is played to its end over devices that hold nothing, in the usual view, on a screen
+-- of 80 columns and 24 rows, with the usual depth of undo and within the largest budget, whatever the options say; what
+-- it comes to is told in three numbers.
 
 -- every random word is 0
 abbrev pub zeros : Stream
@@ -57,7 +58,7 @@ unfoldable pub work_machine : ℕ → Option Whole
 work_machine number = machine_in (accepted (work_story number))
 
 abbrev pub work_start : Whole → Configuration
-work_start whole = start_of whole.machine (empty_world 80 24) nothing false (2 ^ 64 - 1)
+work_start whole = start_of whole.machine (empty_world view.Rows 80 24) nothing false (2 ^ 64 - 1)
 
 -- the sum of so many words from an address on
 unfoldable pub sum_from : ℕ → List ℕ → ℕ → ℕ

@@ -1,5 +1,5 @@
--- How the parts of `play` are put together: what loading a file comes to, what playing or telling it comes to then, and what
--- a command comes to once it is read.
+-- How the parts of `play` are put together: what loading a file comes to, what playing or telling it comes to then, and
+-- what a command comes to once it is read.
 use Rattle.std.specs.Prelude.{◌≡◌, ◌≢◌, ◌⊎◌, ℕ, true, List, Option, None, Result, Ok, Err}
 use Rattle.gx_words.specs.Faults.{number_of}
 use Rattle.gx_outside.specs.Outside.{FlatShelf, FlatSink}
@@ -39,8 +39,8 @@ abbrev pub fault_of : Refusal → ℕ
 fault_of (refusal.BadStory fault) = fault
 fault_of r = 0
 
--- The answer is the definition's for a file of at most so many bytes, but for a shelf that failed, and for want of memory
--- once there are bytes.
+-- The answer is the definition's for a file of at most so many bytes, but for a shelf that failed, and for want of
+-- memory once there are bytes.
 abbrev pub LoadGives : {X : Type 0} → ℕ → (Option (List ℕ) → Result X ℕ) → Option (List ℕ) → Result X Refusal → Type 0
 LoadGives most defined file (Ok x) = defined file ≡ Ok x
 LoadGives most defined file (Err (refusal.BadStory fault)) = defined file ≡ Err fault
@@ -60,8 +60,8 @@ StoryPlays (unstarted fault at) entry exit ended = HasNoMachine ended status_fau
 StoryPlays (runs seed start) entry exit ended = IsRunOf seed start entry exit ended ⊎ IsUnbegun ended
 StoryPlays (tells status output) entry exit ended = ⊥
 
--- What a file that was loaded is told as, where no machine is started: nothing is sent with a refusal; and before an output
--- is sent, memory may run out.
+-- What a file that was loaded is told as, where no machine is started: nothing is sent with a refusal; and before an
+-- output is sent, memory may run out.
 abbrev pub JobTells : {A : Type 0} → Outcome → FlatSink → FlatSink → Ended A → Type 0
 JobTells (refused status fault at) before now ended = HasNoMachine ended status fault at × (now ≡ before)
 JobTells (unstarted fault at) before now ended = ⊥

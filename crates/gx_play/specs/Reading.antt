@@ -12,7 +12,17 @@ use Rattle.gx_play.specs.Commands.{Command, Texts, are_none, faults_of, found_in
 
 -- what a command asks for
 abbrev pub seen : declared.Command → Command
-seen c = record { story = c.story.now; steps = c.steps; columns = c.columns; rows = c.rows; undo = c.undo; seed = c.seed; echo = c.echo; job = c.job }
+seen c = record {
+  story = c.story.now;
+  steps = c.steps;
+  columns = c.columns;
+  rows = c.rows;
+  undo = c.undo;
+  seed = c.seed;
+  echo = c.echo;
+  view = c.view;
+  job = c.job;
+}
 
 -- numbers that a run can be played with: a screen from 1 by 1 to 255 by 255, and from 1 to 64 copies for undo
 pub record IsInRange (c : declared.Command) : Type 0 where
@@ -30,6 +40,8 @@ texts_seen t = record {
   undo = option_map (λ text. text.now) t.undo;
   seed = option_map (λ text. text.now) t.seed;
   echo = t.echo;
+  screen = t.screen;
+  plain = t.plain;
   job = Some t.job.now;
 }
 
@@ -43,6 +55,8 @@ texts_in found = record {
   undo = first_value found (codes "undo");
   seed = first_value found (codes "seed");
   echo = is_set (first_value found (codes "echo"));
+  screen = is_set (first_value found (codes "screen"));
+  plain = is_set (first_value found (codes "plain"));
   job = first_value found (codes "job");
 }
 

@@ -53,9 +53,9 @@ pub record SeesInstruction (f : FlatState) (w : Written) : Type 0 where
   pub operands : (k : ℕ) → k < length w.modes → SeesOperand f w k
   pub end : data_at f w (length w.modes) ≡ f.pc + length (bytes_of w)
 
--- A text is assembled to a code, and the bytes of a code are listed as a text, exactly where the text spells the code. The
--- story of a code is accepted with its right checksum, and listed as its instructions up to the first quit or return. A
--- machine at an instruction's bytes sees that instruction.
+-- A text is assembled to a code, and the bytes of a code are listed as a text, exactly where the text spells the code.
+-- The story of a code is accepted with its right checksum, and listed as its instructions up to the first quit or
+-- return. A machine at an instruction's bytes sees that instruction.
 pub record IsSpelling : Type 0 where
   pub assembles : (text code : List ℕ) → (assembled text ≡ Ok code) ↔ Spelled text code
   pub lists : (code text : List ℕ) → All (λ b. b < 256) code → (listed code ≡ Ok text) ↔ Spelled text code

@@ -1,18 +1,20 @@
 //! The command line: what its words ask for.
 //!
-//! `gx_player STORY [--steps N] [--columns N] [--rows N] [--undo N] [--seed N] [--echo] [--job JOB]`, read as
-//! specs/Commands has it: a command exactly where the words match and each text is as it has to be. All options
-//! are looked at in every job. Reading takes memory, so that want of memory may come for any words.
+//! `gx_player STORY [--steps N] [--columns N] [--rows N] [--undo N] [--seed N] [--echo] [--screen | --plain]
+//! [--job JOB]`, read as specs/Commands has it: a command exactly where the words match, each text is as it has to be
+//! and the flags go together. All options are looked at in every job. Reading takes memory, so that want of memory may
+//! come for any words.
 ghost use Rattle.std.specs.Prelude.{◌≡◌, ◌-◌, ◌^◌, ◌≤◌, Some, map, MatchResult, IfOk, IfSome, option_map, codes};
 ghost use Rattle.std.specs.Char.{is_ascii_digit};
 ghost use Rattle.std.specs.List.{list_all};
 ghost use Rattle.clap.specs.Words.{first_value, found_of};
 ghost use Rattle.gx_undo.specs.Undo.{most_undo};
-ghost use Rattle.gx_play.specs.Commands.{command_of, command_in, number_of, depth_of, seed_of, job_of, is_set};
+ghost use Rattle.gx_play.specs.Commands.{command_of, command_in, number_of, depth_of, seed_of, job_of, view_of, is_set};
 ghost use Rattle.gx_play.specs.Reading.{seen, texts_seen, texts_in, IsUnread, IsInRange};
 
 use crate::words::match_words;
 use clap::ArgMatches;
+use glk_world::View;
 use gx_undo::MOST_UNDO;
 use std::alloc::{AllocError, Global};
 
@@ -50,10 +52,12 @@ pub struct Command<'a> {
     pub seed: Option<u64>,
     /// Whether each line that is taken is shown.
     pub echo: bool,
+    /// How the text is put together.
+    pub view: View,
     pub job: Job,
 }
 
-/// The texts of a command line, of which but two have to be there.
+/// The texts of a command line, of which but two have to be there, and its flags.
 #[derive(Clone, Copy)]
 struct Texts<'a> {
     story: &'a str,
@@ -63,6 +67,8 @@ struct Texts<'a> {
     undo: Option<&'a str>,
     seed: Option<&'a str>,
     echo: bool,
+    screen: bool,
+    plain: bool,
     job: &'a str,
 }
 
@@ -110,17 +116,19 @@ fn read_matches<'a>(matches: &ArgMatches<'a>) -> Option<Command<'a>>
         rows: matches.get_str("rows")?,
         undo: matches.get_str("undo"),
         seed: matches.get_str("seed"),
-        echo: is_set(matches),
+        echo: is_set(matches, "echo"),
+        screen: is_set(matches, "screen"),
+        plain: is_set(matches, "plain"),
         job: matches.get_str("job")?,
     };
     read_texts(texts)
 }
 
-/// Whether the flag is set.
-fn is_set(matches: &ArgMatches) -> bool
-    ensures { result ≡ is_set (first_value (found_of matches.now) (codes "echo")) }
+/// Whether the flag of this name is set.
+fn is_set(matches: &ArgMatches, name: &str) -> bool
+    ensures { result ≡ is_set (first_value (found_of matches.now) name.now) }
 {
-    match matches.get_str("echo") {
+    match matches.get_str(name) {
         Some(text) => text == "true",
         None => false,
     }
@@ -137,6 +145,7 @@ fn read_texts<'a>(texts: Texts<'a>) -> Option<Command<'a>>
     let undo = read_depth(texts.undo)?;
     let seed = read_seed(texts.seed)?;
     let job = read_job(texts.story, texts.job)?;
+    let view = read_view(texts.screen, texts.plain, texts.echo, job)?;
     Some(Command {
         story: texts.story,
         steps,
@@ -145,6 +154,7 @@ fn read_texts<'a>(texts: Texts<'a>) -> Option<Command<'a>>
         undo,
         seed,
         echo: texts.echo,
+        view,
         job,
     })
 }
@@ -184,6 +194,18 @@ fn read_job(story: &str, name: &str) -> Option<Job>
         "asm" => Some(Job::Asm),
         "list" => Some(Job::List),
         _ => None,
+    }
+}
+
+/// How the text is put together; None where the flags don't go together in this job.
+fn read_view(screen: bool, plain: bool, echo: bool, job: Job) -> Option<View>
+    ensures { result ≡ view_of screen plain echo job }
+{
+    match (screen, plain) {
+        (false, false) => Some(View::Rows),
+        (false, true) => Some(View::Plain),
+        (true, false) if !echo && job == Job::Play => Some(View::Screen),
+        (true, _) => None,
     }
 }
 

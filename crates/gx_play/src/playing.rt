@@ -1,8 +1,10 @@
-//! Job play: the story is loaded and played within a budget, with the random words of a seed where there is one.
+//! Job play: the story is loaded and played within a budget, in the view that the words ask for, with the random words
+//! of a seed where there is one.
 ghost use Rattle.std.specs.Prelude.{◌≡◌, ◌≢◌, None};
 ghost use Rattle.gx_words.specs.declared.faults.Fault.TheVariants.{NoMemory};
 ghost use Rattle.gx_words.specs.Faults.{number_of};
 ghost use Rattle.gx_machine.specs.Start.{first_machine};
+ghost use Rattle.glk_world.specs.World.{empty_world};
 ghost use Rattle.gx_session.specs.Devices.{devices};
 ghost use Rattle.gx_session.specs.Counts.{Counts};
 ghost use Rattle.gx_session.specs.Constants.{status_bad_words, status_fault, status_no_memory};
@@ -13,7 +15,7 @@ ghost use Rattle.gx_play.specs.Reading.{seen, IsInRange};
 
 use crate::command::Command;
 use crate::loading::{load_story, without_machine, without_story};
-use glk_world::World;
+use glk_world::{View, World};
 use gx_machine::Machine;
 use gx_outside::{Shelf, Sink, Source};
 use gx_session::{Ended, run, statuses};
@@ -99,7 +101,7 @@ fn run_machine<A: Allocator + Clone, S: Source, K: Sink, F: Shelf, R: Rng>(
     ensures some { result.machine ≢ None }
     ensures began { result.status ≢ status_bad_words }
 {
-    let world = World::new(alloc, command.columns, command.rows);
+    let world = world_of(alloc, command);
     match command.seed {
         None => run(
             alloc,
@@ -126,6 +128,18 @@ fn run_machine<A: Allocator + Clone, S: Source, K: Sink, F: Shelf, R: Rng>(
                 &mut words,
             )
         }
+    }
+}
+
+/// The world before the run, in the command's view and on its screen.
+fn world_of(alloc: Global, command: Command<'_>) -> World
+    requires { IsInRange command }
+    ensures { result ≡ empty_world command.entry.view command.entry.columns command.entry.rows }
+{
+    match command.view {
+        View::Rows => World::new(alloc, command.columns, command.rows),
+        View::Plain => World::plain(alloc, command.columns, command.rows),
+        View::Screen => World::screened(alloc, command.columns, command.rows),
     }
 }
 

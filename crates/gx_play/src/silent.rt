@@ -1,7 +1,7 @@
 //! Devices for a run that nothing is to come from: no input, no files, no chance. They never fail.
 ghost use Rattle.std.specs.Prelude.{◌≡◌, [], false, true, length};
 ghost use Rattle.gx_outside.specs.Files.{no_files};
-ghost use Rattle.gx_outside.specs.Outside.{no_call};
+ghost use Rattle.gx_outside.specs.Outside.{raised};
 ghost use Rattle.gx_play.specs.Jobs.{zeros};
 
 use gx_outside::{Failed, Load, SendFault, Shelf, ShelfFault, Sink, Source};
@@ -22,7 +22,7 @@ impl NoInput {
 }
 
 impl Source for NoInput {
-    ghost seen = { λ s. record { calls = record { made = s.reads; faults = 0; failing = false }; tells = true; left = [] } };
+    ghost seen = { λ s. record { calls = record { made = s.reads; faults = 0; failing = false; wanting = false }; tells = true; left = [] } };
 
     fn read(&mut self, _into: &mut [u8]) -> Result<usize, Failed> {
         self.reads = self.reads.saturating_add(1);
@@ -34,34 +34,47 @@ impl Source for NoInput {
 #[derive(Drop)]
 pub struct NoFiles {
     calls: u64,
+    wanting: bool,
 }
 
 impl NoFiles {
     pub fn new() -> NoFiles {
-        NoFiles { calls: 0 }
+        NoFiles {
+            calls: 0,
+            wanting: false,
+        }
+    }
+
+    /// One more call, which wants memory or doesn't.
+    fn note(&mut self, wanted: bool)
+        ensures calls { self.new.calls ≡ raised self.old.calls }
+        ensures wanting { self.new.wanting ≡ wanted }
+    {
+        self.calls = self.calls.saturating_add(1);
+        self.wanting = wanted;
     }
 }
 
 impl Shelf for NoFiles {
-    ghost seen = { λ s. record { calls = record { made = s.calls; faults = 0; failing = false }; tells = true; files = no_files } };
+    ghost seen = { λ s. record { calls = record { made = s.calls; faults = 0; failing = false; wanting = s.wanting }; tells = true; files = no_files } };
 
     fn load(&mut self, _name: &str, _most: usize) -> Result<Load, ShelfFault> {
-        self.calls = self.calls.saturating_add(1);
+        self.note(false);
         Ok(Load::Missing)
     }
 
     fn store(&mut self, _name: &str, _bytes: &[u8]) -> Result<(), ShelfFault> {
-        self.calls = self.calls.saturating_add(1);
+        self.note(true);
         Err(ShelfFault::NoMemory)
     }
 
     fn remove(&mut self, _name: &str) -> Result<bool, ShelfFault> {
-        self.calls = self.calls.saturating_add(1);
+        self.note(false);
         Ok(false)
     }
 
     fn has(&mut self, _name: &str) -> Result<bool, ShelfFault> {
-        self.calls = self.calls.saturating_add(1);
+        self.note(false);
         Ok(false)
     }
 }
@@ -71,6 +84,7 @@ impl Shelf for NoFiles {
 pub struct Gathered {
     text: Bytes,
     sends: u64,
+    wanting: bool,
 }
 
 impl Gathered {
@@ -80,6 +94,7 @@ impl Gathered {
         Gathered {
             text: Bytes::new(alloc),
             sends: 0,
+            wanting: false,
         }
     }
 
@@ -92,11 +107,13 @@ impl Gathered {
 }
 
 impl Sink for Gathered {
-    ghost seen = { λ s. record { calls = record { made = s.sends; faults = 0; failing = false }; tells = true; taken = s.text } };
+    ghost seen = { λ s. record { calls = record { made = s.sends; faults = 0; failing = false; wanting = s.wanting }; tells = true; taken = s.text } };
 
     fn send(&mut self, bytes: &[u8]) -> Result<(), SendFault> {
         self.sends = self.sends.saturating_add(1);
-        self.text.extend_from_slice(bytes)?;
+        let taken = self.text.extend_from_slice(bytes);
+        self.wanting = taken.is_err();
+        taken?;
         Ok(())
     }
 }

@@ -1,11 +1,11 @@
-//! The words of the command line, matched by `clap` with one simple command: STORY and seven options,
-//! which are texts and one flag. What the texts are worth is no matter here.
+//! The words of the command line, matched by `clap` with one simple command: STORY and nine options,
+//! which are texts and three flags. What the texts are worth, and which flags go together, is no matter here.
 //!
 //! Why the words have no matches isn't told: a question for help is a faulty command line like any
 //! other.
 ghost use Rattle.std.specs.Prelude.{◌≡◌, IfOk, MatchResult, false, map};
 ghost use Rattle.clap.specs.Words.{app_of, rule_of};
-ghost use Rattle.gx_play.specs.Commands.{player, story_rule, text_rule, free_rule, echo_rule};
+ghost use Rattle.gx_play.specs.Commands.{player, story_rule, text_rule, free_rule, flag_rule};
 ghost use Rattle.gx_play.specs.Reading.{HasMatches, IsUnread};
 
 use crate::command::CommandFault;
@@ -38,7 +38,9 @@ fn player<'a>(alloc: Global) -> Result<Command<'a>, AllocError>
     let rows = text_arg(alloc, "rows", "24");
     let undo = free_arg(alloc, "undo");
     let seed = free_arg(alloc, "seed");
-    let echo = echo_arg(alloc);
+    let echo = flag_arg(alloc, "echo");
+    let screen = flag_arg(alloc, "screen");
+    let plain = flag_arg(alloc, "plain");
     let job = text_arg(alloc, "job", "play");
     let with_story = Command::new(alloc, "gx_player").arg(story)?;
     let with_steps = with_story.arg(steps)?;
@@ -47,7 +49,9 @@ fn player<'a>(alloc: Global) -> Result<Command<'a>, AllocError>
     let with_undo = with_rows.arg(undo)?;
     let with_seed = with_undo.arg(seed)?;
     let with_echo = with_seed.arg(echo)?;
-    with_echo.arg(job)
+    let with_screen = with_echo.arg(screen)?;
+    let with_plain = with_screen.arg(plain)?;
+    with_plain.arg(job)
 }
 
 /// STORY, which has to be there.
@@ -74,12 +78,10 @@ fn free_arg<'a>(alloc: Global, name: &'a str) -> Arg<'a>
     Arg::new(alloc, name).long(name)
 }
 
-/// `--echo`.
-fn echo_arg<'a>(alloc: Global) -> Arg<'a>
-    ensures rule { rule_of result ≡ echo_rule }
+/// `--NAME`, which is set or not.
+fn flag_arg<'a>(alloc: Global, name: &'a str) -> Arg<'a>
+    ensures rule { rule_of result ≡ flag_rule name.entry.now }
     ensures global { result.global ≡ false }
 {
-    Arg::new(alloc, "echo")
-        .long("echo")
-        .action(ArgAction::SetTrue)
+    Arg::new(alloc, name).long(name).action(ArgAction::SetTrue)
 }

@@ -1,5 +1,5 @@
--- The numbers of the instructions, each by its name in the standard (Glulx 3.1.2, "Dictionary of Opcodes"). The constants of
--- the same names in code are tied to these.
+-- The numbers of the instructions, each by its name in the standard (Glulx 3.1.2, "Dictionary of Opcodes"). The
+-- constants of the same names in code are tied to these.
 --
 -- hasundo and discardundo aren't of 3.1.2: this machine has them beside it.
 use Rattle.std.specs.Prelude.{ℕ}

@@ -1,5 +1,5 @@
 -- What the effects of a step, and the answers to what it asks, make of a run.
-use Rattle.std.proofs.Common.{◌≡◌, ◌≢◌, ℕ, suc, ◌<◌, ◌≤◌, List, [], ◌++◌, length, inl, inr, Bool, true, false, Option, Some, None, is_some, IsSome, IsTrue, Result, Ok, Err, IsOk, if◌then◌else◌, refl, ap, subst, sym, ◌∙◌, append_assoc, arith}
+use Rattle.std.proofs.Common.{◌≡◌, ◌≢◌, ℕ, suc, ◌<◌, ◌≤◌, List, ◌++◌, length, inl, inr, Bool, true, false, Option, Some, None, is_some, IsSome, IsTrue, Result, Ok, Err, IsOk, if◌then◌else◌, refl, ap, subst, sym, ◌∙◌, append_assoc, arith}
 use Rattle.arrayvec.specs.ArrayVec.{ArrayVec}
 use Rattle.gx_words.specs.declared.faults.Fault.{Fault}
 use Rattle.gx_words.specs.declared.faults.Fault.TheVariants as fault
@@ -14,7 +14,7 @@ use Rattle.gx_machine.specs.Step.{asking_of, stepped, IsStepWriting}
 use Rattle.gx_outside.specs.Files.{Files}
 use Rattle.gx_outside.specs.Outside.{FlatSource, FlatShelf, raised}
 use Rattle.glk_world.specs.World.{Scene, FlatWorld, Said, after}
-use Rattle.glk_world.specs.Shown.{show_grids, show_line}
+use Rattle.glk_world.specs.Shown.{show_grids, show_line, ShowWants}
 use Rattle.glk_dispatch.specs.declared.Turn.{Turn}
 use Rattle.glk_dispatch.specs.declared.Turn.TheVariants as turn
 use Rattle.glk_dispatch.specs.declared.Given.{Given}
@@ -75,8 +75,8 @@ pub fault-gives : (start : Configuration) (entry : Devices) (h : Held) (asking :
 fault-gives start entry h asking d f result (inl e) early stopped = subst (Gives start entry h asking d) (sym e.1) (early e.0)
 fault-gives start entry h asking d f result (inr e) early stopped = subst (Gives start entry h asking d) (sym e.1) (stopped e.0)
 
--- a turn that waits may want memory where there are grids
-wait-wants : (machine : FlatMachine) (said : Said) (t : Turn) → IsWait t → said.0.windows.grids ≢ [] → TurnWants machine (Ok (said, t))
+-- a turn that waits may want memory where what is shown then may
+wait-wants : (machine : FlatMachine) (said : Said) (t : Turn) → IsWait t → ShowWants said.0 → TurnWants machine (Ok (said, t))
 wait-wants machine said turn.Wait is some = some
 wait-wants machine said turn.Prompt is some = some
 wait-wants machine said (turn.Answer reply) is some = absurd is
@@ -146,7 +146,7 @@ answered-is (turn.Has name) is other = is
 answered-is turn.Exit is other = is
 
 -- a world that has said something, with what was sent before
-sent-before : (sent : List ℕ) (w : FlatWorld) (said : Said) → after (record { scene = w.scene; text = sent ++ w.text }) said ≡ record { scene = (after w said).scene; text = sent ++ (after w said).text }
+pub sent-before : (sent : List ℕ) (w : FlatWorld) (said : Said) → after (record { scene = w.scene; text = sent ++ w.text }) said ≡ record { scene = (after w said).scene; text = sent ++ (after w said).text }
 sent-before sent w said = ap (λ (x : List ℕ). let y : FlatWorld = record { scene = said.0; text = x } in y) (append_assoc sent w.text said.1)
 
 module _ (start : Configuration) (entry : Devices) (h : Held) (d : Devices) where
@@ -316,7 +316,7 @@ module _ (start : Configuration) (entry : Devices) (h : Held) (d : Devices) wher
           asking_is = r.asks ∙ asked-same called (configuration_of r.going.now.past (asks t w) h d) refl refl;
         }
 
-    -- it waits for a line: the grids are shown
+    -- it waits for a line: what the view shows is shown
     pub turn-waits : (world : FlatWorld) → world ≡ after h.world (show_grids h.world.scene) → after_turn called w (Ok (r.said, t)) ≡ waiting_for called w r.said t
         → Waits start entry (record h { world = world }) asking d (asks t w)
     turn-waits world shown e =
@@ -362,12 +362,12 @@ module _ (start : Configuration) (entry : Devices) (h : Held) (d : Devices) wher
       memory = λ takes. r.memory (subst (λ (x : Turn). TurnWants h.machine (Ok (r.said, x))) (sym e) takes);
     }
 
-    -- the showing of the grids wants memory
-    pub turn-wants : IsWait t → h.world.scene.windows.grids ≢ [] → (h' : Held) → h'.machine ≡ h.machine → h'.left ≡ h.left → Early start entry h' asking d halt.NoMemory
+    -- that wants memory
+    pub turn-wants : IsWait t → ShowWants h.world.scene → (h' : Held) → h'.machine ≡ h.machine → h'.left ≡ h.left → Early start entry h' asking d halt.NoMemory
     turn-wants is some h' machine units =
         let scene : r.said.0 ≡ h.world.scene = ap (λ (x : FlatWorld). x.scene) (sym r.moved) in
         wants start entry turning d steps r.going h' asking
-        (r.memory (wait-wants h.machine r.said t is (subst (λ (x : Scene). x.windows.grids ≢ []) (sym scene) some))) machine units
+        (r.memory (wait-wants h.machine r.said t is (subst ShowWants (sym scene) some))) machine units
 
   -- A call goes on.
   abbrev pub on-ready : (asking : Option Asking) (g : Given) (w : Waiting) → Waits start entry h asking d (goes_on g w) → Ready start entry h d (goes_on g w)

@@ -1,7 +1,7 @@
 -- A device is asked in the middle of a Glk call, once the pending text is sent.
 use Rattle.std.proofs.Common.{◌≡◌, ℕ, ◌⊎◌, inl, inr, Bool, true, false, List, ◌++◌, Option, Some, None, Result, Ok, Err, refl, ap, subst, sym, ◌∙◌}
 use Rattle.gx_machine.specs.declared.askings.Asking.{Asking}
-use Rattle.gx_outside.specs.Outside.{FlatSource, FlatSink, FlatShelf, raised}
+use Rattle.gx_outside.specs.Outside.{FlatSource, FlatSink, FlatShelf, raised, shelf_wanted}
 use Rattle.gx_outside.specs.declared.devices.ShelfFault.{ShelfFault}
 use Rattle.gx_outside.specs.declared.devices.ShelfFault.TheVariants as of_shelf
 use Rattle.glk_world.specs.World.{FlatWorld}
@@ -63,22 +63,26 @@ module _ (start : Configuration) (entry : Devices) (h : Held) (asking : Option A
         asked = made ∙ ap raised waits.now.is_past.asked;
       }
 
-      refuse : (q : Question) → t ≡ turn_of q → (fault : ShelfFault) → Answers q d.shelf.files shelf.files (Err fault) → Early start entry h1 asking (record d1 { shelf = shelf }) (halt_of_shelf fault)
-      refuse q is of_shelf.Failed a =
+      -- it says whether it wanted memory
+      abbrev pub Says : ShelfFault → Type 0
+      Says fault = let r : Result Given ShelfFault = Err fault in shelf.calls.wanting ≡ shelf_wanted r
+
+      refuse : (q : Question) → t ≡ turn_of q → (fault : ShelfFault) → Says fault → Answers q d.shelf.files shelf.files (Err fault) → Early start entry h1 asking (record d1 { shelf = shelf }) (halt_of_shelf fault)
+      refuse q is of_shelf.Failed says a =
           refused start entry h1 d1 w t ready shelf halt.Shelf asking made (subst IsQuestion (sym is) (question-is q)) (inl refl) (subst (λ (x : Turn). LeavesFiles x d.shelf.files shelf.files) (sym is) a) asks-is
-      refuse q is of_shelf.NoMemory a =
-          refused start entry h1 d1 w t ready shelf halt.NoMemory asking made (subst IsQuestion (sym is) (question-is q)) (inr (refl, subst (MayWant d.shelf.files) (sym is) a.1))
+      refuse q is of_shelf.NoMemory says a =
+          refused start entry h1 d1 w t ready shelf halt.NoMemory asking made (subst IsQuestion (sym is) (question-is q)) (inr (refl, subst (MayWant d.shelf.files) (sym is) a.1, says))
           (subst (λ (x : Turn). LeavesFiles x d.shelf.files shelf.files) (sym is) a.0) asks-is
 
-      refuse-by : (q : Question) → t ≡ turn_of q → (fault : ShelfFault) (b : Bool) → d.shelf.tells ≡ b → (d.shelf.tells ≡ true → Answers q d.shelf.files shelf.files (Err fault))
+      refuse-by : (q : Question) → t ≡ turn_of q → (fault : ShelfFault) → Says fault → (b : Bool) → d.shelf.tells ≡ b → (d.shelf.tells ≡ true → Answers q d.shelf.files shelf.files (Err fault))
           → EventGives start entry h1 asking (record d1 { shelf = shelf }) (Err (halt_of_shelf fault))
-      refuse-by q is fault true told a = inr (refuse q is fault (a told))
-      refuse-by q is fault false told a = inl (untold told)
+      refuse-by q is fault says true told a = inr (refuse q is fault says (a told))
+      refuse-by q is fault says false told a = inl (untold told)
 
       -- it refused
-      pub shelf-refused : (q : Question) → t ≡ turn_of q → (fault : ShelfFault) → (d.shelf.tells ≡ true → Answers q d.shelf.files shelf.files (Err fault))
+      pub shelf-refused : (q : Question) → t ≡ turn_of q → (fault : ShelfFault) → Says fault → (d.shelf.tells ≡ true → Answers q d.shelf.files shelf.files (Err fault))
           → EventGives start entry h1 asking (record d1 { shelf = shelf }) (Err (halt_of_shelf fault))
-      shelf-refused q is fault a = refuse-by q is fault d.shelf.tells refl a
+      shelf-refused q is fault says a = refuse-by q is fault says d.shelf.tells refl a
 
       answer-at : (q : Question) → t ≡ turn_of q → (given : Given) → Answers q d.shelf.files shelf.files (Ok given) → Waits start entry h1 asking (record d1 { shelf = shelf }) (goes_on given w)
       answer-at q is given a =

@@ -17,8 +17,8 @@ blames-none before now failed same fine =
     }
 
 -- one call was made
-pub blames-call : (before now : Calls) (b : Bool) (failed : Type 0) → HasCause before now b → (failed → b ≡ true) → ((failed → ⊥) → b ≡ false) → Blames before now failed
-blames-call before now b failed c then-failed else-fine = record {
+pub blames-call : (before now : Calls) (b wanted : Bool) (failed : Type 0) → HasCause before now b wanted → (failed → b ≡ true) → ((failed → ⊥) → b ≡ false) → Blames before now failed
+blames-call before now b wanted failed c then-failed else-fine = record {
   later = c.later;
   rose = λ f. c.rose (then-failed f);
   last = λ f. c.last ∙ then-failed f;

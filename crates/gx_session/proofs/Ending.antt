@@ -16,12 +16,12 @@ use Rattle.gx_session.specs.Constants.{status_shelf_fault, status_input_fault, s
 use Rattle.gx_session.specs.Counts.{Counts, IsUntold}
 use Rattle.gx_session.specs.Cuts.{in_listing, in_store, IsLineStop, IsShelfStatus, stopped}
 use Rattle.gx_session.specs.Devices.{Devices}
-use Rattle.gx_session.specs.Endings.{Store, stores_of, stored, told_all, after_stores, last_of, StoredAll, StoredSome}
+use Rattle.gx_session.specs.Endings.{Store, open_files_of, stores_of, stored, told_all, after_stores, last_of, StoredAll, StoredSome}
 use Rattle.gx_session.specs.Session.{Configuration, Ending, final_of, status_of, fault_number, fault_address}
 use Rattle.gx_session.specs.Runs.{IsFront, LeavesInput, read_failures, AreDrawn, Report, EndsAt, StopsEarly, IsReport, IsSession, IsSomeSession}
 use Rattle.gx_session.specs.Playing.{Held, configuration_of, HasTaken, Told, Finished, Early, EndingGives, RunGives, IsStop, status_of_halt, Keeps, StoresFiles}
 use Rattle.gx_session.proofs.Counting.{blames-same}
-use Rattle.gx_session.proofs.Playing.{cut-at, input-left, words-left}
+use Rattle.gx_session.proofs.Playing.{memory-of, cut-at, input-left, words-left}
 use Rattle.gx_session.proofs.Storing.{raised-more}
 
 pub status-low : (why : Stop) → status_of why < status_shelf_fault
@@ -69,12 +69,16 @@ module _ (start : Configuration) (entry : Devices) (h : Held) (asking : Option A
       (input-left start entry h d (IsLineStop (final_of start).stop) ((final_of start).stop ≡ stop.LineTooLong) (λ short. t.few (λ e. short (t.stop_is ∙ e)))
       (λ other. t.reads (λ is. other (subst IsLineStop (sym t.stop_is) is))) t.is_past.reads t.is_past.left)
 
+  -- a file is open at the end where it is here
+  open-still : open_files_of h.world.scene ≢ [] → open_files_of (stopped start).world.scene ≢ []
+  open-still some = subst (λ (x : Scene). open_files_of x ≢ []) (sym scene-is) some
+
   -- memory ran out before them
-  pub listing-wants : Early start entry h asking d halt.NoMemory
-  listing-wants =
-      cut-at start entry d h asking halt.NoMemory in_listing (told_all (stopped start)) t.past.sent [] (refl, refl, t.asking_is) (sym (ap (λ (m : Configuration). m.machine) t.is_end)) (sym (ap (λ (m : Configuration). m.left) t.is_end))
+  pub listing-wants : open_files_of h.world.scene ≢ [] → Early start entry h asking d halt.NoMemory
+  listing-wants some =
+      cut-at start entry d h asking halt.NoMemory in_listing (told_all (stopped start)) t.past.sent [] (refl, open-still some, refl, t.asking_is) (sym (ap (λ (m : Configuration). m.machine) t.is_end)) (sym (ap (λ (m : Configuration). m.left) t.is_end))
       (whole-text ∙ sym (append-nil t.past.sent)) sent-taken whole-front (omega (arith, sent-bytes)) (omega (arith, sent-bytes)) (sym (ap (λ (m : Configuration). m.files) t.is_end))
-      (t.is_past.asked ∙ ap (λ (m : Configuration). raised_by m.asked entry.shelf.calls.made) (sym t.is_end)) (λ other. input-are) words-are t.saves
+      (t.is_past.asked ∙ ap (λ (m : Configuration). raised_by m.asked entry.shelf.calls.made) (sym t.is_end)) (λ other. input-are) words-are t.saves (λ e. tt)
 
   module _ (shelf : FlatShelf) where
     abbrev d-now : Devices
@@ -101,7 +105,7 @@ module _ (start : Configuration) (entry : Devices) (h : Held) (asking : Option A
     no-failures halted (inr e) = ap (λ (x : Halt). read_failures (status_of_halt x)) e
 
     -- one of them was refused
-    some-by : (halted : Halt) (b : Bool) → d.shelf.tells ≡ b → (halted ≡ halt.Shelf) ⊎ (halted ≡ halt.NoMemory) → StoredSome (stores_of h.world.scene) d.shelf shelf
+    some-by : (halted : Halt) (b : Bool) → d.shelf.tells ≡ b → (halted ≡ halt.Shelf) ⊎ (halted ≡ halt.NoMemory) → StoredSome (stores_of h.world.scene) d.shelf shelf (halted ≡ halt.NoMemory)
         → IsUntold entry.shelf shelf ⊎ Early start entry h asking d-now halted
     some-by halted false tells only s = inl (untold-now (length s.front) tells s.made)
     some-by halted true tells only s =
@@ -117,7 +121,7 @@ module _ (start : Configuration) (entry : Devices) (h : Held) (asking : Option A
         (subst (λ (f : Files). KeepsOthers (stored f s.front) shelf.files s.next.0) (sym before) (s.files tells))
         (asked-so (suc (length s.front)) s.made ∙ ap (λ (k : ℕ). raised_by k entry.shelf.calls.made) count)
         (λ other.
-        subst (LeavesInput start.input m.input entry.source d.source (IsLineStop (final_of start).stop) ((final_of start).stop ≡ stop.LineTooLong)) (sym (no-failures halted only)) input-are) words-are t.saves)
+        subst (LeavesInput start.input m.input entry.source d.source (IsLineStop (final_of start).stop) ((final_of start).stop ≡ stop.LineTooLong)) (sym (no-failures halted only)) input-are) words-are t.saves (λ e. s.wants (memory-of halted e)))
 
     -- all of them were stored
     all-by : (stores : List Store) (b : Bool) → d.shelf.tells ≡ b → StoredAll stores d.shelf shelf → IsUntold entry.shelf shelf ⊎ (shelf.files ≡ stored d.shelf.files stores)
@@ -129,13 +133,13 @@ module _ (start : Configuration) (entry : Devices) (h : Held) (asking : Option A
     finished-by s (inl untold) = inl untold
     finished-by s (inr files) = inr (record { shelf = d.shelf; told = t; files = files; made = s.made })
 
-    listed-by : (halted : Halt) → (halted ≡ halt.Shelf) ⊎ (halted ≡ halt.NoMemory) → ((halted ≡ halt.NoMemory) × (shelf ≡ d.shelf)) ⊎ StoredSome (stores_of h.world.scene) d.shelf shelf
+    listed-by : (halted : Halt) → (halted ≡ halt.Shelf) ⊎ (halted ≡ halt.NoMemory) → ((halted ≡ halt.NoMemory) × (shelf ≡ d.shelf) × (open_files_of h.world.scene ≢ [])) ⊎ StoredSome (stores_of h.world.scene) d.shelf shelf (halted ≡ halt.NoMemory)
         → IsUntold entry.shelf shelf ⊎ Early start entry h asking d-now halted
     listed-by halted only (inl none) =
-        inr (subst (λ (x : Halt). Early start entry h asking d-now x) (sym none.0) (subst (λ (k : FlatShelf). Early start entry h asking (record d { shelf = k }) halt.NoMemory) (sym none.1) listing-wants))
+        inr (subst (λ (x : Halt). Early start entry h asking d-now x) (sym none.0) (subst (λ (k : FlatShelf). Early start entry h asking (record d { shelf = k }) halt.NoMemory) (sym none.1) (listing-wants none.2)))
     listed-by halted only (inr s) = some-by halted d.shelf.tells refl only s
 
-    pub closes : (r : Result (Unit {0}) Halt) → StoresFiles (stores_of h.world.scene) d.shelf shelf r → IfErr r (λ e. (e ≡ halt.Shelf) ⊎ (e ≡ halt.NoMemory)) → EndingGives start entry h asking d-now why r
+    pub closes : (r : Result (Unit {0}) Halt) → StoresFiles h.world.scene d.shelf shelf r → IfErr r (λ e. (e ≡ halt.Shelf) ⊎ (e ≡ halt.NoMemory)) → EndingGives start entry h asking d-now why r
     closes (Ok u) s only = finished-by s (all-by (stores_of h.world.scene) d.shelf.tells refl s)
     closes (Err halted) s only = listed-by halted only s
 

@@ -1,4 +1,4 @@
--- Moves bring a session nearer to its end, which stays the same.
+-- Moves bring a session nearer to its stop, which stays the same.
 use Rattle.std.proofs.Common.{◌≡◌, ℕ, suc, zero, ◌+◌, ◌-◌, ◌*◌, ◌<◌, ◌≤◌, nat_lt, if◌then◌else◌, Bool, true, false, List, ◌++◌, length, Option, Some, None, Result, Ok, Err, refl, ap, subst, sym, ◌∙◌, arith, option_and_then}
 use Rattle.std.proofs.lemmas.Bool.{ltb-false, lt-leb}
 use Rattle.gx_words.specs.declared.faults.Fault.{Fault}
@@ -22,7 +22,7 @@ use Rattle.gx_session.specs.declared.running.Waiting.{Waiting}
 use Rattle.gx_session.specs.Input.{next_line}
 use Rattle.gx_session.specs.Saving.{saving, restoring}
 use Rattle.gx_session.specs.Sending.{Sent, is_due, with_all}
-use Rattle.gx_session.specs.Session.{Configuration, Doing, steps, asks, goes_on, Verdict, goes, stops, after_reply, after_restoring, after_turn, after_effect, after_step, step_from, act_by, act_of, is_due_by, sends_now, all_sent, move_of, Ending, end_after, final_in, moves_by, moves_left, final_of, next_of, run_of}
+use Rattle.gx_session.specs.Session.{Configuration, Doing, steps, asks, goes_on, Verdict, goes, stops, after_reply, after_restoring, after_turn, after_effect, after_step, step_from, act_by, act_of, is_due_by, sends_now, all_sent, move_of, Ending, end_after, final_in, moves_by, moves_left, stop_of, next_of, run_of}
 use Rattle.gx_session.proofs.Cases.{turn-cases, given-cases, line-cases, asking-cases}
 use Rattle.rand_core.specs.Stream.{next_u32}
 
@@ -152,18 +152,18 @@ enough (suc n) zero m h h' = absurd (omega arith)
 enough (suc n) (suc k) m h h' =
     agree (move_of m) (final_in n) (final_in k) (λ m' e. let near : moves_left m' < moves_left m = goes-nearer m m' e in enough n k m' (omega arith) (omega arith))
 
--- The end stays the same over a move.
-pub final-goes : (m m' : Configuration) → move_of m ≡ goes m' → final_of m' ≡ final_of m
-unfolding final_of
-final-goes m m' e =
+-- The stop stays the same over a move.
+pub stop-stays : (m m' : Configuration) → move_of m ≡ goes m' → stop_of m' ≡ stop_of m
+unfolding stop_of
+stop-stays m m' e =
     let near : moves_left m' < moves_left m = goes-nearer m m' e in
     let at_move : final_in (suc (moves_left m)) m ≡ final_in (moves_left m) m' = ap (λ (v : Verdict). end_after v (final_in (moves_left m))) e in
     enough (suc (moves_left m')) (moves_left m) m' (omega arith) near ∙ sym at_move
 
--- A move that stops is the end.
-pub final-stops : (m m' : Configuration) (s : Stop) → move_of m ≡ stops s m' → final_of m ≡ record { stop = s; configuration = m' }
-unfolding final_of
-final-stops m m' s e = ap (λ (v : Verdict). end_after v (final_in (moves_left m))) e
+-- A move that stops comes to it.
+pub stop-comes : (m m' : Configuration) (s : Stop) → move_of m ≡ stops s m' → stop_of m ≡ record { stop = s; configuration = m' }
+unfolding stop_of
+stop-comes m m' s e = ap (λ (v : Verdict). end_after v (final_in (moves_left m))) e
 
 -- One more move is one more configuration of the run.
 pub reached-goes : (start m m' : Configuration) (j : ℕ) → run_of start j ≡ Some m → move_of m ≡ goes m' → run_of start (suc j) ≡ Some m'

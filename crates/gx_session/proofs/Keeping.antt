@@ -159,9 +159,9 @@ untold-on entry before now u more =
     }
 
 -- one call of the shelf that didn't fail
-pub stays-shelf : (d : Devices) (before now : FlatShelf) → HasCause before.calls now.calls false → now.tells ≡ before.tells → Stays (record d { shelf = before }) (record d { shelf = now })
+pub stays-shelf : (d : Devices) (before now : FlatShelf) → HasCause before.calls now.calls false false → now.tells ≡ before.tells → Stays (record d { shelf = before }) (record d { shelf = now })
 stays-shelf d before now cause tells =
-    let none : Blames before.calls now.calls ⊥ = blames-call before.calls now.calls false ⊥ cause (λ e. absurd e) (λ e. refl) in
+    let none : Blames before.calls now.calls ⊥ = blames-call before.calls now.calls false false ⊥ cause (λ e. absurd e) (λ e. refl) in
     record {
       sink = well-none d.sink.calls;
       sink_tells = refl;

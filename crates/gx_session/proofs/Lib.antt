@@ -16,6 +16,7 @@ pub mod Passing
 pub mod Playing
 pub mod Saved
 pub mod Saving
+pub mod Screens
 pub mod Storing
 pub mod Texts
 pub mod Undoing

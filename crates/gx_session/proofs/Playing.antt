@@ -10,19 +10,19 @@ use Rattle.gx_session.specs.declared.ends.Stop.{Stop}
 use Rattle.gx_session.specs.declared.ends.Stop.TheVariants as stop
 use Rattle.gx_session.specs.declared.ends.Halt.{Halt}
 use Rattle.gx_session.specs.declared.ends.Halt.TheVariants as halt
-use Rattle.gx_session.specs.Constants.{piece, enough as enough_text}
+use Rattle.gx_session.specs.Constants.{status_no_memory, piece, enough as enough_text}
 use Rattle.gx_session.specs.declared.running.Waiting.{Waiting}
-use Rattle.gx_session.specs.Cuts.{Cut, in_move, in_send, in_question, in_reading, in_last_send, IsCut, IsLineCut, IsWaiting, IsSendStatus, IsQuestion, IsWait, MayWant, LeavesFiles, WantsMemory, IsLineStop, AwaitedAt, LongAt, asking_between, stopped, asking_at_stop, most_sent, sends_at, asked_by_cut, FilesAt}
+use Rattle.gx_session.specs.Cuts.{Cut, in_move, in_send, in_question, in_reading, in_last_send, IsCut, IsLineCut, IsWaiting, IsSendStatus, IsQuestion, IsWait, MayWant, LeavesFiles, WantsMemory, IsLineStop, AwaitedAt, LongAt, asking_between, stopped, asking_at_stop, WantedBy, most_sent, sends_at, asked_by_cut, FilesAt}
 use Rattle.gx_session.specs.Devices.{Devices}
 use Rattle.gx_session.specs.Endings.{told_all}
 use Rattle.gx_session.specs.Reading.{IsPartial, spare, ReadsFew}
 use Rattle.gx_session.specs.Sending.{Sent, is_due, with_all}
 use Rattle.gx_session.specs.Session.{Configuration, Doing, steps, asks, goes, stops, act_of, move_of, is_due_by, sends_now, all_sent, Ending, final_of, asked, asked_at}
 use Rattle.gx_session.specs.Runs.{IsFront, AreDrawn, LeavesInput, IsSaved, SavedBy, read_failures}
-use Rattle.gx_session.specs.Playing.{Held, WordIs, Past, configuration_of, HasTaken, IsPast, IsRead, Standing, Ready, Going, Done, Told, Early, status_of_halt, SendsAll, Flushes}
+use Rattle.gx_session.specs.Playing.{Held, WordIs, Past, configuration_of, HasTaken, IsPast, IsRead, Standing, Ready, Going, Done, Shown, Told, Early, status_of_halt, SendsAll, Flushes}
 use Rattle.gx_session.proofs.Saved.{unsaved-send, saved-more, saved-all}
 use Rattle.gx_session.proofs.Texts.{final-grows}
-use Rattle.gx_session.proofs.Finals.{quiet-sent, final-goes, final-stops, reached-goes, move-sends, move-acts}
+use Rattle.gx_session.proofs.Finals.{quiet-sent, stop-stays, stop-comes, reached-goes, move-sends, move-acts}
 use Rattle.rand_core.specs.Stream.{Stream}
 
 -- nothing was done so far
@@ -79,19 +79,27 @@ due-is enough sent text calls b e =
     let size : length (sent ++ text) - length sent ≡ length text = omega arith in
     ap (nat_le enough) size ∙ e
 
+-- a run that is cut short with this status wanted memory
+pub memory-of : (why : Halt) → status_of_halt why ≡ status_no_memory → why ≡ halt.NoMemory
+memory-of halt.NoMemory e = refl
+memory-of halt.Shelf e = absurd (omega arith)
+memory-of halt.Input e = absurd (omega arith)
+memory-of halt.Output e = absurd (omega arith)
+
 -- A run is cut short at a configuration, of whose text a front was taken.
 pub cut-at : (start : Configuration) (entry exit : Devices) (h : Held) (asking : Option Asking) (why : Halt) (cut : Cut) (m : Configuration) (sent rest : List ℕ)
     → IsCut start cut m (status_of_halt why) asking → h.machine ≡ m.machine → h.left ≡ m.left → m.world.text ≡ sent ++ rest → HasTaken entry.sink exit.sink sent (sends_at cut m)
     → IsFront m.world.text (final_of start).configuration.world.text → m.sent.bytes ≤ length sent → length sent ≤ most_sent cut m
     → FilesAt cut m exit.shelf.files → exit.shelf.calls.made ≡ raised_by (asked_by_cut cut m) entry.shelf.calls.made
     → ((IsLineCut cut m → ⊥) → LeavesInput start.input m.input entry.source exit.source (AwaitedAt start cut) (LongAt start cut) (read_failures (status_of_halt why)))
-    → AreDrawn m.words exit.words → SavedBy start cut → Early start entry h asking exit why
-cut-at start entry exit h asking why cut m sent rest is machine left text has shown least most files made input words saves =
+    → AreDrawn m.words exit.words → SavedBy start cut → (status_of_halt why ≡ status_no_memory → WantedBy cut exit) → Early start entry h asking exit why
+cut-at start entry exit h asking why cut m sent rest is machine left text has shown least most files made input words saves wanted =
     let front : take (length sent) m.world.text ≡ sent = ap (take (length sent)) text ∙ take-append_seam sent rest in
     record {
       cut = cut;
       configuration = m;
       is_cut = is;
+      wanted = wanted;
       left_is = left;
       machine_is = machine;
       shown = shown;
@@ -132,7 +140,7 @@ module _ (start : Configuration) (entry : Devices) (h : Held) (d : Devices) wher
 
     -- its text is a front of the end's
     shown-is : (s : Standing start entry h d doing) → IsFront (here s).world.text (final_of start).configuration.world.text
-    shown-is s = subst (λ (e : Ending). IsFront (here s).world.text e.configuration.world.text) s.same_end (final-grows (here s))
+    shown-is s = final-grows (here s) start s.same_end
 
     -- the run goes on
     abbrev pub moves-on : (g : Ready start entry h d doing) (p' : Past) (doing' : Doing) (h' : Held) (d' : Devices) → IsPast start.input entry p' h' d' → length h'.ahead < piece → IsRead start.input entry h' d'
@@ -147,7 +155,7 @@ module _ (start : Configuration) (entry : Devices) (h : Held) (d : Devices) wher
           reads = reads;
           reached = reached-goes start (here g.now) (configuration_of p' doing' h' d') g.now.moves g.now.reached move;
           saves = saved-more start g.now.moves (here g.now) g.now.reached saved g.now.saves;
-          same_end = final-goes (here g.now) (configuration_of p' doing' h' d') move ∙ g.now.same_end;
+          same_end = stop-stays (here g.now) (configuration_of p' doing' h' d') move ∙ g.now.same_end;
         }
 
     -- the run stops
@@ -162,7 +170,7 @@ module _ (start : Configuration) (entry : Devices) (h : Held) (d : Devices) wher
           is_past = is;
           few = few;
           reads = reads;
-          is_end = sym g.now.same_end ∙ final-stops (here g.now) (configuration_of p' doing' h' d') why move;
+          is_end = sym g.now.same_end ∙ stop-comes (here g.now) (configuration_of p' doing' h' d') why move;
           saves = saved-all start g.now.moves (here g.now) (configuration_of p' doing' h' d') why g.now.reached move g.now.saves;
           asking_is = asking-is;
         }
@@ -175,7 +183,7 @@ module _ (start : Configuration) (entry : Devices) (h : Held) (d : Devices) wher
         let s = g.now in
         cut-at start entry (record d { source = source }) h' asking halt.NoMemory (in_move s.moves) (here s) s.past.sent h.world.text
         (s.reached, g.quiet, refl, is) machine left refl s.is_past.taken (shown-is s) (omega arith) (omega arith) refl s.is_past.asked input
-        (words-left h.word d.words s.past.words s.is_past.word) s.saves
+        (words-left h.word d.words s.past.words s.is_past.word) s.saves (λ e. tt)
 
     -- the source wasn't asked since then
     pub wants : (g : Ready start entry h d doing) (h' : Held) (asking : Option Asking) → WantsMemory doing (here g.now) asking
@@ -192,18 +200,20 @@ module _ (start : Configuration) (entry : Devices) (h : Held) (d : Devices) wher
   module _ (w : Waiting) (turn : Turn) where
     -- the shelf refused
     pub refused : (g : Ready start entry h d (asks turn w)) (shelf : FlatShelf) (why : Halt) (asking : Option Asking) → shelf.calls.made ≡ raised d.shelf.calls.made
-        → IsQuestion turn → (why ≡ halt.Shelf) ⊎ ((why ≡ halt.NoMemory) × MayWant d.shelf.files turn) → LeavesFiles turn d.shelf.files shelf.files
+        → IsQuestion turn → (why ≡ halt.Shelf) ⊎ ((why ≡ halt.NoMemory) × MayWant d.shelf.files turn × (shelf.calls.wanting ≡ true)) → LeavesFiles turn d.shelf.files shelf.files
         → asking ≡ asked (here (asks turn w) g.now) → Early start entry h asking (record d { shelf = shelf }) why
     refused g shelf halt.Shelf asking made is (inl e) files asking-is =
         let s = g.now in
         cut-at start entry (record d { shelf = shelf }) h asking halt.Shelf (in_question s.moves) (here (asks turn w) s) s.past.sent h.world.text
         (s.reached, g.quiet, (is, inl refl), asking-is) refl refl refl s.is_past.taken (shown-is (asks turn w) s) (omega arith) (omega arith) files
         (made ∙ ap raised s.is_past.asked) (λ other. input-left ⊥ ⊥ (λ short. s.few) (λ short. s.reads) s.is_past.reads s.is_past.left) (words-left h.word d.words s.past.words s.is_past.word) s.saves
+        (λ e. absurd (omega arith))
     refused g shelf halt.NoMemory asking made is (inr e) files asking-is =
         let s = g.now in
         cut-at start entry (record d { shelf = shelf }) h asking halt.NoMemory (in_question s.moves) (here (asks turn w) s) s.past.sent h.world.text
         (s.reached, g.quiet, (is, inr (refl, e.1)), asking-is) refl refl refl s.is_past.taken (shown-is (asks turn w) s) (omega arith) (omega arith) files
         (made ∙ ap raised s.is_past.asked) (λ other. input-left ⊥ ⊥ (λ short. s.few) (λ short. s.reads) s.is_past.reads s.is_past.left) (words-left h.word d.words s.past.words s.is_past.word) s.saves
+        (λ same. e.2)
     refused g shelf halt.NoMemory asking made is (inl e) files asking-is = cc
     refused g shelf halt.Shelf asking made is (inr e) files asking-is = absurd (let f = e.0 in cc)
     refused g shelf halt.Input asking made is (inl e) files asking-is = cc
@@ -232,7 +242,7 @@ module _ (start : Configuration) (entry : Devices) (h : Held) (d : Devices) wher
         } in
         cut-at start entry (record d { source = source }) h' asking halt.Input (in_reading s.moves) (here (asks turn w) s) s.past.sent h.world.text
         (s.reached, g.quiet, refl, is, asking-is) machine left refl s.is_past.taken (shown-is (asks turn w) s) (omega arith) (omega arith) refl s.is_past.asked (λ other. leaves)
-        (words-left h.word d.words s.past.words s.is_past.word) s.saves
+        (words-left h.word d.words s.past.words s.is_past.word) s.saves (λ e. tt)
 
   -- a word was drawn
   pub redrawn : (word : Option ℕ) (stream : Stream) → Going start entry h d → ((words : Stream) → WordIs h.word d.words words → WordIs word stream words)
@@ -314,7 +324,7 @@ module _ (start : Configuration) (entry : Devices) (h : Held) (d : Devices) wher
             reads = g.reads;
             reached = reached-goes start (here doing g) (configuration_of (with-more g.past s.more) doing h-now d-now) g.moves g.reached move;
             saves = saved-more start g.moves (here doing g) g.reached (unsaved-send (here doing g) (due-now g true e)) g.saves;
-            same_end = final-goes (here doing g) (configuration_of (with-more g.past s.more) doing h-now d-now) move ∙ g.same_end;
+            same_end = stop-stays (here doing g) (configuration_of (with-more g.past s.more) doing h-now d-now) move ∙ g.same_end;
           } in
           record { now = now; quiet = ap sends_now same ∙ quiet-sent doing (here doing g).sent (here doing g).world.text }
       sends g false e f =
@@ -344,15 +354,16 @@ module _ (start : Configuration) (entry : Devices) (h : Held) (d : Devices) wher
         → IsPast start.input entry p h d → (why ≡ halt.Output) ⊎ (why ≡ halt.NoMemory) → sends_at cut (configuration_of p doing h d) ≡ suc p.sends → most_sent cut (configuration_of p doing h d) ≡ length (p.sent ++ h.world.text)
         → FilesAt cut (configuration_of p doing h d) d.shelf.files → asked_by_cut cut (configuration_of p doing h d) ≡ p.asked
         → LeavesInput start.input (h.ahead ++ h.coming) entry.source d.source (AwaitedAt start cut) (LongAt start cut) 0
-        → IsFront (p.sent ++ h.world.text) (final_of start).configuration.world.text → SavedBy start cut → SendsAll d.sink sink h.world world (Err why) → Early start entry h-now asking d-now why
-    cut-sending asking why cut p doing is past only calls most files questions input shown saves s =
+        → IsFront (p.sent ++ h.world.text) (final_of start).configuration.world.text → SavedBy start cut → (sink.calls.wanting ≡ true → WantedBy cut d-now)
+        → SendsAll d.sink sink h.world world (Err why) → Early start entry h-now asking d-now why
+    cut-sending asking why cut p doing is past only calls most files questions input shown saves wanted s =
         let text : p.sent ++ h.world.text ≡ (p.sent ++ s.more) ++ s.rest = ap (λ (x : List ℕ). p.sent ++ x) s.front ∙ sym (append_assoc p.sent s.more s.rest) in
         let size : length (p.sent ++ s.more) ≡ length p.sent + length s.more = length-append p.sent s.more in
         let whole : length (p.sent ++ h.world.text) ≡ length (p.sent ++ s.more) + length s.rest = ap length text ∙ length-append (p.sent ++ s.more) s.rest in
         let has : HasTaken entry.sink sink (p.sent ++ s.more) (suc p.sends) = has-taken entry.sink d.sink sink p.sent s.more p.sends past.taken s.has_taken in
         cut-at start entry d-now h-now asking why cut (configuration_of p doing h d) (p.sent ++ s.more) s.rest is refl refl text
         (subst (HasTaken entry.sink sink (p.sent ++ s.more)) (sym calls) has) shown (omega arith) (omega arith) files (past.asked ∙ ap (λ (n : ℕ). raised_by n entry.shelf.calls.made) (sym questions)) (λ other. subst (LeavesInput start.input (h.ahead ++ h.coming) entry.source d.source (AwaitedAt start cut) (LongAt start cut)) (sym (no-failures why only)) input)
-        (words-left h.word d.words p.words past.word) saves
+        (words-left h.word d.words p.words past.word) saves (λ e. wanted (s.wants (ap (λ (x : Halt). Err x) (memory-of why e))))
 
     -- The text that is due between two moves was refused.
     pub cut-send : (doing : Doing) (enough : ℕ) → ((s : Sent) (text : List ℕ) → is_due_by doing s text ≡ is_due enough s text) → (asking : Option Asking) (why : Halt) (g : Standing start entry h d doing)
@@ -360,10 +371,10 @@ module _ (start : Configuration) (entry : Devices) (h : Held) (d : Devices) wher
     cut-send doing enough due asking why g asking-is only f =
         let was = was-due enough why (nat_le enough (length h.world.text)) refl f in
         let is : IsCut start (in_send g.moves) (here doing g) (status_of_halt why) asking = (g.reached, due-now doing enough due g true was.0, send-status why only, asking-is) in
-        cut-sending asking why (in_send g.moves) g.past doing is g.is_past only refl refl refl refl (input-left ⊥ ⊥ (λ short. g.few) (λ short. g.reads) g.is_past.reads g.is_past.left) (shown-is doing g) g.saves was.1
+        cut-sending asking why (in_send g.moves) g.past doing is g.is_past only refl refl refl refl (input-left ⊥ ⊥ (λ short. g.few) (λ short. g.reads) g.is_past.reads g.is_past.left) (shown-is doing g) g.saves (λ e. e) was.1
 
     -- THE TEXT THAT IS DUE AT THE END
-    module _ (asking : Option Asking) (why : Stop) (g : Done start entry h asking d why) where
+    module _ (asking : Option Asking) (why : Stop) (g : Shown start entry h asking d why) where
       abbrev last : Configuration
       last = configuration_of g.past g.doing h d
 
@@ -425,4 +436,4 @@ module _ (start : Configuration) (entry : Devices) (h : Held) (d : Devices) wher
           cut-sending asking halted in_last_send g.past g.doing is g.is_past only refl refl refl refl
           (input-left (IsLineStop (final_of start).stop) ((final_of start).stop ≡ stop.LineTooLong) (λ short. g.few (λ e. short (stop-is ∙ e)))
           (λ other. g.reads (λ is'. other (subst IsLineStop (sym stop-is) is'))) g.is_past.reads g.is_past.left)
-          ([], ap (λ (x : Configuration). x.world.text) stopped-is ∙ sym (append-nil (g.past.sent ++ h.world.text))) g.saves was.1
+          ([], ap (λ (x : Configuration). x.world.text) stopped-is ∙ sym (append-nil (g.past.sent ++ h.world.text))) g.saves (λ e. e) was.1

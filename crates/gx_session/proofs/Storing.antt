@@ -1,15 +1,19 @@
 -- The files that are open at the end are stored one after another.
-use Rattle.std.proofs.Common.{◌≡◌, ℕ, zero, suc, ◌+◌, ◌<◌, List, [], ◌∷◌, ◌++◌, length, take, drop, get_or, Option, Some, None, true, refl, ap, subst, sym, ◌∙◌, append_assoc, length-append, arith}
+use Rattle.std.proofs.Common.{◌≡◌, Bool, Result, Err, ℕ, zero, suc, ◌+◌, ◌<◌, List, [], ◌∷◌, ◌++◌, length, take, drop, get_or, Option, Some, None, true, refl, ap, subst, sym, ◌∙◌, append_assoc, length-append, arith}
 use Rattle.std.proofs.lemmas.List.{take-append-drop}
 use Rattle.std.proofs.lemmas.List.Elements.{filter_map-append}
 use Rattle.std.proofs.lemmas.Grind.{common_steps}
 use Rattle.std.specs.List.{filter_map}
 use Rattle.std.specs.Option.{option_to_list}
 use Rattle.gx_outside.specs.Files.{Files, with_file}
-use Rattle.gx_outside.specs.Outside.{FlatShelf, KeepsOthers, raised, raised_by}
+use Rattle.gx_outside.specs.Outside.{FlatShelf, KeepsOthers, raised, raised_by, shelf_wanted}
 use Rattle.glk_world.specs.World.{Scene}
+use Rattle.gx_outside.specs.declared.devices.ShelfFault.{ShelfFault}
+use Rattle.gx_outside.specs.declared.devices.ShelfFault.TheVariants as of_shelf
+use Rattle.gx_session.specs.declared.ends.Halt.TheVariants as halt
 use Rattle.gx_session.specs.Endings.{file_of}
 use Rattle.gx_session.specs.Endings.{Store, stored, StoredAll, StoredSome}
+use Rattle.gx_session.specs.Playing.{halt_of_shelf}
 
 -- more stores
 pub stored-append : (files : Files) (one other : List Store) → stored files (one ++ other) ≡ stored (stored files one) other
@@ -44,8 +48,8 @@ module _ (one other : List Store) (a b c : FlatShelf) (tells : b.tells ≡ a.tel
         none = λ e. let both = no-stores one other e in second.none both.1 ∙ first.none both.0;
       }
 
-  pub stopped-more : StoredSome other b c → (rest : List Store) → StoredSome (one ++ other ++ rest) a c
-  stopped-more second rest =
+  pub stopped-more : (wanted : Type 0) → StoredSome other b c wanted → (rest : List Store) → StoredSome (one ++ other ++ rest) a c wanted
+  stopped-more wanted second rest =
       let all : suc (length second.front) + length one ≡ suc (length (one ++ second.front)) = omega (arith, length-append one second.front) in
       record {
         front = one ++ second.front;
@@ -54,6 +58,7 @@ module _ (one other : List Store) (a b c : FlatShelf) (tells : b.tells ≡ a.tel
         split = ap (λ (x : List Store). one ++ x ++ rest) second.split ∙ split second.front (second.next ∷ second.rest);
         files = λ t. subst (λ (f : Files). KeepsOthers f c.files second.next.0) (ap (λ (f : Files). stored f second.front) (first.files t) ∙ sym (stored-append a.files one second.front)) (second.files (tells ∙ t));
         made = counts (suc (length second.front)) second.made ∙ ap (λ (n : ℕ). raised_by n a.calls.made) all;
+        wants = second.wants;
       }
     where
       split : (front back : List Store) → one ++ (front ++ back) ++ rest ≡ (one ++ front) ++ (back ++ rest)
@@ -75,12 +80,19 @@ module _ (scene : Scene) (ids : List ℕ) (i : ℕ) (here : i < length ids) wher
   stores-all = ap (filter_map (file_of scene)) (sym (take-append-drop (i + 1) ids)) ∙ filter_map-append (file_of scene) (take (i + 1) ids) (drop (i + 1) ids) ∙ ap (λ (x : List Store). x ++ filter_map (file_of scene) (drop (i + 1) ids)) stores-front
 
 -- one store is refused
-pub store-refused : (o : Option Store) (s : Store) (before now : FlatShelf) → o ≡ Some s → now.calls.made ≡ raised before.calls.made → (before.tells ≡ true → KeepsOthers before.files now.files s.0) → StoredSome (option_to_list o) before now
-store-refused o s before now is made keeps = record {
+pub store-refused : (o : Option Store) (s : Store) (before now : FlatShelf) (wanted : Type 0) → o ≡ Some s → now.calls.made ≡ raised before.calls.made
+    → (before.tells ≡ true → KeepsOthers before.files now.files s.0) → (wanted → now.calls.wanting ≡ true) → StoredSome (option_to_list o) before now wanted
+store-refused o s before now wanted is made keeps wants = record {
   front = [];
   next = s;
   rest = [];
   split = ap option_to_list is;
   files = keeps;
   made = made;
+  wants = wants;
 }
+
+-- a shelf that wanted memory says so
+pub shelf-wants : (fault : ShelfFault) (b : Bool) → (let r : Result (Unit {0}) ShelfFault = Err fault in b ≡ shelf_wanted r) → halt_of_shelf fault ≡ halt.NoMemory → b ≡ true
+shelf-wants of_shelf.NoMemory b is e = is
+shelf-wants of_shelf.Failed b is e = absurd cc

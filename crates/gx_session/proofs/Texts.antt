@@ -1,5 +1,5 @@
 -- The text of a session grows.
-use Rattle.std.proofs.Common.{ℕ, suc, zero, ◌-◌, nat_lt, if◌then◌else◌, List, [], ◌++◌, Bool, true, false, Option, Some, None, Result, Ok, Err, refl, ap, sym, ◌∙◌, append_assoc, append-nil}
+use Rattle.std.proofs.Common.{ℕ, suc, zero, ◌-◌, nat_lt, if◌then◌else◌, List, [], ◌++◌, Bool, true, false, Option, Some, None, Result, Ok, Err, ◌≡◌, refl, ap, subst, sym, ◌∙◌, append_assoc, append-nil}
 use Rattle.gx_words.specs.declared.faults.Fault.{Fault}
 use Rattle.gx_state.specs.declared.effects.Effect.{Effect}
 use Rattle.gx_state.specs.declared.effects.Effect.TheVariants as effect
@@ -8,7 +8,7 @@ use Rattle.gx_state.specs.Copies.{Copy}
 use Rattle.gx_machine.specs.Machine.{FlatMachine}
 use Rattle.gx_machine.specs.Step.{cost_of, step_of}
 use Rattle.glk_world.specs.World.{Said, after}
-use Rattle.glk_world.specs.Shown.{show_grids, show_line}
+use Rattle.glk_world.specs.Shown.{show_grids, show_line, end_text}
 use Rattle.glk_dispatch.specs.declared.Turn.{Turn}
 use Rattle.glk_dispatch.specs.Calls.{glk_call}
 use Rattle.glk_dispatch.specs.Going.{glk_go_on}
@@ -17,7 +17,7 @@ use Rattle.gx_session.specs.declared.ends.Stop.TheVariants as stop
 use Rattle.gx_session.specs.declared.running.Waiting.{Waiting}
 use Rattle.gx_session.specs.Input.{next_line}
 use Rattle.gx_session.specs.Saving.{saving, restoring}
-use Rattle.gx_session.specs.Session.{Configuration, Doing, steps, asks, goes_on, Verdict, goes, stops, after_reply, after_restoring, after_turn, after_effect, after_step, step_from, act_by, act_of, sends_now, all_sent, move_of, moves_left, Ending, end_after, final_in, final_of}
+use Rattle.gx_session.specs.Session.{Configuration, Doing, steps, asks, goes_on, Verdict, goes, stops, after_reply, after_restoring, after_turn, after_effect, after_step, step_from, act_by, act_of, sends_now, all_sent, move_of, moves_left, Ending, end_after, final_in, stop_of, final_of}
 use Rattle.gx_session.specs.Runs.{IsFront}
 use Rattle.gx_session.proofs.Cases.{turn-cases, given-cases, line-cases, asking-cases}
 use Rattle.rand_core.specs.Stream.{next_u32}
@@ -103,7 +103,22 @@ final_in-grows (suc n) m =
     front-trans m.world.text (text_in (move_of m)) (end_after (move_of m) (final_in n)).configuration.world.text
     (move-grows m) (after-grows (move_of m) (final_in n) (final_in-grows n))
 
--- The text of the end begins with that of each configuration.
-pub final-grows : (m : Configuration) → IsFront m.world.text (final_of m).configuration.world.text
+-- The text of the stop begins with that of each configuration.
+stop-grows : (m : Configuration) → IsFront m.world.text (stop_of m).configuration.world.text
+unfolding stop_of
+stop-grows m = final_in-grows (suc (moves_left m)) m
+
+-- The last screen comes behind it.
+pub last-grows : (start : Configuration)
+    → IsFront (stop_of start).configuration.world.text (final_of start).configuration.world.text
 unfolding final_of
-final-grows m = final_in-grows (suc (moves_left m)) m
+last-grows start = ((end_text (stop_of start).configuration.world.scene).1, refl)
+
+-- So the text of the end begins with that of each configuration.
+pub final-grows : (m start : Configuration) → stop_of m ≡ stop_of start
+    → IsFront m.world.text (final_of start).configuration.world.text
+final-grows m start same =
+    let here : IsFront m.world.text (stop_of start).configuration.world.text =
+    subst (λ (e : Ending). IsFront m.world.text e.configuration.world.text) same (stop-grows m) in
+    front-trans m.world.text (stop_of start).configuration.world.text (final_of start).configuration.world.text
+    here (last-grows start)

@@ -12,7 +12,8 @@ use Rattle.gx_machine.specs.Machine.{FlatMachine}
 use Rattle.gx_machine.specs.Step.{stepped, IsStepWriting}
 use Rattle.gx_outside.specs.Files.{Files}
 use Rattle.gx_outside.specs.Outside.{KeepsOthers}
-use Rattle.glk_world.specs.World.{Said}
+use Rattle.glk_world.specs.World.{Said, is_composed}
+use Rattle.glk_world.specs.Shown.{ShowWants}
 use Rattle.glk_dispatch.specs.declared.Given.{Given}
 use Rattle.glk_dispatch.specs.declared.Turn.{Turn}
 use Rattle.glk_dispatch.specs.declared.Turn.TheVariants as turn
@@ -24,10 +25,11 @@ use Rattle.gx_session.specs.declared.ends.Stop.{Stop}
 use Rattle.gx_session.specs.declared.ends.Stop.TheVariants as stop
 use Rattle.gx_session.specs.Constants.{status_shelf_fault, status_input_fault, status_output_fault, status_no_memory, most_loaded, failed}
 use Rattle.gx_session.specs.declared.running.Waiting.{Waiting}
-use Rattle.gx_session.specs.Session.{Configuration, Doing, steps, asks, goes_on, sends_now, run_of, final_of, effect_at, asked, asked_at}
+use Rattle.gx_session.specs.Devices.{Devices}
+use Rattle.gx_session.specs.Session.{Configuration, Doing, steps, asks, goes_on, sends_now, run_of, stop_of, final_of, effect_at, asked, asked_at}
 use Rattle.gx_session.specs.Saving.{saving, restoring, is_begun, is_read}
 use Rattle.gx_session.specs.Sending.{is_due}
-use Rattle.gx_session.specs.Endings.{Store, stores_of, told_all, after_stores}
+use Rattle.gx_session.specs.Endings.{Store, open_files_of, stores_of, told_all, after_stores}
 use Rattle.rand_core.specs.Stream.{next_u32}
 
 pub data Cut : Type 0 where
@@ -39,6 +41,8 @@ pub data Cut : Type 0 where
   in_question : ℕ → Cut
   -- the source failed at the wait that came then
   in_reading : ℕ → Cut
+  -- the last screen wanted memory
+  in_last_screen : Cut
   -- the text that was due at the end was refused
   in_last_send : Cut
   -- the list of the files that are open at the end wanted memory
@@ -79,11 +83,11 @@ abbrev pub AnswerWants : FlatMachine → Result (Said × Reply) Fault → Type 0
 AnswerWants machine (Ok r) = ReplyWants machine r.1
 AnswerWants machine (Err fault) = ⊥
 
--- So it is with the turn of a call. Before a line is awaited the grids are shown, if there are some.
+-- So it is with the turn of a call. Before a line is awaited, what the view shows then may want memory.
 abbrev pub TurnWants : FlatMachine → Result (Said × Turn) Fault → Type 0
 TurnWants machine (Ok (said, turn.Answer reply)) = ReplyWants machine reply
-TurnWants machine (Ok (said, turn.Wait)) = said.0.windows.grids ≢ []
-TurnWants machine (Ok (said, turn.Prompt)) = said.0.windows.grids ≢ []
+TurnWants machine (Ok (said, turn.Wait)) = ShowWants said.0
+TurnWants machine (Ok (said, turn.Prompt)) = ShowWants said.0
 TurnWants machine r = ⊥
 
 -- A machine that is restored takes the memory of the copy.
@@ -149,7 +153,7 @@ IsSendStatus status = (status ≡ status_output_fault) ⊎ (status ≡ status_no
 abbrev pub IsShelfStatus : ℕ → Type 0
 IsShelfStatus status = (status ≡ status_shelf_fault) ⊎ (status ≡ status_no_memory)
 
--- the configuration of the stop
+-- the configuration of the end, before its text is sent
 abbrev pub stopped : Configuration → Configuration
 stopped start = (final_of start).configuration
 
@@ -158,18 +162,32 @@ abbrev pub asking_at_stop : Configuration → Option Asking
 asking_at_stop start = asked_at (final_of start).stop (stopped start)
 
 -- The run is cut short so, at this configuration, with this status and with a machine that asks this. Memory is
--- wanted only where `WantsMemory` has it; a send is refused only where it is due, and the shelf and the source
--- fail only where they are asked, once all text was sent.
+-- wanted only where `WantsMemory` has it, and at the end only where the screen is composed, text is due or a file is
+-- open. A send is refused only where it is due, and the shelf and the source fail only where they are asked, once
+-- all text was sent.
 abbrev pub IsCut : Configuration → Cut → Configuration → ℕ → Option Asking → Type 0
 IsCut start (in_move j) m status asking = (run_of start j ≡ Some m) × (sends_now m ≡ false) × (status ≡ status_no_memory) × WantsMemory m.doing m asking
 IsCut start (in_send j) m status asking = (run_of start j ≡ Some m) × (sends_now m ≡ true) × IsSendStatus status × (asking ≡ asking_between m.doing m)
 IsCut start (in_question j) m status asking = (run_of start j ≡ Some m) × (sends_now m ≡ false) × IsRefusedBy m.doing m status × (asking ≡ asked m)
 IsCut start (in_reading j) m status asking = (run_of start j ≡ Some m) × (sends_now m ≡ false) × (status ≡ status_input_fault) × IsWaiting m.doing × (asking ≡ asked m)
+IsCut start in_last_screen m status asking =
+    (m ≡ (stop_of start).configuration) × (is_composed m.world.scene ≡ true)
+    × (status ≡ status_no_memory) × (asking ≡ asking_at_stop start)
 IsCut start in_last_send m status asking = (m ≡ stopped start) × (is_due 1 m.sent m.world.text ≡ true) × IsSendStatus status × (asking ≡ asking_at_stop start)
-IsCut start in_listing m status asking = (m ≡ told_all (stopped start)) × (status ≡ status_no_memory) × (asking ≡ asking_at_stop start)
+IsCut start in_listing m status asking =
+    (m ≡ told_all (stopped start)) × (open_files_of m.world.scene ≢ [])
+    × (status ≡ status_no_memory) × (asking ≡ asking_at_stop start)
 IsCut start (in_store stores next) m status asking =
     (m ≡ after_stores (told_all (stopped start)) stores) × IsShelfStatus status × (asking ≡ asking_at_stop start)
     × ((rest : List Store) × (stores_of m.world.scene ≡ stores ++ next ∷ rest))
+
+-- Where a device refused for want of memory, its last call is the one that wanted it.
+abbrev pub WantedBy : Cut → Devices → Type 0
+WantedBy (in_send j) exit = exit.sink.calls.wanting ≡ true
+WantedBy in_last_send exit = exit.sink.calls.wanting ≡ true
+WantedBy (in_question j) exit = exit.shelf.calls.wanting ≡ true
+WantedBy (in_store stores next) exit = exit.shelf.calls.wanting ≡ true
+WantedBy cut exit = Unit {0}
 
 -- how many bytes were sent at most, and in how many calls
 abbrev pub most_sent : Cut → Configuration → ℕ
@@ -196,18 +214,21 @@ IsLineStop s = ⊥
 
 -- The run was cut short after such a stop, and after one at too long a line.
 abbrev pub AwaitedAt : Configuration → Cut → Type 0
+AwaitedAt start in_last_screen = IsLineStop (final_of start).stop
 AwaitedAt start in_last_send = IsLineStop (final_of start).stop
 AwaitedAt start in_listing = IsLineStop (final_of start).stop
 AwaitedAt start (in_store stores next) = IsLineStop (final_of start).stop
 AwaitedAt start cut = ⊥
 
 abbrev pub LongAt : Configuration → Cut → Type 0
+LongAt start in_last_screen = (final_of start).stop ≡ stop.LineTooLong
 LongAt start in_last_send = (final_of start).stop ≡ stop.LineTooLong
 LongAt start in_listing = (final_of start).stop ≡ stop.LineTooLong
 LongAt start (in_store stores next) = (final_of start).stop ≡ stop.LineTooLong
 LongAt start cut = ⊥
 
--- After a refused store or remove the file of its name is open; the others stand, and so do all after every other refusal.
+-- After a refused store or remove the file of its name is open; the others stand, and so do all after every other
+-- refusal.
 abbrev pub LeavesFiles : Turn → Files → Files → Type 0
 LeavesFiles (turn.Store name bytes) before after = KeepsOthers before after name
 LeavesFiles (turn.Remove name) before after = KeepsOthers before after name

@@ -1,5 +1,5 @@
--- THE ENDING: after a stop the pending text is sent, and then each file stream that is open for writing is stored, in
--- order of creation.
+-- THE ENDING: after a stop the last screen is shown, where the screen is composed. Then the pending text is sent, and
+-- each file stream that is open for writing is stored, in order of creation.
 use Rattle.std.specs.Prelude.{◌≡◌, ℕ, suc, ◌+◌, List, [], ◌∷◌, ◌++◌, length, true, Option, Some}
 use Rattle.std.specs.List.{filter_map}
 use Rattle.glk_streams.specs.Streams as streams
@@ -30,14 +30,14 @@ abbrev pub stored : Files → List Store → Files
 stored files [] = files
 stored files (s ∷ stores) = stored (with_file files s.0 (Some s.1)) stores
 
--- The configuration at a stop once its text is sent, and after these stores.
+-- The configuration at the end once its text is sent, and after these stores.
 abbrev pub told_all : Configuration → Configuration
 told_all m = record m { sent = with_rest m.sent m.world.text }
 
 abbrev pub after_stores : Configuration → List Store → Configuration
 after_stores m stores = record m { files = stored m.files stores; asked = m.asked + length stores }
 
--- THE LAST CONFIGURATION of a run that stopped at this one.
+-- THE LAST CONFIGURATION of a run that came to its end at this one.
 abbrev pub last_of : Configuration → Configuration
 last_of m = after_stores (told_all m) (stores_of m.world.scene)
 
@@ -47,11 +47,13 @@ pub record StoredAll (stores : List Store) (before now : FlatShelf) : Type 0 whe
   pub made : now.calls.made ≡ raised_by (length stores) before.calls.made
   pub none : stores ≡ [] → now ≡ before
 
--- Some of them were stored, and the next one was refused, whose file is open then.
-pub record StoredSome (stores : List Store) (before now : FlatShelf) : Type 0 where
+-- Some of them were stored, and the next one was refused, whose file is open then. Where memory ran out, the shelf
+-- wanted it in that call.
+pub record StoredSome (stores : List Store) (before now : FlatShelf) (wanted : Type 0) : Type 0 where
   pub front : List Store
   pub next : Store
   pub rest : List Store
   pub split : stores ≡ front ++ next ∷ rest
   pub files : before.tells ≡ true → KeepsOthers (stored before.files front) now.files next.0
   pub made : now.calls.made ≡ raised_by (suc (length front)) before.calls.made
+  pub wants : wanted → now.calls.wanting ≡ true

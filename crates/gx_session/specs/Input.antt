@@ -1,8 +1,8 @@
 -- THE NEXT LINE of an input.
 --
--- A line is the bytes up to a line feed, and a last one without a line feed counts where it isn't empty. It is taken
--- as its characters: bad UTF-8 is read as U+FFFD, one for each maximal piece (the Unicode Standard, "U+FFFD
--- Substitution of Maximal Subparts"), and what isn't printable is left out; so is the carriage return before a line feed.
+-- A line is the bytes up to a line feed, and a last one without a line feed counts where it isn't empty. It is taken as
+-- its characters: bad UTF-8 is read as U+FFFD, one for each maximal piece (the Unicode Standard, "U+FFFD Substitution
+-- of Maximal Subparts"), and what isn't printable is left out; so is the carriage return before a line feed.
 use Rattle.std.specs.Prelude.{ℕ, ◌==◌, nat_le, if◌then◌else◌, Bool, List, length, filter}
 use Rattle.std.specs.List.{before_first, after_first}
 use Rattle.bstr.specs.Utf8.{lossy_chars}

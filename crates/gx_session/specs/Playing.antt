@@ -17,7 +17,7 @@ use Rattle.gx_outside.specs.declared.devices.SendFault.{SendFault}
 use Rattle.gx_outside.specs.declared.devices.SendFault.TheVariants as of_send
 use Rattle.gx_outside.specs.declared.devices.ShelfFault.{ShelfFault}
 use Rattle.gx_outside.specs.declared.devices.ShelfFault.TheVariants as of_shelf
-use Rattle.glk_world.specs.World.{FlatWorld, Said, after}
+use Rattle.glk_world.specs.World.{Scene, FlatWorld, Said, after}
 use Rattle.glk_dispatch.specs.declared.Turn.{Turn}
 use Rattle.glk_dispatch.specs.declared.Given.{Given}
 use Rattle.quetzal.specs.declared.faults.SaveFault.{SaveFault}
@@ -36,16 +36,16 @@ use Rattle.gx_session.specs.declared.running.Waiting.{Waiting}
 use Rattle.gx_session.specs.Counts.{Blames, IsUntold}
 use Rattle.gx_session.specs.Cuts.{IsWait, IsLineStop, ReplyWants, TurnWants, WantsMemory, stopped, asking_at_stop}
 use Rattle.gx_session.specs.Devices.{Devices}
-use Rattle.gx_session.specs.Endings.{Store, stores_of, stored, told_all, StoredAll, StoredSome}
+use Rattle.gx_session.specs.Endings.{Store, open_files_of, stores_of, stored, told_all, StoredAll, StoredSome}
 use Rattle.gx_session.specs.Input.{line, next_line}
-use Rattle.gx_session.specs.Session.{Configuration, Doing, steps, asks, goes_on, goes, act_of, after_effect, after_turn, after_given, sends_now, final_of, run_of, effect_at, asked, asked_at}
+use Rattle.gx_session.specs.Session.{Configuration, Doing, steps, asks, goes_on, goes, act_of, after_effect, after_turn, after_given, sends_now, Ending, stop_of, final_of, run_of, effect_at, asked, asked_at}
 use Rattle.gx_session.specs.Reading.{ReadsFew}
 use Rattle.gx_session.specs.Runs.{IsSaved, SavedAll, SavedBefore, StopsEarly}
 use Rattle.rand_core.specs.Stream.{Stream, next_u32}
 
--- What a run holds beside its devices: the machine, the world with the text that wasn't sent yet, the input that
--- was read and not taken and what comes after it, whether the source has ended, whether lines are shown, a random word that was drawn and not used,
--- and the units left.
+-- What a run holds beside its devices: the machine, the world with the text that wasn't sent yet, the input that was
+-- read and not taken and what comes after it, whether the source has ended, whether lines are shown, a random word that
+-- was drawn and not used, and the units left.
 pub record Held : Type 0 where
   pub machine : FlatMachine
   pub world : FlatWorld
@@ -77,7 +77,8 @@ abbrev pub WordIs : Option ℕ → Stream → Stream → Type 0
 WordIs None stream words = words ≡ stream
 WordIs (Some word) stream words = next_u32 words ≡ (word, stream)
 
--- What was done so far: the text that was sent, in so many calls; how often the shelf was asked; the words that are to come.
+-- What was done so far: the text that was sent, in so many calls; how often the shelf was asked; the words that are to
+-- come.
 pub record Past : Type 0 where
   pub sent : List ℕ
   pub sends : ℕ
@@ -128,7 +129,7 @@ pub record Standing (start : Configuration) (entry : Devices) (h : Held) (d : De
   pub reads : IsRead start.input entry h d
   pub reached : run_of start moves ≡ Some (configuration_of past doing h d)
   pub saves : SavedBefore start moves
-  pub same_end : final_of (configuration_of past doing h d) ≡ final_of start
+  pub same_end : stop_of (configuration_of past doing h d) ≡ stop_of start
 
 -- So it stands, and no text is due.
 pub record Ready (start : Configuration) (entry : Devices) (h : Held) (d : Devices) (doing : Doing) : Type 0 where
@@ -144,16 +145,21 @@ pub record Waits (start : Configuration) (entry : Devices) (h : Held) (asking : 
   pub now : Standing start entry h d doing
   pub asking_is : asking ≡ asked (configuration_of now.past doing h d)
 
--- A stop has come.
-pub record Done (start : Configuration) (entry : Devices) (h : Held) (asking : Option Asking) (d : Devices) (why : Stop) : Type 0 where
+-- The run has come to this end.
+pub record ComesTo (end : Ending) (start : Configuration) (entry : Devices) (h : Held) (asking : Option Asking)
+    (d : Devices) (why : Stop) : Type 0 where
   pub past : Past
   pub doing : Doing
   pub is_past : IsPast start.input entry past h d
   pub few : why ≢ stop.LineTooLong → length h.ahead < piece
   pub reads : (IsLineStop why → ⊥) → IsRead start.input entry h d
-  pub is_end : final_of start ≡ record { stop = why; configuration = configuration_of past doing h d }
+  pub is_end : end ≡ record { stop = why; configuration = configuration_of past doing h d }
   pub saves : SavedAll start
   pub asking_is : asking ≡ asked_at why (configuration_of past doing h d)
+
+-- A stop has come.
+abbrev pub Done : Configuration → Devices → Held → Option Asking → Devices → Stop → Type 0
+Done start entry h asking d why = ComesTo (stop_of start) start entry h asking d why
 
 -- the status of a run that is cut short
 abbrev pub status_of_halt : Halt → ℕ
@@ -253,13 +259,15 @@ StopGives start entry h asking d result = IsUntold entry.shelf d.shelf ⊎ Ends 
 abbrev pub FaultGives : Fault → Result Next Halt → Type 0
 FaultGives fault result = ((fault ≡ NoMemory) × (result ≡ Err halt.NoMemory)) ⊎ ((fault ≢ NoMemory) × (result ≡ Ok (next.Stops (stop.Faulted fault))))
 
--- A front of the pending text was sent, in one call, and all of it at Ok.
+-- A front of the pending text was sent, in one call, and all of it at Ok. Where memory ran out, the sink wanted it in
+-- that call.
 pub record SendsAll (before now : FlatSink) (old new : FlatWorld) (result : Result (Unit {0}) Halt) : Type 0 where
   pub more : List ℕ
   pub rest : List ℕ
   pub front : old.text ≡ more ++ rest
   pub has_taken : HasTaken before now more 1
   pub whole : OnOk result ((rest ≡ []) × (new ≡ record old { text = [] }))
+  pub wants : result ≡ Err halt.NoMemory → now.calls.wanting ≡ true
 
 -- The pending text is sent where it has so many bytes or more, and else nothing happens.
 pub record Flushes (enough : ℕ) (before now : FlatSink) (old new : FlatWorld) (result : Result (Unit {0}) Halt) : Type 0 where
@@ -274,8 +282,8 @@ pub record Becomes {E T : Type 0} (whole : E → Whole) (old new : Running E) (m
 abbrev pub TakesReply : {E T : Type 0} → (E → Whole) → Running E → Running E → Reply → ℕ → Result T Halt → Type 0
 TakesReply whole old new reply left result = Becomes whole old new (answer_of (whole old.engine).machine reply) left result
 
--- How the answer of a save relates to its definition: as that of a call that may lose the world (`MayLose`), but that want of
--- memory comes wherever the save is begun.
+-- How the answer of a save relates to its definition: as that of a call that may lose the world (`MayLose`), but that
+-- want of memory comes wherever the save is begun.
 abbrev pub MaySave : Type 0 → Result Reply Fault → FlatWorld → FlatWorld → Result (FlatWorld × Reply) Fault → Type 0
 MaySave begun (Ok reply) old new defined = defined ≡ Ok (new, reply)
 MaySave begun (Err e) old new defined = (e ≢ NoMemory → (new ≡ old) × (defined ≡ Err e)) × (e ≡ NoMemory → begun)
@@ -341,7 +349,11 @@ without_line no.Failed = Err halt.Input
 without_line no.NoMemory = Err halt.NoMemory
 
 -- THE ENDING
--- A stop has come, and all text was sent.
+-- A stop has come, and the last screen was shown.
+abbrev pub Shown : Configuration → Devices → Held → Option Asking → Devices → Stop → Type 0
+Shown start entry h asking d why = ComesTo (final_of start) start entry h asking d why
+
+-- Then all text was sent.
 pub record Told (start : Configuration) (entry : Devices) (h : Held) (asking : Option Asking) (d : Devices) (why : Stop) : Type 0 where
   pub past : Past
   pub doing : Doing
@@ -380,9 +392,11 @@ RunGives start entry h asking d result = IsUntold entry.shelf d.shelf ⊎ Conclu
 -- how the stores of the ending go
 abbrev pub Stores : List Store → FlatShelf → FlatShelf → Result (Unit {0}) Halt → Type 0
 Stores stores before now (Ok u) = StoredAll stores before now
-Stores stores before now (Err why) = StoredSome stores before now
+Stores stores before now (Err why) = StoredSome stores before now (why ≡ halt.NoMemory)
 
-abbrev pub StoresFiles : List Store → FlatShelf → FlatShelf → Result (Unit {0}) Halt → Type 0
-StoresFiles stores before now (Ok u) = StoredAll stores before now
--- the list of the files wanted memory, or a store was refused
-StoresFiles stores before now (Err why) = ((why ≡ halt.NoMemory) × (now ≡ before)) ⊎ StoredSome stores before now
+-- and how those of a scene do
+abbrev pub StoresFiles : Scene → FlatShelf → FlatShelf → Result (Unit {0}) Halt → Type 0
+StoresFiles scene before now (Ok u) = StoredAll (stores_of scene) before now
+-- the list of the files that are open wanted memory, or a store was refused
+StoresFiles scene before now (Err why) =
+    ((why ≡ halt.NoMemory) × (now ≡ before) × (open_files_of scene ≢ [])) ⊎ StoredSome (stores_of scene) before now (why ≡ halt.NoMemory)

@@ -1,7 +1,7 @@
 -- How lines are taken of a source: what is held of it, and what is still to come.
 --
--- A source that tells has so many bytes left. Of one that doesn't, what is to come is unknown: what is said here of a call is said of
--- all bytes that may come after it, and gives the bytes that came before it.
+-- A source that tells has so many bytes left. Of one that doesn't, what is to come is unknown: what is said here of a
+-- call is said of all bytes that may come after it, and gives the bytes that came before it.
 use Rattle.std.specs.Prelude.{◌≡◌, ℕ, ◌+◌, ◌<◌, ◌≤◌, List, [], ◌++◌, length, Bool, true, false, Result, Ok, Err}
 use Rattle.std.specs.List.{position_or_len}
 use Rattle.gx_outside.specs.Outside.{FlatSource, raised_by}

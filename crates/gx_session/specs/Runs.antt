@@ -7,7 +7,7 @@ use Rattle.gx_session.specs.Constants.{status_ended, status_fault, status_shelf_
 use Rattle.gx_session.specs.declared.session.EndedOn.{EndedOn}
 use Rattle.gx_session.specs.declared.ends.Stop.TheVariants as stop
 use Rattle.gx_session.specs.Counts.{Counts, IsUntold}
-use Rattle.gx_session.specs.Cuts.{Cut, in_move, in_send, in_question, in_reading, IsCut, IsLineCut, BeginsSave, IsLineStop, AwaitedAt, LongAt, most_sent, sends_at, asked_by_cut, FilesAt}
+use Rattle.gx_session.specs.Cuts.{Cut, in_move, in_send, in_question, in_reading, IsCut, IsLineCut, BeginsSave, IsLineStop, AwaitedAt, LongAt, WantedBy, most_sent, sends_at, asked_by_cut, FilesAt}
 use Rattle.gx_session.specs.Devices.{Devices}
 use Rattle.gx_session.specs.Endings.{last_of}
 use Rattle.gx_session.specs.Reading.{IsPartial}
@@ -40,8 +40,9 @@ abbrev pub AreDrawn : Stream → Stream → Type 0
 AreDrawn words stream = (stream ≡ words) ⊎ (stream ≡ (next_u32 words).1)
 
 -- The input that is left: what is to be read of the source, after the bytes that were read ahead. These are few, unless
--- the line that was awaited is too long, or the source failed in it. Each read gave something, but for one that said that nothing
--- is left, and one that failed. Where no line was taken and none was awaited at the end, the source wasn't asked.
+-- the line that was awaited is too long, or the source failed in it. Each read gave something, but for one that said
+-- that nothing is left, and one that failed. Where no line was taken and none was awaited at the end, the source wasn't
+-- asked.
 pub record LeavesInput (first input : List ℕ) (before now : FlatSource) (awaited long : Type 0) (failures : ℕ) : Type 0 where
   pub ahead : List ℕ
   pub coming : List ℕ
@@ -77,7 +78,7 @@ SavedBy start cut = SavedAll start
 abbrev pub read_failures : ℕ → ℕ
 read_failures status = if status == status_input_fault then 1 else 0
 
--- The run came to its end: all text was sent and all open files were stored.
+-- The run came to its end: all text was sent, with the last screen, and all open files were stored.
 pub record EndsAt (start : Configuration) (e : Ending) (entry exit : Devices) (r : Report) : Type 0 where
   pub status_is : r.status ≡ status_of e.stop
   pub fault_is : r.fault ≡ fault_number e.stop
@@ -93,12 +94,14 @@ pub record EndsAt (start : Configuration) (e : Ending) (entry exit : Devices) (r
   pub saves_are : SavedAll start
 
 -- The run was cut short, with so many units left. The text that was sent is a front of what was shown by then: all
--- that was due before, and some of a send that was refused. Where memory was wanted at a wait for a line, nothing is said of the input:
+-- that was due before, and some of a send that was refused. Where memory was wanted at a send, a question or a store,
+-- it was by the last call of that device. Where memory was wanted at a wait for a line, nothing is said of the input:
 -- more of it may have been read.
 pub record StopsEarly (start : Configuration) (entry exit : Devices) (status left : ℕ) (machine : Whole) : Type 0 where
   pub cut : Cut
   pub configuration : Configuration
   pub is_cut : IsCut start cut configuration status machine.asking
+  pub wanted : status ≡ status_no_memory → WantedBy cut exit
   pub left_is : left ≡ configuration.left
   pub machine_is : machine.machine ≡ configuration.machine
   pub shown : IsFront configuration.world.text (final_of start).configuration.world.text

@@ -1,6 +1,7 @@
 -- Saves and restores in a session (Glulx 3.1.2, "Game State"; Quetzal 1.4).
 --
--- Both are done by Glk streams, and fail where the I/O system isn't Glk's. A failure is no fault: the story is answered 1.
+-- Both are done by Glk streams, and fail where the I/O system isn't Glk's. A failure is no fault: the story is answered
+-- 1.
 use Rattle.std.specs.Prelude.{◌≡◌, ℕ, ◌≤◌, ◌==◌, ◌&&◌, if◌then◌else◌, Bool, List, Option, Some, None, option_and_then, Result, Ok, Err}
 use Rattle.gx_words.specs.declared.faults.Fault.{Fault}
 use Rattle.gx_words.specs.Constants.{ceiling, glk_system}
@@ -24,7 +25,8 @@ abbrev pub unless_failed : Said × Option Reply → Said × Reply
 unless_failed (said, Some reply) = (said, reply)
 unless_failed (said, None) = (said, replies failed)
 
--- A save: the copy of the state is written as a save to the stream; nothing is written where the stream doesn't take it.
+-- A save: the copy of the state is written as a save to the stream; nothing is written where the stream doesn't take
+-- it.
 unfoldable pub saving : Scene → FlatState → ℕ → Result (Said × Reply) Fault
 saving w f stream =
     if f.iosys.0 == glk_system then (do
@@ -45,8 +47,8 @@ restoring w f stream =
       Ok (r.0, option_and_then (λ bytes. unless_refused (save_of ceiling bytes f.story)) r.1))
     else Ok (silent w, None)
 
--- A stream may take a save: it is there, open for writing and no window's. Whether it has room, and whether its places may
--- be written where it ends in memory, depends on the length of the save.
+-- A stream may take a save: it is there, open for writing and no window's. Whether it has room, and whether its places
+-- may be written where it ends in memory, depends on the length of the save.
 abbrev pub may_take : Scene → ℕ → Bool
 may_take w stream =
     let s = streams.stream w.streams stream in

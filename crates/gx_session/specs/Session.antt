@@ -1,9 +1,10 @@
 -- A session: the machine and the Glk world from a start to the end of the run, move by move.
+-- Where it stops, a screen that is composed is shown once more.
 --
--- A step of the machine that asks nothing is one move. One that makes a Glk call is followed by the moves of the
--- call: what it asks of a device, and the answer that it goes on to. All of them are one event, which takes the units of
--- the step once it is answered; until then the machine stands as before the step. In between pending text is sent: before a device is
--- asked for anything, and after an event that leaves `enough` bytes pending.
+-- A step of the machine that asks nothing is one move. One that makes a Glk call is followed by the moves of the call:
+-- what it asks of a device, and the answer that it goes on to. All of them are one event, which takes the units of the
+-- step once it is answered; until then the machine stands as before the step. In between pending text is sent: before a
+-- device is asked for anything, and after an event that leaves `enough` bytes pending.
 use Rattle.std.specs.Prelude.{ℕ, suc, zero, ◌+◌, ◌-◌, ◌*◌, nat_lt, if◌then◌else◌, Bool, false, List, length, Option, Some, None, is_some, option_and_then, Result, Ok, Err}
 use Rattle.gx_words.specs.declared.faults.Fault.{Fault}
 use Rattle.gx_words.specs.Faults.{number_of}
@@ -20,7 +21,7 @@ use Rattle.gx_machine.specs.Answer.{answer_of}
 use Rattle.gx_machine.specs.declared.askings.Asking.{Asking}
 use Rattle.gx_machine.specs.Step.{cost_of, step_of, asking_of}
 use Rattle.glk_world.specs.World.{FlatWorld, Said, after}
-use Rattle.glk_world.specs.Shown.{show_grids, show_line}
+use Rattle.glk_world.specs.Shown.{show_grids, show_line, end_text}
 use Rattle.glk_dispatch.specs.declared.Turn.{Turn}
 use Rattle.glk_dispatch.specs.declared.Turn.TheVariants as turn
 use Rattle.glk_dispatch.specs.declared.Given.{Given}
@@ -87,7 +88,7 @@ after_reply m left (Err fault) = stops (stop.Faulted fault) m
 abbrev pub asking_for : Configuration → Waiting → Said → Turn → Verdict
 asking_for m w said t = goes (record m { world = after m.world said; doing = asks t w })
 
--- It waits for a line: the grids that have changed are shown.
+-- It waits for a line: what the view shows at a wait is shown.
 abbrev pub waiting_for : Configuration → Waiting → Said → Turn → Verdict
 waiting_for m w said t = goes (record m { world = after (after m.world said) (show_grids said.0); doing = asks t w })
 
@@ -144,8 +145,8 @@ after_asking m w (turn.Remove name) = shelf_gives m w (with_file m.files name No
 after_asking m w (turn.Has name) = shelf_gives m w m.files (given.Was (is_some (m.files name)))
 after_asking m w t = stops stop.Stuck m
 
--- The effect of a step: the next configuration; the random word is used up; a character or a call goes to
--- Glk, with the machine as before the step; so does a save or a restore; the program ends. (No step by itself is Spent.)
+-- The effect of a step: the next configuration; the random word is used up; a character or a call goes to Glk, with the
+-- machine as before the step; so does a save or a restore; the program ends. (No step by itself is Spent.)
 abbrev pub after_effect : Configuration → ℕ → FlatMachine → Effect → Verdict
 after_effect m left machine effect.Went = goes (done m machine left)
 after_effect m left machine effect.Drew = goes (record (done m machine left) { words = (next_u32 m.words).1 })
@@ -195,7 +196,7 @@ all_sent m = record m { sent = with_all m.sent m.world.text }
 unfoldable pub move_of : Configuration → Verdict
 move_of m = if sends_now m then goes (all_sent m) else act_of m
 
--- The end of a run: why it stopped, and where.
+-- An end of a run: why it stopped, and where.
 pub record Ending : Type 0 where
   pub stop : Stop
   pub configuration : Configuration
@@ -219,9 +220,17 @@ moves_by (goes_on g w) left = 5 * w.left + 2
 abbrev pub moves_left : Configuration → ℕ
 moves_left m = moves_by m.doing m.left + (if sends_now m then 1 else 0)
 
--- The end of the run.
+-- where the run stops
+unfoldable pub stop_of : Configuration → Ending
+stop_of m = final_in (suc (moves_left m)) m
+
+-- the configuration once the last screen is shown, where the screen is composed
+abbrev pub with_last_screen : Configuration → Configuration
+with_last_screen m = record m { world = after m.world (end_text m.world.scene) }
+
+-- THE END OF THE RUN: where it stops, once the last screen is shown.
 unfoldable pub final_of : Configuration → Ending
-final_of m = final_in (suc (moves_left m)) m
+final_of m = record { stop = (stop_of m).stop; configuration = with_last_screen (stop_of m).configuration }
 
 -- the next configuration, if the run goes on
 abbrev pub next_of : Verdict → Option Configuration

@@ -6,7 +6,6 @@ ghost use Rattle.gx_machine.specs.Step.{asking_of};
 ghost use Rattle.gx_session.specs.Endings.{file_of};
 ghost use Rattle.gx_session.specs.declared.ends.Stop.{Stop};
 ghost use Rattle.gx_session.specs.Devices.{Devices, devices};
-ghost use Rattle.gx_session.specs.Endings.{stores_of};
 ghost use Rattle.gx_session.specs.Reading.{Fed};
 ghost use Rattle.gx_session.specs.Session.{Configuration};
 ghost use Rattle.gx_session.specs.Playing.{held, asking_in, Going, Follows, Done, EventGives, StopGives, EndingGives, RunGives, IsStop, IsNext, Leads, Keeps, Stores, StoresFiles};
@@ -173,7 +172,7 @@ fn store_file<F: Shelf>(world: &World, id: u32, shelf: &mut F) -> Result<(), Hal
 
 /// Stores the file of each file stream that is open for writing, in order of creation.
 fn store_files<F: Shelf>(alloc: Global, world: &World, shelf: &mut F) -> Result<(), Halt>
-    ensures stores { StoresFiles (stores_of world.now.scene) (F.seen shelf.old) (F.seen shelf.new) result }
+    ensures stores { StoresFiles world.now.scene (F.seen shelf.old) (F.seen shelf.new) result }
     ensures keeps { (d : Devices) → Keeps (record d { shelf = F.seen shelf.old }) (record d { shelf = F.seen shelf.new }) result }
     ensures only { IfErr result (λ halt. (halt ≡ Halt.Shelf) ⊎ (halt ≡ Halt.NoMemory)) }
 {
@@ -184,7 +183,7 @@ fn store_files<F: Shelf>(alloc: Global, world: &World, shelf: &mut F) -> Result<
     Ok(())
 }
 
-/// The ending: the pending text is sent, and then the open files are stored.
+/// The ending: the last screen is shown, the pending text is sent, and then the open files are stored.
 fn end<A: Allocator + Clone, E: Engine<A>, K: Sink, F: Shelf>(
     alloc: Global,
     run: &mut Running<E>,
@@ -197,6 +196,7 @@ fn end<A: Allocator + Clone, E: Engine<A>, K: Sink, F: Shelf>(
     ensures same { run.new ≡ record run.old { world = run.new.world } }
     ensures keeps { (d : Devices) → Keeps (record d { sink = K.seen output.old; shelf = F.seen shelf.old }) (record d { sink = K.seen output.new; shelf = F.seen shelf.new }) result }
 {
+    run.world.end_text()?;
     flush(&mut run.world, output, 1)?;
     store_files(alloc, &run.world, shelf)
 }

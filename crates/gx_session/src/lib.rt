@@ -1,12 +1,13 @@
 //! A session: a machine is run over a source of input, a sink of text, a shelf of files and a
 //! generator of random words, until it ends or its budget of units is spent.
 //!
-//! What a session is stands in specs/Session, move by move; specs/Input says what the next line of the
-//! input is, specs/Sending what sending is, specs/Saving what a save and a restore are, specs/Endings what is stored at the end, specs/Cuts how a
-//! run is cut short, and specs/Runs what a run reports and leaves behind (`IsRun`). A run is the
-//! definition's, to its status, fault, place, steps, machine, text, files and the calls of the sink and
-//! the shelf, unless a device fails or memory runs out; then it stands at one of the definition's
-//! configurations, and a front of the text that was shown by then was sent.
+//! What a session is stands in specs/Session, move by move, to the last screen that is shown where it stops;
+//! specs/Input says what the next line of the input is, specs/Sending what sending is, specs/Saving what a save and
+//! a restore are, specs/Endings what is sent and stored at the end, specs/Cuts how a run is cut short, and
+//! specs/Runs what a run reports and leaves behind (`IsRun`). A run is the definition's, to its status, fault,
+//! place, steps, machine, text, files and the calls of the sink and the shelf, unless a device fails or memory runs
+//! out; then it stands at one of the definition's configurations, and a front of the text that was shown by then
+//! was sent.
 //!
 //! - `lines` takes lines of a source. It reads no further than it has to.
 //! - `questions` asks the shelf what a Glk call wants of it.

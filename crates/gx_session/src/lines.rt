@@ -143,7 +143,7 @@ impl Lines {
     fn fill<S: Source>(&mut self, source: &mut S) -> Result<(), NoLine>
         requires { self.old.ended ≡ false }
         ensures grows { Fills self.old self.new (S.seen source.old) (S.seen source.new) result }
-        ensures count { HasCause (S.seen source.old).calls (S.seen source.new).calls (is_failed result) }
+        ensures count { HasCause (S.seen source.old).calls (S.seen source.new).calls (is_failed result) false }
         ensures tells { (S.seen source.new).tells ≡ (S.seen source.old).tells }
     {
         let mut piece = [0u8; PIECE];

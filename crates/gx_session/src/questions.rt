@@ -1,6 +1,6 @@
 //! What the shelf is asked for the turn of a Glk call.
 ghost use Rattle.std.specs.Prelude.{◌≡◌, true, IfOk};
-ghost use Rattle.gx_outside.specs.Outside.{HasCause, shelf_failed};
+ghost use Rattle.gx_outside.specs.Outside.{HasCause, shelf_failed, shelf_wanted};
 ghost use Rattle.glk_dispatch.specs.Turns.{IsGivenFor};
 ghost use Rattle.gx_session.specs.Questions.{turn_of, Answers};
 
@@ -28,7 +28,7 @@ impl Question {
     pub fn ask<F: Shelf>(&self, shelf: &mut F) -> Result<Given, ShelfFault>
         ensures answers { (F.seen shelf.old).tells ≡ true → Answers self.now (F.seen shelf.old).files (F.seen shelf.new).files result }
         ensures given { IfOk result (IsGivenFor (turn_of self.now)) }
-        ensures cause { HasCause (F.seen shelf.old).calls (F.seen shelf.new).calls (shelf_failed result) }
+        ensures cause { HasCause (F.seen shelf.old).calls (F.seen shelf.new).calls (shelf_failed result) (shelf_wanted result) }
         ensures tells { (F.seen shelf.new).tells ≡ (F.seen shelf.old).tells }
     {
         match self {

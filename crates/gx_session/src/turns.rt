@@ -213,7 +213,7 @@ fn await_line<A: Allocator + Clone, E: Engine<A>, S: Source, K: Sink>(
     }
 }
 
-/// Waits for a line: the grids that have changed are shown, and then it is taken.
+/// Waits for a line: what the view shows then is shown, and then it is taken.
 fn wait_for_line<A: Allocator + Clone, E: Engine<A>, S: Source, K: Sink>(
     run: &mut Running<E>,
     input: &mut S,

@@ -1,5 +1,5 @@
--- The numbers of a story file (Glulx 3.1.2, "The Header"; Blorb 2.0.4). The constants of the same names in code are tied
--- to these.
+-- The numbers of a story file (Glulx 3.1.2, "The Header"; Blorb 2.0.4). The constants of the same names in code are
+-- tied to these.
 use Rattle.std.specs.Prelude.{ℕ}
 
 -- versions 2.0.0 to 3.1.255: the major number in two bytes, the minor and the last in one each

@@ -1,9 +1,9 @@
 //! Command lines, and what they come to (files `.commands`).
 //!
 //! A line has the words after the program's name, each between bars, and after these `shelf NUMBERS` or `sink NUMBERS`,
-//! the calls that fail, from 1 on, and `text LINES`, the file `text`; after `=>` the text that is sent, or `<hello>` for
-//! the bytes of that story, and after `:` the program's line without its name. A line feed is `/`. What follows `;` at a
-//! line's head is a remark.
+//! the calls that fail, from 1 on, and `text LINES`, the file `text`; after `=>` the text that is sent, or `<hello>`
+//! for the bytes of that story, and after `:` the program's line without its name. A line feed is `/`. What follows `;`
+//! at a line's head is a remark.
 //!
 //! The shelf has the stories `hello`, `-`, `--steps`, `a b` and `höle`, which are one and the same and show `Hi` in
 //! twelve steps, `wrong`, whose checksum differs, and `string`, whose start function is a string.

@@ -1,5 +1,5 @@
 //! What no story can show: texts that the program doesn't print, what a pool counts and refuses, pages that are shared,
-//! and calls that nothing above makes.
+//! where the rows of a text start and end, and calls that nothing above makes.
 //!
 //! Each of these functions plays no story. It compares what calls of one crate answer, says with an error what differs,
 //! and counts as a run.
@@ -9,6 +9,7 @@ mod pages;
 mod pools;
 mod replies;
 mod reports;
+mod screens;
 mod words;
 
 use crate::tally::Tally;
@@ -29,5 +30,8 @@ pub fn try_all<P: Print>(rt: &P, alloc: Global, tally: &mut Tally) -> Result<()>
     tally.note(rt, replies::writes(alloc))?;
     tally.note(rt, replies::writes_and(alloc))?;
     tally.note(rt, replies::pushes(alloc))?;
-    tally.note(rt, reports::reports(alloc))
+    tally.note(rt, reports::reports(alloc))?;
+    tally.note(rt, screens::words(alloc))?;
+    tally.note(rt, screens::paragraphs(alloc))?;
+    tally.note(rt, screens::wide(alloc))
 }

@@ -1,4 +1,5 @@
--- The copies that a machine keeps for restoreundo and discardundo (Glulx 3.1.2, "Game State"; discardundo isn't of 3.1.2).
+-- The copies that a machine keeps for restoreundo and discardundo (Glulx 3.1.2, "Game State"; discardundo isn't of
+-- 3.1.2).
 use Rattle.std.specs.Prelude.{ℕ, List, ◌∷◌, take, drop, All}
 use Rattle.gx_story.specs.Stories.{FlatStory}
 use Rattle.gx_state.specs.Copies.{Copy, IsCopyFor}

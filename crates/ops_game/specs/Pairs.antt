@@ -1,5 +1,5 @@
--- The two stores of getiosys, of which both are made or none: memory first, in one write, and then the stack, which lies
--- apart from it.
+-- The two stores of getiosys, of which both are made or none: memory first, in one write, and then the stack, which
+-- lies apart from it.
 use Rattle.std.specs.Prelude.{ℕ, ◌+◌, Option, Some, None, Result}
 use Rattle.gx_words.specs.declared.faults.Fault.{Fault}
 use Rattle.gx_words.specs.Results.{◌>>=◌}

@@ -78,16 +78,16 @@ restart f = do
   g ← restarted f
   Ok (g, Went)
 
--- 123 save (L1 S1): asks that the game be saved to the Glk stream L1, with the state standing; the stub of S1, which the save
--- has on top of its stack, needs room; S1 is the answer
+-- 123 save (L1 S1): asks that the game be saved to the Glk stream L1, with the state standing; the stub of S1, which
+-- the save has on top of its stack, needs room; S1 is the answer
 unfoldable pub save : FlatState → Instruction → Result (FlatState × Effect) Fault
 save f i =
     if nat_lt f.stack.limit (i.sp + 16) then Err Overflow else (do
       _ ← store_fault f 4 i.dest i.sp
       Ok (f, Save (L1 i)))
 
--- 124 restore (L1 S1): asks that the game be restored from the Glk stream L1, with the state standing; S1 is the answer of
--- one that fails
+-- 124 restore (L1 S1): asks that the game be restored from the Glk stream L1, with the state standing; S1 is the answer
+-- of one that fails
 unfoldable pub restore : FlatState → Instruction → Result (FlatState × Effect) Fault
 restore f i = do
   _ ← store_fault f 4 i.dest i.sp

@@ -1,5 +1,5 @@
--- What a save says (Quetzal 1.4; Glulx 3.1.2, "Saved Games"): the copy that it holds, or why it is refused. Memory may be
--- as large as a ceiling, which the standard leaves to an interpreter.
+-- What a save says (Quetzal 1.4; Glulx 3.1.2, "Saved Games"): the copy that it holds, or why it is refused. Memory may
+-- be as large as a ceiling, which the standard leaves to an interpreter.
 use Rattle.std.specs.Prelude.{◌≡◌, ℕ, ◌≤◌, true, List, Result, Ok}
 use Rattle.gx_words.specs.Results.{◌>>=◌}
 use Rattle.gx_story.specs.Stories.{FlatStory}

@@ -52,8 +52,8 @@ impl MemoryChunk<'_> {
         }
     }
 
-    /// Memory whole: the story's below RAMSTART, and then the RAM that the bytes stand for. It is one list, and memory is
-    /// asked for once.
+    /// Memory whole: the story's below RAMSTART, and then the RAM that the bytes stand for. It is one list, and memory
+    /// is asked for once.
     pub fn memory(&self, alloc: Global, story: &Story) -> Result<Bytes, SaveFault>
         requires there { size_len ≤ length self.now.body.now }
         requires size { IsTrue (is_size ceiling story.now (size_in (memory_body self.now))) }

@@ -107,25 +107,37 @@ impl<R: Files> Shelf for FolderShelf<'_, R> {
 
     fn load(&mut self, name: &str, most: usize) -> Result<Load, ShelfFault> {
         let loaded = load_file(self.rt, self.alloc, name, most);
-        self.calls.note(matches!(loaded, Err(ShelfFault::Failed)));
+        self.calls.note(
+            matches!(loaded, Err(ShelfFault::Failed)),
+            matches!(loaded, Err(ShelfFault::NoMemory)),
+        );
         loaded
     }
 
     fn store(&mut self, name: &str, bytes: &[u8]) -> Result<(), ShelfFault> {
         let stored = replace_file(self.rt, self.alloc, name, bytes);
-        self.calls.note(stored == Err(ShelfFault::Failed));
+        self.calls.note(
+            stored == Err(ShelfFault::Failed),
+            stored == Err(ShelfFault::NoMemory),
+        );
         stored
     }
 
     fn remove(&mut self, name: &str) -> Result<bool, ShelfFault> {
         let removed = found(fs::remove_file(self.rt, name));
-        self.calls.note(removed == Err(ShelfFault::Failed));
+        self.calls.note(
+            removed == Err(ShelfFault::Failed),
+            removed == Err(ShelfFault::NoMemory),
+        );
         removed
     }
 
     fn has(&mut self, name: &str) -> Result<bool, ShelfFault> {
         let has = found(fs::metadata(self.rt, name));
-        self.calls.note(has == Err(ShelfFault::Failed));
+        self.calls.note(
+            has == Err(ShelfFault::Failed),
+            has == Err(ShelfFault::NoMemory),
+        );
         has
     }
 }

@@ -33,11 +33,11 @@ impl<I: Read> Source for StdSource<I> {
 
     fn read(&mut self, into: &mut [u8]) -> Result<usize, Failed>
         ensures bound { IfOk result (λ count. count ≤ length into.old) }
-        ensures cause { HasCause self.old.calls self.new.calls (is_err result) }
+        ensures cause { HasCause self.old.calls self.new.calls (is_err result) false }
         ensures given { ReadConsumes (I.remaining self.old.reader) (I.remaining self.new.reader) result into.new }
     {
         let count = self.reader.read(into);
-        self.calls.note(count.is_err());
+        self.calls.note(count.is_err(), false);
         count.map_err(|_| Failed)
     }
 }

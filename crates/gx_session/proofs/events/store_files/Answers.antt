@@ -1,8 +1,9 @@
-use Rattle.std.proofs.Common.{◌+◌, ◌++◌, ℕ, List, take, drop, get_or, inr, refl, subst, sym, ◌∙◌, arith}
+use Rattle.std.proofs.Common.{◌≡◌, ◌+◌, ◌++◌, ℕ, List, take, drop, get_or, inr, refl, subst, sym, ◌∙◌, arith}
 use Rattle.std.proofs.lemmas.List.{take_all}
 use Rattle.std.proofs.lemmas.Result.{err_from_is_err_and}
 use Rattle.std.specs.List.{filter_map}
 use Rattle.std.specs.Option.{option_to_list}
+use Rattle.gx_session.specs.declared.ends.Halt.TheVariants as halt
 use Rattle.gx_session.specs.Endings.{file_of}
 use Rattle.gx_outside.specs.Outside.{FlatShelf}
 use Rattle.gx_session.specs.Devices.{Devices}
@@ -29,12 +30,13 @@ returns-in_err-store_file-clause-stores g c =
     let rest : List Store = filter_map (file_of scene) (drop (i + 1) ids) in
     let before : FlatShelf = g.F.Shelf.seen c.args.shelf.now in
     let now : FlatShelf = g.F.Shelf.seen c.store_file.new.shelf in
-    let all : StoredSome (one ++ other ++ rest) before now =
-    stopped-more one other before (g.F.Shelf.seen c.loop-id.shelf) now c.loop-id.invariant.tells c.loop-id.invariant.stored c.in_err-store_file.ensures.stores rest in
+    let wanted : Type 0 = c.in_err-store_file.field-0.0 ≡ halt.NoMemory in
+    let all : StoredSome (one ++ other ++ rest) before now wanted =
+    stopped-more one other before (g.F.Shelf.seen c.loop-id.shelf) now c.loop-id.invariant.tells c.loop-id.invariant.stored wanted c.in_err-store_file.ensures.stores rest in
     rw (p.1, p.2)
     (inr
-    (subst (λ (x : List ℕ). StoredSome (filter_map (file_of scene) x) before now) (c.as_slice-id-items.ensures ∙ c.in_ok-ids.ensures)
-    (subst (λ (x : List Store). StoredSome x before now) (sym (stores-all scene ids i c.loop-id-test.true)) all)))
+    (subst (λ (x : List ℕ). StoredSome (filter_map (file_of scene) x) before now wanted) (c.as_slice-id-items.ensures ∙ c.in_ok-ids.ensures.value)
+    (subst (λ (x : List Store). StoredSome x before now wanted) (sym (stores-all scene ids i c.loop-id-test.true)) all)))
 
 pub returns-in_err-store_file-clause-keeps : goal.returns-in_err-store_file-clause-keeps
 returns-in_err-store_file-clause-keeps g c d =
@@ -68,7 +70,7 @@ returns-clause-stores g c =
     let scene = c.args.world.now.scene in
     let before : FlatShelf = g.F.Shelf.seen c.args.shelf.now in
     let now : FlatShelf = g.F.Shelf.seen c.loop-id.shelf in
-    subst (λ (x : List ℕ). StoredAll (filter_map (file_of scene) x) before now) (take_all c.loop-id.id-index ids (omega arith) ∙ (c.as_slice-id-items.ensures ∙ c.in_ok-ids.ensures)) c.loop-id.invariant.stored
+    subst (λ (x : List ℕ). StoredAll (filter_map (file_of scene) x) before now) (take_all c.loop-id.id-index ids (omega arith) ∙ (c.as_slice-id-items.ensures ∙ c.in_ok-ids.ensures.value)) c.loop-id.invariant.stored
 
 pub returns-clause-keeps : goal.returns-clause-keeps
 returns-clause-keeps g c d = keeps-still (record d { shelf = g.F.Shelf.seen c.args.shelf.now }) (record d { shelf = g.F.Shelf.seen c.loop-id.shelf }) _ (c.loop-id.invariant.stays d)

@@ -22,7 +22,7 @@ returns-in_err-given-clause-plays g c coming start entry d waits =
     let now : Devices = record d { sink = g.K.Sink.seen c.args.output.now; shelf = g.F.Shelf.seen c.args.shelf.now } in
     rw (p.1, p.2)
     (shelf-refused start entry (held g.E.Engine.whole c.args.run.now coming) (asking_in g.E.Engine.whole c.args.run.now) now (turn_of c.args.question) c.args.wait waits c.flush.new.world (g.K.Sink.seen c.flush.new.output) c.in_ok-flush.ensures.sends
-    (g.F.Shelf.seen c.ask.new.shelf) c.in_err-given.ensures.tells c.in_err-given.ensures.cause.made c.args.question refl c.in_err-given.field-0.0 c.in_err-given.ensures.answers)
+    (g.F.Shelf.seen c.ask.new.shelf) c.in_err-given.ensures.tells c.in_err-given.ensures.cause.made c.args.question refl c.in_err-given.field-0.0 c.in_err-given.ensures.cause.want c.in_err-given.ensures.answers)
 
 pub returns-clause-plays : goal.returns-clause-plays
 returns-clause-plays g c coming start entry d waits =

@@ -2,7 +2,7 @@ use Rattle.std.proofs.Common.{true}
 use Rattle.glk_world.specs.Kept.{flat_of}
 use Rattle.glk_world.proofs.Kept.{streams_with}
 use Rattle.glk_world.proofs.Links.{linked_put}
-use Rattle.glk_world.proofs.Alone.{text_put, text_grows, plain_there, plain_stays, place_stays, on_err, on_ok_by}
+use Rattle.glk_world.proofs.Alone.{text_put, text_grows, plain_there, plain_stays, window_stays, place_stays, on_err, on_ok_by}
 use Rattle.glk_world.proofs.world.World.put_found.Goals as goal
 
 pub invariant_of-self : goal.invariant_of-self
@@ -19,23 +19,32 @@ invariant_of-self c =
 pub returns-clause-ok : goal.returns-clause-ok
 returns-clause-ok c =
     let text = rw (← c.self.view_is) at c.requires.text in
-    on_ok_by c.show-2.result c.show-2.ensures (λ shown.
-    rw (← c.self.view_is, shown, c.count.ensures c.args.c, c.show.ensures)
+    let window = rw (← c.self.view_is) at c.requires.window in
+    on_ok_by c.buffer_put.result c.buffer_put.ensures (λ shown.
+    rw (← c.self.view_is, shown, c.count.ensures c.args.c, c.show.ensures, window)
     (text_put (flat_of c.self.inside) c.args.stream c.args.c c.self.invariant.links.first text))
 
 pub returns-clause-memory : goal.returns-clause-memory
-returns-clause-memory c = on_err c.show-2.result (text_grows c.args.self.now.scene c.args.stream c.args.c c.requires.text)
+returns-clause-memory c = on_err c.buffer_put.result (text_grows c.args.self.now.scene c.args.stream c.args.c c.requires.text)
 
 pub returns-clause-text : goal.returns-clause-text
 returns-clause-text c =
     let text = rw (← c.self.view_is) at c.requires.text in
-    on_ok_by c.show-2.result c.show-2.ensures (λ shown.
+    on_ok_by c.buffer_put.result c.buffer_put.ensures (λ shown.
     rw (shown, c.count.ensures c.args.c)
-    (plain_stays (flat_of c.self.inside).scene c.args.stream c.args.c true text))
+    (plain_stays (flat_of c.self.inside).scene c.args.stream c.args.c c.args.win c.show.result text))
 
 pub returns-clause-place : goal.returns-clause-place
 returns-clause-place c =
     let place = rw (← c.self.view_is) at c.requires.place in
-    on_ok_by c.show-2.result c.show-2.ensures (λ shown.
+    on_ok_by c.buffer_put.result c.buffer_put.ensures (λ shown.
     rw (shown, c.count.ensures c.args.c)
-    (place_stays (flat_of c.self.inside).scene c.args.stream c.args.c c.args.at place))
+    (place_stays (flat_of c.self.inside).scene c.args.stream c.args.c c.args.win c.show.result c.args.at place))
+
+pub returns-clause-window : goal.returns-clause-window
+returns-clause-window c =
+    let text = rw (← c.self.view_is) at c.requires.text in
+    let window = rw (← c.self.view_is) at c.requires.window in
+    on_ok_by c.buffer_put.result c.buffer_put.ensures (λ shown.
+    rw (shown, c.count.ensures c.args.c)
+    (window_stays (flat_of c.self.inside).scene c.args.stream c.args.c c.args.win c.show.result text window))

@@ -32,4 +32,5 @@ returns-clause-new c =
     let gone = given_if (λ (ids : List ℕ). ids ≡ windows.gone c.self.inside.windows c.args.win) c.remove-removed.result c.in_ok-gone.gone was c.remove-removed.ensures.gone in
     let streams = rw c.as_slice.ensures at c.remove_windows.ensures in
     let requests = rw c.as_slice-2.ensures at c.drop_requests.ensures in
-    rw (← c.self.view_is) (closed_world c.self.inside c.args.win c.in_ok-gone.gone _ _ _ _ gone (c.in_ok-gone.ensures.ok ∙ closed) streams requests c.unless_gone-self-inside.ensures)
+    let texts = rw c.as_slice-3.ensures at c.drop_texts.ensures in
+    rw (← c.self.view_is) (closed_world c.self.inside c.args.win c.in_ok-gone.gone _ _ _ _ _ gone (c.in_ok-gone.ensures.ok ∙ closed) streams requests texts c.unless_gone-self-inside.ensures)

@@ -89,6 +89,6 @@ loop-self-preserved g c =
           let here : pos c.loop-self.self.held ≡ pos c.args.self.now.held = ap (λ (l : HeldLines). pos l.held) same.1 in
           let size' : length c.loop-self.self.held ≡ length c.args.self.now.held = ap (λ (l : HeldLines). length l.held) same.1 in
           absurd (omega arith);
-      count = well-on _ _ _ _ c.loop-self.invariant.count (blames-call _ _ false ⊥ c.in_ok-fill.ensures.count (λ e. absurd e) (λ e. refl)) (λ e. e);
+      count = well-on _ _ _ _ c.loop-self.invariant.count (blames-call _ _ false false ⊥ c.in_ok-fill.ensures.count (λ e. absurd e) (λ e. refl)) (λ e. e);
       tells = c.fill.ensures.tells ∙ c.loop-self.invariant.tells;
     }

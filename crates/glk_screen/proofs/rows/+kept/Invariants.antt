@@ -1,5 +1,5 @@
 use Rattle.std.proofs.Common.{length}
-use Rattle.glk_world.proofs.grids.+kept.Given as goal
+use Rattle.glk_screen.proofs.rows.+kept.Given as goal
 
 abbrev pub decreases-kept : goal.decreases-kept
 decreases-kept l = length l.row.now

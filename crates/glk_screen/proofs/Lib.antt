@@ -1,0 +1,9 @@
+mod Constants
+mod Worked
+pub mod Paragraphs
+pub mod Places
+pub mod Prefixes
+pub mod Cuts
+pub mod Turns
+pub mod Holding
+pub mod Sizes

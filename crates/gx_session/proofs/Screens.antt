@@ -1,0 +1,114 @@
+-- The last screen of a run.
+use Rattle.std.proofs.Common.{◌≡◌, true, Option, refl, ap, subst, sym, ◌∙◌, arith}
+use Rattle.gx_machine.specs.declared.askings.Asking.{Asking}
+use Rattle.glk_world.specs.World.{FlatWorld, after, is_composed}
+use Rattle.glk_world.specs.Shown.{end_text}
+use Rattle.gx_session.specs.declared.ends.Stop.{Stop}
+use Rattle.gx_session.specs.declared.ends.Stop.TheVariants as stop
+use Rattle.gx_session.specs.declared.ends.Halt.TheVariants as halt
+use Rattle.gx_session.specs.Cuts.{in_last_screen, IsLineStop, asking_at_stop}
+use Rattle.gx_session.specs.Devices.{Devices}
+use Rattle.gx_session.specs.Runs.{IsFront, LeavesInput}
+use Rattle.gx_session.specs.Session.{Configuration, Ending, stop_of, with_last_screen, final_of, asked_at}
+use Rattle.gx_session.specs.Playing.{Held, configuration_of, IsPast, Done, Shown, Early}
+use Rattle.gx_session.proofs.Asking.{sent-before}
+use Rattle.gx_session.proofs.Playing.{cut-at, input-left, words-left}
+use Rattle.gx_session.proofs.Steps.{asked-same}
+use Rattle.gx_session.proofs.Texts.{last-grows}
+
+-- the end of a run that stops so
+abbrev with-screen : Ending → Ending
+with-screen e = record { stop = e.stop; configuration = with_last_screen e.configuration }
+
+end-is : (start : Configuration) → final_of start ≡ with-screen (stop_of start)
+unfolding final_of
+end-is start = refl
+
+-- what the machine asks at a stop is the same at one machine
+asks-same : (s : Stop) (m m' : Configuration) → m'.machine ≡ m.machine → m'.words ≡ m.words
+    → asked_at s m ≡ asked_at s m'
+asks-same stop.Ended m m' machine words = refl
+asks-same stop.Spent m m' machine words = refl
+asks-same stop.Exited m m' machine words = asked-same m m' machine words
+asks-same (stop.Faulted f) m m' machine words = asked-same m m' machine words
+asks-same stop.InputEnded m m' machine words = asked-same m m' machine words
+asks-same stop.Stuck m m' machine words = asked-same m m' machine words
+asks-same stop.LineTooLong m m' machine words = asked-same m m' machine words
+
+module _ (start : Configuration) (entry : Devices) (h : Held) (d : Devices) (asking : Option Asking) (why : Stop) where
+  module _ (g : Done start entry h asking d why) where
+    abbrev at-stop : Configuration
+    at-stop = configuration_of g.past g.doing h d
+
+    -- it ends so, at a configuration
+    abbrev ended : Configuration → Ending
+    ended m = record { stop = why; configuration = m }
+
+    end-here : final_of start ≡ with-screen (ended at-stop)
+    end-here = end-is start ∙ ap with-screen g.is_end
+
+    -- it is shown
+    pub screen-shown : (world : FlatWorld) → world ≡ after h.world (end_text h.world.scene)
+        → Shown start entry (record h { world = world }) asking d why
+    screen-shown world said =
+        let h' : Held = record h { world = after h.world (end_text h.world.scene) } in
+        let i = g.is_past in
+        let past : IsPast start.input entry g.past h' d = record {
+          taken = i.taken;
+          asked = i.asked;
+          told = i.told;
+          word = i.word;
+          left = i.left;
+          fewer = i.fewer;
+          reads = i.reads;
+        } in
+        let m : Configuration = configuration_of g.past g.doing h' d in
+        let same : with_last_screen at-stop ≡ m =
+        ap (λ (x : FlatWorld). record at-stop { world = x })
+        (sent-before g.past.sent h.world (end_text h.world.scene)) in
+        let shown : Shown start entry h' asking d why = record {
+          past = g.past;
+          doing = g.doing;
+          is_past = past;
+          few = g.few;
+          reads = g.reads;
+          is_end = end-here ∙ ap ended same;
+          saves = g.saves;
+          asking_is = g.asking_is ∙ asks-same why at-stop m refl refl;
+        } in
+        subst (λ (x : FlatWorld). Shown start entry (record h { world = x }) asking d why) (sym said) shown
+
+    stop-is : (final_of start).stop ≡ why
+    stop-is = ap (λ (e : Ending). e.stop) end-here
+
+    asks-end : asking ≡ asking_at_stop start
+    asks-end =
+        g.asking_is ∙ asks-same why at-stop (with_last_screen at-stop) refl refl
+        ∙ ap (λ (e : Ending). asked_at e.stop e.configuration) (sym end-here)
+
+    shown-by-then : IsFront at-stop.world.text (final_of start).configuration.world.text
+    shown-by-then =
+        subst (λ (e : Ending). IsFront e.configuration.world.text (final_of start).configuration.world.text) g.is_end
+        (last-grows start)
+
+    abbrev awaited : Type 0
+    awaited = IsLineStop (final_of start).stop
+
+    abbrev long : Type 0
+    long = (final_of start).stop ≡ stop.LineTooLong
+
+    input-then : LeavesInput start.input at-stop.input entry.source d.source awaited long 0
+    input-then =
+        input-left start entry h d awaited long
+        (λ short. g.few (λ e. short (stop-is ∙ e))) (λ other. g.reads (λ is. other (subst IsLineStop (sym stop-is) is)))
+        g.is_past.reads g.is_past.left
+
+    -- it wants memory
+    pub screen-wants : (world : FlatWorld) → is_composed h.world.scene ≡ true
+        → Early start entry (record h { world = world }) asking d halt.NoMemory
+    screen-wants world composed =
+        let here : at-stop ≡ (stop_of start).configuration = sym (ap (λ (e : Ending). e.configuration) g.is_end) in
+        cut-at start entry d (record h { world = world }) asking halt.NoMemory in_last_screen at-stop g.past.sent
+        h.world.text (here, composed, refl, asks-end) refl refl refl g.is_past.taken shown-by-then (omega arith)
+        (omega arith) refl g.is_past.asked (λ other. input-then)
+        (words-left h.word d.words g.past.words g.is_past.word) g.saves (λ e. tt)
