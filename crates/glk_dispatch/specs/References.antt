@@ -11,7 +11,7 @@ use Rattle.glk_streams.specs.declared.kinds.FileForm.{FileForm}
 use Rattle.glk_streams.specs.declared.kinds.FileForm.TheVariants as forms
 use Rattle.glk_streams.specs.declared.kinds.StreamKind.{StreamKind}
 use Rattle.glk_streams.specs.declared.kinds.StreamKind.TheVariants as kinds
-use Rattle.glk_world.specs.World.{Scene, silent, has_reference, reference_at, next_reference}
+use Rattle.glk_world.specs.World.{Scene, silent, is_composed, has_reference, reference_at, next_reference}
 use Rattle.glk_world.specs.Calls.{is_identifier, new_id, with_reference, without_reference, with_stream}
 use Rattle.glk_world.specs.Shown.{show_prompt, line_taken}
 use Rattle.glk_dispatch.specs.declared.Turn.TheVariants as turn
@@ -97,9 +97,9 @@ prompt w f room selector args =
     let shown = show_prompt w in
     Ok ((waits shown.0 selectors.fileref_create_by_prompt args, shown.1), turn.Prompt)
 
--- Memory is wanted for the words of the prompt.
+-- Memory is wanted for the words of the prompt, which come later where the screen is composed.
 abbrev pub prompt_grow : Scene → FlatState → ℕ → List ℕ → Bool
-prompt_grow w f selector args = true
+prompt_grow w f selector args = not (is_composed w)
 
 -- the line; an empty one answers 0
 unfoldable pub prompt_goes_on : Scene → List ℕ → List ℕ → Outcome

@@ -1,5 +1,5 @@
 //! Text that stands in no buffer window: grids at a wait, prompts, and lines that were taken; or the composed screen.
-ghost use Rattle.std.specs.Prelude.{◌≡◌, ◌≢◌, ◌++◌, ◌∷◌, [], map, string_bytes, IfOk, IsTrue, OnErr, OnOk};
+ghost use Rattle.std.specs.Prelude.{◌≡◌, ◌≢◌, ◌++◌, ◌∷◌, [], map, not, string_bytes, IfOk, IsTrue, OnErr, OnOk};
 ghost use Rattle.std.specs.Option.{option_map};
 ghost use Rattle.std.specs.Str.{encode_utf8_all};
 ghost use Rattle.glk_text.specs.Characters.{shown};
@@ -149,7 +149,8 @@ impl World {
     /// Shows the words of a prompt for a file's name. On the composed screen they come at the wait.
     #[tactic(auto, using(crate::proofs::Texts::silences), unfolding(crate::specs::Shown::show_prompt))]
     pub fn show_prompt(&mut self) -> Result<(), AllocError>
-        ensures { OnOk result (self.new ≡ after self.old (show_prompt self.old.scene)) }
+        ensures ok { OnOk result (self.new ≡ after self.old (show_prompt self.old.scene)) }
+        ensures memory { OnErr result (IsTrue (not (is_composed self.old.scene))) }
     {
         if self.view == View::Screen {
             return Ok(());
