@@ -1,6 +1,8 @@
 pub mod Machine
 pub mod Rows
 pub mod Step
+pub mod Log
+pub mod Advancing
 pub mod Quick
 pub mod Answer
 pub mod Start

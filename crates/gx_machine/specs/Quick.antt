@@ -22,7 +22,8 @@ use Rattle.gx_operands.specs.declared.cursor.Cursor.{Cursor}
 use Rattle.gx_operands.specs.Instructions.{Operands, Instruction, all_operands, going_to}
 use Rattle.gx_operands.specs.Stores.{settled, goes_to}
 use Rattle.gx_machine.specs.Machine.{Whole}
-use Rattle.gx_machine.specs.Step.{stepped, IsStepWriting, Passes}
+use Rattle.gx_machine.specs.Step.{stepped, IsStepWriting}
+use Rattle.gx_machine.specs.Advancing.{Passes}
 use Rattle.ops_flow.specs.Rows as flow
 use Rattle.ops_flow.specs.Writes as flow_writes
 use Rattle.ops_memory.specs.Rows as memory
@@ -120,5 +121,5 @@ pub record IsPlain (row : Row) : Type 0 where
 
 -- Steps that go on and ask nothing, and after them a fault where there is one: all stands then as the steps left it.
 abbrev pub Passed : ℕ → Result (Unit {0}) Fault → Whole × ℕ → Whole × ℕ → Type 0
-Passed word (Ok x) old new = (n : ℕ) × Passes word n old new
-Passed word (Err e) old new = (n : ℕ) × Passes word n old new × IsRefused (IsStepWriting new.0.machine new.1) e (stepped new.0 word new.1)
+Passed word (Ok x) old new = (n : ℕ) × Passes word n old None new None
+Passed word (Err e) old new = (n : ℕ) × Passes word n old None new None × IsRefused (IsStepWriting new.0.machine new.1) e (stepped new.0 word new.1)

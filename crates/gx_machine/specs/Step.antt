@@ -78,18 +78,3 @@ IsModeWriting m (mode.Printing p) = ⊥
 -- such a step, where the budget has its cost: one that isn't made wants none
 abbrev pub IsStepWriting : FlatMachine → ℕ → Type 0
 IsStepWriting m budget = (cost_of m ≤ budget) × IsModeWriting m m.flat.mode
-
--- so many steps with one word, each of which goes on, asks nothing and leaves the word: from a machine and its budget
--- to those that it comes to
-abbrev pub Passes : ℕ → ℕ → Whole × ℕ → Whole × ℕ → Type 0
-Passes word zero start end = start ≡ end
-Passes word (suc n) start end = (before : Whole × ℕ) × Passes word n start before × (stepped before.0 word before.1 ≡ Ok (end, Went))
-
--- Such steps, and then one more: the budget stands as before that last step, and `new` is the machine after it with
--- what it leaves.
-pub record Advances (wants : FlatMachine → ℕ → Type 0) (word : ℕ) (result : Result Effect Fault) (old : Whole × ℕ) (budget : ℕ) (new : Whole × ℕ) : Type 0 where
-  pub count : ℕ
-  pub before : Whole
-  pub passes : Passes word count old (before, budget)
-  pub last : Does (wants before.machine budget) (λ effect. effect) result (before, budget) new (stepped before word budget)
-  pub stands : IfOk result (λ effect. IsSome (asking_of effect) → new.0.machine ≡ before.machine)

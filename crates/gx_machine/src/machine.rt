@@ -15,7 +15,8 @@ ghost use Rattle.gx_machine.specs.Answer.{answered, answered_state, with_writes,
 ghost use Rattle.gx_machine.specs.Quick.{Tries, Passed};
 ghost use Rattle.gx_machine.specs.Saves.{restored_whole, saved_copy};
 ghost use Rattle.gx_machine.specs.Start.{first_machine};
-ghost use Rattle.gx_machine.specs.Step.{asking_of, room_of, stepped, Advances, IsStepWriting};
+ghost use Rattle.gx_machine.specs.Step.{asking_of, room_of, stepped, IsStepWriting};
+ghost use Rattle.gx_machine.specs.Advancing.{Advances};
 ghost use Rattle.gx_machine.specs.Views.{IsPending, result_len};
 
 use crate::quick::quick;
@@ -84,6 +85,25 @@ impl<A: Allocator + Clone> Machine<A> {
         &self.state
     }
 
+    /// The same machine once more. Memory is shared, and so are the copies for undo and the story; the stack and the
+    /// list of the heap's blocks are copied.
+    pub fn fork(&self, alloc: Global) -> Result<Machine<A>, AllocError>
+        ensures { IfOk result (λ machine. machine ≡ self.now) }
+    {
+        Ok(Machine {
+            state: self.state.fork(alloc)?,
+            undo: self.undo.fork(alloc)?,
+            pending: self.pending,
+        })
+    }
+
+    /// Drops what is asked, if anything: the machine stands before the step that asked.
+    pub fn drop_asking(&mut self)
+        ensures { self.new ≡ record self.old { asking = None } }
+    {
+        self.pending = None;
+    }
+
     /// The story that it plays.
     pub fn story(&self) -> &Story
         ensures { result.now ≡ self.now.machine.flat.story }
@@ -142,7 +162,7 @@ impl<A: Allocator + Clone> Machine<A> {
     #[tactic(auto, using(crate::proofs::Steps::steps))]
     pub fn advance(&mut self, word: u32, budget: &mut u64, left: &mut u64) -> Result<Effect, Fault>
         requires { self.old.asking ≡ None }
-        ensures { Advances IsStepWriting word result (self.old, budget.old) budget.new (self.new, left.new) }
+        ensures { Advances word result (self.old, budget.old) None budget.new (self.new, left.new) None }
     {
         let mut plan = Plan::new();
         loop {
@@ -424,9 +444,7 @@ fn answer_put<A: Allocator + Clone>(state: &mut State<A>, pending: &Pending)
 impl<A: Allocator + Clone> Engine<A> for Machine<A> {
     ghost whole = { λ machine. machine };
 
-    fn step(&mut self, word: u32, budget: &mut u64) -> Result<Effect, Fault> {
-        Machine::step(self, word, budget)
-    }
+    ghost log = { λ machine. None };
 
     fn advance(&mut self, word: u32, budget: &mut u64, left: &mut u64) -> Result<Effect, Fault> {
         Machine::advance(self, word, budget, left)
