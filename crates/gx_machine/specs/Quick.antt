@@ -1,6 +1,6 @@
 -- The quick way of a step: an instruction of one of the commonest rows is read and done in one go. Which rows
 -- these are is no part of what a step does.
-use Rattle.std.specs.Prelude.{◌≡◌, ℕ, ◌-◌, ◌*◌, Bool, true, false, List, [], ◌∷◌, Result, Ok, Err, IsOkAnd}
+use Rattle.std.specs.Prelude.{◌≡◌, ℕ, ◌-◌, ◌*◌, Bool, true, false, List, [], ◌∷◌, None, Result, Ok, Err, IsOkAnd}
 use Rattle.std.specs.Option.{ok_or}
 use Rattle.gx_words.specs.declared.faults.Fault.{Fault}
 use Rattle.gx_words.specs.declared.faults.Fault.TheVariants.{Divide}

@@ -1,7 +1,7 @@
 -- the steps of the quick way, and one more
-use Rattle.std.proofs.Common.{suc, refl, arith}
+use Rattle.std.proofs.Common.{suc, None, inl, refl, arith}
 use Rattle.std.proofs.lemmas.Result.{err_from_is_err_and}
-use Rattle.gx_machine.proofs.Passing.{joined}
+use Rattle.gx_machine.proofs.Passing.{joined, done-logs-none, logs-none}
 use Rattle.gx_machine.proofs.Steps.{went_lower, went_asks}
 use Rattle.gx_machine.proofs.machine.Machine.advance.Goals as goal
 
@@ -10,13 +10,15 @@ returns-in_err-passed g c =
     let p = err_from_is_err_and c.from_residual.result c.from_residual.ensures.1 in
     let passed = c.in_err-passed.ensures.value c.args.word in
     let before = c.loop-self.invariant.passes in
-    let all = joined c.args.word before.0 passed.0 _ _ _ before.1 passed.1 in
+    let all = joined c.args.word before.0 passed.0 _ _ _ None None None before.1 passed.1 in
     rw (p.1, p.2) (record {
       count = all.0;
       before = c.passes-passed.new.self;
+      log = None;
       passes = all.1;
-      last = (refl, passed.2);
+      step = inl (refl, passed.2);
       stands = tt;
+      logs = refl;
     })
 
 pub loop-self-smaller : goal.loop-self-smaller
@@ -29,34 +31,38 @@ loop-self-preserved g c =
     let went = rw c.in-Ok-Went.field-0-is at c.in-Ok-Went.ensures.step in
     let passed = c.in_ok-passed.ensures.value c.args.word in
     let before = c.loop-self.invariant.passes in
-    let all = joined c.args.word before.0 passed.0 _ _ _ before.1 passed.1 in
+    let all = joined c.args.word before.0 passed.0 _ _ _ None None None before.1 passed.1 in
     record {
       none = went_asks _ _ _ _ _ went;
-      passes = (suc all.0, ((c.passes-passed.new.self, c.passes-passed.new.budget), all.1, went));
+      passes = (suc all.0, ((c.passes-passed.new.self, c.passes-passed.new.budget), None, all.1, went, refl));
     }
 
 pub returns-in_default : goal.returns-in_default
 returns-in_default g c =
     let passed = c.in_ok-passed.ensures.value c.args.word in
     let before = c.loop-self.invariant.passes in
-    let all = joined c.args.word before.0 passed.0 _ _ _ before.1 passed.1 in
+    let all = joined c.args.word before.0 passed.0 _ _ _ None None None before.1 passed.1 in
     record {
       count = all.0;
       before = c.passes-passed.new.self;
+      log = None;
       passes = all.1;
-      last = c.in_default.ensures.step;
+      step = inl c.in_default.ensures.step;
       stands = c.in_default.ensures.stands;
+      logs = done-logs-none _ _;
     }
 
 pub returns-in_default-2 : goal.returns-in_default-2
 returns-in_default-2 g c =
     let passed = c.in_ok-passed.ensures.value c.args.word in
     let before = c.loop-self.invariant.passes in
-    let all = joined c.args.word before.0 passed.0 _ _ _ before.1 passed.1 in
+    let all = joined c.args.word before.0 passed.0 _ _ _ None None None before.1 passed.1 in
     record {
       count = all.0;
       before = c.passes-passed.new.self;
+      log = None;
       passes = all.1;
-      last = c.turn.ensures.step;
+      step = inl c.turn.ensures.step;
       stands = c.turn.ensures.stands;
+      logs = logs-none _ _;
     }

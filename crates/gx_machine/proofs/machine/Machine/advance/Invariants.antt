@@ -1,12 +1,12 @@
 -- the steps so far went on and asked nothing
 use Rattle.std.proofs.Common.{◌≡◌, ℕ, None}
-use Rattle.gx_machine.specs.Step.{Passes}
+use Rattle.gx_machine.specs.Advancing.{Passes}
 use Rattle.gx_machine.proofs.machine.Machine.advance.Given as goal
 
 abbrev pub invariant-loop-self : goal.invariant-loop-self
 invariant-loop-self g l = record {
   none : l.self.asking ≡ None;
-  passes : (n : ℕ) × Passes l.word n (l.initial.self, l.initial.budget) (l.self, l.budget);
+  passes : (n : ℕ) × Passes l.word n (l.initial.self, l.initial.budget) None (l.self, l.budget) None;
 }
 
 abbrev pub decreases-loop-self : goal.decreases-loop-self
