@@ -20,9 +20,10 @@ use std::process::ExitCode;
 use std::random::RandomSource;
 use std::{env, io};
 
-/// How many pages of memory may be out at once: 66 times those of the largest memory, which is room
-/// for the present memory, sixty-four undo states and one in the making with no page in common.
-const MOST_PAGES: usize = 69_206_016;
+/// How many pages of memory may be out at once: 768 times those of the largest memory, which is room for eleven
+/// machines (the present one, the one at the beginning of a tape, its checkpoints and one in the making), each with
+/// sixty-four undo states and one in the making, with no page in common.
+const MOST_PAGES: usize = 805_306_368;
 
 /// A seed from the system's random source, and 32 zero bytes where that fails.
 fn seed(rt: &impl RandomSource) -> [u8; 32] {

@@ -27,6 +27,7 @@ use crate::lines::Lines;
 use crate::notation::{
     add_words, counts_of, data_of, facts, named_data, number, numbers_of, words_in,
 };
+use crate::rewinding::{Again, compare_rewound};
 use crate::runs::{Devices, MOST_PAGES, Told, run};
 use crate::story_files::StoryFile;
 use crate::wanted::{compare_memory, compare_stack, compare_text};
@@ -242,21 +243,11 @@ impl<'a> Story<'a> {
 
     /// Plays the story, and compares how it ended and what it left.
     fn play(&self, alloc: Global) -> Result<()> {
-        let mut devices = devices_of(alloc, self.lines, self.program.file.bytes())?;
-        let told = self.run(alloc, &mut devices)?;
-        self.compare(alloc, &devices, &told)
-    }
-
-    /// Plays the shelf's story with its options.
-    fn run(&self, alloc: Global, devices: &mut Devices) -> Result<Told> {
-        let mut words = Vec::new(alloc);
-        words.push("gx_player")?;
-        words.push("story")?;
-        let options = self.lines.last("options").unwrap_or(OPTIONS);
-        for word in options.split_whitespace() {
-            words.push(word)?;
-        }
-        run(alloc, MOST_PAGES, words.as_slice(), devices)
+        let mut devices = self.devices(alloc)?;
+        let words = self.command_line(alloc)?;
+        let told = run(alloc, MOST_PAGES, words.as_slice(), &mut devices)?;
+        self.compare(alloc, &devices, &told)?;
+        compare_rewound(alloc, self, &told, devices.sink.bytes())
     }
 
     fn compare(&self, alloc: Global, devices: &Devices, told: &Told) -> Result<()> {
@@ -292,6 +283,23 @@ impl<'a> Story<'a> {
             );
         }
         Ok(())
+    }
+}
+
+impl Again for Story<'_> {
+    fn command_line(&self, alloc: Global) -> Result<Vec<&str>> {
+        let mut words = Vec::new(alloc);
+        words.push("gx_player")?;
+        words.push("story")?;
+        let options = self.lines.last("options").unwrap_or(OPTIONS);
+        for word in options.split_whitespace() {
+            words.push(word)?;
+        }
+        Ok(words)
+    }
+
+    fn devices(&self, alloc: Global) -> Result<Devices> {
+        devices_of(alloc, self.lines, self.program.file.bytes())
     }
 }
 

@@ -13,7 +13,7 @@ use rand_core::SeedableRng;
 use std::alloc::Global;
 
 /// How many pages a run may have out where its story doesn't say it: as many as one of the program.
-pub const MOST_PAGES: usize = 69_206_016;
+pub const MOST_PAGES: usize = 805_306_368;
 
 /// The bytes of the start function's frame before its values.
 const FRAME: usize = 12;
@@ -50,6 +50,8 @@ pub struct Left {
     /// How many copies are kept for undo.
     pub copies: usize,
     pub memory: Vec<u8>,
+    /// Where it stands: the address of the next instruction, the stack pointer and the sum of RAM's words.
+    pub place: String,
 }
 
 impl Devices {
@@ -127,12 +129,31 @@ fn left_in(alloc: Global, machine: &Machine<&PagePool>) -> Result<Left> {
     let (frame, stack) = stack_of(alloc, machine)?;
     let bytes = machine.state().memory().bytes(alloc)?;
     let memory = Vec::from_slice(alloc, bytes.as_slice())?;
+    let state = machine.state();
+    let (pc, sp) = (state.pc(), state.stack().size());
+    let sum = sum_of(memory.as_slice(), state.ramstart() as usize);
     Ok(Left {
         frame,
         stack,
         copies: machine.undo_len(),
         memory,
+        place: format!(in alloc; "{pc:08x} {sp} {sum}")?,
     })
+}
+
+/// The sum of the words of a memory from an address on, modulo 2^32.
+fn sum_of(memory: &[u8], start: usize) -> u32 {
+    let mut sum = 0u32;
+    for (index, byte) in memory.iter().enumerate().skip(start) {
+        let digit: u32 = match index % 4 {
+            0 => 0x0100_0000,
+            1 => 0x0001_0000,
+            2 => 0x0100,
+            _ => 1,
+        };
+        sum = sum.wrapping_add(u32::from(*byte).wrapping_mul(digit));
+    }
+    sum
 }
 
 /// The fixed part of the start function's frame, and all above it.

@@ -20,6 +20,7 @@
 //!   are out at the end, while the machine is there. (None is once it is dropped, in any story.)
 //! - `ends HOW` plays the story and compares: `well after 3 steps`, or the program's line without its name.
 //! - `unbegun HOW` does the same for a story that no machine is begun for, and compares nothing else but the text.
+//! - Where it came to an end of its own, and has no `pool`, it is played on a tape too, as `rewinding` says.
 //! - `also LINE, LINE..` plays the story in a run of its own as if these lines stood at its end.
 //! - `as spent` says that a run which memory cut short left what a budget of its steps leaves where there is memory.
 //! - `fronts KNOWN FAULT` says that the file's checksum is right, and that each shorter front of it is refused, played
@@ -29,6 +30,7 @@
 use crate::fronts::compare_fronts;
 use crate::lines::Lines;
 use crate::notation::{data_of, facts, words_in};
+use crate::rewinding::{Again, compare_rewound};
 use crate::runs::{Devices, Left, MOST_PAGES, Told, run};
 use crate::sequel::{Sequel, play_sequel};
 use crate::story_files::StoryFile;
@@ -121,7 +123,10 @@ impl<'a> Story<'a> {
         if let Some(wanted) = self.lines.last("fronts") {
             compare_fronts(alloc, self.there(), wanted)?;
         }
-        Ok(())
+        if self.lines.last("pool").is_some() {
+            return Ok(());
+        }
+        compare_rewound(alloc, self, told, shown)
     }
 
     /// Compares how the story ended, and what it left; where it isn't begun, it leaves nothing.
@@ -179,6 +184,16 @@ impl<'a> Story<'a> {
         let sequel = play_sequel(alloc, pages.parse()?, words.as_slice(), self.there())?;
         compare_shown(alloc, self.lines, first, &sequel)?;
         compare_end(&sequel, whole)
+    }
+}
+
+impl Again for Story<'_> {
+    fn command_line(&self, alloc: Global) -> Result<Vec<&str>> {
+        self.words(alloc, self.budget())
+    }
+
+    fn devices(&self, alloc: Global) -> Result<Devices> {
+        Devices::with_story(alloc, "story", self.there())
     }
 }
 
