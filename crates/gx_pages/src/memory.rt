@@ -367,6 +367,15 @@ impl<A: Allocator + Clone> Pages<A> {
         Ok(())
     }
 
+    /// Memory once more, which shares all pages.
+    pub fn fork(&self) -> Result<Pages<A>, AllocError>
+        ensures { IfOk result (λ memory. memory ≡ self.now) }
+    {
+        let table = self.table.share()?;
+        let common = self.common.clone()?;
+        Ok(Pages { table, common })
+    }
+
     /// Memory at this time, whatever is written later.
     pub fn keep(&self) -> Result<Kept<A>, AllocError>
         ensures value { IfOk result (λ kept. kept ≡ self.now) }

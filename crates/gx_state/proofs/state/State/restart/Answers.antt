@@ -6,7 +6,7 @@ use Rattle.gx_state.proofs.state.State.restart.Goals as goal
 pub invariant_of-self : goal.invariant_of-self
 invariant_of-self g c =
     let held = c.self.invariant.sound in
-    let story = c.self.inside.story in
+    let story = c.self.inside.story.value in
     let e = c.push_call.ensures.value in
     let bytes = c.bytes.ensures.value in
     let stored = ap length bytes in
