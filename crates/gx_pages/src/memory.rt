@@ -1,4 +1,5 @@
-//! Memory in whole pages, and what is kept of it (Glulx 3.1.2, "The Memory Map", "Memory Map" and "Game State").
+//! Memory in whole pages, its forks, and what is kept of it (Glulx 3.1.2, "The Memory Map", "Memory Map" and
+//! "Game State").
 //!
 //! Each call is its definition of specs/Memory over one list of bytes. Sizes and addresses count
 //! bytes; a size is a multiple of 256, at most `CEILING`. Calls that read and `cut` take no memory.
@@ -365,6 +366,15 @@ impl<A: Allocator + Clone> Pages<A> {
         self.table.grow(&zero, size)?;
         self.common = zero;
         Ok(())
+    }
+
+    /// Memory once more, which shares all pages.
+    pub fn fork(&self) -> Result<Pages<A>, AllocError>
+        ensures { IfOk result (λ memory. memory ≡ self.now) }
+    {
+        let table = self.table.share()?;
+        let common = self.common.clone()?;
+        Ok(Pages { table, common })
     }
 
     /// Memory at this time, whatever is written later.

@@ -6,7 +6,7 @@
 //! - `values` has the values of a frame and its locals.
 //!
 //! Contracts see a stack as its bytes and its limit. The whole limit is asked for at once, so that
-//! only `new` and the copies may want memory. After a refusal the stack is as before.
+//! only `new`, `fork` and `copy_with` may want memory. After a refusal the stack is as before.
 //!
 //! A call that is given a frame wants a good one: one that `frame` or an entry answered, as long as
 //! the stack wasn't cut below its values since. A format has at most 64 pairs.
@@ -107,15 +107,13 @@ impl Stack {
         *self.bytes.allocator()
     }
 
-    /// The bytes as a list of their own. No memory is asked for where there is none.
-    pub fn copy(&self, alloc: Global) -> Result<Bytes, AllocError>
-        ensures value { IfOk result (λ copy. copy ≡ self.now.bytes) }
-        ensures memory { OnErr result (0 < length self.now.bytes) }
+    /// The stack once more, with the same room.
+    pub fn fork(&self, alloc: Global) -> Result<Stack, AllocError>
+        ensures { IfOk result (λ stack. stack ≡ self.now) }
     {
-        if self.bytes.is_empty() {
-            return Ok(Bytes::new(alloc));
-        }
-        Bytes::from_slice(alloc, &self.bytes)
+        let mut stack = Stack::new(alloc, self.limit)?;
+        stack.put_back(&self.bytes);
+        Ok(stack)
     }
 
     /// The bytes of the stack cut to `sp`, with a stub on top, as a list of their own. It is asked for once.

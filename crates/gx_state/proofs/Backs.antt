@@ -8,7 +8,7 @@ use Rattle.gx_words.specs.Numbers.{spliced, bytes_of_word}
 use Rattle.gx_pages.specs.Memory.{put_back_of}
 use Rattle.gx_stack.specs.declared.stubs.Stub.{Stub}
 use Rattle.gx_stack.specs.Frames.{IsGood, has_local, is_good, frame_in, parts}
-use Rattle.gx_stack.specs.Stubs.{stub_bytes, stub_below}
+use Rattle.gx_stack.specs.Stubs.{stub_bytes}
 use Rattle.heap_blocks.specs.Heap.{inactive}
 use Rattle.gx_story.specs.Stories.{FlatStory}
 use Rattle.gx_state.specs.declared.modes.Dest.{Dest}

@@ -17,7 +17,7 @@ flat_of s = record {
   heap = s.heap.heap;
   generator = s.generator;
   mode = s.mode;
-  story = s.story;
+  story = s.story.value;
 }
 
 abbrev pub held_of : {A : Type 0} → Inside A → HeldState

@@ -1,7 +1,9 @@
-//! Copies of the state, the way back to them, and the restart of a story (Glulx 3.1.2, "Game State").
+//! Copies of the state, the way back to them, forks of both, and the restart of a story (Glulx 3.1.2, "Game State").
 //!
-//! A copy has memory, the stack with the stub of a store operand on top, and the heap. What may be
-//! refused comes first, so that the state is as before after every refusal.
+//! A copy has memory, the stack with the stub of a store operand on top, and the heap. A fork is an equal state or
+//! an equal copy. Copies, forks and the running state share their pages; forks of a state share its story too, and
+//! forks of a copy share all of it. What may be refused comes first, so that the state is as before after every
+//! refusal.
 ghost use Rattle.std.specs.Prelude.{◌≡◌, ◌≢◌, ◌+◌, ◌-◌, ◌<◌, ◌≤◌, ◌==◌, if◌then◌else◌, Some, None, Ok, length, take, IfOk, OnOk, OnErr, IsTrue};
 ghost use Rattle.gx_pages.specs.Memory.{put_back_of};
 ghost use Rattle.gx_stack.specs.Constants.{to_memory, to_local, to_stack};
@@ -19,18 +21,25 @@ use gx_pages::{Kept, Pages};
 use gx_stack::{Stub, TO_LOCAL, TO_MEMORY, TO_STACK, frame_len};
 use gx_words::{Bytes, Fault, word_bytes};
 use heap_blocks::Heap;
-use std::alloc::{AllocError, Allocator};
+use std::alloc::{AllocError, Allocator, Global};
 use std::marker::Model;
+use std::rc::Rc;
 
 /// What is delivered to the stub of a copy: -1.
 pub(crate) const MINUS_ONE: u32 = 0xFFFF_FFFF;
 
-/// A copy of memory, the stack and the heap.
+/// What a copy has.
 #[derive(Drop)]
-pub struct Moment<A: Allocator + Clone> {
+struct Parts<A: Allocator + Clone> {
     memory: Kept<A>,
     stack: Bytes,
     heap: Heap,
+}
+
+/// A copy of memory, the stack and the heap, which its forks share.
+#[derive(Drop)]
+pub struct Moment<A: Allocator + Clone> {
+    parts: Rc<Parts<A>>,
 }
 
 impl<A: Allocator + Clone> Model for Moment<A> {
@@ -43,7 +52,37 @@ impl<A: Allocator + Clone> Model for Moment<A> {
     ghost view = { copy_in };
 }
 
+impl<A: Allocator + Clone> Moment<A> {
+    /// The same copy once more, which shares all of it.
+    pub fn fork(&self) -> Result<Moment<A>, AllocError>
+        ensures { IfOk result (λ copy. copy ≡ self.now) }
+    {
+        Ok(Moment {
+            parts: self.parts.clone()?,
+        })
+    }
+}
+
 impl<A: Allocator + Clone> State<A> {
+    /// The state once more. Memory and the story are shared; the stack and the list of the heap's blocks are copied.
+    pub fn fork(&self, alloc: Global) -> Result<State<A>, AllocError>
+        ensures { IfOk result (λ state. state.flat ≡ self.now.flat) }
+    {
+        Ok(State {
+            story: self.story.clone()?,
+            memory: self.memory.fork()?,
+            stack: self.stack.fork(alloc)?,
+            frame: self.frame,
+            pc: self.pc,
+            table: self.table,
+            iosys: self.iosys,
+            protected: self.protected,
+            heap: self.heap.copy(alloc)?,
+            generator: self.generator.copy()?,
+            mode: self.mode,
+        })
+    }
+
     /// A copy of the state, with the stub of a store operand on top of its stack; `next` is the
     /// address at which the machine goes on. It is fit for the story where the operand takes a word.
     #[tactic(auto, using(std::proofs::lemmas::List::take_all))]
@@ -58,10 +97,13 @@ impl<A: Allocator + Clone> State<A> {
         let sp = self.stack.size();
         let stack = self.stack.copy_with(alloc, sp, &self.stub(dest, next))?;
         let heap = self.heap.copy(alloc)?;
-        Ok(Moment {
+        let parts = Parts {
             memory,
             stack,
             heap,
+        };
+        Ok(Moment {
+            parts: Rc::new(alloc, parts)?,
         })
     }
 
@@ -75,10 +117,11 @@ impl<A: Allocator + Clone> State<A> {
         ensures story { self.new.flat.story ≡ self.old.flat.story }
         ensures live { OnOk result (0 < sp_of self.new.flat) }
     {
-        let stub = Stub::on_top(copy.stack.as_slice());
+        let stack = copy.parts.stack.as_slice();
+        let stub = Stub::on_top(stack);
         let memory = self.memory_of(copy, &stub)?;
-        let heap = copy.heap.copy(self.stack.allocator())?;
-        self.lay(memory, heap, copy.stack.as_slice(), &stub);
+        let heap = copy.parts.heap.copy(self.stack.allocator())?;
+        self.lay(memory, heap, stack, &stub);
         self.answer(&stub);
         Ok(())
     }
@@ -93,7 +136,7 @@ impl<A: Allocator + Clone> State<A> {
         ensures size { IfOk result (λ all. length all ≡ length copy.now.memory) }
         ensures rom { IfOk result (λ all. take self.now.flat.story.header.ramstart all ≡ take self.now.flat.story.header.ramstart self.now.flat.story.bytes) }
     {
-        let mut memory = self.memory.put_back(&copy.memory, self.protected)?;
+        let mut memory = self.memory.put_back(&copy.parts.memory, self.protected)?;
         if stub.kind != TO_MEMORY {
             return Ok(memory);
         }

@@ -23,7 +23,8 @@ use gx_story::Story;
 use gx_words::{Fault, LOCALS_FUNCTION, STACK_FUNCTION};
 use heap_blocks::Heap;
 use ops_calc::Generator;
-use std::alloc::{Allocator, Global};
+use std::alloc::{AllocError, Allocator, Global};
+use std::rc::Rc;
 
 /// The type of a function.
 #[tactic(auto, unfolding(crate::specs::Entry::kind_at))]
@@ -149,7 +150,7 @@ fn initial<A: Allocator + Clone>(alloc: Global, pages: A, story: Story) -> Resul
     let stack = Stack::new(alloc, story.stack_size())?;
     let table = story.table();
     Ok(State {
-        story,
+        story: shared(alloc, story)?,
         memory,
         stack,
         frame: NO_FRAME,
@@ -161,6 +162,13 @@ fn initial<A: Allocator + Clone>(alloc: Global, pages: A, story: Story) -> Resul
         generator: Generator::fresh(),
         mode: Mode::Running,
     })
+}
+
+/// A story that states may share.
+fn shared(alloc: Global, story: Story) -> Result<Rc<Story>, AllocError>
+    ensures { IfOk result (λ one. one.value ≡ story) }
+{
+    Ok(Rc::new(alloc, story)?)
 }
 
 /// Looks whether a start of a story would have a fault.

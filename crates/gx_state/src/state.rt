@@ -1,4 +1,6 @@
 //! The state, its readers, and the calls that set one part.
+//!
+//! A state shares its story with the forks that `copies` makes of it.
 ghost use Rattle.std.specs.Prelude.{◌≡◌, ◌+◌, ◌<◌, ◌≤◌, ◌^◌, length, IfOk, IfErr, OnOk};
 ghost use Rattle.gx_words.specs.Constants.{ceiling};
 ghost use Rattle.gx_words.specs.Numbers.{IsWidth, byte};
@@ -21,11 +23,12 @@ use heap_blocks::Heap;
 use ops_calc::Generator;
 use std::alloc::Allocator;
 use std::marker::Model;
+use std::rc::Rc;
 
 /// The state of a machine.
 #[derive(Drop)]
 pub struct State<A: Allocator + Clone> {
-    pub(crate) story: Story,
+    pub(crate) story: Rc<Story>,
     pub(crate) memory: Pages<A>,
     pub(crate) stack: Stack,
     /// The present frame; of a function that has returned to nothing, what it was.

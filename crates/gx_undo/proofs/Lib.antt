@@ -1,2 +1,3 @@
 mod Constants
 pub mod Fit
+pub mod Forks

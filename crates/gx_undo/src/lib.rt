@@ -2,7 +2,8 @@
 //!
 //! Contracts see an `Undo` as its copies, the newest first, and its depth: how many it keeps at most,
 //! which the standard leaves to the interpreter. The room for all of them is asked for at once, so that
-//! `push` is never refused; where the list is full the oldest copy is dropped.
+//! `push` is never refused; where the list is full the oldest copy is dropped. A fork is an equal list, which
+//! shares its copies.
 //!
 //! What holds of each copy goes on to hold: a clause of `push` and one of `pop` say so of copies that
 //! are fit for a story.
@@ -46,6 +47,22 @@ impl<A: Allocator + Clone> Undo<A> {
         ensures { IfOk result (λ undo. undo ≡ record { copies = []; depth = depth }) }
     {
         let ring = HeapCircularBuffer::with_capacity(alloc, depth)?;
+        Ok(Undo { ring })
+    }
+
+    /// The same copies once more, and the same depth. Each copy is shared.
+    pub fn fork(&self, alloc: Global) -> Result<Undo<A>, AllocError>
+        ensures { IfOk result (λ undo. undo ≡ self.now) }
+    {
+        let mut ring = HeapCircularBuffer::with_capacity(alloc, self.ring.capacity())?;
+        for i in 0..self.ring.len() {
+            match self.ring.get(i) {
+                Some(copy) => {
+                    let _none = ring.push_back(copy.fork()?); // there is room for all of them
+                }
+                None => unreachable!(),
+            }
+        }
         Ok(Undo { ring })
     }
 
