@@ -20,7 +20,7 @@ logged None m = None
 logged (Some log) m = Some (record { before = m ∷ log.before; after = [] })
 
 -- the units that events took which began at these machines
-pub units_of : List FlatMachine → ℕ
+unfoldable pub units_of : List FlatMachine → ℕ
 units_of [] = 0
 units_of (m ∷ ms) = cost_of m + units_of ms
 
