@@ -1,6 +1,8 @@
 -- The machine takes a reply, or goes back to a copy, and then the text is sent that is due.
-use Rattle.std.proofs.Common.{◌≡◌, ℕ, ◌≤◌, ◌⊎◌, inr, List, None, Result, Ok, Err, IfOk, refl, ap, subst, sym, ◌∙◌}
+use Rattle.std.proofs.Common.{◌≡◌, ℕ, ◌≤◌, ◌⊎◌, inr, List, Option, Some, None, IsSome, Result, Ok, Err, IfOk, refl, ap, subst, sym, ◌∙◌}
 use Rattle.gx_machine.specs.Machine.{FlatMachine, Whole}
+use Rattle.gx_machine.specs.Log.{Log, logged, units_left, left_by, left_after}
+use Rattle.gx_machine.specs.declared.askings.Asking.{Asking}
 use Rattle.gx_outside.specs.Outside.{FlatSink}
 use Rattle.glk_world.specs.World.{FlatWorld}
 use Rattle.gx_session.specs.declared.ends.Halt.{Halt}
@@ -15,54 +17,64 @@ use Rattle.gx_session.specs.Playing.{Held, held, asking_in, Standing, Resumes, E
 use Rattle.gx_session.proofs.Asking.{resumed-on, resumed-early}
 use Rattle.gx_session.proofs.Playing.{flushed, cut-send}
 
-module _ {E : Type 0} (whole : E → Whole) (old mid : Running E) (coming : List ℕ) (machine : FlatMachine) (left : ℕ) (start : Configuration) (entry d : Devices) (wanted : Type 0)
-    (r : Resumes start entry (held whole old coming) (asking_in whole old) d left machine wanted) where
+module _ {E : Type 0} (whole : E → Whole) (log : E → Option Log) (old mid : Running E) (coming : List ℕ) (machine : FlatMachine) (left : ℕ) (start : Configuration) (entry d : Devices) (wanted : Type 0)
+    (r : Resumes start entry (held whole log old coming) (asking_in whole old) d left machine wanted) where
   abbrev h : Held
-  h = held whole old coming
+  h = held whole log old coming
 
   -- the machine wants memory
-  pub give-early : (e : Halt) → e ≡ halt.NoMemory → wanted → (let q : Result (Unit {0}) Halt = Err e in Becomes whole old mid machine left q)
-      → EventGives start entry (held whole mid coming) (asking_in whole mid) d (Err e)
+  pub give-early : (e : Halt) → e ≡ halt.NoMemory → wanted → (let q : Result (Unit {0}) Halt = Err e in Becomes whole log old mid machine left q)
+      → EventGives start entry (held whole log mid coming) (asking_in whole mid) d (Err e)
   give-early e memory wants g =
-      subst (λ (x : Halt). EventGives start entry (held whole mid coming) (asking_in whole mid) d (Err x)) (sym memory)
+      subst (λ (x : Halt). EventGives start entry (held whole log mid coming) (asking_in whole mid) d (Err x)) (sym memory)
       (inr
-      (resumed-early start entry h d (asking_in whole old) left machine wanted r wants (held whole mid coming) (ap (λ (w : Whole). w.machine) g.err.0) (ap (λ (x : Running E). x.left) g.err.1) (asking_in whole mid)
+      (resumed-early start entry h d (asking_in whole old) left machine wanted r wants (held whole log mid coming) (ap (λ (w : Whole). w.machine) g.err.0) (ap (λ (x : Running E). x.left) g.err.1) g.err.2 (asking_in whole mid)
       (ap (λ (w : Whole). w.asking) g.err.0)))
 
-  module _ (g : (let q : Result (Unit {0}) Halt = Ok tt in Becomes whole old mid machine left q)) where
+  module _ (g : (let q : Result (Unit {0}) Halt = Ok tt in Becomes whole log old mid machine left q)) where
     none-asked : asking_in whole mid ≡ None
     none-asked = ap (λ (w : Whole). w.asking) g.ok.0
 
-    given-held : held whole mid coming ≡ record h { machine = machine; left = left }
+    given-held : held whole log mid coming ≡ record h { machine = machine; left = left; log = logged h.log h.machine }
     given-held =
-        ap (λ (x : Running E). held whole x coming) g.ok.1
-        ∙ ap (λ (w : Whole). let y : Held = record h { machine = w.machine; left = left } in y) g.ok.0
+        ap (λ (x : Running E). held whole log x coming) g.ok.1
+        ∙ ap (λ (w : Whole). let y : Held = record h { machine = w.machine; left = left; log = log mid.engine } in y) g.ok.0
+        ∙ ap (λ (l : Option Log). let y : Held = record h { machine = machine; left = left; log = l } in y) g.ok.2
 
-    pub given-standing : Standing start entry (held whole mid coming) d steps
+    pub given-standing : Standing start entry (held whole log mid coming) d steps
     given-standing = subst (λ (x : Held). Standing start entry x d steps) (sym given-held) (resumed-on start entry h d (asking_in whole old) left machine wanted r)
 
     -- the text that was due then is refused
     pub flush-early : (world : FlatWorld) (sink : FlatSink) (e : Halt) → (e ≡ halt.Output) ⊎ (e ≡ halt.NoMemory) → Flushes enough d.sink sink mid.world world (Err e)
-        → EventGives start entry (held whole (record mid { world = world }) coming) (asking_in whole mid) (record d { sink = sink }) (Err e)
-    flush-early world sink e only f = inr (cut-send start entry (held whole mid coming) d world sink steps enough (λ s text. refl) (asking_in whole mid) e given-standing none-asked only f)
+        → EventGives start entry (held whole log (record mid { world = world }) coming) (asking_in whole mid) (record d { sink = sink }) (Err e)
+    flush-early world sink e only f = inr (cut-send start entry (held whole log mid coming) d world sink steps enough (λ s text. refl) (asking_in whole mid) e given-standing none-asked only f)
 
     -- it was sent
     pub flush-on : (world : FlatWorld) (sink : FlatSink) → Flushes enough d.sink sink mid.world world (Ok tt)
-        → EventGives start entry (held whole (record mid { world = world }) coming) (asking_in whole mid) (record d { sink = sink }) (Ok next.Goes)
-    flush-on world sink f = inr (flushed start entry (held whole mid coming) d world sink steps enough (λ s text. refl) given-standing f)
+        → EventGives start entry (held whole log (record mid { world = world }) coming) (asking_in whole mid) (record d { sink = sink }) (Ok next.Goes)
+    flush-on world sink f = inr (flushed start entry (held whole log mid coming) d world sink steps enough (λ s text. refl) given-standing f)
 
 goes-next : (result : Result Next Halt) → IfOk result (λ n. n ≡ next.Goes) → IfOk result IsNext
 goes-next (Ok n) goes = subst IsNext (sym goes) tt
 goes-next (Err why) goes = tt
 
+-- the units that can still be taken once what is asked is answered
+room-answered : (asking : Option Asking) (log : Option Log) (m : FlatMachine) (n : ℕ) → IsSome asking → n ≤ left_by asking log m → n ≤ units_left (logged log m)
+room-answered (Some asking) log m n some room = room
+room-answered None log m n some room = absurd cc
+
 -- what follows changed the world alone
-pub given-leads : {E : Type 0} (whole : E → Whole) (old mid new : Running E) (machine : FlatMachine) (left : ℕ) → left ≤ old.left → (let q : Result (Unit {0}) Halt = Ok tt in Becomes whole old mid machine left q)
-    → new ≡ record mid { world = new.world } → (result : Result Next Halt) → IfOk result (λ n. n ≡ next.Goes) → Leads whole old new left result
-given-leads {E} whole old mid new machine left fewer g same result goes =
+pub given-leads : {E : Type 0} (whole : E → Whole) (log : E → Option Log) (old mid new : Running E) (machine : FlatMachine) (left : ℕ) → left ≤ old.left
+    → IsSome (whole old.engine).asking → left ≤ left_after (log old.engine) (whole old.engine) → (let q : Result (Unit {0}) Halt = Ok tt in Becomes whole log old mid machine left q)
+    → new ≡ record mid { world = new.world } → (result : Result Next Halt) → IfOk result (λ n. n ≡ next.Goes) → Leads whole log old new left result
+given-leads {E} whole log old mid new machine left fewer asks room g same result goes =
     let units : new.left ≡ left = ap (λ (x : Running E). x.left) same ∙ ap (λ (x : Running E). x.left) g.ok.1 in
     record {
       none = λ e. ap (λ (x : Running E). (whole x.engine).asking) same ∙ ap (λ (w : Whole). w.asking) g.ok.0;
       left_is = λ e. units;
+      room = λ e.
+          subst (λ (n : ℕ). n ≤ units_left (log new.engine)) (sym units)
+          (subst (λ (l : Option Log). left ≤ units_left l) (sym (ap (λ (x : Running E). log x.engine) same ∙ g.ok.2)) (room-answered (whole old.engine).asking (log old.engine) (whole old.engine).machine left asks room));
       no_more = subst (λ (n : ℕ). n ≤ old.left) (sym units) fewer;
       stop_is = goes-next result goes;
     }

@@ -1,5 +1,5 @@
 -- What the effects of a step, and the answers to what it asks, make of a run.
-use Rattle.std.proofs.Common.{◌≡◌, ◌≢◌, ℕ, suc, ◌<◌, ◌≤◌, List, ◌++◌, length, inl, inr, Bool, true, false, Option, Some, None, is_some, IsSome, IsTrue, Result, Ok, Err, IsOk, if◌then◌else◌, refl, ap, subst, sym, ◌∙◌, append_assoc, arith}
+use Rattle.std.proofs.Common.{◌≡◌, ◌≢◌, ℕ, suc, ◌<◌, ◌≤◌, List, ◌++◌, length, ◌⊎◌, inl, inr, Bool, true, false, Option, Some, None, is_some, IsSome, IsTrue, Result, Ok, Err, IsOk, if◌then◌else◌, refl, ap, subst, sym, ◌∙◌, append_assoc, arith}
 use Rattle.arrayvec.specs.ArrayVec.{ArrayVec}
 use Rattle.gx_words.specs.declared.faults.Fault.{Fault}
 use Rattle.gx_words.specs.declared.faults.Fault.TheVariants as fault
@@ -10,6 +10,8 @@ use Rattle.gx_state.specs.declared.effects.Effect.TheVariants as effect
 use Rattle.gx_state.specs.declared.effects.Reply.{Reply}
 use Rattle.gx_machine.specs.declared.askings.Asking.{Asking}
 use Rattle.gx_machine.specs.Machine.{FlatMachine, Whole}
+use Rattle.gx_machine.specs.Log.{Log, logged}
+use Rattle.gx_machine.specs.Advancing.{logged_by}
 use Rattle.gx_machine.specs.Step.{asking_of, stepped, IsStepWriting}
 use Rattle.gx_outside.specs.Files.{Files}
 use Rattle.gx_outside.specs.Outside.{FlatSource, FlatShelf, raised}
@@ -76,20 +78,31 @@ fault-gives start entry h asking d f result (inl e) early stopped = subst (Gives
 fault-gives start entry h asking d f result (inr e) early stopped = subst (Gives start entry h asking d) (sym e.1) (stopped e.0)
 
 -- a turn that waits may want memory where what is shown then may
-wait-wants : (machine : FlatMachine) (said : Said) (t : Turn) → IsWait t → ShowWants said.0 → TurnWants machine (Ok (said, t))
-wait-wants machine said turn.Wait is some = some
-wait-wants machine said turn.Prompt is some = some
-wait-wants machine said (turn.Answer reply) is some = absurd is
-wait-wants machine said turn.Stuck is some = absurd is
-wait-wants machine said (turn.Load name) is some = absurd is
-wait-wants machine said (turn.Store name bytes) is some = absurd is
-wait-wants machine said (turn.Remove name) is some = absurd is
-wait-wants machine said (turn.Has name) is some = absurd is
-wait-wants machine said turn.Exit is some = absurd is
+wait-wants : (log : Option Log) (machine : FlatMachine) (said : Said) (t : Turn) → IsWait t → ShowWants said.0 → TurnWants log machine (Ok (said, t))
+wait-wants log machine said turn.Wait is some = some
+wait-wants log machine said turn.Prompt is some = some
+wait-wants log machine said (turn.Answer reply) is some = absurd is
+wait-wants log machine said turn.Stuck is some = absurd is
+wait-wants log machine said (turn.Load name) is some = absurd is
+wait-wants log machine said (turn.Store name bytes) is some = absurd is
+wait-wants log machine said (turn.Remove name) is some = absurd is
+wait-wants log machine said (turn.Has name) is some = absurd is
+wait-wants log machine said turn.Exit is some = absurd is
 
 -- an effect that asks is done
 not-spent : (does : Effect) → IsSome (asking_of does) → does ≢ effect.Spent
 not-spent does some spent = let none : is_some (asking_of does) ≡ false = ap (λ (x : Effect). is_some (asking_of x)) spent in cc
+
+-- an asking ends no event
+asking-unlogged : (does : Effect) (log : Option Log) (m : FlatMachine) → IsSome (asking_of does) → logged_by does log m ≡ log
+asking-unlogged (effect.Put c) log m some = refl
+asking-unlogged (effect.Glk selector args room) log m some = refl
+asking-unlogged (effect.Save stream) log m some = refl
+asking-unlogged (effect.Restore stream) log m some = refl
+asking-unlogged effect.Went log m some = cc
+asking-unlogged effect.Drew log m some = cc
+asking-unlogged effect.Quit log m some = cc
+asking-unlogged effect.Spent log m some = cc
 
 -- what a turn says of a question
 pub question-is : (q : Question) → IsQuestion (turn_of q)
@@ -159,9 +172,10 @@ module _ (start : Configuration) (entry : Devices) (h : Held) (d : Devices) wher
     first = ap (λ (p : ℕ × Stream). p.0) (word-drawn word h.word d.words g.now.past.words drawn g.now.is_past.word)
 
     pub step-follows : (w : Whole) (left : ℕ) (does : Effect) → stepped (record { machine = h.machine; asking = asking }) word h.left ≡ Ok ((w, left), does)
-        → (IsSome (asking_of does) → w.machine ≡ h.machine) → Follows start entry (record h { machine = w.machine }) d left does
-    step-follows w left does e stand = record {
+        → (IsSome (asking_of does) → w.machine ≡ h.machine) → (log : Option Log) → log ≡ logged_by does h.log h.machine → Follows start entry (record h { machine = w.machine; log = log }) d left does
+    step-follows w left does e stand log logs = record {
       before = h.machine;
+      recorded = h.log;
       word = word;
       drawn = drawn;
       going = g;
@@ -169,35 +183,46 @@ module _ (start : Configuration) (entry : Devices) (h : Held) (d : Devices) wher
       asks = step-asks m asking word first w left does e;
       effect = step-effect m asking word first w left does e;
       stands = stand;
+      logs = logs;
     }
 
     -- a step that wants memory
-    pub step-wants : (now : Option Asking) (machine : FlatMachine) → machine ≡ h.machine → asking ≡ None → now ≡ None → IsStepWriting h.machine h.left → IsOk (stepped (record { machine = h.machine; asking = asking }) word h.left)
-        → Early start entry (record h { machine = machine }) now d halt.NoMemory
-    step-wants now machine same nothing nothing' writes fine =
+    pub step-wants : (now : Option Asking) (machine : FlatMachine) (log : Option Log) → machine ≡ h.machine → log ≡ h.log → asking ≡ None → now ≡ None
+        → IsSome h.log ⊎ (IsStepWriting h.machine h.left × IsOk (stepped (record { machine = h.machine; asking = asking }) word h.left))
+        → Early start entry (record h { machine = machine; log = log }) now d halt.NoMemory
+    step-wants now machine log same stands nothing nothing' (inl recorded) =
+        wants start entry h d steps g (record h { machine = machine; log = log }) now (inl (nothing', inl recorded)) same refl stands
+    step-wants now machine log same stands nothing nothing' (inr lack) =
         let is : IsOk (stepped (record { machine = h.machine; asking = None }) (next_u32 g.now.past.words).0 h.left) =
         subst (λ (x : ℕ). IsOk (stepped (record { machine = h.machine; asking = None }) x h.left)) (sym first)
-        (subst (λ (a : Option Asking). IsOk (stepped (record { machine = h.machine; asking = a }) word h.left)) nothing fine) in
-        wants start entry h d steps g (record h { machine = machine }) now (inl (nothing', writes, is)) same refl
+        (subst (λ (a : Option Asking). IsOk (stepped (record { machine = h.machine; asking = a }) word h.left)) nothing lack.1) in
+        wants start entry h d steps g (record h { machine = machine; log = log }) now (inl (nothing', inr (lack.0, is))) same refl stands
 
-    pub step-stops : (machine : FlatMachine) (f : Fault) (now : Option Asking) → machine ≡ h.machine → now ≡ None → stepped (record { machine = h.machine; asking = asking }) word h.left ≡ Err f
-        → Done start entry (record h { machine = machine }) now d (stop.Faulted f)
-    step-stops machine f now same nothing e =
-        subst (λ (x : FlatMachine). Done start entry (record h { machine = x }) now d (stop.Faulted f)) (sym same)
+    pub step-stops : (machine : FlatMachine) (log : Option Log) (f : Fault) (now : Option Asking) → machine ≡ h.machine → log ≡ h.log → now ≡ None → stepped (record { machine = h.machine; asking = asking }) word h.left ≡ Err f
+        → Done start entry (record h { machine = machine; log = log }) now d (stop.Faulted f)
+    step-stops machine log f now same stands nothing e =
+        subst (λ (x : FlatMachine). Done start entry (record h { machine = x; log = log }) now d (stop.Faulted f)) (sym same)
+        (subst (λ (l : Option Log). Done start entry (record h { log = l }) now d (stop.Faulted f)) (sym stands)
         (stops-at start entry h d steps g (stop.Faulted f) g.now.past steps h d now g.now.is_past (λ long. g.now.few) (λ wait. g.now.reads)
-        (step-faults m asking word first f e) (nothing ∙ sym (step-asks-nothing m asking word first f e)))
+        (step-faults m asking word first f e) (nothing ∙ sym (step-asks-nothing m asking word first f e))))
 
   module _ (left : ℕ) where
     -- what was done stands
-    stood : (before : FlatMachine) (p : Past) → IsPast start.input entry p (record h { machine = before }) d → IsPast start.input entry p (record h { left = left }) d
-    stood before p i = record { taken = i.taken; asked = i.asked; told = i.told; word = i.word; left = i.left; fewer = i.fewer; reads = i.reads }
+    stood : (before : FlatMachine) (recorded : Option Log) (p : Past) → IsPast start.input entry p (record h { machine = before; log = recorded }) d → IsPast start.input entry p (record h { left = left }) d
+    stood before recorded p i = record { taken = i.taken; asked = i.asked; told = i.told; word = i.word; left = i.left; fewer = i.fewer; reads = i.reads }
+
+    -- the configuration that the step comes to
+    abbrev stepped-to : Past → Option Log → Configuration
+    stepped-to p log = configuration_of p steps (record h { left = left; log = log }) d
 
     pub went-on : Follows start entry h d left effect.Went → Going start entry (record h { left = left }) d
     went-on f =
         let g = f.going in
+        let act : act_of (here start entry (record h { machine = f.before; log = f.recorded }) d steps g.now) ≡ goes (stepped-to g.now.past h.log) =
+        f.event ∙ ap (λ (l : Option Log). goes (stepped-to g.now.past l)) (sym f.logs) in
         record {
-          now = moves-on start entry (record h { machine = f.before }) d steps g g.now.past steps (record h { left = left }) d (stood f.before g.now.past g.now.is_past) g.now.few g.now.reads f.event
-              (saved-of (here start entry (record h { machine = f.before }) d steps g.now) effect.Went (f.effect (λ e. cc)) (λ begins. absurd begins));
+          now = moves-on start entry (record h { machine = f.before; log = f.recorded }) d steps g g.now.past steps (record h { left = left }) d (stood f.before f.recorded g.now.past g.now.is_past) g.now.few g.now.reads act
+              (saved-of (here start entry (record h { machine = f.before; log = f.recorded }) d steps g.now) effect.Went (f.effect (λ e. cc)) (λ begins. absurd begins));
           quiet = g.quiet;
         }
 
@@ -215,33 +240,38 @@ module _ (start : Configuration) (entry : Devices) (h : Held) (d : Devices) wher
           fewer = i.fewer;
           reads = i.reads;
         } in
+        let act : act_of (here start entry (record h { machine = f.before; log = f.recorded }) d steps g.now) ≡ goes (stepped-to used h.log) =
+        f.event ∙ ap (λ (l : Option Log). goes (stepped-to used l)) (sym f.logs) in
         record {
-          now = moves-on start entry (record h { machine = f.before }) d steps g used steps (record h { left = left; word = None }) d is g.now.few g.now.reads f.event
-              (saved-of (here start entry (record h { machine = f.before }) d steps g.now) effect.Drew (f.effect (λ e. cc)) (λ begins. absurd begins));
+          now = moves-on start entry (record h { machine = f.before; log = f.recorded }) d steps g used steps (record h { left = left; word = None }) d is g.now.few g.now.reads act
+              (saved-of (here start entry (record h { machine = f.before; log = f.recorded }) d steps g.now) effect.Drew (f.effect (λ e. cc)) (λ begins. absurd begins));
           quiet = g.quiet;
         }
 
     pub quit-on : (asking : Option Asking) → asking ≡ None → Follows start entry h d left effect.Quit → Done start entry (record h { left = left }) asking d stop.Ended
     quit-on asking nothing f =
         let g = f.going in
-        stops-at start entry (record h { machine = f.before }) d steps g stop.Ended g.now.past steps (record h { left = left }) d asking (stood f.before g.now.past g.now.is_past) (λ long. g.now.few) (λ wait. g.now.reads) f.event nothing
+        stops-at start entry (record h { machine = f.before; log = f.recorded }) d steps g stop.Ended g.now.past steps (record h { left = left }) d asking (stood f.before f.recorded g.now.past g.now.is_past) (λ long. g.now.few) (λ wait. g.now.reads)
+        (f.event ∙ ap (λ (l : Option Log). stops stop.Ended (stepped-to g.now.past l)) (sym f.logs)) nothing
 
     pub spent-on : (asking : Option Asking) → asking ≡ None → Follows start entry h d left effect.Spent → Done start entry (record h { left = left }) asking d stop.Spent
     spent-on asking nothing f =
         let g = f.going in
-        stops-at start entry (record h { machine = f.before }) d steps g stop.Spent g.now.past steps (record h { left = left }) d asking (stood f.before g.now.past g.now.is_past) (λ long. g.now.few) (λ wait. g.now.reads) f.event nothing
+        stops-at start entry (record h { machine = f.before; log = f.recorded }) d steps g stop.Spent g.now.past steps (record h { left = left }) d asking (stood f.before f.recorded g.now.past g.now.is_past) (λ long. g.now.few) (λ wait. g.now.reads)
+        (f.event ∙ ap (λ (l : Option Log). stops stop.Spent (stepped-to g.now.past l)) (sym f.logs)) nothing
 
-    -- An asking: the machine stands as before the step.
-    pub record Asks (machine : FlatMachine) (does : Effect) : Type 0 where
-      pub going : Going start entry (record h { machine = machine }) d
-      pub event : let m = configuration_of going.now.past steps (record h { machine = machine }) d in act_of m ≡ after_effect m left h.machine does
-      pub asking_is : let m = configuration_of going.now.past steps (record h { machine = machine }) d in asked m ≡ asking_of does
-      pub effect_is : let m = configuration_of going.now.past steps (record h { machine = machine }) d in effect_at m ≡ Some does
+    -- An asking: the machine stands as before the step, and nothing more is recorded.
+    pub record Asks (machine : FlatMachine) (recorded : Option Log) (does : Effect) : Type 0 where
+      pub going : Going start entry (record h { machine = machine; log = recorded }) d
+      pub event : let m = configuration_of going.now.past steps (record h { machine = machine; log = recorded }) d in act_of m ≡ after_effect m left h.machine does
+      pub asking_is : let m = configuration_of going.now.past steps (record h { machine = machine; log = recorded }) d in asked m ≡ asking_of does
+      pub effect_is : let m = configuration_of going.now.past steps (record h { machine = machine; log = recorded }) d in effect_at m ≡ Some does
 
-    pub asks-now : (does : Effect) → Follows start entry h d left does → IsSome (asking_of does) → Asks h.machine does
+    pub asks-now : (does : Effect) → Follows start entry h d left does → IsSome (asking_of does) → Asks h.machine h.log does
     asks-now does f some =
-        let at_before : Asks f.before does = record { going = f.going; event = f.event; asking_is = f.asks some; effect_is = f.effect (not-spent does some) } in
-        subst (λ (x : FlatMachine). Asks x does) (sym (f.stands some)) at_before
+        let at_before : Asks f.before f.recorded does = record { going = f.going; event = f.event; asking_is = f.asks some; effect_is = f.effect (not-spent does some) } in
+        subst (λ (l : Option Log). Asks h.machine l does) (sym (f.logs ∙ asking-unlogged does f.recorded f.before some))
+        (subst (λ (x : FlatMachine). Asks x f.recorded does) (sym (f.stands some)) at_before)
 
   -- A move from here has a fault.
   module _ (doing : Doing) (g : Ready start entry h d doing) where
@@ -260,7 +290,7 @@ module _ (start : Configuration) (entry : Devices) (h : Held) (d : Devices) wher
     at = here start entry before d r.doing r.going.now
 
     abbrev resumed-held : Held
-    resumed-held = record h { machine = machine; left = left }
+    resumed-held = record h { machine = machine; left = left; log = logged h.log h.machine }
 
     resumed-past : IsPast start.input entry r.going.now.past resumed-held d
     resumed-past = let i = r.going.now.is_past in record { taken = i.taken; asked = i.asked; told = i.told; word = i.word; left = i.left; fewer = i.fewer; reads = i.reads }
@@ -269,16 +299,16 @@ module _ (start : Configuration) (entry : Devices) (h : Held) (d : Devices) wher
     resumed-act : act_of at ≡ goes (configuration_of r.going.now.past steps resumed-held d)
     resumed-act =
         r.event
-        ∙ ap (λ (w : FlatWorld). goes (record at { machine = machine; world = w; left = left; doing = steps }))
+        ∙ ap (λ (w : FlatWorld). goes (record at { machine = machine; world = w; left = left; log = logged at.log at.machine; doing = steps }))
         (sent-before r.going.now.past.sent r.world r.said ∙ ap (λ (w : FlatWorld). let x : FlatWorld = record { scene = w.scene; text = r.going.now.past.sent ++ w.text } in x) (sym r.moved))
 
     pub resumed-on : Standing start entry resumed-held d steps
     resumed-on = moves-on start entry before d r.doing r.going r.going.now.past steps resumed-held d resumed-past r.going.now.few r.going.now.reads resumed-act r.saved
 
-    pub resumed-early : wanted → (h' : Held) → h'.machine ≡ h.machine → h'.left ≡ h.left → (asking' : Option Asking) → asking' ≡ asking → Early start entry h' asking' d halt.NoMemory
-    resumed-early wants-it h' stands units asking' same =
+    pub resumed-early : wanted → (h' : Held) → h'.machine ≡ h.machine → h'.left ≡ h.left → h'.log ≡ h.log → (asking' : Option Asking) → asking' ≡ asking → Early start entry h' asking' d halt.NoMemory
+    resumed-early wants-it h' stands units log asking' same =
         wants start entry before d r.doing r.going h' asking'
-        (subst (WantsMemory r.doing at) (sym same) (r.memory wants-it)) stands units
+        (subst (WantsMemory r.doing at) (sym same) (r.memory wants-it)) stands units log
 
   -- THE TURN OF A CALL
   module _ (asking : Option Asking) (w : Waiting) (t : Turn) (r : Turns start entry h asking d w t) where
@@ -359,15 +389,15 @@ module _ (start : Configuration) (entry : Devices) (h : Held) (d : Devices) wher
       event = r.event ∙ ap (λ (x : Turn). after_turn called w (Ok (r.said, x))) e;
       saved = r.saved;
       asks = r.asks;
-      memory = λ takes. r.memory (subst (λ (x : Turn). TurnWants h.machine (Ok (r.said, x))) (sym e) takes);
+      memory = λ takes. r.memory (subst (λ (x : Turn). TurnWants h.log h.machine (Ok (r.said, x))) (sym e) takes);
     }
 
     -- that wants memory
-    pub turn-wants : IsWait t → ShowWants h.world.scene → (h' : Held) → h'.machine ≡ h.machine → h'.left ≡ h.left → Early start entry h' asking d halt.NoMemory
-    turn-wants is some h' machine units =
+    pub turn-wants : IsWait t → ShowWants h.world.scene → (h' : Held) → h'.machine ≡ h.machine → h'.left ≡ h.left → h'.log ≡ h.log → Early start entry h' asking d halt.NoMemory
+    turn-wants is some h' machine units log =
         let scene : r.said.0 ≡ h.world.scene = ap (λ (x : FlatWorld). x.scene) (sym r.moved) in
         wants start entry turning d steps r.going h' asking
-        (r.memory (wait-wants h.machine r.said t is (subst ShowWants (sym scene) some))) machine units
+        (r.memory (wait-wants h.log h.machine r.said t is (subst ShowWants (sym scene) some))) machine units log
 
   -- A call goes on.
   abbrev pub on-ready : (asking : Option Asking) (g : Given) (w : Waiting) → Waits start entry h asking d (goes_on g w) → Ready start entry h d (goes_on g w)
@@ -447,9 +477,9 @@ module _ (start : Configuration) (entry : Devices) (h : Held) (d : Devices) wher
     taken-act = wait-asks asking-at w r.turn r.is_wait ∙ ap (after_line asking-at w) r.taken
 
     -- the showing of the line wants memory
-    pub line-wants : (h' : Held) → h'.machine ≡ h.machine → h'.left ≡ h.left → Early start entry h' asking d halt.NoMemory
-    line-wants h' machine units =
-        wants-line start entry was d-was (asks r.turn w) r.going h' d.source asking r.is_wait (r.asking_is, r.is_wait, some-input (r.ahead ++ r.coming) chars (h.ahead ++ h.coming) r.taken) machine units
+    pub line-wants : (h' : Held) → h'.machine ≡ h.machine → h'.left ≡ h.left → h'.log ≡ h.log → Early start entry h' asking d halt.NoMemory
+    line-wants h' machine units log =
+        wants-line start entry was d-was (asks r.turn w) r.going h' d.source asking r.is_wait (r.asking_is, r.is_wait, some-input (r.ahead ++ r.coming) chars (h.ahead ++ h.coming) r.taken) machine units log
 
     -- it is shown, where lines are
     pub line-taken : (world : FlatWorld) → world ≡ (if h.echo then after h.world (show_line h.world.scene chars) else h.world) → Waits start entry (record h { world = world }) asking d (goes_on (given.Line chars) w)
@@ -484,7 +514,7 @@ module _ (start : Configuration) (entry : Devices) (h : Held) (d : Devices) wher
         shown-line p false = refl
 
   -- A CHARACTER IS PUT, A CALL IS MADE, A GAME IS SAVED OR RESTORED, A CALL GOES ON
-  module _ (left : ℕ) (does : Effect) (a : Asks left h.machine does) where
+  module _ (left : ℕ) (does : Effect) (a : Asks left h.machine h.log does) where
     abbrev pub asking-here : Configuration
     asking-here = here start entry h d steps a.going.now
 
@@ -517,10 +547,10 @@ module _ (start : Configuration) (entry : Devices) (h : Held) (d : Devices) wher
         subst (λ (e : Effect). AskingWants asking-here (Some e)) (sym is)
         (inl (grows, subst (λ (x : FlatState). IsOk (putting h.world.scene x c)) same (world-fine h.world (putting h.world.scene flat c) fine)))
 
-    pub put-takes : (c : ℕ) (flat : FlatState) (said : Said) (reply : Reply) → does ≡ effect.Put c → flat ≡ h.machine.flat → putting h.world.scene flat c ≡ Ok (said, reply) → ReplyWants h.machine reply → AsksMemory
+    pub put-takes : (c : ℕ) (flat : FlatState) (said : Said) (reply : Reply) → does ≡ effect.Put c → flat ≡ h.machine.flat → putting h.world.scene flat c ≡ Ok (said, reply) → ReplyWants h.log h.machine reply → AsksMemory
     put-takes c flat said reply is same e takes =
         subst (λ (x : Effect). AskingWants asking-here (Some x)) (sym is)
-        (inr (subst (AnswerWants h.machine) (sym (subst (λ (x : FlatState). putting h.world.scene x c ≡ Ok (said, reply)) same e)) takes))
+        (inr (subst (AnswerWants h.log h.machine) (sym (subst (λ (x : FlatState). putting h.world.scene x c ≡ Ok (said, reply)) same e)) takes))
 
     pub call-grows : (selector : ℕ) (args : ArrayVec ℕ) (xs : List ℕ) (w : Waiting) (flat : FlatState) → does ≡ effect.Glk selector args w.room → flat ≡ h.machine.flat → xs ≡ args.items
         → IsGrowing h.world.scene flat selector xs → IsOk (on_world h.world (glk_call h.world.scene flat w.room selector xs)) → AsksMemory
@@ -533,38 +563,38 @@ module _ (start : Configuration) (entry : Devices) (h : Held) (d : Devices) wher
         ))
 
     pub call-takes : (selector : ℕ) (args : ArrayVec ℕ) (xs : List ℕ) (w : Waiting) (flat : FlatState) (said : Said) (t : Turn) → does ≡ effect.Glk selector args w.room → flat ≡ h.machine.flat → xs ≡ args.items
-        → glk_call h.world.scene flat w.room selector xs ≡ Ok (said, t) → TurnWants h.machine (Ok (said, t)) → AsksMemory
+        → glk_call h.world.scene flat w.room selector xs ≡ Ok (said, t) → TurnWants h.log h.machine (Ok (said, t)) → AsksMemory
     call-takes selector args xs w flat said t is same listed e takes =
         let call : glk_call h.world.scene h.machine.flat w.room selector args.items ≡ Ok (said, t) =
         subst (λ (ys : List ℕ). glk_call h.world.scene h.machine.flat w.room selector ys ≡ Ok (said, t)) listed
         (subst (λ (x : FlatState). glk_call h.world.scene x w.room selector xs ≡ Ok (said, t)) same e) in
-        subst (λ (x : Effect). AskingWants asking-here (Some x)) (sym is) (inr (subst (TurnWants h.machine) (sym call) takes))
+        subst (λ (x : Effect). AskingWants asking-here (Some x)) (sym is) (inr (subst (TurnWants h.log h.machine) (sym call) takes))
 
     pub save-begun : (stream : ℕ) → does ≡ effect.Save stream → IsTrue (is_begun h.world.scene h.machine.flat stream) → AsksMemory
     save-begun stream is begun = subst (λ (e : Effect). AskingWants asking-here (Some e)) (sym is) (inl begun)
 
-    pub save-takes : (stream : ℕ) (said : Said) (reply : Reply) → does ≡ effect.Save stream → saving h.world.scene h.machine.flat stream ≡ Ok (said, reply) → ReplyWants h.machine reply → AsksMemory
+    pub save-takes : (stream : ℕ) (said : Said) (reply : Reply) → does ≡ effect.Save stream → saving h.world.scene h.machine.flat stream ≡ Ok (said, reply) → ReplyWants h.log h.machine reply → AsksMemory
     save-takes stream said reply is e takes =
-        subst (λ (x : Effect). AskingWants asking-here (Some x)) (sym is) (inr (subst (AnswerWants h.machine) (sym e) takes))
+        subst (λ (x : Effect). AskingWants asking-here (Some x)) (sym is) (inr (subst (AnswerWants h.log h.machine) (sym e) takes))
 
     pub restore-reads : (stream : ℕ) → does ≡ effect.Restore stream → IsTrue (is_read h.world.scene h.machine.flat stream) → IsOk (on_world h.world (restoring h.world.scene h.machine.flat stream)) → AsksMemory
     restore-reads stream is reads fine =
         subst (λ (e : Effect). AskingWants asking-here (Some e)) (sym is)
         (inl (reads, world-fine {X = Option Copy} h.world (restoring h.world.scene h.machine.flat stream) fine))
 
-    pub restore-takes : (stream : ℕ) (said : Said) (r : Option Copy) → does ≡ effect.Restore stream → restoring h.world.scene h.machine.flat stream ≡ Ok (said, r) → RestoreWants h.machine (Ok (said, r)) → AsksMemory
+    pub restore-takes : (stream : ℕ) (said : Said) (r : Option Copy) → does ≡ effect.Restore stream → restoring h.world.scene h.machine.flat stream ≡ Ok (said, r) → RestoreWants h.log h.machine (Ok (said, r)) → AsksMemory
     restore-takes stream said r is e takes =
-        subst (λ (x : Effect). AskingWants asking-here (Some x)) (sym is) (inr (subst (RestoreWants h.machine) (sym e) takes))
+        subst (λ (x : Effect). AskingWants asking-here (Some x)) (sym is) (inr (subst (RestoreWants h.log h.machine) (sym e) takes))
 
     asking-wants : (asking : Option Asking) → asking ≡ asking_of does → AsksMemory → WantsMemory steps asking-here asking
     asking-wants asking asks-is takes = inr (asks-is ∙ sym a.asking_is, subst (AskingWants asking-here) (sym a.effect_is) takes)
 
     pub asking-early : (world : FlatWorld) (asking : Option Asking) → asking ≡ asking_of does → AsksMemory → Early start entry (record h { world = world }) asking d halt.NoMemory
-    asking-early world asking asks-is takes = wants start entry h d steps a.going (record h { world = world }) asking (asking-wants asking asks-is takes) refl refl
+    asking-early world asking asks-is takes = wants start entry h d steps a.going (record h { world = world }) asking (asking-wants asking asks-is takes) refl refl refl
 
     -- the machine takes an answer, or goes back to a copy
     pub asking-resumes : (asking : Option Asking) (world : FlatWorld) (said : Said) (machine : FlatMachine) (wanted : Type 0) → asking ≡ asking_of does → world ≡ after h.world said
-        → act_of asking-here ≡ goes (record asking-here { machine = machine; world = after asking-here.world said; left = left; doing = steps })
+        → act_of asking-here ≡ goes (record asking-here { machine = machine; world = after asking-here.world said; left = left; log = logged asking-here.log asking-here.machine; doing = steps })
         → (BeginsSave asking-here (Some does) → IsReadBack h.machine.flat) → (wanted → AsksMemory) → Resumes start entry (record h { world = world }) asking d left machine wanted
     asking-resumes asking world said machine wanted asks-is moved e saved takes = record {
       world = h.world;
@@ -579,7 +609,7 @@ module _ (start : Configuration) (entry : Devices) (h : Held) (d : Devices) wher
     }
 
     pub call-turns : (asking : Option Asking) (world : FlatWorld) (said : Said) (w : Waiting) (t : Turn) → asking ≡ asking_of does → world ≡ after h.world said → act_of asking-here ≡ after_turn asking-here w (Ok (said, t))
-        → (BeginsSave asking-here (Some does) → ⊥) → (TurnWants h.machine (Ok (said, t)) → AsksMemory) → Turns start entry (record h { world = world }) asking d w t
+        → (BeginsSave asking-here (Some does) → ⊥) → (TurnWants h.log h.machine (Ok (said, t)) → AsksMemory) → Turns start entry (record h { world = world }) asking d w t
     call-turns asking world said w t asks-is moved e unsaving takes = record {
       world = h.world;
       said = said;
@@ -603,7 +633,7 @@ module _ (start : Configuration) (entry : Devices) (h : Held) (d : Devices) wher
         → Early start entry (record h { world = world }) asking d halt.NoMemory
     given-early world flat same grows fine =
         wants start entry h d (goes_on g w) (on-ready asking g w waits) (record h { world = world }) asking
-        (waits.asking_is, inl (subst (λ (x : FlatState). IsTrue (go_grows h.world.scene x g)) same grows, subst (λ (x : FlatState). IsOk (glk_go_on h.world.scene x w.room g)) same fine)) refl refl
+        (waits.asking_is, inl (subst (λ (x : FlatState). IsTrue (go_grows h.world.scene x g)) same grows, subst (λ (x : FlatState). IsOk (glk_go_on h.world.scene x w.room g)) same fine)) refl refl refl
 
     pub given-turns : (world : FlatWorld) (said : Said) (t : Turn) (flat : FlatState) → world ≡ after h.world said → flat ≡ h.machine.flat → glk_go_on h.world.scene flat w.room g ≡ Ok (said, t)
         → GoesOn start entry (record h { world = world }) asking d w t
@@ -615,7 +645,7 @@ module _ (start : Configuration) (entry : Devices) (h : Held) (d : Devices) wher
       going = on-ready asking g w waits;
       event = given-does flat (Ok (said, t)) same e;
       asks = waits.asking_is;
-      memory = λ takes. (waits.asking_is, inr (subst (TurnWants h.machine) (sym (subst (λ (x : FlatState). glk_go_on h.world.scene x w.room g ≡ Ok (said, t)) same e)) takes));
+      memory = λ takes. (waits.asking_is, inr (subst (TurnWants h.log h.machine) (sym (subst (λ (x : FlatState). glk_go_on h.world.scene x w.room g ≡ Ok (said, t)) same e)) takes));
     }
 
   -- it is answered
@@ -629,5 +659,5 @@ module _ (start : Configuration) (entry : Devices) (h : Held) (d : Devices) wher
     event = r.event ∙ ap (λ (x : Turn). after_given (here start entry (record h { world = r.world }) d (goes_on r.given w) r.going.now) w (Ok (r.said, x))) is;
     saved = unsaved (here start entry (record h { world = r.world }) d (goes_on r.given w) r.going.now) (λ e. cc);
     asks = r.asks;
-    memory = λ takes. r.memory (subst (λ (x : Turn). TurnWants h.machine (Ok (r.said, x))) (sym is) takes);
+    memory = λ takes. r.memory (subst (λ (x : Turn). TurnWants h.log h.machine (Ok (r.said, x))) (sym is) takes);
   }

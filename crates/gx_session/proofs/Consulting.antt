@@ -139,5 +139,5 @@ module _ (start : Configuration) (entry : Devices) (h : Held) (asking : Option A
           inr (line-stops start entry h1 d1 asking w t is ready asks-is stop.InputEnded none h2 source takes.0 refl tt refl takes.1 told (reads-so 0 reads) (λ long. few) refl)
       no-line-came no.TooLong takes reads few =
           inr (line-stops start entry h1 d1 asking w t is ready asks-is stop.LineTooLong too_long h2 source takes.0 refl tt refl takes.1 told (reads-so 0 reads) (λ long. absurd (long refl)) refl)
-      no-line-came no.Failed takes reads few = inr (unread start entry h1 d1 w t ready h2 source asking is told (reads-so 1 reads) few takes refl refl asks-is)
-      no-line-came no.NoMemory takes reads few = inr (wants-line start entry h1 d1 (asks t w) ready h2 source asking is (asks-is, is, takes) refl refl)
+      no-line-came no.Failed takes reads few = inr (unread start entry h1 d1 w t ready h2 source asking is told (reads-so 1 reads) few takes refl refl refl asks-is)
+      no-line-came no.NoMemory takes reads few = inr (wants-line start entry h1 d1 (asks t w) ready h2 source asking is (asks-is, is, takes) refl refl refl)

@@ -5,6 +5,7 @@ use Rattle.gx_words.specs.declared.faults.Fault.TheVariants.{NoMemory}
 use Rattle.gx_words.specs.Faults.{number_of}
 use Rattle.gx_machine.specs.declared.askings.Asking.{Asking}
 use Rattle.gx_machine.specs.Machine.{FlatMachine, Whole}
+use Rattle.gx_machine.specs.Log.{Log}
 use Rattle.gx_outside.specs.Files.{Files}
 use Rattle.gx_outside.specs.Outside.{FlatShelf, KeepsOthers, raised_by}
 use Rattle.glk_world.specs.World.{Scene}
@@ -76,7 +77,7 @@ module _ (start : Configuration) (entry : Devices) (h : Held) (asking : Option A
   -- memory ran out before them
   pub listing-wants : open_files_of h.world.scene ≢ [] → Early start entry h asking d halt.NoMemory
   listing-wants some =
-      cut-at start entry d h asking halt.NoMemory in_listing (told_all (stopped start)) t.past.sent [] (refl, open-still some, refl, t.asking_is) (sym (ap (λ (m : Configuration). m.machine) t.is_end)) (sym (ap (λ (m : Configuration). m.left) t.is_end))
+      cut-at start entry d h asking halt.NoMemory in_listing (told_all (stopped start)) t.past.sent [] (refl, open-still some, refl, t.asking_is) (sym (ap (λ (m : Configuration). m.machine) t.is_end)) (sym (ap (λ (m : Configuration). m.left) t.is_end)) (sym (ap (λ (m : Configuration). m.log) t.is_end))
       (whole-text ∙ sym (append-nil t.past.sent)) sent-taken whole-front (omega (arith, sent-bytes)) (omega (arith, sent-bytes)) (sym (ap (λ (m : Configuration). m.files) t.is_end))
       (t.is_past.asked ∙ ap (λ (m : Configuration). raised_by m.asked entry.shelf.calls.made) (sym t.is_end)) (λ other. input-are) words-are t.saves (λ e. tt)
 
@@ -116,7 +117,7 @@ module _ (start : Configuration) (entry : Devices) (h : Held) (asking : Option A
         let count : suc (length s.front) + t.past.asked ≡ suc (m.asked) = omega arith in
         inr
         (cut-at start entry d-now h asking halted (in_store s.front s.next) m t.past.sent []
-        (refl, shelf-status halted only, t.asking_is, (s.rest, split)) (sym (ap (λ (m : Configuration). m.machine) t.is_end)) (sym (ap (λ (m : Configuration). m.left) t.is_end))
+        (refl, shelf-status halted only, t.asking_is, (s.rest, split)) (sym (ap (λ (m : Configuration). m.machine) t.is_end)) (sym (ap (λ (m : Configuration). m.left) t.is_end)) (sym (ap (λ (m : Configuration). m.log) t.is_end))
         (whole-text ∙ sym (append-nil t.past.sent)) sent-taken whole-front (omega (arith, sent-bytes)) (omega (arith, sent-bytes))
         (subst (λ (f : Files). KeepsOthers (stored f s.front) shelf.files s.next.0) (sym before) (s.files tells))
         (asked-so (suc (length s.front)) s.made ∙ ap (λ (k : ℕ). raised_by k entry.shelf.calls.made) count)
@@ -151,6 +152,7 @@ pub ended-at : (start : Configuration) (entry : Devices) (h : Held) (asking : Op
       at = fault_address why h.machine;
       steps = start.left - h.left;
       machine = record { machine = h.machine; asking = asking };
+      log = h.log;
     })
 ended-at start entry h asking d why fewer f =
     let t = f.told in
@@ -172,6 +174,7 @@ ended-at start entry h asking d why fewer f =
       machine_is =
           ap (λ (x : FlatMachine). let w : Whole = record { machine = x; asking = asking } in w) machine
           ∙ ap (λ (x : Option Asking). let w : Whole = record { machine = e.configuration.machine; asking = x } in w) t.asking_is;
+      log_is = sym (ap (λ (m : Configuration). m.log) t.is_end);
       text_is = λ told. t.is_past.taken.taken (t.is_past.taken.tells ∙ told) ∙ ap (λ (x : List ℕ). entry.sink.taken ++ x) (sym (whole-text start entry h asking d0 why t));
       sends_are = t.is_past.taken.made ∙ ap (λ (m : Configuration). raised_by m.sent.calls entry.sink.calls.made) (sym t.is_end);
       files_are = f.files ∙ ap (λ (x : Files). stored x (stores_of h.world.scene)) (sym files) ∙ ap (λ (x : Scene). stored e.configuration.files (stores_of x)) (sym scene);
@@ -183,9 +186,9 @@ ended-at start entry h asking d why fewer f =
     }
 
 -- what a run that was cut short used and left
-pub units-left : (start : Configuration) (entry d : Devices) (status : ℕ) (left : ℕ) (machine : Whole) → left ≤ start.left → StopsEarly start entry d status left machine
-    → (n : ℕ) × (start.left - left + n ≡ start.left) × StopsEarly start entry d status n machine
-units-left start entry d status left machine fewer early = (left, omega arith, early)
+pub units-left : (start : Configuration) (entry d : Devices) (status : ℕ) (left : ℕ) (machine : Whole) (log : Option Log) → left ≤ start.left → StopsEarly start entry d status left machine log
+    → (n : ℕ) × (start.left - left + n ≡ start.left) × StopsEarly start entry d status n machine log
+units-left start entry d status left machine log fewer early = (left, omega arith, early)
 
 numbered : (f : Fault) → f ≢ NoMemory → (1 ≤ number_of f) × (number_of f ≤ 16)
 numbered NoMemory other = absurd (other refl)
@@ -245,7 +248,7 @@ counts-of-halt entry exit why k =
 -- A whole run is the session, unless a shelf that tells nothing was asked.
 module _ (start : Configuration) (entry : Devices) (h : Held) (asking : Option Asking) (d : Devices) (fewer : h.left ≤ start.left) where
   abbrev pub report-at : ℕ → ℕ → ℕ → Report
-  report-at status fault at = record { status = status; fault = fault; at = at; steps = start.left - h.left; machine = record { machine = h.machine; asking = asking } }
+  report-at status fault at = record { status = status; fault = fault; at = at; steps = start.left - h.left; machine = record { machine = h.machine; asking = asking }; log = h.log }
 
   pub session-of-stop : (why : Stop) → RunGives start entry h asking d (Ok why) → IsUntold entry.shelf d.shelf ⊎ IsSession start entry d (report-at (status_of why) (fault_number why) (fault_address why h.machine))
   session-of-stop why (inl untold) = inl untold
@@ -257,7 +260,7 @@ module _ (start : Configuration) (entry : Devices) (h : Held) (asking : Option A
   session-of-halt why (inl untold) = inl untold
   session-of-halt why (inr early) =
       let high : status_shelf_fault ≤ status_of_halt why = status-high why in
-      inr (record { ended = λ low. absurd (omega arith); early = λ _. units-left start entry d (status_of_halt why) h.left (record { machine = h.machine; asking = asking }) fewer early })
+      inr (record { ended = λ low. absurd (omega arith); early = λ _. units-left start entry d (status_of_halt why) h.left (record { machine = h.machine; asking = asking }) h.log fewer early })
 
 -- with some input
 pub some-session : (start : Configuration) (entry exit : Devices) (r : Report) (input : List ℕ) → (entry.source.tells ≡ true → input ≡ start.input)

@@ -14,6 +14,8 @@ pub mod Lining
 pub mod NextLines
 pub mod Passing
 pub mod Playing
+pub mod Recording
+pub mod Rooms
 pub mod Saved
 pub mod Saving
 pub mod Screens

@@ -1,6 +1,7 @@
 -- A line that was taken is shown, and the call goes on with it.
-use Rattle.std.proofs.Common.{◌≡◌, ℕ, inr, List, if◌then◌else◌, Bool, true, false, Err, refl, subst, sym}
+use Rattle.std.proofs.Common.{◌≡◌, ℕ, inr, List, if◌then◌else◌, Option, Bool, true, false, Err, refl, subst, sym}
 use Rattle.gx_machine.specs.Machine.{Whole}
+use Rattle.gx_machine.specs.Log.{Log}
 use Rattle.glk_world.specs.World.{FlatWorld, after}
 use Rattle.glk_world.specs.Shown.{show_line}
 use Rattle.glk_dispatch.specs.Turns.{Awaits}
@@ -21,18 +22,18 @@ pub awaits-shown : (w : FlatWorld) (chars : List ℕ) (g : Given) (b : Bool) →
 awaits-shown w chars g true is = awaits-line w.scene chars g is
 awaits-shown w chars g false is = is
 
-module _ {E : Type 0} (whole : E → Whole) (old mid : Running E) (coming chars : List ℕ) (w : Waiting) (start : Configuration) (entry d : Devices)
-    (r : TakesInput start entry (held whole old coming) (asking_in whole old) d chars w) where
+module _ {E : Type 0} (whole : E → Whole) (log : E → Option Log) (old mid : Running E) (coming chars : List ℕ) (w : Waiting) (start : Configuration) (entry d : Devices)
+    (r : TakesInput start entry (held whole log old coming) (asking_in whole old) d chars w) where
   -- the showing wants memory
-  pub line-refused : (e : Halt) → e ≡ halt.NoMemory → mid ≡ record old { world = mid.world } → EventGives start entry (held whole mid coming) (asking_in whole mid) d (Err e)
+  pub line-refused : (e : Halt) → e ≡ halt.NoMemory → mid ≡ record old { world = mid.world } → EventGives start entry (held whole log mid coming) (asking_in whole mid) d (Err e)
   line-refused e memory same =
-      subst (λ (x : Halt). EventGives start entry (held whole mid coming) (asking_in whole mid) d (Err x)) (sym memory)
-      (subst (λ (x : Running E). EventGives start entry (held whole x coming) (asking_in whole x) d (Err halt.NoMemory)) (sym same)
-      (inr (line-wants start entry (held whole old coming) d (asking_in whole old) w chars r (held whole (record old { world = mid.world }) coming) refl refl)))
+      subst (λ (x : Halt). EventGives start entry (held whole log mid coming) (asking_in whole mid) d (Err x)) (sym memory)
+      (subst (λ (x : Running E). EventGives start entry (held whole log x coming) (asking_in whole x) d (Err halt.NoMemory)) (sym same)
+      (inr (line-wants start entry (held whole log old coming) d (asking_in whole old) w chars r (held whole log (record old { world = mid.world }) coming) refl refl refl)))
 
   -- it is shown
   pub line-shown : mid ≡ record old { world = if old.echo then after old.world (show_line old.world.scene chars) else old.world }
-      → Waits start entry (held whole mid coming) (asking_in whole mid) d (goes_on (given.Line chars) w)
+      → Waits start entry (held whole log mid coming) (asking_in whole mid) d (goes_on (given.Line chars) w)
   line-shown same =
-      subst (λ (x : Running E). Waits start entry (held whole x coming) (asking_in whole x) d (goes_on (given.Line chars) w)) (sym same)
-      (line-taken start entry (held whole old coming) d (asking_in whole old) w chars r (if old.echo then after old.world (show_line old.world.scene chars) else old.world) refl)
+      subst (λ (x : Running E). Waits start entry (held whole log x coming) (asking_in whole x) d (goes_on (given.Line chars) w)) (sym same)
+      (line-taken start entry (held whole log old coming) d (asking_in whole old) w chars r (if old.echo then after old.world (show_line old.world.scene chars) else old.world) refl)

@@ -88,12 +88,12 @@ memory-of halt.Output e = absurd (omega arith)
 
 -- A run is cut short at a configuration, of whose text a front was taken.
 pub cut-at : (start : Configuration) (entry exit : Devices) (h : Held) (asking : Option Asking) (why : Halt) (cut : Cut) (m : Configuration) (sent rest : List ℕ)
-    → IsCut start cut m (status_of_halt why) asking → h.machine ≡ m.machine → h.left ≡ m.left → m.world.text ≡ sent ++ rest → HasTaken entry.sink exit.sink sent (sends_at cut m)
+    → IsCut start cut m (status_of_halt why) asking → h.machine ≡ m.machine → h.left ≡ m.left → h.log ≡ m.log → m.world.text ≡ sent ++ rest → HasTaken entry.sink exit.sink sent (sends_at cut m)
     → IsFront m.world.text (final_of start).configuration.world.text → m.sent.bytes ≤ length sent → length sent ≤ most_sent cut m
     → FilesAt cut m exit.shelf.files → exit.shelf.calls.made ≡ raised_by (asked_by_cut cut m) entry.shelf.calls.made
     → ((IsLineCut cut m → ⊥) → LeavesInput start.input m.input entry.source exit.source (AwaitedAt start cut) (LongAt start cut) (read_failures (status_of_halt why)))
     → AreDrawn m.words exit.words → SavedBy start cut → (status_of_halt why ≡ status_no_memory → WantedBy cut exit) → Early start entry h asking exit why
-cut-at start entry exit h asking why cut m sent rest is machine left text has shown least most files made input words saves wanted =
+cut-at start entry exit h asking why cut m sent rest is machine left log text has shown least most files made input words saves wanted =
     let front : take (length sent) m.world.text ≡ sent = ap (take (length sent)) text ∙ take-append_seam sent rest in
     record {
       cut = cut;
@@ -102,6 +102,7 @@ cut-at start entry exit h asking why cut m sent rest is machine left text has sh
       wanted = wanted;
       left_is = left;
       machine_is = machine;
+      log_is = log;
       shown = shown;
       sent = length sent;
       at_least = least;
@@ -178,24 +179,24 @@ module _ (start : Configuration) (entry : Devices) (h : Held) (d : Devices) wher
     -- memory ran out, with this input left
     wants-by : (g : Ready start entry h d doing) (h' : Held) (source : FlatSource) (asking : Option Asking)
         → ((IsWaiting doing → ⊥) → LeavesInput start.input (here g.now).input entry.source source ⊥ ⊥ 0) → WantsMemory doing (here g.now) asking
-        → h'.machine ≡ h.machine → h'.left ≡ h.left → Early start entry h' asking (record d { source = source }) halt.NoMemory
-    wants-by g h' source asking input is machine left =
+        → h'.machine ≡ h.machine → h'.left ≡ h.left → h'.log ≡ h.log → Early start entry h' asking (record d { source = source }) halt.NoMemory
+    wants-by g h' source asking input is machine left log =
         let s = g.now in
         cut-at start entry (record d { source = source }) h' asking halt.NoMemory (in_move s.moves) (here s) s.past.sent h.world.text
-        (s.reached, g.quiet, refl, is) machine left refl s.is_past.taken (shown-is s) (omega arith) (omega arith) refl s.is_past.asked input
+        (s.reached, g.quiet, refl, is) machine left log refl s.is_past.taken (shown-is s) (omega arith) (omega arith) refl s.is_past.asked input
         (words-left h.word d.words s.past.words s.is_past.word) s.saves (λ e. tt)
 
     -- the source wasn't asked since then
     pub wants : (g : Ready start entry h d doing) (h' : Held) (asking : Option Asking) → WantsMemory doing (here g.now) asking
-        → h'.machine ≡ h.machine → h'.left ≡ h.left → Early start entry h' asking d halt.NoMemory
-    wants g h' asking is machine left =
+        → h'.machine ≡ h.machine → h'.left ≡ h.left → h'.log ≡ h.log → Early start entry h' asking d halt.NoMemory
+    wants g h' asking is machine left log =
         let s = g.now in
-        wants-by g h' d.source asking (λ other. input-left ⊥ ⊥ (λ short. s.few) (λ short. s.reads) s.is_past.reads s.is_past.left) is machine left
+        wants-by g h' d.source asking (λ other. input-left ⊥ ⊥ (λ short. s.few) (λ short. s.reads) s.is_past.reads s.is_past.left) is machine left log
 
     -- at a wait for a line
     pub wants-line : (g : Ready start entry h d doing) (h' : Held) (source : FlatSource) (asking : Option Asking) → IsWaiting doing → WantsMemory doing (here g.now) asking
-        → h'.machine ≡ h.machine → h'.left ≡ h.left → Early start entry h' asking (record d { source = source }) halt.NoMemory
-    wants-line g h' source asking waiting is machine left = wants-by g h' source asking (λ other. absurd (other waiting)) is machine left
+        → h'.machine ≡ h.machine → h'.left ≡ h.left → h'.log ≡ h.log → Early start entry h' asking (record d { source = source }) halt.NoMemory
+    wants-line g h' source asking waiting is machine left log = wants-by g h' source asking (λ other. absurd (other waiting)) is machine left log
 
   module _ (w : Waiting) (turn : Turn) where
     -- the shelf refused
@@ -205,13 +206,13 @@ module _ (start : Configuration) (entry : Devices) (h : Held) (d : Devices) wher
     refused g shelf halt.Shelf asking made is (inl e) files asking-is =
         let s = g.now in
         cut-at start entry (record d { shelf = shelf }) h asking halt.Shelf (in_question s.moves) (here (asks turn w) s) s.past.sent h.world.text
-        (s.reached, g.quiet, (is, inl refl), asking-is) refl refl refl s.is_past.taken (shown-is (asks turn w) s) (omega arith) (omega arith) files
+        (s.reached, g.quiet, (is, inl refl), asking-is) refl refl refl refl s.is_past.taken (shown-is (asks turn w) s) (omega arith) (omega arith) files
         (made ∙ ap raised s.is_past.asked) (λ other. input-left ⊥ ⊥ (λ short. s.few) (λ short. s.reads) s.is_past.reads s.is_past.left) (words-left h.word d.words s.past.words s.is_past.word) s.saves
         (λ e. absurd (omega arith))
     refused g shelf halt.NoMemory asking made is (inr e) files asking-is =
         let s = g.now in
         cut-at start entry (record d { shelf = shelf }) h asking halt.NoMemory (in_question s.moves) (here (asks turn w) s) s.past.sent h.world.text
-        (s.reached, g.quiet, (is, inr (refl, e.1)), asking-is) refl refl refl s.is_past.taken (shown-is (asks turn w) s) (omega arith) (omega arith) files
+        (s.reached, g.quiet, (is, inr (refl, e.1)), asking-is) refl refl refl refl s.is_past.taken (shown-is (asks turn w) s) (omega arith) (omega arith) files
         (made ∙ ap raised s.is_past.asked) (λ other. input-left ⊥ ⊥ (λ short. s.few) (λ short. s.reads) s.is_past.reads s.is_past.left) (words-left h.word d.words s.past.words s.is_past.word) s.saves
         (λ same. e.2)
     refused g shelf halt.NoMemory asking made is (inl e) files asking-is = cc
@@ -223,9 +224,9 @@ module _ (start : Configuration) (entry : Devices) (h : Held) (d : Devices) wher
 
     -- the source failed
     pub unread : (g : Ready start entry h d (asks turn w)) (h' : Held) (source : FlatSource) (asking : Option Asking) → IsWait turn → (source.tells ≡ true → h'.coming ≡ source.left) → ReadsFew false h'.over entry.source source start.input h'.coming 1 → IsPartial h'.ahead
-        → h'.ahead ++ h'.coming ≡ h.ahead ++ h.coming → h'.machine ≡ h.machine → h'.left ≡ h.left
+        → h'.ahead ++ h'.coming ≡ h.ahead ++ h.coming → h'.machine ≡ h.machine → h'.left ≡ h.left → h'.log ≡ h.log
         → asking ≡ asked (here (asks turn w) g.now) → Early start entry h' asking (record d { source = source }) halt.Input
-    unread g h' source asking is input reads partial same machine left asking-is =
+    unread g h' source asking is input reads partial same machine left log asking-is =
         let s = g.now in
         let less : reads.reads + length h'.coming + spare h'.over ≤ length start.input + 1 + 1 = reads.few in
         let leaves : LeavesInput start.input (h.ahead ++ h.coming) entry.source source ⊥ ⊥ 1 = record {
@@ -241,7 +242,7 @@ module _ (start : Configuration) (entry : Devices) (h : Held) (d : Devices) wher
           unread = λ short none. absurd cc;
         } in
         cut-at start entry (record d { source = source }) h' asking halt.Input (in_reading s.moves) (here (asks turn w) s) s.past.sent h.world.text
-        (s.reached, g.quiet, refl, is, asking-is) machine left refl s.is_past.taken (shown-is (asks turn w) s) (omega arith) (omega arith) refl s.is_past.asked (λ other. leaves)
+        (s.reached, g.quiet, refl, is, asking-is) machine left log refl s.is_past.taken (shown-is (asks turn w) s) (omega arith) (omega arith) refl s.is_past.asked (λ other. leaves)
         (words-left h.word d.words s.past.words s.is_past.word) s.saves (λ e. tt)
 
   -- a word was drawn
@@ -361,7 +362,7 @@ module _ (start : Configuration) (entry : Devices) (h : Held) (d : Devices) wher
         let size : length (p.sent ++ s.more) ≡ length p.sent + length s.more = length-append p.sent s.more in
         let whole : length (p.sent ++ h.world.text) ≡ length (p.sent ++ s.more) + length s.rest = ap length text ∙ length-append (p.sent ++ s.more) s.rest in
         let has : HasTaken entry.sink sink (p.sent ++ s.more) (suc p.sends) = has-taken entry.sink d.sink sink p.sent s.more p.sends past.taken s.has_taken in
-        cut-at start entry d-now h-now asking why cut (configuration_of p doing h d) (p.sent ++ s.more) s.rest is refl refl text
+        cut-at start entry d-now h-now asking why cut (configuration_of p doing h d) (p.sent ++ s.more) s.rest is refl refl refl text
         (subst (HasTaken entry.sink sink (p.sent ++ s.more)) (sym calls) has) shown (omega arith) (omega arith) files (past.asked ∙ ap (λ (n : ℕ). raised_by n entry.shelf.calls.made) (sym questions)) (λ other. subst (LeavesInput start.input (h.ahead ++ h.coming) entry.source d.source (AwaitedAt start cut) (LongAt start cut)) (sym (no-failures why only)) input)
         (words-left h.word d.words p.words past.word) saves (λ e. wanted (s.wants (ap (λ (x : Halt). Err x) (memory-of why e))))
 

@@ -19,7 +19,7 @@ unsaved-send m due is quiet begins = cc
 pub saved-of : (m : Configuration) (does : Effect) → effect_at m ≡ Some does → (BeginsSave m (Some does) → IsReadBack m.machine.flat) → IsSaved m
 saved-of m does effect saved is quiet begins = saved (subst (BeginsSave m) effect begins)
 
-some-is : (m m' : Configuration) → Some m ≡ Some m' → m ≡ m'
+pub some-is : (m m' : Configuration) → Some m ≡ Some m' → m ≡ m'
 some-is m m' e = cc
 
 -- one more move

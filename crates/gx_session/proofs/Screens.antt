@@ -109,6 +109,6 @@ module _ (start : Configuration) (entry : Devices) (h : Held) (d : Devices) (ask
     screen-wants world composed =
         let here : at-stop ≡ (stop_of start).configuration = sym (ap (λ (e : Ending). e.configuration) g.is_end) in
         cut-at start entry d (record h { world = world }) asking halt.NoMemory in_last_screen at-stop g.past.sent
-        h.world.text (here, composed, refl, asks-end) refl refl refl g.is_past.taken shown-by-then (omega arith)
+        h.world.text (here, composed, refl, asks-end) refl refl refl refl g.is_past.taken shown-by-then (omega arith)
         (omega arith) refl g.is_past.asked (λ other. input-then)
         (words-left h.word d.words g.past.words g.is_past.word) g.saves (λ e. tt)

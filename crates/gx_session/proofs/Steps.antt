@@ -1,5 +1,5 @@
 -- A step of an engine is the step of the session.
-use Rattle.std.proofs.Common.{◌≡◌, ◌≢◌, ℕ, ◌-◌, ◌<◌, ◌≤◌, nat_lt, if◌then◌else◌, Bool, true, false, Option, Some, None, is_some, IsSome, Result, Ok, Err, refl, ap, subst, sym, ◌∙◌, arith}
+use Rattle.std.proofs.Common.{◌≡◌, ◌≢◌, ℕ, ◌+◌, ◌-◌, ◌<◌, ◌≤◌, nat_lt, if◌then◌else◌, Bool, true, false, Option, Some, None, is_some, IsSome, Result, Ok, Err, refl, ap, subst, sym, ◌∙◌, arith}
 use Rattle.std.proofs.lemmas.Bool.{ltb-false}
 use Rattle.gx_words.specs.declared.faults.Fault.{Fault}
 use Rattle.gx_words.specs.Results.{◌>>=◌}
@@ -157,6 +157,23 @@ pub step-answers : (w w' : Whole) (word before left : ℕ) (does : Effect) → w
 unfolding stepped
 step-answers w w' word before left does none e =
     tested-steps w (cost_of w.machine) before (step_of w.machine word) w' left does (nat_lt before (cost_of w.machine)) refl (cost-positive w.machine) none e
+
+cost-by : (w : Whole) (cost before : ℕ) (r : Result (FlatMachine × Effect) Fault) (w' : Whole) (left : ℕ) (does : Effect) (b : Bool) → nat_lt before cost ≡ b
+    → (if b then Ok ((w, before), effect.Spent) else step-done (before - cost) r) ≡ Ok ((w', left), does) → does ≢ effect.Spent → left + cost ≡ before
+cost-by w cost before r w' left does true is e done =
+    let spent : effect.Spent ≡ does = ap (λ (q : (Whole × ℕ) × Effect). q.1) (ok-is {A = (Whole × ℕ) × Effect} ((w, before), effect.Spent) ((w', left), does) e) in
+    absurd (done (sym spent))
+cost-by w cost before (Ok p) w' left does false is e done =
+    let units : before - cost ≡ left = ap (λ (q : (Whole × ℕ) × Effect). q.0.1) (ok-is {A = (Whole × ℕ) × Effect} ((record { machine = p.0; asking = asking_of p.1 }, before - cost), p.1) ((w', left), does) e) in
+    let enough : cost ≤ before = ltb-false before cost is in
+    omega arith
+cost-by w cost before (Err f) w' left does false is e done = cc
+
+-- A step that is made takes its cost.
+pub step-cost : (w w' : Whole) (word before left : ℕ) (does : Effect) → stepped w word before ≡ Ok ((w', left), does) → does ≢ effect.Spent → left + cost_of w.machine ≡ before
+unfolding stepped
+step-cost w w' word before left does e done =
+    cost-by w (cost_of w.machine) before (step_of w.machine word) w' left does (nat_lt before (cost_of w.machine)) refl e done
 
 -- What is asked is a matter of the machine and of the next word.
 pub asked-by-word : (m m' : Configuration) → m'.machine ≡ m.machine → (next_u32 m.words).0 ≡ (next_u32 m'.words).0 → asked m ≡ asked m'

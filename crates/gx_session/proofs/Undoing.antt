@@ -370,7 +370,7 @@ lasts-on start m m' j live does neither reached now is =
       taken = subst (λ (u : FlatUndo). AreTaken start u.copies live) (sym is) now.taken;
     }
 
-next-goes : (v : Verdict) (m : Configuration) → next_of v ≡ Some m → v ≡ goes m
+pub next-goes : (v : Verdict) (m : Configuration) → next_of v ≡ Some m → v ≡ goes m
 next-goes (goes m') m e = cc
 next-goes (stops s m') m e = cc
 

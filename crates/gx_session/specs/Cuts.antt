@@ -1,5 +1,5 @@
 -- The ways in which a run is cut short: memory ran out, or a device failed.
-use Rattle.std.specs.Prelude.{◌≡◌, ◌≢◌, ℕ, suc, ◌<◌, ◌≤◌, List, [], ◌∷◌, ◌++◌, length, ◌⊎◌, false, true, Option, Some, None, Result, Ok, Err, IsOk, IsSomeAnd, IsTrue}
+use Rattle.std.specs.Prelude.{◌≡◌, ◌≢◌, ℕ, suc, ◌<◌, ◌≤◌, List, [], ◌∷◌, ◌++◌, length, ◌⊎◌, false, true, Option, Some, None, IsSome, Result, Ok, Err, IsOk, IsSomeAnd, IsTrue}
 use Rattle.gx_words.specs.declared.faults.Fault.{Fault}
 use Rattle.gx_pages.specs.Memory.{HasBytes}
 use Rattle.gx_state.specs.declared.effects.Effect.{Effect}
@@ -9,6 +9,7 @@ use Rattle.gx_state.specs.Copies.{Copy}
 use Rattle.gx_machine.specs.declared.askings.Asking.{Asking}
 use Rattle.gx_machine.specs.Answer.{IsStoredAnswer}
 use Rattle.gx_machine.specs.Machine.{FlatMachine}
+use Rattle.gx_machine.specs.Log.{Log}
 use Rattle.gx_machine.specs.Step.{stepped, IsStepWriting}
 use Rattle.gx_outside.specs.Files.{Files}
 use Rattle.gx_outside.specs.Outside.{KeepsOthers}
@@ -75,26 +76,27 @@ BeginsSave m (Some (effect.Save stream)) = IsTrue (is_begun m.world.scene m.mach
 BeginsSave m e = ⊥
 
 -- WHERE MEMORY MAY BE WANTED
--- The machine takes a reply, which writes bytes or whose value is stored in memory.
-abbrev pub ReplyWants : FlatMachine → Reply → Type 0
-ReplyWants machine reply = HasBytes reply.writes ⊎ IsStoredAnswer machine.flat
+-- The machine takes a reply: for the record, where the run is recorded, and else where the reply writes bytes or its value
+-- is stored in memory.
+abbrev pub ReplyWants : Option Log → FlatMachine → Reply → Type 0
+ReplyWants log machine reply = IsSome log ⊎ (HasBytes reply.writes ⊎ IsStoredAnswer machine.flat)
 
-abbrev pub AnswerWants : FlatMachine → Result (Said × Reply) Fault → Type 0
-AnswerWants machine (Ok r) = ReplyWants machine r.1
-AnswerWants machine (Err fault) = ⊥
+abbrev pub AnswerWants : Option Log → FlatMachine → Result (Said × Reply) Fault → Type 0
+AnswerWants log machine (Ok r) = ReplyWants log machine r.1
+AnswerWants log machine (Err fault) = ⊥
 
 -- So it is with the turn of a call. Before a line is awaited, what the view shows then may want memory.
-abbrev pub TurnWants : FlatMachine → Result (Said × Turn) Fault → Type 0
-TurnWants machine (Ok (said, turn.Answer reply)) = ReplyWants machine reply
-TurnWants machine (Ok (said, turn.Wait)) = ShowWants said.0
-TurnWants machine (Ok (said, turn.Prompt)) = ShowWants said.0
-TurnWants machine r = ⊥
+abbrev pub TurnWants : Option Log → FlatMachine → Result (Said × Turn) Fault → Type 0
+TurnWants log machine (Ok (said, turn.Answer reply)) = ReplyWants log machine reply
+TurnWants log machine (Ok (said, turn.Wait)) = ShowWants said.0
+TurnWants log machine (Ok (said, turn.Prompt)) = ShowWants said.0
+TurnWants log machine r = ⊥
 
 -- A machine that is restored takes the memory of the copy.
-abbrev pub RestoreWants : FlatMachine → Result (Said × Option Copy) Fault → Type 0
-RestoreWants machine (Ok (said, Some copy)) = Unit {0}
-RestoreWants machine (Ok (said, None)) = ReplyWants machine (replies failed)
-RestoreWants machine (Err fault) = ⊥
+abbrev pub RestoreWants : Option Log → FlatMachine → Result (Said × Option Copy) Fault → Type 0
+RestoreWants log machine (Ok (said, Some copy)) = Unit {0}
+RestoreWants log machine (Ok (said, None)) = ReplyWants log machine (replies failed)
+RestoreWants log machine (Err fault) = ⊥
 
 -- What this effect asks: what Glk does for it, where it makes something grow and has no fault, and the reply. A save
 -- that is begun may want memory before its fault is met: which places of a stream in memory it takes depends on its
@@ -102,28 +104,29 @@ RestoreWants machine (Err fault) = ⊥
 abbrev pub AskingWants : Configuration → Option Effect → Type 0
 AskingWants m (Some (effect.Put c)) =
     (IsTrue (put_grows_one m.world.scene m.world.scene.current c) × IsOk (putting m.world.scene m.machine.flat c))
-    ⊎ AnswerWants m.machine (putting m.world.scene m.machine.flat c)
+    ⊎ AnswerWants m.log m.machine (putting m.world.scene m.machine.flat c)
 AskingWants m (Some (effect.Glk selector args room)) =
     (IsGrowing m.world.scene m.machine.flat selector args.items × IsOk (glk_call m.world.scene m.machine.flat room selector args.items))
-    ⊎ TurnWants m.machine (glk_call m.world.scene m.machine.flat room selector args.items)
+    ⊎ TurnWants m.log m.machine (glk_call m.world.scene m.machine.flat room selector args.items)
 AskingWants m (Some (effect.Save stream)) =
-    IsTrue (is_begun m.world.scene m.machine.flat stream) ⊎ AnswerWants m.machine (saving m.world.scene m.machine.flat stream)
+    IsTrue (is_begun m.world.scene m.machine.flat stream) ⊎ AnswerWants m.log m.machine (saving m.world.scene m.machine.flat stream)
 AskingWants m (Some (effect.Restore stream)) =
     (IsTrue (is_read m.world.scene m.machine.flat stream) × IsOk (restoring m.world.scene m.machine.flat stream))
-    ⊎ RestoreWants m.machine (restoring m.world.scene m.machine.flat stream)
+    ⊎ RestoreWants m.log m.machine (restoring m.world.scene m.machine.flat stream)
 AskingWants m e = ⊥
 
 -- a call that goes on with what it was given
 abbrev pub GivenWants : Configuration → Given → Waiting → Type 0
 GivenWants m g w =
     (IsTrue (go_grows m.world.scene m.machine.flat g) × IsOk (glk_go_on m.world.scene m.machine.flat w.room g))
-    ⊎ TurnWants m.machine (glk_go_on m.world.scene m.machine.flat w.room g)
+    ⊎ TurnWants m.log m.machine (glk_go_on m.world.scene m.machine.flat w.room g)
 
--- What comes next may want memory, with a machine that asks this: a step that has no fault, writes, resizes or copies
--- memory and is within the budget; what a step asks; a wait where there is input; a call that goes on.
+-- What comes next may want memory, with a machine that asks this: a step, for the record where the run is recorded, and
+-- else one that has no fault, writes, resizes or copies memory and is within the budget; what a step asks; a wait where
+-- there is input; a call that goes on.
 abbrev pub WantsMemory : Doing → Configuration → Option Asking → Type 0
 WantsMemory steps m asking =
-    ((asking ≡ None) × IsStepWriting m.machine m.left × IsOk (stepped (record { machine = m.machine; asking = None }) (next_u32 m.words).0 m.left))
+    ((asking ≡ None) × (IsSome m.log ⊎ (IsStepWriting m.machine m.left × IsOk (stepped (record { machine = m.machine; asking = None }) (next_u32 m.words).0 m.left))))
     ⊎ ((asking ≡ asked m) × AskingWants m (effect_at m))
 WantsMemory (asks t w) m asking = (asking ≡ asked m) × IsWait t × (0 < length m.input)
 WantsMemory (goes_on g w) m asking = (asking ≡ asked m) × GivenWants m g w

@@ -14,3 +14,4 @@ pub mod Reading
 pub mod Questions
 pub mod Playing
 pub mod Undoing
+pub mod Recording

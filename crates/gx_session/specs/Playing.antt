@@ -11,6 +11,8 @@ use Rattle.gx_machine.specs.Machine.{FlatMachine, Whole}
 use Rattle.gx_machine.specs.Answer.{answer_of}
 use Rattle.gx_machine.specs.Saves.{restored}
 use Rattle.gx_machine.specs.Step.{asking_of}
+use Rattle.gx_machine.specs.Log.{Log, logged, units_left}
+use Rattle.gx_machine.specs.Advancing.{logged_by}
 use Rattle.gx_outside.specs.Outside.{FlatSource, FlatSink, FlatShelf, raised_by}
 use Rattle.gx_outside.specs.declared.calls.Calls.{Calls}
 use Rattle.gx_outside.specs.declared.devices.SendFault.{SendFault}
@@ -45,7 +47,7 @@ use Rattle.rand_core.specs.Stream.{Stream, next_u32}
 
 -- What a run holds beside its devices: the machine, the world with the text that wasn't sent yet, the input that was
 -- read and not taken and what comes after it, whether the source has ended, whether lines are shown, a random word that
--- was drawn and not used, and the units left.
+-- was drawn and not used, the units left, and what is recorded.
 pub record Held : Type 0 where
   pub machine : FlatMachine
   pub world : FlatWorld
@@ -55,9 +57,10 @@ pub record Held : Type 0 where
   pub echo : Bool
   pub word : Option ℕ
   pub left : ℕ
+  pub log : Option Log
 
-abbrev pub held : {E : Type 0} → (E → Whole) → Running E → List ℕ → Held
-held whole run coming = record {
+abbrev pub held : {E : Type 0} → (E → Whole) → (E → Option Log) → Running E → List ℕ → Held
+held whole log run coming = record {
   machine = (whole run.engine).machine;
   world = run.world;
   ahead = run.lines.held;
@@ -66,6 +69,7 @@ held whole run coming = record {
   echo = run.echo;
   word = run.word;
   left = run.left;
+  log = log run.engine;
 }
 
 -- what its machine asks
@@ -97,6 +101,7 @@ configuration_of p doing h d = record {
   asked = p.asked;
   words = p.words;
   left = h.left;
+  log = h.log;
   doing = doing;
 }
 
@@ -179,22 +184,24 @@ halt_of_shelf of_shelf.NoMemory = halt.NoMemory
 
 -- The run is cut short.
 abbrev pub Early : Configuration → Devices → Held → Option Asking → Devices → Halt → Type 0
-Early start entry h asking d why = StopsEarly start entry d (status_of_halt why) h.left (record { machine = h.machine; asking = asking })
+Early start entry h asking d why = StopsEarly start entry d (status_of_halt why) h.left (record { machine = h.machine; asking = asking }) h.log
 
 -- The machine has made a step from a configuration of the run, with this effect and these units left.
 pub record Follows (start : Configuration) (entry : Devices) (h : Held) (d : Devices) (left : ℕ) (does : Effect) : Type 0 where
-  -- the machine before the step
+  -- the machine before the step, and what was recorded then
   pub before : FlatMachine
+  pub recorded : Option Log
   pub word : ℕ
   pub drawn : h.word ≡ Some word
-  pub going : Going start entry (record h { machine = before }) d
-  pub event : let m = configuration_of going.now.past steps (record h { machine = before }) d in act_of m ≡ after_effect m left h.machine does
-  pub asks : let m = configuration_of going.now.past steps (record h { machine = before }) d in IsSome (asking_of does) → asked m ≡ asking_of does
-  pub effect : let m = configuration_of going.now.past steps (record h { machine = before }) d in does ≢ Spent → effect_at m ≡ Some does
+  pub going : Going start entry (record h { machine = before; log = recorded }) d
+  pub event : let m = configuration_of going.now.past steps (record h { machine = before; log = recorded }) d in act_of m ≡ after_effect m left h.machine does
+  pub asks : let m = configuration_of going.now.past steps (record h { machine = before; log = recorded }) d in IsSome (asking_of does) → asked m ≡ asking_of does
+  pub effect : let m = configuration_of going.now.past steps (record h { machine = before; log = recorded }) d in does ≢ Spent → effect_at m ≡ Some does
   pub stands : IsSome (asking_of does) → h.machine ≡ before
+  pub logs : h.log ≡ logged_by does recorded before
 
--- From a configuration of the run the Glk world has moved on, and the machine becomes this one, for which it may want
--- memory where this holds.
+-- From a configuration of the run the Glk world has moved on, and the machine becomes this one, with which the event is
+-- recorded. It may want memory for that where this holds.
 pub record Resumes (start : Configuration) (entry : Devices) (h : Held) (asking : Option Asking) (d : Devices) (left : ℕ) (machine : FlatMachine) (wants : Type 0) : Type 0 where
   -- the world before
   pub world : FlatWorld
@@ -203,14 +210,14 @@ pub record Resumes (start : Configuration) (entry : Devices) (h : Held) (asking 
   pub moved : h.world ≡ after world said
   pub going : Ready start entry (record h { world = world }) d doing
   pub event : let m = configuration_of going.now.past doing (record h { world = world }) d in
-      act_of m ≡ goes (record m { machine = machine; world = after m.world said; left = left; doing = steps })
+      act_of m ≡ goes (record m { machine = machine; world = after m.world said; left = left; log = logged m.log m.machine; doing = steps })
   pub saved : IsSaved (configuration_of going.now.past doing (record h { world = world }) d)
   pub asks : let m = configuration_of going.now.past doing (record h { world = world }) d in asking ≡ asked m
   pub memory : let m = configuration_of going.now.past doing (record h { world = world }) d in wants → WantsMemory doing m asking
 
 -- It takes a reply.
 abbrev pub Replies : Configuration → Devices → Held → Option Asking → Devices → ℕ → Reply → Type 0
-Replies start entry h asking d left reply = Resumes start entry h asking d left (answer_of h.machine reply) (ReplyWants h.machine reply)
+Replies start entry h asking d left reply = Resumes start entry h asking d left (answer_of h.machine reply) (ReplyWants h.log h.machine reply)
 
 -- It goes back to a copy.
 abbrev pub GoesBack : Configuration → Devices → Held → Option Asking → Devices → ℕ → Copy → Type 0
@@ -225,7 +232,7 @@ pub record Turns (start : Configuration) (entry : Devices) (h : Held) (asking : 
   pub event : let m = configuration_of going.now.past steps (record h { world = world }) d in act_of m ≡ after_turn m w (Ok (said, turn))
   pub saved : IsSaved (configuration_of going.now.past steps (record h { world = world }) d)
   pub asks : let m = configuration_of going.now.past steps (record h { world = world }) d in asking ≡ asked m
-  pub memory : let m = configuration_of going.now.past steps (record h { world = world }) d in TurnWants h.machine (Ok (said, turn)) → WantsMemory steps m asking
+  pub memory : let m = configuration_of going.now.past steps (record h { world = world }) d in TurnWants h.log h.machine (Ok (said, turn)) → WantsMemory steps m asking
 
 -- Want of memory is no fault that a run stops at.
 abbrev pub IsStop : Stop → Type 0
@@ -274,13 +281,14 @@ pub record Flushes (enough : ℕ) (before now : FlatSink) (old new : FlatWorld) 
   pub few : length old.text < enough → (now ≡ before) × (new ≡ old) × IsOk result
   pub many : enough ≤ length old.text → SendsAll before now old new result
 
--- The machine became this one, which asks nothing, or stands for want of memory; all else stands.
-pub record Becomes {E T : Type 0} (whole : E → Whole) (old new : Running E) (machine : FlatMachine) (left : ℕ) (result : Result T Halt) : Type 0 where
-  pub ok : OnOk result ((whole new.engine ≡ record { machine = machine; asking = None }) × (new ≡ record old { engine = new.engine; left = left }))
-  pub err : OnErr result ((whole new.engine ≡ whole old.engine) × (new ≡ record old { engine = new.engine }))
+-- The machine became this one, which asks nothing, and the event was recorded; or both stand for want of memory. All else
+-- stands.
+pub record Becomes {E T : Type 0} (whole : E → Whole) (log : E → Option Log) (old new : Running E) (machine : FlatMachine) (left : ℕ) (result : Result T Halt) : Type 0 where
+  pub ok : OnOk result ((whole new.engine ≡ record { machine = machine; asking = None }) × (new ≡ record old { engine = new.engine; left = left }) × (log new.engine ≡ logged (log old.engine) (whole old.engine).machine))
+  pub err : OnErr result ((whole new.engine ≡ whole old.engine) × (new ≡ record old { engine = new.engine }) × (log new.engine ≡ log old.engine))
 
-abbrev pub TakesReply : {E T : Type 0} → (E → Whole) → Running E → Running E → Reply → ℕ → Result T Halt → Type 0
-TakesReply whole old new reply left result = Becomes whole old new (answer_of (whole old.engine).machine reply) left result
+abbrev pub TakesReply : {E T : Type 0} → (E → Whole) → (E → Option Log) → Running E → Running E → Reply → ℕ → Result T Halt → Type 0
+TakesReply whole log old new reply left result = Becomes whole log old new (answer_of (whole old.engine).machine reply) left result
 
 -- How the answer of a save relates to its definition: as that of a call that may lose the world (`MayLose`), but that
 -- want of memory comes wherever the save is begun.
@@ -292,10 +300,12 @@ MaySave begun (Err e) old new defined = (e ≢ NoMemory → (new ≡ old) × (de
 abbrev pub Refuses : SaveFault → Result (Option Copy) Fault → Type 0
 Refuses fault result = ((fault ≡ of_save.NoMemory) × (result ≡ Err NoMemory)) ⊎ ((fault ≢ of_save.NoMemory) × (result ≡ Ok None))
 
--- Where a part of a run goes on, nothing is asked any more, and so many units are left. A stop is one of a session.
-pub record Leads {E : Type 0} (whole : E → Whole) (old new : Running E) (left : ℕ) (result : Result Next Halt) : Type 0 where
+-- Where a part of a run goes on, nothing is asked any more, and so many units are left, for which there is room in what is
+-- recorded. A stop is one of a session.
+pub record Leads {E : Type 0} (whole : E → Whole) (log : E → Option Log) (old new : Running E) (left : ℕ) (result : Result Next Halt) : Type 0 where
   pub none : result ≡ Ok next.Goes → (whole new.engine).asking ≡ None
   pub left_is : result ≡ Ok next.Goes → new.left ≡ left
+  pub room : result ≡ Ok next.Goes → new.left ≤ units_left (log new.engine)
   pub no_more : new.left ≤ old.left
   pub stop_is : IfOk result IsNext
 
@@ -323,7 +333,7 @@ pub record GoesOn (start : Configuration) (entry : Devices) (h : Held) (asking :
   pub going : Ready start entry (record h { world = world }) d (goes_on given w)
   pub event : let m = configuration_of going.now.past (goes_on given w) (record h { world = world }) d in act_of m ≡ after_given m w (Ok (said, turn))
   pub asks : let m = configuration_of going.now.past (goes_on given w) (record h { world = world }) d in asking ≡ asked m
-  pub memory : let m = configuration_of going.now.past (goes_on given w) (record h { world = world }) d in TurnWants h.machine (Ok (said, turn)) → WantsMemory (goes_on given w) m asking
+  pub memory : let m = configuration_of going.now.past (goes_on given w) (record h { world = world }) d in TurnWants h.log h.machine (Ok (said, turn)) → WantsMemory (goes_on given w) m asking
 
 -- A line was taken at a wait.
 pub record TakesInput (start : Configuration) (entry : Devices) (h : Held) (asking : Option Asking) (d : Devices) (chars : List ℕ) (w : Waiting) : Type 0 where

@@ -1,6 +1,7 @@
 -- What a run reports and leaves behind, against the definition of a session.
-use Rattle.std.specs.Prelude.{◌≡◌, ◌≢◌, ℕ, suc, ◌+◌, ◌<◌, ◌≤◌, ◌++◌, ◌⊎◌, ◌==◌, if◌then◌else◌, true, false, Some, List, length, take}
+use Rattle.std.specs.Prelude.{◌≡◌, ◌≢◌, ℕ, suc, ◌+◌, ◌<◌, ◌≤◌, ◌++◌, ◌⊎◌, ◌==◌, if◌then◌else◌, true, false, Option, None, Some, List, length, take}
 use Rattle.gx_machine.specs.Machine.{Whole}
+use Rattle.gx_machine.specs.Log.{Log}
 use Rattle.gx_outside.specs.Outside.{FlatSource, raised_by}
 use Rattle.gx_session.specs.declared.ended.Ended.{Ended}
 use Rattle.gx_session.specs.Constants.{status_ended, status_fault, status_shelf_fault, status_input_fault, status_no_memory, piece}
@@ -13,23 +14,32 @@ use Rattle.gx_session.specs.Endings.{last_of}
 use Rattle.gx_session.specs.Reading.{IsPartial}
 use Rattle.gx_session.specs.Saving.{IsReadBack, SavesReadBack}
 use Rattle.gx_session.specs.Session.{Configuration, steps, Ending, sends_now, run_of, final_of, effect_at, asked_at, status_of, fault_number, fault_address}
+use Rattle.gx_session.specs.Recording.{Records}
 use Rattle.gx_session.specs.Undoing.{LastsUndo}
 use Rattle.rand_core.specs.Stream.{Stream, next_u32}
 
--- What a run reports: its status, the number and the address of a fault, the units that it used, and the machine
--- with what it asks.
+-- What a run reports: its status, the number and the address of a fault, the units that it used, the machine with what
+-- it asks, and what is recorded of the run.
 pub record Report : Type 0 where
   pub status : ℕ
   pub fault : ℕ
   pub at : ℕ
   pub steps : ℕ
   pub machine : Whole
+  pub log : Option Log
 
-abbrev pub report_on : {E : Type 0} → (E → Whole) → EndedOn E → Report
-report_on whole ended = record { status = ended.status; fault = ended.fault; at = ended.at; steps = ended.steps; machine = whole ended.engine }
+abbrev pub report_on : {E : Type 0} → (E → Whole) → (E → Option Log) → EndedOn E → Report
+report_on whole log ended = record {
+  status = ended.status;
+  fault = ended.fault;
+  at = ended.at;
+  steps = ended.steps;
+  machine = whole ended.engine;
+  log = log ended.engine;
+}
 
 abbrev pub report_of : {A : Type 0} → Ended A → Whole → Report
-report_of ended machine = record { status = ended.status; fault = ended.fault; at = ended.at; steps = ended.steps; machine = machine }
+report_of ended machine = record { status = ended.status; fault = ended.fault; at = ended.at; steps = ended.steps; machine = machine; log = None }
 
 -- The first list is a front of the second.
 abbrev pub IsFront : List ℕ → List ℕ → Type 0
@@ -85,6 +95,7 @@ pub record EndsAt (start : Configuration) (e : Ending) (entry exit : Devices) (r
   pub at_is : r.at ≡ fault_address e.stop e.configuration.machine
   pub steps_are : r.steps + e.configuration.left ≡ start.left
   pub machine_is : r.machine ≡ record { machine = e.configuration.machine; asking = asked_at e.stop e.configuration }
+  pub log_is : r.log ≡ e.configuration.log
   pub text_is : entry.sink.tells ≡ true → exit.sink.taken ≡ entry.sink.taken ++ e.configuration.world.text
   pub sends_are : exit.sink.calls.made ≡ raised_by (last_of e.configuration).sent.calls entry.sink.calls.made
   pub files_are : exit.shelf.files ≡ (last_of e.configuration).files
@@ -93,17 +104,18 @@ pub record EndsAt (start : Configuration) (e : Ending) (entry exit : Devices) (r
   pub words_are : AreDrawn e.configuration.words exit.words
   pub saves_are : SavedAll start
 
--- The run was cut short, with so many units left. The text that was sent is a front of what was shown by then: all
--- that was due before, and some of a send that was refused. Where memory was wanted at a send, a question or a store,
--- it was by the last call of that device. Where memory was wanted at a wait for a line, nothing is said of the input:
--- more of it may have been read.
-pub record StopsEarly (start : Configuration) (entry exit : Devices) (status left : ℕ) (machine : Whole) : Type 0 where
+-- The run was cut short, with so many units left and this recorded. The text that was sent is a front of what was shown
+-- by then: all that was due before, and some of a send that was refused. Where memory was wanted at a send, a question or
+-- a store, it was by the last call of that device. Where memory was wanted at a wait for a line, nothing is said of the
+-- input: more of it may have been read.
+pub record StopsEarly (start : Configuration) (entry exit : Devices) (status left : ℕ) (machine : Whole) (log : Option Log) : Type 0 where
   pub cut : Cut
   pub configuration : Configuration
   pub is_cut : IsCut start cut configuration status machine.asking
   pub wanted : status ≡ status_no_memory → WantedBy cut exit
   pub left_is : left ≡ configuration.left
   pub machine_is : machine.machine ≡ configuration.machine
+  pub log_is : log ≡ configuration.log
   pub shown : IsFront configuration.world.text (final_of start).configuration.world.text
   pub sent : ℕ
   pub at_least : configuration.sent.bytes ≤ sent
@@ -125,7 +137,7 @@ pub record IsReport (status fault at : ℕ) : Type 0 where
 -- The run is the session from a start. The statuses from `status_shelf_fault` on are those of a run that was cut short.
 pub record IsSession (start : Configuration) (entry exit : Devices) (r : Report) : Type 0 where
   pub ended : r.status < status_shelf_fault → EndsAt start (final_of start) entry exit r
-  pub early : status_shelf_fault ≤ r.status → (left : ℕ) × (r.steps + left ≡ start.left) × StopsEarly start entry exit r.status left r.machine
+  pub early : status_shelf_fault ≤ r.status → (left : ℕ) × (r.steps + left ≡ start.left) × StopsEarly start entry exit r.status left r.machine r.log
 
 -- It is that with some input: with what the source has left, where the source tells it.
 pub record IsSomeSession (start : Configuration) (entry exit : Devices) (r : Report) : Type 0 where
@@ -143,4 +155,5 @@ pub record IsRun (start : Configuration) (entry exit : Devices) (r : Report) : T
   pub shelf_tells : exit.shelf.tells ≡ entry.shelf.tells
   pub report : IsReport r.status r.fault r.at
   pub undo : (input : List ℕ) → LastsUndo (record start { input = input })
+  pub records : (input : List ℕ) → Records (record start { input = input })
   pub saves : SavesReadBack start.machine.flat.story

@@ -16,6 +16,7 @@ use Rattle.gx_state.specs.declared.effects.Effect.TheVariants as effect
 use Rattle.gx_state.specs.declared.effects.Reply.{Reply}
 use Rattle.gx_state.specs.Copies.{Copy}
 use Rattle.gx_machine.specs.Machine.{FlatMachine}
+use Rattle.gx_machine.specs.Log.{Log, logged}
 use Rattle.gx_machine.specs.Saves.{restored}
 use Rattle.gx_machine.specs.Answer.{answer_of}
 use Rattle.gx_machine.specs.declared.askings.Asking.{Asking}
@@ -67,6 +68,8 @@ pub record Configuration : Type 0 where
   pub words : Stream
   -- the units of the budget that weren't used
   pub left : ℕ
+  -- what is recorded of the run, where it is: see gx_machine
+  pub log : Option Log
   pub doing : Doing
 
 -- What a move comes to: the next configuration, or a stop at one.
@@ -74,14 +77,14 @@ pub data Verdict : Type 0 where
   goes : Configuration → Verdict
   stops : Stop → Configuration → Verdict
 
--- the configuration after a step that is done, with the units that it leaves
+-- the configuration after a step that is done, with the units that it leaves: the event has ended, and is recorded
 abbrev pub done : Configuration → FlatMachine → ℕ → Configuration
-done m machine left = record m { machine = machine; left = left }
+done m machine left = record m { machine = machine; left = left; log = logged m.log m.machine }
 
--- The answer to an asking: the Glk world moves on, the machine takes the reply, and the next step comes. A fault of the
--- world stops the run before the step.
+-- The answer to an asking: the Glk world moves on, the machine takes the reply, the event is recorded, and the next step
+-- comes. A fault of the world stops the run before the step.
 abbrev pub after_reply : Configuration → ℕ → Result (Said × Reply) Fault → Verdict
-after_reply m left (Ok r) = goes (record m { machine = answer_of m.machine r.1; world = after m.world r.0; left = left; doing = steps })
+after_reply m left (Ok r) = goes (record m { machine = answer_of m.machine r.1; world = after m.world r.0; left = left; log = logged m.log m.machine; doing = steps })
 after_reply m left (Err fault) = stops (stop.Faulted fault) m
 
 -- A Glk call has said something, and then asks a device.
@@ -92,7 +95,7 @@ asking_for m w said t = goes (record m { world = after m.world said; doing = ask
 abbrev pub waiting_for : Configuration → Waiting → Said → Turn → Verdict
 waiting_for m w said t = goes (record m { world = after (after m.world said) (show_grids said.0); doing = asks t w })
 
--- The turn of a Glk call. One that ends the program is counted, and one that waits in vain isn't.
+-- The turn of a Glk call. One that ends the program is counted and not recorded, and one that waits in vain is neither.
 abbrev pub after_turn : Configuration → Waiting → Result (Said × Turn) Fault → Verdict
 after_turn m w (Ok (said, turn.Answer reply)) = after_reply m w.left (Ok (said, reply))
 after_turn m w (Ok (said, turn.Wait)) = waiting_for m w said turn.Wait
@@ -131,7 +134,7 @@ load_of (Some bytes) = if nat_lt most_loaded (length bytes) then of_load.TooLong
 
 -- A restore: the machine goes back to the copy that was read, or takes the answer of one that fails.
 abbrev pub after_restoring : Configuration → ℕ → Result (Said × Option Copy) Fault → Verdict
-after_restoring m left (Ok (said, Some copy)) = goes (record m { machine = restored m.machine copy; world = after m.world said; left = left; doing = steps })
+after_restoring m left (Ok (said, Some copy)) = goes (record m { machine = restored m.machine copy; world = after m.world said; left = left; log = logged m.log m.machine; doing = steps })
 after_restoring m left (Ok (said, None)) = after_reply m left (Ok (said, replies failed))
 after_restoring m left (Err fault) = stops (stop.Faulted fault) m
 
@@ -155,7 +158,7 @@ after_effect m left machine (effect.Glk selector args room) = after_turn m (reco
 after_effect m left machine (effect.Save stream) = after_reply m left (saving m.world.scene m.machine.flat stream)
 after_effect m left machine (effect.Restore stream) = after_restoring m left (restoring m.world.scene m.machine.flat stream)
 after_effect m left machine effect.Quit = stops stop.Ended (done m machine left)
-after_effect m left machine effect.Spent = stops stop.Spent (done m machine left)
+after_effect m left machine effect.Spent = stops stop.Spent (record m { machine = machine; left = left })
 
 -- A step that leaves so many units: its effect, or its fault, which stops the run before it.
 abbrev pub after_step : Configuration → ℕ → Result (FlatMachine × Effect) Fault → Verdict
@@ -268,8 +271,8 @@ asked_at stop.Spent m = None
 asked_at s m = asked m
 
 -- The first configuration: nothing was taken of what the devices hold.
-abbrev pub start_of : FlatMachine → FlatWorld → Devices → Bool → ℕ → Configuration
-start_of machine world d echo left = record {
+abbrev pub start_of : FlatMachine → FlatWorld → Devices → Bool → ℕ → Option Log → Configuration
+start_of machine world d echo left log = record {
   machine = machine;
   world = world;
   sent = none_sent;
@@ -279,6 +282,7 @@ start_of machine world d echo left = record {
   asked = 0;
   words = d.words;
   left = left;
+  log = log;
   doing = steps;
 }
 

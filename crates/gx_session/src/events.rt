@@ -2,6 +2,7 @@
 ghost use Rattle.std.specs.Prelude.{◌≡◌, ◌≢◌, ◌≤◌, ◌<◌, ◌⊎◌, ℕ, List, None, Ok, Err, IfOk, IfErr};
 ghost use Rattle.std.specs.Option.{option_to_list};
 ghost use Rattle.gx_state.specs.declared.effects.Effect.TheVariants.{Spent};
+ghost use Rattle.gx_machine.specs.Log.{units_left, left_after};
 ghost use Rattle.gx_machine.specs.Step.{asking_of};
 ghost use Rattle.gx_session.specs.Endings.{file_of};
 ghost use Rattle.gx_session.specs.declared.ends.Stop.{Stop};
@@ -32,11 +33,12 @@ fn follow<A: Allocator + Clone, E: Engine<A>, S: Source, K: Sink, F: Shelf>(
 ) -> Result<Next, Halt>
     requires asks { (E.whole run.old.engine).asking ≡ asking_of effect }
     requires fewer { left ≤ run.old.left }
+    requires room { left ≤ left_after (E.log run.old.engine) (E.whole run.old.engine) }
     ensures plays { Fed run.old.lines run.new.lines (S.seen input.old) (S.seen input.new) (λ coming after. (start : Configuration) (entry d : Devices)
-        → Follows start entry (held E.whole run.old coming) (record d { source = S.seen input.old; sink = K.seen output.old; shelf = F.seen shelf.old }) left effect
-        → EventGives start entry (held E.whole run.new after) (asking_in E.whole run.new) (record d { source = S.seen input.new; sink = K.seen output.new; shelf = F.seen shelf.new }) result) }
+        → Follows start entry (held E.whole E.log run.old coming) (record d { source = S.seen input.old; sink = K.seen output.old; shelf = F.seen shelf.old }) left effect
+        → EventGives start entry (held E.whole E.log run.new after) (asking_in E.whole run.new) (record d { source = S.seen input.new; sink = K.seen output.new; shelf = F.seen shelf.new }) result) }
     ensures goes { result ≡ Ok Next.Goes → effect ≢ Spent }
-    ensures leads { Leads E.whole run.old run.new left result }
+    ensures leads { Leads E.whole E.log run.old run.new left result }
     ensures keeps { (d : Devices) → Keeps (record d { source = S.seen input.old; sink = K.seen output.old; shelf = F.seen shelf.old }) (record d { source = S.seen input.new; sink = K.seen output.new; shelf = F.seen shelf.new }) result }
 {
     match effect {
@@ -85,10 +87,12 @@ fn play_step<A: Allocator + Clone, E: Engine<A>, S: Source, K: Sink, F: Shelf, R
     dice: &mut R,
 ) -> Result<Next, Halt>
     requires none { (E.whole run.old.engine).asking ≡ None }
+    requires room { run.old.left ≤ units_left (E.log run.old.engine) }
     ensures plays { Fed run.old.lines run.new.lines (S.seen input.old) (S.seen input.new) (λ coming after. (start : Configuration) (entry : Devices)
-        → Going start entry (held E.whole run.old coming) (devices (S.seen input.old) (K.seen output.old) (F.seen shelf.old) (R.stream dice.old))
-        → EventGives start entry (held E.whole run.new after) (asking_in E.whole run.new) (devices (S.seen input.new) (K.seen output.new) (F.seen shelf.new) (R.stream dice.new)) result) }
+        → Going start entry (held E.whole E.log run.old coming) (devices (S.seen input.old) (K.seen output.old) (F.seen shelf.old) (R.stream dice.old))
+        → EventGives start entry (held E.whole E.log run.new after) (asking_in E.whole run.new) (devices (S.seen input.new) (K.seen output.new) (F.seen shelf.new) (R.stream dice.new)) result) }
     ensures none { result ≡ Ok Next.Goes → (E.whole run.new.engine).asking ≡ None }
+    ensures room { result ≡ Ok Next.Goes → run.new.left ≤ units_left (E.log run.new.engine) }
     ensures nearer { result ≡ Ok Next.Goes → run.new.left < run.old.left }
     ensures no_more { run.new.left ≤ run.old.left }
     ensures stop { IfOk result IsNext }
@@ -111,10 +115,12 @@ fn play_event<A: Allocator + Clone, E: Engine<A>, S: Source, K: Sink, F: Shelf, 
     dice: &mut R,
 ) -> Result<Next, Halt>
     requires none { (E.whole run.old.engine).asking ≡ None }
+    requires room { run.old.left ≤ units_left (E.log run.old.engine) }
     ensures plays { Fed run.old.lines run.new.lines (S.seen input.old) (S.seen input.new) (λ coming after. (start : Configuration) (entry : Devices)
-        → Going start entry (held E.whole run.old coming) (devices (S.seen input.old) (K.seen output.old) (F.seen shelf.old) (R.stream dice.old))
-        → EventGives start entry (held E.whole run.new after) (asking_in E.whole run.new) (devices (S.seen input.new) (K.seen output.new) (F.seen shelf.new) (R.stream dice.new)) result) }
+        → Going start entry (held E.whole E.log run.old coming) (devices (S.seen input.old) (K.seen output.old) (F.seen shelf.old) (R.stream dice.old))
+        → EventGives start entry (held E.whole E.log run.new after) (asking_in E.whole run.new) (devices (S.seen input.new) (K.seen output.new) (F.seen shelf.new) (R.stream dice.new)) result) }
     ensures none { result ≡ Ok Next.Goes → (E.whole run.new.engine).asking ≡ None }
+    ensures room { result ≡ Ok Next.Goes → run.new.left ≤ units_left (E.log run.new.engine) }
     ensures nearer { result ≡ Ok Next.Goes → run.new.left < run.old.left }
     ensures no_more { run.new.left ≤ run.old.left }
     ensures stop { IfOk result IsNext }
@@ -139,9 +145,10 @@ fn play_events<A: Allocator + Clone, E: Engine<A>, S: Source, K: Sink, F: Shelf,
     dice: &mut R,
 ) -> Result<Stop, Halt>
     requires none { (E.whole run.old.engine).asking ≡ None }
+    requires room { run.old.left ≤ units_left (E.log run.old.engine) }
     ensures plays { Fed run.old.lines run.new.lines (S.seen input.old) (S.seen input.new) (λ coming after. (start : Configuration) (entry : Devices)
-        → Going start entry (held E.whole run.old coming) (devices (S.seen input.old) (K.seen output.old) (F.seen shelf.old) (R.stream dice.old))
-        → StopGives start entry (held E.whole run.new after) (asking_in E.whole run.new) (devices (S.seen input.new) (K.seen output.new) (F.seen shelf.new) (R.stream dice.new)) result) }
+        → Going start entry (held E.whole E.log run.old coming) (devices (S.seen input.old) (K.seen output.old) (F.seen shelf.old) (R.stream dice.old))
+        → StopGives start entry (held E.whole E.log run.new after) (asking_in E.whole run.new) (devices (S.seen input.new) (K.seen output.new) (F.seen shelf.new) (R.stream dice.new)) result) }
     ensures no_more { run.new.left ≤ run.old.left }
     ensures stop { IfOk result IsStop }
     ensures keeps { Keeps (devices (S.seen input.old) (K.seen output.old) (F.seen shelf.old) (R.stream dice.old)) (devices (S.seen input.new) (K.seen output.new) (F.seen shelf.new) (R.stream dice.new)) result }
@@ -191,8 +198,8 @@ fn end<A: Allocator + Clone, E: Engine<A>, K: Sink, F: Shelf>(
     shelf: &mut F,
 ) -> Result<(), Halt>
     ensures plays { (coming : List ℕ) (start : Configuration) (entry d : Devices) (stop : Stop)
-        → Done start entry (held E.whole run.old coming) (asking_in E.whole run.old) (record d { sink = K.seen output.old; shelf = F.seen shelf.old }) stop
-        → EndingGives start entry (held E.whole run.new coming) (asking_in E.whole run.new) (record d { sink = K.seen output.new; shelf = F.seen shelf.new }) stop result }
+        → Done start entry (held E.whole E.log run.old coming) (asking_in E.whole run.old) (record d { sink = K.seen output.old; shelf = F.seen shelf.old }) stop
+        → EndingGives start entry (held E.whole E.log run.new coming) (asking_in E.whole run.new) (record d { sink = K.seen output.new; shelf = F.seen shelf.new }) stop result }
     ensures same { run.new ≡ record run.old { world = run.new.world } }
     ensures keeps { (d : Devices) → Keeps (record d { sink = K.seen output.old; shelf = F.seen shelf.old }) (record d { sink = K.seen output.new; shelf = F.seen shelf.new }) result }
 {
@@ -211,9 +218,10 @@ pub fn play_out<A: Allocator + Clone, E: Engine<A>, S: Source, K: Sink, F: Shelf
     dice: &mut R,
 ) -> Result<Stop, Halt>
     requires none { (E.whole run.old.engine).asking ≡ None }
+    requires room { run.old.left ≤ units_left (E.log run.old.engine) }
     ensures plays { Fed run.old.lines run.new.lines (S.seen input.old) (S.seen input.new) (λ coming after. (start : Configuration) (entry : Devices)
-        → Going start entry (held E.whole run.old coming) (devices (S.seen input.old) (K.seen output.old) (F.seen shelf.old) (R.stream dice.old))
-        → RunGives start entry (held E.whole run.new after) (asking_in E.whole run.new) (devices (S.seen input.new) (K.seen output.new) (F.seen shelf.new) (R.stream dice.new)) result) }
+        → Going start entry (held E.whole E.log run.old coming) (devices (S.seen input.old) (K.seen output.old) (F.seen shelf.old) (R.stream dice.old))
+        → RunGives start entry (held E.whole E.log run.new after) (asking_in E.whole run.new) (devices (S.seen input.new) (K.seen output.new) (F.seen shelf.new) (R.stream dice.new)) result) }
     ensures no_more { run.new.left ≤ run.old.left }
     ensures stop { IfOk result IsStop }
     ensures keeps { Keeps (devices (S.seen input.old) (K.seen output.old) (F.seen shelf.old) (R.stream dice.old)) (devices (S.seen input.new) (K.seen output.new) (F.seen shelf.new) (R.stream dice.new)) result }

@@ -5,6 +5,7 @@
 ghost use Rattle.std.specs.Prelude.{◌≡◌, ◌≢◌, ◌≤◌, ◌<◌, ◌⊎◌, ℕ, List, None, Some, Ok, Err, IfOk, IfErr, OnErr};
 ghost use Rattle.gx_machine.specs.declared.askings.Asking.TheVariants as asking;
 ghost use Rattle.gx_machine.specs.Answer.{answered, IsAnswer};
+ghost use Rattle.gx_machine.specs.Log.{logged, left_after};
 ghost use Rattle.glk_dispatch.specs.Parts.{replies};
 ghost use Rattle.gx_session.specs.Counts.{Blames};
 ghost use Rattle.gx_session.specs.Cuts.{ReplyWants};
@@ -102,9 +103,9 @@ fn give<A: Allocator + Clone, E: Engine<A>>(
     left: u64,
 ) -> Result<(), Halt>
     requires { IsAnswer (E.whole run.old.engine) reply.now }
-    ensures gives { TakesReply E.whole run.old run.new reply.now left result }
+    ensures gives { TakesReply E.whole E.log run.old run.new reply.now left result }
     ensures memory { IfErr result (λ halt. halt ≡ Halt.NoMemory) }
-    ensures wants { OnErr result (ReplyWants (E.whole run.old.engine).machine reply.now) }
+    ensures wants { OnErr result (ReplyWants (E.log run.old.engine) (E.whole run.old.engine).machine reply.now) }
 {
     run.engine.finish(reply)?;
     run.left = left;
@@ -119,8 +120,8 @@ fn send_due<A: Allocator + Clone, E: Engine<A>, K: Sink>(
 ) -> Result<Next, Halt>
     requires { (E.whole run.old.engine).asking ≡ None }
     ensures plays { (coming : List ℕ) (start : Configuration) (entry d : Devices)
-        → Standing start entry (held E.whole run.old coming) (record d { sink = K.seen output.old }) steps
-        → EventGives start entry (held E.whole run.new coming) (asking_in E.whole run.new) (record d { sink = K.seen output.new }) result }
+        → Standing start entry (held E.whole E.log run.old coming) (record d { sink = K.seen output.old }) steps
+        → EventGives start entry (held E.whole E.log run.new coming) (asking_in E.whole run.new) (record d { sink = K.seen output.new }) result }
     ensures same { run.new ≡ record run.old { world = run.new.world } }
     ensures goes { IfOk result (λ next. next ≡ Next.Goes) }
     ensures keeps { (d : Devices) → Keeps (record d { sink = K.seen output.old }) (record d { sink = K.seen output.new }) result }
@@ -138,10 +139,11 @@ pub fn answer<A: Allocator + Clone, E: Engine<A>, K: Sink>(
 ) -> Result<Next, Halt>
     requires fits { IsAnswer (E.whole run.old.engine) reply.now }
     requires fewer { left ≤ run.old.left }
+    requires room { left ≤ left_after (E.log run.old.engine) (E.whole run.old.engine) }
     ensures plays { (coming : List ℕ) (start : Configuration) (entry d : Devices)
-        → Replies start entry (held E.whole run.old coming) (asking_in E.whole run.old) (record d { sink = K.seen output.old }) left reply.now
-        → EventGives start entry (held E.whole run.new coming) (asking_in E.whole run.new) (record d { sink = K.seen output.new }) result }
-    ensures leads { Leads E.whole run.old run.new left result }
+        → Replies start entry (held E.whole E.log run.old coming) (asking_in E.whole run.old) (record d { sink = K.seen output.old }) left reply.now
+        → EventGives start entry (held E.whole E.log run.new coming) (asking_in E.whole run.new) (record d { sink = K.seen output.new }) result }
+    ensures leads { Leads E.whole E.log run.old run.new left result }
     ensures keeps { (d : Devices) → Keeps (record d { sink = K.seen output.old }) (record d { sink = K.seen output.new }) result }
     ensures lines { run.new.lines ≡ run.old.lines }
 {
@@ -154,6 +156,7 @@ pub fn answer<A: Allocator + Clone, E: Engine<A>, K: Sink>(
 fn give_put<A: Allocator + Clone, E: Engine<A>>(run: &mut Running<E>, left: u64)
     requires { (E.whole run.old.engine).asking ≡ Some asking.Put }
     ensures engine { E.whole run.new.engine ≡ answered (E.whole run.old.engine) (replies 0) }
+    ensures logs { E.log run.new.engine ≡ logged (E.log run.old.engine) (E.whole run.old.engine).machine }
     ensures same { run.new ≡ record run.old { engine = run.new.engine; left = left } }
 {
     run.engine.finish_put();
@@ -169,10 +172,11 @@ pub fn answer_put<A: Allocator + Clone, E: Engine<A>, K: Sink>(
 ) -> Result<Next, Halt>
     requires asks { (E.whole run.old.engine).asking ≡ Some asking.Put }
     requires fewer { left ≤ run.old.left }
+    requires room { left ≤ left_after (E.log run.old.engine) (E.whole run.old.engine) }
     ensures plays { (coming : List ℕ) (start : Configuration) (entry d : Devices)
-        → Replies start entry (held E.whole run.old coming) (asking_in E.whole run.old) (record d { sink = K.seen output.old }) left (replies 0)
-        → EventGives start entry (held E.whole run.new coming) (asking_in E.whole run.new) (record d { sink = K.seen output.new }) result }
-    ensures leads { Leads E.whole run.old run.new left result }
+        → Replies start entry (held E.whole E.log run.old coming) (asking_in E.whole run.old) (record d { sink = K.seen output.old }) left (replies 0)
+        → EventGives start entry (held E.whole E.log run.new coming) (asking_in E.whole run.new) (record d { sink = K.seen output.new }) result }
+    ensures leads { Leads E.whole E.log run.old run.new left result }
     ensures keeps { (d : Devices) → Keeps (record d { sink = K.seen output.old }) (record d { sink = K.seen output.new }) result }
     ensures lines { run.new.lines ≡ run.old.lines }
 {

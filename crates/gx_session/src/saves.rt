@@ -7,6 +7,7 @@ ghost use Rattle.gx_state.specs.Copies.{IsCopyFor};
 ghost use Rattle.gx_state.specs.Replies.{IsReply};
 ghost use Rattle.gx_state.specs.declared.effects.Effect.TheVariants as effect;
 ghost use Rattle.gx_machine.specs.declared.askings.Asking.TheVariants as asking;
+ghost use Rattle.gx_machine.specs.Log.{left_after};
 ghost use Rattle.gx_machine.specs.Saves.{restored};
 ghost use Rattle.gx_machine.specs.Step.{asking_of};
 ghost use Rattle.glk_dispatch.specs.Parts.{on_world, replies};
@@ -87,10 +88,11 @@ pub fn ask_save<A: Allocator + Clone, E: Engine<A>, K: Sink>(
 ) -> Result<Next, Halt>
     requires asks { (E.whole run.old.engine).asking ≡ asking_of (effect.Save stream) }
     requires fewer { left ≤ run.old.left }
+    requires room { left ≤ left_after (E.log run.old.engine) (E.whole run.old.engine) }
     ensures plays { (coming : List ℕ) (start : Configuration) (entry d : Devices)
-        → Follows start entry (held E.whole run.old coming) (record d { sink = K.seen output.old }) left (effect.Save stream)
-        → EventGives start entry (held E.whole run.new coming) (asking_in E.whole run.new) (record d { sink = K.seen output.new }) result }
-    ensures leads { Leads E.whole run.old run.new left result }
+        → Follows start entry (held E.whole E.log run.old coming) (record d { sink = K.seen output.old }) left (effect.Save stream)
+        → EventGives start entry (held E.whole E.log run.new coming) (asking_in E.whole run.new) (record d { sink = K.seen output.new }) result }
+    ensures leads { Leads E.whole E.log run.old run.new left result }
     ensures keeps { (d : Devices) → Keeps (record d { sink = K.seen output.old }) (record d { sink = K.seen output.new }) result }
     ensures lines { run.new.lines ≡ run.old.lines }
 {
@@ -139,7 +141,7 @@ fn go_back<A: Allocator + Clone, E: Engine<A>>(
 ) -> Result<(), Halt>
     requires asks { (E.whole run.old.engine).asking ≡ Some asking.Restore }
     requires fits { IsCopyFor (E.whole run.old.engine).machine.flat.story copy.now }
-    ensures gives { Becomes E.whole run.old run.new (restored (E.whole run.old.engine).machine copy.now) left result }
+    ensures gives { Becomes E.whole E.log run.old run.new (restored (E.whole run.old.engine).machine copy.now) left result }
     ensures memory { IfErr result (λ halt. halt ≡ Halt.NoMemory) }
 {
     run.engine.restore_copy(copy)?;
@@ -157,10 +159,11 @@ fn resume<A: Allocator + Clone, E: Engine<A>, K: Sink>(
     requires asks { (E.whole run.old.engine).asking ≡ Some asking.Restore }
     requires fits { IsCopyFor (E.whole run.old.engine).machine.flat.story copy.now }
     requires fewer { left ≤ run.old.left }
+    requires room { left ≤ left_after (E.log run.old.engine) (E.whole run.old.engine) }
     ensures plays { (coming : List ℕ) (start : Configuration) (entry d : Devices)
-        → GoesBack start entry (held E.whole run.old coming) (asking_in E.whole run.old) (record d { sink = K.seen output.old }) left copy.now
-        → EventGives start entry (held E.whole run.new coming) (asking_in E.whole run.new) (record d { sink = K.seen output.new }) result }
-    ensures leads { Leads E.whole run.old run.new left result }
+        → GoesBack start entry (held E.whole E.log run.old coming) (asking_in E.whole run.old) (record d { sink = K.seen output.old }) left copy.now
+        → EventGives start entry (held E.whole E.log run.new coming) (asking_in E.whole run.new) (record d { sink = K.seen output.new }) result }
+    ensures leads { Leads E.whole E.log run.old run.new left result }
     ensures keeps { (d : Devices) → Keeps (record d { sink = K.seen output.old }) (record d { sink = K.seen output.new }) result }
     ensures lines { run.new.lines ≡ run.old.lines }
 {
@@ -178,10 +181,11 @@ pub fn ask_restore<A: Allocator + Clone, E: Engine<A>, K: Sink>(
 ) -> Result<Next, Halt>
     requires asks { (E.whole run.old.engine).asking ≡ asking_of (effect.Restore stream) }
     requires fewer { left ≤ run.old.left }
+    requires room { left ≤ left_after (E.log run.old.engine) (E.whole run.old.engine) }
     ensures plays { (coming : List ℕ) (start : Configuration) (entry d : Devices)
-        → Follows start entry (held E.whole run.old coming) (record d { sink = K.seen output.old }) left (effect.Restore stream)
-        → EventGives start entry (held E.whole run.new coming) (asking_in E.whole run.new) (record d { sink = K.seen output.new }) result }
-    ensures leads { Leads E.whole run.old run.new left result }
+        → Follows start entry (held E.whole E.log run.old coming) (record d { sink = K.seen output.old }) left (effect.Restore stream)
+        → EventGives start entry (held E.whole E.log run.new coming) (asking_in E.whole run.new) (record d { sink = K.seen output.new }) result }
+    ensures leads { Leads E.whole E.log run.old run.new left result }
     ensures keeps { (d : Devices) → Keeps (record d { sink = K.seen output.old }) (record d { sink = K.seen output.new }) result }
     ensures lines { run.new.lines ≡ run.old.lines }
 {

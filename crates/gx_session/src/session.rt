@@ -1,5 +1,6 @@
 //! A run of a session from its start.
-ghost use Rattle.std.specs.Prelude.{◌≡◌, [], None, IsSomeAnd};
+ghost use Rattle.std.specs.Prelude.{◌≡◌, ◌≤◌, [], None, IsSomeAnd};
+ghost use Rattle.gx_machine.specs.Log.{units_left};
 ghost use Rattle.gx_session.specs.Devices.{devices};
 ghost use Rattle.gx_session.specs.Session.{start_of, fault_address};
 ghost use Rattle.gx_session.specs.Runs.{IsRun, report_on, report_of};
@@ -41,8 +42,10 @@ fn fault_address<A: Allocator + Clone, E: Engine<A>>(engine: &E, stop: Stop) -> 
     }
 }
 
-/// Runs an engine within a budget of units. Where it keeps no copy at first, each restoreundo goes back to the
-/// copy of the newest saveundo that is neither used, nor discarded, nor dropped as the oldest.
+/// Runs an engine within a budget of units, for which there is room in what it records. Each event is recorded once it
+/// has ended, but for one that ends the program by a Glk call. Where the engine keeps no copy at first, each
+/// restoreundo goes back to the copy of the newest saveundo that is neither used, nor discarded, nor dropped as the
+/// oldest.
 ///
 /// After a fault or a spent budget, and where no line can be taken, the engine stands before the step,
 /// which isn't counted; at the program's end the last step is counted. A Glk call that is stopped there,
@@ -63,10 +66,11 @@ pub fn run_on<A: Allocator + Clone, E: Engine<A>, S: Source, K: Sink, F: Shelf, 
     dice: &mut R,
 ) -> EndedOn<E>
     requires asks_nothing { (E.whole engine).asking ≡ None }
+    requires room { steps ≤ units_left (E.log engine) }
     requires no_text { world.text ≡ [] }
     ensures { let entry = devices (S.seen input.old) (K.seen output.old) (F.seen shelf.old) (R.stream dice.old) in
         let exit = devices (S.seen input.new) (K.seen output.new) (F.seen shelf.new) (R.stream dice.new) in
-        IsRun (start_of (E.whole engine).machine world entry echo steps) entry exit (report_on E.whole result) }
+        IsRun (start_of (E.whole engine).machine world entry echo steps (E.log engine)) entry exit (report_on E.whole E.log result) }
 {
     saves_read_back(&engine);
     let mut run = Running {
@@ -121,7 +125,7 @@ pub fn run<A: Allocator + Clone, S: Source, K: Sink, F: Shelf, R: Rng>(
     requires no_text { world.text ≡ [] }
     ensures { let entry = devices (S.seen input.old) (K.seen output.old) (F.seen shelf.old) (R.stream dice.old) in
         let exit = devices (S.seen input.new) (K.seen output.new) (F.seen shelf.new) (R.stream dice.new) in
-        IsSomeAnd result.machine (λ end. IsRun (start_of machine.machine world entry echo steps) entry exit (report_of result end)) }
+        IsSomeAnd result.machine (λ end. IsRun (start_of machine.machine world entry echo steps None) entry exit (report_of result end)) }
 {
     let ended = run_on(
         alloc, machine, world, echo, steps, input, output, shelf, dice,

@@ -2,6 +2,7 @@
 ghost use Rattle.std.specs.Prelude.{◌≡◌, ◌≤◌, ℕ, List, Some, IfErr, OnOk, OnErr, if◌then◌else◌};
 ghost use Rattle.gx_state.specs.declared.effects.Effect.TheVariants.{Put, Glk};
 ghost use Rattle.gx_machine.specs.declared.askings.Asking.TheVariants as asking;
+ghost use Rattle.gx_machine.specs.Log.{left_after};
 ghost use Rattle.gx_machine.specs.Step.{asking_of};
 ghost use Rattle.glk_world.specs.World.{after};
 ghost use Rattle.glk_world.specs.Shown.{show_grids, show_line};
@@ -37,10 +38,11 @@ pub fn ask_put<A: Allocator + Clone, E: Engine<A>, K: Sink>(
 ) -> Result<Next, Halt>
     requires asks { (E.whole run.old.engine).asking ≡ asking_of (Put c) }
     requires fewer { left ≤ run.old.left }
+    requires room { left ≤ left_after (E.log run.old.engine) (E.whole run.old.engine) }
     ensures plays { (coming : List ℕ) (start : Configuration) (entry d : Devices)
-        → Follows start entry (held E.whole run.old coming) (record d { sink = K.seen output.old }) left (Put c)
-        → EventGives start entry (held E.whole run.new coming) (asking_in E.whole run.new) (record d { sink = K.seen output.new }) result }
-    ensures leads { Leads E.whole run.old run.new left result }
+        → Follows start entry (held E.whole E.log run.old coming) (record d { sink = K.seen output.old }) left (Put c)
+        → EventGives start entry (held E.whole E.log run.new coming) (asking_in E.whole run.new) (record d { sink = K.seen output.new }) result }
+    ensures leads { Leads E.whole E.log run.old run.new left result }
     ensures keeps { (d : Devices) → Keeps (record d { sink = K.seen output.old }) (record d { sink = K.seen output.new }) result }
     ensures lines { run.new.lines ≡ run.old.lines }
 {
@@ -61,10 +63,11 @@ fn ask_any_put<A: Allocator + Clone, E: Engine<A>, K: Sink>(
 ) -> Result<Next, Halt>
     requires asks { (E.whole run.old.engine).asking ≡ asking_of (Put c) }
     requires fewer { left ≤ run.old.left }
+    requires room { left ≤ left_after (E.log run.old.engine) (E.whole run.old.engine) }
     ensures plays { (coming : List ℕ) (start : Configuration) (entry d : Devices)
-        → Follows start entry (held E.whole run.old coming) (record d { sink = K.seen output.old }) left (Put c)
-        → EventGives start entry (held E.whole run.new coming) (asking_in E.whole run.new) (record d { sink = K.seen output.new }) result }
-    ensures leads { Leads E.whole run.old run.new left result }
+        → Follows start entry (held E.whole E.log run.old coming) (record d { sink = K.seen output.old }) left (Put c)
+        → EventGives start entry (held E.whole E.log run.new coming) (asking_in E.whole run.new) (record d { sink = K.seen output.new }) result }
+    ensures leads { Leads E.whole E.log run.old run.new left result }
     ensures keeps { (d : Devices) → Keeps (record d { sink = K.seen output.old }) (record d { sink = K.seen output.new }) result }
     ensures lines { run.new.lines ≡ run.old.lines }
 {
@@ -85,10 +88,11 @@ fn take_answer<A: Allocator + Clone, E: Engine<A>, K: Sink>(
     requires answered { IsAnswered turn }
     requires fits { IsTurnFor (E.whole run.old.engine).machine.flat wait.room turn }
     requires fewer { wait.left ≤ run.old.left }
+    requires room { wait.left ≤ left_after (E.log run.old.engine) (E.whole run.old.engine) }
     ensures plays { (coming : List ℕ) (start : Configuration) (entry d : Devices)
-        → GoesOn start entry (held E.whole run.old coming) (asking_in E.whole run.old) (record d { sink = K.seen output.old }) wait turn
-        → EventGives start entry (held E.whole run.new coming) (asking_in E.whole run.new) (record d { sink = K.seen output.new }) result }
-    ensures leads { Leads E.whole run.old run.new wait.left result }
+        → GoesOn start entry (held E.whole E.log run.old coming) (asking_in E.whole run.old) (record d { sink = K.seen output.old }) wait turn
+        → EventGives start entry (held E.whole E.log run.new coming) (asking_in E.whole run.new) (record d { sink = K.seen output.new }) result }
+    ensures leads { Leads E.whole E.log run.old run.new wait.left result }
     ensures keeps { (d : Devices) → Keeps (record d { sink = K.seen output.old }) (record d { sink = K.seen output.new }) result }
     ensures lines { run.new.lines ≡ run.old.lines }
 {
@@ -108,10 +112,11 @@ fn go_on<A: Allocator + Clone, E: Engine<A>, K: Sink>(
     requires asks { (E.whole run.old.engine).asking ≡ Some (asking.Glk wait.room) }
     requires awaits { Awaits run.old.world.scene given }
     requires fewer { wait.left ≤ run.old.left }
+    requires room { wait.left ≤ left_after (E.log run.old.engine) (E.whole run.old.engine) }
     ensures plays { (coming : List ℕ) (start : Configuration) (entry d : Devices)
-        → Waits start entry (held E.whole run.old coming) (asking_in E.whole run.old) (record d { sink = K.seen output.old }) (goes_on given wait)
-        → EventGives start entry (held E.whole run.new coming) (asking_in E.whole run.new) (record d { sink = K.seen output.new }) result }
-    ensures leads { Leads E.whole run.old run.new wait.left result }
+        → Waits start entry (held E.whole E.log run.old coming) (asking_in E.whole run.old) (record d { sink = K.seen output.old }) (goes_on given wait)
+        → EventGives start entry (held E.whole E.log run.new coming) (asking_in E.whole run.new) (record d { sink = K.seen output.new }) result }
+    ensures leads { Leads E.whole E.log run.old run.new wait.left result }
     ensures keeps { (d : Devices) → Keeps (record d { sink = K.seen output.old }) (record d { sink = K.seen output.new }) result }
     ensures lines { run.new.lines ≡ run.old.lines }
 {
@@ -132,10 +137,11 @@ fn consult<A: Allocator + Clone, E: Engine<A>, K: Sink, F: Shelf>(
     requires asks { (E.whole run.old.engine).asking ≡ Some (asking.Glk wait.room) }
     requires awaits { (given : Given) → IsGivenFor (turn_of question) given → Awaits run.old.world.scene given }
     requires fewer { wait.left ≤ run.old.left }
+    requires room { wait.left ≤ left_after (E.log run.old.engine) (E.whole run.old.engine) }
     ensures plays { (coming : List ℕ) (start : Configuration) (entry d : Devices)
-        → Waits start entry (held E.whole run.old coming) (asking_in E.whole run.old) (record d { sink = K.seen output.old; shelf = F.seen shelf.old }) (asks (turn_of question) wait)
-        → EventGives start entry (held E.whole run.new coming) (asking_in E.whole run.new) (record d { sink = K.seen output.new; shelf = F.seen shelf.new }) result }
-    ensures leads { Leads E.whole run.old run.new wait.left result }
+        → Waits start entry (held E.whole E.log run.old coming) (asking_in E.whole run.old) (record d { sink = K.seen output.old; shelf = F.seen shelf.old }) (asks (turn_of question) wait)
+        → EventGives start entry (held E.whole E.log run.new coming) (asking_in E.whole run.new) (record d { sink = K.seen output.new; shelf = F.seen shelf.new }) result }
+    ensures leads { Leads E.whole E.log run.old run.new wait.left result }
     ensures keeps { (d : Devices) → Keeps (record d { sink = K.seen output.old; shelf = F.seen shelf.old }) (record d { sink = K.seen output.new; shelf = F.seen shelf.new }) result }
     ensures lines { run.new.lines ≡ run.old.lines }
 {
@@ -166,10 +172,11 @@ fn take_line<A: Allocator + Clone, E: Engine<A>, K: Sink>(
     requires asks { (E.whole run.old.engine).asking ≡ Some (asking.Glk wait.room) }
     requires awaits { Awaits run.old.world.scene (given.Line line) }
     requires fewer { wait.left ≤ run.old.left }
+    requires room { wait.left ≤ left_after (E.log run.old.engine) (E.whole run.old.engine) }
     ensures plays { (coming : List ℕ) (start : Configuration) (entry d : Devices)
-        → TakesInput start entry (held E.whole run.old coming) (asking_in E.whole run.old) (record d { sink = K.seen output.old }) line wait
-        → EventGives start entry (held E.whole run.new coming) (asking_in E.whole run.new) (record d { sink = K.seen output.new }) result }
-    ensures leads { Leads E.whole run.old run.new wait.left result }
+        → TakesInput start entry (held E.whole E.log run.old coming) (asking_in E.whole run.old) (record d { sink = K.seen output.old }) line wait
+        → EventGives start entry (held E.whole E.log run.new coming) (asking_in E.whole run.new) (record d { sink = K.seen output.new }) result }
+    ensures leads { Leads E.whole E.log run.old run.new wait.left result }
     ensures keeps { (d : Devices) → Keeps (record d { sink = K.seen output.old }) (record d { sink = K.seen output.new }) result }
     ensures lines { run.new.lines ≡ run.old.lines }
 {
@@ -199,11 +206,12 @@ fn await_line<A: Allocator + Clone, E: Engine<A>, S: Source, K: Sink>(
     requires asks { (E.whole run.old.engine).asking ≡ Some (asking.Glk wait.room) }
     requires awaits { (line : List ℕ) → Awaits run.old.world.scene (given.Line line) }
     requires fewer { wait.left ≤ run.old.left }
+    requires room { wait.left ≤ left_after (E.log run.old.engine) (E.whole run.old.engine) }
     ensures plays { Fed run.old.lines run.new.lines (S.seen input.old) (S.seen input.new) (λ coming after. (turn : Turn) (start : Configuration) (entry d : Devices)
         → IsWait turn
-        → Waits start entry (held E.whole run.old coming) (asking_in E.whole run.old) (record d { source = S.seen input.old; sink = K.seen output.old }) (asks turn wait)
-        → EventGives start entry (held E.whole run.new after) (asking_in E.whole run.new) (record d { source = S.seen input.new; sink = K.seen output.new }) result) }
-    ensures leads { Leads E.whole run.old run.new wait.left result }
+        → Waits start entry (held E.whole E.log run.old coming) (asking_in E.whole run.old) (record d { source = S.seen input.old; sink = K.seen output.old }) (asks turn wait)
+        → EventGives start entry (held E.whole E.log run.new after) (asking_in E.whole run.new) (record d { source = S.seen input.new; sink = K.seen output.new }) result) }
+    ensures leads { Leads E.whole E.log run.old run.new wait.left result }
     ensures keeps { (d : Devices) → Keeps (record d { source = S.seen input.old; sink = K.seen output.old }) (record d { source = S.seen input.new; sink = K.seen output.new }) result }
 {
     flush(&mut run.world, output, 1)?;
@@ -223,11 +231,12 @@ fn wait_for_line<A: Allocator + Clone, E: Engine<A>, S: Source, K: Sink>(
     requires asks { (E.whole run.old.engine).asking ≡ Some (asking.Glk wait.room) }
     requires awaits { (line : List ℕ) → Awaits run.old.world.scene (given.Line line) }
     requires fewer { wait.left ≤ run.old.left }
+    requires room { wait.left ≤ left_after (E.log run.old.engine) (E.whole run.old.engine) }
     ensures plays { Fed run.old.lines run.new.lines (S.seen input.old) (S.seen input.new) (λ coming after. (turn : Turn) (start : Configuration) (entry d : Devices)
         → IsWait turn
-        → Turns start entry (held E.whole run.old coming) (asking_in E.whole run.old) (record d { source = S.seen input.old; sink = K.seen output.old }) wait turn
-        → EventGives start entry (held E.whole run.new after) (asking_in E.whole run.new) (record d { source = S.seen input.new; sink = K.seen output.new }) result) }
-    ensures leads { Leads E.whole run.old run.new wait.left result }
+        → Turns start entry (held E.whole E.log run.old coming) (asking_in E.whole run.old) (record d { source = S.seen input.old; sink = K.seen output.old }) wait turn
+        → EventGives start entry (held E.whole E.log run.new after) (asking_in E.whole run.new) (record d { source = S.seen input.new; sink = K.seen output.new }) result) }
+    ensures leads { Leads E.whole E.log run.old run.new wait.left result }
     ensures keeps { (d : Devices) → Keeps (record d { source = S.seen input.old; sink = K.seen output.old }) (record d { source = S.seen input.new; sink = K.seen output.new }) result }
 {
     run.world.show_grids()?;
@@ -247,10 +256,11 @@ fn take_turn<A: Allocator + Clone, E: Engine<A>, S: Source, K: Sink, F: Shelf>(
     requires awaits { (given : Given) → IsGivenFor turn given → Awaits run.old.world.scene given }
     requires fits { IsTurnFor (E.whole run.old.engine).machine.flat wait.room turn }
     requires fewer { wait.left ≤ run.old.left }
+    requires room { wait.left ≤ left_after (E.log run.old.engine) (E.whole run.old.engine) }
     ensures plays { Fed run.old.lines run.new.lines (S.seen input.old) (S.seen input.new) (λ coming after. (start : Configuration) (entry d : Devices)
-        → Turns start entry (held E.whole run.old coming) (asking_in E.whole run.old) (record d { source = S.seen input.old; sink = K.seen output.old; shelf = F.seen shelf.old }) wait turn
-        → EventGives start entry (held E.whole run.new after) (asking_in E.whole run.new) (record d { source = S.seen input.new; sink = K.seen output.new; shelf = F.seen shelf.new }) result) }
-    ensures leads { Leads E.whole run.old run.new wait.left result }
+        → Turns start entry (held E.whole E.log run.old coming) (asking_in E.whole run.old) (record d { source = S.seen input.old; sink = K.seen output.old; shelf = F.seen shelf.old }) wait turn
+        → EventGives start entry (held E.whole E.log run.new after) (asking_in E.whole run.new) (record d { source = S.seen input.new; sink = K.seen output.new; shelf = F.seen shelf.new }) result) }
+    ensures leads { Leads E.whole E.log run.old run.new wait.left result }
     ensures keeps { (d : Devices) → Keeps (record d { source = S.seen input.old; sink = K.seen output.old; shelf = F.seen shelf.old }) (record d { source = S.seen input.new; sink = K.seen output.new; shelf = F.seen shelf.new }) result }
 {
     match turn {
@@ -283,10 +293,11 @@ pub fn ask_glk<A: Allocator + Clone, E: Engine<A>, S: Source, K: Sink, F: Shelf>
 ) -> Result<Next, Halt>
     requires asks { (E.whole run.old.engine).asking ≡ asking_of (Glk selector args.now wait.room) }
     requires fewer { wait.left ≤ run.old.left }
+    requires room { wait.left ≤ left_after (E.log run.old.engine) (E.whole run.old.engine) }
     ensures plays { Fed run.old.lines run.new.lines (S.seen input.old) (S.seen input.new) (λ coming after. (start : Configuration) (entry d : Devices)
-        → Follows start entry (held E.whole run.old coming) (record d { source = S.seen input.old; sink = K.seen output.old; shelf = F.seen shelf.old }) wait.left (Glk selector args.now wait.room)
-        → EventGives start entry (held E.whole run.new after) (asking_in E.whole run.new) (record d { source = S.seen input.new; sink = K.seen output.new; shelf = F.seen shelf.new }) result) }
-    ensures leads { Leads E.whole run.old run.new wait.left result }
+        → Follows start entry (held E.whole E.log run.old coming) (record d { source = S.seen input.old; sink = K.seen output.old; shelf = F.seen shelf.old }) wait.left (Glk selector args.now wait.room)
+        → EventGives start entry (held E.whole E.log run.new after) (asking_in E.whole run.new) (record d { source = S.seen input.new; sink = K.seen output.new; shelf = F.seen shelf.new }) result) }
+    ensures leads { Leads E.whole E.log run.old run.new wait.left result }
     ensures keeps { (d : Devices) → Keeps (record d { source = S.seen input.old; sink = K.seen output.old; shelf = F.seen shelf.old }) (record d { source = S.seen input.new; sink = K.seen output.new; shelf = F.seen shelf.new }) result }
 {
     match glk_dispatch::call(

@@ -15,7 +15,7 @@ pub returns-in_err-end_text-clause-plays : goal.returns-in_err-end_text-clause-p
 returns-in_err-end_text-clause-plays g c coming start entry d why done =
     let p = err_from_is_err_and c.from_residual.result c.from_residual.ensures.1 in
     let now : Devices = record d { sink = g.K.Sink.seen c.args.output.now; shelf = g.F.Shelf.seen c.args.shelf.now } in
-    let h : Held = held g.E.Engine.whole c.args.run.now coming in
+    let h : Held = held g.E.Engine.whole g.E.Engine.log c.args.run.now coming in
     let asking = asking_in g.E.Engine.whole c.args.run.now in
     rw (p.1, p.2)
     (inr (screen-wants start entry h now asking why done c.end_text.new.self c.in_err-end_text.ensures.memory))
@@ -24,7 +24,7 @@ pub returns-in_err-flush-clause-plays : goal.returns-in_err-flush-clause-plays
 returns-in_err-flush-clause-plays g c coming start entry d why done =
     let p = err_from_is_err_and c.from_residual-in_err-flush.result c.from_residual-in_err-flush.ensures.1 in
     let now : Devices = record d { sink = g.K.Sink.seen c.args.output.now; shelf = g.F.Shelf.seen c.args.shelf.now } in
-    let h : Held = held g.E.Engine.whole c.args.run.now coming in
+    let h : Held = held g.E.Engine.whole g.E.Engine.log c.args.run.now coming in
     let asking = asking_in g.E.Engine.whole c.args.run.now in
     let world : FlatWorld = c.end_text.new.self in
     rw (p.1, p.2)
@@ -36,7 +36,7 @@ returns-in_err-flush-clause-plays g c coming start entry d why done =
 pub returns-clause-plays : goal.returns-clause-plays
 returns-clause-plays g c coming start entry d why done =
     let now : Devices = record d { sink = g.K.Sink.seen c.args.output.now; shelf = g.F.Shelf.seen c.args.shelf.now } in
-    let h : Held = held g.E.Engine.whole c.args.run.now coming in
+    let h : Held = held g.E.Engine.whole g.E.Engine.log c.args.run.now coming in
     let asking = asking_in g.E.Engine.whole c.args.run.now in
     let world : FlatWorld = c.end_text.new.self in
     let sink : FlatSink = g.K.Sink.seen c.flush.new.output in

@@ -10,7 +10,7 @@ returns-in-Went-clause-plays g c =
     fed-same c.args.run.now.lines (g.S.Source.seen c.args.input.now) _
     (λ x start entry d f.
     let now : Devices = record d { source = g.S.Source.seen c.args.input.now; sink = g.K.Sink.seen c.args.output.now; shelf = g.F.Shelf.seen c.args.shelf.now } in
-    let h : Held = held g.E.Engine.whole c.args.run.now x in
+    let h : Held = held g.E.Engine.whole g.E.Engine.log c.args.run.now x in
     inr (went-on start entry h now c.args.left (subst (Follows start entry h now c.args.left) c.in-Went.is f)))
 
 pub returns-in-Drew-clause-plays : goal.returns-in-Drew-clause-plays
@@ -18,7 +18,7 @@ returns-in-Drew-clause-plays g c =
     fed-same c.args.run.now.lines (g.S.Source.seen c.args.input.now) _
     (λ x start entry d f.
     let now : Devices = record d { source = g.S.Source.seen c.args.input.now; sink = g.K.Sink.seen c.args.output.now; shelf = g.F.Shelf.seen c.args.shelf.now } in
-    let h : Held = held g.E.Engine.whole c.args.run.now x in
+    let h : Held = held g.E.Engine.whole g.E.Engine.log c.args.run.now x in
     inr (drew-on start entry h now c.args.left (subst (Follows start entry h now c.args.left) c.in-Drew.is f)))
 
 pub returns-in-Put-clause-plays : goal.returns-in-Put-clause-plays
@@ -26,7 +26,7 @@ returns-in-Put-clause-plays g c =
     fed-lines c.args.run.now.lines c.ask_put.new.run.lines (g.S.Source.seen c.args.input.now) _ c.ask_put.ensures.lines
     (λ x start entry d f.
     let now : Devices = record d { source = g.S.Source.seen c.args.input.now; sink = g.K.Sink.seen c.args.output.now; shelf = g.F.Shelf.seen c.args.shelf.now } in
-    let h : Held = held g.E.Engine.whole c.args.run.now x in
+    let h : Held = held g.E.Engine.whole g.E.Engine.log c.args.run.now x in
     c.ask_put.ensures.plays x start entry now (subst (Follows start entry h now c.args.left) c.in-Put.is f))
 
 pub returns-in-Glk-clause-plays : goal.returns-in-Glk-clause-plays
@@ -34,7 +34,7 @@ returns-in-Glk-clause-plays g c =
     fed-as c.args.run.now.lines c.ask_glk.new.run.lines (g.S.Source.seen c.args.input.now) (g.S.Source.seen c.ask_glk.new.input) _ _ c.ask_glk.ensures.plays
     (λ x y plays start entry d f.
     let now : Devices = record d { source = g.S.Source.seen c.args.input.now; sink = g.K.Sink.seen c.args.output.now; shelf = g.F.Shelf.seen c.args.shelf.now } in
-    let h : Held = held g.E.Engine.whole c.args.run.now x in
+    let h : Held = held g.E.Engine.whole g.E.Engine.log c.args.run.now x in
     plays start entry now (subst (Follows start entry h now c.args.left) c.in-Glk.is f))
 
 pub returns-in-Save-clause-plays : goal.returns-in-Save-clause-plays
@@ -42,7 +42,7 @@ returns-in-Save-clause-plays g c =
     fed-lines c.args.run.now.lines c.ask_save.new.run.lines (g.S.Source.seen c.args.input.now) _ c.ask_save.ensures.lines
     (λ x start entry d f.
     let now : Devices = record d { source = g.S.Source.seen c.args.input.now; sink = g.K.Sink.seen c.args.output.now; shelf = g.F.Shelf.seen c.args.shelf.now } in
-    let h : Held = held g.E.Engine.whole c.args.run.now x in
+    let h : Held = held g.E.Engine.whole g.E.Engine.log c.args.run.now x in
     c.ask_save.ensures.plays x start entry now (subst (Follows start entry h now c.args.left) c.in-Save.is f))
 
 pub returns-in-Restore-clause-plays : goal.returns-in-Restore-clause-plays
@@ -50,7 +50,7 @@ returns-in-Restore-clause-plays g c =
     fed-lines c.args.run.now.lines c.ask_restore.new.run.lines (g.S.Source.seen c.args.input.now) _ c.ask_restore.ensures.lines
     (λ x start entry d f.
     let now : Devices = record d { source = g.S.Source.seen c.args.input.now; sink = g.K.Sink.seen c.args.output.now; shelf = g.F.Shelf.seen c.args.shelf.now } in
-    let h : Held = held g.E.Engine.whole c.args.run.now x in
+    let h : Held = held g.E.Engine.whole g.E.Engine.log c.args.run.now x in
     c.ask_restore.ensures.plays x start entry now (subst (Follows start entry h now c.args.left) c.in-Restore.is f))
 
 pub returns-in-Quit-clause-plays : goal.returns-in-Quit-clause-plays
@@ -58,7 +58,7 @@ returns-in-Quit-clause-plays g c =
     fed-same c.args.run.now.lines (g.S.Source.seen c.args.input.now) _
     (λ x start entry d f.
     let now : Devices = record d { source = g.S.Source.seen c.args.input.now; sink = g.K.Sink.seen c.args.output.now; shelf = g.F.Shelf.seen c.args.shelf.now } in
-    let h : Held = held g.E.Engine.whole c.args.run.now x in
+    let h : Held = held g.E.Engine.whole g.E.Engine.log c.args.run.now x in
     inr (quit-on start entry h now c.args.left (asking_in g.E.Engine.whole c.args.run.now) (rw c.in-Quit.is at c.requires.asks) (subst (Follows start entry h now c.args.left) c.in-Quit.is f)))
 
 pub returns-in-Spent-clause-plays : goal.returns-in-Spent-clause-plays
@@ -66,7 +66,7 @@ returns-in-Spent-clause-plays g c =
     fed-same c.args.run.now.lines (g.S.Source.seen c.args.input.now) _
     (λ x start entry d f.
     let now : Devices = record d { source = g.S.Source.seen c.args.input.now; sink = g.K.Sink.seen c.args.output.now; shelf = g.F.Shelf.seen c.args.shelf.now } in
-    let h : Held = held g.E.Engine.whole c.args.run.now x in
+    let h : Held = held g.E.Engine.whole g.E.Engine.log c.args.run.now x in
     inr (spent-on start entry h now c.args.left (asking_in g.E.Engine.whole c.args.run.now) (rw c.in-Spent.is at c.requires.asks) (subst (Follows start entry h now c.args.left) c.in-Spent.is f)))
 
 pub returns-in-Put-clause-keeps : goal.returns-in-Put-clause-keeps

@@ -1,12 +1,14 @@
 -- a character of what is printed is put, and else the run is as it was
-use Rattle.std.proofs.Common.{◌-◌, Ok, subst, sym, ◌≡◌}
+use Rattle.std.proofs.Common.{◌-◌, ◌≤◌, Option, Ok, subst, sym, ◌≡◌}
 use Rattle.gx_state.specs.declared.effects.Effect.TheVariants.{Put}
 use Rattle.gx_machine.specs.Machine.{Whole}
+use Rattle.gx_machine.specs.Log.{Log, units_left}
 use Rattle.gx_session.specs.Devices.{Devices, devices}
 use Rattle.gx_session.specs.Playing.{Going, Held, held}
 use Rattle.gx_session.proofs.Asking.{step-follows}
 use Rattle.gx_session.proofs.Feeding.{fed-as, fed-lines}
 use Rattle.gx_session.proofs.Playing.{redrawn}
+use Rattle.gx_session.proofs.Rooms.{step-room}
 use Rattle.gx_session.proofs.events.play_event.Goals as goal
 
 pub returns-in-Some-clause-plays : goal.returns-in-Some-clause-plays
@@ -15,13 +17,22 @@ returns-in-Some-clause-plays g c =
     (λ x start entry f.
     let before : Devices = devices (g.S.Source.seen c.args.input.now) (g.K.Sink.seen c.args.output.now) (g.F.Shelf.seen c.args.shelf.now) (g.R.Rng.stream c.args.dice.now) in
     let now : Devices = record before { words = g.R.Rng.stream c.draw.new.dice } in
-    let h : Held = held g.E.Engine.whole c.args.run.now x in
+    let h : Held = held g.E.Engine.whole g.E.Engine.log c.args.run.now x in
     let drawn : Held = record h { word = c.draw.new.word } in
     let going = redrawn start entry h before c.draw.new.word (g.R.Rng.stream c.draw.new.dice) f c.draw.ensures.is in
     let old : Whole = g.E.Engine.whole c.args.run.now.engine in
     let new : Whole = g.E.Engine.whole c.next_put.new.self in
     c.ask_put.ensures.plays x start entry now
-    (step-follows start entry drawn now old.asking c.draw.result c.draw.ensures.in_hand going new (c.args.run.now.left - 1) (Put c.in-Some.c) (c.in-Some.ensures.value c.draw.result) (λ some. c.next_put.ensures.stands)))
+    (step-follows start entry drawn now old.asking c.draw.result c.draw.ensures.in_hand going new (c.args.run.now.left - 1) (Put c.in-Some.c) (c.in-Some.ensures.value c.draw.result) (λ some. c.next_put.ensures.stands)
+    (g.E.Engine.log c.next_put.new.self) c.next_put.ensures.logs))
+
+pub ask_put-requires-clause-room : goal.ask_put-requires-clause-room
+ask_put-requires-clause-room g c =
+    step-room (g.E.Engine.whole c.args.run.now.engine) (g.E.Engine.whole c.next_put.new.self) c.draw.result c.args.run.now.left (c.args.run.now.left - 1) (Put c.in-Some.c)
+    (g.E.Engine.log c.args.run.now.engine) (g.E.Engine.log c.next_put.new.self) c.requires.none c.requires.room (c.in-Some.ensures.value c.draw.result) (λ some. c.next_put.ensures.stands) c.next_put.ensures.logs
+
+pub play_step-requires-clause-room : goal.play_step-requires-clause-room
+play_step-requires-clause-room g c = subst (λ (l : Option Log). c.args.run.now.left ≤ units_left l) (sym c.next_put.ensures.logs) c.requires.room
 
 pub returns-in-Some-clause-keeps : goal.returns-in-Some-clause-keeps
 returns-in-Some-clause-keeps g c =
@@ -33,4 +44,6 @@ returns-in-None-clause-plays g c =
     let d : Devices = devices (g.S.Source.seen c.args.input.now) (g.K.Sink.seen c.args.output.now) (g.F.Shelf.seen c.args.shelf.now) (g.R.Rng.stream c.args.dice.now) in
     fed-as c.args.run.now.lines c.play_step.new.run.lines (g.S.Source.seen c.args.input.now) (g.S.Source.seen c.play_step.new.input) _ _ c.play_step.ensures.plays
     (λ x y plays start entry f.
-    plays start entry (subst (λ (w : Whole). Going start entry (record (held g.E.Engine.whole c.args.run.now x) { machine = w.machine }) d) (sym (c.next_put.ensures.none c.in-None.is)) f))
+    plays start entry
+    (subst (λ (l : Option Log). Going start entry (record (held g.E.Engine.whole g.E.Engine.log c.args.run.now x) { machine = (g.E.Engine.whole c.next_put.new.self).machine; log = l }) d) (sym c.next_put.ensures.logs)
+    (subst (λ (w : Whole). Going start entry (record (held g.E.Engine.whole g.E.Engine.log c.args.run.now x) { machine = w.machine }) d) (sym (c.next_put.ensures.none c.in-None.is)) f)))

@@ -9,6 +9,7 @@ use Rattle.gx_session.proofs.events.play_events.Goals as goal
 pub loop-stop-init : goal.loop-stop-init
 loop-stop-init g c = record {
   none = c.requires.none;
+  room = c.requires.room;
   no_more = omega arith;
   stays = stays-none (devices (g.S.Source.seen c.args.input.now) (g.K.Sink.seen c.args.output.now) (g.F.Shelf.seen c.args.shelf.now) (g.R.Rng.stream c.args.dice.now));
   going = fed-same c.args.run.now.lines (g.S.Source.seen c.args.input.now) _ (λ x start entry f. inr f);
@@ -33,6 +34,7 @@ loop-stop-preserved g c =
     let e : Devices = devices (g.S.Source.seen c.play_event.new.input) (g.K.Sink.seen c.play_event.new.output) (g.F.Shelf.seen c.play_event.new.shelf) (g.R.Rng.stream c.play_event.new.dice) in
     record {
       none = (rw c.in-Goes.is at c.in_ok-stop.ensures.none) refl;
+      room = (rw c.in-Goes.is at c.in_ok-stop.ensures.room) refl;
       no_more = omega (arith, c.in_ok-stop.ensures.no_more, c.loop-stop.invariant.no_more);
       stays = stays-on a b e c.loop-stop.invariant.stays (stays-of {T = Next} b e _ c.in_ok-stop.ensures.keeps);
       going = fed-on c.args.run.now.lines c.loop-stop.run.lines c.play_event.new.run.lines (g.S.Source.seen c.args.input.now) (g.S.Source.seen c.loop-stop.input) (g.S.Source.seen c.play_event.new.input) _ _ _ c.loop-stop.invariant.going (rw c.in-Goes.is at c.in_ok-stop.ensures.plays)

@@ -12,7 +12,7 @@ use Rattle.gx_session.proofs.saves.ask_save.Goals as goal
 pub returns-in-Err-clause-plays : goal.returns-in-Err-clause-plays
 returns-in-Err-clause-plays g c coming start entry d f =
     let now : Devices = record d { sink = g.K.Sink.seen c.args.output.now } in
-    let h : Held = held g.E.Engine.whole c.args.run.now coming in
+    let h : Held = held g.E.Engine.whole g.E.Engine.log c.args.run.now coming in
     let asking = asking_in g.E.Engine.whole c.args.run.now in
     let a = asks-now start entry h now c.args.left (Save c.args.stream) f refl in
     let value = c.in-Err.ensures.value in
@@ -26,10 +26,10 @@ returns-in-Err-clause-plays g c coming start entry d f =
 pub returns-in-Ok-clause-plays : goal.returns-in-Ok-clause-plays
 returns-in-Ok-clause-plays g c coming start entry d f =
     let now : Devices = record d { sink = g.K.Sink.seen c.args.output.now } in
-    let h : Held = held g.E.Engine.whole c.args.run.now coming in
+    let h : Held = held g.E.Engine.whole g.E.Engine.log c.args.run.now coming in
     let a = asks-now start entry h now c.args.left (Save c.args.stream) f refl in
     let w = world-ok h.world c.save.new.world (saving h.world.scene h.machine.flat c.args.stream) c.in-Ok.reply c.in-Ok.ensures.value in
     c.answer.ensures.plays coming start entry d
-    (asking-resumes start entry h now c.args.left (Save c.args.stream) a (asking_in g.E.Engine.whole c.args.run.now) c.save.new.world w.0 (answer_of h.machine c.in-Ok.reply) (ReplyWants h.machine c.in-Ok.reply) c.requires.asks w.2
+    (asking-resumes start entry h now c.args.left (Save c.args.stream) a (asking_in g.E.Engine.whole c.args.run.now) c.save.new.world w.0 (answer_of h.machine c.in-Ok.reply) (ReplyWants h.log h.machine c.in-Ok.reply) c.requires.asks w.2
     (saving-does start entry h now c.args.left (Save c.args.stream) a c.args.stream (Ok (w.0, c.in-Ok.reply)) refl w.1) c.in-Ok.ensures.read_back
     (save-takes start entry h now c.args.left (Save c.args.stream) a c.args.stream w.0 c.in-Ok.reply refl w.1))

@@ -6,6 +6,7 @@ use Rattle.gx_session.specs.Playing.{Held, held, asking_in, Going}
 use Rattle.gx_session.proofs.Ending.{session-of-stop, session-of-halt, some-session, report-of-stop, report-of-halt, counts-of-stop, counts-of-halt}
 use Rattle.gx_session.proofs.Feeding.{some-coming, first-over}
 use Rattle.gx_session.proofs.Playing.{starts}
+use Rattle.gx_session.proofs.Recording.{records_places}
 use Rattle.gx_session.proofs.Undoing.{lasts_undo}
 use Rattle.gx_session.proofs.session.run_on.Goals as goal
 
@@ -13,14 +14,14 @@ pub returns-in-Ok : goal.returns-in-Ok
 returns-in-Ok g c =
     let entry : Devices = devices (g.S.Source.seen c.args.input.now) (g.K.Sink.seen c.args.output.now) (g.F.Shelf.seen c.args.shelf.now) (g.R.Rng.stream c.args.dice.now) in
     let exit : Devices = devices (g.S.Source.seen c.play_out-ended.new.input) (g.K.Sink.seen c.play_out-ended.new.output) (g.F.Shelf.seen c.play_out-ended.new.shelf) (g.R.Rng.stream c.play_out-ended.new.dice) in
-    let start : Configuration = start_of (g.E.Engine.whole c.args.engine).machine c.args.world entry c.args.echo c.args.steps in
+    let start : Configuration = start_of (g.E.Engine.whole c.args.engine).machine c.args.world entry c.args.echo c.args.steps (g.E.Engine.log c.args.engine) in
     let nothing = ap (λ (l : HeldLines). l.held) c.new.ensures in
     let after = some-coming c.play_out-ended.new.run.lines exit.source (c.in-Ok.ensures.plays.over (first-over c.new.result entry.source c.new.ensures)) in
     let before = c.in-Ok.ensures.plays.comes after.0 after.1 in
-    let first : Held = record { machine = (g.E.Engine.whole c.args.engine).machine; world = c.args.world; ahead = c.new.result.held; coming = before.0; over = c.new.result.ended; echo = c.args.echo; word = None; left = c.args.steps } in
+    let first : Held = record { machine = (g.E.Engine.whole c.args.engine).machine; world = c.args.world; ahead = c.new.result.held; coming = before.0; over = c.new.result.ended; echo = c.args.echo; word = None; left = c.args.steps; log = g.E.Engine.log c.args.engine } in
     let from : Configuration = record start { input = before.0 } in
     let going : Going from entry first entry = subst (λ (x : List ℕ). Going (record from { input = x ++ before.0 }) entry first entry) nothing (starts entry first refl nothing (ap (λ (l : HeldLines). l.ended) c.new.ensures) c.requires.no_text before.1.told) in
-    let last : Held = held g.E.Engine.whole c.play_out-ended.new.run after.0 in
+    let last : Held = held g.E.Engine.whole g.E.Engine.log c.play_out-ended.new.run after.0 in
     let keeps = c.in-Ok.ensures.keeps in
     rw (c.status.ensures, c.fault.ensures, c.fault_address.ensures)
     (record {
@@ -31,6 +32,7 @@ returns-in-Ok g c =
       shelf_tells = keeps.shelf_tells;
       report = report-of-stop c.in-Ok.stop last.machine c.in-Ok.ensures.stop;
       undo = λ input. lasts_undo (record start { input = input });
+      records = λ input. records_places (record start { input = input });
       saves = c.saves_read_back.ensures;
     })
 
@@ -38,14 +40,14 @@ pub returns-in-Err : goal.returns-in-Err
 returns-in-Err g c =
     let entry : Devices = devices (g.S.Source.seen c.args.input.now) (g.K.Sink.seen c.args.output.now) (g.F.Shelf.seen c.args.shelf.now) (g.R.Rng.stream c.args.dice.now) in
     let exit : Devices = devices (g.S.Source.seen c.play_out-ended.new.input) (g.K.Sink.seen c.play_out-ended.new.output) (g.F.Shelf.seen c.play_out-ended.new.shelf) (g.R.Rng.stream c.play_out-ended.new.dice) in
-    let start : Configuration = start_of (g.E.Engine.whole c.args.engine).machine c.args.world entry c.args.echo c.args.steps in
+    let start : Configuration = start_of (g.E.Engine.whole c.args.engine).machine c.args.world entry c.args.echo c.args.steps (g.E.Engine.log c.args.engine) in
     let nothing = ap (λ (l : HeldLines). l.held) c.new.ensures in
     let after = some-coming c.play_out-ended.new.run.lines exit.source (c.in-Err.ensures.plays.over (first-over c.new.result entry.source c.new.ensures)) in
     let before = c.in-Err.ensures.plays.comes after.0 after.1 in
-    let first : Held = record { machine = (g.E.Engine.whole c.args.engine).machine; world = c.args.world; ahead = c.new.result.held; coming = before.0; over = c.new.result.ended; echo = c.args.echo; word = None; left = c.args.steps } in
+    let first : Held = record { machine = (g.E.Engine.whole c.args.engine).machine; world = c.args.world; ahead = c.new.result.held; coming = before.0; over = c.new.result.ended; echo = c.args.echo; word = None; left = c.args.steps; log = g.E.Engine.log c.args.engine } in
     let from : Configuration = record start { input = before.0 } in
     let going : Going from entry first entry = subst (λ (x : List ℕ). Going (record from { input = x ++ before.0 }) entry first entry) nothing (starts entry first refl nothing (ap (λ (l : HeldLines). l.ended) c.new.ensures) c.requires.no_text before.1.told) in
-    let last : Held = held g.E.Engine.whole c.play_out-ended.new.run after.0 in
+    let last : Held = held g.E.Engine.whole g.E.Engine.log c.play_out-ended.new.run after.0 in
     let keeps = c.in-Err.ensures.keeps in
     rw c.status-in-Err.ensures
     (record {
@@ -56,5 +58,6 @@ returns-in-Err g c =
       shelf_tells = keeps.shelf_tells;
       report = report-of-halt c.in-Err.halt;
       undo = λ input. lasts_undo (record start { input = input });
+      records = λ input. records_places (record start { input = input });
       saves = c.saves_read_back.ensures;
     })

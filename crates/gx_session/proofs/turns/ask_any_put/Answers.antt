@@ -12,7 +12,7 @@ use Rattle.gx_session.proofs.turns.ask_any_put.Goals as goal
 pub returns-in-Err-clause-plays : goal.returns-in-Err-clause-plays
 returns-in-Err-clause-plays g c coming start entry d f =
     let now : Devices = record d { sink = g.K.Sink.seen c.args.output.now } in
-    let h : Held = held g.E.Engine.whole c.args.run.now coming in
+    let h : Held = held g.E.Engine.whole g.E.Engine.log c.args.run.now coming in
     let asking = asking_in g.E.Engine.whole c.args.run.now in
     let a = asks-now start entry h now c.args.left (Put c.args.c) f refl in
     let value = c.in-Err.ensures.value in
@@ -27,10 +27,10 @@ returns-in-Err-clause-plays g c coming start entry d f =
 pub returns-in-Ok-clause-plays : goal.returns-in-Ok-clause-plays
 returns-in-Ok-clause-plays g c coming start entry d f =
     let now : Devices = record d { sink = g.K.Sink.seen c.args.output.now } in
-    let h : Held = held g.E.Engine.whole c.args.run.now coming in
+    let h : Held = held g.E.Engine.whole g.E.Engine.log c.args.run.now coming in
     let a = asks-now start entry h now c.args.left (Put c.args.c) f refl in
     let w = world-ok h.world c.put.new.world (putting h.world.scene c.state.result.now.flat c.args.c) c.in-Ok.reply c.in-Ok.ensures.value in
     c.answer.ensures.plays coming start entry d
-    (asking-resumes start entry h now c.args.left (Put c.args.c) a (asking_in g.E.Engine.whole c.args.run.now) c.put.new.world w.0 (answer_of h.machine c.in-Ok.reply) (ReplyWants h.machine c.in-Ok.reply) c.requires.asks w.2
+    (asking-resumes start entry h now c.args.left (Put c.args.c) a (asking_in g.E.Engine.whole c.args.run.now) c.put.new.world w.0 (answer_of h.machine c.in-Ok.reply) (ReplyWants h.log h.machine c.in-Ok.reply) c.requires.asks w.2
     (put-does start entry h now c.args.left (Put c.args.c) a c.args.c c.state.result.now.flat (Ok (w.0, c.in-Ok.reply)) refl c.state.ensures w.1) (λ begins. absurd begins)
     (put-takes start entry h now c.args.left (Put c.args.c) a c.args.c c.state.result.now.flat w.0 c.in-Ok.reply refl c.state.ensures w.1))

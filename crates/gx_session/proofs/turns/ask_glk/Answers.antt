@@ -14,7 +14,7 @@ returns-in-Err-clause-plays g c =
     fed-same c.args.run.now.lines (g.S.Source.seen c.args.input.now) _
     (λ x start entry d f.
     let now : Devices = record d { source = g.S.Source.seen c.args.input.now; sink = g.K.Sink.seen c.args.output.now; shelf = g.F.Shelf.seen c.args.shelf.now } in
-    let h : Held = held g.E.Engine.whole c.args.run.now x in
+    let h : Held = held g.E.Engine.whole g.E.Engine.log c.args.run.now x in
     let asking = asking_in g.E.Engine.whole c.args.run.now in
     let does = Glk c.args.selector c.args.args.now c.args.wait.room in
     let a = asks-now start entry h now c.args.wait.left does f refl in
@@ -33,7 +33,7 @@ returns-in-Ok-clause-plays g c =
     fed-as c.args.run.now.lines c.take_turn.new.run.lines (g.S.Source.seen c.args.input.now) (g.S.Source.seen c.take_turn.new.input) _ _ c.take_turn.ensures.plays
     (λ x y plays start entry d f.
     let now : Devices = record d { source = g.S.Source.seen c.args.input.now; sink = g.K.Sink.seen c.args.output.now; shelf = g.F.Shelf.seen c.args.shelf.now } in
-    let h : Held = held g.E.Engine.whole c.args.run.now x in
+    let h : Held = held g.E.Engine.whole g.E.Engine.log c.args.run.now x in
     let does = Glk c.args.selector c.args.args.now c.args.wait.room in
     let a = asks-now start entry h now c.args.wait.left does f refl in
     let w = world-ok {X = Turn} h.world c.call.new.world (glk_call h.world.scene c.state.result.now.flat c.args.wait.room c.args.selector c.as_slice.result.now) c.in-Ok.turn c.in-Ok.ensures.value in

@@ -14,7 +14,7 @@ use Rattle.gx_session.proofs.turns.ask_put.Goals as goal
 pub returns-in-Err-clause-plays : goal.returns-in-Err-clause-plays
 returns-in-Err-clause-plays g c coming start entry d f =
     let now : Devices = record d { sink = g.K.Sink.seen c.args.output.now } in
-    let h : Held = held g.E.Engine.whole c.args.run.now coming in
+    let h : Held = held g.E.Engine.whole g.E.Engine.log c.args.run.now coming in
     let asking = asking_in g.E.Engine.whole c.args.run.now in
     let a = asks-now start entry h now c.args.left (Put c.args.c) f refl in
     inr
@@ -24,17 +24,17 @@ returns-in-Err-clause-plays g c coming start entry d f =
 pub returns-in-Ok-true-clause-plays : goal.returns-in-Ok-true-clause-plays
 returns-in-Ok-true-clause-plays g c coming start entry d f =
     let now : Devices = record d { sink = g.K.Sink.seen c.args.output.now } in
-    let h : Held = held g.E.Engine.whole c.args.run.now coming in
+    let h : Held = held g.E.Engine.whole g.E.Engine.log c.args.run.now coming in
     let a = asks-now start entry h now c.args.left (Put c.args.c) f refl in
     let w = world-ok h.world c.put_text.new.world (putting h.world.scene h.machine.flat c.args.c) (replies 0) (c.in-Ok-true.ensures.put (rw c.in-Ok-true.field-0-test refl) h.machine.flat) in
     c.answer_put.ensures.plays coming start entry d
-    (asking-resumes start entry h now c.args.left (Put c.args.c) a (asking_in g.E.Engine.whole c.args.run.now) c.put_text.new.world w.0 (answer_of h.machine (replies 0)) (ReplyWants h.machine (replies 0)) c.requires.asks w.2
+    (asking-resumes start entry h now c.args.left (Put c.args.c) a (asking_in g.E.Engine.whole c.args.run.now) c.put_text.new.world w.0 (answer_of h.machine (replies 0)) (ReplyWants h.log h.machine (replies 0)) c.requires.asks w.2
     (put-does start entry h now c.args.left (Put c.args.c) a c.args.c h.machine.flat (Ok (w.0, replies 0)) refl refl w.1) (λ begins. absurd begins)
     (put-takes start entry h now c.args.left (Put c.args.c) a c.args.c h.machine.flat w.0 (replies 0) refl refl w.1))
 
 pub returns-in-Ok-false-clause-plays : goal.returns-in-Ok-false-clause-plays
 returns-in-Ok-false-clause-plays g c coming start entry d f =
     let now : Devices = record d { sink = g.K.Sink.seen c.args.output.now } in
-    let h : Held = held g.E.Engine.whole c.args.run.now coming in
+    let h : Held = held g.E.Engine.whole g.E.Engine.log c.args.run.now coming in
     c.ask_any_put.ensures.plays coming start entry d
     (subst (λ (w : FlatWorld). Follows start entry (record h { world = w }) now c.args.left (Put c.args.c)) (sym (c.in-Ok-false.ensures.other (rw c.in-Ok-false.field-0-test refl))) f)

@@ -13,7 +13,7 @@ returns-in_err-flush-clause-plays g c coming start entry d waits =
     let p = err_from_is_err_and c.from_residual.result c.from_residual.ensures.1 in
     let now : Devices = record d { sink = g.K.Sink.seen c.args.output.now; shelf = g.F.Shelf.seen c.args.shelf.now } in
     rw (p.1, p.2)
-    (text-refused start entry (held g.E.Engine.whole c.args.run.now coming) (asking_in g.E.Engine.whole c.args.run.now) now (turn_of c.args.question) c.args.wait waits c.flush.new.world (g.K.Sink.seen c.flush.new.output)
+    (text-refused start entry (held g.E.Engine.whole g.E.Engine.log c.args.run.now coming) (asking_in g.E.Engine.whole c.args.run.now) now (turn_of c.args.question) c.args.wait waits c.flush.new.world (g.K.Sink.seen c.flush.new.output)
     c.in_err-flush.field-0.0 c.in_err-flush.ensures.only c.in_err-flush.ensures.sends)
 
 pub returns-in_err-given-clause-plays : goal.returns-in_err-given-clause-plays
@@ -21,14 +21,14 @@ returns-in_err-given-clause-plays g c coming start entry d waits =
     let p = err_from_is_err_and c.from_residual-in_err-given.result c.from_residual-in_err-given.ensures.1 in
     let now : Devices = record d { sink = g.K.Sink.seen c.args.output.now; shelf = g.F.Shelf.seen c.args.shelf.now } in
     rw (p.1, p.2)
-    (shelf-refused start entry (held g.E.Engine.whole c.args.run.now coming) (asking_in g.E.Engine.whole c.args.run.now) now (turn_of c.args.question) c.args.wait waits c.flush.new.world (g.K.Sink.seen c.flush.new.output) c.in_ok-flush.ensures.sends
+    (shelf-refused start entry (held g.E.Engine.whole g.E.Engine.log c.args.run.now coming) (asking_in g.E.Engine.whole c.args.run.now) now (turn_of c.args.question) c.args.wait waits c.flush.new.world (g.K.Sink.seen c.flush.new.output) c.in_ok-flush.ensures.sends
     (g.F.Shelf.seen c.ask.new.shelf) c.in_err-given.ensures.tells c.in_err-given.ensures.cause.made c.args.question refl c.in_err-given.field-0.0 c.in_err-given.ensures.cause.want c.in_err-given.ensures.answers)
 
 pub returns-clause-plays : goal.returns-clause-plays
 returns-clause-plays g c coming start entry d waits =
     let now : Devices = record d { sink = g.K.Sink.seen c.args.output.now; shelf = g.F.Shelf.seen c.args.shelf.now } in
     let answered =
-    shelf-answered start entry (held g.E.Engine.whole c.args.run.now coming) (asking_in g.E.Engine.whole c.args.run.now) now (turn_of c.args.question) c.args.wait waits c.flush.new.world (g.K.Sink.seen c.flush.new.output) c.in_ok-flush.ensures.sends
+    shelf-answered start entry (held g.E.Engine.whole g.E.Engine.log c.args.run.now coming) (asking_in g.E.Engine.whole c.args.run.now) now (turn_of c.args.question) c.args.wait waits c.flush.new.world (g.K.Sink.seen c.flush.new.output) c.in_ok-flush.ensures.sends
     (g.F.Shelf.seen c.ask.new.shelf) c.in_ok-given.ensures.tells c.in_ok-given.ensures.cause.made c.args.question refl c.in_ok-given.given c.in_ok-given.ensures.answers in
     elim answered [
       | inl untold ↦ inl untold

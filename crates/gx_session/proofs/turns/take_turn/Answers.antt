@@ -15,7 +15,7 @@ returns-in-Answer-clause-plays g c =
     (λ x start entry d r.
     let now : Devices = record d { source = g.S.Source.seen c.args.input.now; sink = g.K.Sink.seen c.args.output.now; shelf = g.F.Shelf.seen c.args.shelf.now } in
     c.answer.ensures.plays x start entry now
-    (turn-answers start entry (held g.E.Engine.whole c.args.run.now x) now (asking_in g.E.Engine.whole c.args.run.now) c.args.wait c.args.turn r c.in-Answer.reply c.in-Answer.is))
+    (turn-answers start entry (held g.E.Engine.whole g.E.Engine.log c.args.run.now x) now (asking_in g.E.Engine.whole c.args.run.now) c.args.wait c.args.turn r c.in-Answer.reply c.in-Answer.is))
 
 pub returns-in-Wait-clause-plays : goal.returns-in-Wait-clause-plays
 returns-in-Wait-clause-plays g c =
@@ -23,7 +23,7 @@ returns-in-Wait-clause-plays g c =
     (λ x y plays start entry d r.
     let now : Devices = record d { source = g.S.Source.seen c.args.input.now; sink = g.K.Sink.seen c.args.output.now; shelf = g.F.Shelf.seen c.args.shelf.now } in
     plays turn.Wait start entry now tt
-    (subst (Turns start entry (held g.E.Engine.whole c.args.run.now x) (asking_in g.E.Engine.whole c.args.run.now) now c.args.wait) c.in-Wait.is r))
+    (subst (Turns start entry (held g.E.Engine.whole g.E.Engine.log c.args.run.now x) (asking_in g.E.Engine.whole c.args.run.now) now c.args.wait) c.in-Wait.is r))
 
 pub returns-in-Prompt-clause-plays : goal.returns-in-Prompt-clause-plays
 returns-in-Prompt-clause-plays g c =
@@ -31,21 +31,21 @@ returns-in-Prompt-clause-plays g c =
     (λ x y plays start entry d r.
     let now : Devices = record d { source = g.S.Source.seen c.args.input.now; sink = g.K.Sink.seen c.args.output.now; shelf = g.F.Shelf.seen c.args.shelf.now } in
     plays turn.Prompt start entry now tt
-    (subst (Turns start entry (held g.E.Engine.whole c.args.run.now x) (asking_in g.E.Engine.whole c.args.run.now) now c.args.wait) c.in-Prompt.is r))
+    (subst (Turns start entry (held g.E.Engine.whole g.E.Engine.log c.args.run.now x) (asking_in g.E.Engine.whole c.args.run.now) now c.args.wait) c.in-Prompt.is r))
 
 pub returns-in-Stuck-clause-plays : goal.returns-in-Stuck-clause-plays
 returns-in-Stuck-clause-plays g c =
     fed-same c.args.run.now.lines (g.S.Source.seen c.args.input.now) _
     (λ x start entry d r.
     let now : Devices = record d { source = g.S.Source.seen c.args.input.now; sink = g.K.Sink.seen c.args.output.now; shelf = g.F.Shelf.seen c.args.shelf.now } in
-    inr (turn-stuck start entry (held g.E.Engine.whole c.args.run.now x) now (asking_in g.E.Engine.whole c.args.run.now) c.args.wait c.args.turn r c.in-Stuck.is))
+    inr (turn-stuck start entry (held g.E.Engine.whole g.E.Engine.log c.args.run.now x) now (asking_in g.E.Engine.whole c.args.run.now) c.args.wait c.args.turn r c.in-Stuck.is))
 
 pub returns-in-Exit-clause-plays : goal.returns-in-Exit-clause-plays
 returns-in-Exit-clause-plays g c =
     fed-same c.args.run.now.lines (g.S.Source.seen c.args.input.now) _
     (λ x start entry d r.
     let now : Devices = record d { source = g.S.Source.seen c.args.input.now; sink = g.K.Sink.seen c.args.output.now; shelf = g.F.Shelf.seen c.args.shelf.now } in
-    inr (turn-exits start entry (held g.E.Engine.whole c.args.run.now x) now (asking_in g.E.Engine.whole c.args.run.now) c.args.wait c.args.turn r c.in-Exit.is))
+    inr (turn-exits start entry (held g.E.Engine.whole g.E.Engine.log c.args.run.now x) now (asking_in g.E.Engine.whole c.args.run.now) c.args.wait c.args.turn r c.in-Exit.is))
 
 pub returns-in-Load-clause-plays : goal.returns-in-Load-clause-plays
 returns-in-Load-clause-plays g c =
@@ -53,7 +53,7 @@ returns-in-Load-clause-plays g c =
     (λ x start entry d r.
     let now : Devices = record d { source = g.S.Source.seen c.args.input.now; sink = g.K.Sink.seen c.args.output.now; shelf = g.F.Shelf.seen c.args.shelf.now } in
     let q : Question = question.Load c.in-Load.name in
-    let h : Held = held g.E.Engine.whole c.args.run.now x in
+    let h : Held = held g.E.Engine.whole g.E.Engine.log c.args.run.now x in
     let turns : Turns start entry h (asking_in g.E.Engine.whole c.args.run.now) now c.args.wait (turn_of q) = subst (Turns start entry h (asking_in g.E.Engine.whole c.args.run.now) now c.args.wait) c.in-Load.is r in
     c.consult.ensures.plays x start entry now
     (turn-asks start entry h now (asking_in g.E.Engine.whole c.args.run.now) c.args.wait (turn_of q) turns
@@ -65,7 +65,7 @@ returns-in-Store-clause-plays g c =
     (λ x start entry d r.
     let now : Devices = record d { source = g.S.Source.seen c.args.input.now; sink = g.K.Sink.seen c.args.output.now; shelf = g.F.Shelf.seen c.args.shelf.now } in
     let q : Question = question.Store c.in-Store.name c.in-Store.bytes in
-    let h : Held = held g.E.Engine.whole c.args.run.now x in
+    let h : Held = held g.E.Engine.whole g.E.Engine.log c.args.run.now x in
     let turns : Turns start entry h (asking_in g.E.Engine.whole c.args.run.now) now c.args.wait (turn_of q) = subst (Turns start entry h (asking_in g.E.Engine.whole c.args.run.now) now c.args.wait) c.in-Store.is r in
     c.consult-in-Store.ensures.plays x start entry now
     (turn-asks start entry h now (asking_in g.E.Engine.whole c.args.run.now) c.args.wait (turn_of q) turns
@@ -77,7 +77,7 @@ returns-in-Remove-clause-plays g c =
     (λ x start entry d r.
     let now : Devices = record d { source = g.S.Source.seen c.args.input.now; sink = g.K.Sink.seen c.args.output.now; shelf = g.F.Shelf.seen c.args.shelf.now } in
     let q : Question = question.Remove c.in-Remove.name in
-    let h : Held = held g.E.Engine.whole c.args.run.now x in
+    let h : Held = held g.E.Engine.whole g.E.Engine.log c.args.run.now x in
     let turns : Turns start entry h (asking_in g.E.Engine.whole c.args.run.now) now c.args.wait (turn_of q) = subst (Turns start entry h (asking_in g.E.Engine.whole c.args.run.now) now c.args.wait) c.in-Remove.is r in
     c.consult-in-Remove.ensures.plays x start entry now
     (turn-asks start entry h now (asking_in g.E.Engine.whole c.args.run.now) c.args.wait (turn_of q) turns
@@ -89,7 +89,7 @@ returns-in-Has-clause-plays g c =
     (λ x start entry d r.
     let now : Devices = record d { source = g.S.Source.seen c.args.input.now; sink = g.K.Sink.seen c.args.output.now; shelf = g.F.Shelf.seen c.args.shelf.now } in
     let q : Question = question.Has c.in-Has.name in
-    let h : Held = held g.E.Engine.whole c.args.run.now x in
+    let h : Held = held g.E.Engine.whole g.E.Engine.log c.args.run.now x in
     let turns : Turns start entry h (asking_in g.E.Engine.whole c.args.run.now) now c.args.wait (turn_of q) = subst (Turns start entry h (asking_in g.E.Engine.whole c.args.run.now) now c.args.wait) c.in-Has.is r in
     c.consult-in-Has.ensures.plays x start entry now
     (turn-asks start entry h now (asking_in g.E.Engine.whole c.args.run.now) c.args.wait (turn_of q) turns

@@ -16,8 +16,8 @@ returns-in_err-show_grids-clause-plays g c =
     rw (p.1, p.2)
     (fed-same c.args.run.now.lines (g.S.Source.seen c.args.input.now) _
     (λ x turn start entry d is r.
-    let h : Held = held g.E.Engine.whole c.args.run.now x in
-    inr (turn-wants start entry h (record d { source = g.S.Source.seen c.args.input.now; sink = g.K.Sink.seen c.args.output.now }) (asking_in g.E.Engine.whole c.args.run.now) c.args.wait turn r is c.in_err-show_grids.ensures.memory (record h { world = c.show_grids.new.self }) refl refl)))
+    let h : Held = held g.E.Engine.whole g.E.Engine.log c.args.run.now x in
+    inr (turn-wants start entry h (record d { source = g.S.Source.seen c.args.input.now; sink = g.K.Sink.seen c.args.output.now }) (asking_in g.E.Engine.whole c.args.run.now) c.args.wait turn r is c.in_err-show_grids.ensures.memory (record h { world = c.show_grids.new.self }) refl refl refl)))
 
 pub await_line-requires-clause-awaits : goal.await_line-requires-clause-awaits
 await_line-requires-clause-awaits g c line =
@@ -27,7 +27,7 @@ pub returns-clause-plays : goal.returns-clause-plays
 returns-clause-plays g c =
     fed-as c.args.run.now.lines c.await_line.new.run.lines (g.S.Source.seen c.args.input.now) (g.S.Source.seen c.await_line.new.input) _ _ c.await_line.ensures.plays
     (λ x y plays turn start entry d is r.
-    let h : Held = held g.E.Engine.whole c.args.run.now x in
+    let h : Held = held g.E.Engine.whole g.E.Engine.log c.args.run.now x in
     let now : Devices = record d { source = g.S.Source.seen c.args.input.now; sink = g.K.Sink.seen c.args.output.now } in
     plays turn start entry d is
     (turn-waits start entry h now (asking_in g.E.Engine.whole c.args.run.now) c.args.wait turn r c.show_grids.new.self c.in_ok-show_grids.ensures.ok

@@ -1,0 +1,269 @@
+-- Each machine of the record of a run is a place of the run.
+use Rattle.std.proofs.Common.{◌≡◌, ℕ, zero, suc, ◌+◌, ◌-◌, ◌<◌, ◌≤◌, ◌⊎◌, inl, inr, nat_lt, if◌then◌else◌, Bool, true, false, List, [], ◌∷◌, ◌++◌, Option, Some, None, option_and_then, Result, Ok, Err, refl, ap, subst, sym, ◌∙◌, arith, append_assoc}
+use Rattle.std.proofs.lemmas.Bool.{ltb-false, cases_lt}
+use Rattle.gx_words.specs.declared.faults.Fault.{Fault}
+use Rattle.gx_state.specs.declared.effects.Effect.{Effect}
+use Rattle.gx_state.specs.declared.effects.Effect.TheVariants as effect
+use Rattle.gx_state.specs.declared.effects.Reply.{Reply}
+use Rattle.gx_state.specs.Copies.{Copy}
+use Rattle.gx_machine.specs.Machine.{FlatMachine}
+use Rattle.gx_machine.specs.Step.{cost_of, step_of}
+use Rattle.gx_machine.specs.Log.{Log, no_events, logged, units_of}
+use Rattle.glk_world.specs.World.{Said}
+use Rattle.glk_dispatch.specs.declared.Turn.{Turn}
+use Rattle.glk_dispatch.specs.Calls.{glk_call}
+use Rattle.glk_dispatch.specs.Going.{glk_go_on}
+use Rattle.glk_dispatch.specs.Output.{putting}
+use Rattle.glk_dispatch.specs.Parts.{replies}
+use Rattle.gx_session.specs.declared.ends.Stop.TheVariants as stop
+use Rattle.gx_session.specs.declared.running.Waiting.{Waiting}
+use Rattle.gx_session.specs.Constants.{failed}
+use Rattle.gx_session.specs.Input.{next_line}
+use Rattle.gx_session.specs.Saving.{saving, restoring}
+use Rattle.gx_session.specs.Session.{Configuration, Doing, steps, asks, goes_on, Verdict, goes, stops, after_reply, after_restoring, after_turn, after_effect, after_step, step_from, act_by, act_of, sends_now, all_sent, move_of, next_of, run_of}
+use Rattle.gx_session.specs.Recording.{IsPlace, IsEnd, IsRecord, Records}
+use Rattle.gx_session.proofs.Cases.{turn-cases, given-cases, line-cases, asking-cases}
+use Rattle.gx_session.proofs.Saved.{some-is}
+use Rattle.gx_session.proofs.Undoing.{next-goes}
+use Rattle.rand_core.specs.Stream.{next_u32}
+
+-- ---- one move
+
+-- a call that waits leaves the units but for the cost of its step
+abbrev LeavesUnits : Doing → Configuration → Type 0
+LeavesUnits steps m = Unit {0}
+LeavesUnits (asks t w) m = w.left + cost_of m.machine ≡ m.left
+LeavesUnits (goes_on g w) m = w.left + cost_of m.machine ≡ m.left
+
+-- a move in the course of an event, or between two
+record Stands (m m' : Configuration) : Type 0 where
+  machine : m'.machine ≡ m.machine
+  log : m'.log ≡ m.log
+  left : m'.left ≡ m.left
+  leaves : LeavesUnits m'.doing m'
+
+-- one that ends an event
+record Ends (m m' : Configuration) : Type 0 where
+  doing : m'.doing ≡ steps
+  log : m'.log ≡ logged m.log m.machine
+  units : m'.left + cost_of m.machine ≡ m.left
+
+abbrev Moves : Configuration → Verdict → Type 0
+Moves m (goes m') = Stands m m' ⊎ Ends m m'
+Moves m (stops s m') = Unit {0}
+
+replied-moves : (m : Configuration) (left : ℕ) (r : Result (Said × Reply) Fault) → left + cost_of m.machine ≡ m.left → Moves m (after_reply m left r)
+replied-moves m left (Ok r) units = inr (record { doing = refl; log = refl; units = units })
+replied-moves m left (Err f) units = tt
+
+restored-moves : (m : Configuration) (left : ℕ) (r : Result (Said × Option Copy) Fault) → left + cost_of m.machine ≡ m.left → Moves m (after_restoring m left r)
+restored-moves m left (Ok (said, Some copy)) units = inr (record { doing = refl; log = refl; units = units })
+restored-moves m left (Ok (said, None)) units = replied-moves m left (Ok (said, replies failed)) units
+restored-moves m left (Err f) units = tt
+
+turned-moves : (m : Configuration) (w : Waiting) (r : Result (Said × Turn) Fault) → w.left + cost_of m.machine ≡ m.left → Moves m (after_turn m w r)
+turned-moves m w r units =
+    turn-cases (Moves m) m w r (λ said reply. replied-moves m w.left (Ok (said, reply)) units)
+    (λ said t. inl (record { machine = refl; log = refl; left = refl; leaves = units })) (λ said t. inl (record { machine = refl; log = refl; left = refl; leaves = units }))
+    (λ said. tt) (λ said. tt) (λ f. tt)
+
+effected-moves : (m : Configuration) (left : ℕ) (machine : FlatMachine) (does : Effect) → m.doing ≡ steps → left + cost_of m.machine ≡ m.left → Moves m (after_effect m left machine does)
+effected-moves m left machine effect.Went is units = inr (record { doing = is; log = refl; units = units })
+effected-moves m left machine effect.Drew is units = inr (record { doing = is; log = refl; units = units })
+effected-moves m left machine (effect.Put c) is units = replied-moves m left (putting m.world.scene m.machine.flat c) units
+effected-moves m left machine (effect.Glk selector args room) is units =
+    turned-moves m (record { room = room; left = left }) (glk_call m.world.scene m.machine.flat room selector args.items) units
+effected-moves m left machine (effect.Save stream) is units = replied-moves m left (saving m.world.scene m.machine.flat stream) units
+effected-moves m left machine (effect.Restore stream) is units = restored-moves m left (restoring m.world.scene m.machine.flat stream) units
+effected-moves m left machine effect.Quit is units = tt
+effected-moves m left machine effect.Spent is units = tt
+
+stepped-moves : (m : Configuration) (left : ℕ) (r : Result (FlatMachine × Effect) Fault) → m.doing ≡ steps → left + cost_of m.machine ≡ m.left → Moves m (after_step m left r)
+stepped-moves m left (Ok r) is units = effected-moves m left r.0 r.1 is units
+stepped-moves m left (Err f) is units = tt
+
+tested-moves : (m : Configuration) (r : Result (FlatMachine × Effect) Fault) (b : Bool) → m.doing ≡ steps → nat_lt m.left (cost_of m.machine) ≡ b
+    → Moves m (if b then stops stop.Spent m else after_step m (m.left - cost_of m.machine) r)
+tested-moves m r true is less = tt
+tested-moves m r false is less =
+    let enough : cost_of m.machine ≤ m.left = ltb-false m.left (cost_of m.machine) less in
+    stepped-moves m (m.left - cost_of m.machine) r is (omega arith)
+
+step-moves : (m : Configuration) → m.doing ≡ steps → Moves m (step_from m)
+unfolding step_from
+step-moves m is = tested-moves m (step_of m.machine (next_u32 m.words).0) (nat_lt m.left (cost_of m.machine)) is refl
+
+act-moves : (doing : Doing) (m : Configuration) → m.doing ≡ doing → LeavesUnits doing m → Moves m (act_by doing m)
+act-moves steps m is leaves = step-moves m is
+act-moves (asks t w) m is leaves =
+    asking-cases (Moves m) m w t
+    (line-cases (Moves m) m w (next_line m.input) tt tt (λ chars rest. inl (record { machine = refl; log = refl; left = refl; leaves = leaves })))
+    (λ files g. inl (record { machine = refl; log = refl; left = refl; leaves = leaves })) tt
+act-moves (goes_on g w) m is leaves =
+    given-cases (Moves m) m w (glk_go_on m.world.scene m.machine.flat w.room g) (λ said reply. replied-moves m w.left (Ok (said, reply)) leaves) tt (λ f. tt)
+
+move-by : (m : Configuration) (b : Bool) → LeavesUnits m.doing m → Moves m (if b then goes (all_sent m) else act_of m)
+move-by m true leaves = inl (record { machine = refl; log = refl; left = refl; leaves = leaves })
+move-by m false leaves = act-moves m.doing m refl leaves
+
+move-moves : (m : Configuration) → LeavesUnits m.doing m → Moves m (move_of m)
+unfolding move_of
+move-moves m leaves = move-by m (sends_now m) leaves
+
+-- ---- the moves of a run
+
+-- the event of a configuration began with its machine and its record
+record Began (start : Configuration) (j : ℕ) (m : Configuration) : Type 0 where
+  moves : ℕ
+  by_now : moves ≤ j
+  configuration : Configuration
+  reached : run_of start moves ≡ Some configuration
+  begins : configuration.doing ≡ steps
+  machine : configuration.machine ≡ m.machine
+  log : configuration.log ≡ m.log
+
+record Recorded (start : Configuration) (j : ℕ) (m : Configuration) : Type 0 where
+  is : IsRecord start j m
+  began : Began start j m
+  leaves : LeavesUnits m.doing m
+
+-- so it is after more moves
+place-on : (start : Configuration) (j : ℕ) (machine : FlatMachine) (before : List FlatMachine) → IsPlace start j machine before → IsPlace start (suc j) machine before
+place-on start j machine before p = record {
+  moves = p.moves;
+  earlier = let less : p.moves < j = p.earlier in omega arith;
+  configuration = p.configuration;
+  reached = p.reached;
+  begins = p.begins;
+  machine_is = p.machine_is;
+  log_is = p.log_is;
+}
+
+-- one of the moves so far, or the last
+last-or-before : (i j : ℕ) → i ≤ suc j → (i ≤ j) ⊎ (i ≡ suc j)
+last-or-before i j less = elim (cases_lt j i) [ | inl more ↦ inr (omega arith) | inr few ↦ inl few ]
+
+whole-end : (c : Configuration) (log : Log) → c.log ≡ Some log → IsEnd c log
+whole-end c log is = record { own = log; log_is = is; newer = []; end = refl }
+
+-- the machine of an event that ends here is a place
+began-place : (start : Configuration) (j : ℕ) (m : Configuration) (log : Log) → m.log ≡ Some log → log.after ≡ [] → Began start j m → IsPlace start (suc j) m.machine log.before
+began-place start j m log is none b = record {
+  moves = b.moves;
+  earlier = let less : b.moves ≤ j = b.by_now in omega arith;
+  configuration = b.configuration;
+  reached = b.reached;
+  begins = b.begins;
+  machine_is = b.machine;
+  log_is = b.log ∙ is ∙ ap (λ (ms : List FlatMachine). Some (let l : Log = record { before = log.before; after = ms } in l)) none;
+}
+
+module _ (start m m' : Configuration) (j : ℕ) (reached : run_of start (suc j) ≡ Some m') (r : Recorded start j m) where
+  abbrev here : Log
+  here = r.is.log
+
+  -- the record of an earlier configuration, or of this one, is an end of a longer one
+  ends-on : (log : Log) (newer : List FlatMachine) → log.before ≡ newer ++ here.before → m'.log ≡ Some log → (i : ℕ) (c : Configuration) → (i ≤ j) ⊎ (i ≡ suc j) → run_of start i ≡ Some c → IsEnd c log
+  ends-on log newer longer is i c (inl few) at =
+      let e = r.is.ends i c few at in
+      record { own = e.own; log_is = e.log_is; newer = newer ++ e.newer; end = longer ∙ ap (λ (ms : List FlatMachine). newer ++ ms) e.end ∙ sym (append_assoc newer e.newer e.own.before) }
+  ends-on log newer longer is i c (inr last) at =
+      let same : c ≡ m' = some-is c m' (sym at ∙ ap (run_of start) last ∙ reached) in
+      whole-end c log (ap (λ (x : Configuration). x.log) same ∙ is)
+
+  stands-on : Stands m m' → Recorded start (suc j) m'
+  stands-on s = record {
+    is = record {
+      log = here;
+      log_is = s.log ∙ r.is.log_is;
+      none_after = r.is.none_after;
+      units = ap (λ (n : ℕ). units_of here.before + n) s.left ∙ r.is.units;
+      places = λ newer machine before e. place-on start j machine before (r.is.places newer machine before e);
+      ends = λ i c few at. ends-on here [] refl (s.log ∙ r.is.log_is) i c (last-or-before i j few) at;
+    };
+    began = record {
+      moves = r.began.moves;
+      by_now = let less : r.began.moves ≤ j = r.began.by_now in omega arith;
+      configuration = r.began.configuration;
+      reached = r.began.reached;
+      begins = r.began.begins;
+      machine = r.began.machine ∙ sym s.machine;
+      log = r.began.log ∙ sym s.log;
+    };
+    leaves = s.leaves;
+  }
+
+  abbrev longer : Log
+  longer = record { before = m.machine ∷ here.before; after = [] }
+
+  places-on : (newer : List FlatMachine) (machine : FlatMachine) (before : List FlatMachine) → m.machine ∷ here.before ≡ newer ++ machine ∷ before → IsPlace start (suc j) machine before
+  places-on [] machine before e =
+      let same : m.machine ≡ machine = cc in
+      let rest : here.before ≡ before = cc in
+      subst (λ (x : FlatMachine). IsPlace start (suc j) x before) same
+      (subst (λ (x : List FlatMachine). IsPlace start (suc j) m.machine x) rest (began-place start j m here r.is.log_is r.is.none_after r.began))
+  places-on (x ∷ newer) machine before e =
+      let rest : here.before ≡ newer ++ machine ∷ before = cc in
+      place-on start j machine before (r.is.places newer machine before rest)
+
+  ends-with : Ends m m' → Recorded start (suc j) m'
+  ends-with s =
+      let is : m'.log ≡ Some longer = s.log ∙ ap (λ (l : Option Log). logged l m.machine) r.is.log_is in
+      let used : units_of here.before + m.left ≡ start.left = r.is.units in
+      let cost : m'.left + cost_of m.machine ≡ m.left = s.units in
+      let all : units_of (m.machine ∷ here.before) ≡ cost_of m.machine + units_of here.before = refl in
+      record {
+        is = record {
+          log = longer;
+          log_is = is;
+          none_after = refl;
+          units = omega arith;
+          places = places-on;
+          ends = λ i c few at. ends-on longer (m.machine ∷ []) refl is i c (last-or-before i j few) at;
+        };
+        began = record { moves = suc j; by_now = omega arith; configuration = m'; reached = reached; begins = s.doing; machine = refl; log = refl };
+        leaves = subst (λ (d : Doing). LeavesUnits d m') (sym s.doing) tt;
+      }
+
+  moves-on : Stands m m' ⊎ Ends m m' → Recorded start (suc j) m'
+  moves-on (inl s) = stands-on s
+  moves-on (inr s) = ends-with s
+
+-- the first configuration
+module _ (start : Configuration) (begins : start.doing ≡ steps) (none : start.log ≡ Some no_events) where
+  none-before : (newer : List FlatMachine) (machine : FlatMachine) (before : List FlatMachine) → [] ≡ newer ++ machine ∷ before → ⊥
+  none-before [] machine before e = cc
+  none-before (x ∷ newer) machine before e = cc
+
+  first-end : (i : ℕ) (c : Configuration) → i ≤ 0 → run_of start i ≡ Some c → IsEnd c no_events
+  first-end zero c few at = whole-end c no_events (ap (λ (x : Configuration). x.log) (sym (some-is start c at)) ∙ none)
+  first-end (suc i) c few at = absurd (omega arith)
+
+  first-recorded : Recorded start 0 start
+  first-recorded = record {
+    is = record {
+      log = no_events;
+      log_is = none;
+      none_after = refl;
+      units = omega arith;
+      places = λ newer machine before e. absurd (none-before newer machine before e);
+      ends = first-end;
+    };
+    began = record { moves = 0; by_now = omega arith; configuration = start; reached = refl; begins = begins; machine = refl; log = refl };
+    leaves = subst (λ (d : Doing). LeavesUnits d start) (sym begins) tt;
+  }
+
+  recorded-next : (j : ℕ) (m' : Configuration) (o : Option Configuration) → run_of start j ≡ o → ((m : Configuration) → run_of start j ≡ Some m → Recorded start j m)
+      → option_and_then (λ m. next_of (move_of m)) o ≡ Some m' → run_of start (suc j) ≡ Some m' → Recorded start (suc j) m'
+  recorded-next j m' None at before e reached = cc
+  recorded-next j m' (Some m) at before e reached =
+      let r : Recorded start j m = before m at in
+      moves-on start m m' j reached r (subst (Moves m) (next-goes (move_of m) m' e) (move-moves m r.leaves))
+
+  recorded : (j : ℕ) (m : Configuration) → run_of start j ≡ Some m → Recorded start j m
+  recorded zero m at = subst (λ (x : Configuration). Recorded start 0 x) (some-is start m at) first-recorded
+  recorded (suc j) m at = recorded-next j m (run_of start j) refl (recorded j) at at
+
+-- The law.
+pub records_places : (start : Configuration) → Records start
+records_places start = record { at = λ begins none j m at. (recorded start begins none j m at).is }

@@ -1,0 +1,39 @@
+-- What is recorded of a run: the machines that it began its events with.
+use Rattle.std.specs.Prelude.{◌≡◌, ℕ, ◌+◌, ◌<◌, ◌≤◌, List, [], ◌∷◌, ◌++◌, Option, Some}
+use Rattle.gx_machine.specs.Machine.{FlatMachine}
+use Rattle.gx_machine.specs.Log.{Log, no_events, units_of}
+use Rattle.gx_session.specs.Session.{Configuration, steps, run_of}
+
+-- This machine is that of the run at the beginning of an event, before so many moves, when these were recorded: their
+-- units are those that were used there.
+pub record IsPlace (start : Configuration) (j : ℕ) (machine : FlatMachine) (before : List FlatMachine) : Type 0 where
+  pub moves : ℕ
+  pub earlier : moves < j
+  pub configuration : Configuration
+  pub reached : run_of start moves ≡ Some configuration
+  pub begins : configuration.doing ≡ steps
+  pub machine_is : configuration.machine ≡ machine
+  pub log_is : configuration.log ≡ Some (record { before = before; after = [] })
+
+-- The record of a configuration is this one, but for the newest machines of it.
+pub record IsEnd (m : Configuration) (log : Log) : Type 0 where
+  pub own : Log
+  pub log_is : m.log ≡ Some own
+  pub newer : List FlatMachine
+  pub end : log.before ≡ newer ++ own.before
+
+-- The record of a configuration that the run comes to after so many moves: the run has gone back nowhere, the units of the
+-- record are those that the run has used, each machine of it is a place of the run, and the record of each configuration
+-- so far is an end of it.
+pub record IsRecord (start : Configuration) (j : ℕ) (m : Configuration) : Type 0 where
+  pub log : Log
+  pub log_is : m.log ≡ Some log
+  pub none_after : log.after ≡ []
+  pub units : units_of log.before + m.left ≡ start.left
+  pub places : (newer : List FlatMachine) (machine : FlatMachine) (before : List FlatMachine) → log.before ≡ newer ++ machine ∷ before → IsPlace start j machine before
+  pub ends : (i : ℕ) (c : Configuration) → i ≤ j → run_of start i ≡ Some c → IsEnd c log
+
+-- Each machine of the record is that of the run at the beginning of an event, with the units that were used there. So it is
+-- in a run that is recorded from its first event on.
+pub record Records (start : Configuration) : Type 0 where
+  pub at : start.doing ≡ steps → start.log ≡ Some no_events → (j : ℕ) (m : Configuration) → run_of start j ≡ Some m → IsRecord start j m
