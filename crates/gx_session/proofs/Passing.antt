@@ -1,5 +1,5 @@
 -- Steps that ask nothing and leave the word, one after the other, lead from a configuration of the run to one.
-use Rattle.std.proofs.Common.{◌≡◌, ◌≢◌, ◌≤◌, ◌⊎◌, inl, inr, ℕ, zero, suc, Option, Some, None, IsSome, Ok, Err, IsOk, subst, sym, arith}
+use Rattle.std.proofs.Common.{◌≡◌, ◌≢◌, ◌≤◌, ◌⊎◌, inl, inr, ℕ, zero, suc, Option, Some, None, IsSome, Ok, Err, IsOk, subst, arith}
 use Rattle.gx_words.specs.declared.faults.Fault.{Fault}
 use Rattle.gx_words.specs.declared.faults.Fault.TheVariants.{NoMemory}
 use Rattle.gx_state.specs.declared.effects.Effect.{Effect}
@@ -7,7 +7,7 @@ use Rattle.gx_state.specs.declared.effects.Effect.TheVariants as effect
 use Rattle.gx_machine.specs.Machine.{Whole}
 use Rattle.gx_machine.specs.Step.{stepped, IsStepWriting}
 use Rattle.gx_machine.specs.Log.{Log}
-use Rattle.gx_machine.specs.Advancing.{Passes, Advances, IsUnrecorded}
+use Rattle.gx_machine.specs.Advancing.{Passes, Advances}
 use Rattle.gx_machine.proofs.Steps.{went_lower, went_asks}
 use Rattle.gx_session.specs.Devices.{Devices}
 use Rattle.gx_session.specs.Session.{Configuration}

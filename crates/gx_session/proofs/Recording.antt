@@ -23,6 +23,7 @@ use Rattle.gx_session.specs.Saving.{saving, restoring}
 use Rattle.gx_session.specs.Session.{Configuration, Doing, steps, asks, goes_on, Verdict, goes, stops, after_reply, after_restoring, after_turn, after_effect, after_step, step_from, act_by, act_of, sends_now, all_sent, move_of, next_of, run_of}
 use Rattle.gx_session.specs.Recording.{IsPlace, IsEnd, IsRecord, Records}
 use Rattle.gx_session.proofs.Cases.{turn-cases, given-cases, line-cases, asking-cases}
+use Rattle.gx_session.proofs.Rooms.{units-more, units-none}
 use Rattle.gx_session.proofs.Saved.{some-is}
 use Rattle.gx_session.proofs.Undoing.{next-goes}
 use Rattle.rand_core.specs.Stream.{next_u32}
@@ -103,7 +104,12 @@ act-moves (goes_on g w) m is leaves =
     given-cases (Moves m) m w (glk_go_on m.world.scene m.machine.flat w.room g) (λ said reply. replied-moves m w.left (Ok (said, reply)) leaves) tt (λ f. tt)
 
 move-by : (m : Configuration) (b : Bool) → LeavesUnits m.doing m → Moves m (if b then goes (all_sent m) else act_of m)
-move-by m true leaves = inl (record { machine = refl; log = refl; left = refl; leaves = leaves })
+move-by m true leaves = inl (record { machine = refl; log = refl; left = refl; leaves = sent-leaves m.doing leaves })
+  where
+    sent-leaves : (d : Doing) → LeavesUnits d m → LeavesUnits d (all_sent m)
+    sent-leaves steps leaves = tt
+    sent-leaves (asks t w) leaves = leaves
+    sent-leaves (goes_on g w) leaves = leaves
 move-by m false leaves = act-moves m.doing m refl leaves
 
 move-moves : (m : Configuration) → LeavesUnits m.doing m → Moves m (move_of m)
@@ -141,7 +147,7 @@ place-on start j machine before p = record {
 
 -- one of the moves so far, or the last
 last-or-before : (i j : ℕ) → i ≤ suc j → (i ≤ j) ⊎ (i ≡ suc j)
-last-or-before i j less = elim (cases_lt j i) [ | inl more ↦ inr (omega arith) | inr few ↦ inl few ]
+last-or-before i j less = elim (cases_lt j i) [ inl more ↦ inr (omega arith) | inr few ↦ inl few ]
 
 whole-end : (c : Configuration) (log : Log) → c.log ≡ Some log → IsEnd c log
 whole-end c log is = record { own = log; log_is = is; newer = []; end = refl }
@@ -211,7 +217,7 @@ module _ (start m m' : Configuration) (j : ℕ) (reached : run_of start (suc j) 
       let is : m'.log ≡ Some longer = s.log ∙ ap (λ (l : Option Log). logged l m.machine) r.is.log_is in
       let used : units_of here.before + m.left ≡ start.left = r.is.units in
       let cost : m'.left + cost_of m.machine ≡ m.left = s.units in
-      let all : units_of (m.machine ∷ here.before) ≡ cost_of m.machine + units_of here.before = refl in
+      let all = units-more m.machine here.before in
       record {
         is = record {
           log = longer;
@@ -245,7 +251,7 @@ module _ (start : Configuration) (begins : start.doing ≡ steps) (none : start.
       log = no_events;
       log_is = none;
       none_after = refl;
-      units = omega arith;
+      units = omega (arith, units-none);
       places = λ newer machine before e. absurd (none-before newer machine before e);
       ends = first-end;
     };

@@ -1,5 +1,5 @@
 -- There is room in what is recorded for the units that a step leaves.
-use Rattle.std.proofs.Common.{◌≡◌, ◌≢◌, ◌≤◌, ◌+◌, ◌∷◌, ℕ, zero, suc, Option, Some, None, IsSome, Result, Ok, Err, refl, subst, sym, arith}
+use Rattle.std.proofs.Common.{◌≡◌, ◌≢◌, ◌≤◌, ◌+◌, List, [], ◌∷◌, ℕ, zero, suc, Option, Some, None, IsSome, Ok, refl, subst, sym, arith}
 use Rattle.gx_state.specs.declared.effects.Effect.{Effect}
 use Rattle.gx_state.specs.declared.effects.Effect.TheVariants as effect
 use Rattle.gx_machine.specs.declared.askings.Asking.{Asking}
@@ -10,10 +10,19 @@ use Rattle.gx_machine.specs.Advancing.{Passes, Advances, logged_by}
 use Rattle.gx_session.proofs.Passing.{passed-asks, advanced}
 use Rattle.gx_session.proofs.Steps.{step-answers, step-cost}
 
+-- the units of one more machine
+pub units-more : (m : FlatMachine) (ms : List FlatMachine) → units_of (m ∷ ms) ≡ cost_of m + units_of ms
+unfolding units_of
+units-more m ms = refl
+
+pub units-none : units_of [] ≡ 0
+unfolding units_of
+units-none = refl
+
 -- an event that is recorded takes its units of those that are left
 room-taken : (log : Option Log) (m : FlatMachine) (budget left : ℕ) → budget ≤ units_left log → left + cost_of m ≡ budget → left ≤ units_left (logged log m)
 room-taken None m budget left room units = omega arith
-room-taken (Some log) m budget left room units = let all : units_of (m ∷ log.before) ≡ cost_of m + units_of log.before = refl in omega arith
+room-taken (Some log) m budget left room units = let all = units-more m log.before in omega arith
 
 room-lower : (log : Option Log) (budget left : ℕ) → budget ≤ units_left log → left ≤ budget → left ≤ units_left log
 room-lower log budget left room less = omega arith

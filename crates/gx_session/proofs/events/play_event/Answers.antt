@@ -1,5 +1,5 @@
 -- a character of what is printed is put, and else the run is as it was
-use Rattle.std.proofs.Common.{◌-◌, ◌≤◌, Option, Ok, subst, sym, ◌≡◌}
+use Rattle.std.proofs.Common.{◌-◌, ◌≤◌, Option, subst, sym}
 use Rattle.gx_state.specs.declared.effects.Effect.TheVariants.{Put}
 use Rattle.gx_machine.specs.Machine.{Whole}
 use Rattle.gx_machine.specs.Log.{Log, units_left}

@@ -1,7 +1,5 @@
-use Rattle.std.proofs.Common.{◌≡◌, ◌≤◌, ◌⊎◌, inl, inr, None, refl, ap, ◌∙◌, arith}
+use Rattle.std.proofs.Common.{◌≡◌, inr, None, ap, ◌∙◌, arith}
 use Rattle.gx_machine.specs.Machine.{Whole}
-use Rattle.gx_machine.specs.Step.{stepped, IsStepWriting}
-use Rattle.gx_machine.specs.Advancing.{Advances}
 use Rattle.gx_session.specs.Devices.{Devices, devices}
 use Rattle.gx_session.specs.Playing.{Held, held}
 use Rattle.gx_session.proofs.Asking.{step-follows, step-wants, step-stops, fault-gives}

@@ -1,5 +1,5 @@
 -- a character that comes to a text buffer window alone is answered at once
-use Rattle.std.proofs.Common.{inr, refl, subst, sym, ◌∙◌, Ok}
+use Rattle.std.proofs.Common.{inr, refl, subst, sym, Ok}
 use Rattle.gx_state.specs.declared.effects.Effect.TheVariants.{Put}
 use Rattle.gx_machine.specs.Answer.{answer_of}
 use Rattle.glk_world.specs.World.{FlatWorld}
