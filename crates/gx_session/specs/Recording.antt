@@ -1,8 +1,9 @@
 -- What is recorded of a run: the machines that it began its events with.
-use Rattle.std.specs.Prelude.{◌≡◌, ℕ, ◌+◌, ◌<◌, ◌≤◌, List, [], ◌∷◌, ◌++◌, Some}
+use Rattle.std.specs.Prelude.{◌≡◌, ◌≢◌, ℕ, ◌+◌, ◌<◌, ◌≤◌, List, [], ◌∷◌, ◌++◌, Some}
 use Rattle.gx_machine.specs.Machine.{FlatMachine}
 use Rattle.gx_machine.specs.Log.{Log, no_events, units_of}
-use Rattle.gx_session.specs.Session.{Configuration, steps, run_of}
+use Rattle.gx_session.specs.declared.ends.Stop.TheVariants as stop
+use Rattle.gx_session.specs.Session.{Configuration, steps, Ending, run_of, final_of}
 
 -- This machine is that of the run at the beginning of an event, before so many moves, when these were recorded: their
 -- units are those that were used there.
@@ -33,7 +34,16 @@ pub record IsRecord (start : Configuration) (j : ℕ) (m : Configuration) : Type
   pub places : (newer : List FlatMachine) (machine : FlatMachine) (before : List FlatMachine) → log.before ≡ newer ++ machine ∷ before → IsPlace start j machine before
   pub ends : (i : ℕ) (c : Configuration) → i ≤ j → run_of start i ≡ Some c → IsEnd c log
 
+-- The record of the end of a run. `left` are the units that were left before an event that isn't recorded: that in which a
+-- Glk call ended the program, or for which the budget was too small. After every other stop they are those of the end.
+pub record IsLast (start : Configuration) (e : Ending) : Type 0 where
+  pub moves : ℕ
+  pub left : ℕ
+  pub left_is : e.stop ≢ stop.Exited → e.stop ≢ stop.Spent → left ≡ e.configuration.left
+  pub is : IsRecord start moves (record e.configuration { left = left })
+
 -- Each machine of the record is that of the run at the beginning of an event, with the units that were used there. So it is
--- in a run that is recorded from its first event on.
+-- in a run that is recorded from its first event on, at each of its configurations and at its end.
 pub record Records (start : Configuration) : Type 0 where
   pub at : start.doing ≡ steps → start.log ≡ Some no_events → (j : ℕ) (m : Configuration) → run_of start j ≡ Some m → IsRecord start j m
+  pub last : start.doing ≡ steps → start.log ≡ Some no_events → IsLast start (final_of start)
