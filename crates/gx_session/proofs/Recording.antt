@@ -142,6 +142,7 @@ record Began (start : Configuration) (j : ℕ) (m : Configuration) : Type 0 wher
   begins : configuration.doing ≡ steps
   machine : configuration.machine ≡ m.machine
   log : configuration.log ≡ m.log
+  left : configuration.left ≡ m.left
 
 record Recorded (start : Configuration) (j : ℕ) (m : Configuration) : Type 0 where
   is : IsRecord start j m
@@ -158,6 +159,7 @@ place-on start j machine before p = record {
   begins = p.begins;
   machine_is = p.machine_is;
   log_is = p.log_is;
+  units = p.units;
 }
 
 -- one of the moves so far, or the last
@@ -168,8 +170,8 @@ whole-end : (c : Configuration) (log : Log) → c.log ≡ Some log → IsEnd c l
 whole-end c log is = record { own = log; log_is = is; newer = []; end = refl }
 
 -- the machine of an event that ends here is a place
-began-place : (start : Configuration) (j : ℕ) (m : Configuration) (log : Log) → m.log ≡ Some log → log.after ≡ [] → Began start j m → IsPlace start (suc j) m.machine log.before
-began-place start j m log is none b = record {
+began-place : (start : Configuration) (j : ℕ) (m : Configuration) (log : Log) → m.log ≡ Some log → log.after ≡ [] → units_of log.before + m.left ≡ start.left → Began start j m → IsPlace start (suc j) m.machine log.before
+began-place start j m log is none units b = record {
   moves = b.moves;
   earlier = let less : b.moves ≤ j = b.by_now in omega arith;
   configuration = b.configuration;
@@ -177,6 +179,7 @@ began-place start j m log is none b = record {
   begins = b.begins;
   machine_is = b.machine;
   log_is = b.log ∙ is ∙ ap (λ (ms : List FlatMachine). Some (let l : Log = record { before = log.before; after = ms } in l)) none;
+  units = ap (λ (n : ℕ). units_of log.before + n) b.left ∙ units;
 }
 
 module _ (start m : Configuration) (j : ℕ) (r : Recorded start j m) where
@@ -204,7 +207,7 @@ module _ (start m : Configuration) (j : ℕ) (r : Recorded start j m) where
       let same : m.machine ≡ machine = cc in
       let rest : here.before ≡ before = cc in
       subst (λ (x : FlatMachine). IsPlace start (suc j) x before) same
-      (subst (λ (x : List FlatMachine). IsPlace start (suc j) m.machine x) rest (began-place start j m here r.is.log_is r.is.none_after r.began))
+      (subst (λ (x : List FlatMachine). IsPlace start (suc j) m.machine x) rest (began-place start j m here r.is.log_is r.is.none_after r.is.units r.began))
   places-longer (x ∷ newer) machine before e =
       let rest : here.before ≡ newer ++ machine ∷ before = cc in
       places-here newer machine before rest
@@ -241,6 +244,7 @@ module _ (start m : Configuration) (j : ℕ) (r : Recorded start j m) where
         begins = r.began.begins;
         machine = r.began.machine ∙ sym s.machine;
         log = r.began.log ∙ sym s.log;
+        left = r.began.left ∙ sym s.left;
       };
       leaves = s.leaves;
     }
@@ -253,7 +257,7 @@ module _ (start m : Configuration) (j : ℕ) (r : Recorded start j m) where
         places = places-longer;
         ends = λ i c few at. ends-on longer (m.machine ∷ []) refl (longer-is m'.log s.log) i c (last-or-before i j few) at;
       };
-      began = record { moves = suc j; by_now = omega arith; configuration = m'; reached = reached; begins = s.doing; machine = refl; log = refl };
+      began = record { moves = suc j; by_now = omega arith; configuration = m'; reached = reached; begins = s.doing; machine = refl; log = refl; left = refl };
       leaves = subst (λ (d : Doing). LeavesUnits d m') (sym s.doing) tt;
     }
 
@@ -311,7 +315,7 @@ module _ (start : Configuration) (begins : start.doing ≡ steps) (none : start.
       places = λ newer machine before e. absurd (none-before newer machine before e);
       ends = first-end;
     };
-    began = record { moves = 0; by_now = omega arith; configuration = start; reached = refl; begins = begins; machine = refl; log = refl };
+    began = record { moves = 0; by_now = omega arith; configuration = start; reached = refl; begins = begins; machine = refl; log = refl; left = refl };
     leaves = subst (λ (d : Doing). LeavesUnits d start) (sym begins) tt;
   }
 

@@ -76,8 +76,8 @@ BeginsSave m (Some (effect.Save stream)) = IsTrue (is_begun m.world.scene m.mach
 BeginsSave m e = ⊥
 
 -- WHERE MEMORY MAY BE WANTED
--- The machine takes a reply: for the record, where the run is recorded, and else where the reply writes bytes or its value
--- is stored in memory.
+-- The machine takes a reply: for the record, where the run is recorded, and else where the reply writes bytes or its
+-- value is stored in memory.
 abbrev pub ReplyWants : Option Log → FlatMachine → Reply → Type 0
 ReplyWants log machine reply = IsSome log ⊎ (HasBytes reply.writes ⊎ IsStoredAnswer machine.flat)
 

@@ -281,8 +281,8 @@ pub record Flushes (enough : ℕ) (before now : FlatSink) (old new : FlatWorld) 
   pub few : length old.text < enough → (now ≡ before) × (new ≡ old) × IsOk result
   pub many : enough ≤ length old.text → SendsAll before now old new result
 
--- The machine became this one, which asks nothing, and the event was recorded; or both stand for want of memory. All else
--- stands.
+-- The machine became this one, which asks nothing, and the event was recorded; or both stand for want of memory. All
+-- else stands.
 pub record Becomes {E T : Type 0} (whole : E → Whole) (log : E → Option Log) (old new : Running E) (machine : FlatMachine) (left : ℕ) (result : Result T Halt) : Type 0 where
   pub ok : OnOk result ((whole new.engine ≡ record { machine = machine; asking = None }) × (new ≡ record old { engine = new.engine; left = left }) × (log new.engine ≡ logged (log old.engine) (whole old.engine).machine))
   pub err : OnErr result ((whole new.engine ≡ whole old.engine) × (new ≡ record old { engine = new.engine }) × (log new.engine ≡ log old.engine))
@@ -300,8 +300,8 @@ MaySave begun (Err e) old new defined = (e ≢ NoMemory → (new ≡ old) × (de
 abbrev pub Refuses : SaveFault → Result (Option Copy) Fault → Type 0
 Refuses fault result = ((fault ≡ of_save.NoMemory) × (result ≡ Err NoMemory)) ⊎ ((fault ≢ of_save.NoMemory) × (result ≡ Ok None))
 
--- Where a part of a run goes on, nothing is asked any more, and so many units are left, for which there is room in what is
--- recorded. A stop is one of a session.
+-- Where a part of a run goes on, nothing is asked any more, and so many units are left, for which there is room in what
+-- is recorded. A stop is one of a session.
 pub record Leads {E : Type 0} (whole : E → Whole) (log : E → Option Log) (old new : Running E) (left : ℕ) (result : Result Next Halt) : Type 0 where
   pub none : result ≡ Ok next.Goes → (whole new.engine).asking ≡ None
   pub left_is : result ≡ Ok next.Goes → new.left ≡ left

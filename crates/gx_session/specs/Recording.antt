@@ -5,8 +5,8 @@ use Rattle.gx_machine.specs.Log.{Log, no_events, units_of}
 use Rattle.gx_session.specs.declared.ends.Stop.TheVariants as stop
 use Rattle.gx_session.specs.Session.{Configuration, steps, Ending, run_of, final_of}
 
--- This machine is that of the run at the beginning of an event, before so many moves, when these were recorded: their
--- units are those that were used there.
+-- This machine is that of the run at the beginning of an event, before so many moves, when these were recorded, whose
+-- units are those that were used by then.
 pub record IsPlace (start : Configuration) (j : ℕ) (machine : FlatMachine) (before : List FlatMachine) : Type 0 where
   pub moves : ℕ
   pub earlier : moves < j
@@ -15,6 +15,7 @@ pub record IsPlace (start : Configuration) (j : ℕ) (machine : FlatMachine) (be
   pub begins : configuration.doing ≡ steps
   pub machine_is : configuration.machine ≡ machine
   pub log_is : configuration.log ≡ Some (record { before = before; after = [] })
+  pub units : units_of before + configuration.left ≡ start.left
 
 -- The record of a configuration is this one, but for the newest machines of it.
 pub record IsEnd (m : Configuration) (log : Log) : Type 0 where
@@ -23,9 +24,9 @@ pub record IsEnd (m : Configuration) (log : Log) : Type 0 where
   pub newer : List FlatMachine
   pub end : log.before ≡ newer ++ own.before
 
--- The record of a configuration that the run comes to after so many moves: the run has gone back nowhere, the units of the
--- record are those that the run has used, each machine of it is a place of the run, and the record of each configuration
--- so far is an end of it.
+-- The record of a configuration that the run comes to after so many moves: the run has gone back nowhere, the units of
+-- the record are those that the run has used, each machine of it is a place of the run, and the record of each
+-- configuration so far is an end of it.
 pub record IsRecord (start : Configuration) (j : ℕ) (m : Configuration) : Type 0 where
   pub log : Log
   pub log_is : m.log ≡ Some log
@@ -34,16 +35,17 @@ pub record IsRecord (start : Configuration) (j : ℕ) (m : Configuration) : Type
   pub places : (newer : List FlatMachine) (machine : FlatMachine) (before : List FlatMachine) → log.before ≡ newer ++ machine ∷ before → IsPlace start j machine before
   pub ends : (i : ℕ) (c : Configuration) → i ≤ j → run_of start i ≡ Some c → IsEnd c log
 
--- The record of the end of a run. `left` are the units that were left before an event that isn't recorded: that in which a
--- Glk call ended the program, or for which the budget was too small. After every other stop they are those of the end.
+-- The record of the end of a run, which comes within so many moves. `left` are the units that were left before an event
+-- that isn't recorded: one in which a Glk call ended the program, or for which the budget was too small. At every other
+-- stop they are those of the end.
 pub record IsLast (start : Configuration) (e : Ending) : Type 0 where
   pub moves : ℕ
   pub left : ℕ
   pub left_is : e.stop ≢ stop.Exited → e.stop ≢ stop.Spent → left ≡ e.configuration.left
   pub is : IsRecord start moves (record e.configuration { left = left })
 
--- Each machine of the record is that of the run at the beginning of an event, with the units that were used there. So it is
--- in a run that is recorded from its first event on, at each of its configurations and at its end.
+-- Each machine of the record is that of the run at the beginning of an event, with the units that were used there. So
+-- it is in a run that is recorded from its first event on, at each of its configurations and at its end.
 pub record Records (start : Configuration) : Type 0 where
   pub at : start.doing ≡ steps → start.log ≡ Some no_events → (j : ℕ) (m : Configuration) → run_of start j ≡ Some m → IsRecord start j m
   pub last : start.doing ≡ steps → start.log ≡ Some no_events → IsLast start (final_of start)

@@ -105,9 +105,9 @@ pub record EndsAt (start : Configuration) (e : Ending) (entry exit : Devices) (r
   pub saves_are : SavedAll start
 
 -- The run was cut short, with so many units left and this recorded. The text that was sent is a front of what was shown
--- by then: all that was due before, and some of a send that was refused. Where memory was wanted at a send, a question or
--- a store, it was by the last call of that device. Where memory was wanted at a wait for a line, nothing is said of the
--- input: more of it may have been read.
+-- by then: all that was due before, and some of a send that was refused. Where memory was wanted at a send, a question
+-- or a store, it was by the last call of that device. Where memory was wanted at a wait for a line, nothing is said of
+-- the input: more of it may have been read.
 pub record StopsEarly (start : Configuration) (entry exit : Devices) (status left : ℕ) (machine : Whole) (log : Option Log) : Type 0 where
   pub cut : Cut
   pub configuration : Configuration

@@ -81,8 +81,8 @@ pub data Verdict : Type 0 where
 abbrev pub done : Configuration → FlatMachine → ℕ → Configuration
 done m machine left = record m { machine = machine; left = left; log = logged m.log m.machine }
 
--- The answer to an asking: the Glk world moves on, the machine takes the reply, the event is recorded, and the next step
--- comes. A fault of the world stops the run before the step.
+-- The answer to an asking: the Glk world moves on, the machine takes the reply, the event is recorded, and the next
+-- step comes. A fault of the world stops the run before the step.
 abbrev pub after_reply : Configuration → ℕ → Result (Said × Reply) Fault → Verdict
 after_reply m left (Ok r) = goes (record m { machine = answer_of m.machine r.1; world = after m.world r.0; left = left; log = logged m.log m.machine; doing = steps })
 after_reply m left (Err fault) = stops (stop.Faulted fault) m
