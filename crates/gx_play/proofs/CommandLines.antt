@@ -4,7 +4,7 @@ use Rattle.clap.specs.Words.{Text}
 use Rattle.clap.specs.declared.error.kind.ErrorKind.TheVariants as kind
 use Rattle.clap.proofs.OnLiterals.{clap_on_literals}
 use Rattle.glk_world.specs.declared.views.View.TheVariants as view
-use Rattle.gx_play.specs.declared.command.Job.TheVariants.{Play, Check, Work, Asm, List as Listing}
+use Rattle.gx_play.specs.declared.command.Job.TheVariants.{Play, Rewind, Check, Work, Asm, List as Listing}
 use Rattle.gx_play.specs.Commands.{Command, player, faults_of, found_in, command_of}
 
 -- after the program's name
@@ -20,6 +20,7 @@ usual story = record {
   rows = 24;
   undo = 16;
   seed = None;
+  back = 0;
   echo = false;
   view = view.Rows;
   job = Play;
@@ -32,7 +33,7 @@ story-alone = refl
 abbrev many-options : List Text
 many-options =
     codes "--steps" ∷ codes "0011" ∷ codes "--echo" ∷ codes "--plain" ∷ codes "7" ∷ codes "--seed=5" ∷ codes "--rows" ∷
-    codes "1" ∷ codes "--undo" ∷ codes "064" ∷ codes "--columns=255" ∷ codes "--job=work" ∷ []
+    codes "1" ∷ codes "--undo" ∷ codes "064" ∷ codes "--columns=255" ∷ codes "--back=12" ∷ codes "--job=work" ∷ []
 
 all-options : command_of (words many-options) ≡ Some (record {
   story = codes "7";
@@ -41,6 +42,7 @@ all-options : command_of (words many-options) ≡ Some (record {
   rows = 1;
   undo = 64;
   seed = Some 5;
+  back = 12;
   echo = true;
   view = view.Plain;
   job = Work 7;
@@ -92,6 +94,19 @@ no-seed : command_of (words (codes "hall.ulx" ∷ codes "--seed" ∷ codes "x" �
 unfolding clap_on_literals command_of faults_of found_in player
 no-seed = refl
 
+a-rewind : command_of (words (codes "hall.ulx" ∷ codes "--job" ∷ codes "rewind" ∷ [])) ≡ Some (record (usual (codes "hall.ulx")) { job = Rewind })
+unfolding clap_on_literals command_of faults_of found_in player
+a-rewind = refl
+
+most-back : command_of (words (codes "hall.ulx" ∷ codes "--back" ∷ codes "18446744073709551615" ∷ codes "--job=rewind" ∷ []))
+    ≡ Some (record (usual (codes "hall.ulx")) { back = 18446744073709551615; job = Rewind })
+unfolding clap_on_literals command_of faults_of found_in player
+most-back = refl
+
+too-far-back : command_of (words (codes "hall.ulx" ∷ codes "--back" ∷ codes "18446744073709551616" ∷ codes "--job=rewind" ∷ [])) ≡ None
+unfolding clap_on_literals command_of faults_of found_in player
+too-far-back = refl
+
 a-word-that-isn't-an-option : command_of (words (codes "--" ∷ codes "--echo" ∷ [])) ≡ Some (usual (codes "--echo"))
 unfolding clap_on_literals command_of faults_of found_in player
 a-word-that-isn't-an-option = refl
@@ -141,6 +156,11 @@ text-alone-in-check : command_of (words (codes "hall.ulx" ∷ codes "--plain" �
 unfolding clap_on_literals command_of faults_of found_in player
 text-alone-in-check = refl
 
+the-screen-in-rewind : command_of (words (codes "hall.ulx" ∷ codes "--screen" ∷ codes "--job=rewind" ∷ []))
+    ≡ Some (record (usual (codes "hall.ulx")) { view = view.Screen; job = Rewind })
+unfolding clap_on_literals command_of faults_of found_in player
+the-screen-in-rewind = refl
+
 both-views : command_of (words (codes "hall.ulx" ∷ codes "--screen" ∷ codes "--plain" ∷ [])) ≡ None
 unfolding clap_on_literals command_of faults_of found_in player
 both-views = refl
@@ -165,6 +185,10 @@ undo-in-check = refl
 seed-in-work : command_of (words (codes "7" ∷ codes "--job=work" ∷ codes "--seed=" ∷ [])) ≡ None
 unfolding clap_on_literals command_of faults_of found_in player
 seed-in-work = refl
+
+back-in-check : command_of (words (codes "hall.ulx" ∷ codes "--job=check" ∷ codes "--back=" ∷ [])) ≡ None
+unfolding clap_on_literals command_of faults_of found_in player
+back-in-check = refl
 
 -- why other words have no matches
 repeated : faults_of (words (codes "hall.ulx" ∷ codes "--echo" ∷ codes "--echo" ∷ [])) ≡ kind.ArgumentConflict ∷ []

@@ -1,5 +1,5 @@
 -- An instruction whose bytes stand at PC is seen as the one that was written.
-use Rattle.std.proofs.Common.{◌≡◌, ℕ, zero, suc, ◌+◌, ◌-◌, ◌*◌, ◌/◌, ◌%◌, ◌<◌, ◌≤◌, ◌==◌, min, nat_lt, nat_le, if◌then◌else◌, Bool, true, false, List, [], ◌∷◌, ◌++◌, length, get_or, map, take, drop, All, ◌⊎◌, inl, inr, Some, Ok, refl, ap, sym, subst, ◌∙◌, arith, length-append, length-drop}
+use Rattle.std.proofs.Common.{◌≡◌, ℕ, zero, suc, ◌+◌, ◌-◌, ◌*◌, ◌/◌, ◌%◌, ◌<◌, ◌≤◌, ◌==◌, nat_le, if◌then◌else◌, true, List, [], ◌∷◌, ◌++◌, length, get_or, map, take, drop, inl, inr, Some, Ok, refl, ap, sym, subst, ◌∙◌, arith, length-append, length-drop}
 use Rattle.std.specs.List.{position_or_len, slice_get}
 use Rattle.std.proofs.lemmas.Bool.{cases_lt, le-leb, le-ltb, lt-ltb}
 use Rattle.std.proofs.lemmas.Bool.Decides.{nat_tests}
@@ -22,7 +22,7 @@ use Rattle.gx_asm.specs.Codes.{modes_len}
 use Rattle.gx_asm.specs.Instructions.{Written, IsWritten, AreModes, operand_count, data_len, all_data_len, nibble_of, packed, number_of, bytes_of}
 use Rattle.gx_asm.proofs.BytesOpcodes.{number_small, place_of_row, length-opcode}
 use Rattle.gx_asm.proofs.Nibbles.{addressing_of, nibble_small, length-packed}
-use Rattle.gx_play.specs.Spelling.{StandAt, mode_at, data_before, data_of, modes_at, data_at, SeesOperand, SeesInstruction}
+use Rattle.gx_play.specs.Spelling.{StandAt, mode_at, data_before, data_of, modes_at, data_at, SeesInstruction}
 
 -- ---- bytes that stand in memory
 

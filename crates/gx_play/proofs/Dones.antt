@@ -18,9 +18,9 @@ use Rattle.gx_play.specs.declared.loading.Refusal.{Refusal}
 use Rattle.gx_play.specs.declared.loading.Refusal.TheVariants as refusal
 use Rattle.gx_play.specs.Commands.{Command, command_of}
 use Rattle.gx_play.specs.Jobs.{work_line, check_status, check_line}
-use Rattle.gx_play.specs.Headline.{Outcome, refused, unstarted, runs, tells, outcome_of_job, outcome_of_check, outcome_of_text, outcome_of_code, outcome_of_list, outcome_of_listing, story_of, text_of, HasNoMachine, IsUnbegun, IsLoadable, LoadsOnce, SendsOutput, Plays, MayWant, Loads, LoadsFor, ComesOut, HasItsParts, IsPlaying, IsPlayed}
-use Rattle.gx_play.specs.Loading.{status_of, fault_of, LoadGives, LoadsFile, JobTells, BlamesSink, HasRunParts, IsDone}
-use Rattle.gx_play.proofs.Completeness.{complete, unsent}
+use Rattle.gx_play.specs.Headline.{Outcome, refused, unstarted, runs, rewinds, tells, outcome_of_job, outcome_of_check, outcome_of_text, outcome_of_code, outcome_of_list, outcome_of_listing, story_of, text_of, HasNoMachine, IsUnbegun, IsBegun, IsUnrun, IsLoadable, LoadsOnce, SendsOutput, Plays, PlaysStory, MayWant, Loads, LoadsFor, ComesOut, HasItsParts, HandsBack, IsPlaying, IsPlayed}
+use Rattle.gx_play.specs.Loading.{status_of, fault_of, LoadGives, LoadsFile, JobTells, BlamesSink, HasRunParts, IsIdle, IsDone}
+use Rattle.gx_play.proofs.Completeness.{complete}
 use Rattle.gx_play.proofs.Loads.{loadable, text-loadable}
 use Rattle.gx_play.proofs.Seeds.{undrawn, settled}
 use Rattle.gx_play.proofs.Spellings.{spelling}
@@ -39,9 +39,9 @@ record IsTold {A : Type 0} (ended : Ended A) : Type 0 where
 
 module _ {A : Type 0} (ended : Ended A) where
   -- the parts of an answer that was given before anything ran
-  parts-before : (playing : Type 0) (status fault : ℕ) → HasNoMachine ended status fault 0 → (status ≡ 1) ⊎ (status ≡ 2) ⊎ (status ≡ 8) ⊎ (status ≡ 11)
-      → fault ≤ 7 → (status ≢ 2 → fault ≡ 0) → HasItsParts playing ended
-  parts-before playing status fault absent which small none =
+  parts-before : (playing handing : Type 0) (status fault : ℕ) → HasNoMachine ended status fault 0 → (status ≡ 1) ⊎ (status ≡ 2) ⊎ (status ≡ 8) ⊎ (status ≡ 11)
+      → fault ≤ 7 → (status ≢ 2 → fault ≡ 0) → HasItsParts playing handing ended
+  parts-before playing handing status fault absent which small none =
       let s = absent.status_is in
       let f = absent.fault_is in
       record {
@@ -58,8 +58,8 @@ module _ {A : Type 0} (ended : Ended A) where
       }
 
   -- its parts
-  parts-told : (playing : Type 0) → (playing → ⊥) → IsTold ended → HasItsParts playing ended
-  parts-told playing idle t =
+  parts-told : (playing handing : Type 0) → (playing → ⊥) → (handing → ⊥) → IsTold ended → HasItsParts playing handing ended
+  parts-told playing handing idle empty t =
       let s = t.absent.status_is in
       let f = t.absent.fault_is in
       let p = t.absent.at_is in
@@ -73,13 +73,13 @@ module _ {A : Type 0} (ended : Ended A) where
         listing_fault = λ e. let range = t.listing_fault (sym s ∙ e) in (omega (arith, f, range.0), omega (arith, f, range.1));
         no_fault = λ _ _ early. f ∙ (t.none (omega (arith, s, early))).0;
         no_place = λ _ early. p ∙ (t.none (omega (arith, s, early))).1;
-        ran = λ playing _. absurd (idle playing);
+        ran = λ handing _. absurd (empty handing);
         not_run = λ _. t.absent.machine_is;
       }
 
   -- the parts of a run
-  pub parts-for : (playing : Type 0) → HasRunParts ended → HasItsParts playing ended
-  parts-for playing p = record {
+  pub parts-for : (playing : Type 0) (given handing : Type 0) → (handing → given) → HasRunParts given ended → HasItsParts playing handing ended
+  parts-for playing given handing has p = record {
     status_is = p.status_is;
     played = λ _. p.played tt;
     story_fault = p.story_fault;
@@ -88,7 +88,7 @@ module _ {A : Type 0} (ended : Ended A) where
     listing_fault = p.listing_fault;
     no_fault = p.no_fault;
     no_place = p.no_place;
-    ran = λ _ e. p.ran tt e;
+    ran = λ h e. p.ran (has h) e;
     not_run = p.not_run;
   }
 
@@ -96,6 +96,7 @@ module _ {A : Type 0} (ended : Ended A) where
   unbegun-plays (refused status fault at) entry exit is unsent = (inr is, unsent)
   unbegun-plays (unstarted fault at) entry exit is unsent = (inr is, unsent)
   unbegun-plays (runs seed start) entry exit is unsent = inr (is, unsent)
+  unbegun-plays (rewinds seed back start) entry exit is unsent = inr (is, unsent)
   unbegun-plays (tells status output) entry exit is unsent = inr (is, unsent)
 
   -- AN OUTPUT that was sent, or a front of it
@@ -154,10 +155,9 @@ module _ {A : Type 0} (ended : Ended A) where
 
   plays-told : (outcome : Outcome) (entry exit : Devices) → JobTells outcome entry.sink exit.sink ended → Plays outcome entry exit ended
   plays-told (refused status fault at) entry exit (absent, same) = (inl absent, same)
-  plays-told (unstarted fault at) entry exit none = absurd none
-  plays-told (runs seed start) entry exit none = absurd none
   plays-told (tells status output) entry exit (inl sends) = inl sends
   plays-told (tells status output) entry exit (inr (absent, same)) = inr (inr absent, same)
+  plays-told outcome entry exit none = absurd none
 
   -- A JOB that hands no machine back, over the file that was loaded
   module _ (job : Job) (command : Command) (d : Devices) (before now : FlatShelf) (taken took : FlatSink) where
@@ -167,7 +167,7 @@ module _ {A : Type 0} (ended : Ended A) where
     abbrev at-exit : Devices
     at-exit = record d { sink = took; shelf = now }
 
-    told-done : (file : Option (List ℕ)) (outcome : Outcome) (failed : Type 0) → (job ≡ Play → ⊥) → (before.tells ≡ true → file ≡ before.files command.story) → outcome_of_job job command file at-entry ≡ outcome
+    told-done : (file : Option (List ℕ)) (outcome : Outcome) (failed : Type 0) → (PlaysStory job → ⊥) → (before.tells ≡ true → file ≡ before.files command.story) → outcome_of_job job command file at-entry ≡ outcome
         → MayWant job file → Loads job before now → Blames before.calls now.calls failed → (failed → ⊥) → IsTold ended → JobTells outcome taken took ended → BlamesSink taken took ended.status
         → IsDone job command at-entry at-exit ended
     told-done file outcome failed idle holds is may loads count fine t tell blames =
@@ -179,21 +179,25 @@ module _ {A : Type 0} (ended : Ended A) where
           plays = subst (λ (o : Outcome). Plays o at-entry at-exit ended) (sym is) (plays-told outcome at-entry at-exit tell);
           memory = λ _. may;
           began = λ e. absurd (grind (arith, s, which, e));
-          loads = λ _. loads;
-          untouched = λ _. record { steps = t.absent.steps_are; source = refl; words = refl };
+          begun = inr (record {
+            machine = t.absent.machine_is;
+            loads = loads;
+            untouched = record { steps = t.absent.steps_are; source = refl; words = refl };
+            unsent = λ plays. absurd (idle plays);
+          });
           counts = record {
             shelf = blames-same before.calls now.calls failed (ended.status ≡ status_shelf_fault) count (λ e. absurd (fine e)) (λ e. absurd (grind (arith, s, which, e)));
             source = blames-none d.source.calls d.source.calls (ended.status ≡ status_input_fault) refl (λ e. absurd (grind (arith, s, which, e)));
             sink = blames;
           };
-          parts = parts-told (job ≡ Play) idle t;
+          parts = parts-told (PlaysStory job) (job ≡ Play) idle (λ is. idle (subst PlaysStory (sym is) tt)) t;
         }
 
   -- JOB WORK
   module _ (number : ℕ) (command : Command) (d : Devices) (before now : FlatSink) where
     work-done : IsTold ended → JobTells (tells status_ended (work_line number)) before now ended → BlamesSink before now ended.status → IsDone (Work number) command (record d { sink = before }) (record d { sink = now }) ended
     work-done t tell blames =
-        told-done (Work number) command d d.shelf d.shelf before now (d.shelf.files command.story) (tells status_ended (work_line number)) ⊥ (λ e. cc) (λ _. refl) refl tt refl
+        told-done (Work number) command d d.shelf d.shelf before now (d.shelf.files command.story) (tells status_ended (work_line number)) ⊥ (λ plays. plays) (λ _. refl) refl tt refl
         (blames-none d.shelf.calls d.shelf.calls ⊥ refl (λ e. e)) (λ e. e) t tell blames
 
     pub work-told : SendsOutput status_ended (work_line number) before now ended → BlamesSink before now ended.status → IsDone (Work number) command (record d { sink = before }) (record d { sink = now }) ended
@@ -225,10 +229,10 @@ module _ {A : Type 0} (ended : Ended A) where
     wants file refusal.Shelf gives absent e = let s = absent.status_is in absurd (omega (arith, s, e))
     wants file refusal.NoMemory gives absent e = gives
 
-    refusal-parts : (playing : Type 0) (r : Refusal) → HasNoMachine ended (status_of r) (fault_of r) 0 → ((fault : ℕ) → (let e : Result X Refusal = Err r in e ≡ Err (refusal.BadStory fault)) → fault ≤ 7) → HasItsParts playing ended
-    refusal-parts playing (refusal.BadStory fault) absent small = parts-before playing status_bad_story fault absent (inr (inl refl)) (small fault refl) (λ e. absurd (e refl))
-    refusal-parts playing refusal.Shelf absent small = parts-before playing status_shelf_fault 0 absent (inr (inr (inl refl))) (omega arith) (λ _. refl)
-    refusal-parts playing refusal.NoMemory absent small = parts-before playing status_no_memory 0 absent (inr (inr (inr refl))) (omega arith) (λ _. refl)
+    refusal-parts : (playing handing : Type 0) (r : Refusal) → HasNoMachine ended (status_of r) (fault_of r) 0 → ((fault : ℕ) → (let e : Result X Refusal = Err r in e ≡ Err (refusal.BadStory fault)) → fault ≤ 7) → HasItsParts playing handing ended
+    refusal-parts playing handing (refusal.BadStory fault) absent small = parts-before playing handing status_bad_story fault absent (inr (inl refl)) (small fault refl) (λ e. absurd (e refl))
+    refusal-parts playing handing refusal.Shelf absent small = parts-before playing handing status_shelf_fault 0 absent (inr (inr (inl refl))) (omega arith) (λ _. refl)
+    refusal-parts playing handing refusal.NoMemory absent small = parts-before playing handing status_no_memory 0 absent (inr (inr (inr refl))) (omega arith) (λ _. refl)
 
     refusal-blames : (r : Refusal) → HasNoMachine ended (status_of r) (fault_of r) 0 → Blames before.calls now.calls (let e : Result X Refusal = Err r in e ≡ Err refusal.Shelf)
         → Blames before.calls now.calls (ended.status ≡ status_shelf_fault)
@@ -255,14 +259,18 @@ module _ {A : Type 0} (ended : Ended A) where
           plays = not-loaded l.file r (outcome_of_job job command l.file entry) bad l.gives absent;
           memory = λ e. may (wants l.file r l.gives absent e);
           began = λ e. absurd (grind (arith, which, e));
-          loads = λ _. load once;
-          untouched = λ _. record { steps = absent.steps_are; source = refl; words = refl };
+          begun = inr (record {
+            machine = absent.machine_is;
+            loads = load once;
+            untouched = record { steps = absent.steps_are; source = refl; words = refl };
+            unsent = λ _. refl;
+          });
           counts = record {
             shelf = refusal-blames r absent count;
             source = blames-none d.source.calls d.source.calls (ended.status ≡ status_input_fault) refl (λ e. absurd (grind (arith, which, e)));
             sink = blames-none d.sink.calls d.sink.calls (ended.status ≡ status_output_fault) refl (λ e. absurd (grind (arith, which, e)));
           };
-          parts = refusal-parts (job ≡ Play) r absent small;
+          parts = refusal-parts (PlaysStory job) (job ≡ Play) r absent small;
         }
 
   -- THE JOBS check, asm and list of what was loaded
@@ -274,20 +282,26 @@ module _ {A : Type 0} (ended : Ended A) where
     pub check-told : (story : FlatStory) → story_of file ≡ Ok story → Blames before.calls now.calls (let e : Result FlatStory Refusal = Ok story in e ≡ Err refusal.Shelf)
         → SendsOutput (check_status (is_checked story)) (check_line (is_checked story)) taken took ended → IsDone Check command (record d { sink = taken; shelf = before }) (record d { sink = took; shelf = now }) ended
     check-told story good count sends =
-        told-done Check command d before now taken took file (tells (check_status (is_checked story)) (check_line (is_checked story))) _ (λ e. cc) holds (ap outcome_of_check good) (loadable file story good) once count (λ e. absurd cc)
+        told-done Check command d before now taken took file (tells (check_status (is_checked story)) (check_line (is_checked story))) _ (λ plays. plays) holds (ap outcome_of_check good) (loadable file story good) once count (λ e. absurd cc)
         (sent (check_status (is_checked story)) (check_line (is_checked story)) taken took (either (is_checked story)) sends) (inl sends) blames
 
     pub asm-told : (text : List ℕ) → text_of file ≡ Ok text → Blames before.calls now.calls (let e : Result (List ℕ) Refusal = Ok text in e ≡ Err refusal.Shelf) → (ended.status ≡ status_bad_text → (1 ≤ ended.fault) × (ended.fault ≤ 4))
         → JobTells (outcome_of_code (assembled text)) taken took ended → IsDone Asm command (record d { sink = taken; shelf = before }) (record d { sink = took; shelf = now }) ended
     asm-told text good count number tell =
-        told-done Asm command d before now taken took file (outcome_of_code (assembled text)) _ (λ e. cc) holds (ap outcome_of_text good) (text-loadable file text good) once count (λ e. absurd cc)
+        told-done Asm command d before now taken took file (outcome_of_code (assembled text)) _ (λ plays. plays) holds (ap outcome_of_text good) (text-loadable file text good) once count (λ e. absurd cc)
         (code-told (assembled text) taken took number tell) tell blames
 
     pub list-told : (story : FlatStory) → story_of file ≡ Ok story → Blames before.calls now.calls (let e : Result FlatStory Refusal = Ok story in e ≡ Err refusal.Shelf) → (ended.status ≡ status_no_listing → (1 ≤ ended.fault) × (ended.fault ≤ 5))
         → JobTells (outcome_of_listing (listed_story story)) taken took ended → IsDone Listing command (record d { sink = taken; shelf = before }) (record d { sink = took; shelf = now }) ended
     list-told story good count number tell =
-        told-done Listing command d before now taken took file (outcome_of_listing (listed_story story)) _ (λ e. cc) holds (ap outcome_of_list good) (loadable file story good) once count (λ e. absurd cc)
+        told-done Listing command d before now taken took file (outcome_of_listing (listed_story story)) _ (λ plays. plays) holds (ap outcome_of_list good) (loadable file story good) once count (λ e. absurd cc)
         (listing-told (listed_story story) taken took number tell) tell blames
+
+  -- no run was begun by a command with this job
+  unrun : (command : Command) (d e : Devices) (outcome : Outcome) → IsBegun outcome d e ended ⊎ IsIdle command.job d e ended
+      → IsBegun outcome d e ended ⊎ IsUnrun (Some command) d e ended
+  unrun command d e outcome (inl begun) = inl begun
+  unrun command d e outcome (inr idle) = inr (record { machine = idle.machine; loads = inl idle.loads; untouched = idle.untouched; unsent = idle.unsent })
 
   -- THE WHOLE CALL
   module _ (words : List (List ℕ)) (entry : Devices) where
@@ -295,19 +309,22 @@ module _ {A : Type 0} (ended : Ended A) where
     pub played-done : (command : Command) (exit : Devices) → command_of words ≡ Some command → IsDone command.job command entry exit ended → IsPlayed words entry exit ended
     played-done command exit is done =
         let headline : ComesOut (command_of words) entry exit ended =
-        subst (λ (o : Option Command). ComesOut o entry exit ended) (sym is) (record { file = done.file; file_is = done.file_is; plays = done.plays; memory = λ e. inr (done.memory e) }) in
+        subst (λ (o : Option Command). ComesOut o entry exit ended) (sym is) (record {
+          file = done.file;
+          file_is = done.file_is;
+          plays = done.plays;
+          begun = unrun command entry exit (outcome_of_job command.job command done.file entry) done.begun;
+          memory = λ e. inr (done.memory e);
+        }) in
         record {
           headline = headline;
-          unsent = unsent ended entry exit (command_of words) headline;
           complete = complete ended entry exit (command_of words) headline done.counts;
           bad_words = (λ e. absurd (done.began e), λ none. let absent = none.0 in absurd cc);
           unread = λ none. absurd cc;
-          loads = λ absent. subst (λ (o : Option Command). LoadsFor o entry exit ended.status) (sym is) (inl (done.loads absent));
-          untouched = done.untouched;
-          undrawn = undrawn ended entry exit done.untouched (command_of words) headline;
+          undrawn = undrawn ended entry exit (command_of words) headline;
           settled = settled (command_of words) entry;
           counts = done.counts;
-          parts = subst (λ (o : Option Command). HasItsParts (IsPlaying o) ended) (sym is) done.parts;
+          parts = subst (λ (o : Option Command). HasItsParts (IsPlaying o) (HandsBack o) ended) (sym is) done.parts;
           works = works;
           spelling = spelling;
         }
@@ -320,40 +337,54 @@ module _ {A : Type 0} (ended : Ended A) where
       sink = blames-none entry.sink.calls entry.sink.calls (ended.status ≡ status_output_fault) refl (λ e. absurd (grind (arith, s, which, e)));
     }
 
+    untouched-by : (o : Option Command) → ended.machine ≡ None → ended.steps ≡ 0 → LoadsFor o entry entry ended.status → IsUnrun o entry entry ended
+    untouched-by o machine steps loads = record {
+      machine = machine;
+      loads = loads;
+      untouched = record { steps = steps; source = refl; words = refl };
+      unsent = λ _. refl;
+    }
+
     -- it has none
     pub played-none : command_of words ≡ None → HasNoMachine ended status_bad_words 0 0 → IsPlayed words entry entry ended
     played-none none absent =
         let s = absent.status_is in
         let headline : ComesOut (command_of words) entry entry ended =
-        subst (λ (o : Option Command). ComesOut o entry entry ended) (sym none) (record { file = None; file_is = tt; plays = (inl absent, refl); memory = λ e. absurd (omega (arith, s, e)) }) in
+        subst (λ (o : Option Command). ComesOut o entry entry ended) (sym none) (record {
+          file = None;
+          file_is = tt;
+          plays = (inl absent, refl);
+          begun = inr (untouched-by None absent.machine_is absent.steps_are refl);
+          memory = λ e. absurd (omega (arith, s, e));
+        }) in
         record {
           headline = headline;
-          unsent = λ _ _. refl;
           complete = complete ended entry entry (command_of words) headline (none-called status_bad_words s (inl refl));
           bad_words = (λ _. (none, λ e. absurd (omega (arith, s, e))), λ _. s);
           unread = λ _. refl;
-          loads = λ _. subst (λ (o : Option Command). LoadsFor o entry entry ended.status) (sym none) refl;
-          untouched = λ _. record { steps = absent.steps_are; source = refl; words = refl };
           undrawn = λ _. refl;
           settled = settled (command_of words) entry;
           counts = none-called status_bad_words s (inl refl);
-          parts = parts-before (IsPlaying (command_of words)) status_bad_words 0 absent (inl refl) (omega arith) (λ _. refl);
+          parts = parts-before (IsPlaying (command_of words)) (HandsBack (command_of words)) status_bad_words 0 absent (inl refl) (omega arith) (λ _. refl);
           works = works;
           spelling = spelling;
         }
 
     unread-comes : (o : Option Command) → HasNoMachine ended status_no_memory 0 0 → ComesOut o entry entry ended
-    unread-comes None absent = record { file = None; file_is = tt; plays = (inr (inr absent), refl); memory = λ _. inl refl }
+    unread-comes None absent = record {
+      file = None;
+      file_is = tt;
+      plays = (inr (inr absent), refl);
+      begun = inr (untouched-by None absent.machine_is absent.steps_are refl);
+      memory = λ _. inl refl;
+    }
     unread-comes (Some command) absent = record {
       file = entry.shelf.files command.story;
       file_is = λ _. refl;
       plays = unbegun-plays (outcome_of_job command.job command (entry.shelf.files command.story) entry) entry entry (inr absent) refl;
+      begun = inr (untouched-by (Some command) absent.machine_is absent.steps_are (inr (absent.status_is, refl)));
       memory = λ _. inl refl;
     }
-
-    unread-loads : (o : Option Command) → ended.status ≡ status_no_memory → LoadsFor o entry entry ended.status
-    unread-loads None s = refl
-    unread-loads (Some command) s = inr (s, refl)
 
     -- memory ran out while the words were read
     pub played-unread : HasNoMachine ended status_no_memory 0 0 → IsPlayed words entry entry ended
@@ -361,16 +392,13 @@ module _ {A : Type 0} (ended : Ended A) where
         let s = absent.status_is in
         record {
           headline = unread-comes (command_of words) absent;
-          unsent = λ _ _. refl;
           complete = λ _ _ _. inr s;
           bad_words = (λ e. absurd (omega (arith, s, e)), λ p. absurd (p.1 s));
           unread = λ _. refl;
-          loads = λ _. unread-loads (command_of words) s;
-          untouched = λ _. record { steps = absent.steps_are; source = refl; words = refl };
           undrawn = λ _. refl;
           settled = settled (command_of words) entry;
           counts = none-called status_no_memory s (inr refl);
-          parts = parts-before (IsPlaying (command_of words)) status_no_memory 0 absent (inr (inr (inr refl))) (omega arith) (λ _. refl);
+          parts = parts-before (IsPlaying (command_of words)) (HandsBack (command_of words)) status_no_memory 0 absent (inr (inr (inr refl))) (omega arith) (λ _. refl);
           works = works;
           spelling = spelling;
         }

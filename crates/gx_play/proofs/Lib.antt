@@ -1,3 +1,4 @@
+pub mod Begun
 pub mod Completeness
 pub mod CommandLines
 pub mod Constants
@@ -7,6 +8,7 @@ pub mod Dones
 pub mod Loads
 pub mod Matched
 pub mod Plays
+pub mod Rewound
 pub mod Samples
 pub mod Seeds
 pub mod Spellings

@@ -14,6 +14,7 @@ texts_matched f = rw (
   first_value-rows f (codes "rows"),
   first_value-rows f (codes "undo"),
   first_value-rows f (codes "seed"),
+  first_value-rows f (codes "back"),
   first_value-rows f (codes "echo"),
   first_value-rows f (codes "screen"),
   first_value-rows f (codes "plain"),

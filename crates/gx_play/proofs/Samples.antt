@@ -3,7 +3,7 @@ use Rattle.std.proofs.Common.{◌≡◌, ℕ, List, [], ◌∷◌, ◌++◌, rep
 use Rattle.gx_story.specs.Stories.{accepted, bare, header}
 use Rattle.gx_session.specs.Constants.{status_bad_words, status_bad_story}
 use Rattle.gx_session.specs.Devices.{Devices}
-use Rattle.gx_play.specs.declared.command.Job.TheVariants.{Play, Check, Asm, List as Listing}
+use Rattle.gx_play.specs.declared.command.Job.TheVariants.{Play, Rewind, Check, Asm, List as Listing}
 use Rattle.gx_play.specs.Commands.{Command}
 use Rattle.gx_play.specs.Headline.{outcome_of, refused, story_of}
 
@@ -12,6 +12,9 @@ bad-words file d = refl
 
 no-such-file : (command : Command) (d : Devices) → outcome_of (Some (record command { job = Play })) None d ≡ refused status_bad_story 0 0
 no-such-file command d = refl
+
+nothing-to-rewind : (command : Command) (d : Devices) → outcome_of (Some (record command { job = Rewind })) None d ≡ refused status_bad_story 0 0
+nothing-to-rewind command d = refl
 
 nothing-to-check : (command : Command) (d : Devices) → outcome_of (Some (record command { job = Check })) None d ≡ refused status_bad_story 0 0
 nothing-to-check command d = refl

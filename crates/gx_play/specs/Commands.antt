@@ -1,4 +1,4 @@
--- The command line: gx_player STORY [--steps N] [--columns N] [--rows N] [--undo N] [--seed N] [--echo]
+-- The command line: gx_player STORY [--steps N] [--columns N] [--rows N] [--undo N] [--seed N] [--back N] [--echo]
 -- [--screen | --plain] [--job JOB].
 --
 -- The words are those of one simple command of clap, the program's name first, so `--steps N` and `--steps=N` are
@@ -12,7 +12,7 @@ use Rattle.std.specs.Str.Parse.{digits_value}
 use Rattle.clap.specs.Words.{App, Kinds, Row, Rule, Text, first_of, fault_of, matches_of, new_app, new_rule, with_rule}
 use Rattle.clap.specs.declared.builder.ArgAction.TheVariants.{SetTrue}
 use Rattle.gx_play.specs.declared.command.Job.{Job}
-use Rattle.gx_play.specs.declared.command.Job.TheVariants.{Play, Check, Work, Asm, List as Listing}
+use Rattle.gx_play.specs.declared.command.Job.TheVariants.{Play, Rewind, Check, Work, Asm, List as Listing}
 use Rattle.glk_world.specs.declared.views.View.{View}
 use Rattle.glk_world.specs.declared.views.View.TheVariants as view
 use Rattle.gx_undo.specs.Undo.{most_undo}
@@ -37,7 +37,7 @@ flag_rule name = record (new_rule name) { long = Some name; action = Some SetTru
 
 unfoldable pub player : App
 player =
-    with_rule (with_rule (with_rule (with_rule (with_rule (with_rule (with_rule (with_rule (with_rule (with_rule
+    with_rule (with_rule (with_rule (with_rule (with_rule (with_rule (with_rule (with_rule (with_rule (with_rule (with_rule
     (new_app (codes "gx_player"))
     story_rule)
     (text_rule (codes "steps") (codes "1000000000000000")))
@@ -45,6 +45,7 @@ player =
     (text_rule (codes "rows") (codes "24")))
     (free_rule (codes "undo")))
     (free_rule (codes "seed")))
+    (text_rule (codes "back") (codes "0")))
     (flag_rule (codes "echo")))
     (flag_rule (codes "screen")))
     (flag_rule (codes "plain")))
@@ -66,14 +67,15 @@ pub record Texts : Type 0 where
   pub rows : Option Text
   pub undo : Option Text
   pub seed : Option Text
+  pub back : Option Text
   pub echo : Bool
   pub screen : Bool
   pub plain : Bool
   pub job : Option Text
 
 -- WHAT A COMMAND LINE ASKS FOR: the name of the file, the budget of the run, the size of the screen, how many copies
--- are kept for undo, the seed of the random words, if there is one, whether each line that is taken is shown, how the
--- text is put together, and the job.
+-- are kept for undo, the seed of the random words, if there is one, how many units job rewind goes back, whether each
+-- line that is taken is shown, how the text is put together, and the job.
 pub record Command : Type 0 where
   pub story : Text
   pub steps : ℕ
@@ -81,6 +83,7 @@ pub record Command : Type 0 where
   pub rows : ℕ
   pub undo : ℕ
   pub seed : Option ℕ
+  pub back : ℕ
   pub echo : Bool
   pub view : View
   pub job : Job
@@ -109,6 +112,7 @@ seed_of (Some text) = option_map (λ number. Some number) (number_of 0 (2 ^ 64 -
 abbrev pub job_of : Text → Text → Option Job
 job_of story name =
     if bytes_eq name (codes "play") then Some Play else
+    if bytes_eq name (codes "rewind") then Some Rewind else
     if bytes_eq name (codes "check") then Some Check else
     if bytes_eq name (codes "work") then option_map (λ number. Work number) (number_of 0 (2 ^ 32 - 1) story) else
     if bytes_eq name (codes "asm") then Some Asm else
@@ -120,21 +124,22 @@ job_in (Some story) (Some name) = job_of story name
 job_in story name = None
 
 -- HOW THE TEXT IS PUT TOGETHER, by the flags screen, plain and echo, and the job. With `--screen` the screen is
--- composed; that isn't understood with `--plain` or `--echo`, nor in a job other than play. With `--plain` grids are
--- shown nowhere. Else rows of grids stand behind a bar.
+-- composed; that isn't understood with `--plain` or `--echo`, nor in a job other than play and rewind. With `--plain`
+-- grids are shown nowhere. Else rows of grids stand behind a bar.
 abbrev pub view_of : Bool → Bool → Bool → Job → Option View
 view_of false false echo job = Some view.Rows
 view_of false true echo job = Some view.Plain
 view_of true false false Play = Some view.Screen
+view_of true false false Rewind = Some view.Screen
 view_of screen plain echo job = None
 
 abbrev pub view_in : Bool → Bool → Bool → Option Job → Option View
 view_in screen plain echo None = None
 view_in screen plain echo (Some job) = view_of screen plain echo job
 
-abbrev pub command_with : Option Text → Option ℕ → Option ℕ → Option ℕ → Option ℕ → Option (Option ℕ) → Bool
+abbrev pub command_with : Option Text → Option ℕ → Option ℕ → Option ℕ → Option ℕ → Option (Option ℕ) → Option ℕ → Bool
     → Option View → Option Job → Option Command
-command_with (Some story) (Some steps) (Some columns) (Some rows) (Some undo) (Some seed) echo (Some view) (Some job) =
+command_with (Some story) (Some steps) (Some columns) (Some rows) (Some undo) (Some seed) (Some back) echo (Some view) (Some job) =
     Some (record {
       story = story;
       steps = steps;
@@ -142,17 +147,18 @@ command_with (Some story) (Some steps) (Some columns) (Some rows) (Some undo) (S
       rows = rows;
       undo = undo;
       seed = seed;
+      back = back;
       echo = echo;
       view = view;
       job = job;
     })
-command_with story steps columns rows undo seed echo view job = None
+command_with story steps columns rows undo seed back echo view job = None
 
 -- what the texts ask for, where each is as it has to be
 abbrev pub command_in : Texts → Option Command
 command_in texts =
     command_with texts.story (number_in 0 (2 ^ 64 - 1) texts.steps) (number_in 1 255 texts.columns) (number_in 1 255 texts.rows)
-    (depth_of texts.undo) (seed_of texts.seed) texts.echo
+    (depth_of texts.undo) (seed_of texts.seed) (number_in 0 (2 ^ 64 - 1) texts.back) texts.echo
     (view_in texts.screen texts.plain texts.echo (job_in texts.story texts.job)) (job_in texts.story texts.job)
 
 -- a flag is set
@@ -169,6 +175,7 @@ texts_of rows = record {
   rows = first_of (codes "rows") rows;
   undo = first_of (codes "undo") rows;
   seed = first_of (codes "seed") rows;
+  back = first_of (codes "back") rows;
   echo = is_set (first_of (codes "echo") rows);
   screen = is_set (first_of (codes "screen") rows);
   plain = is_set (first_of (codes "plain") rows);

@@ -13,6 +13,14 @@
 --   how often the shelf was asked. Or it was cut short, because a device failed or memory ran out: then the machine
 --   stands at one of the session's configurations, a front of the text up to there was sent, and the files are those of
 --   that configuration, but for the one that a refused store or remove leaves open.
+-- - In job rewind the story runs just so, and its run is recorded. Where it came to its end, with a status below 8, one
+--   line of specs/Rewinding follows the text as it stands, also in mid-line. It tells of the machine as it stood before
+--   the end by so many units as the command says: at the end itself where these are 0, and else at the beginning of the
+--   newest step since when at least so many were used, or of the first step. That machine is one of the run's, with the
+--   units that were used up to it (`records` of `IsRun`). A step whose Glk call ended the program isn't recorded, so
+--   that the end is then where it began. Text, files, status, fault, address and steps are those of the run. But the
+--   sink may fail at the line (status 10), or memory may run out (11): then some front of the line was sent. No machine
+--   is handed back.
 -- - In the jobs check and work one line of specs/Jobs is sent, with its status, or a front of it where the output fails
 --   or wants memory. No machine is handed back. Every number has a story that can be started (`works`).
 -- - In job asm the story of the code that the file's text spells is sent, in job list the text of the story's start
@@ -20,6 +28,9 @@
 --   with the fault that the definitions of gx_asm have for it and the line or the address where it stands; nothing is
 --   sent then.
 -- - Or nothing was begun, because the shelf failed or memory ran out before.
+--
+-- Where no run was begun no machine is handed back, no step is done, no input is read, no random word is drawn, and in
+-- the jobs that play a story no text is sent (`IsUnrun`).
 --
 -- The text of a session is that of the view that the command line chooses (`view_of` in specs/Commands; what each view
 -- shows is said in glk_world/specs/Shown), and all of this holds with each of the three:
@@ -63,9 +74,10 @@
 -- Status 11 (`status_no_memory`) is a free answer in these places, and, of devices that tell, in no others:
 --
 -- - Before anything is done, whatever the words are. So a body that does nothing and answers so meets the contract.
--- - In the jobs play, check, asm and list once the shelf was asked for the file, where it has one of at most 0x10000000
---   bytes, in job asm of at most 0x01000000; in job work anywhere. No machine is handed back then, and nothing was
---   sent, or, but in job play, a front of the output in a call of the sink that wanted memory (`IsUnsent`).
+-- - In the jobs play, rewind, check, asm and list once the shelf was asked for the file, where it has one of at most
+--   0x10000000 bytes, in job asm of at most 0x01000000; in job work anywhere. No machine is handed back then, and
+--   nothing was sent, or, but in the jobs play and rewind, a front of the output in a call of the sink that wanted
+--   memory (`IsUnsent`).
 -- - In a run that was begun, with the machine, the text, the files and the input of that moment (`StopsEarly`,
 --   `IsCut`): at a step within the budget that writes, resizes or copies memory and has no fault; at what a step asks,
 --   where the Glk call, the put character or the restore makes something grow and has no fault, where a save is begun
@@ -76,11 +88,15 @@
 --   screen is composed, and in each view where the open files are listed, if there are some, and at the store of each.
 --   Where text is due, where the shelf is asked and at a store it is one only if the device says so: that memory ran
 --   out in the last call that it had (`WantedBy`).
+-- - In job rewind also where the record is begun, before the run; in the run for the record, at each step, whatever it
+--   comes to, and at each answer; and after the run where it goes back, and for the line. Where the line is sent it is
+--   one only if the sink says that it wanted memory.
 --
 -- So no body would pass that asks for a story that isn't there and answers so, or answers so where a device failed,
 -- where the next step meets a fault that isn't a save's, or writes nothing and asks nothing, or where a line is awaited
 -- and no input is left. So it is no answer in place of a step that ends the program or is above the budget, or of a Glk
 -- call that ends the program or waits in vain; but it is one at the ending that follows, whose parts are named above.
+-- In job rewind, where each step may want memory, that of the steps is not said.
 use Rattle.std.specs.Prelude.{◌≡◌, ◌≢◌, ℕ, ◌<◌, ◌≤◌, nat_lt, if◌then◌else◌, length, List, ◌++◌, ◌⊎◌, ◌↔◌, true, Option, Some, None, IsSome, IsSomeAnd, Result, Ok, Err}
 use Rattle.gx_words.specs.declared.faults.Fault.{Fault}
 use Rattle.gx_words.specs.Faults.{number_of}
@@ -96,6 +112,7 @@ use Rattle.gx_asm.specs.declared.faults.ListFault.{ListFault}
 use Rattle.gx_asm.specs.Faults.{number_in_text, line_in_text, number_in_code, place_in_code}
 use Rattle.gx_asm.specs.Texts.{assembled}
 use Rattle.gx_asm.specs.Stories.{wrapped, listed_story}
+use Rattle.gx_machine.specs.Log.{Log, no_events}
 use Rattle.gx_machine.specs.Machine.{Whole}
 use Rattle.gx_machine.specs.Start.{first_machine}
 use Rattle.glk_world.specs.World.{empty_world}
@@ -104,12 +121,13 @@ use Rattle.gx_session.specs.Constants.{status_ended, status_bad_words, status_ba
 use Rattle.gx_session.specs.Devices.{Devices}
 use Rattle.gx_session.specs.Session.{Configuration, start_of, final_of, status_of}
 use Rattle.gx_session.specs.Counts.{Counts}
-use Rattle.gx_session.specs.Runs.{IsRun, IsFront, report_of}
+use Rattle.gx_session.specs.Runs.{IsRun, IsFront, Report, report_of}
 use Rattle.gx_play.specs.declared.command.Job.{Job}
-use Rattle.gx_play.specs.declared.command.Job.TheVariants.{Play, Check, Work, Asm, List as Listing}
+use Rattle.gx_play.specs.declared.command.Job.TheVariants.{Play, Rewind, Check, Work, Asm, List as Listing}
 use Rattle.gx_play.specs.Commands.{Command, command_of}
 use Rattle.gx_play.specs.Constants.{no_file, most_text}
 use Rattle.gx_play.specs.Jobs.{check_status, check_line, work_machine, work_line}
+use Rattle.gx_play.specs.Rewinding.{rewind_line}
 use Rattle.gx_play.specs.Seeds.{devices_for, AreLeft}
 use Rattle.gx_play.specs.Spelling.{IsSpelling}
 use Rattle.rand_core.specs.Stream.{Stream}
@@ -122,6 +140,8 @@ pub data Outcome : Type 0 where
   unstarted : Fault → ℕ → Outcome
   -- the session from this configuration to its end, with the words of a seed or of the device
   runs : Option ℕ → Configuration → Outcome
+  -- the same, recorded, and then the line of so many units before the end
+  rewinds : Option ℕ → ℕ → Configuration → Outcome
   -- an output is sent, with this status: a line, a story or a listing
   tells : ℕ → List ℕ → Outcome
 
@@ -135,20 +155,24 @@ abbrev pub story_of : Option (List ℕ) → Result FlatStory ℕ
 story_of None = Err no_file
 story_of (Some bytes) = if nat_lt ceiling (length bytes) then Err (story_number_of TooLarge) else numbered (accepted bytes)
 
--- JOB PLAY: the machine of a story runs from its start, with the command's random words, in its view and on its screen,
--- within its budget.
-abbrev pub start_for : Command → Whole → Devices → Configuration
-start_for command whole entry =
+-- THE JOBS PLAY AND REWIND: the machine of a story runs from its start, with the command's random words, in its view
+-- and on its screen, within its budget. In job rewind the run is recorded.
+abbrev pub start_for : Command → Whole → Option Log → Devices → Configuration
+start_for command whole log entry =
     start_of whole.machine (empty_world command.view command.columns command.rows) (devices_for command.seed entry)
-    command.echo command.steps
+    command.echo command.steps log
 
-abbrev pub outcome_of_start : Command → FlatStory → Devices → Result Whole Fault → Outcome
-outcome_of_start command story entry (Ok whole) = runs command.seed (start_for command whole entry)
-outcome_of_start command story entry (Err fault) = unstarted fault story.header.start_function
+abbrev pub outcome_of_run : Job → Command → Devices → Whole → Outcome
+outcome_of_run Rewind command entry whole = rewinds command.seed command.back (start_for command whole (Some no_events) entry)
+outcome_of_run job command entry whole = runs command.seed (start_for command whole None entry)
 
-abbrev pub outcome_of_story : Command → Devices → Result FlatStory ℕ → Outcome
-outcome_of_story command entry (Ok story) = outcome_of_start command story entry (first_machine story command.undo)
-outcome_of_story command entry (Err fault) = refused status_bad_story fault 0
+abbrev pub outcome_of_start : Job → Command → FlatStory → Devices → Result Whole Fault → Outcome
+outcome_of_start job command story entry (Ok whole) = outcome_of_run job command entry whole
+outcome_of_start job command story entry (Err fault) = unstarted fault story.header.start_function
+
+abbrev pub outcome_of_story : Job → Command → Devices → Result FlatStory ℕ → Outcome
+outcome_of_story job command entry (Ok story) = outcome_of_start job command story entry (first_machine story command.undo)
+outcome_of_story job command entry (Err fault) = refused status_bad_story fault 0
 
 -- JOB CHECK
 abbrev pub outcome_of_check : Result FlatStory ℕ → Outcome
@@ -179,7 +203,8 @@ outcome_of_list (Ok story) = outcome_of_listing (listed_story story)
 outcome_of_list (Err fault) = refused status_bad_story fault 0
 
 abbrev pub outcome_of_job : Job → Command → Option (List ℕ) → Devices → Outcome
-outcome_of_job Play command file entry = outcome_of_story command entry (story_of file)
+outcome_of_job Play command file entry = outcome_of_story Play command entry (story_of file)
+outcome_of_job Rewind command file entry = outcome_of_story Rewind command entry (story_of file)
 outcome_of_job Check command file entry = outcome_of_check (story_of file)
 outcome_of_job (Work number) command file entry = tells status_ended (work_line number)
 outcome_of_job Asm command file entry = outcome_of_text (text_of file)
@@ -231,13 +256,57 @@ IsRunOf seed start entry exit ended =
     (left : Stream) × AreLeft seed left entry.words exit.words
     × IsSomeAnd ended.machine (λ end. IsRun start (devices_for seed entry) (record exit { words = left }) (report_of ended end))
 
--- What is answered and left behind is the outcome's. The run finds the shelf as it is once the story was loaded.
+-- The answer of job rewind once its run is over: the steps are those of the run.
+pub record HasRun {A : Type 0} (ended : Ended A) (status fault at steps : ℕ) : Type 0 where
+  pub status_is : ended.status ≡ status
+  pub fault_is : ended.fault ≡ fault
+  pub at_is : ended.at ≡ at
+  pub steps_are : ended.steps ≡ steps
+  pub machine_is : ended.machine ≡ None
+
+-- its line wasn't sent whole: the sink failed, or it says that it wanted memory
+abbrev pub IsLineUnsent : {A : Type 0} → FlatSink → Ended A → ℕ → Type 0
+IsLineUnsent sink ended steps =
+    HasRun ended status_output_fault 0 0 steps ⊎ (HasRun ended status_no_memory 0 0 steps × (sink.calls.wanting ≡ true))
+
+-- the line was sent, or a front of it, or memory ran out before
+abbrev pub SendsLine : {A : Type 0} → List ℕ → Report → FlatSink → FlatSink → Ended A → Type 0
+SendsLine line r before now ended =
+    (HasRun ended r.status r.fault r.at r.steps × TakesOnce line before now)
+    ⊎ (IsLineUnsent now ended r.steps × ((front : List ℕ) × IsFront front line × TakesOnce front before now))
+    ⊎ (HasRun ended status_no_memory 0 0 r.steps × (now ≡ before))
+
+-- After a run that came to its end the line is sent, and after one that was cut short nothing.
+pub record IsRewound {A : Type 0} (back : ℕ) (r : Report) (before now : FlatSink) (ended : Ended A) : Type 0 where
+  pub told : r.status < status_shelf_fault → SendsLine (rewind_line back r) r before now ended
+  pub early : status_shelf_fault ≤ r.status → HasRun ended r.status r.fault r.at r.steps × (now ≡ before)
+
+-- The session from a start was run over these devices in the same way, up to this report.
+abbrev pub IsRunTo : Option ℕ → Configuration → Devices → Devices → Report → Type 0
+IsRunTo seed start entry exit r =
+    (left : Stream) × AreLeft seed left entry.words exit.words × IsRun start (devices_for seed entry) (record exit { words = left }) r
+
+-- It was so, and left the sink so; and then came the line.
+pub record IsRewindOf {A : Type 0} (seed : Option ℕ) (back : ℕ) (start : Configuration) (entry exit : Devices) (ended : Ended A) : Type 0 where
+  pub report : Report
+  pub sink : FlatSink
+  pub run : IsRunTo seed start entry (record exit { sink = sink }) report
+  pub rewound : IsRewound back report sink exit.sink ended
+
+-- A run was begun. It finds the shelf as it is once the story was loaded.
+abbrev pub IsBegun : {A : Type 0} → Outcome → Devices → Devices → Ended A → Type 0
+IsBegun (runs seed start) entry exit ended =
+    (shelf : FlatShelf) × LoadsOnce entry.shelf shelf × IsRunOf seed start (record entry { shelf = shelf }) exit ended
+IsBegun (rewinds seed back start) entry exit ended =
+    (shelf : FlatShelf) × LoadsOnce entry.shelf shelf × IsRewindOf seed back start (record entry { shelf = shelf }) exit ended
+IsBegun outcome entry exit ended = ⊥
+
+-- What is answered and left behind is the outcome's.
 abbrev pub Plays : {A : Type 0} → Outcome → Devices → Devices → Ended A → Type 0
 Plays (refused status fault at) entry exit ended = (HasNoMachine ended status fault at ⊎ IsUnbegun ended) × (exit.sink ≡ entry.sink)
 Plays (unstarted fault at) entry exit ended = (HasNoMachine ended status_fault (number_of fault) at ⊎ IsUnbegun ended) × (exit.sink ≡ entry.sink)
-Plays (runs seed start) entry exit ended =
-    ((shelf : FlatShelf) × LoadsOnce entry.shelf shelf × IsRunOf seed start (record entry { shelf = shelf }) exit ended)
-    ⊎ (IsUnbegun ended × (exit.sink ≡ entry.sink))
+Plays (runs seed start) entry exit ended = IsBegun (runs seed start) entry exit ended ⊎ (IsUnbegun ended × (exit.sink ≡ entry.sink))
+Plays (rewinds seed back start) entry exit ended = IsBegun (rewinds seed back start) entry exit ended ⊎ (IsUnbegun ended × (exit.sink ≡ entry.sink))
 Plays (tells status output) entry exit ended = SendsOutput status output entry.sink exit.sink ended ⊎ (IsUnbegun ended × (exit.sink ≡ entry.sink))
 
 -- what a shelf that tells holds under the file's name
@@ -259,15 +328,8 @@ abbrev pub MayWantFor : Option Command → Option (List ℕ) → Type 0
 MayWantFor None file = ⊥
 MayWantFor (Some command) file = MayWant command.job file
 
--- A command comes to its outcome.
-pub record ComesOut {A : Type 0} (command : Option Command) (entry exit : Devices) (ended : Ended A) : Type 0 where
-  pub file : Option (List ℕ)
-  pub file_is : IsFile command entry.shelf file
-  pub plays : Plays (outcome_of command file entry) entry exit ended
-  pub memory : ended.status ≡ status_no_memory → (exit ≡ entry) ⊎ MayWantFor command file
-
--- WHATEVER THE DEVICES TELL
--- No machine is handed back: the shelf was asked once for the file, or not at all in job work.
+-- WHERE NO RUN WAS BEGUN, whatever the devices tell
+-- The shelf was asked once for the file, or not at all in job work.
 abbrev pub Loads : Job → FlatShelf → FlatShelf → Type 0
 Loads (Work number) before now = now ≡ before
 Loads job before now = LoadsOnce before now
@@ -283,13 +345,39 @@ pub record IsUntouched {A : Type 0} (entry exit : Devices) (ended : Ended A) : T
   pub source : exit.source ≡ entry.source
   pub words : exit.words ≡ entry.words
 
+-- the jobs that play a story
+abbrev pub PlaysStory : Job → Type 0
+PlaysStory Play = Unit {0}
+PlaysStory Rewind = Unit {0}
+PlaysStory job = ⊥
+
 -- a command line that plays a story, or is none
 abbrev pub IsPlaying : Option Command → Type 0
 IsPlaying None = Unit {0}
-IsPlaying (Some command) = command.job ≡ Play
+IsPlaying (Some command) = PlaysStory command.job
 
--- The statuses, and what goes with each: the fault's number, its place, and where a story is played the machine.
-pub record HasItsParts {A : Type 0} (playing : Type 0) (ended : Ended A) : Type 0 where
+pub record IsUnrun {A : Type 0} (command : Option Command) (entry exit : Devices) (ended : Ended A) : Type 0 where
+  pub machine : ended.machine ≡ None
+  pub loads : LoadsFor command entry exit ended.status
+  pub untouched : IsUntouched entry exit ended
+  pub unsent : IsPlaying command → exit.sink ≡ entry.sink
+
+-- A COMMAND COMES TO ITS OUTCOME, and a run was begun or not.
+pub record ComesOut {A : Type 0} (command : Option Command) (entry exit : Devices) (ended : Ended A) : Type 0 where
+  pub file : Option (List ℕ)
+  pub file_is : IsFile command entry.shelf file
+  pub plays : Plays (outcome_of command file entry) entry exit ended
+  pub begun : IsBegun (outcome_of command file entry) entry exit ended ⊎ IsUnrun command entry exit ended
+  pub memory : ended.status ≡ status_no_memory → (exit ≡ entry) ⊎ MayWantFor command file
+
+-- THE STATUSES, whatever the devices tell
+-- a command line that hands back the machine of a run, or is none
+abbrev pub HandsBack : Option Command → Type 0
+HandsBack None = Unit {0}
+HandsBack (Some command) = command.job ≡ Play
+
+-- What goes with each status: the fault's number, its place, and in job play the machine.
+pub record HasItsParts {A : Type 0} (playing handing : Type 0) (ended : Ended A) : Type 0 where
   pub status_is : ended.status ≤ status_no_listing
   pub played : playing → ended.status ≤ status_no_memory
   pub story_fault : ended.status ≡ status_bad_story → ended.fault ≤ 7
@@ -300,7 +388,7 @@ pub record HasItsParts {A : Type 0} (playing : Type 0) (ended : Ended A) : Type 
   pub no_place : ended.status ≢ status_fault → ended.status ≤ status_no_memory → ended.at ≡ 0
   -- a machine is handed back where one ran, and none where none was started; a fault, a failing shelf and want of
   -- memory may come before
-  pub ran : playing → (ended.status ≡ status_ended) ⊎ ((status_spent ≤ ended.status) × (ended.status ≤ status_output_fault) × (ended.status ≢ status_shelf_fault)) → IsSome ended.machine
+  pub ran : handing → (ended.status ≡ status_ended) ⊎ ((status_spent ≤ ended.status) × (ended.status ≤ status_output_fault) × (ended.status ≢ status_shelf_fault)) → IsSome ended.machine
   pub not_run : (ended.status ≡ status_bad_words) ⊎ (ended.status ≡ status_bad_story) ⊎ (status_no_memory < ended.status) → ended.machine ≡ None
 
 -- a command line with a seed
@@ -318,6 +406,7 @@ abbrev pub status_of_outcome : Outcome → ℕ
 status_of_outcome (refused status fault at) = status
 status_of_outcome (unstarted fault at) = status_fault
 status_of_outcome (runs seed start) = status_of (final_of start).stop
+status_of_outcome (rewinds seed back start) = status_of (final_of start).stop
 status_of_outcome (tells status output) = status
 
 -- what stands under the file's name, if a command names one
@@ -343,13 +432,10 @@ pub record IsPlayed {A : Type 0} (words : List (List ℕ)) (entry exit : Devices
   pub headline : ComesOut (command_of words) entry exit ended
   pub bad_words : (ended.status ≡ status_bad_words) ↔ ((command_of words ≡ None) × (ended.status ≢ status_no_memory))
   pub unread : command_of words ≡ None → exit ≡ entry
-  pub loads : ended.machine ≡ None → LoadsFor (command_of words) entry exit ended.status
-  pub untouched : ended.machine ≡ None → IsUntouched entry exit ended
-  pub unsent : IsPlaying (command_of words) → ended.machine ≡ None → exit.sink ≡ entry.sink
   pub undrawn : IsSeeded (command_of words) → exit.words ≡ entry.words
   pub settled : IsSeeded (command_of words) → IsSettled (command_of words) entry
   pub counts : Counts entry exit ended.status
   pub complete : IsComplete (command_of words) entry exit ended.status
-  pub parts : HasItsParts (IsPlaying (command_of words)) ended
+  pub parts : HasItsParts (IsPlaying (command_of words)) (HandsBack (command_of words)) ended
   pub works : (number : ℕ) → IsSome (work_machine number)
   pub spelling : IsSpelling

@@ -58,7 +58,7 @@ unfoldable pub work_machine : ℕ → Option Whole
 work_machine number = machine_in (accepted (work_story number))
 
 abbrev pub work_start : Whole → Configuration
-work_start whole = start_of whole.machine (empty_world view.Rows 80 24) nothing false (2 ^ 64 - 1)
+work_start whole = start_of whole.machine (empty_world view.Rows 80 24) nothing false (2 ^ 64 - 1) None
 
 -- the sum of so many words from an address on
 unfoldable pub sum_from : ℕ → List ℕ → ℕ → ℕ

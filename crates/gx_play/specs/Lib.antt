@@ -4,5 +4,6 @@ pub mod Headline
 pub mod Jobs
 pub mod Loading
 pub mod Reading
+pub mod Rewinding
 pub mod Seeds
 pub mod Spelling

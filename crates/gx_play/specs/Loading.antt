@@ -17,7 +17,7 @@ use Rattle.gx_play.specs.declared.command.Job.TheVariants.{Play}
 use Rattle.gx_play.specs.declared.loading.Refusal.{Refusal}
 use Rattle.gx_play.specs.declared.loading.Refusal.TheVariants as refusal
 use Rattle.gx_play.specs.Commands.{Command}
-use Rattle.gx_play.specs.Headline.{Outcome, refused, unstarted, runs, tells, outcome_of_job, HasNoMachine, IsUnbegun, SendsOutput, IsRunOf, IsLoadable, HasItsParts, IsUntouched, Loads, MayWant, Plays}
+use Rattle.gx_play.specs.Headline.{Outcome, refused, unstarted, runs, rewinds, tells, outcome_of_job, HasNoMachine, IsUnbegun, SendsOutput, IsRunOf, IsRewindOf, IsBegun, IsLoadable, HasItsParts, IsUntouched, Loads, MayWant, Plays, PlaysStory}
 
 -- what a shelf's fault is to a story that is loaded
 abbrev pub refusal_of_shelf : ShelfFault → Refusal
@@ -53,29 +53,40 @@ pub record LoadsFile {X : Type 0} (most : ℕ) (defined : Option (List ℕ) → 
   pub file_is : shelf.tells ≡ true → file ≡ shelf.files name
   pub gives : LoadGives most defined file result
 
+-- no device was called, and no run was begun
+abbrev pub IsStill : {A : Type 0} → Devices → Devices → Ended A → Type 0
+IsStill entry exit ended = IsUnbegun ended × (exit ≡ entry)
+
 -- What a story that was loaded comes to, from the devices as they are then.
 abbrev pub StoryPlays : {A : Type 0} → Outcome → Devices → Devices → Ended A → Type 0
-StoryPlays (refused status fault at) entry exit ended = HasNoMachine ended status fault at ⊎ IsUnbegun ended
-StoryPlays (unstarted fault at) entry exit ended = HasNoMachine ended status_fault (number_of fault) at ⊎ IsUnbegun ended
-StoryPlays (runs seed start) entry exit ended = IsRunOf seed start entry exit ended ⊎ IsUnbegun ended
-StoryPlays (tells status output) entry exit ended = ⊥
+StoryPlays (unstarted fault at) entry exit ended =
+    (HasNoMachine ended status_fault (number_of fault) at × (exit ≡ entry)) ⊎ IsStill entry exit ended
+StoryPlays (runs seed start) entry exit ended = IsRunOf seed start entry exit ended ⊎ IsStill entry exit ended
+StoryPlays (rewinds seed back start) entry exit ended = IsRewindOf seed back start entry exit ended ⊎ IsStill entry exit ended
+StoryPlays outcome entry exit ended = ⊥
 
 -- What a file that was loaded is told as, where no machine is started: nothing is sent with a refusal; and before an
 -- output is sent, memory may run out.
 abbrev pub JobTells : {A : Type 0} → Outcome → FlatSink → FlatSink → Ended A → Type 0
 JobTells (refused status fault at) before now ended = HasNoMachine ended status fault at × (now ≡ before)
-JobTells (unstarted fault at) before now ended = ⊥
-JobTells (runs seed start) before now ended = ⊥
 JobTells (tells status output) before now ended =
     SendsOutput status output before now ended ⊎ (HasNoMachine ended status_no_memory 0 0 × (now ≡ before))
+JobTells outcome before now ended = ⊥
 
--- what goes with the status of a run
-abbrev pub HasRunParts : {A : Type 0} → Ended A → Type 0
-HasRunParts ended = HasItsParts (Unit {0}) ended
+-- what goes with the status where a story is played, with the machine or without it
+abbrev pub HasRunParts : {A : Type 0} → Type 0 → Ended A → Type 0
+HasRunParts handing ended = HasItsParts (Unit {0}) handing ended
 
 -- the sink is blamed exactly where it failed
 abbrev pub BlamesSink : FlatSink → FlatSink → ℕ → Type 0
 BlamesSink before now status = Blames before.calls now.calls (status ≡ status_output_fault)
+
+-- No run was begun: what `IsUnrun` says, of a command with this job.
+pub record IsIdle {A : Type 0} (job : Job) (entry exit : Devices) (ended : Ended A) : Type 0 where
+  pub machine : ended.machine ≡ None
+  pub loads : Loads job entry.shelf exit.shelf
+  pub untouched : IsUntouched entry exit ended
+  pub unsent : PlaysStory job → exit.sink ≡ entry.sink
 
 -- WHAT A COMMAND COMES TO with this job: the clauses of `play` for a command line that has one.
 pub record IsDone {A : Type 0} (job : Job) (command : Command) (entry exit : Devices) (ended : Ended A) : Type 0 where
@@ -84,7 +95,6 @@ pub record IsDone {A : Type 0} (job : Job) (command : Command) (entry exit : Dev
   pub plays : Plays (outcome_of_job job command file entry) entry exit ended
   pub memory : ended.status ≡ status_no_memory → MayWant job file
   pub began : ended.status ≢ status_bad_words
-  pub loads : ended.machine ≡ None → Loads job entry.shelf exit.shelf
-  pub untouched : ended.machine ≡ None → IsUntouched entry exit ended
+  pub begun : IsBegun (outcome_of_job job command file entry) entry exit ended ⊎ IsIdle job entry exit ended
   pub counts : Counts entry exit ended.status
-  pub parts : HasItsParts (job ≡ Play) ended
+  pub parts : HasItsParts (PlaysStory job) (job ≡ Play) ended

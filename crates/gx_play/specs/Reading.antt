@@ -1,5 +1,5 @@
 -- How the reading of a command line is done: in two steps, each exact but for want of memory.
-use Rattle.std.specs.Prelude.{◌≡◌, ◌≤◌, true, Some, None, List, codes, option_map}
+use Rattle.std.specs.Prelude.{◌≡◌, ◌<◌, ◌≤◌, ◌^◌, true, Some, None, List, codes, option_map}
 use Rattle.clap.specs.Words.{Text, first_value, found_of, rows_of}
 use Rattle.clap.specs.declared.parser.matches.Found.{Found}
 use Rattle.clap.specs.declared.parser.matches.ArgMatches.{ArgMatches}
@@ -19,13 +19,16 @@ seen c = record {
   rows = c.rows;
   undo = c.undo;
   seed = c.seed;
+  back = c.back;
   echo = c.echo;
   view = c.view;
   job = c.job;
 }
 
--- numbers that a run can be played with: a screen from 1 by 1 to 255 by 255, and from 1 to 64 copies for undo
+-- numbers that a run can be played with: fewer than 2^64 units, a screen from 1 by 1 to 255 by 255, and from 1 to 64
+-- copies for undo
 pub record IsInRange (c : declared.Command) : Type 0 where
+  pub steps : c.steps < 2 ^ 64
   pub columns : (1 ≤ c.columns) × (c.columns ≤ 255)
   pub rows : (1 ≤ c.rows) × (c.rows ≤ 255)
   pub undo : (1 ≤ c.undo) × (c.undo ≤ most_undo)
@@ -39,6 +42,7 @@ texts_seen t = record {
   rows = Some t.rows.now;
   undo = option_map (λ text. text.now) t.undo;
   seed = option_map (λ text. text.now) t.seed;
+  back = Some t.back.now;
   echo = t.echo;
   screen = t.screen;
   plain = t.plain;
@@ -54,6 +58,7 @@ texts_in found = record {
   rows = first_value found (codes "rows");
   undo = first_value found (codes "undo");
   seed = first_value found (codes "seed");
+  back = first_value found (codes "back");
   echo = is_set (first_value found (codes "echo"));
   screen = is_set (first_value found (codes "screen"));
   plain = is_set (first_value found (codes "plain"));

@@ -1,20 +1,21 @@
 //! The command line: what its words ask for.
 //!
-//! `gx_player STORY [--steps N] [--columns N] [--rows N] [--undo N] [--seed N] [--echo] [--screen | --plain]
-//! [--job JOB]`, read as specs/Commands has it: a command exactly where the words match, each text is as it has to be
-//! and the flags go together. All options are looked at in every job. Reading takes memory, so that want of memory may
-//! come for any words.
+//! `gx_player STORY [--steps N] [--columns N] [--rows N] [--undo N] [--seed N] [--back N] [--echo]
+//! [--screen | --plain] [--job JOB]`, read as specs/Commands has it: a command exactly where the words match, each text
+//! is as it has to be and the flags go together. All options are looked at in every job. Reading takes memory, so that
+//! want of memory may come for any words.
 ghost use Rattle.std.specs.Prelude.{◌≡◌, ◌-◌, ◌^◌, ◌≤◌, Some, map, MatchResult, IfOk, IfSome, option_map, codes};
 ghost use Rattle.std.specs.Char.{is_ascii_digit};
 ghost use Rattle.std.specs.List.{list_all};
 ghost use Rattle.clap.specs.Words.{first_value, found_of};
 ghost use Rattle.gx_undo.specs.Undo.{most_undo};
+ghost use Rattle.glk_world.specs.World.{empty_world};
 ghost use Rattle.gx_play.specs.Commands.{command_of, command_in, number_of, depth_of, seed_of, job_of, view_of, is_set};
 ghost use Rattle.gx_play.specs.Reading.{seen, texts_seen, texts_in, IsUnread, IsInRange};
 
 use crate::words::match_words;
 use clap::ArgMatches;
-use glk_world::View;
+use glk_world::{View, World};
 use gx_undo::MOST_UNDO;
 use std::alloc::{AllocError, Global};
 
@@ -26,6 +27,8 @@ pub const USUAL_DEPTH: usize = 16;
 pub enum Job {
     /// Play the story.
     Play,
+    /// Play the story, and tell of the machine as it stood so many units before the end.
+    Rewind,
     /// Tell whether the story's checksum is right.
     Check,
     /// Play the story that is made of this number, and tell how much work it was.
@@ -50,11 +53,27 @@ pub struct Command<'a> {
     pub undo: usize,
     /// The seed of the random words; None where they are those from outside.
     pub seed: Option<u64>,
+    /// How many units job rewind goes back from the end.
+    pub back: u64,
     /// Whether each line that is taken is shown.
     pub echo: bool,
     /// How the text is put together.
     pub view: View,
     pub job: Job,
+}
+
+impl Command<'_> {
+    /// The world before a run, in its view and on its screen.
+    pub fn world(self, alloc: Global) -> World
+        requires { IsInRange self }
+        ensures { result ≡ empty_world self.entry.view self.entry.columns self.entry.rows }
+    {
+        match self.view {
+            View::Rows => World::new(alloc, self.columns, self.rows),
+            View::Plain => World::plain(alloc, self.columns, self.rows),
+            View::Screen => World::screened(alloc, self.columns, self.rows),
+        }
+    }
 }
 
 /// The texts of a command line, of which but two have to be there, and its flags.
@@ -66,6 +85,7 @@ struct Texts<'a> {
     rows: &'a str,
     undo: Option<&'a str>,
     seed: Option<&'a str>,
+    back: &'a str,
     echo: bool,
     screen: bool,
     plain: bool,
@@ -116,6 +136,7 @@ fn read_matches<'a>(matches: &ArgMatches<'a>) -> Option<Command<'a>>
         rows: matches.get_str("rows")?,
         undo: matches.get_str("undo"),
         seed: matches.get_str("seed"),
+        back: matches.get_str("back")?,
         echo: is_set(matches, "echo"),
         screen: is_set(matches, "screen"),
         plain: is_set(matches, "plain"),
@@ -144,6 +165,7 @@ fn read_texts<'a>(texts: Texts<'a>) -> Option<Command<'a>>
     let rows = read_number(texts.rows, 1, 255)?;
     let undo = read_depth(texts.undo)?;
     let seed = read_seed(texts.seed)?;
+    let back = read_number(texts.back, 0, u64::MAX)?;
     let job = read_job(texts.story, texts.job)?;
     let view = read_view(texts.screen, texts.plain, texts.echo, job)?;
     Some(Command {
@@ -153,6 +175,7 @@ fn read_texts<'a>(texts: Texts<'a>) -> Option<Command<'a>>
         rows: rows as u32,
         undo,
         seed,
+        back,
         echo: texts.echo,
         view,
         job,
@@ -186,6 +209,7 @@ fn read_job(story: &str, name: &str) -> Option<Job>
 {
     match name {
         "play" => Some(Job::Play),
+        "rewind" => Some(Job::Rewind),
         "check" => Some(Job::Check),
         "work" => match read_number(story, 0, u64::from(u32::MAX)) {
             Some(number) => Some(Job::Work(number as u32)),
@@ -204,7 +228,7 @@ fn read_view(screen: bool, plain: bool, echo: bool, job: Job) -> Option<View>
     match (screen, plain) {
         (false, false) => Some(View::Rows),
         (false, true) => Some(View::Plain),
-        (true, false) if !echo && job == Job::Play => Some(View::Screen),
+        (true, false) if !echo && (job == Job::Play || job == Job::Rewind) => Some(View::Screen),
         (true, _) => None,
     }
 }

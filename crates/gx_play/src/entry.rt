@@ -20,8 +20,8 @@ use gx_session::{Ended, statuses};
 use rand_core::Rng;
 use std::alloc::{Allocator, Global};
 
-/// Does what a command line asks for: plays a story, checks or lists one, plays the one that is made of a number, or
-/// assembles a text.
+/// Does what a command line asks for: plays a story, or plays one and goes back in its run, checks or lists one, plays
+/// the one that is made of a number, or assembles a text.
 ///
 /// `words` are the command line, the program's name first; `pages` is where the machine's memory
 /// comes from. The input, the text, the files and the random words are those of the objects handed
@@ -66,7 +66,7 @@ fn do_job<A: Allocator + Clone, S: Source, K: Sink, F: Shelf, R: Rng>(
         IsDone command.entry.job (seen command.entry) entry exit result }
 {
     match command.job {
-        Job::Play => play_file(alloc, pages, command, input, output, shelf, dice),
+        Job::Play | Job::Rewind => play_file(alloc, pages, command, input, output, shelf, dice),
         Job::Check => check_file(alloc, command, output, shelf),
         Job::Work(number) => work(alloc, pages, number, output),
         Job::Asm => assemble_file(alloc, command, output, shelf),

@@ -1,10 +1,11 @@
-//! All that the program does: the command line, the five jobs, and `play`, the call that the program makes.
+//! All that the program does: the command line, the six jobs, and `play`, the call that the program makes.
 //!
 //! - `command` reads the command line, whose words `words` matches.
 //! - `entry` has `play`, which does all of it over objects that are handed in; its contract is the headline of the
 //!   whole repository, and stands in specs/Headline.
-//! - `playing`, `checking`, `working`, `assembling` and `listing` do the five jobs. `loading` takes the file from the
-//!   shelf, `telling` sends a job's output, `silent` has devices for a story that needs none.
+//! - `playing`, `rewinding`, `checking`, `working`, `assembling` and `listing` do the six jobs. `loading` takes the
+//!   file from the shelf, `telling` sends a job's output, `figures` has what lines are made of, and `silent` devices
+//!   for a story that needs none.
 //!
 //! The objects that a run is played with, and the status of the process, are the program's.
 #![tactic(auto)]
@@ -13,9 +14,11 @@ mod assembling;
 mod checking;
 mod command;
 mod entry;
+mod figures;
 mod listing;
 mod loading;
 mod playing;
+mod rewinding;
 mod silent;
 mod telling;
 mod words;

@@ -1,21 +1,20 @@
-//! Job play: the story is loaded and played within a budget, in the view that the words ask for, with the random words
-//! of a seed where there is one.
-ghost use Rattle.std.specs.Prelude.{◌≡◌, ◌≢◌, None};
+//! The jobs play and rewind: the story is loaded and played within a budget, in the view that the words ask for, with
+//! the random words of a seed where there is one. In job rewind it is played on a tape.
+ghost use Rattle.std.specs.Prelude.{◌≡◌, ◌≢◌, ℕ, None};
 ghost use Rattle.gx_words.specs.declared.faults.Fault.TheVariants.{NoMemory};
 ghost use Rattle.gx_words.specs.Faults.{number_of};
 ghost use Rattle.gx_machine.specs.Start.{first_machine};
-ghost use Rattle.glk_world.specs.World.{empty_world};
 ghost use Rattle.gx_session.specs.Devices.{devices};
 ghost use Rattle.gx_session.specs.Counts.{Counts};
 ghost use Rattle.gx_session.specs.Constants.{status_bad_words, status_fault, status_no_memory};
 ghost use Rattle.gx_play.specs.declared.command.Job.TheVariants.{Play};
-ghost use Rattle.gx_play.specs.Headline.{outcome_of_start, start_for, HasNoMachine, IsRunOf, IsUntouched};
+ghost use Rattle.gx_play.specs.Headline.{outcome_of_start, start_for, HasNoMachine, IsRunOf, PlaysStory};
 ghost use Rattle.gx_play.specs.Loading.{StoryPlays, HasRunParts, IsDone};
 ghost use Rattle.gx_play.specs.Reading.{seen, IsInRange};
 
-use crate::command::Command;
+use crate::command::{Command, Job};
 use crate::loading::{load_story, without_machine, without_story};
-use glk_world::{View, World};
+use crate::rewinding::rewind_machine;
 use gx_machine::Machine;
 use gx_outside::{Shelf, Sink, Source};
 use gx_session::{Ended, run, statuses};
@@ -35,10 +34,11 @@ pub fn play_file<A: Allocator + Clone, S: Source, K: Sink, F: Shelf, R: Rng>(
     shelf: &mut F,
     dice: &mut R,
 ) -> Ended<A>
-    requires { IsInRange command }
+    requires range { IsInRange command }
+    requires plays { PlaysStory command.job }
     ensures { let entry = devices (S.seen input.old) (K.seen output.old) (F.seen shelf.old) (R.stream dice.old) in
         let exit = devices (S.seen input.new) (K.seen output.new) (F.seen shelf.new) (R.stream dice.new) in
-        IsDone Play (seen command.entry) entry exit result }
+        IsDone command.entry.job (seen command.entry) entry exit result }
 {
     match load_story(alloc, shelf, command.story) {
         Err(refusal) => without_story(refusal),
@@ -46,7 +46,7 @@ pub fn play_file<A: Allocator + Clone, S: Source, K: Sink, F: Shelf, R: Rng>(
     }
 }
 
-/// Plays a story.
+/// Plays a story, in job rewind on a tape.
 fn play_story<A: Allocator + Clone, S: Source, K: Sink, F: Shelf, R: Rng>(
     alloc: Global,
     pages: A,
@@ -60,22 +60,20 @@ fn play_story<A: Allocator + Clone, S: Source, K: Sink, F: Shelf, R: Rng>(
     requires { IsInRange command }
     ensures plays { let entry = devices (S.seen input.old) (K.seen output.old) (F.seen shelf.old) (R.stream dice.old) in
         let exit = devices (S.seen input.new) (K.seen output.new) (F.seen shelf.new) (R.stream dice.new) in
-        StoryPlays (outcome_of_start (seen command.entry) story entry (first_machine story command.entry.undo)) entry exit result }
-    ensures shelf { result.machine ≡ None → F.seen shelf.new ≡ F.seen shelf.old }
-    ensures sink { result.machine ≡ None → K.seen output.new ≡ K.seen output.old }
-    ensures untouched { let entry = devices (S.seen input.old) (K.seen output.old) (F.seen shelf.old) (R.stream dice.old) in
-        let exit = devices (S.seen input.new) (K.seen output.new) (F.seen shelf.new) (R.stream dice.new) in
-        result.machine ≡ None → IsUntouched entry exit result }
+        StoryPlays (outcome_of_start command.entry.job (seen command.entry) story entry (first_machine story command.entry.undo)) entry exit result }
     ensures counts { let entry = devices (S.seen input.old) (K.seen output.old) (F.seen shelf.old) (R.stream dice.old) in
         let exit = devices (S.seen input.new) (K.seen output.new) (F.seen shelf.new) (R.stream dice.new) in
         Counts entry exit result.status }
-    ensures parts { HasRunParts result }
+    ensures parts { HasRunParts (command.entry.job ≡ Play) result }
     ensures began { result.status ≢ status_bad_words }
 {
     let start = story.start_function();
     match Machine::start(alloc, pages, story, command.undo) {
         Err(fault) => unstarted(fault, start),
-        Ok(machine) => run_machine(alloc, machine, command, input, output, shelf, dice),
+        Ok(machine) => match command.job {
+            Job::Rewind => rewind_machine(alloc, machine, command, input, output, shelf, dice),
+            _ => run_machine(alloc, machine, command, input, output, shelf, dice),
+        },
     }
 }
 
@@ -93,15 +91,14 @@ fn run_machine<A: Allocator + Clone, S: Source, K: Sink, F: Shelf, R: Rng>(
     requires range { IsInRange command }
     ensures runs { let entry = devices (S.seen input.old) (K.seen output.old) (F.seen shelf.old) (R.stream dice.old) in
         let exit = devices (S.seen input.new) (K.seen output.new) (F.seen shelf.new) (R.stream dice.new) in
-        IsRunOf command.entry.seed (start_for (seen command.entry) machine entry) entry exit result }
+        IsRunOf command.entry.seed (start_for (seen command.entry) machine None entry) entry exit result }
     ensures counts { let entry = devices (S.seen input.old) (K.seen output.old) (F.seen shelf.old) (R.stream dice.old) in
         let exit = devices (S.seen input.new) (K.seen output.new) (F.seen shelf.new) (R.stream dice.new) in
         Counts entry exit result.status }
-    ensures parts { HasRunParts result }
-    ensures some { result.machine ≢ None }
+    ensures parts { HasRunParts (Unit {0}) result }
     ensures began { result.status ≢ status_bad_words }
 {
-    let world = world_of(alloc, command);
+    let world = command.world(alloc);
     match command.seed {
         None => run(
             alloc,
@@ -131,23 +128,11 @@ fn run_machine<A: Allocator + Clone, S: Source, K: Sink, F: Shelf, R: Rng>(
     }
 }
 
-/// The world before the run, in the command's view and on its screen.
-fn world_of(alloc: Global, command: Command<'_>) -> World
-    requires { IsInRange command }
-    ensures { result ≡ empty_world command.entry.view command.entry.columns command.entry.rows }
-{
-    match command.view {
-        View::Rows => World::new(alloc, command.columns, command.rows),
-        View::Plain => World::plain(alloc, command.columns, command.rows),
-        View::Screen => World::screened(alloc, command.columns, command.rows),
-    }
-}
-
 /// The answer where the start function, at this address, can't be entered.
 fn unstarted<A: Allocator + Clone>(fault: Fault, at: u32) -> Ended<A>
     ensures memory { fault ≡ NoMemory → HasNoMachine result status_no_memory 0 0 }
     ensures fault { fault ≢ NoMemory → HasNoMachine result status_fault (number_of fault) at }
-    ensures parts { HasRunParts result }
+    ensures parts { HasRunParts (Unit {0}) result }
 {
     match fault {
         Fault::NoMemory => without_machine(statuses::NO_MEMORY, 0, 0),

@@ -1,4 +1,4 @@
-//! The words of the command line, matched by `clap` with one simple command: STORY and nine options,
+//! The words of the command line, matched by `clap` with one simple command: STORY and ten options,
 //! which are texts and three flags. What the texts are worth, and which flags go together, is no matter here.
 //!
 //! Why the words have no matches isn't told: a question for help is a faulty command line like any
@@ -38,6 +38,7 @@ fn player<'a>(alloc: Global) -> Result<Command<'a>, AllocError>
     let rows = text_arg(alloc, "rows", "24");
     let undo = free_arg(alloc, "undo");
     let seed = free_arg(alloc, "seed");
+    let back = text_arg(alloc, "back", "0");
     let echo = flag_arg(alloc, "echo");
     let screen = flag_arg(alloc, "screen");
     let plain = flag_arg(alloc, "plain");
@@ -48,7 +49,8 @@ fn player<'a>(alloc: Global) -> Result<Command<'a>, AllocError>
     let with_rows = with_columns.arg(rows)?;
     let with_undo = with_rows.arg(undo)?;
     let with_seed = with_undo.arg(seed)?;
-    let with_echo = with_seed.arg(echo)?;
+    let with_back = with_seed.arg(back)?;
+    let with_echo = with_back.arg(echo)?;
     let with_screen = with_echo.arg(screen)?;
     let with_plain = with_screen.arg(plain)?;
     with_plain.arg(job)

@@ -1,13 +1,14 @@
 //! Job work: the story of a number is played to its end, and one line tells what it came to: the steps, the length
 //! of the text and the sum of RAM. It measures the machine, and its line is the same everywhere.
-ghost use Rattle.std.specs.Prelude.{◌≡◌, [], ◌-◌, ◌/◌, ◌%◌, ◌^◌, ◌++◌, ◌∷◌, Some, None, IfOk, OnOk, decimal, length, string_bytes};
+ghost use Rattle.std.specs.Prelude.{◌≡◌, [], ◌++◌, ◌∷◌, Some, None, IfOk, decimal, string_bytes};
 ghost use Rattle.gx_session.specs.Devices.{Devices};
 ghost use Rattle.gx_play.specs.declared.command.Job.TheVariants.{Work};
-ghost use Rattle.gx_play.specs.Jobs.{work_machine, work_line, sum_from, ram_sum_of};
+ghost use Rattle.gx_play.specs.Jobs.{work_machine, work_line};
 ghost use Rattle.gx_play.specs.Loading.{IsDone};
 ghost use Rattle.gx_play.specs.Commands.{Command};
 
 use crate::command::USUAL_DEPTH;
+use crate::figures::{push_number, ram_sum};
 use crate::loading::without_machine;
 use crate::silent::{Gathered, NoFiles, NoInput, Zeros};
 use crate::telling::send_output;
@@ -15,10 +16,8 @@ use glk_world::World;
 use gx_machine::Machine;
 use gx_outside::Sink;
 use gx_session::{Ended, run_on, statuses};
-use gx_state::State;
 use gx_story::Story;
 use gx_work::make_story;
-use itoa::Buffer;
 use std::alloc::{AllocError, Allocator, Global};
 
 /// Plays the story of a number, and tells what it came to.
@@ -92,21 +91,6 @@ fn start_work<A: Allocator + Clone>(
     }
 }
 
-/// The sum modulo 2^32 of the words of RAM.
-#[tactic(auto, using(crate::proofs::Sums::sums))]
-fn ram_sum<A: Allocator + Clone>(state: &State<A>) -> u32
-    ensures { result ≡ ram_sum_of state.now.flat }
-{
-    let memory = state.memory();
-    let start = state.ramstart();
-    let count = (memory.size() - start) / 4;
-    let mut sum = 0u32;
-    for index in 0..count {
-        sum = sum.wrapping_add(memory.word(start + 4 * index));
-    }
-    sum
-}
-
 /// Three numbers as a line.
 fn tell_end(alloc: Global, steps: u64, length: usize, sum: u32) -> Result<String, AllocError>
     ensures { IfOk result (λ line. string_bytes line ≡ (decimal steps ++ 32 ∷ decimal length ++ 32 ∷ decimal sum) ++ 10 ∷ []) }
@@ -119,12 +103,4 @@ fn tell_end(alloc: Global, steps: u64, length: usize, sum: u32) -> Result<String
     push_number(&mut line, u64::from(sum))?;
     line.push_str("\n")?;
     Ok(line)
-}
-
-/// Adds a number in decimal.
-fn push_number(line: &mut String, number: u64) -> Result<(), AllocError>
-    ensures { OnOk result (string_bytes line.new ≡ string_bytes line.old ++ decimal number) }
-{
-    let mut buffer = Buffer::new();
-    line.push_str(buffer.format(number))
 }

@@ -1,4 +1,4 @@
-use Rattle.std.proofs.Common.{◌≤◌, ap, arith, length}
+use Rattle.std.proofs.Common.{arith}
 use Rattle.gx_asm.proofs.Lengths.{not-longer}
 use Rattle.gx_asm.specs.Texts.{assembled}
 use Rattle.gx_play.proofs.Told.{code-refused, code-unwrapped, code-sent}

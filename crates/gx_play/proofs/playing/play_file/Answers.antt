@@ -1,4 +1,4 @@
-use Rattle.std.proofs.Common.{◌≡◌, Result, Ok, Err, ap, sym, subst}
+use Rattle.std.proofs.Common.{◌≡◌, Result, Ok, Err, ap, ◌∙◌}
 use Rattle.gx_words.specs.Constants.{ceiling}
 use Rattle.gx_outside.specs.Outside.{FlatShelf}
 use Rattle.gx_story.specs.Stories.{FlatStory}
@@ -8,20 +8,23 @@ use Rattle.gx_play.specs.declared.command.Job.TheVariants.{Play}
 use Rattle.gx_play.specs.declared.loading.Refusal.{Refusal}
 use Rattle.gx_play.specs.declared.loading.Refusal.TheVariants as refusal
 use Rattle.gx_play.specs.Commands.{Command}
-use Rattle.gx_play.specs.Headline.{LoadsOnce, outcome_of_story, story_of}
+use Rattle.gx_play.specs.Headline.{PlaysStory, outcome_of_story, story_of}
 use Rattle.gx_play.specs.Reading.{seen}
 use Rattle.gx_play.proofs.Dones.{refused-done, parts-for}
 use Rattle.gx_play.proofs.Loads.{loadable}
-use Rattle.gx_play.proofs.Plays.{comes-out, counts-after}
+use Rattle.gx_play.proofs.Plays.{comes-out, counts-after, loads-story, plays-story, wants-story}
 use Rattle.gx_play.proofs.playing.play_file.Goals as goal
 
 pub returns-in-Err : goal.returns-in-Err
 returns-in-Err g c =
     let entry : Devices = devices (g.S.Source.seen c.args.input.now) (g.K.Sink.seen c.args.output.now) (g.F.Shelf.seen c.args.shelf.now) (g.R.Rng.stream c.args.dice.now) in
     let command : Command = seen c.args.command in
+    let job : Job = c.args.command.job in
+    let plays = c.requires.plays in
+    let loaded : FlatShelf = g.F.Shelf.seen c.load_story.new.shelf in
     let l = c.in-Err.ensures in
-    refused-done c.without_story.result ceiling story_of command entry entry.shelf (g.F.Shelf.seen c.load_story.new.shelf) Play c.in-Err.refusal l.value l.once l.count l.fault c.without_story.ensures
-    (λ fault bad. ap (outcome_of_story command entry) bad) (λ x. x) (λ x. x)
+    refused-done c.without_story.result ceiling story_of command entry entry.shelf loaded job c.in-Err.refusal l.value l.once l.count l.fault c.without_story.ensures
+    (λ fault bad. plays-story job command l.value.file entry plays ∙ ap (outcome_of_story job command entry) bad) (wants-story job l.value.file plays) (loads-story job entry.shelf loaded plays)
 
 pub returns-in-Ok : goal.returns-in-Ok
 returns-in-Ok g c =
@@ -29,16 +32,18 @@ returns-in-Ok g c =
     let exit : Devices = devices (g.S.Source.seen c.play_story.new.input) (g.K.Sink.seen c.play_story.new.output) (g.F.Shelf.seen c.play_story.new.shelf) (g.R.Rng.stream c.play_story.new.dice) in
     let loaded : FlatShelf = g.F.Shelf.seen c.load_story.new.shelf in
     let command : Command = seen c.args.command in
+    let job : Job = c.args.command.job in
+    let plays = c.requires.plays in
     let l = c.in-Ok.ensures.value in
     let p = c.play_story.ensures in
+    let comes = comes-out c.play_story.result job entry exit loaded plays c.in-Ok.ensures.once command l.file c.in-Ok.story l.gives p.plays in
     record {
       file = l.file;
       file_is = l.file_is;
-      plays = comes-out c.play_story.result command entry exit loaded l.file c.in-Ok.story l.gives p.sink c.in-Ok.ensures.once p.plays;
-      memory = λ _. loadable l.file c.in-Ok.story l.gives;
+      plays = comes.0;
+      memory = λ _. wants-story job l.file plays (loadable l.file c.in-Ok.story l.gives);
       began = p.began;
-      loads = λ none. subst (LoadsOnce entry.shelf) {y = exit.shelf} (sym {a = exit.shelf} (p.shelf none)) c.in-Ok.ensures.once;
-      untouched = λ none. let u = p.untouched none in record { steps = u.steps; source = u.source; words = u.words };
+      begun = comes.1;
       counts = counts-after entry exit loaded _ (let r : Result FlatStory Refusal = Ok c.in-Ok.story in r ≡ Err refusal.Shelf) p.counts c.in-Ok.ensures.count (λ e. absurd cc);
-      parts = parts-for c.play_story.result (let job : Job = Play in job ≡ Play) p.parts;
+      parts = parts-for c.play_story.result (PlaysStory job) (job ≡ Play) (job ≡ Play) (λ is. is) p.parts;
     }

@@ -13,7 +13,7 @@ returns-in-None-clause-runs g c =
     let entry : Devices = devices (g.S.Source.seen c.args.input.now) (g.K.Sink.seen c.args.output.now) (g.F.Shelf.seen c.args.shelf.now) (g.R.Rng.stream c.args.dice.now) in
     let exit : Devices = devices (g.S.Source.seen c.run.new.input) (g.K.Sink.seen c.run.new.output) (g.F.Shelf.seen c.run.new.shelf) (g.R.Rng.stream c.run.new.dice) in
     run-drawn c.run.result entry exit (seen c.args.command) c.args.machine c.in-None.is
-    (rw c.world_of-world.ensures at c.run.ensures)
+    (rw c.world-world.ensures at c.run.ensures)
 
 pub returns-in-Some-clause-runs : goal.returns-in-Some-clause-runs
 returns-in-Some-clause-runs g c =
@@ -22,7 +22,7 @@ returns-in-Some-clause-runs g c =
     let exit : Devices = devices (g.S.Source.seen r.new.input) (g.K.Sink.seen r.new.output) (g.F.Shelf.seen r.new.shelf) (g.R.Rng.stream c.args.dice.now) in
     run-seeded r.result entry exit (seen c.args.command) c.args.machine c.in-Some.seed (stream_of (steps_u32 pcg32) c.seed_from_u64-words.result) (stream_of (steps_u32 pcg32) r.new.dice)
     c.in-Some.is (ap (λ (l : Lcg). stream_of (steps_u32 pcg32) l) c.seed_from_u64-words.ensures) refl
-    (rw c.world_of-world.ensures at r.ensures)
+    (rw c.world-world.ensures at r.ensures)
 
 pub returns-in-None-clause-parts : goal.returns-in-None-clause-parts
 returns-in-None-clause-parts g c = run-parts c.run.result _ _ _ c.run.ensures

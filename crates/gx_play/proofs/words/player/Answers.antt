@@ -14,11 +14,13 @@ returns c =
     let four = c.in_ok-with_rows.ensures.shape c.text_arg-rows.ensures.global ∙ ap₂ with_rule three c.text_arg-rows.ensures.rule in
     let five = c.in_ok-with_undo.ensures.shape c.free_arg-undo.ensures.global ∙ ap₂ with_rule four c.free_arg-undo.ensures.rule in
     let six = c.in_ok-with_seed.ensures.shape c.free_arg-seed.ensures.global ∙ ap₂ with_rule five c.free_arg-seed.ensures.rule in
-    let seven = c.in_ok-with_echo.ensures.shape c.flag_arg-echo.ensures.global
-    ∙ ap₂ with_rule six c.flag_arg-echo.ensures.rule in
-    let eight = c.in_ok-with_screen.ensures.shape c.flag_arg-screen.ensures.global
-    ∙ ap₂ with_rule seven c.flag_arg-screen.ensures.rule in
-    let nine = c.in_ok-with_plain.ensures.shape c.flag_arg-plain.ensures.global
-    ∙ ap₂ with_rule eight c.flag_arg-plain.ensures.rule in
-    IfOk-weaker c.arg-10.result _ _
-    (λ m h. h.shape c.text_arg-job.ensures.global ∙ ap₂ with_rule nine c.text_arg-job.ensures.rule) c.arg-10.ensures
+    let seven = c.in_ok-with_back.ensures.shape c.text_arg-back.ensures.global
+    ∙ ap₂ with_rule six c.text_arg-back.ensures.rule in
+    let eight = c.in_ok-with_echo.ensures.shape c.flag_arg-echo.ensures.global
+    ∙ ap₂ with_rule seven c.flag_arg-echo.ensures.rule in
+    let nine = c.in_ok-with_screen.ensures.shape c.flag_arg-screen.ensures.global
+    ∙ ap₂ with_rule eight c.flag_arg-screen.ensures.rule in
+    let ten = c.in_ok-with_plain.ensures.shape c.flag_arg-plain.ensures.global
+    ∙ ap₂ with_rule nine c.flag_arg-plain.ensures.rule in
+    IfOk-weaker c.arg-11.result _ _
+    (λ m h. h.shape c.text_arg-job.ensures.global ∙ ap₂ with_rule ten c.text_arg-job.ensures.rule) c.arg-11.ensures

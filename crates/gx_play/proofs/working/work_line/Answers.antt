@@ -1,4 +1,4 @@
-use Rattle.std.proofs.Common.{◌∙◌}
+use Rattle.std.proofs.Common.{None, ◌∙◌}
 use Rattle.std.proofs.lemmas.Result.{IfOk-weaker}
 use Rattle.gx_session.specs.Runs.{Report, report_on}
 use Rattle.gx_play.proofs.Tellings.{tells-of, line-is}
@@ -7,7 +7,7 @@ use Rattle.gx_play.proofs.working.work_line.Goals as goal
 pub returns : goal.returns
 returns g c =
     let w = c.in_ok-machine.machine in
-    let r : Report = report_on (λ machine. machine) c.run_on-ended.result in
+    let r : Report = report_on (λ machine. machine) (λ machine. None) c.run_on-ended.result in
     let before = c.new-sink.result.text in
     let told = tells-of w c.new-source.result.reads c.new-sink.result.sends c.new-shelf.result.calls c.run_on-ended.new.input.reads c.run_on-ended.new.output.sends c.run_on-ended.new.shelf.calls
     c.new-sink.result.wanting c.new-shelf.result.wanting c.run_on-ended.new.output.wanting c.run_on-ended.new.shelf.wanting
