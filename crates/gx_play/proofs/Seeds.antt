@@ -1,5 +1,5 @@
 -- With a seed the device's words are neither drawn nor looked at.
-use Rattle.std.proofs.Common.{◌≡◌, ℕ, inl, inr, List, Option, Some, None, Result, Ok, Err, IsSome, IsSomeAnd, refl, ap, subst, sym}
+use Rattle.std.proofs.Common.{◌≡◌, ℕ, inl, inr, List, Option, Some, None, Result, Ok, Err, IsSome, refl, ap, subst, sym}
 use Rattle.gx_words.specs.declared.faults.Fault.{Fault}
 use Rattle.gx_story.specs.Stories.{FlatStory}
 use Rattle.gx_machine.specs.Log.{Log, no_events}
@@ -8,65 +8,35 @@ use Rattle.gx_machine.specs.Start.{first_machine}
 use Rattle.glk_world.specs.World.{empty_world}
 use Rattle.gx_session.specs.declared.ended.Ended.{Ended}
 use Rattle.gx_session.specs.Devices.{Devices}
-use Rattle.gx_session.specs.Runs.{IsRun, Report, report_of}
+use Rattle.gx_session.specs.Runs.{IsRun, Report}
 use Rattle.gx_session.specs.Session.{Configuration, start_of}
 use Rattle.gx_play.specs.declared.command.Job.{Job}
 use Rattle.gx_play.specs.declared.command.Job.TheVariants.{Play, Rewind, Check, Work, Asm, List as Listing}
 use Rattle.gx_play.specs.Commands.{Command}
 use Rattle.gx_play.specs.Seeds.{seeded_words, words_for, devices_for, AreLeft}
-use Rattle.gx_play.specs.Headline.{runs, rewinds, outcome_of_job, outcome_of_start, outcome_of_story, start_for, story_of, IsBegun, IsRunOf, IsRunTo, ComesOut, IsSeeded, IsSettled}
+use Rattle.gx_play.specs.Headline.{runs, rewinds, outcome_of_job, outcome_of_start, outcome_of_story, start_for, story_of, IsBegun, IsRunTo, ComesOut, IsSeeded, IsSettled}
 use Rattle.gx_play.proofs.Begun.{begins-none}
 use Rattle.rand_core.specs.Stream.{Stream}
 
-module _ (entry exit : Devices) (command : Command) (whole : Whole) (log : Option Log) where
+module _ (entry exit : Devices) (command : Command) (whole : Whole) (log : Option Log) (r : Report) where
   abbrev start_with : Devices → Configuration
   start_with d =
       start_of whole.machine (empty_world command.view command.columns command.rows) d command.echo command.steps log
 
-  -- A RUN of which this is said, over these words, which leaves those
-  module _ (P : Configuration → Devices → Devices → Type 0) where
-    abbrev RunsWith : Stream → Stream → Type 0
-    RunsWith words left = P (start_with (record entry { words = words })) (record entry { words = words }) (record exit { words = left })
+  abbrev RunsWith : Stream → Stream → Type 0
+  RunsWith words left = IsRun (start_with (record entry { words = words })) (record entry { words = words }) (record exit { words = left }) r
 
-    abbrev RunsFor : Option ℕ → Type 0
-    RunsFor seed = (left : Stream) × AreLeft seed left entry.words exit.words × P (start_with (devices_for seed entry)) (devices_for seed entry) (record exit { words = left })
+  -- A RUN with the words of the device
+  pub run-drawn : command.seed ≡ None → RunsWith entry.words exit.words → IsRunTo command.seed (start_for command whole log entry) entry exit r
+  run-drawn is run =
+      subst (λ (seed : Option ℕ). IsRunTo seed (start_with (devices_for seed entry)) entry exit r) (sym is) (exit.words, refl, run)
 
-    -- with the words of the device
-    drawn : command.seed ≡ None → RunsWith entry.words exit.words → RunsFor command.seed
-    drawn is run = subst (λ (seed : Option ℕ). RunsFor seed) (sym is) (exit.words, refl, run)
-
-    -- and with those of a seed, of which these are left
-    seeded : (seed : ℕ) (words left : Stream) → command.seed ≡ Some seed → words ≡ seeded_words seed → exit.words ≡ entry.words → RunsWith words left → RunsFor command.seed
-    seeded seed words left is same stays run =
-        subst (λ (seed : Option ℕ). RunsFor seed) (sym is)
-        (left, stays, subst (λ (w : Stream). RunsWith w left) same run)
-
-  -- a run on a tape
-  module _ (r : Report) where
-    abbrev ReportsWith : Stream → Stream → Type 0
-    ReportsWith words left = IsRun (start_with (record entry { words = words })) (record entry { words = words }) (record exit { words = left }) r
-
-    pub tape-drawn : command.seed ≡ None → ReportsWith entry.words exit.words → IsRunTo command.seed (start_for command whole log entry) entry exit r
-    tape-drawn is run = drawn (λ start d e. IsRun start d e r) is run
-
-    pub tape-seeded : (seed : ℕ) (words left : Stream) → command.seed ≡ Some seed → words ≡ seeded_words seed → exit.words ≡ entry.words → ReportsWith words left
-        → IsRunTo command.seed (start_for command whole log entry) entry exit r
-    tape-seeded seed words left is same stays run = seeded (λ start d e. IsRun start d e r) seed words left is same stays run
-
-module _ {A : Type 0} (ended : Ended A) (entry exit : Devices) (command : Command) (whole : Whole) where
-  abbrev EndsWith : Stream → Stream → Type 0
-  EndsWith words left =
-      IsSomeAnd ended.machine (λ end. IsRun (start_with entry exit command whole None (record entry { words = words })) (record entry { words = words }) (record exit { words = left }) (report_of ended end))
-
-  -- a run of a machine, with the words of the device
-  pub run-drawn : command.seed ≡ None → EndsWith entry.words exit.words → IsRunOf command.seed (start_for command whole None entry) entry exit ended
-  run-drawn is run = drawn entry exit command whole None (λ start d e. IsSomeAnd ended.machine (λ end. IsRun start d e (report_of ended end))) is run
-
-  -- and with those of a seed
-  pub run-seeded : (seed : ℕ) (words left : Stream) → command.seed ≡ Some seed → words ≡ seeded_words seed → exit.words ≡ entry.words → EndsWith words left
-      → IsRunOf command.seed (start_for command whole None entry) entry exit ended
+  -- and with those of a seed, of which these are left
+  pub run-seeded : (seed : ℕ) (words left : Stream) → command.seed ≡ Some seed → words ≡ seeded_words seed → exit.words ≡ entry.words → RunsWith words left
+      → IsRunTo command.seed (start_for command whole log entry) entry exit r
   run-seeded seed words left is same stays run =
-      seeded entry exit command whole None (λ start d e. IsSomeAnd ended.machine (λ end. IsRun start d e (report_of ended end))) seed words left is same stays run
+      subst (λ (seed : Option ℕ). IsRunTo seed (start_with (devices_for seed entry)) entry exit r) (sym is)
+      (left, stays, subst (λ (w : Stream). RunsWith w left) same run)
 
 module _ {A : Type 0} (ended : Ended A) (entry exit : Devices) where
   left-alone : (seed : Option ℕ) → IsSome seed → (left : Stream) → AreLeft seed left entry.words exit.words → exit.words ≡ entry.words

@@ -286,7 +286,7 @@ abbrev pub IsRunTo : Option ℕ → Configuration → Devices → Devices → Re
 IsRunTo seed start entry exit r =
     (left : Stream) × AreLeft seed left entry.words exit.words × IsRun start (devices_for seed entry) (record exit { words = left }) r
 
--- It was so, and left the sink so; and then came the line.
+-- It was so, and left this sink; and then came the line.
 pub record IsRewindOf {A : Type 0} (seed : Option ℕ) (back : ℕ) (start : Configuration) (entry exit : Devices) (ended : Ended A) : Type 0 where
   pub report : Report
   pub sink : FlatSink
@@ -356,6 +356,7 @@ abbrev pub IsPlaying : Option Command → Type 0
 IsPlaying None = Unit {0}
 IsPlaying (Some command) = PlaysStory command.job
 
+-- No run was begun: nothing was done but to ask for the file and, in a job that plays no story, to send an output.
 pub record IsUnrun {A : Type 0} (command : Option Command) (entry exit : Devices) (ended : Ended A) : Type 0 where
   pub machine : ended.machine ≡ None
   pub loads : LoadsFor command entry exit ended.status

@@ -7,7 +7,7 @@ use Rattle.gx_session.specs.Reports.{hex_of}
 use Rattle.gx_session.specs.Runs.{Report}
 use Rattle.gx_play.specs.Jobs.{line_of, ram_sum_of}
 
--- what is recorded of a run, and no event where nothing is
+-- what is recorded, and no event where nothing is
 abbrev pub events_of : Option Log → Log
 events_of None = no_events
 events_of (Some log) = log

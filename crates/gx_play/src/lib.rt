@@ -4,8 +4,8 @@
 //! - `entry` has `play`, which does all of it over objects that are handed in; its contract is the headline of the
 //!   whole repository, and stands in specs/Headline.
 //! - `playing`, `rewinding`, `checking`, `working`, `assembling` and `listing` do the six jobs. `loading` takes the
-//!   file from the shelf, `telling` sends a job's output, `figures` has what lines are made of, and `silent` devices
-//!   for a story that needs none.
+//!   file from the shelf, `running` plays it, `telling` sends a job's output, `figures` has what lines are made of, and
+//!   `silent` devices for a story that needs none.
 //!
 //! The objects that a run is played with, and the status of the process, are the program's.
 #![tactic(auto)]
@@ -19,6 +19,7 @@ mod listing;
 mod loading;
 mod playing;
 mod rewinding;
+mod running;
 mod silent;
 mod telling;
 mod words;

@@ -15,13 +15,13 @@ ghost use Rattle.gx_play.specs.Reading.{seen, IsInRange};
 use crate::command::{Command, Job};
 use crate::loading::{load_story, without_machine, without_story};
 use crate::rewinding::rewind_machine;
+use crate::running::run_command;
 use gx_machine::Machine;
 use gx_outside::{Shelf, Sink, Source};
-use gx_session::{Ended, run, statuses};
+use gx_session::{Ended, statuses};
 use gx_story::Story;
 use gx_words::Fault;
-use rand_core::{Rng, SeedableRng};
-use rand_pcg::Pcg32;
+use rand_core::Rng;
 use std::alloc::{Allocator, Global};
 
 /// Plays the story of the command's file.
@@ -77,7 +77,7 @@ fn play_story<A: Allocator + Clone, S: Source, K: Sink, F: Shelf, R: Rng>(
     }
 }
 
-/// Runs a machine with the command's random words: those of its seed, or else those of `dice`.
+/// Runs a machine, and hands it back.
 fn run_machine<A: Allocator + Clone, S: Source, K: Sink, F: Shelf, R: Rng>(
     alloc: Global,
     machine: Machine<A>,
@@ -98,33 +98,13 @@ fn run_machine<A: Allocator + Clone, S: Source, K: Sink, F: Shelf, R: Rng>(
     ensures parts { HasRunParts (Unit {0}) result }
     ensures began { result.status ≢ status_bad_words }
 {
-    let world = command.world(alloc);
-    match command.seed {
-        None => run(
-            alloc,
-            machine,
-            world,
-            command.echo,
-            command.steps,
-            input,
-            output,
-            shelf,
-            dice,
-        ),
-        Some(seed) => {
-            let mut words = Pcg32::seed_from_u64(seed);
-            run(
-                alloc,
-                machine,
-                world,
-                command.echo,
-                command.steps,
-                input,
-                output,
-                shelf,
-                &mut words,
-            )
-        }
+    let ended = run_command(alloc, machine, command, input, output, shelf, dice);
+    Ended {
+        status: ended.status,
+        fault: ended.fault,
+        at: ended.at,
+        steps: ended.steps,
+        machine: Some(ended.engine),
     }
 }
 

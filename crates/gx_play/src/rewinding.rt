@@ -8,7 +8,7 @@ ghost use Rattle.gx_session.specs.Counts.{Counts};
 ghost use Rattle.gx_session.specs.Devices.{devices};
 ghost use Rattle.gx_session.specs.Reports.{hex_of};
 ghost use Rattle.gx_session.specs.Runs.{report_on};
-ghost use Rattle.gx_play.specs.Headline.{start_for, HasRun, IsRunTo, IsRewindOf, IsRewound};
+ghost use Rattle.gx_play.specs.Headline.{start_for, HasRun, IsRewindOf, IsRewound};
 ghost use Rattle.gx_play.specs.Jobs.{ram_sum_of};
 ghost use Rattle.gx_play.specs.Loading.{BlamesSink, HasRunParts, IsStill};
 ghost use Rattle.gx_play.specs.Reading.{seen, IsInRange};
@@ -17,14 +17,14 @@ ghost use Rattle.gx_play.specs.Rewinding.{line_at};
 use crate::command::Command;
 use crate::figures::{push_hex, push_number, ram_sum};
 use crate::loading::without_machine;
+use crate::running::run_command;
 use crate::telling::send_output;
 use gx_machine::Machine;
 use gx_outside::{Shelf, Sink, Source};
 use gx_rewind::Tape;
-use gx_session::{Ended, EndedOn, run_on, statuses};
+use gx_session::{Ended, EndedOn, statuses};
 use gx_state::State;
-use rand_core::{Rng, SeedableRng};
-use rand_pcg::Pcg32;
+use rand_core::Rng;
 use std::alloc::{AllocError, Allocator, Global};
 
 /// At least so many units lie between two checkpoints of a tape.
@@ -57,55 +57,8 @@ pub fn rewind_machine<A: Allocator + Clone, S: Source, K: Sink, F: Shelf, R: Rng
     match Tape::new(alloc, machine, EVERY, MOST) {
         Err(_) => without_machine(statuses::NO_MEMORY, 0, 0),
         Ok(tape) => {
-            let ended = run_tape(alloc, tape, command, input, output, shelf, dice);
+            let ended = run_command(alloc, tape, command, input, output, shelf, dice);
             tell_rewound(alloc, ended, command.back, output)
-        }
-    }
-}
-
-/// Runs a tape with the command's random words: those of its seed, or else those of `dice`.
-fn run_tape<A: Allocator + Clone, S: Source, K: Sink, F: Shelf, R: Rng>(
-    alloc: Global,
-    tape: Tape<A>,
-    command: Command<'_>,
-    input: &mut S,
-    output: &mut K,
-    shelf: &mut F,
-    dice: &mut R,
-) -> EndedOn<Tape<A>>
-    requires asks_nothing { tape.whole.asking ≡ None }
-    requires empty { tape.log ≡ no_events }
-    requires range { IsInRange command }
-    ensures { let entry = devices (S.seen input.old) (K.seen output.old) (F.seen shelf.old) (R.stream dice.old) in
-        let exit = devices (S.seen input.new) (K.seen output.new) (F.seen shelf.new) (R.stream dice.new) in
-        IsRunTo command.entry.seed (start_for (seen command.entry) tape.whole (Some no_events) entry) entry exit (report_on (λ tape. tape.whole) (λ tape. Some tape.log) result) }
-{
-    let world = command.world(alloc);
-    match command.seed {
-        None => run_on(
-            alloc,
-            tape,
-            world,
-            command.echo,
-            command.steps,
-            input,
-            output,
-            shelf,
-            dice,
-        ),
-        Some(seed) => {
-            let mut words = Pcg32::seed_from_u64(seed);
-            run_on(
-                alloc,
-                tape,
-                world,
-                command.echo,
-                command.steps,
-                input,
-                output,
-                shelf,
-                &mut words,
-            )
         }
     }
 }

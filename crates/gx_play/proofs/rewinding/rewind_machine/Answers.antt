@@ -1,21 +1,29 @@
-use Rattle.std.proofs.Common.{Some}
+use Rattle.std.proofs.Common.{◌≡◌, [], Some, refl, arith}
+use Rattle.gx_machine.specs.Log.{units_of}
 use Rattle.gx_session.specs.Devices.{Devices, devices}
 use Rattle.gx_session.specs.Runs.{Report, report_on}
 use Rattle.gx_play.proofs.Rewound.{rewound-counts, rewound-parts}
 use Rattle.gx_play.proofs.rewinding.rewind_machine.Goals as goal
 
+none : units_of [] ≡ 0
+unfolding units_of
+none = refl
+
+pub run_command-ended-requires-clause-room : goal.run_command-ended-requires-clause-room
+run_command-ended-requires-clause-room g c = let fits = c.requires.range.steps in rw (c.in-Ok.ensures, none) (omega (arith, fits))
+
 pub returns-in-Ok-clause-counts : goal.returns-in-Ok-clause-counts
 returns-in-Ok-clause-counts g c =
     let entry : Devices = devices (g.S.Source.seen c.args.input.now) (g.K.Sink.seen c.args.output.now) (g.F.Shelf.seen c.args.shelf.now) (g.R.Rng.stream c.args.dice.now) in
-    let mid : Devices = devices (g.S.Source.seen c.run_tape-ended.new.input) (g.K.Sink.seen c.run_tape-ended.new.output) (g.F.Shelf.seen c.run_tape-ended.new.shelf) (g.R.Rng.stream c.run_tape-ended.new.dice) in
+    let mid : Devices = devices (g.S.Source.seen c.run_command-ended.new.input) (g.K.Sink.seen c.run_command-ended.new.output) (g.F.Shelf.seen c.run_command-ended.new.shelf) (g.R.Rng.stream c.run_command-ended.new.dice) in
     let exit : Devices = record mid { sink = g.K.Sink.seen c.tell_rewound.new.output } in
-    let r : Report = report_on (λ tape. tape.whole) (λ tape. Some tape.log) c.run_tape-ended.result in
-    let counts = c.run_tape-ended.ensures.2.counts in
+    let r : Report = report_on (λ tape. tape.whole) (λ tape. Some tape.log) c.run_command-ended.result in
+    let counts = c.run_command-ended.ensures.2.counts in
     rewound-counts c.tell_rewound.result c.args.command.back r entry mid exit (record { shelf = counts.shelf; source = counts.source; sink = counts.sink }) c.tell_rewound.ensures.rewound c.tell_rewound.ensures.blames
 
 pub returns-in-Ok-clause-parts : goal.returns-in-Ok-clause-parts
 returns-in-Ok-clause-parts g c =
-    let r : Report = report_on (λ tape. tape.whole) (λ tape. Some tape.log) c.run_tape-ended.result in
-    let before = g.K.Sink.seen c.run_tape-ended.new.output in
+    let r : Report = report_on (λ tape. tape.whole) (λ tape. Some tape.log) c.run_command-ended.result in
+    let before = g.K.Sink.seen c.run_command-ended.new.output in
     let now = g.K.Sink.seen c.tell_rewound.new.output in
-    rewound-parts c.tell_rewound.result c.args.command.back r before now c.tell_rewound.ensures.rewound c.run_tape-ended.ensures.2.report
+    rewound-parts c.tell_rewound.result c.args.command.back r before now c.tell_rewound.ensures.rewound c.run_command-ended.ensures.2.report

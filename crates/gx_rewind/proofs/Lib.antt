@@ -1,0 +1,11 @@
+pub mod Lists
+pub mod Paths
+pub mod Steps
+pub mod Words
+pub mod Calm
+pub mod Passing
+pub mod Kept
+pub mod Running
+pub mod Ended
+pub mod Ends
+pub mod Engines

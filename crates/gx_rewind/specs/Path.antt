@@ -1,0 +1,112 @@
+-- The run that notes record: each event follows from the machine before it and from what was taken from outside.
+use Rattle.std.specs.Prelude.{◌≡◌, ℕ, zero, suc, ◌+◌, ◌==◌, nat_lt, if◌then◌else◌, List, [], ◌∷◌, slice_get, Option, Some, None, IsSome, Result, Ok, Err}
+use Rattle.gx_words.specs.declared.faults.Fault.{Fault}
+use Rattle.gx_state.specs.declared.effects.Effect.{Effect}
+use Rattle.gx_state.specs.declared.effects.Reply.{Reply}
+use Rattle.gx_state.specs.Replies.{IsReply}
+use Rattle.gx_machine.specs.declared.askings.Asking.{Asking}
+use Rattle.gx_machine.specs.Answer.{answer_of}
+use Rattle.gx_machine.specs.Log.{units_of}
+use Rattle.gx_machine.specs.Machine.{FlatMachine}
+use Rattle.gx_machine.specs.Step.{asking_of, cost_of, room_of, step_of}
+use Rattle.gx_rewind.specs.declared.books.Note.{Note}
+use Rattle.gx_rewind.specs.declared.books.Taken.{Taken}
+use Rattle.gx_rewind.specs.declared.books.Taken.TheVariants as taken
+
+-- the reply that pushes and writes nothing
+abbrev pub nothing : Reply
+nothing = record { value = 0; pushes = []; writes = [] }
+
+-- the machine after an event of one step, which is answered with nothing where it asks
+abbrev pub settled : FlatMachine → Option Asking → FlatMachine
+settled m None = m
+settled m (Some asking) = answer_of m nothing
+
+abbrev pub after : FlatMachine → Result (FlatMachine × Effect) Fault → FlatMachine
+after m (Ok r) = settled r.0 (asking_of r.1)
+after m (Err fault) = m
+
+-- the machine after an event, by what it took from outside
+abbrev pub event : {A : Type 0} → FlatMachine → Option (Taken A) → FlatMachine
+event m None = after m (step_of m 0)
+event m (Some (taken.Word word)) = after m (step_of m word)
+event m (Some (taken.Reply reply)) = answer_of m reply
+event m (Some (taken.Machine whole)) = whole.machine
+
+-- the word of the step of an event that took this
+abbrev pub word_in : {A : Type 0} → Taken A → ℕ
+word_in (taken.Word word) = word
+word_in (taken.Reply reply) = 0
+word_in (taken.Machine whole) = 0
+
+-- what an event took that began after so many units: that of the note, where it is this event's
+abbrev pub taken_by : {A : Type 0} → ℕ → Option (Note A) → Option (Taken A)
+taken_by units None = None
+taken_by units (Some note) = if note.units == units then Some note.taken else None
+
+abbrev pub taken_at : {A : Type 0} → List (Note A) → ℕ → ℕ → Option (Taken A)
+taken_at notes index units = taken_by units (slice_get notes index)
+
+-- the next note is that after one which was used
+abbrev pub index_after : {A : Type 0} → ℕ → Option (Taken A) → ℕ
+index_after index None = index
+index_after index (Some t) = index + 1
+
+-- a reply that was given fits what is asked, and a machine that was gone to asks nothing
+abbrev pub IsFit : {A : Type 0} → FlatMachine → Option (Taken A) → Type 0
+IsFit m None = Unit {0}
+IsFit m (Some (taken.Word word)) = Unit {0}
+IsFit m (Some (taken.Reply reply)) =
+    (effect : Effect) × (step_of m 0 ≡ Ok (m, effect)) × IsSome (asking_of effect) × IsReply m.flat (room_of (asking_of effect)) reply
+IsFit m (Some (taken.Machine whole)) = whole.asking ≡ None
+
+-- A place of the run: the machines before it, its machine, and the place of the next note.
+pub record Place : Type 0 where
+  pub before : List FlatMachine
+  pub machine : FlatMachine
+  pub index : ℕ
+
+abbrev pub begun : FlatMachine → Place
+begun m = record { before = []; machine = m; index = 0 }
+
+abbrev pub taken_in : {A : Type 0} → List (Note A) → Place → Option (Taken A)
+taken_in notes p = taken_at notes p.index (units_of p.before)
+
+-- the next place
+abbrev pub next : {A : Type 0} → List (Note A) → Place → Place
+next notes p = record {
+  before = p.machine ∷ p.before;
+  machine = event p.machine (taken_in notes p);
+  index = index_after p.index (taken_in notes p);
+}
+
+-- the run from one machine leads to a place
+abbrev pub IsPath : {A : Type 0} → List (Note A) → FlatMachine → List FlatMachine → FlatMachine → ℕ → Type 0
+IsPath notes opening [] m i = (m ≡ opening) × (i ≡ 0)
+IsPath notes opening (p ∷ ps) m i =
+    (j : ℕ) × IsPath notes opening ps p j
+    × (event p (taken_at notes j (units_of ps)) ≡ m)
+    × (index_after j (taken_at notes j (units_of ps)) ≡ i)
+    × IsFit p (taken_at notes j (units_of ps))
+
+-- and it leads on from there, to so many units
+abbrev pub IsOn : {A : Type 0} → List (Note A) → ℕ → FlatMachine → ℕ → List FlatMachine → ℕ → Type 0
+IsOn notes units m i [] end = units ≡ end
+IsOn notes units m i (n ∷ ns) end =
+    (event m (taken_at notes i units) ≡ n)
+    × IsFit m (taken_at notes i units)
+    × IsOn notes (units + cost_of m) n (index_after i (taken_at notes i units)) ns end
+
+-- the last place before which at most so many units were used
+unfoldable pub walk : {A : Type 0} → List (Note A) → ℕ → ℕ → Place → Place
+walk notes units zero p = p
+walk notes units (suc n) p =
+    if nat_lt units (units_of p.before + cost_of p.machine) then p else walk notes units n (next notes p)
+
+-- the machines after a place, up to so many units
+unfoldable pub onward : {A : Type 0} → List (Note A) → ℕ → ℕ → FlatMachine → ℕ → ℕ → List FlatMachine
+onward notes zero units m i end = []
+onward notes (suc n) units m i end =
+    if nat_lt units end
+    then event m (taken_at notes i units) ∷ onward notes n (units + cost_of m) (event m (taken_at notes i units)) (index_after i (taken_at notes i units)) end
+    else []

@@ -1,0 +1,263 @@
+//! The events of a run made again, from the nearest checkpoint to a place.
+//!
+//! All of it is done on forks, so that nothing has changed after a refusal.
+ghost use Rattle.std.specs.Prelude.{◌≡◌, ◌+◌, ◌-◌, ◌^◌, ◌<◌, ◌≤◌, ℕ, true, false, None, Some, IfOk, IfSome, OnOk};
+ghost use Rattle.gx_machine.specs.Step.{cost_of};
+ghost use Rattle.gx_rewind.specs.Path.{taken_at, word_in, IsFit};
+ghost use Rattle.gx_rewind.specs.Views.{IsKept, IsSpot, IsMade, IsTried, IsTaking, IsRest, HasRun, gone_to};
+
+use crate::books::{Book, Note, Spot, Taken, until};
+use gx_machine::Machine;
+use gx_state::Effect;
+use std::alloc::{AllocError, Allocator, Global};
+
+impl<A: Allocator + Clone> Book<A> {
+    /// The last place before which at most so many units were used.
+    pub(crate) fn replayed(&self, target: u64) -> Result<Spot<A>, AllocError>
+        requires kept { IsKept self.now }
+        requires within { target ≤ self.now.units }
+        ensures spot { IfOk result (λ spot. IsSpot self.now spot) }
+        ensures within { IfOk result (λ spot. spot.units ≤ target) }
+        ensures last { IfOk result (λ spot. target < spot.units + cost_of spot.machine.machine) }
+    {
+        let mut spot = self.nearest(target)?;
+        while self.go_on(&mut spot, target)? {}
+        Ok(spot)
+    }
+
+    /// The place after the event that follows the present place, whose machine is handed in.
+    pub(crate) fn followed(&self, machine: &Machine<A>) -> Result<Spot<A>, AllocError>
+        requires asks { machine.now.asking ≡ None }
+        requires before { self.now.units ≤ self.now.end }
+        requires fit { IsFit machine.now.machine (taken_at self.now.notes.items self.now.index self.now.units) }
+        ensures { IfOk result (λ spot. IsMade (taken_at self.now.notes.items self.now.index self.now.units) (record { machine = machine.now; units = self.now.units; index = self.now.index }) spot) }
+    {
+        let mut spot = Spot {
+            machine: machine.fork(self.alloc)?,
+            units: self.units,
+            index: self.index,
+        };
+        match self.note_at(&spot) {
+            Some(note) => {
+                if !make(&mut spot, note, self.end, self.alloc)? {
+                    return Err(AllocError);
+                }
+            }
+            None => step(&mut spot, self.end)?,
+        }
+        Ok(spot)
+    }
+
+    /// A fork of the checkpoint that lies nearest before so many units, or of the beginning.
+    fn nearest(&self, target: u64) -> Result<Spot<A>, AllocError>
+        requires kept { IsKept self.now }
+        ensures spot { IfOk result (λ spot. IsSpot self.now spot) }
+        ensures within { IfOk result (λ spot. spot.units ≤ target) }
+    {
+        let count = until(self.checkpoints.as_slice(), target);
+        if count == 0 {
+            return Ok(Spot {
+                machine: self.opening.fork(self.alloc)?,
+                units: 0,
+                index: 0,
+            });
+        }
+        let nearest = &self.checkpoints[count - 1];
+        Ok(Spot {
+            machine: nearest.machine.fork(self.alloc)?,
+            units: nearest.units,
+            index: nearest.index,
+        })
+    }
+
+    /// The note of the event that begins at a place.
+    fn note_at(&self, spot: &Spot<A>) -> Option<&Note<A>>
+        ensures some { IfSome result (λ note. taken_at self.now.notes.items spot.now.index spot.now.units ≡ Some note.now.taken) }
+        ensures none { result ≡ None → taken_at self.now.notes.items spot.now.index spot.now.units ≡ None }
+        ensures index { IfSome result (λ note. spot.now.index < 2 ^ 64 - 1) }
+    {
+        if spot.index >= self.notes.len() {
+            return None;
+        }
+        let note = &self.notes[spot.index];
+        if note.units != spot.units {
+            return None;
+        }
+        Some(note)
+    }
+
+    /// The units up to which the events after a place took nothing, at most those that are handed in.
+    fn free_until(&self, spot: &Spot<A>, target: u64) -> u64
+        requires before { spot.now.units < target }
+        requires none { taken_at self.now.notes.items spot.now.index spot.now.units ≡ None }
+        ensures free { (u : ℕ) → spot.now.units ≤ u → u < result → taken_at self.now.notes.items spot.now.index u ≡ None }
+        ensures after { spot.now.units < result }
+        ensures within { result ≤ target }
+    {
+        if spot.index >= self.notes.len() {
+            return target;
+        }
+        let note = &self.notes[spot.index];
+        if note.units < spot.units {
+            return target;
+        }
+        note.units.min(target)
+    }
+
+    /// Makes the next events within so many units: those up to the next one that took something, or that one. Answers
+    /// whether more may follow.
+    fn go_on(&self, spot: &mut Spot<A>, target: u64) -> Result<bool, AllocError>
+        requires kept { IsKept self.now }
+        requires within { target ≤ self.now.units }
+        requires spot { IsSpot self.now spot.old }
+        requires before { spot.old.units ≤ target }
+        ensures spot { IfOk result (λ more. IsSpot self.now spot.new) }
+        ensures within { IfOk result (λ more. spot.new.units ≤ target) }
+        ensures more { IfOk result (λ more. more ≡ true → spot.old.units < spot.new.units) }
+        ensures last { IfOk result (λ more. more ≡ false → target < spot.new.units + cost_of spot.new.machine.machine) }
+    {
+        if spot.units == target {
+            return Ok(false);
+        }
+        if let Some(note) = self.note_at(spot) {
+            let made = make(spot, note, target, self.alloc)?;
+            return Ok(made);
+        }
+        let limit = self.free_until(spot, target);
+        if run(spot, limit)? {
+            return Ok(true);
+        }
+        if limit == target {
+            return Ok(false);
+        }
+        if spot.units < limit {
+            return Err(AllocError);
+        }
+        Ok(true)
+    }
+}
+
+/// Makes the next events, which take nothing, within so many units. Answers whether the last of them was no plain step,
+/// so that others may follow within them.
+fn run<A: Allocator + Clone>(spot: &mut Spot<A>, limit: u64) -> Result<bool, AllocError>
+    requires asks { spot.old.machine.asking ≡ None }
+    requires before { spot.old.units ≤ limit }
+    ensures { IfOk result (λ more. HasRun limit more spot.old spot.new) }
+{
+    let mut budget = limit - spot.units;
+    let mut left = budget;
+    match spot.machine.advance(0, &mut budget, &mut left) {
+        Ok(Effect::Spent) => {
+            spot.units = limit - budget;
+            Ok(false)
+        }
+        Ok(Effect::Went) => {
+            spot.units = limit - left;
+            Ok(true)
+        }
+        Ok(Effect::Quit) => {
+            spot.units = limit - left;
+            Ok(true)
+        }
+        Ok(Effect::Put(_)) => {
+            spot.machine.finish_put();
+            spot.units = limit - left;
+            Ok(true)
+        }
+        _ => Err(AllocError),
+    }
+}
+
+/// Makes the next event, which takes nothing, within so many units.
+fn step<A: Allocator + Clone>(spot: &mut Spot<A>, limit: u64) -> Result<(), AllocError>
+    requires asks { spot.old.machine.asking ≡ None }
+    requires before { spot.old.units ≤ limit }
+    ensures { OnOk result (IsMade {A = A} None spot.old spot.new) }
+{
+    let mut left = limit - spot.units;
+    match spot.machine.step(0, &mut left) {
+        Ok(Effect::Went) => {
+            spot.units = limit - left;
+            Ok(())
+        }
+        Ok(Effect::Quit) => {
+            spot.units = limit - left;
+            Ok(())
+        }
+        Ok(Effect::Put(_)) => {
+            spot.machine.finish_put();
+            spot.units = limit - left;
+            Ok(())
+        }
+        _ => Err(AllocError),
+    }
+}
+
+/// Makes the next event, which took something, within so many units. Answers whether it is made.
+fn make<A: Allocator + Clone>(
+    spot: &mut Spot<A>,
+    note: &Note<A>,
+    limit: u64,
+    alloc: Global,
+) -> Result<bool, AllocError>
+    requires asks { spot.old.machine.asking ≡ None }
+    requires before { spot.old.units ≤ limit }
+    requires fit { IsFit spot.old.machine.machine (Some note.now.taken) }
+    requires room { spot.old.index < 2 ^ 64 - 1 }
+    ensures { IfOk result (λ made. IsTried limit (Some note.now.taken) made spot.old spot.new) }
+{
+    let mut left = limit - spot.units;
+    let Ok(effect) = spot.machine.step(word_of(&note.taken), &mut left) else {
+        return Err(AllocError);
+    };
+    match effect {
+        Effect::Spent => Ok(false),
+        _ => {
+            take(&mut spot.machine, &note.taken, alloc)?;
+            spot.units = limit - left;
+            spot.index += 1;
+            Ok(true)
+        }
+    }
+}
+
+/// The word of an event that took this.
+fn word_of<A: Allocator + Clone>(taken: &Taken<A>) -> u32
+    ensures { result ≡ word_in taken.now }
+{
+    match taken {
+        Taken::Word(word) => *word,
+        Taken::Reply(_) => 0,
+        Taken::Machine(_) => 0,
+    }
+}
+
+/// Gives a machine what the event took, once its step is made.
+fn take<A: Allocator + Clone>(
+    machine: &mut Machine<A>,
+    taken: &Taken<A>,
+    alloc: Global,
+) -> Result<(), AllocError>
+    requires { IsTaking machine.old taken.now }
+    ensures rest { OnOk result (IsRest machine.old taken.now) }
+    ensures value { OnOk result (machine.new ≡ record { machine = gone_to machine.old.machine taken.now; asking = None }) }
+{
+    match taken {
+        Taken::Word(_) => {
+            if machine.asking().is_some() {
+                return Err(AllocError);
+            }
+            Ok(())
+        }
+        Taken::Reply(reply) => {
+            if machine.asking().is_none() {
+                return Err(AllocError);
+            }
+            machine.finish(reply)
+        }
+        Taken::Machine(gone) => {
+            *machine = gone.fork(alloc)?;
+            Ok(())
+        }
+    }
+}
