@@ -39,6 +39,18 @@ fn with_budget<'a>(alloc: Global, words: &[&'a str], budget: &'a str) -> Result<
     Ok(kept)
 }
 
+/// The words of a run on a tape that goes back so far.
+fn with_back<'a>(alloc: Global, words: &[&'a str], back: &'a str) -> Result<Vec<&'a str>> {
+    let mut longer = Vec::new(alloc);
+    for word in words {
+        longer.push(*word)?;
+    }
+    for word in ["--job", "rewind", "--back", back] {
+        longer.push(word)?;
+    }
+    Ok(longer)
+}
+
 /// The line of the story's run on a tape that goes back so far.
 fn line_of<S: Again>(
     alloc: Global,
@@ -49,10 +61,8 @@ fn line_of<S: Again>(
 ) -> Result<String> {
     let mut devices = story.devices(alloc)?;
     let back = format!(in alloc; "{back}")?;
-    let mut words = story.command_line(alloc)?;
-    for word in ["--job", "rewind", "--back", back.as_str()] {
-        words.push(word)?;
-    }
+    let words = story.command_line(alloc)?;
+    let words = with_back(alloc, words.as_slice(), back.as_str())?;
     let taped = run(alloc, MOST_PAGES, words.as_slice(), &mut devices)?;
     let (line, wanted) = (taped.line.as_str(), told.line.as_str());
     ensure!(line == wanted, "on a tape it ends {line}");
