@@ -10,7 +10,7 @@ use Rattle.gx_machine.specs.Machine.{FlatMachine, Whole}
 use Rattle.gx_machine.specs.Step.{asking_of, cost_of, step_of, stepped}
 use Rattle.gx_rewind.specs.declared.books.Book.{Book}
 use Rattle.gx_rewind.specs.declared.books.Taken.TheVariants as taken
-use Rattle.gx_rewind.specs.Path.{after, event, settled}
+use Rattle.gx_rewind.specs.Path.{after, event, settled, IsFit, IsQuiet}
 use Rattle.gx_rewind.specs.Views.{HasEnded, IsBook, IsPending}
 use Rattle.gx_rewind.proofs.Calm.{never-spent}
 use Rattle.gx_rewind.proofs.Passing.{quiet}
@@ -27,6 +27,15 @@ costs before new word budget left cost e unspent step is =
 
 pub none-asked : {A : Type 0} (b : Book A) (new : Whole) → new.asking ≡ None → IfSome new.asking (IsPending b new.machine)
 none-asked b new none = subst (λ (a : Option Asking). IfSome a (IsPending b new.machine)) (sym none) tt
+
+-- such an event took nothing
+pub quiet-fit : (A : Type 0) (before new : Whole) (word budget left : ℕ) (e : Effect) → e ≢ Spent → e ≢ Drew → IsQuiet e → stepped before word budget ≡ Ok ((new, left), e) → IsFit {A = A} before.machine None
+quiet-fit A before new word budget left e unspent undrawn plain step =
+    (new.machine, e, same-step before.machine word new.machine e undrawn (step-done before word budget new left e unspent step).step, plain)
+
+-- one that took a word drew it
+pub drew-fit : (A : Type 0) (before new : Whole) (word budget left : ℕ) → stepped before word budget ≡ Ok ((new, left), Drew) → IsFit {A = A} before.machine (Some (taken.Word word))
+drew-fit A before new word budget left step = (new.machine, (step-done before word budget new left Drew (λ no. cc) step).step)
 
 -- an event that took nothing has ended
 pub ended-quiet : {A : Type 0} (b : Book A) (before new : Whole) (word budget left : ℕ) (e : Effect) (log : Log) → e ≢ Spent → e ≢ Drew → asking_of e ≡ None

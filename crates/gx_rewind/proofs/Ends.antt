@@ -79,8 +79,13 @@ follows-by notes units m i (n ∷ ns) end on other = on.1
 pub follows : {A : Type 0} (b : Book A) (m : FlatMachine) (log : Log) → IsBook b m log → (b.units ≡ b.end → ⊥) → IsFit m (taken_at b.notes.items b.index b.units)
 follows b m log book other = follows-by b.notes.items b.units m b.index log.after b.end book.on other
 
-pub before-end : {A : Type 0} (b : Book A) (m : FlatMachine) (log : Log) → IsBook b m log → b.units ≤ b.end
-before-end b m log book = let long = on-long b.notes.items b.units m b.index log.after b.end book.on in omega (arith, long)
+fits-by : {A : Type 0} (notes : List (Note A)) (units : ℕ) (m : FlatMachine) (i : ℕ) (after : List FlatMachine) (end : ℕ) → IsOn notes units m i after end → (units ≡ end → ⊥) → units + cost_of m ≤ end
+fits-by notes units m i [] end on other = absurd (other on)
+fits-by notes units m i (n ∷ ns) end on other =
+    let long = on-long notes (units + cost_of m) n (index_after i (taken_at notes i units)) ns end on.2 in omega (arith, long)
+
+pub before-end : {A : Type 0} (b : Book A) (m : FlatMachine) (log : Log) → IsBook b m log → (b.units ≡ b.end → ⊥) → b.units + cost_of m ≤ b.end
+before-end b m log book other = fits-by b.notes.items b.units m b.index log.after b.end book.on other
 
 -- at the end nothing follows
 none-follows : {A : Type 0} (notes : List (Note A)) (units : ℕ) (m : FlatMachine) (i : ℕ) (after : List FlatMachine) (end : ℕ) → IsOn notes units m i after end → units ≡ end → after ≡ []

@@ -4,10 +4,11 @@ use Rattle.gx_words.specs.declared.faults.Fault.{Fault}
 use Rattle.gx_words.specs.declared.faults.Fault.TheVariants.{NoMemory}
 use Rattle.gx_words.specs.Faults.{Does}
 use Rattle.gx_state.specs.declared.effects.Effect.{Effect}
-use Rattle.gx_state.specs.declared.effects.Effect.TheVariants.{Put}
+use Rattle.gx_state.specs.declared.effects.Effect.TheVariants.{Went, Drew, Put, Glk, Save, Restore, Quit, Spent}
 use Rattle.gx_state.specs.declared.effects.Reply.{Reply}
 use Rattle.gx_state.specs.Replies.{IsReply}
 use Rattle.gx_machine.specs.declared.askings.Asking.{Asking}
+use Rattle.gx_machine.specs.declared.askings.Asking.TheVariants as asking
 use Rattle.gx_machine.specs.Advancing.{Advances}
 use Rattle.gx_machine.specs.Answer.{answer_of}
 use Rattle.gx_machine.specs.Log.{Log, units_of}
@@ -15,7 +16,7 @@ use Rattle.gx_machine.specs.Machine.{FlatMachine, Whole}
 use Rattle.gx_machine.specs.Step.{asking_of, cost_of, room_of, step_of, stepped, IsStepWriting}
 use Rattle.gx_rewind.specs.declared.books.Book.{Book}
 use Rattle.gx_rewind.specs.declared.books.Taken.{Taken}
-use Rattle.gx_rewind.specs.Path.{event, nothing, settled}
+use Rattle.gx_rewind.specs.Path.{event, nothing, settled, IsFit, IsQuiet}
 use Rattle.gx_rewind.specs.Views.{log_of, IsBook, IsPending, Records}
 use Rattle.gx_rewind.proofs.Ended.{none-asked}
 use Rattle.gx_rewind.proofs.Kept.{booked, logged}
@@ -96,6 +97,20 @@ put-pends b old new budget ch log book step some room stands pending =
       step = subst (λ (m : FlatMachine). step_of m 0 ≡ Ok (new.machine, Put ch)) (sym stands) d.step;
       asks = refl;
     })
+
+-- an event that puts a character takes nothing
+puts : (e : Effect) → asking_of e ≡ Some asking.Put → IsQuiet e
+puts Went asks = tt
+puts Drew asks = absurd cc
+puts (Put c) asks = tt
+puts (Glk selector args room) asks = absurd cc
+puts (Save stream) asks = absurd cc
+puts (Restore stream) asks = absurd cc
+puts Quit asks = tt
+puts Spent asks = absurd cc
+
+pub put-fit : (A : Type 0) (b : Book A) (m : FlatMachine) → IsPending b m asking.Put → IsFit {A = A} m None
+put-fit A b m pends = (m, pends.effect, pends.step, puts pends.effect pends.asks)
 
 -- a character that was put is answered with nothing
 pub put-event : (A : Type 0) (b : Book A) (m : FlatMachine) (a : Asking) → IsPending b m a → event {A = A} m None ≡ answer_of m nothing

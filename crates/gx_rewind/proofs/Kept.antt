@@ -96,16 +96,16 @@ held-on : {A : Type 0} (notes : List (Note A)) (opening : Whole) (end end' : ℕ
 held-on notes opening end end' less xs all k d within = let one = all k d within in let fits = one.1 in (one.0, omega (arith, fits, less))
 
 -- an event that took nothing
-pub went-book : {A : Type 0} (c d : Book A) (k : ℕ) (m : FlatMachine) (before : List FlatMachine) → IsCut c m before → k ≡ cost_of m
+pub went-book : {A : Type 0} (c d : Book A) (k : ℕ) (m : FlatMachine) (before : List FlatMachine) → IsCut c m before → k ≡ cost_of m → IsFit {A = A} m None
     → d.opening ≡ c.opening → d.notes.items ≡ c.notes.items → d.checkpoints.items ≡ c.checkpoints.items → d.index ≡ c.index → d.units ≡ c.units + k → d.end ≡ d.units
     → IsBook d (event {A = A} m None) (record { before = m ∷ before; after = [] })
-went-book {A} c d k m before cut cost opening notes checkpoints index units end =
+went-book {A} c d k m before cut cost fit opening notes checkpoints index units end =
     let book = cut.book in
     let sum = units-cons m before in
     let here = book.units_is in
     let whole = book.on in
     record {
-      path = same-path c.notes.items d.notes.items c.opening d.opening (m ∷ before) (event {A = A} m None) c.index d.index notes opening index (extended c.notes.items c.opening.machine before m c.index None (event {A = A} m None) c.index book.path (free-past c.notes.items c.index (units_of before) cut.full) refl refl tt);
+      path = same-path c.notes.items d.notes.items c.opening d.opening (m ∷ before) (event {A = A} m None) c.index d.index notes opening index (extended c.notes.items c.opening.machine before m c.index None (event {A = A} m None) c.index book.path (free-past c.notes.items c.index (units_of before) cut.full) refl refl fit);
       units_is = omega (arith, sum, here, units, cost);
       on = sym end;
       checkpoints = rw (notes, opening, checkpoints) (held-on c.notes.items c.opening c.end d.end (omega (arith, whole, units, end)) c.checkpoints.items book.checkpoints);

@@ -9,3 +9,5 @@ pub mod Running
 pub mod Ended
 pub mod Ends
 pub mod Engines
+pub mod Parts
+pub mod Fits

@@ -82,7 +82,7 @@ module _ {A : Type 0} (notes : List (Note A)) (opening : FlatMachine) where
       let same = same-step mid.machine word w'.machine Went went-drew step.step in
       record {
         last = mid.machine ∷ so_far.last;
-        path = extended notes opening so_far.last mid.machine i None w'.machine i so_far.path none (quiet A mid.machine w'.machine Went same) refl tt;
+        path = extended notes opening so_far.last mid.machine i None w'.machine i so_far.path none (quiet A mid.machine w'.machine Went same) refl (w'.machine, Went, same, tt);
         units_is = omega (arith, units, lower, enough, left_is, sum);
         lower = omega (arith, lower, left_is);
         passes = ((mid, more), Some (record { before = so_far.last; after = rest_of n after }), so_far.passes, p.3, refl);

@@ -17,8 +17,8 @@ use Rattle.gx_rewind.specs.declared.books.Note.{Note}
 use Rattle.gx_rewind.specs.declared.books.Spot.{Spot}
 use Rattle.gx_rewind.specs.declared.books.Taken.{Taken}
 use Rattle.gx_rewind.specs.declared.books.Taken.TheVariants as taken
-use Rattle.gx_rewind.specs.Path.{after, event, settled, taken_at, word_in, IsFit, IsPath}
-use Rattle.gx_rewind.specs.Views.{IsKept, IsMade, IsPlace, IsRest, IsSpot, IsTaking, IsTried, HasRun, gone_to}
+use Rattle.gx_rewind.specs.Path.{after, event, settled, taken_at, word_in, IsFit, IsPath, IsQuiet}
+use Rattle.gx_rewind.specs.Views.{IsKept, IsMade, IsPlace, IsSpot, IsTaking, IsTried, HasRun, gone_to}
 use Rattle.gx_rewind.proofs.Calm.{never-spent}
 use Rattle.gx_rewind.proofs.Passing.{no-log, passes-on, passed-asks, passed-lower, quiet}
 use Rattle.gx_rewind.proofs.Paths.{units-cons, extended, was-made}
@@ -80,9 +80,9 @@ run-spent {A} s limit budget left new fits a asks =
 
 -- or after one that is no plain step, once what it asks is answered with nothing
 pub run-ended : {A : Type 0} (s : Spot A) (limit budget left : ℕ) (new end : Whole) (e : Effect) → s.units ≤ limit → Advances 0 (Ok e) (s.machine, limit - s.units) None budget (new, left) None
-    → e ≢ Spent → e ≢ Drew → end.machine ≡ settled new.machine (asking_of e) → end.asking ≡ None
+    → e ≢ Spent → IsQuiet e → end.machine ≡ settled new.machine (asking_of e) → end.asking ≡ None
     → (left ≤ limit) × HasRun limit true s (record { machine = end; units = limit - left; index = s.index })
-run-ended {A} s limit budget left new end e fits a unspent undrawn ends asks =
+run-ended {A} s limit budget left new end e fits a unspent plain ends asks =
     let h = has-advanced 0 (Ok e) (s.machine, limit - s.units) budget (new, left) a in
     let d = step-done h.before 0 budget new left e unspent h.step in
     let lower = passed-lower 0 h.count s.machine h.before (limit - s.units) budget None None h.passes in
@@ -101,7 +101,7 @@ run-ended {A} s limit budget left new end e fits a unspent undrawn ends asks =
             record {
               before = h.before.machine ∷ on.last;
               path = extended notes opening.machine on.last h.before.machine s.index None end.machine s.index on.path
-                  (free (units_of on.last) (omega (arith, here, lower, fits)) (omega (arith, here, lower, one, enough))) (quiet A h.before.machine new.machine e d.step ∙ sym ends) refl tt;
+                  (free (units_of on.last) (omega (arith, here, lower, fits)) (omega (arith, here, lower, one, enough))) (quiet A h.before.machine new.machine e d.step ∙ sym ends) refl (new.machine, e, d.step, plain);
               units_is = omega (arith, cons, here, left_is, enough, lower);
               asks = asks;
             };
@@ -143,37 +143,43 @@ tried-spent {A} s t limit left new fits step =
 
 -- what is taken is fit for the machine once its step is made
 pub takes : {A : Type 0} (m new : Whole) (t : Taken A) (budget left : ℕ) (e : Effect) → e ≢ Spent → stepped m (word_in t) budget ≡ Ok ((new, left), e) → IsFit m.machine (Some t) → IsTaking new t
-takes m new (taken.Word word) budget left e unspent step fit = tt
+takes m new (taken.Word word) budget left e unspent step fit =
+    let d = step-done m word budget new left e unspent step in
+    let same : (fit.0, Drew) ≡ (new.machine, e) = ok-is {A = FlatMachine × Effect} (fit.0, Drew) (new.machine, e) (sym fit.1 ∙ d.step) in
+    d.asks ∙ sym (ap (λ (q : FlatMachine × Effect). asking_of q.1) same)
 takes m new (taken.Reply reply) budget left e unspent step fit =
     let d = step-done m 0 budget new left e unspent step in
     let same : (m.machine, fit.0) ≡ (new.machine, e) = ok-is {A = FlatMachine × Effect} (m.machine, fit.0) (new.machine, e) (sym fit.1 ∙ d.step) in
-    λ some.
-    subst (λ (a : Option Asking). IsReply new.machine.flat (room_of a) reply) (sym d.asks)
-    (subst (λ (q : FlatMachine × Effect). IsReply q.0.flat (room_of (asking_of q.1)) reply) same fit.3)
-takes m new (taken.Machine whole) budget left e unspent step fit = fit
+    record {
+      pending = subst IsSome (ap (λ (q : FlatMachine × Effect). asking_of q.1) same ∙ sym d.asks) fit.2;
+      fits = subst (λ (a : Option Asking). IsReply new.machine.flat (room_of a) reply) (sym d.asks)
+          (subst (λ (q : FlatMachine × Effect). IsReply q.0.flat (room_of (asking_of q.1)) reply) same fit.3);
+    }
+takes m new (taken.Machine whole) budget left e unspent step fit = fit.2
 
-takes-machine : {A : Type 0} (m new : Whole) (t : Taken A) (budget left : ℕ) (e : Effect) → e ≢ Spent → stepped m (word_in t) budget ≡ Ok ((new, left), e) → IsFit m.machine (Some t) → IsRest new t
+takes-machine : {A : Type 0} (m new : Whole) (t : Taken A) (budget left : ℕ) (e : Effect) → e ≢ Spent → stepped m (word_in t) budget ≡ Ok ((new, left), e) → IsFit m.machine (Some t)
     → event m.machine (Some t) ≡ gone_to new.machine t
-takes-machine m new (taken.Word word) budget left e unspent step fit rest =
+takes-machine {A} m new (taken.Word word) budget left e unspent step fit =
     let d = step-done m word budget new left e unspent step in
+    let rest = takes {A = A} m new (taken.Word word) budget left e unspent step fit in
     ap (after m.machine) d.step ∙ ap (settled new.machine) (sym d.asks ∙ rest)
-takes-machine m new (taken.Reply reply) budget left e unspent step fit rest =
+takes-machine m new (taken.Reply reply) budget left e unspent step fit =
     let d = step-done m 0 budget new left e unspent step in
     let same : (m.machine, fit.0) ≡ (new.machine, e) = ok-is {A = FlatMachine × Effect} (m.machine, fit.0) (new.machine, e) (sym fit.1 ∙ d.step) in
     ap (λ (q : FlatMachine × Effect). answer_of q.0 reply) same
-takes-machine m new (taken.Machine whole) budget left e unspent step fit rest = refl
+takes-machine m new (taken.Machine whole) budget left e unspent step fit = refl
 
 -- an event that took something is made
 pub tried-made : {A : Type 0} (s : Spot A) (t : Taken A) (limit left : ℕ) (new end : Whole) (e : Effect) → s.units ≤ limit → stepped s.machine (word_in t) (limit - s.units) ≡ Ok ((new, left), e)
-    → e ≢ Spent → IsFit s.machine.machine (Some t) → IsRest new t → end ≡ record { machine = gone_to new.machine t; asking = None }
+    → e ≢ Spent → IsFit s.machine.machine (Some t) → end ≡ record { machine = gone_to new.machine t; asking = None }
     → IsTried limit (Some t) true s (record { machine = end; units = limit - left; index = s.index + 1 })
-tried-made s t limit left new end e fits step unspent fit rest ends =
+tried-made s t limit left new end e fits step unspent fit ends =
     let d = step-done s.machine (word_in t) (limit - s.units) new left e unspent step in
     let enough = d.enough in
     let left_is = d.left_is in
     record {
       made = λ _. record {
-        machine = takes-machine s.machine new t (limit - s.units) left e unspent step fit rest ∙ sym (ap (λ (w : Whole). w.machine) ends);
+        machine = takes-machine s.machine new t (limit - s.units) left e unspent step fit ∙ sym (ap (λ (w : Whole). w.machine) ends);
         index = refl;
         units_is = omega (arith, left_is, enough, fits);
         asks = ap (λ (w : Whole). w.asking) ends;

@@ -2,6 +2,7 @@
 use Rattle.std.specs.Prelude.{◌≡◌, ℕ, zero, suc, ◌+◌, ◌==◌, nat_lt, if◌then◌else◌, List, [], ◌∷◌, slice_get, Option, Some, None, IsSome, Result, Ok, Err}
 use Rattle.gx_words.specs.declared.faults.Fault.{Fault}
 use Rattle.gx_state.specs.declared.effects.Effect.{Effect}
+use Rattle.gx_state.specs.declared.effects.Effect.TheVariants.{Went, Drew, Put, Glk, Save, Restore, Quit, Spent}
 use Rattle.gx_state.specs.declared.effects.Reply.{Reply}
 use Rattle.gx_state.specs.Replies.{IsReply}
 use Rattle.gx_machine.specs.declared.askings.Asking.{Asking}
@@ -52,13 +53,25 @@ abbrev pub index_after : {A : Type 0} → ℕ → Option (Taken A) → ℕ
 index_after index None = index
 index_after index (Some t) = index + 1
 
--- a reply that was given fits what is asked, and a machine that was gone to asks nothing
+-- the effects of a step whose event takes nothing from outside
+abbrev pub IsQuiet : Effect → Type 0
+IsQuiet Went = Unit {0}
+IsQuiet Drew = ⊥
+IsQuiet (Put c) = Unit {0}
+IsQuiet (Glk selector args room) = ⊥
+IsQuiet (Save stream) = ⊥
+IsQuiet (Restore stream) = ⊥
+IsQuiet Quit = Unit {0}
+IsQuiet Spent = ⊥
+
+-- An event took what its step takes. A reply that was given fits what is asked, and a machine that was gone to asks
+-- nothing.
 abbrev pub IsFit : {A : Type 0} → FlatMachine → Option (Taken A) → Type 0
-IsFit m None = Unit {0}
-IsFit m (Some (taken.Word word)) = Unit {0}
+IsFit m None = (n : FlatMachine) × (effect : Effect) × (step_of m 0 ≡ Ok (n, effect)) × IsQuiet effect
+IsFit m (Some (taken.Word word)) = (n : FlatMachine) × (step_of m word ≡ Ok (n, Drew))
 IsFit m (Some (taken.Reply reply)) =
     (effect : Effect) × (step_of m 0 ≡ Ok (m, effect)) × IsSome (asking_of effect) × IsReply m.flat (room_of (asking_of effect)) reply
-IsFit m (Some (taken.Machine whole)) = whole.asking ≡ None
+IsFit m (Some (taken.Machine whole)) = (effect : Effect) × (step_of m 0 ≡ Ok (m, effect)) × (whole.asking ≡ None)
 
 -- A place of the run: the machines before it, its machine, and the place of the next note.
 pub record Place : Type 0 where

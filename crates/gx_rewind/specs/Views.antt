@@ -1,14 +1,14 @@
 -- What the fields of a tape stand for.
-use Rattle.std.specs.Prelude.{◌≡◌, ℕ, ◌+◌, ◌-◌, ◌^◌, ◌≤◌, ◌<◌, List, Bool, true, false, Option, Some, None, Result, Ok, IfSome, IsSome, All}
+use Rattle.std.specs.Prelude.{◌≡◌, ◌≢◌, ℕ, ◌+◌, ◌-◌, ◌^◌, ◌≤◌, ◌<◌, List, Bool, true, false, Option, Some, None, Result, Ok, IfSome, All}
 use Rattle.gx_words.specs.declared.faults.Fault.{Fault}
+use Rattle.gx_words.specs.declared.faults.Fault.TheVariants.{NoMemory}
 use Rattle.gx_state.specs.declared.effects.Effect.{Effect}
-use Rattle.gx_state.specs.Replies.{IsReply}
 use Rattle.gx_machine.specs.declared.askings.Asking.{Asking}
 use Rattle.gx_machine.specs.Advancing.{Advances, logged_by}
-use Rattle.gx_machine.specs.Answer.{answer_of}
+use Rattle.gx_machine.specs.Answer.{answer_of, IsAnswer}
 use Rattle.gx_machine.specs.Log.{Log, units_of}
 use Rattle.gx_machine.specs.Machine.{FlatMachine, Whole}
-use Rattle.gx_machine.specs.Step.{asking_of, cost_of, room_of, step_of}
+use Rattle.gx_machine.specs.Step.{asking_of, cost_of, step_of}
 use Rattle.gx_rewind.specs.declared.books.Book.{Book}
 use Rattle.gx_rewind.specs.declared.books.Note.{Note}
 use Rattle.gx_rewind.specs.declared.books.Spot.{Spot}
@@ -102,16 +102,10 @@ pub record HasRun {A : Type 0} (limit : ℕ) (ended : Bool) (old new : Spot A) :
   pub more : ended ≡ true → old.units < new.units
   pub last : ended ≡ false → limit < new.units + cost_of new.machine.machine
 
--- a step that drew a word asks nothing
-abbrev pub IsRest : {A : Type 0} → Whole → Taken A → Type 0
-IsRest m (taken.Word word) = m.asking ≡ None
-IsRest m (taken.Reply reply) = Unit {0}
-IsRest m (taken.Machine whole) = Unit {0}
-
 -- once the step of an event is made, what it took can be given to the machine
 abbrev pub IsTaking : {A : Type 0} → Whole → Taken A → Type 0
-IsTaking m (taken.Word word) = Unit {0}
-IsTaking m (taken.Reply reply) = IsSome m.asking → IsReply m.machine.flat (room_of m.asking) reply
+IsTaking m (taken.Word word) = m.asking ≡ None
+IsTaking m (taken.Reply reply) = IsAnswer m reply
 IsTaking m (taken.Machine whole) = whole.asking ≡ None
 
 -- the machine then
@@ -134,3 +128,7 @@ pub record HasEnded {A : Type 0} (effect : Effect) (before new : Whole) (log : L
   pub is : Some last ≡ logged_by effect (Some log) before.machine
   pub book : IsBook b new.machine last
   pub pends : IfSome new.asking (IsPending b new.machine)
+
+-- a fault that can only be want of memory
+abbrev pub IsWant : Fault → Type 0
+IsWant fault = fault ≢ NoMemory → ⊥

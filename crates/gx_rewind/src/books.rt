@@ -4,7 +4,7 @@
 //! A note has the units that were used where its event began: an event takes one unit at least, so that these name it.
 //! An event without a note took the word 0, and was answered with nothing where it asked. So all that is left out here
 //! follows from what is kept.
-ghost use Rattle.std.specs.Prelude.{◌≡◌, ◌+◌, ◌^◌, ◌-◌, ◌<◌, ◌≤◌, ◌++◌, ◌∷◌, [], None, Some, length, slice_index_or, take, List, ℕ, vec_len, vec_capacity, Ok, IsSome, IfOk, OnOk, All};
+ghost use Rattle.std.specs.Prelude.{◌≡◌, ◌≢◌, ◌+◌, ◌^◌, ◌-◌, ◌<◌, ◌≤◌, ◌++◌, ◌∷◌, [], None, Some, length, slice_index_or, take, min, List, ℕ, vec_len, vec_capacity, Ok, IsSome, IfOk, OnOk, All};
 ghost use Rattle.gx_machine.specs.Log.{Log, no_events};
 ghost use Rattle.gx_machine.specs.Advancing.{Advances, Passes};
 ghost use Rattle.gx_machine.specs.Machine.{FlatMachine, Whole};
@@ -111,6 +111,19 @@ impl<A: Allocator + Clone> Book<A> {
             return Ok(());
         }
         self.check(machine)
+    }
+
+    /// How many of so many units there are until the next checkpoint is due. A run that leaves the record has one due
+    /// within `every` units.
+    pub(crate) fn part(&self, budget: u64) -> u64
+        ensures at_end { self.now.units ≡ self.now.end → result ≡ min budget (self.now.due - self.now.units) }
+        ensures elsewhere { self.now.units ≢ self.now.end → result ≡ min budget self.now.every }
+    {
+        if self.units == self.end {
+            budget.min(self.due.saturating_sub(self.units))
+        } else {
+            budget.min(self.every)
+        }
     }
 
     /// Takes a checkpoint.
@@ -232,7 +245,7 @@ impl<A: Allocator + Clone> Book<A> {
         requires { self.old.units + units ≤ 2 ^ 64 - 1 }
         ensures room { vec_capacity self.new.notes ≡ vec_capacity self.old.notes }
         ensures len { vec_len self.new.notes ≤ vec_len self.old.notes }
-        ensures book { (m : FlatMachine) (log : Log) → IsBook self.old m log → units ≡ cost_of m → IsBook self.new (event {A = A} m None) (record { before = m ∷ log.before; after = [] }) }
+        ensures book { (m : FlatMachine) (log : Log) → IsBook self.old m log → units ≡ cost_of m → IsFit {A = A} m None → IsBook self.new (event {A = A} m None) (record { before = m ∷ log.before; after = [] }) }
     {
         self.cut();
         self.units += units;

@@ -102,6 +102,7 @@ impl<A: Allocator + Clone> Tape<A> {
         ensures ok { OnOk result (self.new ≡ gone_on self.old) }
         ensures some { IfOk result (λ more. IsTrue more ↔ (0 < length self.old.log.after)) }
         ensures err { OnErr result (self.new ≡ self.old) }
+        ensures memory { OnErr result (0 < length self.old.log.after) }
     {
         if self.book.units == self.book.end {
             return Ok(false);

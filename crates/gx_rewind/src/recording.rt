@@ -1,12 +1,17 @@
 //! A tape makes steps and answers what they ask, and notes what was taken from outside.
 //!
+//! A call makes steps until a checkpoint is due, and one more: then the next call takes it. So there are checkpoints in
+//! a long run that asks nothing.
+//!
 //! Room for a note is asked for before anything is done, so that nothing has changed after a refusal.
-ghost use Rattle.std.specs.Prelude.{◌≡◌};
+ghost use Rattle.std.specs.Prelude.{◌≡◌, ◌≢◌, ◌≤◌, true, false, None, Ok};
+ghost use Rattle.gx_state.specs.declared.effects.Effect.TheVariants.{Spent};
+ghost use Rattle.gx_machine.specs.Advancing.{Advances};
 
 use crate::Tape;
 use crate::books::Taken;
 use crate::replies::copied;
-use gx_machine::Engine;
+use gx_machine::{Engine, Machine};
 use gx_state::{Effect, FlatCopy, Reply, State};
 use gx_story::Story;
 use gx_words::Fault;
@@ -27,7 +32,8 @@ impl<A: Allocator + Clone> Engine<A> for Tape<A> {
         let start = *budget;
         let room = self.book.room();
         prove!(start <= room);
-        let result = self.machine.advance(word, budget, left);
+        let part = self.book.part(start);
+        let result = advance_parted(&mut self.machine, word, part, budget, left);
         self.book.ran(word, start, *budget, *left, &result);
         result
     }
@@ -79,4 +85,37 @@ impl<A: Allocator + Clone> Engine<A> for Tape<A> {
     fn undo_len(&self) -> usize {
         self.machine.undo_len()
     }
+}
+
+/// Steps within part of the budget, and one more within all of it where the next one doesn't fit into that part. Those
+/// are steps within the budget, as a machine makes them.
+fn advance_parted<A: Allocator + Clone>(
+    machine: &mut Machine<A>,
+    word: u32,
+    part: u64,
+    budget: &mut u64,
+    left: &mut u64,
+) -> Result<Effect, Fault>
+    requires asks { machine.old.asking ≡ None }
+    requires within { part ≤ budget.old }
+    ensures { Advances word result (machine.old, budget.old) None budget.new (machine.new, left.new) None }
+{
+    let later = *budget - part;
+    *budget = part;
+    let outcome = machine.advance(word, budget, left);
+    *budget += later;
+    if is_spent(&outcome) {
+        *left = *budget;
+        return machine.step(word, left);
+    }
+    *left += later;
+    outcome
+}
+
+/// Whether the last of some steps didn't fit into the budget.
+fn is_spent(outcome: &Result<Effect, Fault>) -> bool
+    ensures yes { result ≡ true → outcome.now ≡ Ok Spent }
+    ensures no { result ≡ false → outcome.now ≢ Ok Spent }
+{
+    matches!(outcome, Ok(Effect::Spent))
 }

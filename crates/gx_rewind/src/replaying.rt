@@ -4,11 +4,12 @@
 ghost use Rattle.std.specs.Prelude.{◌≡◌, ◌+◌, ◌-◌, ◌^◌, ◌<◌, ◌≤◌, ℕ, true, false, None, Some, IfOk, IfSome, OnOk};
 ghost use Rattle.gx_machine.specs.Step.{cost_of};
 ghost use Rattle.gx_rewind.specs.Path.{taken_at, word_in, IsFit};
-ghost use Rattle.gx_rewind.specs.Views.{IsKept, IsSpot, IsMade, IsTried, IsTaking, IsRest, HasRun, gone_to};
+ghost use Rattle.gx_rewind.specs.Views.{IsKept, IsSpot, IsMade, IsTried, IsTaking, IsWant, HasRun, gone_to};
 
 use crate::books::{Book, Note, Spot, Taken, until};
 use gx_machine::Machine;
 use gx_state::Effect;
+use gx_words::Fault;
 use std::alloc::{AllocError, Allocator, Global};
 
 impl<A: Allocator + Clone> Book<A> {
@@ -28,7 +29,7 @@ impl<A: Allocator + Clone> Book<A> {
     /// The place after the event that follows the present place, whose machine is handed in.
     pub(crate) fn followed(&self, machine: &Machine<A>) -> Result<Spot<A>, AllocError>
         requires asks { machine.now.asking ≡ None }
-        requires before { self.now.units ≤ self.now.end }
+        requires before { self.now.units + cost_of machine.now.machine ≤ self.now.end }
         requires fit { IsFit machine.now.machine (taken_at self.now.notes.items self.now.index self.now.units) }
         ensures { IfOk result (λ spot. IsMade (taken_at self.now.notes.items self.now.index self.now.units) (record { machine = machine.now; units = self.now.units; index = self.now.index }) spot) }
     {
@@ -40,7 +41,7 @@ impl<A: Allocator + Clone> Book<A> {
         match self.note_at(&spot) {
             Some(note) => {
                 if !make(&mut spot, note, self.end, self.alloc)? {
-                    return Err(AllocError);
+                    unreachable!()
                 }
             }
             None => step(&mut spot, self.end)?,
@@ -124,7 +125,7 @@ impl<A: Allocator + Clone> Book<A> {
             return Ok(made);
         }
         let limit = self.free_until(spot, target);
-        if run(spot, limit)? {
+        if self.run(spot, limit)? {
             return Ok(true);
         }
         if limit == target {
@@ -135,61 +136,73 @@ impl<A: Allocator + Clone> Book<A> {
         }
         Ok(true)
     }
-}
 
-/// Makes the next events, which take nothing, within so many units. Answers whether the last of them was no plain step,
-/// so that others may follow within them.
-fn run<A: Allocator + Clone>(spot: &mut Spot<A>, limit: u64) -> Result<bool, AllocError>
-    requires asks { spot.old.machine.asking ≡ None }
-    requires before { spot.old.units ≤ limit }
-    ensures { IfOk result (λ more. HasRun limit more spot.old spot.new) }
-{
-    let mut budget = limit - spot.units;
-    let mut left = budget;
-    match spot.machine.advance(0, &mut budget, &mut left) {
-        Ok(Effect::Spent) => {
-            spot.units = limit - budget;
-            Ok(false)
+    /// Makes the next events, which take nothing, within so many units. Answers whether the last of them was no plain
+    /// step, so that others may follow within them.
+    fn run(&self, spot: &mut Spot<A>, limit: u64) -> Result<bool, AllocError>
+        requires kept { IsKept self.now }
+        requires within { limit ≤ self.now.units }
+        requires spot { IsSpot self.now spot.old }
+        requires before { spot.old.units ≤ limit }
+        requires free { (u : ℕ) → spot.old.units ≤ u → u < limit → taken_at self.now.notes.items spot.old.index u ≡ None }
+        ensures { IfOk result (λ more. HasRun limit more spot.old spot.new) }
+    {
+        let mut budget = limit - spot.units;
+        let mut left = budget;
+        let effect = match spot.machine.advance(0, &mut budget, &mut left) {
+            Ok(effect) => effect,
+            Err(fault) => return Err(wanted(&fault)),
+        };
+        match effect {
+            Effect::Spent => {
+                spot.units = limit - budget;
+                Ok(false)
+            }
+            Effect::Went => {
+                spot.units = limit - left;
+                Ok(true)
+            }
+            Effect::Quit => {
+                spot.units = limit - left;
+                Ok(true)
+            }
+            Effect::Put(_) => {
+                spot.machine.finish_put();
+                spot.units = limit - left;
+                Ok(true)
+            }
+            _ => unreachable!(),
         }
-        Ok(Effect::Went) => {
-            spot.units = limit - left;
-            Ok(true)
-        }
-        Ok(Effect::Quit) => {
-            spot.units = limit - left;
-            Ok(true)
-        }
-        Ok(Effect::Put(_)) => {
-            spot.machine.finish_put();
-            spot.units = limit - left;
-            Ok(true)
-        }
-        _ => Err(AllocError),
     }
 }
 
 /// Makes the next event, which takes nothing, within so many units.
 fn step<A: Allocator + Clone>(spot: &mut Spot<A>, limit: u64) -> Result<(), AllocError>
     requires asks { spot.old.machine.asking ≡ None }
-    requires before { spot.old.units ≤ limit }
+    requires before { spot.old.units + cost_of spot.old.machine.machine ≤ limit }
+    requires fit { IsFit {A = A} spot.old.machine.machine None }
     ensures { OnOk result (IsMade {A = A} None spot.old spot.new) }
 {
     let mut left = limit - spot.units;
-    match spot.machine.step(0, &mut left) {
-        Ok(Effect::Went) => {
+    let effect = match spot.machine.step(0, &mut left) {
+        Ok(effect) => effect,
+        Err(fault) => return Err(wanted(&fault)),
+    };
+    match effect {
+        Effect::Went => {
             spot.units = limit - left;
             Ok(())
         }
-        Ok(Effect::Quit) => {
+        Effect::Quit => {
             spot.units = limit - left;
             Ok(())
         }
-        Ok(Effect::Put(_)) => {
+        Effect::Put(_) => {
             spot.machine.finish_put();
             spot.units = limit - left;
             Ok(())
         }
-        _ => Err(AllocError),
+        _ => unreachable!(),
     }
 }
 
@@ -207,8 +220,9 @@ fn make<A: Allocator + Clone>(
     ensures { IfOk result (λ made. IsTried limit (Some note.now.taken) made spot.old spot.new) }
 {
     let mut left = limit - spot.units;
-    let Ok(effect) = spot.machine.step(word_of(&note.taken), &mut left) else {
-        return Err(AllocError);
+    let effect = match spot.machine.step(word_of(&note.taken), &mut left) {
+        Ok(effect) => effect,
+        Err(fault) => return Err(wanted(&fault)),
     };
     match effect {
         Effect::Spent => Ok(false),
@@ -218,6 +232,16 @@ fn make<A: Allocator + Clone>(
             spot.index += 1;
             Ok(true)
         }
+    }
+}
+
+/// The fault of a step that was made before.
+fn wanted(fault: &Fault) -> AllocError
+    requires { IsWant fault.now }
+{
+    match fault {
+        Fault::NoMemory => AllocError,
+        _ => unreachable!(),
     }
 }
 
@@ -239,22 +263,11 @@ fn take<A: Allocator + Clone>(
     alloc: Global,
 ) -> Result<(), AllocError>
     requires { IsTaking machine.old taken.now }
-    ensures rest { OnOk result (IsRest machine.old taken.now) }
-    ensures value { OnOk result (machine.new ≡ record { machine = gone_to machine.old.machine taken.now; asking = None }) }
+    ensures { OnOk result (machine.new ≡ record { machine = gone_to machine.old.machine taken.now; asking = None }) }
 {
     match taken {
-        Taken::Word(_) => {
-            if machine.asking().is_some() {
-                return Err(AllocError);
-            }
-            Ok(())
-        }
-        Taken::Reply(reply) => {
-            if machine.asking().is_none() {
-                return Err(AllocError);
-            }
-            machine.finish(reply)
-        }
+        Taken::Word(_) => Ok(()),
+        Taken::Reply(reply) => machine.finish(reply),
         Taken::Machine(gone) => {
             *machine = gone.fork(alloc)?;
             Ok(())

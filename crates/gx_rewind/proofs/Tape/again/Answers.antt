@@ -19,7 +19,7 @@ returns-then-self-clause-some g c =
     rw after ((λ no. absurd cc), (λ some. absurd (omega (arith, some))))
 
 pub followed-requires-clause-before : goal.followed-requires-clause-before
-followed-requires-clause-before g c = before-end c.self.inside.book c.self.inside.machine.machine (log_of c.self.inside.book c.self.inside.machine.machine) c.self.invariant.book
+followed-requires-clause-before g c = before-end c.self.inside.book c.self.inside.machine.machine (log_of c.self.inside.book c.self.inside.machine.machine) c.self.invariant.book c.if-self.false
 
 pub followed-requires-clause-fit : goal.followed-requires-clause-fit
 followed-requires-clause-fit g c = follows c.self.inside.book c.self.inside.machine.machine (log_of c.self.inside.book c.self.inside.machine.machine) c.self.invariant.book c.if-self.false

@@ -1,48 +1,65 @@
 -- the event that was made
-use Rattle.std.proofs.Common.{ap, refl}
+use Rattle.std.proofs.Common.{◌+◌, ◌-◌, ◌≤◌, ℕ, ap, refl, arith}
 use Rattle.gx_state.specs.declared.effects.Effect.TheVariants.{Went, Quit, Put}
 use Rattle.gx_machine.specs.Machine.{Whole}
+use Rattle.gx_rewind.proofs.Fits.{wants-quiet, is-quiet, unspent, never-rest}
 use Rattle.gx_rewind.proofs.Running.{made-quiet}
 use Rattle.gx_rewind.proofs.Steps.{step-done}
 use Rattle.gx_rewind.proofs.replaying.step.Goals as goal
 
+within : (units cost limit : ℕ) → units + cost ≤ limit → units ≤ limit
+within units cost limit before = omega (arith, before)
+
+enough : (units cost limit : ℕ) → units + cost ≤ limit → cost ≤ limit - units
+enough units cost limit before = omega (arith, before)
+
+pub wanted-requires : goal.wanted-requires
+wanted-requires g c = wants-quiet g.row.A.Denot c.args.spot.now.machine _ _ _ c.requires.fit c.in-Err.ensures.step.1
+
+pub unreachable-requires : goal.unreachable-requires
+unreachable-requires g c =
+    let w = c.args.spot.now.machine in
+    let step = c.in-Ok.ensures.step in
+    let other = unspent w c.step.new.self 0 _ c.step.new.budget c.in-Ok.effect (enough _ _ _ c.requires.before) step in
+    never-rest c.in-Ok.effect (is-quiet g.row.A.Denot w c.step.new.self _ c.step.new.budget c.in-Ok.effect c.requires.fit step other) c.in_default.not-Went c.in_default.not-Quit c.in_default.not-Put
+
 pub finish_put-requires : goal.finish_put-requires
 finish_put-requires g c =
-    let a = rw c.in-Ok-Put.field-0-is at c.in-Ok-Put.ensures.step in
-    (step-done c.args.spot.now.machine 0 _ c.step.new.self c.step.new.budget (Put c.in-Ok-Put.field-0-0) (λ no. cc) a).asks
+    let a = rw c.in-Put.is at c.in-Ok.ensures.step in
+    (step-done c.args.spot.now.machine 0 _ c.step.new.self c.step.new.budget (Put c.in-Put.field-0) (λ no. cc) a).asks
 
 pub overflow_sub-spot : goal.overflow_sub-spot
 overflow_sub-spot g c =
-    let a = rw c.in-Ok-Went.field-0-is at c.in-Ok-Went.ensures.step in
-    (made-quiet c.args.spot.now c.args.limit c.step.new.budget c.step.new.self c.step.new.self Went c.requires.before a (λ no. cc) refl
+    let a = rw c.in-Went.is at c.in-Ok.ensures.step in
+    (made-quiet c.args.spot.now c.args.limit c.step.new.budget c.step.new.self c.step.new.self Went (within _ _ _ c.requires.before) a (λ no. cc) refl
     (step-done c.args.spot.now.machine 0 _ c.step.new.self c.step.new.budget Went (λ no. cc) a).asks).0
 
-pub returns-in-Ok-Went : goal.returns-in-Ok-Went
-returns-in-Ok-Went g c =
-    let a = rw c.in-Ok-Went.field-0-is at c.in-Ok-Went.ensures.step in
-    (made-quiet c.args.spot.now c.args.limit c.step.new.budget c.step.new.self c.step.new.self Went c.requires.before a (λ no. cc) refl
+pub returns-in-Went : goal.returns-in-Went
+returns-in-Went g c =
+    let a = rw c.in-Went.is at c.in-Ok.ensures.step in
+    (made-quiet c.args.spot.now c.args.limit c.step.new.budget c.step.new.self c.step.new.self Went (within _ _ _ c.requires.before) a (λ no. cc) refl
     (step-done c.args.spot.now.machine 0 _ c.step.new.self c.step.new.budget Went (λ no. cc) a).asks).1
 
-pub overflow_sub-spot-in-Ok-Quit : goal.overflow_sub-spot-in-Ok-Quit
-overflow_sub-spot-in-Ok-Quit g c =
-    let a = rw c.in-Ok-Quit.field-0-is at c.in-Ok-Quit.ensures.step in
-    (made-quiet c.args.spot.now c.args.limit c.step.new.budget c.step.new.self c.step.new.self Quit c.requires.before a (λ no. cc) refl
+pub overflow_sub-spot-in-Quit : goal.overflow_sub-spot-in-Quit
+overflow_sub-spot-in-Quit g c =
+    let a = rw c.in-Quit.is at c.in-Ok.ensures.step in
+    (made-quiet c.args.spot.now c.args.limit c.step.new.budget c.step.new.self c.step.new.self Quit (within _ _ _ c.requires.before) a (λ no. cc) refl
     (step-done c.args.spot.now.machine 0 _ c.step.new.self c.step.new.budget Quit (λ no. cc) a).asks).0
 
-pub returns-in-Ok-Quit : goal.returns-in-Ok-Quit
-returns-in-Ok-Quit g c =
-    let a = rw c.in-Ok-Quit.field-0-is at c.in-Ok-Quit.ensures.step in
-    (made-quiet c.args.spot.now c.args.limit c.step.new.budget c.step.new.self c.step.new.self Quit c.requires.before a (λ no. cc) refl
+pub returns-in-Quit : goal.returns-in-Quit
+returns-in-Quit g c =
+    let a = rw c.in-Quit.is at c.in-Ok.ensures.step in
+    (made-quiet c.args.spot.now c.args.limit c.step.new.budget c.step.new.self c.step.new.self Quit (within _ _ _ c.requires.before) a (λ no. cc) refl
     (step-done c.args.spot.now.machine 0 _ c.step.new.self c.step.new.budget Quit (λ no. cc) a).asks).1
 
-pub overflow_sub-spot-in-Ok-Put : goal.overflow_sub-spot-in-Ok-Put
-overflow_sub-spot-in-Ok-Put g c =
-    let a = rw c.in-Ok-Put.field-0-is at c.in-Ok-Put.ensures.step in
-    (made-quiet c.args.spot.now c.args.limit c.step.new.budget c.step.new.self c.finish_put.new.self (Put c.in-Ok-Put.field-0-0) c.requires.before a (λ no. cc)
+pub overflow_sub-spot-in-Put : goal.overflow_sub-spot-in-Put
+overflow_sub-spot-in-Put g c =
+    let a = rw c.in-Put.is at c.in-Ok.ensures.step in
+    (made-quiet c.args.spot.now c.args.limit c.step.new.budget c.step.new.self c.finish_put.new.self (Put c.in-Put.field-0) (within _ _ _ c.requires.before) a (λ no. cc)
     (ap (λ (w : Whole). w.machine) c.finish_put.ensures) (ap (λ (w : Whole). w.asking) c.finish_put.ensures)).0
 
-pub returns-in-Ok-Put : goal.returns-in-Ok-Put
-returns-in-Ok-Put g c =
-    let a = rw c.in-Ok-Put.field-0-is at c.in-Ok-Put.ensures.step in
-    (made-quiet c.args.spot.now c.args.limit c.step.new.budget c.step.new.self c.finish_put.new.self (Put c.in-Ok-Put.field-0-0) c.requires.before a (λ no. cc)
+pub returns-in-Put : goal.returns-in-Put
+returns-in-Put g c =
+    let a = rw c.in-Put.is at c.in-Ok.ensures.step in
+    (made-quiet c.args.spot.now c.args.limit c.step.new.budget c.step.new.self c.finish_put.new.self (Put c.in-Put.field-0) (within _ _ _ c.requires.before) a (λ no. cc)
     (ap (λ (w : Whole). w.machine) c.finish_put.ensures) (ap (λ (w : Whole). w.asking) c.finish_put.ensures)).1
