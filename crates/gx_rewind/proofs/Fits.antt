@@ -1,5 +1,5 @@
 -- The step of an event that was recorded meets no fault.
-use Rattle.std.proofs.Common.{◌≡◌, ◌≢◌, ◌<◌, ◌≤◌, ◌-◌, ℕ, [], Option, Some, None, Result, Ok, Err, ap, sym, ◌∙◌, refl, subst, arith}
+use Rattle.std.proofs.Common.{◌≡◌, ◌≢◌, ◌<◌, ◌≤◌, ◌-◌, ℕ, [], Bool, Some, None, Result, Ok, Err, IfOk, ap, sym, ◌∙◌, refl, subst, arith}
 use Rattle.gx_words.specs.declared.faults.Fault.{Fault}
 use Rattle.gx_words.specs.Faults.{IsRefused}
 use Rattle.gx_state.specs.declared.effects.Effect.{Effect}
@@ -11,15 +11,14 @@ use Rattle.gx_rewind.specs.declared.books.Spot.{Spot}
 use Rattle.gx_rewind.specs.declared.books.Taken.{Taken}
 use Rattle.gx_rewind.specs.declared.books.Taken.TheVariants as taken
 use Rattle.gx_rewind.specs.Path.{taken_at, word_in, IsFit, IsQuiet}
-use Rattle.gx_rewind.specs.Views.{IsKept, IsSpot, IsWant}
+use Rattle.gx_rewind.specs.Views.{IsKept, IsSpot, IsWant, HasRun}
 use Rattle.gx_machine.specs.Advancing.{Advances, Passes}
 use Rattle.gx_machine.specs.Log.{units_of}
 use Rattle.gx_machine.proofs.Costs.{cost-positive}
 use Rattle.gx_rewind.proofs.Passing.{passes-on, passed-asks, passed-lower}
 use Rattle.gx_rewind.proofs.Running.{fit-at, has-advanced}
 use Rattle.gx_rewind.proofs.Parts.{step-fault}
-use Rattle.gx_rewind.proofs.Steps.{step-done, step-left, ok-is}
-use Rattle.gx_rewind.proofs.Calm.{never-spent}
+use Rattle.gx_rewind.proofs.Steps.{step-done, ok-is}
 
 -- the step that an event made
 pub goes : {A : Type 0} (m : FlatMachine) (t : Taken A) → IsFit m (Some t) → (n : FlatMachine) × (e : Effect) × (step_of m (word_in t) ≡ Ok (n, e))
@@ -46,14 +45,7 @@ is-quiet A m new budget left e fit step unspent =
     let same : (fit.0, fit.1) ≡ (new.machine, e) = ok-is {A = FlatMachine × Effect} (fit.0, fit.1) (new.machine, e) (sym fit.2 ∙ d.step) in
     subst (λ (q : FlatMachine × Effect). IsQuiet q.1) same fit.3
 
--- and it isn't spent where its cost is there
-pub unspent : (m new : Whole) (word budget left : ℕ) (e : Effect) → cost_of m.machine ≤ budget → stepped m word budget ≡ Ok ((new, left), e) → e ≢ Spent
-unspent m new word budget left e enough step =
-    λ same.
-    let left_is = step-left m word budget new left (never-spent m.machine word) (subst (λ (x : Effect). stepped m word budget ≡ Ok ((new, left), x)) same step) in
-    let short = left_is.short in
-    absurd (omega (arith, enough, short))
-
+-- such an effect is one of these
 pub never-rest : (e : Effect) → IsQuiet e → e ≢ Went → e ≢ Quit → ((c : ℕ) → e ≢ Put c) → ⊥
 never-rest Went plain a b d = a refl
 never-rest Drew plain a b d = plain
@@ -97,3 +89,15 @@ module _ {A : Type 0} (b : Book A) (s : Spot A) (limit : ℕ) where
       let d = step-done h.before 0 budget new left e other h.step in
       let fit = reached budget h.count h.before kept spot fits within free h.passes d.enough in
       is-quiet A h.before new budget left e fit h.step other
+
+-- where such events end before a limit, the next one takes nothing either
+pub ran-on : {A : Type 0} (b : Book A) (old mid : Spot A) (limit : ℕ) (more : Bool) → IsKept b → limit ≤ b.units → IsSpot b old → ((u : ℕ) → old.units ≤ u → u < limit → taken_at b.notes.items old.index u ≡ None)
+    → HasRun limit more old mid → mid.units < limit → IsSpot b mid × (taken_at b.notes.items mid.index mid.units ≡ None) × IsFit {A = A} mid.machine.machine None
+ran-on b old mid limit more kept within spot free ran less =
+    let place = ran.spot b.notes.items b.opening free spot in
+    let none : taken_at b.notes.items mid.index mid.units ≡ None = ap (λ (i : ℕ). taken_at b.notes.items i mid.units) ran.index ∙ free mid.units ran.after less in
+    (place, none, subst (IsFit mid.machine.machine) none (fit-at b mid kept place (omega (arith, less, within))))
+
+pub map-ok : {E : Type 0} (P : Bool → Type 0) (Q : Type 0) (r : Result Bool E) → IfOk r P → ((x : Bool) → P x → Q) → IfOk r (λ _. Q)
+map-ok P Q (Ok x) h f = f x h
+map-ok P Q (Err e) h f = tt

@@ -71,6 +71,7 @@ run-spent {A} s limit budget left new fits a asks =
               units_is = omega (arith, sum, units, lower, fits);
               asks = ap (λ (w : Whole). w.asking) l.stands ∙ passed-asks 0 h.count s.machine h.before (limit - s.units) budget None None asks h.passes;
             };
+        index = refl;
         within = omega arith;
         after = omega (arith, lower, fits);
         more = λ no. cc;
@@ -105,6 +106,7 @@ run-ended {A} s limit budget left new end e fits a unspent plain ends asks =
               units_is = omega (arith, cons, here, left_is, enough, lower);
               asks = asks;
             };
+        index = refl;
         within = omega arith;
         after = omega (arith, lower, fits, left_is);
         more = λ _. omega (arith, lower, fits, left_is, one, enough);
@@ -129,11 +131,19 @@ made-quiet {A} s limit left new end e fits step unspent ends asks =
       },
     )
 
--- an event that took something isn't made, where it doesn't fit
-pub tried-spent : {A : Type 0} (s : Spot A) (t : Taken A) (limit left : ℕ) (new : Whole) → s.units ≤ limit → stepped s.machine (word_in t) (limit - s.units) ≡ Ok ((new, left), Spent)
-    → IsTried limit (Some t) false s (record s { machine = new })
-tried-spent {A} s t limit left new fits step =
-    let l = step-left s.machine (word_in t) (limit - s.units) new left (never-spent s.machine.machine (word_in t)) step in
+pub tried-quiet : {A : Type 0} (s : Spot A) (limit left : ℕ) (new end : Whole) (e : Effect) → s.units ≤ limit → stepped s.machine 0 (limit - s.units) ≡ Ok ((new, left), e)
+    → e ≢ Spent → end.machine ≡ settled new.machine (asking_of e) → end.asking ≡ None → IsTried {A = A} limit None true s (record { machine = end; units = limit - left; index = s.index })
+tried-quiet s limit left new end e fits step unspent ends asks = record {
+  made = λ _. (made-quiet s limit left new end e fits step unspent ends asks).1;
+  none = λ no. cc;
+  within = omega arith;
+}
+
+-- an event isn't made, where it doesn't fit
+pub tried-spent : {A : Type 0} (s : Spot A) (t : Option (Taken A)) (word limit left : ℕ) (new : Whole) → s.units ≤ limit → stepped s.machine word (limit - s.units) ≡ Ok ((new, left), Spent)
+    → IsTried limit t false s (record s { machine = new })
+tried-spent {A} s t word limit left new fits step =
+    let l = step-left s.machine word (limit - s.units) new left (never-spent s.machine.machine word) step in
     let short = l.short in
     record {
       made = λ no. cc;

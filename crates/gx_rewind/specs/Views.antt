@@ -97,6 +97,7 @@ pub record HasRun {A : Type 0} (limit : ℕ) (ended : Bool) (old new : Spot A) :
   pub spot : (notes : List (Note A)) (opening : Whole)
       → ((u : ℕ) → old.units ≤ u → u < limit → taken_at notes old.index u ≡ None)
       → IsPlace notes opening old → IsPlace notes opening new
+  pub index : new.index ≡ old.index
   pub within : new.units ≤ limit
   pub after : old.units ≤ new.units
   pub more : ended ≡ true → old.units < new.units

@@ -44,7 +44,11 @@ impl<A: Allocator + Clone> Book<A> {
                     unreachable!()
                 }
             }
-            None => step(&mut spot, self.end)?,
+            None => {
+                if !step(&mut spot, self.end)? {
+                    unreachable!()
+                }
+            }
         }
         Ok(spot)
     }
@@ -132,7 +136,7 @@ impl<A: Allocator + Clone> Book<A> {
             return Ok(false);
         }
         if spot.units < limit {
-            return Err(AllocError);
+            return step(spot, target);
         }
         Ok(true)
     }
@@ -176,12 +180,12 @@ impl<A: Allocator + Clone> Book<A> {
     }
 }
 
-/// Makes the next event, which takes nothing, within so many units.
-fn step<A: Allocator + Clone>(spot: &mut Spot<A>, limit: u64) -> Result<(), AllocError>
+/// Makes the next event, which takes nothing, within so many units. Answers whether it is made.
+fn step<A: Allocator + Clone>(spot: &mut Spot<A>, limit: u64) -> Result<bool, AllocError>
     requires asks { spot.old.machine.asking ≡ None }
-    requires before { spot.old.units + cost_of spot.old.machine.machine ≤ limit }
+    requires before { spot.old.units ≤ limit }
     requires fit { IsFit {A = A} spot.old.machine.machine None }
-    ensures { OnOk result (IsMade {A = A} None spot.old spot.new) }
+    ensures { IfOk result (λ made. IsTried {A = A} limit None made spot.old spot.new) }
 {
     let mut left = limit - spot.units;
     let effect = match spot.machine.step(0, &mut left) {
@@ -189,18 +193,19 @@ fn step<A: Allocator + Clone>(spot: &mut Spot<A>, limit: u64) -> Result<(), Allo
         Err(fault) => return Err(wanted(&fault)),
     };
     match effect {
+        Effect::Spent => Ok(false),
         Effect::Went => {
             spot.units = limit - left;
-            Ok(())
+            Ok(true)
         }
         Effect::Quit => {
             spot.units = limit - left;
-            Ok(())
+            Ok(true)
         }
         Effect::Put(_) => {
             spot.machine.finish_put();
             spot.units = limit - left;
-            Ok(())
+            Ok(true)
         }
         _ => unreachable!(),
     }

@@ -1,4 +1,5 @@
 -- the event that was made
+use Rattle.std.proofs.Common.{Some}
 use Rattle.gx_rewind.proofs.Fits.{wants}
 use Rattle.gx_rewind.proofs.Running.{takes, tried-made, tried-spent, left-within}
 use Rattle.gx_rewind.proofs.replaying.make.Goals as goal
@@ -15,7 +16,7 @@ overflow_sub-spot g c =
 pub returns-in-Spent : goal.returns-in-Spent
 returns-in-Spent g c =
     let a = rw (c.word_of.ensures, c.in-Spent.is) at c.in-Ok.ensures.step in
-    tried-spent c.args.spot.now c.args.note.now.taken c.args.limit c.step.new.budget c.step.new.self c.requires.before a
+    tried-spent c.args.spot.now (Some c.args.note.now.taken) _ c.args.limit c.step.new.budget c.step.new.self c.requires.before a
 
 pub returns-in_ok-take-in_default : goal.returns-in_ok-take-in_default
 returns-in_ok-take-in_default g c =
