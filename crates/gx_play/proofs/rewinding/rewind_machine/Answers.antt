@@ -1,7 +1,10 @@
-use Rattle.std.proofs.Common.{◌≡◌, [], Some, refl, arith}
+use Rattle.std.proofs.Common.{◌≡◌, [], Some, inl, refl, subst, arith}
 use Rattle.gx_machine.specs.Log.{units_of}
+use Rattle.gx_rewind.specs.Tape.{FlatTape}
 use Rattle.gx_session.specs.Devices.{Devices, devices}
 use Rattle.gx_session.specs.Runs.{Report, report_on}
+use Rattle.gx_play.specs.Headline.{IsRunTo, start_for}
+use Rattle.gx_play.specs.Reading.{seen}
 use Rattle.gx_play.proofs.Rewound.{rewound-counts, rewound-parts}
 use Rattle.gx_play.proofs.rewinding.rewind_machine.Goals as goal
 
@@ -11,6 +14,19 @@ none = refl
 
 pub run_command-ended-requires-clause-room : goal.run_command-ended-requires-clause-room
 run_command-ended-requires-clause-room g c = let fits = c.requires.range.steps in rw (c.in-Ok.ensures, none) (omega (arith, fits))
+
+pub returns-in-Ok-clause-rewinds : goal.returns-in-Ok-clause-rewinds
+returns-in-Ok-clause-rewinds g c =
+    let entry : Devices = devices (g.S.Source.seen c.args.input.now) (g.K.Sink.seen c.args.output.now) (g.F.Shelf.seen c.args.shelf.now) (g.R.Rng.stream c.args.dice.now) in
+    let mid : Devices = devices (g.S.Source.seen c.run_command-ended.new.input) (g.K.Sink.seen c.run_command-ended.new.output) (g.F.Shelf.seen c.run_command-ended.new.shelf) (g.R.Rng.stream c.run_command-ended.new.dice) in
+    let r : Report = report_on (λ tape. tape.whole) (λ tape. Some tape.log) c.run_command-ended.result in
+    let command = c.args.command in
+    inl (record {
+      report = r;
+      sink = g.K.Sink.seen c.run_command-ended.new.output;
+      run = subst (λ (t : FlatTape). IsRunTo command.seed (start_for (seen command) t.whole (Some t.log) entry) entry mid r) c.in-Ok.ensures c.run_command-ended.ensures;
+      rewound = c.tell_rewound.ensures.rewound;
+    })
 
 pub returns-in-Ok-clause-counts : goal.returns-in-Ok-clause-counts
 returns-in-Ok-clause-counts g c =
