@@ -2,7 +2,7 @@
 //!
 //! A run that came to its own end is made again with `--job rewind`, which has to show the same text, end the same way
 //! and tell the place it went back to. That is compared with the run of job play that has so many units fewer. Runs of
-//! many steps and of much memory aren't made again.
+//! many steps and of much memory aren't made again, nor those that are given few pages or a sink that fails.
 use crate::runs::{Devices, MOST_PAGES, Told, run};
 use anyhow::{Context, Result, bail, ensure};
 use gx_session::statuses;
