@@ -5,7 +5,7 @@ use Rattle.gx_words.specs.declared.faults.Fault.TheVariants.{BadGlk}
 use Rattle.gx_words.specs.Results.{◌>>=◌}
 use Rattle.gx_state.specs.Flat.{FlatState}
 use Rattle.gx_state.specs.declared.effects.Reply.{Reply}
-use Rattle.glk_text.specs.Constants.{line_feed}
+use Rattle.gx_words.specs.Constants.{line_feed}
 use Rattle.glk_text.specs.Characters.{latin_of}
 use Rattle.glk_streams.specs.declared.kinds.Places.{Places}
 use Rattle.glk_streams.specs.Streams as streams

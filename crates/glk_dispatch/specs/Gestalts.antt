@@ -1,7 +1,7 @@
 -- What the library can do (Glk 0.7.5, "The Gestalt System"; its selectors under "The Version Number", "Output",
 -- "Line Input", "Character Input" and "Testing for Unicode Capabilities").
 use Rattle.std.specs.Prelude.{ℕ, ◌==◌, ◌&&◌, ◌||◌, not, Bool, false, if◌then◌else◌, List, [], ◌∷◌, Err}
-use Rattle.glk_text.specs.Constants.{line_feed}
+use Rattle.gx_words.specs.Constants.{line_feed}
 use Rattle.glk_text.specs.Characters.{is_printable}
 use Rattle.glk_events.specs.Constants.{return_key}
 use Rattle.glk_streams.specs.declared.kinds.Places.{Places}

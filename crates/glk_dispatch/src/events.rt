@@ -20,11 +20,11 @@ use crate::waiting::wait;
 use crate::windows::entry_at;
 use glk_events::{Request, char_value, line_length};
 use glk_streams::Places;
-use glk_text::{LINE_FEED, latin};
+use glk_text::latin;
 use glk_windows::{TEXT_BUFFER, TEXT_GRID};
 use glk_world::World;
 use gx_state::{Reply, State};
-use gx_words::{Fault, Numbers};
+use gx_words::{Fault, LINE_FEED, Numbers};
 use std::alloc::{AllocError, Allocator, Global};
 
 // The types of events, by the standard's names.

@@ -10,10 +10,10 @@ use crate::parts::{arg, can_lay, lay, reply};
 use crate::selectors::*;
 use glk_events::RETURN;
 use glk_streams::Places;
-use glk_text::{LINE_FEED, printable};
+use glk_text::printable;
 use glk_world::World;
 use gx_state::{Reply, State};
-use gx_words::Fault;
+use gx_words::{Fault, LINE_FEED};
 use std::alloc::Allocator;
 
 // The selectors, by the standard's names.

@@ -14,10 +14,10 @@ use crate::selectors::{
     GET_LINE_STREAM, GET_LINE_STREAM_UNI,
 };
 use glk_streams::{Places, Streams};
-use glk_text::{LINE_FEED, latin};
+use glk_text::latin;
 use glk_world::World;
 use gx_state::{Reply, State};
-use gx_words::{Fault, Numbers};
+use gx_words::{Fault, LINE_FEED, Numbers};
 use std::alloc::{AllocError, Allocator, Global};
 
 /// What get_char answers at the end of a stream.

@@ -2,7 +2,7 @@
 use Rattle.std.specs.Prelude.{ℕ, ◌-◌, ◌==◌, not, if◌then◌else◌, Bool, List, [], ◌∷◌, ◌++◌, length, map, filter, take, drop, replicate, slice_set, slice_index_or, nat_lt, Option, Some, None, unwrap_or}
 use Rattle.std.specs.Option.{option_map}
 use Rattle.std.specs.Str.{encode_utf8_all}
-use Rattle.glk_text.specs.Constants.{line_feed}
+use Rattle.gx_words.specs.Constants.{line_feed}
 use Rattle.glk_text.specs.Characters.{question_mark}
 use Rattle.glk_text.specs.Utf8.{as_scalar}
 use Rattle.glk_windows.specs.Constants.{text_buffer, text_grid, left, right, above, blank_cell}

@@ -1,7 +1,7 @@
 -- The text of buffer windows: what was put to each since it was opened or cleared, and no more of it than its last
 -- 255 paragraphs. A paragraph ends at a line feed, and the last one may be empty.
 use Rattle.std.specs.Prelude.{ℕ, suc, ◌==◌, not, nat_lt, if◌then◌else◌, List, [], ◌∷◌, ◌++◌, map, filter, count_by}
-use Rattle.glk_text.specs.Constants.{line_feed}
+use Rattle.gx_words.specs.Constants.{line_feed}
 use Rattle.glk_screen.specs.Constants.{most_paragraphs}
 
 -- a buffer window's text

@@ -2,7 +2,7 @@
 ghost use Rattle.std.specs.Prelude.{◌≡◌, ◌≤◌, ◌<◌, ◌^◌, [], length, drop, OnOk, OnErr};
 ghost use Rattle.glk_screen.specs.Texts.{behind_paragraph, text_of, place_of, text_put, text_cleared, screen_put, screen_cleared, screen_gone};
 
-use glk_text::LINE_FEED;
+use gx_words::LINE_FEED;
 use std::alloc::{AllocError, Global};
 use std::marker::Model;
 

@@ -2,9 +2,9 @@
 ghost use Rattle.std.specs.Prelude.{◌≡◌, ◌<◌, ◌≤◌, ◌+◌, ◌^◌, length, take, IfOk};
 ghost use Rattle.glk_screen.specs.Wrapping.{width_of, is_replaced, columns_of, paragraph, fitting, last_blank, first_row, wrapped};
 
-use glk_text::{LINE_FEED, as_char};
+use glk_text::as_char;
 use glk_windows::BLANK;
-use gx_words::Numbers;
+use gx_words::{LINE_FEED, Numbers};
 use std::alloc::{AllocError, Global};
 use unicode_width::UnicodeWidthChar;
 

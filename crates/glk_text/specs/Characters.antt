@@ -1,7 +1,7 @@
 -- What is done with one character (Glk 0.7.5, "Character Encoding").
 use Rattle.std.specs.Prelude.{ℕ, ◌+◌, ◌-◌, ◌==◌, Bool, ◌||◌, nat_lt, if◌then◌else◌}
 use Rattle.std.specs.Int.{is_in_range}
-use Rattle.glk_text.specs.Constants.{line_feed}
+use Rattle.gx_words.specs.Constants.{line_feed}
 
 -- what stands for a character that has no place
 abbrev pub question_mark : ℕ

@@ -5,8 +5,7 @@
 ghost use Rattle.std.specs.Prelude.{◌≡◌, ◌≢◌};
 ghost use Rattle.glk_text.specs.Characters.{is_printable, shown, latin_of, lower_of, upper_of};
 
-/// A line feed.
-pub const LINE_FEED: u32 = 0x0A;
+use gx_words::LINE_FEED;
 
 /// Whether a character is shown as itself: 20 to 7E, A0 to D7FF and E000 to 10FFFF.
 pub fn printable(v: u32) -> bool

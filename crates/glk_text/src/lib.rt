@@ -10,5 +10,5 @@
 mod characters;
 mod utf8;
 
-pub use characters::{LINE_FEED, latin, lower, printable, show, upper};
+pub use characters::{latin, lower, printable, show, upper};
 pub use utf8::{REPLACEMENT, as_char, push_utf8, read_utf8};

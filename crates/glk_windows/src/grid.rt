@@ -6,7 +6,7 @@ ghost use Rattle.std.specs.List.{list_any};
 ghost use Rattle.glk_windows.specs.Grids.{empty_grid, fit, resized, grows, row_below, wrapped, put_at, put, cleared, moved};
 
 use glk_objects::Object;
-use glk_text::LINE_FEED;
+use gx_words::LINE_FEED;
 use std::alloc::{AllocError, Global};
 use std::marker::Model;
 

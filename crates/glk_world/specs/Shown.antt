@@ -3,7 +3,7 @@ use Rattle.std.specs.Prelude.{◌≢◌, ℕ, ◌+◌, ◌==◌, ◌&&◌, not, 
 use Rattle.std.specs.Cmp.Lexicographic.{pointwise}
 use Rattle.std.specs.Str.{encode_utf8_all}
 use Rattle.glk_objects.specs.Objects as objects
-use Rattle.glk_text.specs.Constants.{line_feed}
+use Rattle.gx_words.specs.Constants.{line_feed}
 use Rattle.glk_text.specs.Characters.{shown}
 use Rattle.glk_windows.specs.declared.grid.Grid.{Grid}
 use Rattle.glk_screen.specs.Rows.{trimmed}

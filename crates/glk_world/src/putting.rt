@@ -12,8 +12,9 @@ ghost use Rattle.glk_world.specs.Calls.{got_from, passed, after_get, with_echo};
 
 use crate::{View, World};
 use glk_streams::Places;
-use glk_text::{LINE_FEED, show};
+use glk_text::show;
 use glk_windows::{Entry, TEXT_BUFFER, Windows};
+use gx_words::LINE_FEED;
 use std::alloc::AllocError;
 
 /// No places.

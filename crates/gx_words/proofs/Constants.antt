@@ -4,7 +4,8 @@ use Rattle.gx_words.specs.declared.limits.TheConstants as limit
 use Rattle.gx_words.specs.declared.header.TheConstants as header
 use Rattle.gx_words.specs.declared.iosystems.TheConstants as system
 use Rattle.gx_words.specs.declared.typable.TheConstants as type
-use Rattle.gx_words.specs.Constants.{ceiling, stack_limit, magic_at, version_at, ramstart_at, extstart_at, endmem_at, stack_size_at, start_function_at, table_at, checksum_at, header_len, magic, null_system, filter_system, glk_system, stack_function, locals_function, c_string, compressed_string, unicode_string}
+use Rattle.gx_words.specs.declared.characters.TheConstants as character
+use Rattle.gx_words.specs.Constants.{ceiling, stack_limit, magic_at, version_at, ramstart_at, extstart_at, endmem_at, stack_size_at, start_function_at, table_at, checksum_at, header_len, magic, null_system, filter_system, glk_system, stack_function, locals_function, c_string, compressed_string, unicode_string, line_feed}
 
 pub CEILING_is : limit.CEILING ≡ ceiling
 CEILING_is = refl
@@ -68,3 +69,6 @@ COMPRESSED_STRING_is = refl
 
 pub UNICODE_STRING_is : type.UNICODE_STRING ≡ unicode_string
 UNICODE_STRING_is = refl
+
+pub LINE_FEED_is : character.LINE_FEED ≡ line_feed
+LINE_FEED_is = refl

@@ -69,3 +69,7 @@ compressed_string = 0xE1
 
 abbrev pub unicode_string : ℕ
 unicode_string = 0xE2
+
+-- a line feed (Glk 0.7.5, "Output")
+abbrev pub line_feed : ℕ
+line_feed = 0x0A

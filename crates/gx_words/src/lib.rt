@@ -5,7 +5,8 @@
 //! - `faults` has the seventeen reasons for which a step is not done.
 //! - `strings` has the place that the printing of a string or number has come to.
 //! - `typable` has the types of functions and strings, `iosystems` the I/O systems, `limits` the
-//!   largest memory and stack, `header` the addresses of a story's first words.
+//!   largest memory and stack, `header` the addresses of a story's first words, `characters` the
+//!   line feed.
 //!
 //! The files of specs/ hold what the contracts of every crate above share: the arithmetic of
 //! `Numbers`, and the relations of `Results` and `Faults` between an answer and its definition.
@@ -14,6 +15,7 @@
 #![tactic(auto)]
 
 mod big_endian;
+mod characters;
 mod faults;
 mod header;
 mod iosystems;
@@ -26,6 +28,7 @@ pub use big_endian::{
     half_at, low, number_at, put_number, round_up_256, signed, splice, sum_of_words, word_at,
     word_bytes,
 };
+pub use characters::LINE_FEED;
 pub use faults::Fault;
 pub use header::{
     CHECKSUM_AT, ENDMEM_AT, EXTSTART_AT, HEADER_LEN, MAGIC, MAGIC_AT, RAMSTART_AT, STACK_SIZE_AT,
