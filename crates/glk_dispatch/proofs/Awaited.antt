@@ -9,8 +9,8 @@ use Rattle.glk_world.specs.declared.views.View.TheVariants as view
 use Rattle.glk_world.specs.World.{Scene, Said, silent, is_composed}
 use Rattle.glk_world.specs.Shown.{said_row, said_rows, said_grid, said_grids, show_rows, screen_of, show_screen, shown_in, show_grids, show_line, same_rows, last_rows, shown_grid, on_a_new_line}
 use Rattle.glk_world.specs.declared.grids.ShownGrid.{ShownGrid}
-use Rattle.glk_dispatch.specs.declared.Given.{Given}
-use Rattle.glk_dispatch.specs.declared.Given.TheVariants as given
+use Rattle.glk_replies.specs.declared.Given.{Given}
+use Rattle.glk_replies.specs.declared.Given.TheVariants as given
 use Rattle.glk_dispatch.specs.Turns.{Awaits}
 
 -- a scene after something was shown, or nothing

@@ -1,16 +1,8 @@
-mod Constants
-pub mod Laying
-pub mod Ram
 pub mod Rows
+pub mod Lists
 pub mod Ready
-pub mod Puts
-pub mod Answering
-pub mod Cases
-pub mod Lines
+pub mod Fitting
+pub mod Waiting
+pub mod Asking
 pub mod Awaited
-pub mod Absent
-pub mod Counting
-pub mod Reading
-pub mod Saving
-pub mod Rests
 pub mod Resuming

@@ -1,18 +1,37 @@
--- The objects that a part needs are there once the arguments were looked at.
-use Rattle.std.proofs.Common.{◌≡◌, ◌⊎◌, ◌≤◌, ◌==◌, ◌||◌, ◌&&◌, nat_le, ℕ, Bool, true, false, List, refl, subst, inl, inr, arith, Ok}
+-- A call goes by the looks of its row, and the objects that a row names are there once its arguments were looked at.
+use Rattle.std.proofs.Common.{◌≡◌, ◌⊎◌, ◌≤◌, ◌==◌, ◌||◌, ◌&&◌, nat_le, ℕ, Bool, true, false, if◌then◌else◌, List, Option, Some, None, refl, sym, subst, inl, inr, arith, Ok}
+use Rattle.std.specs.Option.{option_map}
 use Rattle.std.proofs.lemmas.Grind.{common_steps}
 use Rattle.std.proofs.lemmas.Bool.Decides.{nat_tests}
-use Rattle.glk_streams.specs.Streams as streams
-use Rattle.glk_windows.specs.Windows.{is_window}
-use Rattle.glk_world.specs.World.{Scene, has_reference}
+use Rattle.gx_state.specs.Flat.{FlatState}
+use Rattle.glk_world.specs.World.{Scene, arg}
 use Rattle.glk_dispatch.specs.declared.table.Class.{Class}
-use Rattle.glk_dispatch.specs.declared.table.Class.TheVariants.{Plain, Window, Stream, Reference}
 use Rattle.glk_dispatch.specs.declared.table.Selector.{Selector}
-use Rattle.glk_dispatch.specs.declared.table.Part.{Part}
-use Rattle.glk_dispatch.specs.declared.table.Part.TheVariants as part
-use Rattle.glk_dispatch.specs.Table.{row_fits, part_fits, names_window, names_stream, names_reference}
-use Rattle.glk_dispatch.specs.Parts.{arg}
-use Rattle.glk_dispatch.specs.Calls.{is_there, named, looked, is_none, IsReady}
+use Rattle.glk_dispatch.specs.Table.{Row, row_of, row_fits}
+use Rattle.glk_dispatch.specs.Calls.{is_there, named, looked, is_none, call_by, grows_by, glk_call, grows}
+use Rattle.glk_dispatch.specs.Ready.{IsNamed, IsFirst, IsReady, IsReadyBy, done_by, wants_by, call_looked, wants_looked}
+
+-- ---- by the looks
+
+call_is : (found : Option Row) (w : Scene) (f : FlatState) (room selector : ℕ) (args : List ℕ) → call_by found w f room selector args ≡ call_looked (option_map (λ row. row.looks) found) (done_by found w f room args) w f room selector args
+call_is None w f room selector args = refl
+call_is (Some row) w f room selector args = refl
+
+grows_is : (found : Option Row) (w : Scene) (f : FlatState) (args : List ℕ) → grows_by found w f args ≡ wants_looked (option_map (λ row. row.looks) found) (wants_by found w f args) args
+grows_is None w f args = refl
+grows_is (Some row) w f args = refl
+
+pub glk_call_is : (w : Scene) (f : FlatState) (room selector : ℕ) (args : List ℕ) → glk_call w f room selector args ≡ call_looked (option_map (λ row. row.looks) (row_of selector)) (done_by (row_of selector) w f room args) w f room selector args
+unfolding glk_call
+glk_call_is w f room selector args = call_is (row_of selector) w f room selector args
+
+pub glk_grows_is : (w : Scene) (f : FlatState) (selector : ℕ) (args : List ℕ) → grows w f selector args ≡ wants_looked (option_map (λ row. row.looks) (row_of selector)) (wants_by (row_of selector) w f args) args
+unfolding grows
+glk_grows_is w f selector args = grows_is (row_of selector) w f args
+
+pub ruleset by_looks = (glk_call_is, glk_grows_is)
+
+-- ---- the objects
 
 -- an identifier that was looked at is 0 or there
 first_named : (w : Scene) (row : Selector) (args : List ℕ) → looked w row args ≡ Ok tt → named w row.first (arg args 0) ≡ Ok tt
@@ -30,101 +49,34 @@ or_named : (a b : Bool) → (a || b) ≡ true → (a ≡ true) ⊎ (b ≡ true)
 or_named true b h = inl refl
 or_named false b h = inr h
 
-both : (a b : Bool) → (a && b) ≡ true → (a ≡ true) × (b ≡ true)
-both true b h = (refl, h)
-both false b h = absurd (cc)
-
-zero_or : (w : Scene) (class : Class) (id : ℕ) → named w class id ≡ Ok tt → (id ≡ 0) ⊎ (is_there w class id ≡ true)
+zero_or : (w : Scene) (class : Class) (id : ℕ) → named w class id ≡ Ok tt → IsNamed w class id
 zero_or w class id ok =
     elim (or_named (id == 0) (is_there w class id) (is_named w class id ok)) as (λ _. (id ≡ 0) ⊎ (is_there w class id ≡ true)) [
       | inl none ↦ inl (grind (arith, nat_tests))
       | inr there ↦ inr there
     ]
 
-is_window_class : (c : Class) → names_window c ≡ true → c ≡ Window
-is_window_class Window h = refl
-is_window_class Plain h = absurd (cc)
-is_window_class Stream h = absurd (cc)
-is_window_class Reference h = absurd (cc)
+-- the first argument of a marked row isn't 0
+first_there : (marked : Bool) (w : Scene) (class : Class) (id : ℕ) → IsNamed w class id → (marked && id == 0) ≡ false → IsFirst marked w class id
+first_there true w class id (inl none) some = absurd (grind (arith, nat_tests, some, none))
+first_there true w class id (inr there) some = there
+first_there false w class id named some = named
 
-is_stream_class : (c : Class) → names_stream c ≡ true → c ≡ Stream
-is_stream_class Stream h = refl
-is_stream_class Plain h = absurd (cc)
-is_stream_class Window h = absurd (cc)
-is_stream_class Reference h = absurd (cc)
+pub ready_looks : (w : Scene) (row : Selector) (args : List ℕ) → looked w row args ≡ Ok tt → is_none row args ≡ false → IsReady row w args
+ready_looks w row args ok some = (first_there row.marked w row.first (arg args 0) (zero_or w row.first (arg args 0) (first_named w row args ok)) some, zero_or w row.other (arg args row.place) (other_named w row args ok))
 
-is_reference_class : (c : Class) → names_reference c ≡ true → c ≡ Reference
-is_reference_class Reference h = refl
-is_reference_class Plain h = absurd (cc)
-is_reference_class Window h = absurd (cc)
-is_reference_class Stream h = absurd (cc)
+by_row : (found : Option Row) (row : Selector) (w : Scene) (args : List ℕ) → option_map (λ row. row.looks) found ≡ Some row → IsReady row w args → IsReadyBy found w args
+by_row None row w args is ready = tt
+by_row (Some found) row w args is ready = let same : row ≡ found.looks = (cc) in subst (λ looks. IsReady looks w args) same ready
 
--- the first argument of a marked call that isn't on the object 0
-on_object : (w : Scene) (row : Selector) (args : List ℕ) → row.marked ≡ true → looked w row args ≡ Ok tt → is_none row args ≡ false → is_there w row.first (arg args 0) ≡ true
-on_object w row args marked ok some =
-    elim (zero_or w row.first (arg args 0) (first_named w row args ok)) as (λ _. is_there w row.first (arg args 0) ≡ true) [
-      | inl none ↦ absurd (grind (arith, common_steps, nat_tests, marked, some, none))
-      | inr there ↦ there
-    ]
+pub ready_row : (selector : ℕ) (w : Scene) (row : Selector) (args : List ℕ) → option_map (λ row. row.looks) (row_of selector) ≡ Some row → looked w row args ≡ Ok tt → is_none row args ≡ false → IsReadyBy (row_of selector) w args
+ready_row selector w row args is ok some = by_row (row_of selector) row w args is (ready_looks w row args ok some)
 
-on_window : (w : Scene) (row : Selector) (args : List ℕ) → (row.marked && names_window row.first) ≡ true → looked w row args ≡ Ok tt → is_none row args ≡ false → is_window w.windows (arg args 0) ≡ true
-on_window w row args fits ok some =
-    let b = both row.marked (names_window row.first) fits in
-    subst (λ c. is_there w c (arg args 0) ≡ true) (is_window_class row.first b.1) (on_object w row args b.0 ok some)
-
-on_stream : (w : Scene) (row : Selector) (args : List ℕ) → (row.marked && names_stream row.first) ≡ true → looked w row args ≡ Ok tt → is_none row args ≡ false → streams.has w.streams (arg args 0) ≡ true
-on_stream w row args fits ok some =
-    let b = both row.marked (names_stream row.first) fits in
-    subst (λ c. is_there w c (arg args 0) ≡ true) (is_stream_class row.first b.1) (on_object w row args b.0 ok some)
-
-on_reference : (w : Scene) (row : Selector) (args : List ℕ) → (row.marked && names_reference row.first) ≡ true → looked w row args ≡ Ok tt → is_none row args ≡ false → has_reference w (arg args 0) ≡ true
-on_reference w row args fits ok some =
-    let b = both row.marked (names_reference row.first) fits in
-    subst (λ c. is_there w c (arg args 0) ≡ true) (is_reference_class row.first b.1) (on_object w row args b.0 ok some)
-
-split_there : (w : Scene) (row : Selector) (args : List ℕ) → names_window row.first ≡ true → looked w row args ≡ Ok tt → (arg args 0 ≡ 0) ⊎ (is_window w.windows (arg args 0) ≡ true)
-split_there w row args fits ok =
-    subst (λ c. (arg args 0 ≡ 0) ⊎ (is_there w c (arg args 0) ≡ true)) (is_window_class row.first fits) (zero_or w row.first (arg args 0) (first_named w row args ok))
-
-echo_there : (w : Scene) (row : Selector) (args : List ℕ) → (names_stream row.other && row.place == 1) ≡ true → looked w row args ≡ Ok tt → (arg args 1 ≡ 0) ⊎ (streams.has w.streams (arg args 1) ≡ true)
-echo_there w row args fits ok =
-    let b = both (names_stream row.other) (row.place == 1) fits in
-    let one : row.place ≡ 1 = grind (arith, nat_tests, b.1) in
-    subst (λ c. (arg args 1 ≡ 0) ⊎ (is_there w c (arg args 1) ≡ true)) (is_stream_class row.other b.0)
-    (subst (λ n. (arg args n ≡ 0) ⊎ (is_there w row.other (arg args n) ≡ true)) one (zero_or w row.other (arg args row.place) (other_named w row args ok)))
-
-by_part : (p : Part) (w : Scene) (row : Selector) (args : List ℕ) → part_fits p row ≡ true → looked w row args ≡ Ok tt → is_none row args ≡ false → IsReady p w args
-by_part part.Opening w row args fits ok some = split_there w row args fits ok
-by_part part.OnWindow w row args fits ok some = on_window w row args fits ok some
-by_part part.Echo w row args fits ok some =
-    let b = both row.marked (names_window row.first && (names_stream row.other && row.place == 1)) fits in
-    let d = both (names_window row.first) (names_stream row.other && row.place == 1) b.1 in
-    (on_window w row args (grind (arith, common_steps, b.0, d.0)) ok some, echo_there w row args d.1 ok)
-by_part part.OnStream w row args fits ok some = on_stream w row args fits ok some
-by_part part.Closing w row args fits ok some = on_stream w row args fits ok some
-by_part part.Files w row args fits ok some = on_reference w row args fits ok some
-by_part part.OnReference w row args fits ok some = on_reference w row args fits ok some
-by_part part.OutputTo w row args fits ok some = on_stream w row args fits ok some
-by_part part.Input w row args fits ok some = on_stream w row args fits ok some
-by_part part.OnEvents w row args fits ok some = on_window w row args fits ok some
-by_part part.Exit w row args fits ok some = tt
-by_part part.Nothing w row args fits ok some = tt
-by_part part.Gestalts w row args fits ok some = tt
-by_part part.Windows w row args fits ok some = tt
-by_part part.Streams w row args fits ok some = tt
-by_part part.References w row args fits ok some = tt
-by_part part.Prompt w row args fits ok some = tt
-by_part part.Output w row args fits ok some = tt
-by_part part.Characters w row args fits ok some = tt
-by_part part.Select w row args fits ok some = tt
-by_part part.Events w row args fits ok some = tt
-
-pub ready_row : (w : Scene) (row : Selector) (args : List ℕ) → row_fits row ≡ true → looked w row args ≡ Ok tt → is_none row args ≡ false → IsReady row.part w args
-ready_row w row args fits ok some = by_part row.part w row args (both (part_fits row.part row) (nat_le row.references 3 && nat_le row.words 4) fits).0 ok some
+both : (a b : Bool) → (a && b) ≡ true → (a ≡ true) × (b ≡ true)
+both true b h = (refl, h)
+both false b h = absurd (cc)
 
 pub words_few : (row : Selector) → row_fits row ≡ true → row.words ≤ 4
-words_few row fits =
-    let b = both (nat_le row.references 3) (nat_le row.words 4) (both (part_fits row.part row) (nat_le row.references 3 && nat_le row.words 4) fits).1 in
-    grind (arith, nat_tests, b.1)
+words_few row fits = let b = both (nat_le row.references 3) (nat_le row.words 4) fits in grind (arith, nat_tests, b.1)
 
 pub ruleset ready = (ready_row, words_few)

@@ -3,19 +3,20 @@ use Rattle.std.specs.Prelude.{ℕ, ◌==◌, ◌&&◌, not, if◌then◌else◌,
 use Rattle.gx_words.specs.declared.faults.Fault.TheVariants.{BadGlk}
 use Rattle.gx_words.specs.Results.{◌>>=◌}
 use Rattle.gx_state.specs.Flat.{FlatState}
-use Rattle.glk_world.specs.World.{Call, Scene}
-use Rattle.glk_dispatch.specs.declared.Turn.TheVariants.{Answer}
-use Rattle.glk_dispatch.specs.declared.Given.{Given}
-use Rattle.glk_dispatch.specs.declared.Given.TheVariants as given
-use Rattle.glk_dispatch.specs.Numbers as selectors
-use Rattle.glk_dispatch.specs.Parts.{Outcome, arg, replies, answered}
-use Rattle.glk_dispatch.specs.Turns.{TurnOutcome}
-use Rattle.glk_dispatch.specs.Streams.{close}
-use Rattle.glk_dispatch.specs.References.{prompt_goes_on, prompt_goes_on_grow, open_goes_on, open_goes_on_grow}
-use Rattle.glk_dispatch.specs.Events.{select_goes_on, select_goes_on_grow}
+use Rattle.gx_state.specs.declared.effects.Reply.{Reply}
+use Rattle.glk_world.specs.World.{Call, Scene, Outcome, answered, arg}
+use Rattle.glk_replies.specs.declared.Turn.{Turn}
+use Rattle.glk_replies.specs.declared.Turn.TheVariants.{Answer}
+use Rattle.glk_replies.specs.declared.Given.{Given}
+use Rattle.glk_replies.specs.declared.Given.TheVariants as given
+use Rattle.glk_replies.specs.Numbers as selectors
+use Rattle.glk_replies.specs.Parts.{replies}
+use Rattle.glk_object_calls.specs.Streams.{close}
+use Rattle.glk_object_calls.specs.References.{prompt_goes_on, prompt_goes_on_grow, open_goes_on, open_goes_on_grow}
+use Rattle.glk_event_calls.specs.Events.{select_goes_on, select_goes_on_grow}
 
 -- a line for the call that waits for an event, or for a prompt
-abbrev pub with_line : Scene → FlatState → ℕ → Call → List ℕ → Outcome
+abbrev pub with_line : Scene → FlatState → ℕ → Call → List ℕ → Outcome Reply
 with_line w f room call line =
     if call.selector == selectors.select then select_goes_on w f room call.arguments line
     else prompt_goes_on w call.arguments line
@@ -24,20 +25,20 @@ with_line w f room call line =
 abbrev pub was_of : ℕ → Bool → ℕ
 was_of selector was = if selector == selectors.fileref_does_file_exist && was then 1 else 0
 
-abbrev pub resumed : Scene → FlatState → ℕ → Call → Given → Outcome
+abbrev pub resumed : Scene → FlatState → ℕ → Call → Given → Outcome Reply
 resumed w f room call (given.Line line) = with_line w f room call line
 resumed w f room call (given.Loaded load) = open_goes_on w call.selector call.arguments load
 resumed w f room call given.Stored = close w f room call.arguments
 resumed w f room call (given.Was was) = answered w (replies (was_of call.selector was))
 
 -- it waits no longer then
-abbrev pub go_by : Option Call → Scene → FlatState → ℕ → Given → TurnOutcome
+abbrev pub go_by : Option Call → Scene → FlatState → ℕ → Given → Outcome Turn
 go_by None w f room g = Err BadGlk
 go_by (Some call) w f room g = do
   done ← resumed (record w { waiting = None }) f room call g
   Ok (done.0, Answer done.1)
 
-unfoldable pub glk_go_on : Scene → FlatState → ℕ → Given → TurnOutcome
+unfoldable pub glk_go_on : Scene → FlatState → ℕ → Given → Outcome Turn
 glk_go_on w f room g = go_by w.waiting w f room g
 
 -- ---- where memory may be wanted

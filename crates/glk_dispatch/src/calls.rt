@@ -1,19 +1,20 @@
 //! The one way that every call goes (Glk 0.7.5, "The Dispatch Layer"; specs/Calls): its row, the looks at its
-//! arguments, and the part that carries it out.
-ghost use Rattle.std.specs.Prelude.{◌≡◌, ◌≤◌, length, replicate, false, true, IfOk, IsTrue};
-ghost use Rattle.gx_words.specs.Faults.{Reads, MayLose};
+//! arguments, and then what the row does.
+ghost use Rattle.std.specs.Prelude.{◌≡◌, ◌≤◌, length, replicate, false, true, IfOk, IfSome, IsTrue, option_map, Some};
+ghost use Rattle.gx_words.specs.Faults.{Reads};
 ghost use Rattle.gx_state.specs.Replies.{IsReply};
-ghost use Rattle.glk_dispatch.specs.Table.{row_fits};
-ghost use Rattle.glk_dispatch.specs.Parts.{on_world};
-ghost use Rattle.glk_dispatch.specs.Turns.{IsTurnFor, IsGivenFor, Awaits};
-ghost use Rattle.glk_dispatch.specs.Calls.{is_there, named, looked, is_none, nothing, gives_nothing, answers, part_grows, turns, call_of, call_by, dropping, grows_by, IsReady, glk_call, IsGrowing};
-ghost use Rattle.glk_dispatch.specs.declared.Given.{Given};
+ghost use Rattle.glk_world.specs.World.{Calls};
+ghost use Rattle.glk_replies.specs.Turns.{IsTurnFor, IsGivenFor};
+ghost use Rattle.glk_replies.specs.declared.Given.{Given};
+ghost use Rattle.glk_dispatch.specs.Turns.{Awaits};
+ghost use Rattle.glk_dispatch.specs.Table.{row_of, row_fits};
+ghost use Rattle.glk_dispatch.specs.Calls.{is_there, named, looked, is_none, nothing, gives_nothing, dropping, glk_call, IsGrowing};
+ghost use Rattle.glk_dispatch.specs.Ready.{IsReadyBy, done_by, wants_by, call_on, call_looked, wants_on, wants_looked};
 
-use crate::giving::{give, give_each};
-use crate::parts::{arg, reply};
-use crate::table::{Class, Part, Selector, dropped, row_of};
-use crate::{Turn, characters, events, gestalts, input, output, references, streams, windows};
-use glk_world::World;
+use crate::doing::do_call;
+use crate::table::{Class, Selector, dropped, row_of};
+use glk_replies::{Turn, give, give_each, reply};
+use glk_world::{World, arg};
 use gx_state::{Reply, State};
 use gx_words::Fault;
 use std::alloc::Allocator;
@@ -79,14 +80,21 @@ fn nothing<A: Allocator + Clone>(
     args: &[u32],
 ) -> Result<Reply, Fault>
     requires { row.now.words ≤ 4 }
-    ensures value { MayLose (IsTrue (gives_nothing row.now args.now)) (λ reply. reply) result world.old world.new (on_world world.old (nothing world.old.scene state.now.flat room row.now args.now)) }
+    ensures value { Calls (IsTrue (gives_nothing row.now args.now)) result world.old world.new (nothing world.old.scene state.now.flat room row.now args.now) }
     ensures fits { IfOk result (IsReply state.now.flat room) }
 {
     match row.references {
-        0 => Ok(reply(world, 0)),
-        1 => give(world, state, room, 0, arg(args, 1), zeros(row.words)),
+        0 => Ok(reply(world.alloc(), 0)),
+        1 => give(
+            world.alloc(),
+            state,
+            room,
+            0,
+            arg(args, 1),
+            zeros(row.words),
+        ),
         2 => give_each(
-            world,
+            world.alloc(),
             state,
             room,
             0,
@@ -94,7 +102,7 @@ fn nothing<A: Allocator + Clone>(
             &[0, 0],
         ),
         _ => give_each(
-            world,
+            world.alloc(),
             state,
             room,
             0,
@@ -104,82 +112,24 @@ fn nothing<A: Allocator + Clone>(
     }
 }
 
-/// A call that answers at once, by its part.
-fn answers<A: Allocator + Clone>(
-    part: Part,
-    world: &mut World,
-    state: &State<A>,
-    room: u32,
-    selector: u32,
-    args: &[u32],
-) -> Result<Reply, Fault>
-    requires { IsReady part world.old.scene args.now }
-    ensures value { MayLose (IsTrue (part_grows part world.old.scene state.now.flat selector args.now)) (λ reply. reply) result world.old world.new (on_world world.old (answers part world.old.scene state.now.flat room selector args.now)) }
-    ensures fits { IfOk result (IsReply state.now.flat room) }
-{
-    match part {
-        Part::Gestalts => gestalts::gestalts(world, state, room, selector, args),
-        Part::Windows => windows::windows(world, state, room, selector, args),
-        Part::Opening => windows::opening(world, state, room, selector, args),
-        Part::OnWindow => windows::on_window(world, state, room, selector, args),
-        Part::Echo => windows::echo(world, state, room, selector, args),
-        Part::Streams => streams::streams(world, state, room, selector, args),
-        Part::OnStream => streams::on_stream(world, state, room, selector, args),
-        Part::References => references::references(world, state, room, selector, args),
-        Part::OnReference => references::on_reference(world, state, room, selector, args),
-        Part::Output => output::output(world, state, room, selector, args),
-        Part::OutputTo => output::output_to(world, state, room, selector, args),
-        Part::Input => input::input(world, state, room, selector, args),
-        Part::Characters => characters::characters(world, state, room, selector, args),
-        Part::Events => events::events(world, state, room, selector, args),
-        Part::OnEvents => events::on_events(world, state, room, selector, args),
-        _ => Ok(reply(world, 0)),
-    }
-}
-
-/// A call, by its part.
-#[tactic(auto, using(crate::proofs::Answering::answering))]
-fn turns<A: Allocator + Clone>(
-    part: Part,
-    world: &mut World,
-    state: &State<A>,
-    room: u32,
-    selector: u32,
-    args: &[u32],
-) -> Result<Turn, Fault>
-    requires { IsReady part world.old.scene args.now }
-    ensures value { MayLose (IsTrue (part_grows part world.old.scene state.now.flat selector args.now)) (λ turn. turn) result world.old world.new (on_world world.old (turns part world.old.scene state.now.flat room selector args.now)) }
-    ensures fits { IfOk result (IsTurnFor state.now.flat room) }
-    ensures asks { IfOk result (λ turn. (given : Given) → IsGivenFor turn given → Awaits world.new.scene given) }
-{
-    match part {
-        Part::Exit => Ok(Turn::Exit),
-        Part::Closing => streams::closing(world, state, room, selector, args),
-        Part::Files => references::files(world, state, room, selector, args),
-        Part::Prompt => references::prompt(world, state, room, selector, args),
-        Part::Select => events::select(world, state, room, selector, args),
-        _ => Ok(Turn::Answer(answers(part, world, state, room, selector, args)?)),
-    }
-}
-
-/// A call that has a row and whose arguments were looked at.
+/// A call whose arguments were looked at, by what its row looks at.
 fn call_of<A: Allocator + Clone>(
     row: &Selector,
     world: &mut World,
     state: &State<A>,
     room: u32,
+    selector: u32,
     args: &[u32],
 ) -> Result<Turn, Fault>
     requires words { row.now.words ≤ 4 }
-    requires ready { is_none row.now args.now ≡ false → IsReady row.now.part world.old.scene args.now }
-    ensures value { MayLose (IsTrue (grows_by (Some row.now) world.old.scene state.now.flat args.now)) (λ turn. turn) result world.old world.new (on_world world.old (call_of row.now world.old.scene state.now.flat room args.now)) }
+    requires ready { is_none row.now args.now ≡ false → IsReadyBy (row_of selector) world.old.scene args.now }
+    ensures value { Calls (IsTrue (wants_on row.now (wants_by (row_of selector) world.old.scene state.now.flat args.now) args.now)) result world.old world.new (call_on row.now (done_by (row_of selector) world.old.scene state.now.flat room args.now) world.old.scene state.now.flat room args.now) }
     ensures fits { IfOk result (IsTurnFor state.now.flat room) }
-    ensures asks { IfOk result (λ turn. (given : Given) → IsGivenFor turn given → Awaits world.new.scene given) }
 {
     if is_none(row, args) {
         Ok(Turn::Answer(nothing(world, state, room, row, args)?))
     } else {
-        turns(row.part, world, state, room, row.number, args)
+        do_call(selector, world, state, room, args)
     }
 }
 
@@ -193,13 +143,13 @@ fn call_row<A: Allocator + Clone>(
     selector: u32,
     args: &[u32],
 ) -> Result<Turn, Fault>
-    requires { IsTrue (row_fits row.now) }
-    ensures value { MayLose (IsTrue (grows_by (Some row.now) world.old.scene state.now.flat args.now)) (λ turn. turn) result world.old world.new (on_world world.old (call_by (Some row.now) world.old.scene state.now.flat room selector args.now)) }
+    requires row { option_map (λ row. row.looks) (row_of selector) ≡ Some row.now }
+    requires fits { IsTrue (row_fits row.now) }
+    ensures value { Calls (IsTrue (wants_on row.now (wants_by (row_of selector) world.old.scene state.now.flat args.now) args.now)) result world.old world.new (call_looked (Some row.now) (done_by (row_of selector) world.old.scene state.now.flat room args.now) world.old.scene state.now.flat room selector args.now) }
     ensures fits { IfOk result (IsTurnFor state.now.flat room) }
-    ensures asks { IfOk result (λ turn. (given : Given) → IsGivenFor turn given → Awaits world.new.scene given) }
 {
     looked(world, row, args)?;
-    call_of(row, world, state, room, args)
+    call_of(row, world, state, room, selector, args)
 }
 
 /// A selector without a row.
@@ -207,14 +157,49 @@ fn call_dropped(world: &World, selector: u32) -> Result<Reply, Fault>
     ensures value { Reads (λ reply. reply) result (dropping selector) }
 {
     if dropped(selector) {
-        Ok(reply(world, 0))
+        Ok(reply(world.alloc(), 0))
     } else {
         Err(Fault::BadGlk)
     }
 }
 
+/// A call by what was found for its selector.
+fn call_found<A: Allocator + Clone>(
+    found: Option<&Selector>,
+    world: &mut World,
+    state: &State<A>,
+    room: u32,
+    selector: u32,
+    args: &[u32],
+) -> Result<Turn, Fault>
+    requires row { option_map (λ row. row.now) found ≡ option_map (λ row. row.looks) (row_of selector) }
+    requires fits { IfSome found (λ row. IsTrue (row_fits row.now)) }
+    ensures value { Calls (IsTrue (wants_looked (option_map (λ row. row.now) found.entry) (wants_by (row_of selector) world.old.scene state.now.flat args.now) args.now)) result world.old world.new (call_looked (option_map (λ row. row.now) found.entry) (done_by (row_of selector) world.old.scene state.now.flat room args.now) world.old.scene state.now.flat room selector args.now) }
+    ensures fits { IfOk result (IsTurnFor state.now.flat room) }
+{
+    match found {
+        Some(row) => call_row(row, world, state, room, selector, args),
+        None => Ok(Turn::Answer(call_dropped(world, selector)?)),
+    }
+}
+
+/// The call of a selector, by its row.
+#[tactic(auto, using(crate::proofs::Ready::by_looks))]
+fn call_selector<A: Allocator + Clone>(
+    world: &mut World,
+    state: &State<A>,
+    room: u32,
+    selector: u32,
+    args: &[u32],
+) -> Result<Turn, Fault>
+    ensures value { Calls (IsGrowing world.old.scene state.now.flat selector args.now) result world.old world.new (glk_call world.old.scene state.now.flat room selector args.now) }
+    ensures fits { IfOk result (IsTurnFor state.now.flat room) }
+{
+    let found = row_of(selector);
+    call_found(found, world, state, room, selector, args)
+}
+
 /// Makes the Glk call of a selector, whose reply may push so many values beside its own store.
-#[tactic(auto, unfolding(crate::specs::Calls::glk_call, crate::specs::Calls::grows))]
 pub fn call<A: Allocator + Clone>(
     world: &mut World,
     state: &State<A>,
@@ -222,12 +207,9 @@ pub fn call<A: Allocator + Clone>(
     selector: u32,
     args: &[u32],
 ) -> Result<Turn, Fault>
-    ensures value { MayLose (IsGrowing world.old.scene state.now.flat selector args.now) (λ turn. turn) result world.old world.new (on_world world.old (glk_call world.old.scene state.now.flat room selector args.now)) }
+    ensures value { Calls (IsGrowing world.old.scene state.now.flat selector args.now) result world.old world.new (glk_call world.old.scene state.now.flat room selector args.now) }
     ensures fits { IfOk result (IsTurnFor state.now.flat room) }
     ensures asks { IfOk result (λ turn. (given : Given) → IsGivenFor turn given → Awaits world.new.scene given) }
 {
-    match row_of(selector) {
-        Some(row) => call_row(row, world, state, room, selector, args),
-        None => Ok(Turn::Answer(call_dropped(world, selector)?)),
-    }
+    call_selector(world, state, room, selector, args)
 }

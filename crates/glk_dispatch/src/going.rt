@@ -1,19 +1,18 @@
 //! A call that waited goes on with what it was given (specs/Going): always to an answer.
 ghost use Rattle.std.specs.Prelude.{◌≡◌, ◌==◌, ◌&&◌, IfOk, IsTrue};
-ghost use Rattle.gx_words.specs.Faults.{MayLose};
 ghost use Rattle.gx_state.specs.Replies.{IsReply};
 ghost use Rattle.glk_world.specs.Kept.{call_of};
-ghost use Rattle.glk_dispatch.specs.Parts.{on_world};
-ghost use Rattle.glk_dispatch.specs.Turns.{IsTurnFor, IsAnswered, IsAwaited, Awaits};
+ghost use Rattle.glk_world.specs.World.{Calls};
+ghost use Rattle.glk_replies.specs.Turns.{IsTurnFor, IsAnswered};
+ghost use Rattle.glk_dispatch.specs.Turns.{IsAwaited, Awaits};
 ghost use Rattle.glk_dispatch.specs.Going.{with_line, with_line_grow, was_of, resumed, resumed_grow, glk_go_on, go_grows};
-ghost use Rattle.glk_dispatch.specs.declared.Given.TheVariants as given;
+ghost use Rattle.glk_replies.specs.declared.Given.TheVariants as given;
 
-use crate::events::select_goes_on;
-use crate::parts::reply;
-use crate::references::{open_goes_on, prompt_goes_on};
-use crate::selectors::{FILEREF_DOES_FILE_EXIST, SELECT};
-use crate::streams::close;
-use crate::{Given, Turn};
+use glk_event_calls::events::select_goes_on;
+use glk_object_calls::references::{open_goes_on, prompt_goes_on};
+use glk_object_calls::streams::close;
+use glk_replies::selectors::{FILEREF_DOES_FILE_EXIST, SELECT};
+use glk_replies::{Given, Turn, reply};
 use glk_world::{Waiting, World};
 use gx_state::{Reply, State};
 use gx_words::Fault;
@@ -28,7 +27,7 @@ fn with_line<A: Allocator + Clone>(
     line: &[u32],
 ) -> Result<Reply, Fault>
     requires { IsAwaited world.old.scene (call_of call.now) (given.Line line.now) }
-    ensures value { MayLose (IsTrue (with_line_grow world.old.scene state.now.flat (call_of call.now) line.now)) (λ reply. reply) result world.old world.new (on_world world.old (with_line world.old.scene state.now.flat room (call_of call.now) line.now)) }
+    ensures value { Calls (IsTrue (with_line_grow world.old.scene state.now.flat (call_of call.now) line.now)) result world.old world.new (with_line world.old.scene state.now.flat room (call_of call.now) line.now) }
     ensures fits { IfOk result (IsReply state.now.flat room) }
 {
     if call.selector == SELECT {
@@ -54,14 +53,14 @@ fn resume<A: Allocator + Clone>(
     given: Given,
 ) -> Result<Reply, Fault>
     requires { IsAwaited world.old.scene (call_of call.now) given }
-    ensures value { MayLose (IsTrue (resumed_grow world.old.scene state.now.flat (call_of call.now) given)) (λ reply. reply) result world.old world.new (on_world world.old (resumed world.old.scene state.now.flat room (call_of call.now) given)) }
+    ensures value { Calls (IsTrue (resumed_grow world.old.scene state.now.flat (call_of call.now) given)) result world.old world.new (resumed world.old.scene state.now.flat room (call_of call.now) given) }
     ensures fits { IfOk result (IsReply state.now.flat room) }
 {
     match given {
         Given::Line(line) => with_line(world, state, room, call, line.as_slice()),
         Given::Loaded(load) => open_goes_on(world, call.selector, call.args.as_slice(), load),
         Given::Stored => close(world, state, room, call.args.as_slice()),
-        Given::Was(was) => Ok(reply(world, was_of(call.selector, was))),
+        Given::Was(was) => Ok(reply(world.alloc(), was_of(call.selector, was))),
     }
 }
 
@@ -74,7 +73,7 @@ pub fn go_on<A: Allocator + Clone>(
     given: Given,
 ) -> Result<Turn, Fault>
     requires { Awaits world.old.scene given }
-    ensures value { MayLose (IsTrue (go_grows world.old.scene state.now.flat given)) (λ turn. turn) result world.old world.new (on_world world.old (glk_go_on world.old.scene state.now.flat room given)) }
+    ensures value { Calls (IsTrue (go_grows world.old.scene state.now.flat given)) result world.old world.new (glk_go_on world.old.scene state.now.flat room given) }
     ensures fits { IfOk result (IsTurnFor state.now.flat room) }
     ensures answers { IfOk result IsAnswered }
 {

@@ -65,3 +65,10 @@ pub struct Places {
     pub width: u32,
     pub count: u32,
 }
+
+/// No places.
+pub const NO_PLACES: Places = Places {
+    at: 0,
+    width: 1,
+    count: 0,
+};

@@ -18,6 +18,6 @@ mod one;
 mod streams;
 
 pub use content::LARGEST;
-pub use kinds::{FileForm, Places, Stream, StreamKind};
+pub use kinds::{FileForm, NO_PLACES, Places, Stream, StreamKind};
 pub use modes::{FROM_CURRENT, FROM_END, FROM_START, READ, READ_WRITE, WRITE, WRITE_APPEND};
 pub use streams::Streams;

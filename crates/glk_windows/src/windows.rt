@@ -5,7 +5,7 @@ ghost use Rattle.std.specs.List.Sorted.{IsStrictlyIncreasing};
 ghost use Rattle.glk_objects.specs.Objects as objects;
 ghost use Rattle.glk_windows.specs.Tree.{shape_of, is_among, arranged_in};
 ghost use Rattle.glk_windows.specs.Grids.{grid_id};
-ghost use Rattle.glk_windows.specs.Windows.{tree_of, no_windows, entry_id, is_window, entry, next, root, parent, window, pair, sizes_in, sizes, text_size, cell, row, is_openable, can_add, last_given, IsNewId};
+ghost use Rattle.glk_windows.specs.Windows.{tree_of, no_windows, entry_id, is_window, entry_at, entry, next, root, parent, window, pair, sizes_in, sizes, text_size, cell, row, is_openable, can_add, last_given, IsNewId};
 ghost use Rattle.glk_windows.specs.Changes.{fitted_to, fitted, some_grow, with_grid, rooted, split_by, added, leaving, chosen, gone, without_ids, closed_tree, closed, allows, arranged, arranging_grows, put_to, cleared_in, moved_in, echoed, without_stream};
 
 use crate::entries::{
@@ -105,6 +105,13 @@ impl Windows {
         } else {
             None
         }
+    }
+
+    /// The same, with zeros where no window has the identifier.
+    pub fn entry_at(&self, win: u32) -> Entry
+        ensures { result ≡ entry_at self.now.entries win }
+    {
+        entry_at(&self.entries, win)
     }
 
     /// The pair above a window, 0 for none.

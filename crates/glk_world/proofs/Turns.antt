@@ -2,20 +2,13 @@
 use Rattle.std.proofs.Common.{zero, suc, ◌≡◌, ◌<◌, ◌-◌, ℕ, true, false, ◌==◌, ◌||◌, append_assoc, refl, arith}
 use Rattle.std.proofs.lemmas.Grind.{common_steps}
 use Rattle.std.proofs.lemmas.List.{append-nil}
-use Rattle.glk_objects.proofs.Above.{at_absent}
 use Rattle.glk_streams.specs.declared.kinds.StreamKind.{StreamKind}
 use Rattle.glk_streams.specs.declared.kinds.StreamKind.TheVariants as kinds
 use Rattle.glk_streams.specs.declared.kinds.Stream.{Stream}
 use Rattle.glk_streams.specs.Stream as one
 use Rattle.glk_streams.specs.Streams as streams
-use Rattle.glk_windows.specs.Windows.{FlatWindows, entry_id, no_entry, entry_at, is_window}
 use Rattle.glk_world.specs.World.{FlatWorld, Scene, after}
 use Rattle.glk_world.specs.Putting.{window_of, stream_put, stream_grows, echo_of, put_along, grows_along, end_along, leads_along}
-
-pub no_window : (f : FlatWindows) (win : ℕ) → is_window f win ≡ false → entry_at f.entries win ≡ no_entry
-no_window f win gone = at_absent entry_id no_entry f.entries win gone
-
-pub ruleset absent = (no_window)
 
 -- only the file of a stream with no window grows
 pub no_window_grows : (kind : StreamKind) (s : Stream) (c : ℕ) → one.lengthens kind s c ≡ true → one.window_in kind ≡ 0

@@ -1,5 +1,7 @@
 -- The Glk world (Glk 0.7.5): all that its calls look at, and the text that is shown.
-use Rattle.std.specs.Prelude.{ℕ, List, [], ◌++◌, Bool, true, false, Option, None}
+use Rattle.std.specs.Prelude.{ℕ, List, [], ◌++◌, ◌∷◌, slice_index, Bool, true, false, Option, Some, None, Result, Ok, Err}
+use Rattle.gx_words.specs.declared.faults.Fault.{Fault}
+use Rattle.gx_words.specs.Faults.{MayLose}
 use Rattle.glk_objects.specs.Objects as objects
 use Rattle.glk_streams.specs.declared.kinds.Stream.{Stream}
 use Rattle.glk_windows.specs.Windows.{FlatWindows, no_windows}
@@ -43,9 +45,27 @@ Said = Scene × List ℕ
 abbrev pub after : FlatWorld → Said → FlatWorld
 after w said = record { scene = said.0; text = w.text ++ said.1 }
 
--- a call that adds no text
+-- nothing is said
 abbrev pub silent : Scene → Said
 silent w = (w, [])
+
+-- what a call comes to: what it makes and its answer, or a fault
+abbrev pub Outcome : Type 0 → Type 0
+Outcome X = Result (Said × X) Fault
+
+-- a call that adds no text
+abbrev pub answered : {X : Type 0} → Scene → X → Outcome X
+answered w answer = Ok (silent w, answer)
+
+-- a call on a world: its text grows by what the call adds
+abbrev pub on_world : {X : Type 0} → FlatWorld → Outcome X → Result (FlatWorld × X) Fault
+on_world w (Ok r) = Ok (after w r.0, r.1)
+on_world w (Err e) = Err e
+
+-- How the answer of a call relates to what it comes to. It may want memory where this holds, and then the world can
+-- only be dropped; it stands after every other fault.
+abbrev pub Calls : {X : Type 0} → Type 0 → Result X Fault → FlatWorld → FlatWorld → Outcome X → Type 0
+Calls wants result old new outcome = MayLose wants (λ x. x) result old new (on_world old outcome)
 
 -- one thing said after another
 abbrev pub then_said : Said → (Scene → Said) → Said
@@ -96,3 +116,16 @@ reference_at w id = objects.at reference_id no_reference w.references id
 
 abbrev pub next_reference : Scene → ℕ → ℕ
 next_reference w id = objects.next reference_id w.references id
+
+-- ---- arguments, and calls that wait
+
+-- an argument, counted from 0; one that isn't there is 0
+abbrev pub arg : List ℕ → ℕ → ℕ
+arg args i = slice_index args i
+
+-- a call waits with its first three arguments
+abbrev pub waiting_call : ℕ → List ℕ → Call
+waiting_call selector args = record { selector = selector; arguments = arg args 0 ∷ arg args 1 ∷ arg args 2 ∷ [] }
+
+abbrev pub waits : Scene → ℕ → List ℕ → Scene
+waits w selector args = record w { waiting = Some (waiting_call selector args) }

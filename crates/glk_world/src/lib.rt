@@ -30,4 +30,4 @@ pub use grids::ShownGrid;
 pub use identifiers::LAST_IDENTIFIER;
 pub use references::FileReference;
 pub use views::View;
-pub use world::{Waiting, World};
+pub use world::{Waiting, World, arg};

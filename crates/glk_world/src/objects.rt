@@ -12,7 +12,6 @@ ghost use Rattle.glk_world.specs.World.{after, silent, has_reference, reference_
 ghost use Rattle.glk_world.specs.Shown.{line_taken};
 ghost use Rattle.glk_world.specs.Calls.{is_identifier, new_id, with_reference, without_reference, can_open, opened_id, with_streams, window_stream, with_window, unless_gone, without_requests, without_texts, window_counts, without_window, arranged, cleared, moved, with_stream, without_stream, sought};
 
-use crate::putting::entry_at;
 use crate::{FileReference, LAST_IDENTIFIER, World};
 use glk_events::{Request, Requests};
 use glk_objects::place;
@@ -89,7 +88,7 @@ impl World {
         ensures new { OnOk result (self.new ≡ after self.old (silent (without_window self.old.scene win))) }
         ensures value { IfOk result (λ counts. counts ≡ window_counts self.old.scene win) }
     {
-        let counts = self.streams.counts(entry_at(&self.windows, win).stream);
+        let counts = self.streams.counts(self.windows.entry_at(win).stream);
         let removed = self.windows.remove(win);
         let gone = or_none(&mut self.windows, self.alloc, removed)?;
         self.streams.remove_windows(gone.as_slice());

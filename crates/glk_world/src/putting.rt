@@ -11,35 +11,11 @@ ghost use Rattle.glk_world.specs.Putting.{said_char, buffer_put, entry_of, is_te
 ghost use Rattle.glk_world.specs.Calls.{got_from, passed, after_get, with_echo};
 
 use crate::{View, World};
-use glk_streams::Places;
+use glk_streams::{NO_PLACES, Places};
 use glk_text::show;
-use glk_windows::{Entry, TEXT_BUFFER, Windows};
+use glk_windows::{Entry, TEXT_BUFFER};
 use gx_words::LINE_FEED;
 use std::alloc::AllocError;
-
-/// No places.
-const NO_PLACES: Places = Places {
-    at: 0,
-    width: 1,
-    count: 0,
-};
-
-/// What stands for a window that isn't there.
-const NO_ENTRY: Entry = Entry {
-    id: 0,
-    kind: 0,
-    rock: 0,
-    stream: 0,
-    echo: 0,
-};
-
-/// What is known of a window.
-#[tactic(auto, using(crate::proofs::Turns::absent))]
-pub(crate) fn entry_at(windows: &Windows, win: u32) -> Entry
-    ensures { result ≡ entry_at windows.now.entries win }
-{
-    windows.entry(win).unwrap_or(NO_ENTRY)
-}
 
 impl World {
     /// Puts a character to a stream, then to its echo stream, and so on; a stream that isn't there is none.
@@ -95,7 +71,7 @@ impl World {
         if win == 0 {
             return None;
         }
-        let entry = entry_at(&self.windows, win);
+        let entry = self.windows.entry_at(win);
         if entry.kind == TEXT_BUFFER && entry.echo == 0 {
             Some((at, win))
         } else {
@@ -190,7 +166,7 @@ impl World {
         if win == 0 {
             0
         } else {
-            entry_at(&self.windows, win).echo
+            self.windows.entry_at(win).echo
         }
     }
 
@@ -216,7 +192,7 @@ impl World {
         ensures ok { OnOk result (self.new ≡ after self.old (window_put self.old.scene (entry_at self.old.scene.windows.entries win) win c)) }
         ensures memory { OnErr result ((entry_at self.old.scene.windows.entries win).kind ≡ text_buffer) }
     {
-        if entry_at(&self.windows, win).kind == TEXT_BUFFER {
+        if self.windows.entry_at(win).kind == TEXT_BUFFER {
             self.buffer_put(win, show(c))
         } else {
             self.windows.put(win, u32::from(show(c)));

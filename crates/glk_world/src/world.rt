@@ -2,7 +2,7 @@
 ghost use Rattle.std.specs.Prelude.{◌≡◌, ◌≢◌, ◌≤◌, [], IfOk, OnErr, MatchOption, None, true, false};
 ghost use Rattle.glk_streams.specs.Streams as streams;
 ghost use Rattle.glk_world.specs.declared.views.View.TheVariants as view;
-ghost use Rattle.glk_world.specs.World.{after, silent, empty_world, has_reference, reference_at, next_reference};
+ghost use Rattle.glk_world.specs.World.{after, silent, empty_world, has_reference, reference_at, next_reference, arg, waits};
 ghost use Rattle.glk_world.specs.Kept.{call_of, waiting_of};
 
 use crate::{FileReference, ShownGrid, View};
@@ -12,7 +12,7 @@ use glk_objects::{next, place};
 use glk_screen::Screen;
 use glk_streams::Streams;
 use glk_windows::Windows;
-use gx_words::{Numbers, Writes};
+use gx_words::Numbers;
 use std::alloc::{AllocError, Global};
 use std::marker::Model;
 
@@ -21,6 +21,13 @@ use std::marker::Model;
 pub struct Waiting {
     pub selector: u32,
     pub args: ArrayVec<u32, 8>,
+}
+
+/// An argument of a call, counted from 0; one that isn't there is 0.
+pub fn arg(args: &[u32], i: usize) -> u32
+    ensures { result ≡ arg args.now i }
+{
+    args.get(i).copied().unwrap_or(0)
 }
 
 /// The world of a run.
@@ -116,20 +123,6 @@ impl World {
         self.alloc
     }
 
-    /// An empty list of numbers, which the world's allocator would fill.
-    pub fn numbers(&self) -> Numbers
-        ensures { result ≡ [] }
-    {
-        Numbers::new(self.alloc)
-    }
-
-    /// An empty list of writes, likewise.
-    pub fn writes(&self) -> Writes
-        ensures { result ≡ [] }
-    {
-        Writes::new(self.alloc)
-    }
-
     /// The text that wasn't sent yet, as UTF-8.
     pub fn pending(&self) -> &[u8]
         ensures { result.now ≡ self.now.text }
@@ -217,6 +210,20 @@ impl World {
         ensures new { self.new ≡ after self.old (silent (record self.old.scene { waiting = None })) }
     {
         self.waiting.take()
+    }
+
+    /// Notes that a call waits, with its first three arguments.
+    pub fn wait(&mut self, selector: u32, args: &[u32])
+        ensures { self.new ≡ after self.old (silent (waits self.old.scene selector args.now)) }
+    {
+        let mut kept = ArrayVec::new();
+        kept.push(arg(args, 0));
+        kept.push(arg(args, 1));
+        kept.push(arg(args, 2));
+        self.waiting = Some(Waiting {
+            selector,
+            args: kept,
+        });
     }
 
     pub fn set_waiting(&mut self, call: Option<Waiting>)

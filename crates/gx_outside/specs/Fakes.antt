@@ -33,10 +33,11 @@ pub record HeldSink : Type 0 where
   pub taken : List ℕ
   pub calls : HeldCalls
 
--- a source in memory: the bytes left, and how many a call gives at most
+-- a source in memory: the bytes left, how many a call gives at most, and how many were offered in all
 pub record HeldSource : Type 0 where
   pub left : List ℕ
   pub piece : ℕ
+  pub offered : ℕ
   pub calls : HeldCalls
 
 -- a finite map from names to bytes
@@ -74,7 +75,7 @@ by_name files = from_entries (map (λ e. (string_bytes e.0, e.1)) files.entries)
 
 -- What contracts see of them through the traits: they tell all that they hold.
 abbrev pub seen_source : HeldSource → FlatSource
-seen_source s = record { calls = s.calls.counts; tells = true; left = s.left }
+seen_source s = record { calls = s.calls.counts; offered = s.offered; tells = true; left = s.left }
 
 abbrev pub seen_sink : HeldSink → FlatSink
 seen_sink s = record { calls = s.calls.counts; tells = true; taken = s.taken }

@@ -9,13 +9,15 @@ use Rattle.gx_outside.specs.declared.devices.Load.{Load}
 use Rattle.gx_outside.specs.declared.devices.Load.TheVariants as of_load
 use Rattle.gx_outside.specs.Files.{Files, same_name}
 
--- What contracts see of a source: its counts, whether it tells what is left, and the bytes that are left.
+-- What contracts see of a source: its counts, for how many bytes its reads had room in all, whether it tells what is
+-- left, and the bytes that are left.
 pub record FlatSource : Type 0 where
   pub calls : Calls
+  pub offered : ℕ
   pub tells : Bool
   pub left : List ℕ
 
--- the same of a sink, with the bytes that it has taken
+-- of a sink: its counts, whether it tells what it has taken, and the bytes that it has taken
 pub record FlatSink : Type 0 where
   pub calls : Calls
   pub tells : Bool
@@ -39,6 +41,15 @@ raised count = min (count + 1) (2 ^ 64 - 1)
 abbrev pub raised_by : ℕ → ℕ → ℕ
 raised_by zero count = count
 raised_by (suc n) count = raised (raised_by n count)
+
+-- The bytes offered in all, once a read has offered so many; they stand still at 2^64 - 1. Then those after so many
+-- reads that each offered as many.
+abbrev pub offered_by : ℕ → ℕ → ℕ
+offered_by room offered = min (offered + room) (2 ^ 64 - 1)
+
+abbrev pub offered_in : ℕ → ℕ → ℕ → ℕ
+offered_in zero room offered = offered
+offered_in (suc reads) room offered = offered_by room (offered_in reads room offered)
 
 -- the counts after one more call, which failed or not, and wanted memory or not
 abbrev pub counted : Calls → Bool → Bool → Calls

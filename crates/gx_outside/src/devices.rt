@@ -4,14 +4,15 @@
 //! tells, what that is. Each call raises the count of calls by one. The count of failures rises by
 //! one where the call answers `Failed`, and stands where it doesn't, so that a device which isn't
 //! blamed didn't fail; a count at 2^64 - 1, which no run reaches, stands still. The counts also tell
-//! whether the last call failed, and whether memory ran out in it. A device that tells goes on
-//! telling, whatever it answers, and one that doesn't never begins to.
+//! whether the last call failed, and whether memory ran out in it. A source counts besides for how many
+//! bytes its reads had room, whatever they gave. A device that tells goes on telling, whatever it
+//! answers, and one that doesn't never begins to.
 //!
 //! Want of memory, which is no failure of the device, may come at any call that has an answer for
 //! it; at `load` it comes only where there are bytes to be handed out.
 ghost use Rattle.std.specs.Prelude.{◌≡◌, ◌≤◌, false, true, length, is_err, is_some, IfOk, IsErrOf, IsSomeAnd, OnOk};
 ghost use Rattle.gx_outside.specs.Files.{with_file};
-ghost use Rattle.gx_outside.specs.Outside.{FlatSource, FlatSink, FlatShelf, HasCause, ReadGives, Sends, Loads, IsBounded, KeepsOthers, send_failed, send_wanted, shelf_failed, shelf_wanted};
+ghost use Rattle.gx_outside.specs.Outside.{FlatSource, FlatSink, FlatShelf, HasCause, ReadGives, offered_by, Sends, Loads, IsBounded, KeepsOthers, send_failed, send_wanted, shelf_failed, shelf_wanted};
 
 use gx_words::Bytes;
 use std::alloc::{AllocError, AllocFailed};
@@ -85,6 +86,7 @@ pub trait Source {
     fn read(&mut self, into: &mut [u8]) -> Result<usize, Failed>
         ensures bound { IfOk result (λ count. count ≤ length into.old) }
         ensures cause { HasCause (seen self.old).calls (seen self.new).calls (is_err result) false }
+        ensures offered { (seen self.new).offered ≡ offered_by (length into.old) (seen self.old).offered }
         ensures tells { (seen self.new).tells ≡ (seen self.old).tells }
         ensures bytes { (seen self.old).tells ≡ true
             → ReadGives (seen self.old).left (seen self.new).left into.new result };

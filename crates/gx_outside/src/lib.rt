@@ -7,8 +7,8 @@
 //!
 //! Contracts see of each device how often it was called, how often it has failed, whether its last
 //! call failed, whether memory ran out in the last call, whether it tells what it holds, and, where it
-//! does, what that is. A real device tells nothing, so every claim about content is made under the
-//! premise that the device tells.
+//! does, what that is; and of a source for how many bytes its reads had room. A real device tells
+//! nothing, so every claim about content is made under the premise that the device tells.
 #![tactic(auto)]
 
 mod calls;

@@ -1,7 +1,7 @@
 //! A source in memory.
 ghost use Rattle.std.specs.Prelude.{◌≡◌, ◌≤◌, ◌++◌, min, length, false, take, drop, is_err, IfOk, OnErr};
 ghost use Rattle.gx_outside.specs.Fakes.{no_calls, fails_next, after_call, seen_source};
-ghost use Rattle.gx_outside.specs.Outside.{HasCause, ReadGives};
+ghost use Rattle.gx_outside.specs.Outside.{HasCause, ReadGives, offered_by};
 
 use crate::numbered::NumberedCalls;
 use crate::{Failed, Source};
@@ -16,6 +16,7 @@ pub struct MemSource {
     bytes: Bytes,
     at: usize,
     piece: usize,
+    offered: u64,
     calls: NumberedCalls,
 }
 
@@ -25,7 +26,7 @@ impl Model for MemSource {
 
     ghost Value = { HeldSource };
 
-    ghost view = { λ s. record { left = drop s.at s.bytes; piece = s.piece; calls = s.calls } };
+    ghost view = { λ s. record { left = drop s.at s.bytes; piece = s.piece; offered = s.offered; calls = s.calls } };
 
     ghost invariant = { λ s. (s.at ≤ length s.bytes) × (1 ≤ s.piece) };
 }
@@ -40,12 +41,13 @@ impl MemSource {
     ) -> Result<MemSource, AllocError>
         requires { 1 ≤ piece }
         ensures { IfOk result (λ source. source
-            ≡ record { left = bytes.now; piece = piece; calls = no_calls fails.now }) }
+            ≡ record { left = bytes.now; piece = piece; offered = 0; calls = no_calls fails.now }) }
     {
         Ok(MemSource {
             bytes: Bytes::from_slice(alloc, bytes)?,
             at: 0,
             piece,
+            offered: 0,
             calls: NumberedCalls::new(alloc, fails)?,
         })
     }
@@ -58,6 +60,7 @@ impl Source for MemSource {
         ensures fails { is_err result ≡ fails_next self.old.calls }
         ensures calls { self.new.calls ≡ after_call self.old.calls false }
         ensures piece { self.new.piece ≡ self.old.piece }
+        ensures offered { self.new.offered ≡ offered_by (length into.old) self.old.offered }
         ensures count { IfOk result (λ count. count
             ≡ min (min (length into.old) self.old.piece) (length self.old.left)) }
         ensures given { IfOk result (λ count. into.new ≡ take count self.old.left ++ drop count into.old) }
@@ -67,6 +70,7 @@ impl Source for MemSource {
         ensures cause { HasCause self.old.calls.counts self.new.calls.counts (is_err result) false }
         ensures bytes { ReadGives self.old.left self.new.left into.new result }
     {
+        self.offered = self.offered.saturating_add(into.len() as u64);
         if self.calls.begin() {
             return Err(Failed);
         }

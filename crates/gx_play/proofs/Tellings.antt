@@ -9,11 +9,11 @@ use Rattle.gx_session.specs.Session.{Configuration, final_of}
 use Rattle.gx_session.specs.Runs.{IsRun, IsSession, Report, EndsAt}
 use Rattle.gx_play.specs.Jobs.{zeros, work_machine, work_start, work_line, ram_sum_of}
 
--- devices that hold nothing but this text, and never failed, after so many calls; whether the last send wanted memory,
--- and the last call of the shelf
-abbrev pub quiet : ℕ → ℕ → List ℕ → ℕ → Bool → Bool → Devices
-quiet reads sends text asks send-wanted shelf-wanted =
-    devices (record { calls = record { made = reads; faults = 0; failing = false; wanting = false }; tells = true; left = [] })
+-- devices that hold nothing but this text, and never failed, after so many calls; how many bytes were offered in all,
+-- and whether the last send wanted memory, and the last call of the shelf
+abbrev pub quiet : ℕ → ℕ → ℕ → List ℕ → ℕ → Bool → Bool → Devices
+quiet reads offered sends text asks send-wanted shelf-wanted =
+    devices (record { calls = record { made = reads; faults = 0; failing = false; wanting = false }; offered = offered; tells = true; left = [] })
     (record { calls = record { made = sends; faults = 0; failing = false; wanting = send-wanted }; tells = true; taken = text })
     (record { calls = record { made = asks; faults = 0; failing = false; wanting = shelf-wanted }; tells = true; files = no_files })
     zeros
@@ -24,15 +24,15 @@ pub record Tells (start : Configuration) (text : List ℕ) (r : Report) : Type 0
   pub text_is : text ≡ (final_of start).configuration.world.text
   pub machine : r.machine.machine ≡ (final_of start).configuration.machine
 
-module _ (w : Whole) (reads sends asks reads' sends' asks' : ℕ) (send shelf send' shelf' : Bool) (text : List ℕ) (r : Report) where
+module _ (w : Whole) (reads offered sends asks reads' offered' sends' asks' : ℕ) (send shelf send' shelf' : Bool) (text : List ℕ) (r : Report) where
   abbrev start : Configuration
   start = work_start w
 
   abbrev entry : Devices
-  entry = quiet reads sends [] asks send shelf
+  entry = quiet reads offered sends [] asks send shelf
 
   abbrev exit : Devices
-  exit = quiet reads' sends' text asks' send' shelf'
+  exit = quiet reads' offered' sends' text asks' send' shelf'
 
   at-end : EndsAt start (final_of start) entry exit r → Tells start text r
   at-end e =
@@ -64,8 +64,8 @@ module _ (w : Whole) (reads sends asks reads' sends' asks' : ℕ) (send shelf se
         | inr some ↦ told some.input (some.input_is refl) some.session early
       ]
 
-  pub tells-of : (before : List ℕ) → before ≡ [] → IsRun (work_start w) (quiet reads sends before asks send shelf) exit r → (r.status ≡ status_no_memory → ⊥) → Tells (work_start w) text r
-  tells-of before is run memory = came (subst (λ (b : List ℕ). IsRun (work_start w) (quiet reads sends b asks send shelf) exit r) is run) memory
+  pub tells-of : (before : List ℕ) → before ≡ [] → IsRun (work_start w) (quiet reads offered sends before asks send shelf) exit r → (r.status ≡ status_no_memory → ⊥) → Tells (work_start w) text r
+  tells-of before is run memory = came (subst (λ (b : List ℕ). IsRun (work_start w) (quiet reads offered sends b asks send shelf) exit r) is run) memory
 
   -- the line that is made of them
   pub line-is : (number : ℕ) (f : FlatState) (sum : ℕ) → work_machine number ≡ Some w → Tells (work_start w) text r → f ≡ r.machine.machine.flat → sum ≡ ram_sum_of f

@@ -54,14 +54,14 @@
 -- sees that instruction.
 --
 -- The shelf is asked once for the file, and then exactly as the session asks it; in job work it isn't asked. Text is
--- sent before the shelf or the source is asked for anything. Fewer than 4,096 bytes are read ahead of the lines that
--- were taken, and none where no line is awaited. The status blames a device exactly where a call of it failed in this
--- run, which was then its last one. Each restoreundo of the session goes back to the newest saveundo that was neither
--- used, nor discarded, nor dropped as the oldest (`LastsUndo`), whatever was restored from files in between. Each save
--- that the session makes is read back as the very copy that was saved (`SavedAll`, `SavedBy`). So is every copy that
--- fits the story, and each save that was one while memory had a lower ceiling, such as 0x04000000, is restored as the
--- same copy (`SavesReadBack`). And where no count of failures rose the status is the outcome's, or memory ran out
--- (`IsComplete`).
+-- sent before the shelf or the source is asked for anything. Each read of the source has room for 4,096 bytes; fewer
+-- are read ahead of the lines that were taken, and none where no line is awaited. The status blames a device exactly
+-- where a call of it failed in this run, which was then its last one. Each restoreundo of the session goes back to the
+-- newest saveundo that was neither used, nor discarded, nor dropped as the oldest (`LastsUndo`), whatever was restored
+-- from files in between. Each save that the session makes is read back as the very copy that was saved (`SavedAll`,
+-- `SavedBy`). So is every copy that fits the story, and each save that was one while memory had a lower ceiling, such
+-- as 0x04000000, is restored as the same copy (`SavesReadBack`). And where no count of failures rose the status is the
+-- outcome's, or memory ran out (`IsComplete`).
 --
 -- Premises: that the story's file is the one that the shelf holds is said of a shelf that tells what it holds, as one
 -- in memory does. A real one doesn't, and there the run is that of some file: of the bytes that it handed out. Nothing

@@ -41,7 +41,7 @@ zeros = record { u32_after = λ calls. 0; u64_after = λ calls. 0; bytes_after =
 
 -- no input, no text, no files
 abbrev pub nothing : Devices
-nothing = devices (record { calls = no_call; tells = true; left = [] }) (record { calls = no_call; tells = true; taken = [] })
+nothing = devices (record { calls = no_call; offered = 0; tells = true; left = [] }) (record { calls = no_call; tells = true; taken = [] })
     (record { calls = no_call; tells = true; files = no_files }) zeros
 
 -- the machine that starts the story of a number, where the story is accepted and can be started (every one is and can:

@@ -1,11 +1,9 @@
-//! What the lines of the jobs work and rewind are made of: the sum of RAM, and numbers in decimal and hexadecimal.
-ghost use Rattle.std.specs.Prelude.{◌≡◌, [], ◌<◌, ◌++◌, ◌∷◌, OnOk, decimal, string_bytes};
-ghost use Rattle.gx_session.specs.Reports.{hex_digit, hex_of};
+//! What the lines of the jobs work and rewind tell of a machine's memory: the sum of RAM.
+ghost use Rattle.std.specs.Prelude.{◌≡◌};
 ghost use Rattle.gx_play.specs.Jobs.{ram_sum_of};
 
 use gx_state::State;
-use itoa::Buffer;
-use std::alloc::{AllocError, Allocator};
+use std::alloc::Allocator;
 
 /// The sum modulo 2^32 of the words of RAM.
 #[tactic(auto, using(crate::proofs::Sums::sums))]
@@ -20,35 +18,4 @@ pub fn ram_sum<A: Allocator + Clone>(state: &State<A>) -> u32
         sum = sum.wrapping_add(memory.word(start + 4 * index));
     }
     sum
-}
-
-/// Adds a number in decimal.
-pub fn push_number(line: &mut String, number: u64) -> Result<(), AllocError>
-    ensures { OnOk result (string_bytes line.new ≡ string_bytes line.old ++ decimal number) }
-{
-    let mut buffer = Buffer::new();
-    line.push_str(buffer.format(number))
-}
-
-/// Adds a number as eight hexadecimal digits.
-pub fn push_hex(line: &mut String, number: u32) -> Result<(), AllocError>
-    ensures { OnOk result (string_bytes line.new ≡ string_bytes line.old ++ hex_of 8 number) }
-{
-    push_digit(line, number / 0x1000_0000 % 16)?;
-    push_digit(line, number / 0x100_0000 % 16)?;
-    push_digit(line, number / 0x10_0000 % 16)?;
-    push_digit(line, number / 0x1_0000 % 16)?;
-    push_digit(line, number / 0x1000 % 16)?;
-    push_digit(line, number / 0x100 % 16)?;
-    push_digit(line, number / 0x10 % 16)?;
-    push_digit(line, number % 16)
-}
-
-/// Adds one hexadecimal digit.
-fn push_digit(line: &mut String, digit: u32) -> Result<(), AllocError>
-    requires { digit < 16 }
-    ensures { OnOk result (string_bytes line.new ≡ string_bytes line.old ++ hex_digit digit ∷ []) }
-{
-    let code = if digit < 10 { 48 + digit } else { 87 + digit };
-    line.push(code as u8 as char)
 }

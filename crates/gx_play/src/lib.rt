@@ -4,7 +4,7 @@
 //! - `entry` has `play`, which does all of it over objects that are handed in; its contract is the headline of the
 //!   whole repository, and stands in specs/Headline.
 //! - `playing`, `rewinding`, `checking`, `working`, `assembling` and `listing` do the six jobs. `loading` takes the
-//!   file from the shelf, `running` plays it, `telling` sends a job's output, `figures` has what lines are made of, and
+//!   file from the shelf, `running` plays it, `telling` sends a job's output, `figures` sums up a machine's memory, and
 //!   `silent` devices for a story that needs none.
 //!
 //! The objects that a run is played with, and the status of the process, are the program's.

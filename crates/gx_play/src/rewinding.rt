@@ -15,20 +15,21 @@ ghost use Rattle.gx_play.specs.Reading.{seen, IsInRange};
 ghost use Rattle.gx_play.specs.Rewinding.{line_at};
 
 use crate::command::Command;
-use crate::figures::{push_hex, push_number, ram_sum};
+use crate::figures::ram_sum;
 use crate::loading::without_machine;
 use crate::running::run_command;
 use crate::telling::send_output;
 use gx_machine::Machine;
 use gx_outside::{Shelf, Sink, Source};
 use gx_rewind::Tape;
+use gx_session::numerals::{push_hex, push_number};
 use gx_session::{Ended, EndedOn, statuses};
 use gx_state::State;
 use rand_core::Rng;
 use std::alloc::{AllocError, Allocator, Global};
 
 /// At least so many units lie between two checkpoints of a tape.
-const EVERY: u64 = 100_000;
+const EVERY: u64 = 1_000_000;
 
 /// At most so many checkpoints are kept.
 const MOST: usize = 8;

@@ -13,19 +13,24 @@ use std::alloc::Global;
 #[derive(Drop)]
 pub struct NoInput {
     reads: u64,
+    offered: u64,
 }
 
 impl NoInput {
     pub fn new() -> NoInput {
-        NoInput { reads: 0 }
+        NoInput {
+            reads: 0,
+            offered: 0,
+        }
     }
 }
 
 impl Source for NoInput {
-    ghost seen = { λ s. record { calls = record { made = s.reads; faults = 0; failing = false; wanting = false }; tells = true; left = [] } };
+    ghost seen = { λ s. record { calls = record { made = s.reads; faults = 0; failing = false; wanting = false }; offered = s.offered; tells = true; left = [] } };
 
-    fn read(&mut self, _into: &mut [u8]) -> Result<usize, Failed> {
+    fn read(&mut self, into: &mut [u8]) -> Result<usize, Failed> {
         self.reads = self.reads.saturating_add(1);
+        self.offered = self.offered.saturating_add(into.len() as u64);
         Ok(0)
     }
 }
@@ -79,7 +84,7 @@ impl Shelf for NoFiles {
     }
 }
 
-/// A sink that counts the bytes which it takes.
+/// A sink that keeps the bytes which it takes.
 #[derive(Drop)]
 pub struct Gathered {
     text: Bytes,

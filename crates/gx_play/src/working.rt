@@ -8,13 +8,14 @@ ghost use Rattle.gx_play.specs.Loading.{IsDone};
 ghost use Rattle.gx_play.specs.Commands.{Command};
 
 use crate::command::USUAL_DEPTH;
-use crate::figures::{push_number, ram_sum};
+use crate::figures::ram_sum;
 use crate::loading::without_machine;
 use crate::silent::{Gathered, NoFiles, NoInput, Zeros};
 use crate::telling::send_output;
 use glk_world::World;
 use gx_machine::Machine;
 use gx_outside::Sink;
+use gx_session::numerals::push_number;
 use gx_session::{Ended, run_on, statuses};
 use gx_story::Story;
 use gx_work::make_story;

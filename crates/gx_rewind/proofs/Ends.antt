@@ -10,7 +10,7 @@ use Rattle.gx_rewind.specs.declared.books.Spot.{Spot}
 use Rattle.gx_rewind.specs.Path.{Place, index_after, taken_at, IsFit, IsOn, IsPath}
 use Rattle.gx_rewind.specs.Tape.{FlatTape, standing, gone_back, gone_on, gone_on_to, end_of}
 use Rattle.gx_rewind.specs.Views.{log_of, IsBook, IsMade, IsSpot}
-use Rattle.gx_rewind.proofs.Kept.{booked, logged}
+use Rattle.gx_rewind.proofs.Kept.{booked, logged, present}
 use Rattle.gx_rewind.proofs.Paths.{units-cons, extended, goes-back, on-long, on-units, one-place}
 
 pub ends : {A : Type 0} (b : Book A) (w : Whole) → IsBook b w.machine (log_of b w.machine) → b.end ≡ end_of (record { whole = w; log = log_of b w.machine })
@@ -70,6 +70,16 @@ goes {A} b c w s k book spot within last opening notes checkpoints end units ind
     let is : standing spot.before s.machine.machine back.after ≡ gone_back (record { whole = w; log = log }) k =
     ap (λ (p : Place). standing p.before p.machine back.after) (sym same) ∙ sym back.is in
     subst (HasGone c s.machine) is (gone c s.machine (record { before = spot.before; after = back.after }) spot.asks new)
+
+-- A tape that stays at its place drops what is asked.
+pub stays : {A : Type 0} (b : Book A) (w v : Whole) (k : ℕ) → IsBook b w.machine (log_of b w.machine) → b.units - k ≡ b.units → v ≡ record w { asking = None }
+    → HasGone b v (gone_back (record { whole = w; log = log_of b w.machine }) k)
+stays b w v k book same drops =
+    let log = log_of b w.machine in
+    let one = cost-positive v.machine in
+    let here : IsBook b v.machine log = subst (λ (x : Whole). IsBook b x.machine log) (sym drops) book in
+    let spot = present b v v log here refl (ap (λ (x : Whole). x.asking) drops) in
+    goes b b w (record { machine = v; units = b.units; index = b.index }) k book spot.0 (omega (arith, same)) (omega (arith, same, one)) refl refl refl refl refl refl
 
 -- what follows where the record goes on
 follows-by : {A : Type 0} (notes : List (Note A)) (units : ℕ) (m : FlatMachine) (i : ℕ) (after : List FlatMachine) (end : ℕ) → IsOn notes units m i after end → (units ≡ end → ⊥) → IsFit m (taken_at notes i units)

@@ -98,23 +98,23 @@ put-pends b old new budget ch log book step some room stands pending =
       asks = refl;
     })
 
--- an event that puts a character takes nothing
-puts : (e : Effect) → asking_of e ≡ Some asking.Put → IsQuiet e
-puts Went asks = tt
-puts Drew asks = absurd cc
-puts (Put c) asks = tt
-puts (Glk selector args room) asks = absurd cc
-puts (Save stream) asks = absurd cc
-puts (Restore stream) asks = absurd cc
-puts Quit asks = tt
-puts Spent asks = absurd cc
+-- an event that asks may take nothing
+quiets : (e : Effect) (a : Asking) → asking_of e ≡ Some a → IsQuiet e
+quiets Went a asks = tt
+quiets Drew a asks = absurd cc
+quiets (Put c) a asks = tt
+quiets (Glk selector args room) a asks = tt
+quiets (Save stream) a asks = tt
+quiets (Restore stream) a asks = tt
+quiets Quit a asks = tt
+quiets Spent a asks = absurd cc
 
-pub put-fit : (A : Type 0) (b : Book A) (m : FlatMachine) → IsPending b m asking.Put → IsFit {A = A} m None
-put-fit A b m pends = (m, pends.effect, pends.step, puts pends.effect pends.asks)
+pub nothing-fit : (A : Type 0) (b : Book A) (m : FlatMachine) (a : Asking) → IsPending b m a → IsFit {A = A} m None
+nothing-fit A b m a pends = (m, pends.effect, pends.step, quiets pends.effect a pends.asks)
 
--- a character that was put is answered with nothing
-pub put-event : (A : Type 0) (b : Book A) (m : FlatMachine) (a : Asking) → IsPending b m a → event {A = A} m None ≡ answer_of m nothing
-put-event A b m a pends = quiet A m m pends.effect pends.step ∙ ap (settled m) pends.asks
+-- then it is answered with nothing
+pub nothing-event : (A : Type 0) (b : Book A) (m : FlatMachine) (a : Asking) → IsPending b m a → event {A = A} m None ≡ answer_of m nothing
+nothing-event A b m a pends = quiet A m m pends.effect pends.step ∙ ap (settled m) pends.asks
 
 -- a reply fits what is asked
 pub reply-fits : {A : Type 0} (b : Book A) (m : FlatMachine) (a : Asking) (o : Option Asking) (reply : Reply) → o ≡ Some a → IsPending b m a → IsReply m.flat (room_of o) reply

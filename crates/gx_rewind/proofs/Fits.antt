@@ -1,30 +1,45 @@
 -- The step of an event that was recorded meets no fault.
-use Rattle.std.proofs.Common.{◌≡◌, ◌≢◌, ◌<◌, ◌≤◌, ◌-◌, ℕ, [], Bool, Some, None, Result, Ok, Err, IfOk, ap, sym, ◌∙◌, refl, subst, arith}
+use Rattle.std.proofs.Common.{◌≡◌, ◌≢◌, ◌<◌, ◌≤◌, ◌-◌, ℕ, [], Bool, true, Option, Some, None, Result, Ok, Err, IfOk, IsSome, ap, sym, ◌∙◌, refl, subst, arith}
 use Rattle.gx_words.specs.declared.faults.Fault.{Fault}
 use Rattle.gx_words.specs.Faults.{IsRefused}
 use Rattle.gx_state.specs.declared.effects.Effect.{Effect}
 use Rattle.gx_state.specs.declared.effects.Effect.TheVariants.{Went, Drew, Put, Glk, Save, Restore, Quit, Spent}
+use Rattle.gx_state.specs.declared.effects.Reply.{Reply}
+use Rattle.gx_state.specs.Replies.{IsReply}
+use Rattle.gx_machine.specs.declared.askings.Asking.{Asking}
+use Rattle.gx_machine.specs.Answer.{answered, IsAnswer}
 use Rattle.gx_machine.specs.Machine.{FlatMachine, Whole}
-use Rattle.gx_machine.specs.Step.{cost_of, step_of, stepped}
+use Rattle.gx_machine.specs.Step.{asking_of, cost_of, room_of, step_of, stepped}
 use Rattle.gx_rewind.specs.declared.books.Book.{Book}
 use Rattle.gx_rewind.specs.declared.books.Spot.{Spot}
 use Rattle.gx_rewind.specs.declared.books.Taken.{Taken}
 use Rattle.gx_rewind.specs.declared.books.Taken.TheVariants as taken
-use Rattle.gx_rewind.specs.Path.{taken_at, word_in, IsFit, IsQuiet}
-use Rattle.gx_rewind.specs.Views.{IsKept, IsSpot, IsWant, HasRun}
+use Rattle.gx_rewind.specs.Path.{nothing, settled, taken_at, word_in, IsFit, IsQuiet}
+use Rattle.gx_rewind.specs.Views.{IsKept, IsSpot, IsTried, IsWant, HasRun}
 use Rattle.gx_machine.specs.Advancing.{Advances, Passes}
 use Rattle.gx_machine.specs.Log.{units_of}
 use Rattle.gx_machine.proofs.Costs.{cost-positive}
 use Rattle.gx_rewind.proofs.Passing.{passes-on, passed-asks, passed-lower}
-use Rattle.gx_rewind.proofs.Running.{fit-at, has-advanced}
+use Rattle.gx_rewind.proofs.Running.{asks-by, fit-at, has-advanced, run-ended, tried-quiet}
 use Rattle.gx_rewind.proofs.Parts.{step-fault}
 use Rattle.gx_rewind.proofs.Steps.{step-done, ok-is}
+
+-- the reply that pushes and writes nothing answers whatever is asked
+pub nothing-answers : (m : Whole) (a : Asking) (reply : Reply) → m.asking ≡ Some a → reply ≡ nothing → IsAnswer m reply
+nothing-answers m a reply asks is = record {
+  pending = subst IsSome (sym asks) refl;
+  fits = subst (IsReply m.machine.flat (room_of m.asking)) (sym is) (record { writes = tt; pushes = omega arith });
+}
+
+pub nothing-settles : (m : Whole) (a : Asking) (reply : Reply) → m.asking ≡ Some a → reply ≡ nothing → answered m reply ≡ record { machine = settled m.machine m.asking; asking = None }
+nothing-settles m a reply asks is =
+    ap (λ (r : Reply). answered m r) is ∙ ap (λ (o : Option Asking). let w : Whole = record { machine = settled m.machine o; asking = None } in w) (sym asks)
 
 -- the step that an event made
 pub goes : {A : Type 0} (m : FlatMachine) (t : Taken A) → IsFit m (Some t) → (n : FlatMachine) × (e : Effect) × (step_of m (word_in t) ≡ Ok (n, e))
 goes m (taken.Word word) fit = (fit.0, Drew, fit.1)
 goes m (taken.Reply reply) fit = (m, fit.0, fit.1)
-goes m (taken.Machine whole) fit = (m, fit.0, fit.1)
+goes m (taken.Machine gone) fit = (m, fit.0, fit.1)
 
 ok-err : {X : Type 0} (x : X) (f : Fault) → (let r : Result X Fault = Ok x in r ≡ Err f) → ⊥
 ok-err x f same = cc
@@ -38,23 +53,23 @@ wants m t budget f w fit refused = let made = goes m.machine t fit in wants-by m
 pub wants-quiet : (A : Type 0) (m : Whole) (budget : ℕ) (f : Fault) (w : Type 0) → IsFit {A = A} m.machine None → IsRefused w f (stepped m 0 budget) → IsWant f
 wants-quiet A m budget f w fit refused = wants-by m 0 budget fit.0 fit.1 f w fit.2 refused
 
--- one that took nothing goes on, quits or puts a character
+-- one that took nothing is quiet
 pub is-quiet : (A : Type 0) (m new : Whole) (budget left : ℕ) (e : Effect) → IsFit {A = A} m.machine None → stepped m 0 budget ≡ Ok ((new, left), e) → (e ≢ Spent) → IsQuiet e
 is-quiet A m new budget left e fit step unspent =
     let d = step-done m 0 budget new left e unspent step in
     let same : (fit.0, fit.1) ≡ (new.machine, e) = ok-is {A = FlatMachine × Effect} (fit.0, fit.1) (new.machine, e) (sym fit.2 ∙ d.step) in
     subst (λ (q : FlatMachine × Effect). IsQuiet q.1) same fit.3
 
--- such an effect is one of these
-pub never-rest : (e : Effect) → IsQuiet e → e ≢ Went → e ≢ Quit → ((c : ℕ) → e ≢ Put c) → ⊥
-never-rest Went plain a b d = a refl
-never-rest Drew plain a b d = plain
-never-rest (Put c) plain a b d = d c refl
-never-rest (Glk selector args room) plain a b d = plain
-never-rest (Save stream) plain a b d = plain
-never-rest (Restore stream) plain a b d = plain
-never-rest Quit plain a b d = b refl
-never-rest Spent plain a b d = plain
+-- what is asked is answered with nothing
+settles : (new end : Whole) (e : Effect) → new.asking ≡ asking_of e → end ≡ record { machine = settled new.machine new.asking; asking = None } → end.machine ≡ settled new.machine (asking_of e)
+settles new end e asks is = ap (λ (w : Whole). w.machine) is ∙ ap (settled new.machine) asks
+
+-- an event that took nothing is made
+pub step-made : (A : Type 0) (s : Spot A) (limit left : ℕ) (new end : Whole) (e : Effect) → s.units ≤ limit → stepped s.machine 0 (limit - s.units) ≡ Ok ((new, left), e) → e ≢ Spent
+    → end ≡ record { machine = settled new.machine new.asking; asking = None } → IsTried {A = A} limit None true s (record { machine = end; units = limit - left; index = s.index })
+step-made A s limit left new end e fits step other is =
+    let asks = (step-done s.machine 0 (limit - s.units) new left e other step).asks in
+    tried-quiet s limit left new end e fits step other (settles new end e asks is) (ap (λ (w : Whole). w.asking) is)
 
 -- the events before a place that took nothing were recorded, so that a step between them is one of theirs
 module _ {A : Type 0} (b : Book A) (s : Spot A) (limit : ℕ) where
@@ -89,6 +104,15 @@ module _ {A : Type 0} (b : Book A) (s : Spot A) (limit : ℕ) where
       let d = step-done h.before 0 budget new left e other h.step in
       let fit = reached budget h.count h.before kept spot fits within free h.passes d.enough in
       is-quiet A h.before new budget left e fit h.step other
+
+  -- the last of them is made
+  pub run-made : (budget left : ℕ) (new end : Whole) (e : Effect) → IsKept b → IsSpot b s → s.units ≤ limit → limit ≤ b.units → ((u : ℕ) → s.units ≤ u → u < limit → taken_at b.notes.items s.index u ≡ None)
+      → e ≢ Spent → Advances 0 (Ok e) (s.machine, limit - s.units) None budget (new, left) None → end ≡ record { machine = settled new.machine new.asking; asking = None }
+      → (left ≤ limit) × HasRun limit true s (record { machine = end; units = limit - left; index = s.index })
+  run-made budget left new end e kept spot fits within free other a is =
+      let asks = asks-by s.machine new (limit - s.units) budget left e other a in
+      let plain = run-quiet budget left new e kept spot fits within free other a in
+      run-ended s limit budget left new end e fits a other plain (settles new end e asks is) (ap (λ (w : Whole). w.asking) is)
 
 -- where such events end before a limit, the next one takes nothing either
 pub ran-on : {A : Type 0} (b : Book A) (old mid : Spot A) (limit : ℕ) (more : Bool) → IsKept b → limit ≤ b.units → IsSpot b old → ((u : ℕ) → old.units ≤ u → u < limit → taken_at b.notes.items old.index u ≡ None)

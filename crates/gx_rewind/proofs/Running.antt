@@ -165,7 +165,7 @@ takes m new (taken.Reply reply) budget left e unspent step fit =
       fits = subst (λ (a : Option Asking). IsReply new.machine.flat (room_of a) reply) (sym d.asks)
           (subst (λ (q : FlatMachine × Effect). IsReply q.0.flat (room_of (asking_of q.1)) reply) same fit.3);
     }
-takes m new (taken.Machine whole) budget left e unspent step fit = fit.2
+takes m new (taken.Machine gone) budget left e unspent step fit = fit.2
 
 takes-machine : {A : Type 0} (m new : Whole) (t : Taken A) (budget left : ℕ) (e : Effect) → e ≢ Spent → stepped m (word_in t) budget ≡ Ok ((new, left), e) → IsFit m.machine (Some t)
     → event m.machine (Some t) ≡ gone_to new.machine t
@@ -177,7 +177,7 @@ takes-machine m new (taken.Reply reply) budget left e unspent step fit =
     let d = step-done m 0 budget new left e unspent step in
     let same : (m.machine, fit.0) ≡ (new.machine, e) = ok-is {A = FlatMachine × Effect} (m.machine, fit.0) (new.machine, e) (sym fit.1 ∙ d.step) in
     ap (λ (q : FlatMachine × Effect). answer_of q.0 reply) same
-takes-machine m new (taken.Machine whole) budget left e unspent step fit = refl
+takes-machine m new (taken.Machine gone) budget left e unspent step fit = refl
 
 -- an event that took something is made
 pub tried-made : {A : Type 0} (s : Spot A) (t : Taken A) (limit left : ℕ) (new end : Whole) (e : Effect) → s.units ≤ limit → stepped s.machine (word_in t) (limit - s.units) ≡ Ok ((new, left), e)

@@ -32,13 +32,13 @@ abbrev pub event : {A : Type 0} → FlatMachine → Option (Taken A) → FlatMac
 event m None = after m (step_of m 0)
 event m (Some (taken.Word word)) = after m (step_of m word)
 event m (Some (taken.Reply reply)) = answer_of m reply
-event m (Some (taken.Machine whole)) = whole.machine
+event m (Some (taken.Machine gone)) = gone.value.machine
 
 -- the word of the step of an event that took this
 abbrev pub word_in : {A : Type 0} → Taken A → ℕ
 word_in (taken.Word word) = word
 word_in (taken.Reply reply) = 0
-word_in (taken.Machine whole) = 0
+word_in (taken.Machine gone) = 0
 
 -- what an event took that began after so many units: that of the note, where it is this event's
 abbrev pub taken_by : {A : Type 0} → ℕ → Option (Note A) → Option (Taken A)
@@ -53,14 +53,14 @@ abbrev pub index_after : {A : Type 0} → ℕ → Option (Taken A) → ℕ
 index_after index None = index
 index_after index (Some t) = index + 1
 
--- the effects of a step whose event takes nothing from outside
+-- the effects of a step whose event may take nothing from outside: it asks nothing, or is answered with nothing
 abbrev pub IsQuiet : Effect → Type 0
 IsQuiet Went = Unit {0}
 IsQuiet Drew = ⊥
 IsQuiet (Put c) = Unit {0}
-IsQuiet (Glk selector args room) = ⊥
-IsQuiet (Save stream) = ⊥
-IsQuiet (Restore stream) = ⊥
+IsQuiet (Glk selector args room) = Unit {0}
+IsQuiet (Save stream) = Unit {0}
+IsQuiet (Restore stream) = Unit {0}
 IsQuiet Quit = Unit {0}
 IsQuiet Spent = ⊥
 
@@ -71,7 +71,7 @@ IsFit m None = (n : FlatMachine) × (effect : Effect) × (step_of m 0 ≡ Ok (n,
 IsFit m (Some (taken.Word word)) = (n : FlatMachine) × (step_of m word ≡ Ok (n, Drew))
 IsFit m (Some (taken.Reply reply)) =
     (effect : Effect) × (step_of m 0 ≡ Ok (m, effect)) × IsSome (asking_of effect) × IsReply m.flat (room_of (asking_of effect)) reply
-IsFit m (Some (taken.Machine whole)) = (effect : Effect) × (step_of m 0 ≡ Ok (m, effect)) × (whole.asking ≡ None)
+IsFit m (Some (taken.Machine gone)) = (effect : Effect) × (step_of m 0 ≡ Ok (m, effect)) × (gone.value.asking ≡ None)
 
 -- A place of the run: the machines before it, its machine, and the place of the next note.
 pub record Place : Type 0 where

@@ -107,13 +107,13 @@ pub record HasRun {A : Type 0} (limit : ℕ) (ended : Bool) (old new : Spot A) :
 abbrev pub IsTaking : {A : Type 0} → Whole → Taken A → Type 0
 IsTaking m (taken.Word word) = m.asking ≡ None
 IsTaking m (taken.Reply reply) = IsAnswer m reply
-IsTaking m (taken.Machine whole) = whole.asking ≡ None
+IsTaking m (taken.Machine gone) = gone.value.asking ≡ None
 
 -- the machine then
 abbrev pub gone_to : {A : Type 0} → FlatMachine → Taken A → FlatMachine
 gone_to m (taken.Word word) = m
 gone_to m (taken.Reply reply) = answer_of m reply
-gone_to m (taken.Machine whole) = whole.machine
+gone_to m (taken.Machine gone) = gone.value.machine
 
 -- Steps were made by a machine that records nothing, and are recorded.
 abbrev pub Records : {A : Type 0} → ℕ → Result Effect Fault → Whole × ℕ → ℕ → Whole × ℕ → Book A → Book A → Type 0

@@ -4,15 +4,14 @@
 //! A note has the units that were used where its event began: an event takes one unit at least, so that these name it.
 //! An event without a note took the word 0, and was answered with nothing where it asked. So all that is left out here
 //! follows from what is kept.
-ghost use Rattle.std.specs.Prelude.{◌≡◌, ◌≢◌, ◌+◌, ◌^◌, ◌-◌, ◌<◌, ◌≤◌, ◌++◌, ◌∷◌, [], None, Some, length, slice_index_or, take, min, List, ℕ, vec_len, vec_capacity, Ok, IsSome, IfOk, OnOk, All};
+ghost use Rattle.std.specs.Prelude.{◌≡◌, ◌≢◌, ◌+◌, ◌^◌, ◌*◌, ◌/◌, ◌-◌, ◌<◌, ◌≤◌, ◌++◌, ◌∷◌, [], None, Some, length, slice_index_or, take, min, List, ℕ, vec_len, vec_capacity, Ok, IsSome, IfOk, OnOk};
 ghost use Rattle.gx_machine.specs.Log.{Log, no_events};
 ghost use Rattle.gx_machine.specs.Advancing.{Advances, Passes};
 ghost use Rattle.gx_machine.specs.Machine.{FlatMachine, Whole};
 ghost use Rattle.gx_machine.specs.Step.{asking_of, cost_of, stepped};
-ghost use Rattle.gx_rewind.specs.declared.books.Note.{Note};
 ghost use Rattle.gx_rewind.specs.declared.books.Spot.{Spot};
 ghost use Rattle.gx_rewind.specs.Path.{event, IsFit};
-ghost use Rattle.gx_rewind.specs.Views.{IsBook, IsHeld, AreLike, HasEnded, Records};
+ghost use Rattle.gx_rewind.specs.Views.{IsBook, AreLike, HasEnded, Records};
 
 use gx_machine::Machine;
 use gx_state::{Effect, Reply};
@@ -26,8 +25,8 @@ pub(crate) enum Taken<A: Allocator + Clone> {
     Word(u32),
     /// The answer to what it asked.
     Reply(Reply),
-    /// The machine that it went to, in a restore.
-    Machine(Machine<A>),
+    /// The machine that it went to, in a restore. It lies apart, so that a note has the size of a reply.
+    Machine(Box<Machine<A>>),
 }
 
 /// What the event took that began after so many units.
@@ -135,28 +134,28 @@ impl<A: Allocator + Clone> Book<A> {
         ensures book { (log : Log) → IsBook self.old machine.now.machine log → IsBook self.new machine.now.machine log }
     {
         let taken = machine.fork(self.alloc)?;
-        self.spare();
         self.checkpoints.push(Spot {
             machine: taken,
             units: self.units,
             index: self.index,
         })?;
         self.due = self.units.saturating_add(self.every);
+        self.spare();
         Ok(())
     }
 
-    /// Drops every second checkpoint where there are as many as may be.
+    /// Drops a checkpoint where there are more than may be.
     fn spare(&mut self)
         ensures room { vec_len self.new.notes ≡ vec_len self.old.notes }
         ensures capacity { vec_capacity self.new.notes ≡ vec_capacity self.old.notes }
         ensures like { AreLike self.old self.new }
         ensures book { (m : FlatMachine) (log : Log) → IsBook self.old m log → IsBook self.new m log }
     {
-        if self.checkpoints.len() < self.most {
+        if self.checkpoints.len() <= self.most {
             return;
         }
-        thin(&mut self.checkpoints);
-        self.every = self.every.saturating_mul(2);
+        let at = densest(self.checkpoints.as_slice());
+        self.checkpoints.remove(at);
     }
 
     /// Cuts off what followed the place.
@@ -278,15 +277,38 @@ fn units_of_last<A: Allocator + Clone>(checkpoints: &[Spot<A>]) -> u64 {
     }
 }
 
-/// Drops the first of the checkpoints, the third and so on.
-fn thin<A: Allocator + Clone>(checkpoints: &mut Vec<Spot<A>>)
-    ensures { (notes : List (Note A)) (opening : Whole) (end : ℕ) → All (IsHeld notes opening end) checkpoints.old.items → All (IsHeld notes opening end) checkpoints.new.items }
+/// Where checkpoints lie densest for their distance from the newest, which is none of these. Dropped one by one there,
+/// they lie the further apart the longer ago they are.
+fn densest<A: Allocator + Clone>(checkpoints: &[Spot<A>]) -> usize
+    requires some { 0 < length checkpoints.now }
+    ensures within { result < length checkpoints.now }
+    ensures newest { 1 < length checkpoints.now → result + 1 < length checkpoints.now }
 {
+    let newest = units_of_last(checkpoints);
+    let last = checkpoints.len() - 1;
+    let mut found = 0;
+    let mut most = 0;
+    let mut before = 0;
     let mut at = 0;
-    while at < checkpoints.len() {
-        let _dropped = checkpoints.remove(at);
+    while at < last {
+        let units = checkpoints[at].units;
+        let gap = checkpoints[at + 1].units.saturating_sub(before);
+        let here = density(newest.saturating_sub(units), gap);
+        if here > most {
+            most = here;
+            found = at;
+        }
+        before = units;
         at += 1;
     }
+    found
+}
+
+/// How many times 1/1,024 of a gap, with a unit more, fits into a distance.
+fn density(distance: u64, gap: u64) -> u128
+    ensures { result ≡ distance * 1024 / (gap + 1) }
+{
+    u128::from(distance) * 1024 / (u128::from(gap) + 1)
 }
 
 /// How many checkpoints there are before the first after so many units.

@@ -83,13 +83,19 @@ impl<A: Allocator + Clone> Tape<A> {
     }
 
     /// Goes back by so many units, or to the beginning, and answers the units that were used there. What is asked is
-    /// dropped.
+    /// dropped. Where the tape stays at its place this is all, and takes no memory.
     pub fn back(&mut self, k: u64) -> Result<u64, AllocError>
         ensures ok { OnOk result (self.new ≡ gone_back self.old k) }
         ensures units { IfOk result (λ units. units ≡ units_of self.new.log.before) }
         ensures err { OnErr result (self.new ≡ self.old) }
+        ensures memory { OnErr result ((0 < k) × (0 < units_of self.old.log.before)) }
     {
-        let spot = self.book.replayed(self.book.units.saturating_sub(k))?;
+        let target = self.book.units.saturating_sub(k);
+        if target == self.book.units {
+            self.machine.drop_asking();
+            return Ok(target);
+        }
+        let spot = self.book.replayed(target)?;
         self.machine = spot.machine;
         self.book.units = spot.units;
         self.book.index = spot.index;

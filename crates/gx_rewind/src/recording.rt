@@ -4,13 +4,13 @@
 //! a long run that asks nothing.
 //!
 //! Room for a note is asked for before anything is done, so that nothing has changed after a refusal.
-ghost use Rattle.std.specs.Prelude.{◌≡◌, ◌≢◌, ◌≤◌, true, false, None, Ok};
+ghost use Rattle.std.specs.Prelude.{◌≡◌, ◌≢◌, ◌≤◌, true, false, None, Ok, IfOk};
 ghost use Rattle.gx_state.specs.declared.effects.Effect.TheVariants.{Spent};
 ghost use Rattle.gx_machine.specs.Advancing.{Advances};
 
 use crate::Tape;
 use crate::books::Taken;
-use crate::replies::copied;
+use crate::replies::{copied, is_nothing};
 use gx_machine::{Engine, Machine};
 use gx_state::{Effect, FlatCopy, Reply, State};
 use gx_story::Story;
@@ -45,6 +45,12 @@ impl<A: Allocator + Clone> Engine<A> for Tape<A> {
     }
 
     fn finish(&mut self, reply: &Reply) -> Result<(), AllocError> {
+        if is_nothing(reply) {
+            self.machine.finish(reply)?;
+            let units = self.book.pending;
+            self.book.went(units);
+            return Ok(());
+        }
         self.book.notes.reserve(1)?;
         let taken = copied(self.book.alloc, reply)?;
         self.machine.finish(reply)?;
@@ -67,7 +73,7 @@ impl<A: Allocator + Clone> Engine<A> for Tape<A> {
         self.book.notes.reserve(1)?;
         let mut gone = self.machine.fork(self.book.alloc)?;
         gone.restore_copy(copy)?;
-        let taken = gone.fork(self.book.alloc)?;
+        let taken = boxed(self.book.alloc, &gone)?;
         self.machine = gone;
         let units = self.book.pending;
         self.book.noted(units, Taken::Machine(taken));
@@ -85,6 +91,17 @@ impl<A: Allocator + Clone> Engine<A> for Tape<A> {
     fn undo_len(&self) -> usize {
         self.machine.undo_len()
     }
+}
+
+/// The same machine once more, in a box.
+fn boxed<A: Allocator + Clone>(
+    alloc: Global,
+    machine: &Machine<A>,
+) -> Result<Box<Machine<A>>, AllocError>
+    ensures { IfOk result (λ copy. copy.value ≡ machine.now) }
+{
+    let fork = machine.fork(alloc)?;
+    Ok(Box::new(alloc, fork)?)
 }
 
 /// Steps within part of the budget, and one more within all of it where the next one doesn't fit into that part. Those

@@ -3,11 +3,12 @@
 //! All of it is done on forks, so that nothing has changed after a refusal.
 ghost use Rattle.std.specs.Prelude.{◌≡◌, ◌+◌, ◌-◌, ◌^◌, ◌<◌, ◌≤◌, ℕ, true, false, None, Some, IfOk, IfSome, OnOk};
 ghost use Rattle.gx_machine.specs.Step.{cost_of};
-ghost use Rattle.gx_rewind.specs.Path.{taken_at, word_in, IsFit};
+ghost use Rattle.gx_rewind.specs.Path.{settled, taken_at, word_in, IsFit};
 ghost use Rattle.gx_rewind.specs.Views.{IsKept, IsSpot, IsMade, IsTried, IsTaking, IsWant, HasRun, gone_to};
 
 use crate::books::{Book, Note, Spot, Taken, until};
-use gx_machine::Machine;
+use crate::replies::nothing;
+use gx_machine::{Asking, Machine};
 use gx_state::Effect;
 use gx_words::Fault;
 use std::alloc::{AllocError, Allocator, Global};
@@ -45,7 +46,7 @@ impl<A: Allocator + Clone> Book<A> {
                 }
             }
             None => {
-                if !step(&mut spot, self.end)? {
+                if !step(&mut spot, self.end, self.alloc)? {
                     unreachable!()
                 }
             }
@@ -136,7 +137,7 @@ impl<A: Allocator + Clone> Book<A> {
             return Ok(false);
         }
         if spot.units < limit {
-            return step(spot, target);
+            return step(spot, target, self.alloc);
         }
         Ok(true)
     }
@@ -162,26 +163,21 @@ impl<A: Allocator + Clone> Book<A> {
                 spot.units = limit - budget;
                 Ok(false)
             }
-            Effect::Went => {
+            _ => {
+                settle(&mut spot.machine, self.alloc)?;
                 spot.units = limit - left;
                 Ok(true)
             }
-            Effect::Quit => {
-                spot.units = limit - left;
-                Ok(true)
-            }
-            Effect::Put(_) => {
-                spot.machine.finish_put();
-                spot.units = limit - left;
-                Ok(true)
-            }
-            _ => unreachable!(),
         }
     }
 }
 
 /// Makes the next event, which takes nothing, within so many units. Answers whether it is made.
-fn step<A: Allocator + Clone>(spot: &mut Spot<A>, limit: u64) -> Result<bool, AllocError>
+fn step<A: Allocator + Clone>(
+    spot: &mut Spot<A>,
+    limit: u64,
+    alloc: Global,
+) -> Result<bool, AllocError>
     requires asks { spot.old.machine.asking ≡ None }
     requires before { spot.old.units ≤ limit }
     requires fit { IsFit {A = A} spot.old.machine.machine None }
@@ -194,20 +190,25 @@ fn step<A: Allocator + Clone>(spot: &mut Spot<A>, limit: u64) -> Result<bool, Al
     };
     match effect {
         Effect::Spent => Ok(false),
-        Effect::Went => {
+        _ => {
+            settle(&mut spot.machine, alloc)?;
             spot.units = limit - left;
             Ok(true)
         }
-        Effect::Quit => {
-            spot.units = limit - left;
-            Ok(true)
+    }
+}
+
+/// Answers with nothing what a machine asks, if anything.
+fn settle<A: Allocator + Clone>(machine: &mut Machine<A>, alloc: Global) -> Result<(), AllocError>
+    ensures { OnOk result (machine.new ≡ record { machine = settled machine.old.machine machine.old.asking; asking = None }) }
+{
+    match machine.asking() {
+        None => Ok(()),
+        Some(Asking::Put) => {
+            machine.finish_put();
+            Ok(())
         }
-        Effect::Put(_) => {
-            spot.machine.finish_put();
-            spot.units = limit - left;
-            Ok(true)
-        }
-        _ => unreachable!(),
+        Some(_) => machine.finish(&nothing(alloc)),
     }
 }
 

@@ -1,9 +1,29 @@
-//! A copy of a reply.
-ghost use Rattle.std.specs.Prelude.{◌≡◌, IfOk};
+//! A copy of a reply, and the reply that pushes and writes nothing.
+ghost use Rattle.std.specs.Prelude.{◌≡◌, ◌≢◌, true, false, IfOk};
+ghost use Rattle.gx_rewind.specs.Path.{nothing};
 
 use gx_state::Reply;
 use gx_words::{Bytes, Numbers, Writes};
 use std::alloc::{AllocError, Global};
+
+/// The reply that pushes and writes nothing.
+pub(crate) fn nothing(alloc: Global) -> Reply
+    ensures { result ≡ nothing }
+{
+    Reply {
+        value: 0,
+        pushes: Numbers::new(alloc),
+        writes: Writes::new(alloc),
+    }
+}
+
+/// Whether a reply is that one.
+pub(crate) fn is_nothing(reply: &Reply) -> bool
+    ensures yes { result ≡ true → reply.now ≡ nothing }
+    ensures no { result ≡ false → reply.now ≢ nothing }
+{
+    reply.value == 0 && reply.pushes.len() == 0 && reply.writes.len() == 0
+}
 
 /// The same reply once more.
 pub(crate) fn copied(alloc: Global, reply: &Reply) -> Result<Reply, AllocError>

@@ -15,17 +15,17 @@ use Rattle.gx_machine.specs.Advancing.{logged_by}
 use Rattle.gx_machine.specs.Step.{asking_of, stepped, IsStepWriting}
 use Rattle.gx_outside.specs.Files.{Files}
 use Rattle.gx_outside.specs.Outside.{FlatSource, FlatShelf, raised}
-use Rattle.glk_world.specs.World.{Scene, FlatWorld, Said, after}
+use Rattle.glk_world.specs.World.{Scene, FlatWorld, Said, after, on_world}
 use Rattle.glk_world.specs.Shown.{show_grids, show_line, ShowWants}
-use Rattle.glk_dispatch.specs.declared.Turn.{Turn}
-use Rattle.glk_dispatch.specs.declared.Turn.TheVariants as turn
-use Rattle.glk_dispatch.specs.declared.Given.{Given}
-use Rattle.glk_dispatch.specs.declared.Given.TheVariants as given
-use Rattle.glk_dispatch.specs.Turns.{IsAnswered}
+use Rattle.glk_replies.specs.declared.Turn.{Turn}
+use Rattle.glk_replies.specs.declared.Turn.TheVariants as turn
+use Rattle.glk_replies.specs.declared.Given.{Given}
+use Rattle.glk_replies.specs.declared.Given.TheVariants as given
+use Rattle.glk_replies.specs.Turns.{IsAnswered}
 use Rattle.glk_dispatch.specs.Calls.{glk_call, IsGrowing}
 use Rattle.glk_dispatch.specs.Going.{glk_go_on, go_grows}
-use Rattle.glk_dispatch.specs.Output.{putting}
-use Rattle.glk_dispatch.specs.Parts.{on_world, put_grows_one}
+use Rattle.glk_text_calls.specs.Output.{putting}
+use Rattle.glk_text_calls.specs.Putting.{put_grows_one}
 use Rattle.gx_session.specs.declared.ends.Stop.{Stop}
 use Rattle.gx_session.specs.declared.ends.Stop.TheVariants as stop
 use Rattle.gx_session.specs.declared.ends.Halt.{Halt}

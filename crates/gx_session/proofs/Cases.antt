@@ -4,9 +4,9 @@ use Rattle.gx_words.specs.declared.faults.Fault.{Fault}
 use Rattle.gx_outside.specs.Files.{Files}
 use Rattle.gx_state.specs.declared.effects.Reply.{Reply}
 use Rattle.glk_world.specs.World.{Said, after}
-use Rattle.glk_dispatch.specs.declared.Turn.{Turn}
-use Rattle.glk_dispatch.specs.declared.Turn.TheVariants as turn
-use Rattle.glk_dispatch.specs.declared.Given.{Given}
+use Rattle.glk_replies.specs.declared.Turn.{Turn}
+use Rattle.glk_replies.specs.declared.Turn.TheVariants as turn
+use Rattle.glk_replies.specs.declared.Given.{Given}
 use Rattle.gx_session.specs.declared.ends.Stop.TheVariants as stop
 use Rattle.gx_session.specs.declared.running.Waiting.{Waiting}
 use Rattle.gx_session.specs.Input.{NextLine, too_long, none, line, next_line}

@@ -5,8 +5,8 @@ use Rattle.gx_outside.specs.Outside.{FlatSource, FlatSink, FlatShelf, raised, sh
 use Rattle.gx_outside.specs.declared.devices.ShelfFault.{ShelfFault}
 use Rattle.gx_outside.specs.declared.devices.ShelfFault.TheVariants as of_shelf
 use Rattle.glk_world.specs.World.{FlatWorld}
-use Rattle.glk_dispatch.specs.declared.Turn.{Turn}
-use Rattle.glk_dispatch.specs.declared.Given.{Given}
+use Rattle.glk_replies.specs.declared.Turn.{Turn}
+use Rattle.glk_replies.specs.declared.Given.{Given}
 use Rattle.gx_session.specs.declared.ends.Halt.{Halt}
 use Rattle.gx_session.specs.declared.ends.Halt.TheVariants as halt
 use Rattle.gx_session.specs.declared.ends.Stop.TheVariants as stop

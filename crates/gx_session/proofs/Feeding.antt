@@ -1,7 +1,7 @@
 -- What comes of a source over parts of a run that follow one another.
-use Rattle.std.proofs.Common.{◌≡◌, ℕ, ◌+◌, ◌<◌, ◌≤◌, ◌-◌, ◌⊎◌, inl, inr, List, [], ◌∷◌, ◌++◌, length, take, drop, Bool, true, false, Result, Ok, Err, IfOk, IfErr, refl, ap, subst, sym, ◌∙◌, arith, append_assoc, length-append, length-drop}
+use Rattle.std.proofs.Common.{◌≡◌, ℕ, zero, suc, ◌+◌, ◌<◌, ◌≤◌, ◌-◌, ◌⊎◌, inl, inr, List, [], ◌∷◌, ◌++◌, length, take, drop, Bool, true, false, Result, Ok, Err, IfOk, IfErr, refl, ap, subst, sym, ◌∙◌, arith, append_assoc, length-append, length-drop}
 use Rattle.std.proofs.lemmas.Bool.{cases_lt}
-use Rattle.gx_outside.specs.Outside.{FlatSource, raised, raised_by}
+use Rattle.gx_outside.specs.Outside.{FlatSource, raised, raised_by, offered_by, offered_in}
 use Rattle.gx_session.specs.declared.lines.NoLine.{NoLine}
 use Rattle.gx_session.specs.declared.lines.NoLine.TheVariants as no
 use Rattle.gx_session.specs.Constants.{longest, piece}
@@ -44,7 +44,13 @@ fed-still a b s ended = record {
 pub reads-none : (ended over : Bool) (source : FlatSource) (coming : List ℕ) → over ≡ ended → ReadsFew ended over source source coming coming 0
 reads-none ended over source coming same =
     let units : spare over ≡ spare ended = ap spare same in
-    record { reads = 0; made = refl; few = omega arith }
+    record { reads = 0; made = refl; offered = refl; few = omega arith }
+
+offered-more : (n k room offered : ℕ) → offered_in n room (offered_in k room offered) ≡ offered_in (n + k) room offered
+offered-more zero k room offered = ap (λ (x : ℕ). offered_in x room offered) (let e : k ≡ 0 + k = omega arith in e)
+offered-more (suc n) k room offered =
+    let more : suc (n + k) ≡ suc n + k = omega arith in
+    ap (offered_by room) (offered-more n k room offered) ∙ ap (λ (x : ℕ). offered_in x room offered) more
 
 pub reads-on : (a b c : Bool) (s t u : FlatSource) (x y z : List ℕ) (more : ℕ) → ReadsFew a b s t x y 0 → ReadsFew b c t u y z more → ReadsFew a c s u x z more
 reads-on a b c s t u x y z more one two =
@@ -53,6 +59,7 @@ reads-on a b c s t u x y z more one two =
     record {
       reads = two.reads + one.reads;
       made = two.made ∙ ap (raised_by two.reads) one.made ∙ raised-more two.reads one.reads s.calls.made;
+      offered = two.offered ∙ ap (offered_in two.reads piece) one.offered ∙ offered-more two.reads one.reads piece s.offered;
       few = omega arith;
     }
 
@@ -165,7 +172,8 @@ module _ (first now : HeldLines) (before source : FlatSource) (fed : Fed first n
             subst (λ (q : Result (List ℕ) NoLine). Fed first later before source (λ x y. Takes first later before source x y q)) (sym is.0) (takes-none later zero is.1)
 
   -- the source failed, or memory ran out
-  module _ (later : HeldLines) (source' : FlatSource) (going : now.ended ≡ false) (tells : source'.tells ≡ source.tells) (made : source'.calls.made ≡ raised source.calls.made) where
+  module _ (later : HeldLines) (source' : FlatSource) (going : now.ended ≡ false) (tells : source'.tells ≡ source.tells) (made : source'.calls.made ≡ raised source.calls.made)
+      (offered : source'.offered ≡ offered_by piece source.offered) where
     going-on : later ≡ now → later.ended ≡ true → ⊥
     going-on same e = let e' : now.ended ≡ true = ap (λ (l : HeldLines). l.ended) (sym same) ∙ e in cc
 
@@ -173,7 +181,7 @@ module _ (first now : HeldLines) (before source : FlatSource) (fed : Fed first n
     one-more : (over : Bool) (y z : List ℕ) (more : ℕ) → 1 + length z + spare over ≤ length y + 1 + more → ReadsFew now.ended over source source' y z more
     one-more over y z more less =
         let one : spare now.ended ≡ 1 = ap spare going in
-        record { reads = 1; made = made; few = omega arith }
+        record { reads = 1; made = made; offered = offered; few = omega arith }
 
     pub fails : (e : NoLine) → Fills now later source source' (Err e) → Fed first later before source' (λ x y. Takes first later before source' x y (Err e))
     fails no.Failed is =

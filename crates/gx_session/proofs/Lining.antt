@@ -5,8 +5,8 @@ use Rattle.gx_machine.specs.Log.{Log}
 use Rattle.glk_world.specs.World.{FlatWorld, after}
 use Rattle.glk_world.specs.Shown.{show_line}
 use Rattle.glk_dispatch.specs.Turns.{Awaits}
-use Rattle.glk_dispatch.specs.declared.Given.{Given}
-use Rattle.glk_dispatch.specs.declared.Given.TheVariants as given
+use Rattle.glk_replies.specs.declared.Given.{Given}
+use Rattle.glk_replies.specs.declared.Given.TheVariants as given
 use Rattle.glk_dispatch.proofs.Awaited.{awaits-line}
 use Rattle.gx_session.specs.declared.ends.Halt.{Halt}
 use Rattle.gx_session.specs.declared.ends.Halt.TheVariants as halt

@@ -5,7 +5,7 @@ use Rattle.std.proofs.lemmas.Bool.{leb-true, leb-false}
 use Rattle.gx_machine.specs.declared.askings.Asking.{Asking}
 use Rattle.gx_outside.specs.Outside.{FlatSource, FlatSink, FlatShelf, raised, raised_by}
 use Rattle.glk_world.specs.World.{FlatWorld}
-use Rattle.glk_dispatch.specs.declared.Turn.{Turn}
+use Rattle.glk_replies.specs.declared.Turn.{Turn}
 use Rattle.gx_session.specs.declared.ends.Stop.{Stop}
 use Rattle.gx_session.specs.declared.ends.Stop.TheVariants as stop
 use Rattle.gx_session.specs.declared.ends.Halt.{Halt}
@@ -45,7 +45,7 @@ starts d h none nothing going empty left =
       word = subst (λ (w : Option ℕ). WordIs w d.words d.words) (sym none) refl;
       left = left;
       fewer = omega arith;
-      reads = record { reads = 0; made = refl; few = omega arith };
+      reads = record { reads = 0; made = refl; offered = refl; few = omega arith };
     } in
     let now : Standing (configuration_of (no_past d) steps h d) d h d steps = record {
       past = no_past d;
@@ -131,6 +131,7 @@ module _ (start : Configuration) (entry : Devices) (h : Held) (d : Devices) wher
         partial = λ some. absurd (some refl);
         reads = reads.reads;
         made = reads.made;
+        offered = reads.offered;
         few_reads = omega arith;
         unread = λ other none. unread other;
       }
@@ -238,6 +239,7 @@ module _ (start : Configuration) (entry : Devices) (h : Held) (d : Devices) wher
           partial = λ _. partial;
           reads = reads.reads;
           made = reads.made;
+          offered = reads.offered;
           few_reads = omega arith;
           unread = λ short none. absurd cc;
         } in

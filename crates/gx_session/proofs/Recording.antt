@@ -10,11 +10,11 @@ use Rattle.gx_machine.specs.Machine.{FlatMachine}
 use Rattle.gx_machine.specs.Step.{cost_of, step_of}
 use Rattle.gx_machine.specs.Log.{Log, no_events, logged, units_of}
 use Rattle.glk_world.specs.World.{Said}
-use Rattle.glk_dispatch.specs.declared.Turn.{Turn}
+use Rattle.glk_replies.specs.declared.Turn.{Turn}
 use Rattle.glk_dispatch.specs.Calls.{glk_call}
 use Rattle.glk_dispatch.specs.Going.{glk_go_on}
-use Rattle.glk_dispatch.specs.Output.{putting}
-use Rattle.glk_dispatch.specs.Parts.{replies}
+use Rattle.glk_text_calls.specs.Output.{putting}
+use Rattle.glk_replies.specs.Parts.{replies}
 use Rattle.gx_session.specs.declared.ends.Stop.{Stop}
 use Rattle.gx_session.specs.declared.ends.Stop.TheVariants as stop
 use Rattle.gx_session.specs.declared.running.Waiting.{Waiting}

@@ -16,11 +16,12 @@ use Rattle.glk_streams.specs.declared.kinds.StreamKind.{StreamKind}
 use Rattle.glk_streams.specs.declared.kinds.StreamKind.TheVariants as kinds
 use Rattle.glk_streams.specs.Stream as one
 use Rattle.glk_streams.specs.Streams as streams
-use Rattle.glk_world.specs.World.{Scene, FlatWorld, Said, after, silent}
+use Rattle.glk_world.specs.World.{Scene, FlatWorld, Said, after, silent, on_world}
 use Rattle.glk_world.proofs.Texts.{nothing_said}
-use Rattle.glk_dispatch.specs.Parts.{on_world, replies, put_all}
-use Rattle.glk_dispatch.specs.Input.{reading, has_read}
-use Rattle.glk_dispatch.specs.Saves.{put_save, put_save_grows, rest_len, take_rest, take_rest_grows}
+use Rattle.glk_replies.specs.Parts.{replies}
+use Rattle.glk_text_calls.specs.Putting.{put_all}
+use Rattle.glk_text_calls.specs.Input.{reading, has_read}
+use Rattle.glk_text_calls.specs.Saves.{put_save, put_save_grows, rest_len, take_rest, take_rest_grows}
 use Rattle.quetzal.specs.Saves.{save_of}
 use Rattle.quetzal.specs.Writing.{saved}
 use Rattle.quetzal.specs.declared.faults.SaveFault.{SaveFault}

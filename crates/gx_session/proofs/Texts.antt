@@ -9,10 +9,10 @@ use Rattle.gx_machine.specs.Machine.{FlatMachine}
 use Rattle.gx_machine.specs.Step.{cost_of, step_of}
 use Rattle.glk_world.specs.World.{Said, after}
 use Rattle.glk_world.specs.Shown.{show_grids, show_line, end_text}
-use Rattle.glk_dispatch.specs.declared.Turn.{Turn}
+use Rattle.glk_replies.specs.declared.Turn.{Turn}
 use Rattle.glk_dispatch.specs.Calls.{glk_call}
 use Rattle.glk_dispatch.specs.Going.{glk_go_on}
-use Rattle.glk_dispatch.specs.Output.{putting}
+use Rattle.glk_text_calls.specs.Output.{putting}
 use Rattle.gx_session.specs.declared.ends.Stop.TheVariants as stop
 use Rattle.gx_session.specs.declared.running.Waiting.{Waiting}
 use Rattle.gx_session.specs.Input.{next_line}

@@ -28,11 +28,11 @@ use Rattle.gx_machine.specs.Rows.{row_effect, glk, with_copies, with_both}
 use Rattle.gx_machine.specs.Step.{cost_of, step_of, mode_step}
 use Rattle.ops_game.specs.Rows as game
 use Rattle.glk_world.specs.World.{Said}
-use Rattle.glk_dispatch.specs.declared.Turn.{Turn}
+use Rattle.glk_replies.specs.declared.Turn.{Turn}
 use Rattle.glk_dispatch.specs.Calls.{glk_call}
 use Rattle.glk_dispatch.specs.Going.{glk_go_on}
-use Rattle.glk_dispatch.specs.Output.{putting}
-use Rattle.glk_dispatch.specs.Parts.{replies}
+use Rattle.glk_text_calls.specs.Output.{putting}
+use Rattle.glk_replies.specs.Parts.{replies}
 use Rattle.gx_session.specs.Constants.{failed}
 use Rattle.gx_session.specs.declared.ends.Stop.TheVariants as stop
 use Rattle.gx_session.specs.declared.running.Waiting.{Waiting}

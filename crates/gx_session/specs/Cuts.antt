@@ -15,13 +15,14 @@ use Rattle.gx_outside.specs.Files.{Files}
 use Rattle.gx_outside.specs.Outside.{KeepsOthers}
 use Rattle.glk_world.specs.World.{Said, is_composed}
 use Rattle.glk_world.specs.Shown.{ShowWants}
-use Rattle.glk_dispatch.specs.declared.Given.{Given}
-use Rattle.glk_dispatch.specs.declared.Turn.{Turn}
-use Rattle.glk_dispatch.specs.declared.Turn.TheVariants as turn
+use Rattle.glk_replies.specs.declared.Given.{Given}
+use Rattle.glk_replies.specs.declared.Turn.{Turn}
+use Rattle.glk_replies.specs.declared.Turn.TheVariants as turn
 use Rattle.glk_dispatch.specs.Calls.{IsGrowing, glk_call}
 use Rattle.glk_dispatch.specs.Going.{go_grows, glk_go_on}
-use Rattle.glk_dispatch.specs.Output.{putting}
-use Rattle.glk_dispatch.specs.Parts.{put_grows_one, replies}
+use Rattle.glk_text_calls.specs.Output.{putting}
+use Rattle.glk_text_calls.specs.Putting.{put_grows_one}
+use Rattle.glk_replies.specs.Parts.{replies}
 use Rattle.gx_session.specs.declared.ends.Stop.{Stop}
 use Rattle.gx_session.specs.declared.ends.Stop.TheVariants as stop
 use Rattle.gx_session.specs.Constants.{status_shelf_fault, status_input_fault, status_output_fault, status_no_memory, most_loaded, failed}

@@ -3,10 +3,10 @@ use Rattle.std.specs.Prelude.{◌≡◌, Some, None, is_some, Result, Ok, Err}
 use Rattle.gx_outside.specs.Files.{Files, with_file}
 use Rattle.gx_outside.specs.declared.devices.ShelfFault.{ShelfFault}
 use Rattle.gx_outside.specs.declared.devices.ShelfFault.TheVariants as fault
-use Rattle.glk_dispatch.specs.declared.Turn.{Turn}
-use Rattle.glk_dispatch.specs.declared.Turn.TheVariants as turn
-use Rattle.glk_dispatch.specs.declared.Given.{Given}
-use Rattle.glk_dispatch.specs.declared.Given.TheVariants as given
+use Rattle.glk_replies.specs.declared.Turn.{Turn}
+use Rattle.glk_replies.specs.declared.Turn.TheVariants as turn
+use Rattle.glk_replies.specs.declared.Given.{Given}
+use Rattle.glk_replies.specs.declared.Given.TheVariants as given
 use Rattle.gx_session.specs.declared.questions.Question.{Question}
 use Rattle.gx_session.specs.declared.questions.Question.TheVariants as asks
 use Rattle.gx_session.specs.Cuts.{MayWant, LeavesFiles}

@@ -4,7 +4,7 @@
 -- call is said of all bytes that may come after it, and gives the bytes that came before it.
 use Rattle.std.specs.Prelude.{◌≡◌, ℕ, ◌+◌, ◌<◌, ◌≤◌, List, [], ◌++◌, length, Bool, true, false, Result, Ok, Err}
 use Rattle.std.specs.List.{position_or_len}
-use Rattle.gx_outside.specs.Outside.{FlatSource, raised_by}
+use Rattle.gx_outside.specs.Outside.{FlatSource, raised_by, offered_in}
 use Rattle.gx_session.specs.declared.lines.NoLine.{NoLine}
 use Rattle.gx_session.specs.declared.lines.NoLine.TheVariants as no
 use Rattle.gx_session.specs.Constants.{longest, piece}
@@ -68,10 +68,11 @@ abbrev pub spare : Bool → ℕ
 spare true = 0
 spare false = 1
 
--- So many reads were made, each of which gave something or said that nothing is left.
+-- So many reads were made, each of which offered a piece and gave something or said that nothing is left.
 pub record ReadsFew (ended over : Bool) (before now : FlatSource) (coming after : List ℕ) (more : ℕ) : Type 0 where
   pub reads : ℕ
   pub made : now.calls.made ≡ raised_by reads before.calls.made
+  pub offered : now.offered ≡ offered_in reads piece before.offered
   pub few : reads + length after + spare over ≤ length coming + spare ended + more
 
 -- the read that failed gave nothing

@@ -2,7 +2,7 @@
 use Rattle.std.specs.Prelude.{◌≡◌, ◌≢◌, ℕ, suc, ◌+◌, ◌<◌, ◌≤◌, ◌++◌, ◌⊎◌, ◌==◌, if◌then◌else◌, true, false, Option, None, Some, List, length, take}
 use Rattle.gx_machine.specs.Machine.{Whole}
 use Rattle.gx_machine.specs.Log.{Log}
-use Rattle.gx_outside.specs.Outside.{FlatSource, raised_by}
+use Rattle.gx_outside.specs.Outside.{FlatSource, raised_by, offered_in}
 use Rattle.gx_session.specs.declared.ended.Ended.{Ended}
 use Rattle.gx_session.specs.Constants.{status_ended, status_fault, status_shelf_fault, status_input_fault, status_no_memory, piece}
 use Rattle.gx_session.specs.declared.session.EndedOn.{EndedOn}
@@ -50,9 +50,9 @@ abbrev pub AreDrawn : Stream → Stream → Type 0
 AreDrawn words stream = (stream ≡ words) ⊎ (stream ≡ (next_u32 words).1)
 
 -- The input that is left: what is to be read of the source, after the bytes that were read ahead. These are few, unless
--- the line that was awaited is too long, or the source failed in it. Each read gave something, but for one that said
--- that nothing is left, and one that failed. Where no line was taken and none was awaited at the end, the source wasn't
--- asked.
+-- the line that was awaited is too long, or the source failed in it. Each read offered a piece and gave something, but
+-- for one that said that nothing is left, and one that failed. Where no line was taken and none was awaited at the end,
+-- the source wasn't asked.
 pub record LeavesInput (first input : List ℕ) (before now : FlatSource) (awaited long : Type 0) (failures : ℕ) : Type 0 where
   pub ahead : List ℕ
   pub coming : List ℕ
@@ -62,6 +62,7 @@ pub record LeavesInput (first input : List ℕ) (before now : FlatSource) (await
   pub partial : failures ≢ 0 → IsPartial ahead
   pub reads : ℕ
   pub made : now.calls.made ≡ raised_by reads before.calls.made
+  pub offered : now.offered ≡ offered_in reads piece before.offered
   pub few_reads : reads + length coming ≤ length first + 1 + failures
   pub unread : (awaited → ⊥) → failures ≡ 0 → (now ≡ before) ⊎ (length input < length first)
 

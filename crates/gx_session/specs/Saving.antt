@@ -14,8 +14,8 @@ use Rattle.gx_machine.specs.Saves.{saved_copy}
 use Rattle.glk_streams.specs.Stream as one
 use Rattle.glk_streams.specs.Streams as streams
 use Rattle.glk_world.specs.World.{Scene, Said, silent}
-use Rattle.glk_dispatch.specs.Parts.{replies}
-use Rattle.glk_dispatch.specs.Saves.{put_save, take_rest}
+use Rattle.glk_replies.specs.Parts.{replies}
+use Rattle.glk_text_calls.specs.Saves.{put_save, take_rest}
 use Rattle.quetzal.specs.Saves.{save_of}
 use Rattle.quetzal.specs.Writing.{saved}
 use Rattle.quetzal.specs.declared.faults.SaveFault.{SaveFault}

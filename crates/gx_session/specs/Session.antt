@@ -23,14 +23,14 @@ use Rattle.gx_machine.specs.declared.askings.Asking.{Asking}
 use Rattle.gx_machine.specs.Step.{cost_of, step_of, asking_of}
 use Rattle.glk_world.specs.World.{FlatWorld, Said, after}
 use Rattle.glk_world.specs.Shown.{show_grids, show_line, end_text}
-use Rattle.glk_dispatch.specs.declared.Turn.{Turn}
-use Rattle.glk_dispatch.specs.declared.Turn.TheVariants as turn
-use Rattle.glk_dispatch.specs.declared.Given.{Given}
-use Rattle.glk_dispatch.specs.declared.Given.TheVariants as given
+use Rattle.glk_replies.specs.declared.Turn.{Turn}
+use Rattle.glk_replies.specs.declared.Turn.TheVariants as turn
+use Rattle.glk_replies.specs.declared.Given.{Given}
+use Rattle.glk_replies.specs.declared.Given.TheVariants as given
 use Rattle.glk_dispatch.specs.Calls.{glk_call}
 use Rattle.glk_dispatch.specs.Going.{glk_go_on}
-use Rattle.glk_dispatch.specs.Output.{putting}
-use Rattle.glk_dispatch.specs.Parts.{replies}
+use Rattle.glk_text_calls.specs.Output.{putting}
+use Rattle.glk_replies.specs.Parts.{replies}
 use Rattle.gx_session.specs.Devices.{Devices}
 use Rattle.gx_session.specs.Saving.{saving, restoring}
 use Rattle.gx_session.specs.Input.{NextLine, too_long, none, line, next_line}

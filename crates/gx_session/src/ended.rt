@@ -1,10 +1,10 @@
 //! How a run ended, and the line that says so.
-ghost use Rattle.std.specs.Prelude.{◌≡◌, ◌≢◌, ◌<◌, ◌++◌, ◌∷◌, [], OnOk, OnErr, IfOk, string_bytes, codes, decimal};
-ghost use Rattle.gx_session.specs.Reports.{line_of, fault_line, text_line, listing_line, hex_digit, hex_of};
+ghost use Rattle.std.specs.Prelude.{◌≡◌, ◌≢◌, ◌++◌, [], OnErr, IfOk, string_bytes, codes, decimal};
+ghost use Rattle.gx_session.specs.Reports.{line_of, fault_line, text_line, listing_line};
 
+use crate::numerals::{push_hex, push_number};
 use crate::statuses;
 use gx_machine::Machine;
-use itoa::Buffer;
 use std::alloc::{AllocError, Allocator, Global};
 
 /// How a run ended.
@@ -109,35 +109,4 @@ impl<A: Allocator + Clone> Ended<A> {
         line.push_str(")")?;
         Ok(line)
     }
-}
-
-/// Adds a number in decimal.
-fn push_number(line: &mut String, n: u64) -> Result<(), AllocError>
-    ensures { OnOk result (string_bytes line.new ≡ string_bytes line.old ++ decimal n) }
-{
-    let mut buffer = Buffer::new();
-    line.push_str(buffer.format(n))
-}
-
-/// Adds one hexadecimal digit.
-fn push_digit(line: &mut String, digit: u32) -> Result<(), AllocError>
-    requires { digit < 16 }
-    ensures { OnOk result (string_bytes line.new ≡ string_bytes line.old ++ hex_digit digit ∷ []) }
-{
-    let code = if digit < 10 { 48 + digit } else { 87 + digit };
-    line.push(code as u8 as char)
-}
-
-/// Adds a number as eight hexadecimal digits.
-fn push_hex(line: &mut String, v: u32) -> Result<(), AllocError>
-    ensures { OnOk result (string_bytes line.new ≡ string_bytes line.old ++ hex_of 8 v) }
-{
-    push_digit(line, v / 0x1000_0000 % 16)?;
-    push_digit(line, v / 0x100_0000 % 16)?;
-    push_digit(line, v / 0x10_0000 % 16)?;
-    push_digit(line, v / 0x1_0000 % 16)?;
-    push_digit(line, v / 0x1000 % 16)?;
-    push_digit(line, v / 0x100 % 16)?;
-    push_digit(line, v / 0x10 % 16)?;
-    push_digit(line, v % 16)
 }

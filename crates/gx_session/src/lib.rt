@@ -14,13 +14,15 @@
 //! - `questions` asks the shelf what a Glk call wants of it.
 //! - `running` has what every event does, `turns` the Glk calls, `saves` the saves and restores, `events` the run
 //!   from its first event to its ending.
-//! - `session` has the runs, `ended` and `ends` how they end, `statuses` the numbers for that.
+//! - `session` has the runs, `ended` and `ends` how they end, `statuses` the numbers for that. `numerals` writes the
+//!   numbers of a line.
 #![tactic(auto)]
 
 mod ended;
 mod ends;
 mod events;
 mod lines;
+pub mod numerals;
 mod questions;
 mod running;
 mod saves;

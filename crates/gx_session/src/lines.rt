@@ -1,11 +1,12 @@
 //! The lines of the input: what was read of the source and not taken yet.
 //!
 //! The source is read only where no whole line is held, and no more once it has ended. So at most
-//! PIECE - 1 bytes are held beyond the lines that were taken.
+//! PIECE - 1 bytes are held beyond the lines that were taken. What was taken is let go before more is
+//! read: fewer than LONGEST + PIECE bytes are kept.
 ghost use Rattle.std.specs.Prelude.{◌≡◌, ◌+◌, ◌≤◌, ◌<◌, ◌++◌, ℕ, List, [], length, take, drop, Err, IfOk, IfErr, false, slice_index};
 ghost use Rattle.std.specs.List.{position_or_len};
-ghost use Rattle.gx_outside.specs.Outside.{HasCause};
-ghost use Rattle.gx_session.specs.Constants.{piece as one_piece};
+ghost use Rattle.gx_outside.specs.Outside.{HasCause, offered_by};
+ghost use Rattle.gx_session.specs.Constants.{longest, piece as one_piece};
 ghost use Rattle.gx_session.specs.Input.{is_line_feed, chars_of};
 ghost use Rattle.gx_session.specs.Reading.{Fed, Takes, HoldsFew, IsWhole, Fills, is_failed};
 ghost use Rattle.gx_session.specs.Counts.{Blames};
@@ -68,14 +69,15 @@ pub struct Lines {
 }
 
 impl Model for Lines {
-    ghost use Rattle.std.specs.Prelude.{drop, length, ◌≤◌};
+    ghost use Rattle.std.specs.Prelude.{drop, length, ◌+◌, ◌≤◌, ◌<◌};
+    ghost use Rattle.gx_session.specs.Constants.{longest, piece};
     ghost use Rattle.gx_session.specs.Lines.{HeldLines};
 
     ghost Value = { HeldLines };
 
     ghost view = { λ l. record { held = drop l.at l.bytes.items; ended = l.ended } };
 
-    ghost invariant = { λ l. l.at ≤ length l.bytes.items };
+    ghost invariant = { λ l. (l.at ≤ length l.bytes.items) × (length l.bytes.items < longest + piece) };
 }
 
 /// The place of the first line feed, or the length where there is none. None stands before `from`.
@@ -106,6 +108,16 @@ fn read_chars(alloc: Global, line: &[u8]) -> Result<Numbers, AllocError>
     Ok(chars)
 }
 
+/// Lets go of the bytes before a place.
+fn cut_front(bytes: &mut Vec<u8>, at: usize)
+    requires { at ≤ length bytes.old.items }
+    ensures { bytes.new.items ≡ drop at bytes.old.items }
+{
+    let left = bytes.len() - at;
+    bytes.as_mut_slice().rotate_left(at);
+    bytes.truncate(left);
+}
+
 impl Lines {
     /// Before anything was read.
     pub fn new(alloc: Global) -> Lines
@@ -126,24 +138,13 @@ impl Lines {
         &self.bytes.as_slice()[self.at..]
     }
 
-    /// Makes room at the front.
-    fn shift(&mut self)
-        ensures { self.new ≡ self.old }
-    {
-        if self.at == 0 {
-            return;
-        }
-        let left = self.bytes.len() - self.at;
-        self.bytes.as_mut_slice().rotate_left(self.at);
-        self.bytes.truncate(left);
-        self.at = 0;
-    }
-
-    /// Reads one piece of the source.
+    /// Reads one piece of the source, and keeps no more than what is held.
     fn fill<S: Source>(&mut self, source: &mut S) -> Result<(), NoLine>
-        requires { self.old.ended ≡ false }
+        requires going { self.old.ended ≡ false }
+        requires short { length self.old.held < longest }
         ensures grows { Fills self.old self.new (S.seen source.old) (S.seen source.new) result }
         ensures count { HasCause (S.seen source.old).calls (S.seen source.new).calls (is_failed result) false }
+        ensures offered { (S.seen source.new).offered ≡ offered_by one_piece (S.seen source.old).offered }
         ensures tells { (S.seen source.new).tells ≡ (S.seen source.old).tells }
     {
         let mut piece = [0u8; PIECE];
@@ -152,7 +153,8 @@ impl Lines {
             self.ended = true;
             return Ok(());
         }
-        self.shift();
+        cut_front(&mut self.bytes, self.at);
+        self.at = 0;
         self.bytes.extend_from_slice(&piece[..count])?;
         Ok(())
     }

@@ -1,7 +1,7 @@
 //! What the shelf is asked for the turn of a Glk call.
 ghost use Rattle.std.specs.Prelude.{◌≡◌, true, IfOk};
 ghost use Rattle.gx_outside.specs.Outside.{HasCause, shelf_failed, shelf_wanted};
-ghost use Rattle.glk_dispatch.specs.Turns.{IsGivenFor};
+ghost use Rattle.glk_replies.specs.Turns.{IsGivenFor};
 ghost use Rattle.gx_session.specs.Questions.{turn_of, Answers};
 
 use crate::running::MOST_LOADED;

@@ -6,7 +6,7 @@ ghost use Rattle.std.specs.Prelude.{◌≡◌, ◌≢◌, ◌≤◌, ◌<◌, �
 ghost use Rattle.gx_machine.specs.declared.askings.Asking.TheVariants as asking;
 ghost use Rattle.gx_machine.specs.Answer.{answered, IsAnswer};
 ghost use Rattle.gx_machine.specs.Log.{logged, left_after};
-ghost use Rattle.glk_dispatch.specs.Parts.{replies};
+ghost use Rattle.glk_replies.specs.Parts.{replies};
 ghost use Rattle.gx_session.specs.Counts.{Blames};
 ghost use Rattle.gx_session.specs.Cuts.{ReplyWants};
 ghost use Rattle.gx_session.specs.Devices.{Devices};

@@ -10,7 +10,8 @@ ghost use Rattle.gx_machine.specs.declared.askings.Asking.TheVariants as asking;
 ghost use Rattle.gx_machine.specs.Log.{left_after};
 ghost use Rattle.gx_machine.specs.Saves.{restored};
 ghost use Rattle.gx_machine.specs.Step.{asking_of};
-ghost use Rattle.glk_dispatch.specs.Parts.{on_world, replies};
+ghost use Rattle.glk_world.specs.World.{on_world};
+ghost use Rattle.glk_replies.specs.Parts.{replies};
 ghost use Rattle.gx_session.specs.Constants.{failed as failed_value};
 ghost use Rattle.gx_session.specs.Devices.{Devices};
 ghost use Rattle.gx_session.specs.Playing.{held, asking_in, Follows, GoesBack, Becomes, MaySave, Refuses, EventGives, Leads, Keeps};
@@ -19,6 +20,7 @@ ghost use Rattle.gx_session.specs.Session.{Configuration};
 
 use crate::ends::{Halt, Next};
 use crate::running::{ENOUGH, Running, answer, faulted, flush};
+use glk_replies::reply;
 use glk_world::World;
 use gx_machine::Engine;
 use gx_outside::Sink;
@@ -34,11 +36,7 @@ pub const FAILED: u32 = 1;
 fn failed(world: &World) -> Reply
     ensures { result ≡ replies failed_value }
 {
-    Reply {
-        value: FAILED,
-        pushes: world.numbers(),
-        writes: world.writes(),
-    }
+    reply(world.alloc(), FAILED)
 }
 
 /// Whether a stream may take a save, whatever its length: it is there, open for writing and no window's.

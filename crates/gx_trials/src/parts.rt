@@ -1,5 +1,5 @@
 //! What no story can show: texts that the program doesn't print, what a pool counts and refuses, pages that are shared,
-//! where the rows of a text start and end, and calls that nothing above makes.
+//! where the rows of a text start and end, each way back and on of a tape, and calls that nothing above makes.
 //!
 //! Each of these functions plays no story. It compares what calls of one crate answer, says with an error what differs,
 //! and counts as a run.
@@ -10,6 +10,7 @@ mod pools;
 mod replies;
 mod reports;
 mod screens;
+mod tapes;
 mod words;
 
 use crate::tally::Tally;
@@ -33,5 +34,6 @@ pub fn try_all<P: Print>(rt: &P, alloc: Global, tally: &mut Tally) -> Result<()>
     tally.note(rt, reports::reports(alloc))?;
     tally.note(rt, screens::words(alloc))?;
     tally.note(rt, screens::paragraphs(alloc))?;
-    tally.note(rt, screens::wide(alloc))
+    tally.note(rt, screens::wide(alloc))?;
+    tally.note(rt, tapes::goes_back_and_on(alloc))
 }

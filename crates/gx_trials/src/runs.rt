@@ -125,7 +125,8 @@ fn left_by(alloc: Global, ended: &Ended<&PagePool>) -> Result<Option<Left>> {
     }
 }
 
-fn left_in(alloc: Global, machine: &Machine<&PagePool>) -> Result<Left> {
+/// What is left in a machine.
+pub fn left_in(alloc: Global, machine: &Machine<&PagePool>) -> Result<Left> {
     let (frame, stack) = stack_of(alloc, machine)?;
     let bytes = machine.state().memory().bytes(alloc)?;
     let memory = Vec::from_slice(alloc, bytes.as_slice())?;

@@ -39,7 +39,7 @@ use anyhow::{Context, Result, anyhow, bail, ensure};
 use std::alloc::Global;
 
 /// The header of each story, and the start function's type and format.
-const HEAD: &str =
+pub const HEAD: &str =
     "'Glul' 00030102 00000100 00000200 00000200 00000800 00000024 00000000 00000000 C1 00 00";
 
 /// What opens the current window.

@@ -1,10 +1,11 @@
 //! Standard input, or another reader.
 //!
 //! What is handed out are the reader's next bytes, and it keeps the rest: proved for every reader
-//! whose bytes std tells. Of standard input it tells none, nor when a read fails.
+//! whose bytes std tells. Of standard input it tells none, nor when a read fails. That the
+//! reader is handed the whole slice, as is noted, no clause on a reader can say.
 ghost use Rattle.std.specs.Prelude.{◌≡◌, ◌≤◌, false, [], IfOk, length, is_err};
 ghost use Rattle.std.specs.Io.KnownBytes.{ReadConsumes};
-ghost use Rattle.gx_outside.specs.Outside.{HasCause, no_call};
+ghost use Rattle.gx_outside.specs.Outside.{HasCause, no_call, offered_by};
 
 use gx_outside::{Calls, Failed, Source};
 use std::io::Read;
@@ -14,28 +15,33 @@ use std::io::Read;
 pub struct StdSource<I> {
     reader: I,
     calls: Calls,
+    offered: u64,
 }
 
 impl<I: Read> StdSource<I> {
     pub fn new(reader: I) -> StdSource<I>
         ensures reader { result.reader ≡ reader }
         ensures calls { result.calls ≡ no_call }
+        ensures offered { result.offered ≡ 0 }
     {
         StdSource {
             reader,
             calls: Calls::none(),
+            offered: 0,
         }
     }
 }
 
 impl<I: Read> Source for StdSource<I> {
-    ghost seen = { λ s. record { calls = s.calls; tells = false; left = [] } };
+    ghost seen = { λ s. record { calls = s.calls; offered = s.offered; tells = false; left = [] } };
 
     fn read(&mut self, into: &mut [u8]) -> Result<usize, Failed>
         ensures bound { IfOk result (λ count. count ≤ length into.old) }
         ensures cause { HasCause self.old.calls self.new.calls (is_err result) false }
+        ensures offered { self.new.offered ≡ offered_by (length into.old) self.old.offered }
         ensures given { ReadConsumes (I.remaining self.old.reader) (I.remaining self.new.reader) result into.new }
     {
+        self.offered = self.offered.saturating_add(into.len() as u64);
         let count = self.reader.read(into);
         self.calls.note(count.is_err(), false);
         count.map_err(|_| Failed)

@@ -1,7 +1,7 @@
 use Rattle.std.proofs.Common.{inr, refl, sym, ◌∙◌, Ok, Err}
 use Rattle.gx_state.specs.declared.effects.Effect.TheVariants.{Put}
 use Rattle.gx_machine.specs.Answer.{answer_of}
-use Rattle.glk_dispatch.specs.Output.{putting}
+use Rattle.glk_text_calls.specs.Output.{putting}
 use Rattle.gx_session.specs.Cuts.{ReplyWants}
 use Rattle.gx_session.specs.Devices.{Devices}
 use Rattle.gx_session.specs.Playing.{Held, held, asking_in}

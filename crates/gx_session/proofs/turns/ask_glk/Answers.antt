@@ -1,6 +1,6 @@
 use Rattle.std.proofs.Common.{inr, refl, sym, ◌∙◌, Ok, Err}
 use Rattle.gx_state.specs.declared.effects.Effect.TheVariants.{Glk}
-use Rattle.glk_dispatch.specs.declared.Turn.{Turn}
+use Rattle.glk_replies.specs.declared.Turn.{Turn}
 use Rattle.glk_dispatch.specs.Calls.{glk_call}
 use Rattle.gx_session.specs.Devices.{Devices}
 use Rattle.gx_session.specs.Playing.{Held, held, asking_in}

@@ -3,8 +3,8 @@ use Rattle.std.proofs.Common.{inr, refl, subst, sym, Ok}
 use Rattle.gx_state.specs.declared.effects.Effect.TheVariants.{Put}
 use Rattle.gx_machine.specs.Answer.{answer_of}
 use Rattle.glk_world.specs.World.{FlatWorld}
-use Rattle.glk_dispatch.specs.Output.{putting}
-use Rattle.glk_dispatch.specs.Parts.{replies}
+use Rattle.glk_text_calls.specs.Output.{putting}
+use Rattle.glk_replies.specs.Parts.{replies}
 use Rattle.gx_session.specs.Cuts.{ReplyWants}
 use Rattle.gx_session.specs.Devices.{Devices}
 use Rattle.gx_session.specs.Playing.{Held, held, asking_in, Follows}

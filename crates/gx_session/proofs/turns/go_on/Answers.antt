@@ -1,5 +1,5 @@
 use Rattle.std.proofs.Common.{inr, Err}
-use Rattle.glk_dispatch.specs.declared.Turn.{Turn}
+use Rattle.glk_replies.specs.declared.Turn.{Turn}
 use Rattle.glk_dispatch.specs.Going.{glk_go_on}
 use Rattle.gx_session.specs.Devices.{Devices}
 use Rattle.gx_session.specs.Playing.{Held, held, asking_in}

@@ -2,7 +2,7 @@ use Rattle.std.proofs.Common.{ap, subst, sym}
 use Rattle.std.proofs.lemmas.Result.{err_from_is_err_and}
 use Rattle.glk_world.specs.World.{FlatWorld}
 use Rattle.glk_dispatch.specs.Turns.{Awaits}
-use Rattle.glk_dispatch.specs.declared.Given.TheVariants as given
+use Rattle.glk_replies.specs.declared.Given.TheVariants as given
 use Rattle.gx_session.specs.declared.running.Running.{Running}
 use Rattle.gx_session.proofs.Lining.{awaits-shown, line-refused, line-shown}
 use Rattle.gx_session.proofs.turns.take_line.Goals as goal

@@ -1,5 +1,5 @@
 use Rattle.std.proofs.Common.{inr, subst}
-use Rattle.glk_dispatch.specs.declared.Turn.TheVariants as turn
+use Rattle.glk_replies.specs.declared.Turn.TheVariants as turn
 use Rattle.gx_session.specs.declared.questions.Question.{Question}
 use Rattle.gx_session.specs.declared.questions.Question.TheVariants as question
 use Rattle.gx_session.specs.Devices.{Devices}

@@ -2,7 +2,7 @@ use Rattle.std.proofs.Common.{inr, refl, subst, sym}
 use Rattle.std.proofs.lemmas.Result.{err_from_is_err_and}
 use Rattle.glk_world.specs.World.{FlatWorld}
 use Rattle.glk_dispatch.specs.Turns.{Awaits}
-use Rattle.glk_dispatch.specs.declared.Given.TheVariants as given
+use Rattle.glk_replies.specs.declared.Given.TheVariants as given
 use Rattle.glk_dispatch.proofs.Awaited.{awaits-grids}
 use Rattle.gx_session.specs.Devices.{Devices}
 use Rattle.gx_session.specs.Playing.{Held, held, asking_in}

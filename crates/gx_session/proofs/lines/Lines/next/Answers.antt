@@ -53,7 +53,7 @@ returns-in_err-fill-clause-takes g c =
     let p = err_from_is_err_and c.from_residual.result c.from_residual.ensures.1 in
     rw (p.1, p.2)
     (fails c.args.self.now c.loop-self.self (g.S.Source.seen c.args.source.now) (g.S.Source.seen c.loop-self.source) c.loop-self.invariant.fed c.fill.new.self (g.S.Source.seen c.fill.new.source)
-    (ap (λ (l : HeldLines). l.ended) (sym c.self.view_is) ∙ c.if-self.false) c.fill.ensures.tells c.fill.ensures.count.made c.in_err-fill.field-0.0 c.in_err-fill.ensures.grows)
+    (ap (λ (l : HeldLines). l.ended) (sym c.self.view_is) ∙ c.if-self.false) c.fill.ensures.tells c.fill.ensures.count.made c.fill.ensures.offered c.in_err-fill.field-0.0 c.in_err-fill.ensures.grows)
 
 pub returns-in_err-fill-clause-few : goal.returns-in_err-fill-clause-few
 returns-in_err-fill-clause-few g c few =
@@ -63,7 +63,7 @@ returns-in_err-fill-clause-few g c few =
     let bound : pos c.loop-self.self.held ≤ length c.loop-self.self.held = pos-bound c.loop-self.self.held in
     rw (p.1, p.2)
     (fails-few c.args.self.now c.loop-self.self (g.S.Source.seen c.args.source.now) (g.S.Source.seen c.loop-self.source) c.loop-self.invariant.fed c.fill.new.self (g.S.Source.seen c.fill.new.source)
-    (ap (λ (l : HeldLines). l.ended) (sym c.self.view_is) ∙ c.if-self.false) c.fill.ensures.tells c.fill.ensures.count.made c.in_err-fill.field-0.0 c.in_err-fill.ensures.grows (omega arith) (omega arith))
+    (ap (λ (l : HeldLines). l.ended) (sym c.self.view_is) ∙ c.if-self.false) c.fill.ensures.tells c.fill.ensures.count.made c.fill.ensures.offered c.in_err-fill.field-0.0 c.in_err-fill.ensures.grows (omega arith) (omega arith))
 
 pub loop-self-preserved : goal.loop-self-preserved
 loop-self-preserved g c =
@@ -82,7 +82,7 @@ loop-self-preserved g c =
           ∙ fails_before_first is_line_feed c.loop-self.self.held k 0 (omega arith);
       few = λ start. omega arith;
       fed = grows c.args.self.now c.loop-self.self (g.S.Source.seen c.args.source.now) (g.S.Source.seen c.loop-self.source) c.loop-self.invariant.fed c.fill.new.self (g.S.Source.seen c.fill.new.source)
-          (ap (λ (l : HeldLines). l.ended) (sym c.self.view_is) ∙ c.if-self.false) c.fill.ensures.tells c.fill.ensures.count.made got more;
+          (ap (λ (l : HeldLines). l.ended) (sym c.self.view_is) ∙ c.if-self.false) c.fill.ensures.tells c.fill.ensures.count.made c.fill.ensures.offered got more;
       whole = λ is.
           let same = c.loop-self.invariant.whole is in
           let first : pos c.args.self.now.held < length c.args.self.now.held = is in

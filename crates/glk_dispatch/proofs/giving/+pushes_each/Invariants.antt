@@ -1,5 +1,0 @@
-use Rattle.std.proofs.Common.{length}
-use Rattle.glk_dispatch.proofs.giving.+pushes_each.Given as goal
-
-abbrev pub decreases-pushes_each : goal.decreases-pushes_each
-decreases-pushes_each l = length l.ats.now

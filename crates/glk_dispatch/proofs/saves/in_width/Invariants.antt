@@ -1,6 +1,0 @@
-use Rattle.std.proofs.Common.{◌≡◌, ◌++◌, drop}
-use Rattle.glk_dispatch.specs.Parts.{chars_bytes}
-use Rattle.glk_dispatch.proofs.saves.in_width.Given as goal
-
-abbrev pub invariant-loop-byte : goal.invariant-loop-byte
-invariant-loop-byte l = l.all ++ chars_bytes l.width (drop l.byte-index l.bytes) ≡ chars_bytes l.width l.bytes

@@ -1,4 +1,0 @@
-use Rattle.glk_dispatch.proofs.saves.put_save.Goals as goal
-
-pub returns-clause-fits : goal.returns-clause-fits
-returns-clause-fits g c = c.in_ok-reply.ensures.fits 0

@@ -1,0 +1,61 @@
+-- What the calls of a row rest on, once its arguments were looked at.
+use Rattle.std.specs.Prelude.{◌≡◌, ◌⊎◌, ℕ, if◌then◌else◌, Bool, true, false, List, Option, Some, None, Ok, Err}
+use Rattle.gx_words.specs.declared.faults.Fault.TheVariants.{BadGlk}
+use Rattle.gx_state.specs.Flat.{FlatState}
+use Rattle.gx_words.specs.Results.{◌>>=◌}
+use Rattle.glk_world.specs.World.{Scene, silent, Outcome, arg}
+use Rattle.glk_replies.specs.declared.Turn.{Turn}
+use Rattle.glk_replies.specs.declared.Turn.TheVariants.{Answer}
+use Rattle.glk_dispatch.specs.declared.table.Class.{Class}
+use Rattle.glk_dispatch.specs.declared.table.Selector.{Selector}
+use Rattle.glk_dispatch.specs.Table.{Row}
+use Rattle.glk_dispatch.specs.Calls.{is_there, looked, is_none, nothing, as_turn, done, dropping, gives_nothing}
+
+abbrev pub IsThere : Scene → Class → ℕ → Type 0
+IsThere w class id = is_there w class id ≡ true
+
+-- the object 0, or one that is there
+abbrev pub IsNamed : Scene → Class → ℕ → Type 0
+IsNamed w class id = (id ≡ 0) ⊎ IsThere w class id
+
+-- the first argument of a marked row isn't 0
+abbrev pub IsFirst : Bool → Scene → Class → ℕ → Type 0
+IsFirst true w class id = IsThere w class id
+IsFirst false w class id = IsNamed w class id
+
+-- the objects that a row names are there
+abbrev pub IsReady : Selector → Scene → List ℕ → Type 0
+IsReady row w args = IsFirst row.marked w row.first (arg args 0) × IsNamed w row.other (arg args row.place)
+
+abbrev pub IsReadyBy : Option Row → Scene → List ℕ → Type 0
+IsReadyBy None w args = Unit {0}
+IsReadyBy (Some row) w args = IsReady row.looks w args
+
+-- what a row does, and where it may want memory; no row is no call
+abbrev pub done_by : Option Row → Scene → FlatState → ℕ → List ℕ → Outcome Turn
+done_by None w f room args = Err BadGlk
+done_by (Some row) w f room args = done row.does w f room args
+
+abbrev pub wants_by : Option Row → Scene → FlatState → List ℕ → Bool
+wants_by None w f args = false
+wants_by (Some row) w f args = row.wants w f args
+
+-- ---- a call by the looks of its row, and by what the row does and wants
+
+abbrev pub call_on : Selector → Outcome Turn → Scene → FlatState → ℕ → List ℕ → Outcome Turn
+call_on looks does w f room args = if is_none looks args then as_turn (nothing w f room looks args) else does
+
+abbrev pub call_looked : Option Selector → Outcome Turn → Scene → FlatState → ℕ → ℕ → List ℕ → Outcome Turn
+call_looked None does w f room selector args = do
+  reply ← dropping selector
+  Ok (silent w, Answer reply)
+call_looked (Some looks) does w f room selector args = do
+  there ← looked w looks args
+  call_on looks does w f room args
+
+abbrev pub wants_on : Selector → Bool → List ℕ → Bool
+wants_on looks wants args = if is_none looks args then gives_nothing looks args else wants
+
+abbrev pub wants_looked : Option Selector → Bool → List ℕ → Bool
+wants_looked None wants args = false
+wants_looked (Some looks) wants args = wants_on looks wants args

@@ -1,0 +1,116 @@
+-- The calls of windows (Glk 0.7.5, "Windows").
+--
+-- A first argument names a window but in window_iterate, window_open and set_window, where it may be 0.
+use Rattle.std.specs.Prelude.{ℕ, ◌==◌, if◌then◌else◌, List, [], ◌∷◌, unwrap_or}
+use Rattle.gx_words.specs.Results.{◌>>=◌}
+use Rattle.gx_state.specs.Flat.{FlatState}
+use Rattle.gx_state.specs.declared.effects.Reply.{Reply}
+use Rattle.glk_windows.specs.declared.tree.Pair.{Pair}
+use Rattle.glk_windows.specs.declared.entries.Entry.{Entry}
+use Rattle.glk_windows.specs.Windows as all
+use Rattle.glk_windows.specs.Windows.{FlatWindows, entry_at}
+use Rattle.glk_world.specs.World.{Scene, Outcome, answered, arg}
+use Rattle.glk_world.specs.Calls.{opened_id, with_window, window_counts, without_window, arranged, cleared, moved, with_echo}
+use Rattle.glk_replies.specs.Parts.{replies, give, give_each}
+use Rattle.glk_object_calls.specs.Answers.{tells}
+
+-- the window of the first argument; that of 0 has neither rock nor stream
+abbrev pub window_of : Scene → List ℕ → Entry
+window_of w args = entry_at w.windows.entries (arg args 0)
+
+-- a pair window; other windows are none, with zeros
+abbrev pub no_pair : Pair
+no_pair = record { first = 0; second = 0; method = 0; size = 0; key = 0 }
+
+abbrev pub pair_at : FlatWindows → ℕ → Pair
+pair_at f win = unwrap_or (all.pair f win) no_pair
+
+-- ---- "Window Opening, Closing, and Constraints"
+
+-- window_open: 0 where it isn't opened
+unfoldable pub window_open : Scene → List ℕ → Outcome Reply
+window_open w args =
+    answered (with_window w (arg args 0) (arg args 1) (arg args 2) (arg args 3) (arg args 4)) (replies (opened_id w (arg args 0) (arg args 1) (arg args 3)))
+
+-- window_close: gives the counts of its stream
+unfoldable pub window_close : Scene → FlatState → ℕ → List ℕ → Outcome Reply
+window_close w f room args = do
+  let counts = window_counts w (arg args 0)
+  reply ← give f room 0 (arg args 1) (counts.0 ∷ counts.1 ∷ [])
+  answered (without_window w (arg args 0)) reply
+
+-- ---- "Window Sizes", "Changing Window Constraints"
+
+-- window_get_size: columns and rows
+unfoldable pub window_get_size : Scene → FlatState → ℕ → List ℕ → Outcome Reply
+window_get_size w f room args = do
+  let size = all.text_size w.windows (arg args 0)
+  reply ← give_each f room 0 (arg args 1 ∷ arg args 2 ∷ []) (size.0 ∷ size.1 ∷ [])
+  answered w reply
+
+-- window_set_arrangement: the key 0 leaves the key as it is
+unfoldable pub window_set_arrangement : Scene → List ℕ → Outcome Reply
+window_set_arrangement w args =
+    answered (arranged w (arg args 0) (arg args 1) (arg args 2) (arg args 3)) (replies 0)
+
+-- window_get_arrangement: method, size and key of a pair window, zeros for other windows
+unfoldable pub window_get_arrangement : Scene → FlatState → ℕ → List ℕ → Outcome Reply
+window_get_arrangement w f room args = do
+  let pair = pair_at w.windows (arg args 0)
+  reply ← give_each f room 0 (arg args 1 ∷ arg args 2 ∷ arg args 3 ∷ []) (pair.method ∷ pair.size ∷ pair.key ∷ [])
+  answered w reply
+
+-- ---- "The Types of Windows"
+
+unfoldable pub window_move_cursor : Scene → List ℕ → Outcome Reply
+window_move_cursor w args = answered (moved w (arg args 0) (arg args 1) (arg args 2)) (replies 0)
+
+-- ---- "Echo Streams"
+
+unfoldable pub window_set_echo_stream : Scene → List ℕ → Outcome Reply
+window_set_echo_stream w args = answered (with_echo w (arg args 0) (arg args 1)) (replies 0)
+
+unfoldable pub window_get_echo_stream : Scene → List ℕ → Outcome Reply
+window_get_echo_stream w args = tells w (window_of w args).echo
+
+-- ---- "Other Window Functions"
+
+-- window_iterate: the next window and its rock, at the end 0 and 0
+unfoldable pub window_iterate : Scene → FlatState → ℕ → List ℕ → Outcome Reply
+window_iterate w f room args = do
+  let win = all.next w.windows (arg args 0)
+  reply ← give f room win (arg args 1) ((entry_at w.windows.entries win).rock ∷ [])
+  answered w reply
+
+unfoldable pub window_get_rock : Scene → List ℕ → Outcome Reply
+window_get_rock w args = tells w (window_of w args).rock
+
+unfoldable pub window_get_type : Scene → List ℕ → Outcome Reply
+window_get_type w args = tells w (window_of w args).kind
+
+-- window_get_parent: the pair above a window, 0 for none
+unfoldable pub window_get_parent : Scene → List ℕ → Outcome Reply
+window_get_parent w args = tells w (all.parent w.windows (arg args 0))
+
+-- the other child of the pair above a window, 0 for none
+abbrev pub other_child : Pair → ℕ → ℕ
+other_child above win = if above.first == win then above.second else above.first
+
+abbrev pub sibling : FlatWindows → ℕ → ℕ
+sibling f win = other_child (pair_at f (all.parent f win)) win
+
+unfoldable pub window_get_sibling : Scene → List ℕ → Outcome Reply
+window_get_sibling w args = tells w (sibling w.windows (arg args 0))
+
+unfoldable pub window_get_root : Scene → Outcome Reply
+window_get_root w = tells w (all.root w.windows)
+
+unfoldable pub window_clear : Scene → List ℕ → Outcome Reply
+window_clear w args = answered (cleared w (arg args 0)) (replies 0)
+
+unfoldable pub window_get_stream : Scene → List ℕ → Outcome Reply
+window_get_stream w args = tells w (window_of w args).stream
+
+-- set_window: the window 0 has no stream
+unfoldable pub set_window : Scene → List ℕ → Outcome Reply
+set_window w args = answered (record w { current = (window_of w args).stream }) (replies 0)

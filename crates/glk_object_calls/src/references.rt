@@ -1,0 +1,311 @@
+//! The calls of file references, and the opening of files (Glk 0.7.5, "File References" and "File Streams";
+//! specs/References).
+ghost use Rattle.std.specs.Prelude.{ℕ, ◌≡◌, ◌≤◌, ◌==◌, ◌&&◌, ◌||◌, not, Ok, Some, None, if◌then◌else◌, length, IfOk, OnErr, IsTrue};
+ghost use Rattle.gx_outside.specs.Outside.{IsBounded};
+ghost use Rattle.gx_state.specs.Flat.{FlatState};
+ghost use Rattle.gx_state.specs.Replies.{IsReply};
+ghost use Rattle.glk_world.specs.World.{is_composed, has_reference, reference_at, arg, Calls};
+ghost use Rattle.glk_world.specs.Calls.{is_identifier};
+ghost use Rattle.glk_replies.specs.Turns.{IsTurnFor};
+ghost use Rattle.glk_object_calls.specs.References.{created, temporary_name, fileref_create_temp, fileref_create_by_name, fileref_create_by_prompt, prompt_goes_on, prompt_goes_on_grow, fileref_create_from_fileref, fileref_destroy, fileref_iterate, fileref_get_rock, file_name, fileref_delete_file, fileref_does_file_exist, form_for, open_with, loads, stream_open_file, open_goes_on, open_goes_on_grow};
+
+use glk_files::{base_name, full_name};
+use glk_replies::selectors::{
+    FILEREF_CREATE_BY_PROMPT, FILEREF_DELETE_FILE, FILEREF_DOES_FILE_EXIST, STREAM_OPEN_FILE,
+    STREAM_OPEN_FILE_UNI,
+};
+use glk_replies::{Turn, give, numbers_at, reply, string_length};
+use glk_streams::{FileForm, READ, READ_WRITE, StreamKind, WRITE, WRITE_APPEND};
+use glk_world::{LAST_IDENTIFIER, World, arg};
+use gx_outside::Load;
+use gx_state::{Reply, State};
+use gx_words::{Bytes, Fault, Name};
+use itoa::Buffer;
+use std::alloc::{AllocError, Allocator, Global};
+
+/// The bit of a usage that stands for a text (Glk 0.7.5, "The Types of File References": fileusage_TextMode).
+pub const TEXT_MODE: u32 = 0x100;
+
+/// Makes a file reference.
+fn create(world: &mut World, base: Name, usage: u32, rock: u32) -> Result<Reply, Fault>
+    ensures value { Calls (IsTrue (is_identifier world.old.scene.next_id)) result world.old world.new (created world.old.scene base usage rock) }
+    ensures fits { (f : FlatState) (room : ℕ) → IfOk result (IsReply f room) }
+{
+    let id = world.add_ref(base, usage, rock)?;
+    Ok(reply(world.alloc(), id))
+}
+
+/// The name of a file for a time.
+fn temporary_name(alloc: Global, id: u32) -> Result<Name, AllocError>
+    ensures { IfOk result (λ name. name ≡ temporary_name id) }
+{
+    let mut buffer = Buffer::new();
+    let mut name = String::from_str(alloc, "gxtemp")?;
+    name.push_str(buffer.format(id))?;
+    Name::from_str(alloc, name.as_str())
+}
+
+/// fileref_create_temp: a file of a name that no other has.
+#[tactic(auto, unfolding(crate::specs::References::fileref_create_temp, glk_world::specs::Calls::with_reference))]
+pub fn fileref_create_temp(world: &mut World, args: &[u32]) -> Result<Reply, Fault>
+    ensures value { Calls (IsTrue (is_identifier world.old.scene.next_id)) result world.old world.new (fileref_create_temp world.old.scene args.now) }
+    ensures fits { (f : FlatState) (room : ℕ) → IfOk result (IsReply f room) }
+{
+    if world.next_id() > LAST_IDENTIFIER {
+        return Ok(reply(world.alloc(), 0));
+    }
+    let name = temporary_name(world.alloc(), world.next_id())?;
+    create(world, name, arg(args, 0), arg(args, 1))
+}
+
+/// fileref_create_by_name: the name stands in memory.
+#[tactic(auto, unfolding(crate::specs::References::fileref_create_by_name, glk_world::specs::Calls::with_reference))]
+pub fn fileref_create_by_name<A: Allocator + Clone>(
+    world: &mut World,
+    state: &State<A>,
+    args: &[u32],
+) -> Result<Reply, Fault>
+    ensures value { Calls (IsTrue (is_identifier world.old.scene.next_id)) result world.old world.new (fileref_create_by_name world.old.scene state.now.flat args.now) }
+    ensures fits { (f : FlatState) (room : ℕ) → IfOk result (IsReply f room) }
+{
+    let at = arg(args, 1);
+    let count = string_length(state, 1, at)?;
+    if world.next_id() > LAST_IDENTIFIER {
+        return Ok(reply(world.alloc(), 0));
+    }
+    let chars = numbers_at(world.alloc(), state.memory(), 1, at + 1, count)?;
+    let base = base_name(world.alloc(), chars.as_slice())?;
+    create(world, base, arg(args, 0), arg(args, 2))
+}
+
+/// fileref_create_by_prompt: waits for the line that is the name.
+#[tactic(auto, unfolding(crate::specs::References::fileref_create_by_prompt))]
+pub fn fileref_create_by_prompt(world: &mut World, args: &[u32]) -> Result<Turn, Fault>
+    ensures value { Calls (IsTrue (not (is_composed world.old.scene))) result world.old world.new (fileref_create_by_prompt world.old.scene args.now) }
+    ensures fits { (f : FlatState) (room : ℕ) → IfOk result (IsTurnFor f room) }
+{
+    world.show_prompt()?;
+    world.wait(FILEREF_CREATE_BY_PROMPT, args);
+    Ok(Turn::Prompt)
+}
+
+/// The line of a prompt was taken.
+#[tactic(auto, unfolding(crate::specs::References::prompt_goes_on, crate::specs::References::prompt_goes_on_grow, glk_world::specs::Calls::with_reference))]
+pub fn prompt_goes_on(world: &mut World, args: &[u32], line: &[u32]) -> Result<Reply, Fault>
+    ensures value { Calls (IsTrue (prompt_goes_on_grow world.old.scene line.now)) result world.old world.new (prompt_goes_on world.old.scene args.now line.now) }
+    ensures fits { (f : FlatState) (room : ℕ) → IfOk result (IsReply f room) }
+{
+    match line {
+        [] => {
+            world.line_taken();
+            Ok(reply(world.alloc(), 0))
+        }
+        [_, ..] => {
+            world.line_taken();
+            if world.next_id() > LAST_IDENTIFIER {
+                return Ok(reply(world.alloc(), 0));
+            }
+            let base = base_name(world.alloc(), line)?;
+            create(world, base, arg(args, 0), arg(args, 2))
+        }
+    }
+}
+
+/// The base name of a file reference, if it is there.
+fn base_of(world: &World, id: u32) -> Result<Option<Name>, AllocError>
+    ensures value { IfOk result (λ base. base ≡ (if has_reference world.now.scene id then Some (reference_at world.now.scene id).base else None)) }
+    ensures memory { OnErr result (IsTrue (has_reference world.now.scene id)) }
+{
+    match world.file_ref(id) {
+        None => Ok(None),
+        Some((base, _, _)) => Ok(Some(Name::from_str(world.alloc(), base)?)),
+    }
+}
+
+/// fileref_create_from_fileref: the same name for another usage.
+#[tactic(auto, unfolding(crate::specs::References::fileref_create_from_fileref, glk_world::specs::Calls::with_reference))]
+pub fn fileref_create_from_fileref(world: &mut World, args: &[u32]) -> Result<Reply, Fault>
+    ensures value { Calls (IsTrue (has_reference world.old.scene (arg args.now 1) && is_identifier world.old.scene.next_id)) result world.old world.new (fileref_create_from_fileref world.old.scene args.now) }
+    ensures fits { (f : FlatState) (room : ℕ) → IfOk result (IsReply f room) }
+{
+    if world.next_id() > LAST_IDENTIFIER {
+        return Ok(reply(world.alloc(), 0));
+    }
+    match base_of(world, arg(args, 1))? {
+        None => Ok(reply(world.alloc(), 0)),
+        Some(base) => create(world, base, arg(args, 0), arg(args, 2)),
+    }
+}
+
+/// fileref_destroy: the file stays.
+#[tactic(auto, unfolding(crate::specs::References::fileref_destroy))]
+pub fn fileref_destroy(world: &mut World, args: &[u32]) -> Result<Reply, Fault>
+    requires { IsTrue (has_reference world.old.scene (arg args.now 0)) }
+    ensures value { Calls ⊥ result world.old world.new (fileref_destroy world.old.scene args.now) }
+    ensures fits { (f : FlatState) (room : ℕ) → IfOk result (IsReply f room) }
+{
+    world.remove_ref(arg(args, 0));
+    Ok(reply(world.alloc(), 0))
+}
+
+/// The rock of a file reference, 0 where there is none.
+#[tactic(auto, using(crate::proofs::Absent::no_reference_there))]
+fn rock_of(world: &World, id: u32) -> u32
+    ensures { result ≡ (reference_at world.now.scene id).rock }
+{
+    match world.file_ref(id) {
+        None => 0,
+        Some((_, _, rock)) => rock,
+    }
+}
+
+/// fileref_iterate: the next file reference, and its rock.
+#[tactic(auto, unfolding(crate::specs::References::fileref_iterate))]
+pub fn fileref_iterate<A: Allocator + Clone>(
+    world: &World,
+    state: &State<A>,
+    room: u32,
+    args: &[u32],
+) -> Result<Reply, Fault>
+    ensures value { Calls (IsTrue (not (arg args.now 1 == 0))) result world.now world.now (fileref_iterate world.now.scene state.now.flat room args.now) }
+    ensures fits { IfOk result (IsReply state.now.flat room) }
+{
+    let next = world.next_ref(arg(args, 0));
+    let rock = rock_of(world, next);
+    give(world.alloc(), state, room, next, arg(args, 1), &[rock])
+}
+
+/// fileref_get_rock: what the story gave the file reference when it was made.
+#[tactic(auto, unfolding(crate::specs::References::fileref_get_rock))]
+pub fn fileref_get_rock(world: &World, args: &[u32]) -> Reply
+    ensures value { Calls ⊥ (Ok result) world.now world.now (fileref_get_rock world.now.scene args.now) }
+    ensures fits { (f : FlatState) (room : ℕ) → IsReply f room result }
+{
+    reply(world.alloc(), rock_of(world, arg(args, 0)))
+}
+
+/// The full name of the file of a file reference.
+fn file_name(world: &World, id: u32) -> Result<Name, AllocError>
+    requires { IsTrue (has_reference world.now.scene id) }
+    ensures { IfOk result (λ name. name ≡ file_name world.now.scene id) }
+{
+    match world.file_ref(id) {
+        None => Ok(Name::new(world.alloc())),
+        Some((base, usage, _)) => {
+            let base = Name::from_str(world.alloc(), base)?;
+            full_name(world.alloc(), &base, usage)
+        }
+    }
+}
+
+/// fileref_delete_file: asks that the file be removed.
+#[tactic(auto, unfolding(crate::specs::References::fileref_delete_file))]
+pub fn fileref_delete_file(world: &mut World, args: &[u32]) -> Result<Turn, Fault>
+    requires { IsTrue (has_reference world.old.scene (arg args.now 0)) }
+    ensures value { Calls (Unit {0}) result world.old world.new (fileref_delete_file world.old.scene args.now) }
+    ensures fits { (f : FlatState) (room : ℕ) → IfOk result (IsTurnFor f room) }
+{
+    let name = file_name(world, arg(args, 0))?;
+    world.wait(FILEREF_DELETE_FILE, args);
+    Ok(Turn::Remove(name))
+}
+
+/// fileref_does_file_exist: asks whether there is a file.
+#[tactic(auto, unfolding(crate::specs::References::fileref_does_file_exist))]
+pub fn fileref_does_file_exist(world: &mut World, args: &[u32]) -> Result<Turn, Fault>
+    requires { IsTrue (has_reference world.old.scene (arg args.now 0)) }
+    ensures value { Calls (Unit {0}) result world.old world.new (fileref_does_file_exist world.old.scene args.now) }
+    ensures fits { (f : FlatState) (room : ℕ) → IfOk result (IsTurnFor f room) }
+{
+    let name = file_name(world, arg(args, 0))?;
+    world.wait(FILEREF_DOES_FILE_EXIST, args);
+    Ok(Turn::Has(name))
+}
+
+/// The usage of a file reference, 0 where there is none.
+#[tactic(auto, using(crate::proofs::Absent::no_reference_there))]
+fn usage_of(world: &World, id: u32) -> u32
+    ensures { result ≡ (reference_at world.now.scene id).usage }
+{
+    match world.file_ref(id) {
+        None => 0,
+        Some((_, usage, _)) => usage,
+    }
+}
+
+/// The form of a file's characters.
+fn form_for(selector: u32, usage: u32) -> FileForm
+    ensures { result ≡ form_for selector usage }
+{
+    if selector == STREAM_OPEN_FILE_UNI {
+        if usage / TEXT_MODE % 2 == 1 {
+            FileForm::Utf8
+        } else {
+            FileForm::Wide
+        }
+    } else {
+        FileForm::Latin
+    }
+}
+
+/// Opens a stream of a file with this content.
+#[tactic(auto, unfolding(crate::specs::References::open_with))]
+fn open_with(world: &mut World, selector: u32, args: &[u32], content: Bytes) -> Result<Reply, Fault>
+    requires there { IsTrue (has_reference world.old.scene (arg args.now 0)) }
+    requires mode { IsTrue (arg args.now 1 == WRITE || loads (arg args.now 1)) }
+    requires size { length content ≤ 0x01000000 }
+    ensures value { Calls (Unit {0}) result world.old world.new (open_with world.old.scene selector args.now content) }
+    ensures fits { (f : FlatState) (room : ℕ) → IfOk result (IsReply f room) }
+{
+    let kind = StreamKind::File {
+        name: file_name(world, arg(args, 0))?,
+        content,
+        form: form_for(selector, usage_of(world, arg(args, 0))),
+    };
+    let id = world.add_stream(kind, arg(args, 1), arg(args, 2))?;
+    Ok(reply(world.alloc(), id))
+}
+
+/// stream_open_file, stream_open_file_uni: a file that isn't for writing alone is loaded first.
+#[tactic(auto, unfolding(crate::specs::References::stream_open_file))]
+pub fn stream_open_file(world: &mut World, selector: u32, args: &[u32]) -> Result<Turn, Fault>
+    requires { IsTrue (has_reference world.old.scene (arg args.now 0)) }
+    ensures value { Calls (IsTrue (arg args.now 1 == WRITE || loads (arg args.now 1))) result world.old world.new (stream_open_file world.old.scene selector args.now) }
+    ensures fits { (f : FlatState) (room : ℕ) → IfOk result (IsTurnFor f room) }
+{
+    match arg(args, 1) {
+        WRITE => {
+            let empty = Bytes::new(world.alloc());
+            Ok(Turn::Answer(open_with(world, selector, args, empty)?))
+        }
+        READ | READ_WRITE | WRITE_APPEND => {
+            let name = file_name(world, arg(args, 0))?;
+            world.wait(selector, args);
+            Ok(Turn::Load(name))
+        }
+        _ => Ok(Turn::Answer(reply(world.alloc(), 0))),
+    }
+}
+
+/// The file of a stream that is opened was loaded.
+pub fn open_goes_on(
+    world: &mut World,
+    selector: u32,
+    args: &[u32],
+    load: Load,
+) -> Result<Reply, Fault>
+    requires there { IsTrue (has_reference world.old.scene (arg args.now 0)) }
+    requires mode { IsTrue (loads (arg args.now 1)) }
+    requires size { IsBounded 0x01000000 load }
+    ensures value { Calls (IsTrue (open_goes_on_grow args.now load)) result world.old world.new (open_goes_on world.old.scene selector args.now load) }
+    ensures fits { (f : FlatState) (room : ℕ) → IfOk result (IsReply f room) }
+{
+    match load {
+        Load::Missing if arg(args, 1) != READ => {
+            let empty = Bytes::new(world.alloc());
+            open_with(world, selector, args, empty)
+        }
+        Load::Found(content) => open_with(world, selector, args, content),
+        _ => Ok(reply(world.alloc(), 0)),
+    }
+}

@@ -1,0 +1,4 @@
+mod Constants
+pub mod Laying
+pub mod Ram
+pub mod Counting

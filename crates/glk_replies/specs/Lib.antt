@@ -1,0 +1,5 @@
+pub mod Constants
+pub mod Numbers
+pub mod Parts
+pub mod Strings
+pub mod Turns

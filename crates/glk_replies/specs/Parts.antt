@@ -1,0 +1,118 @@
+-- What replies are made of: what is read from memory and written to it, and words that are given to references.
+--
+-- A call looks at all of its addresses before it changes anything; what it writes stands in its reply.
+use Rattle.std.specs.Prelude.{◌≡◌, ◌⊎◌, ℕ, zero, suc, ◌+◌, ◌*◌, ◌==◌, ◌||◌, nat_lt, not, if◌then◌else◌, Bool, false, List, [], ◌∷◌, ◌++◌, length, take, Result, Ok, Err}
+use Rattle.gx_words.specs.declared.faults.Fault.{Fault}
+use Rattle.gx_words.specs.declared.faults.Fault.TheVariants.{BadAddress, Overflow}
+use Rattle.gx_words.specs.Numbers.{number, bytes_of_word}
+use Rattle.gx_words.specs.Faults.{IsRefused}
+use Rattle.gx_words.specs.Results.{◌>>=◌}
+use Rattle.gx_state.specs.Flat.{FlatState, write_fault}
+use Rattle.gx_state.specs.declared.effects.Reply.{Reply}
+use Rattle.glk_text.specs.Characters.{latin_of}
+use Rattle.glk_streams.specs.declared.kinds.Places.{Places}
+use Rattle.glk_replies.specs.Constants.{on_stack}
+
+-- a reply that writes and pushes nothing
+abbrev pub replies : ℕ → Reply
+replies value = record { value = value; pushes = []; writes = [] }
+
+-- A call that changes nothing may want memory, and only where `wants` holds.
+abbrev pub MayWant : {X Y : Type 0} → Type 0 → (X → Y) → Result X Fault → Result Y Fault → Type 0
+MayWant wants view (Ok x) defined = defined ≡ Ok (view x)
+MayWant wants view (Err e) defined = IsRefused wants e defined
+
+-- ---- memory
+
+-- characters and numbers in memory have one or four bytes
+abbrev pub IsCharWidth : ℕ → Type 0
+IsCharWidth width = (width ≡ 1) ⊎ (width ≡ 4)
+
+-- so many bytes from an address on are there; none may be anywhere
+unfoldable pub can_read : FlatState → ℕ → ℕ → Result (Unit {0}) Fault
+can_read f at count =
+    if count == 0 then Ok tt else
+    if nat_lt (length f.memory) (at + count) then Err BadAddress else Ok tt
+
+-- so many numbers of a width, one behind the other
+unfoldable pub numbers_in : ℕ → List ℕ → ℕ → ℕ → List ℕ
+numbers_in width memory at zero = []
+numbers_in width memory at (suc n) = number width memory at ∷ numbers_in width memory (at + width) n
+
+-- the bytes of a character in memory: of one byte in Latin-1, else a word
+abbrev pub char_bytes : ℕ → ℕ → List ℕ
+char_bytes width c = if width == 1 then latin_of c ∷ [] else bytes_of_word c
+
+unfoldable pub chars_bytes : ℕ → List ℕ → List ℕ
+chars_bytes width [] = []
+chars_bytes width (c ∷ cs) = char_bytes width c ++ chars_bytes width cs
+
+-- places may be written; none may be anywhere
+unfoldable pub can_lay : FlatState → Places → Result (Unit {0}) Fault
+can_lay f p = if p.count == 0 then Ok tt else write_fault f p.at (p.width * p.count)
+
+-- the write of characters to places
+abbrev pub laid : Places → List ℕ → List (ℕ × List ℕ)
+laid p cs = if p.count == 0 then [] else (p.at, chars_bytes p.width (take p.count cs)) ∷ []
+
+-- a reply that writes characters to places
+abbrev pub filled : ℕ → Places → List ℕ → Reply
+filled value p cs = record { value = value; pushes = []; writes = laid p cs }
+
+-- ---- references ("The Dispatch Layer"): 0 is none, on_stack pushes, and any other is an address of words
+
+-- so many words may be given to a reference
+unfoldable pub can_give : FlatState → ℕ → ℕ → Result (Unit {0}) Fault
+can_give f at words = if at == 0 || at == on_stack then Ok tt else write_fault f at (4 * words)
+
+-- what is pushed for a reference, and what is written
+abbrev pub pushed : ℕ → List ℕ → List ℕ
+pushed at words = if at == on_stack then words else []
+
+abbrev pub written : ℕ → List ℕ → List (ℕ × List ℕ)
+written at words = if at == 0 || at == on_stack then [] else (at, chars_bytes 4 words) ∷ []
+
+-- so many values may be pushed
+unfoldable pub fitting : ℕ → ℕ → Result (Unit {0}) Fault
+fitting room pushes = if nat_lt room pushes then Err Overflow else Ok tt
+
+-- the reply of a call that gives words to one reference
+unfoldable pub give : FlatState → ℕ → ℕ → ℕ → List ℕ → Result Reply Fault
+give f room value at words = do
+  there ← can_give f at (length words)
+  fits ← fitting room (length (pushed at words))
+  Ok (record { value = value; pushes = pushed at words; writes = written at words })
+
+-- the same for some references, a word for each, from the left to the right
+unfoldable pub can_give_each : FlatState → List ℕ → Result (Unit {0}) Fault
+can_give_each f [] = Ok tt
+can_give_each f (at ∷ ats) = do
+  there ← can_give f at 1
+  can_give_each f ats
+
+unfoldable pub pushed_each : List ℕ → List ℕ → List ℕ
+pushed_each [] words = []
+pushed_each (at ∷ ats) [] = []
+pushed_each (at ∷ ats) (word ∷ words) = pushed at (word ∷ []) ++ pushed_each ats words
+
+unfoldable pub written_each : List ℕ → List ℕ → List (ℕ × List ℕ)
+written_each [] words = []
+written_each (at ∷ ats) [] = []
+written_each (at ∷ ats) (word ∷ words) = written at (word ∷ []) ++ written_each ats words
+
+-- one of them is there
+abbrev pub some_given : List ℕ → Bool
+some_given [] = false
+some_given (at ∷ ats) = not (at == 0) || some_given ats
+
+unfoldable pub give_each : FlatState → ℕ → ℕ → List ℕ → List ℕ → Result Reply Fault
+give_each f room value ats words = do
+  there ← can_give_each f ats
+  fits ← fitting room (length (pushed_each ats words))
+  Ok (record { value = value; pushes = pushed_each ats words; writes = written_each ats words })
+
+-- two words may be given to a reference
+unfoldable pub can_give_pair : FlatState → ℕ → ℕ → Result (Unit {0}) Fault
+can_give_pair f room at = do
+  there ← can_give f at 2
+  fitting room (if at == on_stack then 2 else 0)

@@ -1,0 +1,5 @@
+mod Constants
+pub mod Puts
+pub mod Reading
+pub mod Saving
+pub mod Rests

@@ -1,0 +1,27 @@
+-- Characters are put to a stream (Glk 0.7.5, "How To Print"): the places in memory where they end are looked at first.
+use Rattle.std.specs.Prelude.{ℕ, ◌==◌, ◌&&◌, ◌||◌, not, if◌then◌else◌, Bool, List, length, Result, Ok}
+use Rattle.gx_words.specs.declared.faults.Fault.{Fault}
+use Rattle.gx_words.specs.Results.{◌>>=◌}
+use Rattle.gx_state.specs.Flat.{FlatState}
+use Rattle.gx_state.specs.declared.effects.Reply.{Reply}
+use Rattle.glk_streams.specs.Streams as streams
+use Rattle.glk_world.specs.World.{Scene, Outcome, answered}
+use Rattle.glk_world.specs.Putting.{puts, put_grows, places_of}
+use Rattle.glk_replies.specs.Parts.{replies, can_lay, filled}
+
+-- The places where so many characters end in memory may be written; a stream that isn't there is none.
+unfoldable pub can_put : Scene → FlatState → ℕ → ℕ → Result (Unit {0}) Fault
+can_put w f stream count = if streams.has w.streams stream then can_lay f (places_of w stream count) else Ok tt
+
+-- Characters are put to a stream, and written where it ends in memory.
+unfoldable pub put_all : Scene → FlatState → ℕ → List ℕ → Outcome Reply
+put_all w f stream cs = do
+  there ← can_put w f stream (length cs)
+  if streams.has w.streams stream
+      then Ok (puts w stream cs, filled 0 (places_of w stream (length cs)) cs)
+      else answered w (replies 0)
+
+-- putting one character wants memory where it adds text, makes a file longer or has a place in memory
+abbrev pub put_grows_one : Scene → ℕ → ℕ → Bool
+put_grows_one w stream c =
+    streams.has w.streams stream && (put_grows w stream c || not ((places_of w stream 1).count == 0))

@@ -1,0 +1,113 @@
+//! The case of characters (Glk 0.7.5, "Upper and Lower Case").
+ghost use Rattle.std.specs.Prelude.{◌≡◌, ℕ, ◌++◌, ◌<◌, ◌≤◌, ◌^◌, nat_lt, map, length, OnOk, OnErr, IfOk, IsTrue};
+ghost use Rattle.gx_state.specs.Flat.{FlatState};
+ghost use Rattle.gx_state.specs.Replies.{IsReply};
+ghost use Rattle.glk_world.specs.World.{Calls};
+ghost use Rattle.glk_text_calls.specs.Characters.{changed, recased, char_to_case, buffer_of, buffer_to_case, rest_of};
+
+use glk_replies::{can_lay, can_read, filled, numbers_at, reply};
+use glk_streams::Places;
+use glk_text::{lower, upper};
+use glk_world::{World, arg};
+use gx_state::{Reply, State};
+use gx_words::{Fault, Numbers};
+use std::alloc::{AllocError, Allocator, Global};
+
+/// What becomes of a character.
+#[derive(Clone, Copy)]
+pub enum Case {
+    Lower,
+    Upper,
+    /// It stays as it is.
+    Same,
+}
+
+fn changed(case: Case, c: u32) -> u32
+    ensures { result ≡ changed case c }
+{
+    match case {
+        Case::Lower => lower(c),
+        Case::Upper => upper(c),
+        Case::Same => c,
+    }
+}
+
+/// Adds characters, each changed.
+fn push_changed(out: &mut Numbers, case: Case, chars: &[u32]) -> Result<(), AllocError>
+    ensures { OnOk result (out.new ≡ out.old ++ map (changed case) chars.now) }
+{
+    for c in chars {
+        out.push(changed(case, *c))?;
+    }
+    Ok(())
+}
+
+/// A text whose first character gets one case, and all others another.
+fn recased(alloc: Global, first: Case, others: Case, chars: &[u32]) -> Result<Numbers, AllocError>
+    ensures value { IfOk result (λ text. text ≡ recased first others chars.now) }
+    ensures len { IfOk result (λ text. length text ≡ length chars.now) }
+    ensures memory { OnErr result (0 < length chars.now) }
+{
+    let mut text = Numbers::new(alloc);
+    if let [c, rest @ ..] = chars {
+        text.push(changed(first, *c))?;
+        push_changed(&mut text, others, rest)?;
+    }
+    Ok(text)
+}
+
+/// char_to_lower and char_to_upper: the low eight bits as a character.
+#[tactic(auto, unfolding(crate::specs::Characters::char_to_case))]
+pub fn char_to_case(world: &mut World, case: Case, args: &[u32]) -> Result<Reply, Fault>
+    ensures value { Calls ⊥ result world.old world.new (char_to_case world.old.scene case args.now) }
+    ensures fits { (f : FlatState) (room : ℕ) → IfOk result (IsReply f room) }
+{
+    let c = changed(case, arg(args, 0) % 256);
+    Ok(reply(world.alloc(), c))
+}
+
+/// The characters of a buffer.
+fn buffer_of(args: &[u32]) -> Places
+    ensures value { result ≡ buffer_of args.now }
+    ensures at { result.at < 2 ^ 32 }
+    ensures width { result.width ≡ 4 }
+{
+    Places {
+        at: u64::from(arg(args, 0)),
+        width: 4,
+        count: arg(args, 2).min(arg(args, 1)),
+    }
+}
+
+/// buffer_to_lower_case_uni, buffer_to_upper_case_uni and buffer_to_title_case_uni: the first character of a buffer
+/// gets one case, and all others another.
+#[tactic(auto, using(glk_replies::proofs::Counting::count_numbers, glk_replies::proofs::Ram::laid_in_ram), unfolding(crate::specs::Characters::buffer_to_case))]
+pub fn buffer_to_case<A: Allocator + Clone>(
+    world: &mut World,
+    state: &State<A>,
+    first: Case,
+    others: Case,
+    args: &[u32],
+) -> Result<Reply, Fault>
+    ensures value { Calls (IsTrue (nat_lt 0 (buffer_of args.now).count)) result world.old world.new (buffer_to_case world.old.scene state.now.flat first others args.now) }
+    ensures fits { (room : ℕ) → IfOk result (IsReply state.now.flat room) }
+{
+    let places = buffer_of(args);
+    can_read(state, places.at, 4 * u64::from(places.count))?;
+    can_lay(state, places)?;
+    let alloc = world.alloc();
+    let chars = numbers_at(alloc, state.memory(), 4, arg(args, 0), places.count)?;
+    let changed = recased(alloc, first, others, chars.as_slice())?;
+    Ok(filled(alloc, arg(args, 2), places, changed.as_slice())?)
+}
+
+/// The case of the characters of a title behind the first one.
+pub fn rest_of(args: &[u32]) -> Case
+    ensures { result ≡ rest_of args.now }
+{
+    if arg(args, 3) == 0 {
+        Case::Same
+    } else {
+        Case::Lower
+    }
+}
