@@ -5,7 +5,8 @@
 -- for a constant zero, `sp` for the top of the stack, or a sign and its data in hexadecimal digits: # for a constant, @
 -- for an address, % for a local, ! for a RAM address. In bytes it is its number in the shortest form, the modes of its
 -- operands, two in a byte with the low nibble first and a spare nibble 0, and their data.
-use Rattle.std.specs.Prelude.{◌≡◌, ℕ, ◌+◌, ◌*◌, ◌/◌, ◌%◌, ◌<◌, ◌==◌, nat_lt, if◌then◌else◌, Bool, true, false, List, [], ◌∷◌, ◌++◌, length, map, take, drop, codes, All}
+use Rattle.std.specs.Prelude.{◌≡◌, ℕ, ◌+◌, ◌*◌, ◌/◌, ◌%◌, ◌<◌, ◌==◌, nat_lt, if◌then◌else◌, Bool, true, false, List, []}
+use Rattle.std.specs.Prelude.{◌∷◌, ◌++◌, length, map, take, drop, codes, All}
 use Rattle.std.specs.List.{flat_map}
 use Rattle.gx_rows.specs.declared.instructions.Row.{Row}
 use Rattle.gx_rows.specs.declared.modes.Addressing.{Addressing}
@@ -52,7 +53,8 @@ fits_kind Store (Ram n) = true
 -- these are modes for the operands of a row from an index on
 abbrev pub AreModes : Row → ℕ → List Addressing → Type 0
 AreModes row i [] = Unit {0}
-AreModes row i (mode ∷ rest) = modes.HasWidth mode × (fits_kind (modes.kind_of row i) mode ≡ true) × AreModes row (i + 1) rest
+AreModes row i (mode ∷ rest) =
+    modes.HasWidth mode × (fits_kind (modes.kind_of row i) mode ≡ true) × AreModes row (i + 1) rest
 
 -- there is such an instruction
 pub record IsWritten (w : Written) : Type 0 where
@@ -132,7 +134,8 @@ word_of (Ram n) bytes = ram_sign ∷ digits bytes
 -- the words of operands, each behind a blank and with its part of the data
 unfoldable pub words_of : List Addressing → List ℕ → List ℕ
 words_of [] bytes = []
-words_of (mode ∷ rest) bytes = blank ∷ word_of mode (take (data_len mode) bytes) ++ words_of rest (drop (data_len mode) bytes)
+words_of (mode ∷ rest) bytes =
+    blank ∷ word_of mode (take (data_len mode) bytes) ++ words_of rest (drop (data_len mode) bytes)
 
 unfoldable pub line_of : Written → List ℕ
 line_of w = name_at w.place ++ words_of w.modes w.operand_data ++ line_feed ∷ []

@@ -1,5 +1,6 @@
 -- The listing of a story, and the story of a code (Glulx 3.1.2, "The Header" and "Functions").
-use Rattle.std.specs.Prelude.{◌≡◌, ℕ, zero, suc, ◌+◌, ◌-◌, ◌/◌, ◌%◌, ◌^◌, ◌==◌, ◌||◌, if◌then◌else◌, Bool, true, List, [], ◌∷◌, ◌++◌, length, drop, replicate, Option, Some, None, Result, Ok}
+use Rattle.std.specs.Prelude.{◌≡◌, ℕ, zero, suc, ◌+◌, ◌-◌, ◌/◌, ◌%◌, ◌^◌, ◌==◌, ◌||◌, if◌then◌else◌, Bool, true, List}
+use Rattle.std.specs.Prelude.{[], ◌∷◌, ◌++◌, length, drop, replicate, Option, Some, None, Result, Ok}
 use Rattle.std.specs.List.{flat_map, list_any}
 use Rattle.std.specs.Option.{ok_or}
 use Rattle.gx_words.specs.Constants.{magic, stack_function, locals_function, header_len}
@@ -74,7 +75,8 @@ header_of size checksum =
 -- a function without locals, behind the header, and zeros
 unfoldable pub story_with : ℕ → List ℕ → List ℕ
 story_with checksum code =
-    header_of (story_len code) checksum ++ (locals_function ∷ 0 ∷ 0 ∷ []) ++ code ++ replicate (story_len code - (code_at + length code)) 0
+    header_of (story_len code) checksum ++ (locals_function ∷ 0 ∷ 0 ∷ []) ++ code
+    ++ replicate (story_len code - (code_at + length code)) 0
 
 -- the sum modulo 2^32 of its words, that of the checksum taken as zero
 abbrev pub checksum_of : List ℕ → ℕ

@@ -1,5 +1,6 @@
 -- THE CODE OF A TEXT, or why it has none. The first bad line decides.
-use Rattle.std.specs.Prelude.{ℕ, ◌+◌, ◌-◌, ◌*◌, ◌==◌, ◌&&◌, ◌||◌, not, nat_le, if◌then◌else◌, Bool, true, false, List, [], ◌∷◌, ◌++◌, length, codes, Result, Ok, Err, slice_index}
+use Rattle.std.specs.Prelude.{ℕ, ◌+◌, ◌-◌, ◌*◌, ◌==◌, ◌&&◌, ◌||◌, not, nat_le, if◌then◌else◌, Bool, true, false, List}
+use Rattle.std.specs.Prelude.{[], ◌∷◌, ◌++◌, length, codes, Result, Ok, Err, slice_index}
 use Rattle.std.specs.List.{slice_split}
 use Rattle.std.specs.Option.{ok_or}
 use Rattle.std.specs.Str.{bytes_eq}
@@ -15,7 +16,8 @@ use Rattle.gx_asm.specs.declared.faults.AsmFault.TheVariants as of_text
 use Rattle.gx_asm.specs.declared.faults.LineFault.{LineFault}
 use Rattle.gx_asm.specs.declared.faults.LineFault.TheVariants as of_line
 use Rattle.gx_asm.specs.Names.{place_named}
-use Rattle.gx_asm.specs.Instructions.{Written, operand_count, fits_kind, bytes_of, blank, line_feed, constant_sign, memory_sign, local_sign, ram_sign}
+use Rattle.gx_asm.specs.Instructions.{Written, operand_count, fits_kind, bytes_of, blank, line_feed, constant_sign}
+use Rattle.gx_asm.specs.Instructions.{memory_sign, local_sign, ram_sign}
 
 -- nothing is amiss, or a fault
 abbrev pub allowed : {E : Type 0} → Bool → E → Result (Unit {0}) E

@@ -2,13 +2,16 @@
 //!
 //! `list` is `listed` of specs/Codes, so that it gives a text exactly where it spells the code. The code is read once;
 //! where memory runs out the rest is read all the same, since a bad instruction comes before want of memory.
-ghost use Rattle.std.specs.Prelude.{◌≡◌, ◌≤◌, ◌<◌, ◌+◌, ◌*◌, ◌/◌, ◌^◌, ◌&&◌, ◌++◌, ◌↔◌, ℕ, true, if◌then◌else◌, List, Ok, Err, IfOk, OnOk, All, length, map, drop, slice_index};
+ghost use Rattle.std.specs.Prelude.{◌≡◌, ◌≤◌, ◌<◌, ◌+◌, ◌*◌, ◌/◌, ◌^◌, ◌&&◌, ◌++◌, ◌↔◌, ℕ, true, if◌then◌else◌, List};
+ghost use Rattle.std.specs.Prelude.{Ok, Err, IfOk, OnOk, All, length, map, drop, slice_index};
 ghost use Rattle.gx_words.specs.Results.{Is, Gives};
 ghost use Rattle.gx_rows.specs.Opcodes.{shortest, spelled};
 ghost use Rattle.gx_rows.specs.Table.{row_count, RowFits};
 ghost use Rattle.gx_asm.specs.declared.faults.ListFault.{ListFault};
-ghost use Rattle.gx_asm.specs.Codes.{front, instruction_at, is_end, listed, mode_in, modes_from, modes_len, nibbles, text_from};
-ghost use Rattle.gx_asm.specs.Instructions.{AreModes, IsWritten, Spelled, all_data_len, by_width, bytes_of, line_of, nibble_of, operand_count, packed};
+ghost use Rattle.gx_asm.specs.Codes.{front, instruction_at, is_end, listed, mode_in, modes_from, modes_len, nibbles};
+ghost use Rattle.gx_asm.specs.Codes.{text_from};
+ghost use Rattle.gx_asm.specs.Instructions.{AreModes, IsWritten, Spelled, all_data_len, by_width, bytes_of, line_of};
+ghost use Rattle.gx_asm.specs.Instructions.{nibble_of, operand_count, packed};
 ghost use Rattle.gx_asm.specs.Views.{written};
 
 use crate::faults::ListFault;
@@ -50,7 +53,8 @@ pub(crate) fn list_from(
 ) -> Result<Bytes, ListFault>
     requires short { length code.now < 2 ^ 32 }
     requires within { at ≤ length code.now }
-    ensures value { Gives ListFault.NoMemory (λ text. text) result (text_from (length code.now) ends at (drop at code.now)) }
+    ensures value { Gives ListFault.NoMemory (λ text. text) result
+        (text_from (length code.now) ends at (drop at code.now)) }
     ensures memory { result ≡ Err ListFault.NoMemory → at < length code.now }
 {
     are_bytes(code);
@@ -213,7 +217,7 @@ fn copied(bytes: &[u8]) -> ArrayVec<u8, 32>
     ensures { result.items ≡ bytes.now }
 {
     let mut copy = ArrayVec::new();
-    let _fits = copy.try_extend_from_slice(bytes);
+    let _fits = copy.try_extend_from_slice(bytes); // they have room, as is required
     copy
 }
 

@@ -6,7 +6,8 @@ ghost use Rattle.std.specs.Prelude.{◌≡◌, ◌≤◌, ◌++◌, ◌∷◌, [
 ghost use Rattle.gx_words.specs.Constants.{locals_function};
 ghost use Rattle.gx_words.specs.Results.{Gives};
 ghost use Rattle.gx_story.specs.Stories.{accepted, is_checked};
-ghost use Rattle.gx_asm.specs.Stories.{IsListedBack, format_len, head_len, header_of, is_function, is_type, listed_story, story_with, with_start, wrapped, wrapped_story};
+ghost use Rattle.gx_asm.specs.Stories.{IsListedBack, format_len, head_len, header_of, is_function, is_type};
+ghost use Rattle.gx_asm.specs.Stories.{listed_story, story_with, with_start, wrapped, wrapped_story};
 
 use crate::codes::list_from;
 use crate::faults::ListFault;

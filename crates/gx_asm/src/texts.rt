@@ -3,12 +3,14 @@
 //! `assemble` is `assembled` of specs/Texts, so that it gives a code exactly where the text spells it. The text is read
 //! once, from its head to its end; where memory runs out the rest is read all the same, since a line that isn't
 //! understood comes before want of memory. Nothing but the code takes memory.
-ghost use Rattle.std.specs.Prelude.{◌≡◌, ◌<◌, ◌≤◌, ◌+◌, ◌^◌, ◌==◌, ◌++◌, ◌↔◌, ℕ, true, List, [], ◌∷◌, Ok, IfOk, IfSome, IfNone, length};
+ghost use Rattle.std.specs.Prelude.{◌≡◌, ◌<◌, ◌≤◌, ◌+◌, ◌^◌, ◌==◌, ◌++◌, ◌↔◌, ℕ, true, List, [], ◌∷◌, Ok, IfOk, IfSome};
+ghost use Rattle.std.specs.Prelude.{IfNone, length};
 ghost use Rattle.std.specs.List.{count_by, position_or_len, slice_split};
 ghost use Rattle.gx_words.specs.Results.{Is, Gives};
 ghost use Rattle.gx_rows.specs.Table.{row_at, row_count};
 ghost use Rattle.gx_asm.specs.Instructions.{IsWritten, Spelled, bytes_of, operand_count};
-ghost use Rattle.gx_asm.specs.Texts.{assembled, bytes_in, data_in, digit_value, instruction_in, is_blank, is_cut, mode_with, operand_in, operands_in, place_in};
+ghost use Rattle.gx_asm.specs.Texts.{assembled, bytes_in, data_in, digit_value, instruction_in, is_blank, is_cut};
+ghost use Rattle.gx_asm.specs.Texts.{mode_with, operand_in, operands_in, place_in};
 ghost use Rattle.gx_asm.specs.Views.{written};
 
 use crate::faults::{AsmFault, LineFault};
@@ -124,7 +126,8 @@ fn read_name(name: &[u8], count: usize) -> Result<usize, LineFault>
 fn read_operands(place: usize, words: &[u8]) -> Result<Instruction, LineFault>
     requires place { place < row_count }
     requires count { length (slice_split is_blank words.now) ≡ operand_count (row_at place) }
-    ensures value { Is (λ i. (i.modes.items, i.operand_data.items)) result (operands_in (row_at place) 0 (slice_split is_blank words.now)) }
+    ensures value { Is (λ i. (i.modes.items, i.operand_data.items)) result
+        (operands_in (row_at place) 0 (slice_split is_blank words.now)) }
     ensures place { IfOk result (λ i. i.place ≡ place) }
 {
     let row = row_at(place);
@@ -246,7 +249,8 @@ fn push_all(operand_data: &mut ArrayVec<u8, 32>, bytes: &[u8])
 /// What stands before a byte and what behind it, where it first stands.
 #[tactic(auto, using(crate::proofs::ReadingTurns::parts))]
 fn split_once(bytes: &[u8], mark: u8) -> Option<(&[u8], &[u8])>
-    ensures found { IfSome result (λ parts. slice_split (λ b. b == mark) bytes.now ≡ parts.0.now ∷ slice_split (λ b. b == mark) parts.1.now) }
+    ensures found { IfSome result (λ parts. slice_split (λ b. b == mark) bytes.now
+        ≡ parts.0.now ∷ slice_split (λ b. b == mark) parts.1.now) }
     ensures shorter { IfSome result (λ parts. length parts.0.now + length parts.1.now + 1 ≡ length bytes.now) }
     ensures missing { IfNone result (slice_split (λ b. b == mark) bytes.now ≡ bytes.now ∷ []) }
 {

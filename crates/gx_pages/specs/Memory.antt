@@ -1,7 +1,8 @@
 -- The memory of a machine as a list of bytes (Glulx 3.1.2, "The Memory Map").
 --
 -- An address is a place in the list, and a size is the list's length.
-use Rattle.std.specs.Prelude.{◌≡◌, ◌⊎◌, ℕ, ◌+◌, ◌-◌, ◌%◌, ◌<◌, ◌≤◌, ◌&&◌, nat_lt, nat_le, if◌then◌else◌, List, [], ◌∷◌, ◌++◌, length, take, map, slice_index, replicate, Result, Ok, Err}
+use Rattle.std.specs.Prelude.{◌≡◌, ◌⊎◌, ℕ, ◌+◌, ◌-◌, ◌%◌, ◌<◌, ◌≤◌, ◌&&◌, nat_lt, nat_le, if◌then◌else◌, List, [], ◌∷◌}
+use Rattle.std.specs.Prelude.{◌++◌, length, take, map, slice_index, replicate, Result, Ok, Err}
 use Rattle.std.specs.List.{range_with_len}
 use Rattle.gx_words.specs.Constants.{ceiling}
 use Rattle.gx_words.specs.Numbers.{number, spliced}

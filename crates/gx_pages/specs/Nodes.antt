@@ -1,5 +1,6 @@
 -- What every node of 16 chunks has, since its chunks have it.
-use Rattle.std.proofs.Common.{◌≡◌, ℕ, ◌*◌, ◌%◌, ◌<◌, List, [], ◌∷◌, ◌++◌, length, sym, refl, ap, subst, ◌∙◌, arith, length-append}
+use Rattle.std.proofs.Common.{◌≡◌, ℕ, ◌*◌, ◌%◌, ◌<◌, List, [], ◌∷◌, ◌++◌, length, sym, refl, ap, subst, ◌∙◌, arith}
+use Rattle.std.proofs.Common.{length-append}
 use Rattle.std.proofs.Math.Nat.{mul-suc, mul-zero, mul_comm}
 use Rattle.std.specs.List.{AllZip}
 use Rattle.std.specs.declared.rc.Rc.{Rc}
@@ -19,7 +20,8 @@ module _ {C Z : Type 0} (P : C → Type 0) where
   clones_whole (p ∷ ps) [] z w = tt
   clones_whole (p ∷ ps) (q ∷ qs) z w = (subst P (sym z.0) w.0, clones_whole ps qs z.1 w.1)
 
-  pub sixteen_cloned : (ps qs : List (Rc C Z)) → AllZip (λ x y. y.value ≡ x.value) ps qs × (length qs ≡ 16) → AreSixteen P ps → AreSixteen P qs
+  pub sixteen_cloned : (ps qs : List (Rc C Z)) → AllZip (λ x y. y.value ≡ x.value) ps qs × (length qs ≡ 16)
+      → AreSixteen P ps → AreSixteen P qs
   sixteen_cloned ps qs z w = record { whole = clones_whole ps qs z.0 w.whole; count = z.1 }
 
 module _ {C Z : Type 0} (b : C → List ℕ) where
@@ -32,7 +34,13 @@ module _ {C Z : Type 0} (b : C → List ℕ) where
 module _ {C Z : Type 0} (b : C → List ℕ) (P : C → Type 0) (n : ℕ) (s : (x : C) → P x → length (b x) ≡ n) where
   pub length-flat : (ps : List (Rc C Z)) → AllWhole P ps → length (flat b ps) ≡ n * length ps
   length-flat [] w = sym (mul-zero n)
-  length-flat (p ∷ ps) w = omega (arith, length-append (b p.value) (flat b ps), s p.value w.0, length-flat ps w.1, mul-suc n (length ps))
+  length-flat (p ∷ ps) w = omega (
+    arith,
+    length-append (b p.value) (flat b ps),
+    s p.value w.0,
+    length-flat ps w.1,
+    mul-suc n (length ps),
+  )
 
   pub length-sixteen : (ps : List (Rc C Z)) → AreSixteen P ps → length (flat b ps) ≡ 16 * n
   length-sixteen ps w = length-flat ps w.whole ∙ ap (λ (k : ℕ). n * k) w.count ∙ mul_comm n 16

@@ -2,7 +2,8 @@
 //!
 //! A page is a chunk, and so is a node of chunks. Contracts see a chunk by its bytes. What is said here of
 //! a handle to a chunk is proved once, for every chunk.
-ghost use Rattle.std.specs.Prelude.{◌≡◌, ℕ, List, true, ◌+◌, ◌-◌, ◌%◌, ◌<◌, ◌≤◌, length, take, drop, IfSome, OnOk, OnErr};
+ghost use Rattle.std.specs.Prelude.{◌≡◌, ℕ, List, true, ◌+◌, ◌-◌, ◌%◌, ◌<◌, ◌≤◌, length, take, drop, IfSome, OnOk};
+ghost use Rattle.std.specs.Prelude.{OnErr};
 ghost use Rattle.gx_words.specs.Numbers.{spliced};
 
 use std::alloc::{AllocError, Allocator};
@@ -86,7 +87,8 @@ pub trait Writable<A: Allocator, P: Allocator>: Chunk + Clone {
         requires start { length start.now ≤ 256 }
         ensures first { Self.IsWhole first.new }
         ensures next { Self.IsWhole next.new }
-        ensures end { OnOk result (Self.bytes_of first.new ≡ spliced (Self.bytes_of first.old) (Self.SIZE - length end.now) end.now) }
+        ensures end { OnOk result (Self.bytes_of first.new
+            ≡ spliced (Self.bytes_of first.old) (Self.SIZE - length end.now) end.now) }
         ensures start { OnOk result (Self.bytes_of next.new ≡ spliced (Self.bytes_of next.old) 0 start.now) }
         ensures first_stays { OnErr result (Self.bytes_of first.new ≡ Self.bytes_of first.old) }
         ensures next_stays { OnErr result (Self.bytes_of next.new ≡ Self.bytes_of next.old) };
@@ -110,7 +112,8 @@ pub trait Writable<A: Allocator, P: Allocator>: Chunk + Clone {
         requires order { from ≤ end }
         requires inside { end ≤ Self.SIZE }
         ensures whole { Self.IsWhole self.new }
-        ensures ok { OnOk result (Self.bytes_of self.new ≡ spliced (Self.bytes_of self.old) from (take (end - from) (drop from (Self.bytes_of other.now)))) };
+        ensures ok { OnOk result (Self.bytes_of self.new
+            ≡ spliced (Self.bytes_of self.old) from (take (end - from) (drop from (Self.bytes_of other.now)))) };
 
     ghost same_copied: { (x y : Self) → Self.is_clone x y → Self.bytes_of y ≡ Self.bytes_of x };
 
@@ -130,7 +133,8 @@ pub fn in_one_page(at: usize, count: usize) -> usize
 /// Whether what is there begins with these bytes, so that they may as well be written.
 pub fn begins(there: &[u8], bytes: &[u8]) -> bool
     requires { length bytes.now ≤ length there.now }
-    ensures { result ≡ true → (all : List ℕ) (at k : ℕ) → there.now ≡ take k (drop at all) → all ≡ spliced all at bytes.now }
+    ensures { result ≡ true → (all : List ℕ) (at k : ℕ) → there.now ≡ take k (drop at all)
+        → all ≡ spliced all at bytes.now }
 {
     &there[..bytes.len()] == bytes
 }
@@ -214,7 +218,8 @@ pub fn write_pair_in<A: Allocator, P: Allocator + Clone, C: Writable<A, P>>(
     requires start { length start.now ≤ 256 }
     ensures first { C.IsWhole first.new.value }
     ensures next { C.IsWhole next.new.value }
-    ensures end { OnOk result (C.bytes_of first.new.value ≡ spliced (C.bytes_of first.old.value) (C.SIZE - length end.now) end.now) }
+    ensures end { OnOk result (C.bytes_of first.new.value
+        ≡ spliced (C.bytes_of first.old.value) (C.SIZE - length end.now) end.now) }
     ensures start { OnOk result (C.bytes_of next.new.value ≡ spliced (C.bytes_of next.old.value) 0 start.now) }
     ensures first_stays { OnErr result (C.bytes_of first.new.value ≡ C.bytes_of first.old.value) }
     ensures next_stays { OnErr result (C.bytes_of next.new.value ≡ C.bytes_of next.old.value) }
@@ -254,7 +259,8 @@ pub fn take_in<A: Allocator, P: Allocator + Clone, C: Writable<A, P>>(
     requires order { from ≤ end }
     requires inside { end ≤ C.SIZE }
     ensures whole { C.IsWhole chunk.new.value }
-    ensures ok { OnOk result (C.bytes_of chunk.new.value ≡ spliced (C.bytes_of chunk.old.value) from (take (end - from) (drop from (C.bytes_of other.now.value)))) }
+    ensures ok { OnOk result (C.bytes_of chunk.new.value
+        ≡ spliced (C.bytes_of chunk.old.value) from (take (end - from) (drop from (C.bytes_of other.now.value)))) }
 {
     if end - from == C::SIZE {
         *chunk = other.clone()?;

@@ -2,7 +2,8 @@
 //!
 //! Contracts see them as one list of bytes. A call that is refused leaves the chunks whole, and where it
 //! doesn't say that their bytes stay, a part may be written.
-ghost use Rattle.std.specs.Prelude.{◌≡◌, ℕ, ◌+◌, ◌*◌, ◌-◌, ◌/◌, ◌%◌, ◌<◌, ◌≤◌, length, take, drop, slice_index_or, replicate, IfOk, OnOk, OnErr};
+ghost use Rattle.std.specs.Prelude.{◌≡◌, ℕ, ◌+◌, ◌*◌, ◌-◌, ◌/◌, ◌%◌, ◌<◌, ◌≤◌, length, take, drop, slice_index_or};
+ghost use Rattle.std.specs.Prelude.{replicate, IfOk, OnOk, OnErr};
 ghost use Rattle.std.specs.declared.rc.Rc.{Rc};
 ghost use Rattle.gx_words.specs.Constants.{ceiling};
 ghost use Rattle.gx_words.specs.Numbers.{spliced};
@@ -156,7 +157,8 @@ fn take_in_one<A: Allocator, P: Allocator + Clone, C: Writable<A, P>>(
     requires there { at < C.SIZE * length others.now }
     requires chunk { at % C.SIZE + count ≤ C.SIZE }
     ensures whole { AllWhole C.IsWhole chunks.new }
-    ensures ok { OnOk result (flat C.bytes_of chunks.new ≡ spliced (flat C.bytes_of chunks.old) at (take count (drop at (flat C.bytes_of others.now)))) }
+    ensures ok { OnOk result (flat C.bytes_of chunks.new
+        ≡ spliced (flat C.bytes_of chunks.old) at (take count (drop at (flat C.bytes_of others.now)))) }
     ensures count { length chunks.new ≡ length chunks.old }
 {
     let place = at % C::SIZE;
@@ -230,7 +232,8 @@ pub fn take_from<A: Allocator, P: Allocator + Clone, C: Writable<A, P>>(
     requires inside { end ≤ C.SIZE * length chunks.old }
     requires there { end ≤ C.SIZE * length others.now }
     ensures whole { AllWhole C.IsWhole chunks.new }
-    ensures ok { OnOk result (flat C.bytes_of chunks.new ≡ spliced (flat C.bytes_of chunks.old) from (take (end - from) (drop from (flat C.bytes_of others.now)))) }
+    ensures ok { OnOk result (flat C.bytes_of chunks.new
+        ≡ spliced (flat C.bytes_of chunks.old) from (take (end - from) (drop from (flat C.bytes_of others.now)))) }
     ensures count { length chunks.new ≡ length chunks.old }
 {
     let mut at = from;

@@ -9,11 +9,13 @@
 //! another table of the same leaves; that is taken once all is written. Pages of zeros are one page (there is
 //! none in memory that has no zeros to share it), and a write of what is there already inside one page leaves
 //! it as shared as it was.
-ghost use Rattle.std.specs.Prelude.{◌≡◌, ◌⊎◌, ℕ, true, ◌+◌, ◌-◌, ◌%◌, ◌<◌, ◌≤◌, ◌^◌, ◌++◌, length, take, drop, replicate, IfOk, OnOk, OnErr};
+ghost use Rattle.std.specs.Prelude.{◌≡◌, ◌⊎◌, ℕ, true, ◌+◌, ◌-◌, ◌%◌, ◌<◌, ◌≤◌, ◌^◌, ◌++◌, length, take, drop};
+ghost use Rattle.std.specs.Prelude.{replicate, IfOk, OnOk, OnErr};
 ghost use Rattle.gx_words.specs.Numbers.{IsWidth, byte, half, word, number, spliced};
 ghost use Rattle.gx_words.specs.Faults.{Reads};
 ghost use Rattle.gx_words.specs.Constants.{ceiling};
-ghost use Rattle.gx_pages.specs.Memory.{IsSize, IsInside, AreInside, HasBytes, number_in, all_spliced, resized, put_back_of};
+ghost use Rattle.gx_pages.specs.Memory.{IsSize, IsInside, AreInside, HasBytes, number_in, all_spliced, resized};
+ghost use Rattle.gx_pages.specs.Memory.{put_back_of};
 
 use crate::chunk::Page;
 use crate::page::{has_zero_page, page_of, zero_of, zero_page, zeros};
@@ -416,7 +418,8 @@ impl<A: Allocator + Clone> Pages<A> {
     ) -> Result<Pages<A>, AllocError>
         requires whole { IsSize size }
         requires room { length bytes.now ≤ size }
-        ensures value { IfOk result (λ all. all ≡ put_back_of self.now (bytes.now ++ replicate (size - length bytes.now) 0) skip.0 skip.1) }
+        ensures value { IfOk result (λ all. all
+            ≡ put_back_of self.now (bytes.now ++ replicate (size - length bytes.now) 0) skip.0 skip.1) }
         ensures size { IfOk result (λ all. length all ≡ size) }
     {
         let common = self.common_for(bytes, size)?;

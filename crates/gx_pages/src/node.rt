@@ -24,7 +24,8 @@ impl<C: Drop, P: Allocator> Clone for Node<C, P> {
     ghost use Rattle.std.specs.Prelude.{◌≡◌, length};
     ghost use Rattle.std.specs.List.{AllZip};
 
-    ghost is_clone = { λ node copy. AllZip (λ x y. y.value ≡ x.value) node.chunks copy.chunks × (length copy.chunks ≡ 16) };
+    ghost is_clone = { λ node copy. AllZip (λ x y. y.value ≡ x.value) node.chunks copy.chunks
+        × (length copy.chunks ≡ 16) };
 
     fn clone(&self) -> Result<Node<C, P>, AllocError> {
         Ok(Node {
@@ -120,7 +121,8 @@ impl<C: Part, P: Allocator> Node<C, P> {
     pub fn filled(alloc: Global, chunk: &Rc<C, P>) -> Result<Node<C, P>, AllocError>
         requires { C.IsWhole chunk.now.value }
         ensures whole { IfOk result (λ node. AreSixteen C.IsWhole node.chunks) }
-        ensures zero { C.bytes_of chunk.now.value ≡ replicate C.SIZE 0 → IfOk result (λ node. flat C.bytes_of node.chunks ≡ replicate (16 * C.SIZE) 0) }
+        ensures zero { C.bytes_of chunk.now.value ≡ replicate C.SIZE 0
+            → IfOk result (λ node. flat C.bytes_of node.chunks ≡ replicate (16 * C.SIZE) 0) }
     {
         Ok(Node {
             chunks: owners(alloc, chunk)?,

@@ -2,7 +2,8 @@
 //!
 //! A call that is refused may have written a part: a caller that has to leave memory as it was
 //! writes to another table of the same leaves, and takes that once all is written.
-ghost use Rattle.std.specs.Prelude.{◌≡◌, ℕ, List, true, false, ◌%◌, ◌+◌, ◌-◌, ◌<◌, ◌≤◌, ◌++◌, length, take, drop, OnOk, OnErr};
+ghost use Rattle.std.specs.Prelude.{◌≡◌, ℕ, List, true, false, ◌%◌, ◌+◌, ◌-◌, ◌<◌, ◌≤◌, ◌++◌, length, take, drop, OnOk};
+ghost use Rattle.std.specs.Prelude.{OnErr};
 ghost use Rattle.gx_words.specs.Numbers.{spliced};
 ghost use Rattle.gx_pages.specs.Memory.{IsInside, AreInside, HasBytes, all_spliced};
 

@@ -4,7 +4,8 @@
 //! written to: a write first makes the leaf, then the group and then the page its own, and a write of what is
 //! there already leaves a shared page shared. Past the size there may be bytes of a larger table that was cut;
 //! `grow` makes them zero.
-ghost use Rattle.std.specs.Prelude.{◌≡◌, ◌+◌, ◌*◌, ◌-◌, ◌%◌, ◌<◌, ◌≤◌, ◌++◌, length, take, drop, replicate, IfOk, OnOk, OnErr};
+ghost use Rattle.std.specs.Prelude.{◌≡◌, ◌+◌, ◌*◌, ◌-◌, ◌%◌, ◌<◌, ◌≤◌, ◌++◌, length, take, drop, replicate, IfOk, OnOk};
+ghost use Rattle.std.specs.Prelude.{OnErr};
 ghost use Rattle.gx_words.specs.Constants.{ceiling};
 ghost use Rattle.gx_words.specs.Numbers.{spliced};
 ghost use Rattle.gx_pages.specs.Memory.{IsSize, IsInside, resized};
@@ -278,7 +279,8 @@ fn filled_leaves<A: Allocator>(
     requires page { length page.now.value ≡ 256 }
     requires few { count ≤ most_leaves }
     ensures whole { IfOk result (λ leaves. AllWhole IsLeaf leaves.items) }
-    ensures zero { page.now.value ≡ replicate 256 0 → IfOk result (λ leaves. flat leaf_bytes leaves.items ≡ replicate (65536 * count) 0) }
+    ensures zero { page.now.value ≡ replicate 256 0
+        → IfOk result (λ leaves. flat leaf_bytes leaves.items ≡ replicate (65536 * count) 0) }
     ensures count { IfOk result (λ leaves. length leaves.items ≡ count) }
 {
     let mut leaves = Vec::new(alloc);
@@ -298,7 +300,8 @@ fn clear_tail<A: Allocator + Clone>(
 ) -> Result<(), AllocError>
     requires top { IsTop leaves.old.items size }
     ensures top { IsTop leaves.new.items size }
-    ensures ok { OnOk result (flat leaf_bytes leaves.new.items ≡ take size (flat leaf_bytes leaves.old.items) ++ replicate (65536 * length leaves.old.items - size) 0) }
+    ensures ok { OnOk result (flat leaf_bytes leaves.new.items
+        ≡ take size (flat leaf_bytes leaves.old.items) ++ replicate (65536 * length leaves.old.items - size) 0) }
     ensures below { take size (flat leaf_bytes leaves.new.items) ≡ take size (flat leaf_bytes leaves.old.items) }
     ensures count { length leaves.new.items ≡ length leaves.old.items }
 {
@@ -317,10 +320,12 @@ fn grow<A: Allocator + Clone>(
     requires top { IsTop leaves.old.items old }
     requires whole { IsSize size }
     requires more { old < size }
-    ensures ok { OnOk result (take size (flat leaf_bytes leaves.new.items) ≡ take old (flat leaf_bytes leaves.old.items) ++ replicate (size - old) 0) }
+    ensures ok { OnOk result (take size (flat leaf_bytes leaves.new.items)
+        ≡ take old (flat leaf_bytes leaves.old.items) ++ replicate (size - old) 0) }
     ensures top { OnOk result (IsTop leaves.new.items size) }
     ensures kept { OnErr result (IsTop leaves.new.items old) }
-    ensures err { OnErr result (take old (flat leaf_bytes leaves.new.items) ≡ take old (flat leaf_bytes leaves.old.items)) }
+    ensures err { OnErr result (take old (flat leaf_bytes leaves.new.items)
+        ≡ take old (flat leaf_bytes leaves.old.items)) }
 {
     clear_tail(leaves, zero, old)?;
     let count = leaves_for(size) - leaves.len();

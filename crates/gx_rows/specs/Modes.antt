@@ -80,4 +80,6 @@ HasWidth (Ram n) = IsWidth n
 
 -- the loads of a row stand before its stores, but for one whose store stands first
 abbrev pub kind_of : Row → ℕ → Kind
-kind_of row i = if row.store_first then (if nat_lt i row.stores then Store else Load) else (if nat_lt i row.loads then Load else Store)
+kind_of row i =
+    if row.store_first then (if nat_lt i row.stores then Store else Load)
+    else (if nat_lt i row.loads then Load else Store)

@@ -4,17 +4,28 @@
 --
 -- A line says the number by its name, how many operands are loaded and stored, and the class. What an
 -- instruction does is said by the definitions of its class.
-use Rattle.std.specs.Prelude.{◌≤◌, ◌==◌, ◌+◌, ◌%◌, ◌&&◌, ◌||◌, ℕ, Bool, true, false, nat_le, nat_lt, List, [], ◌∷◌, Option, Some, None, find, slice_index_or, if◌then◌else◌}
+use Rattle.std.specs.Prelude.{◌≤◌, ◌==◌, ◌+◌, ◌%◌, ◌&&◌, ◌||◌, ℕ, Bool, true, false, nat_le, nat_lt, List, [], ◌∷◌}
+use Rattle.std.specs.Prelude.{Option, Some, None, find, slice_index_or, if◌then◌else◌}
 use Rattle.std.specs.List.{list_all, position_or_len}
 use Rattle.gx_words.specs.Numbers.{IsWidth}
 use Rattle.gx_rows.specs.Numbers as numbers
 use Rattle.gx_rows.specs.declared.instructions.Row.{Row}
 use Rattle.gx_rows.specs.declared.instructions.Class.{Class}
-use Rattle.gx_rows.specs.declared.instructions.Class.TheVariants.{Calc, Branch, Flow, Copy, Memory, Stack, Print, Game, Glk}
+use Rattle.gx_rows.specs.declared.instructions.Class.TheVariants.{Calc, Branch, Flow, Copy, Memory, Stack, Print, Game}
+use Rattle.gx_rows.specs.declared.instructions.Class.TheVariants.{Glk}
 
 -- an instruction with so many loads and, after them, stores of 4 bytes
 abbrev row : ℕ → ℕ → ℕ → Class → Row
-row number loads stores class = record { number = number; loads = loads; stores = stores; store_first = false; width = 4; class = class; act = number % 256 }
+row number loads stores class =
+    record {
+      number = number;
+      loads = loads;
+      stores = stores;
+      store_first = false;
+      width = 4;
+      class = class;
+      act = number % 256;
+    }
 
 -- one whose operands in memory and locals have another width
 abbrev narrow : ℕ → ℕ → ℕ → ℕ → Class → Row
@@ -154,7 +165,8 @@ place_of number = place_within (position_or_len (λ row. row.number == number) t
 -- the numbers from one on stand at these places of the table; its length is the place of those that no row has
 unfoldable pub are_places : ℕ → List ℕ → Bool
 are_places number [] = true
-are_places number (place ∷ places) = (position_or_len (λ row. row.number == number) table == place) && are_places (number + 1) places
+are_places number (place ∷ places) =
+    (position_or_len (λ row. row.number == number) table == place) && are_places (number + 1) places
 
 -- no row has a number from this one on
 unfoldable pub are_below : ℕ → List Row → Bool

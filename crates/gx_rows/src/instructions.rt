@@ -5,7 +5,8 @@
 ghost use Rattle.std.specs.Prelude.{◌≡◌, ◌<◌, IsTrue, IfSome, option_map, length};
 ghost use Rattle.std.specs.List.{list_all};
 ghost use Rattle.gx_rows.specs.Keys.{is_rising};
-ghost use Rattle.gx_rows.specs.Table.{table, row_count, row_of, row_at, place_of, row_fits, RowFits, are_places, are_below};
+ghost use Rattle.gx_rows.specs.Table.{table, row_count, row_of, row_at, place_of, row_fits, RowFits, are_places};
+ghost use Rattle.gx_rows.specs.Table.{are_below};
 
 use crate::Keyed;
 use crate::numbers::*;

@@ -1,5 +1,6 @@
 -- The search that halves a row of rising keys: binarysearch (Glulx 3.1.2, "Searching").
-use Rattle.std.specs.Prelude.{◌≡◌, ◌≢◌, ℕ, zero, suc, ◌+◌, ◌-◌, ◌*◌, ◌/◌, ◌%◌, ◌^◌, ◌<◌, Bool, ◌==◌, ◌||◌, nat_lt, nat_le, if◌then◌else◌, List, length, Some, None, Result, Ok, Err}
+use Rattle.std.specs.Prelude.{◌≡◌, ◌≢◌, ℕ, zero, suc, ◌+◌, ◌-◌, ◌*◌, ◌/◌, ◌%◌, ◌^◌, ◌<◌, Bool, ◌==◌, ◌||◌, nat_lt}
+use Rattle.std.specs.Prelude.{nat_le, if◌then◌else◌, List, length, Some, None, Result, Ok, Err}
 use Rattle.std.specs.Ordering.{nat_cmp}
 use Rattle.std.specs.declared.cmp.Ordering.{Ordering}
 use Rattle.std.specs.declared.cmp.Ordering.TheVariants.{Less, Equal, Greater}
@@ -16,7 +17,8 @@ use Rattle.gx_search.specs.Searches.{Struct, Search, no_probe, with_probe}
 -- wrapping. Where there is no struct, or no byte in a key, none has to be.
 abbrev pub has_all_keys : List ℕ → Ask → Bool
 has_all_keys memory ask =
-    ask.count == 0 || ask.key_size == 0 || nat_le (ask.start + (ask.count - 1) * ask.struct_size + ask.key_offset + ask.key_size) (length memory)
+    ask.count == 0 || ask.key_size == 0 ||
+    nat_le (ask.start + (ask.count - 1) * ask.struct_size + ask.key_offset + ask.key_size) (length memory)
 
 -- the address of the struct of an index
 abbrev pub struct_at : Ask → ℕ → ℕ
@@ -39,12 +41,16 @@ halving memory ask (suc left) low high =
     let index = middle low high in
     let at = struct_at ask index in
     if nat_lt low high
-    then with_probe (after_order (record { address = at; index = index }) (halving memory ask left low index) (halving memory ask left (index + 1) high) (compared memory ask at))
+    then with_probe
+    (after_order (record { address = at; index = index }) (halving memory ask left low index)
+    (halving memory ask left (index + 1) high) (compared memory ask at))
     else no_probe (Ok None)
 
 unfoldable pub binary : List ℕ → Ask → Search
 binary memory ask =
-    if has_size ask then (if has_all_keys memory ask then halving memory ask ask.count 0 ask.count else no_probe (Err BadAddress)) else no_probe (Err BadMode)
+    if has_size ask
+    then (if has_all_keys memory ask then halving memory ask ask.count 0 ask.count else no_probe (Err BadAddress))
+    else no_probe (Err BadMode)
 
 -- the key of the struct of an index
 abbrev pub key_in_row : List ℕ → Ask → ℕ → List ℕ
@@ -52,7 +58,8 @@ key_in_row memory ask i = key_at memory ask (struct_at ask i)
 
 -- the keys of the row rise
 abbrev pub IsRisingRow : List ℕ → Ask → Type 0
-IsRisingRow memory ask = (i j : ℕ) → i < j → j < ask.count → slice_cmp nat_cmp (key_in_row memory ask i) (key_in_row memory ask j) ≡ Less
+IsRisingRow memory ask =
+    (i j : ℕ) → i < j → j < ask.count → slice_cmp nat_cmp (key_in_row memory ask i) (key_in_row memory ask j) ≡ Less
 
 -- What a search of a row of rising keys found: a struct with the key, or that none has it.
 unfoldable pub IsFoundInRow : List ℕ → Ask → Result Found Fault → Type 0

@@ -1,5 +1,6 @@
 -- The key of a search, and how a struct's key compares with it (Glulx 3.1.2, "Searching").
-use Rattle.std.specs.Prelude.{ℕ, ◌+◌, ◌/◌, ◌%◌, ◌^◌, Bool, not, ◌==◌, ◌&&◌, ◌||◌, nat_le, if◌then◌else◌, List, length, take, drop, Result, Ok, Err}
+use Rattle.std.specs.Prelude.{ℕ, ◌+◌, ◌/◌, ◌%◌, ◌^◌, Bool, not, ◌==◌, ◌&&◌, ◌||◌, nat_le, if◌then◌else◌, List, length}
+use Rattle.std.specs.Prelude.{take, drop, Result, Ok, Err}
 use Rattle.std.specs.List.{list_all}
 use Rattle.std.specs.Str.{bytes_eq}
 use Rattle.std.specs.Ordering.{nat_cmp}
@@ -68,4 +69,5 @@ probe memory ask at =
 -- the same for an order of keys, which is that of their first bytes that differ, read as unsigned
 unfoldable pub compared : List ℕ → Ask → ℕ → Result Ordering Fault
 compared memory ask at =
-    if can_probe memory ask at then Ok (slice_cmp nat_cmp (sought memory ask) (key_at memory ask at)) else Err BadAddress
+    if can_probe memory ask at then Ok (slice_cmp nat_cmp (sought memory ask) (key_at memory ask at))
+    else Err BadAddress

@@ -1,6 +1,7 @@
 -- A search as a whole, and those that look at one struct after another: linearsearch and linkedsearch
 -- (Glulx 3.1.2, "Searching"), with what it means that something was found.
-use Rattle.std.specs.Prelude.{◌≡◌, ◌⊎◌, ℕ, zero, suc, ◌+◌, ◌%◌, ◌^◌, ◌<◌, ◌≤◌, Bool, not, ◌==◌, ◌&&◌, nat_lt, nat_le, if◌then◌else◌, List, Option, Some, None, Result, Ok, Err}
+use Rattle.std.specs.Prelude.{◌≡◌, ◌⊎◌, ℕ, zero, suc, ◌+◌, ◌%◌, ◌^◌, ◌<◌, ◌≤◌, Bool, not, ◌==◌, ◌&&◌, nat_lt, nat_le}
+use Rattle.std.specs.Prelude.{if◌then◌else◌, List, Option, Some, None, Result, Ok, Err}
 use Rattle.gx_words.specs.declared.faults.Fault.{Fault}
 use Rattle.gx_words.specs.declared.faults.Fault.TheVariants.{BadMode}
 use Rattle.gx_words.specs.Results.{◌>>=◌}
@@ -85,7 +86,8 @@ at_struct memory ask i rest (Err e) = no_probe (Err e)
 -- the search through so many structs, from an index on
 unfoldable pub search_from : Layout → List ℕ → Ask → ℕ → ℕ → Search
 search_from l memory ask zero i = no_probe (Ok None)
-search_from l memory ask (suc left) i = at_struct memory ask i (search_from l memory ask left (i + 1)) (place_of l memory ask i)
+search_from l memory ask (suc left) i =
+    at_struct memory ask i (search_from l memory ask left (i + 1)) (place_of l memory ask i)
 
 -- A search without an end begins 2^64 probes, more than any call may.
 abbrev pub search_of : Layout → List ℕ → Ask → Search
@@ -112,10 +114,15 @@ ArePassed l memory ask n = (k : ℕ) → k < n → (at : ℕ) × IsSeen l memory
 -- the bound ends it; and a fault is that of the index's struct or of its probe.
 unfoldable pub IsFound : Layout → List ℕ → Ask → ℕ → Result Found Fault → Type 0
 IsFound l memory ask bound (Ok (At address index probes)) =
-    (i : ℕ) × ArePassed l memory ask i × IsSeen l memory ask i address Match × (index ≡ i % 2 ^ 32) × (probes ≡ i + 1) × (i < bound)
+    (i : ℕ) × ArePassed l memory ask i × IsSeen l memory ask i address Match × (index ≡ i % 2 ^ 32) × (probes ≡ i + 1)
+    × (i < bound)
 IsFound l memory ask bound (Ok (Nothing probes)) =
-    (ArePassed l memory ask probes × (place_of l memory ask probes ≡ Ok None) × (probes ≤ bound)) ⊎ ((i : ℕ) × (at : ℕ) × ArePassed l memory ask i × IsSeen l memory ask i at Zero × (probes ≡ i + 1) × (i < bound))
+    (ArePassed l memory ask probes × (place_of l memory ask probes ≡ Ok None) × (probes ≤ bound))
+    ⊎ ((i : ℕ) × (at : ℕ) × ArePassed l memory ask i × IsSeen l memory ask i at Zero × (probes ≡ i + 1)
+    × (i < bound))
 IsFound l memory ask bound (Ok More) =
     (at : ℕ) × ArePassed l memory ask bound × (place_of l memory ask bound ≡ Ok (Some at))
 IsFound l memory ask bound (Err e) =
-    (i : ℕ) × ArePassed l memory ask i × (((place_of l memory ask i ≡ Err e) × (i ≤ bound)) ⊎ ((at : ℕ) × (place_of l memory ask i ≡ Ok (Some at)) × (probe memory ask at ≡ Err e) × (i < bound)))
+    (i : ℕ) × ArePassed l memory ask i
+    × (((place_of l memory ask i ≡ Err e) × (i ≤ bound))
+    ⊎ ((at : ℕ) × (place_of l memory ask i ≡ Ok (Some at)) × (probe memory ask at ≡ Err e) × (i < bound)))

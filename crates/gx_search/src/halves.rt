@@ -47,7 +47,8 @@ fn search_half<A: Allocator + Clone>(
     bound: u64,
 ) -> Result<Found, Fault>
     requires { IsTrue (has_size ask.now) }
-    ensures value { Reads (λ found. found) result (found_within bound (halving memory.now ask.now ask.now.count 0 ask.now.count)) }
+    ensures value { Reads (λ found. found) result
+        (found_within bound (halving memory.now ask.now ask.now.count 0 ask.now.count)) }
     ensures found { IsFoundInRow memory.now ask.now result }
     ensures enough { 32 ≤ bound → result ≢ Ok More }
 {

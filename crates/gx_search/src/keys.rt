@@ -8,7 +8,8 @@ ghost use Rattle.std.specs.Ordering.{nat_cmp};
 ghost use Rattle.std.specs.Cmp.Lexicographic.{slice_cmp};
 ghost use Rattle.gx_words.specs.Faults.{Reads};
 ghost use Rattle.gx_words.specs.Numbers.{byte};
-ghost use Rattle.gx_search.specs.Keys.{is_indirect, stops_at_zero, has_size, is_there, sought, key_at, can_probe, probe, compared};
+ghost use Rattle.gx_search.specs.Keys.{is_indirect, stops_at_zero, has_size, is_there, sought, key_at, can_probe};
+ghost use Rattle.gx_search.specs.Keys.{probe, compared};
 
 use crate::{Ask, KEY_INDIRECT, ZERO_KEY_TERMINATES};
 use gx_pages::Pages;

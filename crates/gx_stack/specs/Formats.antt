@@ -2,7 +2,8 @@
 --
 -- A format is the pairs of type and count and an ending pair, as they stand in memory. The type is
 -- the size of each of the pair's locals in bytes.
-use Rattle.std.specs.Prelude.{ℕ, zero, suc, ◌≡◌, ◌+◌, ◌-◌, ◌*◌, ◌%◌, ◌≤◌, ◌==◌, if◌then◌else◌, List, [], ◌∷◌, ◌++◌, length, take, drop, replicate, ◌^◌, map}
+use Rattle.std.specs.Prelude.{ℕ, zero, suc, ◌≡◌, ◌+◌, ◌-◌, ◌*◌, ◌%◌, ◌≤◌, ◌==◌, if◌then◌else◌, List, [], ◌∷◌, ◌++◌}
+use Rattle.std.specs.Prelude.{length, take, drop, replicate, ◌^◌, map}
 use Rattle.gx_words.specs.Numbers.{IsWidth, byte, number, bytes_of_word, bytes_of_number}
 
 -- pairs of types 1, 2 and 4
@@ -43,7 +44,8 @@ filled t (suc n) (a ∷ args) = bytes_of_number t a ++ filled t n args
 unfoldable pub locals : ℕ → List ℕ → List ℕ → List ℕ
 locals at [] args = []
 locals at (t ∷ []) args = []
-locals at (t ∷ n ∷ pairs) args = replicate (gap t at) 0 ++ filled t n args ++ locals (at + gap t at + t * n) pairs (drop n args)
+locals at (t ∷ n ∷ pairs) args =
+    replicate (gap t at) 0 ++ filled t n args ++ locals (at + gap t at + t * n) pairs (drop n args)
 
 -- how many bytes they are
 unfoldable pub locals_len : ℕ → List ℕ → ℕ

@@ -1,5 +1,6 @@
 -- Frames on a stack (Glulx 3.1.2, "Call Frames"): which are good, and where their parts stand.
-use Rattle.std.specs.Prelude.{◌≡◌, ℕ, ◌+◌, ◌-◌, ◌%◌, ◌≤◌, Bool, ◌&&◌, ◌==◌, nat_le, if◌then◌else◌, List, [], ◌∷◌, ◌++◌, length, Result, Ok, Err}
+use Rattle.std.specs.Prelude.{◌≡◌, ℕ, ◌+◌, ◌-◌, ◌%◌, ◌≤◌, Bool, ◌&&◌, ◌==◌, nat_le, if◌then◌else◌, List, [], ◌∷◌, ◌++◌}
+use Rattle.std.specs.Prelude.{length, Result, Ok, Err}
 use Rattle.gx_words.specs.Numbers.{word, bytes_of_word}
 use Rattle.gx_stack.specs.declared.faults.StackFault.{StackFault}
 use Rattle.gx_stack.specs.declared.faults.StackFault.TheVariants.{Overflow, BadFrame}
@@ -45,7 +46,8 @@ frame_in s fp = if is_good s fp then Ok (parts s fp) else Err BadFrame
 -- the frame of a format pushed, with arguments in its locals
 unfoldable pub entered : FlatStack → List ℕ → List ℕ → Result FlatStack StackFault
 entered s format args =
-    if nat_le (length s.bytes + frame_len format) s.limit then Ok (record s { bytes = s.bytes ++ frame format args }) else Err Overflow
+    if nat_le (length s.bytes + frame_len format) s.limit
+    then Ok (record s { bytes = s.bytes ++ frame format args }) else Err Overflow
 
 -- words on the stack, the first topmost
 unfoldable pub topmost_first : List ℕ → List ℕ

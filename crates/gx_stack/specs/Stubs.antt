@@ -1,5 +1,6 @@
 -- Call stubs (Glulx 3.1.2, "Call Stubs"): DestType, DestAddr, PC and FramePtr, FramePtr topmost.
-use Rattle.std.specs.Prelude.{ℕ, ◌+◌, ◌-◌, ◌*◌, nat_le, nat_lt, if◌then◌else◌, List, [], ◌∷◌, ◌++◌, length, take, Result, Ok, Err}
+use Rattle.std.specs.Prelude.{ℕ, ◌+◌, ◌-◌, ◌*◌, nat_le, nat_lt, if◌then◌else◌, List, [], ◌∷◌, ◌++◌, length, take}
+use Rattle.std.specs.Prelude.{Result, Ok, Err}
 use Rattle.gx_words.specs.Numbers.{word, bytes_of_word}
 use Rattle.gx_stack.specs.declared.faults.StackFault.{StackFault}
 use Rattle.gx_stack.specs.declared.faults.StackFault.TheVariants.{Overflow, Underflow}
@@ -15,15 +16,18 @@ stubs_bytes [] = []
 stubs_bytes (p ∷ stubs) = stub_bytes p ++ stubs_bytes stubs
 
 unfoldable pub pushed_stub : FlatStack → Stub → Result FlatStack StackFault
-pushed_stub s p = if nat_le (length s.bytes + 16) s.limit then Ok (record s { bytes = s.bytes ++ stub_bytes p }) else Err Overflow
+pushed_stub s p =
+    if nat_le (length s.bytes + 16) s.limit then Ok (record s { bytes = s.bytes ++ stub_bytes p }) else Err Overflow
 
 unfoldable pub pushed_stubs : FlatStack → List Stub → Result FlatStack StackFault
 pushed_stubs s stubs =
-    if nat_le (length s.bytes + 16 * length stubs) s.limit then Ok (record s { bytes = s.bytes ++ stubs_bytes stubs }) else Err Overflow
+    if nat_le (length s.bytes + 16 * length stubs) s.limit
+    then Ok (record s { bytes = s.bytes ++ stubs_bytes stubs }) else Err Overflow
 
 -- the stub below a place
 abbrev pub stub_below : List ℕ → ℕ → Stub
-stub_below s sp = record { kind = word s (sp - 16); addr = word s (sp - 12); pc = word s (sp - 8); fp = word s (sp - 4) }
+stub_below s sp =
+    record { kind = word s (sp - 16); addr = word s (sp - 12); pc = word s (sp - 8); fp = word s (sp - 4) }
 
 -- the stub on top
 unfoldable pub top_stub : List ℕ → Result Stub StackFault

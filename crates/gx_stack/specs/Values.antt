@@ -2,7 +2,8 @@
 --
 -- Each call is first what it makes of the stack's bytes; the words at the end say the same of the
 -- list of the frame's values, the deepest first.
-use Rattle.std.specs.Prelude.{ℕ, ℤ, pos, ◌+◌, ◌-◌, ◌*◌, ◌/◌, ◌==◌, nat_le, nat_lt, if◌then◌else◌, List, [], ◌∷◌, ◌++◌, length, take, drop, unsigned_abs, Result, Ok, Err}
+use Rattle.std.specs.Prelude.{ℕ, ℤ, pos, ◌+◌, ◌-◌, ◌*◌, ◌/◌, ◌==◌, nat_le, nat_lt, if◌then◌else◌, List, [], ◌∷◌, ◌++◌}
+use Rattle.std.specs.Prelude.{length, take, drop, unsigned_abs, Result, Ok, Err}
 use Rattle.std.specs.Int.{int_rem_euclid}
 use Rattle.gx_words.specs.Numbers.{word, number, bytes_of_word, bytes_of_number, spliced}
 use Rattle.gx_stack.specs.declared.faults.StackFault.{StackFault}
@@ -12,7 +13,8 @@ use Rattle.gx_stack.specs.Flat.{FlatStack}
 use Rattle.gx_stack.specs.Frames.{has_local}
 
 unfoldable pub pushed : FlatStack → ℕ → Result FlatStack StackFault
-pushed s v = if nat_le (length s.bytes + 4) s.limit then Ok (record s { bytes = s.bytes ++ bytes_of_word v }) else Err Overflow
+pushed s v =
+    if nat_le (length s.bytes + 4) s.limit then Ok (record s { bytes = s.bytes ++ bytes_of_word v }) else Err Overflow
 
 -- values as bytes, the first deepest
 unfoldable pub in_order : List ℕ → List ℕ
@@ -20,7 +22,9 @@ in_order [] = []
 in_order (v ∷ values) = bytes_of_word v ++ in_order values
 
 unfoldable pub pushed_all : FlatStack → List ℕ → Result FlatStack StackFault
-pushed_all s values = if nat_le (length s.bytes + 4 * length values) s.limit then Ok (record s { bytes = s.bytes ++ in_order values }) else Err Overflow
+pushed_all s values =
+    if nat_le (length s.bytes + 4 * length values) s.limit
+    then Ok (record s { bytes = s.bytes ++ in_order values }) else Err Overflow
 
 -- how many values a frame has
 abbrev pub count : List ℕ → Frame → ℕ
@@ -31,7 +35,9 @@ unfoldable pub peeked : List ℕ → Frame → ℕ → Result ℕ StackFault
 peeked s f i = if nat_lt i (count s f) then Ok (word s (length s - 4 * (i + 1))) else Err Underflow
 
 unfoldable pub dropped : FlatStack → Frame → ℕ → Result FlatStack StackFault
-dropped s f n = if nat_le n (count s.bytes f) then Ok (record s { bytes = take (length s.bytes - 4 * n) s.bytes }) else Err Underflow
+dropped s f n =
+    if nat_le n (count s.bytes f) then Ok (record s { bytes = take (length s.bytes - 4 * n) s.bytes })
+    else Err Underflow
 
 -- a list whose last items, so many, come to the front
 abbrev pub turned : {X : Type 0} → List X → ℕ → List X
@@ -67,7 +73,8 @@ local_at s f at width = if has_local f at width then Ok (number width s (f.local
 
 unfoldable pub with_local : FlatStack → Frame → ℕ → ℕ → ℕ → Result FlatStack StackFault
 with_local s f at width v =
-    if has_local f at width then Ok (record s { bytes = spliced s.bytes (f.locals + at) (bytes_of_number width v) }) else Err BadLocal
+    if has_local f at width then Ok (record s { bytes = spliced s.bytes (f.locals + at) (bytes_of_number width v) })
+    else Err BadLocal
 
 -- the words of a list of bytes
 unfoldable pub words : List ℕ → List ℕ

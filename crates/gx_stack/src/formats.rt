@@ -2,9 +2,11 @@
 //!
 //! Each group of locals begins at the least multiple of its size at or after the end of the group
 //! before, a group of no locals too. The frame is pushed onto a Vec that has the room for it.
-ghost use Rattle.std.specs.Prelude.{◌≡◌, ◌+◌, ◌*◌, ◌%◌, ◌≤◌, ◌<◌, ◌^◌, ◌++◌, [], ◌∷◌, length, drop, replicate, vec_len, vec_capacity};
+ghost use Rattle.std.specs.Prelude.{◌≡◌, ◌+◌, ◌*◌, ◌%◌, ◌≤◌, ◌<◌, ◌^◌, ◌++◌, [], ◌∷◌, length, drop, replicate, vec_len};
+ghost use Rattle.std.specs.Prelude.{vec_capacity};
 ghost use Rattle.gx_words.specs.Numbers.{IsWidth, bytes_of_word};
-ghost use Rattle.gx_stack.specs.Formats.{ArePairs, IsFormat, pairs_of, gap, filled, locals, locals_len, locals_pos, padded, padded_len, frame_len, frame};
+ghost use Rattle.gx_stack.specs.Formats.{ArePairs, IsFormat, pairs_of, gap, filled, locals, locals_len, locals_pos};
+ghost use Rattle.gx_stack.specs.Formats.{padded, padded_len, frame_len, frame};
 
 use crate::room::{push_bytes, push_number, push_word, push_zeros};
 
@@ -125,7 +127,8 @@ pub fn frame_len(format: &[u8]) -> u32
 fn push_header(out: &mut Vec<u8>, pairs: &[u8], len: u32, begin: u32)
     requires few { length pairs.now ≤ 128 }
     requires room { vec_len out.old + 8 + padded_len (length pairs.now + 2) ≤ vec_capacity out.old }
-    ensures items { out.new.items ≡ out.old.items ++ (bytes_of_word len ++ (bytes_of_word begin ++ padded (pairs.now ++ 0 ∷ 0 ∷ []))) }
+    ensures items { out.new.items ≡ out.old.items
+        ++ (bytes_of_word len ++ (bytes_of_word begin ++ padded (pairs.now ++ 0 ∷ 0 ∷ []))) }
     ensures len { vec_len out.new ≡ vec_len out.old + 8 + padded_len (length pairs.now + 2) }
     ensures room { vec_capacity out.old ≤ vec_capacity out.new }
 {

@@ -2,7 +2,8 @@
 ghost use Rattle.std.specs.Prelude.{◌≡◌, ◌+◌, ◌*◌, ◌%◌, ◌≤◌, ◌++◌, [], length, take, IfOk, OnOk};
 ghost use Rattle.gx_words.specs.Constants.{stack_limit};
 ghost use Rattle.gx_words.specs.Results.{Alters};
-ghost use Rattle.gx_stack.specs.Formats.{IsFormat, pairs_of, locals_pos, frame_len, frame, local_places, held, numbers_at};
+ghost use Rattle.gx_stack.specs.Formats.{IsFormat, pairs_of, locals_pos, frame_len, frame, local_places, held};
+ghost use Rattle.gx_stack.specs.Formats.{numbers_at};
 ghost use Rattle.gx_stack.specs.Frames.{IsGood, IsFrame, KeepsFrames, has_local, parts, frame_in, entered, with_args};
 
 use crate::formats::{frame_len, push_frame};
@@ -116,7 +117,9 @@ impl Stack {
         ensures good { IfOk result (λ frame. IsFrame self.new.bytes frame) }
         ensures keeps { KeepsFrames self.old.bytes self.new.bytes }
         ensures size { OnOk result (length self.new.bytes ≡ length self.old.bytes + frame_len format.now) }
-        ensures locals { OnOk result (let places = local_places 0 (pairs_of format.now) in let at = length self.old.bytes + locals_pos format.now in numbers_at self.new.bytes at places ≡ held places args.now) }
+        ensures locals { OnOk result (let places = local_places 0 (pairs_of format.now) in
+            let at = length self.old.bytes + locals_pos format.now in
+            numbers_at self.new.bytes at places ≡ held places args.now) }
         ensures place { IfOk result (λ frame. frame.locals ≡ length self.old.bytes + locals_pos format.now) }
     {
         let fp = self.size();

@@ -2,7 +2,8 @@
 ghost use Rattle.std.specs.Prelude.{◌≡◌, ◌+◌, ◌*◌, ◌%◌, ◌≤◌, ◌++◌, length, take, OnOk, IfOk};
 ghost use Rattle.gx_words.specs.Results.{Alters, Turns};
 ghost use Rattle.gx_stack.specs.Frames.{KeepsFrames};
-ghost use Rattle.gx_stack.specs.Stubs.{stub_bytes, stubs_bytes, pushed_stub, pushed_stubs, stub_below, top_stub, popped_stub};
+ghost use Rattle.gx_stack.specs.Stubs.{stub_bytes, stubs_bytes, pushed_stub, pushed_stubs, stub_below, top_stub};
+ghost use Rattle.gx_stack.specs.Stubs.{popped_stub};
 
 use crate::room::push_bytes;
 use crate::{Stack, StackFault};

@@ -2,12 +2,14 @@
 //!
 //! Each call that is given a frame keeps it good. Beside what it makes of the bytes, a clause
 //! `values` says what it makes of the list of the frame's values, the deepest first.
-ghost use Rattle.std.specs.Prelude.{◌≡◌, ◌+◌, ◌-◌, ◌*◌, ◌≤◌, ◌<◌, ◌++◌, ◌%◌, ◌^◌, [], ◌∷◌, length, slice_index, IfOk, OnOk};
+ghost use Rattle.std.specs.Prelude.{◌≡◌, ◌+◌, ◌-◌, ◌*◌, ◌≤◌, ◌<◌, ◌++◌, ◌%◌, ◌^◌, [], ◌∷◌, length, slice_index, IfOk};
+ghost use Rattle.std.specs.Prelude.{OnOk};
 ghost use Rattle.gx_words.specs.Constants.{stack_limit};
 ghost use Rattle.gx_words.specs.Numbers.{IsWidth};
 ghost use Rattle.gx_words.specs.Results.{Alters};
 ghost use Rattle.gx_stack.specs.Frames.{IsFrame, KeepsFrames};
-ghost use Rattle.gx_stack.specs.Values.{pushed, pushed_all, count, peeked, dropped, places, rolled, swapped, copied, local_at, with_local, values_of, last, but_last, rolled_values};
+ghost use Rattle.gx_stack.specs.Values.{pushed, pushed_all, count, peeked, dropped, places, rolled, swapped, copied};
+ghost use Rattle.gx_stack.specs.Values.{local_at, with_local, values_of, last, but_last, rolled_values};
 
 use crate::room::{push_from, push_word, put, turn};
 use crate::{Frame, Stack, StackFault};
@@ -31,7 +33,8 @@ impl Stack {
         ensures value { Alters result self.old self.new (pushed self.old v) }
         ensures keeps { KeepsFrames self.old.bytes self.new.bytes }
         ensures size { OnOk result (length self.new.bytes ≡ length self.old.bytes + 4) }
-        ensures values { OnOk result ((f : Frame) → IsFrame self.old.bytes f → values_of self.new.bytes f ≡ values_of self.old.bytes f ++ v ∷ []) }
+        ensures values { OnOk result ((f : Frame) → IsFrame self.old.bytes f
+            → values_of self.new.bytes f ≡ values_of self.old.bytes f ++ v ∷ []) }
     {
         if self.bytes.len() + 4 > self.limit as usize {
             return Err(StackFault::Overflow);
@@ -74,7 +77,8 @@ impl Stack {
     pub fn peek(&self, frame: &Frame, i: u32) -> Result<u32, StackFault>
         requires { IsFrame self.now.bytes frame.now }
         ensures value { result ≡ peeked self.now.bytes frame.now i }
-        ensures values { IfOk result (λ v. let values = values_of self.now.bytes frame.now in v ≡ slice_index values (length values - 1 - i)) }
+        ensures values { IfOk result (λ v. let values = values_of self.now.bytes frame.now in
+            v ≡ slice_index values (length values - 1 - i)) }
     {
         if i >= self.count(frame) {
             return Err(StackFault::Underflow);
@@ -89,7 +93,8 @@ impl Stack {
         ensures value { Alters result self.old self.new (dropped self.old frame.now n) }
         ensures keeps { IsFrame self.new.bytes frame.now }
         ensures size { OnOk result (length self.new.bytes + 4 * n ≡ length self.old.bytes) }
-        ensures values { OnOk result (values_of self.new.bytes frame.now ≡ but_last n (values_of self.old.bytes frame.now)) }
+        ensures values { OnOk result (values_of self.new.bytes frame.now
+            ≡ but_last n (values_of self.old.bytes frame.now)) }
     {
         if n > self.count(frame) {
             return Err(StackFault::Underflow);
@@ -106,7 +111,8 @@ impl Stack {
         ensures value { Alters result self.old self.new (rolled self.old frame.now n by) }
         ensures keeps { IsFrame self.new.bytes frame.now }
         ensures size { length self.new.bytes ≡ length self.old.bytes }
-        ensures values { 0 < n → OnOk result (values_of self.new.bytes frame.now ≡ rolled_values n (places n by) (values_of self.old.bytes frame.now)) }
+        ensures values { 0 < n → OnOk result
+            (values_of self.new.bytes frame.now ≡ rolled_values n (places n by) (values_of self.old.bytes frame.now)) }
     {
         if n > self.count(frame) {
             return Err(StackFault::Underflow);
@@ -127,7 +133,8 @@ impl Stack {
         ensures value { Alters result self.old self.new (swapped self.old frame.now) }
         ensures keeps { IsFrame self.new.bytes frame.now }
         ensures size { length self.new.bytes ≡ length self.old.bytes }
-        ensures values { OnOk result (values_of self.new.bytes frame.now ≡ rolled_values 2 1 (values_of self.old.bytes frame.now)) }
+        ensures values { OnOk result (values_of self.new.bytes frame.now
+            ≡ rolled_values 2 1 (values_of self.old.bytes frame.now)) }
     {
         if self.count(frame) < 2 {
             return Err(StackFault::Underflow);
@@ -144,7 +151,8 @@ impl Stack {
         ensures value { Alters result self.old self.new (copied self.old frame.now n) }
         ensures keeps { KeepsFrames self.old.bytes self.new.bytes }
         ensures size { OnOk result (length self.new.bytes ≡ length self.old.bytes + 4 * n) }
-        ensures values { OnOk result (let values = values_of self.old.bytes frame.now in values_of self.new.bytes frame.now ≡ values ++ last n values) }
+        ensures values { OnOk result (let values = values_of self.old.bytes frame.now in
+            values_of self.new.bytes frame.now ≡ values ++ last n values) }
     {
         if n > self.count(frame) {
             return Err(StackFault::Underflow);

@@ -1,5 +1,6 @@
 -- Copies of the state and the way back to them, and the restart of a story (Glulx 3.1.2, "Game State").
-use Rattle.std.specs.Prelude.{◌≡◌, ℕ, Bool, ◌+◌, ◌-◌, ◌%◌, ◌≤◌, List, [], ◌++◌, length, take, None, Result, Ok, Err, IsTrue}
+use Rattle.std.specs.Prelude.{◌≡◌, ℕ, Bool, ◌+◌, ◌-◌, ◌%◌, ◌≤◌, List, [], ◌++◌, length, take, None, Result, Ok, Err}
+use Rattle.std.specs.Prelude.{IsTrue}
 use Rattle.gx_words.specs.declared.faults.Fault.{Fault}
 use Rattle.gx_pages.specs.Memory.{IsSize, put_back_of}
 use Rattle.gx_stack.specs.Constants.{to_memory, to_local, to_stack}
@@ -71,7 +72,8 @@ pub record IsCopyFor (story : FlatStory) (c : Copy) : Type 0 where
   pub stub : 16 ≤ length c.stack
   pub kind : (stub_in c).kind ≤ to_stack
   pub framed : IsGood (below_stub c) (stub_in c).fp
-  pub word : (stub_in c).kind ≡ to_memory → (story.header.ramstart ≤ (stub_in c).addr) × ((stub_in c).addr + 4 ≤ length c.memory)
+  pub word : (stub_in c).kind ≡ to_memory
+      → (story.header.ramstart ≤ (stub_in c).addr) × ((stub_in c).addr + 4 ≤ length c.memory)
   pub local : (stub_in c).kind ≡ to_local → IsTrue (has_local (parts (below_stub c) (stub_in c).fp) (stub_in c).addr 4)
   pub heap : IsHeapWithin story.header.endmem (length c.memory) c.heap
 

@@ -2,7 +2,8 @@
 --
 -- The faults of an entry are looked for in this order: room for the stubs, the function's type, the
 -- count of arguments, its locals format, room for the frame.
-use Rattle.std.specs.Prelude.{ℕ, zero, suc, Bool, ◌+◌, ◌-◌, ◌*◌, ◌==◌, ◌||◌, nat_lt, if◌then◌else◌, List, [], ◌∷◌, ◌++◌, length, take, replicate, Result, Ok, Err}
+use Rattle.std.specs.Prelude.{ℕ, zero, suc, Bool, ◌+◌, ◌-◌, ◌*◌, ◌==◌, ◌||◌, nat_lt, if◌then◌else◌, List, [], ◌∷◌, ◌++◌}
+use Rattle.std.specs.Prelude.{length, take, replicate, Result, Ok, Err}
 use Rattle.gx_words.specs.declared.faults.Fault.{Fault}
 use Rattle.gx_words.specs.declared.faults.Fault.TheVariants.{BadFunction, Overflow}
 use Rattle.gx_words.specs.Constants.{stack_function, locals_function}
@@ -76,7 +77,10 @@ entered f sp stubs at args =
     if nat_lt f.stack.limit fp then Err Overflow else (do
       function ← function_at f.memory at (length args) fp f.stack.limit
       Ok (record f {
-        stack = record f.stack { bytes = (take sp f.stack.bytes ++ stubs_bytes stubs) ++ entry_bytes function.0 function.1 args };
+        stack = record f.stack {
+          bytes = (take sp f.stack.bytes ++ stubs_bytes stubs)
+              ++ entry_bytes function.0 function.1 args;
+        };
         fp = fp;
         pc = at + 1 + length function.1;
       }))

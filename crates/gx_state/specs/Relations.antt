@@ -18,7 +18,8 @@ Acts (Ok x) old new defined = (defined ≡ Ok new.flat) × (new.spare ≡ old.sp
 Acts (Err e) old new defined = (new ≡ old) × (defined ≡ Err e) × (e ≢ NoMemory)
 
 abbrev pub Stores : {X : Type 0} → Type 0 → Result X Fault → HeldState → HeldState → Result FlatState Fault → Type 0
-Stores wants (Ok x) old new defined = (defined ≡ Ok new.flat) × (new.spare ≡ old.spare) × (new.flat.story ≡ old.flat.story)
+Stores wants (Ok x) old new defined =
+    (defined ≡ Ok new.flat) × (new.spare ≡ old.spare) × (new.flat.story ≡ old.flat.story)
 Stores wants (Err e) old new defined = (new ≡ old) × IsRefused wants e defined
 
 abbrev pub Begins : {X : Type 0} → Type 0 → Result X Fault → FlatState → FlatState → Result FlatState Fault → Type 0
@@ -29,6 +30,7 @@ abbrev pub Goes : {X : Type 0} → Result X Fault → FlatState → FlatState �
 Goes (Ok x) old new defined = (defined ≡ Ok (new, x)) × (new.story ≡ old.story)
 Goes (Err e) old new defined = (new ≡ old) × (defined ≡ Err e) × (e ≢ NoMemory)
 
-abbrev pub Works : {X : Type 0} → Type 0 → Result X Fault → FlatState → FlatState → Result (FlatState × X) Fault → Type 0
+abbrev pub Works : {X : Type 0} → Type 0 → Result X Fault → FlatState → FlatState → Result (FlatState × X) Fault
+    → Type 0
 Works wants (Ok x) old new defined = (defined ≡ Ok (new, x)) × (new.story ≡ old.story)
 Works wants (Err e) old new defined = (new ≡ old) × IsRefused wants e defined

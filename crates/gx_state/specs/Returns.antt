@@ -1,5 +1,6 @@
 -- Call stubs, and returns to them (Glulx 3.1.2, "Call Stubs" and "Calling and Returning Within Glulx").
-use Rattle.std.specs.Prelude.{◌≡◌, ◌⊎◌, ℕ, ◌+◌, ◌-◌, ◌≤◌, ◌==◌, nat_lt, if◌then◌else◌, Bool, true, false, List, length, take, Option, Some, None, IfSome, IsSome, Result, Ok, Err}
+use Rattle.std.specs.Prelude.{◌≡◌, ◌⊎◌, ℕ, ◌+◌, ◌-◌, ◌≤◌, ◌==◌, nat_lt, if◌then◌else◌, Bool, true, false, List, length}
+use Rattle.std.specs.Prelude.{take, Option, Some, None, IfSome, IsSome, Result, Ok, Err}
 use Rattle.std.specs.Option.{ok_or}
 use Rattle.gx_words.specs.declared.strings.PrintKind.TheVariants.{E0, E1, E2, Number}
 use Rattle.gx_words.specs.declared.strings.Printing.{Printing}
@@ -7,7 +8,8 @@ use Rattle.gx_words.specs.declared.faults.Fault.{Fault}
 use Rattle.gx_words.specs.declared.faults.Fault.TheVariants.{BadFrame}
 use Rattle.gx_words.specs.Numbers.{bytes_of_word, is_bit, spliced}
 use Rattle.gx_words.specs.Results.{◌>>=◌}
-use Rattle.gx_stack.specs.Constants.{to_nowhere, to_memory, to_local, to_stack, resume_compressed, resume_number, resume_c_string, resume_unicode}
+use Rattle.gx_stack.specs.Constants.{to_nowhere, to_memory, to_local, to_stack, resume_compressed, resume_number}
+use Rattle.gx_stack.specs.Constants.{resume_c_string, resume_unicode}
 use Rattle.gx_stack.specs.declared.stubs.Stub.{Stub}
 use Rattle.gx_stack.specs.Faults.{lifted}
 use Rattle.gx_stack.specs.Frames.{frame_in}
@@ -74,7 +76,8 @@ IsWordInRam f w = IfSome w (λ x. f.story.header.ramstart ≤ x.0) × IfSome w (
 -- below 8, a number at a digit, a C-style or a Unicode string.
 unfoldable pub printing_of : Stub → Option Printing
 printing_of p =
-    if p.kind == resume_compressed then (if is_bit p.addr then Some (record { kind = E1; at = p.pc; bit = p.addr; started = true }) else None) else
+    if p.kind == resume_compressed then
+    (if is_bit p.addr then Some (record { kind = E1; at = p.pc; bit = p.addr; started = true }) else None) else
     if p.kind == resume_number then Some (record { kind = Number; at = p.pc; bit = p.addr; started = true }) else
     if p.kind == resume_c_string then Some (record { kind = E0; at = p.pc; bit = 0; started = true }) else
     if p.kind == resume_unicode then Some (record { kind = E2; at = p.pc; bit = 0; started = true }) else

@@ -1,6 +1,7 @@
 -- Ranges of memory, its size, and the blocks of its heap (Glulx 3.1.2, "Block Copy and Clear", "Memory Map" and
 -- "Memory Allocation Heap").
-use Rattle.std.specs.Prelude.{◌≡◌, ℕ, ◌+◌, ◌%◌, ◌<◌, ◌≤◌, Bool, true, false, if◌then◌else◌, length, take, drop, replicate, Option, Some, None}
+use Rattle.std.specs.Prelude.{◌≡◌, ℕ, ◌+◌, ◌%◌, ◌<◌, ◌≤◌, Bool, true, false, if◌then◌else◌, length, take, drop}
+use Rattle.std.specs.Prelude.{replicate, Option, Some, None}
 use Rattle.std.specs.Option.{option_map}
 use Rattle.gx_pages.specs.Memory.{IsInside, IsSize, resized}
 use Rattle.heap_blocks.specs.Heap.{FlatHeap, IsBelow, IsFree, is_inactive, first_address, added, freed}

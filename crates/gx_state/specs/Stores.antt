@@ -20,7 +20,13 @@ store_fault f width Push sp = if nat_le (sp + 4) f.stack.limit then Ok tt else E
 abbrev pub with_value : FlatState → ℕ → Dest → ℕ → FlatState
 with_value f width Nowhere v = f
 with_value f width (Memory at) v = written f at (bytes_of_number width v)
-with_value f width (Local at) v = record f { stack = record f.stack { bytes = spliced f.stack.bytes ((frame_of f).locals + at) (bytes_of_number width v) } }
+with_value f width (Local at) v =
+    record f {
+      stack = record f.stack {
+        bytes = spliced f.stack.bytes ((frame_of f).locals + at)
+            (bytes_of_number width v);
+      };
+    }
 with_value f width Push v = record f { stack = record f.stack { bytes = f.stack.bytes ++ bytes_of_word (low width v) } }
 
 -- a store: its fault, or the state with the value

@@ -3,7 +3,8 @@ ghost use Rattle.std.specs.Prelude.{◌≡◌, ◌⊎◌, ◌+◌, ◌*◌, ◌<
 ghost use Rattle.gx_words.specs.Numbers.{IsWidth};
 ghost use Rattle.gx_words.specs.Faults.{Reads};
 ghost use Rattle.gx_pages.specs.Memory.{HasBytes, all_spliced};
-ghost use Rattle.gx_state.specs.Flat.{IsHeight, IsInRam, write_fault, cut, frame_of, sp_of, written, pushed, pushed_all, with_local, swapped, rolled, copied};
+ghost use Rattle.gx_state.specs.Flat.{IsHeight, IsInRam, write_fault, cut, frame_of, sp_of, written, pushed};
+ghost use Rattle.gx_state.specs.Flat.{pushed_all, with_local, swapped, rolled, copied};
 ghost use Rattle.gx_state.specs.Relations.{Acts};
 ghost use Rattle.gx_state.specs.Replies.{AreInRam};
 
@@ -45,7 +46,8 @@ impl<A: Allocator + Clone> State<A> {
     #[tactic(auto, using(crate::proofs::Kept::writes))]
     pub fn write_all(&mut self, writes: &Writes) -> Result<(), AllocError>
         requires { AreInRam self.old.flat writes.now }
-        ensures ok { OnOk result (self.new ≡ record self.old { flat = record self.old.flat { memory = all_spliced self.old.flat.memory writes.now } }) }
+        ensures ok { OnOk result (self.new
+            ≡ record self.old { flat = record self.old.flat { memory = all_spliced self.old.flat.memory writes.now } }) }
         ensures err { OnErr result (self.new ≡ self.old) }
         ensures size { length self.new.flat.memory ≡ length self.old.flat.memory }
         ensures memory { OnErr result (HasBytes writes.now) }
@@ -63,7 +65,11 @@ impl<A: Allocator + Clone> State<A> {
     ) -> Result<(), AllocError>
         requires writes { AreInRam self.old.flat writes.now }
         requires last { IsInRam self.old.flat at (length bytes.now) }
-        ensures ok { OnOk result (self.new ≡ record self.old { flat = written (record self.old.flat { memory = all_spliced self.old.flat.memory writes.now }) at bytes.now }) }
+        ensures ok { OnOk result (self.new
+            ≡ record self.old {
+              flat = written
+                  (record self.old.flat { memory = all_spliced self.old.flat.memory writes.now }) at bytes.now;
+            }) }
         ensures err { OnErr result (self.new ≡ self.old) }
         ensures size { length self.new.flat.memory ≡ length self.old.flat.memory }
         ensures memory { OnErr result (HasBytes writes.now ⊎ (0 < length bytes.now)) }

@@ -4,7 +4,8 @@
 //! an equal copy. Copies, forks and the running state share their pages; forks of a state share its story too, and
 //! forks of a copy share all of it. What may be refused comes first, so that the state is as before after every
 //! refusal.
-ghost use Rattle.std.specs.Prelude.{◌≡◌, ◌≢◌, ◌+◌, ◌-◌, ◌<◌, ◌≤◌, ◌==◌, if◌then◌else◌, Some, None, Ok, length, take, IfOk, OnOk, OnErr, IsTrue};
+ghost use Rattle.std.specs.Prelude.{◌≡◌, ◌≢◌, ◌+◌, ◌-◌, ◌<◌, ◌≤◌, ◌==◌, if◌then◌else◌, Some, None, Ok, length, take};
+ghost use Rattle.std.specs.Prelude.{IfOk, OnOk, OnErr, IsTrue};
 ghost use Rattle.gx_pages.specs.Memory.{put_back_of};
 ghost use Rattle.gx_stack.specs.Constants.{to_memory, to_local, to_stack};
 ghost use Rattle.gx_stack.specs.Frames.{has_local};
@@ -132,9 +133,12 @@ impl<A: Allocator + Clone> State<A> {
     fn memory_of(&self, copy: &Moment<A>, stub: &Stub) -> Result<Pages<A>, AllocError>
         requires fit { IsCopyFor self.now.flat.story copy.now }
         requires stub { stub.now ≡ stub_in copy.now }
-        ensures value { IfOk result (λ all. all ≡ wrote (put_back_of self.now.flat.memory copy.now.memory self.now.flat.protected.0 self.now.flat.protected.1) (if stub.now.kind == to_memory then Some (stub.now.addr, 0xFFFFFFFF) else None)) }
+        ensures value { IfOk result (λ all. all
+            ≡ wrote (put_back_of self.now.flat.memory copy.now.memory self.now.flat.protected.0
+            self.now.flat.protected.1) (if stub.now.kind == to_memory then Some (stub.now.addr, 0xFFFFFFFF) else None)) }
         ensures size { IfOk result (λ all. length all ≡ length copy.now.memory) }
-        ensures rom { IfOk result (λ all. take self.now.flat.story.header.ramstart all ≡ take self.now.flat.story.header.ramstart self.now.flat.story.bytes) }
+        ensures rom { IfOk result (λ all. take self.now.flat.story.header.ramstart all
+            ≡ take self.now.flat.story.header.ramstart self.now.flat.story.bytes) }
     {
         let mut memory = self.memory.put_back(&copy.parts.memory, self.protected)?;
         if stub.kind != TO_MEMORY {
@@ -148,7 +152,14 @@ impl<A: Allocator + Clone> State<A> {
     pub(crate) fn lay(&mut self, memory: Pages<A>, heap: Heap, stack: &[u8], stub: &Stub)
         requires fit { IsCopyFor self.old.flat.story (record { memory = memory; stack = stack.now; heap = heap.heap }) }
         requires stub { stub.now ≡ stub_below stack.now (length stack.now) }
-        ensures value { self.new.flat ≡ record self.old.flat { memory = memory; stack = record self.old.flat.stack { bytes = take (length stack.now - 16) stack.now }; fp = stub.now.fp; pc = stub.now.pc; heap = heap.heap; mode = Mode.Running } }
+        ensures value { self.new.flat ≡ record self.old.flat {
+          memory = memory;
+          stack = record self.old.flat.stack { bytes = take (length stack.now - 16) stack.now };
+          fp = stub.now.fp;
+          pc = stub.now.pc;
+          heap = heap.heap;
+          mode = Mode.Running;
+        } }
         ensures live { 0 < sp_of self.new.flat }
         ensures room { sp_of self.new.flat + 16 ≤ self.new.flat.stack.limit }
     {

@@ -2,7 +2,8 @@
 //!
 //! The faults of an entry are looked for before anything changes, and before a start or a restart asks
 //! for memory.
-ghost use Rattle.std.specs.Prelude.{ℕ, List, ◌≡◌, ◌≢◌, ◌+◌, ◌*◌, ◌%◌, ◌≤◌, ◌<◌, ◌^◌, ◌++◌, length, take, slice_range, Ok, Err, IfSome, IfOk, IfErr, IsOk, OnOk};
+ghost use Rattle.std.specs.Prelude.{ℕ, List, ◌≡◌, ◌≢◌, ◌+◌, ◌*◌, ◌%◌, ◌≤◌, ◌<◌, ◌^◌, ◌++◌, length, take, slice_range};
+ghost use Rattle.std.specs.Prelude.{Ok, Err, IfSome, IfOk, IfErr, IsOk, OnOk};
 ghost use Rattle.gx_words.specs.Constants.{ceiling};
 ghost use Rattle.gx_words.specs.declared.faults.Fault.TheVariants.{NoMemory};
 ghost use Rattle.gx_words.specs.Faults.{Makes, Reads};
@@ -11,7 +12,8 @@ ghost use Rattle.gx_stack.specs.Frames.{IsGood};
 ghost use Rattle.gx_stack.specs.Stubs.{stubs_bytes};
 ghost use Rattle.gx_state.specs.Flat.{sp_of};
 ghost use Rattle.gx_state.specs.Relations.{Acts};
-ghost use Rattle.gx_state.specs.Entry.{kind_at, format_at, entry_bytes, entry_len, entered, function_at, initial, started};
+ghost use Rattle.gx_state.specs.Entry.{kind_at, format_at, entry_bytes, entry_len, entered, function_at, initial};
+ghost use Rattle.gx_state.specs.Entry.{started};
 
 use crate::formats::{format_at, format_end};
 use crate::readable::{Code, Readable, Started};
@@ -119,7 +121,8 @@ pub fn push_call(
     requires frame { len ≡ frame_len format.now }
     requires count { length args.now ≤ 255 }
     requires room { sp + 16 * length stubs.now + entry_len kind format.now (length args.now) ≤ stack.old.limit }
-    ensures value { stack.new ≡ record stack.old { bytes = (take sp stack.old.bytes ++ stubs_bytes stubs.now) ++ entry_bytes kind format.now args.now } }
+    ensures value { stack.new ≡ record stack.old
+        { bytes = (take sp stack.old.bytes ++ stubs_bytes stubs.now) ++ entry_bytes kind format.now args.now } }
     ensures good { IsGood stack.new.bytes (sp + 16 * length stubs.now) }
     ensures height { length stack.new.bytes ≤ stack.new.limit }
     ensures aligned { length stack.new.bytes % 4 ≡ 0 }
@@ -245,7 +248,8 @@ impl<A: Allocator + Clone> State<A> {
     #[inline(always)]
     #[tactic(auto, using(crate::proofs::Pairs::stored))]
     fn stored_format(&self, at: u32) -> Option<u32>
-        ensures value { IfSome result (λ end. format_at self.now.flat.memory (at + 1) ≡ Ok (slice_range self.now.flat.story.bytes (at + 1) end)) }
+        ensures value { IfSome result (λ end. format_at self.now.flat.memory (at + 1)
+            ≡ Ok (slice_range self.now.flat.story.bytes (at + 1) end)) }
         ensures format { IfSome result (λ end. IsFormat (slice_range self.now.flat.story.bytes (at + 1) end)) }
         ensures behind { IfSome result (λ end. at + 3 ≤ end) }
         ensures there { IfSome result (λ end. end ≤ length self.now.flat.story.bytes) }
@@ -276,7 +280,8 @@ impl<A: Allocator + Clone> State<A> {
         requires room { sp + 16 * length stubs.now ≤ self.old.flat.stack.limit }
         requires behind { at + 3 ≤ end }
         requires stored { end ≤ length self.old.flat.story.bytes }
-        requires value { format_at self.old.flat.memory (at + 1) ≡ Ok (slice_range self.old.flat.story.bytes (at + 1) end) }
+        requires value { format_at self.old.flat.memory (at + 1)
+            ≡ Ok (slice_range self.old.flat.story.bytes (at + 1) end) }
         requires format { IsFormat (slice_range self.old.flat.story.bytes (at + 1) end) }
         ensures { Acts result self.old self.new (entered self.old.flat sp stubs.now at args.now) }
     {

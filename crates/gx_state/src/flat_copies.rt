@@ -3,7 +3,8 @@
 //!
 //! Contracts see such a copy as they see a `Moment`: as memory, the stack with the stub of a store operand on top,
 //! and the heap. What may be refused comes first, so that the state is as before after every refusal.
-ghost use Rattle.std.specs.Prelude.{◌≡◌, ◌+◌, ◌-◌, ◌<◌, ◌≤◌, ◌==◌, if◌then◌else◌, Some, None, length, take, IfOk, OnOk, OnErr};
+ghost use Rattle.std.specs.Prelude.{◌≡◌, ◌+◌, ◌-◌, ◌<◌, ◌≤◌, ◌==◌, if◌then◌else◌, Some, None, length, take, IfOk, OnOk};
+ghost use Rattle.std.specs.Prelude.{OnErr};
 ghost use Rattle.gx_pages.specs.Memory.{put_back_of};
 ghost use Rattle.gx_stack.specs.Constants.{to_memory};
 ghost use Rattle.gx_state.specs.Flat.{IsHeight, cut, sp_of};
@@ -104,9 +105,12 @@ impl<A: Allocator + Clone> State<A> {
     fn memory_with(&self, copy: &FlatCopy, stub: &Stub) -> Result<Pages<A>, AllocError>
         requires fit { IsCopyFor self.now.flat.story copy.now }
         requires stub { stub.now ≡ stub_in copy.now }
-        ensures value { IfOk result (λ all. all ≡ wrote (put_back_of self.now.flat.memory copy.now.memory self.now.flat.protected.0 self.now.flat.protected.1) (if stub.now.kind == to_memory then Some (stub.now.addr, 0xFFFFFFFF) else None)) }
+        ensures value { IfOk result (λ all. all
+            ≡ wrote (put_back_of self.now.flat.memory copy.now.memory self.now.flat.protected.0
+            self.now.flat.protected.1) (if stub.now.kind == to_memory then Some (stub.now.addr, 0xFFFFFFFF) else None)) }
         ensures size { IfOk result (λ all. length all ≡ length copy.now.memory) }
-        ensures rom { IfOk result (λ all. take self.now.flat.story.header.ramstart all ≡ take self.now.flat.story.header.ramstart self.now.flat.story.bytes) }
+        ensures rom { IfOk result (λ all. take self.now.flat.story.header.ramstart all
+            ≡ take self.now.flat.story.header.ramstart self.now.flat.story.bytes) }
     {
         let bytes = copy.memory.as_slice();
         let mut memory = self

@@ -23,7 +23,8 @@ fn push_pairs<M: Readable>(
 ) -> Result<(), Fault>
     requires room { array_vec_len format.old + 2 * left + 2 ≤ 130 }
     requires pairs { ArePairs format.old.items }
-    ensures value { Reads (λ done. format.new.items) result (behind format.old.items (format_from (M.bytes memory.now) at left)) }
+    ensures value { Reads (λ done. format.new.items) result
+        (behind format.old.items (format_from (M.bytes memory.now) at left)) }
     ensures format { OnOk result (IsFormat format.new.items) }
 {
     let width = memory.byte(at)?;

@@ -3,14 +3,16 @@
 //!
 //! A return looks for all its faults first, then writes memory where its stub says so, and then goes
 //! back to the stub's frame. Nothing has changed after a refusal.
-ghost use Rattle.std.specs.Prelude.{◌≡◌, ◌⊎◌, ◌+◌, ◌-◌, ◌*◌, ◌%◌, ◌<◌, ◌≤◌, ◌==◌, length, take, IfOk, OnOk, OnErr, IsSome};
+ghost use Rattle.std.specs.Prelude.{◌≡◌, ◌⊎◌, ◌+◌, ◌-◌, ◌*◌, ◌%◌, ◌<◌, ◌≤◌, ◌==◌, length, take, IfOk, OnOk, OnErr};
+ghost use Rattle.std.specs.Prelude.{IsSome};
 ghost use Rattle.gx_words.specs.Faults.{Reads};
 ghost use Rattle.gx_stack.specs.Constants.{to_memory, to_local, to_stack};
 ghost use Rattle.gx_stack.specs.Frames.{IsFrame, IsGood};
 ghost use Rattle.gx_stack.specs.Stubs.{stub_below};
 ghost use Rattle.gx_state.specs.Flat.{cut, frame_of, sp_of};
 ghost use Rattle.gx_state.specs.Relations.{Acts, Goes, Stores, Works};
-ghost use Rattle.gx_state.specs.Returns.{IsReturnWriting, IsWordInRam, stub_of, pushed_stubs, popped_stub, stub_to, back, with_word, printing_of, printing_on, delivered, returned};
+ghost use Rattle.gx_state.specs.Returns.{IsReturnWriting, IsWordInRam, stub_of, pushed_stubs, popped_stub, stub_to};
+ghost use Rattle.gx_state.specs.Returns.{back, with_word, printing_of, printing_on, delivered, returned};
 
 use crate::{Dest, Mode, State};
 use gx_stack::{
@@ -100,7 +102,8 @@ impl<A: Allocator + Clone> State<A> {
         requires there { sp ≤ sp_of self.old.flat }
         requires aligned { sp % 4 ≡ 0 }
         requires before { IsWordInRam self.old.flat before }
-        ensures value { Works (IsReturnWriting self.old.flat sp before) result self.old.flat self.new.flat (returned self.old.flat sp value before) }
+        ensures value { Works (IsReturnWriting self.old.flat sp before) result self.old.flat self.new.flat
+            (returned self.old.flat sp value before) }
         ensures ended { IfOk result (λ ended. ended ≡ (sp == 0)) }
         ensures spare { self.new.spare ≡ self.old.spare }
     {
@@ -133,7 +136,8 @@ impl<A: Allocator + Clone> State<A> {
     ) -> Result<(), AllocError>
         requires first { IsWordInRam self.old.flat first }
         requires second { IsWordInRam self.old.flat second }
-        ensures ok { OnOk result (self.new ≡ record self.old { flat = with_word (with_word self.old.flat first) second }) }
+        ensures ok { OnOk result (self.new
+            ≡ record self.old { flat = with_word (with_word self.old.flat first) second }) }
         ensures err { OnErr result (self.new ≡ self.old) }
         ensures memory { OnErr result (IsSome first ⊎ IsSome second) }
     {
@@ -189,7 +193,8 @@ impl<A: Allocator + Clone> State<A> {
         requires within { sp ≤ sp_of self.old.flat }
         requires aligned { sp % 4 ≡ 0 }
         requires good { IsGood (take (sp - 16) self.old.flat.stack.bytes) stub.now.fp }
-        ensures value { self.new ≡ record self.old { flat = record (back self.old.flat sp stub.now) { pc = stub.now.pc } } }
+        ensures value { self.new ≡ record self.old
+            { flat = record (back self.old.flat sp stub.now) { pc = stub.now.pc } } }
         ensures live { 0 < sp_of self.new.flat }
     {
         self.go_back(sp, stub);
@@ -219,7 +224,8 @@ impl<A: Allocator + Clone> State<A> {
         requires before { IsWordInRam self.old.flat before }
         requires good { IsGood (take (sp - 16) self.old.flat.stack.bytes) stub.now.fp }
         requires kind { stub.now.kind ≡ to_memory }
-        ensures { Stores (Unit {0}) result self.old self.new (delivered (back (with_word self.old.flat before) sp stub.now) stub.now value) }
+        ensures { Stores (Unit {0}) result self.old self.new
+            (delivered (back (with_word self.old.flat before) sp stub.now) stub.now value) }
     {
         self.can_write(stub.addr, 4)?;
         self.write_words(before, Some((stub.addr, value)))?;
@@ -244,7 +250,8 @@ impl<A: Allocator + Clone> State<A> {
         requires frame { IsFrame (take (sp - 16) self.old.flat.stack.bytes) frame.now }
         requires fp { frame.now.fp ≡ stub.now.fp }
         requires kind { stub.now.kind ≡ to_local }
-        ensures { Stores (IsSome before) result self.old self.new (delivered (back (with_word self.old.flat before) sp stub.now) stub.now value) }
+        ensures { Stores (IsSome before) result self.old self.new
+            (delivered (back (with_word self.old.flat before) sp stub.now) stub.now value) }
     {
         if u64::from(stub.addr) + 4 > u64::from(frame.values - frame.locals) {
             return Err(Fault::BadLocal);
@@ -273,7 +280,8 @@ impl<A: Allocator + Clone> State<A> {
         requires before { IsWordInRam self.old.flat before }
         requires good { IsGood (take (sp - 16) self.old.flat.stack.bytes) stub.now.fp }
         requires kind { stub.now.kind ≡ to_stack }
-        ensures { Stores (IsSome before) result self.old self.new (delivered (back (with_word self.old.flat before) sp stub.now) stub.now value) }
+        ensures { Stores (IsSome before) result self.old self.new
+            (delivered (back (with_word self.old.flat before) sp stub.now) stub.now value) }
     {
         self.write_words(before, None)?;
         self.resume(sp, stub);
@@ -296,7 +304,8 @@ impl<A: Allocator + Clone> State<A> {
         requires aligned { sp % 4 ≡ 0 }
         requires before { IsWordInRam self.old.flat before }
         requires good { IsGood (take (sp - 16) self.old.flat.stack.bytes) stub.now.fp }
-        ensures { Stores (IsSome before) result self.old self.new (printing_on (back (with_word self.old.flat before) sp stub.now) stub.now) }
+        ensures { Stores (IsSome before) result self.old self.new
+            (printing_on (back (with_word self.old.flat before) sp stub.now) stub.now) }
     {
         let Some(printing) = printing_of(stub) else {
             return Err(Fault::BadFrame);

@@ -195,7 +195,8 @@ impl<A: Allocator + Clone> State<A> {
     pub fn code_pair(&self, at: u32) -> Result<(u32, u32), Fault>
         ensures there { OnOk result (at + 2 ≤ length self.now.flat.memory) }
         ensures low { OnOk result (at + 2 ≤ ceiling) }
-        ensures value { IfOk result (λ pair. (pair.0 ≡ byte self.now.flat.memory at) × (pair.1 ≡ byte self.now.flat.memory (at + 1))) }
+        ensures value { IfOk result (λ pair. (pair.0 ≡ byte self.now.flat.memory at)
+            × (pair.1 ≡ byte self.now.flat.memory (at + 1))) }
         ensures fits { IfOk result (λ pair. (pair.0 < 2 ^ 8) × (pair.1 < 2 ^ 8)) }
         ensures fault { IfErr result (λ fault. (fault ≡ BadAddress) × (length self.now.flat.memory < at + 2)) }
     {
@@ -272,7 +273,8 @@ impl<A: Allocator + Clone> State<A> {
     /// The next random word; `outside` is the one to be used where words come from outside.
     pub fn draw(&mut self, outside: u32) -> u32
         ensures word { result ≡ word_from self.old.flat.generator outside }
-        ensures rest { self.new ≡ record self.old { flat = record self.old.flat { generator = after_word self.old.flat.generator } } }
+        ensures rest { self.new ≡ record self.old
+            { flat = record self.old.flat { generator = after_word self.old.flat.generator } } }
     {
         self.generator.word(outside)
     }

@@ -1,7 +1,9 @@
 -- Story files (Glulx 3.1.2, "The Header"): which are accepted, as what, and with which fault others
 -- are refused.
-use Rattle.std.specs.Prelude.{◌≡◌, ℕ, ◌/◌, ◌%◌, ◌^◌, ◌≤◌, ◌==◌, nat_le, ◌&&◌, Bool, not, if◌then◌else◌, List, length, take, Result, Ok, Err}
-use Rattle.gx_words.specs.Constants.{ceiling, stack_limit, magic, magic_at, version_at, ramstart_at, extstart_at, endmem_at, stack_size_at, start_function_at, table_at, checksum_at, header_len}
+use Rattle.std.specs.Prelude.{◌≡◌, ℕ, ◌/◌, ◌%◌, ◌^◌, ◌≤◌, ◌==◌, nat_le, ◌&&◌, Bool, not, if◌then◌else◌, List, length}
+use Rattle.std.specs.Prelude.{take, Result, Ok, Err}
+use Rattle.gx_words.specs.Constants.{ceiling, stack_limit, magic, magic_at, version_at, ramstart_at, extstart_at}
+use Rattle.gx_words.specs.Constants.{endmem_at, stack_size_at, start_function_at, table_at, checksum_at, header_len}
 use Rattle.gx_words.specs.Numbers.{word, sum_of_words}
 use Rattle.gx_words.specs.Results.{◌>>=◌}
 use Rattle.iff_chunks.specs.Chunks.{begins_form}

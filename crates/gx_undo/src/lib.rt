@@ -70,7 +70,8 @@ impl<A: Allocator + Clone> Undo<A> {
     pub fn push(&mut self, copy: Moment<A>)
         ensures value { self.new ≡ with_newest self.old copy }
         ensures few { length self.new.copies ≤ self.new.depth }
-        ensures fit { (story : FlatStory) → AreCopiesFor story self.old.copies → IsCopyFor story copy → AreCopiesFor story self.new.copies }
+        ensures fit { (story : FlatStory) → AreCopiesFor story self.old.copies → IsCopyFor story copy
+            → AreCopiesFor story self.new.copies }
     {
         let _oldest = self.ring.push_front(copy); // dropped, where as many are kept as may be
     }

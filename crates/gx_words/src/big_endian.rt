@@ -3,7 +3,8 @@
 //! Each call is its definition of specs/Numbers for all arguments that its condition allows.
 ghost use Rattle.std.specs.Prelude.{◌≡◌, ◌+◌, ◌/◌, ◌%◌, ◌≤◌, ◌<◌, ◌^◌, nat_lt, if◌then◌else◌, length};
 ghost use Rattle.std.specs.Int.{w32, cast_signed};
-ghost use Rattle.gx_words.specs.Numbers.{IsWidth, half, word, number, low, bytes_of_word, bytes_of_number, spliced, rounded_up, sum_of_words};
+ghost use Rattle.gx_words.specs.Numbers.{IsWidth, half, word, number, low, bytes_of_word, bytes_of_number, spliced};
+ghost use Rattle.gx_words.specs.Numbers.{rounded_up, sum_of_words};
 
 use crate::CHECKSUM_AT;
 use byteorder::{BigEndian, ByteOrder};

@@ -1,7 +1,8 @@
 -- The story of a number (Glulx 3.1.2, "The Memory Map"): a page with header and code, and RAM.
 use Rattle.std.specs.Prelude.{◌≡◌, ℕ, zero, suc, ◌+◌, ◌*◌, ◌%◌, ◌^◌, List, [], ◌∷◌, ◌++◌, length, replicate}
 use Rattle.std.specs.List.{flat_map}
-use Rattle.gx_words.specs.Constants.{magic, magic_at, version_at, ramstart_at, extstart_at, endmem_at, stack_size_at, start_function_at, table_at}
+use Rattle.gx_words.specs.Constants.{magic, magic_at, version_at, ramstart_at, extstart_at, endmem_at, stack_size_at}
+use Rattle.gx_words.specs.Constants.{start_function_at, table_at}
 use Rattle.gx_words.specs.Numbers.{word, bytes_of_word, sum_of_words}
 
 -- RAM has from 64 to 262,144 words

@@ -1,6 +1,7 @@
 -- The blocks of the memory allocation heap, and where the next one goes (Glulx 3.1.2,
 -- "Memory Allocation Heap").
-use Rattle.std.specs.Prelude.{◌≡◌, ℕ, ◌+◌, ◌^◌, ◌<◌, ◌≤◌, ◌⊎◌, Bool, ◌==◌, nat_le, nat_lt, if◌then◌else◌, List, [], ◌∷◌, length, All, AllPairs, Option, Some, None, MatchOption}
+use Rattle.std.specs.Prelude.{◌≡◌, ℕ, ◌+◌, ◌^◌, ◌<◌, ◌≤◌, ◌⊎◌, Bool, ◌==◌, nat_le, nat_lt, if◌then◌else◌, List, [], ◌∷◌}
+use Rattle.std.specs.Prelude.{length, All, AllPairs, Option, Some, None, MatchOption}
 use Rattle.std.specs.Option.{option_map}
 
 -- a block is its address and its length

@@ -9,7 +9,7 @@ use Rattle.iff_chunks.specs.declared.faults.IffFault.TheVariants.{Cut}
 use Rattle.iff_chunks.specs.declared.parts.Part.{Part}
 use Rattle.iff_chunks.specs.declared.parts.Sought.{Sought}
 use Rattle.iff_chunks.specs.Faults.{◌>>=◌}
-use Rattle.iff_chunks.specs.Chunks.{length_at, id_at, part_at, next_place, parts_from, is_sought, found_first}
+use Rattle.iff_chunks.specs.Chunks.{length_at, id_at, part_at, next_place, parts_from, is_sought, found_first, part_found}
 
 pub parts_done : (most : ℕ) (form : List ℕ) (place : ℕ) → length form ≤ place → parts_from most form place ≡ Ok []
 unfolding parts_from
@@ -57,32 +57,16 @@ here form place part lt is = one_more form place lt ∙ rw is refl
 cut : (form : List ℕ) (place : ℕ) (e : IffFault) → place < length form → part_at form place ≡ Err e → parts_from (length form) form place ≡ Err e
 cut form place e lt is = one_more form place lt ∙ rw is refl
 
--- the loop that looks at all chunks
-abbrev pub whole : Result (List Part) IffFault → Result (Unit {0}) IffFault
-whole r = r >>= λ parts. Ok tt
+-- a search meets the first fault of the chunks, and where it meets none there is none
+pub sought_ok : (sought : Sought) (r : Result (List Part) IffFault) (found : Option Part) → part_found sought r ≡ Ok found → IsOk r
+sought_ok sought (Ok parts) found h = refl
+sought_ok sought (Err d) found h = absurd cc
 
-whole_cons : (part : Part) (r : Result (List Part) IffFault) → whole (r >>= λ parts. Ok (part ∷ parts)) ≡ whole r
-whole_cons part (Ok parts) = refl
-whole_cons part (Err e) = refl
+pub sought_err : (sought : Sought) (r : Result (List Part) IffFault) (e : IffFault) → part_found sought r ≡ Err e → r ≡ Err e
+sought_err sought (Ok parts) e h = absurd cc
+sought_err sought (Err d) e h = cc
 
-whole_err : (r : Result (List Part) IffFault) (e : IffFault) → whole r ≡ Err e → r ≡ Err e
-whole_err (Ok parts) e h = absurd cc
-whole_err (Err d) e h = cc
-
-whole_ok : (r : Result (List Part) IffFault) → whole r ≡ Ok tt → IsOk r
-whole_ok (Ok parts) h = refl
-whole_ok (Err d) h = absurd cc
-
-pub look_turn : (form : List ℕ) (place : ℕ) (part : Part) (t : Result (Unit {0}) IffFault) → place < length form → part_at form place ≡ Ok part → whole (parts_from (length form) form place) ≡ t → whole (parts_from (length form) form (next_place part)) ≡ t
-look_turn form place part t lt is h = sym (whole_cons part (parts_from (length form) form (next_place part))) ∙ ap whole (sym (here form place part lt is)) ∙ h
-
-pub look_fault : (form : List ℕ) (place : ℕ) (e : IffFault) (r : Result (List Part) IffFault) → place < length form → part_at form place ≡ Err e → whole (parts_from (length form) form place) ≡ whole r → r ≡ Err e
-look_fault form place e r lt is h = whole_err r e (sym h ∙ ap whole (cut form place e lt is))
-
-pub look_done : (form : List ℕ) (place : ℕ) (r : Result (List Part) IffFault) → length form ≤ place → whole (parts_from (length form) form place) ≡ whole r → IsOk r
-look_done form place r le h = whole_ok r (sym h ∙ ap whole (parts_done (length form) form place le))
-
-pub ruleset look_turns = (look_turn, look_fault, look_done)
+pub ruleset look_turns = (sought_ok, sought_err)
 
 -- the loop that gathers the chunks: what is read already, and then what is still read
 abbrev pub ahead : List Part → Result (List Part) IffFault → Result (List Part) IffFault

@@ -4,7 +4,8 @@
 ghost use Rattle.std.specs.Prelude.{◌≡◌, ◌≢◌, length, IfErr, IsOk, OnOk};
 ghost use Rattle.std.specs.List.{find};
 ghost use Rattle.iff_chunks.specs.Faults.{Makes, Reads};
-ghost use Rattle.iff_chunks.specs.Chunks.{at_place, begins_form, chunks, first, form_in, is_sought, part_found, parts_from};
+ghost use Rattle.iff_chunks.specs.Chunks.{at_place, begins_form, chunks, first, form_in, is_sought, part_found};
+ghost use Rattle.iff_chunks.specs.Chunks.{parts_from};
 ghost use Rattle.iff_chunks.specs.declared.faults.IffFault.{IffFault};
 
 use crate::parts::{HEADER_LEN, id_at, length_at};
@@ -107,16 +108,15 @@ fn form_in(bytes: &[u8], kind: [u8; 4]) -> Result<&[u8], IffFault>
     Ok(&bytes[..HEADER_LEN + len])
 }
 
-/// The first fault of the chunks of a form that ends with the bytes.
+/// The first fault of the chunks of a form that ends with the bytes: that of a search for a chunk at the form's first
+/// byte, where none begins.
 #[tactic(auto, using(crate::proofs::Reading::look_turns))]
 fn look_through(form: &[u8]) -> Result<(), IffFault>
     ensures whole { OnOk result (IsOk (parts_from (length form.now) form.now 12)) }
-    ensures fault { IfErr result (λ fault. (parts_from (length form.now) form.now 12 ≡ Err fault) × (fault ≢ IffFault.NoMemory)) }
+    ensures fault { IfErr result (λ fault. (parts_from (length form.now) form.now 12 ≡ Err fault)
+        × (fault ≢ IffFault.NoMemory)) }
 {
-    let mut place = FIRST_CHUNK;
-    while place < form.len() {
-        place = Part::read(form, place)?.next_place();
-    }
+    find_in(form, Sought::Place(0))?;
     Ok(())
 }
 

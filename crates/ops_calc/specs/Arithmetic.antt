@@ -1,7 +1,9 @@
 -- What integer math gives (Glulx 3.1.2, "Integer Math"), and the sign extensions ("Moving Data").
 --
 -- Operands and answers are words of 32 bits. Sums, differences and products are modulo 2^32.
-use Rattle.std.specs.Prelude.{◌≡◌, ℕ, ℤ, ◌+◌, ◌-◌, ◌*◌, ◌/◌, ◌%◌, ◌^◌, Bool, ◌==◌, ◌&&◌, ◌||◌, nat_lt, if◌then◌else◌, List, [], ◌∷◌, Option, Some, None, bit_and, bit_or, bit_xor, int_div, int_rem, pos, unsigned_abs, ◌<◌, ◌+ℤ◌, ◌*ℤ◌, ◌≤ℤ◌}
+use Rattle.std.specs.Prelude.{◌≡◌, ℕ, ℤ, ◌+◌, ◌-◌, ◌*◌, ◌/◌, ◌%◌, ◌^◌, Bool, ◌==◌, ◌&&◌, ◌||◌, nat_lt, if◌then◌else◌}
+use Rattle.std.specs.Prelude.{List, [], ◌∷◌, Option, Some, None, bit_and, bit_or, bit_xor, int_div, int_rem, pos}
+use Rattle.std.specs.Prelude.{unsigned_abs, ◌<◌, ◌+ℤ◌, ◌*ℤ◌, ◌≤ℤ◌}
 use Rattle.std.specs.List.{list_any}
 use Rattle.std.specs.Int.{w32, cast_signed, cast_unsigned, int_shr}
 use Rattle.gx_words.specs.Numbers.{extended}

@@ -1,5 +1,6 @@
 -- Whether a branch is taken (Glulx 3.1.2, "Branches").
-use Rattle.std.specs.Prelude.{ℕ, Bool, true, false, not, ◌==◌, nat_lt, nat_le, int_lt, int_le, if◌then◌else◌, List, [], ◌∷◌}
+use Rattle.std.specs.Prelude.{ℕ, Bool, true, false, not, ◌==◌, nat_lt, nat_le, int_lt, int_le, if◌then◌else◌, List, []}
+use Rattle.std.specs.Prelude.{◌∷◌}
 use Rattle.std.specs.List.{list_any}
 use Rattle.ops_calc.specs.Arithmetic.{signed}
 

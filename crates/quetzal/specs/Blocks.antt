@@ -1,6 +1,7 @@
 -- The heap of a save (Glulx 3.1.2, "Contents of the Save File"): its start, the count of its blocks, and the address
 -- and the length of each, in any order.
-use Rattle.std.specs.Prelude.{ℕ, zero, suc, Bool, true, ◌+◌, ◌*◌, ◌%◌, ◌==◌, nat_lt, nat_le, ◌&&◌, ◌||◌, if◌then◌else◌, List, [], ◌∷◌, ◌++◌, length, Result, Ok, Err}
+use Rattle.std.specs.Prelude.{ℕ, zero, suc, Bool, true, ◌+◌, ◌*◌, ◌%◌, ◌==◌, nat_lt, nat_le, ◌&&◌, ◌||◌, if◌then◌else◌}
+use Rattle.std.specs.Prelude.{List, [], ◌∷◌, ◌++◌, length, Result, Ok, Err}
 use Rattle.std.specs.List.{flat_map, list_all}
 use Rattle.std.specs.List.Sorted.{IsPermutation, IsNonDecreasingBy}
 use Rattle.gx_words.specs.Numbers.{word, bytes_of_word}
@@ -30,7 +31,9 @@ has_no_heap body = length body == 0 || (length body == heap_header_len && start_
 
 -- as many blocks as are counted, and one at least
 abbrev pub has_count : List ℕ → Bool
-has_count body = nat_le heap_header_len (length body) && length body == heap_header_len + block_len * count_in body && nat_lt 0 (count_in body)
+has_count body =
+    nat_le heap_header_len (length body) && length body == heap_header_len
+    + block_len * count_in body && nat_lt 0 (count_in body)
 
 -- a size at which memory may have ended before the heap began
 abbrev pub is_start : FlatStory → ℕ → ℕ → Bool
@@ -58,7 +61,8 @@ is_heap story size body =
 -- nothing else is wrong with the heap, and it has two blocks at least: they may still meet
 unfoldable pub may_meet : FlatStory → ℕ → List ℕ → Bool
 may_meet story size body =
-    has_count body && is_start story size (start_in body) && list_all (is_block (start_in body) size) (blocks_in body) && nat_lt 1 (count_in body)
+    has_count body && is_start story size (start_in body) && list_all (is_block (start_in body) size) (blocks_in body)
+    && nat_lt 1 (count_in body)
 
 -- blocks by their address
 unfoldable pub in_order : List Block → List Block
@@ -91,4 +95,5 @@ abbrev pub bytes_of_block : Block → List ℕ
 bytes_of_block b = bytes_of_word b.0 ++ bytes_of_word b.1
 
 abbrev pub heap_bytes : FlatHeap → List ℕ
-heap_bytes heap = bytes_of_word heap.start ++ (bytes_of_word (length heap.blocks) ++ flat_map bytes_of_block heap.blocks)
+heap_bytes heap =
+    bytes_of_word heap.start ++ (bytes_of_word (length heap.blocks) ++ flat_map bytes_of_block heap.blocks)

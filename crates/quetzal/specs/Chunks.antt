@@ -1,5 +1,6 @@
 -- The chunks of a save that are looked at (Quetzal 1.4, sections 3 to 5; Glulx 3.1.2, "Contents of the Save File").
-use Rattle.std.specs.Prelude.{ℕ, Bool, true, false, nat_le, List, [], ◌∷◌, length, take, Option, Some, None, unwrap_or, Result, Ok}
+use Rattle.std.specs.Prelude.{ℕ, Bool, true, false, nat_le, List, [], ◌∷◌, length, take, Option, Some, None, unwrap_or}
+use Rattle.std.specs.Prelude.{Result, Ok}
 use Rattle.std.specs.Option.{ok_or, option_map}
 use Rattle.std.specs.Str.{bytes_eq}
 use Rattle.gx_words.specs.Results.{◌>>=◌}

@@ -1,5 +1,6 @@
 -- The memory of a save (Glulx 3.1.2, "Contents of the Save File").
-use Rattle.std.specs.Prelude.{ℕ, Bool, ◌-◌, ◌%◌, ◌==◌, nat_le, ◌&&◌, if◌then◌else◌, List, ◌++◌, length, take, drop, Result, Ok, Err}
+use Rattle.std.specs.Prelude.{ℕ, Bool, ◌-◌, ◌%◌, ◌==◌, nat_le, ◌&&◌, if◌then◌else◌, List, ◌++◌, length, take, drop}
+use Rattle.std.specs.Prelude.{Result, Ok, Err}
 use Rattle.gx_words.specs.Numbers.{word, bytes_of_word}
 use Rattle.gx_words.specs.Results.{◌>>=◌}
 use Rattle.zero_runs.specs.Packing.{packed, xored}
@@ -42,4 +43,5 @@ memory_of story memory = ram_of story memory >>= λ ram. Ok (with_rom story ram)
 
 -- the body of a packed chunk as it is written
 unfoldable pub memory_bytes : FlatStory → List ℕ → List ℕ
-memory_bytes story memory = bytes_of_word (length memory) ++ packed (xored (drop story.header.ramstart memory) (first_ram story))
+memory_bytes story memory =
+    bytes_of_word (length memory) ++ packed (xored (drop story.header.ramstart memory) (first_ram story))

@@ -10,7 +10,8 @@ use Rattle.quetzal.specs.Constants.{stub_len}
 
 -- words alone, within the story's limit, with room for a stub
 abbrev pub has_height : FlatStory → List ℕ → Bool
-has_height story stack = length stack % 4 == 0 && nat_le (length stack) story.header.stack_size && nat_le stub_len (length stack)
+has_height story stack =
+    length stack % 4 == 0 && nat_le (length stack) story.header.stack_size && nat_le stub_len (length stack)
 
 -- a word of RAM where the result goes to memory, a local of the frame where it goes to one
 abbrev pub is_place : FlatStory → ℕ → Frame → Stub → Bool
@@ -21,7 +22,8 @@ is_place story size frame stub =
 
 -- a stub that stores a result, on top of its frame
 abbrev pub is_stub : FlatStory → ℕ → List ℕ → Stub → Bool
-is_stub story size below stub = nat_le stub.kind to_stack && is_good below stub.fp && is_place story size (parts below stub.fp) stub
+is_stub story size below stub =
+    nat_le stub.kind to_stack && is_good below stub.fp && is_place story size (parts below stub.fp) stub
 
 unfoldable pub is_stack : FlatStory → ℕ → List ℕ → Bool
 is_stack story size stack =

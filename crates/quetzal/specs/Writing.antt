@@ -27,11 +27,15 @@ abbrev pub chunk_len : ℕ → ℕ
 chunk_len body = 8 + body + body % 2
 
 abbrev pub form_len : ℕ → ℕ → ℕ → ℕ
-form_len memory stack blocks = 4 + chunk_len story_start + chunk_len memory + chunk_len stack + (if blocks == 0 then 0 else chunk_len (heap_header_len + block_len * blocks))
+form_len memory stack blocks =
+    4 + chunk_len story_start + chunk_len memory + chunk_len stack
+    + (if blocks == 0 then 0 else chunk_len (heap_header_len + block_len * blocks))
 
 unfoldable pub saved : FlatStory → Copy → List ℕ
 saved story copy = bytes_of_form ifzs (saved_chunks story copy)
 
 -- a fit copy that was written is read back
 abbrev pub ReadsBack : Type 0
-ReadsBack = (story : FlatStory) (copy : Copy) → IsStory story → IsCopyFor story copy → save_of ceiling (saved story copy) story ≡ Ok copy
+ReadsBack =
+    (story : FlatStory) (copy : Copy) → IsStory story → IsCopyFor story copy
+    → save_of ceiling (saved story copy) story ≡ Ok copy

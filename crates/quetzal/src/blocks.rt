@@ -7,7 +7,8 @@ ghost use Rattle.std.specs.List.{list_all};
 ghost use Rattle.gx_words.specs.Numbers.{word};
 ghost use Rattle.quetzal.specs.Faults.{MaySort};
 ghost use Rattle.quetzal.specs.Constants.{block_len};
-ghost use Rattle.quetzal.specs.Blocks.{IsSortedFrom, may_meet, blocks_in, count_in, has_count, has_no_heap, heap_of, is_block, is_start, ordered, rises};
+ghost use Rattle.quetzal.specs.Blocks.{IsSortedFrom, may_meet, blocks_in, count_in, has_count, has_no_heap, heap_of};
+ghost use Rattle.quetzal.specs.Blocks.{is_block, is_start, ordered, rises};
 ghost use Rattle.gx_words.specs.Constants.{ceiling};
 ghost use Rattle.gx_state.specs.Sound.{IsHeapWithin};
 ghost use Rattle.quetzal.specs.Views.{heap_from};
@@ -30,7 +31,8 @@ pub(crate) fn heap_of(
     size: u32,
     body: &[u8],
 ) -> Result<(u32, Blocks), SaveFault>
-    ensures value { MaySort (IsTrue (may_meet story.now size body.now)) heap_from result (heap_of story.now size body.now) }
+    ensures value { MaySort (IsTrue (may_meet story.now size body.now)) heap_from result
+        (heap_of story.now size body.now) }
     ensures within { size ≤ ceiling → IfOk result (λ heap. IsHeapWithin story.now.header.endmem size (heap_from heap)) }
     ensures memory { IfErr result (λ fault. fault ≡ SaveFault.NoMemory → IsTrue (has_count body.now)) }
 {

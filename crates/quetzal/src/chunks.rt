@@ -92,7 +92,8 @@ fn memory_in(save: &[u8]) -> Result<Option<MemoryChunk<'_>>, SaveFault>
 
 /// A packed chunk is taken before a plain one.
 fn either<'a>(packed: Option<&'a [u8]>, plain: Option<&'a [u8]>) -> Option<MemoryChunk<'a>>
-    ensures { option_map memory_body result ≡ either (option_map (λ b. b.now) packed.entry) (option_map (λ b. b.now) plain.entry) }
+    ensures { option_map memory_body result
+        ≡ either (option_map (λ b. b.now) packed.entry) (option_map (λ b. b.now) plain.entry) }
 {
     match packed {
         Some(body) => Some(MemoryChunk {

@@ -58,9 +58,11 @@ impl MemoryChunk<'_> {
         requires there { size_len ≤ length self.now.body.now }
         requires size { IsTrue (is_size ceiling story.now (size_in (memory_body self.now))) }
         requires fine { IsOk (memory_of story.now (memory_body self.now)) }
-        ensures value { Gives SaveFault.NoMemory (λ memory. memory) result (memory_of story.now (memory_body self.now)) }
+        ensures value { Gives SaveFault.NoMemory (λ memory. memory) result
+            (memory_of story.now (memory_body self.now)) }
         ensures len { IfOk result (λ memory. length memory ≡ size_in (memory_body self.now)) }
-        ensures rom { IfOk result (λ memory. take story.now.header.ramstart memory ≡ take story.now.header.ramstart story.now.bytes) }
+        ensures rom { IfOk result (λ memory. take story.now.header.ramstart memory
+            ≡ take story.now.header.ramstart story.now.bytes) }
     {
         let mut memory = Bytes::with_capacity(alloc, self.size() as usize)?;
         memory.extend_from_slice(&story.bytes()[..story.ramstart() as usize])?;

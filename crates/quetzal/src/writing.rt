@@ -126,7 +126,8 @@ fn push_heap(
     blocks: &[(u32, u32)],
 ) -> Result<(), AllocError>
     requires { length blocks.now ≤ ceiling }
-    ensures ok { OnOk result (out.new ≡ out.old ++ flat_map bytes_of_chunk (heap_chunks (record { start = start; blocks = blocks.now }))) }
+    ensures ok { OnOk result (out.new ≡ out.old
+        ++ flat_map bytes_of_chunk (heap_chunks (record { start = start; blocks = blocks.now }))) }
     ensures memory { OnErr result (0 < length blocks.now) }
 {
     if blocks.is_empty() {

@@ -1,5 +1,6 @@
 -- Packed bytes as they are read (Quetzal 1.4, section 3).
-use Rattle.std.specs.Prelude.{ℕ, zero, suc, ◌+◌, ◌-◌, nat_lt, if◌then◌else◌, List, [], ◌∷◌, ◌++◌, length, drop, replicate, Result, Ok, Err}
+use Rattle.std.specs.Prelude.{ℕ, zero, suc, ◌+◌, ◌-◌, nat_lt, if◌then◌else◌, List, [], ◌∷◌, ◌++◌, length, drop}
+use Rattle.std.specs.Prelude.{replicate, Result, Ok, Err}
 use Rattle.gx_words.specs.Results.{◌>>=◌}
 use Rattle.zero_runs.specs.Packing.{xored}
 use Rattle.zero_runs.specs.declared.faults.RunFault.{RunFault}

@@ -11,6 +11,7 @@ pub fn unpack_inverts_pack()
 
     // A list is zeros alone, or zeros, another byte and a list: these two say what is packed.
     ensures zeros { (n : ℕ) → packed (replicate n 0) ≡ [] }
-    ensures other { (n byte : ℕ) (xs : List ℕ) → byte ≢ 0 → packed (replicate n 0 ++ byte ∷ xs) ≡ run n ++ byte ∷ packed xs }
+    ensures other { (n byte : ℕ) (xs : List ℕ) → byte ≢ 0
+        → packed (replicate n 0 ++ byte ∷ xs) ≡ run n ++ byte ∷ packed xs }
     ensures short { (xs : List ℕ) → length (packed xs) ≤ 2 * length xs }
 {}

@@ -1,7 +1,8 @@
 //! Reading: the bytes that packed bytes stand for over the old ones.
 //!
 //! The bytes are counted before memory is asked for, so what a file claims costs nothing.
-ghost use Rattle.std.specs.Prelude.{◌≡◌, ◌≢◌, ◌<◌, ◌+◌, ◌++◌, ℕ, List, length, take, drop, replicate, Ok, Err, OnOk, OnErr, IfOk, IfErr, IsOk};
+ghost use Rattle.std.specs.Prelude.{◌≡◌, ◌≢◌, ◌<◌, ◌+◌, ◌++◌, ℕ, List, length, take, drop, replicate, Ok, Err, OnOk};
+ghost use Rattle.std.specs.Prelude.{OnErr, IfOk, IfErr, IsOk};
 ghost use Rattle.gx_words.specs.Results.{Gives};
 ghost use Rattle.zero_runs.specs.Packing.{xored};
 ghost use Rattle.zero_runs.specs.Unpacking.{expand, expanded_len, expanded_onto, unpacked, unpacked_onto};
