@@ -1,7 +1,9 @@
 pub mod Answers
 pub mod Charges
 pub mod Costs
+pub mod Fetching
 pub mod Passing
 pub mod Reading
 pub mod Steps
+pub mod Streams
 pub mod Tries

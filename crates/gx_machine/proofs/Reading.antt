@@ -184,3 +184,93 @@ two_and_store_fails_3 f row modes first second a b p q e plain loads stores ther
     rw (loads, stores, within, plain.width, plain.in_order, first_at, rw is at one, rw is at two, rw next at three) refl
 
 pub ruleset two_and_store_reading = (no_modes, two_and_store_read, two_and_store_fails_1, two_and_store_fails_2, two_and_store_fails_3)
+
+-- three loads and a store
+pub three_and_store_read : (f : FlatState) (row : Row) (modes first second a b c : ℕ) (d : Dest) (p q r s : Cursor) → IsPlain row → row.loads ≡ 3 → row.stores ≡ 1 → modes + 2 ≤ length f.memory
+    → first ≡ byte f.memory modes
+    → second ≡ byte f.memory (modes + 1)
+    → load f 4 (first % 16) (record { at = modes + 2; popped = 0 }) ≡ Ok (a, p)
+    → load f 4 (first / 16) p ≡ Ok (b, q)
+    → load f 4 (second % 16) q ≡ Ok (c, r)
+    → destination f (second / 16) r ≡ Ok (d, s)
+    → all_operands f row modes ≡ Ok (operands_read (a ∷ b ∷ c ∷ []) d true s)
+unfolding all_operands operands operand with_operand
+three_and_store_read f row modes first second a b c d p q r s plain loads stores there is next one two three four =
+    let within : nat_le (modes + 2) (length f.memory) ≡ true = grind (arith, nat_tests) in
+    let first_at : modes + 0 ≡ modes = omega arith in
+    rw (loads, stores, within, plain.width, plain.in_order, first_at, rw is at one, rw is at two, rw next at three, rw next at four) refl
+
+pub three_and_store_fails_1 : (f : FlatState) (row : Row) (modes first second : ℕ) (e : Fault) → IsPlain row → row.loads ≡ 3 → row.stores ≡ 1 → modes + 2 ≤ length f.memory
+    → first ≡ byte f.memory modes
+    → second ≡ byte f.memory (modes + 1)
+    → load f 4 (first % 16) (record { at = modes + 2; popped = 0 }) ≡ Err e
+    → all_operands f row modes ≡ Err e
+unfolding all_operands operands operand with_operand
+three_and_store_fails_1 f row modes first second e plain loads stores there is next one =
+    let within : nat_le (modes + 2) (length f.memory) ≡ true = grind (arith, nat_tests) in
+    let first_at : modes + 0 ≡ modes = omega arith in
+    rw (loads, stores, within, plain.width, plain.in_order, first_at, rw is at one) refl
+
+pub three_and_store_fails_2 : (f : FlatState) (row : Row) (modes first second a : ℕ) (p : Cursor) (e : Fault) → IsPlain row → row.loads ≡ 3 → row.stores ≡ 1 → modes + 2 ≤ length f.memory
+    → first ≡ byte f.memory modes
+    → second ≡ byte f.memory (modes + 1)
+    → load f 4 (first % 16) (record { at = modes + 2; popped = 0 }) ≡ Ok (a, p)
+    → load f 4 (first / 16) p ≡ Err e
+    → all_operands f row modes ≡ Err e
+unfolding all_operands operands operand with_operand
+three_and_store_fails_2 f row modes first second a p e plain loads stores there is next one two =
+    let within : nat_le (modes + 2) (length f.memory) ≡ true = grind (arith, nat_tests) in
+    let first_at : modes + 0 ≡ modes = omega arith in
+    rw (loads, stores, within, plain.width, plain.in_order, first_at, rw is at one, rw is at two) refl
+
+pub three_and_store_fails_3 : (f : FlatState) (row : Row) (modes first second a b : ℕ) (p q : Cursor) (e : Fault) → IsPlain row → row.loads ≡ 3 → row.stores ≡ 1 → modes + 2 ≤ length f.memory
+    → first ≡ byte f.memory modes
+    → second ≡ byte f.memory (modes + 1)
+    → load f 4 (first % 16) (record { at = modes + 2; popped = 0 }) ≡ Ok (a, p)
+    → load f 4 (first / 16) p ≡ Ok (b, q)
+    → load f 4 (second % 16) q ≡ Err e
+    → all_operands f row modes ≡ Err e
+unfolding all_operands operands operand with_operand
+three_and_store_fails_3 f row modes first second a b p q e plain loads stores there is next one two three =
+    let within : nat_le (modes + 2) (length f.memory) ≡ true = grind (arith, nat_tests) in
+    let first_at : modes + 0 ≡ modes = omega arith in
+    rw (loads, stores, within, plain.width, plain.in_order, first_at, rw is at one, rw is at two, rw next at three) refl
+
+pub three_and_store_fails_4 : (f : FlatState) (row : Row) (modes first second a b c : ℕ) (p q r : Cursor) (e : Fault) → IsPlain row → row.loads ≡ 3 → row.stores ≡ 1 → modes + 2 ≤ length f.memory
+    → first ≡ byte f.memory modes
+    → second ≡ byte f.memory (modes + 1)
+    → load f 4 (first % 16) (record { at = modes + 2; popped = 0 }) ≡ Ok (a, p)
+    → load f 4 (first / 16) p ≡ Ok (b, q)
+    → load f 4 (second % 16) q ≡ Ok (c, r)
+    → destination f (second / 16) r ≡ Err e
+    → all_operands f row modes ≡ Err e
+unfolding all_operands operands operand with_operand
+three_and_store_fails_4 f row modes first second a b c p q r e plain loads stores there is next one two three four =
+    let within : nat_le (modes + 2) (length f.memory) ≡ true = grind (arith, nat_tests) in
+    let first_at : modes + 0 ≡ modes = omega arith in
+    rw (loads, stores, within, plain.width, plain.in_order, first_at, rw is at one, rw is at two, rw next at three, rw next at four) refl
+
+pub ruleset three_and_store_reading = (no_modes, three_and_store_read, three_and_store_fails_1, three_and_store_fails_2, three_and_store_fails_3, three_and_store_fails_4)
+
+-- a store alone
+pub store_read : (f : FlatState) (row : Row) (modes first : ℕ) (d : Dest) (p : Cursor) → IsPlain row → row.loads ≡ 0 → row.stores ≡ 1 → modes + 1 ≤ length f.memory
+    → first ≡ byte f.memory modes
+    → destination f (first % 16) (record { at = modes + 1; popped = 0 }) ≡ Ok (d, p)
+    → all_operands f row modes ≡ Ok (operands_read [] d true p)
+unfolding all_operands operands operand with_operand
+store_read f row modes first d p plain loads stores there is one =
+    let within : nat_le (modes + 1) (length f.memory) ≡ true = grind (arith, nat_tests) in
+    let first_at : modes + 0 ≡ modes = omega arith in
+    rw (loads, stores, within, plain.width, plain.in_order, first_at, rw is at one) refl
+
+pub store_fails_1 : (f : FlatState) (row : Row) (modes first : ℕ) (e : Fault) → IsPlain row → row.loads ≡ 0 → row.stores ≡ 1 → modes + 1 ≤ length f.memory
+    → first ≡ byte f.memory modes
+    → destination f (first % 16) (record { at = modes + 1; popped = 0 }) ≡ Err e
+    → all_operands f row modes ≡ Err e
+unfolding all_operands operands operand with_operand
+store_fails_1 f row modes first e plain loads stores there is one =
+    let within : nat_le (modes + 1) (length f.memory) ≡ true = grind (arith, nat_tests) in
+    let first_at : modes + 0 ≡ modes = omega arith in
+    rw (loads, stores, within, plain.width, plain.in_order, first_at, rw is at one) refl
+
+pub ruleset store_reading = (no_modes, store_read, store_fails_1)

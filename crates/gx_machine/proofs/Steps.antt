@@ -153,7 +153,7 @@ printing-is : (w : Whole) (word : ℕ) (mode : Mode) → (mode ≡ Running → �
 printing-is w word Running printing = absurd (printing refl)
 printing-is w word (Printing p) printing = refl
 
-no-probes : (f : FlatState) (mode : Mode) → (mode ≡ Running → ⊥) → probes_in f mode ≡ 0
+pub no-probes : (f : FlatState) (mode : Mode) → (mode ≡ Running → ⊥) → probes_in f mode ≡ 0
 no-probes f Running printing = absurd (printing refl)
 no-probes f (Printing p) printing = refl
 
@@ -179,11 +179,24 @@ print_ok w word budget g e asking some live printing asks h =
 
 -- a character is asked to be put, and the machine stands
 pub puts_ok : (w : Whole) (budget : ℕ) (pending : Option Pending) (r : Option ℕ) → 1 ≤ budget → 0 < sp_of w.machine.flat
-    → IfSome r (λ c. printed w.machine.flat ≡ Ok (w.machine.flat, Put c)) → IfSome r (λ c. w.machine.flat.mode ≢ Running) → IfSome r (λ c. option_map (λ (p : Pending). p.asking) pending ≡ Some asking.Put)
+    → IfSome r (λ c. (u : FlatUndo) (word : ℕ) → mode_step (record { flat = w.machine.flat; undo = u }) word w.machine.flat.mode ≡ Ok (record { flat = w.machine.flat; undo = u }, Put c))
+    → IfSome r (λ c. probes_in w.machine.flat w.machine.flat.mode ≡ 0) → IfSome r (λ c. option_map (λ (p : Pending). p.asking) pending ≡ Some asking.Put)
     → IfSome r (λ c. (word : ℕ) → stepped w word budget ≡ Ok ((record { machine = record { flat = w.machine.flat; undo = w.machine.undo }; asking = option_map (λ (p : Pending). p.asking) pending }, budget - 1), Put c))
-puts_ok w budget pending None some live value printing asks = tt
-puts_ok w budget pending (Some c) some live value printing asks =
-    λ word. print_ok w word budget w.machine.flat (Put c) (option_map (λ (p : Pending). p.asking) pending) some live printing (sym asks) value
+puts_ok w budget pending None some live value probes asks = tt
+puts_ok w budget pending (Some c) some live value probes asks = λ word.
+    let f : FlatState = w.machine.flat in
+    let enough : nat_lt budget 1 ≡ false = le-ltb budget 1 (omega (arith, some)) in
+    by_mode w word budget f.mode live refl
+    ∙ ap (λ (n : ℕ). tested w budget (1 + n) (nat_lt budget (1 + n)) (mode_step w.machine word f.mode)) probes
+    ∙ ap (λ (t : Bool). tested w budget 1 t (mode_step w.machine word f.mode)) enough
+    ∙ ap (paid budget 1) (value w.machine.undo word)
+    ∙ ap (λ (a : Option Asking). Ok ((record { machine = record { flat = f; undo = w.machine.undo }; asking = a }, budget - 1), Put c)) (sym asks)
+
+-- an item is the step of a machine that prints
+pub item_steps : (f : FlatState) (c : ℕ) → (f.mode ≡ Running → ⊥) → printed f ≡ Ok (f, Put c) → (u : FlatUndo) (word : ℕ)
+    → mode_step (record { flat = f; undo = u }) word f.mode ≡ Ok (record { flat = f; undo = u }, Put c)
+item_steps f c printing is u word =
+    printing-is (record { machine = record { flat = f; undo = u }; asking = None }) word f.mode printing ∙ ap (with_copies u) is
 
 -- a step of printing that puts no character, and one that isn't made
 paid-rest : (budget : ℕ) (undo : FlatUndo) (r : Result (FlatState × Effect) Fault) → IfOk r (λ x. is_put x.1 ≡ false) → IfOk (paid budget 1 (with_copies undo r)) (λ x. is_put x.1 ≡ false)

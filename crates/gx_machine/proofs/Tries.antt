@@ -83,7 +83,7 @@ by_operands : (place : ℕ) → place < row_count → (row_at place).loads ≤ 3
 by_operands place within few f (Ok o) = by_class (row_at place).class f (read_as f (row_at place) o) (no_search place within few f (read_as f (row_at place) o) refl)
 by_operands place within few f (Err e) = refl
 
-instruction_is : (f : FlatState) (number modes : ℕ) (row : Row) → opcode f ≡ Ok (number, modes) → ok_or (row_of number) BadOpcode ≡ Ok row → instruction f ≡ instruction_by f row (all_operands f row modes)
+pub instruction_is : (f : FlatState) (number modes : ℕ) (row : Row) → opcode f ≡ Ok (number, modes) → ok_or (row_of number) BadOpcode ≡ Ok row → instruction f ≡ instruction_by f row (all_operands f row modes)
 unfolding instruction
 instruction_is f number modes row read found = rw (read, found) refl
 

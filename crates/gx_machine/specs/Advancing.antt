@@ -36,11 +36,13 @@ pub record IsUnrecorded (log : Option Log) (result : Result Effect Fault) (old n
 
 -- Such steps, and then one more: the budget stands as before that last step, and `new` is the machine after it with
 -- what it leaves. Where memory is wanted for the record, that step isn't made.
-pub record Advances (word : ℕ) (result : Result Effect Fault) (old : Whole × ℕ) (first : Option Log) (budget : ℕ) (new : Whole × ℕ) (last : Option Log) : Type 0 where
+pub record Advances (word : ℕ) (result : Result Effect Fault) (old : Whole × ℕ) (first : Option Log) (budget : ℕ)
+    (new : Whole × ℕ) (last : Option Log) : Type 0 where
   pub count : ℕ
   pub before : Whole
   pub log : Option Log
   pub passes : Passes word count old first (before, budget) log
-  pub step : Does (IsStepWriting before.machine budget) (λ effect. effect) result (before, budget) new (stepped before word budget) ⊎ IsUnrecorded log result (before, budget) new
+  pub step : Does (IsStepWriting before.machine budget) (λ effect. effect) result (before, budget) new
+      (stepped before word budget) ⊎ IsUnrecorded log result (before, budget) new
   pub stands : IfOk result (λ effect. IsSome (asking_of effect) → new.0.machine ≡ before.machine)
   pub logs : last ≡ logged_after result log before.machine

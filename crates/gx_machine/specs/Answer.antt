@@ -25,7 +25,8 @@ with_writes f dest r = with_value (record f { memory = all_spliced f.memory r.wr
 
 -- the values that a reply pushes, in order, and then its value where that is pushed
 abbrev pub with_pushes : FlatState → Dest → Reply → FlatState
-with_pushes f Push r = with_value (record f { stack = record f.stack { bytes = f.stack.bytes ++ in_order r.pushes } }) 4 Push r.value
+with_pushes f Push r =
+    with_value (record f { stack = record f.stack { bytes = f.stack.bytes ++ in_order r.pushes } }) 4 Push r.value
 with_pushes f dest r = record f { stack = record f.stack { bytes = f.stack.bytes ++ in_order r.pushes } }
 
 -- A reply: the writes are made, the stack is cut, the values are pushed, and the answer is stored.

@@ -11,7 +11,7 @@ use Rattle.gx_rows.specs.declared.instructions.Class.{Class}
 use Rattle.gx_rows.specs.declared.instructions.Class.TheVariants as class
 use Rattle.gx_rows.specs.declared.instructions.Row.{Row}
 use Rattle.gx_state.specs.declared.effects.Effect.{Effect}
-use Rattle.gx_state.specs.declared.effects.Effect.TheVariants.{Went}
+use Rattle.gx_state.specs.declared.effects.Effect.TheVariants.{Went, Put}
 use Rattle.gx_state.specs.declared.modes.Dest.{Dest}
 use Rattle.gx_state.specs.declared.modes.Dest.TheVariants as dest
 use Rattle.gx_state.specs.Flat.{FlatState, cut, sp_of}
@@ -19,7 +19,7 @@ use Rattle.gx_state.specs.Entry.{entered}
 use Rattle.gx_state.specs.Returns.{stub_of}
 use Rattle.ops_calc.specs.Arithmetic.{calc}
 use Rattle.gx_operands.specs.declared.cursor.Cursor.{Cursor}
-use Rattle.gx_operands.specs.Instructions.{Operands, Instruction, all_operands, going_to}
+use Rattle.gx_operands.specs.Instructions.{Operands, Instruction, all_operands, going_to, instruction}
 use Rattle.gx_operands.specs.Stores.{settled, goes_to}
 use Rattle.gx_machine.specs.Machine.{Whole}
 use Rattle.gx_machine.specs.Step.{stepped, IsStepWriting}
@@ -28,6 +28,7 @@ use Rattle.ops_flow.specs.Rows as flow
 use Rattle.ops_flow.specs.Writes as flow_writes
 use Rattle.ops_memory.specs.Rows as memory
 use Rattle.ops_memory.specs.Writes as memory_writes
+use Rattle.ops_print.specs.Rows as print
 
 -- How a try ends: it is done as defined, and the machine goes on; or nothing is done, whatever it may be; or it has
 -- a fault, and all stands.
@@ -65,7 +66,15 @@ sp_after f p = sp_of f - 4 * p.popped
 
 -- an instruction whose operands were read
 abbrev pub read_as : FlatState → Row → Operands → Instruction
-read_as f row o = record { row = row; loads = o.loads; dest = o.dest; second = o.second; next = o.cursor.at; sp = sp_after f o.cursor }
+read_as f row o =
+    record {
+      row = row;
+      loads = o.loads;
+      dest = o.dest;
+      second = o.second;
+      next = o.cursor.at;
+      sp = sp_after f o.cursor;
+    }
 
 -- the instruction of a row whose modes stand at an address
 abbrev pub quick_row : FlatState → Row → ℕ → Result (FlatState × Effect) Fault
@@ -122,4 +131,15 @@ pub record IsPlain (row : Row) : Type 0 where
 -- Steps that go on and ask nothing, and after them a fault where there is one: all stands then as the steps left it.
 abbrev pub Passed : ℕ → Result (Unit {0}) Fault → Whole × ℕ → Whole × ℕ → Type 0
 Passed word (Ok x) old new = (n : ℕ) × Passes word n old None new None
-Passed word (Err e) old new = (n : ℕ) × Passes word n old None new None × IsRefused (IsStepWriting new.0.machine new.1) e (stepped new.0 word new.1)
+Passed word (Err e) old new =
+    (n : ℕ) × Passes word n old None new None
+    × IsRefused (IsStepWriting new.0.machine new.1) e (stepped new.0 word new.1)
+
+-- the instruction at PC asks for a character to be put, and what its pops and its operands leave
+pub record IsStreamed (f : FlatState) (c sp next : ℕ) : Type 0 where
+  pub i : Instruction
+  pub reads : instruction f ≡ Ok i
+  pub prints : i.row.class ≡ class.Print
+  pub pops : i.sp ≡ sp
+  pub goes : i.next ≡ next
+  pub puts : print.row_effect f i ≡ Ok (f, Put c)

@@ -18,7 +18,8 @@ use Rattle.gx_machine.specs.Saves.{saved_copy}
 use Rattle.gx_machine.specs.Step.{room_of}
 
 abbrev pub whole_of : {A : Type 0} → Inside A → Whole
-whole_of m = record { machine = record { flat = m.state.flat; undo = m.undo }; asking = option_map (λ p. p.asking) m.pending }
+whole_of m =
+    record { machine = record { flat = m.state.flat; undo = m.undo }; asking = option_map (λ p. p.asking) m.pending }
 
 -- the machine that a state and the copies beside it make
 abbrev pub machine_of : HeldState → FlatUndo → FlatMachine

@@ -1,5 +1,6 @@
 //! What a session runs on, seen through its steps and answers: a machine, or a tape that records one.
-ghost use Rattle.std.specs.Prelude.{◌≡◌, ◌≢◌, ◌≤◌, ◌-◌, ◌⊎◌, ℕ, false, [], length, Option, Ok, Some, None, IsSome, IfSome, IfOk, OnOk, OnErr};
+ghost use Rattle.std.specs.Prelude.{◌≡◌, ◌≢◌, ◌≤◌, ◌-◌, ◌⊎◌, ℕ, false, [], length, Option, Ok, Some, None, IsSome};
+ghost use Rattle.std.specs.Prelude.{IfSome, IfOk, OnOk, OnErr};
 ghost use Rattle.gx_pages.specs.Memory.{HasBytes};
 ghost use Rattle.gx_state.specs.declared.effects.Effect.TheVariants.{Put};
 ghost use Rattle.gx_state.specs.declared.modes.Mode.TheVariants.{Running};
@@ -33,19 +34,22 @@ pub trait Engine<A: Allocator + Clone> {
     fn advance(&mut self, word: u32, budget: &mut u64, left: &mut u64) -> Result<Effect, Fault>
         requires asks { (whole self.old).asking ≡ None }
         requires room { budget.old ≤ units_left (log self.old) }
-        ensures { Advances word result (whole self.old, budget.old) (log self.old) budget.new (whole self.new, left.new) (log self.new) };
+        ensures { Advances word result (whole self.old, budget.old) (log self.old) budget.new (whole self.new, left.new)
+            (log self.new) };
 
-    /// The character that the next step within the budget asks to be put, where it is an item of what is printed: the
-    /// step is made then. Else nothing is done.
+    /// The character that the next step within the budget asks to be put, where it is an item of what is printed, or one
+    /// that code prints by itself: the step is made then. Else nothing is done.
     fn next_put(&mut self, budget: u64) -> Option<u32>
         requires asks { (whole self.old).asking ≡ None }
         requires room { budget ≤ units_left (log self.old) }
-        ensures value { IfSome result (λ c. (word : ℕ) → stepped (whole self.old) word budget ≡ Ok ((whole self.new, budget - 1), Put c)) }
+        ensures value { IfSome result (λ c. (word : ℕ)
+            → stepped (whole self.old) word budget ≡ Ok ((whole self.new, budget - 1), Put c)) }
         ensures asks { IfSome result (λ c. (whole self.new).asking ≡ Some Asking.Put) }
         ensures stands { (whole self.new).machine ≡ (whole self.old).machine }
         ensures some { IfSome result (λ c. 1 ≤ budget) }
         ensures none { result ≡ None → whole self.new ≡ whole self.old }
-        ensures rest { result ≡ None → (whole self.old).machine.flat.mode ≢ Running → (word : ℕ) → IfOk (stepped (whole self.old) word budget) (λ r. is_put r.1 ≡ false) }
+        ensures rest { result ≡ None → (whole self.old).machine.flat.mode ≢ Running → (word : ℕ)
+            → IfOk (stepped (whole self.old) word budget) (λ r. is_put r.1 ≡ false) }
         ensures logs { log self.new ≡ log self.old };
 
     /// Answers what the last step asked.
@@ -54,7 +58,8 @@ pub trait Engine<A: Allocator + Clone> {
         ensures ok { OnOk result (whole self.new ≡ answered (whole self.old) reply.now) }
         ensures logs { OnOk result (log self.new ≡ logged (log self.old) (whole self.old).machine) }
         ensures err { OnErr result ((whole self.new ≡ whole self.old) × (log self.new ≡ log self.old)) }
-        ensures memory { OnErr result (IsSome (log self.old) ⊎ (HasBytes reply.now.writes ⊎ IsStoredAnswer (whole self.old).machine.flat)) };
+        ensures memory { OnErr result (IsSome (log self.old)
+            ⊎ (HasBytes reply.now.writes ⊎ IsStoredAnswer (whole self.old).machine.flat)) };
 
     /// The same for a character that was put, with a reply that pushes and writes nothing. It never wants memory.
     fn finish_put(&mut self)

@@ -1,5 +1,6 @@
 //! The machine: one step, and the answer to what it asks.
-ghost use Rattle.std.specs.Prelude.{◌≡◌, ◌≢◌, ◌⊎◌, ◌+◌, ◌-◌, ◌*◌, ◌<◌, ◌≤◌, ℕ, true, false, [], length, Ok, Some, None, IfOk, IfSome, IsSome, OnOk, OnErr};
+ghost use Rattle.std.specs.Prelude.{◌≡◌, ◌≢◌, ◌⊎◌, ◌+◌, ◌-◌, ◌*◌, ◌<◌, ◌≤◌, ℕ, true, false, [], length, Ok, Some, None};
+ghost use Rattle.std.specs.Prelude.{IfOk, IfSome, IsSome, OnOk, OnErr};
 ghost use Rattle.gx_words.specs.Faults.{Does, Makes};
 ghost use Rattle.gx_state.specs.declared.effects.Effect.TheVariants.{Put};
 ghost use Rattle.gx_state.specs.declared.modes.Mode.TheVariants.{Running};
@@ -132,24 +133,27 @@ impl<A: Allocator + Clone> Machine<A> {
     #[tactic(auto, using(crate::proofs::Steps::steps))]
     pub fn step(&mut self, word: u32, budget: &mut u64) -> Result<Effect, Fault>
         requires { self.old.asking ≡ None }
-        ensures step { Does (IsStepWriting self.old.machine budget.old) (λ effect. effect) result (self.old, budget.old) (self.new, budget.new) (stepped self.old word budget.old) }
+        ensures step { Does (IsStepWriting self.old.machine budget.old) (λ effect. effect) result (self.old, budget.old)
+            (self.new, budget.new) (stepped self.old word budget.old) }
         ensures stands { IfOk result (λ effect. IsSome (asking_of effect) → self.new.machine ≡ self.old.machine) }
     {
         self.turn(&mut Plan::new(), word, budget)
     }
 
-    /// The character that the next step within the budget asks to be put, where it is an item of what is printed: the
-    /// step is made then. Else nothing is done.
+    /// The character that the next step within the budget asks to be put, where it is an item of what is printed, or
+    /// streamchar's or streamunichar's: the step is made then. Else nothing is done.
     #[inline(always)]
     #[tactic(auto, using(crate::proofs::Steps::steps))]
     pub fn next_put(&mut self, budget: u64) -> Option<u32>
         requires { self.old.asking ≡ None }
-        ensures value { IfSome result (λ c. (word : ℕ) → stepped self.old word budget ≡ Ok ((self.new, budget - 1), Put c)) }
+        ensures value { IfSome result (λ c. (word : ℕ)
+            → stepped self.old word budget ≡ Ok ((self.new, budget - 1), Put c)) }
         ensures asks { IfSome result (λ c. self.new.asking ≡ Some asking.Put) }
         ensures stands { self.new.machine ≡ self.old.machine }
         ensures some { IfSome result (λ c. 1 ≤ budget) }
         ensures none { result ≡ None → self.new ≡ self.old }
-        ensures rest { result ≡ None → self.old.machine.flat.mode ≢ Running → (word : ℕ) → IfOk (stepped self.old word budget) (λ r. is_put r.1 ≡ false) }
+        ensures rest { result ≡ None → self.old.machine.flat.mode ≢ Running → (word : ℕ)
+            → IfOk (stepped self.old word budget) (λ r. is_put r.1 ≡ false) }
     {
         if budget == 0 || self.state.stack().size() == 0 {
             return None;
@@ -208,7 +212,8 @@ impl<A: Allocator + Clone> Machine<A> {
     #[tactic(auto, using(crate::proofs::Steps::steps))]
     fn pass(&mut self, budget: &mut u64) -> Result<bool, Fault>
         requires asks { self.old.asking ≡ None }
-        ensures value { (word : ℕ) → Tries (IsStepWriting self.old.machine budget.old) result (self.old, budget.old) (self.new, budget.new) (stepped self.old word budget.old) }
+        ensures value { (word : ℕ) → Tries (IsStepWriting self.old.machine budget.old) result (self.old, budget.old)
+            (self.new, budget.new) (stepped self.old word budget.old) }
         ensures asks { self.new.asking ≡ None }
         ensures fewer { result ≡ Ok true → budget.new < budget.old }
         ensures no_more { budget.new ≤ budget.old }
@@ -230,7 +235,8 @@ impl<A: Allocator + Clone> Machine<A> {
         requires some { 1 ≤ budget.old }
         requires live { 0 < sp_of self.old.machine.flat }
         requires running { self.old.machine.flat.mode ≡ Mode.Running }
-        ensures value { (word : ℕ) → Tries (IsStepWriting self.old.machine budget.old) result (self.old, budget.old) (self.new, budget.new) (stepped self.old word budget.old) }
+        ensures value { (word : ℕ) → Tries (IsStepWriting self.old.machine budget.old) result (self.old, budget.old)
+            (self.new, budget.new) (stepped self.old word budget.old) }
         ensures asks { self.new.asking ≡ None }
         ensures fewer { result ≡ Ok true → budget.new < budget.old }
         ensures no_more { budget.new ≤ budget.old }
@@ -247,7 +253,8 @@ impl<A: Allocator + Clone> Machine<A> {
     #[tactic(auto, using(crate::proofs::Steps::steps))]
     fn turn(&mut self, plan: &mut Plan, word: u32, budget: &mut u64) -> Result<Effect, Fault>
         requires { self.old.asking ≡ None }
-        ensures step { Does (IsStepWriting self.old.machine budget.old) (λ effect. effect) result (self.old, budget.old) (self.new, budget.new) (stepped self.old word budget.old) }
+        ensures step { Does (IsStepWriting self.old.machine budget.old) (λ effect. effect) result (self.old, budget.old)
+            (self.new, budget.new) (stepped self.old word budget.old) }
         ensures stands { IfOk result (λ effect. IsSome (asking_of effect) → self.new.machine ≡ self.old.machine) }
     {
         if *budget == 0 {
@@ -269,7 +276,8 @@ impl<A: Allocator + Clone> Machine<A> {
         requires some { 1 ≤ budget.old }
         requires live { 0 < sp_of self.old.machine.flat }
         requires running { self.old.machine.flat.mode ≡ Mode.Running }
-        ensures step { Does (IsStepWriting self.old.machine budget.old) (λ effect. effect) result (self.old, budget.old) (self.new, budget.new) (stepped self.old word budget.old) }
+        ensures step { Does (IsStepWriting self.old.machine budget.old) (λ effect. effect) result (self.old, budget.old)
+            (self.new, budget.new) (stepped self.old word budget.old) }
         ensures stands { IfOk result (λ effect. IsSome (asking_of effect) → self.new.machine ≡ self.old.machine) }
     {
         let mut left = *budget - 1;
@@ -295,7 +303,8 @@ impl<A: Allocator + Clone> Machine<A> {
         requires some { 1 ≤ budget.old }
         requires live { 0 < sp_of self.old.machine.flat }
         requires printing { self.old.machine.flat.mode ≢ Mode.Running }
-        ensures step { (word : ℕ) → Does ⊥ (λ effect. effect) result (self.old, budget.old) (self.new, budget.new) (stepped self.old word budget.old) }
+        ensures step { (word : ℕ) → Does ⊥ (λ effect. effect) result (self.old, budget.old) (self.new, budget.new)
+            (stepped self.old word budget.old) }
         ensures stands { IfOk result (λ effect. IsSome (asking_of effect) → self.new.machine ≡ self.old.machine) }
     {
         let effect = print(&mut self.state, &mut self.pending)?;
@@ -393,7 +402,8 @@ fn write_all<A: Allocator + Clone>(
 #[tactic(auto, unfolding(gx_state::specs::Flat::pushed, gx_state::specs::Flat::pushed_all, gx_stack::specs::Values::pushed, gx_stack::specs::Values::pushed_all), using(gx_stack::proofs::Turns::value_turns))]
 fn push_all<A: Allocator + Clone>(state: &mut State<A>, pending: &Pending, reply: &Reply)
     requires live { 0 < sp_of state.old.flat }
-    requires room { sp_of state.old.flat + 4 * length reply.now.pushes + result_len pending.now.dest ≤ state.old.flat.stack.limit }
+    requires room { sp_of state.old.flat + 4 * length reply.now.pushes + result_len pending.now.dest
+        ≤ state.old.flat.stack.limit }
     ensures { state.new.flat ≡ with_pushes state.old.flat pending.now.dest reply.now }
 {
     match state.push_all(reply.pushes.as_slice()) {

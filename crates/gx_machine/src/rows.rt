@@ -1,13 +1,14 @@
 //! The row of an instruction, class by class.
-ghost use Rattle.std.specs.Prelude.{◌≡◌, ◌≢◌, ◌<◌, ◌≤◌, ◌*◌, ◌+◌, Ok, None, Some, false, IsSome, IfErr, IfOk, IfSome, OnOk, OnErr};
+ghost use Rattle.std.specs.Prelude.{◌≡◌, ◌≢◌, ◌<◌, ◌≤◌, ◌*◌, ◌+◌, ℕ, Ok, None, Some, false, IsSome, IfErr, IfOk};
+ghost use Rattle.std.specs.Prelude.{IfSome, OnOk, OnErr};
 ghost use Rattle.std.specs.Option.{option_map};
 ghost use Rattle.gx_words.specs.Faults.{Does, Reads};
 ghost use Rattle.gx_state.specs.declared.effects.Effect.TheVariants.{Put, Spent};
-ghost use Rattle.gx_state.specs.declared.modes.Mode.TheVariants.{Running};
+ghost use Rattle.gx_state.specs.declared.modes.Mode.TheVariants.{Running, Printing as APrinting};
 ghost use Rattle.gx_state.specs.Flat.{FlatState, IsHeight, sp_of};
 ghost use Rattle.gx_operands.specs.Instructions.{instruction};
 ghost use Rattle.gx_operands.specs.Plans.{instruction_of};
-ghost use Rattle.gx_undo.specs.Undo.{AreCopiesFor};
+ghost use Rattle.gx_undo.specs.Undo.{FlatUndo, AreCopiesFor};
 ghost use Rattle.ops_game.specs.Rows as game;
 ghost use Rattle.ops_game.specs.Writes as game_writes;
 ghost use Rattle.ops_memory.specs.Costs.{probes_of, charged, IsAfforded};
@@ -20,6 +21,7 @@ ghost use Rattle.gx_machine.specs.Views.{IsPending, result_len, machine_of};
 
 use crate::Asking;
 use crate::machine::Pending;
+use crate::quick::streamed;
 use gx_operands::{Plan, arguments, can_store, decode_into};
 use gx_rows::Class;
 use gx_state::{Dest, Effect, Mode, State};
@@ -101,7 +103,8 @@ fn print_row<A: Allocator + Clone>(
     requires sp { IsHeight state.old.flat plan.now.sp }
     requires decoded { instruction state.old.flat ≡ Ok (instruction_of plan.now) }
     requires class { (instruction_of plan.now).row.class ≡ Class.Print }
-    ensures value { Does ⊥ (λ effect. effect) result state.old.flat state.new.flat (print.row_effect state.old.flat (instruction_of plan.now)) }
+    ensures value { Does ⊥ (λ effect. effect) result state.old.flat state.new.flat
+        (print.row_effect state.old.flat (instruction_of plan.now)) }
     ensures asks { IfOk result (λ effect. asking_of effect ≡ option_map (λ p. p.asking) pending.new) }
     ensures stands { OnOk result (IsSome pending.new → state.new.flat ≡ state.old.flat) }
     ensures pends { OnOk result (IfSome pending.new (IsPending state.new.flat)) }
@@ -148,7 +151,8 @@ pub(crate) fn print<A: Allocator + Clone>(
     }
 }
 
-/// The character of the next item, where that is to be put: it is pending then.
+/// The character that the next step asks to be put, where it is an item of what is printed, or a character that code
+/// prints: it is pending then.
 #[inline(always)]
 #[tactic(auto, using(crate::proofs::Answers::answers))]
 pub(crate) fn next_put<A: Allocator + Clone>(
@@ -157,23 +161,68 @@ pub(crate) fn next_put<A: Allocator + Clone>(
 ) -> Option<u32>
     requires free { pending.old ≡ None }
     requires live { 0 < sp_of state.now.flat }
-    ensures value { IfSome result (λ c. printed state.now.flat ≡ Ok (state.now.flat, Put c)) }
-    ensures printing { IfSome result (λ c. state.now.flat.mode ≢ Running) }
+    ensures value { IfSome result (λ c. (u : FlatUndo) (word : ℕ)
+        → mode_step (machine_of state.now u) word state.now.flat.mode ≡ Ok (machine_of state.now u, Put c)) }
+    ensures probes { IfSome result (λ c. probes_in state.now.flat state.now.flat.mode ≡ 0) }
     ensures live { 0 < sp_of state.now.flat }
     ensures asks { IfSome result (λ c. option_map (λ p. p.asking) pending.new ≡ Some asking.Put) }
     ensures pends { IfSome pending.new (IsPending state.now.flat) }
     ensures none { result ≡ None → pending.new ≡ None }
-    ensures rest { result ≡ None → state.now.flat.mode ≢ Running → IfOk (printed state.now.flat) (λ r. is_put r.1 ≡ false) }
+    ensures rest { result ≡ None → state.now.flat.mode ≢ Running
+        → IfOk (printed state.now.flat) (λ r. is_put r.1 ≡ false) }
 {
-    let Mode::Printing(printing) = state.mode() else {
-        return None;
-    };
-    let (c, at, bit) = ops_print::next_put(state, &printing)?;
+    match state.mode() {
+        Mode::Running => next_streamed(state, pending),
+        Mode::Printing(printing) => next_item(state, &printing, pending),
+    }
+}
+
+/// The same for a state that runs code.
+#[inline(always)]
+#[tactic(auto, using(crate::proofs::Streams::steps))]
+fn next_streamed<A: Allocator + Clone>(
+    state: &State<A>,
+    pending: &mut Option<Pending>,
+) -> Option<u32>
+    requires free { pending.old ≡ None }
+    requires live { 0 < sp_of state.now.flat }
+    requires running { state.now.flat.mode ≡ Running }
+    ensures value { IfSome result (λ c. (u : FlatUndo) (word : ℕ)
+        → mode_step (machine_of state.now u) word Running ≡ Ok (machine_of state.now u, Put c)) }
+    ensures probes { IfSome result (λ c. probes_in state.now.flat Running ≡ 0) }
+    ensures asks { IfSome result (λ c. option_map (λ p. p.asking) pending.new ≡ Some asking.Put) }
+    ensures pends { IfSome pending.new (IsPending state.now.flat) }
+    ensures none { result ≡ None → pending.new ≡ None }
+{
+    let _stack = state.stack(); // a state is sound
+    let (c, sp, next) = streamed(state)?;
+    *pending = Some(put_pending(sp, next, Mode::Running));
+    Some(c)
+}
+
+/// The same for a state that prints.
+#[inline(always)]
+#[tactic(auto, using(crate::proofs::Answers::answers))]
+fn next_item<A: Allocator + Clone>(
+    state: &State<A>,
+    printing: &Printing,
+    pending: &mut Option<Pending>,
+) -> Option<u32>
+    requires free { pending.old ≡ None }
+    requires live { 0 < sp_of state.now.flat }
+    requires printing { state.now.flat.mode ≡ APrinting printing.now }
+    ensures value { IfSome result (λ c. printed state.now.flat ≡ Ok (state.now.flat, Put c)) }
+    ensures asks { IfSome result (λ c. option_map (λ p. p.asking) pending.new ≡ Some asking.Put) }
+    ensures pends { IfSome pending.new (IsPending state.now.flat) }
+    ensures none { result ≡ None → pending.new ≡ None }
+    ensures rest { result ≡ None → IfOk (printed state.now.flat) (λ r. is_put r.1 ≡ false) }
+{
+    let (c, at, bit) = ops_print::next_put(state, printing)?;
     let sp = state.stack().size();
     let next = Printing {
         at,
         bit,
-        ..printing
+        ..*printing
     };
     *pending = Some(put_pending(sp, state.pc(), Mode::Printing(next)));
     Some(c)
@@ -181,7 +230,13 @@ pub(crate) fn next_put<A: Allocator + Clone>(
 
 /// What is pending after a row of Game asked.
 fn game_pending(plan: &Plan, asking: Asking) -> Pending
-    ensures { result ≡ record { asking = asking; sp = plan.now.sp; dest = plan.now.dest; next = plan.now.next; mode = Mode.Running } }
+    ensures { result ≡ record {
+      asking = asking;
+      sp = plan.now.sp;
+      dest = plan.now.dest;
+      next = plan.now.next;
+      mode = Mode.Running;
+    } }
 {
     Pending {
         asking,
@@ -207,7 +262,9 @@ fn game_row<A: Allocator + Clone>(
     requires decoded { instruction state.old.flat ≡ Ok (instruction_of plan.now) }
     requires class { (instruction_of plan.now).row.class ≡ Class.Game }
     requires copies { AreCopiesFor state.old.flat.story undo.old.copies }
-    ensures value { Does (game_writes.IsWriting undo.old (instruction_of plan.now)) (λ effect. effect) result (state.old.flat, undo.old) (state.new.flat, undo.new) (game.row_effect state.old.flat undo.old word (instruction_of plan.now)) }
+    ensures value { Does (game_writes.IsWriting undo.old (instruction_of plan.now)) (λ effect. effect) result
+        (state.old.flat, undo.old) (state.new.flat, undo.new)
+        (game.row_effect state.old.flat undo.old word (instruction_of plan.now)) }
     ensures asks { IfOk result (λ effect. asking_of effect ≡ option_map (λ p. p.asking) pending.new) }
     ensures stands { OnOk result (IsSome pending.new → machine_of state.new undo.new ≡ machine_of state.old undo.old) }
     ensures pends { OnOk result (IfSome pending.new (IsPending state.new.flat)) }
@@ -244,14 +301,18 @@ fn row<A: Allocator + Clone>(
     requires sp { IsHeight state.old.flat plan.now.sp }
     requires decoded { instruction state.old.flat ≡ Ok (instruction_of plan.now) }
     requires copies { AreCopiesFor state.old.flat.story undo.old.copies }
-    ensures value { let machine = machine_of state.old undo.old in let i = instruction_of plan.now in Does (IsWriting i.row.class machine i) (λ effect. effect) result (machine, left.old) (machine_of state.new undo.new, left.new)
+    ensures value { let machine = machine_of state.old undo.old in let i = instruction_of plan.now in
+        Does (IsWriting i.row.class machine i) (λ effect. effect) result (machine, left.old)
+        (machine_of state.new undo.new, left.new)
         (charged left.old (probes_of i.row.class state.old.flat i) machine (row_effect i.row.class machine word i)) }
     ensures asks { IfOk result (λ effect. asking_of effect ≡ option_map (λ p. p.asking) pending.new) }
     ensures stands { OnOk result (IsSome pending.new → machine_of state.new undo.new ≡ machine_of state.old undo.old) }
     ensures pends { OnOk result (IfSome pending.new (IsPending state.new.flat)) }
     ensures stays { OnErr result (pending.new ≡ None) }
-    ensures spent { IfOk result (λ effect. effect ≡ Spent → left.old < probes_of (instruction_of plan.now).row.class state.old.flat (instruction_of plan.now)) }
-    ensures affords { IfErr result (IsAfforded left.old (probes_of (instruction_of plan.now).row.class state.old.flat (instruction_of plan.now))) }
+    ensures spent { IfOk result (λ effect. effect ≡ Spent
+        → left.old < probes_of (instruction_of plan.now).row.class state.old.flat (instruction_of plan.now)) }
+    ensures affords { IfErr result (IsAfforded left.old
+        (probes_of (instruction_of plan.now).row.class state.old.flat (instruction_of plan.now))) }
     ensures story { state.new.flat.story ≡ state.old.flat.story }
     ensures copies { AreCopiesFor state.new.flat.story undo.new.copies }
 {
@@ -278,7 +339,9 @@ pub(crate) fn run<A: Allocator + Clone>(
     requires live { 0 < sp_of state.old.flat }
     requires running { state.old.flat.mode ≡ Running }
     requires copies { AreCopiesFor state.old.flat.story undo.old.copies }
-    ensures value { let machine = machine_of state.old undo.old in Does (IsModeWriting machine Running) (λ effect. effect) result (machine, left.old) (machine_of state.new undo.new, left.new)
+    ensures value { let machine = machine_of state.old undo.old in
+        Does (IsModeWriting machine Running) (λ effect. effect) result (machine, left.old)
+        (machine_of state.new undo.new, left.new)
         (charged left.old (probes_in state.old.flat Running) machine (mode_step machine word Running)) }
     ensures asks { IfOk result (λ effect. asking_of effect ≡ option_map (λ p. p.asking) pending.new) }
     ensures stands { OnOk result (IsSome pending.new → machine_of state.new undo.new ≡ machine_of state.old undo.old) }

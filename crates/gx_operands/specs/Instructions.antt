@@ -1,6 +1,7 @@
 -- How an instruction is read (Glulx 3.1.2, "Instruction Format"): its number, and its operands from left to
 -- right. The first fault on the way is the instruction's.
-use Rattle.std.specs.Prelude.{ℕ, ◌+◌, ◌-◌, ◌*◌, ◌/◌, ◌%◌, ◌^◌, ◌≤◌, List, [], ◌∷◌, ◌++◌, length, nat_le, nat_lt, ◌==◌, Bool, true, false, zero, suc, if◌then◌else◌, slice_index, Result, Ok, Err}
+use Rattle.std.specs.Prelude.{ℕ, ◌+◌, ◌-◌, ◌*◌, ◌/◌, ◌%◌, ◌^◌, ◌≤◌, List, [], ◌∷◌, ◌++◌, length, nat_le, nat_lt, ◌==◌}
+use Rattle.std.specs.Prelude.{Bool, true, false, zero, suc, if◌then◌else◌, slice_index, Result, Ok, Err}
 use Rattle.std.specs.Option.{ok_or}
 use Rattle.gx_words.specs.declared.faults.Fault.{Fault}
 use Rattle.gx_words.specs.declared.faults.Fault.TheVariants.{BadMode, BadAddress, BadOpcode}
@@ -113,7 +114,8 @@ abbrev pub with_load : Operands → ℕ → Cursor → Operands
 with_load o v p = record o { loads = o.loads ++ v ∷ []; cursor = p }
 
 abbrev pub with_destination : Operands → Dest → Cursor → Operands
-with_destination o d p = if o.stored then record o { second = d; cursor = p } else record o { dest = d; stored = true; cursor = p }
+with_destination o d p =
+    if o.stored then record o { second = d; cursor = p } else record o { dest = d; stored = true; cursor = p }
 
 -- one operand more
 unfoldable pub with_operand : FlatState → ℕ → Kind → ℕ → Operands → Result Operands Fault
@@ -144,7 +146,8 @@ unfoldable pub all_operands : FlatState → Row → ℕ → Result Operands Faul
 all_operands f row modes =
     let count = row.loads + row.stores in
     let data_at = modes + (count + 1) / 2 in
-    if nat_le data_at (length f.memory) then operands f row modes count 0 (no_operands (record { at = data_at; popped = 0 })) else Err BadAddress
+    if nat_le data_at (length f.memory)
+    then operands f row modes count 0 (no_operands (record { at = data_at; popped = 0 })) else Err BadAddress
 
 -- An instruction: its row, the values that it loads, where its results go, the address after it, and
 -- the stack pointer that its pops leave.
@@ -162,7 +165,14 @@ instruction f = do
   number ← opcode f
   row ← ok_or (row_of number.0) BadOpcode
   o ← all_operands f row number.1
-  Ok (record { row = row; loads = o.loads; dest = o.dest; second = o.second; next = o.cursor.at; sp = sp_of f - 4 * o.cursor.popped })
+  Ok (record {
+    row = row;
+    loads = o.loads;
+    dest = o.dest;
+    second = o.second;
+    next = o.cursor.at;
+    sp = sp_of f - 4 * o.cursor.popped;
+  })
 
 -- a value that an instruction loads, by its index; 0 where it loads fewer
 abbrev pub operand_at : Instruction → ℕ → ℕ

@@ -5,7 +5,15 @@ use Rattle.gx_operands.specs.Instructions.{Operands, Instruction}
 
 -- what the operands so far gave, while they are read
 abbrev pub operands_of : Plan → Operands
-operands_of p = record { loads = p.loads.items; dest = p.dest; second = p.second; stored = p.stored; cursor = record { at = p.next; popped = p.popped } }
+operands_of p =
+    record {
+      loads = p.loads.items;
+      dest = p.dest;
+      second = p.second;
+      stored = p.stored;
+      cursor = record { at = p.next; popped = p.popped };
+    }
 
 abbrev pub instruction_of : Plan → Instruction
-instruction_of p = record { row = row_at p.row; loads = p.loads.items; dest = p.dest; second = p.second; next = p.next; sp = p.sp }
+instruction_of p =
+    record { row = row_at p.row; loads = p.loads.items; dest = p.dest; second = p.second; next = p.next; sp = p.sp }

@@ -10,7 +10,9 @@ ghost use Rattle.gx_words.specs.Faults.{Reads};
 ghost use Rattle.gx_pages.specs.Memory.{number_in};
 ghost use Rattle.gx_rows.specs.Table.{row_count, row_of, row_at, RowFits};
 ghost use Rattle.gx_state.specs.Flat.{IsHeight, sp_of};
-ghost use Rattle.gx_operands.specs.Instructions.{opcode, HasValues, past, datum, load_by, load, destination_by, destination, with_operand, nibble, operand, operands, all_operands, instruction};
+ghost use Rattle.gx_operands.specs.Instructions.{opcode, HasValues, past, datum, load_by, load, destination_by};
+ghost use Rattle.gx_operands.specs.Instructions.{destination, with_operand, nibble, operand, operands, all_operands};
+ghost use Rattle.gx_operands.specs.Instructions.{instruction};
 ghost use Rattle.gx_operands.specs.Plans.{operands_of, instruction_of};
 
 use crate::Plan;
@@ -24,6 +26,11 @@ use gx_rows::{Row, place_of, row_at};
 use gx_state::{Dest, State};
 use gx_words::{Fault, low};
 use std::alloc::Allocator;
+
+/// The nibbles that are no mode.
+const UNUSED_LOW: u32 = 0x4;
+
+const UNUSED_HIGH: u32 = 0xC;
 
 /// The number of the instruction at PC; `modes` becomes the address of its operands' modes.
 #[inline(always)]
@@ -87,7 +94,8 @@ fn constant<A: Allocator + Clone>(
     requires width { IsWidth width }
     requires bytes { IsWidth n }
     requires popped { HasValues state.now.flat cursor.old.popped }
-    ensures value { Reads (λ v. (v, cursor.new)) result (load_by state.now.flat width (Addressing.Constant n) cursor.old) }
+    ensures value { Reads (λ v. (v, cursor.new)) result
+        (load_by state.now.flat width (Addressing.Constant n) cursor.old) }
     ensures popped { OnOk result (HasValues state.now.flat cursor.new.popped) }
 {
     let v = data(state, cursor, n)?;
@@ -116,7 +124,8 @@ fn contents<A: Allocator + Clone>(
     requires width { IsWidth width }
     requires bytes { IsWidth n }
     requires popped { HasValues state.now.flat cursor.old.popped }
-    ensures value { Reads (λ v. (v, cursor.new)) result (load_by state.now.flat width (Addressing.Memory n) cursor.old) }
+    ensures value { Reads (λ v. (v, cursor.new)) result
+        (load_by state.now.flat width (Addressing.Memory n) cursor.old) }
     ensures popped { OnOk result (HasValues state.now.flat cursor.new.popped) }
 {
     let at = data(state, cursor, n)?;
@@ -163,9 +172,32 @@ fn local<A: Allocator + Clone>(
     Ok(state.stack().local(&state.frame(), at, width)?)
 }
 
-/// The local at an offset of more than one byte, which is rare.
+/// The local at an offset of more than one byte, which is rare, and the cursor after it.
+///
+/// It takes and gives the cursor by value, so that the caller can keep its own in registers.
 #[inline(never)]
+#[tactic(auto, unfolding(crate::specs::Instructions::load_by))]
 fn far_local<A: Allocator + Clone>(
+    state: &State<A>,
+    width: u32,
+    n: u32,
+    cursor: Cursor,
+) -> Result<(u32, Cursor), Fault>
+    requires live { 0 < sp_of state.now.flat }
+    requires width { IsWidth width }
+    requires bytes { IsWidth n }
+    requires popped { HasValues state.now.flat cursor.popped }
+    ensures value { Reads (λ r. (r.0, r.1)) result (load_by state.now.flat width (Addressing.Local n) cursor) }
+    ensures popped { IfOk result (λ r. HasValues state.now.flat r.1.popped) }
+{
+    let mut after = cursor;
+    let v = local(state, width, n, &mut after)?;
+    Ok((v, after))
+}
+
+/// The same, where the cursor goes behind it.
+#[inline(always)]
+fn take_far_local<A: Allocator + Clone>(
     state: &State<A>,
     width: u32,
     n: u32,
@@ -178,7 +210,9 @@ fn far_local<A: Allocator + Clone>(
     ensures value { Reads (λ v. (v, cursor.new)) result (load_by state.now.flat width (Addressing.Local n) cursor.old) }
     ensures popped { OnOk result (HasValues state.now.flat cursor.new.popped) }
 {
-    local(state, width, n, cursor)
+    let (v, after) = far_local(state, width, n, *cursor)?;
+    *cursor = after;
+    Ok(v)
 }
 
 /// The value on top of the stack, below those that were popped.
@@ -226,12 +260,13 @@ pub fn load<A: Allocator + Clone>(
         ADDRESS_WORD => contents(state, width, 4, cursor),
         STACK_TOP => top(state, width, cursor),
         LOCAL_BYTE => local(state, width, 1, cursor),
-        LOCAL_SHORT => far_local(state, width, 2, cursor),
-        LOCAL_WORD => far_local(state, width, 4, cursor),
+        LOCAL_SHORT => take_far_local(state, width, 2, cursor),
+        LOCAL_WORD => take_far_local(state, width, 4, cursor),
         RAM_BYTE => ram_contents(state, width, 1, cursor),
         RAM_SHORT => ram_contents(state, width, 2, cursor),
         RAM_WORD => ram_contents(state, width, 4, cursor),
-        _ => Err(Fault::BadMode),
+        UNUSED_LOW | UNUSED_HIGH => Err(Fault::BadMode),
+        _ => unreachable!(),
     }
 }
 
@@ -244,7 +279,8 @@ fn to_memory<A: Allocator + Clone>(
     cursor: &mut Cursor,
 ) -> Result<Dest, Fault>
     requires { IsWidth n }
-    ensures value { Reads (λ dest. (dest, cursor.new)) result (destination_by state.now.flat (Addressing.Memory n) cursor.old) }
+    ensures value { Reads (λ dest. (dest, cursor.new)) result
+        (destination_by state.now.flat (Addressing.Memory n) cursor.old) }
     ensures popped { cursor.new.popped ≡ cursor.old.popped }
 {
     Ok(Dest::Memory(data(state, cursor, n)?))
@@ -259,7 +295,8 @@ fn to_ram<A: Allocator + Clone>(
     cursor: &mut Cursor,
 ) -> Result<Dest, Fault>
     requires { IsWidth n }
-    ensures value { Reads (λ dest. (dest, cursor.new)) result (destination_by state.now.flat (Addressing.Ram n) cursor.old) }
+    ensures value { Reads (λ dest. (dest, cursor.new)) result
+        (destination_by state.now.flat (Addressing.Ram n) cursor.old) }
     ensures popped { cursor.new.popped ≡ cursor.old.popped }
 {
     let offset = data(state, cursor, n)?;
@@ -275,7 +312,8 @@ fn to_local<A: Allocator + Clone>(
     cursor: &mut Cursor,
 ) -> Result<Dest, Fault>
     requires { IsWidth n }
-    ensures value { Reads (λ dest. (dest, cursor.new)) result (destination_by state.now.flat (Addressing.Local n) cursor.old) }
+    ensures value { Reads (λ dest. (dest, cursor.new)) result
+        (destination_by state.now.flat (Addressing.Local n) cursor.old) }
     ensures popped { cursor.new.popped ≡ cursor.old.popped }
 {
     Ok(Dest::Local(data(state, cursor, n)?))
@@ -305,7 +343,10 @@ pub fn destination<A: Allocator + Clone>(
         RAM_BYTE => to_ram(state, 1, cursor),
         RAM_SHORT => to_ram(state, 2, cursor),
         RAM_WORD => to_ram(state, 4, cursor),
-        _ => Err(Fault::BadMode),
+        CONSTANT_BYTE | CONSTANT_SHORT | CONSTANT_WORD | UNUSED_LOW | UNUSED_HIGH => {
+            Err(Fault::BadMode)
+        }
+        _ => unreachable!(),
     }
 }
 
@@ -323,7 +364,8 @@ fn take<A: Allocator + Clone>(
     requires nibble { nibble < 16 }
     requires popped { HasValues state.now.flat plan.old.popped }
     requires room { array_vec_len plan.old.loads < 8 }
-    ensures value { Reads (λ done. operands_of plan.new) result (with_operand state.now.flat width kind nibble (operands_of plan.old)) }
+    ensures value { Reads (λ done. operands_of plan.new) result
+        (with_operand state.now.flat width kind nibble (operands_of plan.old)) }
     ensures popped { OnOk result (HasValues state.now.flat plan.new.popped) }
     ensures room { OnOk result (array_vec_len plan.new.loads ≤ array_vec_len plan.old.loads + 1) }
     ensures row { plan.new.row ≡ plan.old.row }
@@ -367,7 +409,8 @@ fn operand<A: Allocator + Clone>(
     requires modes { modes + i / 2 < length state.now.flat.memory }
     requires popped { HasValues state.now.flat plan.old.popped }
     requires room { array_vec_len plan.old.loads < 8 }
-    ensures value { Reads (λ done. operands_of plan.new) result (operand state.now.flat row.now modes i (operands_of plan.old)) }
+    ensures value { Reads (λ done. operands_of plan.new) result
+        (operand state.now.flat row.now modes i (operands_of plan.old)) }
     ensures popped { OnOk result (HasValues state.now.flat plan.new.popped) }
     ensures room { OnOk result (array_vec_len plan.new.loads ≤ array_vec_len plan.old.loads + 1) }
     ensures row { plan.new.row ≡ plan.old.row }
@@ -392,7 +435,8 @@ fn operands<A: Allocator + Clone>(
     requires modes { modes + (count + 1) / 2 ≤ length state.now.flat.memory }
     requires none { plan.old.loads.items ≡ [] }
     requires popped { HasValues state.now.flat plan.old.popped }
-    ensures value { Reads (λ done. operands_of plan.new) result (operands state.now.flat row.now modes count 0 (operands_of plan.old)) }
+    ensures value { Reads (λ done. operands_of plan.new) result
+        (operands state.now.flat row.now modes count 0 (operands_of plan.old)) }
     ensures popped { OnOk result (HasValues state.now.flat plan.new.popped) }
     ensures row { plan.new.row ≡ plan.old.row }
 {

@@ -20,7 +20,8 @@ pub fn stores<A: Allocator + Clone>(
     value: u32,
 ) -> Result<Effect, Fault>
     requires { IsHeight state.old.flat plan.now.sp }
-    ensures value { Works (IsMemory plan.now.dest) result state.old.flat state.new.flat (stores state.old.flat (instruction_of plan.now) value) }
+    ensures value { Works (IsMemory plan.now.dest) result state.old.flat state.new.flat
+        (stores state.old.flat (instruction_of plan.now) value) }
     ensures done { IfOk result IsDone }
 {
     settle(state, plan.sp, &plan.dest, 4, value)?;

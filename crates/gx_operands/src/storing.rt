@@ -72,7 +72,8 @@ fn write<A: Allocator + Clone>(
 ) -> Result<(), Fault>
     requires { IsWidth width }
     ensures value { Stores (Unit {0}) result state.old state.new (stored state.old.flat width (Dest.Memory at) value) }
-    ensures frame { (frame_of state.new.flat ≡ frame_of state.old.flat) × (sp_of state.new.flat ≡ sp_of state.old.flat) }
+    ensures frame { (frame_of state.new.flat ≡ frame_of state.old.flat)
+        × (sp_of state.new.flat ≡ sp_of state.old.flat) }
 {
     state.can_write(at, width)?;
     let bytes = word_bytes(value);

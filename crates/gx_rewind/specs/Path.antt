@@ -1,5 +1,6 @@
 -- The run that notes record: each event follows from the machine before it and from what was taken from outside.
-use Rattle.std.specs.Prelude.{◌≡◌, ℕ, zero, suc, ◌+◌, ◌==◌, nat_lt, if◌then◌else◌, List, [], ◌∷◌, slice_get, Option, Some, None, IsSome, Result, Ok, Err}
+use Rattle.std.specs.Prelude.{◌≡◌, ℕ, zero, suc, ◌+◌, ◌==◌, nat_lt, if◌then◌else◌, List, [], ◌∷◌, slice_get, Option}
+use Rattle.std.specs.Prelude.{Some, None, IsSome, Result, Ok, Err}
 use Rattle.gx_words.specs.declared.faults.Fault.{Fault}
 use Rattle.gx_state.specs.declared.effects.Effect.{Effect}
 use Rattle.gx_state.specs.declared.effects.Effect.TheVariants.{Went, Drew, Put, Glk, Save, Restore, Quit, Spent}
@@ -70,7 +71,8 @@ abbrev pub IsFit : {A : Type 0} → FlatMachine → Option (Taken A) → Type 0
 IsFit m None = (n : FlatMachine) × (effect : Effect) × (step_of m 0 ≡ Ok (n, effect)) × IsQuiet effect
 IsFit m (Some (taken.Word word)) = (n : FlatMachine) × (step_of m word ≡ Ok (n, Drew))
 IsFit m (Some (taken.Reply reply)) =
-    (effect : Effect) × (step_of m 0 ≡ Ok (m, effect)) × IsSome (asking_of effect) × IsReply m.flat (room_of (asking_of effect)) reply
+    (effect : Effect) × (step_of m 0 ≡ Ok (m, effect)) × IsSome (asking_of effect)
+    × IsReply m.flat (room_of (asking_of effect)) reply
 IsFit m (Some (taken.Machine gone)) = (effect : Effect) × (step_of m 0 ≡ Ok (m, effect)) × (gone.value.asking ≡ None)
 
 -- A place of the run: the machines before it, its machine, and the place of the next note.
@@ -121,5 +123,7 @@ unfoldable pub onward : {A : Type 0} → List (Note A) → ℕ → ℕ → FlatM
 onward notes zero units m i end = []
 onward notes (suc n) units m i end =
     if nat_lt units end
-    then event m (taken_at notes i units) ∷ onward notes n (units + cost_of m) (event m (taken_at notes i units)) (index_after i (taken_at notes i units)) end
+    then event m (taken_at notes i units)
+    ∷ onward notes n (units + cost_of m) (event m (taken_at notes i units))
+    (index_after i (taken_at notes i units)) end
     else []

@@ -11,7 +11,8 @@ pub record FlatTape : Type 0 where
 
 -- a tape that stands between two events
 abbrev pub standing : List FlatMachine → FlatMachine → List FlatMachine → FlatTape
-standing before m after = record { whole = record { machine = m; asking = None }; log = record { before = before; after = after } }
+standing before m after =
+    record { whole = record { machine = m; asking = None }; log = record { before = before; after = after } }
 
 -- the tape at the newest event before which at most so many units were used
 unfoldable pub rewound : ℕ → List FlatMachine → FlatMachine → List FlatMachine → FlatTape

@@ -4,7 +4,8 @@
 //! A note has the units that were used where its event began: an event takes one unit at least, so that these name it.
 //! An event without a note took the word 0, and was answered with nothing where it asked. So all that is left out here
 //! follows from what is kept.
-ghost use Rattle.std.specs.Prelude.{◌≡◌, ◌≢◌, ◌+◌, ◌^◌, ◌*◌, ◌/◌, ◌-◌, ◌<◌, ◌≤◌, ◌++◌, ◌∷◌, [], None, Some, length, slice_index_or, take, min, List, ℕ, vec_len, vec_capacity, Ok, IsSome, IfOk, OnOk};
+ghost use Rattle.std.specs.Prelude.{◌≡◌, ◌≢◌, ◌+◌, ◌^◌, ◌*◌, ◌/◌, ◌-◌, ◌<◌, ◌≤◌, ◌++◌, ◌∷◌, [], None, Some, length};
+ghost use Rattle.std.specs.Prelude.{slice_index_or, take, min, List, ℕ, vec_len, vec_capacity, Ok, IsSome, IfOk, OnOk};
 ghost use Rattle.gx_machine.specs.Log.{Log, no_events};
 ghost use Rattle.gx_machine.specs.Advancing.{Advances, Passes};
 ghost use Rattle.gx_machine.specs.Machine.{FlatMachine, Whole};
@@ -168,7 +169,8 @@ impl<A: Allocator + Clone> Book<A> {
         ensures index { self.new.index ≡ self.old.index }
         ensures opening { self.new.opening ≡ self.old.opening }
         ensures pending { self.new.pending ≡ self.old.pending }
-        ensures book { (m : FlatMachine) (log : Log) → IsBook self.old m log → IsBook self.new m (record log { after = [] }) }
+        ensures book { (m : FlatMachine) (log : Log) → IsBook self.old m log
+            → IsBook self.new m (record log { after = [] }) }
     {
         if self.units == self.end && self.index == self.notes.len() {
             return;
@@ -208,7 +210,8 @@ impl<A: Allocator + Clone> Book<A> {
     fn did(&mut self, word: u32, cost: u64, effect: &Effect)
         requires room { vec_len self.old.notes < vec_capacity self.old.notes }
         requires fits { self.old.units + cost ≤ 2 ^ 64 - 1 }
-        ensures { (before new : Whole) (budget left : ℕ) (log : Log) → IsBook self.old before.machine log → before.asking ≡ None
+        ensures { (before new : Whole) (budget left : ℕ) (log : Log) → IsBook self.old before.machine log
+            → before.asking ≡ None
             → stepped before word budget ≡ Ok ((new, left), effect.now) → cost ≡ budget - left
             → (IsSome (asking_of effect.now) → new.machine ≡ before.machine)
             → HasEnded effect.now before new log self.new }
@@ -227,9 +230,11 @@ impl<A: Allocator + Clone> Book<A> {
         ensures room { vec_capacity self.new.notes ≡ vec_capacity self.old.notes }
         ensures len { vec_len self.new.notes ≤ vec_len self.old.notes }
         ensures units { self.new.units ≡ self.old.units + units }
-        ensures book { (word n start budget : ℕ) (old new : Whole) (log : Log) → old.asking ≡ None → units ≡ start - budget
+        ensures book { (word n start budget : ℕ) (old new : Whole) (log : Log) → old.asking ≡ None
+            → units ≡ start - budget
             → Passes word n (old, start) None (new, budget) None → IsBook self.old old.machine log
-            → (last : Log) × Passes word n (old, start) (Some log) (new, budget) (Some last) × IsBook self.new new.machine last }
+            → (last : Log) × Passes word n (old, start) (Some log) (new, budget) (Some last)
+            × IsBook self.new new.machine last }
     {
         if units == 0 {
             return;
@@ -244,7 +249,8 @@ impl<A: Allocator + Clone> Book<A> {
         requires { self.old.units + units ≤ 2 ^ 64 - 1 }
         ensures room { vec_capacity self.new.notes ≡ vec_capacity self.old.notes }
         ensures len { vec_len self.new.notes ≤ vec_len self.old.notes }
-        ensures book { (m : FlatMachine) (log : Log) → IsBook self.old m log → units ≡ cost_of m → IsFit {A = A} m None → IsBook self.new (event {A = A} m None) (record { before = m ∷ log.before; after = [] }) }
+        ensures book { (m : FlatMachine) (log : Log) → IsBook self.old m log → units ≡ cost_of m → IsFit {A = A} m None
+            → IsBook self.new (event {A = A} m None) (record { before = m ∷ log.before; after = [] }) }
     {
         self.cut();
         self.units += units;
@@ -255,7 +261,8 @@ impl<A: Allocator + Clone> Book<A> {
     pub(crate) fn noted(&mut self, units: u64, taken: Taken<A>)
         requires fits { self.old.units + units ≤ 2 ^ 64 - 1 }
         requires room { vec_len self.old.notes < vec_capacity self.old.notes }
-        ensures book { (m : FlatMachine) (log : Log) → IsBook self.old m log → units ≡ cost_of m → IsFit m (Some taken) → IsBook self.new (event m (Some taken)) (record { before = m ∷ log.before; after = [] }) }
+        ensures book { (m : FlatMachine) (log : Log) → IsBook self.old m log → units ≡ cost_of m → IsFit m (Some taken)
+            → IsBook self.new (event m (Some taken)) (record { before = m ∷ log.before; after = [] }) }
     {
         self.cut();
         let begun = self.units;

@@ -32,7 +32,8 @@ impl<A: Allocator + Clone> Book<A> {
         requires asks { machine.now.asking ≡ None }
         requires before { self.now.units + cost_of machine.now.machine ≤ self.now.end }
         requires fit { IsFit machine.now.machine (taken_at self.now.notes.items self.now.index self.now.units) }
-        ensures { IfOk result (λ spot. IsMade (taken_at self.now.notes.items self.now.index self.now.units) (record { machine = machine.now; units = self.now.units; index = self.now.index }) spot) }
+        ensures { IfOk result (λ spot. IsMade (taken_at self.now.notes.items self.now.index self.now.units)
+            (record { machine = machine.now; units = self.now.units; index = self.now.index }) spot) }
     {
         let mut spot = Spot {
             machine: machine.fork(self.alloc)?,
@@ -78,7 +79,8 @@ impl<A: Allocator + Clone> Book<A> {
 
     /// The note of the event that begins at a place.
     fn note_at(&self, spot: &Spot<A>) -> Option<&Note<A>>
-        ensures some { IfSome result (λ note. taken_at self.now.notes.items spot.now.index spot.now.units ≡ Some note.now.taken) }
+        ensures some { IfSome result (λ note. taken_at self.now.notes.items spot.now.index spot.now.units
+            ≡ Some note.now.taken) }
         ensures none { result ≡ None → taken_at self.now.notes.items spot.now.index spot.now.units ≡ None }
         ensures index { IfSome result (λ note. spot.now.index < 2 ^ 64 - 1) }
     {
@@ -96,7 +98,8 @@ impl<A: Allocator + Clone> Book<A> {
     fn free_until(&self, spot: &Spot<A>, target: u64) -> u64
         requires before { spot.now.units < target }
         requires none { taken_at self.now.notes.items spot.now.index spot.now.units ≡ None }
-        ensures free { (u : ℕ) → spot.now.units ≤ u → u < result → taken_at self.now.notes.items spot.now.index u ≡ None }
+        ensures free { (u : ℕ) → spot.now.units ≤ u → u < result
+            → taken_at self.now.notes.items spot.now.index u ≡ None }
         ensures after { spot.now.units < result }
         ensures within { result ≤ target }
     {
@@ -149,7 +152,8 @@ impl<A: Allocator + Clone> Book<A> {
         requires within { limit ≤ self.now.units }
         requires spot { IsSpot self.now spot.old }
         requires before { spot.old.units ≤ limit }
-        requires free { (u : ℕ) → spot.old.units ≤ u → u < limit → taken_at self.now.notes.items spot.old.index u ≡ None }
+        requires free { (u : ℕ) → spot.old.units ≤ u → u < limit
+            → taken_at self.now.notes.items spot.old.index u ≡ None }
         ensures { IfOk result (λ more. HasRun limit more spot.old spot.new) }
     {
         let mut budget = limit - spot.units;
@@ -200,7 +204,8 @@ fn step<A: Allocator + Clone>(
 
 /// Answers with nothing what a machine asks, if anything.
 fn settle<A: Allocator + Clone>(machine: &mut Machine<A>, alloc: Global) -> Result<(), AllocError>
-    ensures { OnOk result (machine.new ≡ record { machine = settled machine.old.machine machine.old.asking; asking = None }) }
+    ensures { OnOk result (machine.new
+        ≡ record { machine = settled machine.old.machine machine.old.asking; asking = None }) }
 {
     match machine.asking() {
         None => Ok(()),

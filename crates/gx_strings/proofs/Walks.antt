@@ -1,5 +1,5 @@
 -- One bit of a walk.
-use Rattle.std.proofs.Common.{◌≡◌, ◌≤◌, ◌<◌, ◌+◌, ◌/◌, ◌%◌, ◌==◌, nat_lt, if◌then◌else◌, ℕ, zero, suc, Bool, true, false, List, [], ◌∷◌, length, drop, refl, arith, Result, Ok, Err}
+use Rattle.std.proofs.Common.{◌≡◌, ◌≤◌, ◌<◌, ◌+◌, ◌/◌, ◌%◌, ◌==◌, nat_lt, if◌then◌else◌, ℕ, zero, suc, Bool, true, false, List, [], ◌∷◌, length, drop, refl, sym, ◌∙◌, arith, Result, Ok, Err}
 use Rattle.std.proofs.lemmas.Bool.Decides.{nat_tests}
 use Rattle.gx_words.specs.declared.faults.Fault.{Fault}
 use Rattle.gx_words.specs.declared.faults.Fault.TheVariants.{BadAddress}
@@ -59,5 +59,12 @@ turn_by m node used n false is = rw (no_bits m n (grind (arith, nat_tests))) ref
 
 pub turn : (m : List ℕ) (node used n : ℕ) → walk m node used (drop n (bits m)) ≡ walk_by m node used n (nat_lt (n / 8) (length m))
 turn m node used n = turn_by m node used n (nat_lt (n / 8) (length m)) refl
+
+-- a bit more, from a branch to the node to which it leads
+pub further : (m : List ℕ) (node used n t next : ℕ) (one : Bool) → number_in 1 m node ≡ Ok t → t ≡ branch → n / 8 < length m
+    → one ≡ bit (byte m (n / 8)) (n % 8) → child m node one ≡ Ok next → walk m next (used + 1) (drop (n + 1) (bits m)) ≡ walk m node used (drop n (bits m))
+further m node used n t next one read is there bit_is found =
+    let within : nat_lt (n / 8) (length m) ≡ true = grind (arith, nat_tests) in
+    sym (turn m node used n ∙ rw (within, rw is at read, ← bit_is, found) refl)
 
 pub ruleset turns = (turn, nat_tests)

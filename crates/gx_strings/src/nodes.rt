@@ -1,5 +1,7 @@
 //! The nodes of a decoding table.
-ghost use Rattle.std.specs.Prelude.{◌≡◌, ◌⊎◌, ◌+◌, ◌*◌, ◌<◌, ◌≤◌, ◌^◌, drop, length, None, Ok, false, IsTrue, IfOk, IfSome};
+ghost use Rattle.std.specs.Prelude.{◌≡◌, ◌⊎◌, ◌+◌, ◌-◌, ◌*◌, ◌%◌, ◌<◌, ◌≤◌, ◌^◌, take, drop, length, slice_index, None};
+ghost use Rattle.std.specs.Prelude.{Ok, false, IsTrue, IfOk, IfSome, OnOk};
+ghost use Rattle.gx_pages.specs.Memory.{number_in};
 ghost use Rattle.gx_words.specs.Numbers.{is_bit};
 ghost use Rattle.gx_words.specs.Faults.{Reads};
 ghost use Rattle.gx_words.specs.Constants.{ceiling};
@@ -29,29 +31,58 @@ fn bit(byte: u32, i: u32) -> bool
     (byte >> i) % 2 == 1
 }
 
-/// The node to which a bit leads from a branch.
-#[tactic(auto, unfolding(crate::specs::Nodes::child))]
-fn child<A: Allocator + Clone>(memory: &Pages<A>, node: u32, one: bool) -> Result<u32, Fault>
-    requires { node ≤ ceiling }
-    ensures { Reads (λ v. v) result (child memory.now node one) }
+/// The bytes of a node's page from the node on, so that one look-up serves for all of the node that lies in it.
+#[inline(always)]
+#[tactic(auto, unfolding(gx_pages::specs::Memory::number_in))]
+fn node_bytes<A: Allocator + Clone>(memory: &Pages<A>, node: u32) -> Result<&[u8], Fault>
+    ensures value { Reads (λ bytes. slice_index bytes.now 0) result (number_in 1 memory.now node) }
+    ensures bytes { IfOk result (λ bytes. bytes.now ≡ take (256 - node % 256) (drop node memory.now)) }
+    ensures some { IfOk result (λ bytes. 0 < length bytes.now) }
+    ensures low { OnOk result (node < ceiling) }
 {
-    memory.try_number(4, if one { node + 5 } else { node + 1 })
+    if node >= memory.size() {
+        return Err(Fault::BadAddress);
+    }
+    Ok(memory.bytes_in_page(node))
 }
 
-/// The same for a node that is there: its page is looked up once where it holds the whole node.
+/// The byte behind a node's first.
+#[inline(always)]
+#[tactic(auto, unfolding(gx_pages::specs::Memory::number_in))]
+fn byte_behind<A: Allocator + Clone>(
+    memory: &Pages<A>,
+    node: u32,
+    bytes: &[u8],
+) -> Result<u32, Fault>
+    requires bytes { bytes.now ≡ take (256 - node % 256) (drop node memory.now) }
+    requires low { node < ceiling }
+    ensures { Reads (λ v. v) result (number_in 1 memory.now (node + 1)) }
+{
+    if bytes.len() >= 2 {
+        Ok(u32::from(bytes[1]))
+    } else {
+        memory.try_number(1, node + 1)
+    }
+}
+
+/// The node to which a bit leads from a branch.
 #[inline(always)]
 #[tactic(auto, unfolding(crate::specs::Nodes::child, gx_pages::specs::Memory::number_in))]
-fn child_of<A: Allocator + Clone>(memory: &Pages<A>, node: u32, one: bool) -> Result<u32, Fault>
-    requires there { node < length memory.now }
-    requires low { node ≤ ceiling }
+fn child<A: Allocator + Clone>(
+    memory: &Pages<A>,
+    node: u32,
+    bytes: &[u8],
+    one: bool,
+) -> Result<u32, Fault>
+    requires bytes { bytes.now ≡ take (256 - node % 256) (drop node memory.now) }
+    requires low { node < ceiling }
     ensures { Reads (λ v. v) result (child memory.now node one) }
 {
-    let page = memory.bytes_in_page(node);
     let at = if one { 5 } else { 1 };
-    if at + 4 <= page.len() {
-        Ok(word_at(page, at))
+    if at + 4 <= bytes.len() {
+        Ok(word_at(bytes, at))
     } else {
-        child(memory, node, one)
+        memory.try_number(4, if one { node + 5 } else { node + 1 })
     }
 }
 
@@ -76,16 +107,19 @@ pub fn walk<A: Allocator + Clone>(memory: &Pages<A>, root: u32, from: u64) -> Re
     let size = u64::from(memory.size());
     let mut node = root;
     let mut used = 0;
-    while memory.try_number(1, node)? == BRANCH {
+    'bits: loop {
+        let bytes = node_bytes(memory, node)?;
+        if u32::from(bytes[0]) != BRANCH {
+            return Ok(Ending { node, used });
+        }
         let place = from + used;
         if place / 8 >= size {
             return Err(Fault::BadAddress);
         }
         let one = bit(memory.byte((place / 8) as u32), (place % 8) as u32);
-        node = child_of(memory, node, one)?;
+        node = child(memory, node, bytes, one)?;
         used += 1;
     }
-    Ok(Ending { node, used })
 }
 
 /// The address in a node.
@@ -163,16 +197,13 @@ pub fn node_char<A: Allocator + Clone>(memory: &Pages<A>, node: u32) -> Option<u
     ensures value { IfSome result (λ c. (next : APrinting) → node_item memory.now node next ≡ Ok (Char c next)) }
     ensures none { result ≡ None → (next : APrinting) → is_char (node_item memory.now node next) ≡ false }
 {
-    let Ok(type_byte) = memory.try_number(1, node) else {
+    let Ok(bytes) = node_bytes(memory, node) else {
         return None;
     };
-    let width = match type_byte {
-        SINGLE_CHARACTER => 1,
-        SINGLE_UNICODE_CHARACTER => 4,
+    let value = match u32::from(bytes[0]) {
+        SINGLE_CHARACTER => byte_behind(memory, node, bytes),
+        SINGLE_UNICODE_CHARACTER => memory.try_number(4, node + 1),
         _ => return None,
     };
-    match memory.try_number(width, node + 1) {
-        Ok(value) => Some(value),
-        Err(_) => None,
-    }
+    value.ok()
 }

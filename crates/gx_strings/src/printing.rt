@@ -6,7 +6,8 @@ ghost use Rattle.gx_words.specs.Numbers.{is_bit};
 ghost use Rattle.gx_words.specs.Faults.{Reads};
 ghost use Rattle.gx_words.specs.declared.strings.PrintKind.TheVariants.{Number};
 ghost use Rattle.gx_strings.specs.declared.items.Item.TheVariants.{Char};
-ghost use Rattle.gx_strings.specs.Items.{byte_item, compressed_item, word_item, number_item, next_item, is_char, HasBit, HasBits};
+ghost use Rattle.gx_strings.specs.Items.{byte_item, compressed_item, word_item, number_item, next_item, is_char};
+ghost use Rattle.gx_strings.specs.Items.{HasBit, HasBits};
 
 use crate::Item;
 use crate::nodes::{node_char, node_item, walk};
@@ -146,7 +147,8 @@ fn compressed_char<A: Allocator + Clone>(
     printing: &Printing,
 ) -> Option<(u32, u32, u32)>
     requires { IsTrue (is_bit printing.now.bit) }
-    ensures value { IfSome result (λ r. compressed_item memory.now table printing.now ≡ Ok (Char r.0 (record printing.now { at = r.1; bit = r.2 }))) }
+    ensures value { IfSome result (λ r. compressed_item memory.now table printing.now
+        ≡ Ok (Char r.0 (record printing.now { at = r.1; bit = r.2 }))) }
     ensures none { result ≡ None → is_char (compressed_item memory.now table printing.now) ≡ false }
 {
     if table == 0 {
@@ -174,7 +176,8 @@ pub fn next_char<A: Allocator + Clone>(
     printing: &Printing,
 ) -> Option<(u32, u32, u32)>
     requires { HasBit printing.now }
-    ensures value { IfSome result (λ r. next_item memory.now table printing.now ≡ Ok (Char r.0 (record printing.now { at = r.1; bit = r.2 }))) }
+    ensures value { IfSome result (λ r. next_item memory.now table printing.now
+        ≡ Ok (Char r.0 (record printing.now { at = r.1; bit = r.2 }))) }
     ensures none { result ≡ None → is_char (next_item memory.now table printing.now) ≡ false }
 {
     match printing.kind {

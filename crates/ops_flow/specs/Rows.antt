@@ -3,7 +3,8 @@
 --
 -- An instruction's pops are made in its `sp`, its results are words, and PC becomes `next` where nothing
 -- else is said. A fault in any line leaves the state as it is.
-use Rattle.std.specs.Prelude.{ℕ, ◌+◌, ◌-◌, ◌*◌, ◌%◌, ◌^◌, ◌==◌, ◌&&◌, ◌||◌, nat_lt, nat_le, if◌then◌else◌, Bool, List, [], ◌∷◌, ◌++◌, drop, take, Option, Some, None, Result, Ok, Err}
+use Rattle.std.specs.Prelude.{ℕ, ◌+◌, ◌-◌, ◌*◌, ◌%◌, ◌^◌, ◌==◌, ◌&&◌, ◌||◌, nat_lt, nat_le, if◌then◌else◌, Bool, List}
+use Rattle.std.specs.Prelude.{[], ◌∷◌, ◌++◌, drop, take, Option, Some, None, Result, Ok, Err}
 use Rattle.std.specs.Option.{ok_or}
 use Rattle.gx_words.specs.declared.faults.Fault.{Fault}
 use Rattle.gx_words.specs.declared.faults.Fault.TheVariants.{BadOpcode, Divide, Overflow, Underflow, BadToken}
@@ -88,7 +89,8 @@ return_ f i = returns f i.next (L1 i)
 
 -- the stack with the stub of a catch on top
 unfoldable pub with_stub : FlatState → Instruction → FlatState
-with_stub f i = record f { stack = record f.stack { bytes = take i.sp f.stack.bytes ++ stub_bytes (stub_of f i.dest i.next) } }
+with_stub f i =
+    record f { stack = record f.stack { bytes = take i.sp f.stack.bytes ++ stub_bytes (stub_of f i.dest i.next) } }
 
 -- the word of a catch that outlasts a return from its function
 abbrev pub lasting : Dest → ℕ → Option (ℕ × ℕ)
@@ -174,7 +176,8 @@ flow f i =
     if i.row.number == numbers.throw then throw f i else
     if i.row.number == numbers.tailcall then tailcall f i else
     if i.row.number == numbers.jumpabs then jumpabs f i else
-    if i.row.number == numbers.callf || i.row.number == numbers.callfi || i.row.number == numbers.callfii || i.row.number == numbers.callfiii then callf f i else
+    if i.row.number == numbers.callf || i.row.number == numbers.callfi || i.row.number == numbers.callfii ||
+    i.row.number == numbers.callfiii then callf f i else
     Err BadOpcode
 
 unfoldable pub stack : FlatState → Instruction → Result (FlatState × Effect) Fault

@@ -37,7 +37,8 @@ pub fn deliver<A: Allocator + Clone>(
     requires there { sp ≤ sp_of state.old.flat }
     requires aligned { sp % 4 ≡ 0 }
     requires before { IsWordInRam state.old.flat before }
-    ensures value { Works (IsReturnWriting state.old.flat sp before) result state.old.flat state.new.flat (returned (going_to state.old.flat next) sp value before) }
+    ensures value { Works (IsReturnWriting state.old.flat sp before) result state.old.flat state.new.flat
+        (returned (going_to state.old.flat next) sp value before) }
     ensures ended { IfOk result (λ ended. ended ≡ (sp == 0)) }
 {
     let pc = state.pc();
@@ -58,7 +59,8 @@ pub fn leave<A: Allocator + Clone>(
     next: u32,
 ) -> Result<Effect, Fault>
     requires { 0 < sp_of state.old.flat }
-    ensures value { Works (IsReturnWriting state.old.flat state.old.flat.fp None) result state.old.flat state.new.flat (returns state.old.flat next value) }
+    ensures value { Works (IsReturnWriting state.old.flat state.old.flat.fp None) result state.old.flat state.new.flat
+        (returns state.old.flat next value) }
     ensures done { IfOk result IsDone }
 {
     let frame = state.frame();
@@ -74,7 +76,8 @@ fn branch<A: Allocator + Clone>(
     offset: u32,
 ) -> Result<Effect, Fault>
     requires { IsHeight state.old.flat plan.now.sp }
-    ensures value { Works (IsBranchWriting state.old.flat offset) result state.old.flat state.new.flat (branches (cut state.old.flat plan.now.sp) plan.now.next offset) }
+    ensures value { Works (IsBranchWriting state.old.flat offset) result state.old.flat state.new.flat
+        (branches (cut state.old.flat plan.now.sp) plan.now.next offset) }
     ensures done { IfOk result IsDone }
 {
     if offset < 2 {
@@ -88,7 +91,8 @@ fn branch<A: Allocator + Clone>(
 pub fn jumps<A: Allocator + Clone>(state: &mut State<A>, plan: &Plan) -> Result<Effect, Fault>
     requires sp { IsHeight state.old.flat plan.now.sp }
     requires class { (instruction_of plan.now).row.class ≡ Class.Branch }
-    ensures value { Works (IsJumpWriting state.old.flat (instruction_of plan.now)) result state.old.flat state.new.flat (jumps state.old.flat (instruction_of plan.now)) }
+    ensures value { Works (IsJumpWriting state.old.flat (instruction_of plan.now)) result state.old.flat state.new.flat
+        (jumps state.old.flat (instruction_of plan.now)) }
     ensures done { IfOk result IsDone }
 {
     let row = plan.row();

@@ -20,7 +20,8 @@ fn calls<A: Allocator + Clone>(
     args: &[u32],
 ) -> Result<Effect, Fault>
     requires { IsHeight state.old.flat sp }
-    ensures value { Goes result state.old.flat state.new.flat (calls state.old.flat (instruction_of plan.now) sp args.now) }
+    ensures value { Goes result state.old.flat state.new.flat
+        (calls state.old.flat (instruction_of plan.now) sp args.now) }
     ensures done { IfOk result IsDone }
 {
     let stub = state.stub(&plan.dest, plan.next);

@@ -19,7 +19,8 @@ use std::alloc::Allocator;
 pub fn computes<A: Allocator + Clone>(state: &mut State<A>, plan: &Plan) -> Result<Effect, Fault>
     requires sp { IsHeight state.old.flat plan.now.sp }
     requires class { (instruction_of plan.now).row.class ≡ Class.Calc }
-    ensures value { Works (IsMemory plan.now.dest) result state.old.flat state.new.flat (computes state.old.flat (instruction_of plan.now)) }
+    ensures value { Works (IsMemory plan.now.dest) result state.old.flat state.new.flat
+        (computes state.old.flat (instruction_of plan.now)) }
     ensures done { IfOk result IsDone }
 {
     match calc(plan.row().act, plan.load(0), plan.load(1)) {

@@ -71,7 +71,8 @@ fn store_token<A: Allocator + Clone>(
     requires height { IsHeight state.old.flat plan.now.sp }
     requires room { plan.now.sp + 16 ≤ state.old.flat.stack.limit }
     requires stores { store_fault state.old.flat 4 plan.now.dest (plan.now.sp + 16) ≡ Ok tt }
-    ensures { Stores (IsMemory plan.now.dest) result state.old state.new (Ok (with_value (with_stub state.old.flat (instruction_of plan.now)) 4 plan.now.dest token)) }
+    ensures { Stores (IsMemory plan.now.dest) result state.old state.new
+        (Ok (with_value (with_stub state.old.flat (instruction_of plan.now)) 4 plan.now.dest token)) }
 {
     let _frame = state.frame(); // a good one
     match plan.dest {
@@ -95,7 +96,8 @@ fn store_token<A: Allocator + Clone>(
 #[tactic(auto, unfolding(crate::specs::Rows::catch), using(crate::proofs::Cuts::catches))]
 pub fn catch<A: Allocator + Clone>(state: &mut State<A>, plan: &Plan) -> Result<Effect, Fault>
     requires { IsHeight state.old.flat plan.now.sp }
-    ensures value { Works (IsCatchWriting state.old.flat (instruction_of plan.now)) result state.old.flat state.new.flat (catch state.old.flat (instruction_of plan.now)) }
+    ensures value { Works (IsCatchWriting state.old.flat (instruction_of plan.now)) result state.old.flat state.new.flat
+        (catch state.old.flat (instruction_of plan.now)) }
     ensures done { IfOk result IsDone }
 {
     let offset = plan.load(0);
@@ -120,7 +122,8 @@ pub fn catch<A: Allocator + Clone>(state: &mut State<A>, plan: &Plan) -> Result<
 #[tactic(auto, unfolding(crate::specs::Rows::throw))]
 pub fn throw<A: Allocator + Clone>(state: &mut State<A>, plan: &Plan) -> Result<Effect, Fault>
     requires { IsHeight state.old.flat plan.now.sp }
-    ensures value { Works (IsReturnWriting state.old.flat (L2 (instruction_of plan.now)) None) result state.old.flat state.new.flat (throw state.old.flat (instruction_of plan.now)) }
+    ensures value { Works (IsReturnWriting state.old.flat (L2 (instruction_of plan.now)) None) result state.old.flat
+        state.new.flat (throw state.old.flat (instruction_of plan.now)) }
     ensures done { IfOk result IsDone }
 {
     let token = plan.load(1);

@@ -56,7 +56,8 @@ fn goes_to<A: Allocator + Clone>(state: &mut State<A>, sp: u32, pc: u32) -> Effe
 #[tactic(auto, unfolding(crate::specs::Rows::flow, crate::specs::Rows::nop, crate::specs::Rows::return_, crate::specs::Rows::jumpabs), using(crate::proofs::Relations::relations))]
 fn flow<A: Allocator + Clone>(state: &mut State<A>, plan: &Plan) -> Result<Effect, Fault>
     requires { IsHeight state.old.flat plan.now.sp }
-    ensures value { Works (IsFlowWriting state.old.flat (instruction_of plan.now)) result state.old.flat state.new.flat (flow state.old.flat (instruction_of plan.now)) }
+    ensures value { Works (IsFlowWriting state.old.flat (instruction_of plan.now)) result state.old.flat state.new.flat
+        (flow state.old.flat (instruction_of plan.now)) }
     ensures done { IfOk result IsDone }
 {
     match plan.row().number {
@@ -76,7 +77,8 @@ fn flow<A: Allocator + Clone>(state: &mut State<A>, plan: &Plan) -> Result<Effec
 #[tactic(auto, unfolding(crate::specs::Rows::stack), using(crate::proofs::Relations::relations))]
 fn stack<A: Allocator + Clone>(state: &mut State<A>, plan: &Plan) -> Result<Effect, Fault>
     requires { IsHeight state.old.flat plan.now.sp }
-    ensures value { Works (IsMemory plan.now.dest) result state.old.flat state.new.flat (stack state.old.flat (instruction_of plan.now)) }
+    ensures value { Works (IsMemory plan.now.dest) result state.old.flat state.new.flat
+        (stack state.old.flat (instruction_of plan.now)) }
     ensures done { IfOk result IsDone }
 {
     match plan.row().number {
@@ -92,7 +94,9 @@ fn stack<A: Allocator + Clone>(state: &mut State<A>, plan: &Plan) -> Result<Effe
 /// Does the row of a plan that `decode` made of this state.
 pub fn act<A: Allocator + Clone>(state: &mut State<A>, plan: &Plan) -> Result<Effect, Fault>
     requires { IsHeight state.old.flat plan.now.sp }
-    ensures value { Works (IsWriting (instruction_of plan.now).row.class state.old.flat (instruction_of plan.now)) result state.old.flat state.new.flat (row_effect (instruction_of plan.now).row.class state.old.flat (instruction_of plan.now)) }
+    ensures value { Works (IsWriting (instruction_of plan.now).row.class state.old.flat (instruction_of plan.now))
+        result state.old.flat state.new.flat
+        (row_effect (instruction_of plan.now).row.class state.old.flat (instruction_of plan.now)) }
     ensures done { IfOk result IsDone }
 {
     match plan.row().class {

@@ -18,7 +18,8 @@ use std::alloc::Allocator;
 #[tactic(auto, unfolding(crate::specs::Rows::stkcount))]
 pub fn stkcount<A: Allocator + Clone>(state: &mut State<A>, plan: &Plan) -> Result<Effect, Fault>
     requires { IsHeight state.old.flat plan.now.sp }
-    ensures value { Works (IsMemory plan.now.dest) result state.old.flat state.new.flat (stkcount state.old.flat (instruction_of plan.now)) }
+    ensures value { Works (IsMemory plan.now.dest) result state.old.flat state.new.flat
+        (stkcount state.old.flat (instruction_of plan.now)) }
     ensures done { IfOk result IsDone }
 {
     let count = values_to(state, plan.sp);
@@ -29,7 +30,8 @@ pub fn stkcount<A: Allocator + Clone>(state: &mut State<A>, plan: &Plan) -> Resu
 #[tactic(auto, unfolding(crate::specs::Rows::stkpeek))]
 pub fn stkpeek<A: Allocator + Clone>(state: &mut State<A>, plan: &Plan) -> Result<Effect, Fault>
     requires { IsHeight state.old.flat plan.now.sp }
-    ensures value { Works (IsMemory plan.now.dest) result state.old.flat state.new.flat (stkpeek state.old.flat (instruction_of plan.now)) }
+    ensures value { Works (IsMemory plan.now.dest) result state.old.flat state.new.flat
+        (stkpeek state.old.flat (instruction_of plan.now)) }
     ensures done { IfOk result IsDone }
 {
     let n = plan.load(0);

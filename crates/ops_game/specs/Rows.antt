@@ -25,7 +25,8 @@ use Rattle.gx_operands.specs.Stores.{settled, stores, goes}
 -- WHAT ROWS SHARE
 
 -- a row of the state alone, with the copies that it leaves
-abbrev pub leaving_copies : FlatUndo → Result (FlatState × Effect) Fault → Result ((FlatState × FlatUndo) × Effect) Fault
+abbrev pub leaving_copies : FlatUndo → Result (FlatState × Effect) Fault
+    → Result ((FlatState × FlatUndo) × Effect) Fault
 leaving_copies u (Ok r) = Ok ((r.0, u), r.1)
 leaving_copies u (Err fault) = Err fault
 
@@ -100,7 +101,8 @@ saveundo f u i =
       g ← settled f i.sp 4 i.dest 0
       Ok ((going_to g i.next, with_newest u (copy_of f i.dest i.next)), Went))
 
-abbrev pub restored_from : FlatState → FlatUndo → Instruction → List Copy → Result ((FlatState × FlatUndo) × Effect) Fault
+abbrev pub restored_from : FlatState → FlatUndo → Instruction → List Copy
+    → Result ((FlatState × FlatUndo) × Effect) Fault
 restored_from f u i [] = leaving_copies u (stores f i 1)
 restored_from f u i (c ∷ older) = Ok ((gone_back f c, without_newest u), Went)
 

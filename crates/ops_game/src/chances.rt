@@ -36,7 +36,8 @@ fn draw_to_memory<A: Allocator + Clone>(
     word: u32,
 ) -> Result<(), Fault>
     requires { IsHeight state.old.flat plan.now.sp }
-    ensures { Stores (IsMemory plan.now.dest) result state.old state.new (drawn state.old.flat word (instruction_of plan.now)) }
+    ensures { Stores (IsMemory plan.now.dest) result state.old state.new
+        (drawn state.old.flat word (instruction_of plan.now)) }
 {
     let mut generator = state.generator().copy()?;
     let drawn = generator.word(word);
@@ -68,7 +69,8 @@ fn draw_word<A: Allocator + Clone>(
     word: u32,
 ) -> Result<(), Fault>
     requires { IsHeight state.old.flat plan.now.sp }
-    ensures { Stores (IsMemory plan.now.dest) result state.old state.new (drawn state.old.flat word (instruction_of plan.now)) }
+    ensures { Stores (IsMemory plan.now.dest) result state.old state.new
+        (drawn state.old.flat word (instruction_of plan.now)) }
 {
     match plan.dest {
         Dest::Memory(_) => draw_to_memory(state, plan, word),
@@ -84,7 +86,8 @@ pub fn random<A: Allocator + Clone>(
     word: u32,
 ) -> Result<Effect, Fault>
     requires { IsHeight state.old.flat plan.now.sp }
-    ensures value { Works (IsMemory plan.now.dest) result state.old.flat state.new.flat (random state.old.flat word (instruction_of plan.now)) }
+    ensures value { Works (IsMemory plan.now.dest) result state.old.flat state.new.flat
+        (random state.old.flat word (instruction_of plan.now)) }
     ensures done { IfOk result IsDone }
 {
     let effect = effect_of(state.generator());

@@ -45,7 +45,8 @@ use undos::{discardundo, hasundo, restoreundo, saveundo};
 #[tactic(auto, unfolding(crate::specs::Rows::gestalt))]
 fn gestalt<A: Allocator + Clone>(state: &mut State<A>, plan: &Plan) -> Result<Effect, Fault>
     requires { IsHeight state.old.flat plan.now.sp }
-    ensures value { Works (IsMemory plan.now.dest) result state.old.flat state.new.flat (gestalt state.old.flat (instruction_of plan.now)) }
+    ensures value { Works (IsMemory plan.now.dest) result state.old.flat state.new.flat
+        (gestalt state.old.flat (instruction_of plan.now)) }
     ensures done { IfOk result IsDone }
 {
     let start = state.heap().start();
@@ -69,7 +70,8 @@ fn quit<A: Allocator + Clone>(state: &mut State<A>, plan: &Plan) -> Effect
 #[tactic(auto, unfolding(crate::specs::Rows::verify))]
 fn verify<A: Allocator + Clone>(state: &mut State<A>, plan: &Plan) -> Result<Effect, Fault>
     requires { IsHeight state.old.flat plan.now.sp }
-    ensures value { Works (IsMemory plan.now.dest) result state.old.flat state.new.flat (verify state.old.flat (instruction_of plan.now)) }
+    ensures value { Works (IsMemory plan.now.dest) result state.old.flat state.new.flat
+        (verify state.old.flat (instruction_of plan.now)) }
     ensures done { IfOk result IsDone }
 {
     let value = u32::from(!state.checksum_ok());
@@ -109,8 +111,11 @@ pub fn act<A: Allocator + Clone>(
 ) -> Result<Effect, Fault>
     requires sp { IsHeight state.old.flat plan.now.sp }
     requires copies { AreCopiesFor state.old.flat.story undo.old.copies }
-    ensures value { Does (IsWriting undo.old (instruction_of plan.now)) (λ effect. effect) result (state.old.flat, undo.old) (state.new.flat, undo.new) (row_effect state.old.flat undo.old word (instruction_of plan.now)) }
-    ensures asks { IfOk result (IsSaveAtMost (state.old.flat, undo.old) (state.new.flat, undo.new) (instruction_of plan.now)) }
+    ensures value { Does (IsWriting undo.old (instruction_of plan.now)) (λ effect. effect) result
+        (state.old.flat, undo.old) (state.new.flat, undo.new)
+        (row_effect state.old.flat undo.old word (instruction_of plan.now)) }
+    ensures asks { IfOk result (IsSaveAtMost (state.old.flat, undo.old) (state.new.flat, undo.new)
+        (instruction_of plan.now)) }
     ensures story { state.new.flat.story ≡ state.old.flat.story }
     ensures copies { AreCopiesFor state.old.flat.story undo.new.copies }
 {

@@ -25,7 +25,8 @@ pub fn getstringtbl<A: Allocator + Clone>(
     plan: &Plan,
 ) -> Result<Effect, Fault>
     requires { IsHeight state.old.flat plan.now.sp }
-    ensures value { Works (IsMemory plan.now.dest) result state.old.flat state.new.flat (getstringtbl state.old.flat (instruction_of plan.now)) }
+    ensures value { Works (IsMemory plan.now.dest) result state.old.flat state.new.flat
+        (getstringtbl state.old.flat (instruction_of plan.now)) }
     ensures done { IfOk result IsDone }
 {
     let table = state.table();
@@ -66,7 +67,8 @@ pub fn setiosys<A: Allocator + Clone>(state: &mut State<A>, plan: &Plan) -> Effe
 #[tactic(auto, unfolding(crate::specs::Rows::getiosys))]
 pub fn getiosys<A: Allocator + Clone>(state: &mut State<A>, plan: &Plan) -> Result<Effect, Fault>
     requires { IsHeight state.old.flat plan.now.sp }
-    ensures value { Works (IsMemory plan.now.dest ⊎ IsMemory plan.now.second) result state.old.flat state.new.flat (getiosys state.old.flat (instruction_of plan.now)) }
+    ensures value { Works (IsMemory plan.now.dest ⊎ IsMemory plan.now.second) result state.old.flat state.new.flat
+        (getiosys state.old.flat (instruction_of plan.now)) }
     ensures done { IfOk result IsDone }
 {
     store_both(state, plan)?;
@@ -113,7 +115,8 @@ fn beside_memory(dest: &Dest) -> Dest
 /// Makes both stores of getiosys, or none.
 fn store_both<A: Allocator + Clone>(state: &mut State<A>, plan: &Plan) -> Result<(), Fault>
     requires { IsHeight state.old.flat plan.now.sp }
-    ensures { Stores (IsMemory plan.now.dest ⊎ IsMemory plan.now.second) result state.old state.new (both_stored state.old.flat (instruction_of plan.now)) }
+    ensures { Stores (IsMemory plan.now.dest ⊎ IsMemory plan.now.second) result state.old state.new
+        (both_stored state.old.flat (instruction_of plan.now)) }
 {
     can_store_both(state, plan)?;
     let (system, rock) = state.iosys();

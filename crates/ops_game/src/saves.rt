@@ -18,7 +18,8 @@ use std::alloc::Allocator;
 pub fn save<A: Allocator + Clone>(state: &State<A>, plan: &Plan) -> Result<Effect, Fault>
     requires { IsHeight state.now.flat plan.now.sp }
     ensures value { Reads (λ effect. (state.now.flat, effect)) result (save state.now.flat (instruction_of plan.now)) }
-    ensures asks { (u : FlatUndo) → IfOk result (IsSaveAtMost (state.now.flat, u) (state.now.flat, u) (instruction_of plan.now)) }
+    ensures asks { (u : FlatUndo) → IfOk result
+        (IsSaveAtMost (state.now.flat, u) (state.now.flat, u) (instruction_of plan.now)) }
 {
     let limit = state.stack().limit();
     if limit - plan.sp < 16 {
@@ -32,8 +33,10 @@ pub fn save<A: Allocator + Clone>(state: &State<A>, plan: &Plan) -> Result<Effec
 #[tactic(auto, unfolding(crate::specs::Rows::restore))]
 pub fn restore<A: Allocator + Clone>(state: &State<A>, plan: &Plan) -> Result<Effect, Fault>
     requires { IsHeight state.now.flat plan.now.sp }
-    ensures value { Reads (λ effect. (state.now.flat, effect)) result (restore state.now.flat (instruction_of plan.now)) }
-    ensures asks { (u : FlatUndo) → IfOk result (IsSaveAtMost (state.now.flat, u) (state.now.flat, u) (instruction_of plan.now)) }
+    ensures value { Reads (λ effect. (state.now.flat, effect)) result
+        (restore state.now.flat (instruction_of plan.now)) }
+    ensures asks { (u : FlatUndo) → IfOk result
+        (IsSaveAtMost (state.now.flat, u) (state.now.flat, u) (instruction_of plan.now)) }
 {
     let _stack = state.stack(); // a state is sound
     can_store(state, &plan.dest, 4, plan.sp)?;

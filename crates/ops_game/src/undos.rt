@@ -26,7 +26,8 @@ pub fn saveundo<A: Allocator + Clone>(
 ) -> Result<Effect, Fault>
     requires sp { IsHeight state.old.flat plan.now.sp }
     requires copies { AreCopiesFor state.old.flat.story undo.old.copies }
-    ensures value { Does (Unit {0}) (λ effect. effect) result (state.old.flat, undo.old) (state.new.flat, undo.new) (saveundo state.old.flat undo.old (instruction_of plan.now)) }
+    ensures value { Does (Unit {0}) (λ effect. effect) result (state.old.flat, undo.old) (state.new.flat, undo.new)
+        (saveundo state.old.flat undo.old (instruction_of plan.now)) }
     ensures done { IfOk result IsDone }
     ensures story { state.new.flat.story ≡ state.old.flat.story }
     ensures copies { AreCopiesFor state.old.flat.story undo.new.copies }
@@ -53,7 +54,9 @@ pub fn restoreundo<A: Allocator + Clone>(
 ) -> Result<Effect, Fault>
     requires sp { IsHeight state.old.flat plan.now.sp }
     requires copies { AreCopiesFor state.old.flat.story undo.old.copies }
-    ensures value { Does (IsMemory plan.now.dest ⊎ (0 < length undo.old.copies)) (λ effect. effect) result (state.old.flat, undo.old) (state.new.flat, undo.new) (restoreundo state.old.flat undo.old (instruction_of plan.now)) }
+    ensures value { Does (IsMemory plan.now.dest ⊎ (0 < length undo.old.copies)) (λ effect. effect) result
+        (state.old.flat, undo.old) (state.new.flat, undo.new)
+        (restoreundo state.old.flat undo.old (instruction_of plan.now)) }
     ensures done { IfOk result IsDone }
     ensures story { state.new.flat.story ≡ state.old.flat.story }
     ensures copies { AreCopiesFor state.old.flat.story undo.new.copies }
@@ -79,7 +82,8 @@ pub fn hasundo<A: Allocator + Clone>(
     undo: &Undo<A>,
 ) -> Result<Effect, Fault>
     requires { IsHeight state.old.flat plan.now.sp }
-    ensures value { Works (IsMemory plan.now.dest) result state.old.flat state.new.flat (hasundo state.old.flat undo.now (instruction_of plan.now)) }
+    ensures value { Works (IsMemory plan.now.dest) result state.old.flat state.new.flat
+        (hasundo state.old.flat undo.now (instruction_of plan.now)) }
     ensures done { IfOk result IsDone }
 {
     let value = u32::from(undo.is_empty());
@@ -95,7 +99,8 @@ pub fn discardundo<A: Allocator + Clone>(
 ) -> Effect
     requires sp { IsHeight state.old.flat plan.now.sp }
     requires copies { AreCopiesFor state.old.flat.story undo.old.copies }
-    ensures value { discardundo state.old.flat undo.old (instruction_of plan.now) ≡ Ok ((state.new.flat, undo.new), result) }
+    ensures value { discardundo state.old.flat undo.old (instruction_of plan.now)
+        ≡ Ok ((state.new.flat, undo.new), result) }
     ensures done { IsDone result }
     ensures story { state.new.flat.story ≡ state.old.flat.story }
     ensures copies { AreCopiesFor state.old.flat.story undo.new.copies }

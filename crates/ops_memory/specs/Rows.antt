@@ -3,7 +3,9 @@
 --
 -- An instruction's pops are made in its `sp`, and PC becomes `next`. A fault in any line leaves the state as
 -- it is. Addresses are sums modulo 2^32.
-use Rattle.std.specs.Prelude.{ℕ, ℤ, ◌+◌, ◌-◌, ◌*◌, ◌/◌, ◌%◌, ◌^◌, ◌==◌, ◌||◌, max, Bool, false, not, nat_lt, if◌then◌else◌, length, Option, Some, None, Result, Ok, Err, pos, unsigned_abs, bit_and, bit_or}
+use Rattle.std.specs.Prelude.{ℕ, ℤ, ◌+◌, ◌-◌, ◌*◌, ◌/◌, ◌%◌, ◌^◌, ◌==◌, ◌||◌, max, Bool, false, not, nat_lt}
+use Rattle.std.specs.Prelude.{if◌then◌else◌, length, Option, Some, None, Result, Ok, Err, pos, unsigned_abs, bit_and}
+use Rattle.std.specs.Prelude.{bit_or}
 use Rattle.std.specs.Int.{w32, cast_signed, cast_unsigned, int_div_euclid, int_rem_euclid}
 use Rattle.std.specs.Option.{ok_or}
 use Rattle.gx_words.specs.declared.faults.Fault.{Fault}
@@ -143,12 +145,32 @@ setmemsize f i =
 -- what is asked of a row of structs: L1 to L7 are the key, its size, the start, the size of a struct, the count,
 -- the offset of keys and the options
 abbrev pub row_ask : Instruction → Ask
-row_ask i = record { key = L1 i; key_size = L2 i; start = L3 i; struct_size = L4 i; count = L5 i; key_offset = L6 i; next_offset = 0; options = L7 i }
+row_ask i =
+    record {
+      key = L1 i;
+      key_size = L2 i;
+      start = L3 i;
+      struct_size = L4 i;
+      count = L5 i;
+      key_offset = L6 i;
+      next_offset = 0;
+      options = L7 i;
+    }
 
 -- and of a list of structs: L1 to L6 are the key, its size, the start, the offset of keys, that of links, and
 -- the options
 abbrev pub list_ask : Instruction → Ask
-list_ask i = record { key = L1 i; key_size = L2 i; start = L3 i; struct_size = 0; count = 0; key_offset = L4 i; next_offset = L5 i; options = L6 i }
+list_ask i =
+    record {
+      key = L1 i;
+      key_size = L2 i;
+      start = L3 i;
+      struct_size = 0;
+      count = 0;
+      key_offset = L4 i;
+      next_offset = L5 i;
+      options = L6 i;
+    }
 
 -- the search of each method, and whether its S1 is an index
 abbrev pub search_by : Method → FlatState → Instruction → Search

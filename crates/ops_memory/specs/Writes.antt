@@ -21,7 +21,8 @@ IsBlockWriting f i = IsMemory i.dest ⊎ IsSome (place f.heap (length f.memory) 
 -- others do where their result is stored in memory
 abbrev pub IsMemoryWriting : FlatState → Instruction → Type 0
 IsMemoryWriting f i =
-    MatchBool (i.row.number == numbers.astore || i.row.number == numbers.astores || i.row.number == numbers.astoreb || i.row.number == numbers.astorebit) (Unit {0}) (
+    MatchBool (i.row.number == numbers.astore || i.row.number == numbers.astores || i.row.number == numbers.astoreb ||
+    i.row.number == numbers.astorebit) (Unit {0}) (
     MatchBool (i.row.number == numbers.setmemsize) (IsSizeWriting f i) (
     MatchBool (i.row.number == numbers.mzero || i.row.number == numbers.mcopy) (0 < L1 i) (
     MatchBool (i.row.number == numbers.malloc) (IsBlockWriting f i) (

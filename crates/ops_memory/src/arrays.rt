@@ -36,7 +36,8 @@ pub fn loads<A: Allocator + Clone>(
 ) -> Result<Effect, Fault>
     requires width { IsWidth width }
     requires sp { IsHeight state.old.flat plan.now.sp }
-    ensures value { Works (IsMemory plan.now.dest) result state.old.flat state.new.flat (loads state.old.flat (instruction_of plan.now) width at) }
+    ensures value { Works (IsMemory plan.now.dest) result state.old.flat state.new.flat
+        (loads state.old.flat (instruction_of plan.now) width at) }
     ensures done { IfOk result IsDone }
 {
     let value = state.memory().try_number(width, at)?;
@@ -53,7 +54,8 @@ pub fn puts<A: Allocator + Clone>(
 ) -> Result<Effect, Fault>
     requires width { IsWidth width }
     requires sp { IsHeight state.old.flat plan.now.sp }
-    ensures value { Works (Unit {0}) result state.old.flat state.new.flat (puts state.old.flat (instruction_of plan.now) width at value) }
+    ensures value { Works (Unit {0}) result state.old.flat state.new.flat
+        (puts state.old.flat (instruction_of plan.now) width at value) }
     ensures done { IfOk result IsDone }
 {
     settle(state, plan.sp, &Dest::Memory(at), width, value)?;

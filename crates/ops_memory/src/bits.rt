@@ -54,7 +54,8 @@ fn with_bit(byte: u32, k: u32, value: u32) -> u32
 #[tactic(auto, unfolding(crate::specs::Rows::aloadbit))]
 pub fn aloadbit<A: Allocator + Clone>(state: &mut State<A>, plan: &Plan) -> Result<Effect, Fault>
     requires { IsHeight state.old.flat plan.now.sp }
-    ensures value { Works (IsMemory plan.now.dest) result state.old.flat state.new.flat (aloadbit state.old.flat (instruction_of plan.now)) }
+    ensures value { Works (IsMemory plan.now.dest) result state.old.flat state.new.flat
+        (aloadbit state.old.flat (instruction_of plan.now)) }
     ensures done { IfOk result IsDone }
 {
     let byte = state.memory().try_number(1, byte_of_bit(plan))?;
@@ -65,7 +66,8 @@ pub fn aloadbit<A: Allocator + Clone>(state: &mut State<A>, plan: &Plan) -> Resu
 #[tactic(auto, unfolding(crate::specs::Rows::astorebit))]
 pub fn astorebit<A: Allocator + Clone>(state: &mut State<A>, plan: &Plan) -> Result<Effect, Fault>
     requires { IsHeight state.old.flat plan.now.sp }
-    ensures value { Works (Unit {0}) result state.old.flat state.new.flat (astorebit state.old.flat (instruction_of plan.now)) }
+    ensures value { Works (Unit {0}) result state.old.flat state.new.flat
+        (astorebit state.old.flat (instruction_of plan.now)) }
     ensures done { IfOk result IsDone }
 {
     let at = byte_of_bit(plan);

@@ -41,8 +41,10 @@ fn allocate<A: Allocator + Clone>(
 ) -> Result<Effect, Fault>
     requires sp { IsHeight state.old.flat plan.now.sp }
     requires some { 0 < L1 (instruction_of plan.now) }
-    requires place { IsPlace state.old.flat.heap (length state.old.flat.memory) (L1 (instruction_of plan.now)) ceiling at }
-    ensures value { Works (Unit {0}) result state.old.flat state.new.flat (allocated state.old.flat (instruction_of plan.now) at) }
+    requires place { IsPlace state.old.flat.heap (length state.old.flat.memory)
+        (L1 (instruction_of plan.now)) ceiling at }
+    ensures value { Works (Unit {0}) result state.old.flat state.new.flat
+        (allocated state.old.flat (instruction_of plan.now) at) }
     ensures done { IfOk result IsDone }
 {
     let count = plan.load(0);
@@ -60,7 +62,8 @@ fn allocate<A: Allocator + Clone>(
 #[tactic(auto, unfolding(crate::specs::Rows::malloc))]
 pub fn malloc<A: Allocator + Clone>(state: &mut State<A>, plan: &Plan) -> Result<Effect, Fault>
     requires { IsHeight state.old.flat plan.now.sp }
-    ensures value { Works (IsBlockWriting state.old.flat (instruction_of plan.now)) result state.old.flat state.new.flat (malloc state.old.flat (instruction_of plan.now)) }
+    ensures value { Works (IsBlockWriting state.old.flat (instruction_of plan.now)) result state.old.flat state.new.flat
+        (malloc state.old.flat (instruction_of plan.now)) }
     ensures done { IfOk result IsDone }
 {
     let count = plan.load(0);

@@ -47,7 +47,8 @@ use std::alloc::Allocator;
 #[tactic(auto, unfolding(crate::specs::Rows::copy))]
 fn copy<A: Allocator + Clone>(state: &mut State<A>, plan: &Plan) -> Result<Effect, Fault>
     requires { IsHeight state.old.flat plan.now.sp }
-    ensures value { Works (IsMemory plan.now.dest) result state.old.flat state.new.flat (copy state.old.flat (instruction_of plan.now)) }
+    ensures value { Works (IsMemory plan.now.dest) result state.old.flat state.new.flat
+        (copy state.old.flat (instruction_of plan.now)) }
     ensures done { IfOk result IsDone }
 {
     let width = u32::from(plan.row().width);
@@ -64,7 +65,10 @@ fn memory<A: Allocator + Clone>(
     left: &mut u64,
 ) -> Result<Effect, Fault>
     requires { IsHeight state.old.flat plan.now.sp }
-    ensures value { Does (IsMemoryWriting state.old.flat (instruction_of plan.now)) (λ effect. effect) result (state.old.flat, left.old) (state.new.flat, left.new) (charged left.old (memory_probes state.old.flat (instruction_of plan.now)) state.old.flat (memory state.old.flat (instruction_of plan.now))) }
+    ensures value { Does (IsMemoryWriting state.old.flat (instruction_of plan.now)) (λ effect. effect) result
+        (state.old.flat, left.old) (state.new.flat, left.new)
+        (charged left.old (memory_probes state.old.flat (instruction_of plan.now)) state.old.flat
+        (memory state.old.flat (instruction_of plan.now))) }
     ensures done { IfOk result (EndsWithin left.old (memory_probes state.old.flat (instruction_of plan.now))) }
     ensures affords { IfErr result (IsAfforded left.old (memory_probes state.old.flat (instruction_of plan.now))) }
     ensures story { state.new.flat.story ≡ state.old.flat.story }
@@ -105,9 +109,13 @@ pub fn act<A: Allocator + Clone>(
     left: &mut u64,
 ) -> Result<Effect, Fault>
     requires { IsHeight state.old.flat plan.now.sp }
-    ensures value { Does (IsWriting (instruction_of plan.now).row.class state.old.flat (instruction_of plan.now)) (λ effect. effect) result (state.old.flat, left.old) (state.new.flat, left.new) (acted (instruction_of plan.now).row.class state.old.flat (instruction_of plan.now) left.old) }
-    ensures done { IfOk result (EndsWithin left.old (probes_of (instruction_of plan.now).row.class state.old.flat (instruction_of plan.now))) }
-    ensures affords { IfErr result (IsAfforded left.old (probes_of (instruction_of plan.now).row.class state.old.flat (instruction_of plan.now))) }
+    ensures value { Does (IsWriting (instruction_of plan.now).row.class state.old.flat (instruction_of plan.now))
+        (λ effect. effect) result (state.old.flat, left.old) (state.new.flat, left.new)
+        (acted (instruction_of plan.now).row.class state.old.flat (instruction_of plan.now) left.old) }
+    ensures done { IfOk result (EndsWithin left.old
+        (probes_of (instruction_of plan.now).row.class state.old.flat (instruction_of plan.now))) }
+    ensures affords { IfErr result (IsAfforded left.old
+        (probes_of (instruction_of plan.now).row.class state.old.flat (instruction_of plan.now))) }
     ensures story { state.new.flat.story ≡ state.old.flat.story }
 {
     match plan.row().class {

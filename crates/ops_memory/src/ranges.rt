@@ -45,7 +45,8 @@ fn can_write<A: Allocator + Clone>(state: &State<A>, at: u32, count: u32) -> Res
 #[tactic(auto, unfolding(crate::specs::Rows::mzero))]
 pub fn mzero<A: Allocator + Clone>(state: &mut State<A>, plan: &Plan) -> Result<Effect, Fault>
     requires { IsHeight state.old.flat plan.now.sp }
-    ensures value { Works (0 < L1 (instruction_of plan.now)) result state.old.flat state.new.flat (mzero state.old.flat (instruction_of plan.now)) }
+    ensures value { Works (0 < L1 (instruction_of plan.now)) result state.old.flat state.new.flat
+        (mzero state.old.flat (instruction_of plan.now)) }
     ensures done { IfOk result IsDone }
 {
     let count = plan.load(0);
@@ -59,7 +60,8 @@ pub fn mzero<A: Allocator + Clone>(state: &mut State<A>, plan: &Plan) -> Result<
 #[tactic(auto, unfolding(crate::specs::Rows::mcopy))]
 pub fn mcopy<A: Allocator + Clone>(state: &mut State<A>, plan: &Plan) -> Result<Effect, Fault>
     requires { IsHeight state.old.flat plan.now.sp }
-    ensures value { Works (0 < L1 (instruction_of plan.now)) result state.old.flat state.new.flat (mcopy state.old.flat (instruction_of plan.now)) }
+    ensures value { Works (0 < L1 (instruction_of plan.now)) result state.old.flat state.new.flat
+        (mcopy state.old.flat (instruction_of plan.now)) }
     ensures done { IfOk result IsDone }
 {
     let count = plan.load(0);

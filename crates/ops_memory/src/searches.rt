@@ -79,7 +79,8 @@ fn found<A: Allocator + Clone>(
     method: Method,
     bound: u64,
 ) -> Result<Found, Fault>
-    ensures { Reads (λ found. found) result (found_within bound (search_by method state.now.flat (instruction_of plan.now))) }
+    ensures { Reads (λ found. found) result
+        (found_within bound (search_by method state.now.flat (instruction_of plan.now))) }
 {
     match method {
         Method::Linear => linear(state.memory(), &row_ask(plan), bound),
@@ -105,7 +106,8 @@ fn pays<A: Allocator + Clone>(
 ) -> Result<Effect, Fault>
     requires sp { IsHeight state.old.flat plan.now.sp }
     requires probes { probes ≤ left.old }
-    ensures value { Does (IsMemory plan.now.dest) (λ effect. effect) result (state.old.flat, left.old) (state.new.flat, left.new) (lowered left.old probes (stores state.old.flat (instruction_of plan.now) value)) }
+    ensures value { Does (IsMemory plan.now.dest) (λ effect. effect) result (state.old.flat, left.old)
+        (state.new.flat, left.new) (lowered left.old probes (stores state.old.flat (instruction_of plan.now) value)) }
     ensures done { IfOk result IsDone }
     ensures story { state.new.flat.story ≡ state.old.flat.story }
 {
@@ -123,9 +125,13 @@ pub fn searches<A: Allocator + Clone>(
     method: Method,
 ) -> Result<Effect, Fault>
     requires { IsHeight state.old.flat plan.now.sp }
-    ensures value { Does (IsMemory plan.now.dest) (λ effect. effect) result (state.old.flat, left.old) (state.new.flat, left.new) (charged left.old (search_by method state.old.flat (instruction_of plan.now)).probes state.old.flat (searches method state.old.flat (instruction_of plan.now))) }
+    ensures value { Does (IsMemory plan.now.dest) (λ effect. effect) result (state.old.flat, left.old)
+        (state.new.flat, left.new) (charged left.old
+        (search_by method state.old.flat (instruction_of plan.now)).probes state.old.flat
+        (searches method state.old.flat (instruction_of plan.now))) }
     ensures done { IfOk result (EndsWithin left.old (search_by method state.old.flat (instruction_of plan.now)).probes) }
-    ensures affords { IfErr result (IsAfforded left.old (search_by method state.old.flat (instruction_of plan.now)).probes) }
+    ensures affords { IfErr result (IsAfforded left.old
+        (search_by method state.old.flat (instruction_of plan.now)).probes) }
     ensures story { state.new.flat.story ≡ state.old.flat.story }
 {
     let indexed = is_indexed(plan, method);

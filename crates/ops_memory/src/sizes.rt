@@ -57,7 +57,8 @@ pub fn grow_with<A: Allocator + Clone>(
     requires sp { IsHeight state.old.flat plan.now.sp }
     requires size { IsGrowth state.old.flat size }
     requires fits { store_fault (with_size state.old.flat size) 4 plan.now.dest plan.now.sp ≡ Ok tt }
-    ensures { Stores (IsMemory plan.now.dest ⊎ (length state.old.flat.memory < size)) result state.old state.new (settled (with_size state.old.flat size) plan.now.sp 4 plan.now.dest value) }
+    ensures { Stores (IsMemory plan.now.dest ⊎ (length state.old.flat.memory < size)) result state.old state.new
+        (settled (with_size state.old.flat size) plan.now.sp 4 plan.now.dest value) }
 {
     let before = state.memory().size();
     state.grow(size)?;
@@ -81,7 +82,8 @@ fn shrink_with<A: Allocator + Clone>(
     requires sp { IsHeight state.old.flat plan.now.sp }
     requires size { IsShrinking state.old.flat size }
     requires fits { store_fault (with_size state.old.flat size) 4 plan.now.dest plan.now.sp ≡ Ok tt }
-    ensures { Stores (IsMemory plan.now.dest) result state.old state.new (settled (with_size state.old.flat size) plan.now.sp 4 plan.now.dest value) }
+    ensures { Stores (IsMemory plan.now.dest) result state.old state.new
+        (settled (with_size state.old.flat size) plan.now.sp 4 plan.now.dest value) }
 {
     settle(state, plan.sp, &plan.dest, 4, value)?;
     state.shrink(size);
@@ -100,7 +102,8 @@ fn resize_with<A: Allocator + Clone>(
     requires size { IsSize size }
     requires endmem { state.old.flat.story.header.endmem ≤ size }
     requires heap { IsBelow size state.old.flat.heap }
-    ensures { Stores (IsMemory plan.now.dest ⊎ (length state.old.flat.memory < size)) result state.old state.new (settled (with_size state.old.flat size) plan.now.sp 4 plan.now.dest value) }
+    ensures { Stores (IsMemory plan.now.dest ⊎ (length state.old.flat.memory < size)) result state.old state.new
+        (settled (with_size state.old.flat size) plan.now.sp 4 plan.now.dest value) }
 {
     can_store_in(state, &plan.dest, plan.sp, size)?;
     if size < state.memory().size() {
@@ -114,7 +117,8 @@ fn resize_with<A: Allocator + Clone>(
 #[tactic(auto, unfolding(crate::specs::Rows::setmemsize), using(crate::proofs::Spaces::none_below))]
 pub fn setmemsize<A: Allocator + Clone>(state: &mut State<A>, plan: &Plan) -> Result<Effect, Fault>
     requires { IsHeight state.old.flat plan.now.sp }
-    ensures value { Works (IsSizeWriting state.old.flat (instruction_of plan.now)) result state.old.flat state.new.flat (setmemsize state.old.flat (instruction_of plan.now)) }
+    ensures value { Works (IsSizeWriting state.old.flat (instruction_of plan.now)) result state.old.flat state.new.flat
+        (setmemsize state.old.flat (instruction_of plan.now)) }
     ensures done { IfOk result IsDone }
 {
     let size = plan.load(0);

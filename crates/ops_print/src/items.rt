@@ -7,7 +7,8 @@ ghost use Rattle.gx_state.specs.declared.modes.Mode.TheVariants.{Printing as APr
 ghost use Rattle.gx_state.specs.Flat.{sp_of};
 ghost use Rattle.gx_state.specs.Relations.{Goes};
 ghost use Rattle.ops_print.specs.Rows.{IsPutAtMost};
-ghost use Rattle.ops_print.specs.Items.{function_called, character_printed, string_begun, reference_called, string_ended, is_place, printed, mode_after, is_put};
+ghost use Rattle.ops_print.specs.Items.{function_called, character_printed, string_begun, reference_called};
+ghost use Rattle.ops_print.specs.Items.{string_ended, is_place, printed, mode_after, is_put};
 
 use crate::arguments::arguments_in;
 use crate::stubs::{end_inner, resuming, to_code};
@@ -25,7 +26,8 @@ fn call_function<A: Allocator + Clone>(
     at: u32,
     args: &[u32],
 ) -> Result<Effect, Fault>
-    ensures value { Goes result state.old.flat state.new.flat (function_called state.old.flat started back.now at args.now) }
+    ensures value { Goes result state.old.flat state.new.flat
+        (function_called state.old.flat started back.now at args.now) }
     ensures asks { IfOk result (λ effect. IsPutAtMost effect (state.new.flat ≡ state.old.flat)) }
 {
     let sp = state.stack().size();
@@ -48,7 +50,8 @@ fn print_character<A: Allocator + Clone>(
     value: u32,
     next: &Printing,
 ) -> Result<Effect, Fault>
-    ensures value { Goes result state.old.flat state.new.flat (character_printed state.old.flat started value next.now) }
+    ensures value { Goes result state.old.flat state.new.flat
+        (character_printed state.old.flat started value next.now) }
     ensures asks { IfOk result (λ effect. IsPutAtMost effect (state.new.flat ≡ state.old.flat)) }
 {
     let (system, rock) = state.iosys();
@@ -95,7 +98,8 @@ fn call_reference<A: Allocator + Clone>(
     args_at: u32,
     count: u32,
 ) -> Result<Effect, Fault>
-    ensures value { Goes result state.old.flat state.new.flat (reference_called state.old.flat started back.now at args_at count) }
+    ensures value { Goes result state.old.flat state.new.flat
+        (reference_called state.old.flat started back.now at args_at count) }
     ensures asks { IfOk result (λ effect. IsPutAtMost effect (state.new.flat ≡ state.old.flat)) }
 {
     let args = arguments_in(state.memory(), args_at, count)?;
@@ -136,7 +140,8 @@ pub fn next_put<A: Allocator + Clone>(
 ) -> Option<(u32, u32, u32)>
     requires { state.now.flat.mode ≡ APrinting printing.now }
     ensures value { IfSome result (λ r. printed state.now.flat ≡ Ok (state.now.flat, Put r.0)) }
-    ensures mode { IfSome result (λ r. mode_after state.now.flat ≡ APrinting (record printing.now { at = r.1; bit = r.2 })) }
+    ensures mode { IfSome result (λ r. mode_after state.now.flat
+        ≡ APrinting (record printing.now { at = r.1; bit = r.2 })) }
     ensures none { result ≡ None → IfOk (printed state.now.flat) (λ r. is_put r.1 ≡ false) }
 {
     let (system, _) = state.iosys();

@@ -3,7 +3,8 @@ ghost use Rattle.std.specs.Prelude.{◌≡◌, Ok, IfOk};
 ghost use Rattle.gx_state.specs.Flat.{IsHeight};
 ghost use Rattle.gx_state.specs.Relations.{Goes};
 ghost use Rattle.gx_operands.specs.Plans.{instruction_of};
-ghost use Rattle.ops_print.specs.Rows.{character_streamed, printing_begun, streamchar, streamnum, streamstr, streamunichar, IsPutAtMost};
+ghost use Rattle.ops_print.specs.Rows.{character_streamed, printing_begun, streamchar, streamnum, streamstr};
+ghost use Rattle.ops_print.specs.Rows.{streamunichar, IsPutAtMost};
 
 use gx_operands::{Plan, goes};
 use gx_state::{Dest, Effect, Mode, State};
@@ -18,7 +19,8 @@ fn stream_character<A: Allocator + Clone>(
     value: u32,
 ) -> Result<Effect, Fault>
     requires { IsHeight state.old.flat plan.now.sp }
-    ensures value { Goes result state.old.flat state.new.flat (character_streamed state.old.flat (instruction_of plan.now) value) }
+    ensures value { Goes result state.old.flat state.new.flat
+        (character_streamed state.old.flat (instruction_of plan.now) value) }
     ensures asks { IfOk result (λ effect. IsPutAtMost effect (state.new.flat ≡ state.old.flat)) }
 {
     let (system, rock) = state.iosys();

@@ -4,11 +4,11 @@ use Rattle.gx_strings.specs.Bits.{bits}
 use Rattle.gx_strings.specs.Nodes.{walk}
 use Rattle.gx_strings.proofs.nodes.walk.Given as goal
 
-abbrev pub invariant-loop-place : goal.invariant-loop-place
-invariant-loop-place g l = record {
+abbrev pub invariant-bits : goal.invariant-bits
+invariant-bits g l = record {
   same : walk l.memory l.node l.used (drop (l.from + l.used) (bits l.memory)) ≡ walk l.memory l.root 0 (drop l.from (bits l.memory));
   bits : (l.used ≡ 0) ⊎ (l.from + l.used ≤ 8 * length l.memory);
 }
 
-abbrev pub decreases-loop-place : goal.decreases-loop-place
-decreases-loop-place g l = 8 * length l.memory - (l.from + l.used)
+abbrev pub decreases-bits : goal.decreases-bits
+decreases-bits g l = 8 * length l.memory - (l.from + l.used)

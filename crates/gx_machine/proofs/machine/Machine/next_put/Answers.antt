@@ -17,7 +17,7 @@ returns-clause-value g c =
     let some : 1 ≤ c.args.budget = omega (arith, c.if-budget-eq0.false) in
     subst (λ (x : Whole). IfSome c.next_put.result (λ n. (word : ℕ) → stepped x word c.args.budget ≡ Ok ((record { machine = record { flat = c.self.inside.state.flat; undo = c.self.inside.undo }; asking = option_map (λ (p : Pending). p.asking) c.next_put.new.pending }, c.args.budget - 1), Put n)))
     c.self.view_is
-    (puts_ok w c.args.budget c.next_put.new.pending c.next_put.result some c.next_put.ensures.live c.next_put.ensures.value c.next_put.ensures.printing c.next_put.ensures.asks)
+    (puts_ok w c.args.budget c.next_put.new.pending c.next_put.result some c.next_put.ensures.live c.next_put.ensures.value c.next_put.ensures.probes c.next_put.ensures.asks)
 
 pub returns-clause-rest : goal.returns-clause-rest
 returns-clause-rest g c =

@@ -6,7 +6,7 @@ use Rattle.gx_state.specs.Flat.{sp_of, frame_of}
 use Rattle.gx_machine.specs.declared.askings.Asking.TheVariants as asking
 use Rattle.gx_machine.specs.Views.{IsPending}
 use Rattle.gx_machine.proofs.Answers.{item_pends, printing_of}
-use Rattle.gx_machine.proofs.rows.next_put.Goals as goal
+use Rattle.gx_machine.proofs.rows.next_item.Goals as goal
 
 pub returns-clause-pends : goal.returns-clause-pends
 returns-clause-pends g c =
