@@ -1,7 +1,7 @@
 -- What a call asks, it goes on with: proved once over the rows that take turns.
-use Rattle.std.proofs.Common.{◌≡◌, ◌⊎◌, ◌==◌, ◌&&◌, ◌||◌, ℕ, Bool, true, false, if◌then◌else◌, List, [], ◌∷◌, length, Option, Some, None, Result, Ok, Err, refl, sym, subst, inl, inr, arith}
+use Rattle.std.proofs.Common.{◌≡◌, ◌⊎◌, ◌==◌, ℕ, Bool, true, false, if◌then◌else◌, List, [], ◌∷◌, length}
+use Rattle.std.proofs.Common.{Option, Some, None, Result, Ok, Err, refl, subst, inl, inr}
 use Rattle.std.specs.Prelude.{IfOk}
-use Rattle.std.proofs.lemmas.Bool.Decides.{nat_tests}
 use Rattle.gx_words.specs.Results.{◌>>=◌}
 use Rattle.gx_state.specs.Flat.{FlatState}
 use Rattle.gx_state.specs.declared.effects.Reply.{Reply}
@@ -10,7 +10,8 @@ use Rattle.glk_events.specs.declared.requests.Request.{Request}
 use Rattle.glk_events.specs.Requests.{oldest}
 use Rattle.gx_words.specs.declared.faults.Fault.{Fault}
 use Rattle.glk_world.specs.Shown.{show_prompt}
-use Rattle.glk_world.specs.World.{Scene, Said, FlatWorld, Calls, silent, after, on_world, Outcome, has_reference, waits, waiting_call, arg}
+use Rattle.glk_world.specs.World.{Scene, Said, FlatWorld, Calls, silent, after, on_world, Outcome, has_reference, waits}
+use Rattle.glk_world.specs.World.{arg}
 use Rattle.glk_replies.specs.Numbers as selectors
 use Rattle.glk_replies.specs.Parts.{replies, pushed, can_give, can_give_pair, fitting}
 use Rattle.glk_replies.specs.declared.Turn.{Turn}
@@ -20,212 +21,299 @@ use Rattle.glk_replies.specs.declared.Given.TheVariants as given
 use Rattle.glk_replies.specs.Turns.{IsGivenFor}
 use Rattle.glk_streams.specs.Constants.{write_mode}
 use Rattle.glk_object_calls.specs.Streams.{stream_close, closing_by, stored, close}
-use Rattle.glk_object_calls.specs.References.{stream_open_file, open_with, loads, file_name, fileref_create_by_prompt, fileref_delete_file, fileref_does_file_exist}
+use Rattle.glk_object_calls.specs.References.{stream_open_file, open_with, loads, file_name, fileref_create_by_prompt}
+use Rattle.glk_object_calls.specs.References.{fileref_delete_file, fileref_does_file_exist}
 use Rattle.glk_event_calls.specs.Events.{select, waits_for, no_event}
 use Rattle.glk_dispatch.specs.declared.table.Selector.{Selector}
-use Rattle.glk_dispatch.specs.Table.{Doing, answers, turns, Row, table, row_in, row_of, exits, window_calls, stream_calls, text_calls, event_calls, unicode_calls}
+use Rattle.glk_dispatch.specs.Table.{Doing, answers, turns, Row, table, row_in, row_of, exits, window_calls}
+use Rattle.glk_dispatch.specs.Table.{stream_calls, text_calls, event_calls, unicode_calls}
 use Rattle.glk_dispatch.specs.Calls.{looked, is_none, nothing, as_turn, done, dropping, call_of, call_by, glk_call}
 use Rattle.glk_dispatch.specs.Ready.{IsReady}
-use Rattle.glk_dispatch.specs.Turns.{HasRequest, IsAwaited, Awaits}
+use Rattle.glk_dispatch.specs.Turns.{HasRequest, Awaits, Looked}
 use Rattle.glk_dispatch.proofs.Ready.{ready_looks}
 use Rattle.glk_dispatch.proofs.Waiting.{stored_windowless}
 
--- what a turn asks for is what the call goes on with
-abbrev IsAsked : Said × Turn → Type 0
-IsAsked r = (g : Given) → IsGivenFor r.1 g → Awaits r.0.0 g
+-- of a state of the machine, and room for what is pushed
+module _ (f : FlatState) (room : ℕ) where
+  -- a call goes on with this, and has looked at all that it gives
+  abbrev IsReadyToGoOn : Scene → Given → Type 0
+  IsReadyToGoOn w g = Awaits w g × Looked f room w g
 
--- an answer asks for nothing
-answer_asks : (said : Said) (reply : Reply) → IsAsked (said, turn.Answer reply)
-answer_asks said reply g for = absurd for
+  -- what a turn asks for is what the call goes on with, and what it needs was looked at
+  abbrev IsAsked : Said × Turn → Type 0
+  IsAsked r = (g : Given) → IsGivenFor r.1 g → IsReadyToGoOn r.0.0 g
 
-answered_asks : (outcome : Outcome Reply) (r : Said × Turn) → as_turn outcome ≡ Ok r → IsAsked r
-answered_asks (Ok said) r is = let same : (said.0, turn.Answer said.1) ≡ r = (cc) in subst IsAsked same (answer_asks said.0 said.1)
-answered_asks (Err e) r is = absurd (cc)
+  -- an answer asks for nothing
+  answer_asks : (said : Said) (reply : Reply) → IsAsked (said, turn.Answer reply)
+  answer_asks said reply g for = absurd for
 
-abbrev Asks : (Scene → FlatState → ℕ → List ℕ → Outcome Turn) → Selector → Type 0
-Asks call looks = (w : Scene) (f : FlatState) (room : ℕ) (args : List ℕ) (r : Said × Turn) → IsReady looks w args → call w f room args ≡ Ok r → IsAsked r
+  answered_asks : (outcome : Outcome Reply) (r : Said × Turn) → as_turn outcome ≡ Ok r → IsAsked r
+  answered_asks (Ok said) r is = let same : (said.0, turn.Answer said.1) ≡ r = (cc) in
+      subst IsAsked same (answer_asks said.0 said.1)
+  answered_asks (Err e) r is = absurd (cc)
 
--- ---- the calls that take turns
+  abbrev Asks : (Scene → FlatState → ℕ → List ℕ → Outcome Turn) → Selector → Type 0
+  Asks call looks =
+      (w : Scene) (args : List ℕ) (r : Said × Turn) → IsReady looks w args → call w f room args ≡ Ok r → IsAsked r
 
-exits_asks : (w : Scene) (args : List ℕ) (r : Said × Turn) → exits w args ≡ Ok r → IsAsked r
-exits_asks w args r is = let same : (silent w, turn.Exit) ≡ r = (cc) in subst IsAsked same (λ g for. absurd for)
+  -- ---- the calls that take turns
 
-load_asked : (w : Scene) (selector : ℕ) (args name : List ℕ) → (selector ≡ selectors.stream_open_file) ⊎ (selector ≡ selectors.stream_open_file_uni) → has_reference w (arg args 0) ≡ true → loads (arg args 1) ≡ true → IsAsked (silent (waits w selector args), turn.Load name)
-unfolding Awaits
-load_asked w selector args name opens there mode (given.Line line) for = absurd for
-load_asked w selector args name opens there mode (given.Loaded load) for = (opens, there, mode, for)
-load_asked w selector args name opens there mode given.Stored for = absurd for
-load_asked w selector args name opens there mode (given.Was was) for = absurd for
+  exits_asks : (w : Scene) (args : List ℕ) (r : Said × Turn) → exits w args ≡ Ok r → IsAsked r
+  exits_asks w args r is = let same : (silent w, turn.Exit) ≡ r = (cc) in subst IsAsked same (λ g for. absurd for)
 
--- an answer that may be refused
-then_answers : (outcome : Outcome Reply) (r : Said × Turn) → (outcome >>= λ done. Ok (done.0, turn.Answer done.1)) ≡ Ok r → IsAsked r
-then_answers (Ok done) r is =
-    let same : (done.0, turn.Answer done.1) ≡ r = (cc) in subst IsAsked same (answer_asks done.0 done.1)
-then_answers (Err e) r is = absurd (cc)
+  load_asked : (w : Scene) (selector : ℕ) (args name : List ℕ)
+      → (selector ≡ selectors.stream_open_file) ⊎ (selector ≡ selectors.stream_open_file_uni)
+      → has_reference w (arg args 0) ≡ true → loads (arg args 1) ≡ true
+      → IsAsked (silent (waits w selector args), turn.Load name)
+  unfolding Awaits Looked
+  load_asked w selector args name opens there mode (given.Line line) for = absurd for
+  load_asked w selector args name opens there mode (given.Loaded load) for = ((opens, there, mode, for), tt)
+  load_asked w selector args name opens there mode given.Stored for = absurd for
+  load_asked w selector args name opens there mode (given.Was was) for = absurd for
 
--- an asking behind a look
-then_asks : (look : Result (Unit {0}) Fault) (asked r : Said × Turn) → IsAsked asked → (look >>= λ _. Ok asked) ≡ Ok r → IsAsked r
-then_asks (Ok _) asked r asks is = let same : asked ≡ r = (cc) in subst IsAsked same asks
-then_asks (Err e) asked r asks is = absurd (cc)
+  -- an answer that may be refused
+  then_answers : (outcome : Outcome Reply) (r : Said × Turn)
+      → (outcome >>= λ done. Ok (done.0, turn.Answer done.1)) ≡ Ok r → IsAsked r
+  then_answers (Ok done) r is =
+      let same : (done.0, turn.Answer done.1) ≡ r = (cc) in subst IsAsked same (answer_asks done.0 done.1)
+  then_answers (Err e) r is = absurd (cc)
 
-by_mode : (writes loading : Bool) (opened : Outcome Reply) (asked : Said × Turn) (w : Scene) (reply : Reply) (r : Said × Turn) → (loading ≡ true → IsAsked asked) → (if writes then (opened >>= λ done. Ok (done.0, turn.Answer done.1)) else if loading then Ok asked else Ok (silent w, turn.Answer reply)) ≡ Ok r → IsAsked r
-by_mode true loading opened asked w reply r asks is = then_answers opened r is
-by_mode false true opened asked w reply r asks is = let same : asked ≡ r = (cc) in subst IsAsked same (asks refl)
-by_mode false false opened asked w reply r asks is =
-    let same : (silent w, turn.Answer reply) ≡ r = (cc) in subst IsAsked same (answer_asks (silent w) reply)
+  -- an asking behind a look
+  then_asks : (look : Result (Unit {0}) Fault) (asked r : Said × Turn) → IsAsked asked → (look >>= λ _. Ok asked) ≡ Ok r
+      → IsAsked r
+  then_asks (Ok _) asked r asks is = let same : asked ≡ r = (cc) in subst IsAsked same asks
+  then_asks (Err e) asked r asks is = absurd (cc)
 
-open_asks : (w : Scene) (selector : ℕ) (args : List ℕ) (r : Said × Turn) → (selector ≡ selectors.stream_open_file) ⊎ (selector ≡ selectors.stream_open_file_uni) → has_reference w (arg args 0) ≡ true → stream_open_file w selector args ≡ Ok r → IsAsked r
-unfolding stream_open_file
-open_asks w selector args r opens there is =
-    by_mode (arg args 1 == write_mode) (loads (arg args 1)) (open_with w selector args []) (silent (waits w selector args), turn.Load (file_name w (arg args 0))) w (replies 0) r (λ mode. load_asked w selector args (file_name w (arg args 0)) opens there mode) is
+  -- the same, where what is asked rests on the look
+  looked_asks : (look : Result (Unit {0}) Fault) (asked r : Said × Turn) → (look ≡ Ok tt → IsAsked asked)
+      → (look >>= λ _. Ok asked) ≡ Ok r → IsAsked r
+  looked_asks (Ok _) asked r asks is = let same : asked ≡ r = (cc) in subst IsAsked same (asks refl)
+  looked_asks (Err e) asked r asks is = absurd (cc)
 
-store_asked : (w : Scene) (args : List ℕ) (file : List ℕ × List ℕ) → streams.has w.streams (arg args 0) ≡ true → stored w (arg args 0) ≡ Some file → IsAsked (silent (waits w selectors.stream_close args), turn.Store file.0 file.1)
-unfolding Awaits
-store_asked w args file there is (given.Line line) for = absurd for
-store_asked w args file there is (given.Loaded load) for = absurd for
-store_asked w args file there is given.Stored for = (refl, there, stored_windowless w (arg args 0) file is)
-store_asked w args file there is (given.Was was) for = absurd for
+  by_mode : (writes loading : Bool) (opened : Outcome Reply) (asked : Said × Turn) (w : Scene) (reply : Reply)
+      (r : Said × Turn) → (loading ≡ true → IsAsked asked)
+      → (if writes then (opened >>= λ done. Ok (done.0, turn.Answer done.1)) else if loading then Ok asked
+      else Ok (silent w, turn.Answer reply)) ≡ Ok r → IsAsked r
+  by_mode true loading opened asked w reply r asks is = then_answers opened r is
+  by_mode false true opened asked w reply r asks is = let same : asked ≡ r = (cc) in subst IsAsked same (asks refl)
+  by_mode false false opened asked w reply r asks is =
+      let same : (silent w, turn.Answer reply) ≡ r = (cc) in subst IsAsked same (answer_asks (silent w) reply)
 
-closing_asks : (file : Option (List ℕ × List ℕ)) (w : Scene) (f : FlatState) (room : ℕ) (args : List ℕ) (r : Said × Turn) → streams.has w.streams (arg args 0) ≡ true → stored w (arg args 0) ≡ file → closing_by file w f room args ≡ Ok r → IsAsked r
-closing_asks None w f room args r there same is = then_answers (close w f room args) r is
-closing_asks (Some file) w f room args r there same is =
-    then_asks (can_give_pair f room (arg args 1)) (silent (waits w selectors.stream_close args), turn.Store file.0 file.1) r (store_asked w args file there same) is
+  open_asks : (w : Scene) (selector : ℕ) (args : List ℕ) (r : Said × Turn)
+      → (selector ≡ selectors.stream_open_file) ⊎ (selector ≡ selectors.stream_open_file_uni)
+      → has_reference w (arg args 0) ≡ true → stream_open_file w selector args ≡ Ok r → IsAsked r
+  unfolding stream_open_file
+  open_asks w selector args r opens there is =
+      by_mode (arg args 1 == write_mode) (loads (arg args 1)) (open_with w selector args [])
+      (silent (waits w selector args), turn.Load (file_name w (arg args 0))) w (replies 0) r
+      (λ mode. load_asked w selector args (file_name w (arg args 0)) opens there mode) is
 
-close_asks : (w : Scene) (f : FlatState) (room : ℕ) (args : List ℕ) (r : Said × Turn) → streams.has w.streams (arg args 0) ≡ true → stream_close w f room args ≡ Ok r → IsAsked r
-unfolding stream_close
-close_asks w f room args r there is = closing_asks (stored w (arg args 0)) w f room args r there refl is
+  store_asked : (w : Scene) (args : List ℕ) (file : List ℕ × List ℕ) → can_give_pair f room (arg args 1) ≡ Ok tt
+      → streams.has w.streams (arg args 0) ≡ true → stored w (arg args 0) ≡ Some file
+      → IsAsked (silent (waits w selectors.stream_close args), turn.Store file.0 file.1)
+  unfolding Awaits Looked
+  store_asked w args file looks there is (given.Line line) for = absurd for
+  store_asked w args file looks there is (given.Loaded load) for = absurd for
+  store_asked w args file looks there is given.Stored for =
+      ((refl, there, stored_windowless w (arg args 0) file is), looks)
+  store_asked w args file looks there is (given.Was was) for = absurd for
 
-prompt_asked : (w : Scene) (args text : List ℕ) → IsAsked ((waits w selectors.fileref_create_by_prompt args, text), turn.Prompt)
-unfolding Awaits
-prompt_asked w args text (given.Line line) for = inr refl
-prompt_asked w args text (given.Loaded load) for = absurd for
-prompt_asked w args text given.Stored for = absurd for
-prompt_asked w args text (given.Was was) for = absurd for
+  closing_asks : (file : Option (List ℕ × List ℕ)) (w : Scene) (args : List ℕ) (r : Said × Turn)
+      → streams.has w.streams (arg args 0) ≡ true → stored w (arg args 0) ≡ file → closing_by file w f room args ≡ Ok r
+      → IsAsked r
+  closing_asks None w args r there same is = then_answers (close w f room args) r is
+  closing_asks (Some file) w args r there same is = looked_asks (can_give_pair f room (arg args 1))
+      (silent (waits w selectors.stream_close args), turn.Store file.0 file.1) r
+      (λ looks. store_asked w args file looks there same) is
 
-prompt_asks : (w : Scene) (args : List ℕ) (r : Said × Turn) → fileref_create_by_prompt w args ≡ Ok r → IsAsked r
-unfolding fileref_create_by_prompt
-prompt_asks w args r is =
-    let shown : Said = show_prompt w in
-    let same : ((waits shown.0 selectors.fileref_create_by_prompt args, shown.1), turn.Prompt) ≡ r = (cc) in
-    subst IsAsked same (prompt_asked shown.0 args shown.1)
+  close_asks : (w : Scene) (args : List ℕ) (r : Said × Turn) → streams.has w.streams (arg args 0) ≡ true
+      → stream_close w f room args ≡ Ok r → IsAsked r
+  unfolding stream_close
+  close_asks w args r there is = closing_asks (stored w (arg args 0)) w args r there refl is
 
-remove_asked : (w : Scene) (args name : List ℕ) → IsAsked (silent (waits w selectors.fileref_delete_file args), turn.Remove name)
-unfolding Awaits
-remove_asked w args name (given.Line line) for = absurd for
-remove_asked w args name (given.Loaded load) for = absurd for
-remove_asked w args name given.Stored for = absurd for
-remove_asked w args name (given.Was was) for = inl refl
+  prompt_asked : (w : Scene) (args text : List ℕ)
+      → IsAsked ((waits w selectors.fileref_create_by_prompt args, text), turn.Prompt)
+  unfolding Awaits Looked
+  prompt_asked w args text (given.Line line) for = (inr refl, tt)
+  prompt_asked w args text (given.Loaded load) for = absurd for
+  prompt_asked w args text given.Stored for = absurd for
+  prompt_asked w args text (given.Was was) for = absurd for
 
-delete_asks : (w : Scene) (args : List ℕ) (r : Said × Turn) → fileref_delete_file w args ≡ Ok r → IsAsked r
-unfolding fileref_delete_file
-delete_asks w args r is =
-    let name : List ℕ = file_name w (arg args 0) in
-    let same : (silent (waits w selectors.fileref_delete_file args), turn.Remove name) ≡ r = (cc) in
-    subst IsAsked same (remove_asked w args name)
+  prompt_asks : (w : Scene) (args : List ℕ) (r : Said × Turn) → fileref_create_by_prompt w args ≡ Ok r → IsAsked r
+  unfolding fileref_create_by_prompt
+  prompt_asks w args r is =
+      let shown : Said = show_prompt w in
+      let same : ((waits shown.0 selectors.fileref_create_by_prompt args, shown.1), turn.Prompt) ≡ r = (cc) in
+      subst IsAsked same (prompt_asked shown.0 args shown.1)
 
-has_asked : (w : Scene) (args name : List ℕ) → IsAsked (silent (waits w selectors.fileref_does_file_exist args), turn.Has name)
-unfolding Awaits
-has_asked w args name (given.Line line) for = absurd for
-has_asked w args name (given.Loaded load) for = absurd for
-has_asked w args name given.Stored for = absurd for
-has_asked w args name (given.Was was) for = inr refl
+  remove_asked : (w : Scene) (args name : List ℕ)
+      → IsAsked (silent (waits w selectors.fileref_delete_file args), turn.Remove name)
+  unfolding Awaits Looked
+  remove_asked w args name (given.Line line) for = absurd for
+  remove_asked w args name (given.Loaded load) for = absurd for
+  remove_asked w args name given.Stored for = absurd for
+  remove_asked w args name (given.Was was) for = (inl refl, tt)
 
-exist_asks : (w : Scene) (args : List ℕ) (r : Said × Turn) → fileref_does_file_exist w args ≡ Ok r → IsAsked r
-unfolding fileref_does_file_exist
-exist_asks w args r is =
-    let name : List ℕ = file_name w (arg args 0) in
-    let same : (silent (waits w selectors.fileref_does_file_exist args), turn.Has name) ≡ r = (cc) in
-    subst IsAsked same (has_asked w args name)
+  delete_asks : (w : Scene) (args : List ℕ) (r : Said × Turn) → fileref_delete_file w args ≡ Ok r → IsAsked r
+  unfolding fileref_delete_file
+  delete_asks w args r is =
+      let name : List ℕ = file_name w (arg args 0) in
+      let same : (silent (waits w selectors.fileref_delete_file args), turn.Remove name) ≡ r = (cc) in
+      subst IsAsked same (remove_asked w args name)
 
-has_request : (all : List Request) (r : Request) → oldest all ≡ Some r → HasRequest all
-has_request [] r is = absurd (cc)
-has_request (first ∷ all) r is = tt
+  has_asked : (w : Scene) (args name : List ℕ)
+      → IsAsked (silent (waits w selectors.fileref_does_file_exist args), turn.Has name)
+  unfolding Awaits Looked
+  has_asked w args name (given.Line line) for = absurd for
+  has_asked w args name (given.Loaded load) for = absurd for
+  has_asked w args name given.Stored for = absurd for
+  has_asked w args name (given.Was was) for = (inr refl, tt)
 
-event_asked : (w : Scene) (args : List ℕ) → HasRequest w.requests → IsAsked (silent (waits w selectors.select args), turn.Wait)
-unfolding Awaits
-event_asked w args has (given.Line line) for = inl (refl, has)
-event_asked w args has (given.Loaded load) for = absurd for
-event_asked w args has given.Stored for = absurd for
-event_asked w args has (given.Was was) for = absurd for
+  exist_asks : (w : Scene) (args : List ℕ) (r : Said × Turn) → fileref_does_file_exist w args ≡ Ok r → IsAsked r
+  unfolding fileref_does_file_exist
+  exist_asks w args r is =
+      let name : List ℕ = file_name w (arg args 0) in
+      let same : (silent (waits w selectors.fileref_does_file_exist args), turn.Has name) ≡ r = (cc) in
+      subst IsAsked same (has_asked w args name)
 
-wait_asked : (w : Scene) (args : List ℕ) (found : Option Request) → oldest w.requests ≡ found → IsAsked (waits_for w args found)
-wait_asked w args None is = λ g for. absurd for
-wait_asked w args (Some r) is = event_asked w args (has_request w.requests r is)
+  has_request : (all : List Request) (r : Request) → oldest all ≡ Some r → HasRequest all
+  has_request [] r is = absurd (cc)
+  has_request (first ∷ all) r is = tt
 
-looks_asks : (first second : Result (Unit {0}) Fault) (asked r : Said × Turn) → IsAsked asked → (first >>= λ _. (second >>= λ _. Ok asked)) ≡ Ok r → IsAsked r
-looks_asks (Ok _) second asked r asks is = then_asks second asked r asks is
-looks_asks (Err e) second asked r asks is = absurd (cc)
+  event_asked : (w : Scene) (args : List ℕ) → HasRequest w.requests
+      → IsAsked (silent (waits w selectors.select args), turn.Wait)
+  unfolding Awaits Looked
+  event_asked w args has (given.Line line) for = (inl (refl, has), tt)
+  event_asked w args has (given.Loaded load) for = absurd for
+  event_asked w args has given.Stored for = absurd for
+  event_asked w args has (given.Was was) for = absurd for
 
-select_asks : (w : Scene) (f : FlatState) (room : ℕ) (args : List ℕ) (r : Said × Turn) → select w f room args ≡ Ok r → IsAsked r
-unfolding select
-select_asks w f room args r is =
-    looks_asks (can_give f (arg args 0) 4) (fitting room (length (pushed (arg args 0) no_event))) (waits_for w args (oldest w.requests)) r (wait_asked w args (oldest w.requests) refl) is
+  wait_asked : (w : Scene) (args : List ℕ) (found : Option Request) → oldest w.requests ≡ found
+      → IsAsked (waits_for w args found)
+  wait_asked w args None is = λ g for. absurd for
+  wait_asked w args (Some r) is = event_asked w args (has_request w.requests r is)
 
--- ---- over the table
+  looks_asks : (first second : Result (Unit {0}) Fault) (asked r : Said × Turn) → IsAsked asked
+      → (first >>= λ _. (second >>= λ _. Ok asked)) ≡ Ok r → IsAsked r
+  looks_asks (Ok _) second asked r asks is = then_asks second asked r asks is
+  looks_asks (Err e) second asked r asks is = absurd (cc)
 
--- of a row that takes turns, beside those of the others
-abbrev AskAnd : Doing → Selector → Type 0 → Type 0
-AskAnd (answers call) looks rest = rest
-AskAnd (turns call) looks rest = Asks call looks × rest
+  select_asks : (w : Scene) (args : List ℕ) (r : Said × Turn) → select w f room args ≡ Ok r → IsAsked r
+  unfolding select
+  select_asks w args r is =
+      looks_asks (can_give f (arg args 0) 4) (fitting room (length (pushed (arg args 0) no_event)))
+      (waits_for w args (oldest w.requests)) r (wait_asked w args (oldest w.requests) refl) is
 
-abbrev AllAsk : List Row → Type 0
-AllAsk [] = Unit {0}
-AllAsk (row ∷ rows) = AskAnd row.does row.looks (AllAsk rows)
+  -- ---- over the table
 
-table_asks : AllAsk table
-unfolding window_calls stream_calls text_calls event_calls unicode_calls
-table_asks = ((λ w f room args r ready is. exits_asks w args r is), ((λ w f room args r ready is. open_asks w selectors.stream_open_file args r (inl refl) ready.0 is), ((λ w f room args r ready is. close_asks w f room args r ready.0 is), ((λ w f room args r ready is. prompt_asks w args r is), ((λ w f room args r ready is. delete_asks w args r is), ((λ w f room args r ready is. exist_asks w args r is), ((λ w f room args r ready is. select_asks w f room args r is), ((λ w f room args r ready is. open_asks w selectors.stream_open_file_uni args r (inr refl) ready.0 is), tt))))))))
+  -- of a row that takes turns, beside those of the others
+  abbrev AskAnd : Doing → Selector → Type 0 → Type 0
+  AskAnd (answers call) looks rest = rest
+  AskAnd (turns call) looks rest = Asks call looks × rest
 
-first_asks : (does : Doing) (looks : Selector) (rest : Type 0) → AskAnd does looks rest → Asks (done does) looks
-first_asks (answers call) looks rest all = λ w f room args r ready is. answered_asks (call w f room args) r is
-first_asks (turns call) looks rest all = all.0
+  abbrev AllAsk : List Row → Type 0
+  AllAsk [] = Unit {0}
+  AllAsk (row ∷ rows) = AskAnd row.does row.looks (AllAsk rows)
 
-rest_ask : (does : Doing) (looks : Selector) (rest : Type 0) → AskAnd does looks rest → rest
-rest_ask (answers call) looks rest all = all
-rest_ask (turns call) looks rest all = all.1
+  table_asks : AllAsk table
+  unfolding window_calls stream_calls text_calls event_calls unicode_calls
+  table_asks = (
+    (λ w args r ready is. exits_asks w args r is),
+    (
+      (λ w args r ready is. open_asks w selectors.stream_open_file args r (inl refl) ready.0 is),
+      (
+        (λ w args r ready is. close_asks w args r ready.0 is),
+        (
+          (λ w args r ready is. prompt_asks w args r is),
+          (
+            (λ w args r ready is. delete_asks w args r is),
+            (
+              (λ w args r ready is. exist_asks w args r is),
+              (
+                (λ w args r ready is. select_asks w args r is),
+                ((λ w args r ready is. open_asks w selectors.stream_open_file_uni args r (inr refl) ready.0 is), tt),
+              ),
+            ),
+          ),
+        ),
+      ),
+    ),
+  )
 
-row_asks : (number : ℕ) (rows : List Row) (row : Row) → AllAsk rows → row_in rows number ≡ Some row → Asks (done row.does) row.looks
-row_asks number [] row all is = absurd (cc)
-row_asks number (one ∷ rows) row all is =
-    elim (one.looks.number == number) as (λ b. (if b then Some one else row_in rows number) ≡ Some row → Asks (done row.does) row.looks) [
-      | true ↦ λ h. let same : one ≡ row = (cc) in subst (λ x. Asks (done x.does) x.looks) same (first_asks one.does one.looks (AllAsk rows) all)
-      | false ↦ λ h. row_asks number rows row (rest_ask one.does one.looks (AllAsk rows) all) h
-    ] is
+  first_asks : (does : Doing) (looks : Selector) (rest : Type 0) → AskAnd does looks rest → Asks (done does) looks
+  first_asks (answers call) looks rest all = λ w args r ready is. answered_asks (call w f room args) r is
+  first_asks (turns call) looks rest all = all.0
 
--- ---- of the call
+  rest_ask : (does : Doing) (looks : Selector) (rest : Type 0) → AskAnd does looks rest → rest
+  rest_ask (answers call) looks rest all = all
+  rest_ask (turns call) looks rest all = all.1
 
-on_none : (none : Bool) (w : Scene) (f : FlatState) (room : ℕ) (row : Row) (args : List ℕ) (r : Said × Turn) → is_none row.looks args ≡ none → looked w row.looks args ≡ Ok tt → Asks (done row.does) row.looks → (if none then as_turn (nothing w f room row.looks args) else done row.does w f room args) ≡ Ok r → IsAsked r
-on_none true w f room row args r same ok asks is = answered_asks (nothing w f room row.looks args) r is
-on_none false w f room row args r same ok asks is = asks w f room args r (ready_looks w row.looks args ok same) is
+  row_asks : (number : ℕ) (rows : List Row) (row : Row) → AllAsk rows → row_in rows number ≡ Some row
+      → Asks (done row.does) row.looks
+  row_asks number [] row all is = absurd (cc)
+  row_asks number (one ∷ rows) row all is = elim (one.looks.number == number) as
+      (λ b. (if b then Some one else row_in rows number) ≡ Some row → Asks (done row.does) row.looks) [
+        | true ↦ λ h. let same : one ≡ row = (cc) in
+            subst (λ x. Asks (done x.does) x.looks) same (first_asks one.does one.looks (AllAsk rows) all)
+        | false ↦ λ h. row_asks number rows row (rest_ask one.does one.looks (AllAsk rows) all) h
+      ] is
 
-on_looks : (look : Result (Unit {0}) Fault) (w : Scene) (f : FlatState) (room : ℕ) (row : Row) (args : List ℕ) (r : Said × Turn) → looked w row.looks args ≡ look → Asks (done row.does) row.looks → (look >>= λ _. call_of row w f room args) ≡ Ok r → IsAsked r
-on_looks (Ok _) w f room row args r same asks is = on_none (is_none row.looks args) w f room row args r refl same asks is
-on_looks (Err e) w f room row args r same asks is = absurd (cc)
+  -- ---- of the call
 
-then_dropped : (dropped : Result Reply Fault) (w : Scene) (r : Said × Turn) → (dropped >>= λ reply. Ok (silent w, turn.Answer reply)) ≡ Ok r → IsAsked r
-then_dropped (Ok reply) w r is =
-    let same : (silent w, turn.Answer reply) ≡ r = (cc) in subst IsAsked same (answer_asks (silent w) reply)
-then_dropped (Err e) w r is = absurd (cc)
+  on_none : (none : Bool) (w : Scene) (row : Row) (args : List ℕ) (r : Said × Turn) → is_none row.looks args ≡ none
+      → looked w row.looks args ≡ Ok tt → Asks (done row.does) row.looks
+      → (if none then as_turn (nothing w f room row.looks args) else done row.does w f room args) ≡ Ok r → IsAsked r
+  on_none true w row args r same ok asks is = answered_asks (nothing w f room row.looks args) r is
+  on_none false w row args r same ok asks is = asks w args r (ready_looks w row.looks args ok same) is
 
-found_asks : (found : Option Row) (w : Scene) (f : FlatState) (room selector : ℕ) (args : List ℕ) (r : Said × Turn) → row_in table selector ≡ found → call_by found w f room selector args ≡ Ok r → IsAsked r
-found_asks None w f room selector args r same is = then_dropped (dropping selector) w r is
-found_asks (Some row) w f room selector args r same is =
-    on_looks (looked w row.looks args) w f room row args r refl (row_asks selector table row table_asks same) is
+  on_looks : (look : Result (Unit {0}) Fault) (w : Scene) (row : Row) (args : List ℕ) (r : Said × Turn)
+      → looked w row.looks args ≡ look → Asks (done row.does) row.looks
+      → (look >>= λ _. call_of row w f room args) ≡ Ok r → IsAsked r
+  on_looks (Ok _) w row args r same asks is = on_none (is_none row.looks args) w row args r refl same asks is
+  on_looks (Err e) w row args r same asks is = absurd (cc)
 
-call_asks : (w : Scene) (f : FlatState) (room selector : ℕ) (args : List ℕ) (r : Said × Turn) → glk_call w f room selector args ≡ Ok r → IsAsked r
-unfolding glk_call row_of
-call_asks w f room selector args r is = found_asks (row_in table selector) w f room selector args r refl is
+  then_dropped : (dropped : Result Reply Fault) (w : Scene) (r : Said × Turn)
+      → (dropped >>= λ reply. Ok (silent w, turn.Answer reply)) ≡ Ok r → IsAsked r
+  then_dropped (Ok reply) w r is =
+      let same : (silent w, turn.Answer reply) ≡ r = (cc) in subst IsAsked same (answer_asks (silent w) reply)
+  then_dropped (Err e) w r is = absurd (cc)
 
-world_asks : (old new : FlatWorld) (asked : Turn) (outcome : Outcome Turn) → ((r : Said × Turn) → outcome ≡ Ok r → IsAsked r) → on_world old outcome ≡ Ok (new, asked) → (g : Given) → IsGivenFor asked g → Awaits new.scene g
-world_asks old new asked (Ok r) asks is =
-    let same : (after old r.0, r.1) ≡ (new, asked) = (cc) in
-    subst (λ (x : FlatWorld × Turn). (g : Given) → IsGivenFor x.1 g → Awaits x.0.scene g) same (asks r refl)
-world_asks old new asked (Err e) asks is = absurd (cc)
+  found_asks : (found : Option Row) (w : Scene) (selector : ℕ) (args : List ℕ) (r : Said × Turn)
+      → row_in table selector ≡ found → call_by found w f room selector args ≡ Ok r → IsAsked r
+  found_asks None w selector args r same is = then_dropped (dropping selector) w r is
+  found_asks (Some row) w selector args r same is =
+      on_looks (looked w row.looks args) w row args r refl (row_asks selector table row table_asks same) is
 
-asks_for : (old new : FlatWorld) (f : FlatState) (room selector : ℕ) (args : List ℕ) (asked : Turn) → on_world old (glk_call old.scene f room selector args) ≡ Ok (new, asked) → (g : Given) → IsGivenFor asked g → Awaits new.scene g
-asks_for old new f room selector args asked is = world_asks old new asked (glk_call old.scene f room selector args) (call_asks old.scene f room selector args) is
+  call_asks : (w : Scene) (selector : ℕ) (args : List ℕ) (r : Said × Turn) → glk_call w f room selector args ≡ Ok r
+      → IsAsked r
+  unfolding glk_call row_of
+  call_asks w selector args r is = found_asks (row_in table selector) w selector args r refl is
 
--- what a call answers asks for what the world waits for
-pub turn_asks : (wants : Type 0) (result : Result Turn Fault) (old new : FlatWorld) (f : FlatState) (room selector : ℕ) (args : List ℕ) → Calls wants result old new (glk_call old.scene f room selector args) → IfOk result (λ asked. (g : Given) → IsGivenFor asked g → Awaits new.scene g)
-turn_asks wants (Ok asked) old new f room selector args is = asks_for old new f room selector args asked is
+  world_asks : (old new : FlatWorld) (asked : Turn) (outcome : Outcome Turn)
+      → ((r : Said × Turn) → outcome ≡ Ok r → IsAsked r) → on_world old outcome ≡ Ok (new, asked) → (g : Given)
+      → IsGivenFor asked g → IsReadyToGoOn new.scene g
+  world_asks old new asked (Ok r) asks is =
+      let same : (after old r.0, r.1) ≡ (new, asked) = (cc) in
+      subst (λ (x : FlatWorld × Turn). (g : Given) → IsGivenFor x.1 g → IsReadyToGoOn x.0.scene g) same (asks r refl)
+  world_asks old new asked (Err e) asks is = absurd (cc)
+
+  asks_for : (old new : FlatWorld) (selector : ℕ) (args : List ℕ) (asked : Turn)
+      → on_world old (glk_call old.scene f room selector args) ≡ Ok (new, asked) → (g : Given) → IsGivenFor asked g
+      → IsReadyToGoOn new.scene g
+  asks_for old new selector args asked is =
+      world_asks old new asked (glk_call old.scene f room selector args) (call_asks old.scene selector args) is
+
+-- what a call answers asks for what the world waits for, and the looks for that were made
+pub turn_asks : (wants : Type 0) (result : Result Turn Fault) (old new : FlatWorld) (f : FlatState) (room selector : ℕ)
+    (args : List ℕ) → Calls wants result old new (glk_call old.scene f room selector args)
+    → IfOk result (λ asked. (g : Given) → IsGivenFor asked g → Awaits new.scene g)
+turn_asks wants (Ok asked) old new f room selector args is =
+    λ g for. (asks_for f room old new selector args asked is g for).0
 turn_asks wants (Err e) old new f room selector args is = tt
+
+pub turn_looks : (wants : Type 0) (result : Result Turn Fault) (old new : FlatWorld) (f : FlatState) (room selector : ℕ)
+    (args : List ℕ) → Calls wants result old new (glk_call old.scene f room selector args)
+    → IfOk result (λ asked. (g : Given) → IsGivenFor asked g → Looked f room new.scene g)
+turn_looks wants (Ok asked) old new f room selector args is =
+    λ g for. (asks_for f room old new selector args asked is g for).1
+turn_looks wants (Err e) old new f room selector args is = tt

@@ -1,13 +1,15 @@
 -- What a call that waits goes on with stays the same while grids, lines and the screen are shown: that changes only
 -- what was shown last, and whether something was shown since the last line feed.
-use Rattle.std.proofs.Common.{◌≡◌, ℕ, ◌==◌, Bool, true, false, if◌then◌else◌, List, [], ◌∷◌, ◌++◌, length, map, codes, Option, Some, refl, sym, subst, ap, ◌∙◌}
+use Rattle.std.proofs.Common.{◌≡◌, ℕ, ◌==◌, Bool, true, false, if◌then◌else◌, List, [], ◌∷◌, ◌++◌, length, map, codes}
+use Rattle.std.proofs.Common.{Option, Some, refl, sym, subst, ap, ◌∙◌}
 use Rattle.std.specs.Str.{encode_utf8_all}
 use Rattle.gx_words.specs.Constants.{line_feed}
 use Rattle.glk_text.specs.Characters.{shown}
 use Rattle.glk_world.specs.declared.views.View.{View}
 use Rattle.glk_world.specs.declared.views.View.TheVariants as view
 use Rattle.glk_world.specs.World.{Scene, Said, silent, is_composed}
-use Rattle.glk_world.specs.Shown.{said_row, said_rows, said_grid, said_grids, show_rows, screen_of, show_screen, shown_in, show_grids, show_line, same_rows, last_rows, shown_grid, on_a_new_line}
+use Rattle.glk_world.specs.Shown.{said_row, said_rows, said_grid, said_grids, show_rows, screen_of, show_screen}
+use Rattle.glk_world.specs.Shown.{shown_in, show_grids, show_line, same_rows, last_rows, shown_grid, on_a_new_line}
 use Rattle.glk_world.specs.declared.grids.ShownGrid.{ShownGrid}
 use Rattle.glk_replies.specs.declared.Given.{Given}
 use Rattle.glk_replies.specs.declared.Given.TheVariants as given
@@ -23,7 +25,12 @@ IsShown w v = v ≡ with_mark w v.fresh
 row_shown : (w : Scene) (row : List ℕ) → IsShown w (said_row w row).0
 unfolding said_row
 row_shown w row =
-    elim (length row == 0) as (λ none. let v : Said = if none then silent w else (record w { fresh = true }, on_a_new_line w ++ (codes "| " ++ (encode_utf8_all (map shown row) ++ line_feed ∷ []))) in IsShown w v.0) [
+    elim (length row == 0) as
+    (λ none. let v : Said = if none then silent w
+    else (
+      record w { fresh = true },
+      on_a_new_line w ++ (codes "| " ++ (encode_utf8_all (map shown row) ++ line_feed ∷ [])),
+    ) in IsShown w v.0) [
       | true ↦ refl
       | false ↦ refl
     ]
@@ -35,12 +42,15 @@ both_shown w v u first more = more ∙ ap (λ (x : Scene). with_mark x u.fresh) 
 rows_shown : (w : Scene) (rows : List (List ℕ)) → IsShown w (said_rows w rows).0
 unfolding said_rows
 rows_shown w [] = refl
-rows_shown w (row ∷ rows) = both_shown w (said_row w row).0 (said_rows (said_row w row).0 rows).0 (row_shown w row) (rows_shown (said_row w row).0 rows)
+rows_shown w (row ∷ rows) =
+    both_shown w (said_row w row).0 (said_rows (said_row w row).0 rows).0 (row_shown w row)
+    (rows_shown (said_row w row).0 rows)
 
 grid_shown : (w : Scene) (grid : ShownGrid) → IsShown w (said_grid w grid).0
 unfolding said_grid
 grid_shown w grid =
-    elim (same_rows grid.rows (last_rows w grid.id)) as (λ same. let v : Said = if same then silent w else said_rows w grid.rows in IsShown w v.0) [
+    elim (same_rows grid.rows (last_rows w grid.id)) as
+    (λ same. let v : Said = if same then silent w else said_rows w grid.rows in IsShown w v.0) [
       | true ↦ refl
       | false ↦ rows_shown w grid.rows
     ]
@@ -48,10 +58,13 @@ grid_shown w grid =
 grids_shown : (w : Scene) (grids : List ShownGrid) → IsShown w (said_grids w grids).0
 unfolding said_grids
 grids_shown w [] = refl
-grids_shown w (grid ∷ grids) = both_shown w (said_grid w grid).0 (said_grids (said_grid w grid).0 grids).0 (grid_shown w grid) (grids_shown (said_grid w grid).0 grids)
+grids_shown w (grid ∷ grids) =
+    both_shown w (said_grid w grid).0 (said_grids (said_grid w grid).0 grids).0 (grid_shown w grid)
+    (grids_shown (said_grid w grid).0 grids)
 
 -- what is shown isn't looked at
-awaits_still : (w : Scene) (shown : List ShownGrid) (last : Option (List ℕ)) (fresh : Bool) (g : Given) → Awaits w g → Awaits (record w { shown = shown; last_screen = last; fresh = fresh }) g
+awaits_still : (w : Scene) (shown : List ShownGrid) (last : Option (List ℕ)) (fresh : Bool) (g : Given) → Awaits w g
+    → Awaits (record w { shown = shown; last_screen = last; fresh = fresh }) g
 unfolding Awaits
 awaits_still w shown last fresh (given.Line line) is = is
 awaits_still w shown last fresh (given.Loaded load) is = is
@@ -61,7 +74,9 @@ awaits_still w shown last fresh (given.Was was) is = is
 pub awaits-line : (w : Scene) (line : List ℕ) (g : Given) → Awaits w g → Awaits (show_line w line).0 g
 unfolding show_line
 awaits-line w line g is =
-    elim (is_composed w) as (λ b. Awaits (if b then silent w else (record w { fresh = true }, encode_utf8_all (map shown line) ++ line_feed ∷ [])).0 g) [
+    elim (is_composed w) as
+    (λ b. Awaits (if b then silent w else
+    (record w { fresh = true }, encode_utf8_all (map shown line) ++ line_feed ∷ [])).0 g) [
       | true ↦ is
       | false ↦ awaits_still w w.shown w.last_screen true g is
     ]
@@ -70,7 +85,8 @@ awaits_rows : (w : Scene) (g : Given) → Awaits w g → Awaits (show_rows w).0 
 unfolding show_rows
 awaits_rows w g is =
     let grids : List ShownGrid = map shown_grid w.windows.grids in
-    subst (λ (x : Scene). Awaits (record x { shown = grids }) g) (sym (grids_shown w grids)) (awaits_still w grids w.last_screen (said_grids w grids).0.fresh g is)
+    subst (λ (x : Scene). Awaits (record x { shown = grids }) g) (sym (grids_shown w grids))
+    (awaits_still w grids w.last_screen (said_grids w grids).0.fresh g is)
 
 awaits_screen : (w : Scene) (g : Given) → Awaits w g → Awaits (show_screen w).0 g
 unfolding show_screen

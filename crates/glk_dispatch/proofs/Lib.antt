@@ -6,3 +6,6 @@ pub mod Waiting
 pub mod Asking
 pub mod Awaited
 pub mod Resuming
+pub mod Calm
+pub mod Memory
+pub mod Outcomes

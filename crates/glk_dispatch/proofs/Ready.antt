@@ -1,5 +1,6 @@
 -- A call goes by the looks of its row, and the objects that a row names are there once its arguments were looked at.
-use Rattle.std.proofs.Common.{◌≡◌, ◌⊎◌, ◌≤◌, ◌==◌, ◌||◌, ◌&&◌, nat_le, ℕ, Bool, true, false, if◌then◌else◌, List, Option, Some, None, refl, sym, subst, inl, inr, arith, Ok}
+use Rattle.std.proofs.Common.{◌≡◌, ◌⊎◌, ◌≤◌, ◌==◌, ◌||◌, ◌&&◌, nat_le, ℕ, Bool, true, false, List}
+use Rattle.std.proofs.Common.{Option, Some, None, refl, subst, inl, inr, arith, Ok}
 use Rattle.std.specs.Option.{option_map}
 use Rattle.std.proofs.lemmas.Grind.{common_steps}
 use Rattle.std.proofs.lemmas.Bool.Decides.{nat_tests}
@@ -13,19 +14,25 @@ use Rattle.glk_dispatch.specs.Ready.{IsNamed, IsFirst, IsReady, IsReadyBy, done_
 
 -- ---- by the looks
 
-call_is : (found : Option Row) (w : Scene) (f : FlatState) (room selector : ℕ) (args : List ℕ) → call_by found w f room selector args ≡ call_looked (option_map (λ row. row.looks) found) (done_by found w f room args) w f room selector args
+call_is : (found : Option Row) (w : Scene) (f : FlatState) (room selector : ℕ) (args : List ℕ)
+    → call_by found w f room selector args
+    ≡ call_looked (option_map (λ row. row.looks) found) (done_by found w f room args) w f room selector args
 call_is None w f room selector args = refl
 call_is (Some row) w f room selector args = refl
 
-grows_is : (found : Option Row) (w : Scene) (f : FlatState) (args : List ℕ) → grows_by found w f args ≡ wants_looked (option_map (λ row. row.looks) found) (wants_by found w f args) args
+grows_is : (found : Option Row) (w : Scene) (f : FlatState) (args : List ℕ)
+    → grows_by found w f args ≡ wants_looked (option_map (λ row. row.looks) found) (wants_by found w f args) args
 grows_is None w f args = refl
 grows_is (Some row) w f args = refl
 
-pub glk_call_is : (w : Scene) (f : FlatState) (room selector : ℕ) (args : List ℕ) → glk_call w f room selector args ≡ call_looked (option_map (λ row. row.looks) (row_of selector)) (done_by (row_of selector) w f room args) w f room selector args
+pub glk_call_is : (w : Scene) (f : FlatState) (room selector : ℕ) (args : List ℕ) → glk_call w f room selector args
+    ≡ call_looked (option_map (λ row. row.looks) (row_of selector))
+    (done_by (row_of selector) w f room args) w f room selector args
 unfolding glk_call
 glk_call_is w f room selector args = call_is (row_of selector) w f room selector args
 
-pub glk_grows_is : (w : Scene) (f : FlatState) (selector : ℕ) (args : List ℕ) → grows w f selector args ≡ wants_looked (option_map (λ row. row.looks) (row_of selector)) (wants_by (row_of selector) w f args) args
+pub glk_grows_is : (w : Scene) (f : FlatState) (selector : ℕ) (args : List ℕ) → grows w f selector args
+    ≡ wants_looked (option_map (λ row. row.looks) (row_of selector)) (wants_by (row_of selector) w f args) args
 unfolding grows
 glk_grows_is w f selector args = grows_is (row_of selector) w f args
 
@@ -34,11 +41,13 @@ pub ruleset by_looks = (glk_call_is, glk_grows_is)
 -- ---- the objects
 
 -- an identifier that was looked at is 0 or there
-first_named : (w : Scene) (row : Selector) (args : List ℕ) → looked w row args ≡ Ok tt → named w row.first (arg args 0) ≡ Ok tt
+first_named : (w : Scene) (row : Selector) (args : List ℕ) → looked w row args ≡ Ok tt
+    → named w row.first (arg args 0) ≡ Ok tt
 unfolding looked
 first_named w row args ok = grind (arith, common_steps, nat_tests)
 
-other_named : (w : Scene) (row : Selector) (args : List ℕ) → looked w row args ≡ Ok tt → named w row.other (arg args row.place) ≡ Ok tt
+other_named : (w : Scene) (row : Selector) (args : List ℕ) → looked w row args ≡ Ok tt
+    → named w row.other (arg args row.place) ≡ Ok tt
 unfolding looked
 other_named w row args ok = grind (arith, common_steps, nat_tests)
 
@@ -51,25 +60,35 @@ or_named false b h = inr h
 
 zero_or : (w : Scene) (class : Class) (id : ℕ) → named w class id ≡ Ok tt → IsNamed w class id
 zero_or w class id ok =
-    elim (or_named (id == 0) (is_there w class id) (is_named w class id ok)) as (λ _. (id ≡ 0) ⊎ (is_there w class id ≡ true)) [
+    elim (or_named (id == 0) (is_there w class id) (is_named w class id ok)) as
+    (λ _. (id ≡ 0) ⊎ (is_there w class id ≡ true)) [
       | inl none ↦ inl (grind (arith, nat_tests))
       | inr there ↦ inr there
     ]
 
 -- the first argument of a marked row isn't 0
-first_there : (marked : Bool) (w : Scene) (class : Class) (id : ℕ) → IsNamed w class id → (marked && id == 0) ≡ false → IsFirst marked w class id
+first_there : (marked : Bool) (w : Scene) (class : Class) (id : ℕ) → IsNamed w class id → (marked && id == 0) ≡ false
+    → IsFirst marked w class id
 first_there true w class id (inl none) some = absurd (grind (arith, nat_tests, some, none))
 first_there true w class id (inr there) some = there
 first_there false w class id named some = named
 
-pub ready_looks : (w : Scene) (row : Selector) (args : List ℕ) → looked w row args ≡ Ok tt → is_none row args ≡ false → IsReady row w args
-ready_looks w row args ok some = (first_there row.marked w row.first (arg args 0) (zero_or w row.first (arg args 0) (first_named w row args ok)) some, zero_or w row.other (arg args row.place) (other_named w row args ok))
+pub ready_looks : (w : Scene) (row : Selector) (args : List ℕ) → looked w row args ≡ Ok tt → is_none row args ≡ false
+    → IsReady row w args
+ready_looks w row args ok some = (
+  first_there row.marked w row.first (arg args 0) (zero_or w row.first (arg args 0) (first_named w row args ok)) some,
+  zero_or w row.other (arg args row.place) (other_named w row args ok),
+)
 
-by_row : (found : Option Row) (row : Selector) (w : Scene) (args : List ℕ) → option_map (λ row. row.looks) found ≡ Some row → IsReady row w args → IsReadyBy found w args
+by_row : (found : Option Row) (row : Selector) (w : Scene) (args : List ℕ)
+    → option_map (λ row. row.looks) found ≡ Some row → IsReady row w args → IsReadyBy found w args
 by_row None row w args is ready = tt
-by_row (Some found) row w args is ready = let same : row ≡ found.looks = (cc) in subst (λ looks. IsReady looks w args) same ready
+by_row (Some found) row w args is ready = let same : row ≡ found.looks = (cc) in
+    subst (λ looks. IsReady looks w args) same ready
 
-pub ready_row : (selector : ℕ) (w : Scene) (row : Selector) (args : List ℕ) → option_map (λ row. row.looks) (row_of selector) ≡ Some row → looked w row args ≡ Ok tt → is_none row args ≡ false → IsReadyBy (row_of selector) w args
+pub ready_row : (selector : ℕ) (w : Scene) (row : Selector) (args : List ℕ)
+    → option_map (λ row. row.looks) (row_of selector) ≡ Some row → looked w row args ≡ Ok tt → is_none row args ≡ false
+    → IsReadyBy (row_of selector) w args
 ready_row selector w row args is ok some = by_row (row_of selector) row w args is (ready_looks w row args ok some)
 
 both : (a b : Bool) → (a && b) ≡ true → (a ≡ true) × (b ≡ true)

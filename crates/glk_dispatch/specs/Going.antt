@@ -51,7 +51,7 @@ with_line_grow w f call line =
 
 abbrev pub resumed_grow : Scene → FlatState → Call → Given → Bool
 resumed_grow w f call (given.Line line) = with_line_grow w f call line
-resumed_grow w f call (given.Loaded load) = open_goes_on_grow call.arguments load
+resumed_grow w f call (given.Loaded load) = open_goes_on_grow w call.arguments load
 resumed_grow w f call given.Stored = not (arg call.arguments 1 == 0)
 resumed_grow w f call (given.Was was) = false
 

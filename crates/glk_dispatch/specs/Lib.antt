@@ -3,3 +3,4 @@ pub mod Table
 pub mod Calls
 pub mod Ready
 pub mod Going
+pub mod Memory

@@ -4,11 +4,11 @@
 -- argument names an object of a class and that with 0 for it nothing is done; `of` that it is 0 or names one. `naming`
 -- says the same of another argument, `giving` which references are given 0 where nothing is done. `wants` says where
 -- the call may want memory; a call without it never does.
-use Rattle.std.specs.Prelude.{◌==◌, ◌&&◌, ◌||◌, not, nat_lt, nat_le, ℕ, Bool, true, false, List, [], ◌∷◌, ◌++◌, Option, find, is_some, Result, Ok, Err}
+use Rattle.std.specs.Prelude.{◌==◌, ◌&&◌, ◌||◌, not, nat_lt, nat_le, ℕ, Bool, true, false, List, [], ◌∷◌, ◌++◌, Option}
+use Rattle.std.specs.Prelude.{find, is_some, Ok}
 use Rattle.std.specs.Int.{is_in_range}
 use Rattle.gx_state.specs.Flat.{FlatState}
 use Rattle.gx_state.specs.declared.effects.Reply.{Reply}
-use Rattle.glk_streams.specs.Constants.{write_mode}
 use Rattle.glk_streams.specs.Stream as one
 use Rattle.glk_streams.specs.Streams as streams
 use Rattle.glk_windows.specs.Changes.{arranging_grows}
@@ -18,18 +18,28 @@ use Rattle.glk_replies.specs.Numbers as selectors
 use Rattle.glk_replies.specs.Parts.{replies}
 use Rattle.glk_replies.specs.Strings.{string_length}
 use Rattle.glk_replies.specs.declared.Turn.{Turn}
-use Rattle.glk_replies.specs.declared.Turn.TheVariants.{Answer, Exit}
+use Rattle.glk_replies.specs.declared.Turn.TheVariants.{Exit}
 use Rattle.glk_object_calls.specs.Gestalts.{gestalt, gestalt_ext, has_glyphs}
-use Rattle.glk_object_calls.specs.Windows.{window_open, window_close, window_get_size, window_set_arrangement, window_get_arrangement, window_move_cursor, window_set_echo_stream, window_get_echo_stream, window_iterate, window_get_rock, window_get_type, window_get_parent, window_get_sibling, window_get_root, window_clear, window_get_stream, set_window}
-use Rattle.glk_object_calls.specs.Streams.{stream_iterate, stream_get_rock, stream_open_memory, memory_kind, stream_close, stored, stream_set_position, stream_get_position, stream_set_current, stream_get_current}
-use Rattle.glk_object_calls.specs.References.{fileref_create_temp, fileref_create_by_name, fileref_create_by_prompt, fileref_create_from_fileref, fileref_destroy, fileref_iterate, fileref_get_rock, fileref_delete_file, fileref_does_file_exist, stream_open_file, loads}
+use Rattle.glk_object_calls.specs.Windows.{window_open, window_close, window_get_size, window_set_arrangement}
+use Rattle.glk_object_calls.specs.Windows.{window_get_arrangement, window_move_cursor, window_set_echo_stream}
+use Rattle.glk_object_calls.specs.Windows.{window_get_echo_stream, window_iterate, window_get_rock, window_get_type}
+use Rattle.glk_object_calls.specs.Windows.{window_get_parent, window_get_sibling, window_get_root, window_clear}
+use Rattle.glk_object_calls.specs.Windows.{window_get_stream, set_window}
+use Rattle.glk_object_calls.specs.Streams.{stream_iterate, stream_get_rock, stream_open_memory, memory_kind}
+use Rattle.glk_object_calls.specs.Streams.{stream_close, stored, stream_set_position, stream_get_position}
+use Rattle.glk_object_calls.specs.Streams.{stream_set_current, stream_get_current}
+use Rattle.glk_object_calls.specs.References.{fileref_create_temp, fileref_create_by_name, fileref_create_by_prompt}
+use Rattle.glk_object_calls.specs.References.{fileref_create_from_fileref, fileref_destroy, fileref_iterate}
+use Rattle.glk_object_calls.specs.References.{fileref_get_rock, fileref_delete_file, fileref_does_file_exist}
+use Rattle.glk_object_calls.specs.References.{stream_open_file, opening_grows}
 use Rattle.glk_text_calls.specs.declared.characters.Case.{Case}
 use Rattle.glk_text_calls.specs.declared.characters.Case.TheVariants as case
 use Rattle.glk_text_calls.specs.Putting.{put_grows_one}
 use Rattle.glk_text_calls.specs.Output.{char_given, put_char, put_string, put_buffer, has_length}
 use Rattle.glk_text_calls.specs.Input.{get_char, get_line, get_buffer, get_buffer_grows}
 use Rattle.glk_text_calls.specs.Characters.{char_to_case, buffer_to_case, buffer_of, rest_of}
-use Rattle.glk_event_calls.specs.Events.{may_ask, request_line_event, request_char_event, cancel_line_event, cancel_char_event, select_poll, select}
+use Rattle.glk_event_calls.specs.Events.{may_ask, request_line_event, request_char_event, cancel_line_event}
+use Rattle.glk_event_calls.specs.Events.{cancel_char_event, select_poll, select}
 use Rattle.glk_dispatch.specs.declared.table.Class.{Class}
 use Rattle.glk_dispatch.specs.declared.table.Class.TheVariants.{Plain, Window, Stream, Reference}
 use Rattle.glk_dispatch.specs.declared.table.Selector.{Selector}
@@ -130,7 +140,7 @@ requests w f args = may_ask w (arg args 0)
 
 -- for a file that is opened: its name, and the stream
 abbrev opens : Scene → FlatState → List ℕ → Bool
-opens w f args = arg args 1 == write_mode || loads (arg args 1)
+opens w f args = opening_grows w args
 
 -- for the characters of a buffer whose case is changed
 abbrev changes : Scene → FlatState → List ℕ → Bool

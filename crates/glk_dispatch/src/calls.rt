@@ -6,9 +6,12 @@ ghost use Rattle.gx_state.specs.Replies.{IsReply};
 ghost use Rattle.glk_world.specs.World.{Calls};
 ghost use Rattle.glk_replies.specs.Turns.{IsTurnFor, IsGivenFor};
 ghost use Rattle.glk_replies.specs.declared.Given.{Given};
-ghost use Rattle.glk_dispatch.specs.Turns.{Awaits};
+ghost use Rattle.glk_dispatch.specs.Turns.{Awaits, Looked};
 ghost use Rattle.glk_dispatch.specs.Table.{row_of, row_fits};
-ghost use Rattle.glk_dispatch.specs.Calls.{is_there, named, looked, is_none, nothing, gives_nothing, dropping, glk_call, IsGrowing};
+ghost use Rattle.glk_dispatch.specs.Calls.{is_there, named, looked, is_none, nothing, gives_nothing, dropping};
+ghost use Rattle.glk_dispatch.specs.Calls.{glk_call, IsGrowing};
+ghost use Rattle.gx_words.specs.declared.faults.Fault.TheVariants.{NoMemory};
+ghost use Rattle.glk_dispatch.specs.Memory.{is_left_out, TakesMemory};
 ghost use Rattle.glk_dispatch.specs.Ready.{IsReadyBy, done_by, wants_by, call_on, call_looked, wants_on, wants_looked};
 
 use crate::doing::do_call;
@@ -80,7 +83,8 @@ fn nothing<A: Allocator + Clone>(
     args: &[u32],
 ) -> Result<Reply, Fault>
     requires { row.now.words ≤ 4 }
-    ensures value { Calls (IsTrue (gives_nothing row.now args.now)) result world.old world.new (nothing world.old.scene state.now.flat room row.now args.now) }
+    ensures value { Calls (IsTrue (gives_nothing row.now args.now)) result world.old world.new
+        (nothing world.old.scene state.now.flat room row.now args.now) }
     ensures fits { IfOk result (IsReply state.now.flat room) }
 {
     match row.references {
@@ -123,7 +127,10 @@ fn call_of<A: Allocator + Clone>(
 ) -> Result<Turn, Fault>
     requires words { row.now.words ≤ 4 }
     requires ready { is_none row.now args.now ≡ false → IsReadyBy (row_of selector) world.old.scene args.now }
-    ensures value { Calls (IsTrue (wants_on row.now (wants_by (row_of selector) world.old.scene state.now.flat args.now) args.now)) result world.old world.new (call_on row.now (done_by (row_of selector) world.old.scene state.now.flat room args.now) world.old.scene state.now.flat room args.now) }
+    ensures value { Calls (IsTrue (wants_on row.now (wants_by (row_of selector) world.old.scene state.now.flat args.now)
+        args.now)) result world.old world.new
+        (call_on row.now (done_by (row_of selector) world.old.scene state.now.flat room args.now) world.old.scene
+        state.now.flat room args.now) }
     ensures fits { IfOk result (IsTurnFor state.now.flat room) }
 {
     if is_none(row, args) {
@@ -145,7 +152,11 @@ fn call_row<A: Allocator + Clone>(
 ) -> Result<Turn, Fault>
     requires row { option_map (λ row. row.looks) (row_of selector) ≡ Some row.now }
     requires fits { IsTrue (row_fits row.now) }
-    ensures value { Calls (IsTrue (wants_on row.now (wants_by (row_of selector) world.old.scene state.now.flat args.now) args.now)) result world.old world.new (call_looked (Some row.now) (done_by (row_of selector) world.old.scene state.now.flat room args.now) world.old.scene state.now.flat room selector args.now) }
+    ensures value { Calls (IsTrue (wants_on row.now (wants_by (row_of selector) world.old.scene state.now.flat args.now)
+        args.now)) result world.old world.new
+        (call_looked (Some row.now)
+        (done_by (row_of selector) world.old.scene state.now.flat room args.now) world.old.scene state.now.flat room
+        selector args.now) }
     ensures fits { IfOk result (IsTurnFor state.now.flat room) }
 {
     looked(world, row, args)?;
@@ -174,7 +185,11 @@ fn call_found<A: Allocator + Clone>(
 ) -> Result<Turn, Fault>
     requires row { option_map (λ row. row.now) found ≡ option_map (λ row. row.looks) (row_of selector) }
     requires fits { IfSome found (λ row. IsTrue (row_fits row.now)) }
-    ensures value { Calls (IsTrue (wants_looked (option_map (λ row. row.now) found.entry) (wants_by (row_of selector) world.old.scene state.now.flat args.now) args.now)) result world.old world.new (call_looked (option_map (λ row. row.now) found.entry) (done_by (row_of selector) world.old.scene state.now.flat room args.now) world.old.scene state.now.flat room selector args.now) }
+    ensures value { Calls (IsTrue (wants_looked (option_map (λ row. row.now) found.entry)
+        (wants_by (row_of selector) world.old.scene state.now.flat args.now) args.now)) result world.old world.new
+        (call_looked (option_map (λ row. row.now) found.entry)
+        (done_by (row_of selector) world.old.scene state.now.flat room args.now) world.old.scene state.now.flat room
+        selector args.now) }
     ensures fits { IfOk result (IsTurnFor state.now.flat room) }
 {
     match found {
@@ -192,7 +207,8 @@ fn call_selector<A: Allocator + Clone>(
     selector: u32,
     args: &[u32],
 ) -> Result<Turn, Fault>
-    ensures value { Calls (IsGrowing world.old.scene state.now.flat selector args.now) result world.old world.new (glk_call world.old.scene state.now.flat room selector args.now) }
+    ensures value { Calls (IsGrowing world.old.scene state.now.flat selector args.now) result world.old world.new
+        (glk_call world.old.scene state.now.flat room selector args.now) }
     ensures fits { IfOk result (IsTurnFor state.now.flat room) }
 {
     let found = row_of(selector);
@@ -207,9 +223,19 @@ pub fn call<A: Allocator + Clone>(
     selector: u32,
     args: &[u32],
 ) -> Result<Turn, Fault>
-    ensures value { Calls (IsGrowing world.old.scene state.now.flat selector args.now) result world.old world.new (glk_call world.old.scene state.now.flat room selector args.now) }
+    ensures value { Calls (IsGrowing world.old.scene state.now.flat selector args.now) result world.old world.new
+        (glk_call world.old.scene state.now.flat room selector args.now) }
     ensures fits { IfOk result (IsTurnFor state.now.flat room) }
     ensures asks { IfOk result (λ turn. (given : Given) → IsGivenFor turn given → Awaits world.new.scene given) }
+
+    // All that would be a fault once a file is loaded or stored was looked at before it is asked for.
+    ensures looked { IfOk result
+        (λ turn. (given : Given) → IsGivenFor turn given → Looked state.now.flat room world.new.scene given) }
+
+    // But for calls that put characters and for window_close, memory is wanted only where the call comes to what takes
+    // some: a reply that writes or pushes, text, an object, a request, a larger grid, the name of a file.
+    ensures memory { is_left_out selector ≡ false → result ≡ Err NoMemory
+        → TakesMemory world.old.scene (glk_call world.old.scene state.now.flat room selector args.now) }
 {
     call_selector(world, state, room, selector, args)
 }

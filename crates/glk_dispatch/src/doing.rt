@@ -4,7 +4,8 @@
 ghost use Rattle.std.specs.Prelude.{◌≡◌, IfOk, IsTrue};
 ghost use Rattle.glk_world.specs.World.{Calls};
 ghost use Rattle.glk_replies.specs.Turns.{IsTurnFor};
-ghost use Rattle.glk_dispatch.specs.Table.{row_of, row_in, window_calls, stream_calls, text_calls, event_calls, unicode_calls};
+ghost use Rattle.glk_dispatch.specs.Table.{row_of, row_in, window_calls, stream_calls, text_calls, event_calls};
+ghost use Rattle.glk_dispatch.specs.Table.{unicode_calls};
 ghost use Rattle.glk_dispatch.specs.Ready.{IsReadyBy, done_by, wants_by};
 
 use glk_event_calls::events::{
@@ -47,7 +48,9 @@ fn window_call<A: Allocator + Clone>(
     args: &[u32],
 ) -> Result<Turn, Fault>
     requires { IsReadyBy (row_in window_calls selector) world.old.scene args.now }
-    ensures value { Calls (IsTrue (wants_by (row_in window_calls selector) world.old.scene state.now.flat args.now)) result world.old world.new (done_by (row_in window_calls selector) world.old.scene state.now.flat room args.now) }
+    ensures value { Calls (IsTrue (wants_by (row_in window_calls selector) world.old.scene state.now.flat args.now))
+        result world.old world.new
+        (done_by (row_in window_calls selector) world.old.scene state.now.flat room args.now) }
     ensures fits { IfOk result (IsTurnFor state.now.flat room) }
 {
     match selector {
@@ -88,7 +91,9 @@ fn stream_call<A: Allocator + Clone>(
     args: &[u32],
 ) -> Result<Turn, Fault>
     requires { IsReadyBy (row_in stream_calls selector) world.old.scene args.now }
-    ensures value { Calls (IsTrue (wants_by (row_in stream_calls selector) world.old.scene state.now.flat args.now)) result world.old world.new (done_by (row_in stream_calls selector) world.old.scene state.now.flat room args.now) }
+    ensures value { Calls (IsTrue (wants_by (row_in stream_calls selector) world.old.scene state.now.flat args.now))
+        result world.old world.new
+        (done_by (row_in stream_calls selector) world.old.scene state.now.flat room args.now) }
     ensures fits { IfOk result (IsTurnFor state.now.flat room) }
 {
     match selector {
@@ -124,7 +129,8 @@ fn text_call<A: Allocator + Clone>(
     args: &[u32],
 ) -> Result<Turn, Fault>
     requires { IsReadyBy (row_in text_calls selector) world.old.scene args.now }
-    ensures value { Calls (IsTrue (wants_by (row_in text_calls selector) world.old.scene state.now.flat args.now)) result world.old world.new (done_by (row_in text_calls selector) world.old.scene state.now.flat room args.now) }
+    ensures value { Calls (IsTrue (wants_by (row_in text_calls selector) world.old.scene state.now.flat args.now))
+        result world.old world.new (done_by (row_in text_calls selector) world.old.scene state.now.flat room args.now) }
     ensures fits { IfOk result (IsTurnFor state.now.flat room) }
 {
     let current = world.current();
@@ -180,7 +186,9 @@ fn event_call<A: Allocator + Clone>(
     args: &[u32],
 ) -> Result<Turn, Fault>
     requires { IsReadyBy (row_in event_calls selector) world.old.scene args.now }
-    ensures value { Calls (IsTrue (wants_by (row_in event_calls selector) world.old.scene state.now.flat args.now)) result world.old world.new (done_by (row_in event_calls selector) world.old.scene state.now.flat room args.now) }
+    ensures value { Calls (IsTrue (wants_by (row_in event_calls selector) world.old.scene state.now.flat args.now))
+        result world.old world.new
+        (done_by (row_in event_calls selector) world.old.scene state.now.flat room args.now) }
     ensures fits { IfOk result (IsTurnFor state.now.flat room) }
 {
     match selector {
@@ -204,7 +212,9 @@ fn unicode_call<A: Allocator + Clone>(
     args: &[u32],
 ) -> Result<Turn, Fault>
     requires { IsReadyBy (row_in unicode_calls selector) world.old.scene args.now }
-    ensures value { Calls (IsTrue (wants_by (row_in unicode_calls selector) world.old.scene state.now.flat args.now)) result world.old world.new (done_by (row_in unicode_calls selector) world.old.scene state.now.flat room args.now) }
+    ensures value { Calls (IsTrue (wants_by (row_in unicode_calls selector) world.old.scene state.now.flat args.now))
+        result world.old world.new
+        (done_by (row_in unicode_calls selector) world.old.scene state.now.flat room args.now) }
     ensures fits { IfOk result (IsTurnFor state.now.flat room) }
 {
     let current = world.current();
@@ -284,7 +294,8 @@ pub fn do_call<A: Allocator + Clone>(
     args: &[u32],
 ) -> Result<Turn, Fault>
     requires { IsReadyBy (row_of selector) world.old.scene args.now }
-    ensures value { Calls (IsTrue (wants_by (row_of selector) world.old.scene state.now.flat args.now)) result world.old world.new (done_by (row_of selector) world.old.scene state.now.flat room args.now) }
+    ensures value { Calls (IsTrue (wants_by (row_of selector) world.old.scene state.now.flat args.now)) result world.old
+        world.new (done_by (row_of selector) world.old.scene state.now.flat room args.now) }
     ensures fits { IfOk result (IsTurnFor state.now.flat room) }
 {
     if selector < STREAM_ITERATE {

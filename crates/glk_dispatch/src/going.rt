@@ -4,8 +4,9 @@ ghost use Rattle.gx_state.specs.Replies.{IsReply};
 ghost use Rattle.glk_world.specs.Kept.{call_of};
 ghost use Rattle.glk_world.specs.World.{Calls};
 ghost use Rattle.glk_replies.specs.Turns.{IsTurnFor, IsAnswered};
-ghost use Rattle.glk_dispatch.specs.Turns.{IsAwaited, Awaits};
-ghost use Rattle.glk_dispatch.specs.Going.{with_line, with_line_grow, was_of, resumed, resumed_grow, glk_go_on, go_grows};
+ghost use Rattle.glk_dispatch.specs.Turns.{IsAwaited, Awaits, IsOfFile, Looked, MeetsNoFault};
+ghost use Rattle.glk_dispatch.specs.Going.{with_line, with_line_grow, was_of, resumed, resumed_grow, glk_go_on};
+ghost use Rattle.glk_dispatch.specs.Going.{go_grows};
 ghost use Rattle.glk_replies.specs.declared.Given.TheVariants as given;
 
 use glk_event_calls::events::select_goes_on;
@@ -27,7 +28,8 @@ fn with_line<A: Allocator + Clone>(
     line: &[u32],
 ) -> Result<Reply, Fault>
     requires { IsAwaited world.old.scene (call_of call.now) (given.Line line.now) }
-    ensures value { Calls (IsTrue (with_line_grow world.old.scene state.now.flat (call_of call.now) line.now)) result world.old world.new (with_line world.old.scene state.now.flat room (call_of call.now) line.now) }
+    ensures value { Calls (IsTrue (with_line_grow world.old.scene state.now.flat (call_of call.now) line.now)) result
+        world.old world.new (with_line world.old.scene state.now.flat room (call_of call.now) line.now) }
     ensures fits { IfOk result (IsReply state.now.flat room) }
 {
     if call.selector == SELECT {
@@ -53,7 +55,8 @@ fn resume<A: Allocator + Clone>(
     given: Given,
 ) -> Result<Reply, Fault>
     requires { IsAwaited world.old.scene (call_of call.now) given }
-    ensures value { Calls (IsTrue (resumed_grow world.old.scene state.now.flat (call_of call.now) given)) result world.old world.new (resumed world.old.scene state.now.flat room (call_of call.now) given) }
+    ensures value { Calls (IsTrue (resumed_grow world.old.scene state.now.flat (call_of call.now) given)) result
+        world.old world.new (resumed world.old.scene state.now.flat room (call_of call.now) given) }
     ensures fits { IfOk result (IsReply state.now.flat room) }
 {
     match given {
@@ -64,16 +67,17 @@ fn resume<A: Allocator + Clone>(
     }
 }
 
-/// Goes on with the call that waits.
+/// Goes on with the call that waits; after a fault it waits again.
 #[tactic(auto, using(crate::proofs::Resuming::going_rules), unfolding(crate::specs::Going::glk_go_on, crate::specs::Going::go_grows, crate::specs::Turns::Awaits))]
-pub fn go_on<A: Allocator + Clone>(
+fn resume_waiting<A: Allocator + Clone>(
     world: &mut World,
     state: &State<A>,
     room: u32,
     given: Given,
 ) -> Result<Turn, Fault>
     requires { Awaits world.old.scene given }
-    ensures value { Calls (IsTrue (go_grows world.old.scene state.now.flat given)) result world.old world.new (glk_go_on world.old.scene state.now.flat room given) }
+    ensures value { Calls (IsTrue (go_grows world.old.scene state.now.flat given)) result world.old world.new
+        (glk_go_on world.old.scene state.now.flat room given) }
     ensures fits { IfOk result (IsTurnFor state.now.flat room) }
     ensures answers { IfOk result IsAnswered }
 {
@@ -87,4 +91,23 @@ pub fn go_on<A: Allocator + Clone>(
             Err(fault)
         }
     }
+}
+
+/// Goes on with the call that waits.
+pub fn go_on<A: Allocator + Clone>(
+    world: &mut World,
+    state: &State<A>,
+    room: u32,
+    given: Given,
+) -> Result<Turn, Fault>
+    requires { Awaits world.old.scene given }
+    ensures value { Calls (IsTrue (go_grows world.old.scene state.now.flat given)) result world.old world.new
+        (glk_go_on world.old.scene state.now.flat room given) }
+    ensures fits { IfOk result (IsTurnFor state.now.flat room) }
+    ensures answers { IfOk result IsAnswered }
+
+    // After a load, a store or a question there is no fault, where the looks were made as `call` makes them.
+    ensures calm { IsOfFile given → Looked state.now.flat room world.old.scene given → MeetsNoFault result }
+{
+    resume_waiting(world, state, room, given)
 }

@@ -51,7 +51,8 @@ impl Keyed for Selector {
 /// A table from lines of number and needed arguments. `on` stands before the class of a first argument that may
 /// not be 0 for the call to do anything, `of` before that of another first argument.
 macro_rules! rows {
-    ($($number:ident $arguments:literal $(($mark:ident $first:ident))? $(and ($other:ident at $place:literal))? $(gives ($references:literal of $words:literal))?;)*) => {
+    ($($number:ident $arguments:literal $(($mark:ident $first:ident))? $(and ($other:ident at $place:literal))?
+        $(gives ($references:literal of $words:literal))?;)*) => {
         [$(Selector {
             number: $number,
             arguments: $arguments,

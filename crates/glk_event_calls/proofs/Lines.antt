@@ -1,5 +1,6 @@
 -- What a line gives: how many characters, and where they are written.
-use Rattle.std.proofs.Common.{◌≡◌, ◌≤◌, ◌<◌, ◌+◌, ◌++◌, ◌==◌, ◌&&◌, ℕ, Bool, true, false, if◌then◌else◌, List, [], ◌∷◌, length, take, map, refl, sym, inl, inr, arith, Ok}
+use Rattle.std.proofs.Common.{◌≡◌, ◌≤◌, ◌<◌, ◌+◌, ◌++◌, ◌==◌, ◌&&◌, ℕ, Bool, true, false, if◌then◌else◌, List, [], ◌∷◌}
+use Rattle.std.proofs.Common.{length, take, map, refl, sym, inl, inr, arith, Ok}
 use Rattle.std.proofs.lemmas.Grind.{common_steps}
 use Rattle.std.proofs.lemmas.List.{length-append, append-nil}
 use Rattle.gx_words.specs.Constants.{line_feed}
@@ -16,16 +17,20 @@ use Rattle.glk_world.specs.World.{Scene}
 use Rattle.glk_world.specs.Putting.{places_of, end_of}
 use Rattle.glk_replies.specs.Parts.{IsCharWidth, pushed, laid, written, can_lay, can_give}
 use Rattle.glk_replies.proofs.Ram.{between_append, laid_in_ram, written_in_ram}
-use Rattle.glk_event_calls.specs.Events.{stored, echo_for, echoes, echoed, event_of, line_places, echo_places, line_reply}
+use Rattle.glk_event_calls.specs.Events.{stored, echo_for, echoes, echoed, event_of, line_places, echo_places}
+use Rattle.glk_event_calls.specs.Events.{line_reply}
 
 -- ---- how many characters are put to the echo stream
 
-echoed_with : (line there : Bool) (r : Request) (chars : List ℕ) → (line && there) ≡ true → (if line then line_length r chars else 0) + 1 ≡ length (if line && there then map (stored r.wide) (take (line_length r chars) chars) ++ line_feed ∷ [] else [])
+echoed_with : (line there : Bool) (r : Request) (chars : List ℕ) → (line && there) ≡ true
+    → (if line then line_length r chars else 0) + 1
+    ≡ length (if line && there then map (stored r.wide) (take (line_length r chars) chars) ++ line_feed ∷ [] else [])
 echoed_with true true r chars is = grind (arith, common_steps, length-append)
 echoed_with true false r chars is = absurd (cc)
 echoed_with false there r chars is = absurd (cc)
 
-pub echoed_length : (w : Scene) (r : Request) (chars : List ℕ) → echoes w r ≡ true → (line_places r chars).count + 1 ≡ length (echoed w r chars)
+pub echoed_length : (w : Scene) (r : Request) (chars : List ℕ) → echoes w r ≡ true
+    → (line_places r chars).count + 1 ≡ length (echoed w r chars)
 echoed_length w r chars is = echoed_with r.line (streams.has w.streams (echo_for w r)) r chars is
 
 pub ruleset line_rules = echoed_length
@@ -47,7 +52,12 @@ width_of s count = width_in s.kind s.position count
 
 places_width : (w : Scene) (stream count : ℕ) → IsCharWidth (places_of w stream count).width
 places_width w stream count =
-    elim (one.writable (streams.stream w.streams (end_of w stream))) as (λ b. IsCharWidth (if b then one.places (streams.stream w.streams (end_of w stream)) count else record { at = 0; width = 1; count = 0 }).width) [
+    elim (one.writable (streams.stream w.streams (end_of w stream))) as
+    (λ b. IsCharWidth (if b then one.places (streams.stream w.streams (end_of w stream)) count else record {
+      at = 0;
+      width = 1;
+      count = 0;
+    }).width) [
       | true ↦ width_of (streams.stream w.streams (end_of w stream)) count
       | false ↦ inl refl
     ]
@@ -55,7 +65,8 @@ places_width w stream count =
 echo_width : (w : Scene) (r : Request) (line : List ℕ) → IsCharWidth (echo_places w r line).width
 echo_width w r line =
     let count = length (echoed w r line) in
-    elim (echoes w r) as (λ there. IsCharWidth (if there then places_of w (echo_for w r) count else record { at = 0; width = 1; count = 0 }).width) [
+    elim (echoes w r) as (λ there. IsCharWidth
+    (if there then places_of w (echo_for w r) count else record { at = 0; width = 1; count = 0 }).width) [
       | true ↦ places_width w (echo_for w r) count
       | false ↦ inl refl
     ]
@@ -63,10 +74,17 @@ echo_width w r line =
 event_length : (r : Request) (line : List ℕ) → length (event_of r line) ≡ 4
 event_length r line = grind (arith, common_steps)
 
-pub reply_fits : (f : FlatState) (room : ℕ) (w : Scene) (at : ℕ) (r : Request) (line : List ℕ) → (line_places r line).count ≤ length line → (echo_places w r line).count ≤ length (echoed w r line) → can_lay f (line_places r line) ≡ Ok tt → can_give f at 4 ≡ Ok tt → length (pushed at (event_of r line)) ≤ room → can_lay f (echo_places w r line) ≡ Ok tt → IsReply f room (line_reply w at r line)
+pub reply_fits : (f : FlatState) (room : ℕ) (w : Scene) (at : ℕ) (r : Request) (line : List ℕ)
+    → (line_places r line).count ≤ length line → (echo_places w r line).count ≤ length (echoed w r line)
+    → can_lay f (line_places r line) ≡ Ok tt → can_give f at 4 ≡ Ok tt → length (pushed at (event_of r line)) ≤ room
+    → can_lay f (echo_places w r line) ≡ Ok tt → IsReply f room (line_reply w at r line)
 reply_fits f room w at r line few less buffer there fits echo = record {
-  writes =
-      between_append _ _ (laid (line_places r line) line ++ written at (event_of r line)) (laid (echo_places w r line) (echoed w r line)) (between_append _ _ (laid (line_places r line) line) (written at (event_of r line)) (laid_in_ram f (line_places r line) line (line_width r line) few buffer) (written_in_ram f at (event_of r line) (rw (event_length r line) there))) (laid_in_ram f (echo_places w r line) (echoed w r line) (echo_width w r line) less echo);
+  writes = between_append _ _ (laid (line_places r line) line ++ written at (event_of r line))
+      (laid (echo_places w r line) (echoed w r line))
+      (between_append _ _ (laid (line_places r line) line) (written at (event_of r line))
+      (laid_in_ram f (line_places r line) line (line_width r line) few buffer)
+      (written_in_ram f at (event_of r line) (rw (event_length r line) there)))
+      (laid_in_ram f (echo_places w r line) (echoed w r line) (echo_width w r line) less echo);
   pushes = fits;
 }
 

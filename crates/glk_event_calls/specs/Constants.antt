@@ -1,4 +1,5 @@
--- The numbers of the events (Glk 0.7.5). The constants of code, NO_EVENT for no_event_type and so on, are tied to these.
+-- The numbers of the events (Glk 0.7.5). The constants of code, NO_EVENT for no_event_type and so on, are tied to
+-- these.
 use Rattle.std.specs.Prelude.{ℕ}
 
 -- the types of events ("Events"): evtype_None, evtype_CharInput, evtype_LineInput

@@ -1,5 +1,6 @@
 -- The calls of events (Glk 0.7.5, "Events").
-use Rattle.std.specs.Prelude.{ℕ, ◌==◌, ◌&&◌, ◌||◌, not, Bool, true, false, if◌then◌else◌, List, [], ◌∷◌, ◌++◌, take, map, length, Option, Some, None, is_none, Result, Ok, Err}
+use Rattle.std.specs.Prelude.{ℕ, ◌==◌, ◌&&◌, ◌||◌, not, Bool, true, false, if◌then◌else◌, List, [], ◌∷◌, ◌++◌, take}
+use Rattle.std.specs.Prelude.{map, length, Option, Some, None, is_none, Result, Ok, Err}
 use Rattle.gx_words.specs.declared.faults.Fault.{Fault}
 use Rattle.gx_words.specs.declared.faults.Fault.TheVariants.{BadGlk}
 use Rattle.gx_words.specs.Results.{◌>>=◌}
@@ -145,7 +146,8 @@ abbrev pub line_reply : Scene → ℕ → Request → List ℕ → Reply
 line_reply w at r line = record {
   value = 0;
   pushes = pushed at (event_of r line);
-  writes = laid (line_places r line) line ++ written at (event_of r line) ++ laid (echo_places w r line) (echoed w r line);
+  writes =
+      laid (line_places r line) line ++ written at (event_of r line) ++ laid (echo_places w r line) (echoed w r line);
 }
 
 -- a request ends by a line that was taken for it

@@ -1,6 +1,7 @@
 //! The calls of events (Glk 0.7.5, "Events"): requests, polling, waiting, and what a line gives to the request that it
 //! meets.
-ghost use Rattle.std.specs.Prelude.{◌≡◌, ℕ, ◌==◌, not, ◌<◌, ◌≤◌, ◌^◌, ◌≢◌, ◌⊎◌, ◌+◌, ◌*◌, ◌++◌, length, take, map, if◌then◌else◌, OnOk, OnErr, IfOk, IsTrue};
+ghost use Rattle.std.specs.Prelude.{◌≡◌, ℕ, ◌==◌, not, ◌<◌, ◌≤◌, ◌^◌, ◌≢◌, ◌⊎◌, ◌+◌, ◌*◌, ◌++◌, length, take, map};
+ghost use Rattle.std.specs.Prelude.{if◌then◌else◌, OnOk, OnErr, IfOk, IsTrue};
 ghost use Rattle.gx_words.specs.Constants.{ceiling};
 ghost use Rattle.gx_words.specs.Faults.{Reads};
 ghost use Rattle.gx_state.specs.Flat.{FlatState};
@@ -9,7 +10,11 @@ ghost use Rattle.glk_replies.specs.Turns.{IsTurnFor};
 ghost use Rattle.glk_replies.specs.Parts.{IsCharWidth, can_lay, laid, can_give, pushed, written};
 ghost use Rattle.glk_world.specs.World.{arg, Calls};
 ghost use Rattle.glk_world.specs.Putting.{puts};
-ghost use Rattle.glk_event_calls.specs.Events.{event, may_ask, requested, request_line_event, request_char_event, is_line, is_char, cancel_char_event, cancel_line_event, select_poll, select, event_of, line_places, stored, echo_for, echoes, echoed, echo_places, looked_at_line, line_reply, met_grows, met, select_goes_on, select_goes_on_grow};
+ghost use Rattle.glk_event_calls.specs.Events.{event, may_ask, requested, request_line_event, request_char_event};
+ghost use Rattle.glk_event_calls.specs.Events.{is_line, is_char, cancel_char_event, cancel_line_event, select_poll};
+ghost use Rattle.glk_event_calls.specs.Events.{select, event_of, line_places, stored, echo_for, echoes, echoed};
+ghost use Rattle.glk_event_calls.specs.Events.{echo_places, looked_at_line, line_reply, met_grows, met, select_goes_on};
+ghost use Rattle.glk_event_calls.specs.Events.{select_goes_on_grow};
 
 use glk_events::{Request, char_value, line_length};
 use glk_replies::selectors::SELECT;
@@ -46,7 +51,8 @@ fn may_ask(world: &World, win: u32) -> bool
 
 /// A window asks, if it may.
 fn requested(world: &mut World, request: Request) -> Result<Reply, Fault>
-    ensures value { Calls (IsTrue (may_ask world.old.scene request.win)) result world.old world.new (requested world.old.scene request) }
+    ensures value { Calls (IsTrue (may_ask world.old.scene request.win)) result world.old world.new
+        (requested world.old.scene request) }
     ensures fits { (f : FlatState) (room : ℕ) → IfOk result (IsReply f room) }
 {
     if may_ask(world, request.win) {
@@ -58,7 +64,8 @@ fn requested(world: &mut World, request: Request) -> Result<Reply, Fault>
 /// request_line_event, and request_line_event_uni where `wide`.
 #[tactic(auto, unfolding(crate::specs::Events::request_line_event))]
 pub fn request_line_event(world: &mut World, wide: bool, args: &[u32]) -> Result<Reply, Fault>
-    ensures value { Calls (IsTrue (may_ask world.old.scene (arg args.now 0))) result world.old world.new (request_line_event wide world.old.scene args.now) }
+    ensures value { Calls (IsTrue (may_ask world.old.scene (arg args.now 0))) result world.old world.new
+        (request_line_event wide world.old.scene args.now) }
     ensures fits { (f : FlatState) (room : ℕ) → IfOk result (IsReply f room) }
 {
     let request = Request {
@@ -74,7 +81,8 @@ pub fn request_line_event(world: &mut World, wide: bool, args: &[u32]) -> Result
 /// request_char_event, and request_char_event_uni where `wide`.
 #[tactic(auto, unfolding(crate::specs::Events::request_char_event))]
 pub fn request_char_event(world: &mut World, wide: bool, args: &[u32]) -> Result<Reply, Fault>
-    ensures value { Calls (IsTrue (may_ask world.old.scene (arg args.now 0))) result world.old world.new (request_char_event wide world.old.scene args.now) }
+    ensures value { Calls (IsTrue (may_ask world.old.scene (arg args.now 0))) result world.old world.new
+        (request_char_event wide world.old.scene args.now) }
     ensures fits { (f : FlatState) (room : ℕ) → IfOk result (IsReply f room) }
 {
     let request = Request {
@@ -128,7 +136,8 @@ pub fn cancel_line_event<A: Allocator + Clone>(
     room: u32,
     args: &[u32],
 ) -> Result<Reply, Fault>
-    ensures value { Calls (IsTrue (not (arg args.now 1 == 0))) result world.old world.new (cancel_line_event world.old.scene state.now.flat room args.now) }
+    ensures value { Calls (IsTrue (not (arg args.now 1 == 0))) result world.old world.new
+        (cancel_line_event world.old.scene state.now.flat room args.now) }
     ensures fits { IfOk result (IsReply state.now.flat room) }
 {
     let win = arg(args, 0);
@@ -163,7 +172,8 @@ pub fn select_poll<A: Allocator + Clone>(
     room: u32,
     args: &[u32],
 ) -> Result<Reply, Fault>
-    ensures value { Calls (IsTrue (not (arg args.now 0 == 0))) result world.old world.new (select_poll world.old.scene state.now.flat room args.now) }
+    ensures value { Calls (IsTrue (not (arg args.now 0 == 0))) result world.old world.new
+        (select_poll world.old.scene state.now.flat room args.now) }
     ensures fits { IfOk result (IsReply state.now.flat room) }
 {
     give(
@@ -267,16 +277,19 @@ fn looked_at_line<A: Allocator + Clone>(
     request: &Request,
     line: &[u32],
 ) -> Result<Places, Fault>
-    ensures value { Reads (λ _. tt) result (looked_at_line world.now.scene state.now.flat room at request.now line.now) }
+    ensures value { Reads (λ _. tt) result
+        (looked_at_line world.now.scene state.now.flat room at request.now line.now) }
     ensures places { IfOk result (λ places. places ≡ echo_places world.now.scene request.now line.now) }
     ensures buffer { OnOk result (can_lay state.now.flat (line_places request.now line.now) ≡ Ok tt) }
     ensures there { OnOk result (can_give state.now.flat at 4 ≡ Ok tt) }
     ensures fits { OnOk result (length (pushed at (event_of request.now line.now)) ≤ room) }
     ensures echo { OnOk result (can_lay state.now.flat (echo_places world.now.scene request.now line.now) ≡ Ok tt) }
-    ensures low { OnOk result (0 < (line_places request.now line.now).count → (line_places request.now line.now).at < 2 ^ 32) }
+    ensures low { OnOk result
+        (0 < (line_places request.now line.now).count → (line_places request.now line.now).at < 2 ^ 32) }
     ensures low_echo { IfOk result (λ places. 0 < places.count → places.at < 2 ^ 32) }
     ensures few { (line_places request.now line.now).count ≤ length line.now }
-    ensures few_echo { OnOk result ((echo_places world.now.scene request.now line.now).count ≤ length (echoed world.now.scene request.now line.now)) }
+    ensures few_echo { OnOk result ((echo_places world.now.scene request.now line.now).count ≤ length
+        (echoed world.now.scene request.now line.now)) }
 {
     let places = line_places(request, line);
     can_lay(state, places)?;
@@ -355,7 +368,8 @@ fn met<A: Allocator + Clone>(
     request: &Request,
     line: &[u32],
 ) -> Result<Reply, Fault>
-    ensures value { Calls (IsTrue (met_grows world.old.scene at request.now line.now)) result world.old world.new (met world.old.scene state.now.flat room at request.now line.now) }
+    ensures value { Calls (IsTrue (met_grows world.old.scene at request.now line.now)) result world.old world.new
+        (met world.old.scene state.now.flat room at request.now line.now) }
     ensures fits { IfOk result (IsReply state.now.flat room) }
 {
     let places = looked_at_line(world, state, room, at, request, line)?;
@@ -376,7 +390,8 @@ pub fn select_goes_on<A: Allocator + Clone>(
     args: &[u32],
     line: &[u32],
 ) -> Result<Reply, Fault>
-    ensures value { Calls (IsTrue (select_goes_on_grow world.old.scene state.now.flat args.now line.now)) result world.old world.new (select_goes_on world.old.scene state.now.flat room args.now line.now) }
+    ensures value { Calls (IsTrue (select_goes_on_grow world.old.scene state.now.flat args.now line.now)) result
+        world.old world.new (select_goes_on world.old.scene state.now.flat room args.now line.now) }
     ensures fits { IfOk result (IsReply state.now.flat room) }
 {
     match world.requests().oldest() {

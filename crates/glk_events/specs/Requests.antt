@@ -1,6 +1,7 @@
 -- Requests for events (Glk 0.7.5, "Events"): what was asked for and not met yet, the oldest first, and what a
 -- line that is taken gives.
-use Rattle.std.specs.Prelude.{ℕ, ◌||◌, ◌==◌, nat_le, not, min, if◌then◌else◌, List, [], ◌∷◌, ◌++◌, length, Option, slice_get, find, filter}
+use Rattle.std.specs.Prelude.{ℕ, ◌||◌, ◌==◌, nat_le, not, min, if◌then◌else◌, List, [], ◌∷◌, ◌++◌, length, Option}
+use Rattle.std.specs.Prelude.{slice_get, find, filter}
 use Rattle.glk_events.specs.declared.requests.Request.{Request}
 use Rattle.glk_events.specs.Constants.{return_key, unknown_key}
 

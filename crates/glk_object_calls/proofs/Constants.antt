@@ -2,7 +2,8 @@
 use Rattle.std.proofs.Common.{◌≡◌, refl}
 use Rattle.glk_object_calls.specs.declared.gestalts.TheConstants as gestalt
 use Rattle.glk_object_calls.specs.declared.references.TheConstants as reference
-use Rattle.glk_object_calls.specs.Constants.{version, char_input, line_input, char_output, unicode, cannot_print, exact_print, text_mode}
+use Rattle.glk_object_calls.specs.Constants.{version, char_input, line_input, char_output, unicode, cannot_print}
+use Rattle.glk_object_calls.specs.Constants.{exact_print, text_mode}
 
 pub VERSION_is : gestalt.VERSION ≡ version
 VERSION_is = refl

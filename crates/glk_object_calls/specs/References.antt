@@ -1,5 +1,6 @@
 -- The calls of file references (Glk 0.7.5, "File References" and "File Streams").
-use Rattle.std.specs.Prelude.{ℕ, ◌/◌, ◌%◌, ◌==◌, ◌||◌, not, if◌then◌else◌, Bool, true, false, List, [], ◌∷◌, ◌++◌, codes, decimal, Ok}
+use Rattle.std.specs.Prelude.{ℕ, ◌/◌, ◌%◌, ◌==◌, ◌||◌, ◌&&◌, not, if◌then◌else◌, Bool, false, List, [], ◌∷◌, ◌++◌}
+use Rattle.std.specs.Prelude.{codes, decimal, Ok}
 use Rattle.gx_words.specs.Results.{◌>>=◌}
 use Rattle.gx_outside.specs.declared.devices.Load.{Load}
 use Rattle.gx_outside.specs.declared.devices.Load.TheVariants as of_load
@@ -11,7 +12,8 @@ use Rattle.glk_streams.specs.declared.kinds.FileForm.{FileForm}
 use Rattle.glk_streams.specs.declared.kinds.FileForm.TheVariants as forms
 use Rattle.glk_streams.specs.declared.kinds.StreamKind.{StreamKind}
 use Rattle.glk_streams.specs.declared.kinds.StreamKind.TheVariants as kinds
-use Rattle.glk_world.specs.World.{Scene, silent, has_reference, reference_at, next_reference, Outcome, answered, waits, arg}
+use Rattle.glk_world.specs.World.{Scene, silent, has_reference, reference_at, next_reference, Outcome, answered, waits}
+use Rattle.glk_world.specs.World.{arg}
 use Rattle.glk_world.specs.Calls.{is_identifier, new_id, with_reference, without_reference, with_stream}
 use Rattle.glk_world.specs.Shown.{show_prompt, line_taken}
 use Rattle.glk_replies.specs.declared.Turn.{Turn}
@@ -120,6 +122,10 @@ stream_open_file w selector args =
     if loads (arg args 1) then Ok (silent (waits w selector args), turn.Load (file_name w (arg args 0))) else
     Ok (silent w, turn.Answer (replies 0))
 
+-- where that may want memory: a stream is made, or the name of the file that is loaded
+abbrev pub opening_grows : Scene → List ℕ → Bool
+opening_grows w args = (arg args 1 == write_mode && is_identifier w.next_id) || loads (arg args 1)
+
 -- the file was loaded: one that is missing begins empty, unless it was to be read alone
 abbrev pub open_goes_on : Scene → ℕ → List ℕ → Load → Outcome Reply
 open_goes_on w selector args of_load.Missing =
@@ -127,8 +133,8 @@ open_goes_on w selector args of_load.Missing =
 open_goes_on w selector args of_load.TooLong = tells w 0
 open_goes_on w selector args (of_load.Found bytes) = open_with w selector args bytes
 
--- where that may want memory
-abbrev pub open_goes_on_grow : List ℕ → Load → Bool
-open_goes_on_grow args of_load.Missing = not (arg args 1 == read_mode)
-open_goes_on_grow args of_load.TooLong = false
-open_goes_on_grow args (of_load.Found bytes) = true
+-- Where that may want memory: a stream is made where an identifier is left.
+abbrev pub open_goes_on_grow : Scene → List ℕ → Load → Bool
+open_goes_on_grow w args of_load.Missing = not (arg args 1 == read_mode) && is_identifier w.next_id
+open_goes_on_grow w args of_load.TooLong = false
+open_goes_on_grow w args (of_load.Found bytes) = is_identifier w.next_id

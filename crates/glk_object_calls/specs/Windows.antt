@@ -10,7 +10,8 @@ use Rattle.glk_windows.specs.declared.entries.Entry.{Entry}
 use Rattle.glk_windows.specs.Windows as all
 use Rattle.glk_windows.specs.Windows.{FlatWindows, entry_at}
 use Rattle.glk_world.specs.World.{Scene, Outcome, answered, arg}
-use Rattle.glk_world.specs.Calls.{opened_id, with_window, window_counts, without_window, arranged, cleared, moved, with_echo}
+use Rattle.glk_world.specs.Calls.{opened_id, with_window, window_counts, without_window, arranged, cleared, moved}
+use Rattle.glk_world.specs.Calls.{with_echo}
 use Rattle.glk_replies.specs.Parts.{replies, give, give_each}
 use Rattle.glk_object_calls.specs.Answers.{tells}
 
@@ -30,7 +31,8 @@ pair_at f win = unwrap_or (all.pair f win) no_pair
 -- window_open: 0 where it isn't opened
 unfoldable pub window_open : Scene → List ℕ → Outcome Reply
 window_open w args =
-    answered (with_window w (arg args 0) (arg args 1) (arg args 2) (arg args 3) (arg args 4)) (replies (opened_id w (arg args 0) (arg args 1) (arg args 3)))
+    answered (with_window w (arg args 0) (arg args 1) (arg args 2) (arg args 3) (arg args 4))
+    (replies (opened_id w (arg args 0) (arg args 1) (arg args 3)))
 
 -- window_close: gives the counts of its stream
 unfoldable pub window_close : Scene → FlatState → ℕ → List ℕ → Outcome Reply

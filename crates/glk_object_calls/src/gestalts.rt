@@ -84,12 +84,13 @@ pub fn gestalt_ext<A: Allocator + Clone>(
     state: &State<A>,
     args: &[u32],
 ) -> Result<Reply, Fault>
-    ensures value { Calls (IsTrue (has_glyphs args.now)) result world.now world.now (gestalt_ext world.now.scene state.now.flat args.now) }
+    ensures value { Calls (IsTrue (has_glyphs args.now)) result world.now world.now
+        (gestalt_ext world.now.scene state.now.flat args.now) }
     ensures fits { (room : ℕ) → IfOk result (IsReply state.now.flat room) }
 {
     let places = glyphs_place(args);
     can_lay(state, places)?;
     let mut reply = reply(world.alloc(), gestalt_of(arg(args, 0), arg(args, 1)));
-    lay(world.alloc(), &mut reply.writes, places, &[1])?;
+    lay(world.alloc(), &mut reply.writes, places, &[1_u32])?;
     Ok(reply)
 }

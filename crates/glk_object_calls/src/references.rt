@@ -1,13 +1,22 @@
 //! The calls of file references, and the opening of files (Glk 0.7.5, "File References" and "File Streams";
 //! specs/References).
-ghost use Rattle.std.specs.Prelude.{ℕ, ◌≡◌, ◌≤◌, ◌==◌, ◌&&◌, ◌||◌, not, Ok, Some, None, if◌then◌else◌, length, IfOk, OnErr, IsTrue};
+ghost use Rattle.std.specs.Prelude.{ℕ, ◌≡◌, ◌≤◌, ◌+◌, ◌==◌, ◌&&◌, ◌||◌, not, Ok, Some, None, if◌then◌else◌, length};
+ghost use Rattle.std.specs.Prelude.{map, IfOk, OnErr, OnOk, IsTrue};
 ghost use Rattle.gx_outside.specs.Outside.{IsBounded};
 ghost use Rattle.gx_state.specs.Flat.{FlatState};
 ghost use Rattle.gx_state.specs.Replies.{IsReply};
-ghost use Rattle.glk_world.specs.World.{is_composed, has_reference, reference_at, arg, Calls};
+ghost use Rattle.glk_objects.specs.Objects.{met_from};
+ghost use Rattle.glk_streams.specs.Constants.{largest};
+ghost use Rattle.glk_world.specs.World.{after, silent, waits, reference_id, is_composed, has_reference, reference_at};
+ghost use Rattle.glk_world.specs.World.{arg, Calls};
 ghost use Rattle.glk_world.specs.Calls.{is_identifier};
 ghost use Rattle.glk_replies.specs.Turns.{IsTurnFor};
-ghost use Rattle.glk_object_calls.specs.References.{created, temporary_name, fileref_create_temp, fileref_create_by_name, fileref_create_by_prompt, prompt_goes_on, prompt_goes_on_grow, fileref_create_from_fileref, fileref_destroy, fileref_iterate, fileref_get_rock, file_name, fileref_delete_file, fileref_does_file_exist, form_for, open_with, loads, stream_open_file, open_goes_on, open_goes_on_grow};
+ghost use Rattle.glk_object_calls.specs.References.{created, temporary_name, fileref_create_temp};
+ghost use Rattle.glk_object_calls.specs.References.{fileref_create_by_name, fileref_create_by_prompt, prompt_goes_on};
+ghost use Rattle.glk_object_calls.specs.References.{prompt_goes_on_grow, fileref_create_from_fileref, fileref_destroy};
+ghost use Rattle.glk_object_calls.specs.References.{fileref_iterate, fileref_get_rock, file_name, fileref_delete_file};
+ghost use Rattle.glk_object_calls.specs.References.{fileref_does_file_exist, form_for, open_with, loads};
+ghost use Rattle.glk_object_calls.specs.References.{stream_open_file, opening_grows, open_goes_on, open_goes_on_grow};
 
 use glk_files::{base_name, full_name};
 use glk_replies::selectors::{
@@ -28,7 +37,8 @@ pub const TEXT_MODE: u32 = 0x100;
 
 /// Makes a file reference.
 fn create(world: &mut World, base: Name, usage: u32, rock: u32) -> Result<Reply, Fault>
-    ensures value { Calls (IsTrue (is_identifier world.old.scene.next_id)) result world.old world.new (created world.old.scene base usage rock) }
+    ensures value { Calls (IsTrue (is_identifier world.old.scene.next_id)) result world.old world.new
+        (created world.old.scene base usage rock) }
     ensures fits { (f : FlatState) (room : ℕ) → IfOk result (IsReply f room) }
 {
     let id = world.add_ref(base, usage, rock)?;
@@ -48,7 +58,8 @@ fn temporary_name(alloc: Global, id: u32) -> Result<Name, AllocError>
 /// fileref_create_temp: a file of a name that no other has.
 #[tactic(auto, unfolding(crate::specs::References::fileref_create_temp, glk_world::specs::Calls::with_reference))]
 pub fn fileref_create_temp(world: &mut World, args: &[u32]) -> Result<Reply, Fault>
-    ensures value { Calls (IsTrue (is_identifier world.old.scene.next_id)) result world.old world.new (fileref_create_temp world.old.scene args.now) }
+    ensures value { Calls (IsTrue (is_identifier world.old.scene.next_id)) result world.old world.new
+        (fileref_create_temp world.old.scene args.now) }
     ensures fits { (f : FlatState) (room : ℕ) → IfOk result (IsReply f room) }
 {
     if world.next_id() > LAST_IDENTIFIER {
@@ -65,7 +76,8 @@ pub fn fileref_create_by_name<A: Allocator + Clone>(
     state: &State<A>,
     args: &[u32],
 ) -> Result<Reply, Fault>
-    ensures value { Calls (IsTrue (is_identifier world.old.scene.next_id)) result world.old world.new (fileref_create_by_name world.old.scene state.now.flat args.now) }
+    ensures value { Calls (IsTrue (is_identifier world.old.scene.next_id)) result world.old world.new
+        (fileref_create_by_name world.old.scene state.now.flat args.now) }
     ensures fits { (f : FlatState) (room : ℕ) → IfOk result (IsReply f room) }
 {
     let at = arg(args, 1);
@@ -81,7 +93,8 @@ pub fn fileref_create_by_name<A: Allocator + Clone>(
 /// fileref_create_by_prompt: waits for the line that is the name.
 #[tactic(auto, unfolding(crate::specs::References::fileref_create_by_prompt))]
 pub fn fileref_create_by_prompt(world: &mut World, args: &[u32]) -> Result<Turn, Fault>
-    ensures value { Calls (IsTrue (not (is_composed world.old.scene))) result world.old world.new (fileref_create_by_prompt world.old.scene args.now) }
+    ensures value { Calls (IsTrue (not (is_composed world.old.scene))) result world.old world.new
+        (fileref_create_by_prompt world.old.scene args.now) }
     ensures fits { (f : FlatState) (room : ℕ) → IfOk result (IsTurnFor f room) }
 {
     world.show_prompt()?;
@@ -92,7 +105,8 @@ pub fn fileref_create_by_prompt(world: &mut World, args: &[u32]) -> Result<Turn,
 /// The line of a prompt was taken.
 #[tactic(auto, unfolding(crate::specs::References::prompt_goes_on, crate::specs::References::prompt_goes_on_grow, glk_world::specs::Calls::with_reference))]
 pub fn prompt_goes_on(world: &mut World, args: &[u32], line: &[u32]) -> Result<Reply, Fault>
-    ensures value { Calls (IsTrue (prompt_goes_on_grow world.old.scene line.now)) result world.old world.new (prompt_goes_on world.old.scene args.now line.now) }
+    ensures value { Calls (IsTrue (prompt_goes_on_grow world.old.scene line.now)) result world.old world.new
+        (prompt_goes_on world.old.scene args.now line.now) }
     ensures fits { (f : FlatState) (room : ℕ) → IfOk result (IsReply f room) }
 {
     match line {
@@ -113,7 +127,9 @@ pub fn prompt_goes_on(world: &mut World, args: &[u32], line: &[u32]) -> Result<R
 
 /// The base name of a file reference, if it is there.
 fn base_of(world: &World, id: u32) -> Result<Option<Name>, AllocError>
-    ensures value { IfOk result (λ base. base ≡ (if has_reference world.now.scene id then Some (reference_at world.now.scene id).base else None)) }
+    ensures value { IfOk result
+        (λ base. base ≡ (if has_reference world.now.scene id then Some (reference_at world.now.scene id).base
+        else None)) }
     ensures memory { OnErr result (IsTrue (has_reference world.now.scene id)) }
 {
     match world.file_ref(id) {
@@ -125,7 +141,8 @@ fn base_of(world: &World, id: u32) -> Result<Option<Name>, AllocError>
 /// fileref_create_from_fileref: the same name for another usage.
 #[tactic(auto, unfolding(crate::specs::References::fileref_create_from_fileref, glk_world::specs::Calls::with_reference))]
 pub fn fileref_create_from_fileref(world: &mut World, args: &[u32]) -> Result<Reply, Fault>
-    ensures value { Calls (IsTrue (has_reference world.old.scene (arg args.now 1) && is_identifier world.old.scene.next_id)) result world.old world.new (fileref_create_from_fileref world.old.scene args.now) }
+    ensures value { Calls (IsTrue (has_reference world.old.scene (arg args.now 1) && is_identifier
+        world.old.scene.next_id)) result world.old world.new (fileref_create_from_fileref world.old.scene args.now) }
     ensures fits { (f : FlatState) (room : ℕ) → IfOk result (IsReply f room) }
 {
     if world.next_id() > LAST_IDENTIFIER {
@@ -167,8 +184,14 @@ pub fn fileref_iterate<A: Allocator + Clone>(
     room: u32,
     args: &[u32],
 ) -> Result<Reply, Fault>
-    ensures value { Calls (IsTrue (not (arg args.now 1 == 0))) result world.now world.now (fileref_iterate world.now.scene state.now.flat room args.now) }
+    ensures value { Calls (IsTrue (not (arg args.now 1 == 0))) result world.now world.now
+        (fileref_iterate world.now.scene state.now.flat room args.now) }
     ensures fits { IfOk result (IsReply state.now.flat room) }
+
+    // Iterating from 0 up to 0 meets each file reference once, in order of creation.
+    ensures each { (more : ℕ)
+        → met_from reference_id (length world.now.scene.references + more) world.now.scene.references 0
+        ≡ map reference_id world.now.scene.references }
 {
     let next = world.next_ref(arg(args, 0));
     let rock = rock_of(world, next);
@@ -198,27 +221,36 @@ fn file_name(world: &World, id: u32) -> Result<Name, AllocError>
     }
 }
 
-/// fileref_delete_file: asks that the file be removed.
+/// A call waits for what is done with the file of its reference; answers the file's full name.
+fn wait_for_file(world: &mut World, selector: u32, args: &[u32]) -> Result<Name, AllocError>
+    requires { IsTrue (has_reference world.old.scene (arg args.now 0)) }
+    ensures new { OnOk result (world.new ≡ after world.old (silent (waits world.old.scene selector args.now))) }
+    ensures name { IfOk result (λ name. name ≡ file_name world.old.scene (arg args.now 0)) }
+{
+    let name = file_name(world, arg(args, 0))?;
+    world.wait(selector, args);
+    Ok(name)
+}
+
+/// fileref_delete_file: asks that the file be removed. Its name is made, so that memory may always be wanted.
 #[tactic(auto, unfolding(crate::specs::References::fileref_delete_file))]
 pub fn fileref_delete_file(world: &mut World, args: &[u32]) -> Result<Turn, Fault>
     requires { IsTrue (has_reference world.old.scene (arg args.now 0)) }
     ensures value { Calls (Unit {0}) result world.old world.new (fileref_delete_file world.old.scene args.now) }
     ensures fits { (f : FlatState) (room : ℕ) → IfOk result (IsTurnFor f room) }
 {
-    let name = file_name(world, arg(args, 0))?;
-    world.wait(FILEREF_DELETE_FILE, args);
+    let name = wait_for_file(world, FILEREF_DELETE_FILE, args)?;
     Ok(Turn::Remove(name))
 }
 
-/// fileref_does_file_exist: asks whether there is a file.
+/// fileref_does_file_exist: asks whether there is a file, by its name.
 #[tactic(auto, unfolding(crate::specs::References::fileref_does_file_exist))]
 pub fn fileref_does_file_exist(world: &mut World, args: &[u32]) -> Result<Turn, Fault>
     requires { IsTrue (has_reference world.old.scene (arg args.now 0)) }
     ensures value { Calls (Unit {0}) result world.old world.new (fileref_does_file_exist world.old.scene args.now) }
     ensures fits { (f : FlatState) (room : ℕ) → IfOk result (IsTurnFor f room) }
 {
-    let name = file_name(world, arg(args, 0))?;
-    world.wait(FILEREF_DOES_FILE_EXIST, args);
+    let name = wait_for_file(world, FILEREF_DOES_FILE_EXIST, args)?;
     Ok(Turn::Has(name))
 }
 
@@ -248,15 +280,19 @@ fn form_for(selector: u32, usage: u32) -> FileForm
     }
 }
 
-/// Opens a stream of a file with this content.
-#[tactic(auto, unfolding(crate::specs::References::open_with))]
+/// Opens a stream of a file with this content; answers 0, and makes no name, where no identifier is left.
+#[tactic(auto, unfolding(crate::specs::References::open_with, glk_world::specs::Calls::with_stream))]
 fn open_with(world: &mut World, selector: u32, args: &[u32], content: Bytes) -> Result<Reply, Fault>
     requires there { IsTrue (has_reference world.old.scene (arg args.now 0)) }
     requires mode { IsTrue (arg args.now 1 == WRITE || loads (arg args.now 1)) }
-    requires size { length content ≤ 0x01000000 }
-    ensures value { Calls (Unit {0}) result world.old world.new (open_with world.old.scene selector args.now content) }
+    requires size { length content ≤ largest }
+    ensures value { Calls (IsTrue (is_identifier world.old.scene.next_id)) result world.old world.new
+        (open_with world.old.scene selector args.now content) }
     ensures fits { (f : FlatState) (room : ℕ) → IfOk result (IsReply f room) }
 {
+    if world.next_id() > LAST_IDENTIFIER {
+        return Ok(reply(world.alloc(), 0));
+    }
     let kind = StreamKind::File {
         name: file_name(world, arg(args, 0))?,
         content,
@@ -270,7 +306,8 @@ fn open_with(world: &mut World, selector: u32, args: &[u32], content: Bytes) -> 
 #[tactic(auto, unfolding(crate::specs::References::stream_open_file))]
 pub fn stream_open_file(world: &mut World, selector: u32, args: &[u32]) -> Result<Turn, Fault>
     requires { IsTrue (has_reference world.old.scene (arg args.now 0)) }
-    ensures value { Calls (IsTrue (arg args.now 1 == WRITE || loads (arg args.now 1))) result world.old world.new (stream_open_file world.old.scene selector args.now) }
+    ensures value { Calls (IsTrue (opening_grows world.old.scene args.now)) result world.old world.new
+        (stream_open_file world.old.scene selector args.now) }
     ensures fits { (f : FlatState) (room : ℕ) → IfOk result (IsTurnFor f room) }
 {
     match arg(args, 1) {
@@ -279,8 +316,7 @@ pub fn stream_open_file(world: &mut World, selector: u32, args: &[u32]) -> Resul
             Ok(Turn::Answer(open_with(world, selector, args, empty)?))
         }
         READ | READ_WRITE | WRITE_APPEND => {
-            let name = file_name(world, arg(args, 0))?;
-            world.wait(selector, args);
+            let name = wait_for_file(world, selector, args)?;
             Ok(Turn::Load(name))
         }
         _ => Ok(Turn::Answer(reply(world.alloc(), 0))),
@@ -296,8 +332,9 @@ pub fn open_goes_on(
 ) -> Result<Reply, Fault>
     requires there { IsTrue (has_reference world.old.scene (arg args.now 0)) }
     requires mode { IsTrue (loads (arg args.now 1)) }
-    requires size { IsBounded 0x01000000 load }
-    ensures value { Calls (IsTrue (open_goes_on_grow args.now load)) result world.old world.new (open_goes_on world.old.scene selector args.now load) }
+    requires size { IsBounded largest load }
+    ensures value { Calls (IsTrue (open_goes_on_grow world.old.scene args.now load)) result world.old world.new
+        (open_goes_on world.old.scene selector args.now load) }
     ensures fits { (f : FlatState) (room : ℕ) → IfOk result (IsReply f room) }
 {
     match load {

@@ -1,13 +1,19 @@
 //! The calls of streams (Glk 0.7.5, "Streams"; specs/Streams).
-ghost use Rattle.std.specs.Prelude.{◌≡◌, ℕ, ◌==◌, ◌≤◌, ◌&&◌, ◌||◌, not, Some, None, Ok, is_some, length, IfOk, IfSome, IsTrue, MatchOption};
+ghost use Rattle.std.specs.Prelude.{◌≡◌, ℕ, ◌+◌, ◌==◌, ◌≤◌, ◌&&◌, ◌||◌, not, Some, None, Ok, is_some, length, map};
+ghost use Rattle.std.specs.Prelude.{IfOk, IfSome, IsTrue, MatchOption};
 ghost use Rattle.gx_state.specs.Flat.{FlatState};
 ghost use Rattle.gx_state.specs.Replies.{IsReply};
+ghost use Rattle.glk_objects.specs.Objects.{met_from};
+ghost use Rattle.glk_streams.specs.Constants.{largest};
 ghost use Rattle.glk_streams.specs.Stream as one;
 ghost use Rattle.glk_streams.specs.Streams as streams;
 ghost use Rattle.glk_world.specs.World.{after, silent, arg, Calls};
 ghost use Rattle.glk_world.specs.Calls.{is_identifier};
 ghost use Rattle.glk_replies.specs.Turns.{IsTurnFor};
-ghost use Rattle.glk_object_calls.specs.Streams.{stream_of, stream_iterate, stream_get_rock, memory_kind, stream_open_memory, closed, close, stored, stream_close, stream_set_position, stream_get_position, stream_set_current, stream_get_current};
+ghost use Rattle.glk_object_calls.specs.Streams.{stream_of, stream_iterate, stream_get_rock, memory_kind};
+ghost use Rattle.glk_object_calls.specs.Streams.{stream_open_memory, closed, close, stored, stream_close};
+ghost use Rattle.glk_object_calls.specs.Streams.{stream_set_position, stream_get_position, stream_set_current};
+ghost use Rattle.glk_object_calls.specs.Streams.{stream_get_current};
 
 use glk_replies::selectors::STREAM_CLOSE;
 use glk_replies::{Turn, can_give_pair, give, reply};
@@ -37,10 +43,15 @@ pub fn stream_iterate<A: Allocator + Clone>(
     room: u32,
     args: &[u32],
 ) -> Result<Reply, Fault>
-    ensures value { Calls (IsTrue (not (arg args.now 1 == 0))) result world.now world.now (stream_iterate world.now.scene state.now.flat room args.now) }
+    ensures value { Calls (IsTrue (not (arg args.now 1 == 0))) result world.now world.now
+        (stream_iterate world.now.scene state.now.flat room args.now) }
     ensures fits { IfOk result (IsReply state.now.flat room) }
+
+    // Iterating from 0 up to 0 meets each stream once, in order of creation.
+    ensures each { (more : ℕ) → met_from streams.id_of (length world.now.scene.streams + more) world.now.scene.streams 0
+        ≡ map streams.id_of world.now.scene.streams }
 {
-    let next = world.streams().next(arg(args, 0));
+    let next = world.next_stream(arg(args, 0));
     let rock = rock_of(world, next);
     give(world.alloc(), state, room, next, arg(args, 1), &[rock])
 }
@@ -57,7 +68,8 @@ pub fn stream_get_rock(world: &World, args: &[u32]) -> Reply
 /// stream_open_memory, stream_open_memory_uni: a stream of bytes, or of words where `wide`.
 #[tactic(auto, unfolding(crate::specs::Streams::stream_open_memory))]
 pub fn stream_open_memory(world: &mut World, args: &[u32], wide: bool) -> Result<Reply, Fault>
-    ensures value { Calls (IsTrue (one.allows (memory_kind args.now wide) (arg args.now 2) && is_identifier world.old.scene.next_id)) result world.old world.new (stream_open_memory world.old.scene args.now wide) }
+    ensures value { Calls (IsTrue (one.allows (memory_kind args.now wide) (arg args.now 2) && is_identifier
+        world.old.scene.next_id)) result world.old world.new (stream_open_memory world.old.scene args.now wide) }
     ensures fits { (f : FlatState) (room : ℕ) → IfOk result (IsReply f room) }
 {
     match arg(args, 2) {
@@ -93,7 +105,8 @@ pub fn close<A: Allocator + Clone>(
     args: &[u32],
 ) -> Result<Reply, Fault>
     requires { IsTrue (streams.has world.old.scene.streams (arg args.now 0)) }
-    ensures value { Calls (IsTrue (not (arg args.now 1 == 0))) result world.old world.new (close world.old.scene state.now.flat room args.now) }
+    ensures value { Calls (IsTrue (not (arg args.now 1 == 0))) result world.old world.new
+        (close world.old.scene state.now.flat room args.now) }
     ensures fits { IfOk result (IsReply state.now.flat room) }
 {
     let id = arg(args, 0);
@@ -113,8 +126,9 @@ pub fn close<A: Allocator + Clone>(
 /// The name and the content of a file that has to be stored.
 fn stored(world: &World, id: u32) -> Option<(&str, &[u8])>
     requires { IsTrue (streams.has world.now.scene.streams id) }
-    ensures value { MatchOption result (stored world.now.scene id ≡ None) (λ file. stored world.now.scene id ≡ Some (file.0.now, file.1.now)) }
-    ensures fits { IfSome result (λ file. length file.1.now ≤ 0x01000000) }
+    ensures value { MatchOption result (stored world.now.scene id ≡ None)
+        (λ file. stored world.now.scene id ≡ Some (file.0.now, file.1.now)) }
+    ensures fits { IfSome result (λ file. length file.1.now ≤ largest) }
 {
     if world.streams().writable(id) {
         world.streams().file(id)
@@ -132,7 +146,8 @@ pub fn stream_close<A: Allocator + Clone>(
     args: &[u32],
 ) -> Result<Turn, Fault>
     requires { IsTrue (streams.has world.old.scene.streams (arg args.now 0)) }
-    ensures value { Calls (IsTrue (not (arg args.now 1 == 0) || is_some (stored world.old.scene (arg args.now 0)))) result world.old world.new (stream_close world.old.scene state.now.flat room args.now) }
+    ensures value { Calls (IsTrue (not (arg args.now 1 == 0) || is_some (stored world.old.scene (arg args.now 0))))
+        result world.old world.new (stream_close world.old.scene state.now.flat room args.now) }
     ensures fits { IfOk result (IsTurnFor state.now.flat room) }
 {
     let Some((name, content)) = stored(world, arg(args, 0)) else {

@@ -1,13 +1,19 @@
 //! The calls of windows (Glk 0.7.5, "Windows"; specs/Windows).
-ghost use Rattle.std.specs.Prelude.{◌≡◌, ℕ, ◌==◌, ◌⊎◌, ◌||◌, not, Ok, IfOk, IsTrue};
+ghost use Rattle.std.specs.Prelude.{◌≡◌, ℕ, ◌+◌, ◌==◌, ◌⊎◌, ◌||◌, not, length, map, Ok, IfOk, IsTrue};
 ghost use Rattle.gx_state.specs.Flat.{FlatState};
 ghost use Rattle.gx_state.specs.Replies.{IsReply};
+ghost use Rattle.glk_objects.specs.Objects.{met_from};
 ghost use Rattle.glk_streams.specs.Streams as streams;
-ghost use Rattle.glk_windows.specs.Windows.{is_window, parent};
+ghost use Rattle.glk_windows.specs.Windows.{entry_id, is_window, parent};
 ghost use Rattle.glk_windows.specs.Changes.{arranging_grows};
 ghost use Rattle.glk_world.specs.Calls.{can_open};
 ghost use Rattle.glk_world.specs.World.{arg, Calls};
-ghost use Rattle.glk_object_calls.specs.Windows.{window_of, pair_at, sibling, window_open, window_close, window_get_size, window_set_arrangement, window_get_arrangement, window_move_cursor, window_set_echo_stream, window_get_echo_stream, window_iterate, window_get_rock, window_get_type, window_get_parent, window_get_sibling, window_get_root, window_clear, window_get_stream, set_window};
+ghost use Rattle.glk_object_calls.specs.Windows.{window_of, pair_at, sibling, window_open, window_close};
+ghost use Rattle.glk_object_calls.specs.Windows.{window_get_size, window_set_arrangement, window_get_arrangement};
+ghost use Rattle.glk_object_calls.specs.Windows.{window_move_cursor, window_set_echo_stream, window_get_echo_stream};
+ghost use Rattle.glk_object_calls.specs.Windows.{window_iterate, window_get_rock, window_get_type, window_get_parent};
+ghost use Rattle.glk_object_calls.specs.Windows.{window_get_sibling, window_get_root, window_clear, window_get_stream};
+ghost use Rattle.glk_object_calls.specs.Windows.{set_window};
 
 use glk_replies::{give, give_each, reply};
 use glk_windows::{Entry, Pair, Windows};
@@ -43,7 +49,8 @@ fn pair_at(windows: &Windows, win: u32) -> Pair
 #[tactic(auto, unfolding(crate::specs::Windows::window_open))]
 pub fn window_open(world: &mut World, args: &[u32]) -> Result<Reply, Fault>
     requires { arg args.now 0 ≡ 0 ⊎ IsTrue (is_window world.old.scene.windows (arg args.now 0)) }
-    ensures value { Calls (IsTrue (can_open world.old.scene (arg args.now 0) (arg args.now 1) (arg args.now 3))) result world.old world.new (window_open world.old.scene args.now) }
+    ensures value { Calls (IsTrue (can_open world.old.scene (arg args.now 0) (arg args.now 1) (arg args.now 3))) result
+        world.old world.new (window_open world.old.scene args.now) }
     ensures fits { (f : FlatState) (room : ℕ) → IfOk result (IsReply f room) }
 {
     let id = world.add_window(
@@ -56,7 +63,8 @@ pub fn window_open(world: &mut World, args: &[u32]) -> Result<Reply, Fault>
     Ok(reply(world.alloc(), id))
 }
 
-/// window_close: closes a window and gives the counts of its stream.
+/// window_close: closes a window and gives the counts of its stream. What goes with it is listed, so that memory may
+/// always be wanted.
 #[tactic(auto, unfolding(crate::specs::Windows::window_close))]
 pub fn window_close<A: Allocator + Clone>(
     world: &mut World,
@@ -65,7 +73,8 @@ pub fn window_close<A: Allocator + Clone>(
     args: &[u32],
 ) -> Result<Reply, Fault>
     requires { IsTrue (is_window world.old.scene.windows (arg args.now 0)) }
-    ensures value { Calls (Unit {0}) result world.old world.new (window_close world.old.scene state.now.flat room args.now) }
+    ensures value { Calls (Unit {0}) result world.old world.new
+        (window_close world.old.scene state.now.flat room args.now) }
     ensures fits { IfOk result (IsReply state.now.flat room) }
 {
     let stream = window_of(world, args).stream;
@@ -90,7 +99,8 @@ pub fn window_get_size<A: Allocator + Clone>(
     room: u32,
     args: &[u32],
 ) -> Result<Reply, Fault>
-    ensures value { Calls (IsTrue (not (arg args.now 1 == 0) || not (arg args.now 2 == 0))) result world.now world.now (window_get_size world.now.scene state.now.flat room args.now) }
+    ensures value { Calls (IsTrue (not (arg args.now 1 == 0) || not (arg args.now 2 == 0))) result world.now world.now
+        (window_get_size world.now.scene state.now.flat room args.now) }
     ensures fits { IfOk result (IsReply state.now.flat room) }
 {
     let (columns, rows) = world.windows().text_size(arg(args, 0));
@@ -107,7 +117,9 @@ pub fn window_get_size<A: Allocator + Clone>(
 /// window_set_arrangement: gives a pair window another method, size and key, where the rules of windows allow it.
 #[tactic(auto, unfolding(crate::specs::Windows::window_set_arrangement))]
 pub fn window_set_arrangement(world: &mut World, args: &[u32]) -> Result<Reply, Fault>
-    ensures value { Calls (IsTrue (arranging_grows world.old.scene.windows (arg args.now 0) (arg args.now 1) (arg args.now 2) (arg args.now 3))) result world.old world.new (window_set_arrangement world.old.scene args.now) }
+    ensures value { Calls (IsTrue (arranging_grows world.old.scene.windows (arg args.now 0) (arg args.now 1)
+        (arg args.now 2) (arg args.now 3))) result world.old world.new
+        (window_set_arrangement world.old.scene args.now) }
     ensures fits { (f : FlatState) (room : ℕ) → IfOk result (IsReply f room) }
 {
     world.arrange(arg(args, 0), arg(args, 1), arg(args, 2), arg(args, 3))?;
@@ -122,7 +134,8 @@ pub fn window_get_arrangement<A: Allocator + Clone>(
     room: u32,
     args: &[u32],
 ) -> Result<Reply, Fault>
-    ensures value { Calls (IsTrue (not (arg args.now 1 == 0) || not (arg args.now 2 == 0) || not (arg args.now 3 == 0))) result world.now world.now (window_get_arrangement world.now.scene state.now.flat room args.now) }
+    ensures value { Calls (IsTrue (not (arg args.now 1 == 0) || not (arg args.now 2 == 0) || not (arg args.now 3 == 0)))
+        result world.now world.now (window_get_arrangement world.now.scene state.now.flat room args.now) }
     ensures fits { IfOk result (IsReply state.now.flat room) }
 {
     let pair = pair_at(world.windows(), arg(args, 0));
@@ -175,10 +188,16 @@ pub fn window_iterate<A: Allocator + Clone>(
     room: u32,
     args: &[u32],
 ) -> Result<Reply, Fault>
-    ensures value { Calls (IsTrue (not (arg args.now 1 == 0))) result world.now world.now (window_iterate world.now.scene state.now.flat room args.now) }
+    ensures value { Calls (IsTrue (not (arg args.now 1 == 0))) result world.now world.now
+        (window_iterate world.now.scene state.now.flat room args.now) }
     ensures fits { IfOk result (IsReply state.now.flat room) }
+
+    // Iterating from 0 up to 0 meets each window once, in order of creation.
+    ensures each { (more : ℕ)
+        → met_from entry_id (length world.now.scene.windows.entries + more) world.now.scene.windows.entries 0
+        ≡ map entry_id world.now.scene.windows.entries }
 {
-    let win = world.windows().next(arg(args, 0));
+    let win = world.next_window(arg(args, 0));
     let rock = world.windows().entry_at(win).rock;
     give(world.alloc(), state, room, win, arg(args, 1), &[rock])
 }

@@ -1,3 +1,4 @@
 pub mod Places
 pub mod Rising
 pub mod Above
+pub mod Meeting

@@ -1,5 +1,6 @@
 -- An object at its place.
-use Rattle.std.proofs.Common.{zero, suc, ◌≡◌, ◌≢◌, ◌<◌, ◌≤◌, ◌+◌, ℕ, true, List, [], ◌∷◌, length, get_or, set, drop, drop-cons, refl, arith}
+use Rattle.std.proofs.Common.{zero, suc, ◌≡◌, ◌≢◌, ◌<◌, ◌≤◌, ◌+◌, ℕ, true, List, [], ◌∷◌, length, get_or, set, drop}
+use Rattle.std.proofs.Common.{drop-cons, refl, arith}
 use Rattle.std.proofs.lemmas.Grind.{common_steps}
 use Rattle.std.proofs.lemmas.Bool.Decides.{nat_tests}
 use Rattle.std.specs.List.{remove}
@@ -16,12 +17,14 @@ module _ {T : Type 0} (id_of : T → ℕ) where
   has_within [] id h = absurd (grind arith)
   has_within (x ∷ xs) id h = grind (arith, common_steps, nat_tests, has_within xs id)
 
-  pub get_at_place : (none : T) (xs : List T) (id : ℕ) (d : T) → place id_of xs id < length xs → get_or xs (place id_of xs id) d ≡ at id_of none xs id
+  pub get_at_place : (none : T) (xs : List T) (id : ℕ) (d : T) → place id_of xs id < length xs
+      → get_or xs (place id_of xs id) d ≡ at id_of none xs id
   unfolding place at
   get_at_place none [] id d h = absurd (grind arith)
   get_at_place none (x ∷ xs) id d h = grind (arith, common_steps, nat_tests, get_at_place none xs id d)
 
-  pub set_at_place : (xs : List T) (id : ℕ) (new : T) → id_of new ≡ id → set xs (place id_of xs id) new ≡ with id_of xs new
+  pub set_at_place : (xs : List T) (id : ℕ) (new : T) → id_of new ≡ id
+      → set xs (place id_of xs id) new ≡ with id_of xs new
   unfolding place with
   set_at_place [] id new h = grind arith
   set_at_place (x ∷ xs) id new h = grind (arith, common_steps, nat_tests, set_at_place xs id new)
@@ -31,7 +34,8 @@ module _ {T : Type 0} (id_of : T → ℕ) where
   id_at none [] id h = absurd (grind arith)
   id_at none (x ∷ xs) id h = grind (arith, common_steps, nat_tests, id_at none xs id)
 
-  pub remove_at_place : (xs : List T) (id : ℕ) → place id_of xs id < length xs → remove xs (place id_of xs id) ≡ without id_of xs id
+  pub remove_at_place : (xs : List T) (id : ℕ) → place id_of xs id < length xs
+      → remove xs (place id_of xs id) ≡ without id_of xs id
   unfolding place without
   remove_at_place [] id h = absurd (grind arith)
   remove_at_place (x ∷ xs) id h = grind (arith, common_steps, nat_tests, remove_at_place xs id)
@@ -47,11 +51,13 @@ module _ {T : Type 0} (id_of : T → ℕ) where
   without_past (x ∷ xs) id h = grind (arith, common_steps, nat_tests, without_past xs id)
 
   -- one turn of the walk to an object
-  pub walk_more : (xs : List T) (i id : ℕ) (d : T) → i < length xs → id_of (get_or xs i d) ≢ id → place id_of (drop i xs) id ≡ place id_of (drop (i + 1) xs) id + 1
+  pub walk_more : (xs : List T) (i id : ℕ) (d : T) → i < length xs → id_of (get_or xs i d) ≢ id
+      → place id_of (drop i xs) id ≡ place id_of (drop (i + 1) xs) id + 1
   unfolding place
   walk_more xs i id d within other = rw (drop-cons xs i d) (grind (arith, common_steps, nat_tests))
 
-  pub walk_here : (xs : List T) (i id : ℕ) (d : T) → i < length xs → id_of (get_or xs i d) ≡ id → place id_of (drop i xs) id ≡ 0
+  pub walk_here : (xs : List T) (i id : ℕ) (d : T) → i < length xs → id_of (get_or xs i d) ≡ id
+      → place id_of (drop i xs) id ≡ 0
   unfolding place
   walk_here xs i id d within same = rw (drop-cons xs i d) (grind (arith, common_steps, nat_tests))
 
@@ -61,6 +67,7 @@ module _ {T : Type 0} (id_of : T → ℕ) where
   walk_past (x ∷ xs) zero id h = absurd (grind (arith, common_steps))
   walk_past (x ∷ xs) (suc n) id h = walk_past xs n id (omega arith)
 
-pub ruleset places = (place_within, has_within, get_at_place, set_at_place, id_at, remove_at_place, none_at, without_past)
+pub ruleset places =
+    (place_within, has_within, get_at_place, set_at_place, id_at, remove_at_place, none_at, without_past)
 
 pub ruleset walks = (walk_more, walk_here, walk_past)

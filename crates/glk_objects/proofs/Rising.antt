@@ -1,5 +1,6 @@
 -- Identifiers that rise: what a search by halving finds, and what keeps them rising.
-use Rattle.std.proofs.Common.{if◌then◌else◌, ◌≡◌, ◌≢◌, ◌<◌, ◌≤◌, ◌==◌, ◌+◌, ℕ, zero, suc, Bool, true, false, List, [], ◌∷◌, ◌++◌, length, get_or, set, refl, arith, ◌⊎◌, inl, inr, Ok, Err}
+use Rattle.std.proofs.Common.{if◌then◌else◌, ◌≡◌, ◌≢◌, ◌<◌, ◌≤◌, ◌==◌, ◌+◌, ℕ, zero, suc, Bool, true, false, List, []}
+use Rattle.std.proofs.Common.{◌∷◌, ◌++◌, length, map, get_or, set, refl, arith, ◌⊎◌, inl, inr, Ok, Err}
 use Rattle.std.specs.List.{filter}
 use Rattle.std.specs.List.Sorted.{IsNonDecreasingBy, IsBinarySearchResult, IsPartitionPoint}
 use Rattle.std.specs.Ordering.{nat_cmp, ordering_index}
@@ -39,7 +40,8 @@ module _ {T : Type 0} (id_of : T → ℕ) where
   ordered xs id up i j d le within =
       keeps_order (id_of (get_or xs i d)) (id_of (get_or xs j d)) id (grind (arith, below_later xs i j d up))
 
-  place_is : (xs : List T) (id i : ℕ) → Rises id_of xs → i < length xs → ((d : T) → id_of (get_or xs i d) ≡ id) → place id_of xs id ≡ i
+  place_is : (xs : List T) (id i : ℕ) → Rises id_of xs → i < length xs → ((d : T) → id_of (get_or xs i d) ≡ id)
+      → place id_of xs id ≡ i
   unfolding place
   place_is [] id i up within here = absurd (omega arith)
   place_is (x ∷ xs) id zero up within here = let same = here x in grind (arith, nat_tests, same)
@@ -49,7 +51,8 @@ module _ {T : Type 0} (id_of : T → ℕ) where
       let same = here x in
       grind (arith, nat_tests, less, rest, same)
 
-  place_none : (xs : List T) (id : ℕ) → ((i : ℕ) (d : T) → i < length xs → id_of (get_or xs i d) ≢ id) → place id_of xs id ≡ length xs
+  place_none : (xs : List T) (id : ℕ) → ((i : ℕ) (d : T) → i < length xs → id_of (get_or xs i d) ≢ id)
+      → place id_of xs id ≡ length xs
   unfolding place
   place_none [] id none = refl
   place_none (x ∷ xs) id none =
@@ -59,17 +62,20 @@ module _ {T : Type 0} (id_of : T → ℕ) where
 
   -- what stands on both sides of the place that a search answers where it finds nothing
   parted_split : (xs : List T) (id i : ℕ) → Rises id_of xs → i ≤ length xs
-      → (IsNonDecreasingBy (λ x. ordering_index (nat_cmp (id_of x) id)) xs → IsPartitionPoint (λ x. nat_cmp (id_of x) id ≡ Less) (λ x. nat_cmp (id_of x) id ≡ Greater) xs i)
+      → (IsNonDecreasingBy (λ x. ordering_index (nat_cmp (id_of x) id)) xs
+      → IsPartitionPoint (λ x. nat_cmp (id_of x) id ≡ Less) (λ x. nat_cmp (id_of x) id ≡ Greater) xs i)
       → IsSplit id_of xs id i
   parted_split xs id i up within parted =
       let parts = parted (ordered xs id up) in
       record {
         within = within;
-        up_to = λ j d lt. let less : id_of (get_or xs j d) < id = is_less _ _ (parts.0 j d (omega arith) lt) in omega (arith, less);
+        up_to = λ j d lt. let less : id_of (get_or xs j d) < id = is_less _ _ (parts.0 j d (omega arith) lt) in
+            omega (arith, less);
         above = λ j d le lt. is_greater _ _ (parts.1 j d le lt);
       }
 
-  found_split : (xs : List T) (id i : ℕ) → Rises id_of xs → i < length xs → ((d : T) → id_of (get_or xs i d) ≡ id) → IsSplit id_of xs id (i + 1)
+  found_split : (xs : List T) (id i : ℕ) → Rises id_of xs → i < length xs → ((d : T) → id_of (get_or xs i d) ≡ id)
+      → IsSplit id_of xs id (i + 1)
   found_split xs id i up within here = record {
     within = omega arith;
     up_to = λ j d lt. grind (arith, below_later xs j i d up, here d);
@@ -86,7 +92,8 @@ module _ {T : Type 0} (id_of : T → ℕ) where
       let split = parted_split xs id i up within parted in
       place_none xs id (λ j d lt same. elim (le_or_lt i j) [
         | inl le ↦ omega (arith, split.above j d le lt, same)
-        | inr less ↦ let under : id_of (get_or xs j d) < id = is_less _ _ ((parted (ordered xs id up)).0 j d (omega arith) less) in omega (arith, under, same)
+        | inr less ↦ let under : id_of (get_or xs j d) < id =
+            is_less _ _ ((parted (ordered xs id up)).0 j d (omega arith) less) in omega (arith, under, same)
       ])
 
   pub split_found : (xs : List T) (id i : ℕ) → Rises id_of xs → i < length xs
@@ -98,13 +105,19 @@ module _ {T : Type 0} (id_of : T → ℕ) where
   split_missed xs id i up within parted = parted_split xs id i up within parted
 
   -- the next identifier stands behind those up to a number
-  pub next_at : (xs : List T) (id count : ℕ) → IsSplit id_of xs id count → (d : T) → count < length xs → next id_of xs id ≡ id_of (get_or xs count d)
+  pub next_at : (xs : List T) (id count : ℕ) → IsSplit id_of xs id count → (d : T) → count < length xs
+      → next id_of xs id ≡ id_of (get_or xs count d)
   unfolding next
   next_at [] id count split d within = absurd (omega arith)
-  next_at (x ∷ xs) id zero split d within = let more = split.above 0 d (omega arith) (omega arith) in grind (arith, nat_tests, more)
+  next_at (x ∷ xs) id zero split d within = let more = split.above 0 d (omega arith) (omega arith) in
+      grind (arith, nat_tests, more)
   next_at (x ∷ xs) id (suc count) split d within =
       let fewer = split.up_to 0 d (omega arith) in
-      let rest : IsSplit id_of xs id count = record { within = omega (arith, split.within); up_to = λ i e lt. split.up_to (suc i) e (omega arith); above = λ i e le lt. split.above (suc i) e (omega arith) (omega arith) } in
+      let rest : IsSplit id_of xs id count = record {
+        within = omega (arith, split.within);
+        up_to = λ i e lt. split.up_to (suc i) e (omega arith);
+        above = λ i e le lt. split.above (suc i) e (omega arith) (omega arith);
+      } in
       let later = next_at xs id count rest d (omega arith) in
       grind (arith, nat_tests, fewer, later)
 
@@ -114,12 +127,17 @@ module _ {T : Type 0} (id_of : T → ℕ) where
   next_past (x ∷ xs) id zero split past = absurd (omega arith)
   next_past (x ∷ xs) id (suc count) split past =
       let fewer = split.up_to 0 x (omega arith) in
-      let rest : IsSplit id_of xs id count = record { within = omega (arith, split.within); up_to = λ i e lt. split.up_to (suc i) e (omega arith); above = λ i e le lt. split.above (suc i) e (omega arith) (omega arith) } in
+      let rest : IsSplit id_of xs id count = record {
+        within = omega (arith, split.within);
+        up_to = λ i e lt. split.up_to (suc i) e (omega arith);
+        above = λ i e le lt. split.above (suc i) e (omega arith) (omega arith);
+      } in
       let later = next_past xs id count rest (omega arith) in
       grind (arith, nat_tests, fewer, later)
 
   -- what keeps identifiers rising
-  pub below_end : (xs : List T) (id : ℕ) (new : T) → IsBelow id_of xs id → id < id_of new → IsBelow id_of (xs ++ new ∷ []) id
+  pub below_end : (xs : List T) (id : ℕ) (new : T) → IsBelow id_of xs id → id < id_of new
+      → IsBelow id_of (xs ++ new ∷ []) id
   below_end [] id new below less = (less, tt)
   below_end (x ∷ xs) id new below less = (below.0, below_end xs id new below.1 less)
 
@@ -127,15 +145,18 @@ module _ {T : Type 0} (id_of : T → ℕ) where
   rises_end [] new up above = (tt, tt)
   rises_end (x ∷ xs) new up above = (below_end xs (id_of x) new up.0 above.0, rises_end xs new up.1 above.1)
 
-  pub below_set : (xs : List T) (id i : ℕ) (new : T) → IsBelow id_of xs id → i < length xs → ((d : T) → id_of new ≡ id_of (get_or xs i d)) → IsBelow id_of (set xs i new) id
+  pub below_set : (xs : List T) (id i : ℕ) (new : T) → IsBelow id_of xs id → i < length xs
+      → ((d : T) → id_of new ≡ id_of (get_or xs i d)) → IsBelow id_of (set xs i new) id
   below_set [] id i new below within same = below
   below_set (x ∷ xs) id zero new below within same = let e = same x in (grind (arith, e, below.0), below.1)
   below_set (x ∷ xs) id (suc i) new below within same = (below.0, below_set xs id i new below.1 (omega arith) same)
 
-  pub rises_set : (xs : List T) (i : ℕ) (new : T) → Rises id_of xs → i < length xs → ((d : T) → id_of new ≡ id_of (get_or xs i d)) → Rises id_of (set xs i new)
+  pub rises_set : (xs : List T) (i : ℕ) (new : T) → Rises id_of xs → i < length xs
+      → ((d : T) → id_of new ≡ id_of (get_or xs i d)) → Rises id_of (set xs i new)
   rises_set [] i new up within same = up
   rises_set (x ∷ xs) zero new up within same = let e = same x in (rw e up.0, up.1)
-  rises_set (x ∷ xs) (suc i) new up within same = (below_set xs (id_of x) i new up.0 (omega arith) same, rises_set xs i new up.1 (omega arith) same)
+  rises_set (x ∷ xs) (suc i) new up within same =
+      (below_set xs (id_of x) i new up.0 (omega arith) same, rises_set xs i new up.1 (omega arith) same)
 
   pub below_with : (xs : List T) (id : ℕ) (new : T) → IsBelow id_of xs id → IsBelow id_of (with id_of xs new) id
   unfolding with
@@ -145,20 +166,42 @@ module _ {T : Type 0} (id_of : T → ℕ) where
   pub below_without : (xs : List T) (id gone : ℕ) → IsBelow id_of xs id → IsBelow id_of (without id_of xs gone) id
   unfolding without
   below_without [] id gone below = tt
-  below_without (x ∷ xs) id gone below = elim (id_of x == gone) as (λ b. IsBelow id_of (if b then xs else x ∷ without id_of xs gone) id) [ true ↦ below.1 | false ↦ (below.0, below_without xs id gone below.1) ]
+  below_without (x ∷ xs) id gone below =
+      elim (id_of x == gone) as (λ b. IsBelow id_of (if b then xs else x ∷ without id_of xs gone) id) [
+        | true ↦ below.1
+        | false ↦ (below.0, below_without xs id gone below.1)
+      ]
 
   pub rises_without : (xs : List T) (gone : ℕ) → Rises id_of xs → Rises id_of (without id_of xs gone)
   unfolding without
   rises_without [] gone up = tt
-  rises_without (x ∷ xs) gone up = elim (id_of x == gone) as (λ b. Rises id_of (if b then xs else x ∷ without id_of xs gone)) [ true ↦ up.1 | false ↦ (below_without xs (id_of x) gone up.0, rises_without xs gone up.1) ]
+  rises_without (x ∷ xs) gone up =
+      elim (id_of x == gone) as (λ b. Rises id_of (if b then xs else x ∷ without id_of xs gone)) [
+        | true ↦ up.1
+        | false ↦ (below_without xs (id_of x) gone up.0, rises_without xs gone up.1)
+      ]
 
   pub below_filter : (test : T → Bool) (xs : List T) (id : ℕ) → IsBelow id_of xs id → IsBelow id_of (filter test xs) id
   below_filter test [] id below = tt
-  below_filter test (x ∷ xs) id below = elim (test x) as (λ b. IsBelow id_of (if b then x ∷ filter test xs else filter test xs) id) [ true ↦ (below.0, below_filter test xs id below.1) | false ↦ below_filter test xs id below.1 ]
+  below_filter test (x ∷ xs) id below =
+      elim (test x) as (λ b. IsBelow id_of (if b then x ∷ filter test xs else filter test xs) id) [
+        | true ↦ (below.0, below_filter test xs id below.1)
+        | false ↦ below_filter test xs id below.1
+      ]
+
+  pub below_map : (f : T → T) → ((x : T) → id_of (f x) ≡ id_of x) → (xs : List T) (id : ℕ) → IsBelow id_of xs id
+      → IsBelow id_of (map f xs) id
+  below_map f same [] id below = tt
+  below_map f same (x ∷ xs) id below =
+      (let e = same x in let less = below.0 in omega (arith, e, less), below_map f same xs id below.1)
 
   pub rises_filter : (test : T → Bool) (xs : List T) → Rises id_of xs → Rises id_of (filter test xs)
   rises_filter test [] up = tt
-  rises_filter test (x ∷ xs) up = elim (test x) as (λ b. Rises id_of (if b then x ∷ filter test xs else filter test xs)) [ true ↦ (below_filter test xs (id_of x) up.0, rises_filter test xs up.1) | false ↦ rises_filter test xs up.1 ]
+  rises_filter test (x ∷ xs) up =
+      elim (test x) as (λ b. Rises id_of (if b then x ∷ filter test xs else filter test xs)) [
+        | true ↦ (below_filter test xs (id_of x) up.0, rises_filter test xs up.1)
+        | false ↦ rises_filter test xs up.1
+      ]
 
 pub ruleset nexts = (next_at, next_past)
 

@@ -1,7 +1,8 @@
 -- The objects of one class in order of creation (Glk 0.7.5, "Opaque Objects").
 --
 -- `id_of` gives an object's identifier. The identifiers in a list rise.
-use Rattle.std.specs.Prelude.{ℕ, ◌+◌, ◌<◌, ◌≤◌, ◌==◌, ◌||◌, nat_lt, Bool, false, if◌then◌else◌, List, [], ◌∷◌, length, slice_index_or}
+use Rattle.std.specs.Prelude.{ℕ, zero, suc, ◌+◌, ◌<◌, ◌≤◌, ◌==◌, ◌||◌, nat_lt, Bool, false, if◌then◌else◌, List, []}
+use Rattle.std.specs.Prelude.{◌∷◌, length, slice_index_or}
 
 -- an identifier is above all that are there
 abbrev pub IsAbove : {T : Type 0} → (T → ℕ) → List T → ℕ → Type 0
@@ -47,6 +48,12 @@ without id_of (x ∷ xs) id = if id_of x == id then xs else x ∷ without id_of 
 unfoldable pub next : {T : Type 0} → (T → ℕ) → List T → ℕ → ℕ
 next id_of [] id = 0
 next id_of (x ∷ xs) id = if nat_lt id (id_of x) then id_of x else next id_of xs id
+
+-- the identifiers that are met by going on from one to the next again and again, up to 0; so many at most
+unfoldable pub met_from : {T : Type 0} → (T → ℕ) → ℕ → List T → ℕ → List ℕ
+met_from id_of zero xs id = []
+met_from id_of (suc most) xs id =
+    if next id_of xs id == 0 then [] else next id_of xs id ∷ met_from id_of most xs (next id_of xs id)
 
 -- so many objects have identifiers up to a number, and all others have greater ones
 pub record IsSplit {T : Type 0} (id_of : T → ℕ) (xs : List T) (id count : ℕ) : Type 0 where

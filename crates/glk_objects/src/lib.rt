@@ -6,8 +6,8 @@
 //! list, `place` and `next` for every list whose identifiers rise. Nothing here takes memory.
 #![tactic(auto)]
 
-ghost use Rattle.std.specs.Prelude.{◌≡◌};
-ghost use Rattle.glk_objects.specs.Objects.{Rises, IsSplit, place, next};
+ghost use Rattle.std.specs.Prelude.{ℕ, ◌≡◌, ◌+◌, length, map};
+ghost use Rattle.glk_objects.specs.Objects.{Rises, IsBelow, IsSplit, place, next, met_from};
 
 /// What is found by an identifier.
 pub trait Object {
@@ -68,3 +68,12 @@ fn place_above<T: Object>(objects: &[T], id: u32) -> usize
         Err(at) => at,
     }
 }
+
+/// Going on from one object to the next, from 0 up to 0, meets each of them once, in order of creation; no more is
+/// met in more turns.
+#[tactic(auto, using(crate::proofs::Meeting::meets_each))]
+pub fn each_is_met<T: Object>(_objects: &[T])
+    requires rises { Rises T.id_of _objects.now }
+    requires first { IsBelow T.id_of _objects.now 0 }
+    ensures { (more : ℕ) → met_from T.id_of (length _objects.now + more) _objects.now 0 ≡ map T.id_of _objects.now }
+{}

@@ -1,5 +1,7 @@
 -- What is written lies in RAM where the looks found no fault.
-use Rattle.std.proofs.Common.{◌≡◌, ◌≢◌, ◌⊎◌, ◌<◌, ◌≤◌, ◌+◌, ◌-◌, ◌*◌, ◌==◌, ◌||◌, nat_lt, if◌then◌else◌, ℕ, Bool, true, false, List, [], ◌∷◌, ◌++◌, append_assoc, length, take, refl, sym, subst, inl, inr, arith, Result, Ok, Err}
+use Rattle.std.proofs.Common.{◌≡◌, ◌≢◌, ◌⊎◌, ◌<◌, ◌≤◌, ◌+◌, ◌-◌, ◌*◌, ◌==◌, ◌||◌, nat_lt, if◌then◌else◌, ℕ, Bool, true}
+use Rattle.std.proofs.Common.{false, List, [], ◌∷◌, ◌++◌, append_assoc, length, take, refl, sym, subst, inl, inr, arith}
+use Rattle.std.proofs.Common.{Result, Ok, Err}
 use Rattle.std.proofs.lemmas.Grind.{common_steps}
 use Rattle.std.proofs.lemmas.Bool.Decides.{nat_tests}
 use Rattle.std.proofs.lemmas.List.{append-nil, length-append}
@@ -7,9 +9,11 @@ use Rattle.gx_state.specs.Flat.{FlatState, write_fault}
 use Rattle.gx_state.specs.Replies.{AreBetween, AreInRam}
 use Rattle.glk_streams.specs.declared.kinds.Places.{Places}
 use Rattle.glk_replies.specs.Constants.{on_stack}
-use Rattle.glk_replies.specs.Parts.{IsCharWidth, char_bytes, chars_bytes, can_lay, laid, can_give, written, can_give_each, written_each}
+use Rattle.glk_replies.specs.Parts.{IsCharWidth, char_bytes, chars_bytes, can_lay, laid, can_give, written}
+use Rattle.glk_replies.specs.Parts.{can_give_each, written_each}
 
-pub between_append : (low high : ℕ) (ws vs : List (ℕ × List ℕ)) → AreBetween low high ws → AreBetween low high vs → AreBetween low high (ws ++ vs)
+pub between_append : (low high : ℕ) (ws vs : List (ℕ × List ℕ)) → AreBetween low high ws → AreBetween low high vs
+    → AreBetween low high (ws ++ vs)
 between_append low high [] vs first second = second
 between_append low high (w ∷ ws) vs first second = (first.0, between_append low high ws vs first.1 second)
 
@@ -20,17 +24,26 @@ char_length width c (inr four) = subst (λ w. length (char_bytes w c) ≡ w) (sy
 pub chars_length : (width : ℕ) (cs : List ℕ) → IsCharWidth width → length (chars_bytes width cs) ≡ width * length cs
 unfolding chars_bytes
 chars_length width [] is = omega arith
-chars_length width (c ∷ cs) is = omega (arith, length-append (char_bytes width c) (chars_bytes width cs), char_length width c is, chars_length width cs is)
+chars_length width (c ∷ cs) is =
+    omega (
+      arith,
+      length-append (char_bytes width c) (chars_bytes width cs),
+      char_length width c is,
+      chars_length width cs is,
+    )
 
 -- a write that has no fault
-writable : (f : FlatState) (at count : ℕ) → write_fault f at count ≡ Ok tt → (f.story.header.ramstart ≤ at) × (at + count ≤ length f.memory)
+writable : (f : FlatState) (at count : ℕ) → write_fault f at count ≡ Ok tt
+    → (f.story.header.ramstart ≤ at) × (at + count ≤ length f.memory)
 writable f at count ok = (grind (arith, common_steps, nat_tests), grind (arith, common_steps, nat_tests))
 
 -- characters in their places
-pub laid_in_ram : (f : FlatState) (p : Places) (cs : List ℕ) → IsCharWidth p.width → p.count ≤ length cs → can_lay f p ≡ Ok tt → AreInRam f (laid p cs)
+pub laid_in_ram : (f : FlatState) (p : Places) (cs : List ℕ) → IsCharWidth p.width → p.count ≤ length cs
+    → can_lay f p ≡ Ok tt → AreInRam f (laid p cs)
 unfolding can_lay
 laid_in_ram f p cs width few ok =
-    elim (p.count == 0) as (λ none. p.count == 0 ≡ none → AreInRam f (if none then [] else (p.at, chars_bytes p.width (take p.count cs)) ∷ [])) [
+    elim (p.count == 0) as (λ none. p.count == 0 ≡ none → AreInRam f
+    (if none then [] else (p.at, chars_bytes p.width (take p.count cs)) ∷ [])) [
       | true ↦ λ same. tt
       | false ↦ λ same.
           let there = writable f p.at (p.width * p.count) (grind (arith, common_steps, nat_tests)) in
@@ -40,10 +53,13 @@ laid_in_ram f p cs width few ok =
     ] refl
 
 -- words given to a reference
-pub written_in_ram : (f : FlatState) (at : ℕ) (words : List ℕ) → can_give f at (length words) ≡ Ok tt → AreInRam f (written at words)
+pub written_in_ram : (f : FlatState) (at : ℕ) (words : List ℕ) → can_give f at (length words) ≡ Ok tt
+    → AreInRam f (written at words)
 unfolding can_give
 written_in_ram f at words ok =
-    elim (at == 0 || at == on_stack) as (λ none. (at == 0 || at == on_stack) ≡ none → AreInRam f (if none then [] else (at, chars_bytes 4 words) ∷ [])) [
+    elim (at == 0 || at == on_stack) as
+    (λ none. (at == 0 || at == on_stack) ≡ none
+    → AreInRam f (if none then [] else (at, chars_bytes 4 words) ∷ [])) [
       | true ↦ λ same. tt
       | false ↦ λ same.
           let there = writable f at (4 * length words) (grind (arith, common_steps, nat_tests)) in
@@ -51,12 +67,15 @@ written_in_ram f at words ok =
           (λ some. (there.0, rw size there.1), tt)
     ] refl
 
-pub each_in_ram : (f : FlatState) (ats words : List ℕ) → can_give_each f ats ≡ Ok tt → AreInRam f (written_each ats words)
+pub each_in_ram : (f : FlatState) (ats words : List ℕ) → can_give_each f ats ≡ Ok tt
+    → AreInRam f (written_each ats words)
 unfolding can_give_each written_each
 each_in_ram f [] words ok = tt
 each_in_ram f (at ∷ ats) [] ok = tt
 each_in_ram f (at ∷ ats) (word ∷ words) ok =
-    between_append _ _ (written at (word ∷ [])) (written_each ats words) (written_in_ram f at (word ∷ []) (grind (arith, common_steps))) (each_in_ram f ats words (grind (arith, common_steps)))
+    between_append _ _ (written at (word ∷ [])) (written_each ats words)
+    (written_in_ram f at (word ∷ []) (grind (arith, common_steps)))
+    (each_in_ram f ats words (grind (arith, common_steps)))
 
 pub ruleset given_rules = (written_in_ram, each_in_ram)
 

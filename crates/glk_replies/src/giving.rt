@@ -3,7 +3,8 @@
 ghost use Rattle.std.specs.Prelude.{◌≡◌, ◌==◌, if◌then◌else◌, ◌≢◌, ◌≤◌, ◌++◌, length, OnOk, OnErr, IfOk, IsTrue};
 ghost use Rattle.gx_words.specs.Faults.{Reads};
 ghost use Rattle.gx_state.specs.Replies.{IsReply};
-ghost use Rattle.glk_replies.specs.Parts.{MayWant, give, can_give_each, pushed_each, written_each, give_each, some_given, can_give_pair};
+ghost use Rattle.glk_replies.specs.Parts.{MayWant, give, can_give_each, pushed_each, written_each, give_each};
+ghost use Rattle.glk_replies.specs.Parts.{some_given, can_give_pair};
 
 use crate::parts::{ON_STACK, add_given, can_give, fitting, reply};
 use gx_state::{Reply, State};
@@ -83,7 +84,11 @@ fn pushes_each(ats: &[u32], words: &[u32]) -> usize
 /// Adds what is given to references of a word each.
 #[tactic(auto, using(crate::proofs::Ram::adding_rules), unfolding(crate::specs::Parts::pushed_each, crate::specs::Parts::written_each))]
 fn add_each(alloc: Global, reply: &mut Reply, ats: &[u32], words: &[u32]) -> Result<(), AllocError>
-    ensures ok { OnOk result (reply.new ≡ record reply.old { pushes = reply.old.pushes ++ pushed_each ats.now words.now; writes = reply.old.writes ++ written_each ats.now words.now }) }
+    ensures ok { OnOk result (reply.new ≡ record reply.old {
+      pushes = reply.old.pushes ++ pushed_each ats.now words.now;
+      writes =
+          reply.old.writes ++ written_each ats.now words.now;
+    }) }
     ensures memory { OnErr result (IsTrue (some_given ats.now)) }
 {
     match ats {
@@ -108,7 +113,8 @@ pub fn give_each<A: Allocator + Clone>(
     ats: &[u32],
     words: &[u32],
 ) -> Result<Reply, Fault>
-    ensures value { MayWant (IsTrue (some_given ats.now)) (λ reply. reply) result (give_each state.now.flat room value ats.now words.now) }
+    ensures value { MayWant (IsTrue (some_given ats.now)) (λ reply. reply) result
+        (give_each state.now.flat room value ats.now words.now) }
     ensures fits { IfOk result (IsReply state.now.flat room) }
 {
     can_give_each(state, ats)?;

@@ -18,8 +18,8 @@ use gx_outside::Load;
 use gx_state::Reply;
 use gx_words::{Bytes, Name, Numbers};
 pub use parts::{
-    ON_STACK, add_given, can_give, can_lay, can_read, filled, fitting, lay, numbers_at, push_char,
-    reply,
+    Character, ON_STACK, add_given, can_give, can_lay, can_read, filled, fitting, lay, numbers_at,
+    push_char, reply,
 };
 pub use strings::string_length;
 

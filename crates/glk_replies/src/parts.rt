@@ -6,7 +6,8 @@ ghost use Rattle.std.specs.Prelude.{◌≡◌, ◌≢◌, ◌+◌, ◌*◌, ◌�
 ghost use Rattle.gx_words.specs.Constants.{ceiling};
 ghost use Rattle.gx_words.specs.Faults.{Reads};
 ghost use Rattle.gx_state.specs.Flat.{write_fault};
-ghost use Rattle.glk_replies.specs.Parts.{replies, IsCharWidth, can_read, numbers_in, char_bytes, chars_bytes, can_lay, laid, filled, can_give, pushed, written, fitting};
+ghost use Rattle.glk_replies.specs.Parts.{replies, IsCharWidth, can_read, numbers_in, char_bytes, chars_bytes, can_lay};
+ghost use Rattle.glk_replies.specs.Parts.{laid, filled, can_give, pushed, written, fitting};
 
 use glk_streams::Places;
 use glk_text::latin;
@@ -126,9 +127,10 @@ pub fn numbers_at<A: Allocator>(
     Ok(numbers)
 }
 
-/// Adds the bytes of a character.
+/// Adds the bytes of a character, one at least; after a refusal the bytes are as they were.
 pub fn push_char(out: &mut Bytes, width: u32, c: u32) -> Result<(), AllocError>
-    ensures { OnOk result (out.new ≡ out.old ++ char_bytes width c) }
+    ensures ok { OnOk result (out.new ≡ out.old ++ char_bytes width c) }
+    ensures err { OnErr result (out.new ≡ out.old) }
 {
     if width == 1 {
         out.push(latin(c))
@@ -149,22 +151,82 @@ fn chars_bytes(alloc: Global, width: u32, chars: &[u32]) -> Result<Bytes, AllocE
     Ok(bytes)
 }
 
+/// The bytes of characters that are bytes.
+#[tactic(auto, using(crate::proofs::Laying::byte_turns))]
+fn in_width(alloc: Global, width: u32, bytes: &[u8]) -> Result<Bytes, AllocError>
+    ensures { IfOk result (λ all. all ≡ chars_bytes width bytes.now) }
+{
+    if width == 1 {
+        return Bytes::from_slice(alloc, bytes);
+    }
+    let mut all = Bytes::new(alloc);
+    for byte in bytes {
+        push_char(&mut all, width, u32::from(*byte))?;
+    }
+    Ok(all)
+}
+
+/// A character that is written to memory: a number, or a byte.
+pub trait Character {
+    ghost use Rattle.std.specs.Prelude.{ℕ, List, ◌≡◌, ◌≤◌, length, take, IfOk};
+    ghost use Rattle.glk_replies.specs.Parts.{chars_bytes};
+
+    /// Characters as numbers.
+    ghost chars_of: { List Self → List ℕ };
+
+    /// The bytes of the first so many characters.
+    fn bytes_of(
+        alloc: Global,
+        width: u32,
+        chars: &[Self],
+        count: usize,
+    ) -> Result<Bytes, AllocError>
+        requires { count ≤ length (chars_of chars.now) }
+        ensures { IfOk result (λ bytes. bytes ≡ chars_bytes width (take count (chars_of chars.now))) };
+}
+
+impl Character for u32 {
+    ghost chars_of = { λ chars. chars };
+
+    fn bytes_of(
+        alloc: Global,
+        width: u32,
+        chars: &[u32],
+        count: usize,
+    ) -> Result<Bytes, AllocError> {
+        chars_bytes(alloc, width, &chars[..count])
+    }
+}
+
+impl Character for u8 {
+    ghost chars_of = { λ chars. chars };
+
+    fn bytes_of(
+        alloc: Global,
+        width: u32,
+        chars: &[u8],
+        count: usize,
+    ) -> Result<Bytes, AllocError> {
+        in_width(alloc, width, &chars[..count])
+    }
+}
+
 /// Adds the write of characters to places that may be written.
-pub fn lay(
+pub fn lay<C: Character>(
     alloc: Global,
     writes: &mut Writes,
     places: Places,
-    chars: &[u32],
+    chars: &[C],
 ) -> Result<(), AllocError>
     requires at { 0 < places.count → places.at < 2 ^ 32 }
-    requires count { places.count ≤ length chars.now }
-    ensures ok { OnOk result (writes.new ≡ writes.old ++ laid places chars.now) }
+    requires count { places.count ≤ length (C.chars_of chars.now) }
+    ensures ok { OnOk result (writes.new ≡ writes.old ++ laid places (C.chars_of chars.now)) }
     ensures memory { OnErr result (0 < places.count) }
 {
     if places.count == 0 {
         return Ok(());
     }
-    let bytes = chars_bytes(alloc, places.width, &chars[..places.count as usize])?;
+    let bytes = C::bytes_of(alloc, places.width, chars, places.count as usize)?;
     writes.push((places.at as u32, bytes))
 }
 
@@ -195,7 +257,10 @@ fn push_words(pushes: &mut Numbers, words: &[u32]) -> Result<(), AllocError>
 
 /// Adds what is given to a reference that was looked at.
 pub fn add_given(alloc: Global, reply: &mut Reply, at: u32, words: &[u32]) -> Result<(), AllocError>
-    ensures ok { OnOk result (reply.new ≡ record reply.old { pushes = reply.old.pushes ++ pushed at words.now; writes = reply.old.writes ++ written at words.now }) }
+    ensures ok { OnOk result (reply.new ≡ record reply.old {
+      pushes = reply.old.pushes ++ pushed at words.now;
+      writes = reply.old.writes ++ written at words.now;
+    }) }
     ensures memory { OnErr result (at ≢ 0) }
 {
     if at == 0 {

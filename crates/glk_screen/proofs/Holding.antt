@@ -1,5 +1,7 @@
 -- What holds of the definitions.
-use Rattle.std.proofs.Common.{zero, suc, ◌≡◌, ◌<◌, ◌≤◌, ◌+◌, ◌-◌, ◌==◌, ℕ, true, false, Bool, List, [], ◌∷◌, ◌++◌, append_assoc, length, drop, refl, sym, ◌∙◌, ap, arith, if◌then◌else◌, nat_lt, ◌⊎◌, inl, inr}
+use Rattle.std.proofs.Common.{zero, suc, ◌≡◌, ◌<◌, ◌≤◌, ◌+◌, ◌-◌, ◌==◌, ℕ, true, false, Bool, List, [], ◌∷◌, ◌++◌}
+use Rattle.std.proofs.Common.{append_assoc, length, drop, refl, sym, ◌∙◌, ap, arith, if◌then◌else◌, nat_lt, ◌⊎◌, inl}
+use Rattle.std.proofs.Common.{inr}
 use Rattle.std.specs.List.{list_all}
 use Rattle.std.proofs.lemmas.Bool.Decides.{nat_tests}
 use Rattle.std.proofs.lemmas.List.{append-nil, drop-drop}
@@ -14,34 +16,43 @@ use Rattle.glk_screen.proofs.Prefixes.{row_narrow_enough}
 fits_true : (width : ℕ) (row : List ℕ) → columns width row ≤ width → is_fitting width row ≡ true
 fits_true width row narrow = grind (arith, nat_tests, narrow)
 
-first_fits : (width : ℕ) (text : List ℕ) (at : ℕ) → is_fitting width (part text at (at + (first_row width (drop at text)).0)) ≡ true
+first_fits : (width : ℕ) (text : List ℕ) (at : ℕ)
+    → is_fitting width (part text at (at + (first_row width (drop at text)).0)) ≡ true
 first_fits width text at =
     let e : at + (first_row width (drop at text)).0 - at ≡ (first_row width (drop at text)).0 = omega arith in
     rw e (fits_true width _ (row_narrow_enough width (drop at text)))
 
-rest_fits : (b : Bool) (width : ℕ) (text marks : List ℕ) → list_all (is_fitting width) (rows_at text marks) ≡ true → list_all (is_fitting width) (rows_at text (if b then [] else marks)) ≡ true
+rest_fits : (b : Bool) (width : ℕ) (text marks : List ℕ) → list_all (is_fitting width) (rows_at text marks) ≡ true
+    → list_all (is_fitting width) (rows_at text (if b then [] else marks)) ≡ true
 rest_fits true width text marks fits = refl
 rest_fits false width text marks fits = fits
 
-all_fit : (width fuel : ℕ) (text : List ℕ) (at : ℕ) → list_all (is_fitting width) (rows_at text (rows_from fuel at width (drop at text))) ≡ true
+all_fit : (width fuel : ℕ) (text : List ℕ) (at : ℕ)
+    → list_all (is_fitting width) (rows_at text (rows_from fuel at width (drop at text))) ≡ true
 unfolding rows_from
 all_fit width zero text at = refl
 all_fit width (suc fuel) text at =
     let row = first_row width (drop at text) in
     let rest = drop-drop row.1 at text in
-    let more : list_all (is_fitting width) (rows_at text (rows_from fuel (at + row.1) width (drop row.1 (drop at text)))) ≡ true = rw rest (all_fit width fuel text (at + row.1)) in
-    rw (first_fits width text at) (rest_fits (nat_lt (length (drop at text)) row.1) width text (rows_from fuel (at + row.1) width (drop row.1 (drop at text))) more)
+    let more : list_all (is_fitting width)
+    (rows_at text (rows_from fuel (at + row.1) width (drop row.1 (drop at text)))) ≡ true =
+    rw rest (all_fit width fuel text (at + row.1)) in
+    rw (first_fits width text at)
+    (rest_fits (nat_lt (length (drop at text)) row.1) width text
+    (rows_from fuel (at + row.1) width (drop row.1 (drop at text))) more)
 
 pub rows_fit : RowsFit
 rows_fit = λ width text some. all_fit width (suc (length text)) text 0
 
 -- ---- the last paragraphs are kept
 
-behind_push : (text : List ℕ) (c : ℕ) → 0 < line_feeds text → behind_paragraph (text ++ c ∷ []) ≡ behind_paragraph text ++ c ∷ []
+behind_push : (text : List ℕ) (c : ℕ) → 0 < line_feeds text
+    → behind_paragraph (text ++ c ∷ []) ≡ behind_paragraph text ++ c ∷ []
 behind_push [] c some = absurd (omega arith)
 behind_push (d ∷ ds) c some = grind (arith, nat_tests, count_cons ds d, behind_push ds c)
 
-past_push : (n : ℕ) (text : List ℕ) (c : ℕ) → n ≤ line_feeds text → behind_paragraphs n (text ++ c ∷ []) ≡ behind_paragraphs n text ++ c ∷ []
+past_push : (n : ℕ) (text : List ℕ) (c : ℕ) → n ≤ line_feeds text
+    → behind_paragraphs n (text ++ c ∷ []) ≡ behind_paragraphs n text ++ c ∷ []
 past_push zero text c less = refl
 past_push (suc n) text c less =
     let one = count_behind text (omega arith) in
@@ -61,7 +72,8 @@ with_few : (text : List ℕ) (c : ℕ) → line_feeds (text ++ c ∷ []) < 255 �
 unfolding with_char
 with_few text c few = grind (arith, nat_tests, few)
 
-with_many : (text : List ℕ) (c : ℕ) → 255 ≤ line_feeds (text ++ c ∷ []) → with_char text c ≡ behind_paragraph (text ++ c ∷ [])
+with_many : (text : List ℕ) (c : ℕ) → 255 ≤ line_feeds (text ++ c ∷ [])
+    → with_char text c ≡ behind_paragraph (text ++ c ∷ [])
 unfolding with_char
 with_many text c many = grind (arith, nat_tests, many)
 

@@ -1,5 +1,7 @@
 -- The screen has exactly so many rows of exactly so many columns.
-use Rattle.std.proofs.Common.{zero, suc, ◌≡◌, ◌≢◌, ◌<◌, ◌≤◌, ◌+◌, ◌-◌, ◌==◌, ℕ, true, false, Bool, List, [], ◌∷◌, ◌++◌, length, map, drop, replicate, refl, sym, ◌∙◌, ap, arith, if◌then◌else◌, nat_le, ◌⊎◌, inl, inr, Option, Some, None, length-append, length-drop}
+use Rattle.std.proofs.Common.{zero, suc, ◌≡◌, ◌≢◌, ◌<◌, ◌≤◌, ◌+◌, ◌-◌, ◌==◌, ℕ, true, false, Bool, List, [], ◌∷◌, ◌++◌}
+use Rattle.std.proofs.Common.{length, map, drop, replicate, refl, sym, ◌∙◌, ap, arith, if◌then◌else◌, nat_le, ◌⊎◌, inl}
+use Rattle.std.proofs.Common.{inr, Option, Some, None, length-append, length-drop}
 use Rattle.std.specs.List.{list_all, filter}
 use Rattle.std.proofs.lemmas.Bool.Decides.{nat_tests}
 use Rattle.std.proofs.lemmas.Bool.{and_parts}
@@ -15,7 +17,9 @@ use Rattle.glk_windows.specs.Grids.{fit}
 use Rattle.glk_windows.specs.Constants.{text_buffer, text_grid}
 use Rattle.glk_screen.specs.Texts.{FlatText, text_of}
 use Rattle.glk_screen.specs.Wrapping.{width_of, columns_of, columns, wrapped, rows_at}
-use Rattle.glk_screen.specs.Screen.{Drawn, blank_row, blank_rows, drawn_char, is_drawn, drawn_row, bottom_rows, text_rows, buffer_rows, drawn_cell, grid_row, grid_rows, kind_of, window_rows, beside, put_together, part_rows, screen_rows}
+use Rattle.glk_screen.specs.Screen.{Drawn, blank_row, blank_rows, drawn_char, is_drawn, drawn_row, bottom_rows}
+use Rattle.glk_screen.specs.Screen.{text_rows, buffer_rows, drawn_cell, grid_row, grid_rows, kind_of, window_rows}
+use Rattle.glk_screen.specs.Screen.{beside, put_together, part_rows, screen_rows}
 use Rattle.glk_screen.specs.Laws.{is_fitting, drawn_columns, is_wide, IsSized, ScreenIsFilled}
 use Rattle.glk_screen.proofs.Holding.{rows_fit}
 use Rattle.glk_screen.proofs.Turns.{fit_length}
@@ -42,7 +46,8 @@ char_columns : (width c : ℕ) → columns_of width c ≢ 0 → width_of (drawn_
 unfolding drawn_char columns_of
 char_columns width c some = grind (arith, nat_tests, question_is_one)
 
-chars_columns : (width : ℕ) (row : List ℕ) → drawn_columns (map (drawn_char width) (filter (is_drawn width) row)) ≡ columns width row
+chars_columns : (width : ℕ) (row : List ℕ)
+    → drawn_columns (map (drawn_char width) (filter (is_drawn width) row)) ≡ columns width row
 chars_columns width [] = refl
 chars_columns width (c ∷ cs) = grind (arith, nat_tests, char_columns width c, chars_columns width cs)
 
@@ -71,7 +76,8 @@ wide_true width row is = grind (arith, nat_tests, is)
 wide_is : (width : ℕ) (row : List ℕ) → is_wide width row ≡ true → drawn_columns row ≡ width
 wide_is width row test = grind (arith, nat_tests, test)
 
-all_append : {A : Type 0} (p : A → Bool) (xs ys : List A) → list_all p xs ≡ true → list_all p ys ≡ true → list_all p (xs ++ ys) ≡ true
+all_append : {A : Type 0} (p : A → Bool) (xs ys : List A) → list_all p xs ≡ true → list_all p ys ≡ true
+    → list_all p (xs ++ ys) ≡ true
 all_append p xs ys front back = rw (list_all-append p xs ys, front, back) refl
 
 all_replicate : {A : Type 0} (p : A → Bool) (n : ℕ) (x : A) → p x ≡ true → list_all p (replicate n x) ≡ true
@@ -83,11 +89,13 @@ all_drop p zero xs all = all
 all_drop p (suc n) [] all = refl
 all_drop p (suc n) (x ∷ xs) all = all_drop p n xs (and_parts (p x) (list_all p xs) all).1
 
-all_map : (width : ℕ) (f : List ℕ → List ℕ) (rows : Drawn) → ((row : List ℕ) → is_wide width (f row) ≡ true) → list_all (is_wide width) (map f rows) ≡ true
+all_map : (width : ℕ) (f : List ℕ → List ℕ) (rows : Drawn) → ((row : List ℕ) → is_wide width (f row) ≡ true)
+    → list_all (is_wide width) (map f rows) ≡ true
 all_map width f [] wide = refl
 all_map width f (row ∷ rows) wide = rw (wide row, all_map width f rows wide) refl
 
-fitting_rows : (width : ℕ) (rows : Drawn) → list_all (is_fitting width) rows ≡ true → list_all (is_wide width) (map (drawn_row width) rows) ≡ true
+fitting_rows : (width : ℕ) (rows : Drawn) → list_all (is_fitting width) rows ≡ true
+    → list_all (is_wide width) (map (drawn_row width) rows) ≡ true
 fitting_rows width [] fits = refl
 fitting_rows width (row ∷ rows) fits =
     let parts = and_parts (is_fitting width row) (list_all (is_fitting width) rows) fits in
@@ -99,11 +107,13 @@ fitting_rows width (row ∷ rows) fits =
 blank_sized : (area : ℕ × ℕ) → IsSized area (blank_rows area)
 blank_sized area = record {
   count = length-replicate area.1 (blank_row area.0);
-  wide = all_replicate (is_wide area.0) area.1 (blank_row area.0) (wide_true area.0 (blank_row area.0) (columns_blank area.0));
+  wide = all_replicate (is_wide area.0) area.1 (blank_row area.0)
+      (wide_true area.0 (blank_row area.0) (columns_blank area.0));
 }
 
 -- rows that are few enough, filled with blank ones
-filled_sized : (area : ℕ × ℕ) (rows : Drawn) → length rows ≤ area.1 → list_all (is_wide area.0) rows ≡ true → IsSized area (rows ++ blank_rows (area.0, area.1 - length rows))
+filled_sized : (area : ℕ × ℕ) (rows : Drawn) → length rows ≤ area.1 → list_all (is_wide area.0) rows ≡ true
+    → IsSized area (rows ++ blank_rows (area.0, area.1 - length rows))
 filled_sized area rows few wide =
     let blank = blank_sized (area.0, area.1 - length rows) in
     record {
@@ -114,7 +124,8 @@ filled_sized area rows few wide =
 text_none : (text : List ℕ) (area : ℕ × ℕ) → area.0 ≡ 0 → text_rows text area ≡ []
 text_none text area none = grind (arith, nat_tests, none)
 
-text_some : (text : List ℕ) (area : ℕ × ℕ) → 1 ≤ area.0 → text_rows text area ≡ map (drawn_row area.0) (bottom_rows area.1 (rows_at text (wrapped area.0 text)))
+text_some : (text : List ℕ) (area : ℕ × ℕ) → 1 ≤ area.0
+    → text_rows text area ≡ map (drawn_row area.0) (bottom_rows area.1 (rows_at text (wrapped area.0 text)))
 text_some text area some = grind (arith, nat_tests, some)
 
 bottom_few : (count : ℕ) (rows : Drawn) → length (bottom_rows count rows) ≤ count
@@ -131,7 +142,9 @@ buffer_sized text area =
       | inl some ↦
           let here = text_some text area some in
           let few : length (text_rows text area) ≤ area.1 = rw (here, length-map) (bottom_few area.1 rows) in
-          let wide = fitting_rows area.0 (bottom_rows area.1 rows) (all_drop (is_fitting area.0) (length rows - area.1) rows (rows_fit area.0 text some)) in
+          let wide =
+          fitting_rows area.0 (bottom_rows area.1 rows)
+          (all_drop (is_fitting area.0) (length rows - area.1) rows (rows_fit area.0 text some)) in
           filled_sized area (text_rows text area) few (rw here wide)
       | inr none ↦
           let here = text_none text area (omega arith) in
@@ -142,18 +155,23 @@ buffer_sized text area =
 grid_sized : (g : Grid) (area : ℕ × ℕ) → IsSized area (grid_rows g area)
 grid_sized g area = record {
   count = rw length-map (fit_length area.1 g.rows);
-  wide = all_map area.0 (grid_row area.0) (fit area.1 [] g.rows) (λ row. wide_true area.0 (grid_row area.0 row) (grid_columns area.0 row));
+  wide = all_map area.0 (grid_row area.0) (fit area.1 [] g.rows)
+      (λ row. wide_true area.0 (grid_row area.0 row) (grid_columns area.0 row));
 }
 
-either_sized : (b : Bool) (area : ℕ × ℕ) (rows others : Drawn) → IsSized area rows → IsSized area others → IsSized area (if b then rows else others)
+either_sized : (b : Bool) (area : ℕ × ℕ) (rows others : Drawn) → IsSized area rows → IsSized area others
+    → IsSized area (if b then rows else others)
 either_sized true area rows others first second = first
 either_sized false area rows others first second = second
 
-window_sized : (texts : List FlatText) (f : FlatWindows) (area : ℕ × ℕ) (win : ℕ) → IsSized area (window_rows texts f area win)
+window_sized : (texts : List FlatText) (f : FlatWindows) (area : ℕ × ℕ) (win : ℕ)
+    → IsSized area (window_rows texts f area win)
 unfolding window_rows
 window_sized texts f area win =
-    either_sized (kind_of f win == text_buffer) area (buffer_rows (text_of texts win) area) _ (buffer_sized (text_of texts win) area)
-    (either_sized (kind_of f win == text_grid) area (grid_rows (grid_at f.grids win) area) (blank_rows area) (grid_sized (grid_at f.grids win) area) (blank_sized area))
+    either_sized (kind_of f win == text_buffer) area (buffer_rows (text_of texts win) area) _
+    (buffer_sized (text_of texts win) area)
+    (either_sized (kind_of f win == text_grid) area (grid_rows (grid_at f.grids win) area) (blank_rows area)
+    (grid_sized (grid_at f.grids win) area) (blank_sized area))
 
 -- ---- pairs
 
@@ -162,17 +180,24 @@ beside_count [] others same = sym same
 beside_count (row ∷ rows) [] same = refl
 beside_count (row ∷ rows) (other ∷ others) same = ap suc (beside_count rows others (omega (arith, same)))
 
-beside_wide : (width more : ℕ) (rows others : Drawn) → length rows ≡ length others → list_all (is_wide width) rows ≡ true → list_all (is_wide more) others ≡ true → list_all (is_wide (width + more)) (beside rows others) ≡ true
+beside_wide : (width more : ℕ) (rows others : Drawn) → length rows ≡ length others
+    → list_all (is_wide width) rows ≡ true → list_all (is_wide more) others ≡ true
+    → list_all (is_wide (width + more)) (beside rows others) ≡ true
 beside_wide width more [] [] same left right = refl
 beside_wide width more [] (other ∷ others) same left right = absurd (omega (arith, same))
 beside_wide width more (row ∷ rows) [] same left right = absurd (omega (arith, same))
 beside_wide width more (row ∷ rows) (other ∷ others) same left right =
     let parts = and_parts (is_wide width row) (list_all (is_wide width) rows) left in
     let others_parts = and_parts (is_wide more other) (list_all (is_wide more) others) right in
-    let wide : drawn_columns (row ++ other) ≡ width + more = rw (columns_append, wide_is width row parts.0, wide_is more other others_parts.0) refl in
-    rw (wide_true (width + more) (row ++ other) wide, beside_wide width more rows others (omega (arith, same)) parts.1 others_parts.1) refl
+    let wide : drawn_columns (row ++ other) ≡ width + more =
+    rw (columns_append, wide_is width row parts.0, wide_is more other others_parts.0) refl in
+    rw (
+      wide_true (width + more) (row ++ other) wide,
+      beside_wide width more rows others (omega (arith, same)) parts.1 others_parts.1,
+    ) refl
 
-beside_sized : (width more total height : ℕ) (rows others : Drawn) → width + more ≡ total → IsSized (width, height) rows → IsSized (more, height) others → IsSized (total, height) (beside rows others)
+beside_sized : (width more total height : ℕ) (rows others : Drawn) → width + more ≡ total → IsSized (width, height) rows
+    → IsSized (more, height) others → IsSized (total, height) (beside rows others)
 beside_sized width more total height rows others sum left right =
     let same = left.count ∙ sym right.count in
     record {
@@ -180,7 +205,8 @@ beside_sized width more total height rows others sum left right =
       wide = rw (← sum) (beside_wide width more rows others same left.wide right.wide);
     }
 
-stacked_sized : (width height more total : ℕ) (rows others : Drawn) → height + more ≡ total → IsSized (width, height) rows → IsSized (width, more) others → IsSized (width, total) (rows ++ others)
+stacked_sized : (width height more total : ℕ) (rows others : Drawn) → height + more ≡ total
+    → IsSized (width, height) rows → IsSized (width, more) others → IsSized (width, total) (rows ++ others)
 stacked_sized width height more total rows others sum upper lower = record {
   count = rw (length-append, upper.count, lower.count) sum;
   wide = all_append (is_wide width) rows others upper.wide lower.wide;
@@ -193,22 +219,34 @@ put_below : (side : ℕ) (first second : Drawn) → 3 ≤ side → put_together 
 unfolding put_together
 put_below side first second low = grind (arith, nat_tests, low)
 
-pair_sized : (side width height across down : ℕ) (first second : Drawn) → across ≤ width → down ≤ height → IsSized (if nat_le side 1 then (width - across, height) else (width, height - down)) first → IsSized (if nat_le side 1 then (across, height) else (width, down)) second → IsSized (width, height) (put_together side first second)
+pair_sized : (side width height across down : ℕ) (first second : Drawn) → across ≤ width → down ≤ height
+    → IsSized (if nat_le side 1 then (width - across, height) else (width, height - down)) first
+    → IsSized (if nat_le side 1 then (across, height) else (width, down)) second
+    → IsSized (width, height) (put_together side first second)
 unfolding put_together
-pair_sized zero width height across down first second less few one two = beside_sized across (width - across) width height second first (omega arith) two one
-pair_sized (suc zero) width height across down first second less few one two = beside_sized (width - across) across width height first second (omega arith) one two
-pair_sized (suc (suc zero)) width height across down first second less few one two = stacked_sized width down (height - down) height second first (omega arith) two one
+pair_sized zero width height across down first second less few one two =
+    beside_sized across (width - across) width height second first (omega arith) two one
+pair_sized (suc zero) width height across down first second less few one two =
+    beside_sized (width - across) across width height first second (omega arith) one two
+pair_sized (suc (suc zero)) width height across down first second less few one two =
+    stacked_sized width down (height - down) height second first (omega arith) two one
 pair_sized (suc (suc (suc side))) width height across down first second less few one two =
     let not_across : nat_le (suc (suc (suc side))) 1 ≡ false = grind (arith, nat_tests) in
-    rw (put_below (suc (suc (suc side))) first second (omega arith)) (stacked_sized width (height - down) down height first second (omega arith) (rw not_across at one) (rw not_across at two))
+    rw (put_below (suc (suc (suc side))) first second (omega arith))
+    (stacked_sized width (height - down) down height first second (omega arith) (rw not_across at one)
+    (rw not_across at two))
 
-part_sized : (texts : List FlatText) (f : FlatWindows) (area : ℕ × ℕ) (t : Shape) → IsSized area (part_rows texts f area t)
+part_sized : (texts : List FlatText) (f : FlatWindows) (area : ℕ × ℕ) (t : Shape)
+    → IsSized area (part_rows texts f area t)
 part_sized texts f area (One id) = window_sized texts f area id
 part_sized texts f area (Two a first second) =
-    pair_sized (direction a.method) area.0 area.1 (share a area.0) (share a area.1) (part_rows texts f (first_area a area) first) (part_rows texts f (second_area a area) second) (share_small a area.0) (share_small a area.1)
+    pair_sized (direction a.method) area.0 area.1 (share a area.0) (share a area.1)
+    (part_rows texts f (first_area a area) first) (part_rows texts f (second_area a area) second)
+    (share_small a area.0) (share_small a area.1)
     (part_sized texts f (first_area a area) first) (part_sized texts f (second_area a area) second)
 
-tree_sized : (texts : List FlatText) (f : FlatWindows) (area : ℕ × ℕ) (tree : Option Shape) → IsSized area (screen_rows texts f area tree)
+tree_sized : (texts : List FlatText) (f : FlatWindows) (area : ℕ × ℕ) (tree : Option Shape)
+    → IsSized area (screen_rows texts f area tree)
 tree_sized texts f area None = blank_sized area
 tree_sized texts f area (Some t) = part_sized texts f area t
 

@@ -1,5 +1,6 @@
 -- THE SCREEN: each window at its place, drawn as rows of exactly its columns and of exactly its number.
-use Rattle.std.specs.Prelude.{ℕ, ◌-◌, ◌==◌, not, if◌then◌else◌, Bool, List, [], ◌∷◌, ◌++◌, length, map, filter, take, drop, replicate, slice_set, slice_index_or, nat_lt, Option, Some, None, unwrap_or}
+use Rattle.std.specs.Prelude.{ℕ, ◌-◌, ◌==◌, not, if◌then◌else◌, Bool, List, [], ◌∷◌, ◌++◌, length, map, filter, take}
+use Rattle.std.specs.Prelude.{drop, replicate, slice_set, slice_index_or, nat_lt, Option, Some, None, unwrap_or}
 use Rattle.std.specs.Option.{option_map}
 use Rattle.std.specs.Str.{encode_utf8_all}
 use Rattle.gx_words.specs.Constants.{line_feed}

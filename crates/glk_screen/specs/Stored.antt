@@ -5,7 +5,8 @@ use Rattle.glk_screen.specs.Texts.{FlatText}
 
 abbrev pub text_code : Coded FlatText
 text_code =
-    code_by (ℕ × List ℕ) (coded× coded_ℕ (coded_list coded_ℕ)) (λ t. (t.id, t.text)) (λ p. record { id = p.0; text = p.1 }) (λ _. refl)
+    code_by (ℕ × List ℕ) (coded× coded_ℕ (coded_list coded_ℕ)) (λ t. (t.id, t.text))
+    (λ p. record { id = p.0; text = p.1 }) (λ _. refl)
 
 abbrev pub screen_code : Coded (List FlatText)
 screen_code = coded_list text_code

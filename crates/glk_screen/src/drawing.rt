@@ -3,7 +3,9 @@ ghost use Rattle.std.specs.Prelude.{◌≡◌, ◌<◌, ◌^◌, ◌++◌, lengt
 ghost use Rattle.glk_windows.specs.Tree.{shape_of};
 ghost use Rattle.glk_windows.specs.Windows.{grid_at};
 ghost use Rattle.glk_screen.specs.Wrapping.{part, rows_at};
-ghost use Rattle.glk_screen.specs.Screen.{blank_row, drawn_char, drawn_row, text_rows, buffer_rows, drawn_cell, grid_row, grid_rows, kind_of, window_rows, appended_at, beside, put_together, part_rows, screen_rows, line_of, lines_of, composed};
+ghost use Rattle.glk_screen.specs.Screen.{blank_row, drawn_char, drawn_row, text_rows, buffer_rows, drawn_cell};
+ghost use Rattle.glk_screen.specs.Screen.{grid_row, grid_rows, kind_of, window_rows, appended_at, beside, put_together};
+ghost use Rattle.glk_screen.specs.Screen.{part_rows, screen_rows, line_of, lines_of, composed};
 
 use crate::Screen;
 use crate::rows::kept;

@@ -1,6 +1,7 @@
 //! The text of buffer windows.
 ghost use Rattle.std.specs.Prelude.{◌≡◌, ◌≤◌, ◌<◌, ◌^◌, [], length, drop, OnOk, OnErr};
-ghost use Rattle.glk_screen.specs.Texts.{behind_paragraph, text_of, place_of, text_put, text_cleared, screen_put, screen_cleared, screen_gone};
+ghost use Rattle.glk_screen.specs.Texts.{behind_paragraph, text_of, place_of, text_put, text_cleared, screen_put};
+ghost use Rattle.glk_screen.specs.Texts.{screen_cleared, screen_gone};
 
 use gx_words::LINE_FEED;
 use std::alloc::{AllocError, Global};

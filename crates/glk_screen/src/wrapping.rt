@@ -1,6 +1,7 @@
 //! A text is cut into rows.
 ghost use Rattle.std.specs.Prelude.{◌≡◌, ◌<◌, ◌≤◌, ◌+◌, ◌^◌, length, take, IfOk};
-ghost use Rattle.glk_screen.specs.Wrapping.{width_of, is_replaced, columns_of, paragraph, fitting, last_blank, first_row, wrapped};
+ghost use Rattle.glk_screen.specs.Wrapping.{width_of, is_replaced, columns_of, paragraph, fitting, last_blank};
+ghost use Rattle.glk_screen.specs.Wrapping.{first_row, wrapped};
 
 use glk_text::as_char;
 use glk_windows::BLANK;

@@ -2,7 +2,8 @@
 use Rattle.std.proofs.Common.{◌≡◌, refl}
 use Rattle.glk_streams.specs.declared.content.TheConstants as content
 use Rattle.glk_streams.specs.declared.modes.TheConstants as mode
-use Rattle.glk_streams.specs.Constants.{write_mode, read_mode, read_write_mode, write_append_mode, from_start, from_current, from_end, largest}
+use Rattle.glk_streams.specs.Constants.{write_mode, read_mode, read_write_mode, write_append_mode, from_start}
+use Rattle.glk_streams.specs.Constants.{from_current, from_end, largest}
 
 pub WRITE_is : mode.WRITE ≡ write_mode
 WRITE_is = refl

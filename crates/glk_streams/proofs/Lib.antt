@@ -4,3 +4,4 @@ pub mod Sounds
 pub mod Lists
 pub mod Sizes
 pub mod Filling
+pub mod ReadingBack

@@ -1,33 +1,38 @@
 -- Streams stay sound.
-use Rattle.std.proofs.Common.{◌≡◌, ◌≢◌, ◌≤◌, ◌<◌, ◌+◌, ◌^◌, ◌%◌, ◌==◌, max, nat_lt, ℕ, true, false, List, length, if◌then◌else◌, refl, arith}
+use Rattle.std.proofs.Common.{◌≡◌, ◌≢◌, ◌≤◌, ◌<◌, ◌+◌, ◌^◌, ◌%◌, ◌==◌, max, nat_lt, ℕ, true, false, List, length}
+use Rattle.std.proofs.Common.{if◌then◌else◌, refl, arith}
 use Rattle.std.proofs.lemmas.Bool.Decides.{nat_tests}
 use Rattle.glk_streams.specs.declared.kinds.FileForm.{FileForm}
 use Rattle.glk_streams.specs.declared.kinds.FileForm.TheVariants as forms
 use Rattle.glk_streams.specs.declared.kinds.StreamKind.{StreamKind}
 use Rattle.glk_streams.specs.declared.kinds.StreamKind.TheVariants as kinds
 use Rattle.glk_streams.specs.declared.kinds.Stream.{Stream}
-use Rattle.glk_streams.specs.Constants.{write_mode}
+use Rattle.glk_streams.specs.Constants.{write_mode, largest}
 use Rattle.glk_streams.specs.Files.{bytes_in, byte_at, positions_in, with_bytes, taken}
 use Rattle.glk_streams.specs.Stream.{writable, places_of, put_in, after_put, end_in, end_of, window_in}
 use Rattle.glk_streams.specs.Sound.{IsSoundKind, IsSoundStream}
 use Rattle.glk_streams.proofs.Contents.{length_spliced}
 
 -- a character put to a content stays within a file's most, and its end within the content's
-put_whole : (content bytes : List ℕ) (place : ℕ) → length content ≤ 0x1000000 → place ≤ length content → length (with_bytes content place bytes) ≤ 0x1000000
+put_whole : (content bytes : List ℕ) (place : ℕ) → length content ≤ largest → place ≤ length content
+    → length (with_bytes content place bytes) ≤ largest
 put_whole content bytes place whole there = grind (arith, nat_tests, length_spliced)
 
 put_end : (form : FileForm) (content bytes : List ℕ) (position : ℕ) → position ≤ positions_in form (length content)
-    → position + positions_in form (taken (byte_at form position) bytes) ≤ positions_in form (length (with_bytes content (byte_at form position) bytes))
+    → position + positions_in form (taken (byte_at form position) bytes) ≤ positions_in form
+    (length (with_bytes content (byte_at form position) bytes))
 put_end forms.Latin content bytes position there = grind (arith, nat_tests, length_spliced)
 put_end forms.Wide content bytes position there = grind (arith, nat_tests, length_spliced)
 put_end forms.Utf8 content bytes position there = grind (arith, nat_tests, length_spliced)
 
-there_in : (form : FileForm) (content : List ℕ) (position : ℕ) → position ≤ positions_in form (length content) → byte_at form position ≤ length content
+pub there_in : (form : FileForm) (content : List ℕ) (position : ℕ) → position ≤ positions_in form (length content)
+    → byte_at form position ≤ length content
 there_in forms.Latin content position there = there
 there_in forms.Wide content position there = omega arith
 there_in forms.Utf8 content position there = there
 
-memory_end : (position highest places mode : ℕ) → position < places → position + 1 ≤ (if mode == write_mode then max highest (position + 1) else places)
+memory_end : (position highest places mode : ℕ) → position < places
+    → position + 1 ≤ (if mode == write_mode then max highest (position + 1) else places)
 memory_end position highest places mode less = grind (arith, nat_tests)
 
 put_kind : (k : StreamKind) (s : Stream) (c : ℕ) → IsSoundKind k → s.position ≤ end_in k s.mode s.highest
@@ -35,8 +40,16 @@ put_kind : (k : StreamKind) (s : Stream) (c : ℕ) → IsSoundKind k → s.posit
 put_kind (kinds.Window win) s c kind position = record { kind = kind; position = position }
 put_kind (kinds.Memory at len wide) s c kind position =
     let counted : Stream = record s { kind = kinds.Memory at len wide; written = (s.written + 1) % 2 ^ 32 } in
-    elim (nat_lt s.position (places_of at len)) as (λ b. nat_lt s.position (places_of at len) ≡ b → IsSoundStream (if b then record counted { position = s.position + 1; highest = max s.highest (s.position + 1) } else counted)) [
-      | true ↦ λ is. record { kind = tt; position = memory_end s.position s.highest (places_of at len) s.mode (grind (arith, nat_tests, is)) }
+    elim (nat_lt s.position (places_of at len)) as
+    (λ b. nat_lt s.position (places_of at len) ≡ b
+    → IsSoundStream (if b then record counted {
+      position = s.position + 1;
+      highest = max s.highest (s.position + 1);
+    } else counted)) [
+      | true ↦ λ is. record {
+        kind = tt;
+        position = memory_end s.position s.highest (places_of at len) s.mode (grind (arith, nat_tests, is));
+      }
       | false ↦ λ is. record { kind = tt; position = position }
     ] refl
 put_kind (kinds.File name content form) s c kind position = record {
@@ -46,16 +59,20 @@ put_kind (kinds.File name content form) s c kind position = record {
 
 pub sound_put : (s : Stream) (c : ℕ) → IsSoundStream s → IsSoundStream (after_put s c)
 unfolding after_put
-sound_put s c sound = elim (writable s) as (λ b. IsSoundStream (if b then put_in s.kind (record s { written = (s.written + 1) % 2 ^ 32 }) c else s)) [
-  | true ↦ put_kind s.kind s c sound.kind sound.position
-  | false ↦ sound
-]
+sound_put s c sound =
+    elim (writable s) as (λ b. IsSoundStream
+    (if b then put_in s.kind (record s { written = (s.written + 1) % 2 ^ 32 }) c else s)) [
+      | true ↦ put_kind s.kind s c sound.kind sound.position
+      | false ↦ sound
+    ]
 
 -- and where the position alone moves
-pub sound_get : (s : Stream) (position read : ℕ) → IsSoundStream s → position ≤ end_of s → IsSoundStream (record s { position = position; read = read })
+pub sound_get : (s : Stream) (position read : ℕ) → IsSoundStream s → position ≤ end_of s
+    → IsSoundStream (record s { position = position; read = read })
 sound_get s position read sound within = record { kind = sound.kind; position = within }
 
-pub sound_move : (s : Stream) (position : ℕ) → IsSoundStream s → position ≤ end_of s → IsSoundStream (record s { position = position })
+pub sound_move : (s : Stream) (position : ℕ) → IsSoundStream s → position ≤ end_of s
+    → IsSoundStream (record s { position = position })
 sound_move s position sound within = record { kind = sound.kind; position = within }
 
 -- a window's stream is counted alone
@@ -64,7 +81,10 @@ window_kind (kinds.Window win) s c some = refl
 window_kind (kinds.Memory at len wide) s c some = absurd (some refl)
 window_kind (kinds.File name content form) s c some = absurd (some refl)
 
-pub window_put : (s : Stream) (c : ℕ) → window_in s.kind ≢ 0 → put_in s.kind (record s { written = (s.written + 1) % 2 ^ 32 }) c ≡ record s { written = (s.written + 1) % 2 ^ 32 }
+pub window_put : (s : Stream) (c : ℕ) → window_in s.kind ≢ 0
+    → put_in s.kind (record s { written = (s.written + 1) % 2 ^ 32 }) c ≡ record s {
+      written = (s.written + 1) % 2 ^ 32;
+    }
 window_put s c some = window_kind s.kind (record s { written = (s.written + 1) % 2 ^ 32 }) c some
 
 pub ruleset window_count = (window_put, sound_get)

@@ -1,5 +1,6 @@
 -- A file's content, which is a list of bytes (Glk 0.7.5, "File Streams").
-use Rattle.std.specs.Prelude.{ℕ, ◌+◌, ◌*◌, ◌/◌, nat_le, nat_lt, if◌then◌else◌, Bool, List, [], ◌∷◌, length, count_by, Option, Some, None}
+use Rattle.std.specs.Prelude.{ℕ, ◌+◌, ◌*◌, ◌/◌, nat_le, nat_lt, if◌then◌else◌, Bool, List, [], ◌∷◌, length, count_by}
+use Rattle.std.specs.Prelude.{Option, Some, None}
 use Rattle.gx_words.specs.Numbers.{byte, word, bytes_of_word, spliced}
 use Rattle.glk_text.specs.Characters.{latin_of}
 use Rattle.glk_text.specs.Utf8.{written, read}
@@ -45,7 +46,7 @@ read_in forms.Wide content position =
     if nat_lt position (length content / 4) then Some (word content (4 * position), position + 1) else None
 read_in forms.Utf8 content position = read content position
 
--- the bytes that the bytes of a save take, put as characters: in UTF-8 one from 80 on takes two
+-- the bytes that the bytes of a save take, put as characters: in UTF-8 one from 128 on takes two
 abbrev pub saved_size : FileForm → List ℕ → ℕ
 saved_size forms.Latin bytes = length bytes
 saved_size forms.Wide bytes = 4 * length bytes

@@ -3,3 +3,4 @@ pub mod Files
 pub mod Stream
 pub mod Streams
 pub mod Sound
+pub mod Laws

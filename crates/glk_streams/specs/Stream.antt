@@ -1,5 +1,6 @@
 -- One stream: what putting, getting and moving make of it (Glk 0.7.5, "Streams").
-use Rattle.std.specs.Prelude.{ℕ, ◌+◌, ◌-◌, ◌*◌, ◌^◌, ◌%◌, min, max, ◌==◌, nat_lt, nat_le, if◌then◌else◌, Bool, false, ◌||◌, ◌&&◌, List, [], ◌∷◌, length, drop, Option, Some, None}
+use Rattle.std.specs.Prelude.{ℕ, ◌+◌, ◌-◌, ◌*◌, ◌^◌, ◌%◌, min, max, ◌==◌, nat_lt, nat_le, if◌then◌else◌, Bool, false}
+use Rattle.std.specs.Prelude.{◌||◌, ◌&&◌, List, [], ◌∷◌, length, drop, Option, Some, None}
 use Rattle.glk_streams.specs.declared.kinds.FileForm.TheVariants as forms
 use Rattle.glk_streams.specs.declared.kinds.StreamKind.{StreamKind}
 use Rattle.glk_streams.specs.declared.kinds.StreamKind.TheVariants as kinds
@@ -59,7 +60,10 @@ put_in (kinds.Memory at len wide) s c =
 put_in (kinds.File name content form) s c =
     let bytes = bytes_in form c in
     let place = byte_at form s.position in
-    record s { kind = kinds.File name (with_bytes content place bytes) form; position = s.position + positions_in form (taken place bytes) }
+    record s {
+      kind = kinds.File name (with_bytes content place bytes) form;
+      position = s.position + positions_in form (taken place bytes);
+    }
 
 -- a character is counted and put, unless the stream isn't open for writing
 unfoldable pub after_put : Stream → ℕ → Stream

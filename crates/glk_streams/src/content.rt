@@ -1,6 +1,8 @@
 //! A file's content: characters by its form at a position (Glk 0.7.5, "File Streams").
-ghost use Rattle.std.specs.Prelude.{◌≡◌, ◌≤◌, ◌<◌, ◌+◌, ◌*◌, ◌^◌, ◌∷◌, [], length, OnErr, OnOk, IfOk, IfSome, IsTrue, nat_lt};
-ghost use Rattle.glk_streams.specs.Files.{bytes_in, byte_at, positions_in, has_room, with_bytes, taken, read_in, saved_size};
+ghost use Rattle.std.specs.Prelude.{◌≡◌, ◌≤◌, ◌<◌, ◌+◌, ◌*◌, ◌^◌, ◌∷◌, [], length, OnErr, OnOk, IfOk, IfSome, IsTrue};
+ghost use Rattle.std.specs.Prelude.{nat_lt};
+ghost use Rattle.glk_streams.specs.Files.{bytes_in, byte_at, positions_in, has_room, with_bytes, taken, read_in};
+ghost use Rattle.glk_streams.specs.Files.{saved_size};
 
 use crate::FileForm;
 use glk_text::{as_char, latin, read_utf8};

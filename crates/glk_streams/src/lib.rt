@@ -3,6 +3,7 @@
 //! - `kinds` has what a stream is, `modes` how it may be open and from where it is sought.
 //! - `content` writes and reads characters in a file's content, by its form.
 //! - `one` puts a character to one stream, gets one, and moves its position.
+//! - `laws` says what holds of the definitions.
 //! - `streams` has all streams in order of creation. An identifier is found by halving.
 //!
 //! Each call is its definition of specs/ and leaves all else as it is. A call that answers a Result
@@ -13,6 +14,7 @@
 
 mod content;
 mod kinds;
+pub mod laws;
 mod modes;
 mod one;
 mod streams;

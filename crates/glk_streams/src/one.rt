@@ -1,6 +1,10 @@
 //! One stream: a character is put, or got, or its position moves (Glk 0.7.5, "Streams").
-ghost use Rattle.std.specs.Prelude.{ℕ, ◌≡◌, ◌≢◌, ◌≤◌, ◌<◌, ◌+◌, ◌^◌, not, length, OnErr, OnOk, IfOk, IfSome, MatchOption, IsTrue};
-ghost use Rattle.glk_streams.specs.Stream.{readable, writable, allows, opened, window_of, file_in, is_stored, places_of, end_of, after_put, after_puts, takes_bytes, latin_rest, lengthens, next_of, next_from, passed, char_of, after_get, clamped, moved, places, fits};
+ghost use Rattle.std.specs.Prelude.{ℕ, ◌≡◌, ◌≢◌, ◌≤◌, ◌<◌, ◌+◌, ◌^◌, not, length, OnErr, OnOk, IfOk, IfSome};
+ghost use Rattle.std.specs.Prelude.{MatchOption, IsTrue};
+ghost use Rattle.glk_streams.specs.Stream.{readable, writable, allows, opened, window_of, file_in, is_stored};
+ghost use Rattle.glk_streams.specs.Stream.{places_of, end_of, after_put, after_puts, takes_bytes, latin_rest};
+ghost use Rattle.glk_streams.specs.Stream.{lengthens, next_of, next_from, passed, char_of, after_get, clamped, moved};
+ghost use Rattle.glk_streams.specs.Stream.{places, fits};
 ghost use Rattle.glk_streams.specs.Sound.{IsSoundKind, IsSoundStream};
 
 use crate::content::{byte_at, positions_in, put_in, read_in, saved_size};
@@ -59,7 +63,8 @@ pub fn window_of(stream: &Stream) -> u32
 
 /// The full name and the content of a file stream.
 pub fn file_in(stream: &Stream) -> Option<(&str, &[u8])>
-    ensures value { MatchOption result (file_in stream.now.kind ≡ None) (λ file. file_in stream.now.kind ≡ Some (file.0.now, file.1.now)) }
+    ensures value { MatchOption result (file_in stream.now.kind ≡ None)
+        (λ file. file_in stream.now.kind ≡ Some (file.0.now, file.1.now)) }
     ensures fits { IsSoundStream stream.now → IfSome result (λ file. length file.1.now ≤ LARGEST) }
 {
     match &stream.kind {

@@ -1,9 +1,11 @@
 //! All streams, in order of creation.
-ghost use Rattle.std.specs.Prelude.{ℕ, ◌≡◌, ◌≢◌, ◌≤◌, ◌<◌, ◌+◌, ◌^◌, ◌++◌, ◌∷◌, ◌==◌, [], true, false, not, length, filter, IfOk, IfSome, MatchOption, OnErr, OnOk, IsTrue};
+ghost use Rattle.std.specs.Prelude.{ℕ, ◌≡◌, ◌≢◌, ◌≤◌, ◌<◌, ◌+◌, ◌^◌, ◌++◌, ◌∷◌, ◌==◌, [], true, false, not, length};
+ghost use Rattle.std.specs.Prelude.{filter, map, IfOk, IfSome, MatchOption, OnErr, OnOk, IsTrue};
 ghost use Rattle.std.specs.List.{list_any};
-ghost use Rattle.glk_objects.specs.Objects.{IsAbove, place};
+ghost use Rattle.glk_objects.specs.Objects.{IsAbove, IsBelow, place, met_from};
 ghost use Rattle.glk_streams.specs.Stream as one;
-ghost use Rattle.glk_streams.specs.Streams.{id_of, has, stream, with_stream, without, next, file_of, without_windows, open_files};
+ghost use Rattle.glk_streams.specs.Streams.{id_of, has, stream, with_stream, without, next, file_of, without_windows};
+ghost use Rattle.glk_streams.specs.Streams.{open_files};
 ghost use Rattle.glk_streams.specs.Sound.{IsSoundKind};
 ghost use Rattle.glk_streams.specs.Constants.{largest};
 
@@ -87,9 +89,13 @@ impl Streams {
     }
 
     /// The least identifier above a number, 0 where there is none.
-    #[tactic(auto, using(crate::proofs::Lists::places))]
+    #[tactic(auto, using(crate::proofs::Lists::places, glk_objects::proofs::Meeting::meets_each))]
     pub fn next(&self, id: u32) -> u32
-        ensures { result ≡ next self.now id }
+        ensures value { result ≡ next self.now id }
+
+        // Going on from one to the next meets each stream once, in order of creation.
+        ensures each { IsBelow id_of self.now 0 → (more : ℕ)
+            → met_from id_of (length self.now + more) self.now 0 ≡ map id_of self.now }
     {
         next(&self.items, id)
     }
@@ -114,7 +120,9 @@ impl Streams {
     /// Where a stream stands, and its window, 0 for none; None where no stream has the identifier.
     #[tactic(auto, using(crate::proofs::Lists::places))]
     pub fn find(&self, id: u32) -> Option<(usize, u32)>
-        ensures { MatchOption result (has self.now id ≡ false) (λ found. (has self.now id ≡ true) × (found.0 ≡ place id_of self.now id) × (found.1 ≡ one.window_of (stream self.now id))) }
+        ensures { MatchOption result (has self.now id ≡ false)
+            (λ found. (has self.now id ≡ true) × (found.0 ≡ place id_of self.now id)
+            × (found.1 ≡ one.window_of (stream self.now id))) }
     {
         let at = place(&self.items, id);
         Some((at, one::window_of(self.items.get(at)?)))
@@ -220,11 +228,13 @@ impl Streams {
     pub fn put_bytes(&mut self, id: u32, bytes: &[u8]) -> Result<bool, AllocError>
         requires { IsTrue (has self.old id) }
         ensures value { IfOk result (λ put. put ≡ one.takes_bytes (stream self.old id) (length bytes.now)) }
-        ensures put { IfOk result (λ put. IsTrue put → self.new ≡ with_stream self.old (one.after_puts (stream self.old id) bytes.now)) }
+        ensures put { IfOk result
+            (λ put. IsTrue put → self.new ≡ with_stream self.old (one.after_puts (stream self.old id) bytes.now)) }
         ensures other { IfOk result (λ put. IsTrue (not put) → self.new ≡ self.old) }
         ensures err { OnErr result (self.new ≡ self.old) }
         ensures memory { OnErr result (IsTrue (one.takes_bytes (stream self.old id) (length bytes.now))) }
-        ensures longer { OnErr result (one.end_of (stream self.old id) < (stream self.old id).position + length bytes.now) }
+        ensures longer { OnErr result
+            (one.end_of (stream self.old id) < (stream self.old id).position + length bytes.now) }
         ensures some { OnErr result (0 < length bytes.now) }
     {
         let at = place(&self.items, id);
@@ -236,7 +246,8 @@ impl Streams {
     #[tactic(auto, using(crate::proofs::Lists::places))]
     pub fn latin_rest(&self, id: u32) -> Option<&[u8]>
         requires { IsTrue (has self.now id) }
-        ensures { MatchOption result (one.latin_rest (stream self.now id) ≡ None) (λ rest. one.latin_rest (stream self.now id) ≡ Some rest.now) }
+        ensures { MatchOption result (one.latin_rest (stream self.now id) ≡ None)
+            (λ rest. one.latin_rest (stream self.now id) ≡ Some rest.now) }
     {
         one::latin_rest(&self.items[place(&self.items, id)])
     }
@@ -247,7 +258,8 @@ impl Streams {
     pub fn get(&mut self, id: u32, found: u32) -> Option<u32>
         requires { IsTrue (has self.old id) }
         ensures value { result ≡ one.char_of (one.next_of (stream self.old id) found) }
-        ensures new { self.new ≡ with_stream self.old (one.after_get (stream self.old id) (one.next_of (stream self.old id) found)) }
+        ensures new { self.new ≡ with_stream self.old
+            (one.after_get (stream self.old id) (one.next_of (stream self.old id) found)) }
     {
         let at = place(&self.items, id);
         one::get(&mut self.items[at], found)
@@ -288,7 +300,8 @@ impl Streams {
     /// The full name and the content of a file; None where no file stream has the identifier.
     #[tactic(auto, using(crate::proofs::Lists::places))]
     pub fn file(&self, id: u32) -> Option<(&str, &[u8])>
-        ensures value { MatchOption result (file_of self.now id ≡ None) (λ file. file_of self.now id ≡ Some (file.0.now, file.1.now)) }
+        ensures value { MatchOption result (file_of self.now id ≡ None)
+            (λ file. file_of self.now id ≡ Some (file.0.now, file.1.now)) }
         ensures fits { IfSome result (λ file. length file.1.now ≤ largest) }
     {
         one::file_in(self.items.get(place(&self.items, id))?)

@@ -1,5 +1,6 @@
 -- Characters that are put, and their places.
-use Rattle.std.proofs.Common.{◌≡◌, ◌≢◌, ◌<◌, ◌≤◌, ◌==◌, ◌&&◌, not, ℕ, Bool, true, false, if◌then◌else◌, List, [], ◌∷◌, length, refl, ap, inl, inr, arith, Result, Ok, IsOk}
+use Rattle.std.proofs.Common.{◌≡◌, ◌≢◌, ◌<◌, ◌≤◌, ◌==◌, ◌&&◌, not, ℕ, Bool, true, false, if◌then◌else◌, List, [], ◌∷◌}
+use Rattle.std.proofs.Common.{length, refl, ap, inl, inr, arith, Result, Ok, IsOk}
 use Rattle.std.proofs.lemmas.List.{append-nil}
 use Rattle.gx_words.specs.declared.faults.Fault.{Fault}
 use Rattle.gx_state.specs.Flat.{FlatState}
@@ -11,13 +12,15 @@ use Rattle.glk_streams.specs.declared.kinds.StreamKind.TheVariants as kinds
 use Rattle.glk_streams.specs.Stream as one
 use Rattle.glk_streams.specs.Streams as streams
 use Rattle.glk_world.specs.World.{Scene, FlatWorld, after, on_world}
-use Rattle.glk_world.specs.Putting.{window_of, entry_of, is_text, is_plain_text, put_of, puts, put_grows, places_of, end_of}
+use Rattle.glk_world.specs.Putting.{window_of, entry_of, is_text, is_plain_text, put_of, puts, put_grows, places_of}
+use Rattle.glk_world.specs.Putting.{end_of}
 use Rattle.glk_replies.specs.Parts.{IsCharWidth, replies, can_lay, laid}
 use Rattle.glk_text_calls.specs.Putting.{can_put, put_all, put_grows_one}
 use Rattle.glk_replies.proofs.Ram.{laid_in_ram}
 
 -- one character
-pub puts_one : (w : FlatWorld) (stream c : ℕ) → after w (puts w.scene stream (c ∷ [])) ≡ after w (put_of w.scene stream c)
+pub puts_one : (w : FlatWorld) (stream c : ℕ)
+    → after w (puts w.scene stream (c ∷ [])) ≡ after w (put_of w.scene stream c)
 unfolding puts
 puts_one w stream c = rw (append-nil (put_of w.scene stream c).1) refl
 
@@ -34,12 +37,19 @@ width_of s count = width_in s.kind s.position count
 
 pub places_width : (w : Scene) (stream count : ℕ) → IsCharWidth (places_of w stream count).width
 places_width w stream count =
-    elim (one.writable (streams.stream w.streams (end_of w stream))) as (λ b. IsCharWidth (if b then one.places (streams.stream w.streams (end_of w stream)) count else record { at = 0; width = 1; count = 0 }).width) [
+    elim (one.writable (streams.stream w.streams (end_of w stream))) as
+    (λ b. IsCharWidth (if b then one.places (streams.stream w.streams (end_of w stream)) count else record {
+      at = 0;
+      width = 1;
+      count = 0;
+    }).width) [
       | true ↦ width_of (streams.stream w.streams (end_of w stream)) count
       | false ↦ inl refl
     ]
 
-pub put_in_ram : (f : FlatState) (w : Scene) (stream count : ℕ) (cs : List ℕ) → (places_of w stream count).count ≤ length cs → can_lay f (places_of w stream count) ≡ Ok tt → AreInRam f (laid (places_of w stream count) cs)
+pub put_in_ram : (f : FlatState) (w : Scene) (stream count : ℕ) (cs : List ℕ)
+    → (places_of w stream count).count ≤ length cs → can_lay f (places_of w stream count) ≡ Ok tt
+    → AreInRam f (laid (places_of w stream count) cs)
 put_in_ram f w stream count cs few ok = laid_in_ram f (places_of w stream count) cs (places_width w stream count) few ok
 
 pub some_counted : (n : ℕ) (cs : List ℕ) → 0 < n → n ≤ length cs → cs ≢ []
@@ -56,21 +66,27 @@ text_there : (w : Scene) (stream : ℕ) → is_plain_text w stream ≡ true → 
 text_there w stream plain =
     let a = streams.has w.streams stream in
     let b = not (window_of w stream == 0) in
-    and_first a b (and_first (a && b) (is_text w stream) (and_first (a && b && is_text w stream) ((entry_of w stream).echo == 0) plain))
+    and_first a b (and_first (a && b) (is_text w stream)
+    (and_first (a && b && is_text w stream) ((entry_of w stream).echo == 0) plain))
 
 -- a character of the text
-pub text_put : (w : FlatWorld) (f : FlatState) (stream c : ℕ) → is_plain_text w.scene stream ≡ true → (places_of w.scene stream 1).count ≡ 0 → on_world w (put_all w.scene f stream (c ∷ [])) ≡ Ok (after w (put_of w.scene stream c), replies 0)
+pub text_put : (w : FlatWorld) (f : FlatState) (stream c : ℕ) → is_plain_text w.scene stream ≡ true
+    → (places_of w.scene stream 1).count ≡ 0
+    → on_world w (put_all w.scene f stream (c ∷ [])) ≡ Ok (after w (put_of w.scene stream c), replies 0)
 unfolding put_all can_put can_lay
 text_put w f stream c plain none =
     let there : streams.has w.scene.streams stream ≡ true = text_there w.scene stream plain in
     let nowhere : (places_of w.scene stream 1).count == 0 ≡ true = rw none refl in
-    rw (there, nowhere) (ap (λ (v : FlatWorld). let both : Result (FlatWorld × Reply) Fault = Ok (v, replies 0) in both) (puts_one w stream c))
+    rw (there, nowhere) (ap (λ (v : FlatWorld). let both : Result (FlatWorld × Reply) Fault = Ok (v, replies 0) in both)
+    (puts_one w stream c))
 
-pub text_grows : (w : Scene) (stream c : ℕ) → is_plain_text w stream ≡ true → put_grows w stream c ≡ true → put_grows_one w stream c ≡ true
+pub text_grows : (w : Scene) (stream c : ℕ) → is_plain_text w stream ≡ true → put_grows w stream c ≡ true
+    → put_grows_one w stream c ≡ true
 text_grows w stream c plain grows = rw (text_there w stream plain, grows) refl
 
 -- memory is wanted for it where it has no fault
-pub text_fine : (w : FlatWorld) (f : FlatState) (stream c : ℕ) → is_plain_text w.scene stream ≡ true → (places_of w.scene stream 1).count ≡ 0 → IsOk (on_world w (put_all w.scene f stream (c ∷ [])))
+pub text_fine : (w : FlatWorld) (f : FlatState) (stream c : ℕ) → is_plain_text w.scene stream ≡ true
+    → (places_of w.scene stream 1).count ≡ 0 → IsOk (on_world w (put_all w.scene f stream (c ∷ [])))
 text_fine w f stream c plain none = rw (text_put w f stream c plain none) refl
 
 pub ruleset text_rules = (text_put, text_grows, text_fine)

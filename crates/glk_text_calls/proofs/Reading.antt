@@ -1,5 +1,7 @@
 -- Characters that are read, one after another.
-use Rattle.std.proofs.Common.{suc, ◌≡◌, ◌<◌, ◌≤◌, ◌+◌, ◌-◌, ◌*◌, ℕ, Bool, true, false, if◌then◌else◌, List, [], ◌∷◌, ◌++◌, append_assoc, length, refl, sym, ap, subst, ◌∙◌, inl, inr, arith, Option, Some, None, Result, Ok, Err, IfSome, MatchOption}
+use Rattle.std.proofs.Common.{suc, ◌≡◌, ◌<◌, ◌≤◌, ◌+◌, ◌-◌, ◌*◌, ℕ, Bool, true, false, if◌then◌else◌, List, [], ◌∷◌}
+use Rattle.std.proofs.Common.{◌++◌, append_assoc, length, refl, sym, ap, subst, ◌∙◌, inl, inr, arith, Option, Some}
+use Rattle.std.proofs.Common.{None, Result, Ok, Err, IfSome, MatchOption}
 use Rattle.std.proofs.lemmas.Bool.Decides.{nat_tests}
 use Rattle.std.proofs.lemmas.List.{append-nil, length-append}
 use Rattle.gx_words.specs.declared.faults.Fault.{Fault}
@@ -11,7 +13,8 @@ use Rattle.glk_streams.specs.Streams as streams
 use Rattle.glk_world.specs.World.{Scene}
 use Rattle.glk_world.specs.Putting.{places_read, no_places}
 use Rattle.glk_replies.specs.Parts.{IsCharWidth}
-use Rattle.glk_text_calls.specs.Input.{next_char, ends_line, read_behind, read_on, counted, has_read, ending, ending_len}
+use Rattle.glk_text_calls.specs.Input.{next_char, ends_line, read_behind, read_on, counted, has_read, ending}
+use Rattle.glk_text_calls.specs.Input.{ending_len}
 use Rattle.glk_text_calls.proofs.Puts.{width_of}
 use Rattle.glk_replies.proofs.Ram.{laid_in_ram}
 
@@ -29,7 +32,8 @@ pub ruleset places_rules = (width_times, width_some)
 
 pub read_width : (w : Scene) (stream count : ℕ) → IsCharWidth (places_read w stream count).width
 read_width w stream count =
-    elim (one.readable (streams.stream w.streams stream)) as (λ b. IsCharWidth (if b then one.places (streams.stream w.streams stream) count else no_places).width) [
+    elim (one.readable (streams.stream w.streams stream)) as
+    (λ b. IsCharWidth (if b then one.places (streams.stream w.streams stream) count else no_places).width) [
       | true ↦ width_of (streams.stream w.streams stream) count
       | false ↦ inl refl
     ]
@@ -45,23 +49,30 @@ read_as cs position = Ok (cs, position)
 abbrev count_as : ℕ → ℕ → Result (ℕ × ℕ) Fault
 count_as n position = Ok (n, position)
 
-fails_step : (more : ℕ) (stops : Bool) (f : FlatState) (p : Places) (s : Stream) (i position : ℕ) (e : Fault) → next_char f p s i position ≡ Err e → read_on (suc more) stops f p s i position ≡ Err e
+fails_step : (more : ℕ) (stops : Bool) (f : FlatState) (p : Places) (s : Stream) (i position : ℕ) (e : Fault)
+    → next_char f p s i position ≡ Err e → read_on (suc more) stops f p s i position ≡ Err e
 unfolding read_on
 fails_step more stops f p s i position e is = rw is refl
 
-none_step : (more : ℕ) (stops : Bool) (f : FlatState) (p : Places) (s : Stream) (i position : ℕ) → next_char f p s i position ≡ Ok None → read_on (suc more) stops f p s i position ≡ read_as [] position
+none_step : (more : ℕ) (stops : Bool) (f : FlatState) (p : Places) (s : Stream) (i position : ℕ)
+    → next_char f p s i position ≡ Ok None → read_on (suc more) stops f p s i position ≡ read_as [] position
 unfolding read_on
 none_step more stops f p s i position is = rw is refl
 
-stop_step : (more : ℕ) (stops : Bool) (f : FlatState) (p : Places) (s : Stream) (i position c next : ℕ) → next_char f p s i position ≡ Ok (Some (c, next)) → ends_line stops c ≡ true → read_on (suc more) stops f p s i position ≡ read_as (c ∷ []) next
+stop_step : (more : ℕ) (stops : Bool) (f : FlatState) (p : Places) (s : Stream) (i position c next : ℕ)
+    → next_char f p s i position ≡ Ok (Some (c, next)) → ends_line stops c ≡ true
+    → read_on (suc more) stops f p s i position ≡ read_as (c ∷ []) next
 unfolding read_on
 stop_step more stops f p s i position c next is ends = rw (is, ends) refl
 
-pub go_step : (more : ℕ) (stops : Bool) (f : FlatState) (p : Places) (s : Stream) (i position c next : ℕ) → next_char f p s i position ≡ Ok (Some (c, next)) → ends_line stops c ≡ false → read_on (suc more) stops f p s i position ≡ read_behind (c ∷ []) (read_on more stops f p s (i + 1) next)
+pub go_step : (more : ℕ) (stops : Bool) (f : FlatState) (p : Places) (s : Stream) (i position c next : ℕ)
+    → next_char f p s i position ≡ Ok (Some (c, next)) → ends_line stops c ≡ false
+    → read_on (suc more) stops f p s i position ≡ read_behind (c ∷ []) (read_on more stops f p s (i + 1) next)
 unfolding read_on
 go_step more stops f p s i position c next is on = rw (is, on) refl
 
-last_step : (stops : Bool) (f : FlatState) (p : Places) (s : Stream) (i position : ℕ) → read_on 0 stops f p s i position ≡ read_as [] position
+last_step : (stops : Bool) (f : FlatState) (p : Places) (s : Stream) (i position : ℕ)
+    → read_on 0 stops f p s i position ≡ read_as [] position
 unfolding read_on
 last_step stops f p s i position = refl
 
@@ -69,13 +80,15 @@ behind_none : (r : Result (List ℕ × ℕ) Fault) → read_behind [] r ≡ r
 behind_none (Ok got) = refl
 behind_none (Err e) = refl
 
-behind_twice : (cs ds : List ℕ) (r : Result (List ℕ × ℕ) Fault) → read_behind cs (read_behind ds r) ≡ read_behind (cs ++ ds) r
+behind_twice : (cs ds : List ℕ) (r : Result (List ℕ × ℕ) Fault)
+    → read_behind cs (read_behind ds r) ≡ read_behind (cs ++ ds) r
 behind_twice cs ds (Ok got) = ap (λ (xs : List ℕ). read_as xs got.1) (sym (append_assoc cs ds got.0))
 behind_twice cs ds (Err e) = refl
 
 -- ---- what was read before a turn
 
-pub record IsReading (most : ℕ) (stops : Bool) (f : FlatState) (p : Places) (s : Stream) (i position : ℕ) (chars : Option (List ℕ)) : Type 0 where
+pub record IsReading (most : ℕ) (stops : Bool) (f : FlatState) (p : Places) (s : Stream) (i position : ℕ)
+    (chars : Option (List ℕ)) : Type 0 where
   pub front : List ℕ
   pub count : length front ≡ i
   pub kept : IfSome chars (λ cs. cs ≡ front)
@@ -83,7 +96,8 @@ pub record IsReading (most : ℕ) (stops : Bool) (f : FlatState) (p : Places) (s
   pub same : read_behind front (read_on (most - i) stops f p s i position) ≡ read_on most stops f p s 0 s.position
   pub within : position ≤ one.end_of s
 
-pub begins : (most : ℕ) (stops : Bool) (f : FlatState) (p : Places) (s : Stream) → s.position ≤ one.end_of s → IsReading most stops f p s 0 s.position (Some [])
+pub begins : (most : ℕ) (stops : Bool) (f : FlatState) (p : Places) (s : Stream) → s.position ≤ one.end_of s
+    → IsReading most stops f p s 0 s.position (Some [])
 begins most stops f p s within = let e : most - 0 ≡ most = omega arith in record {
   front = [];
   count = refl;
@@ -96,13 +110,15 @@ begins most stops f p s within = let e : most - 0 ≡ most = omega arith in reco
 abbrev IsKept : Option (List ℕ) → ℕ → Option (List ℕ) → Type 0
 IsKept chars c more = IfSome more (λ cs. MatchOption chars ⊥ (λ before. cs ≡ before ++ c ∷ []))
 
-more_kept : (chars more : Option (List ℕ)) (front : List ℕ) (c : ℕ) → IfSome chars (λ cs. cs ≡ front) → IsKept chars c more → IfSome more (λ cs. cs ≡ front ++ c ∷ [])
+more_kept : (chars more : Option (List ℕ)) (front : List ℕ) (c : ℕ) → IfSome chars (λ cs. cs ≡ front)
+    → IsKept chars c more → IfSome more (λ cs. cs ≡ front ++ c ∷ [])
 more_kept chars None front c is keeps = tt
 more_kept None (Some cs) front c is keeps = absurd keeps
 more_kept (Some before) (Some cs) front c is keeps = keeps ∙ ap (λ (xs : List ℕ). xs ++ c ∷ []) is
 
 -- a character more
-module _ (most : ℕ) (stops : Bool) (f : FlatState) (p : Places) (s : Stream) (i position : ℕ) (chars : Option (List ℕ)) (before : IsReading most stops f p s i position chars) where
+module _ (most : ℕ) (stops : Bool) (f : FlatState) (p : Places) (s : Stream) (i position : ℕ) (chars : Option (List ℕ))
+    (before : IsReading most stops f p s i position chars) where
   abbrev all : Result (List ℕ × ℕ) Fault
   all = read_on most stops f p s 0 s.position
 
@@ -113,7 +129,9 @@ module _ (most : ℕ) (stops : Bool) (f : FlatState) (p : Places) (s : Stream) (
   rest_is : i < most → read_on (suc (most - (i + 1))) stops f p s i position ≡ read_on (most - i) stops f p s i position
   rest_is less = ap (λ n. read_on n stops f p s i position) (sym (fewer most i less))
 
-  pub goes : (c next : ℕ) (more : Option (List ℕ)) → i < most → next_char f p s i position ≡ Ok (Some (c, next)) → ends_line stops c ≡ false → IsKept chars c more → next ≤ one.end_of s → IsReading most stops f p s (i + 1) next more
+  pub goes : (c next : ℕ) (more : Option (List ℕ)) → i < most → next_char f p s i position ≡ Ok (Some (c, next))
+      → ends_line stops c ≡ false → IsKept chars c more → next ≤ one.end_of s
+      → IsReading most stops f p s (i + 1) next more
   goes c next more less is on keeps within = record {
     front = before.front ++ c ∷ [];
     count = one_longer c;
@@ -121,35 +139,47 @@ module _ (most : ℕ) (stops : Bool) (f : FlatState) (p : Places) (s : Stream) (
     some = λ none. omega arith;
     same =
         sym (behind_twice before.front (c ∷ []) (read_on (most - (i + 1)) stops f p s (i + 1) next))
-        ∙ ap (read_behind before.front) (sym (go_step (most - (i + 1)) stops f p s i position c next is on) ∙ rest_is less)
+        ∙ ap (read_behind before.front)
+        (sym (go_step (most - (i + 1)) stops f p s i position c next is on) ∙ rest_is less)
         ∙ before.same;
     within = within;
   }
 
   -- the end of the reading
-  ended : (front : List ℕ) (n q : ℕ) (some : Option (List ℕ)) → length front ≡ n → IfSome some (λ cs. cs ≡ front) → all ≡ read_as front q → (counted all ≡ count_as n q) × IfSome some (λ cs. all ≡ read_as cs q)
+  ended : (front : List ℕ) (n q : ℕ) (some : Option (List ℕ)) → length front ≡ n → IfSome some (λ cs. cs ≡ front)
+      → all ≡ read_as front q → (counted all ≡ count_as n q) × IfSome some (λ cs. all ≡ read_as cs q)
   ended front n q None len is same = (ap counted same ∙ ap (λ k. count_as k q) len, tt)
-  ended front n q (Some cs) len is same = (ap counted same ∙ ap (λ k. count_as k q) len, same ∙ ap (λ (xs : List ℕ). read_as xs q) (sym is))
+  ended front n q (Some cs) len is same =
+      (ap counted same ∙ ap (λ k. count_as k q) len, same ∙ ap (λ (xs : List ℕ). read_as xs q) (sym is))
 
   all_is : read_on (most - i) stops f p s i position ≡ read_as [] position → all ≡ read_as before.front position
-  all_is is = sym before.same ∙ ap (read_behind before.front) is ∙ ap (λ (xs : List ℕ). read_as xs position) (append-nil before.front)
+  all_is is = sym before.same ∙ ap (read_behind before.front) is
+      ∙ ap (λ (xs : List ℕ). read_as xs position) (append-nil before.front)
 
-  reads_all : most ≤ i → i ≤ most → (counted all ≡ count_as most position) × IfSome chars (λ cs. all ≡ read_as cs position)
+  reads_all : most ≤ i → i ≤ most
+      → (counted all ≡ count_as most position) × IfSome chars (λ cs. all ≡ read_as cs position)
   reads_all most_le le_most =
       let none : most - i ≡ 0 = omega arith in
       let len : length before.front ≡ most = omega (arith, before.count) in
-      ended before.front most position chars len before.kept (all_is (ap (λ n. read_on n stops f p s i position) none ∙ last_step stops f p s i position))
+      ended before.front most position chars len before.kept
+      (all_is (ap (λ n. read_on n stops f p s i position) none ∙ last_step stops f p s i position))
 
-  reads_none : i < most → next_char f p s i position ≡ Ok None → (counted all ≡ count_as i position) × IfSome chars (λ cs. all ≡ read_as cs position)
-  reads_none less is = ended before.front i position chars before.count before.kept (all_is (sym (rest_is less) ∙ none_step (most - (i + 1)) stops f p s i position is))
+  reads_none : i < most → next_char f p s i position ≡ Ok None
+      → (counted all ≡ count_as i position) × IfSome chars (λ cs. all ≡ read_as cs position)
+  reads_none less is = ended before.front i position chars before.count before.kept
+      (all_is (sym (rest_is less) ∙ none_step (most - (i + 1)) stops f p s i position is))
 
-  reads_stop : (c next : ℕ) (more : Option (List ℕ)) → i < most → next_char f p s i position ≡ Ok (Some (c, next)) → ends_line stops c ≡ true → IsKept chars c more → (counted all ≡ count_as (i + 1) next) × IfSome more (λ cs. all ≡ read_as cs next)
-  reads_stop c next more less is ends keeps =
-      ended (before.front ++ c ∷ []) (i + 1) next more (one_longer c) (more_kept chars more before.front c before.kept keeps)
-      (sym before.same ∙ ap (read_behind before.front) (sym (rest_is less) ∙ stop_step (most - (i + 1)) stops f p s i position c next is ends))
+  reads_stop : (c next : ℕ) (more : Option (List ℕ)) → i < most → next_char f p s i position ≡ Ok (Some (c, next))
+      → ends_line stops c ≡ true → IsKept chars c more
+      → (counted all ≡ count_as (i + 1) next) × IfSome more (λ cs. all ≡ read_as cs next)
+  reads_stop c next more less is ends keeps = ended (before.front ++ c ∷ []) (i + 1) next more (one_longer c)
+      (more_kept chars more before.front c before.kept keeps)
+      (sym before.same ∙ ap (read_behind before.front)
+      (sym (rest_is less) ∙ stop_step (most - (i + 1)) stops f p s i position c next is ends))
 
   pub reads_fail : (e : Fault) → i < most → next_char f p s i position ≡ Err e → counted all ≡ Err e
-  reads_fail e less is = ap counted (sym before.same ∙ ap (read_behind before.front) (sym (rest_is less) ∙ fails_step (most - (i + 1)) stops f p s i position e is))
+  reads_fail e less is = ap counted (sym before.same ∙ ap (read_behind before.front)
+      (sym (rest_is less) ∙ fails_step (most - (i + 1)) stops f p s i position e is))
 
   pub counted_all : most ≤ i → i ≤ most → counted all ≡ count_as most position
   counted_all most_le le_most = (reads_all most_le le_most).0
@@ -163,13 +193,16 @@ module _ (most : ℕ) (stops : Bool) (f : FlatState) (p : Places) (s : Stream) (
   pub kept_none : i < most → next_char f p s i position ≡ Ok None → IfSome chars (λ cs. all ≡ read_as cs position)
   kept_none less is = (reads_none less is).1
 
-  pub counted_stop : (c next : ℕ) (more : Option (List ℕ)) → i < most → next_char f p s i position ≡ Ok (Some (c, next)) → ends_line stops c ≡ true → IsKept chars c more → counted all ≡ count_as (i + 1) next
+  pub counted_stop : (c next : ℕ) (more : Option (List ℕ)) → i < most → next_char f p s i position ≡ Ok (Some (c, next))
+      → ends_line stops c ≡ true → IsKept chars c more → counted all ≡ count_as (i + 1) next
   counted_stop c next more less is ends keeps = (reads_stop c next more less is ends keeps).0
 
-  pub kept_stop : (c next : ℕ) (more : Option (List ℕ)) → i < most → next_char f p s i position ≡ Ok (Some (c, next)) → ends_line stops c ≡ true → IsKept chars c more → IfSome more (λ cs. all ≡ read_as cs next)
+  pub kept_stop : (c next : ℕ) (more : Option (List ℕ)) → i < most → next_char f p s i position ≡ Ok (Some (c, next))
+      → ends_line stops c ≡ true → IsKept chars c more → IfSome more (λ cs. all ≡ read_as cs next)
   kept_stop c next more less is ends keeps = (reads_stop c next more less is ends keeps).1
 
-pub ruleset reading_turns = (begins, goes, counted_all, kept_all, counted_none, kept_none, counted_stop, kept_stop, reads_fail)
+pub ruleset reading_turns =
+    (begins, goes, counted_all, kept_all, counted_none, kept_none, counted_stop, kept_stop, reads_fail)
 
 -- ---- what was read, by its count
 
@@ -181,7 +214,8 @@ pub read_fails : (r : Result (List ℕ × ℕ) Fault) (e : Fault) → counted r 
 read_fails (Ok got) e is = absurd (cc)
 read_fails (Err e') e is = cc
 
-pub same_count : (r : Result (List ℕ × ℕ) Fault) (cs : List ℕ) (n q position : ℕ) → r ≡ Ok (cs, position) → counted r ≡ Ok (n, q) → length cs ≡ n
+pub same_count : (r : Result (List ℕ × ℕ) Fault) (cs : List ℕ) (n q position : ℕ) → r ≡ Ok (cs, position)
+    → counted r ≡ Ok (n, q) → length cs ≡ n
 same_count r cs n q position is many = ap first_of (ap counted (sym is) ∙ many)
 
 pub read_some : (r : Result (List ℕ × ℕ) Fault) (n q : ℕ) → counted r ≡ Ok (n, q) → 0 < n → has_read r ≡ true

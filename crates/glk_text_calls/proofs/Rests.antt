@@ -1,5 +1,7 @@
 -- The rest of a file in Latin-1 or of bytes in memory: the bytes are the characters.
-use Rattle.std.proofs.Common.{zero, suc, ◌≡◌, ◌<◌, ◌≤◌, ◌+◌, ◌-◌, ◌*◌, nat_lt, ℕ, Bool, true, false, if◌then◌else◌, List, [], ◌∷◌, length, get_or, take, drop, drop-cons, length-drop, refl, sym, ap, subst, ◌∙◌, arith, Some, None, Ok}
+use Rattle.std.proofs.Common.{zero, suc, ◌≡◌, ◌<◌, ◌≤◌, ◌+◌, ◌-◌, ◌*◌, nat_lt, ℕ, Bool, true, false, if◌then◌else◌}
+use Rattle.std.proofs.Common.{List, [], ◌∷◌, length, get_or, take, drop, drop-cons, length-drop, refl, sym, ap, subst}
+use Rattle.std.proofs.Common.{◌∙◌, arith, Some, None, Ok}
 use Rattle.std.specs.List.{list_all}
 use Rattle.std.proofs.lemmas.Bool.Decides.{nat_tests}
 use Rattle.std.proofs.lemmas.Grind.{common_steps}
@@ -29,22 +31,33 @@ record IsLatin (s : Stream) (rest : List ℕ) : Type 0 where
   pub left : rest ≡ drop s.position content
   pub reads : one.readable s ≡ true
 
-kind_latin : (s : Stream) (k : StreamKind) (rest : List ℕ) → s.kind ≡ k → one.readable s ≡ true → one.latin_rest_in k s.position ≡ Some rest → IsLatin s rest
+kind_latin : (s : Stream) (k : StreamKind) (rest : List ℕ) → s.kind ≡ k → one.readable s ≡ true
+    → one.latin_rest_in k s.position ≡ Some rest → IsLatin s rest
 kind_latin s (kinds.Window win) rest is reads h = absurd (cc)
 kind_latin s (kinds.Memory at len wide) rest is reads h = absurd (cc)
-kind_latin s (kinds.File name content forms.Latin) rest is reads h = record { name = name; content = content; kind = is; left = cc; reads = reads }
+kind_latin s (kinds.File name content forms.Latin) rest is reads h = record {
+  name = name;
+  content = content;
+  kind = is;
+  left = cc;
+  reads = reads;
+}
 kind_latin s (kinds.File name content forms.Wide) rest is reads h = absurd (cc)
 kind_latin s (kinds.File name content forms.Utf8) rest is reads h = absurd (cc)
 
 latin_of_rest : (s : Stream) (rest : List ℕ) → one.latin_rest s ≡ Some rest → IsLatin s rest
 unfolding one.latin_rest
-latin_of_rest s rest h = elim (one.readable s) as (λ b. one.readable s ≡ b → (if b then one.latin_rest_in s.kind s.position else None) ≡ Some rest → IsLatin s rest) [
-  | true ↦ λ reads some. kind_latin s s.kind rest refl reads some
-  | false ↦ λ reads some. absurd (cc)
-] refl h
+latin_of_rest s rest h =
+    elim (one.readable s) as
+    (λ b. one.readable s ≡ b → (if b then one.latin_rest_in s.kind s.position else None) ≡ Some rest → IsLatin s rest) [
+      | true ↦ λ reads some. kind_latin s s.kind rest refl reads some
+      | false ↦ λ reads some. absurd (cc)
+    ] refl h
 
-module _ (f : FlatState) (p : Places) (s : Stream) (name content : List ℕ) (is : s.kind ≡ kinds.File name content forms.Latin) (reads : one.readable s ≡ true) (none : p.count ≡ 0) where
-  next_latin : (i position : ℕ) → position < length content → next_char f p s i position ≡ Ok (Some (byte content position, position + 1))
+module _ (f : FlatState) (p : Places) (s : Stream) (name content : List ℕ)
+    (is : s.kind ≡ kinds.File name content forms.Latin) (reads : one.readable s ≡ true) (none : p.count ≡ 0) where
+  next_latin : (i position : ℕ) → position < length content
+      → next_char f p s i position ≡ Ok (Some (byte content position, position + 1))
   unfolding next_char one.next_of
   next_latin i position less =
       let past : nat_lt i p.count ≡ false = grind (arith, nat_tests, none) in
@@ -52,7 +65,8 @@ module _ (f : FlatState) (p : Places) (s : Stream) (name content : List ℕ) (is
       rw (past, reads, is, within) refl
 
   -- all that is left is read, and the stream is at its end then
-  read_latin : (more i position : ℕ) → position + more ≡ length content → read_on more false f p s i position ≡ read_as (drop position content) (length content)
+  read_latin : (more i position : ℕ) → position + more ≡ length content
+      → read_on more false f p s i position ≡ read_as (drop position content) (length content)
   unfolding read_on
   read_latin zero i position all =
       let past : drop position content ≡ [] = grind (arith, common_steps) in
@@ -62,16 +76,19 @@ module _ (f : FlatState) (p : Places) (s : Stream) (name content : List ℕ) (is
       let c = byte content position in
       let e : position + 1 ≡ suc position = omega arith in
       let less : position < length content = omega arith in
-      let left : c ∷ drop (position + 1) content ≡ drop position content = rw (e, drop-cons content position 0 less) refl in
+      let left : c ∷ drop (position + 1) content ≡ drop position content =
+      rw (e, drop-cons content position 0 less) refl in
       go_step more false f p s i position c (position + 1) (next_latin i position less) refl
       ∙ ap (read_behind (c ∷ [])) (read_latin more (i + 1) (position + 1) (omega arith))
       ∙ ap (λ (cs : List ℕ). read_as cs (length content)) left
 
-no_places_of : (s : Stream) (name content : List ℕ) (count : ℕ) → s.kind ≡ kinds.File name content forms.Latin → (one.places s count).count ≡ 0
+no_places_of : (s : Stream) (name content : List ℕ) (count : ℕ) → s.kind ≡ kinds.File name content forms.Latin
+    → (one.places s count).count ≡ 0
 unfolding one.places
 no_places_of s name content count is = rw is refl
 
-no_places_for : (w : Scene) (id count : ℕ) (name content : List ℕ) → (streams.stream w.streams id).kind ≡ kinds.File name content forms.Latin → (places_read w id count).count ≡ 0
+no_places_for : (w : Scene) (id count : ℕ) (name content : List ℕ)
+    → (streams.stream w.streams id).kind ≡ kinds.File name content forms.Latin → (places_read w id count).count ≡ 0
 no_places_for w id count name content is =
     let s = streams.stream w.streams id in
     elim (one.readable s) as (λ b. (if b then one.places s count else no_places).count ≡ 0) [
@@ -89,7 +106,9 @@ all_bytes (b ∷ bs) small =
 pub bytes_pass : (bs : List ℕ) → ((k : ℕ) → k < length bs → get_or bs k 0 < 256) → as_bytes bs ≡ Some bs
 bytes_pass bs small = rw (all_bytes bs small) refl
 
-module _ (w : Scene) (f : FlatState) (id : ℕ) (rest : List ℕ) (latin : one.latin_rest (streams.stream w.streams id) ≡ Some rest) (within : (streams.stream w.streams id).position ≤ one.end_of (streams.stream w.streams id)) where
+module _ (w : Scene) (f : FlatState) (id : ℕ) (rest : List ℕ)
+    (latin : one.latin_rest (streams.stream w.streams id) ≡ Some rest)
+    (within : (streams.stream w.streams id).position ≤ one.end_of (streams.stream w.streams id)) where
   abbrev s : Stream
   s = streams.stream w.streams id
 
@@ -100,7 +119,8 @@ module _ (w : Scene) (f : FlatState) (id : ℕ) (rest : List ℕ) (latin : one.l
   end_is = rw found.kind refl
 
   rest_is : rest_len s ≡ length rest
-  rest_is = ap (λ (n : ℕ). n - s.position) end_is ∙ sym (length-drop s.position found.content) ∙ ap (λ (xs : List ℕ). length xs) (sym found.left)
+  rest_is = ap (λ (n : ℕ). n - s.position) end_is ∙ sym (length-drop s.position found.content)
+      ∙ ap (λ (xs : List ℕ). length xs) (sym found.left)
 
   all_left : s.position + rest_len s ≡ length found.content
   all_left = omega (arith, end_is, within)
@@ -108,11 +128,13 @@ module _ (w : Scene) (f : FlatState) (id : ℕ) (rest : List ℕ) (latin : one.l
   pub latin_reading : reading w f id false (rest_len s) ≡ read_as rest (one.end_of s)
   latin_reading =
       let p = places_read w id (rest_len s) in
-      read_latin f p s found.name found.content found.kind found.reads (no_places_for w id (rest_len s) found.name found.content found.kind) (rest_len s) 0 s.position all_left
+      read_latin f p s found.name found.content found.kind found.reads
+      (no_places_for w id (rest_len s) found.name found.content found.kind) (rest_len s) 0 s.position all_left
       ∙ ap (λ (cs : List ℕ). read_as cs (length found.content)) (sym found.left)
       ∙ ap (read_as rest) (sym end_is)
 
-  pub latin_taken : (bytes : List ℕ) → streams.has w.streams id ≡ true → bytes ≡ rest → as_bytes bytes ≡ Some bytes → take_rest w f id ≡ Ok (silent (passed w id (one.end_of s) (rest_len s)), Some bytes)
+  pub latin_taken : (bytes : List ℕ) → streams.has w.streams id ≡ true → bytes ≡ rest → as_bytes bytes ≡ Some bytes
+      → take_rest w f id ≡ Ok (silent (passed w id (one.end_of s) (rest_len s)), Some bytes)
   unfolding take_rest
   latin_taken bytes here same small =
       let sized : length rest ≡ rest_len s = sym rest_is in
@@ -131,13 +153,22 @@ record IsMemory (s : Stream) (count : ℕ) : Type 0 where
   pub kind : s.kind ≡ kinds.Memory at len wide
   pub few : s.position + count ≤ one.places_of at len
 
-kind_memory : (s : Stream) (k : StreamKind) (count : ℕ) → s.kind ≡ k → 0 < count → (one.places_in k s.position count).count ≡ count → IsMemory s count
+kind_memory : (s : Stream) (k : StreamKind) (count : ℕ) → s.kind ≡ k → 0 < count
+    → (one.places_in k s.position count).count ≡ count → IsMemory s count
 kind_memory s (kinds.Window win) count is some all = absurd (omega (arith, some, all))
-kind_memory s (kinds.Memory at len wide) count is some all = record { at = at; len = len; wide = wide; kind = is; few = omega (arith, some, all) }
+kind_memory s (kinds.Memory at len wide) count is some all = record {
+  at = at;
+  len = len;
+  wide = wide;
+  kind = is;
+  few = omega (arith, some, all);
+}
 kind_memory s (kinds.File name content form) count is some all = absurd (omega (arith, some, all))
 
-module _ (f : FlatState) (p : Places) (s : Stream) (at len : ℕ) (wide : Bool) (is : s.kind ≡ kinds.Memory at len wide) (reads : one.readable s ≡ true) (width : p.width ≡ 1) where
-  next_byte : (i position : ℕ) → i < p.count → p.at + i < length f.memory → position < one.places_of at len → next_char f p s i position ≡ Ok (Some (byte f.memory (p.at + i), position + 1))
+module _ (f : FlatState) (p : Places) (s : Stream) (at len : ℕ) (wide : Bool) (is : s.kind ≡ kinds.Memory at len wide)
+    (reads : one.readable s ≡ true) (width : p.width ≡ 1) where
+  next_byte : (i position : ℕ) → i < p.count → p.at + i < length f.memory → position < one.places_of at len
+      → next_char f p s i position ≡ Ok (Some (byte f.memory (p.at + i), position + 1))
   unfolding next_char one.next_of can_read
   next_byte i position less inner within =
       let placed : nat_lt i p.count ≡ true = grind (arith, nat_tests) in
@@ -146,7 +177,9 @@ module _ (f : FlatState) (p : Places) (s : Stream) (at len : ℕ) (wide : Bool) 
       let left : nat_lt position (one.places_of at len) ≡ true = grind (arith, nat_tests) in
       rw (placed, width, one_by, inside, reads, is, left) refl
 
-  read_bytes : (more i position : ℕ) → i + more ≡ p.count → p.at + p.count ≤ length f.memory → position + more ≤ one.places_of at len → read_on more false f p s i position ≡ read_as (take more (drop (p.at + i) f.memory)) (position + more)
+  read_bytes : (more i position : ℕ) → i + more ≡ p.count → p.at + p.count ≤ length f.memory
+      → position + more ≤ one.places_of at len
+      → read_on more false f p s i position ≡ read_as (take more (drop (p.at + i) f.memory)) (position + more)
   unfolding read_on
   read_bytes zero i position all whole few = let e : position + 0 ≡ position = omega arith in rw e refl
   read_bytes (suc more) i position all whole few =
@@ -154,15 +187,22 @@ module _ (f : FlatState) (p : Places) (s : Stream) (at len : ℕ) (wide : Bool) 
       let b : position + 1 + more ≡ position + suc more = omega arith in
       let e : p.at + (i + 1) ≡ suc (p.at + i) = omega arith in
       let less : p.at + i < length f.memory = omega (arith, all, whole) in
-      let left : c ∷ take more (drop (p.at + (i + 1)) f.memory) ≡ take (suc more) (drop (p.at + i) f.memory) = rw (e, drop-cons f.memory (p.at + i) 0 less) refl in
+      let left : c ∷ take more (drop (p.at + (i + 1)) f.memory) ≡ take (suc more) (drop (p.at + i) f.memory) =
+      rw (e, drop-cons f.memory (p.at + i) 0 less) refl in
       go_step more false f p s i position c (position + 1) (next_byte i position (omega arith) less (omega arith)) refl
       ∙ ap (read_behind (c ∷ [])) (read_bytes more (i + 1) (position + 1) (omega arith) whole (omega arith))
       ∙ ap (λ (n : ℕ). read_as (c ∷ take more (drop (p.at + (i + 1)) f.memory)) n) b
       ∙ ap (λ (cs : List ℕ). read_as cs (position + suc more)) left
 
-module _ (w : Scene) (f : FlatState) (id : ℕ) (here : streams.has w.streams id ≡ true) (reads : one.readable (streams.stream w.streams id) ≡ true) (within : (streams.stream w.streams id).position ≤ one.end_of (streams.stream w.streams id))
-    (some : 0 < rest_len (streams.stream w.streams id)) (all : (places_read w id (rest_len (streams.stream w.streams id))).count ≡ rest_len (streams.stream w.streams id)) (width : (places_read w id (rest_len (streams.stream w.streams id))).width ≡ 1)
-    (whole : (places_read w id (rest_len (streams.stream w.streams id))).at + rest_len (streams.stream w.streams id) ≤ length f.memory) where
+module _ (w : Scene) (f : FlatState) (id : ℕ) (here : streams.has w.streams id ≡ true)
+    (reads : one.readable (streams.stream w.streams id) ≡ true)
+    (within : (streams.stream w.streams id).position ≤ one.end_of (streams.stream w.streams id))
+    (some : 0 < rest_len (streams.stream w.streams id))
+    (all : (places_read w id (rest_len (streams.stream w.streams id))).count
+    ≡ rest_len (streams.stream w.streams id))
+    (width : (places_read w id (rest_len (streams.stream w.streams id))).width ≡ 1)
+    (whole : (places_read w id (rest_len (streams.stream w.streams id))).at + rest_len
+    (streams.stream w.streams id) ≤ length f.memory) where
   abbrev from : Stream
   from = streams.stream w.streams id
 
@@ -195,7 +235,8 @@ module _ (w : Scene) (f : FlatState) (id : ℕ) (here : streams.has w.streams id
   taken_len : length (take rest (drop places.at f.memory)) ≡ rest
   taken_len = let left = length-drop places.at f.memory in grind (arith, common_steps, left)
 
-  memory_taken : (bytes : List ℕ) → bytes ≡ take rest (drop places.at f.memory) → as_bytes bytes ≡ Some bytes → take_rest w f id ≡ Ok (silent (passed w id (one.end_of from) rest), Some bytes)
+  memory_taken : (bytes : List ℕ) → bytes ≡ take rest (drop places.at f.memory) → as_bytes bytes ≡ Some bytes
+      → take_rest w f id ≡ Ok (silent (passed w id (one.end_of from) rest), Some bytes)
   unfolding take_rest
   memory_taken bytes same small =
       let whole_bytes : as_bytes (take rest (drop places.at f.memory)) ≡ Some bytes = ap as_bytes (sym same) ∙ small in
@@ -205,8 +246,11 @@ module _ (w : Scene) (f : FlatState) (id : ℕ) (here : streams.has w.streams id
   memory_grows = rw (here, memory_reading, taken_len, reads) (grind (arith, nat_tests, some))
 
 -- the same for places that were found
-module _ (w : Scene) (f : FlatState) (id most : ℕ) (p : Places) (here : streams.has w.streams id ≡ true) (reads : one.readable (streams.stream w.streams id) ≡ true) (within : (streams.stream w.streams id).position ≤ one.end_of (streams.stream w.streams id))
-    (is : p ≡ places_read w id most) (left : most ≡ rest_len (streams.stream w.streams id)) (some : 0 < most) (all : p.count ≡ most) (width : p.width ≡ 1) (whole : p.at + most ≤ length f.memory) where
+module _ (w : Scene) (f : FlatState) (id most : ℕ) (p : Places) (here : streams.has w.streams id ≡ true)
+    (reads : one.readable (streams.stream w.streams id) ≡ true)
+    (within : (streams.stream w.streams id).position ≤ one.end_of (streams.stream w.streams id))
+    (is : p ≡ places_read w id most) (left : most ≡ rest_len (streams.stream w.streams id)) (some : 0 < most)
+    (all : p.count ≡ most) (width : p.width ≡ 1) (whole : p.at + most ≤ length f.memory) where
   abbrev own : ℕ
   own = rest_len (streams.stream w.streams id)
 
@@ -223,12 +267,15 @@ module _ (w : Scene) (f : FlatState) (id most : ℕ) (p : Places) (here : stream
   width_found = ap (λ (q : Places). q.width) same_places ∙ width
 
   whole_found : (places_read w id own).at + own ≤ length f.memory
-  whole_found = subst (λ (n : ℕ). (places_read w id own).at + n ≤ length f.memory) left (subst (λ (q : Places). q.at + most ≤ length f.memory) (sym same_places) whole)
+  whole_found = subst (λ (n : ℕ). (places_read w id own).at + n ≤ length f.memory) left
+      (subst (λ (q : Places). q.at + most ≤ length f.memory) (sym same_places) whole)
 
-  pub found_taken : (bytes : List ℕ) → bytes ≡ take most (drop p.at f.memory) → as_bytes bytes ≡ Some bytes → take_rest w f id ≡ Ok (silent (passed w id (one.end_of (streams.stream w.streams id)) own), Some bytes)
+  pub found_taken : (bytes : List ℕ) → bytes ≡ take most (drop p.at f.memory) → as_bytes bytes ≡ Some bytes
+      → take_rest w f id ≡ Ok (silent (passed w id (one.end_of (streams.stream w.streams id)) own), Some bytes)
   found_taken bytes same small =
       let taken : bytes ≡ take own (drop (places_read w id own).at f.memory) =
-      same ∙ ap (λ (n : ℕ). take n (drop p.at f.memory)) left ∙ ap (λ (q : Places). take own (drop q.at f.memory)) (sym same_places) in
+      same ∙ ap (λ (n : ℕ). take n (drop p.at f.memory)) left
+      ∙ ap (λ (q : Places). take own (drop q.at f.memory)) (sym same_places) in
       memory_taken w f id here reads within some_left all_found width_found whole_found bytes taken small
 
   pub found_grows : take_rest_grows w f id ≡ true

@@ -1,5 +1,6 @@
 -- Characters that are bytes.
-use Rattle.std.proofs.Common.{zero, suc, ◌≡◌, ◌<◌, ◌≤◌, ◌&&◌, nat_lt, ℕ, Bool, true, false, List, [], ◌∷◌, ◌++◌, length, get_or, refl, arith, Some, None}
+use Rattle.std.proofs.Common.{zero, suc, ◌≡◌, ◌<◌, ◌≤◌, ◌&&◌, nat_lt, ℕ, Bool, true, false, List, [], ◌∷◌, ◌++◌, length}
+use Rattle.std.proofs.Common.{get_or, refl, arith, Some, None}
 use Rattle.std.specs.List.{list_all}
 use Rattle.std.proofs.lemmas.Bool.Decides.{nat_tests}
 use Rattle.std.proofs.lemmas.List.Folds.{list_all-append}
@@ -12,7 +13,8 @@ is_byte c = nat_lt c 256
 pub all_bytes : (bytes all : List ℕ) → list_all is_byte bytes ≡ true → bytes ≡ all → Some bytes ≡ as_bytes all
 all_bytes bytes all small same = rw (← same, small) refl
 
-pub more_bytes : (bytes : List ℕ) (c : ℕ) → list_all is_byte bytes ≡ true → c < 256 → list_all is_byte (bytes ++ c ∷ []) ≡ true
+pub more_bytes : (bytes : List ℕ) (c : ℕ) → list_all is_byte bytes ≡ true → c < 256
+    → list_all is_byte (bytes ++ c ∷ []) ≡ true
 more_bytes bytes c small less = rw (list_all-append is_byte bytes (c ∷ []), small) (grind (arith, nat_tests))
 
 and_false : (b : Bool) → (b && false) ≡ false

@@ -89,7 +89,8 @@ pub fn buffer_to_case<A: Allocator + Clone>(
     others: Case,
     args: &[u32],
 ) -> Result<Reply, Fault>
-    ensures value { Calls (IsTrue (nat_lt 0 (buffer_of args.now).count)) result world.old world.new (buffer_to_case world.old.scene state.now.flat first others args.now) }
+    ensures value { Calls (IsTrue (nat_lt 0 (buffer_of args.now).count)) result world.old world.new
+        (buffer_to_case world.old.scene state.now.flat first others args.now) }
     ensures fits { (room : ℕ) → IfOk result (IsReply state.now.flat room) }
 {
     let places = buffer_of(args);

@@ -2,14 +2,17 @@
 //!
 //! Each character is read once, and gathered as it is read. Where memory is wanted for it, it is still read and
 //! counted, so that each fault comes before want of memory.
-ghost use Rattle.std.specs.Prelude.{ℕ, ◌≡◌, ◌⊎◌, ◌+◌, ◌≤◌, ◌<◌, ◌^◌, ◌∷◌, [], ◌++◌, length, not, ◌==◌, IfOk, IfSome, MatchOption, OnErr, IsTrue, true, Ok, None};
+ghost use Rattle.std.specs.Prelude.{ℕ, ◌≡◌, ◌⊎◌, ◌+◌, ◌≤◌, ◌<◌, ◌^◌, ◌∷◌, [], ◌++◌, length, not, ◌==◌, IfOk, IfSome};
+ghost use Rattle.std.specs.Prelude.{MatchOption, OnErr, IsTrue, true, Ok, None};
 ghost use Rattle.gx_words.specs.Faults.{Reads};
 ghost use Rattle.gx_state.specs.Replies.{IsReply};
 ghost use Rattle.glk_streams.specs.Stream as one;
 ghost use Rattle.glk_streams.specs.Streams as streams;
 ghost use Rattle.glk_replies.specs.Parts.{IsCharWidth, can_lay, filled};
 ghost use Rattle.glk_world.specs.World.{arg, Calls};
-ghost use Rattle.glk_text_calls.specs.Input.{found_in, next_char, ends_line, read_on, counted, has_read, reading, ending, get_chars, get_buffer, get_line, get_buffer_grows, char_value, get_char, take_char};
+ghost use Rattle.glk_text_calls.specs.Input.{found_in, next_char, ends_line, read_on, counted, has_read, reading};
+ghost use Rattle.glk_text_calls.specs.Input.{ending, get_chars, get_buffer, get_line, get_buffer_grows, char_value};
+ghost use Rattle.glk_text_calls.specs.Input.{get_char, take_char};
 
 use glk_replies::{can_lay, can_read, filled, reply};
 use glk_streams::{Places, Streams};
@@ -50,7 +53,8 @@ fn next_char<A: Allocator + Clone>(
     requires there { IsTrue (streams.has all.now stream) }
     requires width { IsCharWidth places.width }
     requires at { places.at < 2 ^ 40 }
-    ensures value { Reads (λ next. next) result (next_char state.now.flat places (streams.stream all.now stream) i position) }
+    ensures value { Reads (λ next. next) result
+        (next_char state.now.flat places (streams.stream all.now stream) i position) }
     ensures behind { IfOk result (λ next. IfSome next (λ got. got.1 ≤ one.end_of (streams.stream all.now stream))) }
 {
     let found = found_in(state, places, i)?;
@@ -100,8 +104,12 @@ pub(crate) fn read_on<A: Allocator + Clone>(
     requires there { IsTrue (streams.has all.now stream) }
     requires width { IsCharWidth places.width }
     requires at { places.at < 2 ^ 40 }
-    ensures value { Reads (λ got. (got.count, got.position)) result (counted (read_on most stops state.now.flat places (streams.stream all.now stream) 0 (streams.stream all.now stream).position)) }
-    ensures chars { IfOk result (λ got. IfSome got.chars (λ chars. read_on most stops state.now.flat places (streams.stream all.now stream) 0 (streams.stream all.now stream).position ≡ Ok (chars, got.position))) }
+    ensures value { Reads (λ got. (got.count, got.position)) result
+        (counted (read_on most stops state.now.flat places (streams.stream all.now stream) 0
+        (streams.stream all.now stream).position)) }
+    ensures chars { IfOk result (λ got. IfSome got.chars
+        (λ chars. read_on most stops state.now.flat places (streams.stream all.now stream) 0
+        (streams.stream all.now stream).position ≡ Ok (chars, got.position))) }
     ensures memory { IfOk result (λ got. got.chars ≡ None → 0 < got.count) }
     ensures few { IfOk result (λ got. got.count ≤ most) }
     ensures within { IfOk result (λ got. got.position ≤ one.end_of (streams.stream all.now stream)) }
@@ -179,7 +187,9 @@ fn get_chars<A: Allocator + Clone>(
     requires there { IsTrue (streams.has world.old.scene.streams stream) }
     requires width { IsCharWidth width }
     requires few { stops ≡ true → most + 1 < 2 ^ 32 }
-    ensures value { Calls ((stops ≡ true) ⊎ IsTrue (has_read (reading world.old.scene state.now.flat stream stops most))) result world.old world.new (get_chars world.old.scene state.now.flat stream stops most width at) }
+    ensures value { Calls ((stops ≡ true) ⊎ IsTrue
+        (has_read (reading world.old.scene state.now.flat stream stops most))) result world.old world.new
+        (get_chars world.old.scene state.now.flat stream stops most width at) }
     ensures fits { (room : ℕ) → IfOk result (IsReply state.now.flat room) }
 {
     let places = world.places_read(stream, most);
@@ -217,7 +227,8 @@ pub fn get_buffer<A: Allocator + Clone>(
 ) -> Result<Reply, Fault>
     requires there { IsTrue (streams.has world.old.scene.streams (arg args.now 0)) }
     requires width { IsCharWidth width }
-    ensures value { Calls (IsTrue (get_buffer_grows world.old.scene state.now.flat args.now)) result world.old world.new (get_buffer world.old.scene state.now.flat width args.now) }
+    ensures value { Calls (IsTrue (get_buffer_grows world.old.scene state.now.flat args.now)) result world.old world.new
+        (get_buffer world.old.scene state.now.flat width args.now) }
     ensures fits { (room : ℕ) → IfOk result (IsReply state.now.flat room) }
 {
     get_chars(
@@ -240,7 +251,8 @@ pub fn get_line<A: Allocator + Clone>(
 ) -> Result<Reply, Fault>
     requires there { IsTrue (streams.has world.old.scene.streams (arg args.now 0)) }
     requires width { IsCharWidth width }
-    ensures value { Calls (IsTrue (not (arg args.now 2 == 0))) result world.old world.new (get_line world.old.scene state.now.flat width args.now) }
+    ensures value { Calls (IsTrue (not (arg args.now 2 == 0))) result world.old world.new
+        (get_line world.old.scene state.now.flat width args.now) }
     ensures fits { (room : ℕ) → IfOk result (IsReply state.now.flat room) }
 {
     let len = arg(args, 2);

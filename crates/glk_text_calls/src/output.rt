@@ -3,7 +3,8 @@
 //!
 //! A character takes no memory but for its place in the text, in a file or in the reply. A string and a buffer are
 //! gathered where a stream takes them, and only there.
-ghost use Rattle.std.specs.Prelude.{ℕ, ◌≡◌, ◌+◌, ◌*◌, ◌≤◌, ◌<◌, ◌^◌, ◌==◌, ◌&&◌, ◌∷◌, [], not, length, Ok, IfOk, IsOk, OnErr, IsTrue};
+ghost use Rattle.std.specs.Prelude.{ℕ, ◌≡◌, ◌+◌, ◌*◌, ◌≤◌, ◌<◌, ◌^◌, ◌==◌, ◌&&◌, ◌∷◌, [], not, length, Ok, IfOk, IsOk};
+ghost use Rattle.std.specs.Prelude.{OnErr, IsTrue};
 ghost use Rattle.gx_state.specs.Flat.{FlatState};
 ghost use Rattle.gx_state.specs.Replies.{IsReply};
 ghost use Rattle.glk_streams.specs.Streams as streams;
@@ -36,7 +37,8 @@ pub fn put_char<A: Allocator + Clone>(
     width: u32,
     c: u32,
 ) -> Result<Reply, Fault>
-    ensures value { Calls (IsTrue (put_grows_one world.old.scene stream (char_given width c))) result world.old world.new (put_char world.old.scene state.now.flat stream width c) }
+    ensures value { Calls (IsTrue (put_grows_one world.old.scene stream (char_given width c))) result world.old
+        world.new (put_char world.old.scene state.now.flat stream width c) }
     ensures fits { (room : ℕ) → IfOk result (IsReply state.now.flat room) }
 {
     put_one(world, state, stream, char_given(width, c))
@@ -50,7 +52,8 @@ fn put_one<A: Allocator + Clone>(
     stream: u32,
     c: u32,
 ) -> Result<Reply, Fault>
-    ensures value { Calls (IsTrue (put_grows_one world.old.scene stream c)) result world.old world.new (put_all world.old.scene state.now.flat stream (c ∷ [])) }
+    ensures value { Calls (IsTrue (put_grows_one world.old.scene stream c)) result world.old world.new
+        (put_all world.old.scene state.now.flat stream (c ∷ [])) }
     ensures fits { (room : ℕ) → IfOk result (IsReply state.now.flat room) }
 {
     if world.put_text(stream, c)? {
@@ -75,7 +78,9 @@ pub fn put_string<A: Allocator + Clone>(
     at: u32,
 ) -> Result<Reply, Fault>
     requires { IsCharWidth width }
-    ensures value { Calls (IsTrue (streams.has world.old.scene.streams stream && has_length (string_length state.now.flat width at))) result world.old world.new (put_string world.old.scene state.now.flat stream width at) }
+    ensures value { Calls (IsTrue (streams.has world.old.scene.streams stream && has_length
+        (string_length state.now.flat width at))) result world.old world.new
+        (put_string world.old.scene state.now.flat stream width at) }
     ensures fits { (room : ℕ) → IfOk result (IsReply state.now.flat room) }
 {
     let count = string_length(state, width, at)?;
@@ -93,7 +98,8 @@ pub fn put_buffer<A: Allocator + Clone>(
     count: u32,
 ) -> Result<Reply, Fault>
     requires { IsCharWidth width }
-    ensures value { Calls (IsTrue (streams.has world.old.scene.streams stream && not (count == 0))) result world.old world.new (put_buffer world.old.scene state.now.flat stream width at count) }
+    ensures value { Calls (IsTrue (streams.has world.old.scene.streams stream && not (count == 0))) result world.old
+        world.new (put_buffer world.old.scene state.now.flat stream width at count) }
     ensures fits { (room : ℕ) → IfOk result (IsReply state.now.flat room) }
 {
     can_read(state, u64::from(at), u64::from(width) * u64::from(count))?;
@@ -113,7 +119,8 @@ fn put_numbers<A: Allocator + Clone>(
     requires width { IsCharWidth width }
     requires there { 0 < count → at + width * count ≤ length state.now.flat.memory }
     requires low { 0 < count → at + width * count < 2 ^ 32 }
-    ensures value { Calls (IsTrue (streams.has world.old.scene.streams stream && not (count == 0))) result world.old world.new (put_all world.old.scene state.now.flat stream (numbers_in width state.now.flat.memory at count)) }
+    ensures value { Calls (IsTrue (streams.has world.old.scene.streams stream && not (count == 0))) result world.old
+        world.new (put_all world.old.scene state.now.flat stream (numbers_in width state.now.flat.memory at count)) }
     ensures fits { (room : ℕ) → IfOk result (IsReply state.now.flat room) }
 {
     let streams = world.streams();
@@ -134,7 +141,8 @@ pub fn put<A: Allocator + Clone>(
     state: &State<A>,
     value: u32,
 ) -> Result<Reply, Fault>
-    ensures value { Calls (IsTrue (put_grows_one world.old.scene world.old.scene.current value)) result world.old world.new (putting world.old.scene state.now.flat value) }
+    ensures value { Calls (IsTrue (put_grows_one world.old.scene world.old.scene.current value)) result world.old
+        world.new (putting world.old.scene state.now.flat value) }
     ensures fits { IfOk result (IsReply state.now.flat 0) }
 {
     let stream = world.current();
@@ -147,7 +155,8 @@ pub fn put<A: Allocator + Clone>(
 #[tactic(auto, using(crate::proofs::Puts::text_rules), unfolding(crate::specs::Output::putting))]
 pub fn put_text(world: &mut World, value: u32) -> Result<bool, AllocError>
     ensures value { IfOk result (λ put. put ≡ is_plain_text world.old.scene world.old.scene.current) }
-    ensures put { IfOk result (λ put. IsTrue put → (f : FlatState) → on_world world.old (putting world.old.scene f value) ≡ Ok (world.new, replies 0)) }
+    ensures put { IfOk result (λ put. IsTrue put → (f : FlatState)
+        → on_world world.old (putting world.old.scene f value) ≡ Ok (world.new, replies 0)) }
     ensures other { IfOk result (λ put. IsTrue (not put) → world.new ≡ world.old) }
     ensures fine { OnErr result ((f : FlatState) → IsOk (on_world world.old (putting world.old.scene f value))) }
     ensures memory { OnErr result (IsTrue (put_grows_one world.old.scene world.old.scene.current value)) }

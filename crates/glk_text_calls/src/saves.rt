@@ -1,23 +1,25 @@
 //! Saves as the bytes of a stream (Glulx 3.1.2, "Game State"; specs/Saves): they are put as characters, and got from
 //! where the stream stands to its end.
-ghost use Rattle.std.specs.Prelude.{ℕ, ◌≡◌, ◌≢◌, ◌<◌, ◌≤◌, ◌^◌, ◌+◌, ◌++◌, [], length, take, drop, IfOk, IfSome, OnOk, OnErr, IsTrue, Ok, Some};
+ghost use Rattle.std.specs.Prelude.{ℕ, ◌≡◌, ◌≢◌, ◌<◌, ◌≤◌, ◌^◌, ◌+◌, ◌++◌, [], length, take, drop, IfOk, IfSome, OnOk};
+ghost use Rattle.std.specs.Prelude.{OnErr, IsTrue, Ok, Some};
 ghost use Rattle.gx_state.specs.Replies.{IsReply};
 ghost use Rattle.glk_streams.specs.Stream as one;
 ghost use Rattle.glk_streams.specs.Streams as streams;
 ghost use Rattle.glk_world.specs.World.{silent, Calls};
 ghost use Rattle.glk_world.specs.Putting.{places_read};
 ghost use Rattle.glk_world.specs.Calls.{passed};
-ghost use Rattle.glk_replies.specs.Parts.{IsCharWidth, laid, chars_bytes};
+ghost use Rattle.glk_replies.specs.Parts.{IsCharWidth};
 ghost use Rattle.glk_text_calls.specs.Putting.{put_all};
-ghost use Rattle.glk_text_calls.specs.Saves.{takes_save, put_save, put_save_grows, rest_len, as_bytes, take_rest, take_rest_grows};
+ghost use Rattle.glk_text_calls.specs.Saves.{takes_save, put_save, put_save_grows, rest_len, as_bytes, take_rest};
+ghost use Rattle.glk_text_calls.specs.Saves.{take_rest_grows};
 
 use crate::input::{Reading, read_on};
-use glk_replies::{can_lay, push_char, reply};
+use glk_replies::{can_lay, lay, reply};
 use glk_streams::{Places, Streams};
 use glk_world::World;
 use gx_pages::Pages;
 use gx_state::{Reply, State};
-use gx_words::{Bytes, Fault, Writes};
+use gx_words::{Bytes, Fault};
 use std::alloc::{AllocError, Allocator, Global};
 
 /// The last character that is a byte.
@@ -32,40 +34,6 @@ fn takes_save(world: &World, stream: u32, bytes: &[u8]) -> bool
     streams.has(stream) && streams.writable(stream) && streams.fits(stream, bytes)
 }
 
-/// The bytes of characters that are bytes.
-#[tactic(auto, using(glk_replies::proofs::Laying::byte_turns))]
-fn in_width(alloc: Global, width: u32, bytes: &[u8]) -> Result<Bytes, AllocError>
-    ensures { IfOk result (λ all. all ≡ chars_bytes width bytes.now) }
-{
-    if width == 1 {
-        return Bytes::from_slice(alloc, bytes);
-    }
-    let mut all = Bytes::new(alloc);
-    for byte in bytes {
-        push_char(&mut all, width, u32::from(*byte))?;
-    }
-    Ok(all)
-}
-
-/// Adds the write of bytes to places that may be written.
-fn lay_bytes(
-    alloc: Global,
-    writes: &mut Writes,
-    places: Places,
-    bytes: &[u8],
-) -> Result<(), AllocError>
-    requires at { 0 < places.count → places.at < 2 ^ 32 }
-    requires count { places.count ≤ length bytes.now }
-    ensures ok { OnOk result (writes.new ≡ writes.old ++ laid places bytes.now) }
-    ensures memory { OnErr result (0 < places.count) }
-{
-    if places.count == 0 {
-        return Ok(());
-    }
-    let laid = in_width(alloc, places.width, &bytes[..places.count as usize])?;
-    writes.push((places.at as u32, laid))
-}
-
 /// Puts bytes to a stream.
 #[tactic(auto, using(crate::proofs::Puts::put_rules), unfolding(crate::specs::Putting::put_all, crate::specs::Putting::can_put))]
 fn put_bytes<A: Allocator + Clone>(
@@ -76,14 +44,15 @@ fn put_bytes<A: Allocator + Clone>(
 ) -> Result<Reply, Fault>
     requires there { IsTrue (streams.has world.old.scene.streams stream) }
     requires few { length bytes.now < 2 ^ 32 }
-    ensures value { Calls (bytes.now ≢ []) result world.old world.new (put_all world.old.scene state.now.flat stream bytes.now) }
+    ensures value { Calls (bytes.now ≢ []) result world.old world.new
+        (put_all world.old.scene state.now.flat stream bytes.now) }
     ensures fits { (room : ℕ) → IfOk result (IsReply state.now.flat room) }
 {
     let places = world.places(stream, bytes.len() as u32);
     can_lay(state, places)?;
     world.put_bytes(stream, bytes)?;
     let mut reply = reply(world.alloc(), 0);
-    lay_bytes(world.alloc(), &mut reply.writes, places, bytes)?;
+    lay(world.alloc(), &mut reply.writes, places, bytes)?;
     Ok(reply)
 }
 
@@ -97,7 +66,8 @@ pub fn put_save<A: Allocator + Clone>(
     stream: u32,
     bytes: &[u8],
 ) -> Result<Option<Reply>, Fault>
-    ensures value { Calls (IsTrue (put_save_grows world.old.scene stream bytes.now)) result world.old world.new (put_save world.old.scene state.now.flat stream bytes.now) }
+    ensures value { Calls (IsTrue (put_save_grows world.old.scene stream bytes.now)) result world.old world.new
+        (put_save world.old.scene state.now.flat stream bytes.now) }
     ensures fits { IfOk result (λ reply. IfSome reply (IsReply state.now.flat 0)) }
 {
     if !takes_save(world, stream, bytes) {
@@ -180,7 +150,7 @@ fn bytes_at<A: Allocator>(
     Ok(bytes)
 }
 
-/// Each byte is a character below 100.
+/// Each byte is a character below 256.
 fn each_fits(_bytes: &[u8])
     ensures { as_bytes _bytes.now ≡ Some _bytes.now }
 {}
@@ -195,11 +165,16 @@ fn bytes_left<A: Allocator + Clone>(
 ) -> Result<Option<Bytes>, AllocError>
     requires there { IsTrue (streams.has world.now.scene.streams stream) }
     requires reads { IsTrue (one.readable (streams.stream world.now.scene.streams stream)) }
-    requires within { (streams.stream world.now.scene.streams stream).position ≤ one.end_of (streams.stream world.now.scene.streams stream) }
+    requires within { (streams.stream world.now.scene.streams stream).position ≤ one.end_of
+        (streams.stream world.now.scene.streams stream) }
     requires most { most ≡ rest_len (streams.stream world.now.scene.streams stream) }
     requires places { places ≡ places_read world.now.scene stream most }
     requires at { places.at < 2 ^ 40 }
-    ensures value { IfOk result (λ left. IfSome left (λ bytes. take_rest world.now.scene state.now.flat stream ≡ Ok (silent (passed world.now.scene stream (one.end_of (streams.stream world.now.scene.streams stream)) (rest_len (streams.stream world.now.scene.streams stream))), Some bytes))) }
+    ensures value { IfOk result (λ left. IfSome left (λ bytes. take_rest world.now.scene state.now.flat stream ≡ Ok (
+      silent (passed world.now.scene stream (one.end_of (streams.stream world.now.scene.streams stream))
+          (rest_len (streams.stream world.now.scene.streams stream))),
+      Some bytes,
+    ))) }
     ensures memory { OnErr result (IsTrue (take_rest_grows world.now.scene state.now.flat stream)) }
 {
     if let Some(rest) = world.streams().latin_rest(stream) {
@@ -225,7 +200,8 @@ pub fn take_rest<A: Allocator + Clone>(
     state: &State<A>,
     stream: u32,
 ) -> Result<Option<Bytes>, Fault>
-    ensures { Calls (IsTrue (take_rest_grows world.old.scene state.now.flat stream)) result world.old world.new (take_rest world.old.scene state.now.flat stream) }
+    ensures { Calls (IsTrue (take_rest_grows world.old.scene state.now.flat stream)) result world.old world.new
+        (take_rest world.old.scene state.now.flat stream) }
 {
     let all = world.streams();
     if !all.has(stream) || !all.readable(stream) {

@@ -2,7 +2,8 @@
 use Rattle.std.proofs.Common.{◌≡◌, refl}
 use Rattle.glk_windows.specs.declared.grid.TheConstants as grid
 use Rattle.glk_windows.specs.declared.methods.TheConstants as window
-use Rattle.glk_windows.specs.Constants.{pair_window, blank_window, text_buffer, text_grid, left, right, above, below, fixed, proportional, most_windows, blank_cell}
+use Rattle.glk_windows.specs.Constants.{pair_window, blank_window, text_buffer, text_grid, left, right, above, below}
+use Rattle.glk_windows.specs.Constants.{fixed, proportional, most_windows, blank_cell}
 
 pub PAIR_is : window.PAIR ≡ pair_window
 PAIR_is = refl

@@ -1,3 +1,4 @@
 mod Constants
 pub mod Fitting
 pub mod Lists
+pub mod Tiling

@@ -1,5 +1,6 @@
 -- Lists of windows and of grids: one turn of each loop over them.
-use Rattle.std.proofs.Common.{◌≡◌, ◌<◌, ◌≤◌, ◌+◌, ℕ, zero, suc, Bool, true, false, List, [], ◌∷◌, ◌++◌, length, get_or, set, take, drop, drop-cons, map, refl, arith, append_assoc, IsTrue, Option}
+use Rattle.std.proofs.Common.{◌≡◌, ◌<◌, ◌≤◌, ◌+◌, ℕ, zero, suc, Bool, true, false, List, [], ◌∷◌, ◌++◌, length, get_or}
+use Rattle.std.proofs.Common.{set, take, drop, drop-cons, map, refl, arith, append_assoc, IsTrue, Option}
 use Rattle.std.specs.List.{filter}
 use Rattle.std.specs.List.Sorted.{IsStrictlyIncreasing}
 use Rattle.std.proofs.lemmas.Grind.{common_steps}
@@ -16,37 +17,49 @@ use Rattle.glk_windows.specs.Changes.{some_grow, chosen}
 use Rattle.glk_windows.proofs.Fitting.{over_more, ahead}
 
 -- what a test chooses of the items from a place on
-pub chosen_past : {A : Type 0} (f : A → ℕ) (p : A → Bool) (xs : List A) (n : ℕ) (out : List ℕ) → length xs ≤ n → out ++ map f (filter p (drop n xs)) ≡ out
+pub chosen_past : {A : Type 0} (f : A → ℕ) (p : A → Bool) (xs : List A) (n : ℕ) (out : List ℕ) → length xs ≤ n
+    → out ++ map f (filter p (drop n xs)) ≡ out
 chosen_past f p [] n out h = grind (arith, common_steps, append-nil)
 chosen_past f p (x ∷ xs) zero out h = absurd (grind (arith, common_steps))
 chosen_past f p (x ∷ xs) (suc n) out h = chosen_past f p xs n out (omega arith)
 
-pub chosen_here : {A : Type 0} (f : A → ℕ) (p : A → Bool) (xs : List A) (i : ℕ) (d : A) (out : List ℕ) → i < length xs → p (get_or xs i d) ≡ true → (out ++ f (get_or xs i d) ∷ []) ++ map f (filter p (drop (i + 1) xs)) ≡ out ++ map f (filter p (drop i xs))
-chosen_here f p xs i d out within test = let e : i + 1 ≡ suc i = omega arith in rw (e, drop-cons xs i d, append_assoc, test) refl
+pub chosen_here : {A : Type 0} (f : A → ℕ) (p : A → Bool) (xs : List A) (i : ℕ) (d : A) (out : List ℕ) → i < length xs
+    → p (get_or xs i d) ≡ true
+    → (out ++ f (get_or xs i d) ∷ []) ++ map f (filter p (drop (i + 1) xs)) ≡ out ++ map f (filter p (drop i xs))
+chosen_here f p xs i d out within test = let e : i + 1 ≡ suc i = omega arith in
+    rw (e, drop-cons xs i d, append_assoc, test) refl
 
-pub chosen_not : {A : Type 0} (f : A → ℕ) (p : A → Bool) (xs : List A) (i : ℕ) (d : A) (out : List ℕ) → i < length xs → p (get_or xs i d) ≡ false → out ++ map f (filter p (drop (i + 1) xs)) ≡ out ++ map f (filter p (drop i xs))
+pub chosen_not : {A : Type 0} (f : A → ℕ) (p : A → Bool) (xs : List A) (i : ℕ) (d : A) (out : List ℕ) → i < length xs
+    → p (get_or xs i d) ≡ false → out ++ map f (filter p (drop (i + 1) xs)) ≡ out ++ map f (filter p (drop i xs))
 chosen_not f p xs i d out within test = let e : i + 1 ≡ suc i = omega arith in rw (e, drop-cons xs i d, test) refl
 
 pub ruleset gathers = (chosen_past, chosen_here, chosen_not)
 
 -- an item with the same identifier in an item's place leaves identifiers rising
 module _ {T : Type 0} (id_of : T → ℕ) where
-  pub below_write : (xs : List T) (id i : ℕ) (new d : T) → IsBelow id_of xs id → i < length xs → id_of new ≡ id_of (get_or xs i d) → IsBelow id_of (set xs i new) id
+  pub below_write : (xs : List T) (id i : ℕ) (new d : T) → IsBelow id_of xs id → i < length xs
+      → id_of new ≡ id_of (get_or xs i d) → IsBelow id_of (set xs i new) id
   below_write [] id i new d below within same = absurd (omega arith)
   below_write (x ∷ xs) id zero new d below within same = (grind (arith, same, below.0), below.1)
-  below_write (x ∷ xs) id (suc i) new d below within same = (below.0, below_write xs id i new d below.1 (omega arith) same)
+  below_write (x ∷ xs) id (suc i) new d below within same =
+      (below.0, below_write xs id i new d below.1 (omega arith) same)
 
-  pub rises_write : (xs : List T) (i : ℕ) (new d : T) → Rises id_of xs → i < length xs → id_of new ≡ id_of (get_or xs i d) → Rises id_of (set xs i new)
+  pub rises_write : (xs : List T) (i : ℕ) (new d : T) → Rises id_of xs → i < length xs
+      → id_of new ≡ id_of (get_or xs i d) → Rises id_of (set xs i new)
   rises_write [] i new d up within same = absurd (omega arith)
   rises_write (x ∷ xs) zero new d up within same = (rw same up.0, up.1)
-  rises_write (x ∷ xs) (suc i) new d up within same = (below_write xs (id_of x) i new d up.0 (omega arith) same, rises_write xs i new d up.1 (omega arith) same)
+  rises_write (x ∷ xs) (suc i) new d up within same =
+      (below_write xs (id_of x) i new d up.0 (omega arith) same, rises_write xs i new d up.1 (omega arith) same)
 
   -- an identifier above a new one and those before it
-  pub above_end : (xs : List T) (id later : ℕ) (new : T) → IsAbove id_of xs id → id_of new ≡ id → id < later → IsAbove id_of (xs ++ new ∷ []) later
+  pub above_end : (xs : List T) (id later : ℕ) (new : T) → IsAbove id_of xs id → id_of new ≡ id → id < later
+      → IsAbove id_of (xs ++ new ∷ []) later
   above_end [] id later new above same less = (grind (arith, same), tt)
-  above_end (x ∷ xs) id later new above same less = (omega (arith, above.0), above_end xs id later new above.1 same less)
+  above_end (x ∷ xs) id later new above same less =
+      (omega (arith, above.0), above_end xs id later new above.1 same less)
 
-pub above_new : (xs ys : List Entry) (id later : ℕ) (new : Entry) → ys ≡ xs ++ new ∷ [] → IsAbove entry_id xs id → new.id ≡ id → id < later → IsAbove entry_id ys later
+pub above_new : (xs ys : List Entry) (id later : ℕ) (new : Entry) → ys ≡ xs ++ new ∷ [] → IsAbove entry_id xs id
+    → new.id ≡ id → id < later → IsAbove entry_id ys later
 above_new xs ys id later new is above same less = rw is (above_end entry_id xs id later new above same less)
 
 -- identifiers of windows in order of creation rise
@@ -57,12 +70,15 @@ increasing (x ∷ y ∷ ys) up zero within = up.0.0
 increasing (x ∷ y ∷ ys) up (suc k) within =
     let e : suc k + 1 ≡ suc (k + 1) = omega arith in rw e (increasing (y ∷ ys) up.1 k (omega arith))
 
-pub ids_rise : (ids found : List ℕ) (xs : List Entry) → found ≡ map entry_id (chosen ids xs) → Rises entry_id xs → IsStrictlyIncreasing found
+pub ids_rise : (ids found : List ℕ) (xs : List Entry) → found ≡ map entry_id (chosen ids xs) → Rises entry_id xs
+    → IsStrictlyIncreasing found
 ids_rise ids found xs is up =
     rw is (increasing (chosen ids xs) (rises_filter entry_id (λ e. is_among ids e.id) xs up))
 
 -- the grid that is too small is one of the list
-pub small_grid : (tree : Option Shape) (screen : ℕ × ℕ) (f : Grid → Grid) (xs ys : List Grid) (i : ℕ) (d : Grid) → i < length xs → ys ≡ map f (take i xs) ++ drop i xs → IsTrue (grows (sizes_in tree screen (get_or ys i d).id) (get_or ys i d)) → IsTrue (some_grow tree screen xs)
+pub small_grid : (tree : Option Shape) (screen : ℕ × ℕ) (f : Grid → Grid) (xs ys : List Grid) (i : ℕ) (d : Grid)
+    → i < length xs → ys ≡ map f (take i xs) ++ drop i xs
+    → IsTrue (grows (sizes_in tree screen (get_or ys i d).id) (get_or ys i d)) → IsTrue (some_grow tree screen xs)
 small_grid tree screen f xs ys i d h is small =
     let same = ahead f xs ys i d h is in
     list_any_at (λ g. grows (sizes_in tree screen g.id) g) xs i d h (rw same at small)

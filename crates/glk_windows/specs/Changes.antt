@@ -1,6 +1,7 @@
 -- What the calls that change windows make of them (Glk 0.7.5, "Window Opening, Closing, and Constraints" and
 -- "Changing Window Constraints").
-use Rattle.std.specs.Prelude.{ℕ, ◌+◌, ◌%◌, ◌==◌, not, Bool, false, if◌then◌else◌, List, [], ◌∷◌, ◌++◌, Option, Some, None, map, filter, unwrap_or, option_and_then}
+use Rattle.std.specs.Prelude.{ℕ, ◌+◌, ◌%◌, ◌==◌, not, Bool, false, if◌then◌else◌, List, [], ◌∷◌, ◌++◌, Option, Some}
+use Rattle.std.specs.Prelude.{None, map, filter, unwrap_or, option_and_then}
 use Rattle.std.specs.Option.{option_map}
 use Rattle.std.specs.List.{list_any}
 use Rattle.glk_objects.specs.Objects as objects
@@ -8,7 +9,8 @@ use Rattle.glk_windows.specs.Constants.{pair_window, blank_window, text_grid}
 use Rattle.glk_windows.specs.declared.tree.Arrangement.{Arrangement}
 use Rattle.glk_windows.specs.declared.entries.Entry.{Entry}
 use Rattle.glk_windows.specs.declared.grid.Grid.{Grid}
-use Rattle.glk_windows.specs.Tree.{Shape, One, id_of, part_from, ids_in, parent_in, split_in, closed_in, is_among, unkeyed, can_arrange, arranged_in}
+use Rattle.glk_windows.specs.Tree.{Shape, One, id_of, part_from, ids_in, parent_in, split_in, closed_in, is_among}
+use Rattle.glk_windows.specs.Tree.{unkeyed, can_arrange, arranged_in}
 use Rattle.glk_windows.specs.Grids.{grid_id, empty_grid, resized, grows, put, cleared, moved}
 use Rattle.glk_windows.specs.Windows.{FlatWindows, entry_id, stream_id, entry_at, sizes_in, has_grid, grid_at}
 
@@ -94,7 +96,8 @@ without_ids f ids = record f {
 
 -- a window is closed, with all windows below it, their pair and their streams
 unfoldable pub closed : FlatWindows → ℕ → FlatWindows
-closed f win = fitted (record (without_ids f (leaving f.tree win)) { tree = closed_tree (leaving f.tree win) f.tree win })
+closed f win =
+    fitted (record (without_ids f (leaving f.tree win)) { tree = closed_tree (leaving f.tree win) f.tree win })
 
 -- ---- arranging
 
@@ -116,7 +119,8 @@ arranged f win method size key =
 -- that makes a grid larger
 unfoldable pub arranging_grows : FlatWindows → ℕ → ℕ → ℕ → ℕ → Bool
 arranging_grows f win method size key =
-    if allows f win method key then some_grow (arranged_tree f win method size key) (f.columns, f.rows) f.grids else false
+    if allows f win method key then some_grow (arranged_tree f win method size key) (f.columns, f.rows) f.grids
+    else false
 
 -- ---- text, cursor, echo
 

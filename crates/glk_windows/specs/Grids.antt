@@ -1,5 +1,6 @@
 -- Grids of text grid windows (Glk 0.7.5, "Text Grid Windows"): cells in rows, and a cursor.
-use Rattle.std.specs.Prelude.{ℕ, ◌+◌, ◌-◌, ◌==◌, ◌||◌, nat_lt, nat_le, Bool, if◌then◌else◌, List, [], ◌++◌, length, map, take, replicate, slice_set, slice_index_or}
+use Rattle.std.specs.Prelude.{ℕ, ◌+◌, ◌-◌, ◌==◌, ◌||◌, nat_lt, nat_le, Bool, if◌then◌else◌, List, [], ◌++◌, length, map}
+use Rattle.std.specs.Prelude.{take, replicate, slice_set, slice_index_or}
 use Rattle.std.specs.List.{list_any}
 use Rattle.gx_words.specs.Constants.{line_feed}
 use Rattle.glk_windows.specs.declared.grid.Grid.{Grid}

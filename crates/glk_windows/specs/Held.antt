@@ -5,7 +5,13 @@ use Rattle.glk_windows.specs.Grids.{grid_id}
 use Rattle.glk_windows.specs.Windows.{FlatWindows, entry_id, tree_of}
 
 abbrev pub flat_of : Inside → FlatWindows
-flat_of w = record { entries = w.entries.items; tree = tree_of w.tree; grids = w.grids.items; columns = w.columns; rows = w.rows }
+flat_of w = record {
+  entries = w.entries.items;
+  tree = tree_of w.tree;
+  grids = w.grids.items;
+  columns = w.columns;
+  rows = w.rows;
+}
 
 -- identifiers rise in both lists
 pub record IsKept (w : Inside) : Type 0 where

@@ -6,3 +6,4 @@ pub mod Windows
 pub mod Changes
 pub mod Stored
 pub mod Held
+pub mod Laws

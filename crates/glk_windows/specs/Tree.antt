@@ -1,5 +1,6 @@
 -- The tree of windows (Glk 0.7.5, "Window Arrangement"): a pair window has two children, every other window none.
-use Rattle.std.specs.Prelude.{ℕ, ◌-◌, ◌*◌, ◌/◌, ◌%◌, ◌==◌, ◌||◌, ◌&&◌, min, Bool, false, if◌then◌else◌, List, [], ◌∷◌, ◌++◌, Option, Some, None}
+use Rattle.std.specs.Prelude.{ℕ, ◌-◌, ◌*◌, ◌/◌, ◌%◌, ◌==◌, ◌||◌, ◌&&◌, min, Bool, false, if◌then◌else◌, List, [], ◌∷◌}
+use Rattle.std.specs.Prelude.{◌++◌, Option, Some, None}
 use Rattle.std.specs.List.{list_any}
 use Rattle.glk_windows.specs.Constants.{fixed}
 use Rattle.glk_windows.specs.declared.tree.Arrangement.{Arrangement}
@@ -132,4 +133,5 @@ arranged_in (Two a first second) win method size key key_is_blank =
     then (if direction method == direction a.method
     then Two (rearranged a method size key key_is_blank) first second
     else Two (rearranged a method size key key_is_blank) second first)
-    else Two a (arranged_in first win method size key key_is_blank) (arranged_in second win method size key key_is_blank)
+    else Two a (arranged_in first win method size key key_is_blank)
+    (arranged_in second win method size key key_is_blank)

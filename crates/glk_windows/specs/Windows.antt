@@ -1,5 +1,6 @@
 -- All windows (Glk 0.7.5, "Windows"): a list in order of creation, the tree, the grids, the size of the screen.
-use Rattle.std.specs.Prelude.{ℕ, ◌+◌, ◌==◌, ◌||◌, ◌&&◌, nat_lt, not, Bool, if◌then◌else◌, List, [], Option, Some, None, is_some, unwrap_or, option_and_then, count_by}
+use Rattle.std.specs.Prelude.{ℕ, ◌+◌, ◌==◌, ◌||◌, ◌&&◌, nat_lt, not, Bool, if◌then◌else◌, List, [], Option, Some, None}
+use Rattle.std.specs.Prelude.{is_some, unwrap_or, option_and_then, count_by}
 use Rattle.std.specs.Option.{option_map}
 use Rattle.glk_objects.specs.Objects as objects
 use Rattle.glk_windows.specs.Constants.{pair_window, blank_window, text_buffer, text_grid, most_windows}

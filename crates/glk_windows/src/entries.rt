@@ -139,7 +139,8 @@ pub(crate) fn keep_entries(entries: &mut Vec<Entry>, ids: &[u32])
 pub(crate) fn set_echo(entries: &mut [Entry], win: u32, stream: u32)
     requires rises { objects.Rises entry_id entries.old }
     requires there { IsTrue (objects.has entry_id entries.old win) }
-    ensures value { entries.new ≡ objects.with entry_id entries.old (record (entry_at entries.old win) { echo = stream }) }
+    ensures value { entries.new
+        ≡ objects.with entry_id entries.old (record (entry_at entries.old win) { echo = stream }) }
     ensures rises { objects.Rises entry_id entries.new }
 {
     let at = place(entries, win);

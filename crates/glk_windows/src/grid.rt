@@ -1,9 +1,11 @@
 //! The grid of a text grid window: rows of cells, and a cursor (Glk 0.7.5, "Text Grid Windows").
 //!
 //! Only `resize` may want memory, and only where a row or a cell is new.
-ghost use Rattle.std.specs.Prelude.{◌≡◌, ◌-◌, ◌<◌, ◌^◌, ◌⊎◌, [], length, map, replicate, slice_set, slice_index_or, OnOk, OnErr, IsTrue, nat_lt};
+ghost use Rattle.std.specs.Prelude.{◌≡◌, ◌-◌, ◌<◌, ◌^◌, ◌⊎◌, [], length, map, replicate, slice_set, slice_index_or};
+ghost use Rattle.std.specs.Prelude.{OnOk, OnErr, IsTrue, nat_lt};
 ghost use Rattle.std.specs.List.{list_any};
-ghost use Rattle.glk_windows.specs.Grids.{empty_grid, fit, resized, grows, row_below, wrapped, put_at, put, cleared, moved};
+ghost use Rattle.glk_windows.specs.Grids.{empty_grid, fit, resized, grows, row_below, wrapped, put_at, put, cleared};
+ghost use Rattle.glk_windows.specs.Grids.{moved};
 
 use glk_objects::Object;
 use gx_words::LINE_FEED;
@@ -113,7 +115,8 @@ impl Rows {
     /// So many rows of so many cells: those inside both sizes stay, the new ones are blank.
     fn fit(&mut self, alloc: Global, columns: usize, rows: usize) -> Result<(), AllocError>
         ensures ok { OnOk result (self.new ≡ map (fit columns BLANK) (fit rows [] self.old)) }
-        ensures grows { OnErr result ((length self.old < rows) ⊎ IsTrue (list_any (λ row. nat_lt (length row) columns) self.old)) }
+        ensures grows { OnErr result
+            ((length self.old < rows) ⊎ IsTrue (list_any (λ row. nat_lt (length row) columns) self.old)) }
     {
         fit_count(alloc, &mut self.all, rows)?;
         fit_each(&mut self.all, columns)
@@ -145,8 +148,7 @@ fn fit_count(alloc: Global, rows: &mut Vec<Row>, count: usize) -> Result<(), All
 {
     rows.truncate(count);
     for y in rows.len()..count {
-        // The bound of `y` is known once it is read.
-        let _y = y;
+        let _y = y; // its bound is known once it is read
         rows.push(Row::new(alloc))?;
     }
     Ok(())

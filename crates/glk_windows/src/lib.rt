@@ -3,6 +3,7 @@
 //! - `windows` has all windows of a screen: opening, closing, arranging, sizes, text of grids, echo streams.
 //! - `tree` says which window is where; the sizes follow from it by recursion from the root.
 //! - `entries` has what is known of a window beside its place, `grid` the cells of a text grid window.
+//! - `laws` says what holds of the definitions: the sizes tile the screen.
 //! - `methods` names the types of windows and the methods of pair windows.
 //!
 //! Contracts see a list of the windows in order of creation, the tree, a list of the grids, and the size of the
@@ -12,6 +13,7 @@
 
 mod entries;
 mod grid;
+pub mod laws;
 mod methods;
 mod tree;
 mod windows;

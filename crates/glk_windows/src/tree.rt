@@ -3,7 +3,9 @@
 ghost use Rattle.std.specs.Prelude.{◌≡◌, ◌≤◌, ◌++◌, ◌+◌, OnOk};
 ghost use Rattle.std.specs.Option.{option_map};
 ghost use Rattle.glk_windows.specs.Methods.{direction};
-ghost use Rattle.glk_windows.specs.Tree.{One, Two, shape_of, id_of, share, second_area, first_area, area_in, part_from, ids_in, has_leaf, parent_in, pair_of, split_in, closed_in, is_among, unkeyed, can_arrange, rearranged, arranged_in};
+ghost use Rattle.glk_windows.specs.Tree.{One, Two, shape_of, id_of, share, second_area, first_area, area_in, part_from};
+ghost use Rattle.glk_windows.specs.Tree.{ids_in, has_leaf, parent_in, pair_of, split_in, closed_in, is_among, unkeyed};
+ghost use Rattle.glk_windows.specs.Tree.{can_arrange, rearranged, arranged_in};
 
 use crate::methods::{FIXED, direction, division, is_across, is_method, is_on_axis};
 use std::alloc::{AllocError, Global};

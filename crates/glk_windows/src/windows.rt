@@ -1,12 +1,17 @@
 //! All windows of a screen (Glk 0.7.5, "Windows").
-ghost use Rattle.std.specs.Prelude.{◌≡◌, ◌+◌, ◌<◌, ◌≤◌, ◌^◌, ◌⊎◌, ◌∷◌, [], ◌++◌, map, filter, not, IsTrue, OnOk, OnErr, IfOk, MatchOption, Some, None};
+ghost use Rattle.std.specs.Prelude.{ℕ, ◌≡◌, ◌+◌, ◌<◌, ◌≤◌, ◌^◌, ◌⊎◌, ◌∷◌, [], ◌++◌, length, map, filter, not, IsTrue};
+ghost use Rattle.std.specs.Prelude.{OnOk, OnErr, IfOk, MatchOption, Some, None};
 ghost use Rattle.std.specs.Option.{option_map};
 ghost use Rattle.std.specs.List.Sorted.{IsStrictlyIncreasing};
 ghost use Rattle.glk_objects.specs.Objects as objects;
 ghost use Rattle.glk_windows.specs.Tree.{shape_of, is_among, arranged_in};
 ghost use Rattle.glk_windows.specs.Grids.{grid_id};
-ghost use Rattle.glk_windows.specs.Windows.{tree_of, no_windows, entry_id, is_window, entry_at, entry, next, root, parent, window, pair, sizes_in, sizes, text_size, cell, row, is_openable, can_add, last_given, IsNewId};
-ghost use Rattle.glk_windows.specs.Changes.{fitted_to, fitted, some_grow, with_grid, rooted, split_by, added, leaving, chosen, gone, without_ids, closed_tree, closed, allows, arranged, arranging_grows, put_to, cleared_in, moved_in, echoed, without_stream};
+ghost use Rattle.glk_windows.specs.Windows.{tree_of, no_windows, entry_id, is_window, entry_at, entry, next, root};
+ghost use Rattle.glk_windows.specs.Windows.{parent, window, pair, sizes_in, sizes, text_size, cell, row, is_openable};
+ghost use Rattle.glk_windows.specs.Windows.{can_add, last_given, IsNewId};
+ghost use Rattle.glk_windows.specs.Changes.{fitted_to, fitted, some_grow, with_grid, rooted, split_by, added, leaving};
+ghost use Rattle.glk_windows.specs.Changes.{chosen, gone, without_ids, closed_tree, closed, allows, arranged};
+ghost use Rattle.glk_windows.specs.Changes.{arranging_grows, put_to, cleared_in, moved_in, echoed, without_stream};
 
 use crate::entries::{
     Entry, Window, chosen_ids, chosen_streams, entry_at, forget, keep_entries, leaf_count,
@@ -88,8 +93,14 @@ impl Windows {
     }
 
     /// The least identifier of a window above `win`, 0 where there is none.
+    #[tactic(auto, using(glk_objects::proofs::Meeting::meets_each))]
     pub fn next(&self, win: u32) -> u32
-        ensures { result ≡ next self.now win }
+        ensures value { result ≡ next self.now win }
+
+        // Going on from one to the next meets each window once, in order of creation.
+        ensures each { objects.IsBelow entry_id self.now.entries 0 → (more : ℕ)
+            → objects.met_from entry_id (length self.now.entries + more) self.now.entries 0
+            ≡ map entry_id self.now.entries }
     {
         glk_objects::next(&self.entries, win)
     }
@@ -345,7 +356,8 @@ impl Windows {
     /// Gives each grid its window's size.
     fn fit(&mut self) -> Result<(), AllocError>
         ensures ok { OnOk result (self.new ≡ fitted self.old) }
-        ensures memory { OnErr result (IsTrue (some_grow self.old.tree (self.old.columns, self.old.rows) self.old.grids)) }
+        ensures memory { OnErr result
+            (IsTrue (some_grow self.old.tree (self.old.columns, self.old.rows) self.old.grids)) }
     {
         let screen = (self.columns, self.rows);
         fit_grids(self.alloc, &self.tree, screen, &mut self.grids)

@@ -1,5 +1,7 @@
 -- A stream with no echo stream: what is put to it goes nowhere else.
-use Rattle.std.proofs.Common.{suc, ◌≡◌, ◌≢◌, ◌==◌, ◌||◌, ◌&&◌, not, ℕ, Bool, true, false, if◌then◌else◌, List, [], ◌∷◌, ◌++◌, length, refl, sym, ap, ◌∙◌, arith, ◌⊎◌, inl, inr, Result, Ok, Err, OnErr, OnOk, IfOk, IsTrue}
+use Rattle.std.proofs.Common.{suc, ◌≡◌, ◌≢◌, ◌==◌, ◌||◌, ◌&&◌, not, ℕ, Bool, true, false, if◌then◌else◌, List, [], ◌∷◌}
+use Rattle.std.proofs.Common.{◌++◌, length, refl, sym, ap, ◌∙◌, arith, ◌⊎◌, inl, inr, Result, Ok, Err, OnErr, OnOk}
+use Rattle.std.proofs.Common.{IfOk, IsTrue}
 use Rattle.std.proofs.lemmas.Bool.Decides.{nat_tests}
 use Rattle.std.proofs.lemmas.List.{append-nil}
 use Rattle.glk_objects.specs.Objects as objects
@@ -13,7 +15,9 @@ use Rattle.glk_streams.specs.Stream as one
 use Rattle.glk_streams.specs.Streams as streams
 use Rattle.glk_screen.specs.Texts.{screen_put}
 use Rattle.glk_world.specs.World.{Scene, FlatWorld, Said, after, silent, then_said, is_composed}
-use Rattle.glk_world.specs.Putting.{said_char, buffer_put, window_of, entry_of, is_text, is_plain_text, window_put, counted, stream_put, echo_of, put_along, put_of, puts, grows_along, put_grows, end_of, places_of, no_places}
+use Rattle.glk_world.specs.Putting.{said_char, buffer_put, window_of, entry_of, is_text, is_plain_text, window_put}
+use Rattle.glk_world.specs.Putting.{counted, stream_put, echo_of, put_along, put_of, puts, grows_along, put_grows}
+use Rattle.glk_world.specs.Putting.{end_of, places_of, no_places}
 use Rattle.glk_world.proofs.Found.{has_with, has_below, at_with_here, below_with}
 use Rattle.glk_world.proofs.Ranks.{nothing_along, stream_put_streams, put_step, put_id, put_window, buffer_put_streams}
 use Rattle.glk_world.proofs.Turns.{end_here}
@@ -35,27 +39,35 @@ said_alone said = ap (λ (text : List ℕ). let both : Said = (said.0, text) in 
 
 -- ---- one character
 
-pub put_alone : (w : Scene) (s c : ℕ) → IsBelow streams.id_of w.streams 0 → streams.has w.streams s ≡ true → echo_of w s ≡ 0 → put_of w s c ≡ stream_put w s c
+pub put_alone : (w : Scene) (s c : ℕ) → IsBelow streams.id_of w.streams 0 → streams.has w.streams s ≡ true
+    → echo_of w s ≡ 0 → put_of w s c ≡ stream_put w s c
 put_alone w s c first there echo =
     let some = some_streams w.streams s there in
     let gone : (more : Scene) → more.streams ≡ (counted w s c).streams → streams.has more.streams 0 ≡ false =
     λ (more : Scene) (same : more.streams ≡ (counted w s c).streams).
-    ap (λ (all : List Stream). streams.has all 0) same ∙ has_with streams.id_of streams.no_stream w.streams (one.after_put (streams.stream w.streams s) c) 0 ∙ none_at_0 w.streams first in
+    ap (λ (all : List Stream). streams.has all 0) same
+    ∙ has_with streams.id_of streams.no_stream w.streams (one.after_put (streams.stream w.streams s) c) 0
+    ∙ none_at_0 w.streams first in
     let after = (stream_put w s c).0 in
-    let rest : put_along some.0 after (echo_of w s) c ≡ silent after = rw echo (nothing_along some.0 after 0 c (gone after (stream_put_streams w s c))) in
-    rw some.1 (put_step some.0 w s c there ∙ ap (λ (r : Said). let both : Said = (r.0, (stream_put w s c).1 ++ r.1) in both) rest ∙ said_alone (stream_put w s c))
+    let rest : put_along some.0 after (echo_of w s) c ≡ silent after =
+    rw echo (nothing_along some.0 after 0 c (gone after (stream_put_streams w s c))) in
+    rw some.1 (put_step some.0 w s c there ∙ ap
+    (λ (r : Said). let both : Said = (r.0, (stream_put w s c).1 ++ r.1) in both) rest
+    ∙ said_alone (stream_put w s c))
 
 pub end_alone : (w : Scene) (s : ℕ) → IsBelow streams.id_of w.streams 0 → echo_of w s ≡ 0 → end_of w s ≡ s
 end_alone w s first echo = end_here w (length w.streams) s (rw echo (none_at_0 w.streams first))
 
 -- ---- a window's stream has no places in memory
 
-no_places_in : (kind : StreamKind) (position count : ℕ) → one.window_in kind ≢ 0 → (one.places_in kind position count).count ≡ 0
+no_places_in : (kind : StreamKind) (position count : ℕ) → one.window_in kind ≢ 0
+    → (one.places_in kind position count).count ≡ 0
 no_places_in (kinds.Window win) position count some = refl
 no_places_in (kinds.Memory at len wide) position count some = absurd (some refl)
 no_places_in (kinds.File name content form) position count some = absurd (some refl)
 
-pub window_places : (w : Scene) (s count : ℕ) → IsBelow streams.id_of w.streams 0 → echo_of w s ≡ 0 → window_of w s ≢ 0 → (places_of w s count).count ≡ 0
+pub window_places : (w : Scene) (s count : ℕ) → IsBelow streams.id_of w.streams 0 → echo_of w s ≡ 0 → window_of w s ≢ 0
+    → (places_of w s count).count ≡ 0
 unfolding one.places
 window_places w s count first echo some =
     let stream = streams.stream w.streams s in
@@ -77,12 +89,14 @@ unfolding one.after_puts
 puts_window s [] = refl
 puts_window s (c ∷ cs) = puts_window (one.after_put s c) cs ∙ put_window s c
 
-with_same : (all : List Stream) (s : ℕ) → streams.has all s ≡ true → streams.with_stream all (streams.stream all s) ≡ all
+with_same : (all : List Stream) (s : ℕ) → streams.has all s ≡ true
+    → streams.with_stream all (streams.stream all s) ≡ all
 unfolding objects.with objects.at
 with_same [] s there = absurd (cc)
 with_same (x ∷ xs) s there =
     let t = streams.stream xs s in
-    elim (x.id == s) as (λ b. (x.id == s) ≡ b → (b || streams.has xs s) ≡ true → streams.with_stream (x ∷ xs) (if b then x else t) ≡ x ∷ xs) [
+    elim (x.id == s) as (λ b. (x.id == s) ≡ b → (b || streams.has xs s) ≡ true → streams.with_stream (x ∷ xs)
+    (if b then x else t) ≡ x ∷ xs) [
       | true ↦ λ same there. let here : (x.id == x.id) ≡ true = grind (arith, nat_tests) in rw here refl
       | false ↦ λ other there.
           let id : t.id ≡ s = id_at streams.id_of streams.no_stream xs s there in
@@ -90,13 +104,16 @@ with_same (x ∷ xs) s there =
           rw apart (ap (λ (ys : List Stream). x ∷ ys) (with_same xs s there))
     ] refl there
 
-with_twice : (all : List Stream) (a b : Stream) → a.id ≡ b.id → streams.with_stream (streams.with_stream all a) b ≡ streams.with_stream all b
+with_twice : (all : List Stream) (a b : Stream) → a.id ≡ b.id
+    → streams.with_stream (streams.with_stream all a) b ≡ streams.with_stream all b
 unfolding objects.with
 with_twice [] a b same = refl
 with_twice (x ∷ xs) a b same = grind (arith, nat_tests, with_twice xs a b same)
 
 abbrev pub all_counted : Scene → ℕ → List ℕ → Scene
-all_counted w s cs = record w { streams = streams.with_stream w.streams (one.after_puts (streams.stream w.streams s) cs) }
+all_counted w s cs = record w {
+  streams = streams.with_stream w.streams (one.after_puts (streams.stream w.streams s) cs);
+}
 
 own_put : (w : Scene) (s c : ℕ) → window_of w s ≡ 0 → stream_put w s c ≡ silent (counted w s c)
 unfolding stream_put
@@ -113,28 +130,37 @@ puts_end : (w : Scene) (s : ℕ) → puts w s [] ≡ silent w
 unfolding puts
 puts_end w s = refl
 
-counted_more : (w : Scene) (s c : ℕ) (cs : List ℕ) → streams.has w.streams s ≡ true → all_counted (counted w s c) s cs ≡ all_counted w s (c ∷ cs)
+counted_more : (w : Scene) (s c : ℕ) (cs : List ℕ) → streams.has w.streams s ≡ true
+    → all_counted (counted w s c) s cs ≡ all_counted w s (c ∷ cs)
 unfolding one.after_puts
 counted_more w s c cs there =
     let new = one.after_put (streams.stream w.streams s) c in
-    let id : new.id ≡ s = put_id (streams.stream w.streams s) c ∙ id_at streams.id_of streams.no_stream w.streams s there in
-    let here : streams.stream (streams.with_stream w.streams new) new.id ≡ new = at_with_here streams.id_of streams.no_stream w.streams new (rw id there) in
-    let found : streams.stream (streams.with_stream w.streams new) s ≡ new = ap (λ (i : ℕ). streams.stream (streams.with_stream w.streams new) i) (sym id) ∙ here in
-    let twice : streams.with_stream (streams.with_stream w.streams new) (one.after_puts new cs) ≡ streams.with_stream w.streams (one.after_puts new cs) =
+    let id : new.id ≡ s =
+    put_id (streams.stream w.streams s) c ∙ id_at streams.id_of streams.no_stream w.streams s there in
+    let here : streams.stream (streams.with_stream w.streams new) new.id ≡ new =
+    at_with_here streams.id_of streams.no_stream w.streams new (rw id there) in
+    let found : streams.stream (streams.with_stream w.streams new) s ≡ new =
+    ap (λ (i : ℕ). streams.stream (streams.with_stream w.streams new) i) (sym id) ∙ here in
+    let twice : streams.with_stream (streams.with_stream w.streams new) (one.after_puts new cs)
+    ≡ streams.with_stream w.streams (one.after_puts new cs) =
     with_twice w.streams new (one.after_puts new cs) (sym (puts_id new cs)) in
     ap (λ (all : List Stream). let v : Scene = record w { streams = all } in v)
     (ap (λ (x : Stream). streams.with_stream (streams.with_stream w.streams new) (one.after_puts x cs)) found ∙ twice)
 
 -- all that are put to a stream with no window change that stream alone
-pub puts_alone : (w : Scene) (s : ℕ) (cs : List ℕ) → IsBelow streams.id_of w.streams 0 → streams.has w.streams s ≡ true → window_of w s ≡ 0 → puts w s cs ≡ silent (all_counted w s cs)
+pub puts_alone : (w : Scene) (s : ℕ) (cs : List ℕ) → IsBelow streams.id_of w.streams 0 → streams.has w.streams s ≡ true
+    → window_of w s ≡ 0 → puts w s cs ≡ silent (all_counted w s cs)
 unfolding one.after_puts
 puts_alone w s [] first there none =
-    puts_end w s ∙ ap (λ (all : List Stream). let v : Scene = record w { streams = all } in silent v) (sym (with_same w.streams s there))
+    puts_end w s ∙ ap (λ (all : List Stream). let v : Scene = record w { streams = all } in silent v)
+    (sym (with_same w.streams s there))
 puts_alone w s (c ∷ cs) first there none =
     let new = one.after_put (streams.stream w.streams s) c in
     let v = counted w s c in
-    let id : new.id ≡ s = put_id (streams.stream w.streams s) c ∙ id_at streams.id_of streams.no_stream w.streams s there in
-    let here : streams.stream v.streams new.id ≡ new = at_with_here streams.id_of streams.no_stream w.streams new (rw id there) in
+    let id : new.id ≡ s =
+    put_id (streams.stream w.streams s) c ∙ id_at streams.id_of streams.no_stream w.streams s there in
+    let here : streams.stream v.streams new.id ≡ new =
+    at_with_here streams.id_of streams.no_stream w.streams new (rw id there) in
     let found : streams.stream v.streams s ≡ new = ap (λ (i : ℕ). streams.stream v.streams i) (sym id) ∙ here in
     let still : window_of v s ≡ 0 = ap one.window_of found ∙ put_window (streams.stream w.streams s) c ∙ none in
     let there' : streams.has v.streams s ≡ true = has_with streams.id_of streams.no_stream w.streams new s ∙ there in
@@ -142,16 +168,24 @@ puts_alone w s (c ∷ cs) first there none =
     let rest = puts_alone v s cs (below_with streams.id_of streams.no_stream w.streams new 0 first) there' still in
     puts_step w s c cs
     ∙ ap (λ (said : Said). then_said said (λ more. puts more s cs)) once
-    ∙ ap (λ (said : Said). let both : Said = (said.0, said.1) in both) (rest ∙ ap (λ (x : Scene). silent x) (counted_more w s c cs there))
+    ∙ ap (λ (said : Said). let both : Said = (said.0, said.1) in both)
+    (rest ∙ ap (λ (x : Scene). silent x) (counted_more w s c cs there))
 
-kind_windowless : (kind : StreamKind) (position n : ℕ) → one.takes_bytes_in kind position n ≡ true → one.window_in kind ≡ 0
+kind_windowless : (kind : StreamKind) (position n : ℕ) → one.takes_bytes_in kind position n ≡ true
+    → one.window_in kind ≡ 0
 kind_windowless (kinds.Window win) position n room = absurd (cc)
 kind_windowless (kinds.Memory at len wide) position n room = refl
 kind_windowless (kinds.File name content form) position n room = refl
 
 pub bytes_windowless : (s : Stream) (n : ℕ) → one.takes_bytes s n ≡ true → one.window_of s ≡ 0
 unfolding one.takes_bytes
-bytes_windowless s n room = kind_windowless s.kind s.position n (elim (one.writable s) as (λ b. (b && one.takes_bytes_in s.kind s.position n) ≡ true → one.takes_bytes_in s.kind s.position n ≡ true) [ true ↦ λ h. h | false ↦ λ h. absurd (cc) ] room)
+bytes_windowless s n room =
+    kind_windowless s.kind s.position n
+    (elim (one.writable s) as
+    (λ b. (b && one.takes_bytes_in s.kind s.position n) ≡ true → one.takes_bytes_in s.kind s.position n ≡ true) [
+      | true ↦ λ h. h
+      | false ↦ λ h. absurd (cc)
+    ] room)
 
 -- ---- a text buffer window that has no echo stream
 
@@ -187,13 +221,15 @@ plain_echo : (w : Scene) (s : ℕ) → IsPlain w s → echo_of w s ≡ 0
 plain_echo w s is = rw is.own is.echo
 
 -- a character comes to the text, or to the composed screen
-pub text_put : (w : FlatWorld) (s c : ℕ) → IsBelow streams.id_of w.scene.streams 0 → is_plain_text w.scene s ≡ true → after w (buffer_put (counted w.scene s c) (window_of w.scene s) (shown c)) ≡ after w (put_of w.scene s c)
+pub text_put : (w : FlatWorld) (s c : ℕ) → IsBelow streams.id_of w.scene.streams 0 → is_plain_text w.scene s ≡ true
+    → after w (buffer_put (counted w.scene s c) (window_of w.scene s) (shown c)) ≡ after w (put_of w.scene s c)
 unfolding stream_put window_put
 text_put w s c first h =
     let is = plain w.scene s h in
     rw (put_alone w.scene s c first is.there (plain_echo w.scene s is), is.own, is.text) refl
 
-pub text_places : (w : Scene) (s count : ℕ) → IsBelow streams.id_of w.streams 0 → is_plain_text w s ≡ true → (places_of w s count).count ≡ 0
+pub text_places : (w : Scene) (s count : ℕ) → IsBelow streams.id_of w.streams 0 → is_plain_text w s ≡ true
+    → (places_of w s count).count ≡ 0
 text_places w s count first h =
     let is = plain w s h in
     window_places w s count first (plain_echo w s is) (grind (arith, nat_tests, is.own))
@@ -218,35 +254,48 @@ plain_window w s h = let is = plain w s h in grind (arith, nat_tests, is.own)
 window_counted : (w : Scene) (s c : ℕ) → streams.has w.streams s ≡ true → window_of (counted w s c) s ≡ window_of w s
 window_counted w s c there =
     let new = one.after_put (streams.stream w.streams s) c in
-    let id : new.id ≡ s = put_id (streams.stream w.streams s) c ∙ id_at streams.id_of streams.no_stream w.streams s there in
-    let here : streams.stream (streams.with_stream w.streams new) new.id ≡ new = at_with_here streams.id_of streams.no_stream w.streams new (rw id there) in
-    let found : streams.stream (streams.with_stream w.streams new) s ≡ new = ap (λ (i : ℕ). streams.stream (streams.with_stream w.streams new) i) (sym id) ∙ here in
+    let id : new.id ≡ s =
+    put_id (streams.stream w.streams s) c ∙ id_at streams.id_of streams.no_stream w.streams s there in
+    let here : streams.stream (streams.with_stream w.streams new) new.id ≡ new =
+    at_with_here streams.id_of streams.no_stream w.streams new (rw id there) in
+    let found : streams.stream (streams.with_stream w.streams new) s ≡ new =
+    ap (λ (i : ℕ). streams.stream (streams.with_stream w.streams new) i) (sym id) ∙ here in
     ap one.window_of found ∙ put_window (streams.stream w.streams s) c
 
 plain_counted : (w : Scene) (s c : ℕ) → is_plain_text w s ≡ true → is_plain_text (counted w s c) s ≡ true
 plain_counted w s c h =
-    rw (has_with streams.id_of streams.no_stream w.streams (one.after_put (streams.stream w.streams s) c) s, window_counted w s c (plain w s h).there) h
+    rw (
+      has_with streams.id_of streams.no_stream w.streams (one.after_put (streams.stream w.streams s) c) s,
+      window_counted w s c (plain w s h).there,
+    ) h
 
 -- and so it is after a character
-pub plain_stays : (w : Scene) (s c win d : ℕ) → is_plain_text w s ≡ true → is_plain_text (buffer_put (counted w s c) win d).0 s ≡ true
+pub plain_stays : (w : Scene) (s c win d : ℕ) → is_plain_text w s ≡ true
+    → is_plain_text (buffer_put (counted w s c) win d).0 s ≡ true
 unfolding buffer_put
 plain_stays w s c win d h =
     let v = counted w s c in
-    elim (is_composed w) as (λ b. is_plain_text (if b then silent (record v { screen = screen_put v.screen win d }) else said_char v d).0 s ≡ true) [
+    elim (is_composed w) as
+    (λ b. is_plain_text (if b then silent (record v { screen = screen_put v.screen win d }) else said_char v d).0 s
+    ≡ true) [
       | true ↦ plain_counted w s c h
       | false ↦ plain_counted w s c h
     ]
 
-pub window_stays : (w : Scene) (s c win d : ℕ) → is_plain_text w s ≡ true → win ≡ window_of w s → win ≡ window_of (buffer_put (counted w s c) win d).0 s
+pub window_stays : (w : Scene) (s c win d : ℕ) → is_plain_text w s ≡ true → win ≡ window_of w s
+    → win ≡ window_of (buffer_put (counted w s c) win d).0 s
 window_stays w s c win d h is =
-    is ∙ sym (ap (λ (all : List Stream). one.window_of (streams.stream all s)) (buffer_put_streams (counted w s c) win d) ∙ window_counted w s c (plain w s h).there)
+    is ∙ sym (ap (λ (all : List Stream). one.window_of (streams.stream all s))
+    (buffer_put_streams (counted w s c) win d) ∙ window_counted w s c (plain w s h).there)
 
-place_with : (xs : List Stream) (new : Stream) (s : ℕ) → objects.place streams.id_of (streams.with_stream xs new) s ≡ objects.place streams.id_of xs s
+place_with : (xs : List Stream) (new : Stream) (s : ℕ)
+    → objects.place streams.id_of (streams.with_stream xs new) s ≡ objects.place streams.id_of xs s
 unfolding objects.with objects.place
 place_with [] new s = refl
 place_with (x ∷ xs) new s = grind (arith, nat_tests, place_with xs new s)
 
-pub place_stays : (w : Scene) (s c win d at : ℕ) → at ≡ objects.place streams.id_of w.streams s → at ≡ objects.place streams.id_of (buffer_put (counted w s c) win d).0.streams s
+pub place_stays : (w : Scene) (s c win d at : ℕ) → at ≡ objects.place streams.id_of w.streams s
+    → at ≡ objects.place streams.id_of (buffer_put (counted w s c) win d).0.streams s
 place_stays w s c win d at is =
     rw (buffer_put_streams (counted w s c) win d)
     (is ∙ sym (place_with w.streams (one.after_put (streams.stream w.streams s) c) s))
@@ -254,10 +303,14 @@ place_stays w s c win d at is =
 -- ---- a stream with no window
 
 -- bytes that are taken at once
-pub bytes_alone : (w : FlatWorld) (s : ℕ) (cs : List ℕ) → IsBelow streams.id_of w.scene.streams 0 → streams.has w.scene.streams s ≡ true → one.takes_bytes (streams.stream w.scene.streams s) (length cs) ≡ true
+pub bytes_alone : (w : FlatWorld) (s : ℕ) (cs : List ℕ) → IsBelow streams.id_of w.scene.streams 0
+    → streams.has w.scene.streams s ≡ true → one.takes_bytes (streams.stream w.scene.streams s) (length cs) ≡ true
     → record w { scene = all_counted w.scene s cs } ≡ after w (puts w.scene s cs)
 bytes_alone w s cs first there room =
-    rw (puts_alone w.scene s cs first there (bytes_windowless (streams.stream w.scene.streams s) (length cs) room), append-nil w.text) refl
+    rw (
+      puts_alone w.scene s cs first there (bytes_windowless (streams.stream w.scene.streams s) (length cs) room),
+      append-nil w.text,
+    ) refl
 
 -- ---- results
 
@@ -273,11 +326,14 @@ pub err_by : {A E P Q : Type 0} (r : Result A E) → OnErr r P → (P → Q) →
 err_by (Ok x) holds more = tt
 err_by (Err e) holds more = more holds
 
-pub ok_by : {E : Type 0} (r : Result Bool E) (P Q R : Bool → Type 0) → IfOk r P → IfOk r Q → ((b : Bool) → P b → Q b → R b) → IfOk r R
+pub ok_by : {E : Type 0} (r : Result Bool E) (P Q R : Bool → Type 0) → IfOk r P → IfOk r Q
+    → ((b : Bool) → P b → Q b → R b) → IfOk r R
 ok_by (Ok b) P Q R p q both = both b p q
 ok_by (Err e) P Q R p q both = tt
 
-pub made_or_same : {E : Type 0} (r : Result Bool E) (old new made : List Stream) → IfOk r (λ put. IsTrue put → new ≡ made) → IfOk r (λ put. IsTrue (not put) → new ≡ old) → OnErr r (new ≡ old) → (new ≡ made) ⊎ (new ≡ old)
+pub made_or_same : {E : Type 0} (r : Result Bool E) (old new made : List Stream)
+    → IfOk r (λ put. IsTrue put → new ≡ made) → IfOk r (λ put. IsTrue (not put) → new ≡ old) → OnErr r (new ≡ old)
+    → (new ≡ made) ⊎ (new ≡ old)
 made_or_same (Ok true) old new made put other err = inl (put refl)
 made_or_same (Ok false) old new made put other err = inr (other refl)
 made_or_same (Err e) old new made put other err = inr err

@@ -13,10 +13,12 @@ use Rattle.glk_world.specs.World.{after, silent}
 use Rattle.glk_world.specs.Calls.{without_requests, without_texts, unless_gone, without_window}
 use Rattle.glk_world.specs.Kept.{flat_of}
 
-pub closed_world : (w : Inside) (win : ℕ) (gone : List ℕ) (f : FlatWindows) (ss : List Stream) (rs : List Request) (ts : List FlatText) (current : ℕ)
+pub closed_world : (w : Inside) (win : ℕ) (gone : List ℕ) (f : FlatWindows) (ss : List Stream) (rs : List Request)
+    (ts : List FlatText) (current : ℕ)
     → gone ≡ windows.gone w.windows win → f ≡ windows.closed w.windows win → ss ≡ streams.without_windows w.streams gone
     → rs ≡ without_requests w.requests gone → ts ≡ without_texts w.screen gone → current ≡ unless_gone ss w.current
-    → flat_of (record w { windows = f; streams = ss; requests = rs; screen = ts; current = current }) ≡ after (flat_of w) (silent (without_window (flat_of w).scene win))
+    → flat_of (record w { windows = f; streams = ss; requests = rs; screen = ts; current = current })
+    ≡ after (flat_of w) (silent (without_window (flat_of w).scene win))
 unfolding without_window
 closed_world w win gone f ss rs ts current gone_is f_is ss_is rs_is ts_is current_is =
     rw (current_is, ss_is, rs_is, ts_is, f_is, gone_is, append-nil (string_bytes w.text)) refl

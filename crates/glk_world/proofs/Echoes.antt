@@ -1,5 +1,6 @@
 -- A new echo stream that doesn't lead back to its window lets no chain come back.
-use Rattle.std.proofs.Common.{zero, suc, ◌≡◌, ◌≢◌, ◌<◌, ◌≤◌, ◌+◌, ◌==◌, ◌||◌, ◌&&◌, ◌⊎◌, inl, inr, ℕ, Bool, true, false, if◌then◌else◌, List, [], ◌∷◌, length, refl, sym, ◌∙◌, ap, arith}
+use Rattle.std.proofs.Common.{zero, suc, ◌≡◌, ◌≢◌, ◌<◌, ◌≤◌, ◌+◌, ◌==◌, ◌||◌, ◌&&◌, ◌⊎◌, inl, inr, ℕ, Bool, true, false}
+use Rattle.std.proofs.Common.{if◌then◌else◌, List, [], ◌∷◌, length, refl, sym, ◌∙◌, ap, arith}
 use Rattle.std.proofs.lemmas.Bool.Decides.{nat_tests}
 use Rattle.glk_objects.specs.Objects as objects
 use Rattle.glk_objects.specs.Objects.{IsAbove}
@@ -24,7 +25,8 @@ either : (a b : Bool) → (a || b) ≡ true → (a ≡ true) ⊎ (b ≡ true)
 either true b h = inl refl
 either false b h = inr h
 
-leads_step : (n : ℕ) (w : Scene) (s win : ℕ) → leads_along (suc n) w s win ≡ (streams.has w.streams s && (window_of w s == win || leads_along n w (echo_of w s) win))
+leads_step : (n : ℕ) (w : Scene) (s win : ℕ) → leads_along (suc n) w s win
+    ≡ (streams.has w.streams s && (window_of w s == win || leads_along n w (echo_of w s) win))
 unfolding leads_along
 leads_step n w s win = refl
 
@@ -34,31 +36,43 @@ leads_no w s win = refl
 
 leads_there : (n : ℕ) (w : Scene) (s win : ℕ) → leads_along n w s win ≡ true → streams.has w.streams s ≡ true
 leads_there zero w s win leads = absurd (let never = leads_no w s win in cc)
-leads_there (suc n) w s win leads = (both (streams.has w.streams s) (window_of w s == win || leads_along n w (echo_of w s) win) (sym (leads_step n w s win) ∙ leads)).0
+leads_there (suc n) w s win leads =
+    (both (streams.has w.streams s) (window_of w s == win || leads_along n w (echo_of w s) win)
+    (sym (leads_step n w s win) ∙ leads)).0
 
 -- what leads to the window does so at once, or by its echo stream
-leads_by : (n : ℕ) (w : Scene) (s win : ℕ) → leads_along (suc n) w s win ≡ true → ((window_of w s == win) ≡ true) ⊎ (leads_along n w (echo_of w s) win ≡ true)
-leads_by n w s win leads = either (window_of w s == win) (leads_along n w (echo_of w s) win) (both (streams.has w.streams s) (window_of w s == win || leads_along n w (echo_of w s) win) (sym (leads_step n w s win) ∙ leads)).1
+leads_by : (n : ℕ) (w : Scene) (s win : ℕ) → leads_along (suc n) w s win ≡ true
+    → ((window_of w s == win) ≡ true) ⊎ (leads_along n w (echo_of w s) win ≡ true)
+leads_by n w s win leads =
+    either (window_of w s == win) (leads_along n w (echo_of w s) win)
+    (both (streams.has w.streams s) (window_of w s == win || leads_along n w (echo_of w s) win)
+    (sym (leads_step n w s win) ∙ leads)).1
 
-leads_here : (n : ℕ) (w : Scene) (s win : ℕ) → streams.has w.streams s ≡ true → (window_of w s == win) ≡ true → leads_along (suc n) w s win ≡ true
+leads_here : (n : ℕ) (w : Scene) (s win : ℕ) → streams.has w.streams s ≡ true → (window_of w s == win) ≡ true
+    → leads_along (suc n) w s win ≡ true
 leads_here n w s win there is = leads_step n w s win ∙ grind (arith, there, is)
 
-leads_on : (n : ℕ) (w : Scene) (s win : ℕ) → streams.has w.streams s ≡ true → leads_along n w (echo_of w s) win ≡ true → leads_along (suc n) w s win ≡ true
-leads_on n w s win there leads = leads_step n w s win ∙ elim (window_of w s == win) as (λ b. (streams.has w.streams s && (b || leads_along n w (echo_of w s) win)) ≡ true) [
-  | true ↦ grind (arith, there)
-  | false ↦ grind (arith, there, leads)
-]
+leads_on : (n : ℕ) (w : Scene) (s win : ℕ) → streams.has w.streams s ≡ true → leads_along n w (echo_of w s) win ≡ true
+    → leads_along (suc n) w s win ≡ true
+leads_on n w s win there leads =
+    leads_step n w s win ∙ elim (window_of w s == win) as
+    (λ b. (streams.has w.streams s && (b || leads_along n w (echo_of w s) win)) ≡ true) [
+      | true ↦ grind (arith, there)
+      | false ↦ grind (arith, there, leads)
+    ]
 
 leads_more : (n m : ℕ) (w : Scene) (s win : ℕ) → n ≤ m → leads_along n w s win ≡ true → leads_along m w s win ≡ true
 leads_more zero m w s win le leads = absurd (let never = leads_no w s win in cc)
 leads_more (suc n) zero w s win le leads = absurd (omega arith)
 leads_more (suc n) (suc m) w s win le leads = elim (leads_by n w s win leads) [
   | inl is ↦ leads_here m w s win (leads_there (suc n) w s win leads) is
-  | inr more ↦ leads_on m w s win (leads_there (suc n) w s win leads) (leads_more n m w (echo_of w s) win (omega arith) more)
+  | inr more ↦
+      leads_on m w s win (leads_there (suc n) w s win leads) (leads_more n m w (echo_of w s) win (omega arith) more)
 ]
 
 -- as many steps as there are streams are enough
-leads_enough : (m n : ℕ) (w : Scene) (s win : ℕ) (rank : ℕ → ℕ) → IsRanked w.windows.entries w.streams rank → (streams.has w.streams s ≡ true → under rank (rank s) w.streams ≤ n)
+leads_enough : (m n : ℕ) (w : Scene) (s win : ℕ) (rank : ℕ → ℕ) → IsRanked w.windows.entries w.streams rank
+    → (streams.has w.streams s ≡ true → under rank (rank s) w.streams ≤ n)
     → leads_along m w s win ≡ true → leads_along n w s win ≡ true
 leads_enough zero n w s win rank ranked few leads = absurd (let never = leads_no w s win in cc)
 leads_enough (suc m) zero w s win rank ranked few leads =
@@ -69,16 +83,19 @@ leads_enough (suc m) (suc n) w s win rank ranked few leads =
     elim (leads_by m w s win leads) [
       | inl is ↦ leads_here n w s win there is
       | inr more ↦ leads_on n w s win there (leads_enough m n w (echo_of w s) win rank ranked
-          (λ echo. let less = under_less rank (rank (echo_of w s)) s w.streams there (ranked.falls s there echo) in let small = few there in omega (arith, less, small)) more)
+          (λ echo. let less = under_less rank (rank (echo_of w s)) s w.streams there (ranked.falls s there echo) in
+          let small = few there in omega (arith, less, small)) more)
     ]
 
 -- the entry of a window with another echo stream
 echoed_entry : (es : List Entry) (win stream other : ℕ) → objects.has entry_id es win ≡ true
-    → (entry_at (objects.with entry_id es (record (entry_at es win) { echo = stream })) other).echo ≡ (if other == win then stream else (entry_at es other).echo)
+    → (entry_at (objects.with entry_id es (record (entry_at es win) { echo = stream })) other).echo
+    ≡ (if other == win then stream else (entry_at es other).echo)
 echoed_entry es win stream other there =
     let new : Entry = record (entry_at es win) { echo = stream } in
     let id : new.id ≡ win = id_at entry_id no_entry es win there in
-    elim (other == win) as (λ b. (other == win) ≡ b → (entry_at (objects.with entry_id es new) other).echo ≡ (if b then stream else (entry_at es other).echo)) [
+    elim (other == win) as (λ b. (other == win) ≡ b → (entry_at (objects.with entry_id es new) other).echo ≡
+    (if b then stream else (entry_at es other).echo)) [
       | true ↦ λ is.
           let same : other ≡ new.id = grind (arith, nat_tests, is, id) in
           let known : objects.has entry_id es new.id ≡ true = rw id there in
@@ -88,10 +105,15 @@ echoed_entry es win stream other there =
           ap (λ (e : Entry). e.echo) (found.at_with entry_id no_entry es new other differs)
     ] refl
 
-echoes_with : (es : List Entry) (new : Entry) (n : ℕ) → EchoesBelow es n → new.echo < n → EchoesBelow (objects.with entry_id es new) n
+echoes_with : (es : List Entry) (new : Entry) (n : ℕ) → EchoesBelow es n → new.echo < n
+    → EchoesBelow (objects.with entry_id es new) n
 unfolding objects.with
 echoes_with [] new n below less = tt
-echoes_with (e ∷ es) new n below less = elim (e.id == new.id) as (λ b. EchoesBelow (if b then new ∷ es else e ∷ objects.with entry_id es new) n) [ true ↦ (less, below.1) | false ↦ (below.0, echoes_with es new n below.1 less) ]
+echoes_with (e ∷ es) new n below less =
+    elim (e.id == new.id) as (λ b. EchoesBelow (if b then new ∷ es else e ∷ objects.with entry_id es new) n) [
+      | true ↦ (less, below.1)
+      | false ↦ (below.0, echoes_with es new n below.1 less)
+    ]
 
 module _ (w : Scene) (win stream : ℕ) (rank : ℕ → ℕ) where
   leads_in : ℕ → Bool
@@ -111,14 +133,19 @@ module _ (w : Scene) (win stream : ℕ) (rank : ℕ → ℕ) where
 
   lifted_least : (s : ℕ) → rank s ≤ lifted s
   unfolding lifted
-  lifted_least s = elim (leads_in s) as (λ b. rank s ≤ (if b then rank s + rank stream + 1 else rank s)) [ true ↦ omega arith | false ↦ omega arith ]
+  lifted_least s = elim (leads_in s) as (λ b. rank s ≤ (if b then rank s + rank stream + 1 else rank s)) [
+    | true ↦ omega arith
+    | false ↦ omega arith
+  ]
 
   -- the streams of the window itself, whose echo stream is the new one
-  falls_new : IsRanked w.windows.entries w.streams rank → leads_to w stream win ≡ false → (s : ℕ) → streams.has w.streams s ≡ true → (window_of w s == win) ≡ true → lifted stream < lifted s
+  falls_new : IsRanked w.windows.entries w.streams rank → leads_to w stream win ≡ false → (s : ℕ)
+      → streams.has w.streams s ≡ true → (window_of w s == win) ≡ true → lifted stream < lifted s
   unfolding leads_in
   falls_new ranked apart s there is =
       let off : leads_in stream ≡ false = elim (there_or_not (leads_along (suc (rank stream)) w stream win)) [
-        | inl leads ↦ absurd (let yes = leads_enough (suc (rank stream)) (length w.streams) w stream win rank ranked (λ here. under_all rank (rank stream) w.streams) leads in cc)
+        | inl leads ↦ absurd (let yes = leads_enough (suc (rank stream)) (length w.streams) w stream win rank ranked
+            (λ here. under_all rank (rank stream) w.streams) leads in cc)
         | inr not_there ↦ not_there
       ] in
       let at : leads_in s ≡ true = leads_here (rank s) w s win there is in
@@ -127,13 +154,14 @@ module _ (w : Scene) (win stream : ℕ) (rank : ℕ → ℕ) where
       omega (arith, low, high)
 
   -- all others
-  falls_old : IsRanked w.windows.entries w.streams rank → (s : ℕ) → streams.has w.streams s ≡ true → streams.has w.streams (echo_of w s) ≡ true → lifted (echo_of w s) < lifted s
+  falls_old : IsRanked w.windows.entries w.streams rank → (s : ℕ) → streams.has w.streams s ≡ true
+      → streams.has w.streams (echo_of w s) ≡ true → lifted (echo_of w s) < lifted s
   unfolding leads_in
   falls_old ranked s there echo =
       let less = ranked.falls s there echo in
       elim (there_or_not (leads_along (suc (rank (echo_of w s))) w (echo_of w s) win)) [
-        | inl leads ↦
-            let at : leads_in s ≡ true = leads_on (rank s) w s win there (leads_more (suc (rank (echo_of w s))) (rank s) w (echo_of w s) win (omega (arith, less)) leads) in
+        | inl leads ↦ let at : leads_in s ≡ true = leads_on (rank s) w s win there
+            (leads_more (suc (rank (echo_of w s))) (rank s) w (echo_of w s) win (omega (arith, less)) leads) in
             let low = lifted_at (echo_of w s) leads in
             let high = lifted_at s at in
             omega (arith, low, high, less)
@@ -143,7 +171,9 @@ module _ (w : Scene) (win stream : ℕ) (rank : ℕ → ℕ) where
             omega (arith, low, high, less)
       ]
 
-  new_echo : (s : ℕ) → objects.has entry_id w.windows.entries win ≡ true → (window_of w s == 0) ≡ false → echo_in (echoed w.windows win stream).entries w.streams s ≡ (if window_of w s == win then stream else (entry_at w.windows.entries (window_of w s)).echo)
+  new_echo : (s : ℕ) → objects.has entry_id w.windows.entries win ≡ true → (window_of w s == 0) ≡ false
+      → echo_in (echoed w.windows win stream).entries w.streams s
+      ≡ (if window_of w s == win then stream else (entry_at w.windows.entries (window_of w s)).echo)
   unfolding echoed
   new_echo s there some = rw some (echoed_entry w.windows.entries win stream (window_of w s) there)
 
@@ -153,45 +183,60 @@ module _ (w : Scene) (win stream : ℕ) (rank : ℕ → ℕ) where
   zero_echo : (s : ℕ) → (window_of w s == 0) ≡ true → echo_in (echoed w.windows win stream).entries w.streams s ≡ 0
   zero_echo s none = rw none refl
 
-  ranked_echoed : (n : ℕ) → AreLinked w.windows.entries w.streams n → IsRanked w.windows.entries w.streams rank → objects.has entry_id w.windows.entries win ≡ true → leads_to w stream win ≡ false
+  ranked_echoed : (n : ℕ) → AreLinked w.windows.entries w.streams n → IsRanked w.windows.entries w.streams rank
+      → objects.has entry_id w.windows.entries win ≡ true → leads_to w stream win ≡ false
       → IsRanked (echoed w.windows win stream).entries w.streams lifted
   ranked_echoed n linked ranked known apart = record {
     falls = λ s there echo. elim (there_or_not (window_of w s == 0)) [
-      | inl none ↦ absurd (no_zero w.streams (echo_in (echoed w.windows win stream).entries w.streams s) linked.first (zero_echo s none) echo)
+      | inl none ↦ absurd (no_zero w.streams (echo_in (echoed w.windows win stream).entries w.streams s) linked.first
+          (zero_echo s none) echo)
       | inr some ↦ elim (there_or_not (window_of w s == win)) [
-        | inl is ↦
-            let e : echo_in (echoed w.windows win stream).entries w.streams s ≡ stream = new_echo s known some ∙ rw is refl in
+        | inl is ↦ let e : echo_in (echoed w.windows win stream).entries w.streams s ≡ stream =
+            new_echo s known some ∙ rw is refl in
             rw e (falls_new ranked apart s there is)
-        | inr other ↦
-            let e : echo_in (echoed w.windows win stream).entries w.streams s ≡ echo_of w s = new_echo s known some ∙ rw other refl ∙ sym (old_echo s some) in
-            let here : streams.has w.streams (echo_of w s) ≡ true = sym (ap (λ (t : ℕ). streams.has w.streams t) e) ∙ echo in
+        | inr other ↦ let e : echo_in (echoed w.windows win stream).entries w.streams s ≡ echo_of w s =
+            new_echo s known some ∙ rw other refl ∙ sym (old_echo s some) in
+            let here : streams.has w.streams (echo_of w s) ≡ true =
+            sym (ap (λ (t : ℕ). streams.has w.streams t) e) ∙ echo in
             rw e (falls_old ranked s there here)
       ]
     ];
   }
 
-pub linked_echoed : (w : Scene) (win stream n : ℕ) → AreLinked w.windows.entries w.streams n → is_window w.windows win ≡ true → leads_to w stream win ≡ false → stream < n
+pub linked_echoed : (w : Scene) (win stream n : ℕ) → AreLinked w.windows.entries w.streams n
+    → is_window w.windows win ≡ true → leads_to w stream win ≡ false → stream < n
     → AreLinked (echoed w.windows win stream).entries w.streams n
 unfolding echoed
 linked_echoed w win stream n linked known apart less = record {
-  ranked = (lifted w win stream linked.ranked.0, ranked_echoed w win stream linked.ranked.0 n linked linked.ranked.1 known apart);
-  echoes = echoes_with w.windows.entries (record (entry_at w.windows.entries win) { echo = stream }) n linked.echoes less;
+  ranked = (
+    lifted w win stream linked.ranked.0,
+    ranked_echoed w win stream linked.ranked.0 n linked linked.ranked.1 known apart,
+  );
+  echoes =
+      echoes_with w.windows.entries (record (entry_at w.windows.entries win) { echo = stream }) n linked.echoes less;
   rises = linked.rises;
   first = linked.first;
+  windows = found.below_with entry_id no_entry w.windows.entries
+      (record (entry_at w.windows.entries win) { echo = stream }) 0 linked.windows;
   begun = linked.begun;
 }
 
 -- an echo stream that is there has an identifier that was given
-pub echo_given : (xs : List Stream) (es : List Entry) (stream n : ℕ) → IsAbove streams.id_of xs n → AreLinked es xs n → (stream ≡ 0) ⊎ (streams.has xs stream ≡ true) → stream < n
+pub echo_given : (xs : List Stream) (es : List Entry) (stream n : ℕ) → IsAbove streams.id_of xs n → AreLinked es xs n
+    → (stream ≡ 0) ⊎ (streams.has xs stream ≡ true) → stream < n
 echo_given xs es stream n above linked (inl is_zero) = let some = linked.begun in omega (arith, some, is_zero)
-echo_given xs es stream n above linked (inr there) = found.has_above streams.id_of streams.no_stream xs n stream above there
+echo_given xs es stream n above linked (inr there) =
+    found.has_above streams.id_of streams.no_stream xs n stream above there
 
 -- the fuel is enough to see whether a chain comes to a window
-pub fuel_to_lead : (w : Scene) (rank : ℕ → ℕ) → IsRanked w.windows.entries w.streams rank → (s win more : ℕ) → leads_along (length w.streams + more) w s win ≡ leads_to w s win
+pub fuel_to_lead : (w : Scene) (rank : ℕ → ℕ) → IsRanked w.windows.entries w.streams rank → (s win more : ℕ)
+    → leads_along (length w.streams + more) w s win ≡ leads_to w s win
 fuel_to_lead w rank ranked s win more = elim (there_or_not (leads_along (length w.streams + more) w s win)) [
-  | inl leads ↦ leads ∙ sym (leads_enough (length w.streams + more) (length w.streams) w s win rank ranked (λ here. under_all rank (rank s) w.streams) leads)
+  | inl leads ↦ leads ∙ sym (leads_enough (length w.streams + more) (length w.streams) w s win rank ranked
+      (λ here. under_all rank (rank s) w.streams) leads)
   | inr never ↦ elim (there_or_not (leads_to w s win)) [
-    | inl leads ↦ absurd (let longer = leads_more (length w.streams) (length w.streams + more) w s win (omega arith) leads in cc)
+    | inl leads ↦
+        absurd (let longer = leads_more (length w.streams) (length w.streams + more) w s win (omega arith) leads in cc)
     | inr off ↦ never ∙ sym off
   ]
 ]

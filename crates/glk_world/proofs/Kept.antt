@@ -1,13 +1,14 @@
 -- The next identifier stays above all that were given.
-use Rattle.std.proofs.Common.{◌≡◌, ◌≢◌, Result, Ok, Err, OnOk, OnErr, IfOk, subst, ◌<◌, ◌≤◌, ◌+◌, ◌==◌, ℕ, true, false, if◌then◌else◌, List, [], ◌∷◌, ◌++◌, map, not, refl, arith}
+use Rattle.std.proofs.Common.{◌≡◌, ◌≢◌, Result, Ok, Err, OnOk, OnErr, IfOk, subst, ◌<◌, ◌≤◌, ◌+◌, ◌==◌, ℕ, true, false}
+use Rattle.std.proofs.Common.{if◌then◌else◌, List, [], ◌∷◌, ◌++◌, map, not, refl, arith}
 use Rattle.std.specs.List.{filter}
 use Rattle.std.proofs.lemmas.Bool.Decides.{nat_tests}
 use Rattle.glk_windows.specs.Constants.{pair_window, text_grid}
 use Rattle.glk_world.specs.declared.references.FileReference.{FileReference}
 use Rattle.glk_world.specs.World.{reference_id}
 use Rattle.glk_objects.specs.Objects as objects
-use Rattle.glk_objects.specs.Objects.{IsAbove}
-use Rattle.glk_objects.proofs.Rising.{rises_end, rises_without}
+use Rattle.glk_objects.specs.Objects.{IsAbove, IsBelow}
+use Rattle.glk_objects.proofs.Rising.{rises_end, rises_without, below_end, below_without}
 use Rattle.glk_objects.proofs.Above.{above_more, above_end, above_with, above_without, above_filter, above_map}
 use Rattle.glk_streams.specs.declared.kinds.Stream.{Stream}
 use Rattle.glk_streams.specs.declared.kinds.StreamKind.{StreamKind}
@@ -17,20 +18,28 @@ use Rattle.glk_windows.specs.declared.entries.Entry.{Entry}
 use Rattle.glk_windows.specs.declared.grid.Grid.{Grid}
 use Rattle.glk_windows.specs.Tree.{is_among}
 use Rattle.glk_windows.specs.Grids.{grid_id, empty_grid, put, cleared, moved}
-use Rattle.glk_windows.specs.Windows.{FlatWindows, entry_id, stream_id, no_windows, entry_at, has_grid, grid_at, last_given, IsNewId}
-use Rattle.glk_windows.specs.Changes.{fitted_to, fitted, new_entry, with_grid, rooted, split_by, added, leaving, chosen, forgetting, closed_tree, with_grid_of, put_to, cleared_in, moved_in, echoed, without_stream, allows, arranged_tree, arranged, without_ids, closed}
+use Rattle.glk_windows.specs.Windows.{FlatWindows, entry_id, stream_id, no_windows, entry_at, has_grid, grid_at}
+use Rattle.glk_windows.specs.Windows.{last_given, IsNewId}
+use Rattle.glk_windows.specs.Changes.{fitted_to, fitted, new_entry, with_grid, rooted, split_by, added, leaving, chosen}
+use Rattle.glk_windows.specs.Changes.{forgetting, closed_tree, with_grid_of, put_to, cleared_in, moved_in, echoed}
+use Rattle.glk_windows.specs.Changes.{without_stream, allows, arranged_tree, arranged, without_ids, closed}
 
-pub streams_with : (ss : List Stream) (new : Stream) (n : ℕ) → IsAbove streams.id_of ss n → IsAbove streams.id_of (streams.with_stream ss new) n
+pub streams_with : (ss : List Stream) (new : Stream) (n : ℕ) → IsAbove streams.id_of ss n
+    → IsAbove streams.id_of (streams.with_stream ss new) n
 streams_with ss new n above = above_with streams.id_of ss new n above
 
 fitted_new : (f : FlatWindows) (n : ℕ) → IsNewId f n → IsNewId (fitted f) n
-fitted_new f n new = record { entries = new.entries; grids = above_map grid_id (fitted_to f.tree (f.columns, f.rows)) (λ g. refl) f.grids n new.grids }
+fitted_new f n new = record {
+  entries = new.entries;
+  grids = above_map grid_id (fitted_to f.tree (f.columns, f.rows)) (λ g. refl) f.grids n new.grids;
+}
 
 grid_new : (f : FlatWindows) (win n : ℕ) (g : Grid) → IsNewId f n → IsNewId (with_grid_of f win g) n
-grid_new f win n g new = elim (has_grid f win) as (λ b. IsNewId (if b then record f { grids = objects.with grid_id f.grids g } else f) n) [
-  | true ↦ record { entries = new.entries; grids = above_with grid_id f.grids g n new.grids }
-  | false ↦ new
-]
+grid_new f win n g new =
+    elim (has_grid f win) as (λ b. IsNewId (if b then record f { grids = objects.with grid_id f.grids g } else f) n) [
+      | true ↦ record { entries = new.entries; grids = above_with grid_id f.grids g n new.grids }
+      | false ↦ new
+    ]
 
 pub put_new : (f : FlatWindows) (win c n : ℕ) → IsNewId f n → IsNewId (put_to f win c) n
 unfolding put_to
@@ -46,40 +55,64 @@ moved_new f win x y n new = grid_new f win n (moved (grid_at f.grids win) x y) n
 
 pub echoed_new : (f : FlatWindows) (win stream n : ℕ) → IsNewId f n → IsNewId (echoed f win stream) n
 unfolding echoed
-echoed_new f win stream n new = record { entries = above_with entry_id f.entries (record (entry_at f.entries win) { echo = stream }) n new.entries; grids = new.grids }
+echoed_new f win stream n new = record {
+  entries = above_with entry_id f.entries (record (entry_at f.entries win) { echo = stream }) n new.entries;
+  grids = new.grids;
+}
 
 forgetting_same : (gone : List ℕ) (e : Entry) → entry_id (forgetting gone e) ≡ entry_id e
 unfolding forgetting
-forgetting_same gone e = elim (is_among gone e.echo) as (λ b. entry_id (if b then record e { echo = 0 } else e) ≡ entry_id e) [ true ↦ refl | false ↦ refl ]
+forgetting_same gone e =
+    elim (is_among gone e.echo) as (λ b. entry_id (if b then record e { echo = 0 } else e) ≡ entry_id e) [
+      | true ↦ refl
+      | false ↦ refl
+    ]
 
 pub forgotten_new : (f : FlatWindows) (stream n : ℕ) → IsNewId f n → IsNewId (without_stream f stream) n
-forgotten_new f stream n new = record { entries = above_map entry_id (forgetting (stream ∷ [])) (forgetting_same (stream ∷ [])) f.entries n new.entries; grids = new.grids }
+forgotten_new f stream n new = record {
+  entries = above_map entry_id (forgetting (stream ∷ [])) (forgetting_same (stream ∷ [])) f.entries n new.entries;
+  grids = new.grids;
+}
 
-pub arranged_new : (f : FlatWindows) (win method size key n : ℕ) → IsNewId f n → IsNewId (arranged f win method size key) n
+pub arranged_new : (f : FlatWindows) (win method size key n : ℕ) → IsNewId f n
+    → IsNewId (arranged f win method size key) n
 unfolding arranged
-arranged_new f win method size key n new = elim (allows f win method key) as (λ b. IsNewId (if b then fitted (record f { tree = arranged_tree f win method size key }) else f) n) [
-  | true ↦ fitted_new (record f { tree = arranged_tree f win method size key }) n (record { entries = new.entries; grids = new.grids })
-  | false ↦ new
-]
+arranged_new f win method size key n new =
+    elim (allows f win method key) as
+    (λ b. IsNewId (if b then fitted (record f { tree = arranged_tree f win method size key }) else f) n) [
+      | true ↦ fitted_new (record f { tree = arranged_tree f win method size key }) n
+          (record { entries = new.entries; grids = new.grids })
+      | false ↦ new
+    ]
 
-with_grid_new : (grids : List Grid) (kind id n : ℕ) → IsAbove grid_id grids n → id < n → IsAbove grid_id (with_grid grids kind id) n
-with_grid_new grids kind id n above less = elim (kind == text_grid) as (λ b. IsAbove grid_id (if b then grids ++ empty_grid id ∷ [] else grids) n) [
-  | true ↦ above_end grid_id grids (empty_grid id) n above less
-  | false ↦ above
-]
+with_grid_new : (grids : List Grid) (kind id n : ℕ) → IsAbove grid_id grids n → id < n
+    → IsAbove grid_id (with_grid grids kind id) n
+with_grid_new grids kind id n above less =
+    elim (kind == text_grid) as (λ b. IsAbove grid_id (if b then grids ++ empty_grid id ∷ [] else grids) n) [
+      | true ↦ above_end grid_id grids (empty_grid id) n above less
+      | false ↦ above
+    ]
 
-pub added_new : (f : FlatWindows) (split method size kind rock id : ℕ) → IsNewId f id → IsNewId (added f split method size kind rock id) (last_given split id + 1)
+pub added_new : (f : FlatWindows) (split method size kind rock id : ℕ) → IsNewId f id
+    → IsNewId (added f split method size kind rock id) (last_given split id + 1)
 unfolding added
 added_new f split method size kind rock id new =
-    elim (split == 0) as (λ b. IsNewId (fitted (if b then rooted f kind rock id else split_by f split method size kind rock id)) ((if b then id + 1 else id + 3) + 1)) [
+    elim (split == 0) as (λ b. IsNewId (fitted
+    (if b then rooted f kind rock id else split_by f split method size kind rock id))
+    ((if b then id + 1 else id + 3) + 1)) [
       | true ↦ fitted_new (rooted f kind rock id) (id + 1 + 1) (record {
-        entries = above_end entry_id f.entries (new_entry id kind rock) (id + 1 + 1) (above_more entry_id f.entries id (id + 1 + 1) new.entries (omega arith)) (omega arith);
-        grids = with_grid_new f.grids kind id (id + 1 + 1) (above_more grid_id f.grids id (id + 1 + 1) new.grids (omega arith)) (omega arith);
+        entries = above_end entry_id f.entries (new_entry id kind rock) (id + 1 + 1)
+            (above_more entry_id f.entries id (id + 1 + 1) new.entries (omega arith)) (omega arith);
+        grids = with_grid_new f.grids kind id (id + 1 + 1)
+            (above_more grid_id f.grids id (id + 1 + 1) new.grids (omega arith)) (omega arith);
       })
       | false ↦ fitted_new (split_by f split method size kind rock id) (id + 3 + 1) (record {
-        entries = above_end entry_id (f.entries ++ new_entry id kind rock ∷ []) (new_entry (id + 2) pair_window 0) (id + 3 + 1)
-            (above_end entry_id f.entries (new_entry id kind rock) (id + 3 + 1) (above_more entry_id f.entries id (id + 3 + 1) new.entries (omega arith)) (omega arith)) (omega arith);
-        grids = with_grid_new f.grids kind id (id + 3 + 1) (above_more grid_id f.grids id (id + 3 + 1) new.grids (omega arith)) (omega arith);
+        entries = above_end entry_id (f.entries ++ new_entry id kind rock ∷ []) (new_entry (id + 2) pair_window 0)
+            (id + 3 + 1)
+            (above_end entry_id f.entries (new_entry id kind rock) (id + 3 + 1)
+            (above_more entry_id f.entries id (id + 3 + 1) new.entries (omega arith)) (omega arith)) (omega arith);
+        grids = with_grid_new f.grids kind id (id + 3 + 1)
+            (above_more grid_id f.grids id (id + 3 + 1) new.grids (omega arith)) (omega arith);
       })
     ]
 
@@ -89,7 +122,9 @@ closed_new f win n new =
     let ids = leaving f.tree win in
     let gone = map stream_id (chosen ids f.entries) in
     fitted_new (record (without_ids f ids) { tree = closed_tree ids f.tree win }) n (record {
-      entries = above_map entry_id (forgetting gone) (forgetting_same gone) (filter (λ e. not (is_among ids e.id)) f.entries) n (above_filter entry_id (λ e. not (is_among ids e.id)) f.entries n new.entries);
+      entries = above_map entry_id (forgetting gone) (forgetting_same gone)
+          (filter (λ e. not (is_among ids e.id)) f.entries) n
+          (above_filter entry_id (λ e. not (is_among ids e.id)) f.entries n new.entries);
       grids = above_filter grid_id (λ g. not (is_among ids g.id)) f.grids n new.grids;
     })
 
@@ -97,41 +132,74 @@ pub none_new : (columns rows n : ℕ) → IsNewId (no_windows columns rows) n
 none_new columns rows n = record { entries = tt; grids = tt }
 
 pub new_more : (f : FlatWindows) (n m : ℕ) → IsNewId f n → n ≤ m → IsNewId f m
-new_more f n m new le = record { entries = above_more entry_id f.entries n m new.entries le; grids = above_more grid_id f.grids n m new.grids le }
+new_more f n m new le = record {
+  entries = above_more entry_id f.entries n m new.entries le;
+  grids = above_more grid_id f.grids n m new.grids le;
+}
 
-pub ruleset windows_kept = (put_new, cleared_new, moved_new, echoed_new, forgotten_new, arranged_new, added_new, closed_new, none_new, new_more)
+pub ruleset windows_kept = (
+  put_new,
+  cleared_new,
+  moved_new,
+  echoed_new,
+  forgotten_new,
+  arranged_new,
+  added_new,
+  closed_new,
+  none_new,
+  new_more,
+)
 
-pub streams_without : (ss : List Stream) (id n : ℕ) → IsAbove streams.id_of ss n → IsAbove streams.id_of (streams.without ss id) n
+pub streams_without : (ss : List Stream) (id n : ℕ) → IsAbove streams.id_of ss n
+    → IsAbove streams.id_of (streams.without ss id) n
 streams_without ss id n above = above_without streams.id_of ss id n above
 
-pub streams_gone : (ss : List Stream) (gone : List ℕ) (n : ℕ) → IsAbove streams.id_of ss n → IsAbove streams.id_of (streams.without_windows ss gone) n
+pub streams_gone : (ss : List Stream) (gone : List ℕ) (n : ℕ) → IsAbove streams.id_of ss n
+    → IsAbove streams.id_of (streams.without_windows ss gone) n
 streams_gone ss gone n above = above_filter streams.id_of _ ss n above
 
 pub streams_more : (ss : List Stream) (n m : ℕ) → IsAbove streams.id_of ss n → n ≤ m → IsAbove streams.id_of ss m
 streams_more ss n m above le = above_more streams.id_of ss n m above le
 
-pub streams_opened : (ss : List Stream) (id n mode rock : ℕ) (kind : StreamKind) → IsAbove streams.id_of ss n → id < n → IsAbove streams.id_of (ss ++ one.opened id kind mode rock ∷ []) n
+pub streams_opened : (ss : List Stream) (id n mode rock : ℕ) (kind : StreamKind) → IsAbove streams.id_of ss n → id < n
+    → IsAbove streams.id_of (ss ++ one.opened id kind mode rock ∷ []) n
 unfolding one.opened
-streams_opened ss id n mode rock kind above less = above_end streams.id_of ss (one.opened id kind mode rock) n above less
+streams_opened ss id n mode rock kind above less =
+    above_end streams.id_of ss (one.opened id kind mode rock) n above less
 
 pub ruleset streams_kept = (streams_with, streams_without, streams_gone, streams_more, streams_opened)
 
-pub references_end : (rs : List FileReference) (new : FileReference) → IsAbove reference_id rs new.id → IsAbove reference_id (rs ++ new ∷ []) (new.id + 1)
-references_end rs new above = above_end reference_id rs new (new.id + 1) (above_more reference_id rs new.id (new.id + 1) above (omega arith)) (omega arith)
+pub references_end : (rs : List FileReference) (new : FileReference) → IsAbove reference_id rs new.id
+    → IsAbove reference_id (rs ++ new ∷ []) (new.id + 1)
+references_end rs new above =
+    above_end reference_id rs new (new.id + 1) (above_more reference_id rs new.id (new.id + 1) above (omega arith))
+    (omega arith)
 
-pub references_rise : (rs : List FileReference) (new : FileReference) → objects.Rises reference_id rs → IsAbove reference_id rs new.id → objects.Rises reference_id (rs ++ new ∷ [])
+pub references_rise : (rs : List FileReference) (new : FileReference) → objects.Rises reference_id rs
+    → IsAbove reference_id rs new.id → objects.Rises reference_id (rs ++ new ∷ [])
 references_rise rs new up above = rises_end reference_id rs new up above
 
-pub references_left : (rs : List FileReference) (id : ℕ) → objects.Rises reference_id rs → objects.Rises reference_id (objects.without reference_id rs id)
+pub references_left : (rs : List FileReference) (id : ℕ) → objects.Rises reference_id rs
+    → objects.Rises reference_id (objects.without reference_id rs id)
 references_left rs id up = rises_without reference_id rs id up
 
-pub references_under : (rs : List FileReference) (id n : ℕ) → IsAbove reference_id rs n → IsAbove reference_id (objects.without reference_id rs id) n
+pub references_under : (rs : List FileReference) (id n : ℕ) → IsAbove reference_id rs n
+    → IsAbove reference_id (objects.without reference_id rs id) n
 references_under rs id n above = above_without reference_id rs id n above
 
-pub references_more : (rs : List FileReference) (n m : ℕ) → IsAbove reference_id rs n → n ≤ m → IsAbove reference_id rs m
+pub references_more : (rs : List FileReference) (n m : ℕ) → IsAbove reference_id rs n → n ≤ m
+    → IsAbove reference_id rs m
 references_more rs n m above le = above_more reference_id rs n m above le
 
-pub ruleset references_kept = (references_end, references_rise, references_left, references_under)
+pub references_first : (rs : List FileReference) (new : FileReference) → IsBelow reference_id rs 0 → 0 < new.id
+    → IsBelow reference_id (rs ++ new ∷ []) 0
+references_first rs new first some = below_end reference_id rs 0 new first some
+
+pub references_over : (rs : List FileReference) (id : ℕ) → IsBelow reference_id rs 0
+    → IsBelow reference_id (objects.without reference_id rs id) 0
+references_over rs id first = below_without reference_id rs 0 id first
+
+pub ruleset references_kept = (references_end, references_rise, references_left, references_under, references_over)
 
 pub ruleset opening_kept = (streams_more, streams_opened)
 
@@ -151,7 +219,10 @@ given_if P (Ok x) v is holds = let same : x ≡ v = cc in subst P same holds
 given_if P (Err e) v is holds = absurd (cc)
 
 -- the windows after a change, or after want of memory
-pub arranged_or_none : {A E : Type 0} (r : Result A E) (f now left : FlatWindows) (win method size key n : ℕ) → IsNewId f n
-    → OnOk r (now ≡ arranged f win method size key) → OnOk r (left ≡ now) → OnErr r (left ≡ no_windows 1 1) → IsNewId left n
-arranged_or_none (Ok x) f now left win method size key n new made kept lost = rw (kept, made) (arranged_new f win method size key n new)
+pub arranged_or_none : {A E : Type 0} (r : Result A E) (f now left : FlatWindows) (win method size key n : ℕ)
+    → IsNewId f n
+    → OnOk r (now ≡ arranged f win method size key) → OnOk r (left ≡ now) → OnErr r (left ≡ no_windows 1 1)
+    → IsNewId left n
+arranged_or_none (Ok x) f now left win method size key n new made kept lost =
+    rw (kept, made) (arranged_new f win method size key n new)
 arranged_or_none (Err e) f now left win method size key n new made kept lost = rw lost (none_new 1 1 n)

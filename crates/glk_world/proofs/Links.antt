@@ -1,11 +1,14 @@
 -- What keeps chains of echo streams from coming back to where they were.
-use Rattle.std.proofs.Common.{◌≡◌, ◌<◌, ◌≤◌, ◌+◌, ◌==◌, ◌⊎◌, inl, inr, ℕ, Bool, true, false, not, if◌then◌else◌, Option, Some, None, Result, Ok, Err, OnOk, OnErr, List, [], ◌∷◌, ◌++◌, map, refl, sym, ◌∙◌, ap, arith}
+use Rattle.std.proofs.Common.{◌≡◌, ◌<◌, ◌≤◌, ◌+◌, ◌==◌, ◌⊎◌, inl, inr, ℕ, Bool, true, false, not, if◌then◌else◌, Option}
+use Rattle.std.proofs.Common.{Some, None, Result, Ok, Err, OnOk, OnErr, List, [], ◌∷◌, ◌++◌, map, refl, sym, ◌∙◌, ap}
+use Rattle.std.proofs.Common.{arith}
 use Rattle.std.specs.List.{filter, list_any}
 use Rattle.std.proofs.lemmas.Bool.Decides.{nat_tests}
 use Rattle.glk_objects.specs.Objects as objects
-use Rattle.glk_objects.specs.Objects.{IsAbove, IsBelow, Rises}
+use Rattle.glk_objects.specs.Objects.{IsAbove, IsBelow}
 use Rattle.glk_objects.proofs.Places.{id_at}
-use Rattle.glk_objects.proofs.Rising.{below_end, below_without, below_filter, rises_end, rises_without, rises_filter}
+use Rattle.glk_objects.proofs.Rising.{below_end, below_without, below_filter, below_map, rises_end, rises_without}
+use Rattle.glk_objects.proofs.Rising.{rises_filter}
 use Rattle.glk_objects.proofs.Above.{above_more, above_end, at_absent}
 use Rattle.glk_streams.specs.declared.kinds.Stream.{Stream}
 use Rattle.glk_streams.specs.declared.kinds.StreamKind.{StreamKind}
@@ -14,10 +17,13 @@ use Rattle.glk_streams.specs.Streams as streams
 use Rattle.glk_windows.specs.declared.entries.Entry.{Entry}
 use Rattle.glk_windows.specs.Tree.{is_among}
 use Rattle.glk_windows.specs.Constants.{pair_window}
-use Rattle.glk_windows.specs.Windows.{FlatWindows, entry_id, stream_id, no_entry, entry_at, no_windows, has_grid, grid_at, last_given, IsNewId}
+use Rattle.glk_windows.specs.Windows.{FlatWindows, entry_id, stream_id, no_entry, entry_at, no_windows, has_grid}
+use Rattle.glk_windows.specs.Windows.{grid_at, last_given, IsNewId}
 use Rattle.glk_windows.specs.declared.grid.Grid.{Grid}
 use Rattle.glk_windows.specs.Grids as grids
-use Rattle.glk_windows.specs.Changes.{fitted, new_entry, rooted, split_by, added, leaving, chosen, forgetting, without_ids, closed, with_grid_of, cleared_in, moved_in, allows, arranged_tree, arranged}
+use Rattle.glk_windows.specs.Changes.{fitted, new_entry, rooted, split_by, added, leaving, chosen, forgetting}
+use Rattle.glk_windows.specs.Changes.{without_ids, closed, with_grid_of, cleared_in, moved_in, allows, arranged_tree}
+use Rattle.glk_windows.specs.Changes.{arranged}
 use Rattle.glk_world.specs.Calls.{window_stream, with_streams}
 use Rattle.glk_world.specs.Chains.{echo_in, EchoesBelow, AreLinked}
 use Rattle.glk_world.proofs.Found as found
@@ -30,7 +36,8 @@ there_or_not false = inr refl
 
 -- 0 is no stream
 pub no_zero : (xs : List Stream) (e : ℕ) → IsBelow streams.id_of xs 0 → e ≡ 0 → streams.has xs e ≡ true → ⊥
-no_zero xs e first is_zero there = let more = found.has_below streams.id_of streams.no_stream xs 0 e first there in omega (arith, more, is_zero)
+no_zero xs e first is_zero there = let more = found.has_below streams.id_of streams.no_stream xs 0 e first there in
+    omega (arith, more, is_zero)
 
 echoes_more : (es : List Entry) (n m : ℕ) → EchoesBelow es n → n ≤ m → EchoesBelow es m
 echoes_more [] n m below le = tt
@@ -43,10 +50,12 @@ echo_below (e ∷ es) n win below some = grind (arith, nat_tests, echo_below es 
 
 -- the echo stream of any stream is below the next identifier
 echo_in_below : (es : List Entry) (xs : List Stream) (n s : ℕ) → EchoesBelow es n → 0 < n → echo_in es xs s < n
-echo_in_below es xs n s below some = elim (one.window_of (streams.stream xs s) == 0) as (λ b. (if b then 0 else (entry_at es (one.window_of (streams.stream xs s))).echo) < n) [
-  | true ↦ some
-  | false ↦ echo_below es n (one.window_of (streams.stream xs s)) below some
-]
+echo_in_below es xs n s below some =
+    elim (one.window_of (streams.stream xs s) == 0) as
+    (λ b. (if b then 0 else (entry_at es (one.window_of (streams.stream xs s))).echo) < n) [
+      | true ↦ some
+      | false ↦ echo_below es n (one.window_of (streams.stream xs s)) below some
+    ]
 
 -- ---- identifiers go on
 
@@ -56,6 +65,7 @@ linked_more es xs n m linked le = record {
   echoes = echoes_more es n m linked.echoes le;
   rises = linked.rises;
   first = linked.first;
+  windows = linked.windows;
   begun = (let some = linked.begun in omega (arith, some));
 }
 
@@ -67,14 +77,18 @@ linked_no_windows es xs n linked = record {
   ranked = (
     λ s. 0,
     record {
-      falls = λ s there echo.
-          let none : echo_in [] xs s ≡ 0 = elim (one.window_of (streams.stream xs s) == 0) as (λ b. (if b then 0 else (entry_at [] (one.window_of (streams.stream xs s))).echo) ≡ 0) [ true ↦ refl | false ↦ refl ] in
+      falls = λ s there echo. let none : echo_in [] xs s ≡ 0 = elim (one.window_of (streams.stream xs s) == 0) as
+          (λ b. (if b then 0 else (entry_at [] (one.window_of (streams.stream xs s))).echo) ≡ 0) [
+            | true ↦ refl
+            | false ↦ refl
+          ] in
           absurd (no_zero xs (echo_in [] xs s) linked.first none echo);
     },
   );
   echoes = tt;
   rises = linked.rises;
   first = linked.first;
+  windows = tt;
   begun = linked.begun;
 }
 
@@ -84,18 +98,25 @@ linked_no_streams es xs n linked = record {
   echoes = linked.echoes;
   rises = tt;
   first = tt;
+  windows = linked.windows;
   begun = linked.begun;
 }
 
 -- ---- a stream takes another's place
 
-pub linked_with : (es : List Entry) (xs : List Stream) (new : Stream) (n : ℕ) → streams.has xs new.id ≡ true → one.window_of new ≡ one.window_of (streams.stream xs new.id)
+pub linked_with : (es : List Entry) (xs : List Stream) (new : Stream) (n : ℕ) → streams.has xs new.id ≡ true
+    → one.window_of new ≡ one.window_of (streams.stream xs new.id)
     → AreLinked es xs n → AreLinked es (streams.with_stream xs new) n
 linked_with es xs new n known same linked = record {
-  ranked = (linked.ranked.0, ranked_within es es xs (streams.with_stream xs new) linked.ranked.0 (λ s there echo. with_edge es xs new s known same there echo) linked.ranked.1);
+  ranked = (
+    linked.ranked.0,
+    ranked_within es es xs (streams.with_stream xs new) linked.ranked.0
+        (λ s there echo. with_edge es xs new s known same there echo) linked.ranked.1,
+  );
   echoes = linked.echoes;
   rises = found.rises_with streams.id_of streams.no_stream xs new linked.rises;
   first = found.below_with streams.id_of streams.no_stream xs new 0 linked.first;
+  windows = linked.windows;
   begun = linked.begun;
 }
 
@@ -105,50 +126,83 @@ window_same : (es fs : List Entry) (xs ys : List Stream) (s : ℕ) → streams.s
     → ((win : ℕ) → ((entry_at fs win).echo ≡ 0) ⊎ ((entry_at fs win).echo ≡ (entry_at es win).echo))
     → (echo_in fs ys s ≡ 0) ⊎ (echo_in fs ys s ≡ echo_in es xs s)
 window_same es fs xs ys s same fewer = rw same (elim (one.window_of (streams.stream xs s) == 0) as (λ b.
-    ((if b then 0 else (entry_at fs (one.window_of (streams.stream xs s))).echo) ≡ 0) ⊎ ((if b then 0 else (entry_at fs (one.window_of (streams.stream xs s))).echo) ≡ (if b then 0 else (entry_at es (one.window_of (streams.stream xs s))).echo))) [
+    ((if b then 0 else (entry_at fs (one.window_of (streams.stream xs s))).echo) ≡ 0)
+    ⊎ ((if b then 0 else (entry_at fs (one.window_of (streams.stream xs s))).echo)
+    ≡ (if b then 0 else (entry_at es (one.window_of (streams.stream xs s))).echo))) [
       | true ↦ inl refl
       | false ↦ fewer (one.window_of (streams.stream xs s))
     ])
 
 -- where streams and echo streams are fewer
 fewer_edge : (es fs : List Entry) (xs ys : List Stream) (s : ℕ) → IsBelow streams.id_of ys 0
-    → ((t : ℕ) → streams.has ys t ≡ true → streams.has xs t ≡ true) → ((t : ℕ) → streams.has ys t ≡ true → streams.stream ys t ≡ streams.stream xs t)
+    → ((t : ℕ) → streams.has ys t ≡ true → streams.has xs t ≡ true)
+    → ((t : ℕ) → streams.has ys t ≡ true → streams.stream ys t ≡ streams.stream xs t)
     → ((win : ℕ) → ((entry_at fs win).echo ≡ 0) ⊎ ((entry_at fs win).echo ≡ (entry_at es win).echo))
     → streams.has ys s ≡ true → streams.has ys (echo_in fs ys s) ≡ true → IsEdge es fs xs ys s
 fewer_edge es fs xs ys s first were same fewer there echo = elim (window_same es fs xs ys s (same s there) fewer) [
   | inl none ↦ absurd (no_zero ys (echo_in fs ys s) first none echo)
-  | inr e ↦ record { from = were s there; to = sym (ap (λ (t : ℕ). streams.has xs t) e) ∙ were (echo_in fs ys s) echo; same = e }
+  | inr e ↦ record {
+    from = were s there;
+    to = sym (ap (λ (t : ℕ). streams.has xs t) e) ∙ were (echo_in fs ys s) echo;
+    same = e;
+  }
 ]
 
 forgetting_id : (gone : List ℕ) (e : Entry) → entry_id (forgetting gone e) ≡ entry_id e
 unfolding forgetting
-forgetting_id gone e = elim (is_among gone e.echo) as (λ b. entry_id (if b then record e { echo = 0 } else e) ≡ entry_id e) [ true ↦ refl | false ↦ refl ]
+forgetting_id gone e =
+    elim (is_among gone e.echo) as (λ b. entry_id (if b then record e { echo = 0 } else e) ≡ entry_id e) [
+      | true ↦ refl
+      | false ↦ refl
+    ]
 
 forgetting_none : (gone : List ℕ) → forgetting gone no_entry ≡ no_entry
 unfolding forgetting
-forgetting_none gone = elim (is_among gone 0) as (λ b. (if b then record no_entry { echo = 0 } else no_entry) ≡ no_entry) [ true ↦ refl | false ↦ refl ]
+forgetting_none gone =
+    elim (is_among gone 0) as (λ b. (if b then record no_entry { echo = 0 } else no_entry) ≡ no_entry) [
+      | true ↦ refl
+      | false ↦ refl
+    ]
 
 forgetting_echo : (gone : List ℕ) (e : Entry) → ((forgetting gone e).echo ≡ 0) ⊎ ((forgetting gone e).echo ≡ e.echo)
 unfolding forgetting
-forgetting_echo gone e = elim (is_among gone e.echo) as (λ b. ((if b then record e { echo = 0 } else e).echo ≡ 0) ⊎ ((if b then record e { echo = 0 } else e).echo ≡ e.echo)) [ true ↦ inl refl | false ↦ inr refl ]
+forgetting_echo gone e =
+    elim (is_among gone e.echo) as
+    (λ b. ((if b then record e { echo = 0 } else e).echo ≡ 0)
+    ⊎ ((if b then record e { echo = 0 } else e).echo ≡ e.echo)) [ true ↦ inl refl | false ↦ inr refl ]
 
-forgotten_at : (gone : List ℕ) (es : List Entry) (win : ℕ) → entry_at (map (forgetting gone) es) win ≡ forgetting gone (entry_at es win)
-forgotten_at gone es win = found.at_map entry_id no_entry (forgetting gone) (forgetting_id gone) (forgetting_none gone) es win
+forgotten_at : (gone : List ℕ) (es : List Entry) (win : ℕ)
+    → entry_at (map (forgetting gone) es) win ≡ forgetting gone (entry_at es win)
+forgotten_at gone es win =
+    found.at_map entry_id no_entry (forgetting gone) (forgetting_id gone) (forgetting_none gone) es win
 
-forgotten_echo : (gone : List ℕ) (es : List Entry) (win : ℕ) → ((entry_at (map (forgetting gone) es) win).echo ≡ 0) ⊎ ((entry_at (map (forgetting gone) es) win).echo ≡ (entry_at es win).echo)
+forgotten_echo : (gone : List ℕ) (es : List Entry) (win : ℕ) → ((entry_at (map (forgetting gone) es) win).echo ≡ 0)
+    ⊎ ((entry_at (map (forgetting gone) es) win).echo ≡ (entry_at es win).echo)
 forgotten_echo gone es win = rw (forgotten_at gone es win) (forgetting_echo gone (entry_at es win))
 
-echoes_forgotten : (gone : List ℕ) (es : List Entry) (n : ℕ) → 0 < n → EchoesBelow es n → EchoesBelow (map (forgetting gone) es) n
+echoes_forgotten : (gone : List ℕ) (es : List Entry) (n : ℕ) → 0 < n → EchoesBelow es n
+    → EchoesBelow (map (forgetting gone) es) n
 unfolding forgetting
 echoes_forgotten gone [] n some below = tt
-echoes_forgotten gone (e ∷ es) n some below = (elim (is_among gone e.echo) as (λ b. (if b then record e { echo = 0 } else e).echo < n) [ true ↦ some | false ↦ below.0 ], echoes_forgotten gone es n some below.1)
+echoes_forgotten gone (e ∷ es) n some below = (
+  elim (is_among gone e.echo) as (λ b. (if b then record e { echo = 0 } else e).echo < n) [
+    | true ↦ some
+    | false ↦ below.0
+  ],
+  echoes_forgotten gone es n some below.1,
+)
 
 echoes_chosen : (test : Entry → Bool) (es : List Entry) (n : ℕ) → EchoesBelow es n → EchoesBelow (filter test es) n
 echoes_chosen test [] n below = tt
-echoes_chosen test (e ∷ es) n below = elim (test e) as (λ b. EchoesBelow (if b then e ∷ filter test es else filter test es) n) [ true ↦ (below.0, echoes_chosen test es n below.1) | false ↦ echoes_chosen test es n below.1 ]
+echoes_chosen test (e ∷ es) n below =
+    elim (test e) as (λ b. EchoesBelow (if b then e ∷ filter test es else filter test es) n) [
+      | true ↦ (below.0, echoes_chosen test es n below.1)
+      | false ↦ echoes_chosen test es n below.1
+    ]
 
 -- a stream is closed
-pub linked_without : (es : List Entry) (xs : List Stream) (id n : ℕ) → AreLinked es xs n → AreLinked (map (forgetting (id ∷ [])) es) (streams.without xs id) n
+pub linked_without : (es : List Entry) (xs : List Stream) (id n : ℕ) → AreLinked es xs n
+    → AreLinked (map (forgetting (id ∷ [])) es) (streams.without xs id) n
 linked_without es xs id n linked = record {
   ranked = (
     linked.ranked.0,
@@ -162,15 +216,23 @@ linked_without es xs id n linked = record {
   echoes = echoes_forgotten (id ∷ []) es n linked.begun linked.echoes;
   rises = rises_without streams.id_of xs id linked.rises;
   first = below_without streams.id_of xs 0 id linked.first;
+  windows = below_map entry_id (forgetting (id ∷ [])) (forgetting_id (id ∷ [])) es 0 linked.windows;
   begun = linked.begun;
 }
 
 -- windows are closed, and their streams
 left_echo : (gone ids : List ℕ) (es : List Entry) (win : ℕ)
-    → ((entry_at (map (forgetting gone) (filter (λ e. not (is_among ids e.id)) es)) win).echo ≡ 0) ⊎ ((entry_at (map (forgetting gone) (filter (λ e. not (is_among ids e.id)) es)) win).echo ≡ (entry_at es win).echo)
+    → ((entry_at (map (forgetting gone) (filter (λ e. not (is_among ids e.id)) es)) win).echo ≡ 0)
+    ⊎ ((entry_at (map (forgetting gone) (filter (λ e. not (is_among ids e.id)) es)) win).echo
+    ≡ (entry_at es win).echo)
 left_echo gone ids es win =
-    rw (forgotten_at gone (filter (λ e. not (is_among ids e.id)) es) win, found.at_chosen entry_id no_entry (λ (id : ℕ). not (is_among ids id)) es win)
-    (elim (not (is_among ids win)) as (λ b. ((forgetting gone (if b then entry_at es win else no_entry)).echo ≡ 0) ⊎ ((forgetting gone (if b then entry_at es win else no_entry)).echo ≡ (entry_at es win).echo)) [
+    rw (
+      forgotten_at gone (filter (λ e. not (is_among ids e.id)) es) win,
+      found.at_chosen entry_id no_entry (λ (id : ℕ). not (is_among ids id)) es win,
+    )
+    (elim (not (is_among ids win)) as
+    (λ b. ((forgetting gone (if b then entry_at es win else no_entry)).echo ≡ 0)
+    ⊎ ((forgetting gone (if b then entry_at es win else no_entry)).echo ≡ (entry_at es win).echo)) [
       | true ↦ forgetting_echo gone (entry_at es win)
       | false ↦ inl (ap (λ (e : Entry). e.echo) (forgetting_none gone))
     ])
@@ -190,9 +252,12 @@ linked_closed es xs gone ids wins n linked =
             (λ t is. found.at_filter streams.id_of streams.no_stream test xs t linked.rises is)
             (left_echo gone ids es) there echo) linked.ranked.1,
       );
-      echoes = echoes_forgotten gone (filter (λ e. not (is_among ids e.id)) es) n linked.begun (echoes_chosen (λ e. not (is_among ids e.id)) es n linked.echoes);
+      echoes = echoes_forgotten gone (filter (λ e. not (is_among ids e.id)) es) n linked.begun
+          (echoes_chosen (λ e. not (is_among ids e.id)) es n linked.echoes);
       rises = rises_filter streams.id_of test xs linked.rises;
       first = below_filter streams.id_of test xs 0 linked.first;
+      windows = below_map entry_id (forgetting gone) (forgetting_id gone) (filter (λ e. not (is_among ids e.id)) es) 0
+          (below_filter entry_id (λ e. not (is_among ids e.id)) es 0 linked.windows);
       begun = linked.begun;
     }
 
@@ -203,7 +268,8 @@ new_edge : (es fs : List Entry) (xs : List Stream) (new : Stream) (s : ℕ) → 
     → IsAbove streams.id_of xs new.id → ((t : ℕ) → echo_in es xs t < new.id)
     → ((t : ℕ) → streams.has xs t ≡ true → echo_in fs (xs ++ new ∷ []) t ≡ echo_in es xs t)
     → echo_in fs (xs ++ new ∷ []) new.id ≡ 0
-    → streams.has (xs ++ new ∷ []) s ≡ true → streams.has (xs ++ new ∷ []) (echo_in fs (xs ++ new ∷ []) s) ≡ true → IsEdge es fs xs (xs ++ new ∷ []) s
+    → streams.has (xs ++ new ∷ []) s ≡ true → streams.has (xs ++ new ∷ []) (echo_in fs (xs ++ new ∷ []) s) ≡ true
+    → IsEdge es fs xs (xs ++ new ∷ []) s
 new_edge es fs xs new s linked above below old none there echo =
     let first : IsBelow streams.id_of (xs ++ new ∷ []) 0 = below_end streams.id_of xs 0 new linked.first linked.begun in
     elim (there_or_not (streams.has xs s)) [
@@ -212,66 +278,93 @@ new_edge es fs xs new s linked above below old none there echo =
           let less = below s in
           let other : new.id == echo_in es xs s ≡ false = grind (arith, nat_tests, less) in
           let to : streams.has xs (echo_in es xs s) ≡ true =
-          grind (arith, nat_tests, found.has_end streams.id_of streams.no_stream xs new (echo_in es xs s), ap (λ (t : ℕ). streams.has (xs ++ new ∷ []) t) e, echo, other) in
+          grind (
+            arith,
+            nat_tests,
+            found.has_end streams.id_of streams.no_stream xs new (echo_in es xs s),
+            ap (λ (t : ℕ). streams.has (xs ++ new ∷ []) t) e,
+            echo,
+            other,
+          ) in
           record { from = is; to = to; same = e }
-      | inr gone ↦
-          let here : new.id ≡ s = grind (arith, nat_tests, found.has_end streams.id_of streams.no_stream xs new s, there, gone) in
+      | inr gone ↦ let here : new.id ≡ s =
+          grind (arith, nat_tests, found.has_end streams.id_of streams.no_stream xs new s, there, gone) in
           let zero : echo_in fs (xs ++ new ∷ []) s ≡ 0 = rw (← here) none in
           absurd (no_zero (xs ++ new ∷ []) (echo_in fs (xs ++ new ∷ []) s) first zero echo)
     ]
 
 new_falls_nowhere : (es : List Entry) (xs : List Stream) (new : Stream) → IsAbove streams.id_of xs new.id
-    → (if one.window_of new == 0 then 0 else (entry_at es (one.window_of new)).echo) ≡ 0 → echo_in es (xs ++ new ∷ []) new.id ≡ 0
+    → (if one.window_of new == 0 then 0 else (entry_at es (one.window_of new)).echo) ≡ 0
+    → echo_in es (xs ++ new ∷ []) new.id ≡ 0
 new_falls_nowhere es xs new above none =
     let gone : streams.has xs new.id ≡ false = elim (there_or_not (streams.has xs new.id)) [
-      | inl is ↦ absurd (let less = found.has_above streams.id_of streams.no_stream xs new.id new.id above is in omega (arith, less))
+      | inl is ↦ absurd (let less = found.has_above streams.id_of streams.no_stream xs new.id new.id above is in
+          omega (arith, less))
       | inr not_there ↦ not_there
     ] in
-    let it : streams.stream (xs ++ new ∷ []) new.id ≡ new = grind (arith, nat_tests, found.at_new streams.id_of streams.no_stream xs new new.id gone) in
+    let it : streams.stream (xs ++ new ∷ []) new.id ≡ new =
+    grind (arith, nat_tests, found.at_new streams.id_of streams.no_stream xs new new.id gone) in
     rw it none
 
-pub linked_stream : (es : List Entry) (xs : List Stream) (new : Stream) (n : ℕ) → AreLinked es xs n → IsAbove streams.id_of xs n → n ≤ new.id
-    → (if one.window_of new == 0 then 0 else (entry_at es (one.window_of new)).echo) ≡ 0 → AreLinked es (xs ++ new ∷ []) (new.id + 1)
+pub linked_stream : (es : List Entry) (xs : List Stream) (new : Stream) (n : ℕ) → AreLinked es xs n
+    → IsAbove streams.id_of xs n → n ≤ new.id
+    → (if one.window_of new == 0 then 0 else (entry_at es (one.window_of new)).echo) ≡ 0
+    → AreLinked es (xs ++ new ∷ []) (new.id + 1)
 linked_stream es xs new n linked above le none =
     let known = linked_more es xs n new.id linked le in
     let higher = above_more streams.id_of xs n new.id above le in
     record {
       ranked = (
         linked.ranked.0,
-        ranked_within es es xs (xs ++ new ∷ []) linked.ranked.0
-            (λ s there echo. new_edge es es xs new s known higher (λ t. echo_in_below es xs new.id t known.echoes known.begun)
-            (λ t is. ap (λ (it : Stream). if one.window_of it == 0 then 0 else (entry_at es (one.window_of it)).echo) (found.at_end streams.id_of streams.no_stream xs new t is))
+        ranked_within es es xs (xs ++ new ∷ []) linked.ranked.0 (λ s there echo. new_edge es es xs new s known higher
+            (λ t. echo_in_below es xs new.id t known.echoes known.begun)
+            (λ t is. ap (λ (it : Stream). if one.window_of it == 0 then 0 else (entry_at es (one.window_of it)).echo)
+            (found.at_end streams.id_of streams.no_stream xs new t is))
             (new_falls_nowhere es xs new higher none) there echo) linked.ranked.1,
       );
       echoes = echoes_more es n (new.id + 1) linked.echoes (omega arith);
       rises = rises_end streams.id_of xs new linked.rises higher;
       first = below_end streams.id_of xs 0 new linked.first known.begun;
+      windows = linked.windows;
       begun = omega arith;
     }
 
 -- a window is new
-entry_end_echo : (es : List Entry) (e : Entry) (win : ℕ) → e.echo ≡ 0 → (entry_at (es ++ e ∷ []) win).echo ≡ (entry_at es win).echo
+entry_end_echo : (es : List Entry) (e : Entry) (win : ℕ) → e.echo ≡ 0
+    → (entry_at (es ++ e ∷ []) win).echo ≡ (entry_at es win).echo
 unfolding objects.at
-entry_end_echo [] e win none = elim (e.id == win) as (λ b. (if b then e else no_entry).echo ≡ 0) [ true ↦ none | false ↦ refl ]
-entry_end_echo (x ∷ es) e win none = elim (x.id == win) as (λ b. (if b then x else entry_at (es ++ e ∷ []) win).echo ≡ (if b then x else entry_at es win).echo) [ true ↦ refl | false ↦ entry_end_echo es e win none ]
+entry_end_echo [] e win none = elim (e.id == win) as (λ b. (if b then e else no_entry).echo ≡ 0) [
+  | true ↦ none
+  | false ↦ refl
+]
+entry_end_echo (x ∷ es) e win none =
+    elim (x.id == win) as (λ b. (if b then x else entry_at (es ++ e ∷ []) win).echo ≡
+    (if b then x else entry_at es win).echo) [ true ↦ refl | false ↦ entry_end_echo es e win none ]
 
-echo_in_end : (es : List Entry) (e : Entry) (xs : List Stream) (s : ℕ) → e.echo ≡ 0 → echo_in (es ++ e ∷ []) xs s ≡ echo_in es xs s
+echo_in_end : (es : List Entry) (e : Entry) (xs : List Stream) (s : ℕ) → e.echo ≡ 0
+    → echo_in (es ++ e ∷ []) xs s ≡ echo_in es xs s
 echo_in_end es e xs s none = rw (entry_end_echo es e (one.window_of (streams.stream xs s)) none) refl
 
 echoes_end : (es : List Entry) (e : Entry) (n : ℕ) → EchoesBelow es n → e.echo < n → EchoesBelow (es ++ e ∷ []) n
 echoes_end [] e n below less = (less, tt)
 echoes_end (x ∷ es) e n below less = (below.0, echoes_end es e n below.1 less)
 
-pub linked_entry : (es : List Entry) (e : Entry) (xs : List Stream) (n : ℕ) → e.echo ≡ 0 → AreLinked es xs n → AreLinked (es ++ e ∷ []) xs n
-linked_entry es e xs n none linked = record {
+pub linked_entry : (es : List Entry) (e : Entry) (xs : List Stream) (n : ℕ) → e.echo ≡ 0 → 0 < e.id → AreLinked es xs n
+    → AreLinked (es ++ e ∷ []) xs n
+linked_entry es e xs n none some linked = record {
   ranked = (
     linked.ranked.0,
     ranked_within es (es ++ e ∷ []) xs xs linked.ranked.0
-        (λ s there echo. let same = echo_in_end es e xs s none in record { from = there; to = sym (ap (λ (t : ℕ). streams.has xs t) same) ∙ echo; same = same }) linked.ranked.1,
+        (λ s there echo. let same = echo_in_end es e xs s none in record {
+          from = there;
+          to = sym (ap (λ (t : ℕ). streams.has xs t) same) ∙ echo;
+          same = same;
+        }) linked.ranked.1,
   );
-  echoes = echoes_end es e n linked.echoes (let some = linked.begun in omega (arith, none, some));
+  echoes = echoes_end es e n linked.echoes (let begun = linked.begun in omega (arith, none, begun));
   rises = linked.rises;
   first = linked.first;
+  windows = below_end entry_id es 0 e linked.windows some;
   begun = linked.begun;
 }
 
@@ -283,75 +376,112 @@ absent_echo es n win above le =
     ] in
     ap (λ (e : Entry). e.echo) (at_absent entry_id no_entry es win gone)
 
-window_stream_none : (es : List Entry) (win : ℕ) → (entry_at es win).echo ≡ 0 → (if win == 0 then 0 else (entry_at es win).echo) ≡ 0
-window_stream_none es win none = elim (win == 0) as (λ b. (if b then 0 else (entry_at es win).echo) ≡ 0) [ true ↦ refl | false ↦ none ]
+window_stream_none : (es : List Entry) (win : ℕ) → (entry_at es win).echo ≡ 0
+    → (if win == 0 then 0 else (entry_at es win).echo) ≡ 0
+window_stream_none es win none = elim (win == 0) as (λ b. (if b then 0 else (entry_at es win).echo) ≡ 0) [
+  | true ↦ refl
+  | false ↦ none
+]
 
-linked_first : (es : List Entry) (xs : List Stream) (kind rock n : ℕ) → IsAbove entry_id es n → IsAbove streams.id_of xs n → AreLinked es xs n
+linked_first : (es : List Entry) (xs : List Stream) (kind rock n : ℕ) → IsAbove entry_id es n
+    → IsAbove streams.id_of xs n → AreLinked es xs n
     → AreLinked (es ++ new_entry n kind rock ∷ []) (xs ++ window_stream n ∷ []) (n + 1 + 1)
 unfolding one.opened
 linked_first es xs kind rock n new above linked =
     let es1 = es ++ new_entry n kind rock ∷ [] in
-    let none : (entry_at es1 n).echo ≡ 0 = entry_end_echo es (new_entry n kind rock) n refl ∙ absent_echo es n n new (omega arith) in
-    linked_stream es1 xs (window_stream n) n (linked_entry es (new_entry n kind rock) xs n refl linked) above (omega arith) (window_stream_none es1 n none)
+    let none : (entry_at es1 n).echo ≡ 0 =
+    entry_end_echo es (new_entry n kind rock) n refl ∙ absent_echo es n n new (omega arith) in
+    linked_stream es1 xs (window_stream n) n
+    (linked_entry es (new_entry n kind rock) xs n refl linked.begun linked) above (omega arith)
+    (window_stream_none es1 n none)
 
-linked_pair : (es : List Entry) (xs : List Stream) (kind rock n : ℕ) → IsAbove entry_id es n → IsAbove streams.id_of xs n → AreLinked es xs n
-    → AreLinked ((es ++ new_entry n kind rock ∷ []) ++ new_entry (n + 2) pair_window 0 ∷ []) ((xs ++ window_stream n ∷ []) ++ window_stream (n + 2) ∷ []) (n + 3 + 1)
+linked_pair : (es : List Entry) (xs : List Stream) (kind rock n : ℕ) → IsAbove entry_id es n
+    → IsAbove streams.id_of xs n → AreLinked es xs n
+    → AreLinked ((es ++ new_entry n kind rock ∷ []) ++ new_entry (n + 2) pair_window 0 ∷ [])
+    ((xs ++ window_stream n ∷ []) ++ window_stream (n + 2) ∷ []) (n + 3 + 1)
 unfolding one.opened
 linked_pair es xs kind rock n new above linked =
     let es1 = es ++ new_entry n kind rock ∷ [] in
     let es2 = es1 ++ new_entry (n + 2) pair_window 0 ∷ [] in
     let xs1 = xs ++ window_stream n ∷ [] in
     let first = linked_first es xs kind rock n new above linked in
-    let more = linked_entry es1 (new_entry (n + 2) pair_window 0) xs1 (n + 1 + 1) refl first in
-    let above1 : IsAbove streams.id_of xs1 (n + 1 + 1) = above_end streams.id_of xs (window_stream n) (n + 1 + 1) (above_more streams.id_of xs n (n + 1 + 1) above (omega arith)) (omega arith) in
+    let more = linked_entry es1 (new_entry (n + 2) pair_window 0) xs1 (n + 1 + 1) refl (omega arith) first in
+    let above1 : IsAbove streams.id_of xs1 (n + 1 + 1) =
+    above_end streams.id_of xs (window_stream n) (n + 1 + 1)
+    (above_more streams.id_of xs n (n + 1 + 1) above (omega arith)) (omega arith) in
     let none : (entry_at es2 (n + 2)).echo ≡ 0 =
-    entry_end_echo es1 (new_entry (n + 2) pair_window 0) (n + 2) refl ∙ entry_end_echo es (new_entry n kind rock) (n + 2) refl ∙ absent_echo es n (n + 2) new (omega arith) in
-    let result : AreLinked es2 (xs1 ++ window_stream (n + 2) ∷ []) (n + 2 + 1 + 1) = linked_stream es2 xs1 (window_stream (n + 2)) (n + 1 + 1) more above1 (omega arith) (window_stream_none es2 (n + 2) none) in
+    entry_end_echo es1 (new_entry (n + 2) pair_window 0) (n + 2) refl
+    ∙ entry_end_echo es (new_entry n kind rock) (n + 2) refl ∙ absent_echo es n (n + 2) new (omega arith) in
+    let result : AreLinked es2 (xs1 ++ window_stream (n + 2) ∷ []) (n + 2 + 1 + 1) =
+    linked_stream es2 xs1 (window_stream (n + 2)) (n + 1 + 1) more above1 (omega arith)
+    (window_stream_none es2 (n + 2) none) in
     let same : n + 3 + 1 ≡ n + 2 + 1 + 1 = omega arith in
     rw same result
 
-pub linked_opened : (f : FlatWindows) (xs : List Stream) (split method size kind rock n : ℕ) → IsNewId f n → IsAbove streams.id_of xs n → AreLinked f.entries xs n
+pub linked_opened : (f : FlatWindows) (xs : List Stream) (split method size kind rock n : ℕ) → IsNewId f n
+    → IsAbove streams.id_of xs n → AreLinked f.entries xs n
     → AreLinked (added f split method size kind rock n).entries (with_streams xs split n) (last_given split n + 1)
 unfolding added
 linked_opened f xs split method size kind rock n new above linked = elim (split == 0) as (λ b.
-    AreLinked (fitted (if b then rooted f kind rock n else split_by f split method size kind rock n)).entries (if b then xs ++ window_stream n ∷ [] else (xs ++ window_stream n ∷ []) ++ window_stream (n + 2) ∷ []) ((if b then n + 1 else n + 3) + 1)) [
+    AreLinked (fitted (if b then rooted f kind rock n else split_by f split method size kind rock n)).entries
+    (if b then xs ++ window_stream n ∷ [] else (xs ++ window_stream n ∷ []) ++ window_stream (n + 2) ∷ [])
+    ((if b then n + 1 else n + 3) + 1)) [
       | true ↦ linked_first f.entries xs kind rock n new.entries above linked
       | false ↦ linked_pair f.entries xs kind rock n new.entries above linked
     ]
 
-pub linked_left : (f : FlatWindows) (xs : List Stream) (win n : ℕ) (wins : List ℕ) → AreLinked f.entries xs n → AreLinked (closed f win).entries (streams.without_windows xs wins) n
+pub linked_left : (f : FlatWindows) (xs : List Stream) (win n : ℕ) (wins : List ℕ) → AreLinked f.entries xs n
+    → AreLinked (closed f win).entries (streams.without_windows xs wins) n
 unfolding closed without_ids
-linked_left f xs win n wins linked = linked_closed f.entries xs (map stream_id (chosen (leaving f.tree win) f.entries)) (leaving f.tree win) wins n linked
+linked_left f xs win n wins linked =
+    linked_closed f.entries xs (map stream_id (chosen (leaving f.tree win) f.entries))
+    (leaving f.tree win) wins n linked
 
 pub linked_none : (n : ℕ) → 0 < n → AreLinked [] [] n
-linked_none n some = record { ranked = (λ s. 0, record { falls = λ s there echo. absurd (cc) }); echoes = tt; rises = tt; first = tt; begun = some }
+linked_none n some = record {
+  ranked = (λ s. 0, record { falls = λ s there echo. absurd (cc) });
+  echoes = tt;
+  rises = tt;
+  first = tt;
+  windows = tt;
+  begun = some;
+}
 
 -- a stream of memory or of a file is new
-pub linked_own : (es : List Entry) (xs : List Stream) (id mode rock : ℕ) (kind : StreamKind) → AreLinked es xs id → IsAbove streams.id_of xs id → one.window_in kind ≡ 0 → AreLinked es (xs ++ one.opened id kind mode rock ∷ []) (id + 1)
+pub linked_own : (es : List Entry) (xs : List Stream) (id mode rock : ℕ) (kind : StreamKind) → AreLinked es xs id
+    → IsAbove streams.id_of xs id → one.window_in kind ≡ 0
+    → AreLinked es (xs ++ one.opened id kind mode rock ∷ []) (id + 1)
 unfolding one.opened
-linked_own es xs id mode rock kind linked above own = linked_stream es xs (one.opened id kind mode rock) id linked above (omega arith) (rw own refl)
+linked_own es xs id mode rock kind linked above own =
+    linked_stream es xs (one.opened id kind mode rock) id linked above (omega arith) (rw own refl)
 
 -- a stream is put to, read from, or moved in
-module _ (es : List Entry) (xs : List Stream) (s n : ℕ) (there : streams.has xs s ≡ true) (linked : AreLinked es xs n) where
+module _ (es : List Entry) (xs : List Stream) (s n : ℕ) (there : streams.has xs s ≡ true)
+    (linked : AreLinked es xs n) where
   found_id : (streams.stream xs s).id ≡ s
   found_id = id_at streams.id_of streams.no_stream xs s there
 
-  linked_same : (new : Stream) → new.id ≡ (streams.stream xs s).id → one.window_of new ≡ one.window_of (streams.stream xs s) → AreLinked es (streams.with_stream xs new) n
+  linked_same : (new : Stream) → new.id ≡ (streams.stream xs s).id
+      → one.window_of new ≡ one.window_of (streams.stream xs s) → AreLinked es (streams.with_stream xs new) n
   linked_same new same window =
       let id : new.id ≡ s = same ∙ found_id in
       linked_with es xs new n (rw id there) (rw id window) linked
 
   pub linked_put : (c : ℕ) → AreLinked es (streams.with_stream xs (one.after_put (streams.stream xs s) c)) n
-  linked_put c = linked_same (one.after_put (streams.stream xs s) c) (put_id (streams.stream xs s) c) (put_window (streams.stream xs s) c)
+  linked_put c = linked_same (one.after_put (streams.stream xs s) c) (put_id (streams.stream xs s) c)
+      (put_window (streams.stream xs s) c)
 
   pub linked_puts : (cs : List ℕ) → AreLinked es (streams.with_stream xs (one.after_puts (streams.stream xs s) cs)) n
-  linked_puts cs = linked_same (one.after_puts (streams.stream xs s) cs) (puts_id (streams.stream xs s) cs) (puts_window (streams.stream xs s) cs)
+  linked_puts cs = linked_same (one.after_puts (streams.stream xs s) cs) (puts_id (streams.stream xs s) cs)
+      (puts_window (streams.stream xs s) cs)
 
-  pub linked_get : (got : Option (ℕ × ℕ)) → AreLinked es (streams.with_stream xs (one.after_get (streams.stream xs s) got)) n
+  pub linked_get : (got : Option (ℕ × ℕ))
+      → AreLinked es (streams.with_stream xs (one.after_get (streams.stream xs s) got)) n
   linked_get None = linked_same (streams.stream xs s) refl refl
   linked_get (Some got) = linked_same (one.after_get (streams.stream xs s) (Some got)) refl refl
 
-  pub linked_passed : (position count : ℕ) → AreLinked es (streams.with_stream xs (one.passed (streams.stream xs s) position count)) n
+  pub linked_passed : (position count : ℕ)
+      → AreLinked es (streams.with_stream xs (one.passed (streams.stream xs s) position count)) n
   linked_passed position count = linked_same (one.passed (streams.stream xs s) position count) refl refl
 
   moved_id : (pos seek : ℕ) → (one.moved (streams.stream xs s) pos seek).id ≡ (streams.stream xs s).id
@@ -363,11 +493,17 @@ module _ (es : List Entry) (xs : List Stream) (s n : ℕ) (there : streams.has x
   moved_kind pos seek = grind (arith, nat_tests)
 
   pub linked_moved : (pos seek : ℕ) → AreLinked es (streams.with_stream xs (one.moved (streams.stream xs s) pos seek)) n
-  linked_moved pos seek = linked_same (one.moved (streams.stream xs s) pos seek) (moved_id pos seek) (ap one.window_in (moved_kind pos seek))
+  linked_moved pos seek = linked_same (one.moved (streams.stream xs s) pos seek) (moved_id pos seek)
+      (ap one.window_in (moved_kind pos seek))
 
 -- what changes grids alone keeps the list of windows
 entries_with : (f : FlatWindows) (win : ℕ) (g : Grid) → (with_grid_of f win g).entries ≡ f.entries
-entries_with f win g = elim (has_grid f win) as (λ b. (if b then record f { grids = objects.with grids.grid_id f.grids g } else f).entries ≡ f.entries) [ true ↦ refl | false ↦ refl ]
+entries_with f win g =
+    elim (has_grid f win) as
+    (λ b. (if b then record f { grids = objects.with grids.grid_id f.grids g } else f).entries ≡ f.entries) [
+      | true ↦ refl
+      | false ↦ refl
+    ]
 
 pub entries_cleared : (f : FlatWindows) (win : ℕ) → (cleared_in f win).entries ≡ f.entries
 unfolding cleared_in
@@ -379,9 +515,18 @@ entries_moved f win x y = entries_with f win (grids.moved (grid_at f.grids win) 
 
 entries_arranged : (f : FlatWindows) (win method size key : ℕ) → (arranged f win method size key).entries ≡ f.entries
 unfolding arranged
-entries_arranged f win method size key = elim (allows f win method key) as (λ b. (if b then fitted (record f { tree = arranged_tree f win method size key }) else f).entries ≡ f.entries) [ true ↦ refl | false ↦ refl ]
+entries_arranged f win method size key =
+    elim (allows f win method key) as
+    (λ b. (if b then fitted (record f { tree = arranged_tree f win method size key }) else f).entries ≡ f.entries) [
+      | true ↦ refl
+      | false ↦ refl
+    ]
 
-pub linked_arranged : {A E : Type 0} (r : Result A E) (f now left : FlatWindows) (xs : List Stream) (win method size key n : ℕ) → AreLinked f.entries xs n
-    → OnOk r (now ≡ arranged f win method size key) → OnOk r (left ≡ now) → OnErr r (left ≡ no_windows 1 1) → AreLinked left.entries xs n
-linked_arranged (Ok x) f now left xs win method size key n linked made kept lost = rw (kept, made, entries_arranged f win method size key) linked
-linked_arranged (Err e) f now left xs win method size key n linked made kept lost = rw lost (linked_no_windows f.entries xs n linked)
+pub linked_arranged : {A E : Type 0} (r : Result A E) (f now left : FlatWindows) (xs : List Stream)
+    (win method size key n : ℕ) → AreLinked f.entries xs n
+    → OnOk r (now ≡ arranged f win method size key) → OnOk r (left ≡ now) → OnErr r (left ≡ no_windows 1 1)
+    → AreLinked left.entries xs n
+linked_arranged (Ok x) f now left xs win method size key n linked made kept lost =
+    rw (kept, made, entries_arranged f win method size key) linked
+linked_arranged (Err e) f now left xs win method size key n linked made kept lost =
+    rw lost (linked_no_windows f.entries xs n linked)

@@ -6,19 +6,23 @@ use Rattle.glk_events.specs.Requests as requests
 use Rattle.glk_screen.specs.Texts.{FlatText, screen_gone}
 use Rattle.glk_world.specs.Calls.{without_requests, without_texts}
 
-pub drop_none : (all : List Request) (gone : List ℕ) (n : ℕ) → length gone ≤ n → without_requests all (drop n gone) ≡ all
+pub drop_none : (all : List Request) (gone : List ℕ) (n : ℕ) → length gone ≤ n
+    → without_requests all (drop n gone) ≡ all
 unfolding without_requests
 drop_none all gone n past = let none : drop n gone ≡ [] = grind (arith, common_steps) in rw none refl
 
-pub drop_more : (all : List Request) (gone : List ℕ) (i d : ℕ) → i < length gone → without_requests (requests.removed all (get_or gone i d)) (drop (i + 1) gone) ≡ without_requests all (drop i gone)
+pub drop_more : (all : List Request) (gone : List ℕ) (i d : ℕ) → i < length gone
+    → without_requests (requests.removed all (get_or gone i d)) (drop (i + 1) gone) ≡ without_requests all (drop i gone)
 unfolding without_requests
 drop_more all gone i d within = let e : i + 1 ≡ suc i = omega arith in rw (e, drop-cons gone i d) refl
 
-pub texts_none : (texts : List FlatText) (gone : List ℕ) (n : ℕ) → length gone ≤ n → without_texts texts (drop n gone) ≡ texts
+pub texts_none : (texts : List FlatText) (gone : List ℕ) (n : ℕ) → length gone ≤ n
+    → without_texts texts (drop n gone) ≡ texts
 unfolding without_texts
 texts_none texts gone n past = let none : drop n gone ≡ [] = grind (arith, common_steps) in rw none refl
 
-pub texts_more : (texts : List FlatText) (gone : List ℕ) (i d : ℕ) → i < length gone → without_texts (screen_gone texts (get_or gone i d)) (drop (i + 1) gone) ≡ without_texts texts (drop i gone)
+pub texts_more : (texts : List FlatText) (gone : List ℕ) (i d : ℕ) → i < length gone
+    → without_texts (screen_gone texts (get_or gone i d)) (drop (i + 1) gone) ≡ without_texts texts (drop i gone)
 unfolding without_texts
 texts_more texts gone i d within = let e : i + 1 ≡ suc i = omega arith in rw (e, drop-cons gone i d) refl
 

@@ -146,4 +146,6 @@ passed w id position count =
 
 unfoldable pub after_get : Scene → ℕ → ℕ → Scene
 after_get w id found =
-    record w { streams = streams.with_stream w.streams (one.after_get (streams.stream w.streams id) (got_from w id found)) }
+    record w {
+      streams = streams.with_stream w.streams (one.after_get (streams.stream w.streams id) (got_from w id found));
+    }

@@ -1,7 +1,7 @@
 -- What contracts see of a world, and what holds of its fields.
 use Rattle.std.specs.Prelude.{string_bytes, Option, Some, None}
 use Rattle.std.specs.Option.{option_map}
-use Rattle.glk_objects.specs.Objects.{Rises, IsAbove}
+use Rattle.glk_objects.specs.Objects.{Rises, IsAbove, IsBelow}
 use Rattle.glk_streams.specs.Streams as streams
 use Rattle.glk_windows.specs.Windows.{IsNewId}
 use Rattle.glk_world.specs.declared.world.World.TheInside.{Inside}
@@ -36,10 +36,12 @@ flat_of w = record {
   text = string_bytes w.text;
 }
 
--- The next identifier is above all that were given, and no chain of echo streams comes back to where it was.
+-- The next identifier is above all that were given, none of them is 0, and no chain of echo streams comes back to where
+-- it was.
 pub record IsKept (w : Inside) : Type 0 where
   pub windows : IsNewId w.windows w.next_id
   pub streams : IsAbove streams.id_of w.streams w.next_id
   pub references : Rises reference_id w.references.items
   pub above : IsAbove reference_id w.references.items w.next_id
+  pub first : IsBelow reference_id w.references.items 0
   pub links : AreLinked w.windows.entries w.streams w.next_id

@@ -1,5 +1,6 @@
 -- A character is put to a stream (Glk 0.7.5, "Streams" and "Echo Streams").
-use Rattle.std.specs.Prelude.{ℕ, zero, suc, ◌==◌, ◌&&◌, ◌||◌, not, if◌then◌else◌, Bool, false, List, [], ◌∷◌, length, encode_utf8}
+use Rattle.std.specs.Prelude.{ℕ, zero, suc, ◌==◌, ◌&&◌, ◌||◌, not, if◌then◌else◌, Bool, false, List, [], ◌∷◌, length}
+use Rattle.std.specs.Prelude.{encode_utf8}
 use Rattle.gx_words.specs.Constants.{line_feed}
 use Rattle.glk_text.specs.Characters.{shown}
 use Rattle.glk_streams.specs.declared.kinds.Places.{Places}
@@ -80,13 +81,15 @@ is_plain_text w stream =
 -- putting to one stream adds text, or makes a file longer
 abbrev pub stream_grows : Scene → ℕ → ℕ → Bool
 stream_grows w stream c =
-    if window_of w stream == 0 then one.lengthens (streams.stream w.streams stream).kind (streams.stream w.streams stream) c else
+    if window_of w stream == 0
+    then one.lengthens (streams.stream w.streams stream).kind (streams.stream w.streams stream) c else
     is_text w stream
 
 unfoldable pub grows_along : ℕ → Scene → ℕ → ℕ → Bool
 grows_along zero w stream c = false
 grows_along (suc n) w stream c =
-    streams.has w.streams stream && (stream_grows w stream c || grows_along n (stream_put w stream c).0 (echo_of w stream) c)
+    streams.has w.streams stream
+    && (stream_grows w stream c || grows_along n (stream_put w stream c).0 (echo_of w stream) c)
 
 -- the same for one of the streams to which a character goes
 abbrev pub put_grows : Scene → ℕ → ℕ → Bool

@@ -1,5 +1,6 @@
 -- The text beside that of buffer windows: grids, prompts and lines that were taken; or the composed screen.
-use Rattle.std.specs.Prelude.{◌≢◌, ℕ, ◌+◌, ◌==◌, ◌&&◌, not, if◌then◌else◌, Bool, true, false, List, [], ◌∷◌, ◌++◌, length, map, take, codes, Option, Some, None}
+use Rattle.std.specs.Prelude.{◌≢◌, ℕ, ◌+◌, ◌==◌, ◌&&◌, not, if◌then◌else◌, Bool, true, false, List, [], ◌∷◌, ◌++◌}
+use Rattle.std.specs.Prelude.{length, map, take, codes, Option, Some, None}
 use Rattle.std.specs.Cmp.Lexicographic.{pointwise}
 use Rattle.std.specs.Str.{encode_utf8_all}
 use Rattle.glk_objects.specs.Objects as objects
@@ -84,8 +85,10 @@ is_prompting (Some call) = call.selector == prompt_selector
 
 -- the screen at a wait, and behind it the words of a prompt that waits
 unfoldable pub show_screen : Scene → Said
-show_screen w =
-    (record w { last_screen = Some (screen_of w) }, screen_of w ++ (if is_prompting w.waiting then prompt_words else []))
+show_screen w = (
+  record w { last_screen = Some (screen_of w) },
+  screen_of w ++ (if is_prompting w.waiting then prompt_words else []),
+)
 
 -- a screen is the one that was shown last
 abbrev pub is_last : Option (List ℕ) → List ℕ → Bool

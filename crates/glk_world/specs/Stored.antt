@@ -56,29 +56,50 @@ kind_back (kinds.File name content form) = refl
 
 abbrev pub kind_code : Coded StreamKind
 kind_code =
-    code_by Kind (coded⊎ coded_ℕ (coded⊎ (coded× coded_ℕ (coded× coded_ℕ coded_bool)) (coded× (coded_list coded_ℕ) (coded× (coded_list coded_ℕ) form_code)))) kind_parts kind_of kind_back
+    code_by Kind (coded⊎ coded_ℕ (coded⊎ (coded× coded_ℕ (coded× coded_ℕ coded_bool))
+    (coded× (coded_list coded_ℕ) (coded× (coded_list coded_ℕ) form_code)))) kind_parts kind_of kind_back
 
 abbrev pub stream_code : Coded Stream
 stream_code =
-    code_by (ℕ × (StreamKind × (ℕ × (ℕ × (ℕ × (ℕ × (ℕ × ℕ))))))) (coded× coded_ℕ (coded× kind_code (coded× coded_ℕ (coded× coded_ℕ (coded× coded_ℕ (coded× coded_ℕ (coded× coded_ℕ coded_ℕ))))))) (λ s. (s.id, (s.kind, (s.mode, (s.rock, (s.position, (s.highest, (s.read, s.written)))))))) (λ p. record { id = p.0; kind = p.1.0; mode = p.1.1.0; rock = p.1.1.1.0; position = p.1.1.1.1.0; highest = p.1.1.1.1.1.0; read = p.1.1.1.1.1.1.0; written = p.1.1.1.1.1.1.1 }) (λ _. refl)
+    code_by (ℕ × (StreamKind × (ℕ × (ℕ × (ℕ × (ℕ × (ℕ × ℕ)))))))
+    (coded× coded_ℕ (coded× kind_code
+    (coded× coded_ℕ (coded× coded_ℕ (coded× coded_ℕ (coded× coded_ℕ (coded× coded_ℕ coded_ℕ)))))))
+    (λ s. (s.id, (s.kind, (s.mode, (s.rock, (s.position, (s.highest, (s.read, s.written))))))))
+    (λ p. record {
+      id = p.0;
+      kind = p.1.0;
+      mode = p.1.1.0;
+      rock = p.1.1.1.0;
+      position = p.1.1.1.1.0;
+      highest = p.1.1.1.1.1.0;
+      read = p.1.1.1.1.1.1.0;
+      written = p.1.1.1.1.1.1.1;
+    }) (λ _. refl)
 
 -- ---- grids as shown, file references, requests, calls
 
 abbrev pub shown_code : Coded ShownGrid
 shown_code =
-    code_by (ℕ × List (List ℕ)) (coded× coded_ℕ (coded_list (coded_list coded_ℕ))) (λ g. (g.id, g.rows)) (λ p. record { id = p.0; rows = p.1 }) (λ _. refl)
+    code_by (ℕ × List (List ℕ)) (coded× coded_ℕ (coded_list (coded_list coded_ℕ))) (λ g. (g.id, g.rows))
+    (λ p. record { id = p.0; rows = p.1 }) (λ _. refl)
 
 abbrev pub reference_code : Coded FileReference
 reference_code =
-    code_by (ℕ × (List ℕ × (ℕ × ℕ))) (coded× coded_ℕ (coded× (coded_list coded_ℕ) (coded× coded_ℕ coded_ℕ))) (λ r. (r.id, (r.base, (r.usage, r.rock)))) (λ p. record { id = p.0; base = p.1.0; usage = p.1.1.0; rock = p.1.1.1 }) (λ _. refl)
+    code_by (ℕ × (List ℕ × (ℕ × ℕ))) (coded× coded_ℕ (coded× (coded_list coded_ℕ) (coded× coded_ℕ coded_ℕ)))
+    (λ r. (r.id, (r.base, (r.usage, r.rock))))
+    (λ p. record { id = p.0; base = p.1.0; usage = p.1.1.0; rock = p.1.1.1 }) (λ _. refl)
 
 abbrev pub request_code : Coded Request
 request_code =
-    code_by (ℕ × (Bool × (Bool × (ℕ × ℕ)))) (coded× coded_ℕ (coded× coded_bool (coded× coded_bool (coded× coded_ℕ coded_ℕ)))) (λ r. (r.win, (r.line, (r.wide, (r.buf, r.max))))) (λ p. record { win = p.0; line = p.1.0; wide = p.1.1.0; buf = p.1.1.1.0; max = p.1.1.1.1 }) (λ _. refl)
+    code_by (ℕ × (Bool × (Bool × (ℕ × ℕ))))
+    (coded× coded_ℕ (coded× coded_bool (coded× coded_bool (coded× coded_ℕ coded_ℕ))))
+    (λ r. (r.win, (r.line, (r.wide, (r.buf, r.max)))))
+    (λ p. record { win = p.0; line = p.1.0; wide = p.1.1.0; buf = p.1.1.1.0; max = p.1.1.1.1 }) (λ _. refl)
 
 abbrev pub call_code : Coded Call
 call_code =
-    code_by (ℕ × List ℕ) (coded× coded_ℕ (coded_list coded_ℕ)) (λ c. (c.selector, c.arguments)) (λ p. record { selector = p.0; arguments = p.1 }) (λ _. refl)
+    code_by (ℕ × List ℕ) (coded× coded_ℕ (coded_list coded_ℕ)) (λ c. (c.selector, c.arguments))
+    (λ p. record { selector = p.0; arguments = p.1 }) (λ _. refl)
 
 -- ---- the world
 
@@ -100,8 +121,51 @@ view_code = code_by ℕ coded_ℕ view_number view_of view_back
 
 abbrev pub scene_code : Coded Scene
 scene_code =
-    code_by (FlatWindows × (View × (List ShownGrid × (List FlatText × (Option (List ℕ) × (List Stream × (List FileReference × (List Request × (ℕ × (ℕ × (Bool × Option Call))))))))))) (coded× windows_code (coded× view_code (coded× (coded_list shown_code) (coded× screen_code (coded× (coded_option (coded_list coded_ℕ)) (coded× (coded_list stream_code) (coded× (coded_list reference_code) (coded× (coded_list request_code) (coded× coded_ℕ (coded× coded_ℕ (coded× coded_bool (coded_option call_code)))))))))))) (λ w. (w.windows, (w.view, (w.shown, (w.screen, (w.last_screen, (w.streams, (w.references, (w.requests, (w.current, (w.next_id, (w.fresh, w.waiting)))))))))))) (λ p. record { windows = p.0; view = p.1.0; shown = p.1.1.0; screen = p.1.1.1.0; last_screen = p.1.1.1.1.0; streams = p.1.1.1.1.1.0; references = p.1.1.1.1.1.1.0; requests = p.1.1.1.1.1.1.1.0; current = p.1.1.1.1.1.1.1.1.0; next_id = p.1.1.1.1.1.1.1.1.1.0; fresh = p.1.1.1.1.1.1.1.1.1.1.0; waiting = p.1.1.1.1.1.1.1.1.1.1.1 }) (λ _. refl)
+    code_by (FlatWindows × (View × (List ShownGrid ×
+    (List FlatText × (Option (List ℕ) ×
+    (List Stream × (List FileReference × (List Request × (ℕ × (ℕ × (Bool × Option Call)))))))))))
+    (coded× windows_code (coded× view_code
+    (coded× (coded_list shown_code)
+    (coded× screen_code (coded× (coded_option (coded_list coded_ℕ))
+    (coded× (coded_list stream_code)
+    (coded× (coded_list reference_code)
+    (coded× (coded_list request_code)
+    (coded× coded_ℕ (coded× coded_ℕ (coded× coded_bool (coded_option call_code))))))))))))
+    (λ w. (
+      w.windows,
+      (
+        w.view,
+        (
+          w.shown,
+          (
+            w.screen,
+            (
+              w.last_screen,
+              (
+                w.streams,
+                (w.references, (w.requests, (w.current, (w.next_id, (w.fresh, w.waiting))))),
+              ),
+            ),
+          ),
+        ),
+      ),
+    ))
+    (λ p. record {
+      windows = p.0;
+      view = p.1.0;
+      shown = p.1.1.0;
+      screen = p.1.1.1.0;
+      last_screen = p.1.1.1.1.0;
+      streams = p.1.1.1.1.1.0;
+      references = p.1.1.1.1.1.1.0;
+      requests = p.1.1.1.1.1.1.1.0;
+      current = p.1.1.1.1.1.1.1.1.0;
+      next_id = p.1.1.1.1.1.1.1.1.1.0;
+      fresh = p.1.1.1.1.1.1.1.1.1.1.0;
+      waiting = p.1.1.1.1.1.1.1.1.1.1.1;
+    }) (λ _. refl)
 
 abbrev pub world_code : Coded FlatWorld
 world_code =
-    code_by (Scene × List ℕ) (coded× scene_code (coded_list coded_ℕ)) (λ w. (w.scene, w.text)) (λ p. record { scene = p.0; text = p.1 }) (λ _. refl)
+    code_by (Scene × List ℕ) (coded× scene_code (coded_list coded_ℕ)) (λ w. (w.scene, w.text))
+    (λ p. record { scene = p.0; text = p.1 }) (λ _. refl)

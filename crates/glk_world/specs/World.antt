@@ -1,5 +1,6 @@
 -- The Glk world (Glk 0.7.5): all that its calls look at, and the text that is shown.
-use Rattle.std.specs.Prelude.{ℕ, List, [], ◌++◌, ◌∷◌, slice_index, Bool, true, false, Option, Some, None, Result, Ok, Err}
+use Rattle.std.specs.Prelude.{ℕ, List, [], ◌++◌, ◌∷◌, slice_index, Bool, true, false, Option, Some, None, Result, Ok}
+use Rattle.std.specs.Prelude.{Err}
 use Rattle.gx_words.specs.declared.faults.Fault.{Fault}
 use Rattle.gx_words.specs.Faults.{MayLose}
 use Rattle.glk_objects.specs.Objects as objects

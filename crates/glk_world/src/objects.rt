@@ -10,7 +10,10 @@ ghost use Rattle.glk_windows.specs.Changes.{arranging_grows};
 ghost use Rattle.glk_events.specs.Requests as requests;
 ghost use Rattle.glk_world.specs.World.{after, silent, has_reference, reference_id};
 ghost use Rattle.glk_world.specs.Shown.{line_taken};
-ghost use Rattle.glk_world.specs.Calls.{is_identifier, new_id, with_reference, without_reference, can_open, opened_id, with_streams, window_stream, with_window, unless_gone, without_requests, without_texts, window_counts, without_window, arranged, cleared, moved, with_stream, without_stream, sought};
+ghost use Rattle.glk_world.specs.Calls.{is_identifier, new_id, with_reference, without_reference, can_open, opened_id};
+ghost use Rattle.glk_world.specs.Calls.{with_streams, window_stream, with_window, unless_gone, without_requests};
+ghost use Rattle.glk_world.specs.Calls.{without_texts, window_counts, without_window, arranged, cleared, moved};
+ghost use Rattle.glk_world.specs.Calls.{with_stream, without_stream, sought};
 
 use crate::{FileReference, LAST_IDENTIFIER, World};
 use glk_events::{Request, Requests};
@@ -64,7 +67,8 @@ impl World {
         rock: u32,
     ) -> Result<u32, AllocError>
         requires { split ≡ 0 ⊎ IsTrue (windows.is_window self.old.scene.windows split) }
-        ensures new { OnOk result (self.new ≡ after self.old (silent (with_window self.old.scene split method size kind rock))) }
+        ensures new { OnOk result
+            (self.new ≡ after self.old (silent (with_window self.old.scene split method size kind rock))) }
         ensures value { IfOk result (λ id. id ≡ opened_id self.old.scene split method kind) }
         ensures memory { OnErr result (IsTrue (can_open self.old.scene split method kind)) }
     {
@@ -81,7 +85,8 @@ impl World {
         Ok(id)
     }
 
-    /// Closes a window, with all windows below it and their pair; answers the counts of its stream.
+    /// Closes a window, with all windows below it and their pair; answers the counts of its stream. What goes is
+    /// listed, so that memory may always be wanted.
     #[tactic(auto, using(crate::proofs::Kept::windows_kept, crate::proofs::Kept::streams_kept), unfolding(crate::specs::Calls::without_window))]
     pub fn remove_window(&mut self, win: u32) -> Result<(u32, u32), AllocError>
         requires { IsTrue (windows.is_window self.old.scene.windows win) }
@@ -171,7 +176,8 @@ impl World {
     /// Makes a request of a window that has none.
     pub fn ask(&mut self, request: Request) -> Result<(), AllocError>
         requires { requests.of self.old.scene.requests request.win ≡ None }
-        ensures ok { OnOk result (self.new ≡ after self.old (silent (record self.old.scene { requests = requests.added self.old.scene.requests request }))) }
+        ensures ok { OnOk result (self.new ≡ after self.old (silent
+            (record self.old.scene { requests = requests.added self.old.scene.requests request }))) }
         ensures err { OnErr result (self.new ≡ self.old) }
     {
         self.requests.add(request)
@@ -179,7 +185,8 @@ impl World {
 
     /// Drops the request of a window; nothing changes where it has none.
     pub fn drop_request(&mut self, win: u32)
-        ensures { self.new ≡ after self.old (silent (record self.old.scene { requests = requests.removed self.old.scene.requests win })) }
+        ensures { self.new ≡ after self.old
+            (silent (record self.old.scene { requests = requests.removed self.old.scene.requests win })) }
     {
         self.requests.remove(win);
     }

@@ -1,5 +1,6 @@
 //! Characters that are put to streams and got from them (Glk 0.7.5, "Streams" and "Echo Streams").
-ghost use Rattle.std.specs.Prelude.{◌≡◌, ◌≢◌, ◌⊎◌, ℕ, ◌+◌, ◌≤◌, ◌<◌, ◌^◌, [], not, length, true, false, OnOk, OnErr, IfOk, MatchOption, IsTrue};
+ghost use Rattle.std.specs.Prelude.{◌≡◌, ◌≢◌, ◌⊎◌, ℕ, ◌+◌, ◌≤◌, ◌<◌, ◌^◌, [], not, length, true, false, OnOk, OnErr};
+ghost use Rattle.std.specs.Prelude.{IfOk, MatchOption, IsTrue};
 ghost use Rattle.glk_objects.specs.Objects.{place};
 ghost use Rattle.glk_streams.specs.Stream as one;
 ghost use Rattle.glk_streams.specs.Streams as streams;
@@ -7,7 +8,9 @@ ghost use Rattle.glk_windows.specs.Windows as windows;
 ghost use Rattle.glk_windows.specs.Windows.{entry_at};
 ghost use Rattle.glk_windows.specs.Constants.{text_buffer};
 ghost use Rattle.glk_world.specs.World.{after, silent};
-ghost use Rattle.glk_world.specs.Putting.{said_char, buffer_put, entry_of, is_text, window_of, window_put, stream_put, stream_grows, echo_of, put_along, put_of, puts, is_plain_text, grows_along, put_grows, end_along, end_of, places_of, places_read, leads_along, leads_to};
+ghost use Rattle.glk_world.specs.Putting.{said_char, buffer_put, entry_of, is_text, window_of, window_put, stream_put};
+ghost use Rattle.glk_world.specs.Putting.{stream_grows, echo_of, put_along, put_of, puts, is_plain_text, grows_along};
+ghost use Rattle.glk_world.specs.Putting.{put_grows, end_along, end_of, places_of, places_read, leads_along, leads_to};
 ghost use Rattle.glk_world.specs.Calls.{got_from, passed, after_get, with_echo};
 
 use crate::{View, World};
@@ -24,7 +27,8 @@ impl World {
         ensures memory { OnErr result (IsTrue (put_grows self.old.scene stream c)) }
 
         // No chain has more streams than there are, so that more turns would do the same.
-        ensures whole { (more : ℕ) → put_along (length self.old.scene.streams + more) self.old.scene stream c ≡ put_of self.old.scene stream c }
+        ensures whole { (more : ℕ) → put_along (length self.old.scene.streams + more) self.old.scene stream c
+            ≡ put_of self.old.scene stream c }
     {
         let streams = self.streams.len();
         self.put_along(streams, stream, c)
@@ -37,7 +41,8 @@ impl World {
         ensures other { IfOk result (λ put. IsTrue (not put) → self.new ≡ self.old) }
         ensures memory { OnErr result (IsTrue (is_plain_text self.old.scene stream)) }
         ensures grows { OnErr result (IsTrue (put_grows self.old.scene stream c)) }
-        ensures places { IsTrue (is_plain_text self.old.scene stream) → (count : ℕ) → (places_of self.old.scene stream count).count ≡ 0 }
+        ensures places { IsTrue (is_plain_text self.old.scene stream) → (count : ℕ)
+            → (places_of self.old.scene stream count).count ≡ 0 }
     {
         let Some((at, win)) = self.find_text(stream) else {
             return Ok(false);
@@ -64,8 +69,12 @@ impl World {
     /// Where the stream of a text buffer window stands that has no echo stream, and the window; None for any other
     /// stream.
     fn find_text(&self, stream: u32) -> Option<(usize, u32)>
-        ensures value { MatchOption result (is_plain_text self.now.scene stream ≡ false) (λ found. (is_plain_text self.now.scene stream ≡ true) × (found.0 ≡ place streams.id_of self.now.scene.streams stream) × (found.1 ≡ window_of self.now.scene stream)) }
-        ensures places { IsTrue (is_plain_text self.now.scene stream) → (count : ℕ) → (places_of self.now.scene stream count).count ≡ 0 }
+        ensures value { MatchOption result (is_plain_text self.now.scene stream ≡ false)
+            (λ found. (is_plain_text self.now.scene stream ≡ true)
+            × (found.0 ≡ place streams.id_of self.now.scene.streams stream)
+            × (found.1 ≡ window_of self.now.scene stream)) }
+        ensures places { IsTrue (is_plain_text self.now.scene stream) → (count : ℕ)
+            → (places_of self.now.scene stream count).count ≡ 0 }
     {
         let (at, win) = self.streams.find(stream)?;
         if win == 0 {
@@ -132,7 +141,8 @@ impl World {
 
     /// Puts bytes to a stream that takes them at once; says whether it did.
     fn put_at_once(&mut self, stream: u32, bytes: &[u8]) -> Result<bool, AllocError>
-        ensures put { IfOk result (λ put. IsTrue put → self.new ≡ after self.old (puts self.old.scene stream bytes.now)) }
+        ensures put { IfOk result
+            (λ put. IsTrue put → self.new ≡ after self.old (puts self.old.scene stream bytes.now)) }
         ensures other { IfOk result (λ put. IsTrue (not put) → self.new ≡ self.old) }
         ensures memory { OnErr result (bytes.now ≢ []) }
     {
@@ -189,7 +199,9 @@ impl World {
     /// Puts a character to a window, as it is shown.
     #[tactic(auto, using(crate::proofs::Kept::windows_kept), unfolding(crate::specs::Putting::window_put))]
     fn window_put(&mut self, win: u32, c: u32) -> Result<(), AllocError>
-        ensures ok { OnOk result (self.new ≡ after self.old (window_put self.old.scene (entry_at self.old.scene.windows.entries win) win c)) }
+        ensures ok { OnOk result
+            (self.new ≡ after self.old (window_put self.old.scene (entry_at self.old.scene.windows.entries win) win
+            c)) }
         ensures memory { OnErr result ((entry_at self.old.scene.windows.entries win).kind ≡ text_buffer) }
     {
         if self.windows.entry_at(win).kind == TEXT_BUFFER {
@@ -249,7 +261,8 @@ impl World {
         ensures count { result.count ≤ count }
 
         // A longer walk ends at the same stream.
-        ensures whole { (more : ℕ) → end_along (length self.now.scene.streams + more) self.now.scene stream ≡ end_of self.now.scene stream }
+        ensures whole { (more : ℕ)
+            → end_along (length self.now.scene.streams + more) self.now.scene stream ≡ end_of self.now.scene stream }
     {
         let last = self.end_along(self.streams.len(), stream);
         if self.streams.writable(last) {
@@ -315,7 +328,8 @@ impl World {
         ensures new { self.new ≡ after self.old (silent (with_echo self.old.scene win stream)) }
 
         // A longer walk comes to the window just the same.
-        ensures whole { (more : ℕ) → leads_along (length self.old.scene.streams + more) self.old.scene stream win ≡ leads_to self.old.scene stream win }
+        ensures whole { (more : ℕ) → leads_along (length self.old.scene.streams + more) self.old.scene stream win
+            ≡ leads_to self.old.scene stream win }
     {
         if !self.leads_along(self.streams.len(), stream, win) {
             self.windows.set_echo(win, stream);

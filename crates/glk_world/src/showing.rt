@@ -4,7 +4,8 @@ ghost use Rattle.std.specs.Option.{option_map};
 ghost use Rattle.std.specs.Str.{encode_utf8_all};
 ghost use Rattle.glk_text.specs.Characters.{shown};
 ghost use Rattle.glk_world.specs.World.{after, is_composed};
-ghost use Rattle.glk_world.specs.Shown.{said_row, said_rows, said_grid, said_grids, show_rows, screen_of, is_prompting, show_screen, is_last, end_text, show_grids, ShowWants, show_prompt, show_line};
+ghost use Rattle.glk_world.specs.Shown.{said_row, said_rows, said_grid, said_grids, show_rows, screen_of, is_prompting};
+ghost use Rattle.glk_world.specs.Shown.{show_screen, is_last, end_text, show_grids, ShowWants, show_prompt, show_line};
 
 use crate::grids::{shown_grids, was_shown};
 use crate::{ShownGrid, View, World};
@@ -163,7 +164,8 @@ impl World {
     /// Shows a line that was taken, unless the screen is composed.
     #[tactic(auto, using(crate::proofs::Texts::silences), unfolding(crate::specs::Shown::show_line))]
     pub fn show_line(&mut self, line: &Numbers) -> Result<(), AllocError>
-        ensures { OnOk result (self.new ≡ after self.old (show_line self.old.scene line.now)) }
+        ensures ok { OnOk result (self.new ≡ after self.old (show_line self.old.scene line.now)) }
+        ensures memory { OnErr result (IsTrue (not (is_composed self.old.scene))) }
     {
         if self.view == View::Screen {
             return Ok(());
@@ -186,7 +188,8 @@ fn is_last(last: &Option<String>, screen: &str) -> bool
 
 /// Adds characters as they are shown and a line feed.
 fn push_line(text: &mut String, chars: &[u32]) -> Result<(), AllocError>
-    ensures { OnOk result (string_bytes text.new ≡ string_bytes text.old ++ (encode_utf8_all (map shown chars.now) ++ 0x0A ∷ [])) }
+    ensures { OnOk result (string_bytes text.new ≡ string_bytes text.old ++
+        (encode_utf8_all (map shown chars.now) ++ 0x0A ∷ [])) }
 {
     push_shown(text, chars)?;
     text.push('\n')

@@ -1,8 +1,13 @@
 //! The world of a run, and what can be looked at.
-ghost use Rattle.std.specs.Prelude.{◌≡◌, ◌≢◌, ◌≤◌, [], IfOk, OnErr, MatchOption, None, true, false};
+ghost use Rattle.std.specs.Prelude.{ℕ, ◌≡◌, ◌≢◌, ◌≤◌, ◌+◌, [], length, map, IfOk, OnErr, MatchOption, None, true};
+ghost use Rattle.std.specs.Prelude.{false};
+ghost use Rattle.glk_objects.specs.Objects.{met_from};
 ghost use Rattle.glk_streams.specs.Streams as streams;
+ghost use Rattle.glk_windows.specs.Windows as windows;
+ghost use Rattle.glk_windows.specs.Windows.{entry_id};
 ghost use Rattle.glk_world.specs.declared.views.View.TheVariants as view;
-ghost use Rattle.glk_world.specs.World.{after, silent, empty_world, has_reference, reference_at, next_reference, arg, waits};
+ghost use Rattle.glk_world.specs.World.{after, silent, empty_world, has_reference, reference_at, reference_id};
+ghost use Rattle.glk_world.specs.World.{next_reference, arg, waits};
 ghost use Rattle.glk_world.specs.Kept.{call_of, waiting_of};
 
 use crate::{FileReference, ShownGrid, View};
@@ -118,7 +123,7 @@ impl World {
         }
     }
 
-    /// The allocator from which the world takes its memory.
+    /// The allocator from which the world takes its memory, which no contract sees; to ask for it takes none.
     pub fn alloc(&self) -> Global {
         self.alloc
     }
@@ -176,9 +181,34 @@ impl World {
         self.next_id
     }
 
-    /// The least identifier of a file reference above a number, 0 where there is none.
+    /// The least identifier of a window above a number, 0 where there is none.
+    pub fn next_window(&self, id: u32) -> u32
+        ensures value { result ≡ windows.next self.now.scene.windows id }
+        // Going on from one to the next meets each window once, in order of creation.
+        ensures each { (more : ℕ)
+            → met_from entry_id (length self.now.scene.windows.entries + more) self.now.scene.windows.entries 0
+            ≡ map entry_id self.now.scene.windows.entries }
+    {
+        self.windows.next(id)
+    }
+
+    /// The same of a stream.
+    pub fn next_stream(&self, id: u32) -> u32
+        ensures value { result ≡ streams.next self.now.scene.streams id }
+        ensures each { (more : ℕ)
+            → met_from streams.id_of (length self.now.scene.streams + more) self.now.scene.streams 0
+            ≡ map streams.id_of self.now.scene.streams }
+    {
+        self.streams.next(id)
+    }
+
+    /// The same of a file reference.
+    #[tactic(auto, using(glk_objects::proofs::Meeting::meets_each))]
     pub fn next_ref(&self, id: u32) -> u32
-        ensures { result ≡ next_reference self.now.scene id }
+        ensures value { result ≡ next_reference self.now.scene id }
+        ensures each { (more : ℕ)
+            → met_from reference_id (length self.now.scene.references + more) self.now.scene.references 0
+            ≡ map reference_id self.now.scene.references }
     {
         next(&self.references, id)
     }
@@ -186,7 +216,9 @@ impl World {
     /// The base name, the usage and the rock of a file reference; None where none has the identifier.
     #[tactic(auto, using(glk_objects::proofs::Places::places))]
     pub fn file_ref(&self, id: u32) -> Option<(&str, u32, u32)>
-        ensures { MatchOption result (has_reference self.now.scene id ≡ false) (λ r. (has_reference self.now.scene id ≡ true) × (record { id = id; base = r.0.now; usage = r.1; rock = r.2 } ≡ reference_at self.now.scene id)) }
+        ensures { MatchOption result (has_reference self.now.scene id ≡ false)
+            (λ r. (has_reference self.now.scene id ≡ true)
+            × (record { id = id; base = r.0.now; usage = r.1; rock = r.2 } ≡ reference_at self.now.scene id)) }
     {
         let at = place(&self.references, id);
         if at < self.references.len() {
@@ -199,7 +231,8 @@ impl World {
 
     /// The call that waits to go on.
     pub fn waiting(&self) -> Option<&Waiting>
-        ensures { MatchOption result (self.now.scene.waiting ≡ None) (λ call. self.now.scene.waiting ≡ Some (call_of call.now)) }
+        ensures { MatchOption result (self.now.scene.waiting ≡ None)
+            (λ call. self.now.scene.waiting ≡ Some (call_of call.now)) }
     {
         self.waiting.as_ref()
     }
@@ -242,7 +275,8 @@ impl World {
 
     /// The full name and the content of a file; None where no file stream has the identifier.
     pub fn file(&self, id: u32) -> Option<(&str, &[u8])>
-        ensures { MatchOption result (streams.file_of self.now.scene.streams id ≡ None) (λ file. streams.file_of self.now.scene.streams id ≡ Some (file.0.now, file.1.now)) }
+        ensures { MatchOption result (streams.file_of self.now.scene.streams id ≡ None)
+            (λ file. streams.file_of self.now.scene.streams id ≡ Some (file.0.now, file.1.now)) }
     {
         self.streams.file(id)
     }

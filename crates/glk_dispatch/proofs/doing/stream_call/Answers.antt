@@ -2,25 +2,32 @@
 use Rattle.glk_dispatch.proofs.doing.stream_call.Goals as goal
 
 pub returns-in_ok-stream_open_memory-in-67-clause-fits : goal.returns-in_ok-stream_open_memory-in-67-clause-fits
-returns-in_ok-stream_open_memory-in-67-clause-fits g c = c.in_ok-stream_open_memory-in-67.ensures.fits c.args.state.now.flat c.args.room
+returns-in_ok-stream_open_memory-in-67-clause-fits g c =
+    c.in_ok-stream_open_memory-in-67.ensures.fits c.args.state.now.flat c.args.room
 
 pub returns-in_ok-stream_set_position-in-69-clause-fits : goal.returns-in_ok-stream_set_position-in-69-clause-fits
-returns-in_ok-stream_set_position-in-69-clause-fits g c = c.in_ok-stream_set_position-in-69.ensures.fits c.args.state.now.flat c.args.room
+returns-in_ok-stream_set_position-in-69-clause-fits g c =
+    c.in_ok-stream_set_position-in-69.ensures.fits c.args.state.now.flat c.args.room
 
 pub returns-in_ok-stream_set_current-in-71-clause-fits : goal.returns-in_ok-stream_set_current-in-71-clause-fits
-returns-in_ok-stream_set_current-in-71-clause-fits g c = c.in_ok-stream_set_current-in-71.ensures.fits c.args.state.now.flat c.args.room
+returns-in_ok-stream_set_current-in-71-clause-fits g c =
+    c.in_ok-stream_set_current-in-71.ensures.fits c.args.state.now.flat c.args.room
 
 pub returns-in_ok-fileref_create_temp-in-96-clause-fits : goal.returns-in_ok-fileref_create_temp-in-96-clause-fits
-returns-in_ok-fileref_create_temp-in-96-clause-fits g c = c.in_ok-fileref_create_temp-in-96.ensures.fits c.args.state.now.flat c.args.room
+returns-in_ok-fileref_create_temp-in-96-clause-fits g c =
+    c.in_ok-fileref_create_temp-in-96.ensures.fits c.args.state.now.flat c.args.room
 
 pub returns-in_ok-fileref_create_by_name-in-97-clause-fits : goal.returns-in_ok-fileref_create_by_name-in-97-clause-fits
-returns-in_ok-fileref_create_by_name-in-97-clause-fits g c = c.in_ok-fileref_create_by_name-in-97.ensures.fits c.args.state.now.flat c.args.room
+returns-in_ok-fileref_create_by_name-in-97-clause-fits g c =
+    c.in_ok-fileref_create_by_name-in-97.ensures.fits c.args.state.now.flat c.args.room
 
 pub returns-in_ok-fileref_destroy-in-99-clause-fits : goal.returns-in_ok-fileref_destroy-in-99-clause-fits
-returns-in_ok-fileref_destroy-in-99-clause-fits g c = c.in_ok-fileref_destroy-in-99.ensures.fits c.args.state.now.flat c.args.room
+returns-in_ok-fileref_destroy-in-99-clause-fits g c =
+    c.in_ok-fileref_destroy-in-99.ensures.fits c.args.state.now.flat c.args.room
 
 pub returns-in_ok-fileref_create_from_fileref-in-104-clause-fits : goal.returns-in_ok-fileref_create_from_fileref-in-104-clause-fits
-returns-in_ok-fileref_create_from_fileref-in-104-clause-fits g c = c.in_ok-fileref_create_from_fileref-in-104.ensures.fits c.args.state.now.flat c.args.room
+returns-in_ok-fileref_create_from_fileref-in-104-clause-fits g c =
+    c.in_ok-fileref_create_from_fileref-in-104.ensures.fits c.args.state.now.flat c.args.room
 
 pub returns-in-65-clause-fits : goal.returns-in-65-clause-fits
 returns-in-65-clause-fits g c = c.stream_get_rock.ensures.fits c.args.state.now.flat c.args.room

@@ -29,7 +29,9 @@ pub returns-in_ok-get_buffer-in-146-clause-fits : goal.returns-in_ok-get_buffer-
 returns-in_ok-get_buffer-in-146-clause-fits g c = c.in_ok-get_buffer-in-146.ensures.fits c.args.room
 
 pub returns-in_ok-char_to_case-in-160-clause-fits : goal.returns-in_ok-char_to_case-in-160-clause-fits
-returns-in_ok-char_to_case-in-160-clause-fits g c = c.in_ok-char_to_case-in-160.ensures.fits c.args.state.now.flat c.args.room
+returns-in_ok-char_to_case-in-160-clause-fits g c =
+    c.in_ok-char_to_case-in-160.ensures.fits c.args.state.now.flat c.args.room
 
 pub returns-in_ok-char_to_case-in-161-clause-fits : goal.returns-in_ok-char_to_case-in-161-clause-fits
-returns-in_ok-char_to_case-in-161-clause-fits g c = c.in_ok-char_to_case-in-161.ensures.fits c.args.state.now.flat c.args.room
+returns-in_ok-char_to_case-in-161-clause-fits g c =
+    c.in_ok-char_to_case-in-161.ensures.fits c.args.state.now.flat c.args.room

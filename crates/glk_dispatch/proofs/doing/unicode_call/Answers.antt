@@ -38,13 +38,16 @@ pub returns-in_ok-get_line-in-306-clause-fits : goal.returns-in_ok-get_line-in-3
 returns-in_ok-get_line-in-306-clause-fits g c = c.in_ok-get_line-in-306.ensures.fits c.args.room
 
 pub returns-in_ok-stream_open_memory-in-313-clause-fits : goal.returns-in_ok-stream_open_memory-in-313-clause-fits
-returns-in_ok-stream_open_memory-in-313-clause-fits g c = c.in_ok-stream_open_memory-in-313.ensures.fits c.args.state.now.flat c.args.room
+returns-in_ok-stream_open_memory-in-313-clause-fits g c =
+    c.in_ok-stream_open_memory-in-313.ensures.fits c.args.state.now.flat c.args.room
 
 pub returns-in_ok-request_char_event-in-320-clause-fits : goal.returns-in_ok-request_char_event-in-320-clause-fits
-returns-in_ok-request_char_event-in-320-clause-fits g c = c.in_ok-request_char_event-in-320.ensures.fits c.args.state.now.flat c.args.room
+returns-in_ok-request_char_event-in-320-clause-fits g c =
+    c.in_ok-request_char_event-in-320.ensures.fits c.args.state.now.flat c.args.room
 
 pub returns-in_ok-request_line_event-in-321-clause-fits : goal.returns-in_ok-request_line_event-in-321-clause-fits
-returns-in_ok-request_line_event-in-321-clause-fits g c = c.in_ok-request_line_event-in-321.ensures.fits c.args.state.now.flat c.args.room
+returns-in_ok-request_line_event-in-321-clause-fits g c =
+    c.in_ok-request_line_event-in-321.ensures.fits c.args.state.now.flat c.args.room
 
 pub returns-in-312-clause-fits : goal.returns-in-312-clause-fits
 returns-in-312-clause-fits g c = c.stream_open_file.ensures.fits c.args.state.now.flat c.args.room

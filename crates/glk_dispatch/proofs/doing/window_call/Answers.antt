@@ -5,19 +5,24 @@ pub returns-in_ok-gestalt_ext-in-5-clause-fits : goal.returns-in_ok-gestalt_ext-
 returns-in_ok-gestalt_ext-in-5-clause-fits g c = c.in_ok-gestalt_ext-in-5.ensures.fits c.args.room
 
 pub returns-in_ok-window_open-in-35-clause-fits : goal.returns-in_ok-window_open-in-35-clause-fits
-returns-in_ok-window_open-in-35-clause-fits g c = c.in_ok-window_open-in-35.ensures.fits c.args.state.now.flat c.args.room
+returns-in_ok-window_open-in-35-clause-fits g c =
+    c.in_ok-window_open-in-35.ensures.fits c.args.state.now.flat c.args.room
 
 pub returns-in_ok-window_set_arrangement-in-38-clause-fits : goal.returns-in_ok-window_set_arrangement-in-38-clause-fits
-returns-in_ok-window_set_arrangement-in-38-clause-fits g c = c.in_ok-window_set_arrangement-in-38.ensures.fits c.args.state.now.flat c.args.room
+returns-in_ok-window_set_arrangement-in-38-clause-fits g c =
+    c.in_ok-window_set_arrangement-in-38.ensures.fits c.args.state.now.flat c.args.room
 
 pub returns-in_ok-window_clear-in-42-clause-fits : goal.returns-in_ok-window_clear-in-42-clause-fits
-returns-in_ok-window_clear-in-42-clause-fits g c = c.in_ok-window_clear-in-42.ensures.fits c.args.state.now.flat c.args.room
+returns-in_ok-window_clear-in-42-clause-fits g c =
+    c.in_ok-window_clear-in-42.ensures.fits c.args.state.now.flat c.args.room
 
 pub returns-in_ok-window_move_cursor-in-43-clause-fits : goal.returns-in_ok-window_move_cursor-in-43-clause-fits
-returns-in_ok-window_move_cursor-in-43-clause-fits g c = c.in_ok-window_move_cursor-in-43.ensures.fits c.args.state.now.flat c.args.room
+returns-in_ok-window_move_cursor-in-43-clause-fits g c =
+    c.in_ok-window_move_cursor-in-43.ensures.fits c.args.state.now.flat c.args.room
 
 pub returns-in_ok-window_set_echo_stream-in-45-clause-fits : goal.returns-in_ok-window_set_echo_stream-in-45-clause-fits
-returns-in_ok-window_set_echo_stream-in-45-clause-fits g c = c.in_ok-window_set_echo_stream-in-45.ensures.fits c.args.state.now.flat c.args.room
+returns-in_ok-window_set_echo_stream-in-45-clause-fits g c =
+    c.in_ok-window_set_echo_stream-in-45.ensures.fits c.args.state.now.flat c.args.room
 
 pub returns-in_ok-set_window-in-47-clause-fits : goal.returns-in_ok-set_window-in-47-clause-fits
 returns-in_ok-set_window-in-47-clause-fits g c = c.in_ok-set_window-in-47.ensures.fits c.args.state.now.flat c.args.room

@@ -4,4 +4,5 @@ use Rattle.glk_files.specs.Names.{stem_within, stem_of}
 use Rattle.glk_files.proofs.names.stem.Given as goal
 
 abbrev pub invariant-loop-v : goal.invariant-loop-v
-invariant-loop-v l = l.name ++ encode_utf8_all (stem_within l.room (drop l.v-index l.chars)) ≡ encode_utf8_all (stem_of l.chars)
+invariant-loop-v l =
+    l.name ++ encode_utf8_all (stem_within l.room (drop l.v-index l.chars)) ≡ encode_utf8_all (stem_of l.chars)

@@ -6,6 +6,7 @@ use Rattle.glk_screen.proofs.drawing.drawn_row.Given as goal
 
 abbrev pub invariant-loop-c : goal.invariant-loop-c
 invariant-loop-c l = record {
-  cells : l.row ++ map (drawn_char l.width) (filter (is_drawn l.width) (drop l.c-index l.chars)) ≡ map (drawn_char l.width) (filter (is_drawn l.width) l.chars);
+  cells : l.row ++ map (drawn_char l.width) (filter (is_drawn l.width) (drop l.c-index l.chars))
+      ≡ map (drawn_char l.width) (filter (is_drawn l.width) l.chars);
   room : l.room - columns l.width (drop l.c-index l.chars) ≡ l.width - columns l.width l.chars;
 }

@@ -8,6 +8,8 @@ loop-at-preserved c =
     let row = rw take_rest at c.first_row-end.ensures.value in
     let next = rw (take_rest, length-drop) at c.first_row-end.ensures.next in
     record {
-      rows = rw (c.in_ok-push-2.ensures.ok, c.in_ok-push.ensures.ok) (row_more c.args.width c.args.text.now c.loop-at.rows c.loop-at.at c.first_row-end.result c.requires.width c.loop-at-test.true row ∙ c.loop-at.invariant.rows);
+      rows = rw (c.in_ok-push-2.ensures.ok, c.in_ok-push.ensures.ok)
+          (row_more c.args.width c.args.text.now c.loop-at.rows c.loop-at.at c.first_row-end.result c.requires.width
+          c.loop-at-test.true row ∙ c.loop-at.invariant.rows);
       within = omega (arith, next);
     }

@@ -8,5 +8,6 @@ pub returns-clause-read_back : goal.returns-clause-read_back
 returns-clause-read_back c =
     on_ok_weaker c.extend_from_slice.result
     (λ added. read_back c.args.out.now c.extend_from_slice.new.self c.args.v
-    (added ∙ ap (λ (bytes : List ℕ). c.args.out.now ++ bytes) (c.as_bytes.ensures.value ∙ c.encode_utf8.ensures.value ∙ ap encode_utf8 c.as_char.ensures)))
+    (added ∙ ap (λ (bytes : List ℕ). c.args.out.now ++ bytes)
+    (c.as_bytes.ensures.value ∙ c.encode_utf8.ensures.value ∙ ap encode_utf8 c.as_char.ensures)))
     c.extend_from_slice.ensures.ok

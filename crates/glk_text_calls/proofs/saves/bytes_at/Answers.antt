@@ -16,5 +16,6 @@ loop-done-preserved g c =
     ap (take n) page ∙ take-take n k (drop (at + done) m) few ∙ ap (take n) (sym (drop-drop done at m)) in
     record {
       upto = omega arith;
-      made = rw (c.in_ok-extend_from_slice.ensures.ok, piece, c.loop-done.invariant.made) (sym (take-add done n (drop at m)));
+      made = rw (c.in_ok-extend_from_slice.ensures.ok, piece, c.loop-done.invariant.made)
+          (sym (take-add done n (drop at m)));
     }

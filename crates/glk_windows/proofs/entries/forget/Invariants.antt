@@ -6,6 +6,7 @@ use Rattle.glk_windows.proofs.entries.forget.Given as goal
 
 abbrev pub invariant-loop-at : goal.invariant-loop-at
 invariant-loop-at l = record {
-  done : l.entries.items ≡ map (forgetting l.streams) (take l.at l.initial.entries.items) ++ drop l.at l.initial.entries.items;
+  done : l.entries.items ≡ map (forgetting l.streams) (take l.at l.initial.entries.items)
+      ++ drop l.at l.initial.entries.items;
   rises : Rises entry_id l.entries.items;
 }

@@ -7,6 +7,7 @@ use Rattle.glk_windows.proofs.windows.fit_grids.Given as goal
 
 abbrev pub invariant-loop-at : goal.invariant-loop-at
 invariant-loop-at l = record {
-  done : l.grids.items ≡ map (fitted_to (tree_of l.tree) l.screen) (take l.at l.initial.grids.items) ++ drop l.at l.initial.grids.items;
+  done : l.grids.items ≡ map (fitted_to (tree_of l.tree) l.screen) (take l.at l.initial.grids.items)
+      ++ drop l.at l.initial.grids.items;
   rises : Rises grid_id l.grids.items;
 }

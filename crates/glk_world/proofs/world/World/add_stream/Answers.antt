@@ -9,14 +9,18 @@ invariant_of-self c = record {
   streams = rw c.in_err-add.ensures.err (streams_more _ _ _ c.self.invariant.streams (omega arith));
   references = c.self.invariant.references;
   above = references_more _ _ _ c.self.invariant.above (omega arith);
+  first = c.self.invariant.first;
   links = rw c.in_err-add.ensures.err (linked_more _ _ _ _ c.self.invariant.links (omega arith));
 }
 
 pub invariant_of-self-2 : goal.invariant_of-self-2
 invariant_of-self-2 c = record {
   windows = new_more _ _ _ c.self.invariant.windows (omega arith);
-  streams = rw c.in_ok-add.ensures.ok (streams_opened _ _ _ _ _ _ (streams_more _ _ _ c.self.invariant.streams (omega arith)) (omega arith));
+  streams = rw c.in_ok-add.ensures.ok
+      (streams_opened _ _ _ _ _ _ (streams_more _ _ _ c.self.invariant.streams (omega arith)) (omega arith));
   references = c.self.invariant.references;
   above = references_more _ _ _ c.self.invariant.above (omega arith);
-  links = rw c.in_ok-add.ensures.ok (linked_own _ _ _ _ _ _ c.self.invariant.links c.self.invariant.streams c.requires.own);
+  first = c.self.invariant.first;
+  links = rw c.in_ok-add.ensures.ok
+      (linked_own _ _ _ _ _ _ c.self.invariant.links c.self.invariant.streams c.requires.own);
 }

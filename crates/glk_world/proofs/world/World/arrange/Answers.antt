@@ -7,9 +7,12 @@ invariant_of-self c =
     let kept = rw c.or_none.ensures.same at c.or_none.ensures.ok in
     let lost = rw c.or_none.ensures.same at c.or_none.ensures.err in
     record {
-      windows = arranged_or_none c.arrange-changed.result _ _ _ _ _ _ _ _ c.self.invariant.windows c.arrange-changed.ensures.ok kept lost;
+      windows = arranged_or_none c.arrange-changed.result _ _ _ _ _ _ _ _ c.self.invariant.windows
+          c.arrange-changed.ensures.ok kept lost;
       streams = c.self.invariant.streams;
       references = c.self.invariant.references;
       above = c.self.invariant.above;
-      links = linked_arranged c.arrange-changed.result _ _ _ _ _ _ _ _ _ c.self.invariant.links c.arrange-changed.ensures.ok kept lost;
+      first = c.self.invariant.first;
+      links = linked_arranged c.arrange-changed.result _ _ _ _ _ _ _ _ _ c.self.invariant.links
+          c.arrange-changed.ensures.ok kept lost;
     }

@@ -8,5 +8,6 @@ invariant_of-self c = record {
   streams = c.self.invariant.streams;
   references = c.self.invariant.references;
   above = c.self.invariant.above;
+  first = c.self.invariant.first;
   links = rw (c.clear.ensures, entries_cleared) c.self.invariant.links;
 }

@@ -6,6 +6,7 @@ use Rattle.glk_world.proofs.Alone.{text_places}
 use Rattle.glk_world.proofs.world.World.find_text.Goals as goal
 
 pub returns-then-entry-eq0-clause-places : goal.returns-then-entry-eq0-clause-places
-returns-then-entry-eq0-clause-places c = λ plain count.
-    let P : FlatWorld → Type 0 = λ w. is_plain_text w.scene c.args.stream ≡ true → (places_of w.scene c.args.stream count).count ≡ 0 in
-    subst P c.self.view_is (λ h. text_places (flat_of c.self.inside).scene c.args.stream count c.self.invariant.links.first h) plain
+returns-then-entry-eq0-clause-places c = λ plain count. let P : FlatWorld → Type 0 =
+    λ w. is_plain_text w.scene c.args.stream ≡ true → (places_of w.scene c.args.stream count).count ≡ 0 in
+    subst P c.self.view_is (λ h. text_places (flat_of c.self.inside).scene c.args.stream count
+    c.self.invariant.links.first h) plain

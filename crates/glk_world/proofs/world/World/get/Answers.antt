@@ -10,5 +10,6 @@ invariant_of-self c =
       streams = rw c.get.ensures.new (streams_with _ _ _ c.self.invariant.streams);
       references = c.self.invariant.references;
       above = c.self.invariant.above;
+      first = c.self.invariant.first;
       links = rw c.get.ensures.new (linked_get _ _ _ _ there c.self.invariant.links _);
     }

@@ -8,5 +8,6 @@ invariant_of-self c = record {
   streams = c.self.invariant.streams;
   references = c.self.invariant.references;
   above = c.self.invariant.above;
+  first = c.self.invariant.first;
   links = rw (c.move_cursor.ensures, entries_moved) c.self.invariant.links;
 }

@@ -10,5 +10,6 @@ invariant_of-self c =
       streams = rw c.pass.ensures (streams_with _ _ _ c.self.invariant.streams);
       references = c.self.invariant.references;
       above = c.self.invariant.above;
+      first = c.self.invariant.first;
       links = rw c.pass.ensures (linked_passed _ _ _ _ there c.self.invariant.links _ _);
     }

@@ -4,4 +4,6 @@ use Rattle.glk_world.specs.Putting.{puts}
 use Rattle.glk_world.proofs.world.World.put_bytes.Given as goal
 
 abbrev pub invariant-loop-byte : goal.invariant-loop-byte
-invariant-loop-byte l = after l.self (puts l.self.scene l.stream (drop l.byte-index l.bytes)) ≡ after l.fn.self (puts l.fn.self.scene l.stream l.bytes)
+invariant-loop-byte l =
+    after l.self (puts l.self.scene l.stream (drop l.byte-index l.bytes))
+    ≡ after l.fn.self (puts l.fn.self.scene l.stream l.bytes)

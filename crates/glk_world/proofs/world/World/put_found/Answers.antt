@@ -1,8 +1,8 @@
-use Rattle.std.proofs.Common.{true}
 use Rattle.glk_world.specs.Kept.{flat_of}
 use Rattle.glk_world.proofs.Kept.{streams_with}
 use Rattle.glk_world.proofs.Links.{linked_put}
-use Rattle.glk_world.proofs.Alone.{text_put, text_grows, plain_there, plain_stays, window_stays, place_stays, on_err, on_ok_by}
+use Rattle.glk_world.proofs.Alone.{text_put, text_grows, plain_there, plain_stays, window_stays, place_stays, on_err}
+use Rattle.glk_world.proofs.Alone.{on_ok_by}
 use Rattle.glk_world.proofs.world.World.put_found.Goals as goal
 
 pub invariant_of-self : goal.invariant_of-self
@@ -13,7 +13,9 @@ invariant_of-self c =
       streams = rw (c.count.ensures c.args.c) (streams_with _ _ _ c.self.invariant.streams);
       references = c.self.invariant.references;
       above = c.self.invariant.above;
-      links = rw (c.count.ensures c.args.c) (linked_put _ _ _ _ (plain_there (flat_of c.self.inside).scene c.args.stream text) c.self.invariant.links _);
+      first = c.self.invariant.first;
+      links = rw (c.count.ensures c.args.c)
+          (linked_put _ _ _ _ (plain_there (flat_of c.self.inside).scene c.args.stream text) c.self.invariant.links _);
     }
 
 pub returns-clause-ok : goal.returns-clause-ok
@@ -25,7 +27,8 @@ returns-clause-ok c =
     (text_put (flat_of c.self.inside) c.args.stream c.args.c c.self.invariant.links.first text))
 
 pub returns-clause-memory : goal.returns-clause-memory
-returns-clause-memory c = on_err c.buffer_put.result (text_grows c.args.self.now.scene c.args.stream c.args.c c.requires.text)
+returns-clause-memory c =
+    on_err c.buffer_put.result (text_grows c.args.self.now.scene c.args.stream c.args.c c.requires.text)
 
 pub returns-clause-text : goal.returns-clause-text
 returns-clause-text c =

@@ -4,4 +4,6 @@ use Rattle.glk_world.specs.Putting.{puts}
 use Rattle.glk_world.proofs.world.World.puts.Given as goal
 
 abbrev pub invariant-loop-c : goal.invariant-loop-c
-invariant-loop-c l = after l.self (puts l.self.scene l.stream (drop l.c-index l.chars)) ≡ after l.fn.self (puts l.fn.self.scene l.stream l.chars)
+invariant-loop-c l =
+    after l.self (puts l.self.scene l.stream (drop l.c-index l.chars))
+    ≡ after l.fn.self (puts l.fn.self.scene l.stream l.chars)

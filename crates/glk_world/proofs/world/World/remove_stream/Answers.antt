@@ -8,6 +8,7 @@ invariant_of-self c = record {
   streams = rw c.remove.ensures (streams_without _ _ _ c.self.invariant.streams);
   references = c.self.invariant.references;
   above = c.self.invariant.above;
+  first = c.self.invariant.first;
   links = rw (c.remove.ensures, c.forget_stream.ensures) (linked_without _ _ _ _ c.self.invariant.links);
 }
 
@@ -17,5 +18,6 @@ invariant_of-self-else-self-id c = record {
   streams = rw c.remove.ensures (streams_without _ _ _ c.self.invariant.streams);
   references = c.self.invariant.references;
   above = c.self.invariant.above;
+  first = c.self.invariant.first;
   links = rw (c.remove.ensures, c.forget_stream.ensures) (linked_without _ _ _ _ c.self.invariant.links);
 }

@@ -11,26 +11,34 @@ invariant_of-self c = record {
   streams = c.self.invariant.streams;
   references = c.self.invariant.references;
   above = c.self.invariant.above;
+  first = c.self.invariant.first;
   links = rw c.in_err-gone.ensures.err (linked_no_windows _ _ _ c.self.invariant.links);
 }
 
 pub invariant_of-self-2 : goal.invariant_of-self-2
 invariant_of-self-2 c =
-    let closed = given_ok c.remove-removed.result c.in_ok-gone.gone (sym c.or_none.ensures.same ∙ c.in_ok-gone.was) c.remove-removed.ensures.new in
+    let closed =
+    given_ok c.remove-removed.result c.in_ok-gone.gone
+    (sym c.or_none.ensures.same ∙ c.in_ok-gone.was) c.remove-removed.ensures.new in
     record {
       windows = rw (c.in_ok-gone.ensures.ok, closed) (closed_new _ _ _ c.self.invariant.windows);
       streams = rw c.remove_windows.ensures (streams_gone _ _ _ c.self.invariant.streams);
       references = c.self.invariant.references;
       above = c.self.invariant.above;
-      links = rw (c.in_ok-gone.ensures.ok, closed, c.remove_windows.ensures) (linked_left _ _ _ _ _ c.self.invariant.links);
+      first = c.self.invariant.first;
+      links = rw (c.in_ok-gone.ensures.ok, closed, c.remove_windows.ensures)
+          (linked_left _ _ _ _ _ c.self.invariant.links);
     }
 
 pub returns-clause-new : goal.returns-clause-new
 returns-clause-new c =
     let was = sym c.or_none.ensures.same ∙ c.in_ok-gone.was in
     let closed = given_ok c.remove-removed.result c.in_ok-gone.gone was c.remove-removed.ensures.new in
-    let gone = given_if (λ (ids : List ℕ). ids ≡ windows.gone c.self.inside.windows c.args.win) c.remove-removed.result c.in_ok-gone.gone was c.remove-removed.ensures.gone in
+    let gone =
+    given_if (λ (ids : List ℕ). ids ≡ windows.gone c.self.inside.windows c.args.win) c.remove-removed.result
+    c.in_ok-gone.gone was c.remove-removed.ensures.gone in
     let streams = rw c.as_slice.ensures at c.remove_windows.ensures in
     let requests = rw c.as_slice-2.ensures at c.drop_requests.ensures in
     let texts = rw c.as_slice-3.ensures at c.drop_texts.ensures in
-    rw (← c.self.view_is) (closed_world c.self.inside c.args.win c.in_ok-gone.gone _ _ _ _ _ gone (c.in_ok-gone.ensures.ok ∙ closed) streams requests texts c.unless_gone-self-inside.ensures)
+    rw (← c.self.view_is) (closed_world c.self.inside c.args.win c.in_ok-gone.gone _ _ _ _ _ gone
+    (c.in_ok-gone.ensures.ok ∙ closed) streams requests texts c.unless_gone-self-inside.ensures)

@@ -4,4 +4,6 @@ use Rattle.glk_world.specs.Shown.{said_grids}
 use Rattle.glk_world.proofs.world.World.say_grids.Given as goal
 
 abbrev pub invariant-loop-grid : goal.invariant-loop-grid
-invariant-loop-grid l = after l.self (said_grids l.self.scene (drop l.grid-index l.grids)) ≡ after l.fn.self (said_grids l.fn.self.scene l.grids)
+invariant-loop-grid l =
+    after l.self (said_grids l.self.scene (drop l.grid-index l.grids))
+    ≡ after l.fn.self (said_grids l.fn.self.scene l.grids)

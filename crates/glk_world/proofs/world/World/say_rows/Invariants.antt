@@ -4,4 +4,5 @@ use Rattle.glk_world.specs.Shown.{said_rows}
 use Rattle.glk_world.proofs.world.World.say_rows.Given as goal
 
 abbrev pub invariant-loop-row : goal.invariant-loop-row
-invariant-loop-row l = after l.self (said_rows l.self.scene (drop l.row-index l.rows)) ≡ after l.fn.self (said_rows l.fn.self.scene l.rows)
+invariant-loop-row l =
+    after l.self (said_rows l.self.scene (drop l.row-index l.rows)) ≡ after l.fn.self (said_rows l.fn.self.scene l.rows)

@@ -10,6 +10,7 @@ invariant_of-self-then-win-eq0 c =
       streams = rw c.in_ok-put.ensures.ok (streams_with _ _ _ c.self.invariant.streams);
       references = c.self.invariant.references;
       above = c.self.invariant.above;
+      first = c.self.invariant.first;
       links = rw c.in_ok-put.ensures.ok (linked_put _ _ _ _ there c.self.invariant.links _);
     }
 
@@ -21,5 +22,6 @@ invariant_of-self-else-win-eq0 c =
       streams = rw c.in_ok-put.ensures.ok (streams_with _ _ _ c.self.invariant.streams);
       references = c.self.invariant.references;
       above = c.self.invariant.above;
+      first = c.self.invariant.first;
       links = rw c.in_ok-put.ensures.ok (linked_put _ _ _ _ there c.self.invariant.links _);
     }

@@ -9,5 +9,6 @@ invariant_of-result c = record {
   streams = rw c.new-4.ensures tt;
   references = rw c.new-5.ensures.items tt;
   above = rw c.new-5.ensures.items tt;
+  first = rw c.new-5.ensures.items tt;
   links = rw (c.new.ensures, c.new-4.ensures) (linked_none 1 (omega arith));
 }

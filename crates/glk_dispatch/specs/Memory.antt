@@ -1,0 +1,53 @@
+-- Where memory may be wanted, by what a call comes to.
+--
+-- Left out are the calls that put characters, whose text may have its place on a screen that keeps so much of it
+-- alone, and window_close, which lists what goes with a window.
+use Rattle.std.specs.Prelude.{ℕ, ◌==◌, ◌||◌, nat_lt, Bool, true, false, IsTrue, List, [], ◌∷◌, length, Ok, Err}
+use Rattle.std.specs.Int.{is_in_range}
+use Rattle.gx_state.specs.declared.effects.Reply.{Reply}
+use Rattle.glk_windows.specs.Changes.{some_grow}
+use Rattle.glk_world.specs.World.{Scene, Said, Outcome}
+use Rattle.glk_replies.specs.Numbers as selectors
+use Rattle.glk_replies.specs.declared.Turn.{Turn}
+use Rattle.glk_replies.specs.declared.Turn.TheVariants as turn
+
+abbrev pub has_some : {X : Type 0} → List X → Bool
+has_some [] = false
+has_some (x ∷ xs) = true
+
+-- a reply writes or pushes
+abbrev pub gives_some : Reply → Bool
+gives_some reply = has_some reply.writes || has_some reply.pushes
+
+-- so does the turn's, or it asks for a file by its name
+abbrev pub turn_takes : Turn → Bool
+turn_takes (turn.Answer reply) = gives_some reply
+turn_takes turn.Wait = false
+turn_takes turn.Stuck = false
+turn_takes turn.Prompt = false
+turn_takes (turn.Load name) = true
+turn_takes (turn.Store name bytes) = true
+turn_takes (turn.Remove name) = true
+turn_takes (turn.Has name) = true
+turn_takes turn.Exit = false
+
+-- an object or a request is made, or a grid gets a row or a cell more
+abbrev pub is_more : Scene → Scene → Bool
+is_more w v =
+    nat_lt (length w.streams) (length v.streams) || nat_lt (length w.references) (length v.references)
+    || nat_lt (length w.requests) (length v.requests)
+    || some_grow v.windows.tree (w.windows.columns, w.windows.rows) w.windows.grids
+
+-- one of these, or text is added
+abbrev pub takes_memory : Scene → Said × Turn → Bool
+takes_memory w r = turn_takes r.1 || has_some r.0.1 || is_more w r.0.0
+
+-- the calls that are left out
+abbrev pub is_left_out : ℕ → Bool
+is_left_out selector =
+    selector == selectors.window_close || is_in_range selectors.put_char selectors.put_buffer_stream selector
+    || is_in_range selectors.put_char_uni selectors.put_buffer_stream_uni selector
+
+abbrev pub TakesMemory : Scene → Outcome Turn → Type 0
+TakesMemory w (Ok r) = IsTrue (takes_memory w r)
+TakesMemory w (Err e) = ⊥

@@ -1,6 +1,0 @@
-use Rattle.std.proofs.Common.{arith}
-use Rattle.glk_replies.proofs.Laying.{copy_is}
-use Rattle.glk_text_calls.proofs.saves.in_width.Goals as goal
-
-pub returns-then-width-eq1 : goal.returns-then-width-eq1
-returns-then-width-eq1 c = copy_is c.from_slice.result c.args.width c.args.bytes.now c.if-width-eq1.true (λ k less. omega (arith, c.type_inv.bytes k)) c.from_slice.ensures
