@@ -55,7 +55,11 @@ calls_code =
     code_by (List ℕ × (ℕ × (ℕ × (Bool × Bool))))
     (coded× (coded_list coded_ℕ) (coded× coded_ℕ (coded× coded_ℕ (coded× coded_bool coded_bool))))
     (λ c. (c.fails, (c.counts.made, (c.counts.faults, (c.counts.failing, c.counts.wanting)))))
-    (λ p. record { fails = p.0; counts = record { made = p.1.0; faults = p.1.1.0; failing = p.1.1.1.0; wanting = p.1.1.1.1 } })
+    (λ p. record {
+      fails = p.0;
+      counts = record
+          { made = p.1.0; faults = p.1.1.0; failing = p.1.1.1.0; wanting = p.1.1.1.1 };
+    })
     (λ _. refl)
 
 abbrev files_code : Coded FilesByName
@@ -63,7 +67,8 @@ files_code = code (coded_list coded_ℕ) (coded_list coded_ℕ)
 
 abbrev pub shelf_code : Coded HeldShelf
 shelf_code =
-    code_by (FilesByName × HeldCalls) (coded× files_code calls_code) (λ s. (s.files, s.calls)) (λ p. record { files = p.0; calls = p.1 }) (λ _. refl)
+    code_by (FilesByName × HeldCalls) (coded× files_code calls_code) (λ s. (s.files, s.calls))
+    (λ p. record { files = p.0; calls = p.1 }) (λ _. refl)
 
 -- what stands under each name
 abbrev pub files_of : FilesByName → Files

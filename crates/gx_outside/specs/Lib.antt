@@ -1,3 +1,5 @@
 pub mod Files
 pub mod Outside
+pub mod Chains
+pub mod Shelves
 pub mod Fakes

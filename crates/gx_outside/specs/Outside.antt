@@ -1,5 +1,6 @@
 -- What the calls of a source, a sink and a shelf do to what they hold, and to their counts.
-use Rattle.std.specs.Prelude.{◌≡◌, ℕ, zero, suc, ◌+◌, ◌-◌, ◌^◌, ◌≤◌, ◌<◌, min, if◌then◌else◌, List, ◌++◌, take, length, Bool, true, false, Result, Ok, Err, Option, Some, None, OnOk, []}
+use Rattle.std.specs.Prelude.{◌≡◌, ℕ, zero, suc, ◌+◌, ◌-◌, ◌^◌, ◌≤◌, ◌<◌, min, if◌then◌else◌, List, ◌++◌, take, length}
+use Rattle.std.specs.Prelude.{Bool, true, false, Result, Ok, Err, OnOk, []}
 use Rattle.gx_outside.specs.declared.calls.Calls.{Calls}
 use Rattle.gx_outside.specs.declared.devices.SendFault.{SendFault}
 use Rattle.gx_outside.specs.declared.devices.SendFault.TheVariants as of_send
@@ -54,7 +55,13 @@ offered_in (suc reads) room offered = offered_by room (offered_in reads room off
 -- the counts after one more call, which failed or not, and wanted memory or not
 abbrev pub counted : Calls → Bool → Bool → Calls
 counted c failed wanted =
-    record { made = raised c.made; faults = if failed then raised c.faults else c.faults; failing = failed; wanting = wanted }
+    record {
+      made = raised c.made;
+      faults = if failed
+          then raised c.faults else c.faults;
+      failing = failed;
+      wanting = wanted;
+    }
 
 -- One more call was made. The failures rose by it where it failed, and stand where it didn't; the device knows
 -- whether it failed, and whether it wanted memory.
@@ -105,12 +112,6 @@ pub record Sends {T E : Type 0} (tells : Bool) (before after bytes : List ℕ) (
   pub front : bytes ≡ more ++ rest
   pub whole : OnOk result (more ≡ bytes)
   pub taken : tells ≡ true → after ≡ before ++ more
-
--- what `load` says of what stands under the name
-abbrev pub Loads : Option (List ℕ) → ℕ → Load → Type 0
-Loads file most of_load.Missing = file ≡ None
-Loads file most of_load.TooLong = (bytes : List ℕ) × (file ≡ Some bytes) × (most < length bytes)
-Loads file most (of_load.Found bytes) = (file ≡ Some bytes) × (length bytes ≤ most)
 
 -- what `load` hands out is within the bound, whatever stands on the shelf
 abbrev pub IsBounded : ℕ → Load → Type 0

@@ -10,9 +10,11 @@
 //!
 //! Want of memory, which is no failure of the device, may come at any call that has an answer for
 //! it; at `load` it comes only where there are bytes to be handed out.
-ghost use Rattle.std.specs.Prelude.{◌≡◌, ◌≤◌, false, true, length, is_err, is_some, IfOk, IsErrOf, IsSomeAnd, OnOk};
-ghost use Rattle.gx_outside.specs.Files.{with_file};
-ghost use Rattle.gx_outside.specs.Outside.{FlatSource, FlatSink, FlatShelf, HasCause, ReadGives, offered_by, Sends, Loads, IsBounded, KeepsOthers, send_failed, send_wanted, shelf_failed, shelf_wanted};
+ghost use Rattle.std.specs.Prelude.{◌≡◌, ◌≤◌, false, true, length, is_err, IfOk};
+ghost use Rattle.gx_outside.specs.Outside.{FlatSource, FlatSink, FlatShelf, HasCause, ReadGives, offered_by, Sends};
+ghost use Rattle.gx_outside.specs.Outside.{send_failed, send_wanted};
+ghost use Rattle.gx_outside.specs.Shelves.{Call, ShelfCall, loads, stores, removes, looks, answered, loaded, stored};
+ghost use Rattle.gx_outside.specs.Shelves.{was};
 
 use gx_words::Bytes;
 use std::alloc::{AllocError, AllocFailed};
@@ -103,43 +105,33 @@ pub trait Sink {
         ensures bytes { Sends (seen self.old).tells (seen self.old).taken (seen self.new).taken bytes.now result };
 }
 
-/// Where files stand, each under a name. Contracts see a map from names to bytes.
+/// Where files stand, each under a name. Contracts see a map from names to bytes, and each call.
+///
+/// What a call is to a device, `called`, is left to the device. So what is proved for every shelf is proved of the
+/// very calls that were made: nothing else leads from what the shelf was to what it is.
 pub trait Shelf {
     ghost seen: { Self → FlatShelf };
 
+    ghost called: { Self → Call → Self → Type 0 };
+
     /// The file of a name, if it has at most `most` bytes. No file changes.
     fn load(&mut self, name: &str, most: usize) -> Result<Load, ShelfFault>
-        ensures cause { HasCause (seen self.old).calls (seen self.new).calls (shelf_failed result) (shelf_wanted result) }
-        ensures tells { (seen self.new).tells ≡ (seen self.old).tells }
-        ensures bound { IfOk result (IsBounded most) }
-        ensures found { (seen self.old).tells ≡ true → IfOk result (Loads ((seen self.old).files name.now) most) }
-        ensures memory { (seen self.old).tells ≡ true → IsErrOf result ShelfFault.NoMemory
-            → IsSomeAnd ((seen self.old).files name.now) (λ bytes. length bytes ≤ most) }
-        ensures same { (seen self.new).files ≡ (seen self.old).files };
+        ensures { called self.old (loads name.now most, answered loaded result) self.new };
 
     /// Makes the name hold the bytes. After a refusal the file of this one name is open: it may
     /// be the old one, the new one, a part of the new one, or gone.
     fn store(&mut self, name: &str, bytes: &[u8]) -> Result<(), ShelfFault>
-        ensures cause { HasCause (seen self.old).calls (seen self.new).calls (shelf_failed result) (shelf_wanted result) }
-        ensures tells { (seen self.new).tells ≡ (seen self.old).tells }
-        ensures stored { (seen self.old).tells ≡ true
-            → OnOk result ((seen self.new).files ≡ with_file (seen self.old).files name.now (Some bytes.now)) }
-        ensures others { (seen self.old).tells ≡ true → KeepsOthers (seen self.old).files (seen self.new).files name.now };
+        ensures { called self.old (stores name.now bytes.now, answered (λ _. stored) result) self.new };
 
     /// Removes the file of a name, and answers whether there was one. After a refusal the file of
     /// this one name is open.
     fn remove(&mut self, name: &str) -> Result<bool, ShelfFault>
-        ensures cause { HasCause (seen self.old).calls (seen self.new).calls (shelf_failed result) (shelf_wanted result) }
-        ensures tells { (seen self.new).tells ≡ (seen self.old).tells }
-        ensures was { (seen self.old).tells ≡ true → IfOk result (λ was. was ≡ is_some ((seen self.old).files name.now)) }
-        ensures removed { (seen self.old).tells ≡ true
-            → OnOk result ((seen self.new).files ≡ with_file (seen self.old).files name.now None) }
-        ensures others { (seen self.old).tells ≡ true → KeepsOthers (seen self.old).files (seen self.new).files name.now };
+        ensures { called self.old (removes name.now, answered was result) self.new };
 
     /// Whether the name has a file. No file changes.
     fn has(&mut self, name: &str) -> Result<bool, ShelfFault>
-        ensures cause { HasCause (seen self.old).calls (seen self.new).calls (shelf_failed result) (shelf_wanted result) }
-        ensures tells { (seen self.new).tells ≡ (seen self.old).tells }
-        ensures was { (seen self.old).tells ≡ true → IfOk result (λ was. was ≡ is_some ((seen self.old).files name.now)) }
-        ensures same { (seen self.new).files ≡ (seen self.old).files };
+        ensures { called self.old (looks name.now, answered was result) self.new };
+
+    ghost called_so: { (before : Self) (c : Call) (now : Self)
+        → called before c now → ShelfCall (seen before) c (seen now) };
 }

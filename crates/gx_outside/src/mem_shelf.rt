@@ -1,10 +1,12 @@
 //! A shelf in memory.
-ghost use Rattle.std.specs.Prelude.{◌≡◌, ◌≤◌, false, true, length, is_err, is_some, IfOk, IsErrOf, IsSomeAnd, OnOk, OnErr};
+ghost use Rattle.std.specs.Prelude.{◌≡◌, false, is_err, is_some, IfOk, OnOk, OnErr};
 ghost use Rattle.std.specs.Option.{option_copied};
 ghost use Rattle.std.specs.FinMap.{empty, insert, remove};
 ghost use Rattle.gx_outside.specs.Files.{with_file, no_files};
 ghost use Rattle.gx_outside.specs.Fakes.{no_calls, fails_next, after_call, seen_shelf, files_of};
-ghost use Rattle.gx_outside.specs.Outside.{HasCause, Loads, IsBounded, KeepsOthers, shelf_failed, shelf_wanted};
+ghost use Rattle.gx_outside.specs.Outside.{shelf_failed, shelf_wanted};
+ghost use Rattle.gx_outside.specs.Shelves.{ShelfCall, MayWant, load_of, answer_for, loads, stores, removes, looks};
+ghost use Rattle.gx_outside.specs.Shelves.{answered, loaded, stored, was};
 
 use crate::numbered::NumberedCalls;
 use crate::{Load, Shelf, ShelfFault};
@@ -71,10 +73,9 @@ impl MemShelf {
 
     /// The file of a name, if it has at most `most` bytes.
     fn find(&self, name: &str, most: usize) -> Result<Load, AllocError>
-        ensures bound { IfOk result (IsBounded most) }
-        ensures found { IfOk result (Loads (files_of self.now.files name.now) most) }
-        ensures memory { OnErr result
-            (IsSomeAnd (files_of self.now.files name.now) (λ bytes. length bytes ≤ most)) }
+        ensures found { IfOk result (λ load. load ≡ load_of most (files_of self.now.files name.now)) }
+        ensures memory { OnErr result (MayWant (loads name.now most)
+            (answer_for (files_of self.now.files) (loads name.now most))) }
     {
         match self.get(name) {
             None => Ok(Load::Missing),
@@ -96,14 +97,15 @@ impl MemShelf {
 impl Shelf for MemShelf {
     ghost seen = { seen_shelf };
 
+    ghost called = { λ before c now. ShelfCall (seen_shelf before) c (seen_shelf now) };
+
+    ghost called_so = { λ before c now does. does };
+
     fn load(&mut self, name: &str, most: usize) -> Result<Load, ShelfFault>
         ensures fails { shelf_failed result ≡ fails_next self.old.calls }
         ensures calls { self.new ≡ record self.old { calls = after_call self.old.calls (shelf_wanted result) } }
-        ensures bound { IfOk result (IsBounded most) }
-        ensures cause { HasCause self.old.calls.counts self.new.calls.counts (shelf_failed result) (shelf_wanted result) }
-        ensures found { IfOk result (Loads (files_of self.old.files name.now) most) }
-        ensures memory { IsErrOf result ShelfFault.NoMemory
-            → IsSomeAnd (files_of self.old.files name.now) (λ bytes. length bytes ≤ most) }
+        ensures does { ShelfCall (seen_shelf self.old) (loads name.now most, answered loaded result)
+            (seen_shelf self.new) }
     {
         if self.calls.begin() {
             return Err(ShelfFault::Failed);
@@ -119,10 +121,8 @@ impl Shelf for MemShelf {
         ensures calls { self.new.calls ≡ after_call self.old.calls (shelf_wanted result) }
         ensures ok { OnOk result (self.new.files ≡ insert self.old.files name.now bytes.now) }
         ensures err { OnErr result (self.new.files ≡ self.old.files) }
-        ensures cause { HasCause self.old.calls.counts self.new.calls.counts (shelf_failed result) (shelf_wanted result) }
-        ensures stored { OnOk result (files_of self.new.files
-            ≡ with_file (files_of self.old.files) name.now (Some bytes.now)) }
-        ensures others { KeepsOthers (files_of self.old.files) (files_of self.new.files) name.now }
+        ensures does { ShelfCall (seen_shelf self.old) (stores name.now bytes.now, answered (λ _. stored) result)
+            (seen_shelf self.new) }
     {
         if self.calls.begin() {
             return Err(ShelfFault::Failed);
@@ -139,11 +139,7 @@ impl Shelf for MemShelf {
         ensures calls { self.new.calls ≡ after_call self.old.calls false }
         ensures ok { OnOk result (self.new.files ≡ remove self.old.files name.now) }
         ensures err { OnErr result (self.new.files ≡ self.old.files) }
-        ensures cause { HasCause self.old.calls.counts self.new.calls.counts (shelf_failed result) (shelf_wanted result) }
-        ensures was { IfOk result (λ was. was ≡ is_some (files_of self.old.files name.now)) }
-        ensures removed { OnOk result (files_of self.new.files
-            ≡ with_file (files_of self.old.files) name.now None) }
-        ensures others { KeepsOthers (files_of self.old.files) (files_of self.new.files) name.now }
+        ensures does { ShelfCall (seen_shelf self.old) (removes name.now, answered was result) (seen_shelf self.new) }
     {
         if self.calls.begin() {
             return Err(ShelfFault::Failed);
@@ -154,8 +150,7 @@ impl Shelf for MemShelf {
     fn has(&mut self, name: &str) -> Result<bool, ShelfFault>
         ensures fails { is_err result ≡ fails_next self.old.calls }
         ensures calls { self.new ≡ record self.old { calls = after_call self.old.calls false } }
-        ensures cause { HasCause self.old.calls.counts self.new.calls.counts (shelf_failed result) (shelf_wanted result) }
-        ensures was { IfOk result (λ was. was ≡ is_some (files_of self.old.files name.now)) }
+        ensures does { ShelfCall (seen_shelf self.old) (looks name.now, answered was result) (seen_shelf self.new) }
     {
         if self.calls.begin() {
             return Err(ShelfFault::Failed);

@@ -51,7 +51,7 @@ module _ {A : Type 0} (ended : Ended A) (entry exit : Devices) where
   some P (Some whole) there none = cc
 
   start-hands : (command : Command) (story : FlatStory) (r : Result Whole Fault) → ended.machine ≡ None → IsBegun (outcome_of_start Play command story entry r) entry exit ended → ⊥
-  start-hands command story (Ok whole) none (shelf, once, run) = some _ ended.machine run.2 none
+  start-hands command story (Ok whole) none begun = some _ ended.machine begun.run.2 none
   start-hands command story (Err fault) none begun = begun
 
   story-hands : (command : Command) (r : Result FlatStory ℕ) → ended.machine ≡ None → IsBegun (outcome_of_story Play command entry r) entry exit ended → ⊥

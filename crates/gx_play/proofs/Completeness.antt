@@ -1,6 +1,7 @@
 -- That the status is the outcome's where no device failed.
-use Rattle.std.proofs.Common.{◌≡◌, ℕ, ◌<◌, ◌≤◌, ◌⊎◌, inl, inr, true, false, List, Option, Some, None, IsSomeAnd, refl, subst, sym, ◌∙◌, arith}
+use Rattle.std.proofs.Common.{◌≡◌, ℕ, ◌<◌, ◌≤◌, ◌⊎◌, inl, inr, true, List, Option, Some, None, IsSomeAnd, refl, ap, subst, sym, ◌∙◌, arith}
 use Rattle.gx_outside.specs.Outside.{FlatShelf, FlatSink}
+use Rattle.gx_outside.specs.Shelves.{Request, Answer, Trace}
 use Rattle.gx_machine.specs.Machine.{Whole}
 use Rattle.gx_session.specs.declared.ended.Ended.{Ended}
 use Rattle.gx_session.specs.Constants.{status_shelf_fault, status_no_memory}
@@ -11,7 +12,7 @@ use Rattle.gx_session.specs.Session.{Configuration, final_of, status_of}
 use Rattle.gx_play.specs.Commands.{Command}
 use Rattle.gx_play.specs.Rewinding.{rewind_line}
 use Rattle.gx_play.specs.Seeds.{devices_for, words_for}
-use Rattle.gx_play.specs.Headline.{Outcome, refused, unstarted, runs, rewinds, tells, outcome_of, IsUnbegun, IsRewindOf, LoadsOnce, SendsLine, SendsOutput, Plays, ComesOut, HasNoFailure, IsComplete, status_of_outcome}
+use Rattle.gx_play.specs.Headline.{Outcome, refused, unstarted, runs, rewinds, tells, outcome_of, IsUnbegun, IsRewindOf, SendsLine, SendsOutput, Plays, ComesOut, HasNoFailure, IsComplete, status_of_outcome}
 use Rattle.rand_core.specs.Stream.{Stream}
 
 module _ {A : Type 0} (ended : Ended A) (entry exit : Devices) where
@@ -30,29 +31,29 @@ module _ {A : Type 0} (ended : Ended A) (entry exit : Devices) where
       abbrev loaded : Devices
       loaded = record entry { shelf = shelf; words = words }
 
-      at-end : (input : List ℕ) → input ≡ start.input → IsSession (record start { input = input }) loaded leaving r → r.status < status_shelf_fault → r.status ≡ status_of (final_of start).stop
-      at-end input is session early =
-          subst (λ (i : List ℕ). r.status ≡ status_of (final_of (record start { input = i })).stop) is (session.ended early).status_is
+      at-end : (input : List ℕ) (answers : Trace → Request → Answer) → input ≡ start.input → answers ≡ start.answers → IsSession (record start { input = input; answers = answers }) loaded leaving r
+          → r.status < status_shelf_fault → r.status ≡ status_of (final_of start).stop
+      at-end input answers is same session early =
+          (session.ended early).status_is
+          ∙ ap (λ (i : List ℕ). status_of (final_of (record start { input = i; answers = answers })).stop) is
+          ∙ ap (λ (a : Trace → Request → Answer). status_of (final_of (record start { answers = a })).stop) same
 
-      run-ends : LoadsOnce entry.shelf shelf → IsRun start loaded leaving r → r.status ≡ ended.status → entry.source.tells ≡ true → entry.shelf.tells ≡ true
+      run-ends : shelf.tells ≡ entry.shelf.tells → IsRun start loaded leaving r → r.status ≡ ended.status → entry.source.tells ≡ true → entry.shelf.tells ≡ true
           → (r.status ≡ status_of (final_of start).stop) ⊎ (r.status ≡ status_no_memory)
-      run-ends once run same source-tells shelf-tells =
-          elim run.session [
-            | inl untold ↦ let no : true ≡ false = sym shelf-tells ∙ sym once.tells ∙ untold.silent in absurd cc
-            | inr some ↦
-                elim (either r.status run.report.status_is (λ e. fine.shelf (counts.shelf.rose (sym same ∙ e)))
-                (λ e. fine.source (counts.source.rose (sym same ∙ e))) (λ e. fine.sink (counts.sink.rose (sym same ∙ e)))) [
-                  | inl early ↦ inl (at-end some.input (some.input_is source-tells) some.session early)
-                  | inr memory ↦ inr memory
-                ]
+      run-ends kept run same source-tells shelf-tells =
+          let s = run.session in
+          elim (either r.status run.report.status_is (λ e. fine.shelf (counts.shelf.rose (sym same ∙ e)))
+          (λ e. fine.source (counts.source.rose (sym same ∙ e))) (λ e. fine.sink (counts.sink.rose (sym same ∙ e)))) [
+            | inl early ↦ inl (at-end s.input s.answers (s.input_is source-tells) (s.answers_are (kept ∙ shelf-tells)) s.session early)
+            | inr memory ↦ inr memory
           ]
 
-    some-ends : (seed : Option ℕ) (start : Configuration) (shelf : FlatShelf) (left : Stream) (end : Option Whole) → LoadsOnce entry.shelf shelf
-        → IsSomeAnd end (λ whole. IsRun start (devices_for seed (record entry { shelf = shelf })) (record exit { words = left }) (report_of ended whole))
+    some-ends : (seed : Option ℕ) (start : Configuration) (shelf : FlatShelf) (asked : Trace) (left : Stream) (end : Option Whole) → shelf.tells ≡ entry.shelf.tells
+        → IsSomeAnd end (λ whole. IsRun start (devices_for seed (record entry { shelf = shelf })) (record exit { asked = asked; words = left }) (report_of ended whole))
         → entry.source.tells ≡ true → entry.shelf.tells ≡ true → (ended.status ≡ status_of (final_of start).stop) ⊎ (ended.status ≡ status_no_memory)
-    some-ends seed start shelf left None once run source-tells shelf-tells = absurd run
-    some-ends seed start shelf left (Some whole) once run source-tells shelf-tells =
-        run-ends start shelf (words_for seed entry.words) (record exit { words = left }) (report_of ended whole) once run refl source-tells shelf-tells
+    some-ends seed start shelf asked left None kept run source-tells shelf-tells = absurd run
+    some-ends seed start shelf asked left (Some whole) kept run source-tells shelf-tells =
+        run-ends start shelf (words_for seed entry.words) (record exit { asked = asked; words = left }) (report_of ended whole) kept run refl source-tells shelf-tells
 
     -- so does one on a tape, but for want of memory at the line
     line-sent : (line : List ℕ) (r : Report) (before now : FlatSink) → SendsLine line r before now ended → (r.status ≡ ended.status) ⊎ (ended.status ≡ status_no_memory)
@@ -64,11 +65,11 @@ module _ {A : Type 0} (ended : Ended A) (entry exit : Devices) where
     below : (status : ℕ) → (status < status_shelf_fault) ⊎ (status_shelf_fault ≤ status)
     below status = grind arith
 
-    tape-ends : (seed : Option ℕ) (back : ℕ) (start : Configuration) (shelf : FlatShelf) → LoadsOnce entry.shelf shelf → IsRewindOf seed back start (record entry { shelf = shelf }) exit ended
+    tape-ends : (seed : Option ℕ) (back : ℕ) (start : Configuration) (shelf : FlatShelf) (asked : Trace) → shelf.tells ≡ entry.shelf.tells → IsRewindOf seed back start (record entry { shelf = shelf }) (record exit { asked = asked }) ended
         → entry.source.tells ≡ true → entry.shelf.tells ≡ true → (ended.status ≡ status_of (final_of start).stop) ⊎ (ended.status ≡ status_no_memory)
-    tape-ends seed back start shelf once run source-tells shelf-tells =
+    tape-ends seed back start shelf asked kept run source-tells shelf-tells =
         let r : Report = run.report in
-        let mid : Devices = record exit { sink = run.sink; words = run.run.0 } in
+        let mid : Devices = record exit { sink = run.sink; asked = asked; words = run.run.0 } in
         let same : (r.status ≡ ended.status) ⊎ (ended.status ≡ status_no_memory) =
         elim (below r.status) [
           | inl early ↦ line-sent (rewind_line back r) r run.sink exit.sink (run.rewound.told early)
@@ -77,7 +78,7 @@ module _ {A : Type 0} (ended : Ended A) (entry exit : Devices) where
         elim same [
           | inr memory ↦ inr memory
           | inl is ↦
-              elim (run-ends start shelf (words_for seed entry.words) mid r once run.run.2 is source-tells shelf-tells) [
+              elim (run-ends start shelf (words_for seed entry.words) mid r kept run.run.2 is source-tells shelf-tells) [
                 | inl ends ↦ inl (sym is ∙ ends)
                 | inr memory ↦ inr (sym is ∙ memory)
               ]
@@ -93,9 +94,9 @@ module _ {A : Type 0} (ended : Ended A) (entry exit : Devices) where
     outcome-ends (refused status fault at) (inr is, same) source-tells shelf-tells = inr (unbegun is)
     outcome-ends (unstarted fault at) (inl absent, same) source-tells shelf-tells = inl absent.status_is
     outcome-ends (unstarted fault at) (inr is, same) source-tells shelf-tells = inr (unbegun is)
-    outcome-ends (runs seed start) (inl (shelf, once, run)) source-tells shelf-tells = some-ends seed start shelf run.0 ended.machine once run.2 source-tells shelf-tells
+    outcome-ends (runs seed start) (inl begun) source-tells shelf-tells = some-ends seed start begun.shelf begun.asked begun.run.0 ended.machine begun.does.tells begun.run.2 source-tells shelf-tells
     outcome-ends (runs seed start) (inr (is, same)) source-tells shelf-tells = inr (unbegun is)
-    outcome-ends (rewinds seed back start) (inl (shelf, once, run)) source-tells shelf-tells = tape-ends seed back start shelf once run source-tells shelf-tells
+    outcome-ends (rewinds seed back start) (inl begun) source-tells shelf-tells = tape-ends seed back start begun.shelf begun.asked begun.does.tells begun.run source-tells shelf-tells
     outcome-ends (rewinds seed back start) (inr (is, same)) source-tells shelf-tells = inr (unbegun is)
     outcome-ends (tells status output) (inl sends) source-tells shelf-tells = output-ends status output entry.sink exit.sink sends (λ e. fine.sink (counts.sink.rose e))
     outcome-ends (tells status output) (inr (is, same)) source-tells shelf-tells = inr (unbegun is)

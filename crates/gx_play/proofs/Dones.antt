@@ -1,6 +1,9 @@
 -- What a command comes to, from what its parts did.
-use Rattle.std.proofs.Common.{◌≡◌, ◌≢◌, ℕ, ◌≤◌, ◌⊎◌, inl, inr, Bool, true, false, List, Option, Some, None, Result, Ok, Err, refl, ap, subst, sym, ◌∙◌, arith}
+use Rattle.std.proofs.Common.{◌≡◌, ◌≢◌, ℕ, ◌≤◌, ◌⊎◌, inl, inr, Bool, true, false, List, [], ◌∷◌, Option, Some, None, Result, Ok, Err, refl, ap, subst, sym, ◌∙◌, arith}
+use Rattle.gx_words.specs.Constants.{ceiling}
+use Rattle.gx_outside.specs.Chains.{Chain}
 use Rattle.gx_outside.specs.Outside.{FlatShelf, FlatSink}
+use Rattle.gx_outside.specs.Shelves.{loads, Call, Trace, ShelfCall}
 use Rattle.gx_story.specs.Stories.{FlatStory, is_checked}
 use Rattle.gx_asm.specs.declared.faults.AsmFault.{AsmFault}
 use Rattle.gx_asm.specs.declared.faults.ListFault.{ListFault}
@@ -17,8 +20,9 @@ use Rattle.gx_play.specs.declared.command.Job.TheVariants.{Play, Check, Work, As
 use Rattle.gx_play.specs.declared.loading.Refusal.{Refusal}
 use Rattle.gx_play.specs.declared.loading.Refusal.TheVariants as refusal
 use Rattle.gx_play.specs.Commands.{Command, command_of}
+use Rattle.gx_play.specs.Constants.{most_text}
 use Rattle.gx_play.specs.Jobs.{work_line, check_status, check_line}
-use Rattle.gx_play.specs.Headline.{Outcome, refused, unstarted, runs, rewinds, tells, outcome_of_job, outcome_of_check, outcome_of_text, outcome_of_code, outcome_of_list, outcome_of_listing, story_of, text_of, HasNoMachine, IsUnbegun, IsBegun, IsUnrun, IsLoadable, LoadsOnce, SendsOutput, Plays, PlaysStory, MayWant, Loads, LoadsFor, ComesOut, HasItsParts, HandsBack, IsPlaying, IsPlayed}
+use Rattle.gx_play.specs.Headline.{Outcome, refused, unstarted, runs, rewinds, tells, outcome_of_job, outcome_of_check, outcome_of_text, outcome_of_code, outcome_of_list, outcome_of_listing, story_of, text_of, HasNoMachine, IsUnbegun, IsBegun, IsUnrun, IsLoadable, SendsOutput, Plays, PlaysStory, MayWant, LoadsFirst, LoadsOnce, LoadsOnceFor, ComesOut, HasItsParts, HandsBack, IsPlaying, IsPlayed}
 use Rattle.gx_play.specs.Loading.{status_of, fault_of, LoadGives, LoadsFile, JobTells, BlamesSink, HasRunParts, IsIdle, IsDone}
 use Rattle.gx_play.proofs.Completeness.{complete}
 use Rattle.gx_play.proofs.Loads.{loadable, text-loadable}
@@ -160,28 +164,29 @@ module _ {A : Type 0} (ended : Ended A) where
   plays-told outcome entry exit none = absurd none
 
   -- A JOB that hands no machine back, over the file that was loaded
-  module _ (job : Job) (command : Command) (d : Devices) (before now : FlatShelf) (taken took : FlatSink) where
+  module _ (job : Job) (command : Command) (d : Devices) (before now : FlatShelf) (taken took : FlatSink) (asked : Trace) where
     abbrev at-entry : Devices
-    at-entry = record d { sink = taken; shelf = before }
+    at-entry = record d { sink = taken; shelf = before; asked = [] }
 
     abbrev at-exit : Devices
-    at-exit = record d { sink = took; shelf = now }
+    at-exit = record d { sink = took; shelf = now; asked = asked }
 
     told-done : (file : Option (List ℕ)) (outcome : Outcome) (failed : Type 0) → (PlaysStory job → ⊥) → (before.tells ≡ true → file ≡ before.files command.story) → outcome_of_job job command file at-entry ≡ outcome
-        → MayWant job file → Loads job before now → Blames before.calls now.calls failed → (failed → ⊥) → IsTold ended → JobTells outcome taken took ended → BlamesSink taken took ended.status
+        → MayWant job file → LoadsFirst job command file asked → LoadsOnce job asked → Blames before.calls now.calls failed → (failed → ⊥) → IsTold ended → JobTells outcome taken took ended → BlamesSink taken took ended.status
         → IsDone job command at-entry at-exit ended
-    told-done file outcome failed idle holds is may loads count fine t tell blames =
+    told-done file outcome failed idle holds is may first once count fine t tell blames =
         let s = t.absent.status_is in
         let which = t.which in
         record {
           file = file;
           file_is = holds;
+          loads = first;
           plays = subst (λ (o : Outcome). Plays o at-entry at-exit ended) (sym is) (plays-told outcome at-entry at-exit tell);
           memory = λ _. may;
           began = λ e. absurd (grind (arith, s, which, e));
           begun = inr (record {
             machine = t.absent.machine_is;
-            loads = loads;
+            loads = once;
             untouched = record { steps = t.absent.steps_are; source = refl; words = refl };
             unsent = λ plays. absurd (idle plays);
           });
@@ -195,27 +200,27 @@ module _ {A : Type 0} (ended : Ended A) where
 
   -- JOB WORK
   module _ (number : ℕ) (command : Command) (d : Devices) (before now : FlatSink) where
-    work-done : IsTold ended → JobTells (tells status_ended (work_line number)) before now ended → BlamesSink before now ended.status → IsDone (Work number) command (record d { sink = before }) (record d { sink = now }) ended
+    work-done : IsTold ended → JobTells (tells status_ended (work_line number)) before now ended → BlamesSink before now ended.status → IsDone (Work number) command (record d { sink = before; asked = [] }) (record d { sink = now; asked = [] }) ended
     work-done t tell blames =
-        told-done (Work number) command d d.shelf d.shelf before now (d.shelf.files command.story) (tells status_ended (work_line number)) ⊥ (λ plays. plays) (λ _. refl) refl tt refl
+        told-done (Work number) command d d.shelf d.shelf before now [] (d.shelf.files command.story) (tells status_ended (work_line number)) ⊥ (λ plays. plays) (λ _. refl) refl tt tt refl
         (blames-none d.shelf.calls d.shelf.calls ⊥ refl (λ e. e)) (λ e. e) t tell blames
 
-    pub work-told : SendsOutput status_ended (work_line number) before now ended → BlamesSink before now ended.status → IsDone (Work number) command (record d { sink = before }) (record d { sink = now }) ended
+    pub work-told : SendsOutput status_ended (work_line number) before now ended → BlamesSink before now ended.status → IsDone (Work number) command (record d { sink = before; asked = [] }) (record d { sink = now; asked = [] }) ended
     work-told sends blames = work-done (sent status_ended (work_line number) before now (inl refl) sends) (inl sends) blames
 
-  pub work-unmade : (number : ℕ) (command : Command) (d : Devices) → HasNoMachine ended status_no_memory 0 0 → IsDone (Work number) command d d ended
+  pub work-unmade : (number : ℕ) (command : Command) (d : Devices) → HasNoMachine ended status_no_memory 0 0 → IsDone (Work number) command (record d { asked = [] }) (record d { asked = [] }) ended
   work-unmade number command d absent =
       let s = absent.status_is in
       work-done number command d d.sink d.sink (quiet status_no_memory absent (inr (inr (inr refl)))) (inr (absent, refl))
       (blames-none d.sink.calls d.sink.calls (ended.status ≡ status_output_fault) refl (λ e. absurd (omega (arith, s, e))))
 
   -- NOTHING WAS LOADED in a job that loads a file
-  module _ {X : Type 0} (most : ℕ) (defined : Option (List ℕ) → Result X ℕ) (command : Command) (d : Devices) (before now : FlatShelf) where
+  module _ {X : Type 0} (most : ℕ) (defined : Option (List ℕ) → Result X ℕ) (command : Command) (d : Devices) (before now : FlatShelf) (asked : Trace) where
     abbrev entry : Devices
-    entry = record d { shelf = before }
+    entry = record d { shelf = before; asked = [] }
 
     abbrev exit : Devices
-    exit = record d { shelf = now }
+    exit = record d { shelf = now; asked = asked }
 
     not-loaded : (file : Option (List ℕ)) (r : Refusal) (outcome : Outcome) → ((fault : ℕ) → defined file ≡ Err fault → outcome ≡ refused status_bad_story fault 0) → LoadGives most defined file (Err r) → HasNoMachine ended (status_of r) (fault_of r) 0
         → Plays outcome entry exit ended
@@ -247,21 +252,22 @@ module _ {A : Type 0} (ended : Ended A) where
     which-of refusal.Shelf absent = inr (inl absent.status_is)
     which-of refusal.NoMemory absent = inr (inr absent.status_is)
 
-    pub refused-done : (job : Job) (r : Refusal) (l : LoadsFile most defined before command.story (Err r)) → LoadsOnce before now → Blames before.calls now.calls (let e : Result X Refusal = Err r in e ≡ Err refusal.Shelf)
+    pub refused-done : (job : Job) (r : Refusal) (l : LoadsFile most defined before now command.story asked (Err r)) → Blames before.calls now.calls (let e : Result X Refusal = Err r in e ≡ Err refusal.Shelf)
         → ((fault : ℕ) → (let e : Result X Refusal = Err r in e ≡ Err (refusal.BadStory fault)) → fault ≤ 7) → HasNoMachine ended (status_of r) (fault_of r) 0
-        → ((fault : ℕ) → defined l.file ≡ Err fault → outcome_of_job job command l.file entry ≡ refused status_bad_story fault 0) → (IsLoadable most l.file → MayWant job l.file) → (LoadsOnce before now → Loads job before now)
-        → IsDone job command entry exit ended
-    refused-done job r l once count small absent bad may load =
+        → ((fault : ℕ) → defined l.file ≡ Err fault → outcome_of_job job command l.file entry ≡ refused status_bad_story fault 0) → (IsLoadable most l.file → MayWant job l.file)
+        → LoadsFirst job command l.file ((loads command.story most, l.answer) ∷ []) → ((load : Call) × (asked ≡ load ∷ []) → LoadsOnce job asked) → IsDone job command entry exit ended
+    refused-done job r l count small absent bad may first once =
         let which = which-of r absent in
         record {
           file = l.file;
           file_is = l.file_is;
+          loads = subst (LoadsFirst job command l.file) (sym l.asked_are) first;
           plays = not-loaded l.file r (outcome_of_job job command l.file entry) bad l.gives absent;
           memory = λ e. may (wants l.file r l.gives absent e);
           began = λ e. absurd (grind (arith, which, e));
           begun = inr (record {
             machine = absent.machine_is;
-            loads = load once;
+            loads = once ((loads command.story most, l.answer), l.asked_are);
             untouched = record { steps = absent.steps_are; source = refl; words = refl };
             unsent = λ _. refl;
           });
@@ -278,23 +284,26 @@ module _ {A : Type 0} (ended : Ended A) where
   either true = inl refl
   either false = inr refl
 
-  module _ (command : Command) (d : Devices) (before now : FlatShelf) (taken took : FlatSink) (file : Option (List ℕ)) (holds : before.tells ≡ true → file ≡ before.files command.story) (once : LoadsOnce before now) (blames : BlamesSink taken took ended.status) where
-    pub check-told : (story : FlatStory) → story_of file ≡ Ok story → Blames before.calls now.calls (let e : Result FlatStory Refusal = Ok story in e ≡ Err refusal.Shelf)
-        → SendsOutput (check_status (is_checked story)) (check_line (is_checked story)) taken took ended → IsDone Check command (record d { sink = taken; shelf = before }) (record d { sink = took; shelf = now }) ended
-    check-told story good count sends =
-        told-done Check command d before now taken took file (tells (check_status (is_checked story)) (check_line (is_checked story))) _ (λ plays. plays) holds (ap outcome_of_check good) (loadable file story good) once count (λ e. absurd cc)
+  module _ (command : Command) (d : Devices) (before now : FlatShelf) (taken took : FlatSink) (asked : Trace) (blames : BlamesSink taken took ended.status) where
+    pub check-told : (story : FlatStory) (l : LoadsFile ceiling story_of before now command.story asked (Ok story)) → Blames before.calls now.calls (let e : Result FlatStory Refusal = Ok story in e ≡ Err refusal.Shelf)
+        → SendsOutput (check_status (is_checked story)) (check_line (is_checked story)) taken took ended → IsDone Check command (record d { sink = taken; shelf = before; asked = [] }) (record d { sink = took; shelf = now; asked = asked }) ended
+    check-told story l count sends =
+        told-done Check command d before now taken took asked l.file (tells (check_status (is_checked story)) (check_line (is_checked story))) _ (λ plays. plays) l.file_is (ap outcome_of_check l.gives) (loadable l.file story l.gives)
+        (subst (LoadsFirst Check command l.file) (sym l.asked_are) (refl, l.handed)) ((loads command.story ceiling, l.answer), l.asked_are) count (λ e. absurd cc)
         (sent (check_status (is_checked story)) (check_line (is_checked story)) taken took (either (is_checked story)) sends) (inl sends) blames
 
-    pub asm-told : (text : List ℕ) → text_of file ≡ Ok text → Blames before.calls now.calls (let e : Result (List ℕ) Refusal = Ok text in e ≡ Err refusal.Shelf) → (ended.status ≡ status_bad_text → (1 ≤ ended.fault) × (ended.fault ≤ 4))
-        → JobTells (outcome_of_code (assembled text)) taken took ended → IsDone Asm command (record d { sink = taken; shelf = before }) (record d { sink = took; shelf = now }) ended
-    asm-told text good count number tell =
-        told-done Asm command d before now taken took file (outcome_of_code (assembled text)) _ (λ plays. plays) holds (ap outcome_of_text good) (text-loadable file text good) once count (λ e. absurd cc)
+    pub asm-told : (text : List ℕ) (l : LoadsFile most_text text_of before now command.story asked (Ok text)) → Blames before.calls now.calls (let e : Result (List ℕ) Refusal = Ok text in e ≡ Err refusal.Shelf) → (ended.status ≡ status_bad_text → (1 ≤ ended.fault) × (ended.fault ≤ 4))
+        → JobTells (outcome_of_code (assembled text)) taken took ended → IsDone Asm command (record d { sink = taken; shelf = before; asked = [] }) (record d { sink = took; shelf = now; asked = asked }) ended
+    asm-told text l count number tell =
+        told-done Asm command d before now taken took asked l.file (outcome_of_code (assembled text)) _ (λ plays. plays) l.file_is (ap outcome_of_text l.gives) (text-loadable l.file text l.gives)
+        (subst (LoadsFirst Asm command l.file) (sym l.asked_are) (refl, l.handed)) ((loads command.story most_text, l.answer), l.asked_are) count (λ e. absurd cc)
         (code-told (assembled text) taken took number tell) tell blames
 
-    pub list-told : (story : FlatStory) → story_of file ≡ Ok story → Blames before.calls now.calls (let e : Result FlatStory Refusal = Ok story in e ≡ Err refusal.Shelf) → (ended.status ≡ status_no_listing → (1 ≤ ended.fault) × (ended.fault ≤ 5))
-        → JobTells (outcome_of_listing (listed_story story)) taken took ended → IsDone Listing command (record d { sink = taken; shelf = before }) (record d { sink = took; shelf = now }) ended
-    list-told story good count number tell =
-        told-done Listing command d before now taken took file (outcome_of_listing (listed_story story)) _ (λ plays. plays) holds (ap outcome_of_list good) (loadable file story good) once count (λ e. absurd cc)
+    pub list-told : (story : FlatStory) (l : LoadsFile ceiling story_of before now command.story asked (Ok story)) → Blames before.calls now.calls (let e : Result FlatStory Refusal = Ok story in e ≡ Err refusal.Shelf) → (ended.status ≡ status_no_listing → (1 ≤ ended.fault) × (ended.fault ≤ 5))
+        → JobTells (outcome_of_listing (listed_story story)) taken took ended → IsDone Listing command (record d { sink = taken; shelf = before; asked = [] }) (record d { sink = took; shelf = now; asked = asked }) ended
+    list-told story l count number tell =
+        told-done Listing command d before now taken took asked l.file (outcome_of_listing (listed_story story)) _ (λ plays. plays) l.file_is (ap outcome_of_list l.gives) (loadable l.file story l.gives)
+        (subst (LoadsFirst Listing command l.file) (sym l.asked_are) (refl, l.handed)) ((loads command.story ceiling, l.answer), l.asked_are) count (λ e. absurd cc)
         (listing-told (listed_story story) taken took number tell) tell blames
 
   -- no run was begun by a command with this job
@@ -306,18 +315,20 @@ module _ {A : Type 0} (ended : Ended A) where
   -- THE WHOLE CALL
   module _ (words : List (List ℕ)) (entry : Devices) where
     -- the command line has a command, and its job was done
-    pub played-done : (command : Command) (exit : Devices) → command_of words ≡ Some command → IsDone command.job command entry exit ended → IsPlayed words entry exit ended
-    played-done command exit is done =
+    pub played-done : (command : Command) (exit : Devices) → command_of words ≡ Some command → Chain ShelfCall entry.shelf exit.asked exit.shelf → IsDone command.job command entry exit ended → IsPlayed words entry exit ended
+    played-done command exit is chain done =
         let headline : ComesOut (command_of words) entry exit ended =
         subst (λ (o : Option Command). ComesOut o entry exit ended) (sym is) (record {
           file = done.file;
           file_is = done.file_is;
+          loads = done.loads;
           plays = done.plays;
           begun = unrun command entry exit (outcome_of_job command.job command done.file entry) done.begun;
           memory = λ e. inr (done.memory e);
         }) in
         record {
           headline = headline;
+          shelf_calls = chain;
           complete = complete ended entry exit (command_of words) headline done.counts;
           bad_words = (λ e. absurd (done.began e), λ none. let absent = none.0 in absurd cc);
           unread = λ none. absurd cc;
@@ -330,6 +341,9 @@ module _ {A : Type 0} (ended : Ended A) where
         }
 
     -- no device was called
+    no-calls : entry.asked ≡ [] → Chain ShelfCall entry.shelf entry.asked entry.shelf
+    no-calls first = subst (λ (t : Trace). Chain ShelfCall entry.shelf t entry.shelf) (sym first) refl
+
     none-called : (status : ℕ) → ended.status ≡ status → (status ≡ 1) ⊎ (status ≡ 11) → Counts entry entry ended.status
     none-called status s which = record {
       shelf = blames-none entry.shelf.calls entry.shelf.calls (ended.status ≡ status_shelf_fault) refl (λ e. absurd (grind (arith, s, which, e)));
@@ -337,28 +351,30 @@ module _ {A : Type 0} (ended : Ended A) where
       sink = blames-none entry.sink.calls entry.sink.calls (ended.status ≡ status_output_fault) refl (λ e. absurd (grind (arith, s, which, e)));
     }
 
-    untouched-by : (o : Option Command) → ended.machine ≡ None → ended.steps ≡ 0 → LoadsFor o entry entry ended.status → IsUnrun o entry entry ended
-    untouched-by o machine steps loads = record {
+    untouched-by : (o : Option Command) → ended.machine ≡ None → ended.steps ≡ 0 → LoadsOnceFor o entry entry ended.status → IsUnrun o entry entry ended
+    untouched-by o machine steps once = record {
       machine = machine;
-      loads = loads;
+      loads = once;
       untouched = record { steps = steps; source = refl; words = refl };
       unsent = λ _. refl;
     }
 
     -- it has none
-    pub played-none : command_of words ≡ None → HasNoMachine ended status_bad_words 0 0 → IsPlayed words entry entry ended
-    played-none none absent =
+    pub played-none : entry.asked ≡ [] → command_of words ≡ None → HasNoMachine ended status_bad_words 0 0 → IsPlayed words entry entry ended
+    played-none first none absent =
         let s = absent.status_is in
         let headline : ComesOut (command_of words) entry entry ended =
         subst (λ (o : Option Command). ComesOut o entry entry ended) (sym none) (record {
           file = None;
           file_is = tt;
+          loads = first;
           plays = (inl absent, refl);
           begun = inr (untouched-by None absent.machine_is absent.steps_are refl);
           memory = λ e. absurd (omega (arith, s, e));
         }) in
         record {
           headline = headline;
+          shelf_calls = no-calls first;
           complete = complete ended entry entry (command_of words) headline (none-called status_bad_words s (inl refl));
           bad_words = (λ _. (none, λ e. absurd (omega (arith, s, e))), λ _. s);
           unread = λ _. refl;
@@ -370,28 +386,31 @@ module _ {A : Type 0} (ended : Ended A) where
           spelling = spelling;
         }
 
-    unread-comes : (o : Option Command) → HasNoMachine ended status_no_memory 0 0 → ComesOut o entry entry ended
-    unread-comes None absent = record {
+    unread-comes : (o : Option Command) → entry.asked ≡ [] → HasNoMachine ended status_no_memory 0 0 → ComesOut o entry entry ended
+    unread-comes None first absent = record {
       file = None;
       file_is = tt;
+      loads = first;
       plays = (inr (inr absent), refl);
       begun = inr (untouched-by None absent.machine_is absent.steps_are refl);
       memory = λ _. inl refl;
     }
-    unread-comes (Some command) absent = record {
+    unread-comes (Some command) first absent = record {
       file = entry.shelf.files command.story;
       file_is = λ _. refl;
+      loads = subst (LoadsFirst command.job command (entry.shelf.files command.story)) (sym first) tt;
       plays = unbegun-plays (outcome_of_job command.job command (entry.shelf.files command.story) entry) entry entry (inr absent) refl;
       begun = inr (untouched-by (Some command) absent.machine_is absent.steps_are (inr (absent.status_is, refl)));
       memory = λ _. inl refl;
     }
 
     -- memory ran out while the words were read
-    pub played-unread : HasNoMachine ended status_no_memory 0 0 → IsPlayed words entry entry ended
-    played-unread absent =
+    pub played-unread : entry.asked ≡ [] → HasNoMachine ended status_no_memory 0 0 → IsPlayed words entry entry ended
+    played-unread first absent =
         let s = absent.status_is in
         record {
-          headline = unread-comes (command_of words) absent;
+          headline = unread-comes (command_of words) first absent;
+          shelf_calls = no-calls first;
           complete = λ _ _ _. inr s;
           bad_words = (λ e. absurd (omega (arith, s, e)), λ p. absurd (p.1 s));
           unread = λ _. refl;

@@ -1,9 +1,12 @@
 -- The file that a load answers for.
-use Rattle.std.proofs.Common.{◌≡◌, ◌≢◌, ℕ, ◌+◌, ◌<◌, ◌≤◌, nat_lt, if◌then◌else◌, Bool, true, false, List, [], length, replicate, Option, Some, None, Result, Ok, Err, refl, ap, subst, sym, ◌∙◌, arith}
-use Rattle.std.proofs.lemmas.Bool.{lt-ltb, le-ltb, ltb-false}
+use Rattle.std.proofs.Common.{◌≡◌, ◌≢◌, ℕ, ◌+◌, ◌<◌, ◌≤◌, nat_lt, if◌then◌else◌, Bool, true, false, List, [], ◌∷◌, length, replicate, Option, Some, None, Result, Ok, Err, refl, ap, subst, sym, ◌∙◌, arith}
+use Rattle.std.proofs.lemmas.Bool.{lt-ltb, le-ltb, ltb-true, ltb-false}
 use Rattle.std.proofs.lemmas.List.{length-replicate}
 use Rattle.gx_words.specs.Constants.{ceiling}
-use Rattle.gx_outside.specs.Outside.{FlatShelf}
+use Rattle.gx_outside.specs.Outside.{FlatShelf, IsBounded}
+use Rattle.gx_outside.specs.Shelves.{loads, loaded, load_of, MayWant, ShelfCall}
+use Rattle.gx_outside.specs.declared.devices.Load.{Load}
+use Rattle.gx_outside.specs.declared.devices.Load.TheVariants.{Missing, TooLong, Found}
 use Rattle.gx_outside.specs.declared.devices.ShelfFault.{ShelfFault}
 use Rattle.gx_outside.specs.declared.devices.ShelfFault.TheVariants as of_shelf
 use Rattle.gx_story.specs.declared.faults.StoryFault.{StoryFault}
@@ -39,58 +42,133 @@ shorter-text : (bytes : List ℕ) → length bytes ≤ most_text → text_of (So
 shorter-text bytes fits =
     ap (λ (b : Bool). let r : Result (List ℕ) ℕ = if b then Err (number_of of_story.TooLarge) else Ok bytes in r) (le-ltb most_text (length bytes) fits)
 
-module _ {X : Type 0} (most : ℕ) (defined : Option (List ℕ) → Result X ℕ) (shelf : FlatShelf) (name : List ℕ) where
-  -- a shelf that tells has a file, and for another there is some
-  told-or : (b : Bool) → shelf.tells ≡ b → (result : Result X Refusal) → (b ≡ true → LoadGives most defined (shelf.files name) result) → (other : Option (List ℕ)) → LoadGives most defined other result
-      → LoadsFile most defined shelf name result
-  told-or true tells result gives other good = record { file = shelf.files name; file_is = λ _. refl; gives = gives refl }
-  told-or false tells result gives other good = record { file = other; file_is = λ e. absurd cc; gives = good }
+-- WHAT IS HANDED OUT of a file
+-- by its size
+sized : (most : ℕ) (bytes : List ℕ) (b : Bool) → nat_lt most (length bytes) ≡ b → load_of most (Some bytes) ≡ (if b then TooLong else Found bytes)
+sized most bytes b is = ap (λ (x : Bool). if x then TooLong else Found bytes) is
 
-  -- the shelf refused
-  pub loads-refused : (f : ShelfFault) → (shelf.tells ≡ true → f ≡ of_shelf.NoMemory → IsLoadable most (shelf.files name)) → LoadsFile most defined shelf name (Err (refusal_of_shelf f))
-  loads-refused of_shelf.Failed memory = told-or shelf.tells refl (Err refusal.Shelf) (λ _. tt) None tt
-  loads-refused of_shelf.NoMemory memory = told-or shelf.tells refl (Err refusal.NoMemory) (λ tells. memory tells refl) (Some []) (omega arith)
+missing-by : (most : ℕ) (bytes : List ℕ) (b : Bool) → loaded Missing ≡ loaded (if b then TooLong else Found bytes) → ⊥
+missing-by most bytes true is = cc
+missing-by most bytes false is = cc
 
-  -- there is no file
-  pub loads-missing : defined None ≡ Err no_file → (shelf.tells ≡ true → shelf.files name ≡ None) → LoadsFile most defined shelf name (Err (refusal.BadStory no_file))
-  loads-missing is found = record { file = None; file_is = λ tells. sym (found tells); gives = is }
+missing-is : (most : ℕ) (file : Option (List ℕ)) → loaded Missing ≡ loaded (load_of most file) → file ≡ None
+missing-is most None is = refl
+missing-is most (Some bytes) is = absurd (missing-by most bytes (nat_lt most (length bytes)) is)
 
-  -- the file is too long
-  loads-longer : ((bytes : List ℕ) → most < length bytes → defined (Some bytes) ≡ Err (number_of of_story.TooLarge))
-      → (shelf.tells ≡ true → (bytes : List ℕ) × (shelf.files name ≡ Some bytes) × (most < length bytes)) → LoadsFile most defined shelf name (Err (refusal.BadStory (number_of of_story.TooLarge)))
-  loads-longer refuses found =
+long-by : (most : ℕ) (bytes : List ℕ) (b : Bool) → nat_lt most (length bytes) ≡ b → loaded TooLong ≡ loaded (if b then TooLong else Found bytes) → most < length bytes
+long-by most bytes true e is = ltb-true most (length bytes) e
+long-by most bytes false e is = absurd cc
+
+long-is : (most : ℕ) (file : Option (List ℕ)) → loaded TooLong ≡ loaded (load_of most file) → (bytes : List ℕ) × (file ≡ Some bytes) × (most < length bytes)
+long-is most None is = absurd cc
+long-is most (Some bytes) is = (bytes, refl, long-by most bytes (nat_lt most (length bytes)) refl is)
+
+found-by : (most : ℕ) (bytes there : List ℕ) (b : Bool) → loaded (Found bytes) ≡ loaded (if b then TooLong else Found there) → there ≡ bytes
+found-by most bytes there true is = absurd cc
+found-by most bytes there false is = cc
+
+found-is : (most : ℕ) (bytes : List ℕ) (file : Option (List ℕ)) → loaded (Found bytes) ≡ loaded (load_of most file) → file ≡ Some bytes
+found-is most bytes None is = absurd cc
+found-is most bytes (Some there) is = ap (λ (x : List ℕ). Some x) (found-by most bytes there (nat_lt most (length there)) is)
+
+wants-by : (most : ℕ) (name bytes : List ℕ) (b : Bool) → nat_lt most (length bytes) ≡ b → MayWant (loads name most) (loaded (if b then TooLong else Found bytes)) → length bytes ≤ most
+wants-by most name bytes true e may = absurd may
+wants-by most name bytes false e may = may
+
+wants-file : (most : ℕ) (name : List ℕ) (file : Option (List ℕ)) → MayWant (loads name most) (loaded (load_of most file)) → IsLoadable most file
+wants-file most name None may = absurd may
+wants-file most name (Some bytes) may = wants-by most name bytes (nat_lt most (length bytes)) refl may
+
+module _ (most : ℕ) (name : List ℕ) (before now : FlatShelf) where
+  -- some file of which this is handed out: the shelf's, where it tells
+  record Handed (load : Load) : Type 0 where
+    file : Option (List ℕ)
+    file_is : before.tells ≡ true → file ≡ before.files name
+    handed : loaded load ≡ loaded (load_of most file)
+
+  some-handed : (load : Load) → IsBounded most load → (file : Option (List ℕ)) × (loaded load ≡ loaded (load_of most file))
+  some-handed Missing fits = (None, refl)
+  some-handed TooLong fits =
       let longer = some-longer most in
-      told-or shelf.tells refl (Err (refusal.BadStory (number_of of_story.TooLarge)))
-      (λ tells. let f = found tells in ap defined f.1 ∙ refuses f.0 f.2)
-      (Some longer.0) (refuses longer.0 longer.1)
+      (Some longer.0, ap (λ (x : Load). loaded x) (sym (sized most longer.0 true (lt-ltb most (length longer.0) longer.1))))
+  some-handed (Found bytes) fits = (Some bytes, ap (λ (x : Load). loaded x) (sym (sized most bytes false (le-ltb most (length bytes) fits))))
 
-module _ (shelf : FlatShelf) (name : List ℕ) where
+  handed-by : (load : Load) (b : Bool) → before.tells ≡ b → ShelfCall before (loads name most, Ok (loaded load)) now → Handed load
+  handed-by load true tells does = record { file = before.files name; file_is = λ _. refl; handed = (does.files tells).0 }
+  handed-by load false tells does =
+      let some = some-handed load does.answer in
+      record { file = some.0; file_is = λ e. absurd cc; handed = some.1 }
+
+  module _ {X : Type 0} (defined : Option (List ℕ) → Result X ℕ) where
+    -- what the file is then
+    pub loads-load : (load : Load) (result : Result X Refusal) → ShelfCall before (loads name most, Ok (loaded load)) now
+        → ((file : Option (List ℕ)) → loaded load ≡ loaded (load_of most file) → LoadGives most defined file result)
+        → LoadsFile most defined before now name ((loads name most, Ok (loaded load)) ∷ []) result
+    loads-load load result does gives =
+        let h = handed-by load before.tells refl does in
+        record { answer = Ok (loaded load); asked_are = refl; does = does; file = h.file; file_is = h.file_is; handed = h.handed; gives = gives h.file h.handed }
+
+    -- the shelf refused
+    refused-by : (f : ShelfFault) (b : Bool) → before.tells ≡ b → ShelfCall before (loads name most, Err f) now
+        → LoadsFile most defined before now name ((loads name most, Err f) ∷ []) (Err (refusal_of_shelf f))
+    refused-by of_shelf.Failed b tells does = record { answer = Err of_shelf.Failed; asked_are = refl; does = does; file = before.files name; file_is = λ _. refl; handed = tt; gives = tt }
+    refused-by of_shelf.NoMemory true tells does = record {
+      answer = Err of_shelf.NoMemory;
+      asked_are = refl;
+      does = does;
+      file = before.files name;
+      file_is = λ _. refl;
+      handed = tt;
+      gives = wants-file most name (before.files name) (does.files tells).1;
+    }
+    refused-by of_shelf.NoMemory false tells does = record { answer = Err of_shelf.NoMemory; asked_are = refl; does = does; file = Some []; file_is = λ e. absurd cc; handed = tt; gives = omega arith }
+
+    pub loads-refused : (f : ShelfFault) → ShelfCall before (loads name most, Err f) now → LoadsFile most defined before now name ((loads name most, Err f) ∷ []) (Err (refusal_of_shelf f))
+    loads-refused f does = refused-by f before.tells refl does
+
+    -- there is no file
+    pub loads-missing : defined None ≡ Err no_file → ShelfCall before (loads name most, Ok (loaded Missing)) now
+        → LoadsFile most defined before now name ((loads name most, Ok (loaded Missing)) ∷ []) (Err (refusal.BadStory no_file))
+    loads-missing is does = loads-load Missing (Err (refusal.BadStory no_file)) does (λ file handed. ap defined (missing-is most file handed) ∙ is)
+
+module _ (name : List ℕ) (before now : FlatShelf) where
   -- the story's file is too long
-  pub loads-long-story : (shelf.tells ≡ true → (bytes : List ℕ) × (shelf.files name ≡ Some bytes) × (ceiling < length bytes))
-      → LoadsFile ceiling story_of shelf name (Err (refusal.BadStory (number_of of_story.TooLarge)))
-  loads-long-story found = loads-longer ceiling story_of shelf name longer-story found
+  pub loads-long-story : ShelfCall before (loads name ceiling, Ok (loaded TooLong)) now
+      → LoadsFile ceiling story_of before now name ((loads name ceiling, Ok (loaded TooLong)) ∷ []) (Err (refusal.BadStory (number_of of_story.TooLarge)))
+  loads-long-story does =
+      loads-load ceiling name before now story_of TooLong (Err (refusal.BadStory (number_of of_story.TooLarge))) does
+      (λ file handed. let long = long-is ceiling file handed in ap story_of long.1 ∙ longer-story long.0 long.2)
 
   -- so is the text's
-  pub loads-long-text : (shelf.tells ≡ true → (bytes : List ℕ) × (shelf.files name ≡ Some bytes) × (most_text < length bytes))
-      → LoadsFile most_text text_of shelf name (Err (refusal.BadStory (number_of of_story.TooLarge)))
-  loads-long-text found = loads-longer most_text text_of shelf name longer-text found
+  pub loads-long-text : ShelfCall before (loads name most_text, Ok (loaded TooLong)) now
+      → LoadsFile most_text text_of before now name ((loads name most_text, Ok (loaded TooLong)) ∷ []) (Err (refusal.BadStory (number_of of_story.TooLarge)))
+  loads-long-text does =
+      loads-load most_text name before now text_of TooLong (Err (refusal.BadStory (number_of of_story.TooLarge))) does
+      (λ file handed. let long = long-is most_text file handed in ap text_of long.1 ∙ longer-text long.0 long.2)
 
-  module _ (bytes : List ℕ) (fits : length bytes ≤ ceiling) (found : shelf.tells ≡ true → shelf.files name ≡ Some bytes) where
+  module _ (bytes : List ℕ) (does : ShelfCall before (loads name ceiling, Ok (loaded (Found bytes))) now) where
     -- the file is a story
-    pub loads-story : (story : FlatStory) → accepted bytes ≡ Ok story → LoadsFile ceiling story_of shelf name (Ok story)
-    loads-story story good = record { file = Some bytes; file_is = λ tells. sym (found tells); gives = shorter-story bytes fits ∙ ap numbered good }
+    pub loads-story : (story : FlatStory) → accepted bytes ≡ Ok story → LoadsFile ceiling story_of before now name ((loads name ceiling, Ok (loaded (Found bytes))) ∷ []) (Ok story)
+    loads-story story good =
+        loads-load ceiling name before now story_of (Found bytes) (Ok story) does
+        (λ file handed. ap story_of (found-is ceiling bytes file handed) ∙ shorter-story bytes does.answer ∙ ap numbered good)
 
     bad-story : (f : StoryFault) → (f ≢ of_story.NoMemory → accepted bytes ≡ Err f) → LoadGives ceiling story_of (Some bytes) (Err (refusal_of_story f))
-    bad-story of_story.NoMemory bad = fits
-    bad-story f bad = shorter-story bytes fits ∙ ap numbered (bad (λ e. cc))
+    bad-story of_story.NoMemory bad = does.answer
+    bad-story f bad = shorter-story bytes does.answer ∙ ap numbered (bad (λ e. cc))
 
     -- it is none
-    pub loads-no-story : (f : StoryFault) → (f ≢ of_story.NoMemory → accepted bytes ≡ Err f) → LoadsFile ceiling story_of shelf name (Err (refusal_of_story f))
-    loads-no-story f bad = record { file = Some bytes; file_is = λ tells. sym (found tells); gives = bad-story f bad }
+    pub loads-no-story : (f : StoryFault) → (f ≢ of_story.NoMemory → accepted bytes ≡ Err f) → LoadsFile ceiling story_of before now name ((loads name ceiling, Ok (loaded (Found bytes))) ∷ []) (Err (refusal_of_story f))
+    loads-no-story f bad =
+        loads-load ceiling name before now story_of (Found bytes) (Err (refusal_of_story f)) does
+        (λ file handed. subst (λ (o : Option (List ℕ)). LoadGives ceiling story_of o (Err (refusal_of_story f))) (sym (found-is ceiling bytes file handed)) (bad-story f bad))
 
   -- the file is a text
-  pub loads-text : (bytes : List ℕ) → length bytes ≤ most_text → (shelf.tells ≡ true → shelf.files name ≡ Some bytes) → LoadsFile most_text text_of shelf name (Ok bytes)
-  loads-text bytes fits found = record { file = Some bytes; file_is = λ tells. sym (found tells); gives = shorter-text bytes fits }
+  pub loads-text : (bytes : List ℕ) → ShelfCall before (loads name most_text, Ok (loaded (Found bytes))) now
+      → LoadsFile most_text text_of before now name ((loads name most_text, Ok (loaded (Found bytes))) ∷ []) (Ok bytes)
+  loads-text bytes does =
+      loads-load most_text name before now text_of (Found bytes) (Ok bytes) does
+      (λ file handed. ap text_of (found-is most_text bytes file handed) ∙ shorter-text bytes does.answer)
 
 -- a file with a story can be loaded
 by-size : (bytes : List ℕ) (story : FlatStory) (b : Bool) → nat_lt ceiling (length bytes) ≡ b

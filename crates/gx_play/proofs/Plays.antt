@@ -1,24 +1,32 @@
 -- What a story that was loaded comes to.
-use Rattle.std.proofs.Common.{◌≡◌, ◌≢◌, ℕ, ◌⊎◌, inl, inr, List, Option, None, Result, Ok, Err, refl, ap, subst, sym}
+use Rattle.std.proofs.Common.{◌≡◌, ◌≢◌, ℕ, ◌⊎◌, inl, inr, true, List, [], ◌∷◌, Option, Some, None, IsSomeAnd, Result, Ok, Err, refl, ap, subst, sym, ◌∙◌}
 use Rattle.gx_words.specs.declared.faults.Fault.{Fault}
 use Rattle.gx_words.specs.declared.faults.Fault.TheVariants.{NoMemory}
 use Rattle.gx_words.specs.Constants.{ceiling}
 use Rattle.gx_words.specs.Faults.{number_of}
 use Rattle.gx_outside.specs.Files.{Files}
 use Rattle.gx_outside.specs.Outside.{FlatShelf}
+use Rattle.gx_outside.specs.Shelves.{Request, loads, Answer, Call, Trace, FilesCall, ShelfCall, told_by}
+use Rattle.gx_outside.specs.declared.devices.ShelfFault.{ShelfFault}
+use Rattle.gx_outside.specs.declared.devices.ShelfFault.TheVariants as of_shelf
 use Rattle.gx_story.specs.Stories.{FlatStory}
+use Rattle.gx_machine.specs.Log.{no_events}
 use Rattle.gx_machine.specs.Machine.{Whole}
 use Rattle.gx_machine.specs.Start.{first_machine}
 use Rattle.gx_session.specs.declared.ended.Ended.{Ended}
 use Rattle.gx_session.specs.Constants.{status_fault, status_shelf_fault, status_no_memory}
 use Rattle.gx_session.specs.Devices.{Devices}
 use Rattle.gx_session.specs.Counts.{Blames, Counts}
+use Rattle.gx_session.specs.Runs.{IsRun, Report, report_of}
+use Rattle.gx_session.specs.Session.{Configuration}
 use Rattle.gx_play.specs.declared.command.Job.{Job}
 use Rattle.gx_play.specs.declared.command.Job.TheVariants.{Play, Rewind}
 use Rattle.gx_play.specs.Commands.{Command}
-use Rattle.gx_play.specs.Headline.{Outcome, unstarted, runs, rewinds, outcome_of_start, outcome_of_story, outcome_of_job, story_of, HasNoMachine, IsBegun, IsLoadable, Loads, LoadsOnce, MayWant, Plays, PlaysStory}
+use Rattle.gx_play.specs.Headline.{Outcome, unstarted, runs, rewinds, outcome_of_start, outcome_of_story, outcome_of_job, story_of, start_for, HasNoMachine, IsRunOf, IsRewindOf, BeginsAfter, IsBegun, IsHanded, LoadsFirst, IsLoadable, LoadsOnce, MayWant, Plays, PlaysStory}
 use Rattle.gx_play.specs.Loading.{IsIdle, IsStill, StoryPlays}
+use Rattle.gx_play.specs.Seeds.{devices_for, words_for}
 use Rattle.gx_session.proofs.Counting.{well-of, blames-on}
+use Rattle.rand_core.specs.Stream.{Stream}
 
 -- THE JOBS THAT PLAY A STORY come to what the story comes to
 pub plays-story : (job : Job) (command : Command) (file : Option (List ℕ)) (entry : Devices) → PlaysStory job → outcome_of_job job command file entry ≡ outcome_of_story job command entry (story_of file)
@@ -26,11 +34,18 @@ plays-story Play command file entry plays = refl
 plays-story Rewind command file entry plays = refl
 plays-story job command file entry plays = absurd plays
 
--- they ask the shelf for the file
-pub loads-story : (job : Job) (before now : FlatShelf) → PlaysStory job → LoadsOnce before now → Loads job before now
-loads-story Play before now plays once = once
-loads-story Rewind before now plays once = once
-loads-story job before now plays once = absurd plays
+-- they ask the shelf once
+pub loads-story : (job : Job) (asked : Trace) → PlaysStory job → (load : Call) × (asked ≡ load ∷ []) → LoadsOnce job asked
+loads-story Play asked plays once = once
+loads-story Rewind asked plays once = once
+loads-story job asked plays once = absurd plays
+
+-- for the file
+pub first-story : (job : Job) (command : Command) (file : Option (List ℕ)) (answer : Result Answer ShelfFault) (rest : Trace) → PlaysStory job → IsHanded ceiling file answer
+    → LoadsFirst job command file ((loads command.story ceiling, answer) ∷ rest)
+first-story Play command file answer rest plays handed = (refl, handed)
+first-story Rewind command file answer rest plays handed = (refl, handed)
+first-story job command file answer rest plays handed = absurd plays
 
 -- and may want memory where there is one
 pub wants-story : (job : Job) (file : Option (List ℕ)) → PlaysStory job → IsLoadable ceiling file → MayWant job file
@@ -38,12 +53,28 @@ wants-story Play file plays may = may
 wants-story Rewind file plays may = may
 wants-story job file plays may = absurd plays
 
--- what a shelf has beside its files is no matter to the outcome
-same-files : (job : Job) (command : Command) (story : FlatStory) (entry : Devices) (shelf : FlatShelf) (r : Result Whole Fault) → shelf.files ≡ entry.shelf.files
-    → outcome_of_start job command story (record entry { shelf = shelf }) r ≡ outcome_of_start job command story entry r
-same-files Rewind command story entry shelf (Ok whole) same = ap (λ (f : Files). let e : Devices = record entry { shelf = record shelf { files = f } } in outcome_of_start Rewind command story e (Ok whole)) same
-same-files job command story entry shelf (Ok whole) same = ap (λ (f : Files). let e : Devices = record entry { shelf = record shelf { files = f } } in outcome_of_start job command story e (Ok whole)) same
-same-files job command story entry shelf (Err f) same = refl
+-- a load leaves the files
+load-keeps : (before now : Files) (name : List ℕ) (most : ℕ) (answer : Result Answer ShelfFault) → FilesCall before (loads name most) answer now → now ≡ before
+load-keeps before now name most (Ok a) does = does.1
+load-keeps before now name most (Err of_shelf.Failed) does = does
+load-keeps before now name most (Err of_shelf.NoMemory) does = does.0
+
+-- The answers of a shelf that doesn't tell are no matter to a run.
+answers-moved : (start : Configuration) (answers : Trace → Request → Answer) (entry exit : Devices) (r : Report) → (entry.shelf.tells ≡ true → start.answers ≡ answers) → IsRun start entry exit r → IsRun (record start { answers = answers }) entry exit r
+answers-moved start answers entry exit r same run =
+    let s = run.session in
+    record {
+      session = record { input = s.input; input_is = s.input_is; answers = s.answers; answers_are = λ tells. s.answers_are tells ∙ same tells; session = s.session };
+      shelf_calls = run.shelf_calls;
+      counts = run.counts;
+      source_tells = run.source_tells;
+      sink_tells = run.sink_tells;
+      shelf_tells = run.shelf_tells;
+      report = run.report;
+      undo = run.undo;
+      records = run.records;
+      saves = run.saves;
+    }
 
 module _ {A : Type 0} (ended : Ended A) where
   still : (job : Job) (command : Command) (story : FlatStory) (entry exit : Devices) (r : Result Whole Fault) → IsStill entry exit ended → StoryPlays (outcome_of_start job command story entry r) entry exit ended
@@ -59,46 +90,92 @@ module _ {A : Type 0} (ended : Ended A) where
       subst (λ (x : Result Whole Fault). StoryPlays (outcome_of_start job command story entry x) entry entry ended) (sym (is (λ e. cc))) (inl (stands (λ e. cc), refl))
 
   -- the shelf of a run is that after the story was loaded
-  module _ (job : Job) (entry exit : Devices) (shelf : FlatShelf) (plays : PlaysStory job) (once : LoadsOnce entry.shelf shelf) where
-    abbrev loaded : Devices
-    loaded = record entry { shelf = shelf }
+  module _ (entry exit : Devices) (most : ℕ) (name : List ℕ) (answer : Result Answer ShelfFault) (shelf : FlatShelf) (asked : Trace) (none-before : entry.asked ≡ [])
+      (asked-are : exit.asked ≡ (loads name most, answer) ∷ asked) (does : ShelfCall entry.shelf (loads name most, answer) shelf) where
+    abbrev before : Devices
+    before = record entry { shelf = shelf }
 
-    -- what is done and what is said of it
-    abbrev Comes : Outcome → Type 0
-    Comes outcome = Plays outcome entry exit ended × (IsBegun outcome entry exit ended ⊎ IsIdle job entry exit ended)
+    abbrev after : Devices
+    after = record exit { asked = asked }
 
-    idle : ended.machine ≡ None → ended.steps ≡ 0 → exit ≡ loaded → IsIdle job entry exit ended
-    idle machine steps same = record {
-      machine = machine;
-      loads = loads-story job entry.shelf exit.shelf plays (subst (λ (d : Devices). LoadsOnce entry.shelf d.shelf) (sym same) once);
-      untouched = record { steps = steps; source = ap (λ (d : Devices). d.source) same; words = ap (λ (d : Devices). d.words) same };
-      unsent = λ _. ap (λ (d : Devices). d.sink) same;
-    }
+    -- its files are those at entry
+    same-answers : shelf.tells ≡ true → told_by shelf.files ≡ told_by entry.shelf.files
+    same-answers tells = ap told_by (load-keeps entry.shelf.files shelf.files name most answer (does.files (sym does.tells ∙ tells)))
 
-    unbegun : IsStill loaded exit ended → IsIdle job entry exit ended
-    unbegun (inl absent, same) = idle absent.machine_is absent.steps_are same
-    unbegun (inr absent, same) = idle absent.machine_is absent.steps_are same
+    some-moved : (start : Configuration) (answers : Trace → Request → Answer) (words : Stream) (left : Devices) (m : Option Whole) → (shelf.tells ≡ true → start.answers ≡ answers)
+        → IsSomeAnd m (λ end. IsRun start (record before { words = words }) left (report_of ended end)) → IsSomeAnd m (λ end. IsRun (record start { answers = answers }) (record before { words = words }) left (report_of ended end))
+    some-moved start answers words left None same run = absurd run
+    some-moved start answers words left (Some end) same run = answers-moved start answers (record before { words = words }) left (report_of ended end) same run
 
-    found : (outcome : Outcome) → StoryPlays outcome loaded exit ended → Comes outcome
-    found (unstarted fault at) (inl (absent, same)) = ((inl absent, ap (λ (d : Devices). d.sink) same), inr (idle absent.machine_is absent.steps_are same))
-    found (unstarted fault at) (inr (is, same)) = ((inr is, ap (λ (d : Devices). d.sink) same), inr (unbegun (is, same)))
-    found (runs seed start) (inl run) = (inl (shelf, once, run), inl (shelf, once, run))
-    found (runs seed start) (inr (is, same)) = (inr (is, ap (λ (d : Devices). d.sink) same), inr (unbegun (is, same)))
-    found (rewinds seed back start) (inl run) = (inl (shelf, once, run), inl (shelf, once, run))
-    found (rewinds seed back start) (inr (is, same)) = (inr (is, ap (λ (d : Devices). d.sink) same), inr (unbegun (is, same)))
-    found outcome none = absurd none
+    run-moved : (command : Command) (whole : Whole) → IsRunOf command.seed (start_for command whole None before) before after ended ⊎ IsStill before after ended
+        → IsRunOf command.seed (start_for command whole None entry) before after ended ⊎ IsStill before after ended
+    run-moved command whole (inl run) =
+        inl (run.0, run.1, some-moved (start_for command whole None before) (told_by entry.shelf.files) (words_for command.seed entry.words) (record after { words = run.0 }) ended.machine same-answers run.2)
+    run-moved command whole (inr is) = inr is
 
-    -- the story that was loaded is played
-    pub comes-out : (command : Command) (file : Option (List ℕ)) (story : FlatStory) → story_of file ≡ Ok story
-        → StoryPlays (outcome_of_start job command story loaded (first_machine story command.undo)) loaded exit ended
-        → Comes (outcome_of_job job command file entry)
-    comes-out command file story good played =
-        let first : Result Whole Fault = first_machine story command.undo in
-        let ran : Comes (outcome_of_start job command story entry first) =
-        subst (λ (x : Outcome). Comes x) (same-files job command story entry shelf first once.files) (found (outcome_of_start job command story loaded first) played) in
-        let told : Comes (outcome_of_story job command entry (story_of file)) =
-        subst (λ (x : Result FlatStory ℕ). Comes (outcome_of_story job command entry x)) (sym good) ran in
-        subst (λ (x : Outcome). Comes x) (sym (plays-story job command file entry plays)) told
+    rewind-moved : (command : Command) (whole : Whole) → IsRewindOf command.seed command.back (start_for command whole (Some no_events) before) before after ended ⊎ IsStill before after ended
+        → IsRewindOf command.seed command.back (start_for command whole (Some no_events) entry) before after ended ⊎ IsStill before after ended
+    rewind-moved command whole (inl run) =
+        inl (record {
+          report = run.report;
+          sink = run.sink;
+          run = (
+            run.run.0,
+            run.run.1,
+            answers-moved (start_for command whole (Some no_events) before) (told_by entry.shelf.files) (devices_for command.seed before) (record after { sink = run.sink; words = run.run.0 }) run.report same-answers run.run.2,
+          );
+          rewound = run.rewound;
+        })
+    rewind-moved command whole (inr is) = inr is
+
+    moved : (job : Job) (command : Command) (story : FlatStory) (r : Result Whole Fault) → StoryPlays (outcome_of_start job command story before r) before after ended → StoryPlays (outcome_of_start job command story entry r) before after ended
+    moved Rewind command story (Ok whole) played = rewind-moved command whole played
+    moved job command story (Ok whole) played = run-moved command whole played
+    moved job command story (Err f) played = played
+
+    module _ (job : Job) (plays : PlaysStory job) where
+      -- what is done and what is said of it
+      abbrev Comes : Outcome → Type 0
+      Comes outcome = Plays outcome entry exit ended × (IsBegun outcome entry exit ended ⊎ IsIdle job entry exit ended)
+
+      idle : ended.machine ≡ None → ended.steps ≡ 0 → after ≡ before → IsIdle job entry exit ended
+      idle machine steps same = record {
+        machine = machine;
+        loads = loads-story job exit.asked plays ((loads name most, answer), asked-are ∙ ap (λ (t : Trace). (loads name most, answer) ∷ t) (ap (λ (d : Devices). d.asked) same ∙ none-before));
+        untouched = record { steps = steps; source = ap (λ (d : Devices). d.source) same; words = ap (λ (d : Devices). d.words) same };
+        unsent = λ _. ap (λ (d : Devices). d.sink) same;
+      }
+
+      unbegun : IsStill before after ended → IsIdle job entry exit ended
+      unbegun (inl absent, same) = idle absent.machine_is absent.steps_are same
+      unbegun (inr absent, same) = idle absent.machine_is absent.steps_are same
+
+      begins : (Run : Devices → Devices → Type 0) → Run before after → BeginsAfter entry exit Run
+      begins Run run = record { load = (loads name most, answer); shelf = shelf; asked = asked; asked_are = asked-are; does = does; run = run }
+
+      found : (outcome : Outcome) → StoryPlays outcome before after ended → Comes outcome
+      found (unstarted fault at) (inl (absent, same)) = ((inl absent, ap (λ (d : Devices). d.sink) same), inr (idle absent.machine_is absent.steps_are same))
+      found (unstarted fault at) (inr (is, same)) = ((inr is, ap (λ (d : Devices). d.sink) same), inr (unbegun (is, same)))
+      found (runs seed start) (inl run) =
+          let begun = begins (λ first last. IsRunOf seed start first last ended) run in
+          (inl begun, inl begun)
+      found (runs seed start) (inr (is, same)) = (inr (is, ap (λ (d : Devices). d.sink) same), inr (unbegun (is, same)))
+      found (rewinds seed back start) (inl run) =
+          let begun = begins (λ first last. IsRewindOf seed back start first last ended) run in
+          (inl begun, inl begun)
+      found (rewinds seed back start) (inr (is, same)) = (inr (is, ap (λ (d : Devices). d.sink) same), inr (unbegun (is, same)))
+      found outcome none = absurd none
+
+      -- the story that was loaded is played
+      pub comes-out : (command : Command) (file : Option (List ℕ)) (story : FlatStory) → story_of file ≡ Ok story
+          → StoryPlays (outcome_of_start job command story before (first_machine story command.undo)) before after ended
+          → Comes (outcome_of_job job command file entry)
+      comes-out command file story good played =
+          let first : Result Whole Fault = first_machine story command.undo in
+          let ran : Comes (outcome_of_start job command story entry first) = found (outcome_of_start job command story entry first) (moved job command story first played) in
+          let told : Comes (outcome_of_story job command entry (story_of file)) =
+          subst (λ (x : Result FlatStory ℕ). Comes (outcome_of_story job command entry x)) (sym good) ran in
+          subst (λ (x : Outcome). Comes x) (sym (plays-story job command file entry plays)) told
 
 -- the counts of a run after the story was loaded
 pub counts-after : (entry exit : Devices) (shelf : FlatShelf) (status : ℕ) (failed : Type 0) → Counts (record entry { shelf = shelf }) exit status → Blames entry.shelf.calls shelf.calls failed → (failed → ⊥) → Counts entry exit status

@@ -45,8 +45,8 @@ module _ {A : Type 0} (ended : Ended A) (entry exit : Devices) where
 
   -- A RUN THAT WAS BEGUN has the command's seed
   start-undrawn : (job : Job) (command : Command) (story : FlatStory) (r : Result Whole Fault) → IsSome command.seed → IsBegun (outcome_of_start job command story entry r) entry exit ended → exit.words ≡ entry.words
-  start-undrawn Rewind command story (Ok whole) is (shelf, once, run) = left-alone command.seed is run.run.0 run.run.1
-  start-undrawn job command story (Ok whole) is (shelf, once, run) = left-alone command.seed is run.0 run.1
+  start-undrawn Rewind command story (Ok whole) is begun = left-alone command.seed is begun.run.run.0 begun.run.run.1
+  start-undrawn job command story (Ok whole) is begun = left-alone command.seed is begun.run.0 begun.run.1
   start-undrawn job command story (Err fault) is none = absurd none
 
   story-undrawn : (job : Job) (command : Command) (r : Result FlatStory ℕ) → IsSome command.seed → IsBegun (outcome_of_story job command entry r) entry exit ended → exit.words ≡ entry.words

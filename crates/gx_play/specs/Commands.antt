@@ -4,7 +4,8 @@
 -- The words are those of one simple command of clap, the program's name first, so `--steps N` and `--steps=N` are
 -- alike, options stand before or after STORY, and after `--` every word is STORY. A question for help is no command. N
 -- is one decimal digit or more. All options are looked at in every job, also where it uses them for nothing.
-use Rattle.std.specs.Prelude.{ℕ, ◌-◌, ◌^◌, ◌&&◌, Bool, true, false, List, [], ◌∷◌, Option, Some, None, codes, length, nat_le, nat_lt, if◌then◌else◌, option_map}
+use Rattle.std.specs.Prelude.{ℕ, ◌-◌, ◌^◌, ◌&&◌, Bool, true, false, List, [], ◌∷◌, Option, Some, None, codes, length}
+use Rattle.std.specs.Prelude.{nat_le, nat_lt, if◌then◌else◌, option_map}
 use Rattle.std.specs.Char.{is_ascii_digit}
 use Rattle.std.specs.List.{list_all}
 use Rattle.std.specs.Str.{bytes_eq}
@@ -37,7 +38,8 @@ flag_rule name = record (new_rule name) { long = Some name; action = Some SetTru
 
 unfoldable pub player : App
 player =
-    with_rule (with_rule (with_rule (with_rule (with_rule (with_rule (with_rule (with_rule (with_rule (with_rule (with_rule
+    with_rule (with_rule (with_rule (with_rule
+    (with_rule (with_rule (with_rule (with_rule (with_rule (with_rule (with_rule
     (new_app (codes "gx_player"))
     story_rule)
     (text_rule (codes "steps") (codes "1000000000000000")))
@@ -91,7 +93,8 @@ pub record Command : Type 0 where
 -- the number that one decimal digit or more spell, where it is from the least to the most
 abbrev pub number_of : ℕ → ℕ → Text → Option ℕ
 number_of least most text =
-    if nat_lt 0 (length text) && (list_all is_ascii_digit text && (nat_le least (digits_value 10 text) && nat_le (digits_value 10 text) most))
+    if nat_lt 0 (length text) && (list_all is_ascii_digit text
+    && (nat_le least (digits_value 10 text) && nat_le (digits_value 10 text) most))
     then Some (digits_value 10 text) else None
 
 abbrev pub number_in : ℕ → ℕ → Option Text → Option ℕ
@@ -139,7 +142,8 @@ view_in screen plain echo (Some job) = view_of screen plain echo job
 
 abbrev pub command_with : Option Text → Option ℕ → Option ℕ → Option ℕ → Option ℕ → Option (Option ℕ) → Option ℕ → Bool
     → Option View → Option Job → Option Command
-command_with (Some story) (Some steps) (Some columns) (Some rows) (Some undo) (Some seed) (Some back) echo (Some view) (Some job) =
+command_with (Some story) (Some steps) (Some columns) (Some rows) (Some undo) (Some seed) (Some back) echo (Some view)
+    (Some job) =
     Some (record {
       story = story;
       steps = steps;
@@ -157,7 +161,8 @@ command_with story steps columns rows undo seed back echo view job = None
 -- what the texts ask for, where each is as it has to be
 abbrev pub command_in : Texts → Option Command
 command_in texts =
-    command_with texts.story (number_in 0 (2 ^ 64 - 1) texts.steps) (number_in 1 255 texts.columns) (number_in 1 255 texts.rows)
+    command_with texts.story (number_in 0 (2 ^ 64 - 1) texts.steps) (number_in 1 255 texts.columns)
+    (number_in 1 255 texts.rows)
     (depth_of texts.undo) (seed_of texts.seed) (number_in 0 (2 ^ 64 - 1) texts.back) texts.echo
     (view_in texts.screen texts.plain texts.echo (job_in texts.story texts.job)) (job_in texts.story texts.job)
 

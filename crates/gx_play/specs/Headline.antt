@@ -6,18 +6,20 @@
 -- - The words are not understood, which is so exactly where specs/Commands has no command for them: nothing at all is
 --   done. Or there is no story: the status and the number of the fault say so. No input is read, no text sent, no word
 --   drawn and no machine made.
--- - The story's start function can't be entered: the same, with the fault and the function's address.
+-- - The story's start function can't be entered: status 3, with the fault and the function's address. Nothing is read,
+--   sent or drawn then either.
 -- - Else the story runs. The run is the session of gx_session/specs/Session, from the story's first machine, with the
 --   command's depth of undo, to the session's end (`IsRun`): its status, fault, address and steps, the machine and what
---   it asks, the text, the files, the random words and the input that is left; how often some of the text was sent, and
---   how often the shelf was asked. Or it was cut short, because a device failed or memory ran out: then the machine
---   stands at one of the session's configurations, a front of the text up to there was sent, and the files are those of
---   that configuration, but for the one that a refused store or remove leaves open.
+--   it asks, the text, the random words and the input that is left; how often some of the text was sent; and the calls
+--   of the shelf, one by one: what was loaded, stored, removed and looked for, under which names and in which order, and
+--   what the shelf answered (`asked_are`). Or it was cut short, because a device failed or memory ran out: then the
+--   machine stands at one of the session's configurations, a front of the text up to there was sent, and the calls of
+--   the shelf are those up to there, with the one that was refused where it was the shelf that refused.
 -- - In job rewind the story runs just so, and its run is recorded. Where it came to its end, with a status below 8, one
---   line of specs/Rewinding follows the text as it stands, also in mid-line. It tells of the machine as it stood before
---   the end by so many units as the command says: at the end itself where these are 0, and else at the beginning of the
---   newest step since when at least so many were used, or of the first step. That machine is one of the run's, with the
---   units that were used up to it (`records` of `IsRun`). A step whose Glk call ended the program isn't recorded, so
+--   line of specs/Rewinding follows the text as it stands, also in mid-line. It tells of the machine at the newest
+--   beginning of a step since when at least so many units were used as the command says; at the first one, where fewer
+--   were used; at the end, where the command says 0. That machine is one of the run's, with the units that were used up
+--   to it (`records` of `IsRun`). A step whose Glk call ended the program isn't recorded, so
 --   that the end is then where it began. Text, files, status, fault, address and steps are those of the run. But the
 --   sink may fail at the line (status 10), or memory may run out (11): then some front of the line was sent. No machine
 --   is handed back.
@@ -53,21 +55,24 @@
 -- and listed as its instructions up to the first quit or return; and a machine that comes to an instruction's bytes
 -- sees that instruction.
 --
--- The shelf is asked once for the file, and then exactly as the session asks it; in job work it isn't asked. Text is
+-- The shelf is asked once for the file, and then exactly as the session asks it; in job work it isn't asked. Where it
+-- tells what it holds, each answer is the one of its files as the calls before left them, and its files in the end are
+-- what the calls make of them, but for the one that a refused store or remove leaves open (`shelf_calls`). Text is
 -- sent before the shelf or the source is asked for anything. Each read of the source has room for 4,096 bytes; fewer
 -- are read ahead of the lines that were taken, and none where no line is awaited. The status blames a device exactly
 -- where a call of it failed in this run, which was then its last one. Each restoreundo of the session goes back to the
 -- newest saveundo that was neither used, nor discarded, nor dropped as the oldest (`LastsUndo`), whatever was restored
--- from files in between. Each save that the session makes is read back as the very copy that was saved (`SavedAll`,
--- `SavedBy`). So is every copy that fits the story, and each save that was one while memory had a lower ceiling, such
+-- from files in between; the protected range keeps its bytes. The bytes of each save that the session makes are read as
+-- the very copy that was saved (`SavedAll`, `SavedBy`). So is every copy that fits the story, and each save that was one while memory had a lower ceiling, such
 -- as 0x04000000, is restored as the same copy (`SavesReadBack`). And where no count of failures rose the status is the
 -- outcome's, or memory ran out (`IsComplete`).
 --
 -- Premises: that the story's file is the one that the shelf holds is said of a shelf that tells what it holds, as one
--- in memory does. A real one doesn't, and there the run is that of some file: of the bytes that it handed out. Nothing
--- is said of the session once the story itself asks such a shelf for a file (`IsUntold`). Likewise the input is what a
--- source that tells has left; for a real one there is some input with which the run is the session. Which bytes the
--- sink took is said of one that tells, and how often it was called of every one.
+-- in memory does. A real one doesn't, and there the run is that of the bytes that it handed out (`loads`), and the
+-- session's answers are those that it gave (`answers` in `IsSomeSession`): whatever a shelf does, the session's calls
+-- are those that were made, with the answers that came. Likewise the input is what a source that tells has left; for a
+-- real one there is some input with which the run is the session. Which bytes the sink took is said of one that tells,
+-- and how often it was called of every one.
 --
 -- Limits: nothing is said of time, nor of how much memory a run takes; that ample memory suffices is only tested.
 -- Nothing is said of what a terminal makes of the text: the composed screen counts columns by the crate unicode_width.
@@ -86,23 +91,25 @@
 --   in memory (`WantsMemory`); at a wait for a line where input is left; where text is due; where the shelf is asked,
 --   for a file to be loaded only where it is there and isn't too long; at the end with `--screen`, where the last
 --   screen is composed, and in each view where the open files are listed, if there are some, and at the store of each.
---   Where text is due, where the shelf is asked and at a store it is one only if the device says so: that memory ran
---   out in the last call that it had (`WantedBy`).
+--   Where text is due, where the shelf is asked and at a store it is one only if the device says so: the last call that
+--   it had is one in which memory ran out (`WantedBy` of the sink; the last of the calls of the shelf).
 -- - In job rewind also where the record is begun, before the run; in the run for the record, at each step, whatever it
 --   comes to, and at each answer; and after the run where it goes back, and for the line. Where the line is sent it is
 --   one only if the sink says that it wanted memory.
 --
--- So no body would pass that asks for a story that isn't there and answers so, or answers so where a device failed,
--- where the next step meets a fault that isn't a save's, or writes nothing and asks nothing, or where a line is awaited
--- and no input is left. So it is no answer in place of a step that ends the program or is above the budget, or of a Glk
--- call that ends the program or waits in vain; but it is one at the ending that follows, whose parts are named above.
--- In job rewind, where each step may want memory, that of the steps is not said.
-use Rattle.std.specs.Prelude.{◌≡◌, ◌≢◌, ℕ, ◌<◌, ◌≤◌, nat_lt, if◌then◌else◌, length, List, ◌++◌, ◌⊎◌, ◌↔◌, true, Option, Some, None, IsSome, IsSomeAnd, Result, Ok, Err}
+-- So status 11 may not stand for a story that isn't there, a device that failed, a step's fault, a step that neither
+-- writes nor asks, the end of the input, the end of a program, a vain wait or a spent budget. Two exceptions are named
+-- above: a fault of a save, and the ending. In job rewind any step may want memory.
+use Rattle.std.specs.Prelude.{◌≡◌, ◌≢◌, ℕ, ◌<◌, ◌≤◌, nat_lt, if◌then◌else◌, length, List, [], ◌∷◌, ◌++◌, ◌⊎◌, ◌↔◌, true}
+use Rattle.std.specs.Prelude.{Option, Some, None, IsSome, IsSomeAnd, Result, Ok, Err}
 use Rattle.gx_words.specs.declared.faults.Fault.{Fault}
 use Rattle.gx_words.specs.Faults.{number_of}
 use Rattle.gx_words.specs.Constants.{ceiling}
+use Rattle.gx_outside.specs.Chains.{Chain}
 use Rattle.gx_outside.specs.Files.{Files}
 use Rattle.gx_outside.specs.Outside.{FlatShelf, FlatSink, raised}
+use Rattle.gx_outside.specs.Shelves.{loads, Answer, loaded, Call, Trace, load_of, ShelfCall}
+use Rattle.gx_outside.specs.declared.devices.ShelfFault.{ShelfFault}
 use Rattle.gx_story.specs.declared.faults.StoryFault.{StoryFault}
 use Rattle.gx_story.specs.declared.faults.StoryFault.TheVariants.{TooLarge}
 use Rattle.gx_story.specs.Faults.{number_of as story_number_of}
@@ -117,7 +124,9 @@ use Rattle.gx_machine.specs.Machine.{Whole}
 use Rattle.gx_machine.specs.Start.{first_machine}
 use Rattle.glk_world.specs.World.{empty_world}
 use Rattle.gx_session.specs.declared.ended.Ended.{Ended}
-use Rattle.gx_session.specs.Constants.{status_ended, status_bad_words, status_bad_story, status_fault, status_spent, status_shelf_fault, status_output_fault, status_no_memory, status_bad_text, status_no_listing}
+use Rattle.gx_session.specs.Constants.{status_ended, status_bad_words, status_bad_story, status_fault, status_spent}
+use Rattle.gx_session.specs.Constants.{status_shelf_fault, status_output_fault, status_no_memory, status_bad_text}
+use Rattle.gx_session.specs.Constants.{status_no_listing}
 use Rattle.gx_session.specs.Devices.{Devices}
 use Rattle.gx_session.specs.Session.{Configuration, start_of, final_of, status_of}
 use Rattle.gx_session.specs.Counts.{Counts}
@@ -153,7 +162,8 @@ numbered (Err fault) = Err (story_number_of fault)
 -- the story in a file, or the number of why there is none
 abbrev pub story_of : Option (List ℕ) → Result FlatStory ℕ
 story_of None = Err no_file
-story_of (Some bytes) = if nat_lt ceiling (length bytes) then Err (story_number_of TooLarge) else numbered (accepted bytes)
+story_of (Some bytes) =
+    if nat_lt ceiling (length bytes) then Err (story_number_of TooLarge) else numbered (accepted bytes)
 
 -- THE JOBS PLAY AND REWIND: the machine of a story runs from its start, with the command's random words, in its view
 -- and on its screen, within its budget. In job rewind the run is recorded.
@@ -163,7 +173,8 @@ start_for command whole log entry =
     command.echo command.steps log
 
 abbrev pub outcome_of_run : Job → Command → Devices → Whole → Outcome
-outcome_of_run Rewind command entry whole = rewinds command.seed command.back (start_for command whole (Some no_events) entry)
+outcome_of_run Rewind command entry whole =
+    rewinds command.seed command.back (start_for command whole (Some no_events) entry)
 outcome_of_run job command entry whole = runs command.seed (start_for command whole None entry)
 
 abbrev pub outcome_of_start : Job → Command → FlatStory → Devices → Result Whole Fault → Outcome
@@ -171,7 +182,8 @@ outcome_of_start job command story entry (Ok whole) = outcome_of_run job command
 outcome_of_start job command story entry (Err fault) = unstarted fault story.header.start_function
 
 abbrev pub outcome_of_story : Job → Command → Devices → Result FlatStory ℕ → Outcome
-outcome_of_story job command entry (Ok story) = outcome_of_start job command story entry (first_machine story command.undo)
+outcome_of_story job command entry (Ok story) =
+    outcome_of_start job command story entry (first_machine story command.undo)
 outcome_of_story job command entry (Err fault) = refused status_bad_story fault 0
 
 -- JOB CHECK
@@ -232,12 +244,6 @@ abbrev pub IsUnsent : {A : Type 0} → FlatSink → Ended A → Type 0
 IsUnsent sink ended =
     HasNoMachine ended status_output_fault 0 0 ⊎ (HasNoMachine ended status_no_memory 0 0 × (sink.calls.wanting ≡ true))
 
--- The shelf was asked once, and its files stand.
-pub record LoadsOnce (before now : FlatShelf) : Type 0 where
-  pub made : now.calls.made ≡ raised before.calls.made
-  pub tells : now.tells ≡ before.tells
-  pub files : now.files ≡ before.files
-
 -- The sink was called once, and took these bytes.
 pub record TakesOnce (bytes : List ℕ) (before now : FlatSink) : Type 0 where
   pub made : now.calls.made ≡ raised before.calls.made
@@ -254,7 +260,8 @@ SendsOutput status output before now ended =
 abbrev pub IsRunOf : {A : Type 0} → Option ℕ → Configuration → Devices → Devices → Ended A → Type 0
 IsRunOf seed start entry exit ended =
     (left : Stream) × AreLeft seed left entry.words exit.words
-    × IsSomeAnd ended.machine (λ end. IsRun start (devices_for seed entry) (record exit { words = left }) (report_of ended end))
+    × IsSomeAnd ended.machine (λ end. IsRun start (devices_for seed entry) (record exit { words = left })
+    (report_of ended end))
 
 -- The answer of job rewind once its run is over: the steps are those of the run.
 pub record HasRun {A : Type 0} (ended : Ended A) (status fault at steps : ℕ) : Type 0 where
@@ -284,35 +291,71 @@ pub record IsRewound {A : Type 0} (back : ℕ) (r : Report) (before now : FlatSi
 -- The session from a start was run over these devices in the same way, up to this report.
 abbrev pub IsRunTo : Option ℕ → Configuration → Devices → Devices → Report → Type 0
 IsRunTo seed start entry exit r =
-    (left : Stream) × AreLeft seed left entry.words exit.words × IsRun start (devices_for seed entry) (record exit { words = left }) r
+    (left : Stream) × AreLeft seed left entry.words exit.words
+    × IsRun start (devices_for seed entry) (record exit { words = left }) r
 
 -- It was so, and left this sink; and then came the line.
-pub record IsRewindOf {A : Type 0} (seed : Option ℕ) (back : ℕ) (start : Configuration) (entry exit : Devices) (ended : Ended A) : Type 0 where
+pub record IsRewindOf {A : Type 0} (seed : Option ℕ) (back : ℕ) (start : Configuration) (entry exit : Devices)
+    (ended : Ended A) : Type 0 where
   pub report : Report
   pub sink : FlatSink
   pub run : IsRunTo seed start entry (record exit { sink = sink }) report
   pub rewound : IsRewound back report sink exit.sink ended
 
--- A run was begun. It finds the shelf as it is once the story was loaded.
+-- A run was begun, after one call of the shelf. It finds the shelf as it is then, and what it asks is the rest.
+pub record BeginsAfter (entry exit : Devices) (Run : Devices → Devices → Type 0) : Type 0 where
+  pub load : Call
+  pub shelf : FlatShelf
+  pub asked : Trace
+  pub asked_are : exit.asked ≡ load ∷ asked
+  pub does : ShelfCall entry.shelf load shelf
+  pub run : Run (record entry { shelf = shelf }) (record exit { asked = asked })
+
 abbrev pub IsBegun : {A : Type 0} → Outcome → Devices → Devices → Ended A → Type 0
 IsBegun (runs seed start) entry exit ended =
-    (shelf : FlatShelf) × LoadsOnce entry.shelf shelf × IsRunOf seed start (record entry { shelf = shelf }) exit ended
+    BeginsAfter entry exit (λ before after. IsRunOf seed start before after ended)
 IsBegun (rewinds seed back start) entry exit ended =
-    (shelf : FlatShelf) × LoadsOnce entry.shelf shelf × IsRewindOf seed back start (record entry { shelf = shelf }) exit ended
+    BeginsAfter entry exit (λ before after. IsRewindOf seed back start before after ended)
 IsBegun outcome entry exit ended = ⊥
 
 -- What is answered and left behind is the outcome's.
 abbrev pub Plays : {A : Type 0} → Outcome → Devices → Devices → Ended A → Type 0
-Plays (refused status fault at) entry exit ended = (HasNoMachine ended status fault at ⊎ IsUnbegun ended) × (exit.sink ≡ entry.sink)
-Plays (unstarted fault at) entry exit ended = (HasNoMachine ended status_fault (number_of fault) at ⊎ IsUnbegun ended) × (exit.sink ≡ entry.sink)
-Plays (runs seed start) entry exit ended = IsBegun (runs seed start) entry exit ended ⊎ (IsUnbegun ended × (exit.sink ≡ entry.sink))
-Plays (rewinds seed back start) entry exit ended = IsBegun (rewinds seed back start) entry exit ended ⊎ (IsUnbegun ended × (exit.sink ≡ entry.sink))
-Plays (tells status output) entry exit ended = SendsOutput status output entry.sink exit.sink ended ⊎ (IsUnbegun ended × (exit.sink ≡ entry.sink))
+Plays (refused status fault at) entry exit ended =
+    (HasNoMachine ended status fault at ⊎ IsUnbegun ended) × (exit.sink ≡ entry.sink)
+Plays (unstarted fault at) entry exit ended =
+    (HasNoMachine ended status_fault (number_of fault) at ⊎ IsUnbegun ended) × (exit.sink ≡ entry.sink)
+Plays (runs seed start) entry exit ended =
+    IsBegun (runs seed start) entry exit ended ⊎ (IsUnbegun ended × (exit.sink ≡ entry.sink))
+Plays (rewinds seed back start) entry exit ended =
+    IsBegun (rewinds seed back start) entry exit ended ⊎ (IsUnbegun ended × (exit.sink ≡ entry.sink))
+Plays (tells status output) entry exit ended =
+    SendsOutput status output entry.sink exit.sink ended ⊎ (IsUnbegun ended × (exit.sink ≡ entry.sink))
 
 -- what a shelf that tells holds under the file's name
 abbrev pub IsFile : Option Command → FlatShelf → Option (List ℕ) → Type 0
 IsFile None shelf file = Unit {0}
 IsFile (Some command) shelf file = shelf.tells ≡ true → file ≡ shelf.files command.story
+
+-- THE CALLS OF THE SHELF
+-- a job loads files of at most so many bytes
+abbrev pub most_of : Job → ℕ
+most_of Asm = most_text
+most_of job = ceiling
+
+-- this file is handed out, or the shelf refuses
+abbrev pub IsHanded : ℕ → Option (List ℕ) → Result Answer ShelfFault → Type 0
+IsHanded most file (Ok answer) = answer ≡ loaded (load_of most file)
+IsHanded most file (Err fault) = Unit {0}
+
+-- The first call, if there is one, asks for the command's file, and is answered with it.
+abbrev pub LoadsFirst : Job → Command → Option (List ℕ) → Trace → Type 0
+LoadsFirst job command file [] = Unit {0}
+LoadsFirst job command file (load ∷ asked) =
+    (load.0 ≡ loads command.story (most_of job)) × IsHanded (most_of job) file load.1
+
+abbrev pub LoadsFirstFor : Option Command → Option (List ℕ) → Trace → Type 0
+LoadsFirstFor None file asked = asked ≡ []
+LoadsFirstFor (Some command) file asked = LoadsFirst command.job command file asked
 
 -- a file that is there and isn't too long
 abbrev pub IsLoadable : ℕ → Option (List ℕ) → Type 0
@@ -321,23 +364,23 @@ IsLoadable most file = IsSomeAnd file (λ bytes. length bytes ≤ most)
 -- Once a device was called, memory is wanted in the jobs that load a file only where there are bytes.
 abbrev pub MayWant : Job → Option (List ℕ) → Type 0
 MayWant (Work number) file = Unit {0}
-MayWant Asm file = IsLoadable most_text file
-MayWant job file = IsLoadable ceiling file
+MayWant job file = IsLoadable (most_of job) file
 
 abbrev pub MayWantFor : Option Command → Option (List ℕ) → Type 0
 MayWantFor None file = ⊥
 MayWantFor (Some command) file = MayWant command.job file
 
 -- WHERE NO RUN WAS BEGUN, whatever the devices tell
--- The shelf was asked once for the file, or not at all in job work.
-abbrev pub Loads : Job → FlatShelf → FlatShelf → Type 0
-Loads (Work number) before now = now ≡ before
-Loads job before now = LoadsOnce before now
+-- The shelf was asked once, or not at all in job work.
+abbrev pub LoadsOnce : Job → Trace → Type 0
+LoadsOnce (Work number) asked = asked ≡ []
+LoadsOnce job asked = (load : Call) × (asked ≡ load ∷ [])
 
 -- Nothing was done without a command, nor where memory ran out while the words were read.
-abbrev pub LoadsFor : Option Command → Devices → Devices → ℕ → Type 0
-LoadsFor None entry exit status = exit ≡ entry
-LoadsFor (Some command) entry exit status = Loads command.job entry.shelf exit.shelf ⊎ ((status ≡ status_no_memory) × (exit ≡ entry))
+abbrev pub LoadsOnceFor : Option Command → Devices → Devices → ℕ → Type 0
+LoadsOnceFor None entry exit status = exit ≡ entry
+LoadsOnceFor (Some command) entry exit status =
+    LoadsOnce command.job exit.asked ⊎ ((status ≡ status_no_memory) × (exit ≡ entry))
 
 -- No step was done, no input was read and no random word was drawn.
 pub record IsUntouched {A : Type 0} (entry exit : Devices) (ended : Ended A) : Type 0 where
@@ -359,7 +402,7 @@ IsPlaying (Some command) = PlaysStory command.job
 -- No run was begun: nothing was done but to ask for the file and, in a job that plays no story, to send an output.
 pub record IsUnrun {A : Type 0} (command : Option Command) (entry exit : Devices) (ended : Ended A) : Type 0 where
   pub machine : ended.machine ≡ None
-  pub loads : LoadsFor command entry exit ended.status
+  pub loads : LoadsOnceFor command entry exit ended.status
   pub untouched : IsUntouched entry exit ended
   pub unsent : IsPlaying command → exit.sink ≡ entry.sink
 
@@ -367,6 +410,7 @@ pub record IsUnrun {A : Type 0} (command : Option Command) (entry exit : Devices
 pub record ComesOut {A : Type 0} (command : Option Command) (entry exit : Devices) (ended : Ended A) : Type 0 where
   pub file : Option (List ℕ)
   pub file_is : IsFile command entry.shelf file
+  pub loads : LoadsFirstFor command file exit.asked
   pub plays : Plays (outcome_of command file entry) entry exit ended
   pub begun : IsBegun (outcome_of command file entry) entry exit ended ⊎ IsUnrun command entry exit ended
   pub memory : ended.status ≡ status_no_memory → (exit ≡ entry) ⊎ MayWantFor command file
@@ -385,12 +429,16 @@ pub record HasItsParts {A : Type 0} (playing handing : Type 0) (ended : Ended A)
   pub run_fault : playing → ended.status ≡ status_fault → (1 ≤ ended.fault) × (ended.fault ≤ 16)
   pub text_fault : ended.status ≡ status_bad_text → (1 ≤ ended.fault) × (ended.fault ≤ 4)
   pub listing_fault : ended.status ≡ status_no_listing → (1 ≤ ended.fault) × (ended.fault ≤ 5)
-  pub no_fault : ended.status ≢ status_bad_story → ended.status ≢ status_fault → ended.status ≤ status_no_memory → ended.fault ≡ 0
+  pub no_fault : ended.status ≢ status_bad_story → ended.status ≢ status_fault → ended.status ≤ status_no_memory
+      → ended.fault ≡ 0
   pub no_place : ended.status ≢ status_fault → ended.status ≤ status_no_memory → ended.at ≡ 0
   -- a machine is handed back where one ran, and none where none was started; a fault, a failing shelf and want of
   -- memory may come before
-  pub ran : handing → (ended.status ≡ status_ended) ⊎ ((status_spent ≤ ended.status) × (ended.status ≤ status_output_fault) × (ended.status ≢ status_shelf_fault)) → IsSome ended.machine
-  pub not_run : (ended.status ≡ status_bad_words) ⊎ (ended.status ≡ status_bad_story) ⊎ (status_no_memory < ended.status) → ended.machine ≡ None
+  pub ran : handing → (ended.status ≡ status_ended)
+      ⊎ ((status_spent ≤ ended.status) × (ended.status ≤ status_output_fault) × (ended.status ≢ status_shelf_fault))
+      → IsSome ended.machine
+  pub not_run : (ended.status ≡ status_bad_words) ⊎ (ended.status ≡ status_bad_story)
+      ⊎ (status_no_memory < ended.status) → ended.machine ≡ None
 
 -- a command line with a seed
 abbrev pub IsSeeded : Option Command → Type 0
@@ -399,7 +447,9 @@ IsSeeded (Some command) = IsSome command.seed
 
 -- The outcome is the same whatever words the device holds.
 abbrev pub IsSettled : Option Command → Devices → Type 0
-IsSettled command entry = (file : Option (List ℕ)) (other : Stream) → outcome_of command file (record entry { words = other }) ≡ outcome_of command file entry
+IsSettled command entry =
+    (file : Option (List ℕ)) (other : Stream)
+    → outcome_of command file (record entry { words = other }) ≡ outcome_of command file entry
 
 -- COMPLETENESS
 -- the status of an outcome, where nothing cuts it short
@@ -426,11 +476,13 @@ pub record HasNoFailure (entry exit : Devices) : Type 0 where
 abbrev pub IsComplete : Option Command → Devices → Devices → ℕ → Type 0
 IsComplete command entry exit status =
     entry.source.tells ≡ true → entry.shelf.tells ≡ true → HasNoFailure entry exit
-    → (status ≡ status_of_outcome (outcome_of command (file_in command entry.shelf.files) entry)) ⊎ (status ≡ status_no_memory)
+    → (status ≡ status_of_outcome (outcome_of command (file_in command entry.shelf.files) entry))
+    ⊎ (status ≡ status_no_memory)
 
 -- THE CONTRACT OF `play`, between what the devices hold at entry and at exit.
 pub record IsPlayed {A : Type 0} (words : List (List ℕ)) (entry exit : Devices) (ended : Ended A) : Type 0 where
   pub headline : ComesOut (command_of words) entry exit ended
+  pub shelf_calls : Chain ShelfCall entry.shelf exit.asked exit.shelf
   pub bad_words : (ended.status ≡ status_bad_words) ↔ ((command_of words ≡ None) × (ended.status ≢ status_no_memory))
   pub unread : command_of words ≡ None → exit ≡ entry
   pub undrawn : IsSeeded (command_of words) → exit.words ≡ entry.words

@@ -1,9 +1,10 @@
 -- The jobs check and work, each of which sends one line.
-use Rattle.std.specs.Prelude.{ℕ, zero, suc, ◌+◌, ◌-◌, ◌*◌, ◌/◌, ◌%◌, ◌^◌, Bool, true, false, List, [], ◌∷◌, ◌++◌, length, replicate, Option, Some, None, Result, Ok, Err, codes, decimal}
+use Rattle.std.specs.Prelude.{ℕ, zero, suc, ◌+◌, ◌-◌, ◌*◌, ◌/◌, ◌%◌, ◌^◌, Bool, true, false, List, [], ◌∷◌, ◌++◌}
+use Rattle.std.specs.Prelude.{length, replicate, Option, Some, None, Result, Ok, Err, codes, decimal}
 use Rattle.gx_words.specs.Numbers.{word}
 use Rattle.gx_words.specs.declared.faults.Fault.{Fault}
 use Rattle.gx_outside.specs.Files.{no_files}
-use Rattle.gx_outside.specs.Outside.{no_call}
+use Rattle.gx_outside.specs.Outside.{FlatShelf, no_call}
 use Rattle.gx_story.specs.declared.faults.StoryFault.{StoryFault}
 use Rattle.gx_story.specs.Stories.{FlatStory, accepted}
 use Rattle.gx_state.specs.Flat.{FlatState}
@@ -39,10 +40,21 @@ check_line false = line_of (codes "checksum differs")
 abbrev pub zeros : Stream
 zeros = record { u32_after = λ calls. 0; u64_after = λ calls. 0; bytes_after = λ calls n. replicate n 0 }
 
+-- a shelf without files, after so many calls, the last of which wanted memory or didn't
+abbrev pub no_shelf : ℕ → Bool → FlatShelf
+no_shelf calls wanting =
+    record {
+      calls = record { made = calls; faults = 0; failing = false; wanting = wanting };
+      tells = true;
+      files = no_files;
+    }
+
 -- no input, no text, no files
 abbrev pub nothing : Devices
-nothing = devices (record { calls = no_call; offered = 0; tells = true; left = [] }) (record { calls = no_call; tells = true; taken = [] })
-    (record { calls = no_call; tells = true; files = no_files }) zeros
+nothing =
+    devices (record { calls = no_call; offered = 0; tells = true; left = [] })
+    (record { calls = no_call; tells = true; taken = [] })
+    (no_shelf 0 false) zeros []
 
 -- the machine that starts the story of a number, where the story is accepted and can be started (every one is and can:
 -- `works` in specs/Headline)
@@ -72,7 +84,8 @@ ram_sum_of f = sum_from ((length f.memory - f.story.header.ramstart) / 4) f.memo
 -- the units that were used up to the end of a run, the length of its text, and the sum of its RAM
 abbrev pub tells_end : Configuration → Configuration → List ℕ
 tells_end start end =
-    line_of (decimal (start.left - end.left) ++ 32 ∷ decimal (length end.world.text) ++ 32 ∷ decimal (ram_sum_of end.machine.flat))
+    line_of (decimal (start.left - end.left) ++ 32 ∷ decimal (length end.world.text)
+    ++ 32 ∷ decimal (ram_sum_of end.machine.flat))
 
 abbrev pub line_of_machine : Option Whole → List ℕ
 line_of_machine (Some whole) = tells_end (work_start whole) (final_of (work_start whole)).configuration

@@ -1,15 +1,17 @@
 -- How the parts of `play` are put together: what loading a file comes to, what playing or telling it comes to then, and
 -- what a command comes to once it is read.
-use Rattle.std.specs.Prelude.{◌≡◌, ◌≢◌, ◌⊎◌, ℕ, true, List, Option, None, Result, Ok, Err}
+use Rattle.std.specs.Prelude.{◌≡◌, ◌≢◌, ◌⊎◌, ℕ, true, List, [], ◌∷◌, Option, None, Result, Ok, Err}
 use Rattle.gx_words.specs.Faults.{number_of}
 use Rattle.gx_outside.specs.Outside.{FlatShelf, FlatSink}
+use Rattle.gx_outside.specs.Shelves.{loads, Answer, Trace, ShelfCall}
 use Rattle.gx_outside.specs.declared.devices.ShelfFault.{ShelfFault}
 use Rattle.gx_outside.specs.declared.devices.ShelfFault.TheVariants as of_shelf
 use Rattle.gx_story.specs.declared.faults.StoryFault.{StoryFault}
 use Rattle.gx_story.specs.declared.faults.StoryFault.TheVariants as of_story
 use Rattle.gx_story.specs.Faults.{number_of as story_number_of}
 use Rattle.gx_session.specs.declared.ended.Ended.{Ended}
-use Rattle.gx_session.specs.Constants.{status_bad_words, status_bad_story, status_fault, status_shelf_fault, status_output_fault, status_no_memory}
+use Rattle.gx_session.specs.Constants.{status_bad_words, status_bad_story, status_fault, status_shelf_fault}
+use Rattle.gx_session.specs.Constants.{status_output_fault, status_no_memory}
 use Rattle.gx_session.specs.Counts.{Blames, Counts}
 use Rattle.gx_session.specs.Devices.{Devices}
 use Rattle.gx_play.specs.declared.command.Job.{Job}
@@ -17,7 +19,9 @@ use Rattle.gx_play.specs.declared.command.Job.TheVariants.{Play}
 use Rattle.gx_play.specs.declared.loading.Refusal.{Refusal}
 use Rattle.gx_play.specs.declared.loading.Refusal.TheVariants as refusal
 use Rattle.gx_play.specs.Commands.{Command}
-use Rattle.gx_play.specs.Headline.{Outcome, refused, unstarted, runs, rewinds, tells, outcome_of_job, HasNoMachine, IsUnbegun, SendsOutput, IsRunOf, IsRewindOf, IsBegun, IsLoadable, HasItsParts, IsUntouched, Loads, MayWant, Plays, PlaysStory}
+use Rattle.gx_play.specs.Headline.{Outcome, refused, unstarted, runs, rewinds, tells, outcome_of_job, HasNoMachine}
+use Rattle.gx_play.specs.Headline.{IsUnbegun, SendsOutput, IsRunOf, IsRewindOf, IsBegun, IsHanded, LoadsFirst}
+use Rattle.gx_play.specs.Headline.{IsLoadable, HasItsParts, IsUntouched, LoadsOnce, MayWant, Plays, PlaysStory}
 
 -- what a shelf's fault is to a story that is loaded
 abbrev pub refusal_of_shelf : ShelfFault → Refusal
@@ -47,10 +51,15 @@ LoadGives most defined file (Err (refusal.BadStory fault)) = defined file ≡ Er
 LoadGives most defined file (Err refusal.Shelf) = Unit {0}
 LoadGives most defined file (Err refusal.NoMemory) = IsLoadable most file
 
--- The answer is that of some file, which a shelf that tells holds.
-pub record LoadsFile {X : Type 0} (most : ℕ) (defined : Option (List ℕ) → Result X ℕ) (shelf : FlatShelf) (name : List ℕ) (result : Result X Refusal) : Type 0 where
+-- The shelf was asked once for the file of a name, which one that tells holds; and the answer is that of the file.
+pub record LoadsFile {X : Type 0} (most : ℕ) (defined : Option (List ℕ) → Result X ℕ) (before now : FlatShelf)
+    (name : List ℕ) (asked : Trace) (result : Result X Refusal) : Type 0 where
+  pub answer : Result Answer ShelfFault
+  pub asked_are : asked ≡ (loads name most, answer) ∷ []
+  pub does : ShelfCall before (loads name most, answer) now
   pub file : Option (List ℕ)
-  pub file_is : shelf.tells ≡ true → file ≡ shelf.files name
+  pub file_is : before.tells ≡ true → file ≡ before.files name
+  pub handed : IsHanded most file answer
   pub gives : LoadGives most defined file result
 
 -- no device was called, and no run was begun
@@ -62,7 +71,8 @@ abbrev pub StoryPlays : {A : Type 0} → Outcome → Devices → Devices → End
 StoryPlays (unstarted fault at) entry exit ended =
     (HasNoMachine ended status_fault (number_of fault) at × (exit ≡ entry)) ⊎ IsStill entry exit ended
 StoryPlays (runs seed start) entry exit ended = IsRunOf seed start entry exit ended ⊎ IsStill entry exit ended
-StoryPlays (rewinds seed back start) entry exit ended = IsRewindOf seed back start entry exit ended ⊎ IsStill entry exit ended
+StoryPlays (rewinds seed back start) entry exit ended =
+    IsRewindOf seed back start entry exit ended ⊎ IsStill entry exit ended
 StoryPlays outcome entry exit ended = ⊥
 
 -- What a file that was loaded is told as, where no machine is started: nothing is sent with a refusal; and before an
@@ -84,7 +94,7 @@ BlamesSink before now status = Blames before.calls now.calls (status ≡ status_
 -- No run was begun: what `IsUnrun` says, of a command with this job.
 pub record IsIdle {A : Type 0} (job : Job) (entry exit : Devices) (ended : Ended A) : Type 0 where
   pub machine : ended.machine ≡ None
-  pub loads : Loads job entry.shelf exit.shelf
+  pub loads : LoadsOnce job exit.asked
   pub untouched : IsUntouched entry exit ended
   pub unsent : PlaysStory job → exit.sink ≡ entry.sink
 
@@ -92,6 +102,7 @@ pub record IsIdle {A : Type 0} (job : Job) (entry exit : Devices) (ended : Ended
 pub record IsDone {A : Type 0} (job : Job) (command : Command) (entry exit : Devices) (ended : Ended A) : Type 0 where
   pub file : Option (List ℕ)
   pub file_is : entry.shelf.tells ≡ true → file ≡ entry.shelf.files command.story
+  pub loads : LoadsFirst job command file exit.asked
   pub plays : Plays (outcome_of_job job command file entry) entry exit ended
   pub memory : ended.status ≡ status_no_memory → MayWant job file
   pub began : ended.status ≢ status_bad_words

@@ -22,7 +22,8 @@ tape_of r = record { whole = r.machine; log = events_of r.log }
 abbrev pub line_at : FlatTape → List ℕ
 line_at tape =
     let f = tape.whole.machine.flat in
-    line_of (decimal (units_of tape.log.before) ++ 32 ∷ hex_of 8 f.pc ++ 32 ∷ decimal (sp_of f) ++ 32 ∷ decimal (ram_sum_of f))
+    line_of (decimal (units_of tape.log.before) ++ 32 ∷ hex_of 8 f.pc ++ 32 ∷ decimal (sp_of f)
+    ++ 32 ∷ decimal (ram_sum_of f))
 
 -- THE LINE of a run: that of its tape, gone back by so many units.
 abbrev pub rewind_line : ℕ → Report → List ℕ

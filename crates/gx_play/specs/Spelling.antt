@@ -10,7 +10,8 @@ use Rattle.gx_state.specs.Flat.{FlatState}
 use Rattle.gx_operands.specs.declared.cursor.Cursor.{Cursor}
 use Rattle.gx_operands.specs.Instructions.{opcode, nibble, datum, past}
 use Rattle.gx_asm.specs.Codes.{listed, modes_len}
-use Rattle.gx_asm.specs.Instructions.{Written, IsWritten, Spelled, operand_count, data_len, all_data_len, number_of, bytes_of}
+use Rattle.gx_asm.specs.Instructions.{Written, IsWritten, Spelled, operand_count, data_len, all_data_len, number_of}
+use Rattle.gx_asm.specs.Instructions.{bytes_of}
 use Rattle.gx_asm.specs.Stories.{wrapped, wrapped_story, IsListedBack}
 use Rattle.gx_asm.specs.Texts.{assembled}
 use Rattle.gx_story.specs.Stories.{accepted, is_checked}
@@ -44,7 +45,8 @@ data_at f w k = modes_at f w + modes_len (operand_count (row_at w.place)) + data
 pub record SeesOperand (f : FlatState) (w : Written) (k : ℕ) : Type 0 where
   pub mode : addressing (nibble f.memory (modes_at f w) k) ≡ Some (mode_at w k)
   pub operand_data : 0 < data_len (mode_at w k) → (p : Cursor) → p.at ≡ data_at f w k
-      → datum f.memory p (data_len (mode_at w k)) ≡ Ok (number (data_len (mode_at w k)) (data_of w k) 0, past p (data_len (mode_at w k)))
+      → datum f.memory p (data_len (mode_at w k))
+      ≡ Ok (number (data_len (mode_at w k)) (data_of w k) 0, past p (data_len (mode_at w k)))
 
 -- The instruction: its number, its row, its operands, and no byte of memory more.
 pub record SeesInstruction (f : FlatState) (w : Written) : Type 0 where
@@ -59,6 +61,7 @@ pub record SeesInstruction (f : FlatState) (w : Written) : Type 0 where
 pub record IsSpelling : Type 0 where
   pub assembles : (text code : List ℕ) → (assembled text ≡ Ok code) ↔ Spelled text code
   pub lists : (code text : List ℕ) → All (λ b. b < 256) code → (listed code ≡ Ok text) ↔ Spelled text code
-  pub wraps : (code : List ℕ) → length code ≤ most_text → (accepted (wrapped code) ≡ Ok (wrapped_story code)) × (is_checked (wrapped_story code) ≡ true)
+  pub wraps : (code : List ℕ) → length code ≤ most_text
+      → (accepted (wrapped code) ≡ Ok (wrapped_story code)) × (is_checked (wrapped_story code) ≡ true)
   pub lists_back : (code : List ℕ) → IsListedBack code
   pub decodes : (f : FlatState) (w : Written) → IsWritten w → StandAt f.memory f.pc (bytes_of w) → SeesInstruction f w

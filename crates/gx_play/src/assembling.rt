@@ -2,11 +2,12 @@
 //!
 //! Nothing is sent where the text isn't understood. A code is no longer than its text, so that every text that is
 //! loaded has a story that is no longer than the longest that is accepted.
-ghost use Rattle.std.specs.Prelude.{◌≡◌, ◌≢◌, ◌≤◌, length};
+ghost use Rattle.std.specs.Prelude.{◌≡◌, ◌≢◌, ◌≤◌, length, []};
 ghost use Rattle.gx_asm.specs.declared.faults.AsmFault.TheVariants.{NoMemory};
 ghost use Rattle.gx_asm.specs.Faults.{number_in_text, line_in_text};
 ghost use Rattle.gx_asm.specs.Texts.{assembled};
 ghost use Rattle.gx_session.specs.Constants.{status_bad_text, status_no_memory};
+ghost use Rattle.gx_outside.specs.Chains.{IsCalled};
 ghost use Rattle.gx_session.specs.Devices.{Devices};
 ghost use Rattle.gx_play.specs.declared.command.Job.TheVariants.{Asm};
 ghost use Rattle.gx_play.specs.Constants.{most_text};
@@ -29,8 +30,10 @@ pub fn assemble_file<A: Allocator + Clone, K: Sink, F: Shelf>(
     output: &mut K,
     shelf: &mut F,
 ) -> Ended<A>
-    ensures { (d : Devices) → IsDone Asm (seen command.entry) (record d { sink = K.seen output.old; shelf = F.seen shelf.old })
-        (record d { sink = K.seen output.new; shelf = F.seen shelf.new }) result }
+    ensures { IsCalled F.called shelf.old shelf.new
+        (λ asked. (d : Devices) → IsDone Asm (seen command.entry)
+        (record d { sink = K.seen output.old; shelf = F.seen shelf.old; asked = [] })
+        (record d { sink = K.seen output.new; shelf = F.seen shelf.new; asked = asked }) result) }
 {
     match load_text(shelf, command.story) {
         Err(refusal) => without_story(refusal),

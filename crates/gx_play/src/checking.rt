@@ -1,4 +1,6 @@
 //! Job check: tells whether the story has the checksum that its header states.
+ghost use Rattle.std.specs.Prelude.{[]};
+ghost use Rattle.gx_outside.specs.Chains.{IsCalled};
 ghost use Rattle.gx_session.specs.Devices.{Devices};
 ghost use Rattle.gx_play.specs.declared.command.Job.TheVariants.{Check};
 ghost use Rattle.gx_play.specs.Headline.{SendsOutput};
@@ -20,8 +22,10 @@ pub fn check_file<A: Allocator + Clone, K: Sink, F: Shelf>(
     output: &mut K,
     shelf: &mut F,
 ) -> Ended<A>
-    ensures { (d : Devices) → IsDone Check (seen command.entry) (record d { sink = K.seen output.old; shelf = F.seen shelf.old })
-        (record d { sink = K.seen output.new; shelf = F.seen shelf.new }) result }
+    ensures { IsCalled F.called shelf.old shelf.new
+        (λ asked. (d : Devices) → IsDone Check (seen command.entry)
+        (record d { sink = K.seen output.old; shelf = F.seen shelf.old; asked = [] })
+        (record d { sink = K.seen output.new; shelf = F.seen shelf.new; asked = asked }) result) }
 {
     match load_story(alloc, shelf, command.story) {
         Err(refusal) => without_story(refusal),
@@ -31,7 +35,8 @@ pub fn check_file<A: Allocator + Clone, K: Sink, F: Shelf>(
 
 /// Tells that a checksum is right, or that it isn't.
 fn tell_checksum<A: Allocator + Clone, K: Sink>(is_right: bool, output: &mut K) -> Ended<A>
-    ensures sends { SendsOutput (check_status is_right) (check_line is_right) (K.seen output.old) (K.seen output.new) result }
+    ensures sends { SendsOutput (check_status is_right) (check_line is_right) (K.seen output.old)
+        (K.seen output.new) result }
     ensures blames { BlamesSink (K.seen output.old) (K.seen output.new) result.status }
 {
     if is_right {

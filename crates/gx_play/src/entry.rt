@@ -2,7 +2,8 @@
 //!
 //! `play` comes to the outcome that specs/Headline has for its command line and for the file under the
 //! name there, unless a device fails or memory runs out.
-ghost use Rattle.std.specs.Prelude.{map};
+ghost use Rattle.std.specs.Prelude.{map, []};
+ghost use Rattle.gx_outside.specs.Chains.{IsCalled};
 ghost use Rattle.gx_session.specs.Devices.{devices};
 ghost use Rattle.gx_play.specs.Headline.{IsPlayed};
 ghost use Rattle.gx_play.specs.Loading.{IsDone};
@@ -39,9 +40,10 @@ pub fn play<A: Allocator + Clone, S: Source, K: Sink, F: Shelf, R: Rng>(
     shelf: &mut F,
     dice: &mut R,
 ) -> Ended<A>
-    ensures { let entry = devices (S.seen input.old) (K.seen output.old) (F.seen shelf.old) (R.stream dice.old) in
-        let exit = devices (S.seen input.new) (K.seen output.new) (F.seen shelf.new) (R.stream dice.new) in
-        IsPlayed (map (λ word. word.now) words.now) entry exit result }
+    ensures { IsCalled F.called shelf.old shelf.new (λ asked.
+        let entry = devices (S.seen input.old) (K.seen output.old) (F.seen shelf.old) (R.stream dice.old) [] in
+        let exit = devices (S.seen input.new) (K.seen output.new) (F.seen shelf.new) (R.stream dice.new) asked in
+        IsPlayed (map (λ word. word.now) words.now) entry exit result) }
 {
     match read_command(alloc, words) {
         Err(CommandFault::BadWords) => without_machine(statuses::BAD_WORDS, 0, 0),
@@ -61,9 +63,10 @@ fn do_job<A: Allocator + Clone, S: Source, K: Sink, F: Shelf, R: Rng>(
     dice: &mut R,
 ) -> Ended<A>
     requires { IsInRange command }
-    ensures { let entry = devices (S.seen input.old) (K.seen output.old) (F.seen shelf.old) (R.stream dice.old) in
-        let exit = devices (S.seen input.new) (K.seen output.new) (F.seen shelf.new) (R.stream dice.new) in
-        IsDone command.entry.job (seen command.entry) entry exit result }
+    ensures { IsCalled F.called shelf.old shelf.new (λ asked.
+        let entry = devices (S.seen input.old) (K.seen output.old) (F.seen shelf.old) (R.stream dice.old) [] in
+        let exit = devices (S.seen input.new) (K.seen output.new) (F.seen shelf.new) (R.stream dice.new) asked in
+        IsDone command.entry.job (seen command.entry) entry exit result) }
 {
     match command.job {
         Job::Play | Job::Rewind => play_file(alloc, pages, command, input, output, shelf, dice),

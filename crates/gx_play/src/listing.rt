@@ -1,11 +1,12 @@
 //! Job list: the text of a story's start function is sent, up to its first quit or return.
 //!
 //! Nothing is sent where the story has no listing.
-ghost use Rattle.std.specs.Prelude.{◌≡◌, ◌≢◌, ◌≤◌};
+ghost use Rattle.std.specs.Prelude.{◌≡◌, ◌≢◌, ◌≤◌, []};
 ghost use Rattle.gx_asm.specs.declared.faults.ListFault.TheVariants.{NoMemory};
 ghost use Rattle.gx_asm.specs.Faults.{number_in_code, place_in_code};
 ghost use Rattle.gx_asm.specs.Stories.{listed_story};
 ghost use Rattle.gx_session.specs.Constants.{status_no_listing, status_no_memory};
+ghost use Rattle.gx_outside.specs.Chains.{IsCalled};
 ghost use Rattle.gx_session.specs.Devices.{Devices};
 ghost use Rattle.gx_play.specs.declared.command.Job.TheVariants.{List};
 ghost use Rattle.gx_play.specs.Headline.{HasNoMachine, outcome_of_listing};
@@ -28,8 +29,10 @@ pub fn list_file<A: Allocator + Clone, K: Sink, F: Shelf>(
     output: &mut K,
     shelf: &mut F,
 ) -> Ended<A>
-    ensures { (d : Devices) → IsDone List (seen command.entry) (record d { sink = K.seen output.old; shelf = F.seen shelf.old })
-        (record d { sink = K.seen output.new; shelf = F.seen shelf.new }) result }
+    ensures { IsCalled F.called shelf.old shelf.new
+        (λ asked. (d : Devices) → IsDone List (seen command.entry)
+        (record d { sink = K.seen output.old; shelf = F.seen shelf.old; asked = [] })
+        (record d { sink = K.seen output.new; shelf = F.seen shelf.new; asked = asked }) result) }
 {
     match load_story(alloc, shelf, command.story) {
         Err(refusal) => without_story(refusal),
@@ -43,7 +46,8 @@ fn send_listing<A: Allocator + Clone, K: Sink>(
     story: &Story,
     output: &mut K,
 ) -> Ended<A>
-    ensures tells { JobTells (outcome_of_listing (listed_story story.now)) (K.seen output.old) (K.seen output.new) result }
+    ensures tells { JobTells (outcome_of_listing (listed_story story.now)) (K.seen output.old)
+        (K.seen output.new) result }
     ensures blames { BlamesSink (K.seen output.old) (K.seen output.new) result.status }
     ensures number { result.status ≡ status_no_listing → (1 ≤ result.fault) × (result.fault ≤ 5) }
 {
@@ -57,7 +61,8 @@ fn send_listing<A: Allocator + Clone, K: Sink>(
 #[tactic(auto, using(crate::proofs::Told::numbers))]
 fn without_listing<A: Allocator + Clone>(fault: ListFault) -> Ended<A>
     ensures memory { fault ≡ NoMemory → HasNoMachine result status_no_memory 0 0 }
-    ensures fault { fault ≢ NoMemory → HasNoMachine result status_no_listing (number_in_code fault) (place_in_code fault) }
+    ensures fault { fault ≢ NoMemory → HasNoMachine result status_no_listing (number_in_code fault)
+        (place_in_code fault) }
     ensures number { result.status ≡ status_no_listing → (1 ≤ result.fault) × (result.fault ≤ 5) }
 {
     match fault {

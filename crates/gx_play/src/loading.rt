@@ -4,10 +4,11 @@
 //! it is none that gx_story accepts; the numbers of these faults are the program's.
 ghost use Rattle.std.specs.Prelude.{◌≡◌, ◌≤◌, ℕ, Err, IfOk, length};
 ghost use Rattle.gx_words.specs.Constants.{ceiling};
+ghost use Rattle.gx_outside.specs.Chains.{IsCalled};
 ghost use Rattle.gx_session.specs.Counts.{Blames};
 ghost use Rattle.gx_session.specs.Constants.{status_bad_story, status_shelf_fault, status_no_memory};
 ghost use Rattle.gx_play.specs.Constants.{most_text};
-ghost use Rattle.gx_play.specs.Headline.{HasNoMachine, LoadsOnce, story_of, text_of};
+ghost use Rattle.gx_play.specs.Headline.{HasNoMachine, story_of, text_of};
 ghost use Rattle.gx_play.specs.Loading.{LoadsFile, status_of, fault_of};
 
 use gx_outside::{Load, Shelf, ShelfFault};
@@ -61,8 +62,8 @@ impl From<StoryFault> for Refusal {
 
 /// The story under a name.
 pub fn load_story<F: Shelf>(alloc: Global, shelf: &mut F, name: &str) -> Result<Story, Refusal>
-    ensures value { LoadsFile ceiling story_of (F.seen shelf.old) name.now result }
-    ensures once { LoadsOnce (F.seen shelf.old) (F.seen shelf.new) }
+    ensures value { IsCalled F.called shelf.old shelf.new
+        (λ asked. LoadsFile ceiling story_of (F.seen shelf.old) (F.seen shelf.new) name.now asked result) }
     ensures count { Blames (F.seen shelf.old).calls (F.seen shelf.new).calls (result ≡ Err Refusal.Shelf) }
     ensures fault { (fault : ℕ) → result ≡ Err (Refusal.BadStory fault) → fault ≤ 7 }
 {
@@ -75,8 +76,8 @@ pub fn load_story<F: Shelf>(alloc: Global, shelf: &mut F, name: &str) -> Result<
 
 /// The text under a name.
 pub fn load_text<F: Shelf>(shelf: &mut F, name: &str) -> Result<Bytes, Refusal>
-    ensures value { LoadsFile most_text text_of (F.seen shelf.old) name.now result }
-    ensures once { LoadsOnce (F.seen shelf.old) (F.seen shelf.new) }
+    ensures value { IsCalled F.called shelf.old shelf.new
+        (λ asked. LoadsFile most_text text_of (F.seen shelf.old) (F.seen shelf.new) name.now asked result) }
     ensures count { Blames (F.seen shelf.old).calls (F.seen shelf.new).calls (result ≡ Err Refusal.Shelf) }
     ensures fault { (fault : ℕ) → result ≡ Err (Refusal.BadStory fault) → fault ≤ 7 }
     ensures bound { IfOk result (λ text. length text ≤ most_text) }

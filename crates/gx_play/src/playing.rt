@@ -1,9 +1,10 @@
 //! The jobs play and rewind: the story is loaded and played within a budget, in the view that the words ask for, with
 //! the random words of a seed where there is one. In job rewind it is played on a tape.
-ghost use Rattle.std.specs.Prelude.{◌≡◌, ◌≢◌, ℕ, None};
+ghost use Rattle.std.specs.Prelude.{◌≡◌, ◌≢◌, ℕ, None, []};
 ghost use Rattle.gx_words.specs.declared.faults.Fault.TheVariants.{NoMemory};
 ghost use Rattle.gx_words.specs.Faults.{number_of};
 ghost use Rattle.gx_machine.specs.Start.{first_machine};
+ghost use Rattle.gx_outside.specs.Chains.{IsCalled};
 ghost use Rattle.gx_session.specs.Devices.{devices};
 ghost use Rattle.gx_session.specs.Counts.{Counts};
 ghost use Rattle.gx_session.specs.Constants.{status_bad_words, status_fault, status_no_memory};
@@ -36,9 +37,10 @@ pub fn play_file<A: Allocator + Clone, S: Source, K: Sink, F: Shelf, R: Rng>(
 ) -> Ended<A>
     requires range { IsInRange command }
     requires plays { PlaysStory command.job }
-    ensures { let entry = devices (S.seen input.old) (K.seen output.old) (F.seen shelf.old) (R.stream dice.old) in
-        let exit = devices (S.seen input.new) (K.seen output.new) (F.seen shelf.new) (R.stream dice.new) in
-        IsDone command.entry.job (seen command.entry) entry exit result }
+    ensures { IsCalled F.called shelf.old shelf.new (λ asked.
+        let entry = devices (S.seen input.old) (K.seen output.old) (F.seen shelf.old) (R.stream dice.old) [] in
+        let exit = devices (S.seen input.new) (K.seen output.new) (F.seen shelf.new) (R.stream dice.new) asked in
+        IsDone command.entry.job (seen command.entry) entry exit result) }
 {
     match load_story(alloc, shelf, command.story) {
         Err(refusal) => without_story(refusal),
@@ -58,11 +60,13 @@ fn play_story<A: Allocator + Clone, S: Source, K: Sink, F: Shelf, R: Rng>(
     dice: &mut R,
 ) -> Ended<A>
     requires { IsInRange command }
-    ensures plays { let entry = devices (S.seen input.old) (K.seen output.old) (F.seen shelf.old) (R.stream dice.old) in
-        let exit = devices (S.seen input.new) (K.seen output.new) (F.seen shelf.new) (R.stream dice.new) in
-        StoryPlays (outcome_of_start command.entry.job (seen command.entry) story entry (first_machine story command.entry.undo)) entry exit result }
-    ensures counts { let entry = devices (S.seen input.old) (K.seen output.old) (F.seen shelf.old) (R.stream dice.old) in
-        let exit = devices (S.seen input.new) (K.seen output.new) (F.seen shelf.new) (R.stream dice.new) in
+    ensures plays { IsCalled F.called shelf.old shelf.new (λ asked.
+        let entry = devices (S.seen input.old) (K.seen output.old) (F.seen shelf.old) (R.stream dice.old) [] in
+        let exit = devices (S.seen input.new) (K.seen output.new) (F.seen shelf.new) (R.stream dice.new) asked in
+        StoryPlays (outcome_of_start command.entry.job (seen command.entry) story entry (first_machine story command.entry.undo)) entry exit result) }
+    ensures counts { let entry = devices (S.seen input.old) (K.seen output.old) (F.seen shelf.old)
+        (R.stream dice.old) [] in
+        let exit = devices (S.seen input.new) (K.seen output.new) (F.seen shelf.new) (R.stream dice.new) [] in
         Counts entry exit result.status }
     ensures parts { HasRunParts (command.entry.job ≡ Play) result }
     ensures began { result.status ≢ status_bad_words }
@@ -89,11 +93,13 @@ fn run_machine<A: Allocator + Clone, S: Source, K: Sink, F: Shelf, R: Rng>(
 ) -> Ended<A>
     requires asks_nothing { machine.asking ≡ None }
     requires range { IsInRange command }
-    ensures runs { let entry = devices (S.seen input.old) (K.seen output.old) (F.seen shelf.old) (R.stream dice.old) in
-        let exit = devices (S.seen input.new) (K.seen output.new) (F.seen shelf.new) (R.stream dice.new) in
-        IsRunOf command.entry.seed (start_for (seen command.entry) machine None entry) entry exit result }
-    ensures counts { let entry = devices (S.seen input.old) (K.seen output.old) (F.seen shelf.old) (R.stream dice.old) in
-        let exit = devices (S.seen input.new) (K.seen output.new) (F.seen shelf.new) (R.stream dice.new) in
+    ensures runs { IsCalled F.called shelf.old shelf.new (λ asked.
+        let entry = devices (S.seen input.old) (K.seen output.old) (F.seen shelf.old) (R.stream dice.old) [] in
+        let exit = devices (S.seen input.new) (K.seen output.new) (F.seen shelf.new) (R.stream dice.new) asked in
+        IsRunOf command.entry.seed (start_for (seen command.entry) machine None entry) entry exit result) }
+    ensures counts { let entry = devices (S.seen input.old) (K.seen output.old) (F.seen shelf.old)
+        (R.stream dice.old) [] in
+        let exit = devices (S.seen input.new) (K.seen output.new) (F.seen shelf.new) (R.stream dice.new) [] in
         Counts entry exit result.status }
     ensures parts { HasRunParts (Unit {0}) result }
     ensures began { result.status ≢ status_bad_words }

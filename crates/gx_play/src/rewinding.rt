@@ -5,6 +5,7 @@ ghost use Rattle.gx_machine.specs.Log.{no_events};
 ghost use Rattle.gx_rewind.specs.Tape.{gone_back};
 ghost use Rattle.gx_session.specs.Constants.{status_bad_words, status_shelf_fault};
 ghost use Rattle.gx_session.specs.Counts.{Counts};
+ghost use Rattle.gx_outside.specs.Chains.{IsCalled};
 ghost use Rattle.gx_session.specs.Devices.{devices};
 ghost use Rattle.gx_session.specs.Reports.{hex_of};
 ghost use Rattle.gx_session.specs.Runs.{report_on};
@@ -46,11 +47,13 @@ pub fn rewind_machine<A: Allocator + Clone, S: Source, K: Sink, F: Shelf, R: Rng
 ) -> Ended<A>
     requires asks_nothing { machine.asking ≡ None }
     requires range { IsInRange command }
-    ensures rewinds { let entry = devices (S.seen input.old) (K.seen output.old) (F.seen shelf.old) (R.stream dice.old) in
-        let exit = devices (S.seen input.new) (K.seen output.new) (F.seen shelf.new) (R.stream dice.new) in
-        IsRewindOf command.entry.seed command.entry.back (start_for (seen command.entry) machine (Some no_events) entry) entry exit result ⊎ IsStill entry exit result }
-    ensures counts { let entry = devices (S.seen input.old) (K.seen output.old) (F.seen shelf.old) (R.stream dice.old) in
-        let exit = devices (S.seen input.new) (K.seen output.new) (F.seen shelf.new) (R.stream dice.new) in
+    ensures rewinds { IsCalled F.called shelf.old shelf.new (λ asked.
+        let entry = devices (S.seen input.old) (K.seen output.old) (F.seen shelf.old) (R.stream dice.old) [] in
+        let exit = devices (S.seen input.new) (K.seen output.new) (F.seen shelf.new) (R.stream dice.new) asked in
+        IsRewindOf command.entry.seed command.entry.back (start_for (seen command.entry) machine (Some no_events) entry) entry exit result ⊎ IsStill entry exit result) }
+    ensures counts { let entry = devices (S.seen input.old) (K.seen output.old) (F.seen shelf.old)
+        (R.stream dice.old) [] in
+        let exit = devices (S.seen input.new) (K.seen output.new) (F.seen shelf.new) (R.stream dice.new) [] in
         Counts entry exit result.status }
     ensures parts { HasRunParts ⊥ result }
     ensures began { result.status ≢ status_bad_words }
@@ -71,8 +74,10 @@ fn tell_rewound<A: Allocator + Clone, K: Sink>(
     back: u64,
     output: &mut K,
 ) -> Ended<A>
-    ensures rewound { IsRewound back (report_on (λ tape. tape.whole) (λ tape. Some tape.log) ended) (K.seen output.old) (K.seen output.new) result }
-    ensures blames { ended.status < status_shelf_fault → BlamesSink (K.seen output.old) (K.seen output.new) result.status }
+    ensures rewound { IsRewound back (report_on (λ tape. tape.whole) (λ tape. Some tape.log) ended) (K.seen output.old)
+        (K.seen output.new) result }
+    ensures blames { ended.status < status_shelf_fault
+        → BlamesSink (K.seen output.old) (K.seen output.new) result.status }
 {
     let EndedOn {
         status,

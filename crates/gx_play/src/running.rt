@@ -1,6 +1,7 @@
 //! A run as a command asks for it: within its budget, in its view and on its screen, and with its random words.
-ghost use Rattle.std.specs.Prelude.{◌≡◌, ◌≤◌, None};
+ghost use Rattle.std.specs.Prelude.{◌≡◌, ◌≤◌, None, []};
 ghost use Rattle.gx_machine.specs.Log.{units_left};
+ghost use Rattle.gx_outside.specs.Chains.{IsCalled};
 ghost use Rattle.gx_session.specs.Devices.{devices};
 ghost use Rattle.gx_session.specs.Runs.{report_on};
 ghost use Rattle.gx_play.specs.Headline.{start_for, IsRunTo};
@@ -27,9 +28,10 @@ pub fn run_command<A: Allocator + Clone, E: Engine<A>, S: Source, K: Sink, F: Sh
     requires asks_nothing { (E.whole engine).asking ≡ None }
     requires room { command.steps ≤ units_left (E.log engine) }
     requires range { IsInRange command }
-    ensures { let entry = devices (S.seen input.old) (K.seen output.old) (F.seen shelf.old) (R.stream dice.old) in
-        let exit = devices (S.seen input.new) (K.seen output.new) (F.seen shelf.new) (R.stream dice.new) in
-        IsRunTo command.entry.seed (start_for (seen command.entry) (E.whole engine) (E.log engine) entry) entry exit (report_on E.whole E.log result) }
+    ensures { IsCalled F.called shelf.old shelf.new (λ asked.
+        let entry = devices (S.seen input.old) (K.seen output.old) (F.seen shelf.old) (R.stream dice.old) [] in
+        let exit = devices (S.seen input.new) (K.seen output.new) (F.seen shelf.new) (R.stream dice.new) asked in
+        IsRunTo command.entry.seed (start_for (seen command.entry) (E.whole engine) (E.log engine) entry) entry exit (report_on E.whole E.log result)) }
 {
     let world = command.world(alloc);
     match command.seed {

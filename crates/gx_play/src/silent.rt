@@ -1,8 +1,8 @@
 //! Devices for a run that nothing is to come from: no input, no files, no chance. They never fail.
 ghost use Rattle.std.specs.Prelude.{◌≡◌, [], false, true, length};
-ghost use Rattle.gx_outside.specs.Files.{no_files};
 ghost use Rattle.gx_outside.specs.Outside.{raised};
-ghost use Rattle.gx_play.specs.Jobs.{zeros};
+ghost use Rattle.gx_outside.specs.Shelves.{ShelfCall};
+ghost use Rattle.gx_play.specs.Jobs.{no_shelf, zeros};
 
 use gx_outside::{Failed, Load, SendFault, Shelf, ShelfFault, Sink, Source};
 use gx_words::Bytes;
@@ -26,7 +26,12 @@ impl NoInput {
 }
 
 impl Source for NoInput {
-    ghost seen = { λ s. record { calls = record { made = s.reads; faults = 0; failing = false; wanting = false }; offered = s.offered; tells = true; left = [] } };
+    ghost seen = { λ s. record {
+      calls = record { made = s.reads; faults = 0; failing = false; wanting = false };
+      offered = s.offered;
+      tells = true;
+      left = [];
+    } };
 
     fn read(&mut self, into: &mut [u8]) -> Result<usize, Failed> {
         self.reads = self.reads.saturating_add(1);
@@ -61,7 +66,12 @@ impl NoFiles {
 }
 
 impl Shelf for NoFiles {
-    ghost seen = { λ s. record { calls = record { made = s.calls; faults = 0; failing = false; wanting = s.wanting }; tells = true; files = no_files } };
+    ghost seen = { λ s. no_shelf s.calls s.wanting };
+
+    ghost called = { λ before c now. ShelfCall (no_shelf before.calls before.wanting) c
+        (no_shelf now.calls now.wanting) };
+
+    ghost called_so = { λ before c now does. does };
 
     fn load(&mut self, _name: &str, _most: usize) -> Result<Load, ShelfFault> {
         self.note(false);
@@ -112,7 +122,11 @@ impl Gathered {
 }
 
 impl Sink for Gathered {
-    ghost seen = { λ s. record { calls = record { made = s.sends; faults = 0; failing = false; wanting = s.wanting }; tells = true; taken = s.text } };
+    ghost seen = { λ s. record {
+      calls = record { made = s.sends; faults = 0; failing = false; wanting = s.wanting };
+      tells = true;
+      taken = s.text;
+    } };
 
     fn send(&mut self, bytes: &[u8]) -> Result<(), SendFault> {
         self.sends = self.sends.saturating_add(1);

@@ -28,8 +28,9 @@ pub fn work<A: Allocator + Clone, K: Sink>(
     number: u32,
     output: &mut K,
 ) -> Ended<A>
-    ensures { (command : Command) (d : Devices) → IsDone (Work number) command (record d { sink = K.seen output.old })
-        (record d { sink = K.seen output.new }) result }
+    ensures { (command : Command) (d : Devices)
+        → IsDone (Work number) command (record d { sink = K.seen output.old; asked = [] })
+        (record d { sink = K.seen output.new; asked = [] }) result }
 {
     match work_line(alloc, pages, number) {
         Err(_) => without_machine(statuses::NO_MEMORY, 0, 0),
@@ -94,7 +95,8 @@ fn start_work<A: Allocator + Clone>(
 
 /// Three numbers as a line.
 fn tell_end(alloc: Global, steps: u64, length: usize, sum: u32) -> Result<String, AllocError>
-    ensures { IfOk result (λ line. string_bytes line ≡ (decimal steps ++ 32 ∷ decimal length ++ 32 ∷ decimal sum) ++ 10 ∷ []) }
+    ensures { IfOk result (λ line. string_bytes line
+        ≡ (decimal steps ++ 32 ∷ decimal length ++ 32 ∷ decimal sum) ++ 10 ∷ []) }
 {
     let mut line = String::new(alloc);
     push_number(&mut line, steps)?;

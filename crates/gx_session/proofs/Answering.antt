@@ -1,5 +1,5 @@
 -- The machine takes a reply, or goes back to a copy, and then the text is sent that is due.
-use Rattle.std.proofs.Common.{◌≡◌, ℕ, ◌≤◌, ◌⊎◌, inr, List, Option, Some, None, IsSome, Result, Ok, Err, IfOk, refl, ap, subst, sym, ◌∙◌}
+use Rattle.std.proofs.Common.{◌≡◌, ℕ, ◌≤◌, ◌⊎◌, List, Option, Some, None, IsSome, Result, Ok, Err, IfOk, refl, ap, subst, sym, ◌∙◌}
 use Rattle.gx_machine.specs.Machine.{FlatMachine, Whole}
 use Rattle.gx_machine.specs.Log.{Log, logged, units_left, left_by, left_after}
 use Rattle.gx_machine.specs.declared.askings.Asking.{Asking}
@@ -27,9 +27,8 @@ module _ {E : Type 0} (whole : E → Whole) (log : E → Option Log) (old mid : 
       → EventGives start entry (held whole log mid coming) (asking_in whole mid) d (Err e)
   give-early e memory wants g =
       subst (λ (x : Halt). EventGives start entry (held whole log mid coming) (asking_in whole mid) d (Err x)) (sym memory)
-      (inr
       (resumed-early start entry h d (asking_in whole old) left machine wanted r wants (held whole log mid coming) (ap (λ (w : Whole). w.machine) g.err.0) (ap (λ (x : Running E). x.left) g.err.1) g.err.2 (asking_in whole mid)
-      (ap (λ (w : Whole). w.asking) g.err.0)))
+      (ap (λ (w : Whole). w.asking) g.err.0))
 
   module _ (g : (let q : Result (Unit {0}) Halt = Ok tt in Becomes whole log old mid machine left q)) where
     none-asked : asking_in whole mid ≡ None
@@ -47,12 +46,12 @@ module _ {E : Type 0} (whole : E → Whole) (log : E → Option Log) (old mid : 
     -- the text that was due then is refused
     pub flush-early : (world : FlatWorld) (sink : FlatSink) (e : Halt) → (e ≡ halt.Output) ⊎ (e ≡ halt.NoMemory) → Flushes enough d.sink sink mid.world world (Err e)
         → EventGives start entry (held whole log (record mid { world = world }) coming) (asking_in whole mid) (record d { sink = sink }) (Err e)
-    flush-early world sink e only f = inr (cut-send start entry (held whole log mid coming) d world sink steps enough (λ s text. refl) (asking_in whole mid) e given-standing none-asked only f)
+    flush-early world sink e only f = (cut-send start entry (held whole log mid coming) d world sink steps enough (λ s text. refl) (asking_in whole mid) e given-standing none-asked only f)
 
     -- it was sent
     pub flush-on : (world : FlatWorld) (sink : FlatSink) → Flushes enough d.sink sink mid.world world (Ok tt)
         → EventGives start entry (held whole log (record mid { world = world }) coming) (asking_in whole mid) (record d { sink = sink }) (Ok next.Goes)
-    flush-on world sink f = inr (flushed start entry (held whole log mid coming) d world sink steps enough (λ s text. refl) given-standing f)
+    flush-on world sink f = (flushed start entry (held whole log mid coming) d world sink steps enough (λ s text. refl) given-standing f)
 
 goes-next : (result : Result Next Halt) → IfOk result (λ n. n ≡ next.Goes) → IfOk result IsNext
 goes-next (Ok n) goes = subst IsNext (sym goes) tt

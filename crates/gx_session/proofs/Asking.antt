@@ -1,5 +1,5 @@
 -- What the effects of a step, and the answers to what it asks, make of a run.
-use Rattle.std.proofs.Common.{◌≡◌, ◌≢◌, ℕ, suc, ◌<◌, ◌≤◌, List, ◌++◌, length, ◌⊎◌, inl, inr, Bool, true, false, Option, Some, None, is_some, IsSome, IsTrue, Result, Ok, Err, IsOk, if◌then◌else◌, refl, ap, subst, sym, ◌∙◌, append_assoc, arith}
+use Rattle.std.proofs.Common.{◌≡◌, ◌≢◌, ℕ, ◌<◌, ◌≤◌, List, [], ◌∷◌, ◌++◌, length, ◌⊎◌, inl, inr, Bool, true, false, Option, Some, None, is_some, IsSome, IsTrue, Result, Ok, Err, IsOk, if◌then◌else◌, refl, ap, subst, sym, ◌∙◌, append_assoc, arith}
 use Rattle.arrayvec.specs.ArrayVec.{ArrayVec}
 use Rattle.gx_words.specs.declared.faults.Fault.{Fault}
 use Rattle.gx_words.specs.declared.faults.Fault.TheVariants as fault
@@ -13,8 +13,8 @@ use Rattle.gx_machine.specs.Machine.{FlatMachine, Whole}
 use Rattle.gx_machine.specs.Log.{Log, logged}
 use Rattle.gx_machine.specs.Advancing.{logged_by}
 use Rattle.gx_machine.specs.Step.{asking_of, stepped, IsStepWriting}
-use Rattle.gx_outside.specs.Files.{Files}
-use Rattle.gx_outside.specs.Outside.{FlatSource, FlatShelf, raised}
+use Rattle.gx_outside.specs.Outside.{FlatSource, FlatShelf}
+use Rattle.gx_outside.specs.Shelves.{Request, Answer, Trace}
 use Rattle.glk_world.specs.World.{Scene, FlatWorld, Said, after, on_world}
 use Rattle.glk_world.specs.Shown.{show_grids, show_line, ShowWants}
 use Rattle.glk_replies.specs.declared.Turn.{Turn}
@@ -35,14 +35,15 @@ use Rattle.gx_session.specs.Constants.{piece}
 use Rattle.gx_session.specs.declared.questions.Question.{Question}
 use Rattle.gx_session.specs.declared.questions.Question.TheVariants as asks-for
 use Rattle.gx_session.specs.declared.running.Waiting.{Waiting}
-use Rattle.gx_session.specs.Cuts.{IsLineStop, IsWait, IsQuestion, BeginsSave, ReplyWants, AnswerWants, TurnWants, RestoreWants, AskingWants, WantsMemory}
+use Rattle.gx_session.specs.Cuts.{IsLineStop, IsWait, request_of, BeginsSave, ReplyWants, AnswerWants, TurnWants, RestoreWants, AskingWants, WantsMemory}
 use Rattle.gx_session.specs.Devices.{Devices}
 use Rattle.gx_session.specs.Input.{NextLine, line, next_line}
-use Rattle.gx_session.specs.Questions.{turn_of, files_after, given_for}
+use Rattle.gx_session.specs.Questions.{turn_of, request_for}
 use Rattle.gx_session.specs.Reading.{ReadsFew}
 use Rattle.gx_session.specs.Saving.{is_begun, is_read, saving, restoring, IsReadBack}
-use Rattle.gx_session.specs.Session.{Configuration, Doing, steps, asks, goes_on, goes, stops, after_reply, after_restoring, waiting_for, asking_for, after_turn, after_given, after_line, after_asking, shelf_gives, after_effect, act_of, effect_at, asked, asked_at}
-use Rattle.gx_session.specs.Playing.{Held, WordIs, Past, configuration_of, IsPast, Standing, Ready, Going, Waits, Done, Early, Follows, Resumes, Replies, Turns, GoesOn, TakesInput, Gives, FaultGives}
+use Rattle.gx_session.specs.Session.{Configuration, Doing, steps, asks, goes_on, goes, stops, after_reply, after_restoring, waiting_for, asking_for, after_turn, after_given, after_line, after_asking, given_of, shelf_gives, after_effect, act_of, effect_at, asked, asked_at}
+use Rattle.gx_session.specs.Playing.{Held, WordIs, Past, configuration_of, IsPast, Standing, Ready, Going, Waits, Done, Early, Follows, Resumes, Replies, Turns, GoesOn, TakesInput, EventGives, FaultGives}
+use Rattle.gx_session.proofs.Calling.{answered-and}
 use Rattle.gx_session.proofs.Steps.{step-does, step-faults, step-asks, step-effect, step-asks-nothing, ok-is, asked-same}
 use Rattle.gx_session.proofs.NextLines.{some-input, shorter-input}
 use Rattle.gx_session.proofs.Playing.{here, moves-on, stops-at, wants, wants-line}
@@ -73,9 +74,9 @@ word-drawn word mine stream words drawn is = subst (λ (w : Option ℕ). WordIs 
 -- a fault stops the run where it isn't want of memory
 pub fault-gives : (start : Configuration) (entry : Devices) (h : Held) (asking : Option Asking) (d : Devices) (f : Fault) (result : Result Next Halt) → FaultGives f result
     → (f ≡ fault.NoMemory → Early start entry h asking d halt.NoMemory) → (f ≢ fault.NoMemory → Done start entry h asking d (stop.Faulted f))
-    → Gives start entry h asking d result
-fault-gives start entry h asking d f result (inl e) early stopped = subst (Gives start entry h asking d) (sym e.1) (early e.0)
-fault-gives start entry h asking d f result (inr e) early stopped = subst (Gives start entry h asking d) (sym e.1) (stopped e.0)
+    → EventGives start entry h asking d result
+fault-gives start entry h asking d f result (inl e) early stopped = subst (EventGives start entry h asking d) (sym e.1) (early e.0)
+fault-gives start entry h asking d f result (inr e) early stopped = subst (EventGives start entry h asking d) (sym e.1) (stopped e.0)
 
 -- a turn that waits may want memory where what is shown then may
 wait-wants : (log : Option Log) (machine : FlatMachine) (said : Said) (t : Turn) → IsWait t → ShowWants said.0 → TurnWants log machine (Ok (said, t))
@@ -105,13 +106,13 @@ asking-unlogged effect.Quit log m some = cc
 asking-unlogged effect.Spent log m some = cc
 
 -- what a turn says of a question
-pub question-is : (q : Question) → IsQuestion (turn_of q)
-question-is (asks-for.Load name) = tt
-question-is (asks-for.Store name bytes) = tt
-question-is (asks-for.Remove name) = tt
-question-is (asks-for.Has name) = tt
+pub request-is : (q : Question) → request_of (turn_of q) ≡ Some (request_for q)
+request-is (asks-for.Load name) = refl
+request-is (asks-for.Store name bytes) = refl
+request-is (asks-for.Remove name) = refl
+request-is (asks-for.Has name) = refl
 
-pub question-gives : (m : Configuration) (w : Waiting) (q : Question) → after_asking m w (turn_of q) ≡ shelf_gives m w (files_after q m.files) (given_for q m.files)
+pub question-gives : (m : Configuration) (w : Waiting) (q : Question) → after_asking m w (turn_of q) ≡ shelf_gives m w (request_for q)
 question-gives m w (asks-for.Load name) = refl
 question-gives m w (asks-for.Store name bytes) = refl
 question-gives m w (asks-for.Remove name) = refl
@@ -208,8 +209,8 @@ module _ (start : Configuration) (entry : Devices) (h : Held) (d : Devices) wher
 
   module _ (left : ℕ) where
     -- what was done stands
-    stood : (before : FlatMachine) (recorded : Option Log) (p : Past) → IsPast start.input entry p (record h { machine = before; log = recorded }) d → IsPast start.input entry p (record h { left = left }) d
-    stood before recorded p i = record { taken = i.taken; asked = i.asked; told = i.told; word = i.word; left = i.left; fewer = i.fewer; reads = i.reads }
+    stood : (before : FlatMachine) (recorded : Option Log) (p : Past) → IsPast start entry p (record h { machine = before; log = recorded }) d → IsPast start entry p (record h { left = left }) d
+    stood before recorded p i = record { taken = i.taken; answers = i.answers; answered = i.answered; word = i.word; left = i.left; fewer = i.fewer; reads = i.reads }
 
     -- the configuration that the step comes to
     abbrev stepped-to : Past → Option Log → Configuration
@@ -231,10 +232,10 @@ module _ (start : Configuration) (entry : Devices) (h : Held) (d : Devices) wher
         let g = f.going in
         let i = g.now.is_past in
         let used : Past = record g.now.past { words = (next_u32 g.now.past.words).1 } in
-        let is : IsPast start.input entry used (record h { left = left; word = None }) d = record {
+        let is : IsPast start entry used (record h { left = left; word = None }) d = record {
           taken = i.taken;
-          asked = i.asked;
-          told = i.told;
+          answers = i.answers;
+          answered = i.answered;
           word = ap (λ (p : ℕ × Stream). p.1) (word-drawn f.word h.word d.words g.now.past.words f.drawn i.word);
           left = i.left;
           fewer = i.fewer;
@@ -292,8 +293,8 @@ module _ (start : Configuration) (entry : Devices) (h : Held) (d : Devices) wher
     abbrev resumed-held : Held
     resumed-held = record h { machine = machine; left = left; log = logged h.log h.machine }
 
-    resumed-past : IsPast start.input entry r.going.now.past resumed-held d
-    resumed-past = let i = r.going.now.is_past in record { taken = i.taken; asked = i.asked; told = i.told; word = i.word; left = i.left; fewer = i.fewer; reads = i.reads }
+    resumed-past : IsPast start entry r.going.now.past resumed-held d
+    resumed-past = let i = r.going.now.is_past in record { taken = i.taken; answers = i.answers; answered = i.answered; word = i.word; left = i.left; fewer = i.fewer; reads = i.reads }
 
     -- the configuration after it
     resumed-act : act_of at ≡ goes (configuration_of r.going.now.past steps resumed-held d)
@@ -318,14 +319,14 @@ module _ (start : Configuration) (entry : Devices) (h : Held) (d : Devices) wher
     abbrev pub called : Configuration
     called = here start entry turning d steps r.going.now
 
-    turn-past : (h' : Held) → h'.word ≡ h.word → h'.ahead ≡ h.ahead → h'.coming ≡ h.coming → h'.over ≡ h.over → IsPast start.input entry r.going.now.past h' d
+    turn-past : (h' : Held) → h'.word ≡ h.word → h'.ahead ≡ h.ahead → h'.coming ≡ h.coming → h'.over ≡ h.over → IsPast start entry r.going.now.past h' d
     turn-past h' word ahead coming over =
         let i = r.going.now.is_past in
         let input : h'.ahead ++ h'.coming ≡ h.ahead ++ h.coming = ap (λ (x : List ℕ). x ++ h'.coming) ahead ∙ ap (λ (x : List ℕ). h.ahead ++ x) coming in
         record {
           taken = i.taken;
-          asked = i.asked;
-          told = i.told;
+          answers = i.answers;
+          answered = i.answered;
           word = subst (λ (x : Option ℕ). WordIs x d.words r.going.now.past.words) (sym word) i.word;
           left = λ tells. coming ∙ i.left tells;
           fewer = subst (λ (x : List ℕ). length x ≤ length start.input) (sym input) i.fewer;
@@ -404,27 +405,29 @@ module _ (start : Configuration) (entry : Devices) (h : Held) (d : Devices) wher
   on-ready asking g w waits = record { now = waits.now; quiet = refl }
 
   -- THE SHELF HAS ANSWERED
-  module _ (asking : Option Asking) (w : Waiting) (q : Question) (g : Ready start entry h d (asks (turn_of q) w)) (shelf : FlatShelf) (tells : shelf.tells ≡ d.shelf.tells) (made : shelf.calls.made ≡ raised d.shelf.calls.made) where
-    pub shelf-answers : (given : Given) → given ≡ given_for q d.shelf.files → shelf.files ≡ files_after q d.shelf.files → asking ≡ asked (here start entry h d (asks (turn_of q) w) g.now)
-        → Waits start entry h asking (record d { shelf = shelf }) (goes_on given w)
-    shelf-answers given is files asks-is =
+  module _ (asking : Option Asking) (w : Waiting) (q : Question) (g : Ready start entry h d (asks (turn_of q) w)) (shelf : FlatShelf) where
+    pub shelf-answers : (answer : Answer) → start.answers d.asked (request_for q) ≡ answer → asking ≡ asked (here start entry h d (asks (turn_of q) w) g.now)
+        → Waits start entry h asking (record d { shelf = shelf; asked = d.asked ++ (request_for q, Ok answer) ∷ [] }) (goes_on (given_of answer) w)
+    shelf-answers answer told asks-is =
         let m : Configuration = here start entry h d (asks (turn_of q) w) g.now in
         let i = g.now.is_past in
-        let p' : Past = record g.now.past { asked = suc g.now.past.asked } in
-        let past : IsPast start.input entry p' h (record d { shelf = shelf }) = record {
+        let p : Past = g.now.past in
+        let d' : Devices = record d { shelf = shelf; asked = d.asked ++ (request_for q, Ok answer) ∷ [] } in
+        let past : IsPast start entry p h d' = record {
           taken = i.taken;
-          asked = made ∙ ap raised i.asked;
-          told = tells ∙ i.told;
+          answers = i.answers;
+          answered = answered-and d.asked ((request_for q, Ok answer) ∷ []) i.answered tt;
           word = i.word;
           left = i.left;
           fewer = i.fewer;
           reads = i.reads;
         } in
-        let act : act_of m ≡ goes (configuration_of p' (goes_on given w) h (record d { shelf = shelf })) =
-        question-gives m w q ∙ ap (λ (f : Files). shelf_gives m w f (given_for q d.shelf.files)) (sym files) ∙ ap (shelf_gives m w shelf.files) (sym is) in
+        let same : m.answers m.asked (request_for q) ≡ answer = ap (λ (f : Trace → Request → Answer). f d.asked (request_for q)) i.answers ∙ told in
+        let act : act_of m ≡ goes (configuration_of p (goes_on (given_of answer) w) h d') =
+        question-gives m w q ∙ ap (λ (a : Answer). goes (record m { asked = m.asked ++ (request_for q, Ok a) ∷ []; doing = goes_on (given_of a) w })) same in
         record {
-          now = moves-on start entry h d (asks (turn_of q) w) g p' (goes_on given w) h (record d { shelf = shelf }) past g.now.few g.now.reads act (unsaved m (λ e. cc));
-          asking_is = asks-is ∙ asked-same m (configuration_of p' (goes_on given w) h (record d { shelf = shelf })) refl refl;
+          now = moves-on start entry h d (asks (turn_of q) w) g p (goes_on (given_of answer) w) h d' past g.now.few g.now.reads act (unsaved m (λ e. cc));
+          asking_is = asks-is ∙ asked-same m (configuration_of p (goes_on (given_of answer) w) h d') refl refl;
         }
 
   -- A LINE IS AWAITED
@@ -437,11 +440,11 @@ module _ (start : Configuration) (entry : Devices) (h : Held) (d : Devices) wher
 
     -- the input that is read and not taken is the same
     still-awaiting : (h' : Held) → h'.ahead ++ h'.coming ≡ h.ahead ++ h.coming → (p : Past) (source : FlatSource) → (source.tells ≡ true → h'.coming ≡ source.left) → ReadsFew false h'.over entry.source source start.input h'.coming 0 → h'.word ≡ h.word
-        → IsPast start.input entry p h d → IsPast start.input entry p h' (record d { source = source })
+        → IsPast start entry p h d → IsPast start entry p h' (record d { source = source })
     still-awaiting h' same p source left reads word i = record {
       taken = i.taken;
-      asked = i.asked;
-      told = i.told;
+      answers = i.answers;
+      answered = i.answered;
       word = subst (λ (x : Option ℕ). WordIs x d.words p.words) (sym word) i.word;
       left = left;
       fewer = subst (λ (x : List ℕ). length x ≤ length start.input) (sym same) i.fewer;
@@ -490,10 +493,10 @@ module _ (start : Configuration) (entry : Devices) (h : Held) (d : Devices) wher
         let before : length (r.ahead ++ r.coming) ≤ length start.input = i.fewer in
         let less : length (h.ahead ++ h.coming) < length start.input = omega arith in
         let h' : Held = record h { world = if h.echo then after h.world (show_line h.world.scene chars) else h.world } in
-        let past : IsPast start.input entry p h' d = record {
+        let past : IsPast start entry p h' d = record {
           taken = i.taken;
-          asked = i.asked;
-          told = i.told;
+          answers = i.answers;
+          answered = i.answered;
           word = i.word;
           left = r.left;
           fewer = omega arith;

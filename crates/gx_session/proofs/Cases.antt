@@ -1,12 +1,11 @@
 -- What the parts of a move come to, case by case: a fact that holds of each case holds of the whole.
 use Rattle.std.proofs.Common.{ℕ, List, Result, Ok, Err}
 use Rattle.gx_words.specs.declared.faults.Fault.{Fault}
-use Rattle.gx_outside.specs.Files.{Files}
+use Rattle.gx_outside.specs.Shelves.{Request}
 use Rattle.gx_state.specs.declared.effects.Reply.{Reply}
 use Rattle.glk_world.specs.World.{Said, after}
 use Rattle.glk_replies.specs.declared.Turn.{Turn}
 use Rattle.glk_replies.specs.declared.Turn.TheVariants as turn
-use Rattle.glk_replies.specs.declared.Given.{Given}
 use Rattle.gx_session.specs.declared.ends.Stop.TheVariants as stop
 use Rattle.gx_session.specs.declared.running.Waiting.{Waiting}
 use Rattle.gx_session.specs.Input.{NextLine, too_long, none, line, next_line}
@@ -53,13 +52,13 @@ module _ (P : Verdict → Type 0) (m : Configuration) where
   line-cases w (line chars rest) long ended taken = taken chars rest
 
   -- what a device gives
-  pub asking-cases : (w : Waiting) (t : Turn) → P (after_line m w (next_line m.input)) → ((files : Files) (g : Given) → P (shelf_gives m w files g)) → P (stops stop.Stuck m) → P (after_asking m w t)
+  pub asking-cases : (w : Waiting) (t : Turn) → P (after_line m w (next_line m.input)) → ((r : Request) → P (shelf_gives m w r)) → P (stops stop.Stuck m) → P (after_asking m w t)
   asking-cases w (turn.Answer reply) lines gives stuck = stuck
   asking-cases w turn.Wait lines gives stuck = lines
   asking-cases w turn.Stuck lines gives stuck = stuck
   asking-cases w turn.Prompt lines gives stuck = lines
-  asking-cases w (turn.Load name) lines gives stuck = gives _ _
-  asking-cases w (turn.Store name bytes) lines gives stuck = gives _ _
-  asking-cases w (turn.Remove name) lines gives stuck = gives _ _
-  asking-cases w (turn.Has name) lines gives stuck = gives _ _
+  asking-cases w (turn.Load name) lines gives stuck = gives _
+  asking-cases w (turn.Store name bytes) lines gives stuck = gives _
+  asking-cases w (turn.Remove name) lines gives stuck = gives _
+  asking-cases w (turn.Has name) lines gives stuck = gives _
   asking-cases w turn.Exit lines gives stuck = stuck

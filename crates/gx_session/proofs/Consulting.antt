@@ -1,12 +1,11 @@
 -- A device is asked in the middle of a Glk call, once the pending text is sent.
-use Rattle.std.proofs.Common.{◌≡◌, ℕ, ◌⊎◌, inl, inr, Bool, true, false, List, ◌++◌, Option, Some, None, Result, Ok, Err, refl, ap, subst, sym, ◌∙◌}
+use Rattle.std.proofs.Common.{◌≡◌, ℕ, ◌⊎◌, Bool, true, false, List, [], ◌∷◌, ◌++◌, Option, Some, None, Result, Ok, Err, refl, ap, subst, sym, ◌∙◌}
 use Rattle.gx_machine.specs.declared.askings.Asking.{Asking}
-use Rattle.gx_outside.specs.Outside.{FlatSource, FlatSink, FlatShelf, raised, shelf_wanted}
+use Rattle.gx_outside.specs.Outside.{FlatSource, FlatSink, FlatShelf}
+use Rattle.gx_outside.specs.Shelves.{Answer}
 use Rattle.gx_outside.specs.declared.devices.ShelfFault.{ShelfFault}
-use Rattle.gx_outside.specs.declared.devices.ShelfFault.TheVariants as of_shelf
 use Rattle.glk_world.specs.World.{FlatWorld}
 use Rattle.glk_replies.specs.declared.Turn.{Turn}
-use Rattle.glk_replies.specs.declared.Given.{Given}
 use Rattle.gx_session.specs.declared.ends.Halt.{Halt}
 use Rattle.gx_session.specs.declared.ends.Halt.TheVariants as halt
 use Rattle.gx_session.specs.declared.ends.Stop.TheVariants as stop
@@ -14,15 +13,14 @@ use Rattle.gx_session.specs.declared.lines.NoLine.{NoLine}
 use Rattle.gx_session.specs.declared.lines.NoLine.TheVariants as no
 use Rattle.gx_session.specs.declared.questions.Question.{Question}
 use Rattle.gx_session.specs.declared.running.Waiting.{Waiting}
-use Rattle.gx_session.specs.Counts.{IsUntold}
-use Rattle.gx_session.specs.Cuts.{IsWait, IsQuestion, MayWant, LeavesFiles}
+use Rattle.gx_session.specs.Cuts.{IsWait, request_of}
 use Rattle.gx_session.specs.Devices.{Devices}
 use Rattle.gx_session.specs.Input.{none, too_long}
-use Rattle.gx_session.specs.Questions.{turn_of, Answers}
+use Rattle.gx_session.specs.Questions.{turn_of, request_for, AreTold}
 use Rattle.gx_session.specs.Reading.{TakesLine, HoldsFew, ReadsFew, failures}
-use Rattle.gx_session.specs.Session.{Configuration, asks, goes_on, asked}
+use Rattle.gx_session.specs.Session.{Configuration, asks, given_of, goes_on, asked}
 use Rattle.gx_session.specs.Playing.{Held, WordIs, Ready, Waits, Flushes, TakesInput, EventGives, Early, halt_of_shelf, without_line}
-use Rattle.gx_session.proofs.Asking.{question-is, shelf-answers, line-stops}
+use Rattle.gx_session.proofs.Asking.{request-is, shelf-answers, line-stops}
 use Rattle.gx_session.proofs.Feeding.{reads-on}
 use Rattle.gx_session.proofs.Playing.{here, flushed, cut-send, refused, unread, wants-line}
 use Rattle.gx_session.proofs.Steps.{asked-by-word}
@@ -42,7 +40,7 @@ module _ (start : Configuration) (entry : Devices) (h : Held) (asking : Option A
 
   -- the text that was due before it was refused
   pub text-refused : (e : Halt) → (e ≡ halt.Output) ⊎ (e ≡ halt.NoMemory) → Flushes 1 d.sink sink h.world world (Err e) → EventGives start entry h1 asking d1 (Err e)
-  text-refused e only f = inr (cut-send start entry h d world sink (asks t w) 1 (λ s text. refl) asking e waits.now waits.asking_is only f)
+  text-refused e only f = cut-send start entry h d world sink (asks t w) 1 (λ s text. refl) asking e waits.now waits.asking_is only f
 
   module _ (f : Flushes 1 d.sink sink h.world world (Ok tt)) where
     ready : Ready start entry h1 d1 (asks t w)
@@ -55,52 +53,21 @@ module _ (start : Configuration) (entry : Devices) (h : Held) (asking : Option A
         (next-word h.word d.words waits.now.past.words ready.now.past.words waits.now.is_past.word ready.now.is_past.word)
 
     -- THE SHELF
-    module _ (shelf : FlatShelf) (tells : shelf.tells ≡ d.shelf.tells) (made : shelf.calls.made ≡ raised d.shelf.calls.made) where
-      untold : d.shelf.tells ≡ false → IsUntold entry.shelf shelf
-      untold silent = record {
-        silent = sym waits.now.is_past.told ∙ silent;
-        calls = waits.now.past.asked;
-        asked = made ∙ ap raised waits.now.is_past.asked;
-      }
-
-      -- it says whether it wanted memory
-      abbrev pub Says : ShelfFault → Type 0
-      Says fault = let r : Result Given ShelfFault = Err fault in shelf.calls.wanting ≡ shelf_wanted r
-
-      refuse : (q : Question) → t ≡ turn_of q → (fault : ShelfFault) → Says fault → Answers q d.shelf.files shelf.files (Err fault) → Early start entry h1 asking (record d1 { shelf = shelf }) (halt_of_shelf fault)
-      refuse q is of_shelf.Failed says a =
-          refused start entry h1 d1 w t ready shelf halt.Shelf asking made (subst IsQuestion (sym is) (question-is q)) (inl refl) (subst (λ (x : Turn). LeavesFiles x d.shelf.files shelf.files) (sym is) a) asks-is
-      refuse q is of_shelf.NoMemory says a =
-          refused start entry h1 d1 w t ready shelf halt.NoMemory asking made (subst IsQuestion (sym is) (question-is q)) (inr (refl, subst (MayWant d.shelf.files) (sym is) a.1, says))
-          (subst (λ (x : Turn). LeavesFiles x d.shelf.files shelf.files) (sym is) a.0) asks-is
-
-      refuse-by : (q : Question) → t ≡ turn_of q → (fault : ShelfFault) → Says fault → (b : Bool) → d.shelf.tells ≡ b → (d.shelf.tells ≡ true → Answers q d.shelf.files shelf.files (Err fault))
-          → EventGives start entry h1 asking (record d1 { shelf = shelf }) (Err (halt_of_shelf fault))
-      refuse-by q is fault says true told a = inr (refuse q is fault says (a told))
-      refuse-by q is fault says false told a = inl (untold told)
-
+    module _ (shelf : FlatShelf) (q : Question) (is : t ≡ turn_of q) where
       -- it refused
-      pub shelf-refused : (q : Question) → t ≡ turn_of q → (fault : ShelfFault) → Says fault → (d.shelf.tells ≡ true → Answers q d.shelf.files shelf.files (Err fault))
-          → EventGives start entry h1 asking (record d1 { shelf = shelf }) (Err (halt_of_shelf fault))
-      shelf-refused q is fault says a = refuse-by q is fault says d.shelf.tells refl a
+      pub shelf-refused : (fault : ShelfFault) → AreTold start.answers d.asked ((request_for q, Err fault) ∷ [])
+          → Early start entry h1 asking (record d1 { shelf = shelf; asked = d.asked ++ (request_for q, Err fault) ∷ [] }) (halt_of_shelf fault)
+      shelf-refused fault told = refused start entry h1 d1 w t ready shelf (request_for q) fault asking (ap request_of is ∙ request-is q) told asks-is
 
-      answer-at : (q : Question) → t ≡ turn_of q → (given : Given) → Answers q d.shelf.files shelf.files (Ok given) → Waits start entry h1 asking (record d1 { shelf = shelf }) (goes_on given w)
-      answer-at q is given a =
+      -- it answered
+      pub shelf-answered : (answer : Answer) → AreTold start.answers d.asked ((request_for q, Ok answer) ∷ [])
+          → Waits start entry h1 asking (record d1 { shelf = shelf; asked = d.asked ++ (request_for q, Ok answer) ∷ [] }) (goes_on (given_of answer) w)
+      shelf-answered answer told =
           let r : Ready start entry h1 d1 (asks (turn_of q) w) = subst (λ (x : Turn). Ready start entry h1 d1 (asks x w)) is ready in
-          shelf-answers start entry h1 d1 asking w q r shelf tells made given a.0 a.1
+          shelf-answers start entry h1 d1 asking w q r shelf answer told.0
           (waits.asking_is
           ∙ asked-by-word (here start entry h d (asks t w) waits.now) (here start entry h1 d1 (asks (turn_of q) w) r.now) refl
           (next-word h.word d.words waits.now.past.words r.now.past.words waits.now.is_past.word r.now.is_past.word))
-
-      answer-by : (q : Question) → t ≡ turn_of q → (given : Given) (b : Bool) → d.shelf.tells ≡ b → (d.shelf.tells ≡ true → Answers q d.shelf.files shelf.files (Ok given))
-          → IsUntold entry.shelf shelf ⊎ Waits start entry h1 asking (record d1 { shelf = shelf }) (goes_on given w)
-      answer-by q is given true told a = inr (answer-at q is given (a told))
-      answer-by q is given false told a = inl (untold told)
-
-      -- it answered
-      pub shelf-answered : (q : Question) → t ≡ turn_of q → (given : Given) → (d.shelf.tells ≡ true → Answers q d.shelf.files shelf.files (Ok given))
-          → IsUntold entry.shelf shelf ⊎ Waits start entry h1 asking (record d1 { shelf = shelf }) (goes_on given w)
-      shelf-answered q is given a = answer-by q is given d.shelf.tells refl a
 
     -- THE INPUT
     module _ (is : IsWait t) (ahead coming : List ℕ) (over : Bool) (source : FlatSource) (told : source.tells ≡ true → coming ≡ source.left) where
@@ -136,8 +103,8 @@ module _ (start : Configuration) (entry : Devices) (h : Held) (asking : Option A
       pub no-line-came : (e : NoLine) → TakesLine (h.ahead ++ h.coming) (ahead ++ coming) (Err e) → ReadsFew h.over over d.source source h.coming coming (failures (let r : Result (List ℕ) NoLine = Err e in r)) → HoldsFew ahead (let r : Result (List ℕ) NoLine = Err e in r)
           → EventGives start entry h2 asking d2 (without_line e)
       no-line-came no.Ended takes reads few =
-          inr (line-stops start entry h1 d1 asking w t is ready asks-is stop.InputEnded none h2 source takes.0 refl tt refl takes.1 told (reads-so 0 reads) (λ long. few) refl)
+          line-stops start entry h1 d1 asking w t is ready asks-is stop.InputEnded none h2 source takes.0 refl tt refl takes.1 told (reads-so 0 reads) (λ long. few) refl
       no-line-came no.TooLong takes reads few =
-          inr (line-stops start entry h1 d1 asking w t is ready asks-is stop.LineTooLong too_long h2 source takes.0 refl tt refl takes.1 told (reads-so 0 reads) (λ long. absurd (long refl)) refl)
-      no-line-came no.Failed takes reads few = inr (unread start entry h1 d1 w t ready h2 source asking is told (reads-so 1 reads) few takes refl refl refl asks-is)
-      no-line-came no.NoMemory takes reads few = inr (wants-line start entry h1 d1 (asks t w) ready h2 source asking is (asks-is, is, takes) refl refl refl)
+          line-stops start entry h1 d1 asking w t is ready asks-is stop.LineTooLong too_long h2 source takes.0 refl tt refl takes.1 told (reads-so 0 reads) (λ long. absurd (long refl)) refl
+      no-line-came no.Failed takes reads few = unread start entry h1 d1 w t ready h2 source asking is told (reads-so 1 reads) few takes refl refl refl asks-is
+      no-line-came no.NoMemory takes reads few = wants-line start entry h1 d1 (asks t w) ready h2 source asking is (asks-is, is, takes) refl refl refl

@@ -1,29 +1,30 @@
 -- What a whole run reports, and its ending.
-use Rattle.std.proofs.Common.{◌≡◌, ◌≢◌, ℕ, suc, ◌+◌, ◌-◌, ◌<◌, ◌≤◌, ◌==◌, if◌then◌else◌, ◌⊎◌, inl, inr, Bool, true, false, List, [], ◌∷◌, ◌++◌, length, Option, Result, Ok, Err, IfErr, refl, ap, subst, sym, ◌∙◌, arith, append-nil}
+use Rattle.std.proofs.Common.{◌≡◌, ◌≢◌, ℕ, suc, ◌+◌, ◌-◌, ◌<◌, ◌≤◌, ◌==◌, if◌then◌else◌, ◌⊎◌, inl, inr, Bool, true, false, List, [], ◌∷◌, ◌++◌, map, length, Option, Result, Ok, Err, refl, ap, subst, sym, ◌∙◌, arith, append_assoc, append-nil}
 use Rattle.gx_words.specs.declared.faults.Fault.{Fault}
 use Rattle.gx_words.specs.declared.faults.Fault.TheVariants.{NoMemory}
 use Rattle.gx_words.specs.Faults.{number_of}
 use Rattle.gx_machine.specs.declared.askings.Asking.{Asking}
 use Rattle.gx_machine.specs.Machine.{FlatMachine, Whole}
 use Rattle.gx_machine.specs.Log.{Log}
-use Rattle.gx_outside.specs.Files.{Files}
-use Rattle.gx_outside.specs.Outside.{FlatShelf, KeepsOthers, raised_by}
+use Rattle.gx_outside.specs.Outside.{FlatShelf, raised_by}
+use Rattle.gx_outside.specs.Shelves.{stores, Trace}
+use Rattle.gx_outside.specs.declared.devices.ShelfFault.{ShelfFault}
+use Rattle.gx_outside.specs.declared.devices.ShelfFault.TheVariants as of_shelf
 use Rattle.glk_world.specs.World.{Scene}
 use Rattle.gx_session.specs.declared.ends.Stop.{Stop}
 use Rattle.gx_session.specs.declared.ends.Stop.TheVariants as stop
 use Rattle.gx_session.specs.declared.ends.Halt.{Halt}
 use Rattle.gx_session.specs.declared.ends.Halt.TheVariants as halt
 use Rattle.gx_session.specs.Constants.{status_shelf_fault, status_input_fault, status_output_fault}
-use Rattle.gx_session.specs.Counts.{Counts, IsUntold}
-use Rattle.gx_session.specs.Cuts.{in_listing, in_store, IsLineStop, IsShelfStatus, stopped}
+use Rattle.gx_session.specs.Counts.{Counts}
+use Rattle.gx_session.specs.Cuts.{in_listing, in_store, IsLineStop, IsShelfStatus, fault_at, stopped}
 use Rattle.gx_session.specs.Devices.{Devices}
-use Rattle.gx_session.specs.Endings.{Store, open_files_of, stores_of, stored, told_all, after_stores, last_of, StoredAll, StoredSome}
+use Rattle.gx_session.specs.Endings.{Store, open_files_of, stores_of, call_of, told_all, after_stores, last_of}
 use Rattle.gx_session.specs.Session.{Configuration, Ending, final_of, status_of, fault_number, fault_address}
-use Rattle.gx_session.specs.Runs.{IsFront, LeavesInput, read_failures, AreDrawn, Report, EndsAt, StopsEarly, IsReport, IsSession, IsSomeSession}
-use Rattle.gx_session.specs.Playing.{Held, configuration_of, HasTaken, Told, Finished, Early, EndingGives, RunGives, IsStop, status_of_halt, Keeps, StoresFiles}
+use Rattle.gx_session.specs.Runs.{IsFront, LeavesInput, read_failures, AreDrawn, Report, EndsAt, StopsEarly, IsReport, IsSession}
+use Rattle.gx_session.specs.Playing.{Held, configuration_of, HasTaken, Told, Finished, Early, EndingGives, RunGives, IsStop, status_of_halt, halt_of_shelf, Keeps, StoredSome, StoresFiles}
 use Rattle.gx_session.proofs.Counting.{blames-same}
-use Rattle.gx_session.proofs.Playing.{memory-of, cut-at, input-left, words-left}
-use Rattle.gx_session.proofs.Storing.{raised-more}
+use Rattle.gx_session.proofs.Playing.{cut-at, input-left, words-left}
 
 pub status-low : (why : Stop) → status_of why < status_shelf_fault
 status-low stop.Ended = omega arith
@@ -74,75 +75,55 @@ module _ (start : Configuration) (entry : Devices) (h : Held) (asking : Option A
   open-still : open_files_of h.world.scene ≢ [] → open_files_of (stopped start).world.scene ≢ []
   open-still some = subst (λ (x : Scene). open_files_of x ≢ []) (sym scene-is) some
 
-  -- memory ran out before them
-  pub listing-wants : open_files_of h.world.scene ≢ [] → Early start entry h asking d halt.NoMemory
-  listing-wants some =
-      cut-at start entry d h asking halt.NoMemory in_listing (told_all (stopped start)) t.past.sent [] (refl, open-still some, refl, t.asking_is) (sym (ap (λ (m : Configuration). m.machine) t.is_end)) (sym (ap (λ (m : Configuration). m.left) t.is_end)) (sym (ap (λ (m : Configuration). m.log) t.is_end))
-      (whole-text ∙ sym (append-nil t.past.sent)) sent-taken whole-front (omega (arith, sent-bytes)) (omega (arith, sent-bytes)) (sym (ap (λ (m : Configuration). m.files) t.is_end))
-      (t.is_past.asked ∙ ap (λ (m : Configuration). raised_by m.asked entry.shelf.calls.made) (sym t.is_end)) (λ other. input-are) words-are t.saves (λ e. tt)
+  -- what the shelf was asked before
+  asked-then : (told_all (stopped start)).asked ≡ d.asked
+  asked-then = ap (λ (m : Configuration). m.asked) t.is_end
 
-  module _ (shelf : FlatShelf) where
+  module _ (shelf : FlatShelf) (asked : Trace) where
     abbrev d-now : Devices
-    d-now = record d { shelf = shelf }
+    d-now = record d { shelf = shelf; asked = d.asked ++ asked }
 
-    asked-so : (n : ℕ) → shelf.calls.made ≡ raised_by n d.shelf.calls.made → shelf.calls.made ≡ raised_by (n + t.past.asked) entry.shelf.calls.made
-    asked-so n made = made ∙ ap (raised_by n) t.is_past.asked ∙ raised-more n t.past.asked entry.shelf.calls.made
+    -- memory ran out before them
+    listing-wants : asked ≡ [] → open_files_of h.world.scene ≢ [] → Early start entry h asking d-now halt.NoMemory
+    listing-wants none some =
+        cut-at start entry d-now h asking halt.NoMemory in_listing (told_all (stopped start)) t.past.sent [] (refl, open-still some, refl, t.asking_is) (sym (ap (λ (m : Configuration). m.machine) t.is_end)) (sym (ap (λ (m : Configuration). m.left) t.is_end)) (sym (ap (λ (m : Configuration). m.log) t.is_end))
+        (whole-text ∙ sym (append-nil t.past.sent)) sent-taken whole-front (omega (arith, sent-bytes)) (omega (arith, sent-bytes))
+        (ap (λ (x : Trace). d.asked ++ x) none ∙ append-nil d.asked ∙ sym asked-then) (λ other. input-are) words-are t.saves (λ e. tt)
 
-    untold-now : (n : ℕ) → d.shelf.tells ≡ false → shelf.calls.made ≡ raised_by (suc n) d.shelf.calls.made → IsUntold entry.shelf shelf
-    untold-now n silent made =
-        let all : suc n + t.past.asked ≡ suc (n + t.past.asked) = omega arith in
-        record {
-          silent = sym t.is_past.told ∙ silent;
-          calls = n + t.past.asked;
-          asked = asked-so (suc n) made ∙ ap (λ (k : ℕ). raised_by k entry.shelf.calls.made) all;
-        }
+    shelf-status : (fault : ShelfFault) → IsShelfStatus (status_of_halt (halt_of_shelf fault))
+    shelf-status of_shelf.Failed = inl refl
+    shelf-status of_shelf.NoMemory = inr refl
 
-    shelf-status : (halted : Halt) → (halted ≡ halt.Shelf) ⊎ (halted ≡ halt.NoMemory) → IsShelfStatus (status_of_halt halted)
-    shelf-status halted (inl e) = inl (ap status_of_halt e)
-    shelf-status halted (inr e) = inr (ap status_of_halt e)
+    no-failures : (fault : ShelfFault) → read_failures (status_of_halt (halt_of_shelf fault)) ≡ 0
+    no-failures of_shelf.Failed = refl
+    no-failures of_shelf.NoMemory = refl
 
-    no-failures : (halted : Halt) → (halted ≡ halt.Shelf) ⊎ (halted ≡ halt.NoMemory) → read_failures (status_of_halt halted) ≡ 0
-    no-failures halted (inl e) = ap (λ (x : Halt). read_failures (status_of_halt x)) e
-    no-failures halted (inr e) = ap (λ (x : Halt). read_failures (status_of_halt x)) e
+    fault-is : (fault : ShelfFault) → fault_at (status_of_halt (halt_of_shelf fault)) ≡ fault
+    fault-is of_shelf.Failed = refl
+    fault-is of_shelf.NoMemory = refl
 
     -- one of them was refused
-    some-by : (halted : Halt) (b : Bool) → d.shelf.tells ≡ b → (halted ≡ halt.Shelf) ⊎ (halted ≡ halt.NoMemory) → StoredSome (stores_of h.world.scene) d.shelf shelf (halted ≡ halt.NoMemory)
-        → IsUntold entry.shelf shelf ⊎ Early start entry h asking d-now halted
-    some-by halted false tells only s = inl (untold-now (length s.front) tells s.made)
-    some-by halted true tells only s =
-        let m : Configuration = after_stores (told_all (stopped start)) s.front in
-        let split : stores_of (stopped start).world.scene ≡ s.front ++ s.next ∷ s.rest = ap stores_of scene-is ∙ s.split in
-        let before : (stopped start).files ≡ d.shelf.files = ap (λ (m : Configuration). m.files) t.is_end in
-        let asked-is : (stopped start).asked ≡ t.past.asked = ap (λ (m : Configuration). m.asked) t.is_end in
-        let count : suc (length s.front) + t.past.asked ≡ suc (m.asked) = omega arith in
-        inr
-        (cut-at start entry d-now h asking halted (in_store s.front s.next) m t.past.sent []
-        (refl, shelf-status halted only, t.asking_is, (s.rest, split)) (sym (ap (λ (m : Configuration). m.machine) t.is_end)) (sym (ap (λ (m : Configuration). m.left) t.is_end)) (sym (ap (λ (m : Configuration). m.log) t.is_end))
+    some-refused : (fault : ShelfFault) (front rest : List Store) (next : Store) → stores_of h.world.scene ≡ front ++ next ∷ rest → asked ≡ map call_of front ++ (stores next.0 next.1, Err fault) ∷ []
+        → Early start entry h asking d-now (halt_of_shelf fault)
+    some-refused fault front rest next files asked-are =
+        let m : Configuration = after_stores (told_all (stopped start)) front in
+        let split : stores_of (stopped start).world.scene ≡ front ++ next ∷ rest = ap stores_of scene-is ∙ files in
+        let call : Trace = (stores next.0 next.1, Err fault) ∷ [] in
+        cut-at start entry d-now h asking (halt_of_shelf fault) (in_store front next) m t.past.sent []
+        (refl, shelf-status fault, t.asking_is, (rest, split)) (sym (ap (λ (m : Configuration). m.machine) t.is_end)) (sym (ap (λ (m : Configuration). m.left) t.is_end)) (sym (ap (λ (m : Configuration). m.log) t.is_end))
         (whole-text ∙ sym (append-nil t.past.sent)) sent-taken whole-front (omega (arith, sent-bytes)) (omega (arith, sent-bytes))
-        (subst (λ (f : Files). KeepsOthers (stored f s.front) shelf.files s.next.0) (sym before) (s.files tells))
-        (asked-so (suc (length s.front)) s.made ∙ ap (λ (k : ℕ). raised_by k entry.shelf.calls.made) count)
+        (ap (λ (x : Trace). d.asked ++ x) asked-are ∙ sym (append_assoc d.asked (map call_of front) call) ∙ ap (λ (x : Trace). (x ++ map call_of front) ++ call) (sym asked-then)
+        ∙ ap (λ (f : ShelfFault). m.asked ++ (stores next.0 next.1, Err f) ∷ []) (sym (fault-is fault)))
         (λ other.
-        subst (LeavesInput start.input m.input entry.source d.source (IsLineStop (final_of start).stop) ((final_of start).stop ≡ stop.LineTooLong)) (sym (no-failures halted only)) input-are) words-are t.saves (λ e. s.wants (memory-of halted e)))
+        subst (LeavesInput start.input m.input entry.source d.source (IsLineStop (final_of start).stop) ((final_of start).stop ≡ stop.LineTooLong)) (sym (no-failures fault)) input-are) words-are t.saves (λ e. tt)
 
-    -- all of them were stored
-    all-by : (stores : List Store) (b : Bool) → d.shelf.tells ≡ b → StoredAll stores d.shelf shelf → IsUntold entry.shelf shelf ⊎ (shelf.files ≡ stored d.shelf.files stores)
-    all-by stores true tells s = inr (s.files tells)
-    all-by [] false tells s = inr (ap (λ (x : FlatShelf). x.files) (s.none refl))
-    all-by (s' ∷ stores) false tells s = inl (untold-now (length stores) tells s.made)
+    closes-by : (halted : Halt) → ((halted ≡ halt.NoMemory) × (asked ≡ []) × (open_files_of h.world.scene ≢ [])) ⊎ StoredSome (stores_of h.world.scene) asked halted → Early start entry h asking d-now halted
+    closes-by halted (inl none) = subst (Early start entry h asking d-now) (sym none.0) (listing-wants none.1 none.2)
+    closes-by halted (inr s) = subst (Early start entry h asking d-now) (sym s.why_is) (some-refused s.fault s.front s.rest s.next s.split s.calls_are)
 
-    finished-by : StoredAll (stores_of h.world.scene) d.shelf shelf → IsUntold entry.shelf shelf ⊎ (shelf.files ≡ stored d.shelf.files (stores_of h.world.scene)) → IsUntold entry.shelf shelf ⊎ Finished start entry h asking d-now why
-    finished-by s (inl untold) = inl untold
-    finished-by s (inr files) = inr (record { shelf = d.shelf; told = t; files = files; made = s.made })
-
-    listed-by : (halted : Halt) → (halted ≡ halt.Shelf) ⊎ (halted ≡ halt.NoMemory) → ((halted ≡ halt.NoMemory) × (shelf ≡ d.shelf) × (open_files_of h.world.scene ≢ [])) ⊎ StoredSome (stores_of h.world.scene) d.shelf shelf (halted ≡ halt.NoMemory)
-        → IsUntold entry.shelf shelf ⊎ Early start entry h asking d-now halted
-    listed-by halted only (inl none) =
-        inr (subst (λ (x : Halt). Early start entry h asking d-now x) (sym none.0) (subst (λ (k : FlatShelf). Early start entry h asking (record d { shelf = k }) halt.NoMemory) (sym none.1) (listing-wants none.2)))
-    listed-by halted only (inr s) = some-by halted d.shelf.tells refl only s
-
-    pub closes : (r : Result (Unit {0}) Halt) → StoresFiles h.world.scene d.shelf shelf r → IfErr r (λ e. (e ≡ halt.Shelf) ⊎ (e ≡ halt.NoMemory)) → EndingGives start entry h asking d-now why r
-    closes (Ok u) s only = finished-by s (all-by (stores_of h.world.scene) d.shelf.tells refl s)
-    closes (Err halted) s only = listed-by halted only s
+    pub closes : (r : Result (Unit {0}) Halt) → StoresFiles h.world.scene asked r → EndingGives start entry h asking d-now why r
+    closes (Ok u) s = record { shelf = d.shelf; before = d.asked; told = t; asked_are = ap (λ (x : Trace). d.asked ++ x) s }
+    closes (Err halted) s = closes-by halted s
 
 -- a run that came to its end, with all text sent and all files stored
 pub ended-at : (start : Configuration) (entry : Devices) (h : Held) (asking : Option Asking) (d : Devices) (why : Stop) → h.left ≤ start.left → Finished start entry h asking d why
@@ -156,16 +137,13 @@ pub ended-at : (start : Configuration) (entry : Devices) (h : Held) (asking : Op
     })
 ended-at start entry h asking d why fewer f =
     let t = f.told in
-    let d0 : Devices = record d { shelf = f.shelf } in
+    let d0 : Devices = record d { shelf = f.shelf; asked = f.before } in
     let e : Ending = final_of start in
     let units : start.left - h.left + h.left ≡ start.left = omega arith in
     let left : e.configuration.left ≡ h.left = ap (λ (m : Configuration). m.left) t.is_end in
     let machine : h.machine ≡ e.configuration.machine = sym (ap (λ (m : Configuration). m.machine) t.is_end) in
     let scene : e.configuration.world.scene ≡ h.world.scene = scene-is start entry h asking d0 why t in
-    let files : e.configuration.files ≡ f.shelf.files = ap (λ (m : Configuration). m.files) t.is_end in
-    let asked-is : e.configuration.asked ≡ t.past.asked = ap (λ (m : Configuration). m.asked) t.is_end in
-    let stores : length (stores_of e.configuration.world.scene) ≡ length (stores_of h.world.scene) = ap (λ (x : Scene). length (stores_of x)) scene in
-    let count : length (stores_of h.world.scene) + t.past.asked ≡ (last_of e.configuration).asked = omega arith in
+    let asked-is : e.configuration.asked ≡ f.before = ap (λ (m : Configuration). m.asked) t.is_end in
     record {
       status_is = ap status_of (sym t.stop_is);
       fault_is = ap fault_number (sym t.stop_is);
@@ -177,9 +155,9 @@ ended-at start entry h asking d why fewer f =
       log_is = sym (ap (λ (m : Configuration). m.log) t.is_end);
       text_is = λ told. t.is_past.taken.taken (t.is_past.taken.tells ∙ told) ∙ ap (λ (x : List ℕ). entry.sink.taken ++ x) (sym (whole-text start entry h asking d0 why t));
       sends_are = t.is_past.taken.made ∙ ap (λ (m : Configuration). raised_by m.sent.calls entry.sink.calls.made) (sym t.is_end);
-      files_are = f.files ∙ ap (λ (x : Files). stored x (stores_of h.world.scene)) (sym files) ∙ ap (λ (x : Scene). stored e.configuration.files (stores_of x)) (sym scene);
-      asked_are = f.made ∙ ap (raised_by (length (stores_of h.world.scene))) t.is_past.asked ∙ raised-more (length (stores_of h.world.scene)) t.past.asked entry.shelf.calls.made
-          ∙ ap (λ (k : ℕ). raised_by k entry.shelf.calls.made) count;
+      asked_are =
+          f.asked_are ∙ ap (λ (x : Trace). x ++ map call_of (stores_of h.world.scene)) (sym asked-is)
+          ∙ ap (λ (x : Scene). e.configuration.asked ++ map call_of (stores_of x)) (sym scene);
       input_is = input-are start entry h asking d0 why t;
       words_are = words-are start entry h asking d0 why t;
       saves_are = t.saves;
@@ -245,25 +223,17 @@ counts-of-halt entry exit why k =
     status-from : (why one : Halt) → status_of_halt why ≡ status_of_halt one → (let r : Result Stop Halt = Err why in r ≡ Err one)
     status-from why one e = ap (λ (x : Halt). let r : Result Stop Halt = Err x in r) (sym (back why) ∙ ap halt-of e ∙ back one)
 
--- A whole run is the session, unless a shelf that tells nothing was asked.
+-- A whole run is the session.
 module _ (start : Configuration) (entry : Devices) (h : Held) (asking : Option Asking) (d : Devices) (fewer : h.left ≤ start.left) where
   abbrev pub report-at : ℕ → ℕ → ℕ → Report
   report-at status fault at = record { status = status; fault = fault; at = at; steps = start.left - h.left; machine = record { machine = h.machine; asking = asking }; log = h.log }
 
-  pub session-of-stop : (why : Stop) → RunGives start entry h asking d (Ok why) → IsUntold entry.shelf d.shelf ⊎ IsSession start entry d (report-at (status_of why) (fault_number why) (fault_address why h.machine))
-  session-of-stop why (inl untold) = inl untold
-  session-of-stop why (inr f) =
+  pub session-of-stop : (why : Stop) → RunGives start entry h asking d (Ok why) → IsSession start entry d (report-at (status_of why) (fault_number why) (fault_address why h.machine))
+  session-of-stop why f =
       let low : status_of why < status_shelf_fault = status-low why in
-      inr (record { ended = λ _. ended-at start entry h asking d why fewer f; early = λ high. absurd (omega arith) })
+      record { ended = λ _. ended-at start entry h asking d why fewer f; early = λ high. absurd (omega arith) }
 
-  pub session-of-halt : (why : Halt) → RunGives start entry h asking d (Err why) → IsUntold entry.shelf d.shelf ⊎ IsSession start entry d (report-at (status_of_halt why) 0 0)
-  session-of-halt why (inl untold) = inl untold
-  session-of-halt why (inr early) =
+  pub session-of-halt : (why : Halt) → RunGives start entry h asking d (Err why) → IsSession start entry d (report-at (status_of_halt why) 0 0)
+  session-of-halt why early =
       let high : status_shelf_fault ≤ status_of_halt why = status-high why in
-      inr (record { ended = λ low. absurd (omega arith); early = λ _. units-left start entry d (status_of_halt why) h.left (record { machine = h.machine; asking = asking }) h.log fewer early })
-
--- with some input
-pub some-session : (start : Configuration) (entry exit : Devices) (r : Report) (input : List ℕ) → (entry.source.tells ≡ true → input ≡ start.input)
-    → IsUntold entry.shelf exit.shelf ⊎ IsSession (record start { input = input }) entry exit r → IsUntold entry.shelf exit.shelf ⊎ IsSomeSession start entry exit r
-some-session start entry exit r input is (inl untold) = inl untold
-some-session start entry exit r input is (inr s) = inr (record { input = input; input_is = is; session = s })
+      record { ended = λ low. absurd (omega arith); early = λ _. units-left start entry d (status_of_halt why) h.left (record { machine = h.machine; asking = asking }) h.log fewer early }

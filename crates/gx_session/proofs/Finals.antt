@@ -117,7 +117,7 @@ act-near steps m is = step-near m is
 act-near (asks t w) m is =
     asking-cases (Near (5 * w.left + 3)) m w t
     (line-cases (Near (5 * w.left + 3)) m w (next_line m.input) tt tt (λ chars rest. omega arith))
-    (λ files g. omega arith) tt
+    (λ r. omega arith) tt
 act-near (goes_on g w) m is =
     given-cases (Near (5 * w.left + 2)) m w (glk_go_on m.world.scene m.machine.flat w.room g)
     (λ said reply. replied-near (5 * w.left + 2) m w.left (Ok (said, reply)) (omega arith)) tt (λ f. tt)

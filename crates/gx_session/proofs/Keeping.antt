@@ -1,14 +1,12 @@
 -- The devices over parts of a run that follow one another.
-use Rattle.std.proofs.Common.{◌≡◌, ◌≢◌, ℕ, suc, ◌+◌, ◌⊎◌, inl, inr, Result, Ok, Err, IfErr, false, refl, ap, sym, ◌∙◌, arith}
-use Rattle.gx_outside.specs.Outside.{FlatSource, FlatSink, FlatShelf, HasCause, raised_by}
-use Rattle.gx_outside.specs.declared.calls.Calls.{Calls}
+use Rattle.std.proofs.Common.{◌≡◌, ◌≢◌, ◌⊎◌, inl, inr, Result, Ok, Err, IfErr, false, refl, ap, sym, ◌∙◌}
+use Rattle.gx_outside.specs.Outside.{FlatSource, FlatSink, FlatShelf, HasCause}
 use Rattle.gx_session.specs.declared.ends.Halt.{Halt}
 use Rattle.gx_session.specs.declared.ends.Halt.TheVariants as halt
-use Rattle.gx_session.specs.Counts.{Blames, IsUntold}
+use Rattle.gx_session.specs.Counts.{Blames}
 use Rattle.gx_session.specs.Devices.{Devices}
-use Rattle.gx_session.specs.Playing.{WasAsked, Keeps}
+use Rattle.gx_session.specs.Playing.{Keeps}
 use Rattle.gx_session.proofs.Counting.{IsWell, blames-none, blames-same, well-none, well-of, well-and, blames-well, blames-on, blames-call}
-use Rattle.gx_session.proofs.Storing.{raised-more}
 
 -- two errors
 pub err-is : {T : Type 0} (e f : Halt) → (let r : Result T Halt = Err e in r ≡ Err f) → e ≡ f
@@ -16,12 +14,6 @@ err-is e f same = cc
 
 pub no-err : {T : Type 0} (x : T) (e : Halt) → (let r : Result T Halt = Ok x in r ≡ Err e) → ⊥
 no-err x e same = cc
-
-pub asked-none : (c : Calls) → WasAsked c c
-asked-none c = (0, refl)
-
-pub asked-on : (a b c : Calls) → WasAsked a b → WasAsked b c → WasAsked a c
-asked-on a b c one two = (two.0 + one.0, two.1 ∙ ap (raised_by two.0) one.1 ∙ raised-more two.0 one.0 a.made)
 
 -- No device failed.
 pub record Stays (before now : Devices) : Type 0 where
@@ -31,7 +23,6 @@ pub record Stays (before now : Devices) : Type 0 where
   pub source_tells : now.source.tells ≡ before.source.tells
   pub shelf : IsWell before.shelf.calls now.shelf.calls
   pub shelf_tells : now.shelf.tells ≡ before.shelf.tells
-  pub shelf_asked : WasAsked before.shelf.calls now.shelf.calls
 
 pub stays-none : (d : Devices) → Stays d d
 stays-none d = record {
@@ -41,7 +32,6 @@ stays-none d = record {
   source_tells = refl;
   shelf = well-none d.shelf.calls;
   shelf_tells = refl;
-  shelf_asked = asked-none d.shelf.calls;
 }
 
 pub stays-of : {T : Type 0} (a b : Devices) (x : T) → (let r : Result T Halt = Ok x in Keeps a b r) → Stays a b
@@ -52,7 +42,6 @@ stays-of {T} a b x k = record {
   source_tells = k.source_tells;
   shelf = well-of a.shelf.calls b.shelf.calls (let r : Result T Halt = Ok x in r ≡ Err halt.Shelf) k.shelf (no-err x halt.Shelf);
   shelf_tells = k.shelf_tells;
-  shelf_asked = k.shelf_asked;
 }
 
 -- one part after another
@@ -64,7 +53,6 @@ keeps-after a b c r s k = record {
   source_tells = k.source_tells ∙ s.source_tells;
   shelf = blames-on a.shelf.calls b.shelf.calls c.shelf.calls (r ≡ Err halt.Shelf) s.shelf k.shelf;
   shelf_tells = k.shelf_tells ∙ s.shelf_tells;
-  shelf_asked = asked-on a.shelf.calls b.shelf.calls c.shelf.calls s.shelf_asked k.shelf_asked;
 }
 
 -- the same with another answer that blames the same device
@@ -76,7 +64,6 @@ keeps-same a b r q to from k = record {
   source_tells = k.source_tells;
   shelf = blames-same a.shelf.calls b.shelf.calls (r ≡ Err halt.Shelf) (q ≡ Err halt.Shelf) k.shelf (to halt.Shelf) (from halt.Shelf);
   shelf_tells = k.shelf_tells;
-  shelf_asked = k.shelf_asked;
 }
 
 pub keeps-ok : {T U : Type 0} (a b : Devices) (x : T) (y : U) → (let r : Result T Halt = Ok x in Keeps a b r) → (let q : Result U Halt = Ok y in Keeps a b q)
@@ -101,7 +88,6 @@ keeps-none d r only = record {
   source_tells = refl;
   shelf = blames-none d.shelf.calls d.shelf.calls (r ≡ Err halt.Shelf) refl (not-memory r halt.Shelf only (λ e. cc));
   shelf_tells = refl;
-  shelf_asked = asked-none d.shelf.calls;
 }
 
 not-other : {T : Type 0} (r : Result T Halt) (one e : Halt) → IfErr r (λ x. (x ≡ one) ⊎ (x ≡ halt.NoMemory)) → e ≢ one → e ≢ halt.NoMemory → r ≡ Err e → ⊥
@@ -119,7 +105,6 @@ keeps-sink d before now r blames tells only = record {
   source_tells = refl;
   shelf = blames-none d.shelf.calls d.shelf.calls (r ≡ Err halt.Shelf) refl (not-other r halt.Output halt.Shelf only (λ e. cc) (λ e. cc));
   shelf_tells = refl;
-  shelf_asked = asked-none d.shelf.calls;
 }
 
 -- so was the source
@@ -132,31 +117,19 @@ keeps-source d before now r blames tells only = record {
   source_tells = tells;
   shelf = blames-none d.shelf.calls d.shelf.calls (r ≡ Err halt.Shelf) refl (not-other r halt.Input halt.Shelf only (λ e. cc) (λ e. cc));
   shelf_tells = refl;
-  shelf_asked = asked-none d.shelf.calls;
 }
 
 -- so was the shelf
-pub keeps-shelf : {T : Type 0} (d : Devices) (before now : FlatShelf) (r : Result T Halt) → Blames before.calls now.calls (r ≡ Err halt.Shelf) → now.tells ≡ before.tells → WasAsked before.calls now.calls
+pub keeps-shelf : {T : Type 0} (d : Devices) (before now : FlatShelf) (r : Result T Halt) → Blames before.calls now.calls (r ≡ Err halt.Shelf) → now.tells ≡ before.tells
     → IfErr r (λ x. (x ≡ halt.Shelf) ⊎ (x ≡ halt.NoMemory)) → Keeps (record d { shelf = before }) (record d { shelf = now }) r
-keeps-shelf d before now r blames tells asked only = record {
+keeps-shelf d before now r blames tells only = record {
   sink = blames-none d.sink.calls d.sink.calls (r ≡ Err halt.Output) refl (not-other r halt.Shelf halt.Output only (λ e. cc) (λ e. cc));
   sink_tells = refl;
   source = blames-none d.source.calls d.source.calls (r ≡ Err halt.Input) refl (not-other r halt.Shelf halt.Input only (λ e. cc) (λ e. cc));
   source_tells = refl;
   shelf = blames;
   shelf_tells = tells;
-  shelf_asked = asked;
 }
-
--- A shelf that tells nothing stays one that was asked.
-pub untold-on : (entry before now : FlatShelf) → IsUntold entry before → WasAsked before.calls now.calls → IsUntold entry now
-untold-on entry before now u more =
-    let all : more.0 + suc u.calls ≡ suc (more.0 + u.calls) = omega arith in
-    record {
-      silent = u.silent;
-      calls = more.0 + u.calls;
-      asked = more.1 ∙ ap (raised_by more.0) u.asked ∙ raised-more more.0 (suc u.calls) entry.calls.made ∙ ap (λ (n : ℕ). raised_by n entry.calls.made) all;
-    }
 
 -- one call of the shelf that didn't fail
 pub stays-shelf : (d : Devices) (before now : FlatShelf) → HasCause before.calls now.calls false false → now.tells ≡ before.tells → Stays (record d { shelf = before }) (record d { shelf = now })
@@ -169,13 +142,7 @@ stays-shelf d before now cause tells =
       source_tells = refl;
       shelf = well-of before.calls now.calls ⊥ none (λ e. e);
       shelf_tells = tells;
-      shelf_asked = (1, cause.made);
     }
-
--- What goes on from here goes on, unless such a shelf was asked.
-pub or-untold : {G X : Type 0} (entry old new : FlatShelf) → WasAsked old.calls new.calls → IsUntold entry old ⊎ G → (G → IsUntold entry new ⊎ X) → IsUntold entry new ⊎ X
-or-untold entry old new asked (inl u) on = inl (untold-on entry old new u asked)
-or-untold entry old new asked (inr g) on = on g
 
 pub stays-on : (a b c : Devices) → Stays a b → Stays b c → Stays a c
 stays-on a b c one two = record {
@@ -185,7 +152,6 @@ stays-on a b c one two = record {
   source_tells = two.source_tells ∙ one.source_tells;
   shelf = well-and a.shelf.calls b.shelf.calls c.shelf.calls one.shelf two.shelf;
   shelf_tells = two.shelf_tells ∙ one.shelf_tells;
-  shelf_asked = asked-on a.shelf.calls b.shelf.calls c.shelf.calls one.shelf_asked two.shelf_asked;
 }
 
 pub keeps-still : {T : Type 0} (a b : Devices) (x : T) → Stays a b → (let r : Result T Halt = Ok x in Keeps a b r)
@@ -198,7 +164,6 @@ keeps-still {T} a b x s =
       source_tells = s.source_tells;
       shelf = blames-well a.shelf.calls b.shelf.calls (r ≡ Err halt.Shelf) s.shelf (no-err x halt.Shelf);
       shelf_tells = s.shelf_tells;
-      shelf_asked = s.shelf_asked;
     }
 
 -- calls of the source that didn't fail
@@ -210,5 +175,4 @@ stays-source d before now well tells = record {
   source_tells = tells;
   shelf = well-none d.shelf.calls;
   shelf_tells = refl;
-  shelf_asked = asked-none d.shelf.calls;
 }

@@ -1,5 +1,5 @@
 pub mod Answering
-pub mod Asked
+pub mod Calling
 pub mod Asking
 pub mod Cases
 pub mod Constants

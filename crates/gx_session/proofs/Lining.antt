@@ -1,5 +1,5 @@
 -- A line that was taken is shown, and the call goes on with it.
-use Rattle.std.proofs.Common.{◌≡◌, ℕ, inr, List, if◌then◌else◌, Option, Bool, true, false, Err, refl, subst, sym}
+use Rattle.std.proofs.Common.{◌≡◌, ℕ, List, if◌then◌else◌, Option, Bool, true, false, Err, refl, subst, sym}
 use Rattle.gx_machine.specs.Machine.{Whole}
 use Rattle.gx_machine.specs.Log.{Log}
 use Rattle.glk_world.specs.World.{FlatWorld, after}
@@ -29,7 +29,7 @@ module _ {E : Type 0} (whole : E → Whole) (log : E → Option Log) (old mid : 
   line-refused e memory same =
       subst (λ (x : Halt). EventGives start entry (held whole log mid coming) (asking_in whole mid) d (Err x)) (sym memory)
       (subst (λ (x : Running E). EventGives start entry (held whole log x coming) (asking_in whole x) d (Err halt.NoMemory)) (sym same)
-      (inr (line-wants start entry (held whole log old coming) d (asking_in whole old) w chars r (held whole log (record old { world = mid.world }) coming) refl refl refl)))
+      (line-wants start entry (held whole log old coming) d (asking_in whole old) w chars r (held whole log (record old { world = mid.world }) coming) refl refl refl))
 
   -- it is shown
   pub line-shown : mid ≡ record old { world = if old.echo then after old.world (show_line old.world.scene chars) else old.world }

@@ -3,7 +3,10 @@ use Rattle.std.proofs.Common.{◌≡◌, ◌≢◌, ℕ, suc, ◌+◌, ◌-◌, 
 use Rattle.std.proofs.Math.Seq.{take-append_seam}
 use Rattle.std.proofs.lemmas.Bool.{leb-true, leb-false}
 use Rattle.gx_machine.specs.declared.askings.Asking.{Asking}
-use Rattle.gx_outside.specs.Outside.{FlatSource, FlatSink, FlatShelf, raised, raised_by}
+use Rattle.gx_outside.specs.Outside.{FlatSource, FlatSink, FlatShelf, raised}
+use Rattle.gx_outside.specs.Shelves.{Request, Answer, Trace, MayWant}
+use Rattle.gx_outside.specs.declared.devices.ShelfFault.{ShelfFault}
+use Rattle.gx_outside.specs.declared.devices.ShelfFault.TheVariants as of_shelf
 use Rattle.glk_world.specs.World.{FlatWorld}
 use Rattle.glk_replies.specs.declared.Turn.{Turn}
 use Rattle.gx_session.specs.declared.ends.Stop.{Stop}
@@ -12,43 +15,44 @@ use Rattle.gx_session.specs.declared.ends.Halt.{Halt}
 use Rattle.gx_session.specs.declared.ends.Halt.TheVariants as halt
 use Rattle.gx_session.specs.Constants.{status_no_memory, piece, enough as enough_text}
 use Rattle.gx_session.specs.declared.running.Waiting.{Waiting}
-use Rattle.gx_session.specs.Cuts.{Cut, in_move, in_send, in_question, in_reading, in_last_send, IsCut, IsLineCut, IsWaiting, IsSendStatus, IsQuestion, IsWait, MayWant, LeavesFiles, WantsMemory, IsLineStop, AwaitedAt, LongAt, asking_between, stopped, asking_at_stop, WantedBy, most_sent, sends_at, asked_by_cut, FilesAt}
+use Rattle.gx_session.specs.Cuts.{Cut, in_move, in_send, in_question, in_reading, in_last_send, IsCut, IsLineCut, IsWaiting, IsSendStatus, IsWait, request_of, IsRefused, WantsMemory, IsLineStop, AwaitedAt, LongAt, asking_between, stopped, asking_at_stop, WantedBy, most_sent, sends_at, fault_at, refused_call, asked_by_cut}
 use Rattle.gx_session.specs.Devices.{Devices}
 use Rattle.gx_session.specs.Endings.{told_all}
+use Rattle.gx_session.specs.Questions.{AreAnswered, AreTold}
 use Rattle.gx_session.specs.Reading.{IsPartial, spare, ReadsFew}
 use Rattle.gx_session.specs.Sending.{Sent, is_due, with_all}
 use Rattle.gx_session.specs.Session.{Configuration, Doing, steps, asks, goes, stops, act_of, move_of, is_due_by, sends_now, all_sent, Ending, final_of, asked, asked_at}
 use Rattle.gx_session.specs.Runs.{IsFront, AreDrawn, LeavesInput, IsSaved, SavedBy, read_failures}
-use Rattle.gx_session.specs.Playing.{Held, WordIs, Past, configuration_of, HasTaken, IsPast, IsRead, Standing, Ready, Going, Done, Shown, Told, Early, status_of_halt, SendsAll, Flushes}
+use Rattle.gx_session.specs.Playing.{Held, WordIs, Past, configuration_of, HasTaken, IsPast, IsRead, Standing, Ready, Going, Done, Shown, Told, Early, status_of_halt, halt_of_shelf, SendsAll, Flushes}
 use Rattle.gx_session.proofs.Saved.{unsaved-send, saved-more, saved-all}
 use Rattle.gx_session.proofs.Texts.{final-grows}
 use Rattle.gx_session.proofs.Finals.{quiet-sent, stop-stays, stop-comes, reached-goes, move-sends, move-acts}
 use Rattle.rand_core.specs.Stream.{Stream}
 
 -- nothing was done so far
-abbrev pub no_past : Devices → Past
-no_past d = record { sent = []; sends = 0; asked = 0; words = d.words }
+abbrev pub no_past : (Trace → Request → Answer) → Devices → Past
+no_past answers d = record { sent = []; sends = 0; answers = answers; words = d.words }
 
 due-of-none : (text : List ℕ) → text ≡ [] → is_due enough_text (record { bytes = 0; calls = 0 }) text ≡ false
 due-of-none text none = subst (λ (x : List ℕ). is_due enough_text (record { bytes = 0; calls = 0 }) x ≡ false) (sym none) refl
 
 -- a run begins at its start
-pub starts : (d : Devices) (h : Held) → h.word ≡ None → h.ahead ≡ [] → h.over ≡ false → h.world.text ≡ [] → (d.source.tells ≡ true → h.coming ≡ d.source.left) → Going (configuration_of (no_past d) steps h d) d h d
-starts d h none nothing going empty left =
+pub starts : (answers : Trace → Request → Answer) (d : Devices) (h : Held) → d.asked ≡ [] → h.word ≡ None → h.ahead ≡ [] → h.over ≡ false → h.world.text ≡ [] → (d.source.tells ≡ true → h.coming ≡ d.source.left) → Going (configuration_of (no_past answers d) steps h d) d h d
+starts answers d h first none nothing going empty left =
     let few : length h.ahead ≡ 0 = ap length nothing in
     let size : length (h.ahead ++ h.coming) ≡ length h.ahead + length h.coming = length-append h.ahead h.coming in
     let spare-is : spare h.over ≡ 1 = ap spare going in
-    let is : IsPast (h.ahead ++ h.coming) d (no_past d) h d = record {
+    let is : IsPast (configuration_of (no_past answers d) steps h d) d (no_past answers d) h d = record {
       taken = record { tells = refl; made = refl; taken = λ t. sym (append-nil d.sink.taken) };
-      asked = refl;
-      told = refl;
+      answers = refl;
+      answered = subst AreAnswered (sym first) tt;
       word = subst (λ (w : Option ℕ). WordIs w d.words d.words) (sym none) refl;
       left = left;
       fewer = omega arith;
       reads = record { reads = 0; made = refl; offered = refl; few = omega arith };
     } in
-    let now : Standing (configuration_of (no_past d) steps h d) d h d steps = record {
-      past = no_past d;
+    let now : Standing (configuration_of (no_past answers d) steps h d) d h d steps = record {
+      past = no_past answers d;
       moves = 0;
       is_past = is;
       few = omega arith;
@@ -90,10 +94,10 @@ memory-of halt.Output e = absurd (omega arith)
 pub cut-at : (start : Configuration) (entry exit : Devices) (h : Held) (asking : Option Asking) (why : Halt) (cut : Cut) (m : Configuration) (sent rest : List ℕ)
     → IsCut start cut m (status_of_halt why) asking → h.machine ≡ m.machine → h.left ≡ m.left → h.log ≡ m.log → m.world.text ≡ sent ++ rest → HasTaken entry.sink exit.sink sent (sends_at cut m)
     → IsFront m.world.text (final_of start).configuration.world.text → m.sent.bytes ≤ length sent → length sent ≤ most_sent cut m
-    → FilesAt cut m exit.shelf.files → exit.shelf.calls.made ≡ raised_by (asked_by_cut cut m) entry.shelf.calls.made
+    → exit.asked ≡ asked_by_cut cut m (status_of_halt why)
     → ((IsLineCut cut m → ⊥) → LeavesInput start.input m.input entry.source exit.source (AwaitedAt start cut) (LongAt start cut) (read_failures (status_of_halt why)))
     → AreDrawn m.words exit.words → SavedBy start cut → (status_of_halt why ≡ status_no_memory → WantedBy cut exit) → Early start entry h asking exit why
-cut-at start entry exit h asking why cut m sent rest is machine left log text has shown least most files made input words saves wanted =
+cut-at start entry exit h asking why cut m sent rest is machine left log text has shown least most questions input words saves wanted =
     let front : take (length sent) m.world.text ≡ sent = ap (take (length sent)) text ∙ take-append_seam sent rest in
     record {
       cut = cut;
@@ -109,8 +113,7 @@ cut-at start entry exit h asking why cut m sent rest is machine left log text ha
       at_most = most;
       text_is = λ tells. has.taken (has.tells ∙ tells) ∙ ap (λ (x : List ℕ). entry.sink.taken ++ x) (sym front);
       sends_are = has.made;
-      files_are = files;
-      asked_are = made;
+      asked_are = questions;
       input_is = input;
       words_are = words;
       saves_are = saves;
@@ -145,7 +148,7 @@ module _ (start : Configuration) (entry : Devices) (h : Held) (d : Devices) wher
     shown-is s = final-grows (here s) start s.same_end
 
     -- the run goes on
-    abbrev pub moves-on : (g : Ready start entry h d doing) (p' : Past) (doing' : Doing) (h' : Held) (d' : Devices) → IsPast start.input entry p' h' d' → length h'.ahead < piece → IsRead start.input entry h' d'
+    abbrev pub moves-on : (g : Ready start entry h d doing) (p' : Past) (doing' : Doing) (h' : Held) (d' : Devices) → IsPast start entry p' h' d' → length h'.ahead < piece → IsRead start.input entry h' d'
         → act_of (here g.now) ≡ goes (configuration_of p' doing' h' d') → IsSaved (here g.now) → Standing start entry h' d' doing'
     moves-on g p' doing' h' d' is few reads act saved =
         let move : move_of (here g.now) ≡ goes (configuration_of p' doing' h' d') = move-acts (here g.now) g.quiet ∙ act in
@@ -161,7 +164,7 @@ module _ (start : Configuration) (entry : Devices) (h : Held) (d : Devices) wher
         }
 
     -- the run stops
-    pub stops-at : (g : Ready start entry h d doing) (why : Stop) (p' : Past) (doing' : Doing) (h' : Held) (d' : Devices) (asking : Option Asking) → IsPast start.input entry p' h' d'
+    pub stops-at : (g : Ready start entry h d doing) (why : Stop) (p' : Past) (doing' : Doing) (h' : Held) (d' : Devices) (asking : Option Asking) → IsPast start entry p' h' d'
         → (why ≢ stop.LineTooLong → length h'.ahead < piece) → ((IsLineStop why → ⊥) → IsRead start.input entry h' d') → act_of (here g.now) ≡ stops why (configuration_of p' doing' h' d')
         → asking ≡ asked_at why (configuration_of p' doing' h' d') → Done start entry h' asking d' why
     stops-at g why p' doing' h' d' asking is few reads act asking-is =
@@ -184,7 +187,7 @@ module _ (start : Configuration) (entry : Devices) (h : Held) (d : Devices) wher
     wants-by g h' source asking input is machine left log =
         let s = g.now in
         cut-at start entry (record d { source = source }) h' asking halt.NoMemory (in_move s.moves) (here s) s.past.sent h.world.text
-        (s.reached, g.quiet, refl, is) machine left log refl s.is_past.taken (shown-is s) (omega arith) (omega arith) refl s.is_past.asked input
+        (s.reached, g.quiet, refl, is) machine left log refl s.is_past.taken (shown-is s) (omega arith) (omega arith) refl input
         (words-left h.word d.words s.past.words s.is_past.word) s.saves (λ e. tt)
 
     -- the source wasn't asked since then
@@ -201,27 +204,28 @@ module _ (start : Configuration) (entry : Devices) (h : Held) (d : Devices) wher
 
   module _ (w : Waiting) (turn : Turn) where
     -- the shelf refused
-    pub refused : (g : Ready start entry h d (asks turn w)) (shelf : FlatShelf) (why : Halt) (asking : Option Asking) → shelf.calls.made ≡ raised d.shelf.calls.made
-        → IsQuestion turn → (why ≡ halt.Shelf) ⊎ ((why ≡ halt.NoMemory) × MayWant d.shelf.files turn × (shelf.calls.wanting ≡ true)) → LeavesFiles turn d.shelf.files shelf.files
-        → asking ≡ asked (here (asks turn w) g.now) → Early start entry h asking (record d { shelf = shelf }) why
-    refused g shelf halt.Shelf asking made is (inl e) files asking-is =
+    refused-by : (g : Ready start entry h d (asks turn w)) (shelf : FlatShelf) (r : Request) (fault : ShelfFault) (asking : Option Asking) → request_of turn ≡ Some r
+        → IsRefused (here (asks turn w) g.now) (Some r) (status_of_halt (halt_of_shelf fault)) → fault_at (status_of_halt (halt_of_shelf fault)) ≡ fault → read_failures (status_of_halt (halt_of_shelf fault)) ≡ 0
+        → asking ≡ asked (here (asks turn w) g.now) → Early start entry h asking (record d { shelf = shelf; asked = d.asked ++ (r, Err fault) ∷ [] }) (halt_of_shelf fault)
+    refused-by g shelf r fault asking is cut at failures asking-is =
         let s = g.now in
-        cut-at start entry (record d { shelf = shelf }) h asking halt.Shelf (in_question s.moves) (here (asks turn w) s) s.past.sent h.world.text
-        (s.reached, g.quiet, (is, inl refl), asking-is) refl refl refl refl s.is_past.taken (shown-is (asks turn w) s) (omega arith) (omega arith) files
-        (made ∙ ap raised s.is_past.asked) (λ other. input-left ⊥ ⊥ (λ short. s.few) (λ short. s.reads) s.is_past.reads s.is_past.left) (words-left h.word d.words s.past.words s.is_past.word) s.saves
-        (λ e. absurd (omega arith))
-    refused g shelf halt.NoMemory asking made is (inr e) files asking-is =
-        let s = g.now in
-        cut-at start entry (record d { shelf = shelf }) h asking halt.NoMemory (in_question s.moves) (here (asks turn w) s) s.past.sent h.world.text
-        (s.reached, g.quiet, (is, inr (refl, e.1)), asking-is) refl refl refl refl s.is_past.taken (shown-is (asks turn w) s) (omega arith) (omega arith) files
-        (made ∙ ap raised s.is_past.asked) (λ other. input-left ⊥ ⊥ (λ short. s.few) (λ short. s.reads) s.is_past.reads s.is_past.left) (words-left h.word d.words s.past.words s.is_past.word) s.saves
-        (λ same. e.2)
-    refused g shelf halt.NoMemory asking made is (inl e) files asking-is = cc
-    refused g shelf halt.Shelf asking made is (inr e) files asking-is = absurd (let f = e.0 in cc)
-    refused g shelf halt.Input asking made is (inl e) files asking-is = cc
-    refused g shelf halt.Input asking made is (inr e) files asking-is = absurd (let f = e.0 in cc)
-    refused g shelf halt.Output asking made is (inl e) files asking-is = cc
-    refused g shelf halt.Output asking made is (inr e) files asking-is = absurd (let f = e.0 in cc)
+        let m : Configuration = here (asks turn w) s in
+        let status : ℕ = status_of_halt (halt_of_shelf fault) in
+        let call : (r, Err fault) ∷ [] ≡ refused_call (request_of turn) status =
+        ap (λ (f : ShelfFault). let c : Trace = (r, Err f) ∷ [] in c) (sym at) ∙ ap (λ (o : Option Request). refused_call o status) (sym is) in
+        cut-at start entry (record d { shelf = shelf; asked = d.asked ++ (r, Err fault) ∷ [] }) h asking (halt_of_shelf fault) (in_question s.moves) m s.past.sent h.world.text
+        (s.reached, g.quiet, subst (λ (o : Option Request). IsRefused m o status) (sym is) cut, asking-is) refl refl refl refl s.is_past.taken (shown-is (asks turn w) s) (omega arith) (omega arith)
+        (ap (λ (t : Trace). d.asked ++ t) call)
+        (λ other. subst (LeavesInput start.input m.input entry.source d.source ⊥ ⊥) (sym failures) (input-left ⊥ ⊥ (λ short. s.few) (λ short. s.reads) s.is_past.reads s.is_past.left))
+        (words-left h.word d.words s.past.words s.is_past.word) s.saves (λ e. tt)
+
+    pub refused : (g : Ready start entry h d (asks turn w)) (shelf : FlatShelf) (r : Request) (fault : ShelfFault) (asking : Option Asking) → request_of turn ≡ Some r
+        → AreTold start.answers d.asked ((r, Err fault) ∷ []) → asking ≡ asked (here (asks turn w) g.now)
+        → Early start entry h asking (record d { shelf = shelf; asked = d.asked ++ (r, Err fault) ∷ [] }) (halt_of_shelf fault)
+    refused g shelf r of_shelf.Failed asking is told asking-is = refused-by g shelf r of_shelf.Failed asking is (inl refl) refl refl asking-is
+    refused g shelf r of_shelf.NoMemory asking is told asking-is =
+        refused-by g shelf r of_shelf.NoMemory asking is
+        (inr (refl, subst (λ (f : Trace → Request → Answer). MayWant r (f d.asked r)) (sym g.now.is_past.answers) told)) refl refl asking-is
 
     -- the source failed
     pub unread : (g : Ready start entry h d (asks turn w)) (h' : Held) (source : FlatSource) (asking : Option Asking) → IsWait turn → (source.tells ≡ true → h'.coming ≡ source.left) → ReadsFew false h'.over entry.source source start.input h'.coming 1 → IsPartial h'.ahead
@@ -244,7 +248,7 @@ module _ (start : Configuration) (entry : Devices) (h : Held) (d : Devices) wher
           unread = λ short none. absurd cc;
         } in
         cut-at start entry (record d { source = source }) h' asking halt.Input (in_reading s.moves) (here (asks turn w) s) s.past.sent h.world.text
-        (s.reached, g.quiet, refl, is, asking-is) machine left log refl s.is_past.taken (shown-is (asks turn w) s) (omega arith) (omega arith) refl s.is_past.asked (λ other. leaves)
+        (s.reached, g.quiet, refl, is, asking-is) machine left log refl s.is_past.taken (shown-is (asks turn w) s) (omega arith) (omega arith) refl (λ other. leaves)
         (words-left h.word d.words s.past.words s.is_past.word) s.saves (λ e. tt)
 
   -- a word was drawn
@@ -253,10 +257,10 @@ module _ (start : Configuration) (entry : Devices) (h : Held) (d : Devices) wher
   redrawn word stream g drawn =
       let s = g.now in
       let i = s.is_past in
-      let is : IsPast start.input entry s.past (record h { word = word }) (record d { words = stream }) = record {
+      let is : IsPast start entry s.past (record h { word = word }) (record d { words = stream }) = record {
         taken = i.taken;
-        asked = i.asked;
-        told = i.told;
+        answers = i.answers;
+        answered = i.answered;
         word = drawn s.past.words i.word;
         left = i.left;
         fewer = i.fewer;
@@ -292,11 +296,11 @@ module _ (start : Configuration) (entry : Devices) (h : Held) (d : Devices) wher
     still : (p : Past) (doing : Doing) (s : SendsAll d.sink sink h.world world (Ok tt)) → configuration_of (with-more p s.more) doing h-now d-now ≡ all_sent (configuration_of p doing h d)
     still p doing s = rw (all-sent s, s.whole.1, append-nil (p.sent ++ s.more)) refl
 
-    sent-past : (p : Past) (more : List ℕ) → IsPast start.input entry p h d → HasTaken d.sink sink more 1 → IsPast start.input entry (with-more p more) h-now d-now
+    sent-past : (p : Past) (more : List ℕ) → IsPast start entry p h d → HasTaken d.sink sink more 1 → IsPast start entry (with-more p more) h-now d-now
     sent-past p more i has = record {
       taken = has-taken entry.sink d.sink sink p.sent more p.sends i.taken has;
-      asked = i.asked;
-      told = i.told;
+      answers = i.answers;
+      answered = i.answered;
       word = i.word;
       left = i.left;
       fewer = i.fewer;
@@ -354,18 +358,18 @@ module _ (start : Configuration) (entry : Devices) (h : Held) (d : Devices) wher
 
     -- A send is refused that is due.
     cut-sending : (asking : Option Asking) (why : Halt) (cut : Cut) (p : Past) (doing : Doing) → IsCut start cut (configuration_of p doing h d) (status_of_halt why) asking
-        → IsPast start.input entry p h d → (why ≡ halt.Output) ⊎ (why ≡ halt.NoMemory) → sends_at cut (configuration_of p doing h d) ≡ suc p.sends → most_sent cut (configuration_of p doing h d) ≡ length (p.sent ++ h.world.text)
-        → FilesAt cut (configuration_of p doing h d) d.shelf.files → asked_by_cut cut (configuration_of p doing h d) ≡ p.asked
+        → IsPast start entry p h d → (why ≡ halt.Output) ⊎ (why ≡ halt.NoMemory) → sends_at cut (configuration_of p doing h d) ≡ suc p.sends → most_sent cut (configuration_of p doing h d) ≡ length (p.sent ++ h.world.text)
+        → d.asked ≡ asked_by_cut cut (configuration_of p doing h d) (status_of_halt why)
         → LeavesInput start.input (h.ahead ++ h.coming) entry.source d.source (AwaitedAt start cut) (LongAt start cut) 0
         → IsFront (p.sent ++ h.world.text) (final_of start).configuration.world.text → SavedBy start cut → (sink.calls.wanting ≡ true → WantedBy cut d-now)
         → SendsAll d.sink sink h.world world (Err why) → Early start entry h-now asking d-now why
-    cut-sending asking why cut p doing is past only calls most files questions input shown saves wanted s =
+    cut-sending asking why cut p doing is past only calls most questions input shown saves wanted s =
         let text : p.sent ++ h.world.text ≡ (p.sent ++ s.more) ++ s.rest = ap (λ (x : List ℕ). p.sent ++ x) s.front ∙ sym (append_assoc p.sent s.more s.rest) in
         let size : length (p.sent ++ s.more) ≡ length p.sent + length s.more = length-append p.sent s.more in
         let whole : length (p.sent ++ h.world.text) ≡ length (p.sent ++ s.more) + length s.rest = ap length text ∙ length-append (p.sent ++ s.more) s.rest in
         let has : HasTaken entry.sink sink (p.sent ++ s.more) (suc p.sends) = has-taken entry.sink d.sink sink p.sent s.more p.sends past.taken s.has_taken in
         cut-at start entry d-now h-now asking why cut (configuration_of p doing h d) (p.sent ++ s.more) s.rest is refl refl refl text
-        (subst (HasTaken entry.sink sink (p.sent ++ s.more)) (sym calls) has) shown (omega arith) (omega arith) files (past.asked ∙ ap (λ (n : ℕ). raised_by n entry.shelf.calls.made) (sym questions)) (λ other. subst (LeavesInput start.input (h.ahead ++ h.coming) entry.source d.source (AwaitedAt start cut) (LongAt start cut)) (sym (no-failures why only)) input)
+        (subst (HasTaken entry.sink sink (p.sent ++ s.more)) (sym calls) has) shown (omega arith) (omega arith) questions (λ other. subst (LeavesInput start.input (h.ahead ++ h.coming) entry.source d.source (AwaitedAt start cut) (LongAt start cut)) (sym (no-failures why only)) input)
         (words-left h.word d.words p.words past.word) saves (λ e. wanted (s.wants (ap (λ (x : Halt). Err x) (memory-of why e))))
 
     -- The text that is due between two moves was refused.
@@ -374,7 +378,7 @@ module _ (start : Configuration) (entry : Devices) (h : Held) (d : Devices) wher
     cut-send doing enough due asking why g asking-is only f =
         let was = was-due enough why (nat_le enough (length h.world.text)) refl f in
         let is : IsCut start (in_send g.moves) (here doing g) (status_of_halt why) asking = (g.reached, due-now doing enough due g true was.0, send-status why only, asking-is) in
-        cut-sending asking why (in_send g.moves) g.past doing is g.is_past only refl refl refl refl (input-left ⊥ ⊥ (λ short. g.few) (λ short. g.reads) g.is_past.reads g.is_past.left) (shown-is doing g) g.saves (λ e. e) was.1
+        cut-sending asking why (in_send g.moves) g.past doing is g.is_past only refl refl refl (input-left ⊥ ⊥ (λ short. g.few) (λ short. g.reads) g.is_past.reads g.is_past.left) (shown-is doing g) g.saves (λ e. e) was.1
 
     -- THE TEXT THAT IS DUE AT THE END
     module _ (asking : Option Asking) (why : Stop) (g : Shown start entry h asking d why) where
@@ -436,7 +440,7 @@ module _ (start : Configuration) (entry : Devices) (h : Held) (d : Devices) wher
           let was = was-due 1 halted (nat_le 1 (length h.world.text)) refl f in
           let stop-is : (final_of start).stop ≡ why = ap (λ (x : Ending). x.stop) g.is_end in
           let is : IsCut start in_last_send last (status_of_halt halted) asking = (sym stopped-is, due-is 1 g.past.sent h.world.text g.past.sends true was.0, send-status halted only, asks-still) in
-          cut-sending asking halted in_last_send g.past g.doing is g.is_past only refl refl refl refl
+          cut-sending asking halted in_last_send g.past g.doing is g.is_past only refl refl refl
           (input-left (IsLineStop (final_of start).stop) ((final_of start).stop ≡ stop.LineTooLong) (λ short. g.few (λ e. short (stop-is ∙ e)))
           (λ other. g.reads (λ is'. other (subst IsLineStop (sym stop-is) is'))) g.is_past.reads g.is_past.left)
           ([], ap (λ (x : Configuration). x.world.text) stopped-is ∙ sym (append-nil (g.past.sent ++ h.world.text))) g.saves (λ e. e) was.1

@@ -114,7 +114,7 @@ act-moves steps m is leaves = step-moves m is
 act-moves (asks t w) m is leaves =
     asking-cases (Moves m) m w t
     (line-cases (Moves m) m w (next_line m.input) (inl (halted stop.LineTooLong m)) (inl (halted stop.InputEnded m)) (λ chars rest. inl (record { machine = refl; log = refl; left = refl; leaves = leaves })))
-    (λ files g. inl (record { machine = refl; log = refl; left = refl; leaves = leaves })) (inl (halted stop.Stuck m))
+    (λ r. inl (record { machine = refl; log = refl; left = refl; leaves = leaves })) (inl (halted stop.Stuck m))
 act-moves (goes_on g w) m is leaves =
     given-cases (Moves m) m w (glk_go_on m.world.scene m.machine.flat w.room g) (λ said reply. replied-moves m w.left (Ok (said, reply)) leaves) (inl (halted stop.Stuck m)) (λ f. inl (halted (stop.Faulted f) m))
 

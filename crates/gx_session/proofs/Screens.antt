@@ -53,10 +53,10 @@ module _ (start : Configuration) (entry : Devices) (h : Held) (d : Devices) (ask
     screen-shown world said =
         let h' : Held = record h { world = after h.world (end_text h.world.scene) } in
         let i = g.is_past in
-        let past : IsPast start.input entry g.past h' d = record {
+        let past : IsPast start entry g.past h' d = record {
           taken = i.taken;
-          asked = i.asked;
-          told = i.told;
+          answers = i.answers;
+          answered = i.answered;
           word = i.word;
           left = i.left;
           fewer = i.fewer;
@@ -110,5 +110,5 @@ module _ (start : Configuration) (entry : Devices) (h : Held) (d : Devices) (ask
         let here : at-stop ≡ (stop_of start).configuration = sym (ap (λ (e : Ending). e.configuration) g.is_end) in
         cut-at start entry d (record h { world = world }) asking halt.NoMemory in_last_screen at-stop g.past.sent
         h.world.text (here, composed, refl, asks-end) refl refl refl refl g.is_past.taken shown-by-then (omega arith)
-        (omega arith) refl g.is_past.asked (λ other. input-then)
+        (omega arith) refl (λ other. input-then)
         (words-left h.word d.words g.past.words g.is_past.word) g.saves (λ e. tt)

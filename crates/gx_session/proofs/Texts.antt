@@ -80,7 +80,7 @@ act-grows steps m = step-grows m
 act-grows (asks t w) m =
     asking-cases (λ v. IsFront m.world.text (text_in v)) m w t
     (line-cases (λ v. IsFront m.world.text (text_in v)) m w (next_line m.input) (front-refl m.world.text) (front-refl m.world.text) (λ chars rest. shown-grows m chars m.echo))
-    (λ files g. front-refl m.world.text) (front-refl m.world.text)
+    (λ r. front-refl m.world.text) (front-refl m.world.text)
 act-grows (goes_on g w) m =
     given-cases (λ v. IsFront m.world.text (text_in v)) m w (glk_go_on m.world.scene m.machine.flat w.room g)
     (λ said reply. (said.1, refl)) (front-refl m.world.text) (λ f. front-refl m.world.text)

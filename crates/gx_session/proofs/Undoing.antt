@@ -255,7 +255,7 @@ turned-undo m w r =
 
 asked-undo : (m : Configuration) (w : Waiting) (t : Turn) → KeepsUndo m.machine.undo (after_asking m w t)
 asked-undo m w t =
-    asking-cases (KeepsUndo m.machine.undo) m w t (line-cases (KeepsUndo m.machine.undo) m w (next_line m.input) tt tt (λ chars rest. refl)) (λ files g. refl) tt
+    asking-cases (KeepsUndo m.machine.undo) m w t (line-cases (KeepsUndo m.machine.undo) m w (next_line m.input) tt tt (λ chars rest. refl)) (λ r. refl) tt
 
 given-undo : (m : Configuration) (w : Waiting) (r : Result (Said × Turn) Fault) → KeepsUndo m.machine.undo (after_given m w r)
 given-undo m w r = given-cases (KeepsUndo m.machine.undo) m w r (λ said reply. replied-undo m w.left (Ok (said, reply))) tt (λ f. tt)

@@ -1,6 +1,6 @@
 -- The calls and the failures of the devices over a run, or a part of one.
-use Rattle.std.specs.Prelude.{◌≡◌, ◌≤◌, ◌⊎◌, ℕ, suc, true, false}
-use Rattle.gx_outside.specs.Outside.{FlatShelf, raised, raised_by}
+use Rattle.std.specs.Prelude.{◌≡◌, ◌≤◌, ◌⊎◌, ℕ, true, false}
+use Rattle.gx_outside.specs.Outside.{raised}
 use Rattle.gx_outside.specs.declared.calls.Calls.{Calls}
 use Rattle.gx_session.specs.Devices.{Devices}
 use Rattle.gx_session.specs.Constants.{status_shelf_fault, status_input_fault, status_output_fault}
@@ -19,10 +19,3 @@ pub record Counts (entry exit : Devices) (status : ℕ) : Type 0 where
   pub shelf : Blames entry.shelf.calls exit.shelf.calls (status ≡ status_shelf_fault)
   pub source : Blames entry.source.calls exit.source.calls (status ≡ status_input_fault)
   pub sink : Blames entry.sink.calls exit.sink.calls (status ≡ status_output_fault)
-
--- A shelf that tells nothing was asked. What it holds then is no matter of proof, and nothing is said of what
--- follows.
-pub record IsUntold (entry now : FlatShelf) : Type 0 where
-  pub silent : entry.tells ≡ false
-  pub calls : ℕ
-  pub asked : now.calls.made ≡ raised_by (suc calls) entry.calls.made

@@ -1,5 +1,6 @@
 -- The ways in which a run is cut short: memory ran out, or a device failed.
-use Rattle.std.specs.Prelude.{◌≡◌, ◌≢◌, ℕ, suc, ◌<◌, ◌≤◌, List, [], ◌∷◌, ◌++◌, length, ◌⊎◌, false, true, Option, Some, None, IsSome, Result, Ok, Err, IsOk, IsSomeAnd, IsTrue}
+use Rattle.std.specs.Prelude.{◌≡◌, ◌≢◌, ℕ, suc, ◌<◌, ◌==◌, if◌then◌else◌, List, [], ◌∷◌, ◌++◌, length, ◌⊎◌, false, true}
+use Rattle.std.specs.Prelude.{Option, Some, None, IsSome, Result, Ok, Err, IsOk, IsTrue}
 use Rattle.gx_words.specs.declared.faults.Fault.{Fault}
 use Rattle.gx_pages.specs.Memory.{HasBytes}
 use Rattle.gx_state.specs.declared.effects.Effect.{Effect}
@@ -11,8 +12,9 @@ use Rattle.gx_machine.specs.Answer.{IsStoredAnswer}
 use Rattle.gx_machine.specs.Machine.{FlatMachine}
 use Rattle.gx_machine.specs.Log.{Log}
 use Rattle.gx_machine.specs.Step.{stepped, IsStepWriting}
-use Rattle.gx_outside.specs.Files.{Files}
-use Rattle.gx_outside.specs.Outside.{KeepsOthers}
+use Rattle.gx_outside.specs.Shelves.{Request, loads, stores, removes, looks, Trace, MayWant}
+use Rattle.gx_outside.specs.declared.devices.ShelfFault.{ShelfFault}
+use Rattle.gx_outside.specs.declared.devices.ShelfFault.TheVariants as of_shelf
 use Rattle.glk_world.specs.World.{Said, is_composed}
 use Rattle.glk_world.specs.Shown.{ShowWants}
 use Rattle.glk_replies.specs.declared.Given.{Given}
@@ -25,10 +27,12 @@ use Rattle.glk_text_calls.specs.Putting.{put_grows_one}
 use Rattle.glk_replies.specs.Parts.{replies}
 use Rattle.gx_session.specs.declared.ends.Stop.{Stop}
 use Rattle.gx_session.specs.declared.ends.Stop.TheVariants as stop
-use Rattle.gx_session.specs.Constants.{status_shelf_fault, status_input_fault, status_output_fault, status_no_memory, most_loaded, failed}
+use Rattle.gx_session.specs.Constants.{status_shelf_fault, status_input_fault, status_output_fault, status_no_memory}
+use Rattle.gx_session.specs.Constants.{most_loaded, failed}
 use Rattle.gx_session.specs.declared.running.Waiting.{Waiting}
 use Rattle.gx_session.specs.Devices.{Devices}
-use Rattle.gx_session.specs.Session.{Configuration, Doing, steps, asks, goes_on, sends_now, run_of, stop_of, final_of, effect_at, asked, asked_at}
+use Rattle.gx_session.specs.Session.{Configuration, Doing, steps, asks, goes_on, sends_now, run_of, stop_of, final_of}
+use Rattle.gx_session.specs.Session.{effect_at, asked, asked_at}
 use Rattle.gx_session.specs.Saving.{saving, restoring, is_begun, is_read}
 use Rattle.gx_session.specs.Sending.{is_due}
 use Rattle.gx_session.specs.Endings.{Store, open_files_of, stores_of, told_all, after_stores}
@@ -58,18 +62,13 @@ IsWait turn.Wait = Unit {0}
 IsWait turn.Prompt = Unit {0}
 IsWait t = ⊥
 
--- a turn that asks the shelf
-abbrev pub IsQuestion : Turn → Type 0
-IsQuestion (turn.Load name) = Unit {0}
-IsQuestion (turn.Store name bytes) = Unit {0}
-IsQuestion (turn.Remove name) = Unit {0}
-IsQuestion (turn.Has name) = Unit {0}
-IsQuestion t = ⊥
-
--- The shelf may want memory: at a load only where there are bytes to be handed out.
-abbrev pub MayWant : Files → Turn → Type 0
-MayWant files (turn.Load name) = IsSomeAnd (files name) (λ bytes. length bytes ≤ most_loaded)
-MayWant files t = Unit {0}
+-- what the shelf is asked for a turn, if it is asked
+abbrev pub request_of : Turn → Option Request
+request_of (turn.Load name) = Some (loads name most_loaded)
+request_of (turn.Store name bytes) = Some (stores name bytes)
+request_of (turn.Remove name) = Some (removes name)
+request_of (turn.Has name) = Some (looks name)
+request_of t = None
 
 -- This effect asks for a save, which is begun: the I/O system is Glk's, and the stream may take one.
 abbrev pub BeginsSave : Configuration → Option Effect → Type 0
@@ -107,10 +106,12 @@ AskingWants m (Some (effect.Put c)) =
     (IsTrue (put_grows_one m.world.scene m.world.scene.current c) × IsOk (putting m.world.scene m.machine.flat c))
     ⊎ AnswerWants m.log m.machine (putting m.world.scene m.machine.flat c)
 AskingWants m (Some (effect.Glk selector args room)) =
-    (IsGrowing m.world.scene m.machine.flat selector args.items × IsOk (glk_call m.world.scene m.machine.flat room selector args.items))
+    (IsGrowing m.world.scene m.machine.flat selector args.items
+    × IsOk (glk_call m.world.scene m.machine.flat room selector args.items))
     ⊎ TurnWants m.log m.machine (glk_call m.world.scene m.machine.flat room selector args.items)
 AskingWants m (Some (effect.Save stream)) =
-    IsTrue (is_begun m.world.scene m.machine.flat stream) ⊎ AnswerWants m.log m.machine (saving m.world.scene m.machine.flat stream)
+    IsTrue (is_begun m.world.scene m.machine.flat stream)
+    ⊎ AnswerWants m.log m.machine (saving m.world.scene m.machine.flat stream)
 AskingWants m (Some (effect.Restore stream)) =
     (IsTrue (is_read m.world.scene m.machine.flat stream) × IsOk (restoring m.world.scene m.machine.flat stream))
     ⊎ RestoreWants m.log m.machine (restoring m.world.scene m.machine.flat stream)
@@ -127,7 +128,9 @@ GivenWants m g w =
 -- there is input; a call that goes on.
 abbrev pub WantsMemory : Doing → Configuration → Option Asking → Type 0
 WantsMemory steps m asking =
-    ((asking ≡ None) × (IsSome m.log ⊎ (IsStepWriting m.machine m.left × IsOk (stepped (record { machine = m.machine; asking = None }) (next_u32 m.words).0 m.left))))
+    ((asking ≡ None) × (IsSome m.log ⊎
+    (IsStepWriting m.machine m.left × IsOk
+    (stepped (record { machine = m.machine; asking = None }) (next_u32 m.words).0 m.left))))
     ⊎ ((asking ≡ asked m) × AskingWants m (effect_at m))
 WantsMemory (asks t w) m asking = (asking ≡ asked m) × IsWait t × (0 < length m.input)
 WantsMemory (goes_on g w) m asking = (asking ≡ asked m) × GivenWants m g w
@@ -137,10 +140,16 @@ abbrev pub asking_between : Doing → Configuration → Option Asking
 asking_between steps m = None
 asking_between d m = asked m
 
--- a turn that is pending is refused by the shelf
-abbrev pub IsRefusedBy : Doing → Configuration → ℕ → Type 0
-IsRefusedBy (asks t w) m status = IsQuestion t × ((status ≡ status_shelf_fault) ⊎ ((status ≡ status_no_memory) × MayWant m.files t))
-IsRefusedBy d m status = ⊥
+-- what the shelf is asked now
+abbrev pub request_in : Doing → Option Request
+request_in (asks t w) = request_of t
+request_in d = None
+
+-- It is refused, for want of memory only where that may come in place of the answer.
+abbrev pub IsRefused : Configuration → Option Request → ℕ → Type 0
+IsRefused m None status = ⊥
+IsRefused m (Some r) status =
+    (status ≡ status_shelf_fault) ⊎ ((status ≡ status_no_memory) × MayWant r (m.answers m.asked r))
 
 abbrev pub IsWaiting : Doing → Type 0
 IsWaiting (asks t w) = IsWait t
@@ -170,27 +179,31 @@ asking_at_stop start = asked_at (final_of start).stop (stopped start)
 -- open. A send is refused only where it is due, and the shelf and the source fail only where they are asked, once
 -- all text was sent.
 abbrev pub IsCut : Configuration → Cut → Configuration → ℕ → Option Asking → Type 0
-IsCut start (in_move j) m status asking = (run_of start j ≡ Some m) × (sends_now m ≡ false) × (status ≡ status_no_memory) × WantsMemory m.doing m asking
-IsCut start (in_send j) m status asking = (run_of start j ≡ Some m) × (sends_now m ≡ true) × IsSendStatus status × (asking ≡ asking_between m.doing m)
-IsCut start (in_question j) m status asking = (run_of start j ≡ Some m) × (sends_now m ≡ false) × IsRefusedBy m.doing m status × (asking ≡ asked m)
-IsCut start (in_reading j) m status asking = (run_of start j ≡ Some m) × (sends_now m ≡ false) × (status ≡ status_input_fault) × IsWaiting m.doing × (asking ≡ asked m)
+IsCut start (in_move j) m status asking =
+    (run_of start j ≡ Some m) × (sends_now m ≡ false) × (status ≡ status_no_memory) × WantsMemory m.doing m asking
+IsCut start (in_send j) m status asking =
+    (run_of start j ≡ Some m) × (sends_now m ≡ true) × IsSendStatus status × (asking ≡ asking_between m.doing m)
+IsCut start (in_question j) m status asking =
+    (run_of start j ≡ Some m) × (sends_now m ≡ false) × IsRefused m (request_in m.doing) status × (asking ≡ asked m)
+IsCut start (in_reading j) m status asking =
+    (run_of start j ≡ Some m) × (sends_now m ≡ false) × (status ≡ status_input_fault) × IsWaiting m.doing
+    × (asking ≡ asked m)
 IsCut start in_last_screen m status asking =
     (m ≡ (stop_of start).configuration) × (is_composed m.world.scene ≡ true)
     × (status ≡ status_no_memory) × (asking ≡ asking_at_stop start)
-IsCut start in_last_send m status asking = (m ≡ stopped start) × (is_due 1 m.sent m.world.text ≡ true) × IsSendStatus status × (asking ≡ asking_at_stop start)
+IsCut start in_last_send m status asking =
+    (m ≡ stopped start) × (is_due 1 m.sent m.world.text ≡ true) × IsSendStatus status × (asking ≡ asking_at_stop start)
 IsCut start in_listing m status asking =
     (m ≡ told_all (stopped start)) × (open_files_of m.world.scene ≢ [])
     × (status ≡ status_no_memory) × (asking ≡ asking_at_stop start)
-IsCut start (in_store stores next) m status asking =
-    (m ≡ after_stores (told_all (stopped start)) stores) × IsShelfStatus status × (asking ≡ asking_at_stop start)
-    × ((rest : List Store) × (stores_of m.world.scene ≡ stores ++ next ∷ rest))
+IsCut start (in_store front next) m status asking =
+    (m ≡ after_stores (told_all (stopped start)) front) × IsShelfStatus status × (asking ≡ asking_at_stop start)
+    × ((rest : List Store) × (stores_of m.world.scene ≡ front ++ next ∷ rest))
 
--- Where a device refused for want of memory, its last call is the one that wanted it.
+-- Where the sink refused for want of memory, its last call is the one that wanted it.
 abbrev pub WantedBy : Cut → Devices → Type 0
 WantedBy (in_send j) exit = exit.sink.calls.wanting ≡ true
 WantedBy in_last_send exit = exit.sink.calls.wanting ≡ true
-WantedBy (in_question j) exit = exit.shelf.calls.wanting ≡ true
-WantedBy (in_store stores next) exit = exit.shelf.calls.wanting ≡ true
 WantedBy cut exit = Unit {0}
 
 -- how many bytes were sent at most, and in how many calls
@@ -204,11 +217,19 @@ sends_at (in_send j) m = suc m.sent.calls
 sends_at in_last_send m = suc m.sent.calls
 sends_at cut m = m.sent.calls
 
--- how often the shelf was asked
-abbrev pub asked_by_cut : Cut → Configuration → ℕ
-asked_by_cut (in_question j) m = suc m.asked
-asked_by_cut (in_store stores next) m = suc m.asked
-asked_by_cut cut m = m.asked
+-- why the shelf refused
+abbrev pub fault_at : ℕ → ShelfFault
+fault_at status = if status == status_shelf_fault then of_shelf.Failed else of_shelf.NoMemory
+
+abbrev pub refused_call : Option Request → ℕ → Trace
+refused_call None status = []
+refused_call (Some r) status = (r, Err (fault_at status)) ∷ []
+
+-- the calls of the shelf, the last of which was refused where it is the shelf that cut the run short
+abbrev pub asked_by_cut : Cut → Configuration → ℕ → Trace
+asked_by_cut (in_question j) m status = m.asked ++ refused_call (request_in m.doing) status
+asked_by_cut (in_store front next) m status = m.asked ++ refused_call (Some (stores next.0 next.1)) status
+asked_by_cut cut m status = m.asked
 
 -- a stop at which a line was awaited
 abbrev pub IsLineStop : Stop → Type 0
@@ -221,28 +242,12 @@ abbrev pub AwaitedAt : Configuration → Cut → Type 0
 AwaitedAt start in_last_screen = IsLineStop (final_of start).stop
 AwaitedAt start in_last_send = IsLineStop (final_of start).stop
 AwaitedAt start in_listing = IsLineStop (final_of start).stop
-AwaitedAt start (in_store stores next) = IsLineStop (final_of start).stop
+AwaitedAt start (in_store front next) = IsLineStop (final_of start).stop
 AwaitedAt start cut = ⊥
 
 abbrev pub LongAt : Configuration → Cut → Type 0
 LongAt start in_last_screen = (final_of start).stop ≡ stop.LineTooLong
 LongAt start in_last_send = (final_of start).stop ≡ stop.LineTooLong
 LongAt start in_listing = (final_of start).stop ≡ stop.LineTooLong
-LongAt start (in_store stores next) = (final_of start).stop ≡ stop.LineTooLong
+LongAt start (in_store front next) = (final_of start).stop ≡ stop.LineTooLong
 LongAt start cut = ⊥
-
--- After a refused store or remove the file of its name is open; the others stand, and so do all after every other
--- refusal.
-abbrev pub LeavesFiles : Turn → Files → Files → Type 0
-LeavesFiles (turn.Store name bytes) before after = KeepsOthers before after name
-LeavesFiles (turn.Remove name) before after = KeepsOthers before after name
-LeavesFiles t before after = after ≡ before
-
-abbrev pub LeavesBy : Doing → Files → Files → Type 0
-LeavesBy (asks t w) before after = LeavesFiles t before after
-LeavesBy d before after = after ≡ before
-
-abbrev pub FilesAt : Cut → Configuration → Files → Type 0
-FilesAt (in_question j) m files = LeavesBy m.doing m.files files
-FilesAt (in_store stores next) m files = KeepsOthers m.files files next.0
-FilesAt cut m files = files ≡ m.files

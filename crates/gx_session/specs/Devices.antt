@@ -1,5 +1,6 @@
 -- What contracts see of the four objects that a run is handed.
 use Rattle.gx_outside.specs.Outside.{FlatSource, FlatSink, FlatShelf}
+use Rattle.gx_outside.specs.Shelves.{Trace}
 use Rattle.rand_core.specs.Stream.{Stream}
 
 -- The source of input, the sink of text, the shelf of files, and the random words to come.
@@ -8,6 +9,9 @@ pub record Devices : Type 0 where
   pub sink : FlatSink
   pub shelf : FlatShelf
   pub words : Stream
+  -- the calls of the shelf since the run began
+  pub asked : Trace
 
-abbrev pub devices : FlatSource → FlatSink → FlatShelf → Stream → Devices
-devices source sink shelf words = record { source = source; sink = sink; shelf = shelf; words = words }
+abbrev pub devices : FlatSource → FlatSink → FlatShelf → Stream → Trace → Devices
+devices source sink shelf words asked =
+    record { source = source; sink = sink; shelf = shelf; words = words; asked = asked }

@@ -1,5 +1,6 @@
 -- How the code plays a session: what it holds is a configuration of the run, after text that was sent.
-use Rattle.std.specs.Prelude.{◌≡◌, ◌≢◌, ℕ, ◌<◌, ◌≤◌, List, [], ◌++◌, ◌⊎◌, length, IsSome, IsOk, IfOk, OnOk, OnErr, Bool, true, false, Result, Ok, Err, Option, Some, None}
+use Rattle.std.specs.Prelude.{◌≡◌, ◌≢◌, ℕ, ◌<◌, ◌≤◌, List, [], ◌∷◌, ◌++◌, map, ◌⊎◌, length, IsSome, IsOk, IfOk, OnOk}
+use Rattle.std.specs.Prelude.{OnErr, Bool, true, false, Result, Ok, Err, Option, Some, None}
 use Rattle.gx_words.specs.declared.faults.Fault.{Fault}
 use Rattle.gx_words.specs.declared.faults.Fault.TheVariants.{NoMemory}
 use Rattle.gx_state.specs.declared.effects.Effect.{Effect}
@@ -14,7 +15,7 @@ use Rattle.gx_machine.specs.Step.{asking_of}
 use Rattle.gx_machine.specs.Log.{Log, logged, units_left}
 use Rattle.gx_machine.specs.Advancing.{logged_by}
 use Rattle.gx_outside.specs.Outside.{FlatSource, FlatSink, FlatShelf, raised_by}
-use Rattle.gx_outside.specs.declared.calls.Calls.{Calls}
+use Rattle.gx_outside.specs.Shelves.{Request, stores, Answer, Trace}
 use Rattle.gx_outside.specs.declared.devices.SendFault.{SendFault}
 use Rattle.gx_outside.specs.declared.devices.SendFault.TheVariants as of_send
 use Rattle.gx_outside.specs.declared.devices.ShelfFault.{ShelfFault}
@@ -32,15 +33,19 @@ use Rattle.gx_session.specs.declared.ends.Next.{Next}
 use Rattle.gx_session.specs.declared.ends.Next.TheVariants as next
 use Rattle.gx_session.specs.declared.lines.NoLine.{NoLine}
 use Rattle.gx_session.specs.declared.lines.NoLine.TheVariants as no
-use Rattle.gx_session.specs.Constants.{status_shelf_fault, status_input_fault, status_output_fault, status_no_memory, piece}
+use Rattle.gx_session.specs.Constants.{status_shelf_fault, status_input_fault, status_output_fault, status_no_memory}
+use Rattle.gx_session.specs.Constants.{piece}
 use Rattle.gx_session.specs.declared.running.Running.{Running}
 use Rattle.gx_session.specs.declared.running.Waiting.{Waiting}
-use Rattle.gx_session.specs.Counts.{Blames, IsUntold}
+use Rattle.gx_session.specs.Counts.{Blames}
 use Rattle.gx_session.specs.Cuts.{IsWait, IsLineStop, ReplyWants, TurnWants, WantsMemory, stopped, asking_at_stop}
 use Rattle.gx_session.specs.Devices.{Devices}
-use Rattle.gx_session.specs.Endings.{Store, open_files_of, stores_of, stored, told_all, StoredAll, StoredSome}
+use Rattle.gx_session.specs.Endings.{Store, open_files_of, stores_of, call_of, told_all}
 use Rattle.gx_session.specs.Input.{line, next_line}
-use Rattle.gx_session.specs.Session.{Configuration, Doing, steps, asks, goes_on, goes, act_of, after_effect, after_turn, after_given, sends_now, Ending, stop_of, final_of, run_of, effect_at, asked, asked_at}
+use Rattle.gx_session.specs.Session.{Configuration, Doing, steps, asks, goes_on, goes, act_of, after_effect, after_turn}
+use Rattle.gx_session.specs.Session.{after_given, sends_now, Ending, stop_of, final_of, run_of, effect_at, asked}
+use Rattle.gx_session.specs.Session.{asked_at}
+use Rattle.gx_session.specs.Questions.{AreAnswered}
 use Rattle.gx_session.specs.Reading.{ReadsFew}
 use Rattle.gx_session.specs.Runs.{IsSaved, SavedAll, SavedBefore, StopsEarly}
 use Rattle.rand_core.specs.Stream.{Stream, next_u32}
@@ -81,12 +86,12 @@ abbrev pub WordIs : Option ℕ → Stream → Stream → Type 0
 WordIs None stream words = words ≡ stream
 WordIs (Some word) stream words = next_u32 words ≡ (word, stream)
 
--- What was done so far: the text that was sent, in so many calls; how often the shelf was asked; the words that are to
--- come.
+-- What was done so far, and what is to come: the text that was sent, in so many calls; the answers of the shelf; the
+-- random words.
 pub record Past : Type 0 where
   pub sent : List ℕ
   pub sends : ℕ
-  pub asked : ℕ
+  pub answers : Trace → Request → Answer
   pub words : Stream
 
 -- the configuration that is held
@@ -97,8 +102,8 @@ configuration_of p doing h d = record {
   sent = record { bytes = length p.sent; calls = p.sends };
   input = h.ahead ++ h.coming;
   echo = h.echo;
-  files = d.shelf.files;
-  asked = p.asked;
+  answers = p.answers;
+  asked = d.asked;
   words = p.words;
   left = h.left;
   log = h.log;
@@ -112,14 +117,14 @@ pub record HasTaken (entry now : FlatSink) (sent : List ℕ) (calls : ℕ) : Typ
   pub taken : now.tells ≡ true → now.taken ≡ entry.taken ++ sent
 
 -- The devices are those at entry after what was done so far.
-pub record IsPast (first : List ℕ) (entry : Devices) (p : Past) (h : Held) (d : Devices) : Type 0 where
+pub record IsPast (start : Configuration) (entry : Devices) (p : Past) (h : Held) (d : Devices) : Type 0 where
   pub taken : HasTaken entry.sink d.sink p.sent p.sends
-  pub asked : d.shelf.calls.made ≡ raised_by p.asked entry.shelf.calls.made
-  pub told : d.shelf.tells ≡ entry.shelf.tells
+  pub answers : p.answers ≡ start.answers
+  pub answered : AreAnswered d.asked
   pub word : WordIs h.word d.words p.words
   pub left : d.source.tells ≡ true → h.coming ≡ d.source.left
-  pub fewer : length (h.ahead ++ h.coming) ≤ length first
-  pub reads : ReadsFew false h.over entry.source d.source first h.coming 0
+  pub fewer : length (h.ahead ++ h.coming) ≤ length start.input
+  pub reads : ReadsFew false h.over entry.source d.source start.input h.coming 0
 
 -- The source wasn't asked where no line was taken.
 abbrev pub IsRead : List ℕ → Devices → Held → Devices → Type 0
@@ -129,7 +134,7 @@ IsRead first entry h d = (d.source ≡ entry.source) ⊎ (length (h.ahead ++ h.c
 pub record Standing (start : Configuration) (entry : Devices) (h : Held) (d : Devices) (doing : Doing) : Type 0 where
   pub past : Past
   pub moves : ℕ
-  pub is_past : IsPast start.input entry past h d
+  pub is_past : IsPast start entry past h d
   pub few : length h.ahead < piece
   pub reads : IsRead start.input entry h d
   pub reached : run_of start moves ≡ Some (configuration_of past doing h d)
@@ -146,7 +151,8 @@ abbrev pub Going : Configuration → Devices → Held → Devices → Type 0
 Going start entry h d = Ready start entry h d steps
 
 -- So it stands in the middle of a Glk call, with a machine that asks for it.
-pub record Waits (start : Configuration) (entry : Devices) (h : Held) (asking : Option Asking) (d : Devices) (doing : Doing) : Type 0 where
+pub record Waits (start : Configuration) (entry : Devices) (h : Held) (asking : Option Asking) (d : Devices)
+    (doing : Doing) : Type 0 where
   pub now : Standing start entry h d doing
   pub asking_is : asking ≡ asked (configuration_of now.past doing h d)
 
@@ -155,7 +161,7 @@ pub record ComesTo (end : Ending) (start : Configuration) (entry : Devices) (h :
     (d : Devices) (why : Stop) : Type 0 where
   pub past : Past
   pub doing : Doing
-  pub is_past : IsPast start.input entry past h d
+  pub is_past : IsPast start entry past h d
   pub few : why ≢ stop.LineTooLong → length h.ahead < piece
   pub reads : (IsLineStop why → ⊥) → IsRead start.input entry h d
   pub is_end : end ≡ record { stop = why; configuration = configuration_of past doing h d }
@@ -184,25 +190,31 @@ halt_of_shelf of_shelf.NoMemory = halt.NoMemory
 
 -- The run is cut short.
 abbrev pub Early : Configuration → Devices → Held → Option Asking → Devices → Halt → Type 0
-Early start entry h asking d why = StopsEarly start entry d (status_of_halt why) h.left (record { machine = h.machine; asking = asking }) h.log
+Early start entry h asking d why =
+    StopsEarly start entry d (status_of_halt why) h.left (record { machine = h.machine; asking = asking }) h.log
 
 -- The machine has made a step from a configuration of the run, with this effect and these units left.
-pub record Follows (start : Configuration) (entry : Devices) (h : Held) (d : Devices) (left : ℕ) (does : Effect) : Type 0 where
+pub record Follows (start : Configuration) (entry : Devices) (h : Held) (d : Devices) (left : ℕ)
+    (does : Effect) : Type 0 where
   -- the machine before the step, and what was recorded then
   pub before : FlatMachine
   pub recorded : Option Log
   pub word : ℕ
   pub drawn : h.word ≡ Some word
   pub going : Going start entry (record h { machine = before; log = recorded }) d
-  pub event : let m = configuration_of going.now.past steps (record h { machine = before; log = recorded }) d in act_of m ≡ after_effect m left h.machine does
-  pub asks : let m = configuration_of going.now.past steps (record h { machine = before; log = recorded }) d in IsSome (asking_of does) → asked m ≡ asking_of does
-  pub effect : let m = configuration_of going.now.past steps (record h { machine = before; log = recorded }) d in does ≢ Spent → effect_at m ≡ Some does
+  pub event : let m = configuration_of going.now.past steps (record h { machine = before; log = recorded }) d in
+      act_of m ≡ after_effect m left h.machine does
+  pub asks : let m = configuration_of going.now.past steps (record h { machine = before; log = recorded }) d in
+      IsSome (asking_of does) → asked m ≡ asking_of does
+  pub effect : let m = configuration_of going.now.past steps (record h { machine = before; log = recorded }) d in
+      does ≢ Spent → effect_at m ≡ Some does
   pub stands : IsSome (asking_of does) → h.machine ≡ before
   pub logs : h.log ≡ logged_by does recorded before
 
 -- From a configuration of the run the Glk world has moved on, and the machine becomes this one, with which the event is
 -- recorded. It may want memory for that where this holds.
-pub record Resumes (start : Configuration) (entry : Devices) (h : Held) (asking : Option Asking) (d : Devices) (left : ℕ) (machine : FlatMachine) (wants : Type 0) : Type 0 where
+pub record Resumes (start : Configuration) (entry : Devices) (h : Held) (asking : Option Asking) (d : Devices)
+    (left : ℕ) (machine : FlatMachine) (wants : Type 0) : Type 0 where
   -- the world before
   pub world : FlatWorld
   pub said : Said
@@ -210,29 +222,40 @@ pub record Resumes (start : Configuration) (entry : Devices) (h : Held) (asking 
   pub moved : h.world ≡ after world said
   pub going : Ready start entry (record h { world = world }) d doing
   pub event : let m = configuration_of going.now.past doing (record h { world = world }) d in
-      act_of m ≡ goes (record m { machine = machine; world = after m.world said; left = left; log = logged m.log m.machine; doing = steps })
+      act_of m ≡ goes (record m {
+        machine = machine;
+        world = after m.world said;
+        left = left;
+        log = logged m.log m.machine;
+        doing = steps;
+      })
   pub saved : IsSaved (configuration_of going.now.past doing (record h { world = world }) d)
   pub asks : let m = configuration_of going.now.past doing (record h { world = world }) d in asking ≡ asked m
-  pub memory : let m = configuration_of going.now.past doing (record h { world = world }) d in wants → WantsMemory doing m asking
+  pub memory : let m = configuration_of going.now.past doing (record h { world = world }) d in
+      wants → WantsMemory doing m asking
 
 -- It takes a reply.
 abbrev pub Replies : Configuration → Devices → Held → Option Asking → Devices → ℕ → Reply → Type 0
-Replies start entry h asking d left reply = Resumes start entry h asking d left (answer_of h.machine reply) (ReplyWants h.log h.machine reply)
+Replies start entry h asking d left reply =
+    Resumes start entry h asking d left (answer_of h.machine reply) (ReplyWants h.log h.machine reply)
 
 -- It goes back to a copy.
 abbrev pub GoesBack : Configuration → Devices → Held → Option Asking → Devices → ℕ → Copy → Type 0
 GoesBack start entry h asking d left copy = Resumes start entry h asking d left (restored h.machine copy) (Unit {0})
 
 -- A Glk call has come to a turn from a configuration of the run.
-pub record Turns (start : Configuration) (entry : Devices) (h : Held) (asking : Option Asking) (d : Devices) (w : Waiting) (turn : Turn) : Type 0 where
+pub record Turns (start : Configuration) (entry : Devices) (h : Held) (asking : Option Asking) (d : Devices)
+    (w : Waiting) (turn : Turn) : Type 0 where
   pub world : FlatWorld
   pub said : Said
   pub moved : h.world ≡ after world said
   pub going : Going start entry (record h { world = world }) d
-  pub event : let m = configuration_of going.now.past steps (record h { world = world }) d in act_of m ≡ after_turn m w (Ok (said, turn))
+  pub event : let m = configuration_of going.now.past steps (record h { world = world }) d in
+      act_of m ≡ after_turn m w (Ok (said, turn))
   pub saved : IsSaved (configuration_of going.now.past steps (record h { world = world }) d)
   pub asks : let m = configuration_of going.now.past steps (record h { world = world }) d in asking ≡ asked m
-  pub memory : let m = configuration_of going.now.past steps (record h { world = world }) d in TurnWants h.log h.machine (Ok (said, turn)) → WantsMemory steps m asking
+  pub memory : let m = configuration_of going.now.past steps (record h { world = world }) d in
+      TurnWants h.log h.machine (Ok (said, turn)) → WantsMemory steps m asking
 
 -- Want of memory is no fault that a run stops at.
 abbrev pub IsStop : Stop → Type 0
@@ -245,26 +268,21 @@ IsNext (next.Stops stop) = IsStop stop
 
 -- WHAT A PART OF A RUN COMES TO
 -- an event
-abbrev pub Gives : Configuration → Devices → Held → Option Asking → Devices → Result Next Halt → Type 0
-Gives start entry h asking d (Ok next.Goes) = Going start entry h d
-Gives start entry h asking d (Ok (next.Stops stop)) = Done start entry h asking d stop
-Gives start entry h asking d (Err why) = Early start entry h asking d why
-
--- The same, unless a shelf that tells nothing was asked.
 abbrev pub EventGives : Configuration → Devices → Held → Option Asking → Devices → Result Next Halt → Type 0
-EventGives start entry h asking d result = IsUntold entry.shelf d.shelf ⊎ Gives start entry h asking d result
+EventGives start entry h asking d (Ok next.Goes) = Going start entry h d
+EventGives start entry h asking d (Ok (next.Stops stop)) = Done start entry h asking d stop
+EventGives start entry h asking d (Err why) = Early start entry h asking d why
 
--- the same of all events
-abbrev pub Ends : Configuration → Devices → Held → Option Asking → Devices → Result Stop Halt → Type 0
-Ends start entry h asking d (Ok stop) = Done start entry h asking d stop
-Ends start entry h asking d (Err why) = Early start entry h asking d why
-
+-- all events
 abbrev pub StopGives : Configuration → Devices → Held → Option Asking → Devices → Result Stop Halt → Type 0
-StopGives start entry h asking d result = IsUntold entry.shelf d.shelf ⊎ Ends start entry h asking d result
+StopGives start entry h asking d (Ok stop) = Done start entry h asking d stop
+StopGives start entry h asking d (Err why) = Early start entry h asking d why
 
 -- what a fault comes to
 abbrev pub FaultGives : Fault → Result Next Halt → Type 0
-FaultGives fault result = ((fault ≡ NoMemory) × (result ≡ Err halt.NoMemory)) ⊎ ((fault ≢ NoMemory) × (result ≡ Ok (next.Stops (stop.Faulted fault))))
+FaultGives fault result =
+    ((fault ≡ NoMemory) × (result ≡ Err halt.NoMemory))
+    ⊎ ((fault ≢ NoMemory) × (result ≡ Ok (next.Stops (stop.Faulted fault))))
 
 -- A front of the pending text was sent, in one call, and all of it at Ok. Where memory ran out, the sink wanted it in
 -- that call.
@@ -277,18 +295,25 @@ pub record SendsAll (before now : FlatSink) (old new : FlatWorld) (result : Resu
   pub wants : result ≡ Err halt.NoMemory → now.calls.wanting ≡ true
 
 -- The pending text is sent where it has so many bytes or more, and else nothing happens.
-pub record Flushes (enough : ℕ) (before now : FlatSink) (old new : FlatWorld) (result : Result (Unit {0}) Halt) : Type 0 where
+pub record Flushes (enough : ℕ) (before now : FlatSink) (old new : FlatWorld)
+    (result : Result (Unit {0}) Halt) : Type 0 where
   pub few : length old.text < enough → (now ≡ before) × (new ≡ old) × IsOk result
   pub many : enough ≤ length old.text → SendsAll before now old new result
 
 -- The machine became this one, which asks nothing, and the event was recorded; or both stand for want of memory. All
 -- else stands.
-pub record Becomes {E T : Type 0} (whole : E → Whole) (log : E → Option Log) (old new : Running E) (machine : FlatMachine) (left : ℕ) (result : Result T Halt) : Type 0 where
-  pub ok : OnOk result ((whole new.engine ≡ record { machine = machine; asking = None }) × (new ≡ record old { engine = new.engine; left = left }) × (log new.engine ≡ logged (log old.engine) (whole old.engine).machine))
-  pub err : OnErr result ((whole new.engine ≡ whole old.engine) × (new ≡ record old { engine = new.engine }) × (log new.engine ≡ log old.engine))
+pub record Becomes {E T : Type 0} (whole : E → Whole) (log : E → Option Log) (old new : Running E)
+    (machine : FlatMachine) (left : ℕ) (result : Result T Halt) : Type 0 where
+  pub ok : OnOk result ((whole new.engine ≡ record { machine = machine; asking = None })
+      × (new ≡ record old { engine = new.engine; left = left })
+      × (log new.engine ≡ logged (log old.engine) (whole old.engine).machine))
+  pub err : OnErr result ((whole new.engine ≡ whole old.engine) × (new ≡ record old { engine = new.engine })
+      × (log new.engine ≡ log old.engine))
 
-abbrev pub TakesReply : {E T : Type 0} → (E → Whole) → (E → Option Log) → Running E → Running E → Reply → ℕ → Result T Halt → Type 0
-TakesReply whole log old new reply left result = Becomes whole log old new (answer_of (whole old.engine).machine reply) left result
+abbrev pub TakesReply : {E T : Type 0} → (E → Whole) → (E → Option Log) → Running E → Running E → Reply → ℕ
+    → Result T Halt → Type 0
+TakesReply whole log old new reply left result =
+    Becomes whole log old new (answer_of (whole old.engine).machine reply) left result
 
 -- How the answer of a save relates to its definition: as that of a call that may lose the world (`MayLose`), but that
 -- want of memory comes wherever the save is begun.
@@ -298,11 +323,13 @@ MaySave begun (Err e) old new defined = (e ≢ NoMemory → (new ≡ old) × (de
 
 -- What it is to a restore that a save is refused: there is no copy, unless memory ran out.
 abbrev pub Refuses : SaveFault → Result (Option Copy) Fault → Type 0
-Refuses fault result = ((fault ≡ of_save.NoMemory) × (result ≡ Err NoMemory)) ⊎ ((fault ≢ of_save.NoMemory) × (result ≡ Ok None))
+Refuses fault result =
+    ((fault ≡ of_save.NoMemory) × (result ≡ Err NoMemory)) ⊎ ((fault ≢ of_save.NoMemory) × (result ≡ Ok None))
 
 -- Where a part of a run goes on, nothing is asked any more, and so many units are left, for which there is room in what
 -- is recorded. A stop is one of a session.
-pub record Leads {E : Type 0} (whole : E → Whole) (log : E → Option Log) (old new : Running E) (left : ℕ) (result : Result Next Halt) : Type 0 where
+pub record Leads {E : Type 0} (whole : E → Whole) (log : E → Option Log) (old new : Running E) (left : ℕ)
+    (result : Result Next Halt) : Type 0 where
   pub none : result ≡ Ok next.Goes → (whole new.engine).asking ≡ None
   pub left_is : result ≡ Ok next.Goes → new.left ≡ left
   pub room : result ≡ Ok next.Goes → new.left ≤ units_left (log new.engine)
@@ -310,10 +337,6 @@ pub record Leads {E : Type 0} (whole : E → Whole) (log : E → Option Log) (ol
   pub stop_is : IfOk result IsNext
 
 -- THE DEVICES over a part of a run
--- so many calls were made
-abbrev pub WasAsked : Calls → Calls → Type 0
-WasAsked before now = (calls : ℕ) × (now.made ≡ raised_by calls before.made)
-
 -- A device that isn't blamed didn't fail, and each goes on telling what it tells.
 pub record Keeps {T : Type 0} (before now : Devices) (result : Result T Halt) : Type 0 where
   pub sink : Blames before.sink.calls now.sink.calls (result ≡ Err halt.Output)
@@ -322,21 +345,25 @@ pub record Keeps {T : Type 0} (before now : Devices) (result : Result T Halt) : 
   pub source_tells : now.source.tells ≡ before.source.tells
   pub shelf : Blames before.shelf.calls now.shelf.calls (result ≡ Err halt.Shelf)
   pub shelf_tells : now.shelf.tells ≡ before.shelf.tells
-  pub shelf_asked : WasAsked before.shelf.calls now.shelf.calls
 
 -- A Glk call that went on has come to a turn from a configuration of the run.
-pub record GoesOn (start : Configuration) (entry : Devices) (h : Held) (asking : Option Asking) (d : Devices) (w : Waiting) (turn : Turn) : Type 0 where
+pub record GoesOn (start : Configuration) (entry : Devices) (h : Held) (asking : Option Asking) (d : Devices)
+    (w : Waiting) (turn : Turn) : Type 0 where
   pub world : FlatWorld
   pub said : Said
   pub given : Given
   pub moved : h.world ≡ after world said
   pub going : Ready start entry (record h { world = world }) d (goes_on given w)
-  pub event : let m = configuration_of going.now.past (goes_on given w) (record h { world = world }) d in act_of m ≡ after_given m w (Ok (said, turn))
-  pub asks : let m = configuration_of going.now.past (goes_on given w) (record h { world = world }) d in asking ≡ asked m
-  pub memory : let m = configuration_of going.now.past (goes_on given w) (record h { world = world }) d in TurnWants h.log h.machine (Ok (said, turn)) → WantsMemory (goes_on given w) m asking
+  pub event : let m = configuration_of going.now.past (goes_on given w) (record h { world = world }) d in
+      act_of m ≡ after_given m w (Ok (said, turn))
+  pub asks : let m = configuration_of going.now.past (goes_on given w) (record h { world = world }) d in
+      asking ≡ asked m
+  pub memory : let m = configuration_of going.now.past (goes_on given w) (record h { world = world }) d in
+      TurnWants h.log h.machine (Ok (said, turn)) → WantsMemory (goes_on given w) m asking
 
 -- A line was taken at a wait.
-pub record TakesInput (start : Configuration) (entry : Devices) (h : Held) (asking : Option Asking) (d : Devices) (chars : List ℕ) (w : Waiting) : Type 0 where
+pub record TakesInput (start : Configuration) (entry : Devices) (h : Held) (asking : Option Asking) (d : Devices)
+    (chars : List ℕ) (w : Waiting) : Type 0 where
   -- the wait, and what was held and read before
   pub turn : Turn
   pub ahead : List ℕ
@@ -344,12 +371,14 @@ pub record TakesInput (start : Configuration) (entry : Devices) (h : Held) (aski
   pub over : Bool
   pub source : FlatSource
   pub is_wait : IsWait turn
-  pub going : Ready start entry (record h { ahead = ahead; coming = coming; over = over }) (record d { source = source }) (asks turn w)
+  pub going : Ready start entry (record h { ahead = ahead; coming = coming; over = over })
+      (record d { source = source }) (asks turn w)
   pub taken : next_line (ahead ++ coming) ≡ line chars (h.ahead ++ h.coming)
   pub few : length h.ahead < piece
   pub left : d.source.tells ≡ true → h.coming ≡ d.source.left
   pub reads : ReadsFew false h.over entry.source d.source start.input h.coming 0
-  pub asking_is : asking ≡ asked (configuration_of going.now.past (asks turn w) (record h { ahead = ahead; coming = coming; over = over }) (record d { source = source }))
+  pub asking_is : asking ≡ asked (configuration_of going.now.past (asks turn w)
+      (record h { ahead = ahead; coming = coming; over = over }) (record d { source = source }))
 
 -- what it is to a run that no line was taken
 abbrev pub without_line : NoLine → Result Next Halt
@@ -364,10 +393,11 @@ abbrev pub Shown : Configuration → Devices → Held → Option Asking → Devi
 Shown start entry h asking d why = ComesTo (final_of start) start entry h asking d why
 
 -- Then all text was sent.
-pub record Told (start : Configuration) (entry : Devices) (h : Held) (asking : Option Asking) (d : Devices) (why : Stop) : Type 0 where
+pub record Told (start : Configuration) (entry : Devices) (h : Held) (asking : Option Asking) (d : Devices)
+    (why : Stop) : Type 0 where
   pub past : Past
   pub doing : Doing
-  pub is_past : IsPast start.input entry past h d
+  pub is_past : IsPast start entry past h d
   pub few : why ≢ stop.LineTooLong → length h.ahead < piece
   pub reads : (IsLineStop why → ⊥) → IsRead start.input entry h d
   pub stop_is : (final_of start).stop ≡ why
@@ -376,37 +406,43 @@ pub record Told (start : Configuration) (entry : Devices) (h : Held) (asking : O
   pub asking_is : asking ≡ asking_at_stop start
   pub none_left : h.world.text ≡ []
 
--- Then all open files were stored, over the files of the shelf before.
-pub record Finished (start : Configuration) (entry : Devices) (h : Held) (asking : Option Asking) (d : Devices) (why : Stop) : Type 0 where
+-- Then all open files were stored, after these calls of the shelf, which was this one.
+pub record Finished (start : Configuration) (entry : Devices) (h : Held) (asking : Option Asking) (d : Devices)
+    (why : Stop) : Type 0 where
   pub shelf : FlatShelf
-  pub told : Told start entry h asking (record d { shelf = shelf }) why
-  pub files : d.shelf.files ≡ stored shelf.files (stores_of h.world.scene)
-  pub made : d.shelf.calls.made ≡ raised_by (length (stores_of h.world.scene)) shelf.calls.made
+  pub before : Trace
+  pub told : Told start entry h asking (record d { shelf = shelf; asked = before }) why
+  pub asked_are : d.asked ≡ before ++ map call_of (stores_of h.world.scene)
 
-abbrev pub Closes : Configuration → Devices → Held → Option Asking → Devices → Stop → Result (Unit {0}) Halt → Type 0
-Closes start entry h asking d stop (Ok u) = Finished start entry h asking d stop
-Closes start entry h asking d stop (Err why) = Early start entry h asking d why
-
--- what the ending comes to, unless a shelf that tells nothing was asked
-abbrev pub EndingGives : Configuration → Devices → Held → Option Asking → Devices → Stop → Result (Unit {0}) Halt → Type 0
-EndingGives start entry h asking d stop result = IsUntold entry.shelf d.shelf ⊎ Closes start entry h asking d stop result
+-- what the ending comes to
+abbrev pub EndingGives : Configuration → Devices → Held → Option Asking → Devices → Stop → Result (Unit {0}) Halt
+    → Type 0
+EndingGives start entry h asking d stop (Ok u) = Finished start entry h asking d stop
+EndingGives start entry h asking d stop (Err why) = Early start entry h asking d why
 
 -- what a run comes to
-abbrev pub Concludes : Configuration → Devices → Held → Option Asking → Devices → Result Stop Halt → Type 0
-Concludes start entry h asking d (Ok stop) = Finished start entry h asking d stop
-Concludes start entry h asking d (Err why) = Early start entry h asking d why
-
 abbrev pub RunGives : Configuration → Devices → Held → Option Asking → Devices → Result Stop Halt → Type 0
-RunGives start entry h asking d result = IsUntold entry.shelf d.shelf ⊎ Concludes start entry h asking d result
+RunGives start entry h asking d (Ok stop) = Finished start entry h asking d stop
+RunGives start entry h asking d (Err why) = Early start entry h asking d why
 
--- how the stores of the ending go
-abbrev pub Stores : List Store → FlatShelf → FlatShelf → Result (Unit {0}) Halt → Type 0
-Stores stores before now (Ok u) = StoredAll stores before now
-Stores stores before now (Err why) = StoredSome stores before now (why ≡ halt.NoMemory)
+-- Some files were stored, and the next one was refused.
+pub record StoredSome (files : List Store) (calls : Trace) (why : Halt) : Type 0 where
+  pub front : List Store
+  pub next : Store
+  pub rest : List Store
+  pub split : files ≡ front ++ next ∷ rest
+  pub fault : ShelfFault
+  pub calls_are : calls ≡ map call_of front ++ (stores next.0 next.1, Err fault) ∷ []
+  pub why_is : why ≡ halt_of_shelf fault
+
+-- how the stores of the ending go, each in one call
+abbrev pub Stores : List Store → Trace → Result (Unit {0}) Halt → Type 0
+Stores files calls (Ok u) = calls ≡ map call_of files
+Stores files calls (Err why) = StoredSome files calls why
 
 -- and how those of a scene do
-abbrev pub StoresFiles : Scene → FlatShelf → FlatShelf → Result (Unit {0}) Halt → Type 0
-StoresFiles scene before now (Ok u) = StoredAll (stores_of scene) before now
+abbrev pub StoresFiles : Scene → Trace → Result (Unit {0}) Halt → Type 0
+StoresFiles scene calls (Ok u) = calls ≡ map call_of (stores_of scene)
 -- the list of the files that are open wanted memory, or a store was refused
-StoresFiles scene before now (Err why) =
-    ((why ≡ halt.NoMemory) × (now ≡ before) × (open_files_of scene ≢ [])) ⊎ StoredSome (stores_of scene) before now (why ≡ halt.NoMemory)
+StoresFiles scene calls (Err why) =
+    ((why ≡ halt.NoMemory) × (calls ≡ []) × (open_files_of scene ≢ [])) ⊎ StoredSome (stores_of scene) calls why

@@ -23,7 +23,8 @@ IsOver lines source = lines.ended ≡ true → source.tells ≡ true → source.
 -- Whatever comes after a call, there is what came before it, so that the call relates them so.
 pub record Fed (old new : HeldLines) (before now : FlatSource) (P : List ℕ → List ℕ → Type 0) : Type 0 where
   pub over : IsOver old before → IsOver new now
-  pub comes : (after : List ℕ) → IsComing new now after → (coming : List ℕ) × IsComing old before coming × P coming after
+  pub comes : (after : List ℕ) → IsComing new now after
+      → (coming : List ℕ) × IsComing old before coming × P coming after
 
 -- a line feed is held
 abbrev pub IsWhole : List ℕ → Type 0
@@ -81,7 +82,8 @@ failures (Err no.Failed) = 1
 failures r = 0
 
 -- A line was taken, or not, with few reads.
-pub record Takes (old new : HeldLines) (before now : FlatSource) (coming after : List ℕ) (result : Result (List ℕ) NoLine) : Type 0 where
+pub record Takes (old new : HeldLines) (before now : FlatSource) (coming after : List ℕ)
+    (result : Result (List ℕ) NoLine) : Type 0 where
   pub line : TakesLine (old.held ++ coming) (new.held ++ after) result
   pub reads : ReadsFew old.ended new.ended before now coming after (failures result)
 

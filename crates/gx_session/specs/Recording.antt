@@ -32,7 +32,8 @@ pub record IsRecord (start : Configuration) (j : ℕ) (m : Configuration) : Type
   pub log_is : m.log ≡ Some log
   pub none_after : log.after ≡ []
   pub units : units_of log.before + m.left ≡ start.left
-  pub places : (newer : List FlatMachine) (machine : FlatMachine) (before : List FlatMachine) → log.before ≡ newer ++ machine ∷ before → IsPlace start j machine before
+  pub places : (newer : List FlatMachine) (machine : FlatMachine) (before : List FlatMachine)
+      → log.before ≡ newer ++ machine ∷ before → IsPlace start j machine before
   pub ends : (i : ℕ) (c : Configuration) → i ≤ j → run_of start i ≡ Some c → IsEnd c log
 
 -- The record of the end of a run, which comes within so many moves. `left` are the units that were left before an event
@@ -47,5 +48,6 @@ pub record IsLast (start : Configuration) (e : Ending) : Type 0 where
 -- Each machine of the record is that of the run at the beginning of an event, with the units that were used there. So
 -- it is in a run that is recorded from its first event on, at each of its configurations and at its end.
 pub record Records (start : Configuration) : Type 0 where
-  pub at : start.doing ≡ steps → start.log ≡ Some no_events → (j : ℕ) (m : Configuration) → run_of start j ≡ Some m → IsRecord start j m
+  pub at : start.doing ≡ steps → start.log ≡ Some no_events → (j : ℕ) (m : Configuration) → run_of start j ≡ Some m
+      → IsRecord start j m
   pub last : start.doing ≡ steps → start.log ≡ Some no_events → IsLast start (final_of start)

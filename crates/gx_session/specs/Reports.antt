@@ -1,6 +1,10 @@
 -- The line that says how a run ended.
-use Rattle.std.specs.Prelude.{ℕ, ◌+◌, ◌/◌, ◌%◌, ◌^◌, ◌==◌, suc, zero, nat_lt, if◌then◌else◌, List, [], ◌∷◌, ◌++◌, decimal, codes}
-use Rattle.gx_session.specs.Constants.{status_bad_words, status_bad_story, status_fault, status_spent, status_input_ended, status_stuck, status_line_too_long, status_shelf_fault, status_input_fault, status_output_fault, status_no_memory, status_bad_text, status_no_listing}
+use Rattle.std.specs.Prelude.{ℕ, ◌+◌, ◌/◌, ◌%◌, ◌^◌, ◌==◌, suc, zero, nat_lt, if◌then◌else◌, List, [], ◌∷◌, ◌++◌}
+use Rattle.std.specs.Prelude.{decimal, codes}
+use Rattle.gx_session.specs.Constants.{status_bad_words, status_bad_story, status_fault, status_spent}
+use Rattle.gx_session.specs.Constants.{status_input_ended, status_stuck, status_line_too_long, status_shelf_fault}
+use Rattle.gx_session.specs.Constants.{status_input_fault, status_output_fault, status_no_memory, status_bad_text}
+use Rattle.gx_session.specs.Constants.{status_no_listing}
 
 -- a hexadecimal digit in lower case
 abbrev pub hex_digit : ℕ → ℕ
@@ -15,11 +19,13 @@ hex_of (suc n) v = hex_digit (v / 16 ^ n % 16) ∷ hex_of n v
 abbrev pub fault_line : ℕ → ℕ → ℕ → List ℕ
 fault_line fault at steps =
     if fault == 0 then codes "gx_player: the checksum differs" else
-    codes "gx_player: fault " ++ decimal fault ++ codes " at " ++ hex_of 8 at ++ codes " after " ++ decimal steps ++ codes " steps"
+    codes "gx_player: fault " ++ decimal fault ++ codes " at " ++ hex_of 8 at ++ codes " after " ++ decimal steps
+    ++ codes " steps"
 
 -- the line of a text that has no code: its fault and the number of a line
 abbrev pub text_line : ℕ → ℕ → List ℕ
-text_line fault line = codes "gx_player: text not understood (" ++ decimal fault ++ codes " at line " ++ decimal line ++ codes ")"
+text_line fault line =
+    codes "gx_player: text not understood (" ++ decimal fault ++ codes " at line " ++ decimal line ++ codes ")"
 
 -- the line of a story that has no listing: the fault and its address
 abbrev pub listing_line : ℕ → ℕ → List ℕ

@@ -1,19 +1,25 @@
 -- What a run reports and leaves behind, against the definition of a session.
-use Rattle.std.specs.Prelude.{◌≡◌, ◌≢◌, ℕ, suc, ◌+◌, ◌<◌, ◌≤◌, ◌++◌, ◌⊎◌, ◌==◌, if◌then◌else◌, true, false, Option, None, Some, List, length, take}
+use Rattle.std.specs.Prelude.{◌≡◌, ◌≢◌, ℕ, suc, ◌+◌, ◌<◌, ◌≤◌, ◌++◌, ◌⊎◌, ◌==◌, if◌then◌else◌, true, false, Option}
+use Rattle.std.specs.Prelude.{None, Some, List, length, take}
 use Rattle.gx_machine.specs.Machine.{Whole}
 use Rattle.gx_machine.specs.Log.{Log}
+use Rattle.gx_outside.specs.Chains.{Chain}
 use Rattle.gx_outside.specs.Outside.{FlatSource, raised_by, offered_in}
+use Rattle.gx_outside.specs.Shelves.{Request, Answer, Trace, ShelfCall}
 use Rattle.gx_session.specs.declared.ended.Ended.{Ended}
-use Rattle.gx_session.specs.Constants.{status_ended, status_fault, status_shelf_fault, status_input_fault, status_no_memory, piece}
+use Rattle.gx_session.specs.Constants.{status_ended, status_fault, status_shelf_fault, status_input_fault}
+use Rattle.gx_session.specs.Constants.{status_no_memory, piece}
 use Rattle.gx_session.specs.declared.session.EndedOn.{EndedOn}
 use Rattle.gx_session.specs.declared.ends.Stop.TheVariants as stop
-use Rattle.gx_session.specs.Counts.{Counts, IsUntold}
-use Rattle.gx_session.specs.Cuts.{Cut, in_move, in_send, in_question, in_reading, IsCut, IsLineCut, BeginsSave, IsLineStop, AwaitedAt, LongAt, WantedBy, most_sent, sends_at, asked_by_cut, FilesAt}
+use Rattle.gx_session.specs.Counts.{Counts}
+use Rattle.gx_session.specs.Cuts.{Cut, in_move, in_send, in_question, in_reading, IsCut, IsLineCut, BeginsSave}
+use Rattle.gx_session.specs.Cuts.{IsLineStop, AwaitedAt, LongAt, WantedBy, most_sent, sends_at, asked_by_cut}
 use Rattle.gx_session.specs.Devices.{Devices}
 use Rattle.gx_session.specs.Endings.{last_of}
 use Rattle.gx_session.specs.Reading.{IsPartial}
 use Rattle.gx_session.specs.Saving.{IsReadBack, SavesReadBack}
-use Rattle.gx_session.specs.Session.{Configuration, steps, Ending, sends_now, run_of, final_of, effect_at, asked_at, status_of, fault_number, fault_address}
+use Rattle.gx_session.specs.Session.{Configuration, steps, Ending, sends_now, run_of, final_of, effect_at, asked_at}
+use Rattle.gx_session.specs.Session.{status_of, fault_number, fault_address}
 use Rattle.gx_session.specs.Recording.{Records}
 use Rattle.gx_session.specs.Undoing.{LastsUndo}
 use Rattle.rand_core.specs.Stream.{Stream, next_u32}
@@ -39,7 +45,15 @@ report_on whole log ended = record {
 }
 
 abbrev pub report_of : {A : Type 0} → Ended A → Whole → Report
-report_of ended machine = record { status = ended.status; fault = ended.fault; at = ended.at; steps = ended.steps; machine = machine; log = None }
+report_of ended machine =
+    record {
+      status = ended.status;
+      fault = ended.fault;
+      at = ended.at;
+      steps = ended.steps;
+      machine = machine;
+      log = None;
+    }
 
 -- The first list is a front of the second.
 abbrev pub IsFront : List ℕ → List ℕ → Type 0
@@ -53,7 +67,8 @@ AreDrawn words stream = (stream ≡ words) ⊎ (stream ≡ (next_u32 words).1)
 -- the line that was awaited is too long, or the source failed in it. Each read offered a piece and gave something, but
 -- for one that said that nothing is left, and one that failed. Where no line was taken and none was awaited at the end,
 -- the source wasn't asked.
-pub record LeavesInput (first input : List ℕ) (before now : FlatSource) (awaited long : Type 0) (failures : ℕ) : Type 0 where
+pub record LeavesInput (first input : List ℕ) (before now : FlatSource) (awaited long : Type 0)
+    (failures : ℕ) : Type 0 where
   pub ahead : List ℕ
   pub coming : List ℕ
   pub split : input ≡ ahead ++ coming
@@ -72,7 +87,8 @@ IsSaved m = m.doing ≡ steps → sends_now m ≡ false → BeginsSave m (effect
 
 -- So it is of all saves that the run makes.
 abbrev pub SavedAll : Configuration → Type 0
-SavedAll start = (i : ℕ) (m next : Configuration) → run_of start i ≡ Some m → run_of start (suc i) ≡ Some next → IsSaved m
+SavedAll start =
+    (i : ℕ) (m next : Configuration) → run_of start i ≡ Some m → run_of start (suc i) ≡ Some next → IsSaved m
 
 -- So it is of those before the run was cut short.
 abbrev pub SavedBefore : Configuration → ℕ → Type 0
@@ -99,17 +115,18 @@ pub record EndsAt (start : Configuration) (e : Ending) (entry exit : Devices) (r
   pub log_is : r.log ≡ e.configuration.log
   pub text_is : entry.sink.tells ≡ true → exit.sink.taken ≡ entry.sink.taken ++ e.configuration.world.text
   pub sends_are : exit.sink.calls.made ≡ raised_by (last_of e.configuration).sent.calls entry.sink.calls.made
-  pub files_are : exit.shelf.files ≡ (last_of e.configuration).files
-  pub asked_are : exit.shelf.calls.made ≡ raised_by (last_of e.configuration).asked entry.shelf.calls.made
-  pub input_is : LeavesInput start.input e.configuration.input entry.source exit.source (IsLineStop e.stop) (e.stop ≡ stop.LineTooLong) 0
+  pub asked_are : exit.asked ≡ (last_of e.configuration).asked
+  pub input_is : LeavesInput start.input e.configuration.input entry.source exit.source (IsLineStop e.stop)
+      (e.stop ≡ stop.LineTooLong) 0
   pub words_are : AreDrawn e.configuration.words exit.words
   pub saves_are : SavedAll start
 
 -- The run was cut short, with so many units left and this recorded. The text that was sent is a front of what was shown
--- by then: all that was due before, and some of a send that was refused. Where memory was wanted at a send, a question
--- or a store, it was by the last call of that device. Where memory was wanted at a wait for a line, nothing is said of
--- the input: more of it may have been read.
-pub record StopsEarly (start : Configuration) (entry exit : Devices) (status left : ℕ) (machine : Whole) (log : Option Log) : Type 0 where
+-- by then: all that was due before, and some of a send that was refused. Where memory was wanted at a send, it was by the
+-- last call of the sink. Where memory was wanted at a wait for a line, nothing is said of the input: more of it may have
+-- been read.
+pub record StopsEarly (start : Configuration) (entry exit : Devices) (status left : ℕ) (machine : Whole)
+    (log : Option Log) : Type 0 where
   pub cut : Cut
   pub configuration : Configuration
   pub is_cut : IsCut start cut configuration status machine.asking
@@ -123,9 +140,10 @@ pub record StopsEarly (start : Configuration) (entry exit : Devices) (status lef
   pub at_most : sent ≤ most_sent cut configuration
   pub text_is : entry.sink.tells ≡ true → exit.sink.taken ≡ entry.sink.taken ++ take sent configuration.world.text
   pub sends_are : exit.sink.calls.made ≡ raised_by (sends_at cut configuration) entry.sink.calls.made
-  pub files_are : FilesAt cut configuration exit.shelf.files
-  pub asked_are : exit.shelf.calls.made ≡ raised_by (asked_by_cut cut configuration) entry.shelf.calls.made
-  pub input_is : (IsLineCut cut configuration → ⊥) → LeavesInput start.input configuration.input entry.source exit.source (AwaitedAt start cut) (LongAt start cut) (read_failures status)
+  pub asked_are : exit.asked ≡ asked_by_cut cut configuration status
+  pub input_is : (IsLineCut cut configuration → ⊥)
+      → LeavesInput start.input configuration.input entry.source exit.source (AwaitedAt start cut) (LongAt start cut)
+      (read_failures status)
   pub words_are : AreDrawn configuration.words exit.words
   pub saves_are : SavedBy start cut
 
@@ -138,23 +156,31 @@ pub record IsReport (status fault at : ℕ) : Type 0 where
 -- The run is the session from a start. The statuses from `status_shelf_fault` on are those of a run that was cut short.
 pub record IsSession (start : Configuration) (entry exit : Devices) (r : Report) : Type 0 where
   pub ended : r.status < status_shelf_fault → EndsAt start (final_of start) entry exit r
-  pub early : status_shelf_fault ≤ r.status → (left : ℕ) × (r.steps + left ≡ start.left) × StopsEarly start entry exit r.status left r.machine r.log
+  pub early : status_shelf_fault ≤ r.status
+      → (left : ℕ) × (r.steps + left ≡ start.left) × StopsEarly start entry exit r.status left r.machine r.log
 
--- It is that with some input: with what the source has left, where the source tells it.
+-- It is that with some input and some answers of the shelf: with what the source has left, where the source tells it,
+-- and with what the shelf's files answer, where the shelf tells them. The session's calls of the shelf are those that
+-- were made (`asked_are`), so that its answers are those that the shelf gave.
 pub record IsSomeSession (start : Configuration) (entry exit : Devices) (r : Report) : Type 0 where
   pub input : List ℕ
   pub input_is : entry.source.tells ≡ true → input ≡ start.input
-  pub session : IsSession (record start { input = input }) entry exit r
+  pub answers : Trace → Request → Answer
+  pub answers_are : entry.shelf.tells ≡ true → answers ≡ start.answers
+  pub session : IsSession (record start { input = input; answers = answers }) entry exit r
 
--- A RUN, between what the devices hold at entry and at exit. It is the session, unless the story asked a shelf that
--- tells nothing.
+-- A RUN, between what the devices hold at entry and at exit: it is the session. What the shelf holds is what the calls
+-- made of it.
 pub record IsRun (start : Configuration) (entry exit : Devices) (r : Report) : Type 0 where
-  pub session : IsUntold entry.shelf exit.shelf ⊎ IsSomeSession start entry exit r
+  pub session : IsSomeSession start entry exit r
+  pub shelf_calls : Chain ShelfCall entry.shelf exit.asked exit.shelf
   pub counts : Counts entry exit r.status
   pub source_tells : exit.source.tells ≡ entry.source.tells
   pub sink_tells : exit.sink.tells ≡ entry.sink.tells
   pub shelf_tells : exit.shelf.tells ≡ entry.shelf.tells
   pub report : IsReport r.status r.fault r.at
-  pub undo : (input : List ℕ) → LastsUndo (record start { input = input })
-  pub records : (input : List ℕ) → Records (record start { input = input })
+  pub undo : (input : List ℕ) (answers : Trace → Request → Answer)
+      → LastsUndo (record start { input = input; answers = answers })
+  pub records : (input : List ℕ) (answers : Trace → Request → Answer)
+      → Records (record start { input = input; answers = answers })
   pub saves : SavesReadBack start.machine.flat.story

@@ -2,7 +2,8 @@
 --
 -- Both are done by Glk streams, and fail where the I/O system isn't Glk's. A failure is no fault: the story is answered
 -- 1.
-use Rattle.std.specs.Prelude.{◌≡◌, ℕ, ◌≤◌, ◌==◌, ◌&&◌, if◌then◌else◌, Bool, List, Option, Some, None, option_and_then, Result, Ok, Err}
+use Rattle.std.specs.Prelude.{◌≡◌, ℕ, ◌≤◌, ◌==◌, ◌&&◌, if◌then◌else◌, Bool, List, Option, Some, None, option_and_then}
+use Rattle.std.specs.Prelude.{Result, Ok, Err}
 use Rattle.gx_words.specs.declared.faults.Fault.{Fault}
 use Rattle.gx_words.specs.Constants.{ceiling, glk_system}
 use Rattle.gx_words.specs.Results.{◌>>=◌}
@@ -73,4 +74,5 @@ IsReadBack f = save_of ceiling (saved f.story (saved_copy f)) f.story ≡ Ok (sa
 -- 0x04000000, is restored as the same copy.
 pub record SavesReadBack (story : FlatStory) : Type 0 where
   pub round_trip : (copy : Copy) → IsCopyFor story copy → save_of ceiling (saved story copy) story ≡ Ok copy
-  pub old_saves : (old : ℕ) (save : List ℕ) (copy : Copy) → old ≤ ceiling → save_of old save story ≡ Ok copy → save_of ceiling save story ≡ Ok copy
+  pub old_saves : (old : ℕ) (save : List ℕ) (copy : Copy) → old ≤ ceiling → save_of old save story ≡ Ok copy
+      → save_of ceiling save story ≡ Ok copy

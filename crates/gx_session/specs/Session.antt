@@ -5,12 +5,12 @@
 -- what it asks of a device, and the answer that it goes on to. All of them are one event, which takes the units of the
 -- step once it is answered; until then the machine stands as before the step. In between pending text is sent: before a
 -- device is asked for anything, and after an event that leaves `enough` bytes pending.
-use Rattle.std.specs.Prelude.{ℕ, suc, zero, ◌+◌, ◌-◌, ◌*◌, nat_lt, if◌then◌else◌, Bool, false, List, length, Option, Some, None, is_some, option_and_then, Result, Ok, Err}
+use Rattle.std.specs.Prelude.{ℕ, suc, zero, ◌+◌, ◌-◌, ◌*◌, nat_lt, if◌then◌else◌, Bool, false, List, [], ◌∷◌, ◌++◌}
+use Rattle.std.specs.Prelude.{length, Option, Some, None, option_and_then, Result, Ok, Err}
 use Rattle.gx_words.specs.declared.faults.Fault.{Fault}
 use Rattle.gx_words.specs.Faults.{number_of}
-use Rattle.gx_outside.specs.Files.{Files, with_file}
-use Rattle.gx_outside.specs.declared.devices.Load.{Load}
-use Rattle.gx_outside.specs.declared.devices.Load.TheVariants as of_load
+use Rattle.gx_outside.specs.Shelves.{Request, loads, stores, removes, looks, Answer, loaded, stored, was, Trace}
+use Rattle.gx_outside.specs.Shelves.{told_by}
 use Rattle.gx_state.specs.declared.effects.Effect.{Effect}
 use Rattle.gx_state.specs.declared.effects.Effect.TheVariants as effect
 use Rattle.gx_state.specs.declared.effects.Reply.{Reply}
@@ -37,7 +37,8 @@ use Rattle.gx_session.specs.Input.{NextLine, too_long, none, line, next_line}
 use Rattle.gx_session.specs.Sending.{Sent, none_sent, is_due, with_all}
 use Rattle.gx_session.specs.declared.ends.Stop.{Stop}
 use Rattle.gx_session.specs.declared.ends.Stop.TheVariants as stop
-use Rattle.gx_session.specs.Constants.{status_ended, status_fault, status_spent, status_input_ended, status_stuck, status_line_too_long, enough, most_loaded, failed}
+use Rattle.gx_session.specs.Constants.{status_ended, status_fault, status_spent, status_input_ended, status_stuck}
+use Rattle.gx_session.specs.Constants.{status_line_too_long, enough, most_loaded, failed}
 use Rattle.gx_session.specs.declared.running.Waiting.{Waiting}
 use Rattle.rand_core.specs.Stream.{Stream, next_u32}
 
@@ -61,9 +62,10 @@ pub record Configuration : Type 0 where
   pub input : List ℕ
   -- each line that is taken is shown
   pub echo : Bool
-  pub files : Files
-  -- how often the shelf was asked
-  pub asked : ℕ
+  -- what the shelf answers to a request, after these calls
+  pub answers : Trace → Request → Answer
+  -- the calls of the shelf
+  pub asked : Trace
   -- the random words that weren't used
   pub words : Stream
   -- the units of the budget that weren't used
@@ -84,7 +86,14 @@ done m machine left = record m { machine = machine; left = left; log = logged m.
 -- The answer to an asking: the Glk world moves on, the machine takes the reply, the event is recorded, and the next
 -- step comes. A fault of the world stops the run before the step.
 abbrev pub after_reply : Configuration → ℕ → Result (Said × Reply) Fault → Verdict
-after_reply m left (Ok r) = goes (record m { machine = answer_of m.machine r.1; world = after m.world r.0; left = left; log = logged m.log m.machine; doing = steps })
+after_reply m left (Ok r) =
+    goes (record m {
+      machine = answer_of m.machine r.1;
+      world = after m.world r.0;
+      left = left;
+      log = logged m.log m.machine;
+      doing = steps;
+    })
 after_reply m left (Err fault) = stops (stop.Faulted fault) m
 
 -- A Glk call has said something, and then asks a device.
@@ -121,20 +130,31 @@ with_line m chars = if m.echo then after m.world (show_line m.world.scene chars)
 abbrev pub after_line : Configuration → Waiting → NextLine → Verdict
 after_line m w too_long = stops stop.LineTooLong m
 after_line m w none = stops stop.InputEnded m
-after_line m w (line chars rest) = goes (record m { world = with_line m chars; input = rest; doing = goes_on (given.Line chars) w })
+after_line m w (line chars rest) =
+    goes (record m { world = with_line m chars; input = rest; doing = goes_on (given.Line chars) w })
 
--- The shelf has answered, and has these files then.
-abbrev pub shelf_gives : Configuration → Waiting → Files → Given → Verdict
-shelf_gives m w files g = goes (record m { files = files; asked = suc m.asked; doing = goes_on g w })
+-- what a call is given for an answer of the shelf
+abbrev pub given_of : Answer → Given
+given_of (loaded load) = given.Loaded load
+given_of stored = given.Stored
+given_of (was b) = given.Was b
 
--- what is handed out of a file
-abbrev pub load_of : Option (List ℕ) → Load
-load_of None = of_load.Missing
-load_of (Some bytes) = if nat_lt most_loaded (length bytes) then of_load.TooLong else of_load.Found bytes
+-- The shelf is asked this, and the call goes on with what it answers.
+abbrev pub shelf_gives : Configuration → Waiting → Request → Verdict
+shelf_gives m w r =
+    let answer = m.answers m.asked r in
+    goes (record m { asked = m.asked ++ (r, Ok answer) ∷ []; doing = goes_on (given_of answer) w })
 
 -- A restore: the machine goes back to the copy that was read, or takes the answer of one that fails.
 abbrev pub after_restoring : Configuration → ℕ → Result (Said × Option Copy) Fault → Verdict
-after_restoring m left (Ok (said, Some copy)) = goes (record m { machine = restored m.machine copy; world = after m.world said; left = left; log = logged m.log m.machine; doing = steps })
+after_restoring m left (Ok (said, Some copy)) =
+    goes (record m {
+      machine = restored m.machine copy;
+      world = after m.world said;
+      left = left;
+      log = logged m.log m.machine;
+      doing = steps;
+    })
 after_restoring m left (Ok (said, None)) = after_reply m left (Ok (said, replies failed))
 after_restoring m left (Err fault) = stops (stop.Faulted fault) m
 
@@ -142,10 +162,10 @@ after_restoring m left (Err fault) = stops (stop.Faulted fault) m
 abbrev pub after_asking : Configuration → Waiting → Turn → Verdict
 after_asking m w turn.Wait = after_line m w (next_line m.input)
 after_asking m w turn.Prompt = after_line m w (next_line m.input)
-after_asking m w (turn.Load name) = shelf_gives m w m.files (given.Loaded (load_of (m.files name)))
-after_asking m w (turn.Store name bytes) = shelf_gives m w (with_file m.files name (Some bytes)) given.Stored
-after_asking m w (turn.Remove name) = shelf_gives m w (with_file m.files name None) (given.Was (is_some (m.files name)))
-after_asking m w (turn.Has name) = shelf_gives m w m.files (given.Was (is_some (m.files name)))
+after_asking m w (turn.Load name) = shelf_gives m w (loads name most_loaded)
+after_asking m w (turn.Store name bytes) = shelf_gives m w (stores name bytes)
+after_asking m w (turn.Remove name) = shelf_gives m w (removes name)
+after_asking m w (turn.Has name) = shelf_gives m w (looks name)
 after_asking m w t = stops stop.Stuck m
 
 -- The effect of a step: the next configuration; the random word is used up; a character or a call goes to Glk, with the
@@ -154,9 +174,11 @@ abbrev pub after_effect : Configuration → ℕ → FlatMachine → Effect → V
 after_effect m left machine effect.Went = goes (done m machine left)
 after_effect m left machine effect.Drew = goes (record (done m machine left) { words = (next_u32 m.words).1 })
 after_effect m left machine (effect.Put c) = after_reply m left (putting m.world.scene m.machine.flat c)
-after_effect m left machine (effect.Glk selector args room) = after_turn m (record { room = room; left = left }) (glk_call m.world.scene m.machine.flat room selector args.items)
+after_effect m left machine (effect.Glk selector args room) =
+    after_turn m (record { room = room; left = left }) (glk_call m.world.scene m.machine.flat room selector args.items)
 after_effect m left machine (effect.Save stream) = after_reply m left (saving m.world.scene m.machine.flat stream)
-after_effect m left machine (effect.Restore stream) = after_restoring m left (restoring m.world.scene m.machine.flat stream)
+after_effect m left machine (effect.Restore stream) =
+    after_restoring m left (restoring m.world.scene m.machine.flat stream)
 after_effect m left machine effect.Quit = stops stop.Ended (done m machine left)
 after_effect m left machine effect.Spent = stops stop.Spent (record m { machine = machine; left = left })
 
@@ -270,7 +292,7 @@ asked_at stop.Ended m = None
 asked_at stop.Spent m = None
 asked_at s m = asked m
 
--- The first configuration: nothing was taken of what the devices hold.
+-- The first configuration: nothing was taken of what the devices hold, and the shelf answers by its files.
 abbrev pub start_of : FlatMachine → FlatWorld → Devices → Bool → ℕ → Option Log → Configuration
 start_of machine world d echo left log = record {
   machine = machine;
@@ -278,8 +300,8 @@ start_of machine world d echo left log = record {
   sent = none_sent;
   input = d.source.left;
   echo = echo;
-  files = d.shelf.files;
-  asked = 0;
+  answers = told_by d.shelf.files;
+  asked = [];
   words = d.words;
   left = left;
   log = log;

@@ -2,7 +2,8 @@
 --
 -- No field of a configuration holds the history of the run: that its copies are those of the saveundos that are
 -- alive by now is a law over the configurations of the run.
-use Rattle.std.specs.Prelude.{◌≡◌, ℕ, zero, suc, ◌==◌, if◌then◌else◌, List, [], ◌∷◌, take, drop, Option, Some, None, Result, Ok, Err}
+use Rattle.std.specs.Prelude.{◌≡◌, ℕ, zero, suc, ◌==◌, if◌then◌else◌, List, [], ◌∷◌, take, drop, Option, Some, None}
+use Rattle.std.specs.Prelude.{Result, Ok, Err}
 use Rattle.gx_words.specs.declared.faults.Fault.{Fault}
 use Rattle.gx_rows.specs.Numbers as numbers
 use Rattle.gx_rows.specs.declared.instructions.Class.{Class}
@@ -92,4 +93,6 @@ AreTaken start (c ∷ cs) [] = ⊥
 -- exactly there. A discardundo takes exactly that newest copy away. A restore leaves these copies, so that a
 -- restoreundo after it goes back to a saveundo before it.
 unfoldable pub LastsUndo : Configuration → Type 0
-LastsUndo start = start.machine.undo.copies ≡ [] → (j : ℕ) (m : Configuration) → run_of start j ≡ Some m → AreTaken start m.machine.undo.copies (alive start j)
+LastsUndo start =
+    start.machine.undo.copies ≡ [] → (j : ℕ) (m : Configuration) → run_of start j ≡ Some m
+    → AreTaken start m.machine.undo.copies (alive start j)

@@ -1,15 +1,19 @@
 //! A run from its first event to its end.
-ghost use Rattle.std.specs.Prelude.{◌≡◌, ◌≢◌, ◌≤◌, ◌<◌, ◌⊎◌, ℕ, List, None, Ok, Err, IfOk, IfErr};
+ghost use Rattle.std.specs.Prelude.{◌≡◌, ◌≢◌, ◌≤◌, ◌<◌, ◌⊎◌, ◌++◌, ℕ, List, [], None, Ok, Err, IfOk, IfErr};
 ghost use Rattle.std.specs.Option.{option_to_list};
 ghost use Rattle.gx_state.specs.declared.effects.Effect.TheVariants.{Spent};
 ghost use Rattle.gx_machine.specs.Log.{units_left, left_after};
 ghost use Rattle.gx_machine.specs.Step.{asking_of};
+ghost use Rattle.gx_outside.specs.Chains.{IsCalled};
+ghost use Rattle.gx_outside.specs.Shelves.{Trace};
 ghost use Rattle.gx_session.specs.Endings.{file_of};
 ghost use Rattle.gx_session.specs.declared.ends.Stop.{Stop};
 ghost use Rattle.gx_session.specs.Devices.{Devices, devices};
+ghost use Rattle.gx_session.specs.Questions.{AreTold};
 ghost use Rattle.gx_session.specs.Reading.{Fed};
 ghost use Rattle.gx_session.specs.Session.{Configuration};
-ghost use Rattle.gx_session.specs.Playing.{held, asking_in, Going, Follows, Done, EventGives, StopGives, EndingGives, RunGives, IsStop, IsNext, Leads, Keeps, Stores, StoresFiles};
+ghost use Rattle.gx_session.specs.Playing.{held, asking_in, Going, Follows, Done, EventGives, StopGives, EndingGives};
+ghost use Rattle.gx_session.specs.Playing.{RunGives, IsStop, IsNext, Leads, Keeps, Stores, StoresFiles};
 
 use crate::ends::{Halt, Next, Stop};
 use crate::running::{Running, Waiting, draw, faulted, flush};
@@ -34,12 +38,25 @@ fn follow<A: Allocator + Clone, E: Engine<A>, S: Source, K: Sink, F: Shelf>(
     requires asks { (E.whole run.old.engine).asking ≡ asking_of effect }
     requires fewer { left ≤ run.old.left }
     requires room { left ≤ left_after (E.log run.old.engine) (E.whole run.old.engine) }
-    ensures plays { Fed run.old.lines run.new.lines (S.seen input.old) (S.seen input.new) (λ coming after. (start : Configuration) (entry d : Devices)
-        → Follows start entry (held E.whole E.log run.old coming) (record d { source = S.seen input.old; sink = K.seen output.old; shelf = F.seen shelf.old }) left effect
-        → EventGives start entry (held E.whole E.log run.new after) (asking_in E.whole run.new) (record d { source = S.seen input.new; sink = K.seen output.new; shelf = F.seen shelf.new }) result) }
+    ensures plays { IsCalled F.called shelf.old shelf.new
+        (λ asked. Fed run.old.lines run.new.lines (S.seen input.old) (S.seen input.new)
+        (λ coming after. (start : Configuration) (entry d : Devices)
+        → AreTold start.answers d.asked asked
+        → Follows start entry (held E.whole E.log run.old coming)
+        (record d { source = S.seen input.old; sink = K.seen output.old; shelf = F.seen shelf.old }) left effect
+        → EventGives start entry (held E.whole E.log run.new after) (asking_in E.whole run.new)
+        (record d {
+          source = S.seen input.new;
+          sink = K.seen output.new;
+          shelf = F.seen shelf.new;
+          asked = d.asked
+              ++ asked;
+        }) result)) }
     ensures goes { result ≡ Ok Next.Goes → effect ≢ Spent }
     ensures leads { Leads E.whole E.log run.old run.new left result }
-    ensures keeps { (d : Devices) → Keeps (record d { source = S.seen input.old; sink = K.seen output.old; shelf = F.seen shelf.old }) (record d { source = S.seen input.new; sink = K.seen output.new; shelf = F.seen shelf.new }) result }
+    ensures keeps { (d : Devices) → Keeps
+        (record d { source = S.seen input.old; sink = K.seen output.old; shelf = F.seen shelf.old })
+        (record d { source = S.seen input.new; sink = K.seen output.new; shelf = F.seen shelf.new }) result }
 {
     match effect {
         Effect::Went => {
@@ -88,15 +105,22 @@ fn play_step<A: Allocator + Clone, E: Engine<A>, S: Source, K: Sink, F: Shelf, R
 ) -> Result<Next, Halt>
     requires none { (E.whole run.old.engine).asking ≡ None }
     requires room { run.old.left ≤ units_left (E.log run.old.engine) }
-    ensures plays { Fed run.old.lines run.new.lines (S.seen input.old) (S.seen input.new) (λ coming after. (start : Configuration) (entry : Devices)
-        → Going start entry (held E.whole E.log run.old coming) (devices (S.seen input.old) (K.seen output.old) (F.seen shelf.old) (R.stream dice.old))
-        → EventGives start entry (held E.whole E.log run.new after) (asking_in E.whole run.new) (devices (S.seen input.new) (K.seen output.new) (F.seen shelf.new) (R.stream dice.new)) result) }
+    ensures plays { IsCalled F.called shelf.old shelf.new
+        (λ asked. Fed run.old.lines run.new.lines (S.seen input.old) (S.seen input.new)
+        (λ coming after. (start : Configuration) (entry : Devices) (before : Trace)
+        → AreTold start.answers before asked
+        → Going start entry (held E.whole E.log run.old coming)
+        (devices (S.seen input.old) (K.seen output.old) (F.seen shelf.old) (R.stream dice.old) before)
+        → EventGives start entry (held E.whole E.log run.new after) (asking_in E.whole run.new)
+        (devices (S.seen input.new) (K.seen output.new) (F.seen shelf.new) (R.stream dice.new) (before ++ asked))
+        result)) }
     ensures none { result ≡ Ok Next.Goes → (E.whole run.new.engine).asking ≡ None }
     ensures room { result ≡ Ok Next.Goes → run.new.left ≤ units_left (E.log run.new.engine) }
     ensures nearer { result ≡ Ok Next.Goes → run.new.left < run.old.left }
     ensures no_more { run.new.left ≤ run.old.left }
     ensures stop { IfOk result IsNext }
-    ensures keeps { Keeps (devices (S.seen input.old) (K.seen output.old) (F.seen shelf.old) (R.stream dice.old)) (devices (S.seen input.new) (K.seen output.new) (F.seen shelf.new) (R.stream dice.new)) result }
+    ensures keeps { Keeps (devices (S.seen input.old) (K.seen output.old) (F.seen shelf.old) (R.stream dice.old) [])
+        (devices (S.seen input.new) (K.seen output.new) (F.seen shelf.new) (R.stream dice.new) []) result }
 {
     let word = draw(&mut run.word, dice);
     let mut left = 0;
@@ -116,15 +140,22 @@ fn play_event<A: Allocator + Clone, E: Engine<A>, S: Source, K: Sink, F: Shelf, 
 ) -> Result<Next, Halt>
     requires none { (E.whole run.old.engine).asking ≡ None }
     requires room { run.old.left ≤ units_left (E.log run.old.engine) }
-    ensures plays { Fed run.old.lines run.new.lines (S.seen input.old) (S.seen input.new) (λ coming after. (start : Configuration) (entry : Devices)
-        → Going start entry (held E.whole E.log run.old coming) (devices (S.seen input.old) (K.seen output.old) (F.seen shelf.old) (R.stream dice.old))
-        → EventGives start entry (held E.whole E.log run.new after) (asking_in E.whole run.new) (devices (S.seen input.new) (K.seen output.new) (F.seen shelf.new) (R.stream dice.new)) result) }
+    ensures plays { IsCalled F.called shelf.old shelf.new
+        (λ asked. Fed run.old.lines run.new.lines (S.seen input.old) (S.seen input.new)
+        (λ coming after. (start : Configuration) (entry : Devices) (before : Trace)
+        → AreTold start.answers before asked
+        → Going start entry (held E.whole E.log run.old coming)
+        (devices (S.seen input.old) (K.seen output.old) (F.seen shelf.old) (R.stream dice.old) before)
+        → EventGives start entry (held E.whole E.log run.new after) (asking_in E.whole run.new)
+        (devices (S.seen input.new) (K.seen output.new) (F.seen shelf.new) (R.stream dice.new) (before ++ asked))
+        result)) }
     ensures none { result ≡ Ok Next.Goes → (E.whole run.new.engine).asking ≡ None }
     ensures room { result ≡ Ok Next.Goes → run.new.left ≤ units_left (E.log run.new.engine) }
     ensures nearer { result ≡ Ok Next.Goes → run.new.left < run.old.left }
     ensures no_more { run.new.left ≤ run.old.left }
     ensures stop { IfOk result IsNext }
-    ensures keeps { Keeps (devices (S.seen input.old) (K.seen output.old) (F.seen shelf.old) (R.stream dice.old)) (devices (S.seen input.new) (K.seen output.new) (F.seen shelf.new) (R.stream dice.new)) result }
+    ensures keeps { Keeps (devices (S.seen input.old) (K.seen output.old) (F.seen shelf.old) (R.stream dice.old) [])
+        (devices (S.seen input.new) (K.seen output.new) (F.seen shelf.new) (R.stream dice.new) []) result }
 {
     match run.engine.next_put(run.left) {
         Some(c) => {
@@ -146,12 +177,19 @@ fn play_events<A: Allocator + Clone, E: Engine<A>, S: Source, K: Sink, F: Shelf,
 ) -> Result<Stop, Halt>
     requires none { (E.whole run.old.engine).asking ≡ None }
     requires room { run.old.left ≤ units_left (E.log run.old.engine) }
-    ensures plays { Fed run.old.lines run.new.lines (S.seen input.old) (S.seen input.new) (λ coming after. (start : Configuration) (entry : Devices)
-        → Going start entry (held E.whole E.log run.old coming) (devices (S.seen input.old) (K.seen output.old) (F.seen shelf.old) (R.stream dice.old))
-        → StopGives start entry (held E.whole E.log run.new after) (asking_in E.whole run.new) (devices (S.seen input.new) (K.seen output.new) (F.seen shelf.new) (R.stream dice.new)) result) }
+    ensures plays { IsCalled F.called shelf.old shelf.new
+        (λ asked. Fed run.old.lines run.new.lines (S.seen input.old) (S.seen input.new)
+        (λ coming after. (start : Configuration) (entry : Devices) (before : Trace)
+        → AreTold start.answers before asked
+        → Going start entry (held E.whole E.log run.old coming)
+        (devices (S.seen input.old) (K.seen output.old) (F.seen shelf.old) (R.stream dice.old) before)
+        → StopGives start entry (held E.whole E.log run.new after) (asking_in E.whole run.new)
+        (devices (S.seen input.new) (K.seen output.new) (F.seen shelf.new) (R.stream dice.new) (before ++ asked))
+        result)) }
     ensures no_more { run.new.left ≤ run.old.left }
     ensures stop { IfOk result IsStop }
-    ensures keeps { Keeps (devices (S.seen input.old) (K.seen output.old) (F.seen shelf.old) (R.stream dice.old)) (devices (S.seen input.new) (K.seen output.new) (F.seen shelf.new) (R.stream dice.new)) result }
+    ensures keeps { Keeps (devices (S.seen input.old) (K.seen output.old) (F.seen shelf.old) (R.stream dice.old) [])
+        (devices (S.seen input.new) (K.seen output.new) (F.seen shelf.new) (R.stream dice.new) []) result }
 {
     loop {
         match play_event(run, input, output, shelf, dice)? {
@@ -163,9 +201,10 @@ fn play_events<A: Allocator + Clone, E: Engine<A>, S: Source, K: Sink, F: Shelf,
 
 /// Stores a file stream's file, where it has one.
 fn store_file<F: Shelf>(world: &World, id: u32, shelf: &mut F) -> Result<(), Halt>
-    ensures stores { Stores (option_to_list (file_of world.now.scene id)) (F.seen shelf.old) (F.seen shelf.new) result }
-    ensures tells { (F.seen shelf.new).tells ≡ (F.seen shelf.old).tells }
-    ensures keeps { (d : Devices) → Keeps (record d { shelf = F.seen shelf.old }) (record d { shelf = F.seen shelf.new }) result }
+    ensures stores { IsCalled F.called shelf.old shelf.new
+        (λ asked. Stores (option_to_list (file_of world.now.scene id)) asked result) }
+    ensures keeps { (d : Devices) → Keeps (record d { shelf = F.seen shelf.old })
+        (record d { shelf = F.seen shelf.new }) result }
     ensures only { IfErr result (λ halt. (halt ≡ Halt.Shelf) ⊎ (halt ≡ Halt.NoMemory)) }
 {
     match world.file(id) {
@@ -179,8 +218,9 @@ fn store_file<F: Shelf>(world: &World, id: u32, shelf: &mut F) -> Result<(), Hal
 
 /// Stores the file of each file stream that is open for writing, in order of creation.
 fn store_files<F: Shelf>(alloc: Global, world: &World, shelf: &mut F) -> Result<(), Halt>
-    ensures stores { StoresFiles world.now.scene (F.seen shelf.old) (F.seen shelf.new) result }
-    ensures keeps { (d : Devices) → Keeps (record d { shelf = F.seen shelf.old }) (record d { shelf = F.seen shelf.new }) result }
+    ensures stores { IsCalled F.called shelf.old shelf.new (λ asked. StoresFiles world.now.scene asked result) }
+    ensures keeps { (d : Devices) → Keeps (record d { shelf = F.seen shelf.old })
+        (record d { shelf = F.seen shelf.new }) result }
     ensures only { IfErr result (λ halt. (halt ≡ Halt.Shelf) ⊎ (halt ≡ Halt.NoMemory)) }
 {
     let ids = world.open_files(alloc)?;
@@ -197,11 +237,15 @@ fn end<A: Allocator + Clone, E: Engine<A>, K: Sink, F: Shelf>(
     output: &mut K,
     shelf: &mut F,
 ) -> Result<(), Halt>
-    ensures plays { (coming : List ℕ) (start : Configuration) (entry d : Devices) (stop : Stop)
-        → Done start entry (held E.whole E.log run.old coming) (asking_in E.whole run.old) (record d { sink = K.seen output.old; shelf = F.seen shelf.old }) stop
-        → EndingGives start entry (held E.whole E.log run.new coming) (asking_in E.whole run.new) (record d { sink = K.seen output.new; shelf = F.seen shelf.new }) stop result }
+    ensures plays { IsCalled F.called shelf.old shelf.new
+        (λ asked. (coming : List ℕ) (start : Configuration) (entry d : Devices) (stop : Stop)
+        → Done start entry (held E.whole E.log run.old coming) (asking_in E.whole run.old)
+        (record d { sink = K.seen output.old; shelf = F.seen shelf.old }) stop
+        → EndingGives start entry (held E.whole E.log run.new coming) (asking_in E.whole run.new)
+        (record d { sink = K.seen output.new; shelf = F.seen shelf.new; asked = d.asked ++ asked }) stop result) }
     ensures same { run.new ≡ record run.old { world = run.new.world } }
-    ensures keeps { (d : Devices) → Keeps (record d { sink = K.seen output.old; shelf = F.seen shelf.old }) (record d { sink = K.seen output.new; shelf = F.seen shelf.new }) result }
+    ensures keeps { (d : Devices) → Keeps (record d { sink = K.seen output.old; shelf = F.seen shelf.old })
+        (record d { sink = K.seen output.new; shelf = F.seen shelf.new }) result }
 {
     run.world.end_text()?;
     flush(&mut run.world, output, 1)?;
@@ -219,12 +263,19 @@ pub fn play_out<A: Allocator + Clone, E: Engine<A>, S: Source, K: Sink, F: Shelf
 ) -> Result<Stop, Halt>
     requires none { (E.whole run.old.engine).asking ≡ None }
     requires room { run.old.left ≤ units_left (E.log run.old.engine) }
-    ensures plays { Fed run.old.lines run.new.lines (S.seen input.old) (S.seen input.new) (λ coming after. (start : Configuration) (entry : Devices)
-        → Going start entry (held E.whole E.log run.old coming) (devices (S.seen input.old) (K.seen output.old) (F.seen shelf.old) (R.stream dice.old))
-        → RunGives start entry (held E.whole E.log run.new after) (asking_in E.whole run.new) (devices (S.seen input.new) (K.seen output.new) (F.seen shelf.new) (R.stream dice.new)) result) }
+    ensures plays { IsCalled F.called shelf.old shelf.new
+        (λ asked. Fed run.old.lines run.new.lines (S.seen input.old) (S.seen input.new)
+        (λ coming after. (start : Configuration) (entry : Devices) (before : Trace)
+        → AreTold start.answers before asked
+        → Going start entry (held E.whole E.log run.old coming)
+        (devices (S.seen input.old) (K.seen output.old) (F.seen shelf.old) (R.stream dice.old) before)
+        → RunGives start entry (held E.whole E.log run.new after) (asking_in E.whole run.new)
+        (devices (S.seen input.new) (K.seen output.new) (F.seen shelf.new) (R.stream dice.new) (before ++ asked))
+        result)) }
     ensures no_more { run.new.left ≤ run.old.left }
     ensures stop { IfOk result IsStop }
-    ensures keeps { Keeps (devices (S.seen input.old) (K.seen output.old) (F.seen shelf.old) (R.stream dice.old)) (devices (S.seen input.new) (K.seen output.new) (F.seen shelf.new) (R.stream dice.new)) result }
+    ensures keeps { Keeps (devices (S.seen input.old) (K.seen output.old) (F.seen shelf.old) (R.stream dice.old) [])
+        (devices (S.seen input.new) (K.seen output.new) (F.seen shelf.new) (R.stream dice.new) []) result }
 {
     let stop = play_events(run, input, output, shelf, dice)?;
     end(alloc, run, output, shelf)?;

@@ -3,7 +3,8 @@
 //! The source is read only where no whole line is held, and no more once it has ended. So at most
 //! PIECE - 1 bytes are held beyond the lines that were taken. What was taken is let go before more is
 //! read: fewer than LONGEST + PIECE bytes are kept.
-ghost use Rattle.std.specs.Prelude.{◌≡◌, ◌+◌, ◌≤◌, ◌<◌, ◌++◌, ℕ, List, [], length, take, drop, Err, IfOk, IfErr, false, slice_index};
+ghost use Rattle.std.specs.Prelude.{◌≡◌, ◌+◌, ◌≤◌, ◌<◌, ◌++◌, ℕ, List, [], length, take, drop, Err, IfOk, IfErr, false};
+ghost use Rattle.std.specs.Prelude.{slice_index};
 ghost use Rattle.std.specs.List.{position_or_len};
 ghost use Rattle.gx_outside.specs.Outside.{HasCause, offered_by};
 ghost use Rattle.gx_session.specs.Constants.{longest, piece as one_piece};
@@ -163,7 +164,8 @@ impl Lines {
 impl Lines {
     /// Takes the next line of the source: its characters.
     pub fn next<S: Source>(&mut self, source: &mut S) -> Result<Numbers, NoLine>
-        ensures takes { Fed self.old self.new (S.seen source.old) (S.seen source.new) (λ coming after. Takes self.old self.new (S.seen source.old) (S.seen source.new) coming after result) }
+        ensures takes { Fed self.old self.new (S.seen source.old) (S.seen source.new)
+            (λ coming after. Takes self.old self.new (S.seen source.old) (S.seen source.new) coming after result) }
         ensures few { length self.old.held < one_piece → HoldsFew self.new.held result }
         ensures unread { IsWhole self.old.held → S.seen source.new ≡ S.seen source.old }
         ensures count { Blames (S.seen source.old).calls (S.seen source.new).calls (result ≡ Err NoLine.Failed) }
@@ -189,7 +191,8 @@ impl Lines {
     /// Takes the line that ends at a line feed.
     fn take(&mut self, end: usize) -> Result<Numbers, NoLine>
         requires { end < length self.old.held }
-        ensures ok { IfOk result (λ chars. (chars ≡ chars_of (take end self.old.held)) × (self.new ≡ record self.old { held = drop (end + 1) self.old.held })) }
+        ensures ok { IfOk result (λ chars. (chars ≡ chars_of (take end self.old.held))
+            × (self.new ≡ record self.old { held = drop (end + 1) self.old.held })) }
         ensures err { IfErr result (λ none. (none ≡ NoLine.NoMemory) × (self.new ≡ self.old)) }
     {
         let chars = read_chars(self.alloc, &self.held()[..end])?;
@@ -200,8 +203,10 @@ impl Lines {
     /// Takes all that is held, the last line.
     fn take_rest(&mut self) -> Result<Numbers, NoLine>
         ensures none { length self.old.held ≡ 0 → (result ≡ Err NoLine.Ended) × (self.new ≡ self.old) }
-        ensures ok { IfOk result (λ chars. (chars ≡ chars_of self.old.held) × (self.new ≡ record self.old { held = [] })) }
-        ensures err { 0 < length self.old.held → IfErr result (λ none. (none ≡ NoLine.NoMemory) × (self.new ≡ self.old)) }
+        ensures ok { IfOk result (λ chars. (chars ≡ chars_of self.old.held)
+            × (self.new ≡ record self.old { held = [] })) }
+        ensures err { 0 < length self.old.held
+            → IfErr result (λ none. (none ≡ NoLine.NoMemory) × (self.new ≡ self.old)) }
     {
         if self.held().is_empty() {
             return Err(NoLine::Ended);

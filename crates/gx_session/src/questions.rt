@@ -1,8 +1,9 @@
 //! What the shelf is asked for the turn of a Glk call.
-ghost use Rattle.std.specs.Prelude.{◌≡◌, true, IfOk};
+ghost use Rattle.std.specs.Prelude.{◌≡◌, IfOk};
+ghost use Rattle.gx_outside.specs.Chains.{IsCalled};
 ghost use Rattle.gx_outside.specs.Outside.{HasCause, shelf_failed, shelf_wanted};
 ghost use Rattle.glk_replies.specs.Turns.{IsGivenFor};
-ghost use Rattle.gx_session.specs.Questions.{turn_of, Answers};
+ghost use Rattle.gx_session.specs.Questions.{turn_of, AsksOnce};
 
 use crate::running::MOST_LOADED;
 use glk_dispatch::Given;
@@ -24,11 +25,11 @@ pub enum Question {
 
 impl Question {
     /// Asks the shelf, once.
-    #[tactic(auto, using(crate::proofs::Asked::answers))]
     pub fn ask<F: Shelf>(&self, shelf: &mut F) -> Result<Given, ShelfFault>
-        ensures answers { (F.seen shelf.old).tells ≡ true → Answers self.now (F.seen shelf.old).files (F.seen shelf.new).files result }
+        ensures asks { IsCalled F.called shelf.old shelf.new (λ asked. AsksOnce self.now asked result) }
         ensures given { IfOk result (IsGivenFor (turn_of self.now)) }
-        ensures cause { HasCause (F.seen shelf.old).calls (F.seen shelf.new).calls (shelf_failed result) (shelf_wanted result) }
+        ensures cause { HasCause (F.seen shelf.old).calls (F.seen shelf.new).calls (shelf_failed result)
+            (shelf_wanted result) }
         ensures tells { (F.seen shelf.new).tells ≡ (F.seen shelf.old).tells }
     {
         match self {

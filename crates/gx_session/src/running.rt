@@ -11,7 +11,8 @@ ghost use Rattle.gx_session.specs.Counts.{Blames};
 ghost use Rattle.gx_session.specs.Cuts.{ReplyWants};
 ghost use Rattle.gx_session.specs.Devices.{Devices};
 ghost use Rattle.gx_session.specs.Session.{Configuration, steps};
-ghost use Rattle.gx_session.specs.Playing.{held, asking_in, WordIs, Standing, Replies, EventGives, IsNext, Flushes, TakesReply, FaultGives, Leads, Keeps};
+ghost use Rattle.gx_session.specs.Playing.{held, asking_in, WordIs, Standing, Replies, EventGives, IsNext, Flushes};
+ghost use Rattle.gx_session.specs.Playing.{TakesReply, FaultGives, Leads, Keeps};
 ghost use Rattle.rand_core.specs.Stream.{Stream};
 
 use crate::ends::{Halt, Next, Stop};
@@ -121,10 +122,12 @@ fn send_due<A: Allocator + Clone, E: Engine<A>, K: Sink>(
     requires { (E.whole run.old.engine).asking ≡ None }
     ensures plays { (coming : List ℕ) (start : Configuration) (entry d : Devices)
         → Standing start entry (held E.whole E.log run.old coming) (record d { sink = K.seen output.old }) steps
-        → EventGives start entry (held E.whole E.log run.new coming) (asking_in E.whole run.new) (record d { sink = K.seen output.new }) result }
+        → EventGives start entry (held E.whole E.log run.new coming) (asking_in E.whole run.new)
+        (record d { sink = K.seen output.new }) result }
     ensures same { run.new ≡ record run.old { world = run.new.world } }
     ensures goes { IfOk result (λ next. next ≡ Next.Goes) }
-    ensures keeps { (d : Devices) → Keeps (record d { sink = K.seen output.old }) (record d { sink = K.seen output.new }) result }
+    ensures keeps { (d : Devices) → Keeps (record d { sink = K.seen output.old })
+        (record d { sink = K.seen output.new }) result }
 {
     flush(&mut run.world, output, ENOUGH)?;
     Ok(Next::Goes)
@@ -141,10 +144,13 @@ pub fn answer<A: Allocator + Clone, E: Engine<A>, K: Sink>(
     requires fewer { left ≤ run.old.left }
     requires room { left ≤ left_after (E.log run.old.engine) (E.whole run.old.engine) }
     ensures plays { (coming : List ℕ) (start : Configuration) (entry d : Devices)
-        → Replies start entry (held E.whole E.log run.old coming) (asking_in E.whole run.old) (record d { sink = K.seen output.old }) left reply.now
-        → EventGives start entry (held E.whole E.log run.new coming) (asking_in E.whole run.new) (record d { sink = K.seen output.new }) result }
+        → Replies start entry (held E.whole E.log run.old coming) (asking_in E.whole run.old)
+        (record d { sink = K.seen output.old }) left reply.now
+        → EventGives start entry (held E.whole E.log run.new coming) (asking_in E.whole run.new)
+        (record d { sink = K.seen output.new }) result }
     ensures leads { Leads E.whole E.log run.old run.new left result }
-    ensures keeps { (d : Devices) → Keeps (record d { sink = K.seen output.old }) (record d { sink = K.seen output.new }) result }
+    ensures keeps { (d : Devices) → Keeps (record d { sink = K.seen output.old })
+        (record d { sink = K.seen output.new }) result }
     ensures lines { run.new.lines ≡ run.old.lines }
 {
     give(run, reply, left)?;
@@ -174,10 +180,13 @@ pub fn answer_put<A: Allocator + Clone, E: Engine<A>, K: Sink>(
     requires fewer { left ≤ run.old.left }
     requires room { left ≤ left_after (E.log run.old.engine) (E.whole run.old.engine) }
     ensures plays { (coming : List ℕ) (start : Configuration) (entry d : Devices)
-        → Replies start entry (held E.whole E.log run.old coming) (asking_in E.whole run.old) (record d { sink = K.seen output.old }) left (replies 0)
-        → EventGives start entry (held E.whole E.log run.new coming) (asking_in E.whole run.new) (record d { sink = K.seen output.new }) result }
+        → Replies start entry (held E.whole E.log run.old coming) (asking_in E.whole run.old)
+        (record d { sink = K.seen output.old }) left (replies 0)
+        → EventGives start entry (held E.whole E.log run.new coming) (asking_in E.whole run.new)
+        (record d { sink = K.seen output.new }) result }
     ensures leads { Leads E.whole E.log run.old run.new left result }
-    ensures keeps { (d : Devices) → Keeps (record d { sink = K.seen output.old }) (record d { sink = K.seen output.new }) result }
+    ensures keeps { (d : Devices) → Keeps (record d { sink = K.seen output.old })
+        (record d { sink = K.seen output.new }) result }
     ensures lines { run.new.lines ≡ run.old.lines }
 {
     give_put(run, left);

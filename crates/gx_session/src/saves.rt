@@ -14,7 +14,8 @@ ghost use Rattle.glk_world.specs.World.{on_world};
 ghost use Rattle.glk_replies.specs.Parts.{replies};
 ghost use Rattle.gx_session.specs.Constants.{failed as failed_value};
 ghost use Rattle.gx_session.specs.Devices.{Devices};
-ghost use Rattle.gx_session.specs.Playing.{held, asking_in, Follows, GoesBack, Becomes, MaySave, Refuses, EventGives, Leads, Keeps};
+ghost use Rattle.gx_session.specs.Playing.{held, asking_in, Follows, GoesBack, Becomes, MaySave, Refuses, EventGives};
+ghost use Rattle.gx_session.specs.Playing.{Leads, Keeps};
 ghost use Rattle.gx_session.specs.Saving.{may_take, is_begun, is_read, saving, restoring, IsReadBack, SavesReadBack};
 ghost use Rattle.gx_session.specs.Session.{Configuration};
 
@@ -61,9 +62,11 @@ fn save<A: Allocator + Clone, E: Engine<A>>(
     stream: u32,
 ) -> Result<Reply, Fault>
     requires { (E.whole engine.now).asking ≡ Some asking.Save }
-    ensures value { MaySave (IsTrue (is_begun world.old.scene (E.whole engine.now).machine.flat stream)) result world.old world.new (on_world world.old (saving world.old.scene (E.whole engine.now).machine.flat stream)) }
+    ensures value { MaySave (IsTrue (is_begun world.old.scene (E.whole engine.now).machine.flat stream)) result
+        world.old world.new (on_world world.old (saving world.old.scene (E.whole engine.now).machine.flat stream)) }
     ensures fits { IfOk result (IsReply (E.whole engine.now).machine.flat 0) }
-    ensures read_back { IfOk result (λ _. IsTrue (is_begun world.old.scene (E.whole engine.now).machine.flat stream) → IsReadBack (E.whole engine.now).machine.flat) }
+    ensures read_back { IfOk result (λ _. IsTrue (is_begun world.old.scene (E.whole engine.now).machine.flat stream)
+        → IsReadBack (E.whole engine.now).machine.flat) }
 {
     if !is_begun(world, engine.state(), stream) {
         return Ok(failed(world));
@@ -88,10 +91,13 @@ pub fn ask_save<A: Allocator + Clone, E: Engine<A>, K: Sink>(
     requires fewer { left ≤ run.old.left }
     requires room { left ≤ left_after (E.log run.old.engine) (E.whole run.old.engine) }
     ensures plays { (coming : List ℕ) (start : Configuration) (entry d : Devices)
-        → Follows start entry (held E.whole E.log run.old coming) (record d { sink = K.seen output.old }) left (effect.Save stream)
-        → EventGives start entry (held E.whole E.log run.new coming) (asking_in E.whole run.new) (record d { sink = K.seen output.new }) result }
+        → Follows start entry (held E.whole E.log run.old coming) (record d { sink = K.seen output.old }) left
+        (effect.Save stream)
+        → EventGives start entry (held E.whole E.log run.new coming) (asking_in E.whole run.new)
+        (record d { sink = K.seen output.new }) result }
     ensures leads { Leads E.whole E.log run.old run.new left result }
-    ensures keeps { (d : Devices) → Keeps (record d { sink = K.seen output.old }) (record d { sink = K.seen output.new }) result }
+    ensures keeps { (d : Devices) → Keeps (record d { sink = K.seen output.old })
+        (record d { sink = K.seen output.new }) result }
     ensures lines { run.new.lines ≡ run.old.lines }
 {
     match save(&mut run.world, &run.engine, stream) {
@@ -116,7 +122,9 @@ fn read<A: Allocator + Clone, E: Engine<A>>(
     engine: &E,
     stream: u32,
 ) -> Result<Option<FlatCopy>, Fault>
-    ensures value { MayLose (IsTrue (is_read world.old.scene (E.whole engine.now).machine.flat stream)) (λ copy. copy) result world.old world.new (on_world world.old (restoring world.old.scene (E.whole engine.now).machine.flat stream)) }
+    ensures value { MayLose (IsTrue (is_read world.old.scene (E.whole engine.now).machine.flat stream))
+        (λ copy. copy) result world.old world.new
+        (on_world world.old (restoring world.old.scene (E.whole engine.now).machine.flat stream)) }
     ensures fits { IfOk result (λ read. IfSome read (IsCopyFor (E.whole engine.now).machine.flat.story)) }
 {
     if engine.state().iosys().0 != GLK_SYSTEM {
@@ -139,7 +147,8 @@ fn go_back<A: Allocator + Clone, E: Engine<A>>(
 ) -> Result<(), Halt>
     requires asks { (E.whole run.old.engine).asking ≡ Some asking.Restore }
     requires fits { IsCopyFor (E.whole run.old.engine).machine.flat.story copy.now }
-    ensures gives { Becomes E.whole E.log run.old run.new (restored (E.whole run.old.engine).machine copy.now) left result }
+    ensures gives { Becomes E.whole E.log run.old run.new
+        (restored (E.whole run.old.engine).machine copy.now) left result }
     ensures memory { IfErr result (λ halt. halt ≡ Halt.NoMemory) }
 {
     run.engine.restore_copy(copy)?;
@@ -159,10 +168,13 @@ fn resume<A: Allocator + Clone, E: Engine<A>, K: Sink>(
     requires fewer { left ≤ run.old.left }
     requires room { left ≤ left_after (E.log run.old.engine) (E.whole run.old.engine) }
     ensures plays { (coming : List ℕ) (start : Configuration) (entry d : Devices)
-        → GoesBack start entry (held E.whole E.log run.old coming) (asking_in E.whole run.old) (record d { sink = K.seen output.old }) left copy.now
-        → EventGives start entry (held E.whole E.log run.new coming) (asking_in E.whole run.new) (record d { sink = K.seen output.new }) result }
+        → GoesBack start entry (held E.whole E.log run.old coming) (asking_in E.whole run.old)
+        (record d { sink = K.seen output.old }) left copy.now
+        → EventGives start entry (held E.whole E.log run.new coming) (asking_in E.whole run.new)
+        (record d { sink = K.seen output.new }) result }
     ensures leads { Leads E.whole E.log run.old run.new left result }
-    ensures keeps { (d : Devices) → Keeps (record d { sink = K.seen output.old }) (record d { sink = K.seen output.new }) result }
+    ensures keeps { (d : Devices) → Keeps (record d { sink = K.seen output.old })
+        (record d { sink = K.seen output.new }) result }
     ensures lines { run.new.lines ≡ run.old.lines }
 {
     go_back(run, copy, left)?;
@@ -181,10 +193,13 @@ pub fn ask_restore<A: Allocator + Clone, E: Engine<A>, K: Sink>(
     requires fewer { left ≤ run.old.left }
     requires room { left ≤ left_after (E.log run.old.engine) (E.whole run.old.engine) }
     ensures plays { (coming : List ℕ) (start : Configuration) (entry d : Devices)
-        → Follows start entry (held E.whole E.log run.old coming) (record d { sink = K.seen output.old }) left (effect.Restore stream)
-        → EventGives start entry (held E.whole E.log run.new coming) (asking_in E.whole run.new) (record d { sink = K.seen output.new }) result }
+        → Follows start entry (held E.whole E.log run.old coming) (record d { sink = K.seen output.old }) left
+        (effect.Restore stream)
+        → EventGives start entry (held E.whole E.log run.new coming) (asking_in E.whole run.new)
+        (record d { sink = K.seen output.new }) result }
     ensures leads { Leads E.whole E.log run.old run.new left result }
-    ensures keeps { (d : Devices) → Keeps (record d { sink = K.seen output.old }) (record d { sink = K.seen output.new }) result }
+    ensures keeps { (d : Devices) → Keeps (record d { sink = K.seen output.old })
+        (record d { sink = K.seen output.new }) result }
     ensures lines { run.new.lines ≡ run.old.lines }
 {
     match read(&mut run.world, &run.engine, stream) {

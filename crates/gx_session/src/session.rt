@@ -1,6 +1,7 @@
 //! A run of a session from its start.
 ghost use Rattle.std.specs.Prelude.{◌≡◌, ◌≤◌, [], None, IsSomeAnd};
 ghost use Rattle.gx_machine.specs.Log.{units_left};
+ghost use Rattle.gx_outside.specs.Chains.{IsCalled};
 ghost use Rattle.gx_session.specs.Devices.{devices};
 ghost use Rattle.gx_session.specs.Session.{start_of, fault_address};
 ghost use Rattle.gx_session.specs.Runs.{IsRun, report_on, report_of};
@@ -68,9 +69,10 @@ pub fn run_on<A: Allocator + Clone, E: Engine<A>, S: Source, K: Sink, F: Shelf, 
     requires asks_nothing { (E.whole engine).asking ≡ None }
     requires room { steps ≤ units_left (E.log engine) }
     requires no_text { world.text ≡ [] }
-    ensures { let entry = devices (S.seen input.old) (K.seen output.old) (F.seen shelf.old) (R.stream dice.old) in
-        let exit = devices (S.seen input.new) (K.seen output.new) (F.seen shelf.new) (R.stream dice.new) in
-        IsRun (start_of (E.whole engine).machine world entry echo steps (E.log engine)) entry exit (report_on E.whole E.log result) }
+    ensures { IsCalled F.called shelf.old shelf.new (λ asked.
+        let entry = devices (S.seen input.old) (K.seen output.old) (F.seen shelf.old) (R.stream dice.old) [] in
+        let exit = devices (S.seen input.new) (K.seen output.new) (F.seen shelf.new) (R.stream dice.new) asked in
+        IsRun (start_of (E.whole engine).machine world entry echo steps (E.log engine)) entry exit (report_on E.whole E.log result)) }
 {
     saves_read_back(&engine);
     let mut run = Running {
@@ -123,9 +125,10 @@ pub fn run<A: Allocator + Clone, S: Source, K: Sink, F: Shelf, R: Rng>(
 ) -> Ended<A>
     requires asks_nothing { machine.asking ≡ None }
     requires no_text { world.text ≡ [] }
-    ensures { let entry = devices (S.seen input.old) (K.seen output.old) (F.seen shelf.old) (R.stream dice.old) in
-        let exit = devices (S.seen input.new) (K.seen output.new) (F.seen shelf.new) (R.stream dice.new) in
-        IsSomeAnd result.machine (λ end. IsRun (start_of machine.machine world entry echo steps None) entry exit (report_of result end)) }
+    ensures { IsCalled F.called shelf.old shelf.new (λ asked.
+        let entry = devices (S.seen input.old) (K.seen output.old) (F.seen shelf.old) (R.stream dice.old) [] in
+        let exit = devices (S.seen input.new) (K.seen output.new) (F.seen shelf.new) (R.stream dice.new) asked in
+        IsSomeAnd result.machine (λ end. IsRun (start_of machine.machine world entry echo steps None) entry exit (report_of result end))) }
 {
     let ended = run_on(
         alloc, machine, world, echo, steps, input, output, shelf, dice,

@@ -1,5 +1,6 @@
 //! The Glk calls of a machine: their turns, and what these ask of the shelf and of the input.
-ghost use Rattle.std.specs.Prelude.{◌≡◌, ◌≤◌, ℕ, List, Some, IfErr, OnOk, OnErr, if◌then◌else◌};
+ghost use Rattle.std.specs.Prelude.{◌≡◌, ◌≤◌, ◌++◌, ℕ, List, Some, IfErr, OnOk, OnErr, if◌then◌else◌};
+ghost use Rattle.gx_outside.specs.Chains.{IsCalled};
 ghost use Rattle.gx_state.specs.declared.effects.Effect.TheVariants.{Put, Glk};
 ghost use Rattle.gx_machine.specs.declared.askings.Asking.TheVariants as asking;
 ghost use Rattle.gx_machine.specs.Log.{left_after};
@@ -13,10 +14,11 @@ ghost use Rattle.glk_replies.specs.Turns.{IsTurnFor, IsAnswered, IsGivenFor};
 ghost use Rattle.glk_dispatch.specs.Turns.{Awaits};
 ghost use Rattle.gx_session.specs.Cuts.{IsWait};
 ghost use Rattle.gx_session.specs.Devices.{Devices};
-ghost use Rattle.gx_session.specs.Questions.{turn_of};
+ghost use Rattle.gx_session.specs.Questions.{turn_of, AreTold};
 ghost use Rattle.gx_session.specs.Reading.{Fed};
 ghost use Rattle.gx_session.specs.Session.{Configuration, asks, goes_on};
-ghost use Rattle.gx_session.specs.Playing.{held, asking_in, Follows, Waits, Turns, GoesOn, TakesInput, EventGives, Leads, Keeps, without_line};
+ghost use Rattle.gx_session.specs.Playing.{held, asking_in, Follows, Waits, Turns, GoesOn, TakesInput, EventGives};
+ghost use Rattle.gx_session.specs.Playing.{Leads, Keeps, without_line};
 
 use crate::ends::{Halt, Next, Stop};
 use crate::lines::NoLine;
@@ -42,9 +44,11 @@ pub fn ask_put<A: Allocator + Clone, E: Engine<A>, K: Sink>(
     requires room { left ≤ left_after (E.log run.old.engine) (E.whole run.old.engine) }
     ensures plays { (coming : List ℕ) (start : Configuration) (entry d : Devices)
         → Follows start entry (held E.whole E.log run.old coming) (record d { sink = K.seen output.old }) left (Put c)
-        → EventGives start entry (held E.whole E.log run.new coming) (asking_in E.whole run.new) (record d { sink = K.seen output.new }) result }
+        → EventGives start entry (held E.whole E.log run.new coming) (asking_in E.whole run.new)
+        (record d { sink = K.seen output.new }) result }
     ensures leads { Leads E.whole E.log run.old run.new left result }
-    ensures keeps { (d : Devices) → Keeps (record d { sink = K.seen output.old }) (record d { sink = K.seen output.new }) result }
+    ensures keeps { (d : Devices) → Keeps (record d { sink = K.seen output.old })
+        (record d { sink = K.seen output.new }) result }
     ensures lines { run.new.lines ≡ run.old.lines }
 {
     match glk_dispatch::put_text(&mut run.world, c) {
@@ -67,9 +71,11 @@ fn ask_any_put<A: Allocator + Clone, E: Engine<A>, K: Sink>(
     requires room { left ≤ left_after (E.log run.old.engine) (E.whole run.old.engine) }
     ensures plays { (coming : List ℕ) (start : Configuration) (entry d : Devices)
         → Follows start entry (held E.whole E.log run.old coming) (record d { sink = K.seen output.old }) left (Put c)
-        → EventGives start entry (held E.whole E.log run.new coming) (asking_in E.whole run.new) (record d { sink = K.seen output.new }) result }
+        → EventGives start entry (held E.whole E.log run.new coming) (asking_in E.whole run.new)
+        (record d { sink = K.seen output.new }) result }
     ensures leads { Leads E.whole E.log run.old run.new left result }
-    ensures keeps { (d : Devices) → Keeps (record d { sink = K.seen output.old }) (record d { sink = K.seen output.new }) result }
+    ensures keeps { (d : Devices) → Keeps (record d { sink = K.seen output.old })
+        (record d { sink = K.seen output.new }) result }
     ensures lines { run.new.lines ≡ run.old.lines }
 {
     match glk_dispatch::put(&mut run.world, run.engine.state(), c) {
@@ -91,10 +97,13 @@ fn take_answer<A: Allocator + Clone, E: Engine<A>, K: Sink>(
     requires fewer { wait.left ≤ run.old.left }
     requires room { wait.left ≤ left_after (E.log run.old.engine) (E.whole run.old.engine) }
     ensures plays { (coming : List ℕ) (start : Configuration) (entry d : Devices)
-        → GoesOn start entry (held E.whole E.log run.old coming) (asking_in E.whole run.old) (record d { sink = K.seen output.old }) wait turn
-        → EventGives start entry (held E.whole E.log run.new coming) (asking_in E.whole run.new) (record d { sink = K.seen output.new }) result }
+        → GoesOn start entry (held E.whole E.log run.old coming) (asking_in E.whole run.old)
+        (record d { sink = K.seen output.old }) wait turn
+        → EventGives start entry (held E.whole E.log run.new coming) (asking_in E.whole run.new)
+        (record d { sink = K.seen output.new }) result }
     ensures leads { Leads E.whole E.log run.old run.new wait.left result }
-    ensures keeps { (d : Devices) → Keeps (record d { sink = K.seen output.old }) (record d { sink = K.seen output.new }) result }
+    ensures keeps { (d : Devices) → Keeps (record d { sink = K.seen output.old })
+        (record d { sink = K.seen output.new }) result }
     ensures lines { run.new.lines ≡ run.old.lines }
 {
     match turn {
@@ -115,10 +124,13 @@ fn go_on<A: Allocator + Clone, E: Engine<A>, K: Sink>(
     requires fewer { wait.left ≤ run.old.left }
     requires room { wait.left ≤ left_after (E.log run.old.engine) (E.whole run.old.engine) }
     ensures plays { (coming : List ℕ) (start : Configuration) (entry d : Devices)
-        → Waits start entry (held E.whole E.log run.old coming) (asking_in E.whole run.old) (record d { sink = K.seen output.old }) (goes_on given wait)
-        → EventGives start entry (held E.whole E.log run.new coming) (asking_in E.whole run.new) (record d { sink = K.seen output.new }) result }
+        → Waits start entry (held E.whole E.log run.old coming) (asking_in E.whole run.old)
+        (record d { sink = K.seen output.old }) (goes_on given wait)
+        → EventGives start entry (held E.whole E.log run.new coming) (asking_in E.whole run.new)
+        (record d { sink = K.seen output.new }) result }
     ensures leads { Leads E.whole E.log run.old run.new wait.left result }
-    ensures keeps { (d : Devices) → Keeps (record d { sink = K.seen output.old }) (record d { sink = K.seen output.new }) result }
+    ensures keeps { (d : Devices) → Keeps (record d { sink = K.seen output.old })
+        (record d { sink = K.seen output.new }) result }
     ensures lines { run.new.lines ≡ run.old.lines }
 {
     match glk_dispatch::go_on(&mut run.world, run.engine.state(), wait.room, given) {
@@ -139,11 +151,16 @@ fn consult<A: Allocator + Clone, E: Engine<A>, K: Sink, F: Shelf>(
     requires awaits { (given : Given) → IsGivenFor (turn_of question) given → Awaits run.old.world.scene given }
     requires fewer { wait.left ≤ run.old.left }
     requires room { wait.left ≤ left_after (E.log run.old.engine) (E.whole run.old.engine) }
-    ensures plays { (coming : List ℕ) (start : Configuration) (entry d : Devices)
-        → Waits start entry (held E.whole E.log run.old coming) (asking_in E.whole run.old) (record d { sink = K.seen output.old; shelf = F.seen shelf.old }) (asks (turn_of question) wait)
-        → EventGives start entry (held E.whole E.log run.new coming) (asking_in E.whole run.new) (record d { sink = K.seen output.new; shelf = F.seen shelf.new }) result }
+    ensures plays { IsCalled F.called shelf.old shelf.new
+        (λ asked. (coming : List ℕ) (start : Configuration) (entry d : Devices)
+        → AreTold start.answers d.asked asked
+        → Waits start entry (held E.whole E.log run.old coming) (asking_in E.whole run.old)
+        (record d { sink = K.seen output.old; shelf = F.seen shelf.old }) (asks (turn_of question) wait)
+        → EventGives start entry (held E.whole E.log run.new coming) (asking_in E.whole run.new)
+        (record d { sink = K.seen output.new; shelf = F.seen shelf.new; asked = d.asked ++ asked }) result) }
     ensures leads { Leads E.whole E.log run.old run.new wait.left result }
-    ensures keeps { (d : Devices) → Keeps (record d { sink = K.seen output.old; shelf = F.seen shelf.old }) (record d { sink = K.seen output.new; shelf = F.seen shelf.new }) result }
+    ensures keeps { (d : Devices) → Keeps (record d { sink = K.seen output.old; shelf = F.seen shelf.old })
+        (record d { sink = K.seen output.new; shelf = F.seen shelf.new }) result }
     ensures lines { run.new.lines ≡ run.old.lines }
 {
     flush(&mut run.world, output, 1)?;
@@ -153,7 +170,11 @@ fn consult<A: Allocator + Clone, E: Engine<A>, K: Sink, F: Shelf>(
 
 /// Shows a line where lines are shown.
 fn show_line<E>(run: &mut Running<E>, line: &Numbers) -> Result<(), Halt>
-    ensures shown { OnOk result (run.new ≡ record run.old { world = if run.old.echo then after run.old.world (show_line run.old.world.scene line.now) else run.old.world }) }
+    ensures shown { OnOk result (run.new
+        ≡ record run.old {
+          world = if run.old.echo
+              then after run.old.world (show_line run.old.world.scene line.now) else run.old.world;
+        }) }
     ensures err { OnErr result (run.new ≡ record run.old { world = run.new.world }) }
     ensures memory { IfErr result (λ halt. halt ≡ Halt.NoMemory) }
 {
@@ -175,10 +196,13 @@ fn take_line<A: Allocator + Clone, E: Engine<A>, K: Sink>(
     requires fewer { wait.left ≤ run.old.left }
     requires room { wait.left ≤ left_after (E.log run.old.engine) (E.whole run.old.engine) }
     ensures plays { (coming : List ℕ) (start : Configuration) (entry d : Devices)
-        → TakesInput start entry (held E.whole E.log run.old coming) (asking_in E.whole run.old) (record d { sink = K.seen output.old }) line wait
-        → EventGives start entry (held E.whole E.log run.new coming) (asking_in E.whole run.new) (record d { sink = K.seen output.new }) result }
+        → TakesInput start entry (held E.whole E.log run.old coming) (asking_in E.whole run.old)
+        (record d { sink = K.seen output.old }) line wait
+        → EventGives start entry (held E.whole E.log run.new coming) (asking_in E.whole run.new)
+        (record d { sink = K.seen output.new }) result }
     ensures leads { Leads E.whole E.log run.old run.new wait.left result }
-    ensures keeps { (d : Devices) → Keeps (record d { sink = K.seen output.old }) (record d { sink = K.seen output.new }) result }
+    ensures keeps { (d : Devices) → Keeps (record d { sink = K.seen output.old })
+        (record d { sink = K.seen output.new }) result }
     ensures lines { run.new.lines ≡ run.old.lines }
 {
     show_line(run, &line)?;
@@ -208,12 +232,16 @@ fn await_line<A: Allocator + Clone, E: Engine<A>, S: Source, K: Sink>(
     requires awaits { (line : List ℕ) → Awaits run.old.world.scene (given.Line line) }
     requires fewer { wait.left ≤ run.old.left }
     requires room { wait.left ≤ left_after (E.log run.old.engine) (E.whole run.old.engine) }
-    ensures plays { Fed run.old.lines run.new.lines (S.seen input.old) (S.seen input.new) (λ coming after. (turn : Turn) (start : Configuration) (entry d : Devices)
+    ensures plays { Fed run.old.lines run.new.lines (S.seen input.old) (S.seen input.new)
+        (λ coming after. (turn : Turn) (start : Configuration) (entry d : Devices)
         → IsWait turn
-        → Waits start entry (held E.whole E.log run.old coming) (asking_in E.whole run.old) (record d { source = S.seen input.old; sink = K.seen output.old }) (asks turn wait)
-        → EventGives start entry (held E.whole E.log run.new after) (asking_in E.whole run.new) (record d { source = S.seen input.new; sink = K.seen output.new }) result) }
+        → Waits start entry (held E.whole E.log run.old coming) (asking_in E.whole run.old)
+        (record d { source = S.seen input.old; sink = K.seen output.old }) (asks turn wait)
+        → EventGives start entry (held E.whole E.log run.new after) (asking_in E.whole run.new)
+        (record d { source = S.seen input.new; sink = K.seen output.new }) result) }
     ensures leads { Leads E.whole E.log run.old run.new wait.left result }
-    ensures keeps { (d : Devices) → Keeps (record d { source = S.seen input.old; sink = K.seen output.old }) (record d { source = S.seen input.new; sink = K.seen output.new }) result }
+    ensures keeps { (d : Devices) → Keeps (record d { source = S.seen input.old; sink = K.seen output.old })
+        (record d { source = S.seen input.new; sink = K.seen output.new }) result }
 {
     flush(&mut run.world, output, 1)?;
     match run.lines.next(input) {
@@ -233,12 +261,16 @@ fn wait_for_line<A: Allocator + Clone, E: Engine<A>, S: Source, K: Sink>(
     requires awaits { (line : List ℕ) → Awaits run.old.world.scene (given.Line line) }
     requires fewer { wait.left ≤ run.old.left }
     requires room { wait.left ≤ left_after (E.log run.old.engine) (E.whole run.old.engine) }
-    ensures plays { Fed run.old.lines run.new.lines (S.seen input.old) (S.seen input.new) (λ coming after. (turn : Turn) (start : Configuration) (entry d : Devices)
+    ensures plays { Fed run.old.lines run.new.lines (S.seen input.old) (S.seen input.new)
+        (λ coming after. (turn : Turn) (start : Configuration) (entry d : Devices)
         → IsWait turn
-        → Turns start entry (held E.whole E.log run.old coming) (asking_in E.whole run.old) (record d { source = S.seen input.old; sink = K.seen output.old }) wait turn
-        → EventGives start entry (held E.whole E.log run.new after) (asking_in E.whole run.new) (record d { source = S.seen input.new; sink = K.seen output.new }) result) }
+        → Turns start entry (held E.whole E.log run.old coming) (asking_in E.whole run.old)
+        (record d { source = S.seen input.old; sink = K.seen output.old }) wait turn
+        → EventGives start entry (held E.whole E.log run.new after) (asking_in E.whole run.new)
+        (record d { source = S.seen input.new; sink = K.seen output.new }) result) }
     ensures leads { Leads E.whole E.log run.old run.new wait.left result }
-    ensures keeps { (d : Devices) → Keeps (record d { source = S.seen input.old; sink = K.seen output.old }) (record d { source = S.seen input.new; sink = K.seen output.new }) result }
+    ensures keeps { (d : Devices) → Keeps (record d { source = S.seen input.old; sink = K.seen output.old })
+        (record d { source = S.seen input.new; sink = K.seen output.new }) result }
 {
     run.world.show_grids()?;
     await_line(run, input, output, wait)
@@ -258,11 +290,24 @@ fn take_turn<A: Allocator + Clone, E: Engine<A>, S: Source, K: Sink, F: Shelf>(
     requires fits { IsTurnFor (E.whole run.old.engine).machine.flat wait.room turn }
     requires fewer { wait.left ≤ run.old.left }
     requires room { wait.left ≤ left_after (E.log run.old.engine) (E.whole run.old.engine) }
-    ensures plays { Fed run.old.lines run.new.lines (S.seen input.old) (S.seen input.new) (λ coming after. (start : Configuration) (entry d : Devices)
-        → Turns start entry (held E.whole E.log run.old coming) (asking_in E.whole run.old) (record d { source = S.seen input.old; sink = K.seen output.old; shelf = F.seen shelf.old }) wait turn
-        → EventGives start entry (held E.whole E.log run.new after) (asking_in E.whole run.new) (record d { source = S.seen input.new; sink = K.seen output.new; shelf = F.seen shelf.new }) result) }
+    ensures plays { IsCalled F.called shelf.old shelf.new
+        (λ asked. Fed run.old.lines run.new.lines (S.seen input.old) (S.seen input.new)
+        (λ coming after. (start : Configuration) (entry d : Devices)
+        → AreTold start.answers d.asked asked
+        → Turns start entry (held E.whole E.log run.old coming) (asking_in E.whole run.old)
+        (record d { source = S.seen input.old; sink = K.seen output.old; shelf = F.seen shelf.old }) wait turn
+        → EventGives start entry (held E.whole E.log run.new after) (asking_in E.whole run.new)
+        (record d {
+          source = S.seen input.new;
+          sink = K.seen output.new;
+          shelf = F.seen shelf.new;
+          asked = d.asked
+              ++ asked;
+        }) result)) }
     ensures leads { Leads E.whole E.log run.old run.new wait.left result }
-    ensures keeps { (d : Devices) → Keeps (record d { source = S.seen input.old; sink = K.seen output.old; shelf = F.seen shelf.old }) (record d { source = S.seen input.new; sink = K.seen output.new; shelf = F.seen shelf.new }) result }
+    ensures keeps { (d : Devices) → Keeps
+        (record d { source = S.seen input.old; sink = K.seen output.old; shelf = F.seen shelf.old })
+        (record d { source = S.seen input.new; sink = K.seen output.new; shelf = F.seen shelf.new }) result }
 {
     match turn {
         Turn::Answer(reply) => answer(run, output, &reply, wait.left),
@@ -295,11 +340,25 @@ pub fn ask_glk<A: Allocator + Clone, E: Engine<A>, S: Source, K: Sink, F: Shelf>
     requires asks { (E.whole run.old.engine).asking ≡ asking_of (Glk selector args.now wait.room) }
     requires fewer { wait.left ≤ run.old.left }
     requires room { wait.left ≤ left_after (E.log run.old.engine) (E.whole run.old.engine) }
-    ensures plays { Fed run.old.lines run.new.lines (S.seen input.old) (S.seen input.new) (λ coming after. (start : Configuration) (entry d : Devices)
-        → Follows start entry (held E.whole E.log run.old coming) (record d { source = S.seen input.old; sink = K.seen output.old; shelf = F.seen shelf.old }) wait.left (Glk selector args.now wait.room)
-        → EventGives start entry (held E.whole E.log run.new after) (asking_in E.whole run.new) (record d { source = S.seen input.new; sink = K.seen output.new; shelf = F.seen shelf.new }) result) }
+    ensures plays { IsCalled F.called shelf.old shelf.new
+        (λ asked. Fed run.old.lines run.new.lines (S.seen input.old) (S.seen input.new)
+        (λ coming after. (start : Configuration) (entry d : Devices)
+        → AreTold start.answers d.asked asked
+        → Follows start entry (held E.whole E.log run.old coming)
+        (record d { source = S.seen input.old; sink = K.seen output.old; shelf = F.seen shelf.old }) wait.left
+        (Glk selector args.now wait.room)
+        → EventGives start entry (held E.whole E.log run.new after) (asking_in E.whole run.new)
+        (record d {
+          source = S.seen input.new;
+          sink = K.seen output.new;
+          shelf = F.seen shelf.new;
+          asked = d.asked
+              ++ asked;
+        }) result)) }
     ensures leads { Leads E.whole E.log run.old run.new wait.left result }
-    ensures keeps { (d : Devices) → Keeps (record d { source = S.seen input.old; sink = K.seen output.old; shelf = F.seen shelf.old }) (record d { source = S.seen input.new; sink = K.seen output.new; shelf = F.seen shelf.new }) result }
+    ensures keeps { (d : Devices) → Keeps
+        (record d { source = S.seen input.old; sink = K.seen output.old; shelf = F.seen shelf.old })
+        (record d { source = S.seen input.new; sink = K.seen output.new; shelf = F.seen shelf.new }) result }
 {
     match glk_dispatch::call(
         &mut run.world,

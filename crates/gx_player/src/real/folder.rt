@@ -9,7 +9,8 @@
 ghost use Rattle.std.specs.Prelude.{◌≡◌, ◌≢◌, ◌↔◌, true, false, Ok, Err, Some, IfOk, IfSome, MatchResult};
 ghost use Rattle.std.specs.IoError.{error_kind};
 ghost use Rattle.gx_outside.specs.Files.{no_files};
-ghost use Rattle.gx_outside.specs.Outside.{IsBounded, Loads, no_call};
+ghost use Rattle.gx_outside.specs.Outside.{IsBounded, no_call};
+ghost use Rattle.gx_outside.specs.Shelves.{ShelfCall, load_of};
 
 use super::replace::replace_file;
 use gx_outside::{Calls, Load, Shelf, ShelfFault};
@@ -55,7 +56,7 @@ pub(super) fn fault_of(error: io::Error) -> ShelfFault
 fn read_file<R: Read>(file: &mut R, alloc: Global, most: usize) -> Result<Load, ShelfFault>
     ensures bound { IfOk result (IsBounded most) }
     ensures there { result ≢ Ok Load.Missing }
-    ensures whole { IfSome (R.remaining file.old) (λ left. IfOk result (Loads (Some left) most)) }
+    ensures whole { IfSome (R.remaining file.old) (λ left. IfOk result (λ load. load ≡ load_of most (Some left))) }
 {
     let mut bytes = Bytes::new(alloc);
     let mut piece = [0u8; 4096];
@@ -104,6 +105,13 @@ fn found<T: Drop>(answer: io::Result<T>) -> Result<bool, ShelfFault>
 
 impl<R: Files> Shelf for FolderShelf<'_, R> {
     ghost seen = { λ s. record { calls = s.calls; tells = false; files = no_files } };
+
+    // What a call does is said as far as std tells, which is how it is counted. That a run makes the session's calls
+    // is proved for every shelf, whatever `called` says of it.
+    ghost called = { λ before c now. ShelfCall (record { calls = before.calls; tells = false; files = no_files }) c
+        (record { calls = now.calls; tells = false; files = no_files }) };
+
+    ghost called_so = { λ before c now does. does };
 
     fn load(&mut self, name: &str, most: usize) -> Result<Load, ShelfFault> {
         let loaded = load_file(self.rt, self.alloc, name, most);

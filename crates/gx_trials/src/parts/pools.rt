@@ -48,7 +48,7 @@ pub fn large_blocks(alloc: Global) -> Result<()> {
 
 /// Whether a second block is refused by a pool over one that has one block, and how many are then out of each.
 fn refused_below(below: &PagePool, pool: &Pool<&PagePool>) -> Result<(bool, usize, usize)> {
-    let _block = Box::new(pool, 7u32)?;
+    let _block = Box::new(pool, 7u32)?; // it is out until the end of the call
     let refused = Box::new(pool, 8u32).is_err();
     Ok((refused, pool.out(), below.out()))
 }

@@ -1,6 +1,7 @@
-use Rattle.std.proofs.Common.{ap}
+use Rattle.std.proofs.Common.{[], refl, ap}
 use Rattle.gx_words.specs.Constants.{ceiling}
 use Rattle.gx_session.specs.Devices.{Devices}
+use Rattle.gx_session.proofs.Calling.{called-as}
 use Rattle.gx_play.specs.declared.command.Job.TheVariants.{Check}
 use Rattle.gx_play.specs.Headline.{outcome_of_check, story_of}
 use Rattle.gx_play.specs.Reading.{seen}
@@ -8,15 +9,17 @@ use Rattle.gx_play.proofs.Dones.{refused-done, check-told}
 use Rattle.gx_play.proofs.checking.check_file.Goals as goal
 
 pub returns-in-Err : goal.returns-in-Err
-returns-in-Err g c = λ d.
+returns-in-Err g c =
+    called-as g.F.Shelf.called c.args.shelf.now c.load_story.new.shelf _ _ c.in-Err.ensures.value
+    (λ asked l d.
     let e : Devices = record d { sink = g.K.Sink.seen c.args.output.now } in
-    let l = c.in-Err.ensures in
-    refused-done c.without_story.result ceiling story_of (seen c.args.command) e (g.F.Shelf.seen c.args.shelf.now) (g.F.Shelf.seen c.load_story.new.shelf) Check c.in-Err.refusal l.value l.once l.count l.fault c.without_story.ensures
-    (λ fault bad. ap outcome_of_check bad) (λ x. x) (λ x. x)
+    refused-done c.without_story.result ceiling story_of (seen c.args.command) e (g.F.Shelf.seen c.args.shelf.now) (g.F.Shelf.seen c.load_story.new.shelf) asked Check c.in-Err.refusal l c.in-Err.ensures.count c.in-Err.ensures.fault c.without_story.ensures
+    (λ fault bad. ap outcome_of_check bad) (λ x. x) (refl, l.handed) (λ x. x))
 
 pub returns-in-Ok : goal.returns-in-Ok
-returns-in-Ok g c = λ d.
-    let l = c.in-Ok.ensures in
+returns-in-Ok g c =
     let t = c.tell_checksum.ensures in
-    check-told c.tell_checksum.result (seen c.args.command) d (g.F.Shelf.seen c.args.shelf.now) (g.F.Shelf.seen c.load_story.new.shelf) (g.K.Sink.seen c.args.output.now) (g.K.Sink.seen c.tell_checksum.new.output)
-    l.value.file l.value.file_is l.once t.blames c.in-Ok.story l.value.gives l.count (rw c.checksum_ok.ensures at t.sends)
+    called-as g.F.Shelf.called c.args.shelf.now c.load_story.new.shelf _ _ c.in-Ok.ensures.value
+    (λ asked l d.
+    check-told c.tell_checksum.result (seen c.args.command) d (g.F.Shelf.seen c.args.shelf.now) (g.F.Shelf.seen c.load_story.new.shelf) (g.K.Sink.seen c.args.output.now) (g.K.Sink.seen c.tell_checksum.new.output) asked
+    t.blames c.in-Ok.story l c.in-Ok.ensures.count (rw c.checksum_ok.ensures at t.sends))

@@ -1,5 +1,7 @@
-use Rattle.std.proofs.Common.{map, ℕ, List}
+use Rattle.std.proofs.Common.{[], refl, map, ℕ, List}
+use Rattle.gx_outside.specs.Shelves.{ShelfCall}
 use Rattle.gx_session.specs.Devices.{Devices, devices}
+use Rattle.gx_session.proofs.Calling.{called-none, called-as, called-chained, chain-map}
 use Rattle.gx_play.specs.Reading.{seen}
 use Rattle.gx_play.proofs.Dones.{played-done, played-none, played-unread}
 use Rattle.gx_play.proofs.entry.play.Goals as goal
@@ -7,18 +9,23 @@ use Rattle.gx_play.proofs.entry.play.Goals as goal
 pub returns-in-Err-BadWords : goal.returns-in-Err-BadWords
 returns-in-Err-BadWords g c =
     let words : List (List ℕ) = map (λ word. word.now) c.args.words.now in
-    let entry : Devices = devices (g.S.Source.seen c.args.input.now) (g.K.Sink.seen c.args.output.now) (g.F.Shelf.seen c.args.shelf.now) (g.R.Rng.stream c.args.dice.now) in
-    played-none c.without_machine.result words entry (rw c.in-Err-BadWords.field-0-is at c.in-Err-BadWords.ensures.command) c.without_machine.ensures
+    let entry : Devices = devices (g.S.Source.seen c.args.input.now) (g.K.Sink.seen c.args.output.now) (g.F.Shelf.seen c.args.shelf.now) (g.R.Rng.stream c.args.dice.now) [] in
+    called-none g.F.Shelf.called c.args.shelf.now _
+    (played-none c.without_machine.result words entry refl (rw c.in-Err-BadWords.field-0-is at c.in-Err-BadWords.ensures.command) c.without_machine.ensures)
 
 pub returns-in-Err-NoMemory : goal.returns-in-Err-NoMemory
 returns-in-Err-NoMemory g c =
     let words : List (List ℕ) = map (λ word. word.now) c.args.words.now in
-    let entry : Devices = devices (g.S.Source.seen c.args.input.now) (g.K.Sink.seen c.args.output.now) (g.F.Shelf.seen c.args.shelf.now) (g.R.Rng.stream c.args.dice.now) in
-    played-unread c.without_machine-in-Err-NoMemory.result words entry c.without_machine-in-Err-NoMemory.ensures
+    let entry : Devices = devices (g.S.Source.seen c.args.input.now) (g.K.Sink.seen c.args.output.now) (g.F.Shelf.seen c.args.shelf.now) (g.R.Rng.stream c.args.dice.now) [] in
+    called-none g.F.Shelf.called c.args.shelf.now _
+    (played-unread c.without_machine-in-Err-NoMemory.result words entry refl c.without_machine-in-Err-NoMemory.ensures)
 
 pub returns : goal.returns
 returns g c =
     let words : List (List ℕ) = map (λ word. word.now) c.args.words.now in
-    let entry : Devices = devices (g.S.Source.seen c.args.input.now) (g.K.Sink.seen c.args.output.now) (g.F.Shelf.seen c.args.shelf.now) (g.R.Rng.stream c.args.dice.now) in
-    let exit : Devices = devices (g.S.Source.seen c.do_job.new.input) (g.K.Sink.seen c.do_job.new.output) (g.F.Shelf.seen c.do_job.new.shelf) (g.R.Rng.stream c.do_job.new.dice) in
-    played-done c.do_job.result words entry (seen c.in-Ok.command) exit c.in-Ok.ensures.command c.do_job.ensures
+    let entry : Devices = devices (g.S.Source.seen c.args.input.now) (g.K.Sink.seen c.args.output.now) (g.F.Shelf.seen c.args.shelf.now) (g.R.Rng.stream c.args.dice.now) [] in
+    called-as g.F.Shelf.called c.args.shelf.now c.do_job.new.shelf _ _ (called-chained g.F.Shelf.called c.args.shelf.now c.do_job.new.shelf _ c.do_job.ensures)
+    (λ asked done.
+    let exit : Devices = devices (g.S.Source.seen c.do_job.new.input) (g.K.Sink.seen c.do_job.new.output) (g.F.Shelf.seen c.do_job.new.shelf) (g.R.Rng.stream c.do_job.new.dice) asked in
+    played-done c.do_job.result words entry (seen c.in-Ok.command) exit c.in-Ok.ensures.command
+    (chain-map g.F.Shelf.seen g.F.Shelf.called ShelfCall g.met.F.Shelf.called_so c.args.shelf.now c.do_job.new.shelf asked done.0) done.1)

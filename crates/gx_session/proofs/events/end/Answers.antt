@@ -1,10 +1,12 @@
-use Rattle.std.proofs.Common.{inr, Result, Ok}
+use Rattle.std.proofs.Common.{Result, Ok}
 use Rattle.std.proofs.lemmas.Result.{err_from_is_err_and}
 use Rattle.gx_outside.specs.Outside.{FlatSink}
 use Rattle.glk_world.specs.World.{FlatWorld}
 use Rattle.gx_session.specs.declared.ends.Halt.{Halt}
+use Rattle.gx_session.specs.declared.ends.Halt.TheVariants as halt
 use Rattle.gx_session.specs.Devices.{Devices}
-use Rattle.gx_session.specs.Playing.{Held, held, asking_in}
+use Rattle.gx_session.specs.Playing.{Held, held, asking_in, Early}
+use Rattle.gx_session.proofs.Calling.{called-none, called-as, asked-none}
 use Rattle.gx_session.proofs.Ending.{closes}
 use Rattle.gx_session.proofs.Keeping.{keeps-sink, stays-of, keeps-after}
 use Rattle.gx_session.proofs.Playing.{flushed-end, cut-end}
@@ -12,29 +14,37 @@ use Rattle.gx_session.proofs.Screens.{screen-shown, screen-wants}
 use Rattle.gx_session.proofs.events.end.Goals as goal
 
 pub returns-in_err-end_text-clause-plays : goal.returns-in_err-end_text-clause-plays
-returns-in_err-end_text-clause-plays g c coming start entry d why done =
+returns-in_err-end_text-clause-plays g c =
     let p = err_from_is_err_and c.from_residual.result c.from_residual.ensures.1 in
+    rw (p.1, p.2)
+    (called-none g.F.Shelf.called c.args.shelf.now _
+    (λ coming start entry d why done.
     let now : Devices = record d { sink = g.K.Sink.seen c.args.output.now; shelf = g.F.Shelf.seen c.args.shelf.now } in
     let h : Held = held g.E.Engine.whole g.E.Engine.log c.args.run.now coming in
     let asking = asking_in g.E.Engine.whole c.args.run.now in
-    rw (p.1, p.2)
-    (inr (screen-wants start entry h now asking why done c.end_text.new.self c.in_err-end_text.ensures.memory))
+    asked-none now (λ (e : Devices). Early start entry (record h { world = c.end_text.new.self }) asking e halt.NoMemory)
+    (screen-wants start entry h now asking why done c.end_text.new.self c.in_err-end_text.ensures.memory)))
 
 pub returns-in_err-flush-clause-plays : goal.returns-in_err-flush-clause-plays
-returns-in_err-flush-clause-plays g c coming start entry d why done =
+returns-in_err-flush-clause-plays g c =
     let p = err_from_is_err_and c.from_residual-in_err-flush.result c.from_residual-in_err-flush.ensures.1 in
+    let world : FlatWorld = c.end_text.new.self in
+    rw (p.1, p.2)
+    (called-none g.F.Shelf.called c.args.shelf.now _
+    (λ coming start entry d why done.
     let now : Devices = record d { sink = g.K.Sink.seen c.args.output.now; shelf = g.F.Shelf.seen c.args.shelf.now } in
     let h : Held = held g.E.Engine.whole g.E.Engine.log c.args.run.now coming in
     let asking = asking_in g.E.Engine.whole c.args.run.now in
-    let world : FlatWorld = c.end_text.new.self in
-    rw (p.1, p.2)
-    (inr
+    asked-none (record now { sink = g.K.Sink.seen c.flush.new.output })
+    (λ (e : Devices). Early start entry (record h { world = c.flush.new.world }) asking e c.in_err-flush.field-0.0)
     (cut-end start entry (record h { world = world }) now c.flush.new.world (g.K.Sink.seen c.flush.new.output) asking why
     (screen-shown start entry h now asking why done world c.in_ok-end_text.ensures.ok)
-    c.in_err-flush.field-0.0 c.in_err-flush.ensures.only c.in_err-flush.ensures.sends))
+    c.in_err-flush.field-0.0 c.in_err-flush.ensures.only c.in_err-flush.ensures.sends)))
 
 pub returns-clause-plays : goal.returns-clause-plays
-returns-clause-plays g c coming start entry d why done =
+returns-clause-plays g c =
+    called-as g.F.Shelf.called c.args.shelf.now c.store_files.new.shelf _ _ c.store_files.ensures.stores
+    (λ calls stores coming start entry d why done.
     let now : Devices = record d { sink = g.K.Sink.seen c.args.output.now; shelf = g.F.Shelf.seen c.args.shelf.now } in
     let h : Held = held g.E.Engine.whole g.E.Engine.log c.args.run.now coming in
     let asking = asking_in g.E.Engine.whole c.args.run.now in
@@ -43,7 +53,7 @@ returns-clause-plays g c coming start entry d why done =
     closes start entry (record h { world = c.flush.new.world }) asking (record now { sink = sink }) why
     (flushed-end start entry (record h { world = world }) now c.flush.new.world sink asking why
     (screen-shown start entry h now asking why done world c.in_ok-end_text.ensures.ok) c.in_ok-flush.ensures.sends)
-    (g.F.Shelf.seen c.store_files.new.shelf) c.store_files.result c.store_files.ensures.stores c.store_files.ensures.only
+    (g.F.Shelf.seen c.store_files.new.shelf) calls c.store_files.result stores)
 
 pub returns-clause-keeps : goal.returns-clause-keeps
 returns-clause-keeps g c d =

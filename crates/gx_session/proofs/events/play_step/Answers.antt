@@ -1,8 +1,9 @@
-use Rattle.std.proofs.Common.{◌≡◌, inr, None, ap, ◌∙◌, arith}
+use Rattle.std.proofs.Common.{[], ◌≡◌, None, ap, ◌∙◌, arith}
 use Rattle.gx_machine.specs.Machine.{Whole}
 use Rattle.gx_session.specs.Devices.{Devices, devices}
-use Rattle.gx_session.specs.Playing.{Held, held}
+use Rattle.gx_session.specs.Playing.{Held, held, EventGives}
 use Rattle.gx_session.proofs.Asking.{step-follows, step-wants, step-stops, fault-gives}
+use Rattle.gx_session.proofs.Calling.{called-none, called-as, asked-none}
 use Rattle.gx_session.proofs.Feeding.{fed-same, fed-as}
 use Rattle.gx_session.proofs.Passing.{passed-asks, passed-going, passed-lower, advanced, refused-stands, refused-wants, refused-is}
 use Rattle.gx_session.proofs.Playing.{redrawn}
@@ -38,13 +39,14 @@ returns-in-Ok-clause-no_more g c =
 
 pub returns-in-Err-clause-plays : goal.returns-in-Err-clause-plays
 returns-in-Err-clause-plays g c =
-    fed-same c.args.run.now.lines (g.S.Source.seen c.args.input.now) _
-    (λ x start entry f.
-    let before : Devices = devices (g.S.Source.seen c.args.input.now) (g.K.Sink.seen c.args.output.now) (g.F.Shelf.seen c.args.shelf.now) (g.R.Rng.stream c.args.dice.now) in
-    let now : Devices = record before { words = g.R.Rng.stream c.draw-word.new.dice } in
+    called-none g.F.Shelf.called c.args.shelf.now _
+    (fed-same c.args.run.now.lines (g.S.Source.seen c.args.input.now) _
+    (λ x start entry before told f.
+    let was : Devices = devices (g.S.Source.seen c.args.input.now) (g.K.Sink.seen c.args.output.now) (g.F.Shelf.seen c.args.shelf.now) (g.R.Rng.stream c.args.dice.now) before in
+    let now : Devices = record was { words = g.R.Rng.stream c.draw-word.new.dice } in
     let h : Held = held g.E.Engine.whole g.E.Engine.log c.args.run.now x in
     let drawn : Held = record h { word = c.draw-word.new.word } in
-    let going = redrawn start entry h before c.draw-word.new.word (g.R.Rng.stream c.draw-word.new.dice) f c.draw-word.ensures.is in
+    let going = redrawn start entry h was c.draw-word.new.word (g.R.Rng.stream c.draw-word.new.dice) f c.draw-word.ensures.is in
     let a = c.in-Err.ensures in
     let mid : Held = record drawn { machine = a.before.machine; left = c.advance.new.budget; log = a.log } in
     let reached = passed-going start entry now drawn c.draw-word.result a.count (g.E.Engine.whole c.args.run.now.engine) a.before c.args.run.now.left c.advance.new.budget (g.E.Engine.log c.args.run.now.engine) a.log c.draw-word.ensures.in_hand c.requires.none going a.passes in
@@ -52,33 +54,36 @@ returns-in-Err-clause-plays g c =
     let same : g.E.Engine.whole c.advance.new.self ≡ a.before = same-whole (g.E.Engine.whole c.advance.new.self) a.before c.advance.new.left c.advance.new.budget (refused-stands _ _ _ _ _ _ _ _ _ a) in
     let machine : (g.E.Engine.whole c.advance.new.self).machine ≡ mid.machine = ap (λ (w : Whole). w.machine) same in
     let nothing : (g.E.Engine.whole c.advance.new.self).asking ≡ None = ap (λ (w : Whole). w.asking) same ∙ none in
-    inr
+    let end : Held = record mid { machine = (g.E.Engine.whole c.advance.new.self).machine; log = g.E.Engine.log c.advance.new.self } in
+    asked-none now (λ (e : Devices). EventGives start entry end (g.E.Engine.whole c.advance.new.self).asking e c.faulted.result)
     (fault-gives start entry (record mid { machine = (g.E.Engine.whole c.advance.new.self).machine; log = g.E.Engine.log c.advance.new.self }) (g.E.Engine.whole c.advance.new.self).asking now c.in-Err.fault _ c.faulted.ensures.gives
     (λ wants. step-wants start entry mid now a.before.asking c.draw-word.result c.draw-word.ensures.in_hand reached
     (g.E.Engine.whole c.advance.new.self).asking (g.E.Engine.whole c.advance.new.self).machine (g.E.Engine.log c.advance.new.self) machine a.logs none nothing (refused-wants _ _ _ _ _ _ _ _ _ a wants))
     (λ other. step-stops start entry mid now a.before.asking c.draw-word.result c.draw-word.ensures.in_hand reached
-    (g.E.Engine.whole c.advance.new.self).machine (g.E.Engine.log c.advance.new.self) c.in-Err.fault (g.E.Engine.whole c.advance.new.self).asking machine a.logs nothing (refused-is _ _ _ _ _ _ _ _ _ a other))))
+    (g.E.Engine.whole c.advance.new.self).machine (g.E.Engine.log c.advance.new.self) c.in-Err.fault (g.E.Engine.whole c.advance.new.self).asking machine a.logs nothing (refused-is _ _ _ _ _ _ _ _ _ a other)))))
 
 pub returns-in-Ok-clause-plays : goal.returns-in-Ok-clause-plays
 returns-in-Ok-clause-plays g c =
-    fed-as c.args.run.now.lines c.follow.new.run.lines (g.S.Source.seen c.args.input.now) (g.S.Source.seen c.follow.new.input) _ _ c.follow.ensures.plays
-    (λ x y plays start entry f.
-    let before : Devices = devices (g.S.Source.seen c.args.input.now) (g.K.Sink.seen c.args.output.now) (g.F.Shelf.seen c.args.shelf.now) (g.R.Rng.stream c.args.dice.now) in
-    let now : Devices = record before { words = g.R.Rng.stream c.draw-word.new.dice } in
+    called-as g.F.Shelf.called c.args.shelf.now c.follow.new.shelf _ _ c.follow.ensures.plays
+    (λ calls fed.
+    fed-as c.args.run.now.lines c.follow.new.run.lines (g.S.Source.seen c.args.input.now) (g.S.Source.seen c.follow.new.input) _ _ fed
+    (λ x y plays start entry before told f.
+    let was : Devices = devices (g.S.Source.seen c.args.input.now) (g.K.Sink.seen c.args.output.now) (g.F.Shelf.seen c.args.shelf.now) (g.R.Rng.stream c.args.dice.now) before in
+    let now : Devices = record was { words = g.R.Rng.stream c.draw-word.new.dice } in
     let h : Held = held g.E.Engine.whole g.E.Engine.log c.args.run.now x in
     let drawn : Held = record h { word = c.draw-word.new.word } in
-    let going = redrawn start entry h before c.draw-word.new.word (g.R.Rng.stream c.draw-word.new.dice) f c.draw-word.ensures.is in
+    let going = redrawn start entry h was c.draw-word.new.word (g.R.Rng.stream c.draw-word.new.dice) f c.draw-word.ensures.is in
     let a = c.in-Ok.ensures in
     let mid : Held = record drawn { machine = a.before.machine; left = c.advance.new.budget; log = a.log } in
     let reached = passed-going start entry now drawn c.draw-word.result a.count (g.E.Engine.whole c.args.run.now.engine) a.before c.args.run.now.left c.advance.new.budget (g.E.Engine.log c.args.run.now.engine) a.log c.draw-word.ensures.in_hand c.requires.none going a.passes in
-    plays start entry now
+    plays start entry now told
     (step-follows start entry mid now a.before.asking c.draw-word.result c.draw-word.ensures.in_hand reached (g.E.Engine.whole c.advance.new.self) c.advance.new.left c.in-Ok.effect (advanced _ _ _ _ _ _ _ _ _ a) a.stands
-    (g.E.Engine.log c.advance.new.self) a.logs))
+    (g.E.Engine.log c.advance.new.self) a.logs)))
 
 pub returns-in-Ok-clause-keeps : goal.returns-in-Ok-clause-keeps
 returns-in-Ok-clause-keeps g c =
-    let k = c.follow.ensures.keeps (devices (g.S.Source.seen c.args.input.now) (g.K.Sink.seen c.args.output.now) (g.F.Shelf.seen c.args.shelf.now) (g.R.Rng.stream c.args.dice.now)) in
-    record { sink = k.sink; sink_tells = k.sink_tells; source = k.source; source_tells = k.source_tells; shelf = k.shelf; shelf_tells = k.shelf_tells; shelf_asked = k.shelf_asked }
+    let k = c.follow.ensures.keeps (devices (g.S.Source.seen c.args.input.now) (g.K.Sink.seen c.args.output.now) (g.F.Shelf.seen c.args.shelf.now) (g.R.Rng.stream c.args.dice.now) []) in
+    record { sink = k.sink; sink_tells = k.sink_tells; source = k.source; source_tells = k.source_tells; shelf = k.shelf; shelf_tells = k.shelf_tells }
 
 pub returns-in-Ok-clause-room : goal.returns-in-Ok-clause-room
 returns-in-Ok-clause-room g c goes = c.follow.ensures.leads.room goes

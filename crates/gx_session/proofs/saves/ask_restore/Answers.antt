@@ -1,4 +1,4 @@
-use Rattle.std.proofs.Common.{inr, refl, subst, sym, ◌∙◌, Option, Some, None, Ok, Err}
+use Rattle.std.proofs.Common.{refl, subst, sym, ◌∙◌, Option, Some, None, Ok, Err}
 use Rattle.gx_state.specs.Copies.{Copy}
 use Rattle.gx_state.specs.declared.effects.Effect.TheVariants.{Restore}
 use Rattle.gx_state.specs.declared.effects.Reply.{Reply}
@@ -22,7 +22,6 @@ returns-in-Err-clause-plays g c coming start entry d f =
     let a = asks-now start entry h now c.args.left (Restore c.args.stream) f refl in
     let value = c.in-Err.ensures.value in
     let told = restoring h.world.scene h.machine.flat c.args.stream in
-    inr
     (fault-gives start entry (record h { world = c.read.new.world }) asking now c.in-Err.fault _ c.faulted.ensures.gives
     (λ wants. asking-early start entry h now c.args.left (Restore c.args.stream) a c.read.new.world asking c.requires.asks
     (restore-reads start entry h now c.args.left (Restore c.args.stream) a c.args.stream refl (value.1.1 wants).0 (value.1.1 wants).1))

@@ -1,4 +1,4 @@
-use Rattle.std.proofs.Common.{inr, refl, ◌∙◌, sym, Ok, Err}
+use Rattle.std.proofs.Common.{refl, ◌∙◌, sym, Ok, Err}
 use Rattle.gx_state.specs.declared.effects.Effect.TheVariants.{Save}
 use Rattle.gx_machine.specs.Answer.{answer_of}
 use Rattle.gx_session.specs.Cuts.{ReplyWants}
@@ -16,7 +16,6 @@ returns-in-Err-clause-plays g c coming start entry d f =
     let asking = asking_in g.E.Engine.whole c.args.run.now in
     let a = asks-now start entry h now c.args.left (Save c.args.stream) f refl in
     let value = c.in-Err.ensures.value in
-    inr
     (fault-gives start entry (record h { world = c.save.new.world }) asking now c.in-Err.fault _ c.faulted.ensures.gives
     (λ wants. asking-early start entry h now c.args.left (Save c.args.stream) a c.save.new.world asking c.requires.asks (save-begun start entry h now c.args.left (Save c.args.stream) a c.args.stream refl (value.1 wants)))
     (λ other. fault-stops start entry h now steps a.going c.in-Err.fault c.save.new.world asking (value.0 other).0 (c.requires.asks ∙ sym a.asking_is)

@@ -1,9 +1,12 @@
-use Rattle.std.proofs.Common.{◌++◌, List, ℕ, None, refl, ap, subst}
+use Rattle.std.proofs.Common.{[], ◌++◌, List, ℕ, None, refl, ap, subst}
+use Rattle.gx_outside.specs.Chains.{Chain}
+use Rattle.gx_outside.specs.Shelves.{ShelfCall}
 use Rattle.gx_session.specs.Session.{Configuration, start_of}
 use Rattle.gx_session.specs.Devices.{Devices, devices}
 use Rattle.gx_session.specs.Lines.{HeldLines}
 use Rattle.gx_session.specs.Playing.{Held, held, asking_in, Going}
-use Rattle.gx_session.proofs.Ending.{session-of-stop, session-of-halt, some-session, report-of-stop, report-of-halt, counts-of-stop, counts-of-halt}
+use Rattle.gx_session.proofs.Calling.{chain-map, called-as, called-chained, some-answers}
+use Rattle.gx_session.proofs.Ending.{session-of-stop, session-of-halt, report-of-stop, report-of-halt, counts-of-stop, counts-of-halt}
 use Rattle.gx_session.proofs.Feeding.{some-coming, first-over}
 use Rattle.gx_session.proofs.Playing.{starts}
 use Rattle.gx_session.proofs.Recording.{records_places}
@@ -12,52 +15,78 @@ use Rattle.gx_session.proofs.session.run_on.Goals as goal
 
 pub returns-in-Ok : goal.returns-in-Ok
 returns-in-Ok g c =
-    let entry : Devices = devices (g.S.Source.seen c.args.input.now) (g.K.Sink.seen c.args.output.now) (g.F.Shelf.seen c.args.shelf.now) (g.R.Rng.stream c.args.dice.now) in
-    let exit : Devices = devices (g.S.Source.seen c.play_out-ended.new.input) (g.K.Sink.seen c.play_out-ended.new.output) (g.F.Shelf.seen c.play_out-ended.new.shelf) (g.R.Rng.stream c.play_out-ended.new.dice) in
+    rw (c.status.ensures, c.fault.ensures, c.fault_address.ensures)
+    (called-as g.F.Shelf.called c.args.shelf.now c.play_out-ended.new.shelf _ _
+    (called-chained g.F.Shelf.called c.args.shelf.now c.play_out-ended.new.shelf _ c.in-Ok.ensures.plays)
+    (λ asked both.
+    let fed = both.1 in
+    let entry : Devices = devices (g.S.Source.seen c.args.input.now) (g.K.Sink.seen c.args.output.now) (g.F.Shelf.seen c.args.shelf.now) (g.R.Rng.stream c.args.dice.now) [] in
+    let exit : Devices = devices (g.S.Source.seen c.play_out-ended.new.input) (g.K.Sink.seen c.play_out-ended.new.output) (g.F.Shelf.seen c.play_out-ended.new.shelf) (g.R.Rng.stream c.play_out-ended.new.dice) asked in
     let start : Configuration = start_of (g.E.Engine.whole c.args.engine).machine c.args.world entry c.args.echo c.args.steps (g.E.Engine.log c.args.engine) in
+    let chain : Chain ShelfCall entry.shelf asked exit.shelf = chain-map g.F.Shelf.seen g.F.Shelf.called ShelfCall g.met.F.Shelf.called_so c.args.shelf.now c.play_out-ended.new.shelf asked both.0 in
+    let told = some-answers entry.shelf exit.shelf asked chain in
     let nothing = ap (λ (l : HeldLines). l.held) c.new.ensures in
-    let after = some-coming c.play_out-ended.new.run.lines exit.source (c.in-Ok.ensures.plays.over (first-over c.new.result entry.source c.new.ensures)) in
-    let before = c.in-Ok.ensures.plays.comes after.0 after.1 in
+    let after = some-coming c.play_out-ended.new.run.lines exit.source (fed.over (first-over c.new.result entry.source c.new.ensures)) in
+    let before = fed.comes after.0 after.1 in
     let first : Held = record { machine = (g.E.Engine.whole c.args.engine).machine; world = c.args.world; ahead = c.new.result.held; coming = before.0; over = c.new.result.ended; echo = c.args.echo; word = None; left = c.args.steps; log = g.E.Engine.log c.args.engine } in
-    let from : Configuration = record start { input = before.0 } in
-    let going : Going from entry first entry = subst (λ (x : List ℕ). Going (record from { input = x ++ before.0 }) entry first entry) nothing (starts entry first refl nothing (ap (λ (l : HeldLines). l.ended) c.new.ensures) c.requires.no_text before.1.told) in
+    let from : Configuration = record start { input = before.0; answers = told.0 } in
+    let going : Going from entry first entry = subst (λ (x : List ℕ). Going (record from { input = x ++ before.0 }) entry first entry) nothing (starts told.0 entry first refl refl nothing (ap (λ (l : HeldLines). l.ended) c.new.ensures) c.requires.no_text before.1.told) in
     let last : Held = held g.E.Engine.whole g.E.Engine.log c.play_out-ended.new.run after.0 in
     let keeps = c.in-Ok.ensures.keeps in
-    rw (c.status.ensures, c.fault.ensures, c.fault_address.ensures)
-    (record {
-      session = some-session start entry exit _ before.0 before.1.told (session-of-stop from entry last (asking_in g.E.Engine.whole c.play_out-ended.new.run) exit c.in-Ok.ensures.no_more c.in-Ok.stop (before.2 from entry going));
-      counts = counts-of-stop entry exit c.in-Ok.stop keeps;
+    record {
+      session = record {
+        input = before.0;
+        input_is = before.1.told;
+        answers = told.0;
+        answers_are = told.1;
+        session = session-of-stop from entry last (asking_in g.E.Engine.whole c.play_out-ended.new.run) exit c.in-Ok.ensures.no_more c.in-Ok.stop (before.2 from entry [] told.2 going);
+      };
+      shelf_calls = chain;
+      counts = counts-of-stop entry exit c.in-Ok.stop (record { sink = keeps.sink; sink_tells = keeps.sink_tells; source = keeps.source; source_tells = keeps.source_tells; shelf = keeps.shelf; shelf_tells = keeps.shelf_tells });
       source_tells = keeps.source_tells;
       sink_tells = keeps.sink_tells;
       shelf_tells = keeps.shelf_tells;
       report = report-of-stop c.in-Ok.stop last.machine c.in-Ok.ensures.stop;
-      undo = λ input. lasts_undo (record start { input = input });
-      records = λ input. records_places (record start { input = input });
+      undo = λ input answers. lasts_undo (record start { input = input; answers = answers });
+      records = λ input answers. records_places (record start { input = input; answers = answers });
       saves = c.saves_read_back.ensures;
-    })
+    }))
 
 pub returns-in-Err : goal.returns-in-Err
 returns-in-Err g c =
-    let entry : Devices = devices (g.S.Source.seen c.args.input.now) (g.K.Sink.seen c.args.output.now) (g.F.Shelf.seen c.args.shelf.now) (g.R.Rng.stream c.args.dice.now) in
-    let exit : Devices = devices (g.S.Source.seen c.play_out-ended.new.input) (g.K.Sink.seen c.play_out-ended.new.output) (g.F.Shelf.seen c.play_out-ended.new.shelf) (g.R.Rng.stream c.play_out-ended.new.dice) in
+    rw c.status-in-Err.ensures
+    (called-as g.F.Shelf.called c.args.shelf.now c.play_out-ended.new.shelf _ _
+    (called-chained g.F.Shelf.called c.args.shelf.now c.play_out-ended.new.shelf _ c.in-Err.ensures.plays)
+    (λ asked both.
+    let fed = both.1 in
+    let entry : Devices = devices (g.S.Source.seen c.args.input.now) (g.K.Sink.seen c.args.output.now) (g.F.Shelf.seen c.args.shelf.now) (g.R.Rng.stream c.args.dice.now) [] in
+    let exit : Devices = devices (g.S.Source.seen c.play_out-ended.new.input) (g.K.Sink.seen c.play_out-ended.new.output) (g.F.Shelf.seen c.play_out-ended.new.shelf) (g.R.Rng.stream c.play_out-ended.new.dice) asked in
     let start : Configuration = start_of (g.E.Engine.whole c.args.engine).machine c.args.world entry c.args.echo c.args.steps (g.E.Engine.log c.args.engine) in
+    let chain : Chain ShelfCall entry.shelf asked exit.shelf = chain-map g.F.Shelf.seen g.F.Shelf.called ShelfCall g.met.F.Shelf.called_so c.args.shelf.now c.play_out-ended.new.shelf asked both.0 in
+    let told = some-answers entry.shelf exit.shelf asked chain in
     let nothing = ap (λ (l : HeldLines). l.held) c.new.ensures in
-    let after = some-coming c.play_out-ended.new.run.lines exit.source (c.in-Err.ensures.plays.over (first-over c.new.result entry.source c.new.ensures)) in
-    let before = c.in-Err.ensures.plays.comes after.0 after.1 in
+    let after = some-coming c.play_out-ended.new.run.lines exit.source (fed.over (first-over c.new.result entry.source c.new.ensures)) in
+    let before = fed.comes after.0 after.1 in
     let first : Held = record { machine = (g.E.Engine.whole c.args.engine).machine; world = c.args.world; ahead = c.new.result.held; coming = before.0; over = c.new.result.ended; echo = c.args.echo; word = None; left = c.args.steps; log = g.E.Engine.log c.args.engine } in
-    let from : Configuration = record start { input = before.0 } in
-    let going : Going from entry first entry = subst (λ (x : List ℕ). Going (record from { input = x ++ before.0 }) entry first entry) nothing (starts entry first refl nothing (ap (λ (l : HeldLines). l.ended) c.new.ensures) c.requires.no_text before.1.told) in
+    let from : Configuration = record start { input = before.0; answers = told.0 } in
+    let going : Going from entry first entry = subst (λ (x : List ℕ). Going (record from { input = x ++ before.0 }) entry first entry) nothing (starts told.0 entry first refl refl nothing (ap (λ (l : HeldLines). l.ended) c.new.ensures) c.requires.no_text before.1.told) in
     let last : Held = held g.E.Engine.whole g.E.Engine.log c.play_out-ended.new.run after.0 in
     let keeps = c.in-Err.ensures.keeps in
-    rw c.status-in-Err.ensures
-    (record {
-      session = some-session start entry exit _ before.0 before.1.told (session-of-halt from entry last (asking_in g.E.Engine.whole c.play_out-ended.new.run) exit c.in-Err.ensures.no_more c.in-Err.halt (before.2 from entry going));
-      counts = counts-of-halt entry exit c.in-Err.halt keeps;
+    record {
+      session = record {
+        input = before.0;
+        input_is = before.1.told;
+        answers = told.0;
+        answers_are = told.1;
+        session = session-of-halt from entry last (asking_in g.E.Engine.whole c.play_out-ended.new.run) exit c.in-Err.ensures.no_more c.in-Err.halt (before.2 from entry [] told.2 going);
+      };
+      shelf_calls = chain;
+      counts = counts-of-halt entry exit c.in-Err.halt (record { sink = keeps.sink; sink_tells = keeps.sink_tells; source = keeps.source; source_tells = keeps.source_tells; shelf = keeps.shelf; shelf_tells = keeps.shelf_tells });
       source_tells = keeps.source_tells;
       sink_tells = keeps.sink_tells;
       shelf_tells = keeps.shelf_tells;
       report = report-of-halt c.in-Err.halt;
-      undo = λ input. lasts_undo (record start { input = input });
-      records = λ input. records_places (record start { input = input });
+      undo = λ input answers. lasts_undo (record start { input = input; answers = answers });
+      records = λ input answers. records_places (record start { input = input; answers = answers });
       saves = c.saves_read_back.ensures;
-    })
+    }))

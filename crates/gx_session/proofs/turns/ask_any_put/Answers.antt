@@ -1,4 +1,4 @@
-use Rattle.std.proofs.Common.{inr, refl, sym, ◌∙◌, Ok, Err}
+use Rattle.std.proofs.Common.{refl, sym, ◌∙◌, Ok, Err}
 use Rattle.gx_state.specs.declared.effects.Effect.TheVariants.{Put}
 use Rattle.gx_machine.specs.Answer.{answer_of}
 use Rattle.glk_text_calls.specs.Output.{putting}
@@ -16,7 +16,6 @@ returns-in-Err-clause-plays g c coming start entry d f =
     let asking = asking_in g.E.Engine.whole c.args.run.now in
     let a = asks-now start entry h now c.args.left (Put c.args.c) f refl in
     let value = c.in-Err.ensures.value in
-    inr
     (fault-gives start entry (record h { world = c.put.new.world }) asking now c.in-Err.fault _ c.faulted.ensures.gives
     (λ wants. asking-early start entry h now c.args.left (Put c.args.c) a c.put.new.world asking c.requires.asks
     (put-grows start entry h now c.args.left (Put c.args.c) a c.args.c c.state.result.now.flat refl c.state.ensures (value.1.1 wants).0 (value.1.1 wants).1))

@@ -1,5 +1,5 @@
 -- a character that comes to a text buffer window alone is answered at once
-use Rattle.std.proofs.Common.{inr, refl, subst, sym, Ok}
+use Rattle.std.proofs.Common.{refl, subst, sym, Ok}
 use Rattle.gx_state.specs.declared.effects.Effect.TheVariants.{Put}
 use Rattle.gx_machine.specs.Answer.{answer_of}
 use Rattle.glk_world.specs.World.{FlatWorld}
@@ -17,7 +17,6 @@ returns-in-Err-clause-plays g c coming start entry d f =
     let h : Held = held g.E.Engine.whole g.E.Engine.log c.args.run.now coming in
     let asking = asking_in g.E.Engine.whole c.args.run.now in
     let a = asks-now start entry h now c.args.left (Put c.args.c) f refl in
-    inr
     (asking-early start entry h now c.args.left (Put c.args.c) a c.put_text.new.world asking c.requires.asks
     (put-grows start entry h now c.args.left (Put c.args.c) a c.args.c h.machine.flat refl refl c.in-Err.ensures.memory (c.in-Err.ensures.fine h.machine.flat)))
 

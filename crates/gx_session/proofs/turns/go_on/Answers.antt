@@ -1,4 +1,4 @@
-use Rattle.std.proofs.Common.{inr, Err}
+use Rattle.std.proofs.Common.{Err}
 use Rattle.glk_replies.specs.declared.Turn.{Turn}
 use Rattle.glk_dispatch.specs.Going.{glk_go_on}
 use Rattle.gx_session.specs.Devices.{Devices}
@@ -15,7 +15,6 @@ returns-in-Err-clause-plays g c coming start entry d waits =
     let ready = on-ready start entry h now asking c.args.given c.args.wait waits in
     let value = c.in-Err.ensures.value in
     let told = glk_go_on h.world.scene c.state.result.now.flat c.args.wait.room c.args.given in
-    inr
     (fault-gives start entry (record h { world = c.go_on.new.world }) asking now c.in-Err.fault _ c.faulted.ensures.gives
     (λ wants. given-early start entry h now asking c.args.given c.args.wait waits c.go_on.new.world c.state.result.now.flat c.state.ensures (value.1.1 wants).0 (world-fine {X = Turn} h.world told (value.1.1 wants).1))
     (λ other. fault-stops start entry h now (goes_on c.args.given c.args.wait) ready c.in-Err.fault c.go_on.new.world asking (value.0 other) waits.asking_is

@@ -1,4 +1,4 @@
-use Rattle.std.proofs.Common.{inr, refl, subst, sym}
+use Rattle.std.proofs.Common.{refl, subst, sym}
 use Rattle.std.proofs.lemmas.Result.{err_from_is_err_and}
 use Rattle.glk_world.specs.World.{FlatWorld}
 use Rattle.glk_dispatch.specs.Turns.{Awaits}
@@ -17,7 +17,7 @@ returns-in_err-show_grids-clause-plays g c =
     (fed-same c.args.run.now.lines (g.S.Source.seen c.args.input.now) _
     (λ x turn start entry d is r.
     let h : Held = held g.E.Engine.whole g.E.Engine.log c.args.run.now x in
-    inr (turn-wants start entry h (record d { source = g.S.Source.seen c.args.input.now; sink = g.K.Sink.seen c.args.output.now }) (asking_in g.E.Engine.whole c.args.run.now) c.args.wait turn r is c.in_err-show_grids.ensures.memory (record h { world = c.show_grids.new.self }) refl refl refl)))
+    (turn-wants start entry h (record d { source = g.S.Source.seen c.args.input.now; sink = g.K.Sink.seen c.args.output.now }) (asking_in g.E.Engine.whole c.args.run.now) c.args.wait turn r is c.in_err-show_grids.ensures.memory (record h { world = c.show_grids.new.self }) refl refl refl)))
 
 pub await_line-requires-clause-awaits : goal.await_line-requires-clause-awaits
 await_line-requires-clause-awaits g c line =

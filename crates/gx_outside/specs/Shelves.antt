@@ -1,0 +1,104 @@
+-- What a shelf is asked and what it answers, call by call.
+use Rattle.std.specs.Prelude.{◌≡◌, ◌≤◌, ℕ, nat_lt, if◌then◌else◌, List, [], ◌∷◌, length, Bool, true, Option, Some, None}
+use Rattle.std.specs.Prelude.{is_some, Result, Ok, Err}
+use Rattle.gx_outside.specs.declared.devices.Load.{Load}
+use Rattle.gx_outside.specs.declared.devices.Load.TheVariants.{Missing, TooLong, Found}
+use Rattle.gx_outside.specs.declared.devices.ShelfFault.{ShelfFault}
+use Rattle.gx_outside.specs.declared.devices.ShelfFault.TheVariants as fault
+use Rattle.gx_outside.specs.Files.{Files, with_file}
+use Rattle.gx_outside.specs.Outside.{FlatShelf, HasCause, IsBounded, KeepsOthers, shelf_failed, shelf_wanted}
+
+-- What is asked.
+pub data Request : Type 0 where
+  -- the file of a name, if it has at most so many bytes
+  loads : List ℕ → ℕ → Request
+  -- that a name hold these bytes
+  stores : List ℕ → List ℕ → Request
+  -- that the file of a name be removed
+  removes : List ℕ → Request
+  -- whether a name has a file
+  looks : List ℕ → Request
+
+-- What is answered, where the call isn't refused.
+pub data Answer : Type 0 where
+  loaded : Load → Answer
+  stored : Answer
+  was : Bool → Answer
+
+-- A call: what was asked, and the answer or the fault. A trace has the calls of a shelf, in order.
+abbrev pub Call : Type 0
+Call = Request × Result Answer ShelfFault
+
+abbrev pub Trace : Type 0
+Trace = List Call
+
+-- what a call answers, as an answer
+abbrev pub answered : {T : Type 0} → (T → Answer) → Result T ShelfFault → Result Answer ShelfFault
+answered answer (Ok x) = Ok (answer x)
+answered answer (Err e) = Err e
+
+-- FILES
+-- what is handed out of a file
+abbrev pub load_of : ℕ → Option (List ℕ) → Load
+load_of most None = Missing
+load_of most (Some bytes) = if nat_lt most (length bytes) then TooLong else Found bytes
+
+-- the answer that files have for a request
+abbrev pub answer_for : Files → Request → Answer
+answer_for files (loads name most) = loaded (load_of most (files name))
+answer_for files (stores name bytes) = stored
+answer_for files (removes name) = was (is_some (files name))
+answer_for files (looks name) = was (is_some (files name))
+
+-- the files after it
+abbrev pub files_after : Files → Request → Files
+files_after files (loads name most) = files
+files_after files (stores name bytes) = with_file files name (Some bytes)
+files_after files (removes name) = with_file files name None
+files_after files (looks name) = files
+
+-- After a refusal the file of a name that was to be stored or removed is open: it may be the old one, the new one, a
+-- part of the new one, or gone. The others stand, and so do all after every other refusal.
+abbrev pub LeavesFiles : Files → Request → Files → Type 0
+LeavesFiles before (loads name most) now = now ≡ before
+LeavesFiles before (stores name bytes) now = KeepsOthers before now name
+LeavesFiles before (removes name) now = KeepsOthers before now name
+LeavesFiles before (looks name) now = now ≡ before
+
+-- Memory may run out in place of this answer: at a load only where there are bytes to be handed out.
+abbrev pub MayWant : Request → Answer → Type 0
+MayWant (loads name most) (loaded (Found bytes)) = length bytes ≤ most
+MayWant (loads name most) answer = ⊥
+MayWant request answer = Unit {0}
+
+-- what a call does to files
+abbrev pub FilesCall : Files → Request → Result Answer ShelfFault → Files → Type 0
+FilesCall before r (Ok answer) now = (answer ≡ answer_for before r) × (now ≡ files_after before r)
+FilesCall before r (Err fault.Failed) now = LeavesFiles before r now
+FilesCall before r (Err fault.NoMemory) now = LeavesFiles before r now × MayWant r (answer_for before r)
+
+-- an answer of the request's kind; a file that is handed out is within the bound, whatever stands on the shelf
+abbrev pub IsAnswer : Request → Result Answer ShelfFault → Type 0
+IsAnswer (loads name most) (Ok (loaded load)) = IsBounded most load
+IsAnswer (stores name bytes) (Ok stored) = Unit {0}
+IsAnswer (removes name) (Ok (was b)) = Unit {0}
+IsAnswer (looks name) (Ok (was b)) = Unit {0}
+IsAnswer r (Ok answer) = ⊥
+IsAnswer r (Err e) = Unit {0}
+
+-- ONE CALL of a shelf.
+pub record ShelfCall (before : FlatShelf) (c : Call) (now : FlatShelf) : Type 0 where
+  pub cause : HasCause before.calls now.calls (shelf_failed c.1) (shelf_wanted c.1)
+  pub tells : now.tells ≡ before.tells
+  pub answer : IsAnswer c.0 c.1
+  pub files : before.tells ≡ true → FilesCall before.files c.0 c.1 now.files
+
+-- A SHELF THAT TELLS
+-- the files after some calls that weren't refused
+abbrev pub files_left : Files → Trace → Files
+files_left files [] = files
+files_left files (c ∷ trace) = files_left (files_after files c.0) trace
+
+-- what a shelf of these files answers after such calls
+abbrev pub told_by : Files → Trace → Request → Answer
+told_by files trace r = answer_for (files_left files trace) r

@@ -1,0 +1,141 @@
+-- The calls of a device over parts of a run that follow one another, and what a run is told of those of a shelf.
+use Rattle.std.proofs.Common.{◌≡◌, ℕ, ◌≤◌, List, [], ◌∷◌, ◌++◌, Bool, true, false, Result, Ok, Err, refl, ap, subst, sym, ◌∙◌, append_assoc, append-nil, arith}
+use Rattle.gx_outside.specs.Chains.{Chain, IsCalled}
+use Rattle.gx_outside.specs.Files.{Files}
+use Rattle.gx_outside.specs.Outside.{FlatShelf}
+use Rattle.gx_outside.specs.Shelves.{Request, loads, stores, removes, looks, Answer, loaded, stored, Call, Trace, MayWant, answer_for, files_after, files_left, told_by, ShelfCall}
+use Rattle.gx_outside.specs.declared.devices.Load.TheVariants.{Found}
+use Rattle.gx_outside.specs.declared.devices.ShelfFault.{ShelfFault}
+use Rattle.gx_outside.specs.declared.devices.ShelfFault.TheVariants as fault
+use Rattle.gx_session.specs.Devices.{Devices}
+use Rattle.gx_session.specs.Playing.{Held, Going}
+use Rattle.gx_session.specs.Questions.{AreAnswered, AreTold}
+use Rattle.gx_session.specs.Session.{Configuration}
+
+-- THE CALLS
+chain-append : {S C : Type 0} (step : S → C → S → Type 0) (a b c : S) (one two : List C) → Chain step a one b → Chain step b two c → Chain step a (one ++ two) c
+chain-append {S} step a b c [] two same rest = subst (λ (x : S). Chain step x two c) same rest
+chain-append step a b c (x ∷ one) two chain rest = (chain.0, chain.1, chain-append step chain.0 b c one two chain.2 rest)
+
+-- seen in another way
+pub chain-map : {S T C : Type 0} (f : S → T) (step : S → C → S → Type 0) (step' : T → C → T → Type 0) → ((x : S) (c : C) (y : S) → step x c y → step' (f x) c (f y))
+    → (a b : S) (trace : List C) → Chain step a trace b → Chain step' (f a) trace (f b)
+chain-map f step step' law a b [] same = ap f same
+chain-map f step step' law a b (c ∷ trace) chain = (f chain.0, law a c chain.0 chain.1, chain-map f step step' law chain.0 b trace chain.2)
+
+-- no call, one, and more after others
+pub called-none : {S C : Type 0} (step : S → C → S → Type 0) (a : S) (P : List C → Type 0) → P [] → IsCalled step a a P
+called-none step a P holds = record { trace = []; chain = refl; holds = holds }
+
+pub called-one : {S C : Type 0} (step : S → C → S → Type 0) (a b : S) (c : C) (P : List C → Type 0) → step a c b → P (c ∷ []) → IsCalled step a b P
+called-one step a b c P does holds = record { trace = c ∷ []; chain = (b, does, refl); holds = holds }
+
+pub called-on : {S C : Type 0} (step : S → C → S → Type 0) (a b c : S) (P Q R : List C → Type 0) → IsCalled step a b P → IsCalled step b c Q
+    → ((one two : List C) → P one → Q two → R (one ++ two)) → IsCalled step a c R
+called-on step a b c P Q R f g join = record {
+  trace = f.trace ++ g.trace;
+  chain = chain-append step a b c f.trace g.trace f.chain g.chain;
+  holds = join f.trace g.trace f.holds g.holds;
+}
+
+pub called-as : {S C : Type 0} (step : S → C → S → Type 0) (a b : S) (P Q : List C → Type 0) → IsCalled step a b P → ((trace : List C) → P trace → Q trace) → IsCalled step a b Q
+called-as step a b P Q f to = record { trace = f.trace; chain = f.chain; holds = to f.trace f.holds }
+
+-- with the calls at hand
+pub called-chained : {S C : Type 0} (step : S → C → S → Type 0) (a b : S) (P : List C → Type 0) → IsCalled step a b P → IsCalled step a b (λ trace. Chain step a trace b × P trace)
+called-chained step a b P f = record { trace = f.trace; chain = f.chain; holds = (f.chain, f.holds) }
+
+-- the calls so far
+pub asked-none : (d : Devices) (P : Devices → Type 0) → P d → P (record d { asked = d.asked ++ [] })
+asked-none d P holds = subst (λ (t : Trace). P (record d { asked = t })) (sym (append-nil d.asked)) holds
+
+pub asked-on : (d : Devices) (one two : Trace) (P : Devices → Type 0) → P (record d { asked = (d.asked ++ one) ++ two }) → P (record d { asked = d.asked ++ (one ++ two) })
+asked-on d one two P holds = subst (λ (t : Trace). P (record d { asked = t })) (append_assoc d.asked one two) holds
+
+-- CALLS THAT WEREN'T REFUSED
+pub answered-back : (one two : Trace) → AreAnswered (one ++ two) → AreAnswered two
+answered-back [] two all = all
+answered-back ((r, Ok answer) ∷ one) two all = answered-back one two all
+answered-back ((r, Err e) ∷ one) two all = absurd all
+
+pub answered-and : (one two : Trace) → AreAnswered one → AreAnswered two → AreAnswered (one ++ two)
+answered-and [] two all more = more
+answered-and ((r, Ok answer) ∷ one) two all more = answered-and one two all more
+answered-and ((r, Err e) ∷ one) two all more = absurd all
+
+-- WHAT A RUN IS TOLD
+pub told-front : (answers : Trace → Request → Answer) (asked one two : Trace) → AreTold answers asked (one ++ two) → AreTold answers asked one
+told-front answers asked [] two told = tt
+told-front answers asked ((r, Ok answer) ∷ one) two told = (told.0, told-front answers (asked ++ (r, Ok answer) ∷ []) one two told.1)
+told-front answers asked ((r, Err fault.Failed) ∷ one) two told = tt
+told-front answers asked ((r, Err fault.NoMemory) ∷ one) two told = told
+
+pub told-back : (answers : Trace → Request → Answer) (asked one two : Trace) → AreAnswered one → AreTold answers asked (one ++ two) → AreTold answers (asked ++ one) two
+told-back answers asked [] two all told = subst (λ (t : Trace). AreTold answers t two) (sym (append-nil asked)) told
+told-back answers asked ((r, Ok answer) ∷ one) two all told =
+    subst (λ (t : Trace). AreTold answers t two) (append_assoc asked ((r, Ok answer) ∷ []) one)
+    (told-back answers (asked ++ (r, Ok answer) ∷ []) one two all told.1)
+told-back answers asked ((r, Err e) ∷ one) two all told = absurd all
+
+-- by the second of two parts of a run
+pub told-next : (start : Configuration) (entry : Devices) (h : Held) (d : Devices) (before one two : Trace) → d.asked ≡ before ++ one → Going start entry h d
+    → AreTold start.answers before (one ++ two) → AreTold start.answers (before ++ one) two
+told-next start entry h d before one two same g told =
+    told-back start.answers before one two (answered-back before one (subst AreAnswered same g.now.is_past.answered)) told
+
+-- the answers of a trace, in order, whatever is asked
+answer-in : Result Answer ShelfFault → Answer
+answer-in (Ok answer) = answer
+answer-in (Err e) = loaded (Found [])
+
+abbrev replayed : Trace → Trace → Request → Answer
+replayed [] asked r = stored
+replayed (c ∷ trace) [] r = answer-in c.1
+replayed (c ∷ trace) (e ∷ asked) r = replayed trace asked r
+
+replayed-at : (asked rest : Trace) (c : Call) (r : Request) → replayed (asked ++ c ∷ rest) asked r ≡ answer-in c.1
+replayed-at [] rest c r = refl
+replayed-at (e ∷ asked) rest c r = replayed-at asked rest c r
+
+may-want : (r : Request) → MayWant r (loaded (Found []))
+may-want (loads name most) = omega arith
+may-want (stores name bytes) = tt
+may-want (removes name) = tt
+may-want (looks name) = tt
+
+replayed-told : (whole asked trace : Trace) → whole ≡ asked ++ trace → AreTold (replayed whole) asked trace
+unfolding answer-in
+replayed-told whole asked [] is = tt
+replayed-told whole asked ((r, Ok answer) ∷ trace) is = (
+  ap (λ (t : Trace). replayed t asked r) is ∙ replayed-at asked trace (r, Ok answer) r,
+  replayed-told whole (asked ++ (r, Ok answer) ∷ []) trace (is ∙ sym (append_assoc asked ((r, Ok answer) ∷ []) trace)),
+)
+replayed-told whole asked ((r, Err fault.Failed) ∷ trace) is = tt
+replayed-told whole asked ((r, Err fault.NoMemory) ∷ trace) is =
+    subst (MayWant r) (sym (ap (λ (t : Trace). replayed t asked r) is ∙ replayed-at asked trace (r, Err fault.NoMemory) r)) (may-want r)
+
+-- the answers of a shelf that tells
+left-more : (files : Files) (asked : Trace) (c : Call) → files_left files (asked ++ c ∷ []) ≡ files_after (files_left files asked) c.0
+left-more files [] c = refl
+left-more files (e ∷ asked) c = left-more (files_after files e.0) asked c
+
+files-told : (s t : FlatShelf) (files : Files) (asked trace : Trace) → Chain ShelfCall s trace t → s.tells ≡ true → s.files ≡ files_left files asked → AreTold (told_by files) asked trace
+files-told s t files asked [] chain tells same = tt
+files-told s t files asked ((r, Ok answer) ∷ trace) chain tells same =
+    let does = chain.1.files tells in (
+      ap (λ (f : Files). answer_for f r) (sym same) ∙ sym does.0,
+      files-told chain.0 t files (asked ++ (r, Ok answer) ∷ []) trace chain.2 (chain.1.tells ∙ tells)
+          (does.1 ∙ ap (λ (f : Files). files_after f r) same ∙ sym (left-more files asked (r, Ok answer))),
+    )
+files-told s t files asked ((r, Err fault.Failed) ∷ trace) chain tells same = tt
+files-told s t files asked ((r, Err fault.NoMemory) ∷ trace) chain tells same = subst (λ (f : Files). MayWant r (answer_for f r)) same (chain.1.files tells).1
+
+answers-by : (s t : FlatShelf) (trace : Trace) (b : Bool) → s.tells ≡ b → Chain ShelfCall s trace t
+    → (answers : Trace → Request → Answer) × (s.tells ≡ true → answers ≡ told_by s.files) × AreTold answers [] trace
+answers-by s t trace true tells chain = (told_by s.files, (λ e. refl), files-told s t s.files [] trace chain tells refl)
+answers-by s t trace false tells chain = (replayed trace, (λ e. absurd cc), replayed-told trace [] trace refl)
+
+-- There are answers of the calls: those of its files, where a shelf tells them.
+pub some-answers : (s t : FlatShelf) (trace : Trace) → Chain ShelfCall s trace t
+    → (answers : Trace → Request → Answer) × (s.tells ≡ true → answers ≡ told_by s.files) × AreTold answers [] trace
+some-answers s t trace chain = answers-by s t trace s.tells refl chain
