@@ -6,12 +6,13 @@
 //! refusal.
 ghost use Rattle.std.specs.Prelude.{◌≡◌, ◌≢◌, ◌+◌, ◌-◌, ◌<◌, ◌≤◌, ◌==◌, if◌then◌else◌, Some, None, Ok, length, take};
 ghost use Rattle.std.specs.Prelude.{IfOk, OnOk, OnErr, IsTrue};
-ghost use Rattle.gx_pages.specs.Memory.{put_back_of};
+ghost use Rattle.gx_pages.specs.Memory.{IsSize, put_back_of};
 ghost use Rattle.gx_stack.specs.Constants.{to_memory, to_local, to_stack};
 ghost use Rattle.gx_stack.specs.Frames.{has_local};
 ghost use Rattle.gx_stack.specs.Stubs.{stub_below};
+ghost use Rattle.heap_blocks.specs.Heap.{IsSound};
 ghost use Rattle.gx_state.specs.Flat.{frame_of, sp_of};
-ghost use Rattle.gx_state.specs.Copies.{IsCopyFor, HasPlaceFor, copy_of, gone_back, restarted, stub_in};
+ghost use Rattle.gx_state.specs.Copies.{Copy, IsCopyFor, HasPlaceFor, copy_of, gone_back, restarted, stub_in};
 ghost use Rattle.gx_state.specs.Relations.{Begins};
 ghost use Rattle.gx_state.specs.Returns.{delivered, wrote};
 
@@ -27,7 +28,7 @@ use std::marker::Model;
 use std::rc::Rc;
 
 /// What is delivered to the stub of a copy: -1.
-pub(crate) const MINUS_ONE: u32 = 0xFFFF_FFFF;
+const MINUS_ONE: u32 = 0xFFFF_FFFF;
 
 /// What a copy has.
 #[derive(Drop)]
@@ -61,6 +62,42 @@ impl<A: Allocator + Clone> Moment<A> {
         Ok(Moment {
             parts: self.parts.clone()?,
         })
+    }
+}
+
+/// What the way back to a copy takes of it.
+pub(crate) trait Copied<A: Allocator + Clone> {
+    ghost copy: { Self → Copy };
+
+    /// The stack, with the stub on top.
+    fn stack(&self) -> &[u8]
+        ensures { result.now ≡ (copy self.now).stack };
+
+    /// The memory, but for the protected range, which keeps the bytes of the present one.
+    fn memory(&self, present: &Pages<A>, protected: (u32, u32)) -> Result<Pages<A>, AllocError>
+        requires { IsSize (length (copy self.now).memory) }
+        ensures { IfOk result (λ all. all
+            ≡ put_back_of present.now (copy self.now).memory protected.0 protected.1) };
+
+    /// The heap.
+    fn heap(&self, alloc: Global) -> Result<Heap, AllocError>
+        requires { IsSound (copy self.now).heap }
+        ensures { IfOk result (λ heap. heap.heap ≡ (copy self.now).heap) };
+}
+
+impl<A: Allocator + Clone> Copied<A> for Moment<A> {
+    ghost copy = { λ moment. moment };
+
+    fn stack(&self) -> &[u8] {
+        self.parts.stack.as_slice()
+    }
+
+    fn memory(&self, present: &Pages<A>, protected: (u32, u32)) -> Result<Pages<A>, AllocError> {
+        present.put_back(&self.parts.memory, protected)
+    }
+
+    fn heap(&self, alloc: Global) -> Result<Heap, AllocError> {
+        self.parts.heap.copy(alloc)
     }
 }
 
@@ -110,7 +147,6 @@ impl<A: Allocator + Clone> State<A> {
 
     /// Goes back to a copy, and delivers -1 to its stub. The protected range keeps its bytes, and the
     /// decoding table, the iosystem and the generator stay.
-    #[tactic(auto, using(crate::proofs::FlatCopies::backs))]
     pub fn put_back(&mut self, copy: &Moment<A>) -> Result<(), AllocError>
         requires { IsCopyFor self.old.flat.story copy.now }
         ensures ok { OnOk result (self.new.flat ≡ gone_back self.old.flat copy.now) }
@@ -118,10 +154,22 @@ impl<A: Allocator + Clone> State<A> {
         ensures story { self.new.flat.story ≡ self.old.flat.story }
         ensures live { OnOk result (0 < sp_of self.new.flat) }
     {
-        let stack = copy.parts.stack.as_slice();
+        self.go_back(copy)
+    }
+
+    /// The same, for a copy of either kind.
+    #[tactic(auto, using(crate::proofs::FlatCopies::backs))]
+    pub(crate) fn go_back<C: Copied<A>>(&mut self, copy: &C) -> Result<(), AllocError>
+        requires { IsCopyFor self.old.flat.story (C.copy copy.now) }
+        ensures ok { OnOk result (self.new.flat ≡ gone_back self.old.flat (C.copy copy.now)) }
+        ensures err { OnErr result (self.new ≡ self.old) }
+        ensures story { self.new.flat.story ≡ self.old.flat.story }
+        ensures live { OnOk result (0 < sp_of self.new.flat) }
+    {
+        let stack = copy.stack();
         let stub = Stub::on_top(stack);
         let memory = self.memory_of(copy, &stub)?;
-        let heap = copy.parts.heap.copy(self.stack.allocator())?;
+        let heap = copy.heap(self.stack.allocator())?;
         self.lay(memory, heap, stack, &stub);
         self.answer(&stub);
         Ok(())
@@ -130,17 +178,17 @@ impl<A: Allocator + Clone> State<A> {
     /// The memory of a copy but for the protected range, with -1 where the stub has its result stored
     /// in memory.
     #[tactic(auto, using(crate::proofs::Backs::memories))]
-    fn memory_of(&self, copy: &Moment<A>, stub: &Stub) -> Result<Pages<A>, AllocError>
-        requires fit { IsCopyFor self.now.flat.story copy.now }
-        requires stub { stub.now ≡ stub_in copy.now }
+    fn memory_of<C: Copied<A>>(&self, copy: &C, stub: &Stub) -> Result<Pages<A>, AllocError>
+        requires fit { IsCopyFor self.now.flat.story (C.copy copy.now) }
+        requires stub { stub.now ≡ stub_in (C.copy copy.now) }
         ensures value { IfOk result (λ all. all
-            ≡ wrote (put_back_of self.now.flat.memory copy.now.memory self.now.flat.protected.0
+            ≡ wrote (put_back_of self.now.flat.memory (C.copy copy.now).memory self.now.flat.protected.0
             self.now.flat.protected.1) (if stub.now.kind == to_memory then Some (stub.now.addr, 0xFFFFFFFF) else None)) }
-        ensures size { IfOk result (λ all. length all ≡ length copy.now.memory) }
+        ensures size { IfOk result (λ all. length all ≡ length (C.copy copy.now).memory) }
         ensures rom { IfOk result (λ all. take self.now.flat.story.header.ramstart all
             ≡ take self.now.flat.story.header.ramstart self.now.flat.story.bytes) }
     {
-        let mut memory = self.memory.put_back(&copy.parts.memory, self.protected)?;
+        let mut memory = copy.memory(&self.memory, self.protected)?;
         if stub.kind != TO_MEMORY {
             return Ok(memory);
         }
@@ -149,7 +197,7 @@ impl<A: Allocator + Clone> State<A> {
     }
 
     /// Lays a memory, a heap and the stack of a copy over the state, and goes back to the frame of its stub.
-    pub(crate) fn lay(&mut self, memory: Pages<A>, heap: Heap, stack: &[u8], stub: &Stub)
+    fn lay(&mut self, memory: Pages<A>, heap: Heap, stack: &[u8], stub: &Stub)
         requires fit { IsCopyFor self.old.flat.story (record { memory = memory; stack = stack.now; heap = heap.heap }) }
         requires stub { stub.now ≡ stub_below stack.now (length stack.now) }
         ensures value { self.new.flat ≡ record self.old.flat {
@@ -173,7 +221,7 @@ impl<A: Allocator + Clone> State<A> {
 
     /// Stores -1 in the local or on the stack, where the stub says so.
     #[tactic(auto, unfolding(crate::specs::Returns::delivered, crate::specs::Returns::dest_of, crate::specs::Stores::stored, crate::specs::Stores::store_fault, crate::specs::Flat::with_local, crate::specs::Flat::pushed, gx_stack::specs::Values::with_local, gx_stack::specs::Values::pushed))]
-    pub(crate) fn answer(&mut self, stub: &Stub)
+    fn answer(&mut self, stub: &Stub)
         requires live { 0 < sp_of self.old.flat }
         requires kind { stub.now.kind ≤ to_stack }
         requires pc { self.old.flat.pc ≡ stub.now.pc }

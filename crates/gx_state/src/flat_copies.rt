@@ -3,19 +3,14 @@
 //!
 //! Contracts see such a copy as they see a `Moment`: as memory, the stack with the stub of a store operand on top,
 //! and the heap. What may be refused comes first, so that the state is as before after every refusal.
-ghost use Rattle.std.specs.Prelude.{◌≡◌, ◌+◌, ◌-◌, ◌<◌, ◌≤◌, ◌==◌, if◌then◌else◌, Some, None, length, take, IfOk, OnOk};
-ghost use Rattle.std.specs.Prelude.{OnErr};
-ghost use Rattle.gx_pages.specs.Memory.{put_back_of};
-ghost use Rattle.gx_stack.specs.Constants.{to_memory};
+ghost use Rattle.std.specs.Prelude.{◌≡◌, ◌+◌, ◌<◌, ◌≤◌, length, IfOk, OnOk, OnErr};
 ghost use Rattle.gx_state.specs.Flat.{IsHeight, cut, sp_of};
-ghost use Rattle.gx_state.specs.Copies.{IsCopyFor, HasPlaceFor, copy_of, gone_back, stub_in};
-ghost use Rattle.gx_state.specs.Returns.{wrote};
+ghost use Rattle.gx_state.specs.Copies.{IsCopyFor, HasPlaceFor, copy_of, gone_back};
 
-use crate::copies::MINUS_ONE;
+use crate::copies::Copied;
 use crate::{Dest, State};
 use gx_pages::Pages;
-use gx_stack::{Stub, TO_MEMORY};
-use gx_words::{Blocks, Bytes, word_bytes};
+use gx_words::{Blocks, Bytes};
 use heap_blocks::Heap;
 use std::alloc::{AllocError, Allocator, Global};
 use std::marker::Model;
@@ -38,6 +33,24 @@ impl Model for FlatCopy {
     ghost use Rattle.gx_state.specs.FlatCopies.{copy_in};
 
     ghost view = { copy_in };
+}
+
+impl<A: Allocator + Clone> Copied<A> for FlatCopy {
+    ghost copy = { λ copy. copy };
+
+    fn stack(&self) -> &[u8] {
+        self.stack.as_slice()
+    }
+
+    #[tactic(auto, using(crate::proofs::FlatCopies::whole))]
+    fn memory(&self, present: &Pages<A>, protected: (u32, u32)) -> Result<Pages<A>, AllocError> {
+        let bytes = self.memory.as_slice();
+        present.begin_again(bytes, bytes.len() as u32, protected)
+    }
+
+    fn heap(&self, alloc: Global) -> Result<Heap, AllocError> {
+        Heap::from_blocks(alloc, self.heap, self.blocks.as_slice())
+    }
 }
 
 impl<A: Allocator + Clone> State<A> {
@@ -82,7 +95,6 @@ impl<A: Allocator + Clone> State<A> {
 
     /// Goes back to a copy, and delivers -1 to its stub. The protected range keeps its bytes, and the
     /// decoding table, the iosystem and the generator stay.
-    #[tactic(auto, using(crate::proofs::FlatCopies::backs))]
     pub fn with_bytes(&mut self, copy: &FlatCopy) -> Result<(), AllocError>
         requires { IsCopyFor self.old.flat.story copy.now }
         ensures ok { OnOk result (self.new.flat ≡ gone_back self.old.flat copy.now) }
@@ -90,36 +102,6 @@ impl<A: Allocator + Clone> State<A> {
         ensures story { self.new.flat.story ≡ self.old.flat.story }
         ensures live { OnOk result (0 < sp_of self.new.flat) }
     {
-        let stub = Stub::on_top(copy.stack.as_slice());
-        let memory = self.memory_with(copy, &stub)?;
-        let alloc = self.stack.allocator();
-        let heap = Heap::from_blocks(alloc, copy.heap, copy.blocks.as_slice())?;
-        self.lay(memory, heap, copy.stack.as_slice(), &stub);
-        self.answer(&stub);
-        Ok(())
-    }
-
-    /// The memory of a copy but for the protected range, with -1 where the stub has its result stored
-    /// in memory.
-    #[tactic(auto, using(crate::proofs::Backs::memories, crate::proofs::FlatCopies::whole))]
-    fn memory_with(&self, copy: &FlatCopy, stub: &Stub) -> Result<Pages<A>, AllocError>
-        requires fit { IsCopyFor self.now.flat.story copy.now }
-        requires stub { stub.now ≡ stub_in copy.now }
-        ensures value { IfOk result (λ all. all
-            ≡ wrote (put_back_of self.now.flat.memory copy.now.memory self.now.flat.protected.0
-            self.now.flat.protected.1) (if stub.now.kind == to_memory then Some (stub.now.addr, 0xFFFFFFFF) else None)) }
-        ensures size { IfOk result (λ all. length all ≡ length copy.now.memory) }
-        ensures rom { IfOk result (λ all. take self.now.flat.story.header.ramstart all
-            ≡ take self.now.flat.story.header.ramstart self.now.flat.story.bytes) }
-    {
-        let bytes = copy.memory.as_slice();
-        let mut memory = self
-            .memory
-            .begin_again(bytes, bytes.len() as u32, self.protected)?;
-        if stub.kind != TO_MEMORY {
-            return Ok(memory);
-        }
-        memory.write(stub.addr, &word_bytes(MINUS_ONE))?;
-        Ok(memory)
+        self.go_back(copy)
     }
 }
