@@ -154,12 +154,12 @@ impl<A: Allocator + Clone> State<A> {
         ensures story { self.new.flat.story ≡ self.old.flat.story }
         ensures live { OnOk result (0 < sp_of self.new.flat) }
     {
-        self.go_back(copy)
+        self.back_to(copy)
     }
 
     /// The same, for a copy of either kind.
     #[tactic(auto, using(crate::proofs::FlatCopies::backs))]
-    pub(crate) fn go_back<C: Copied<A>>(&mut self, copy: &C) -> Result<(), AllocError>
+    pub(crate) fn back_to<C: Copied<A>>(&mut self, copy: &C) -> Result<(), AllocError>
         requires { IsCopyFor self.old.flat.story (C.copy copy.now) }
         ensures ok { OnOk result (self.new.flat ≡ gone_back self.old.flat (C.copy copy.now)) }
         ensures err { OnErr result (self.new ≡ self.old) }

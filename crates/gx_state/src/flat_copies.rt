@@ -102,6 +102,6 @@ impl<A: Allocator + Clone> State<A> {
         ensures story { self.new.flat.story ≡ self.old.flat.story }
         ensures live { OnOk result (0 < sp_of self.new.flat) }
     {
-        self.go_back(copy)
+        self.back_to(copy)
     }
 }
