@@ -27,7 +27,7 @@ use Rattle.glk_event_calls.specs.Events.{select, waits_for, no_event}
 use Rattle.glk_dispatch.specs.declared.table.Selector.{Selector}
 use Rattle.glk_dispatch.specs.Table.{Doing, answers, turns, Row, table, row_in, row_of, exits, window_calls}
 use Rattle.glk_dispatch.specs.Table.{stream_calls, text_calls, event_calls, unicode_calls}
-use Rattle.glk_dispatch.specs.Calls.{looked, is_none, nothing, as_turn, done, dropping, call_of, call_by, glk_call}
+use Rattle.glk_dispatch.specs.Calls.{looked, is_on_none, nothing, as_turn, done, dropping, call_by, glk_call}
 use Rattle.glk_dispatch.specs.Ready.{IsReady}
 use Rattle.glk_dispatch.specs.Turns.{HasRequest, Awaits, Looked}
 use Rattle.glk_dispatch.proofs.Ready.{ready_looks}
@@ -260,7 +260,7 @@ module _ (f : FlatState) (room : ℕ) where
 
   -- ---- of the call
 
-  on_none : (none : Bool) (w : Scene) (row : Row) (args : List ℕ) (r : Said × Turn) → is_none row.looks args ≡ none
+  on_none : (none : Bool) (w : Scene) (row : Row) (args : List ℕ) (r : Said × Turn) → is_on_none row.looks args ≡ none
       → looked w row.looks args ≡ Ok tt → Asks (done row.does) row.looks
       → (if none then as_turn (nothing w f room row.looks args) else done row.does w f room args) ≡ Ok r → IsAsked r
   on_none true w row args r same ok asks is = answered_asks (nothing w f room row.looks args) r is
@@ -268,8 +268,9 @@ module _ (f : FlatState) (room : ℕ) where
 
   on_looks : (look : Result (Unit {0}) Fault) (w : Scene) (row : Row) (args : List ℕ) (r : Said × Turn)
       → looked w row.looks args ≡ look → Asks (done row.does) row.looks
-      → (look >>= λ _. call_of row w f room args) ≡ Ok r → IsAsked r
-  on_looks (Ok _) w row args r same asks is = on_none (is_none row.looks args) w row args r refl same asks is
+      → (look >>= λ _. if is_on_none row.looks args then as_turn (nothing w f room row.looks args)
+      else done row.does w f room args) ≡ Ok r → IsAsked r
+  on_looks (Ok _) w row args r same asks is = on_none (is_on_none row.looks args) w row args r refl same asks is
   on_looks (Err e) w row args r same asks is = absurd (cc)
 
   then_dropped : (dropped : Result Reply Fault) (w : Scene) (r : Said × Turn)

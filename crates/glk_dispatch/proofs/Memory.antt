@@ -38,7 +38,7 @@ use Rattle.glk_replies.specs.Parts.{pushed}
 use Rattle.glk_replies.specs.Parts.{written, give, give_each, pushed_each, written_each, some_given}
 use Rattle.glk_replies.specs.declared.Turn.{Turn}
 use Rattle.glk_replies.specs.declared.Turn.TheVariants as turn
-use Rattle.glk_dispatch.specs.Calls.{as_turn, done, nothing}
+use Rattle.glk_dispatch.specs.Calls.{as_turn, done, is_on_none}
 use Rattle.glk_dispatch.specs.Table.{Row}
 use Rattle.glk_dispatch.specs.Memory.{has_some, gives_some, turn_takes, is_more, takes_memory, is_left_out}
 use Rattle.glk_object_calls.specs.Gestalts.{gestalt_ext, has_glyphs, glyphs_place}
@@ -48,6 +48,7 @@ use Rattle.glk_object_calls.specs.References as reference
 use Rattle.glk_text_calls.specs.declared.characters.Case.{Case}
 use Rattle.glk_text_calls.specs.Characters as characters
 use Rattle.glk_text_calls.specs.Input as input
+use Rattle.glk_event_calls.specs.Constants.{line_event_type}
 use Rattle.glk_event_calls.specs.Events as events
 
 -- ---- small steps
@@ -340,8 +341,19 @@ exist_takes w args r is = asked w r _ refl is
 -- what a call takes, beside where it may want memory
 abbrev pub Law : Row → Type 0
 Law row =
-    (w : Scene) (f : FlatState) (room : ℕ) (args : List ℕ) (r : Said × Turn) → is_left_out row.looks.number ≡ false
-    → row.wants w f args ≡ true → done row.does w f room args ≡ Ok r → takes_memory w r ≡ true
+    (w : Scene) (f : FlatState) (room : ℕ) (args : List ℕ) (r : Said × Turn)
+    → is_left_out w row.looks.number args ≡ false → is_on_none row.looks args ≡ false → row.wants w f args ≡ true
+    → done row.does w f room args ≡ Ok r → takes_memory w r ≡ true
+
+-- a stream that isn't there is put nothing
+pub no_stream : {P : Type 0} (there more : Bool) → (there || false) ≡ false → (there && more) ≡ true → P
+no_stream true more gone some = absurd (cc)
+no_stream false more gone some = absurd (cc)
+
+-- an object that isn't 0 is left out
+pub some_object : {P : Type 0} (none : Bool) → not none ≡ false → none ≡ false → P
+some_object true out on = absurd (cc)
+some_object false out on = absurd (cc)
 
 pub gestalt_ext_takes : (w : Scene) (f : FlatState) (args : List ℕ) → has_glyphs args ≡ true
     → Takes w (gestalt_ext w f args)
@@ -484,10 +496,12 @@ char_event_takes w wide args may = asks_takes w _ may
 pub cancel_takes : (w : Scene) (f : FlatState) (room : ℕ) (args : List ℕ) → (arg args 1 == 0) ≡ false
     → Takes w (events.cancel_line_event w f room args)
 unfolding events.cancel_line_event
-cancel_takes w f room args some =
-    by_test w (events.is_line (requests.of w.requests (arg args 0))) _ _
-    (λ _. gives_one w _ f room 0 (arg args 1) _ _ some)
-    (λ _. gives_one w w f room 0 (arg args 1) _ _ some)
+cancel_takes w f room args some = elim (events.is_line (requests.of w.requests (arg args 0))) as (λ b. Takes w
+    (give f room 0 (arg args 1) (if b then events.event line_event_type (arg args 0) 0 else events.no_event)
+    >>= λ reply. answered (if b then events.without_request w (arg args 0) else w) reply)) [
+      | true ↦ gives_one w (events.without_request w (arg args 0)) f room 0 (arg args 1) _ _ some
+      | false ↦ gives_one w w f room 0 (arg args 1) _ _ some
+    ]
 
 -- ---- those that take turns
 

@@ -1,5 +1,5 @@
 -- Over the table of calls: one may want memory only where it comes to something that takes some.
-use Rattle.std.proofs.Common.{◌≡◌, ◌+◌, ◌-◌, ◌==◌, ◌||◌, not, nat_lt, ℕ, zero, suc}
+use Rattle.std.proofs.Common.{◌≡◌, ◌==◌, ◌||◌, not, nat_lt, ℕ, zero, suc}
 use Rattle.std.proofs.Common.{Bool, true}
 use Rattle.std.proofs.Common.{false}
 use Rattle.std.proofs.Common.{if◌then◌else◌, List, [], ◌∷◌, ◌++◌, map, replicate, Option, Some, None}
@@ -18,13 +18,15 @@ use Rattle.glk_replies.specs.Numbers as selectors
 use Rattle.glk_replies.specs.Parts.{give, give_each, some_given}
 use Rattle.glk_replies.specs.declared.Turn.{Turn}
 use Rattle.glk_dispatch.specs.declared.table.Selector.{Selector}
-use Rattle.glk_dispatch.specs.Calls.{as_turn, done, looked, is_none, nothing, gives_nothing, call_of, call_by}
+use Rattle.glk_dispatch.specs.Calls.{as_turn, done, looked, is_on_none, nothing, gives_nothing, call_by}
 use Rattle.glk_dispatch.specs.Calls.{glk_call, grows_by, grows, IsGrowing}
 use Rattle.glk_dispatch.specs.Table.{Row, table, row_in, row_of, window_calls, stream_calls, text_calls, event_calls}
 use Rattle.glk_dispatch.specs.Table.{unicode_calls}
 use Rattle.glk_dispatch.specs.Memory.{gives_some, takes_memory, is_left_out, TakesMemory}
 use Rattle.glk_dispatch.proofs.Memory.{not_so, there_or_not, both, Takes, gives, behind, by_test, give_some}
-use Rattle.glk_dispatch.proofs.Memory.{give_each_some, prompt_takes, delete_takes, exist_takes, Law, gestalt_ext_takes}
+use Rattle.glk_dispatch.proofs.Memory.{give_each_some, prompt_takes, delete_takes, exist_takes, Law, no_stream}
+use Rattle.glk_dispatch.proofs.Memory.{some_object}
+use Rattle.glk_dispatch.proofs.Memory.{gestalt_ext_takes}
 use Rattle.glk_dispatch.proofs.Memory.{iterate_takes, open_takes, size_takes, arrange_takes, arrangement_takes}
 use Rattle.glk_dispatch.proofs.Memory.{stream_iterate_takes, memory_takes, temp_takes, by_name_takes}
 use Rattle.glk_dispatch.proofs.Memory.{reference_iterate_takes, copied_takes, line_takes, buffer_takes, case_takes}
@@ -40,47 +42,47 @@ AllLaw (row ∷ rows) = Law row × AllLaw rows
 window_laws : AllLaw window_calls
 unfolding window_calls
 window_laws = (
-  (λ w f room args r e wants is. absurd (cc)),
+  (λ w f room args r e on wants is. absurd (cc)),
   (
-    (λ w f room args r e wants is. absurd (cc)),
+    (λ w f room args r e on wants is. absurd (cc)),
     (
-      (λ w f room args r e wants is. absurd (cc)),
+      (λ w f room args r e on wants is. absurd (cc)),
       (
-        (λ w f room args r e wants is. gestalt_ext_takes w f args wants r is),
+        (λ w f room args r e on wants is. gestalt_ext_takes w f args wants r is),
         (
-          (λ w f room args r e wants is. iterate_takes w f room args (not_so (arg args 1 == 0) wants) r is),
+          (λ w f room args r e on wants is. iterate_takes w f room args (not_so (arg args 1 == 0) wants) r is),
           (
-            (λ w f room args r e wants is. absurd (cc)),
+            (λ w f room args r e on wants is. absurd (cc)),
             (
-              (λ w f room args r e wants is. absurd (cc)),
+              (λ w f room args r e on wants is. absurd (cc)),
               (
-                (λ w f room args r e wants is. open_takes w args wants r is),
+                (λ w f room args r e on wants is. open_takes w args wants r is),
                 (
-                  (λ w f room args r e wants is. absurd (cc)),
+                  (λ w f room args r e on wants is. some_object (arg args 0 == 0) e on),
                   (
-                    (λ w f room args r e wants is. size_takes w f room args wants r is),
+                    (λ w f room args r e on wants is. size_takes w f room args wants r is),
                     (
-                      (λ w f room args r e wants is. arrange_takes w args wants r is),
+                      (λ w f room args r e on wants is. arrange_takes w args wants r is),
                       (
-                        (λ w f room args r e wants is. arrangement_takes w f room args wants r is),
+                        (λ w f room args r e on wants is. arrangement_takes w f room args wants r is),
                         (
-                          (λ w f room args r e wants is. absurd (cc)),
+                          (λ w f room args r e on wants is. absurd (cc)),
                           (
-                            (λ w f room args r e wants is. absurd (cc)),
+                            (λ w f room args r e on wants is. absurd (cc)),
                             (
-                              (λ w f room args r e wants is. absurd (cc)),
+                              (λ w f room args r e on wants is. absurd (cc)),
                               (
-                                (λ w f room args r e wants is. absurd (cc)),
+                                (λ w f room args r e on wants is. absurd (cc)),
                                 (
-                                  (λ w f room args r e wants is. absurd (cc)),
+                                  (λ w f room args r e on wants is. absurd (cc)),
                                   (
-                                    (λ w f room args r e wants is. absurd (cc)),
+                                    (λ w f room args r e on wants is. absurd (cc)),
                                     (
-                                      (λ w f room args r e wants is. absurd (cc)),
+                                      (λ w f room args r e on wants is. absurd (cc)),
                                       (
-                                        (λ w f room args r e wants is. absurd (cc)),
+                                        (λ w f room args r e on wants is. absurd (cc)),
                                         (
-                                          (λ w f room args r e wants is. absurd (cc)),
+                                          (λ w f room args r e on wants is. absurd (cc)),
                                           tt,
                                         ),
                                       ),
@@ -107,42 +109,42 @@ window_laws = (
 stream_laws : AllLaw stream_calls
 unfolding stream_calls
 stream_laws = (
-  (λ w f room args r e wants is. stream_iterate_takes w f room args (not_so (arg args 1 == 0) wants) r is),
+  (λ w f room args r e on wants is. stream_iterate_takes w f room args (not_so (arg args 1 == 0) wants) r is),
   (
-    (λ w f room args r e wants is. absurd (cc)),
+    (λ w f room args r e on wants is. absurd (cc)),
     (
-      (λ w f room args r e wants is. file_takes w selectors.stream_open_file args r wants is),
+      (λ w f room args r e on wants is. file_takes w selectors.stream_open_file args r wants is),
       (
-        (λ w f room args r e wants is. memory_takes w args false wants r is),
+        (λ w f room args r e on wants is. memory_takes w args false wants r is),
         (
-          (λ w f room args r e wants is. closing_takes w f room args r wants is),
+          (λ w f room args r e on wants is. closing_takes w f room args r wants is),
           (
-            (λ w f room args r e wants is. absurd (cc)),
+            (λ w f room args r e on wants is. absurd (cc)),
             (
-              (λ w f room args r e wants is. absurd (cc)),
+              (λ w f room args r e on wants is. absurd (cc)),
               (
-                (λ w f room args r e wants is. absurd (cc)),
+                (λ w f room args r e on wants is. absurd (cc)),
                 (
-                  (λ w f room args r e wants is. absurd (cc)),
+                  (λ w f room args r e on wants is. absurd (cc)),
                   (
-                    (λ w f room args r e wants is. temp_takes w args wants r is),
+                    (λ w f room args r e on wants is. temp_takes w args wants r is),
                     (
-                      (λ w f room args r e wants is. by_name_takes w f args wants r is),
+                      (λ w f room args r e on wants is. by_name_takes w f args wants r is),
                       (
-                        (λ w f room args r e wants is. prompt_takes w args r (not_so (is_composed w) wants) is),
+                        (λ w f room args r e on wants is. prompt_takes w args r (not_so (is_composed w) wants) is),
                         (
-                          (λ w f room args r e wants is. absurd (cc)),
+                          (λ w f room args r e on wants is. absurd (cc)),
                           (
-                            (λ w f room args r e wants is.
+                            (λ w f room args r e on wants is.
                                 reference_iterate_takes w f room args (not_so (arg args 1 == 0) wants) r is),
                             (
-                              (λ w f room args r e wants is. absurd (cc)),
+                              (λ w f room args r e on wants is. absurd (cc)),
                               (
-                                (λ w f room args r e wants is. delete_takes w args r is),
+                                (λ w f room args r e on wants is. delete_takes w args r is),
                                 (
-                                  (λ w f room args r e wants is. exist_takes w args r is),
+                                  (λ w f room args r e on wants is. exist_takes w args r is),
                                   (
-                                    (λ w f room args r e wants is. copied_takes w args wants r is),
+                                    (λ w f room args r e on wants is. copied_takes w args wants r is),
                                     tt,
                                   ),
                                 ),
@@ -166,39 +168,39 @@ stream_laws = (
 text_laws : AllLaw text_calls
 unfolding text_calls
 text_laws = (
-  (λ w f room args r e wants is. absurd (cc)),
+  (λ w f room args r e on wants is. no_stream _ _ e wants),
   (
-    (λ w f room args r e wants is. absurd (cc)),
+    (λ w f room args r e on wants is. some_object (arg args 0 == 0) e on),
     (
-      (λ w f room args r e wants is. absurd (cc)),
+      (λ w f room args r e on wants is. no_stream _ _ e wants),
       (
-        (λ w f room args r e wants is. absurd (cc)),
+        (λ w f room args r e on wants is. some_object (arg args 0 == 0) e on),
         (
-          (λ w f room args r e wants is. absurd (cc)),
+          (λ w f room args r e on wants is. no_stream _ _ e wants),
           (
-            (λ w f room args r e wants is. absurd (cc)),
+            (λ w f room args r e on wants is. some_object (arg args 0 == 0) e on),
             (
-              (λ w f room args r e wants is. absurd (cc)),
+              (λ w f room args r e on wants is. absurd (cc)),
               (
-                (λ w f room args r e wants is. absurd (cc)),
+                (λ w f room args r e on wants is. absurd (cc)),
                 (
-                  (λ w f room args r e wants is. absurd (cc)),
+                  (λ w f room args r e on wants is. absurd (cc)),
                   (
-                    (λ w f room args r e wants is. line_takes w f 1 args (not_so (arg args 2 == 0) wants) r is),
+                    (λ w f room args r e on wants is. line_takes w f 1 args (not_so (arg args 2 == 0) wants) r is),
                     (
-                      (λ w f room args r e wants is. buffer_takes w f 1 args wants r is),
+                      (λ w f room args r e on wants is. buffer_takes w f 1 args wants r is),
                       (
-                        (λ w f room args r e wants is. absurd (cc)),
+                        (λ w f room args r e on wants is. absurd (cc)),
                         (
-                          (λ w f room args r e wants is. absurd (cc)),
+                          (λ w f room args r e on wants is. absurd (cc)),
                           (
-                            (λ w f room args r e wants is. absurd (cc)),
+                            (λ w f room args r e on wants is. absurd (cc)),
                             (
-                              (λ w f room args r e wants is. absurd (cc)),
+                              (λ w f room args r e on wants is. absurd (cc)),
                               (
-                                (λ w f room args r e wants is. absurd (cc)),
+                                (λ w f room args r e on wants is. absurd (cc)),
                                 (
-                                  (λ w f room args r e wants is. absurd (cc)),
+                                  (λ w f room args r e on wants is. absurd (cc)),
                                   tt,
                                 ),
                               ),
@@ -221,17 +223,17 @@ text_laws = (
 event_laws : AllLaw event_calls
 unfolding event_calls
 event_laws = (
-  (λ w f room args r e wants is. absurd (cc)),
+  (λ w f room args r e on wants is. absurd (cc)),
   (
-    (λ w f room args r e wants is. poll_takes w f room args (not_so (arg args 0 == 0) wants) r is),
+    (λ w f room args r e on wants is. poll_takes w f room args (not_so (arg args 0 == 0) wants) r is),
     (
-      (λ w f room args r e wants is. line_event_takes w false args wants r is),
+      (λ w f room args r e on wants is. line_event_takes w false args wants r is),
       (
-        (λ w f room args r e wants is. cancel_takes w f room args (not_so (arg args 1 == 0) wants) r is),
+        (λ w f room args r e on wants is. cancel_takes w f room args (not_so (arg args 1 == 0) wants) r is),
         (
-          (λ w f room args r e wants is. char_event_takes w false args wants r is),
+          (λ w f room args r e on wants is. char_event_takes w false args wants r is),
           (
-            (λ w f room args r e wants is. absurd (cc)),
+            (λ w f room args r e on wants is. absurd (cc)),
             tt,
           ),
         ),
@@ -243,39 +245,40 @@ event_laws = (
 unicode_laws : AllLaw unicode_calls
 unfolding unicode_calls
 unicode_laws = (
-  (λ w f room args r e wants is. case_takes w f _ _ args wants r is),
+  (λ w f room args r e on wants is. case_takes w f _ _ args wants r is),
   (
-    (λ w f room args r e wants is. case_takes w f _ _ args wants r is),
+    (λ w f room args r e on wants is. case_takes w f _ _ args wants r is),
     (
-      (λ w f room args r e wants is. case_takes w f _ _ args wants r is),
+      (λ w f room args r e on wants is. case_takes w f _ _ args wants r is),
       (
-        (λ w f room args r e wants is. absurd (cc)),
+        (λ w f room args r e on wants is. no_stream _ _ e wants),
         (
-          (λ w f room args r e wants is. absurd (cc)),
+          (λ w f room args r e on wants is. no_stream _ _ e wants),
           (
-            (λ w f room args r e wants is. absurd (cc)),
+            (λ w f room args r e on wants is. no_stream _ _ e wants),
             (
-              (λ w f room args r e wants is. absurd (cc)),
+              (λ w f room args r e on wants is. some_object (arg args 0 == 0) e on),
               (
-                (λ w f room args r e wants is. absurd (cc)),
+                (λ w f room args r e on wants is. some_object (arg args 0 == 0) e on),
                 (
-                  (λ w f room args r e wants is. absurd (cc)),
+                  (λ w f room args r e on wants is. some_object (arg args 0 == 0) e on),
                   (
-                    (λ w f room args r e wants is. absurd (cc)),
+                    (λ w f room args r e on wants is. absurd (cc)),
                     (
-                      (λ w f room args r e wants is. buffer_takes w f 4 args wants r is),
+                      (λ w f room args r e on wants is. buffer_takes w f 4 args wants r is),
                       (
-                        (λ w f room args r e wants is. line_takes w f 4 args (not_so (arg args 2 == 0) wants) r is),
+                        (λ w f room args r e on wants is. line_takes w f 4 args (not_so (arg args 2 == 0) wants) r is),
                         (
-                          (λ w f room args r e wants is. file_takes w selectors.stream_open_file_uni args r wants is),
+                          (λ w f room args r e on wants is.
+                              file_takes w selectors.stream_open_file_uni args r wants is),
                           (
-                            (λ w f room args r e wants is. memory_takes w args true wants r is),
+                            (λ w f room args r e on wants is. memory_takes w args true wants r is),
                             (
-                              (λ w f room args r e wants is. char_event_takes w true args wants r is),
+                              (λ w f room args r e on wants is. char_event_takes w true args wants r is),
                               (
-                                (λ w f room args r e wants is. line_event_takes w true args wants r is),
+                                (λ w f room args r e on wants is. line_event_takes w true args wants r is),
                                 (
-                                  (λ w f room args r e wants is. absurd (cc)),
+                                  (λ w f room args r e on wants is. absurd (cc)),
                                   tt,
                                 ),
                               ),
@@ -379,33 +382,34 @@ nothing_takes w f room row args words some =
     (λ reply is. gives w (silent w) reply (zeros_given f room row args reply words any some is)))
 
 on_row : (none : Bool) (w : Scene) (f : FlatState) (room : ℕ) (row : Row) (args : List ℕ) (r : Said × Turn) → Law row
-    → gives_words row.looks ≡ true → is_left_out row.looks.number ≡ false
+    → is_on_none row.looks args ≡ none → gives_words row.looks ≡ true
+    → is_left_out w row.looks.number args ≡ false
     → (if none then gives_nothing row.looks args else row.wants w f args) ≡ true
     → (if none then as_turn (nothing w f room row.looks args) else done row.does w f room args) ≡ Ok r
     → takes_memory w r ≡ true
-on_row true w f room row args r law words within wants is = nothing_takes w f room row.looks args words wants r is
-on_row false w f room row args r law words within wants is = law w f room args r within wants is
+on_row true w f room row args r law on words within wants is = nothing_takes w f room row.looks args words wants r is
+on_row false w f room row args r law on words within wants is = law w f room args r within on wants is
 
-on_looks : (look : Result (Unit {0}) Fault) (w : Scene) (f : FlatState) (room : ℕ) (row : Row) (args : List ℕ)
-    (r : Said × Turn) → ((is : call_of row w f room args ≡ Ok r) → takes_memory w r ≡ true)
-    → (look >>= λ _. call_of row w f room args) ≡ Ok r → takes_memory w r ≡ true
-on_looks (Ok _) w f room row args r takes is = takes is
-on_looks (Err e) w f room row args r takes is = absurd (cc)
+behind_looks : (look : Result (Unit {0}) Fault) (w : Scene) (does : Outcome Turn) (r : Said × Turn)
+    → (does ≡ Ok r → takes_memory w r ≡ true) → (look >>= λ _. does) ≡ Ok r → takes_memory w r ≡ true
+behind_looks (Ok _) w does r takes is = takes is
+behind_looks (Err e) w does r takes is = absurd (cc)
 
 found_takes : (found : Option Row) (w : Scene) (f : FlatState) (room selector : ℕ) (args : List ℕ) (r : Said × Turn)
-    → row_in table selector ≡ found → is_left_out selector ≡ false → grows_by found w f args ≡ true
+    → row_in table selector ≡ found → is_left_out w selector args ≡ false → grows_by found w f args ≡ true
     → call_by found w f room selector args ≡ Ok r → takes_memory w r ≡ true
 found_takes None w f room selector args r same within wants is = absurd (cc)
 found_takes (Some row) w f room selector args r same within wants is =
     let law = row_law selector table row table_laws same in
     let number : row.looks.number ≡ selector = (let e = law.1 in grind (arith, nat_tests, e)) in
     let words = row_words selector table row words_given same in
-    let out : is_left_out row.looks.number ≡ false = rw number within in
-    on_looks (looked w row.looks args) w f room row args r
-    (λ does. on_row (is_none row.looks args) w f room row args r law.0 words out wants does) is
+    let out : is_left_out w row.looks.number args ≡ false = rw number within in
+    behind_looks (looked w row.looks args) w
+    (if is_on_none row.looks args then as_turn (nothing w f room row.looks args) else done row.does w f room args) r
+    (λ does. on_row (is_on_none row.looks args) w f room row args r law.0 refl words out wants does) is
 
 call_takes : (w : Scene) (f : FlatState) (room selector : ℕ) (args : List ℕ) (r : Said × Turn)
-    → is_left_out selector ≡ false → grows w f selector args ≡ true → glk_call w f room selector args ≡ Ok r
+    → is_left_out w selector args ≡ false → grows w f selector args ≡ true → glk_call w f room selector args ≡ Ok r
     → takes_memory w r ≡ true
 unfolding glk_call grows row_of
 call_takes w f room selector args r within wants is =
@@ -419,7 +423,7 @@ taking w old (Err e) takes fine = absurd (cc)
 
 pub wants_for : (result : Result Turn Fault) (old new : FlatWorld) (f : FlatState) (room selector : ℕ) (args : List ℕ)
     → Calls (IsGrowing old.scene f selector args) result old new (glk_call old.scene f room selector args)
-    → is_left_out selector ≡ false → result ≡ Err NoMemory
+    → is_left_out old.scene selector args ≡ false → result ≡ Err NoMemory
     → TakesMemory old.scene (glk_call old.scene f room selector args)
 wants_for (Ok x) old new f room selector args is within none = absurd (cc)
 wants_for (Err e) old new f room selector args is within none =

@@ -9,7 +9,7 @@ use Rattle.glk_world.specs.World.{Scene, arg}
 use Rattle.glk_dispatch.specs.declared.table.Class.{Class}
 use Rattle.glk_dispatch.specs.declared.table.Selector.{Selector}
 use Rattle.glk_dispatch.specs.Table.{Row, row_of, row_fits}
-use Rattle.glk_dispatch.specs.Calls.{is_there, named, looked, is_none, call_by, grows_by, glk_call, grows}
+use Rattle.glk_dispatch.specs.Calls.{is_there, named, looked, is_on_none, call_by, grows_by, glk_call, grows}
 use Rattle.glk_dispatch.specs.Ready.{IsNamed, IsFirst, IsReady, IsReadyBy, done_by, wants_by, call_looked, wants_looked}
 
 -- ---- by the looks
@@ -47,7 +47,7 @@ unfolding looked
 first_named w row args ok = grind (arith, common_steps, nat_tests)
 
 other_named : (w : Scene) (row : Selector) (args : List ℕ) → looked w row args ≡ Ok tt
-    → named w row.other (arg args row.place) ≡ Ok tt
+    → named w row.other (arg args row.other_place) ≡ Ok tt
 unfolding looked
 other_named w row args ok = grind (arith, common_steps, nat_tests)
 
@@ -66,18 +66,19 @@ zero_or w class id ok =
       | inr there ↦ inr there
     ]
 
--- the first argument of a marked row isn't 0
-first_there : (marked : Bool) (w : Scene) (class : Class) (id : ℕ) → IsNamed w class id → (marked && id == 0) ≡ false
-    → IsFirst marked w class id
+-- the first argument of a row that needs it isn't 0
+first_there : (needs_first : Bool) (w : Scene) (class : Class) (id : ℕ) → IsNamed w class id
+    → (needs_first && id == 0) ≡ false → IsFirst needs_first w class id
 first_there true w class id (inl none) some = absurd (grind (arith, nat_tests, some, none))
 first_there true w class id (inr there) some = there
 first_there false w class id named some = named
 
-pub ready_looks : (w : Scene) (row : Selector) (args : List ℕ) → looked w row args ≡ Ok tt → is_none row args ≡ false
+pub ready_looks : (w : Scene) (row : Selector) (args : List ℕ) → looked w row args ≡ Ok tt → is_on_none row args ≡ false
     → IsReady row w args
 ready_looks w row args ok some = (
-  first_there row.marked w row.first (arg args 0) (zero_or w row.first (arg args 0) (first_named w row args ok)) some,
-  zero_or w row.other (arg args row.place) (other_named w row args ok),
+  first_there row.needs_first w row.first (arg args 0)
+      (zero_or w row.first (arg args 0) (first_named w row args ok)) some,
+  zero_or w row.other (arg args row.other_place) (other_named w row args ok),
 )
 
 by_row : (found : Option Row) (row : Selector) (w : Scene) (args : List ℕ)
@@ -87,7 +88,8 @@ by_row (Some found) row w args is ready = let same : row ≡ found.looks = (cc) 
     subst (λ looks. IsReady looks w args) same ready
 
 pub ready_row : (selector : ℕ) (w : Scene) (row : Selector) (args : List ℕ)
-    → option_map (λ row. row.looks) (row_of selector) ≡ Some row → looked w row args ≡ Ok tt → is_none row args ≡ false
+    → option_map (λ row. row.looks) (row_of selector) ≡ Some row → looked w row args ≡ Ok tt
+    → is_on_none row args ≡ false
     → IsReadyBy (row_of selector) w args
 ready_row selector w row args is ok some = by_row (row_of selector) row w args is (ready_looks w row args ok some)
 

@@ -39,11 +39,11 @@ unfoldable pub looked : Scene → Selector → List ℕ → Result (Unit {0}) Fa
 looked w row args =
     if nat_lt (length args) row.arguments then Err BadGlk else (do
       first ← named w row.first (arg args 0)
-      named w row.other (arg args row.place))
+      named w row.other (arg args row.other_place))
 
 -- a call on the object 0
-abbrev pub is_none : Selector → List ℕ → Bool
-is_none row args = row.marked && arg args 0 == 0
+abbrev pub is_on_none : Selector → List ℕ → Bool
+is_on_none row args = row.needs_first && arg args 0 == 0
 
 -- It does nothing, and gives 0 to its references: to one for all its words, or to some of one word each.
 unfoldable pub nothing : Scene → FlatState → ℕ → Selector → List ℕ → Outcome Reply
@@ -65,10 +65,6 @@ abbrev pub done : Doing → Scene → FlatState → ℕ → List ℕ → Outcome
 done (answers call) w f room args = as_turn (call w f room args)
 done (turns call) w f room args = call w f room args
 
-abbrev pub call_of : Row → Scene → FlatState → ℕ → List ℕ → Outcome Turn
-call_of row w f room args =
-    if is_none row.looks args then as_turn (nothing w f room row.looks args) else done row.does w f room args
-
 -- a selector without a row: it drops its arguments, or there is no such call
 abbrev pub dropping : ℕ → Result Reply Fault
 dropping selector = if is_dropped selector then Ok (replies 0) else Err BadGlk
@@ -79,7 +75,7 @@ call_by None w f room selector args = do
   Ok (silent w, Answer reply)
 call_by (Some row) w f room selector args = do
   there ← looked w row.looks args
-  call_of row w f room args
+  if is_on_none row.looks args then as_turn (nothing w f room row.looks args) else done row.does w f room args
 
 -- THE CALL of a selector.
 unfoldable pub glk_call : Scene → FlatState → ℕ → ℕ → List ℕ → Outcome Turn
@@ -95,7 +91,7 @@ gives_nothing row args =
 
 abbrev pub grows_by : Option Row → Scene → FlatState → List ℕ → Bool
 grows_by None w f args = false
-grows_by (Some row) w f args = if is_none row.looks args then gives_nothing row.looks args else row.wants w f args
+grows_by (Some row) w f args = if is_on_none row.looks args then gives_nothing row.looks args else row.wants w f args
 
 -- the call of a selector that may want memory: one that adds text, writes, pushes, names a file or makes an object
 unfoldable pub grows : Scene → FlatState → ℕ → List ℕ → Bool

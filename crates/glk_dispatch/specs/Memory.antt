@@ -1,12 +1,14 @@
 -- Where memory may be wanted, by what a call comes to.
 --
--- Left out are the calls that put characters, whose text may have its place on a screen that keeps so much of it
--- alone, and window_close, which lists what goes with a window.
-use Rattle.std.specs.Prelude.{ℕ, ◌==◌, ◌||◌, nat_lt, Bool, true, false, IsTrue, List, [], ◌∷◌, length, Ok, Err}
+-- Left out is putting to a stream that is there, whose text may have its place on a screen that keeps so much of it
+-- alone, and closing a window, where what goes is listed. Of these the rows of the table alone say it.
+use Rattle.std.specs.Prelude.{ℕ, ◌==◌, ◌||◌, ◌&&◌, not, nat_lt, Bool, true, false, IsTrue, List, [], ◌∷◌, length, Ok}
+use Rattle.std.specs.Prelude.{Err}
 use Rattle.std.specs.Int.{is_in_range}
 use Rattle.gx_state.specs.declared.effects.Reply.{Reply}
+use Rattle.glk_streams.specs.Streams as streams
 use Rattle.glk_windows.specs.Changes.{some_grow}
-use Rattle.glk_world.specs.World.{Scene, Said, Outcome}
+use Rattle.glk_world.specs.World.{Scene, Said, Outcome, arg}
 use Rattle.glk_replies.specs.Numbers as selectors
 use Rattle.glk_replies.specs.declared.Turn.{Turn}
 use Rattle.glk_replies.specs.declared.Turn.TheVariants as turn
@@ -42,11 +44,24 @@ is_more w v =
 abbrev pub takes_memory : Scene → Said × Turn → Bool
 takes_memory w r = turn_takes r.1 || has_some r.0.1 || is_more w r.0.0
 
--- the calls that are left out
-abbrev pub is_left_out : ℕ → Bool
-is_left_out selector =
-    selector == selectors.window_close || is_in_range selectors.put_char selectors.put_buffer_stream selector
-    || is_in_range selectors.put_char_uni selectors.put_buffer_stream_uni selector
+-- the calls that put characters to the current stream
+abbrev pub puts_to_current : ℕ → Bool
+puts_to_current selector =
+    selector == selectors.put_char || selector == selectors.put_string || selector == selectors.put_buffer
+    || is_in_range selectors.put_char_uni selectors.put_buffer_uni selector
+
+-- those that put characters to the stream of the first argument
+abbrev pub puts_to_stream : ℕ → Bool
+puts_to_stream selector =
+    selector == selectors.put_char_stream || selector == selectors.put_string_stream
+    || selector == selectors.put_buffer_stream
+    || is_in_range selectors.put_char_stream_uni selectors.put_buffer_stream_uni selector
+
+-- what is left out: characters for a stream that is there, and a window that is closed
+abbrev pub is_left_out : Scene → ℕ → List ℕ → Bool
+is_left_out w selector args =
+    (puts_to_current selector && streams.has w.streams w.current)
+    || ((puts_to_stream selector || selector == selectors.window_close) && not (arg args 0 == 0))
 
 abbrev pub TakesMemory : Scene → Outcome Turn → Type 0
 TakesMemory w (Ok r) = IsTrue (takes_memory w r)

@@ -9,7 +9,7 @@ use Rattle.glk_replies.specs.declared.Turn.TheVariants.{Answer}
 use Rattle.glk_dispatch.specs.declared.table.Class.{Class}
 use Rattle.glk_dispatch.specs.declared.table.Selector.{Selector}
 use Rattle.glk_dispatch.specs.Table.{Row}
-use Rattle.glk_dispatch.specs.Calls.{is_there, looked, is_none, nothing, as_turn, done, dropping, gives_nothing}
+use Rattle.glk_dispatch.specs.Calls.{is_there, looked, is_on_none, nothing, as_turn, done, dropping, gives_nothing}
 
 abbrev pub IsThere : Scene → Class → ℕ → Type 0
 IsThere w class id = is_there w class id ≡ true
@@ -18,14 +18,14 @@ IsThere w class id = is_there w class id ≡ true
 abbrev pub IsNamed : Scene → Class → ℕ → Type 0
 IsNamed w class id = (id ≡ 0) ⊎ IsThere w class id
 
--- the first argument of a marked row isn't 0
+-- the first argument of a row that needs it isn't 0
 abbrev pub IsFirst : Bool → Scene → Class → ℕ → Type 0
 IsFirst true w class id = IsThere w class id
 IsFirst false w class id = IsNamed w class id
 
 -- the objects that a row names are there
 abbrev pub IsReady : Selector → Scene → List ℕ → Type 0
-IsReady row w args = IsFirst row.marked w row.first (arg args 0) × IsNamed w row.other (arg args row.place)
+IsReady row w args = IsFirst row.needs_first w row.first (arg args 0) × IsNamed w row.other (arg args row.other_place)
 
 abbrev pub IsReadyBy : Option Row → Scene → List ℕ → Type 0
 IsReadyBy None w args = Unit {0}
@@ -43,7 +43,7 @@ wants_by (Some row) w f args = row.wants w f args
 -- ---- a call by the looks of its row, and by what the row does and wants
 
 abbrev pub call_on : Selector → Outcome Turn → Scene → FlatState → ℕ → List ℕ → Outcome Turn
-call_on looks does w f room args = if is_none looks args then as_turn (nothing w f room looks args) else does
+call_on looks does w f room args = if is_on_none looks args then as_turn (nothing w f room looks args) else does
 
 abbrev pub call_looked : Option Selector → Outcome Turn → Scene → FlatState → ℕ → ℕ → List ℕ → Outcome Turn
 call_looked None does w f room selector args = do
@@ -54,7 +54,7 @@ call_looked (Some looks) does w f room selector args = do
   call_on looks does w f room args
 
 abbrev pub wants_on : Selector → Bool → List ℕ → Bool
-wants_on looks wants args = if is_none looks args then gives_nothing looks args else wants
+wants_on looks wants args = if is_on_none looks args then gives_nothing looks args else wants
 
 abbrev pub wants_looked : Option Selector → Bool → List ℕ → Bool
 wants_looked None wants args = false

@@ -66,9 +66,9 @@ row number arguments does = record {
     number = number;
     arguments = arguments;
     first = Plain;
-    marked = false;
+    needs_first = false;
     other = Plain;
-    place = 0;
+    other_place = 0;
     references = 0;
     words = 0;
   };
@@ -77,14 +77,14 @@ row number arguments does = record {
 }
 
 abbrev on : Class → Row → Row
-on class r = record r { looks = record r.looks { first = class; marked = true } }
+on class r = record r { looks = record r.looks { first = class; needs_first = true } }
 
 abbrev of : Class → Row → Row
 of class r = record r { looks = record r.looks { first = class } }
 
 -- the argument at a place, counted from 0
 abbrev naming : Class → ℕ → Row → Row
-naming class place r = record r { looks = record r.looks { other = class; place = place } }
+naming class place r = record r { looks = record r.looks { other = class; other_place = place } }
 
 -- so many references of so many words each, from the second argument on
 abbrev giving : ℕ → ℕ → Row → Row

@@ -8,7 +8,7 @@ ghost use Rattle.glk_replies.specs.Turns.{IsTurnFor, IsGivenFor};
 ghost use Rattle.glk_replies.specs.declared.Given.{Given};
 ghost use Rattle.glk_dispatch.specs.Turns.{Awaits, Looked};
 ghost use Rattle.glk_dispatch.specs.Table.{row_of, row_fits};
-ghost use Rattle.glk_dispatch.specs.Calls.{is_there, named, looked, is_none, nothing, gives_nothing, dropping};
+ghost use Rattle.glk_dispatch.specs.Calls.{is_there, named, looked, is_on_none, nothing, gives_nothing, dropping};
 ghost use Rattle.glk_dispatch.specs.Calls.{glk_call, IsGrowing};
 ghost use Rattle.gx_words.specs.declared.faults.Fault.TheVariants.{NoMemory};
 ghost use Rattle.glk_dispatch.specs.Memory.{is_left_out, TakesMemory};
@@ -54,14 +54,14 @@ fn looked(world: &World, row: &Selector, args: &[u32]) -> Result<(), Fault>
         return Err(Fault::BadGlk);
     }
     named(world, row.first, arg(args, 0))?;
-    named(world, row.other, arg(args, usize::from(row.place)))
+    named(world, row.other, arg(args, usize::from(row.other_place)))
 }
 
 /// Whether the call is on the object 0.
-fn is_none(row: &Selector, args: &[u32]) -> bool
-    ensures { result ≡ is_none row.now args.now }
+fn is_on_none(row: &Selector, args: &[u32]) -> bool
+    ensures { result ≡ is_on_none row.now args.now }
 {
-    row.marked && arg(args, 0) == 0
+    row.needs_first && arg(args, 0) == 0
 }
 
 /// So many zeros, four at most.
@@ -126,14 +126,14 @@ fn call_of<A: Allocator + Clone>(
     args: &[u32],
 ) -> Result<Turn, Fault>
     requires words { row.now.words ≤ 4 }
-    requires ready { is_none row.now args.now ≡ false → IsReadyBy (row_of selector) world.old.scene args.now }
+    requires ready { is_on_none row.now args.now ≡ false → IsReadyBy (row_of selector) world.old.scene args.now }
     ensures value { Calls (IsTrue (wants_on row.now (wants_by (row_of selector) world.old.scene state.now.flat args.now)
         args.now)) result world.old world.new
         (call_on row.now (done_by (row_of selector) world.old.scene state.now.flat room args.now) world.old.scene
         state.now.flat room args.now) }
     ensures fits { IfOk result (IsTurnFor state.now.flat room) }
 {
-    if is_none(row, args) {
+    if is_on_none(row, args) {
         Ok(Turn::Answer(nothing(world, state, room, row, args)?))
     } else {
         do_call(selector, world, state, room, args)
@@ -232,9 +232,10 @@ pub fn call<A: Allocator + Clone>(
     ensures looked { IfOk result
         (λ turn. (given : Given) → IsGivenFor turn given → Looked state.now.flat room world.new.scene given) }
 
-    // But for calls that put characters and for window_close, memory is wanted only where the call comes to what takes
-    // some: a reply that writes or pushes, text, an object, a request, a larger grid, the name of a file.
-    ensures memory { is_left_out selector ≡ false → result ≡ Err NoMemory
+    // But for characters that are put to a stream that is there, and for a window that is closed, memory is wanted only
+    // where the call comes to what takes some: a reply that writes or pushes, text, an object, a request, a larger
+    // grid, the name of a file.
+    ensures memory { is_left_out world.old.scene selector args.now ≡ false → result ≡ Err NoMemory
         → TakesMemory world.old.scene (glk_call world.old.scene state.now.flat room selector args.now) }
 {
     call_selector(world, state, room, selector, args)

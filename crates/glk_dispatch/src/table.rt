@@ -30,10 +30,10 @@ pub struct Selector {
     /// What the first argument names.
     pub first: Class,
     /// Whether the call does nothing where the first argument is 0.
-    pub marked: bool,
-    /// What the argument at `place` names.
+    pub needs_first: bool,
+    /// What another argument names, and which that is, counted from 0.
     pub other: Class,
-    pub place: u8,
+    pub other_place: u8,
     /// How many arguments from the second on are references that are given 0 where nothing is done, and the words of
     /// each.
     pub references: u8,
@@ -57,9 +57,9 @@ macro_rules! rows {
             number: $number,
             arguments: $arguments,
             first: class!($($first)?),
-            marked: marked!($($mark)?),
+            needs_first: needs_first!($($mark)?),
             other: class!($($other)?),
-            place: count!($($place)?),
+            other_place: count!($($place)?),
             references: count!($($references)?),
             words: count!($($words)?),
         }),*]
@@ -71,7 +71,7 @@ macro_rules! class {
     ($class:ident) => { Class::$class };
 }
 
-macro_rules! marked {
+macro_rules! needs_first {
     (on) => { true };
     ($($of:ident)?) => { false };
 }

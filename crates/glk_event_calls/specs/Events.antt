@@ -72,13 +72,10 @@ cancel_char_event w args =
 
 -- cancel_line_event: gives the event of a line of no characters where one was waited for
 unfoldable pub cancel_line_event : Scene → FlatState → ℕ → List ℕ → Outcome Reply
-cancel_line_event w f room args =
-    if is_line (requests.of w.requests (arg args 0)) then (do
-      reply ← give f room 0 (arg args 1) (event line_event_type (arg args 0) 0)
-      answered (without_request w (arg args 0)) reply)
-    else (do
-      reply ← give f room 0 (arg args 1) no_event
-      answered w reply)
+cancel_line_event w f room args = do
+  let cancels = is_line (requests.of w.requests (arg args 0))
+  reply ← give f room 0 (arg args 1) (if cancels then event line_event_type (arg args 0) 0 else no_event)
+  answered (if cancels then without_request w (arg args 0) else w) reply
 
 -- ---- "Events": polling, and waiting
 
@@ -112,9 +109,9 @@ abbrev pub line_places : Request → List ℕ → Places
 line_places r line =
     record { at = r.buf; width = if r.wide then 4 else 1; count = if r.line then line_length r line else 0 }
 
--- a character of a line as it is stored: one above FF has no place in a buffer of bytes
-abbrev pub stored : Bool → ℕ → ℕ
-stored wide c = if wide then c else latin_of c
+-- a character of a line in its buffer: one above FF has no place among bytes
+abbrev pub in_buffer : Bool → ℕ → ℕ
+in_buffer wide c = if wide then c else latin_of c
 
 -- the echo stream of a request's window, 0 for none
 abbrev pub echo_for : Scene → Request → ℕ
@@ -124,9 +121,9 @@ echo_for w r = (entry_at w.windows.entries r.win).echo
 abbrev pub echoes : Scene → Request → Bool
 echoes w r = r.line && streams.has w.streams (echo_for w r)
 
--- what is put to it: the characters that were stored, and a line feed
+-- what is put to it: the characters in the buffer, and a line feed
 abbrev pub echoed : Scene → Request → List ℕ → List ℕ
-echoed w r line = if echoes w r then map (stored r.wide) (take (line_length r line) line) ++ line_feed ∷ [] else []
+echoed w r line = if echoes w r then map (in_buffer r.wide) (take (line_length r line) line) ++ line_feed ∷ [] else []
 
 -- the places of memory that they use
 abbrev pub echo_places : Scene → Request → List ℕ → Places

@@ -12,7 +12,7 @@ ghost use Rattle.glk_world.specs.World.{arg, Calls};
 ghost use Rattle.glk_world.specs.Putting.{puts};
 ghost use Rattle.glk_event_calls.specs.Events.{event, may_ask, requested, request_line_event, request_char_event};
 ghost use Rattle.glk_event_calls.specs.Events.{is_line, is_char, cancel_char_event, cancel_line_event, select_poll};
-ghost use Rattle.glk_event_calls.specs.Events.{select, event_of, line_places, stored, echo_for, echoes, echoed};
+ghost use Rattle.glk_event_calls.specs.Events.{select, event_of, line_places, in_buffer, echo_for, echoes, echoed};
 ghost use Rattle.glk_event_calls.specs.Events.{echo_places, looked_at_line, line_reply, met_grows, met, select_goes_on};
 ghost use Rattle.glk_event_calls.specs.Events.{select_goes_on_grow};
 
@@ -300,19 +300,19 @@ fn looked_at_line<A: Allocator + Clone>(
     Ok(echo)
 }
 
-/// A character of a line as it is stored, in a word or in a byte.
-fn stored(wide: bool, c: u32) -> u32
-    ensures { result ≡ stored wide c }
+/// A character of a line in its buffer, as a word or as a byte.
+fn in_buffer(wide: bool, c: u32) -> u32
+    ensures { result ≡ in_buffer wide c }
 {
     if wide { c } else { u32::from(latin(c)) }
 }
 
-/// Adds characters as they are stored.
-fn push_stored(out: &mut Numbers, wide: bool, chars: &[u32]) -> Result<(), AllocError>
-    ensures { OnOk result (out.new ≡ out.old ++ map (stored wide) chars.now) }
+/// Adds characters as they are in a buffer.
+fn push_in_buffer(out: &mut Numbers, wide: bool, chars: &[u32]) -> Result<(), AllocError>
+    ensures { OnOk result (out.new ≡ out.old ++ map (in_buffer wide) chars.now) }
 {
     for c in chars {
-        out.push(stored(wide, *c))?;
+        out.push(in_buffer(wide, *c))?;
     }
     Ok(())
 }
@@ -327,7 +327,7 @@ fn echoed(world: &World, request: &Request, line: &[u32]) -> Result<Numbers, All
         return Ok(chars);
     }
     let count = line_length(request, line) as usize;
-    push_stored(&mut chars, request.wide, &line[..count])?;
+    push_in_buffer(&mut chars, request.wide, &line[..count])?;
     chars.push(LINE_FEED)?;
     Ok(chars)
 }

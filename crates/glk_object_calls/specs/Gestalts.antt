@@ -11,7 +11,7 @@ use Rattle.gx_state.specs.declared.effects.Reply.{Reply}
 use Rattle.glk_world.specs.World.{Scene, Outcome, answered, arg}
 use Rattle.glk_object_calls.specs.Constants.{version, char_input, line_input, char_output, unicode, cannot_print}
 use Rattle.glk_object_calls.specs.Constants.{exact_print}
-use Rattle.glk_replies.specs.Parts.{can_lay, laid}
+use Rattle.glk_replies.specs.Parts.{can_lay, filled}
 use Rattle.glk_object_calls.specs.Answers.{tells}
 
 -- by selector and value
@@ -39,8 +39,4 @@ glyphs_place args = record { at = arg args 2; width = 4; count = if has_glyphs a
 unfoldable pub gestalt_ext : Scene → FlatState → List ℕ → Outcome Reply
 gestalt_ext w f args = do
   writable ← can_lay f (glyphs_place args)
-  answered w (record {
-    value = gestalt_of (arg args 0) (arg args 1);
-    pushes = [];
-    writes = laid (glyphs_place args) (1 ∷ []);
-  })
+  answered w (filled (gestalt_of (arg args 0) (arg args 1)) (glyphs_place args) (1 ∷ []))

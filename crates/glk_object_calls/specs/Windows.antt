@@ -16,8 +16,8 @@ use Rattle.glk_replies.specs.Parts.{replies, give, give_each}
 use Rattle.glk_object_calls.specs.Answers.{tells}
 
 -- the window of the first argument; that of 0 has neither rock nor stream
-abbrev pub window_of : Scene → List ℕ → Entry
-window_of w args = entry_at w.windows.entries (arg args 0)
+abbrev pub first_window : Scene → List ℕ → Entry
+first_window w args = entry_at w.windows.entries (arg args 0)
 
 -- a pair window; other windows are none, with zeros
 abbrev pub no_pair : Pair
@@ -73,7 +73,7 @@ unfoldable pub window_set_echo_stream : Scene → List ℕ → Outcome Reply
 window_set_echo_stream w args = answered (with_echo w (arg args 0) (arg args 1)) (replies 0)
 
 unfoldable pub window_get_echo_stream : Scene → List ℕ → Outcome Reply
-window_get_echo_stream w args = tells w (window_of w args).echo
+window_get_echo_stream w args = tells w (first_window w args).echo
 
 -- ---- "Other Window Functions"
 
@@ -85,10 +85,10 @@ window_iterate w f room args = do
   answered w reply
 
 unfoldable pub window_get_rock : Scene → List ℕ → Outcome Reply
-window_get_rock w args = tells w (window_of w args).rock
+window_get_rock w args = tells w (first_window w args).rock
 
 unfoldable pub window_get_type : Scene → List ℕ → Outcome Reply
-window_get_type w args = tells w (window_of w args).kind
+window_get_type w args = tells w (first_window w args).kind
 
 -- window_get_parent: the pair above a window, 0 for none
 unfoldable pub window_get_parent : Scene → List ℕ → Outcome Reply
@@ -111,8 +111,8 @@ unfoldable pub window_clear : Scene → List ℕ → Outcome Reply
 window_clear w args = answered (cleared w (arg args 0)) (replies 0)
 
 unfoldable pub window_get_stream : Scene → List ℕ → Outcome Reply
-window_get_stream w args = tells w (window_of w args).stream
+window_get_stream w args = tells w (first_window w args).stream
 
 -- set_window: the window 0 has no stream
 unfoldable pub set_window : Scene → List ℕ → Outcome Reply
-set_window w args = answered (record w { current = (window_of w args).stream }) (replies 0)
+set_window w args = answered (record w { current = (first_window w args).stream }) (replies 0)

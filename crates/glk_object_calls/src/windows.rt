@@ -8,7 +8,7 @@ ghost use Rattle.glk_windows.specs.Windows.{entry_id, is_window, parent};
 ghost use Rattle.glk_windows.specs.Changes.{arranging_grows};
 ghost use Rattle.glk_world.specs.Calls.{can_open};
 ghost use Rattle.glk_world.specs.World.{arg, Calls};
-ghost use Rattle.glk_object_calls.specs.Windows.{window_of, pair_at, sibling, window_open, window_close};
+ghost use Rattle.glk_object_calls.specs.Windows.{first_window, pair_at, sibling, window_open, window_close};
 ghost use Rattle.glk_object_calls.specs.Windows.{window_get_size, window_set_arrangement, window_get_arrangement};
 ghost use Rattle.glk_object_calls.specs.Windows.{window_move_cursor, window_set_echo_stream, window_get_echo_stream};
 ghost use Rattle.glk_object_calls.specs.Windows.{window_iterate, window_get_rock, window_get_type, window_get_parent};
@@ -32,8 +32,8 @@ const NO_PAIR: Pair = Pair {
 };
 
 /// The window of the first argument.
-fn window_of(world: &World, args: &[u32]) -> Entry
-    ensures { result ≡ window_of world.now.scene args.now }
+fn first_window(world: &World, args: &[u32]) -> Entry
+    ensures { result ≡ first_window world.now.scene args.now }
 {
     world.windows().entry_at(arg(args, 0))
 }
@@ -77,7 +77,7 @@ pub fn window_close<A: Allocator + Clone>(
         (window_close world.old.scene state.now.flat room args.now) }
     ensures fits { IfOk result (IsReply state.now.flat room) }
 {
-    let stream = window_of(world, args).stream;
+    let stream = first_window(world, args).stream;
     let (read, written) = world.streams().counts(stream);
     let reply = give(
         world.alloc(),
@@ -177,7 +177,7 @@ pub fn window_get_echo_stream(world: &World, args: &[u32]) -> Reply
     ensures value { Calls ⊥ (Ok result) world.now world.now (window_get_echo_stream world.now.scene args.now) }
     ensures fits { (f : FlatState) (room : ℕ) → IsReply f room result }
 {
-    reply(world.alloc(), window_of(world, args).echo)
+    reply(world.alloc(), first_window(world, args).echo)
 }
 
 /// window_iterate: the next window, and its rock.
@@ -208,7 +208,7 @@ pub fn window_get_rock(world: &World, args: &[u32]) -> Reply
     ensures value { Calls ⊥ (Ok result) world.now world.now (window_get_rock world.now.scene args.now) }
     ensures fits { (f : FlatState) (room : ℕ) → IsReply f room result }
 {
-    reply(world.alloc(), window_of(world, args).rock)
+    reply(world.alloc(), first_window(world, args).rock)
 }
 
 /// window_get_type: wintype_Pair and others.
@@ -217,7 +217,7 @@ pub fn window_get_type(world: &World, args: &[u32]) -> Reply
     ensures value { Calls ⊥ (Ok result) world.now world.now (window_get_type world.now.scene args.now) }
     ensures fits { (f : FlatState) (room : ℕ) → IsReply f room result }
 {
-    reply(world.alloc(), window_of(world, args).kind)
+    reply(world.alloc(), first_window(world, args).kind)
 }
 
 /// The pair above a window, 0 for none.
@@ -289,7 +289,7 @@ pub fn window_get_stream(world: &World, args: &[u32]) -> Reply
     ensures value { Calls ⊥ (Ok result) world.now world.now (window_get_stream world.now.scene args.now) }
     ensures fits { (f : FlatState) (room : ℕ) → IsReply f room result }
 {
-    reply(world.alloc(), window_of(world, args).stream)
+    reply(world.alloc(), first_window(world, args).stream)
 }
 
 /// set_window: the current stream becomes the window's; with window 0 there is none.
@@ -298,7 +298,7 @@ pub fn set_window(world: &mut World, args: &[u32]) -> Result<Reply, Fault>
     ensures value { Calls ⊥ result world.old world.new (set_window world.old.scene args.now) }
     ensures fits { (f : FlatState) (room : ℕ) → IfOk result (IsReply f room) }
 {
-    let stream = window_of(world, args).stream;
+    let stream = first_window(world, args).stream;
     world.set_current(stream);
     Ok(reply(world.alloc(), 0))
 }

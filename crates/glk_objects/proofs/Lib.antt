@@ -1,4 +1,5 @@
+pub mod Above
+pub mod Found
+pub mod Meeting
 pub mod Places
 pub mod Rising
-pub mod Above
-pub mod Meeting

@@ -2,3 +2,4 @@ mod Constants
 pub mod Fitting
 pub mod Lists
 pub mod Tiling
+pub mod Placing

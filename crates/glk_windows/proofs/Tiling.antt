@@ -29,7 +29,7 @@ shared m n k = grind arith
 shared' : (m n k : ℕ) → k * (m + n) ≡ k * m + k * n
 shared' m n k = grind arith
 
-there_or_not : (b : Bool) → (b ≡ true) ⊎ (b ≡ false)
+pub there_or_not : (b : Bool) → (b ≡ true) ⊎ (b ≡ false)
 there_or_not true = inl refl
 there_or_not false = inr refl
 
@@ -45,7 +45,7 @@ pair_cells a area = elim (there_or_not (is_across a.method)) [
 
 -- ---- what stands in which part of a tree
 
-among_append : (xs ys : List ℕ) (id : ℕ) → is_among (xs ++ ys) id ≡ (is_among xs id || is_among ys id)
+pub among_append : (xs ys : List ℕ) (id : ℕ) → is_among (xs ++ ys) id ≡ (is_among xs id || is_among ys id)
 among_append xs ys id = list_any-append (λ (other : ℕ). other == id) xs ys
 
 -- an identifier that isn't there has no place

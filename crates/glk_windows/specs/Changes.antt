@@ -87,12 +87,15 @@ abbrev pub closed_tree : List ℕ → Option Shape → ℕ → Option Shape
 closed_tree ids None win = None
 closed_tree ids (Some t) win = if id_of t == win then None else Some (unkeyed ids (closed_in t win))
 
--- the windows and their grids but for those of these identifiers, whose streams are gone too
+-- the windows but for those of these identifiers, whose streams are gone too
+abbrev pub left_of : List Entry → List ℕ → List Entry
+left_of entries ids =
+    map (forgetting (map stream_id (chosen ids entries))) (filter (λ e. not (is_among ids e.id)) entries)
+
+-- and the grids
 unfoldable pub without_ids : FlatWindows → List ℕ → FlatWindows
-without_ids f ids = record f {
-  entries = map (forgetting (map stream_id (chosen ids f.entries))) (filter (λ e. not (is_among ids e.id)) f.entries);
-  grids = filter (λ g. not (is_among ids g.id)) f.grids;
-}
+without_ids f ids =
+    record f { entries = left_of f.entries ids; grids = filter (λ g. not (is_among ids g.id)) f.grids }
 
 -- a window is closed, with all windows below it, their pair and their streams
 unfoldable pub closed : FlatWindows → ℕ → FlatWindows

@@ -3,6 +3,7 @@ use Rattle.glk_objects.specs.Objects.{Rises}
 use Rattle.glk_windows.specs.declared.windows.Windows.TheInside.{Inside}
 use Rattle.glk_windows.specs.Grids.{grid_id}
 use Rattle.glk_windows.specs.Windows.{FlatWindows, entry_id, tree_of}
+use Rattle.glk_windows.specs.Laws.{ArePlaced}
 
 abbrev pub flat_of : Inside → FlatWindows
 flat_of w = record {
@@ -13,7 +14,8 @@ flat_of w = record {
   rows = w.rows;
 }
 
--- identifiers rise in both lists
+-- identifiers rise in both lists, and each window has its place in the tree
 pub record IsKept (w : Inside) : Type 0 where
   pub entries : Rises entry_id w.entries.items
   pub grids : Rises grid_id w.grids.items
+  pub placed : ArePlaced w.entries.items (tree_of w.tree)

@@ -136,12 +136,12 @@ pub(crate) fn keep_entries(entries: &mut Vec<Entry>, ids: &[u32])
 
 /// Sets a window's echo stream.
 #[tactic(auto, using(glk_objects::proofs::Places::places, crate::proofs::Lists::forgets))]
-pub(crate) fn set_echo(entries: &mut [Entry], win: u32, stream: u32)
-    requires rises { objects.Rises entry_id entries.old }
-    requires there { IsTrue (objects.has entry_id entries.old win) }
-    ensures value { entries.new
-        ≡ objects.with entry_id entries.old (record (entry_at entries.old win) { echo = stream }) }
-    ensures rises { objects.Rises entry_id entries.new }
+pub(crate) fn set_echo(entries: &mut Vec<Entry>, win: u32, stream: u32)
+    requires rises { objects.Rises entry_id entries.old.items }
+    requires there { IsTrue (objects.has entry_id entries.old.items win) }
+    ensures value { entries.new.items
+        ≡ objects.with entry_id entries.old.items (record (entry_at entries.old.items win) { echo = stream }) }
+    ensures rises { objects.Rises entry_id entries.new.items }
 {
     let at = place(entries, win);
     entries[at].echo = stream;

@@ -1,11 +1,12 @@
 //! The tree of windows: which window is where, and what share of the screen it has
 //! (Glk 0.7.5, "Window Arrangement").
-ghost use Rattle.std.specs.Prelude.{◌≡◌, ◌≤◌, ◌++◌, ◌+◌, OnOk};
+ghost use Rattle.std.specs.Prelude.{◌≡◌, ◌≤◌, ◌++◌, ◌+◌, true, OnErr, OnOk};
 ghost use Rattle.std.specs.Option.{option_map};
 ghost use Rattle.glk_windows.specs.Methods.{direction};
 ghost use Rattle.glk_windows.specs.Tree.{One, Two, shape_of, id_of, share, second_area, first_area, area_in, part_from};
 ghost use Rattle.glk_windows.specs.Tree.{ids_in, has_leaf, parent_in, pair_of, split_in, closed_in, is_among, unkeyed};
 ghost use Rattle.glk_windows.specs.Tree.{can_arrange, rearranged, arranged_in};
+ghost use Rattle.glk_windows.specs.Laws.{AreDistinct};
 
 use crate::methods::{FIXED, direction, division, is_across, is_method, is_on_axis};
 use std::alloc::{AllocError, Global};
@@ -209,10 +210,12 @@ fn put_above(
     arrangement: Arrangement,
     new: u32,
 ) -> Result<(), AllocError>
-    ensures { OnOk result (shape_of tree.new ≡ Two arrangement (shape_of tree.old) (One new)) }
+    ensures ok { OnOk result (shape_of tree.new ≡ Two arrangement (shape_of tree.old) (One new)) }
+    ensures err { OnErr result (shape_of tree.new ≡ shape_of tree.old) }
 {
+    let mut first = Box::new(alloc, Tree::Leaf(new))?;
     let second = Box::new(alloc, Tree::Leaf(new))?;
-    let first = Box::new(alloc, mem::replace(tree, Tree::Leaf(new)))?;
+    mem::swap(tree, &mut first);
     *tree = Tree::Pair(arrangement, first, second);
     Ok(())
 }
@@ -225,7 +228,9 @@ pub(crate) fn split(
     arrangement: Arrangement,
     new: u32,
 ) -> Result<(), AllocError>
-    ensures { OnOk result (shape_of tree.new ≡ split_in (shape_of tree.old) split arrangement new) }
+    ensures ok { OnOk result (shape_of tree.new ≡ split_in (shape_of tree.old) split arrangement new) }
+    ensures err { AreDistinct (ids_in (shape_of tree.old)) → OnErr result (shape_of tree.new ≡ shape_of tree.old) }
+    ensures there { OnErr result (is_among (ids_in (shape_of tree.old)) split ≡ true) }
 {
     if id_of(tree) == split {
         return put_above(alloc, tree, arrangement, new);

@@ -1,17 +1,18 @@
 //! All windows of a screen (Glk 0.7.5, "Windows").
 ghost use Rattle.std.specs.Prelude.{ℕ, ◌≡◌, ◌+◌, ◌<◌, ◌≤◌, ◌^◌, ◌⊎◌, ◌∷◌, [], ◌++◌, length, map, filter, not, IsTrue};
-ghost use Rattle.std.specs.Prelude.{OnOk, OnErr, IfOk, MatchOption, Some, None};
+ghost use Rattle.std.specs.Prelude.{vec_len, vec_capacity, OnOk, OnErr, IfOk, MatchOption, Some, None};
 ghost use Rattle.std.specs.Option.{option_map};
 ghost use Rattle.std.specs.List.Sorted.{IsStrictlyIncreasing};
 ghost use Rattle.glk_objects.specs.Objects as objects;
-ghost use Rattle.glk_windows.specs.Tree.{shape_of, is_among, arranged_in};
+ghost use Rattle.glk_windows.specs.Tree.{shape_of, is_among, split_in, arranged_in};
 ghost use Rattle.glk_windows.specs.Grids.{grid_id};
 ghost use Rattle.glk_windows.specs.Windows.{tree_of, no_windows, entry_id, is_window, entry_at, entry, next, root};
 ghost use Rattle.glk_windows.specs.Windows.{parent, window, pair, sizes_in, sizes, text_size, cell, row, is_openable};
 ghost use Rattle.glk_windows.specs.Windows.{can_add, last_given, IsNewId};
 ghost use Rattle.glk_windows.specs.Changes.{fitted_to, fitted, some_grow, with_grid, rooted, split_by, added, leaving};
-ghost use Rattle.glk_windows.specs.Changes.{chosen, gone, without_ids, closed_tree, closed, allows, arranged};
+ghost use Rattle.glk_windows.specs.Changes.{chosen, left_of, gone, closed_tree, closed, allows, arranged};
 ghost use Rattle.glk_windows.specs.Changes.{arranging_grows, put_to, cleared_in, moved_in, echoed, without_stream};
+ghost use Rattle.glk_windows.specs.Laws.{AreDistinct, ids_of, AreWhole};
 
 use crate::entries::{
     Entry, Window, chosen_ids, chosen_streams, entry_at, forget, keep_entries, leaf_count,
@@ -70,7 +71,10 @@ impl Windows {
 
     /// The columns and rows of the screen.
     pub fn size(&self) -> (u32, u32)
-        ensures { result ≡ (self.now.columns, self.now.rows) }
+        ensures value { result ≡ (self.now.columns, self.now.rows) }
+
+        // Each window has its place in the tree, and the sizes of those that aren't pairs add up to the screen's.
+        ensures whole { AreWhole self.now }
     {
         (self.columns, self.rows)
     }
@@ -252,12 +256,16 @@ impl Windows {
 
     /// Opens the first window.
     fn add_root(&mut self, kind: u32, rock: u32, id: u32) -> Result<(), AllocError>
+        requires none { self.old.tree ≡ None }
+        requires kind { IsTrue (is_openable kind) }
         requires new { IsNewId self.old id }
         requires last { id + 1 < 2 ^ 32 }
         ensures { OnOk result (self.new ≡ fitted (rooted self.old kind rock id)) }
     {
-        push_entry(&mut self.entries, new_entry(id, kind, rock))?;
-        push_grid(self.alloc, &mut self.grids, kind, id)?;
+        self.entries.reserve(1)?;
+        self.grids.reserve(1)?;
+        push_grid(self.alloc, &mut self.grids, kind, id);
+        push_entry(&mut self.entries, new_entry(id, kind, rock));
         self.tree = Some(Tree::Leaf(id));
         self.fit()
     }
@@ -273,13 +281,14 @@ impl Windows {
         rock: u32,
         id: u32,
     ) -> Result<(), AllocError>
+        requires split { IsTrue (is_window self.old split) }
+        requires kind { IsTrue (is_openable kind) }
         requires new { IsNewId self.old id }
         requires last { id + 3 < 2 ^ 32 }
         ensures { OnOk result (self.new ≡ fitted (split_by self.old split method size kind rock id)) }
     {
-        push_entry(&mut self.entries, new_entry(id, kind, rock))?;
-        push_entry(&mut self.entries, new_entry(id + 2, PAIR, 0))?;
-        push_grid(self.alloc, &mut self.grids, kind, id)?;
+        self.entries.reserve(2)?;
+        self.grids.reserve(1)?;
         let arrangement = Arrangement {
             id: id + 2,
             method: method % 256,
@@ -287,14 +296,15 @@ impl Windows {
             key: id,
             key_is_blank: kind == BLANK_WINDOW,
         };
-        if let Some(tree) = &mut self.tree {
-            tree::split(self.alloc, tree, split, arrangement, id)?;
-        }
+        split_tree(self.alloc, &mut self.tree, split, arrangement, id)?;
+        push_grid(self.alloc, &mut self.grids, kind, id);
+        push_entry(&mut self.entries, new_entry(id, kind, rock));
+        push_entry(&mut self.entries, new_entry(id + 2, PAIR, 0));
         self.fit()
     }
 
     /// Closes a window, with all windows below it and their pair; answers their identifiers, which rise.
-    #[tactic(auto, unfolding(crate::specs::Changes::closed))]
+    #[tactic(auto, unfolding(crate::specs::Changes::closed, crate::specs::Changes::without_ids))]
     pub fn remove(&mut self, win: u32) -> Result<Numbers, AllocError>
         requires { IsTrue (is_window self.old win) }
         ensures gone { IfOk result (λ ids. ids ≡ gone self.old win) }
@@ -302,26 +312,10 @@ impl Windows {
         ensures new { OnOk result (self.new ≡ closed self.old win) }
     {
         let leaving = leaving(self.alloc, &self.tree, win)?;
-        let gone = self.remove_ids(&leaving)?;
+        let gone = remove_entries(self.alloc, &mut self.entries, &leaving)?;
+        keep_grids(&mut self.grids, &leaving);
         close(&mut self.tree, &leaving, win);
         self.fit()?;
-        Ok(gone)
-    }
-
-    /// Removes the windows of these identifiers with their grids, and the echo streams that were streams of theirs;
-    /// answers the identifiers of windows among them.
-    #[tactic(auto, unfolding(crate::specs::Changes::without_ids))]
-    fn remove_ids(&mut self, ids: &[u32]) -> Result<Numbers, AllocError>
-        ensures gone { IfOk result (λ found. found ≡ map entry_id (chosen ids.now self.old.entries)) }
-        ensures rises { IfOk result IsStrictlyIncreasing }
-        ensures new { OnOk result (self.new ≡ without_ids self.old ids.now) }
-        ensures tree { self.new.tree ≡ self.old.tree }
-    {
-        let gone = chosen_ids(self.alloc, ids, &self.entries)?;
-        let streams = chosen_streams(self.alloc, ids, &self.entries)?;
-        keep_entries(&mut self.entries, ids);
-        forget(streams.as_slice(), &mut self.entries);
-        keep_grids(&mut self.grids, ids);
         Ok(gone)
     }
 
@@ -432,26 +426,47 @@ fn sizes_in(tree: &Option<Tree>, screen: (u32, u32), win: u32) -> (u32, u32)
 
 /// Adds a window at the end.
 #[tactic(auto, using(glk_objects::proofs::Rising::rising))]
-fn push_entry(entries: &mut Vec<Entry>, new: Entry) -> Result<(), AllocError>
+fn push_entry(entries: &mut Vec<Entry>, new: Entry)
+    requires room { vec_len entries.old < vec_capacity entries.old }
     requires rises { objects.Rises entry_id entries.old.items }
     requires above { objects.IsAbove entry_id entries.old.items new.id }
-    ensures ok { OnOk result (entries.new.items ≡ entries.old.items ++ new ∷ []) }
+    ensures value { entries.new.items ≡ entries.old.items ++ new ∷ [] }
     ensures rises { objects.Rises entry_id entries.new.items }
+    ensures len { vec_len entries.new ≡ vec_len entries.old + 1 }
+    ensures capacity { vec_capacity entries.new ≡ vec_capacity entries.old }
 {
-    entries.push(new)?;
-    Ok(())
+    entries.push_reserved(new);
 }
 
 /// Adds the grid of a grid window.
 #[tactic(auto, using(glk_objects::proofs::Rising::rising))]
-fn push_grid(alloc: Global, grids: &mut Vec<Grid>, kind: u32, id: u32) -> Result<(), AllocError>
+fn push_grid(alloc: Global, grids: &mut Vec<Grid>, kind: u32, id: u32)
+    requires room { vec_len grids.old < vec_capacity grids.old }
     requires rises { objects.Rises grid_id grids.old.items }
     requires above { objects.IsAbove grid_id grids.old.items id }
-    ensures ok { OnOk result (grids.new.items ≡ with_grid grids.old.items kind id) }
+    ensures value { grids.new.items ≡ with_grid grids.old.items kind id }
     ensures rises { objects.Rises grid_id grids.new.items }
 {
     if kind == TEXT_GRID {
-        grids.push(empty_grid(alloc, id))?;
+        grids.push_reserved(empty_grid(alloc, id));
+    }
+}
+
+/// A pair takes the place of the window that is split.
+fn split_tree(
+    alloc: Global,
+    tree: &mut Option<Tree>,
+    split: u32,
+    arrangement: Arrangement,
+    new: u32,
+) -> Result<(), AllocError>
+    requires { AreDistinct (ids_of (tree_of tree.old)) }
+    ensures ok { OnOk result
+        (tree_of tree.new ≡ option_map (λ t. split_in t split arrangement new) (tree_of tree.old)) }
+    ensures err { OnErr result (tree_of tree.new ≡ tree_of tree.old) }
+{
+    if let Some(tree) = tree {
+        tree::split(alloc, tree, split, arrangement, new)?;
     }
     Ok(())
 }
@@ -488,6 +503,27 @@ fn leaving(alloc: Global, tree: &Option<Tree>, win: u32) -> Result<Vec<u32>, All
         }
     }
     Ok(ids)
+}
+
+/// Removes the windows of these identifiers, and the echo streams that were streams of theirs; answers which there
+/// were.
+fn remove_entries(
+    alloc: Global,
+    entries: &mut Vec<Entry>,
+    ids: &[u32],
+) -> Result<Numbers, AllocError>
+    requires { objects.Rises entry_id entries.old.items }
+    ensures gone { IfOk result (λ found. found ≡ map entry_id (chosen ids.now entries.old.items)) }
+    ensures rises { IfOk result IsStrictlyIncreasing }
+    ensures new { OnOk result (entries.new.items ≡ left_of entries.old.items ids.now) }
+    ensures order { objects.Rises entry_id entries.new.items }
+    ensures err { OnErr result (entries.new.items ≡ entries.old.items) }
+{
+    let gone = chosen_ids(alloc, ids, entries)?;
+    let streams = chosen_streams(alloc, ids, entries)?;
+    keep_entries(entries, ids);
+    forget(streams.as_slice(), entries);
+    Ok(gone)
 }
 
 /// Keeps the grids but for those of these windows.

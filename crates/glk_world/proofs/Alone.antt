@@ -18,7 +18,7 @@ use Rattle.glk_world.specs.World.{Scene, FlatWorld, Said, after, silent, then_sa
 use Rattle.glk_world.specs.Putting.{said_char, buffer_put, window_of, entry_of, is_text, is_plain_text, window_put}
 use Rattle.glk_world.specs.Putting.{counted, stream_put, echo_of, put_along, put_of, puts, grows_along, put_grows}
 use Rattle.glk_world.specs.Putting.{end_of, places_of, no_places}
-use Rattle.glk_world.proofs.Found.{has_with, has_below, at_with_here, below_with}
+use Rattle.glk_objects.proofs.Found.{has_with, has_below, at_with_here, below_with}
 use Rattle.glk_world.proofs.Ranks.{nothing_along, stream_put_streams, put_step, put_id, put_window, buffer_put_streams}
 use Rattle.glk_world.proofs.Turns.{end_here}
 

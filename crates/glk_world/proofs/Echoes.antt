@@ -13,7 +13,7 @@ use Rattle.glk_windows.specs.Changes.{echoed}
 use Rattle.glk_world.specs.World.{Scene}
 use Rattle.glk_world.specs.Putting.{window_of, echo_of, leads_along, leads_to}
 use Rattle.glk_world.specs.Chains.{echo_in, IsRanked, EchoesBelow, AreLinked}
-use Rattle.glk_world.proofs.Found as found
+use Rattle.glk_objects.proofs.Found as found
 use Rattle.glk_world.proofs.Ranks.{under, under_all, under_less, under_some}
 use Rattle.glk_world.proofs.Links.{there_or_not, no_zero}
 

@@ -1,5 +1,5 @@
 -- The next identifier stays above all that were given.
-use Rattle.std.proofs.Common.{◌≡◌, ◌≢◌, Result, Ok, Err, OnOk, OnErr, IfOk, subst, ◌<◌, ◌≤◌, ◌+◌, ◌==◌, ℕ, true, false}
+use Rattle.std.proofs.Common.{◌≡◌, ◌≢◌, Result, Ok, Err, OnOk, IfOk, subst, ◌<◌, ◌≤◌, ◌+◌, ◌==◌, ℕ, true, false}
 use Rattle.std.proofs.Common.{if◌then◌else◌, List, [], ◌∷◌, ◌++◌, map, not, refl, arith}
 use Rattle.std.specs.List.{filter}
 use Rattle.std.proofs.lemmas.Bool.Decides.{nat_tests}
@@ -14,12 +14,12 @@ use Rattle.glk_streams.specs.declared.kinds.Stream.{Stream}
 use Rattle.glk_streams.specs.declared.kinds.StreamKind.{StreamKind}
 use Rattle.glk_streams.specs.Stream as one
 use Rattle.glk_streams.specs.Streams as streams
-use Rattle.glk_windows.specs.declared.entries.Entry.{Entry}
 use Rattle.glk_windows.specs.declared.grid.Grid.{Grid}
 use Rattle.glk_windows.specs.Tree.{is_among}
 use Rattle.glk_windows.specs.Grids.{grid_id, empty_grid, put, cleared, moved}
 use Rattle.glk_windows.specs.Windows.{FlatWindows, entry_id, stream_id, no_windows, entry_at, has_grid, grid_at}
 use Rattle.glk_windows.specs.Windows.{last_given, IsNewId}
+use Rattle.glk_windows.proofs.Placing.{forgetting_id}
 use Rattle.glk_windows.specs.Changes.{fitted_to, fitted, new_entry, with_grid, rooted, split_by, added, leaving, chosen}
 use Rattle.glk_windows.specs.Changes.{forgetting, closed_tree, with_grid_of, put_to, cleared_in, moved_in, echoed}
 use Rattle.glk_windows.specs.Changes.{without_stream, allows, arranged_tree, arranged, without_ids, closed}
@@ -60,17 +60,9 @@ echoed_new f win stream n new = record {
   grids = new.grids;
 }
 
-forgetting_same : (gone : List ℕ) (e : Entry) → entry_id (forgetting gone e) ≡ entry_id e
-unfolding forgetting
-forgetting_same gone e =
-    elim (is_among gone e.echo) as (λ b. entry_id (if b then record e { echo = 0 } else e) ≡ entry_id e) [
-      | true ↦ refl
-      | false ↦ refl
-    ]
-
 pub forgotten_new : (f : FlatWindows) (stream n : ℕ) → IsNewId f n → IsNewId (without_stream f stream) n
 forgotten_new f stream n new = record {
-  entries = above_map entry_id (forgetting (stream ∷ [])) (forgetting_same (stream ∷ [])) f.entries n new.entries;
+  entries = above_map entry_id (forgetting (stream ∷ [])) (forgetting_id (stream ∷ [])) f.entries n new.entries;
   grids = new.grids;
 }
 
@@ -122,7 +114,7 @@ closed_new f win n new =
     let ids = leaving f.tree win in
     let gone = map stream_id (chosen ids f.entries) in
     fitted_new (record (without_ids f ids) { tree = closed_tree ids f.tree win }) n (record {
-      entries = above_map entry_id (forgetting gone) (forgetting_same gone)
+      entries = above_map entry_id (forgetting gone) (forgetting_id gone)
           (filter (λ e. not (is_among ids e.id)) f.entries) n
           (above_filter entry_id (λ e. not (is_among ids e.id)) f.entries n new.entries);
       grids = above_filter grid_id (λ g. not (is_among ids g.id)) f.grids n new.grids;
@@ -217,12 +209,3 @@ given_ok (Err e) v is holds = absurd (cc)
 pub given_if : {A E : Type 0} (P : A → Type 0) (r : Result A E) (v : A) → r ≡ Ok v → IfOk r P → P v
 given_if P (Ok x) v is holds = let same : x ≡ v = cc in subst P same holds
 given_if P (Err e) v is holds = absurd (cc)
-
--- the windows after a change, or after want of memory
-pub arranged_or_none : {A E : Type 0} (r : Result A E) (f now left : FlatWindows) (win method size key n : ℕ)
-    → IsNewId f n
-    → OnOk r (now ≡ arranged f win method size key) → OnOk r (left ≡ now) → OnErr r (left ≡ no_windows 1 1)
-    → IsNewId left n
-arranged_or_none (Ok x) f now left win method size key n new made kept lost =
-    rw (kept, made) (arranged_new f win method size key n new)
-arranged_or_none (Err e) f now left win method size key n new made kept lost = rw lost (none_new 1 1 n)

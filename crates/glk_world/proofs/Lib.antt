@@ -4,8 +4,8 @@ pub mod Kept
 pub mod Closing
 pub mod Requests
 pub mod Texts
-pub mod Found
 pub mod Ranks
 pub mod Links
+pub mod Names
 pub mod Echoes
 pub mod Alone

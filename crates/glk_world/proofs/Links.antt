@@ -1,6 +1,6 @@
 -- What keeps chains of echo streams from coming back to where they were.
 use Rattle.std.proofs.Common.{◌≡◌, ◌<◌, ◌≤◌, ◌+◌, ◌==◌, ◌⊎◌, inl, inr, ℕ, Bool, true, false, not, if◌then◌else◌, Option}
-use Rattle.std.proofs.Common.{Some, None, Result, Ok, Err, OnOk, OnErr, List, [], ◌∷◌, ◌++◌, map, refl, sym, ◌∙◌, ap}
+use Rattle.std.proofs.Common.{Some, None, List, [], ◌∷◌, ◌++◌, map, refl, sym, ◌∙◌, ap}
 use Rattle.std.proofs.Common.{arith}
 use Rattle.std.specs.List.{filter, list_any}
 use Rattle.std.proofs.lemmas.Bool.Decides.{nat_tests}
@@ -17,16 +17,17 @@ use Rattle.glk_streams.specs.Streams as streams
 use Rattle.glk_windows.specs.declared.entries.Entry.{Entry}
 use Rattle.glk_windows.specs.Tree.{is_among}
 use Rattle.glk_windows.specs.Constants.{pair_window}
-use Rattle.glk_windows.specs.Windows.{FlatWindows, entry_id, stream_id, no_entry, entry_at, no_windows, has_grid}
+use Rattle.glk_windows.specs.Windows.{FlatWindows, entry_id, stream_id, no_entry, entry_at, has_grid}
 use Rattle.glk_windows.specs.Windows.{grid_at, last_given, IsNewId}
 use Rattle.glk_windows.specs.declared.grid.Grid.{Grid}
 use Rattle.glk_windows.specs.Grids as grids
 use Rattle.glk_windows.specs.Changes.{fitted, new_entry, rooted, split_by, added, leaving, chosen, forgetting}
 use Rattle.glk_windows.specs.Changes.{without_ids, closed, with_grid_of, cleared_in, moved_in, allows, arranged_tree}
 use Rattle.glk_windows.specs.Changes.{arranged}
+use Rattle.glk_windows.proofs.Placing.{forgetting_id, forgetting_none}
 use Rattle.glk_world.specs.Calls.{window_stream, with_streams}
 use Rattle.glk_world.specs.Chains.{echo_in, EchoesBelow, AreLinked}
-use Rattle.glk_world.proofs.Found as found
+use Rattle.glk_objects.proofs.Found as found
 use Rattle.glk_world.proofs.Ranks.{IsEdge, ranked_within, with_edge, put_id, put_window}
 use Rattle.glk_world.proofs.Alone.{puts_id, puts_window}
 
@@ -67,39 +68,6 @@ linked_more es xs n m linked le = record {
   first = linked.first;
   windows = linked.windows;
   begun = (let some = linked.begun in omega (arith, some));
-}
-
--- ---- no windows, no streams
-
-pub linked_no_windows : (es : List Entry) (xs : List Stream) (n : ℕ) → AreLinked es xs n → AreLinked [] xs n
-unfolding objects.at
-linked_no_windows es xs n linked = record {
-  ranked = (
-    λ s. 0,
-    record {
-      falls = λ s there echo. let none : echo_in [] xs s ≡ 0 = elim (one.window_of (streams.stream xs s) == 0) as
-          (λ b. (if b then 0 else (entry_at [] (one.window_of (streams.stream xs s))).echo) ≡ 0) [
-            | true ↦ refl
-            | false ↦ refl
-          ] in
-          absurd (no_zero xs (echo_in [] xs s) linked.first none echo);
-    },
-  );
-  echoes = tt;
-  rises = linked.rises;
-  first = linked.first;
-  windows = tt;
-  begun = linked.begun;
-}
-
-pub linked_no_streams : (es : List Entry) (xs : List Stream) (n : ℕ) → AreLinked es xs n → AreLinked es [] n
-linked_no_streams es xs n linked = record {
-  ranked = (λ s. 0, record { falls = λ s there echo. absurd (cc) });
-  echoes = linked.echoes;
-  rises = tt;
-  first = tt;
-  windows = linked.windows;
-  begun = linked.begun;
 }
 
 -- ---- a stream takes another's place
@@ -147,22 +115,6 @@ fewer_edge es fs xs ys s first were same fewer there echo = elim (window_same es
     same = e;
   }
 ]
-
-forgetting_id : (gone : List ℕ) (e : Entry) → entry_id (forgetting gone e) ≡ entry_id e
-unfolding forgetting
-forgetting_id gone e =
-    elim (is_among gone e.echo) as (λ b. entry_id (if b then record e { echo = 0 } else e) ≡ entry_id e) [
-      | true ↦ refl
-      | false ↦ refl
-    ]
-
-forgetting_none : (gone : List ℕ) → forgetting gone no_entry ≡ no_entry
-unfolding forgetting
-forgetting_none gone =
-    elim (is_among gone 0) as (λ b. (if b then record no_entry { echo = 0 } else no_entry) ≡ no_entry) [
-      | true ↦ refl
-      | false ↦ refl
-    ]
 
 forgetting_echo : (gone : List ℕ) (e : Entry) → ((forgetting gone e).echo ≡ 0) ⊎ ((forgetting gone e).echo ≡ e.echo)
 unfolding forgetting
@@ -456,45 +408,39 @@ linked_own es xs id mode rock kind linked above own =
     linked_stream es xs (one.opened id kind mode rock) id linked above (omega arith) (rw own refl)
 
 -- a stream is put to, read from, or moved in
-module _ (es : List Entry) (xs : List Stream) (s n : ℕ) (there : streams.has xs s ≡ true)
-    (linked : AreLinked es xs n) where
-  found_id : (streams.stream xs s).id ≡ s
-  found_id = id_at streams.id_of streams.no_stream xs s there
+pub record IsAsNamed (s new : Stream) : Type 0 where
+  pub id : new.id ≡ s.id
+  pub window : one.window_of new ≡ one.window_of s
 
-  linked_same : (new : Stream) → new.id ≡ (streams.stream xs s).id
-      → one.window_of new ≡ one.window_of (streams.stream xs s) → AreLinked es (streams.with_stream xs new) n
-  linked_same new same window =
-      let id : new.id ≡ s = same ∙ found_id in
-      linked_with es xs new n (rw id there) (rw id window) linked
+pub as_put : (s : Stream) (c : ℕ) → IsAsNamed s (one.after_put s c)
+as_put s c = record { id = put_id s c; window = put_window s c }
 
-  pub linked_put : (c : ℕ) → AreLinked es (streams.with_stream xs (one.after_put (streams.stream xs s) c)) n
-  linked_put c = linked_same (one.after_put (streams.stream xs s) c) (put_id (streams.stream xs s) c)
-      (put_window (streams.stream xs s) c)
+pub as_puts : (s : Stream) (cs : List ℕ) → IsAsNamed s (one.after_puts s cs)
+as_puts s cs = record { id = puts_id s cs; window = puts_window s cs }
 
-  pub linked_puts : (cs : List ℕ) → AreLinked es (streams.with_stream xs (one.after_puts (streams.stream xs s) cs)) n
-  linked_puts cs = linked_same (one.after_puts (streams.stream xs s) cs) (puts_id (streams.stream xs s) cs)
-      (puts_window (streams.stream xs s) cs)
+pub as_got : (s : Stream) (got : Option (ℕ × ℕ)) → IsAsNamed s (one.after_get s got)
+as_got s None = record { id = refl; window = refl }
+as_got s (Some got) = record { id = refl; window = refl }
 
-  pub linked_get : (got : Option (ℕ × ℕ))
-      → AreLinked es (streams.with_stream xs (one.after_get (streams.stream xs s) got)) n
-  linked_get None = linked_same (streams.stream xs s) refl refl
-  linked_get (Some got) = linked_same (one.after_get (streams.stream xs s) (Some got)) refl refl
+pub as_passed : (s : Stream) (position count : ℕ) → IsAsNamed s (one.passed s position count)
+as_passed s position count = record { id = refl; window = refl }
 
-  pub linked_passed : (position count : ℕ)
-      → AreLinked es (streams.with_stream xs (one.passed (streams.stream xs s) position count)) n
-  linked_passed position count = linked_same (one.passed (streams.stream xs s) position count) refl refl
+moved_id : (s : Stream) (pos seek : ℕ) → (one.moved s pos seek).id ≡ s.id
+unfolding one.moved
+moved_id s pos seek = grind (arith, nat_tests)
 
-  moved_id : (pos seek : ℕ) → (one.moved (streams.stream xs s) pos seek).id ≡ (streams.stream xs s).id
-  unfolding one.moved
-  moved_id pos seek = grind (arith, nat_tests)
+moved_kind : (s : Stream) (pos seek : ℕ) → (one.moved s pos seek).kind ≡ s.kind
+unfolding one.moved
+moved_kind s pos seek = grind (arith, nat_tests)
 
-  moved_kind : (pos seek : ℕ) → (one.moved (streams.stream xs s) pos seek).kind ≡ (streams.stream xs s).kind
-  unfolding one.moved
-  moved_kind pos seek = grind (arith, nat_tests)
+pub as_moved : (s : Stream) (pos seek : ℕ) → IsAsNamed s (one.moved s pos seek)
+as_moved s pos seek = record { id = moved_id s pos seek; window = ap one.window_in (moved_kind s pos seek) }
 
-  pub linked_moved : (pos seek : ℕ) → AreLinked es (streams.with_stream xs (one.moved (streams.stream xs s) pos seek)) n
-  linked_moved pos seek = linked_same (one.moved (streams.stream xs s) pos seek) (moved_id pos seek)
-      (ap one.window_in (moved_kind pos seek))
+pub linked_changed : (es : List Entry) (xs : List Stream) (s n : ℕ) (new : Stream) → streams.has xs s ≡ true
+    → IsAsNamed (streams.stream xs s) new → AreLinked es xs n → AreLinked es (streams.with_stream xs new) n
+linked_changed es xs s n new there same linked =
+    let id : new.id ≡ s = same.id ∙ id_at streams.id_of streams.no_stream xs s there in
+    linked_with es xs new n (rw id there) (rw id same.window) linked
 
 -- what changes grids alone keeps the list of windows
 entries_with : (f : FlatWindows) (win : ℕ) (g : Grid) → (with_grid_of f win g).entries ≡ f.entries
@@ -513,7 +459,8 @@ pub entries_moved : (f : FlatWindows) (win x y : ℕ) → (moved_in f win x y).e
 unfolding moved_in
 entries_moved f win x y = entries_with f win (grids.moved (grid_at f.grids win) x y)
 
-entries_arranged : (f : FlatWindows) (win method size key : ℕ) → (arranged f win method size key).entries ≡ f.entries
+pub entries_arranged : (f : FlatWindows) (win method size key : ℕ)
+    → (arranged f win method size key).entries ≡ f.entries
 unfolding arranged
 entries_arranged f win method size key =
     elim (allows f win method key) as
@@ -521,12 +468,3 @@ entries_arranged f win method size key =
       | true ↦ refl
       | false ↦ refl
     ]
-
-pub linked_arranged : {A E : Type 0} (r : Result A E) (f now left : FlatWindows) (xs : List Stream)
-    (win method size key n : ℕ) → AreLinked f.entries xs n
-    → OnOk r (now ≡ arranged f win method size key) → OnOk r (left ≡ now) → OnErr r (left ≡ no_windows 1 1)
-    → AreLinked left.entries xs n
-linked_arranged (Ok x) f now left xs win method size key n linked made kept lost =
-    rw (kept, made, entries_arranged f win method size key) linked
-linked_arranged (Err e) f now left xs win method size key n linked made kept lost =
-    rw lost (linked_no_windows f.entries xs n linked)

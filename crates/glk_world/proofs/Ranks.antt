@@ -21,7 +21,7 @@ use Rattle.glk_world.specs.World.{Scene, Said, silent, then_said, is_composed}
 use Rattle.glk_world.specs.Putting.{said_char, buffer_put, window_of, entry_of, window_put, counted, stream_put}
 use Rattle.glk_world.specs.Putting.{echo_of, put_along, put_of, end_along, end_of}
 use Rattle.glk_world.specs.Chains.{echo_in, IsRanked}
-use Rattle.glk_world.proofs.Found.{has_with, at_with, at_with_here}
+use Rattle.glk_objects.proofs.Found.{has_with, at_with, at_with_here}
 
 -- how many streams rank no higher
 pub under : (ℕ → ℕ) → ℕ → List Stream → ℕ

@@ -1,5 +1,5 @@
 -- One turn of each recursion along a chain of echo streams.
-use Rattle.std.proofs.Common.{zero, suc, ◌≡◌, ◌<◌, ◌-◌, ℕ, true, false, ◌==◌, ◌||◌, append_assoc, refl, arith}
+use Rattle.std.proofs.Common.{◌∙◌, zero, suc, ◌≡◌, ◌<◌, ◌-◌, ℕ, true, false, ◌==◌, ◌||◌, append_assoc, refl, arith}
 use Rattle.std.proofs.lemmas.Grind.{common_steps}
 use Rattle.std.proofs.lemmas.List.{append-nil}
 use Rattle.glk_streams.specs.declared.kinds.StreamKind.{StreamKind}
@@ -75,5 +75,9 @@ pub leads_more : (w : Scene) (n s win : ℕ) → 0 < n → streams.has w.streams
 unfolding leads_along
 leads_more w zero s win h there = absurd (omega arith)
 leads_more w (suc n) s win h there = let less : suc n - 1 ≡ n = omega arith in rw (less, there) refl
+
+pub leads_on : (w : Scene) (n s win : ℕ) → 0 < n → streams.has w.streams s ≡ true → (window_of w s == win) ≡ false
+    → leads_along n w s win ≡ leads_along (n - 1) w (echo_of w s) win
+leads_on w n s win some there other = leads_more w n s win some there ∙ rw other refl
 
 pub ruleset leads_turns = (leads_none, leads_gone, leads_more)

@@ -7,6 +7,7 @@ use Rattle.glk_windows.specs.Windows.{IsNewId}
 use Rattle.glk_world.specs.declared.world.World.TheInside.{Inside}
 use Rattle.glk_world.specs.declared.world.Waiting.{Waiting}
 use Rattle.glk_world.specs.Chains.{AreLinked}
+use Rattle.glk_world.specs.Naming.{AreNamed}
 use Rattle.glk_world.specs.World.{Call, FlatWorld, reference_id}
 
 -- a call that waits
@@ -36,8 +37,8 @@ flat_of w = record {
   text = string_bytes w.text;
 }
 
--- The next identifier is above all that were given, none of them is 0, and no chain of echo streams comes back to where
--- it was.
+-- The next identifier is above all that were given, none of them is 0, no chain of echo streams comes back to where it
+-- was, and windows and streams name each other.
 pub record IsKept (w : Inside) : Type 0 where
   pub windows : IsNewId w.windows w.next_id
   pub streams : IsAbove streams.id_of w.streams w.next_id
@@ -45,3 +46,4 @@ pub record IsKept (w : Inside) : Type 0 where
   pub above : IsAbove reference_id w.references.items w.next_id
   pub first : IsBelow reference_id w.references.items 0
   pub links : AreLinked w.windows.entries w.streams w.next_id
+  pub named : AreNamed w.windows.entries w.streams

@@ -2,6 +2,7 @@ pub mod Constants
 pub mod World
 pub mod Putting
 pub mod Chains
+pub mod Naming
 pub mod Shown
 pub mod Calls
 pub mod Stored

@@ -79,9 +79,9 @@ impl World {
         }
         self.next_id = id + made;
         let added = self.windows.add(split, method, size, kind, rock, id);
-        or_none(&mut self.windows, self.alloc, added)?;
+        or_none(&mut self.windows, &mut self.streams, self.alloc, added)?;
         let added = add_streams(&mut self.streams, split, id);
-        or_no_streams(&mut self.streams, self.alloc, added)?;
+        or_none(&mut self.windows, &mut self.streams, self.alloc, added)?;
         Ok(id)
     }
 
@@ -95,7 +95,7 @@ impl World {
     {
         let counts = self.streams.counts(self.windows.entry_at(win).stream);
         let removed = self.windows.remove(win);
-        let gone = or_none(&mut self.windows, self.alloc, removed)?;
+        let gone = or_none(&mut self.windows, &mut self.streams, self.alloc, removed)?;
         self.streams.remove_windows(gone.as_slice());
         drop_requests(&mut self.requests, gone.as_slice());
         drop_texts(&mut self.screen, gone.as_slice());
@@ -111,7 +111,7 @@ impl World {
         ensures memory { OnErr result (IsTrue (arranging_grows self.old.scene.windows win method size key)) }
     {
         let changed = self.windows.arrange(win, method, size, key);
-        or_none(&mut self.windows, self.alloc, changed)
+        or_none(&mut self.windows, &mut self.streams, self.alloc, changed)
     }
 
     /// Clears a window's grid, or its text on the composed screen; nothing changes where it has none.
@@ -210,36 +210,23 @@ fn remove_reference(references: &mut Vec<FileReference>, id: u32)
     references.remove(at);
 }
 
-/// What a change of windows answered. After want of memory they can only be dropped, and they are: none are left.
+/// What a change of windows or of their streams answered. After want of memory both can only be dropped, and they are:
+/// none are left.
 fn or_none<T>(
     windows: &mut Windows,
+    streams: &mut Streams,
     alloc: Global,
     changed: Result<T, AllocError>,
 ) -> Result<T, AllocError>
     ensures same { result ≡ changed }
-    ensures ok { OnOk result (windows.new ≡ windows.old) }
-    ensures err { OnErr result (windows.new ≡ no_windows 1 1) }
+    ensures ok { OnOk result ((windows.new ≡ windows.old) × (streams.new ≡ streams.old)) }
+    ensures err { OnErr result ((windows.new ≡ no_windows 1 1) × (streams.new ≡ [])) }
 {
     if changed.is_err() {
         *windows = Windows::new(alloc, 1, 1);
+        *streams = Streams::new(alloc);
     }
     changed
-}
-
-/// The same of streams.
-fn or_no_streams(
-    all: &mut Streams,
-    alloc: Global,
-    added: Result<(), AllocError>,
-) -> Result<(), AllocError>
-    ensures same { result ≡ added }
-    ensures ok { OnOk result (all.new ≡ all.old) }
-    ensures err { OnErr result (all.new ≡ []) }
-{
-    if added.is_err() {
-        *all = Streams::new(alloc);
-    }
-    added
 }
 
 /// Adds the streams of a window of this identifier and, beside another window, of its pair.

@@ -4,6 +4,7 @@ ghost use Rattle.std.specs.Option.{option_map};
 ghost use Rattle.std.specs.Str.{encode_utf8_all};
 ghost use Rattle.glk_text.specs.Characters.{shown};
 ghost use Rattle.glk_world.specs.World.{after, is_composed};
+ghost use Rattle.glk_world.specs.Naming.{IsWhole};
 ghost use Rattle.glk_world.specs.Shown.{said_row, said_rows, said_grid, said_grids, show_rows, screen_of, is_prompting};
 ghost use Rattle.glk_world.specs.Shown.{show_screen, is_last, end_text, show_grids, ShowWants, show_prompt, show_line};
 
@@ -25,11 +26,15 @@ impl World {
     pub fn show_grids(&mut self) -> Result<(), AllocError>
         ensures ok { OnOk result (self.new ≡ after self.old (show_grids self.old.scene)) }
         ensures memory { OnErr result (ShowWants self.old.scene) }
+
+        // In every world windows and streams name each other, and the windows that aren't pairs tile the screen.
+        ensures whole { IsWhole self.old.scene }
     {
+        let size = self.windows.size();
         match self.view {
             View::Rows => self.show_rows(),
             View::Plain => Ok(()),
-            View::Screen => self.show_screen(),
+            View::Screen => self.show_screen(size),
         }
     }
 
@@ -46,21 +51,22 @@ impl World {
         Ok(())
     }
 
-    /// The composed screen.
-    fn compose(&self) -> Result<String, AllocError>
+    /// The composed screen, of its size.
+    fn compose(&self, size: (u32, u32)) -> Result<String, AllocError>
+        requires { size ≡ (self.now.scene.windows.columns, self.now.scene.windows.rows) }
         ensures { IfOk result (λ screen. string_bytes screen ≡ screen_of self.now.scene) }
     {
-        let (columns, rows) = self.windows.size();
         self.screen
-            .compose(self.alloc, &self.windows, columns, rows)
+            .compose(self.alloc, &self.windows, size.0, size.1)
     }
 
     /// Shows the composed screen, and behind it the words of a prompt that waits.
     #[tactic(auto, unfolding(crate::specs::Shown::show_screen))]
-    fn show_screen(&mut self) -> Result<(), AllocError>
+    fn show_screen(&mut self, size: (u32, u32)) -> Result<(), AllocError>
+        requires { size ≡ (self.old.scene.windows.columns, self.old.scene.windows.rows) }
         ensures { OnOk result (self.new ≡ after self.old (show_screen self.old.scene)) }
     {
-        let screen = self.compose()?;
+        let screen = self.compose(size)?;
         self.text.push_str(&screen)?;
         if self.is_prompting() {
             self.text.push_str(PROMPT_WORDS)?;
@@ -88,7 +94,7 @@ impl World {
         if self.view != View::Screen {
             return Ok(());
         }
-        let screen = self.compose()?;
+        let screen = self.compose(self.windows.size())?;
         if !is_last(&self.last_screen, &screen) {
             self.text.push_str(&screen)?;
             self.last_screen = Some(screen);

@@ -11,4 +11,5 @@ invariant_of-self-2 c = record {
   above = rw c.in_ok-push.ensures.items (references_end _ _ c.self.invariant.above);
   first = rw c.in_ok-push.ensures.items (references_first _ _ c.self.invariant.first c.self.invariant.links.begun);
   links = linked_more _ _ _ _ c.self.invariant.links (omega arith);
+  named = c.self.invariant.named;
 }

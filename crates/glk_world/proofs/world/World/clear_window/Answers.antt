@@ -10,4 +10,5 @@ invariant_of-self c = record {
   above = c.self.invariant.above;
   first = c.self.invariant.first;
   links = rw (c.clear.ensures, entries_cleared) c.self.invariant.links;
+  named = rw (c.clear.ensures, entries_cleared) c.self.invariant.named;
 }

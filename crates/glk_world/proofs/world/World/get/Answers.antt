@@ -1,5 +1,6 @@
 use Rattle.glk_world.proofs.Kept.{streams_with}
-use Rattle.glk_world.proofs.Links.{linked_get}
+use Rattle.glk_world.proofs.Links.{linked_changed, as_got}
+use Rattle.glk_world.proofs.Names.{named_changed}
 use Rattle.glk_world.proofs.world.World.get.Goals as goal
 
 pub invariant_of-self : goal.invariant_of-self
@@ -11,5 +12,6 @@ invariant_of-self c =
       references = c.self.invariant.references;
       above = c.self.invariant.above;
       first = c.self.invariant.first;
-      links = rw c.get.ensures.new (linked_get _ _ _ _ there c.self.invariant.links _);
+      links = rw c.get.ensures.new (linked_changed _ _ _ _ _ there (as_got _ _) c.self.invariant.links);
+      named = rw c.get.ensures.new (named_changed _ _ _ _ there (as_got _ _) c.self.invariant.named);
     }

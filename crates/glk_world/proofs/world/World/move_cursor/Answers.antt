@@ -10,4 +10,5 @@ invariant_of-self c = record {
   above = c.self.invariant.above;
   first = c.self.invariant.first;
   links = rw (c.move_cursor.ensures, entries_moved) c.self.invariant.links;
+  named = rw (c.move_cursor.ensures, entries_moved) c.self.invariant.named;
 }

@@ -1,8 +1,9 @@
 use Rattle.std.proofs.Common.{◌≡◌, length, inl, inr, sym, ap, ◌∙◌, arith}
 use Rattle.glk_world.specs.Kept.{flat_of}
 use Rattle.glk_world.proofs.Kept.{streams_with}
-use Rattle.glk_world.proofs.Links.{linked_puts}
+use Rattle.glk_world.proofs.Links.{linked_changed, as_puts}
 use Rattle.glk_world.proofs.Alone.{bytes_alone, err_by, ok_by, made_or_same}
+use Rattle.glk_world.proofs.Names.{named_changed}
 use Rattle.glk_world.proofs.world.World.put_at_once.Goals as goal
 
 pub invariant_of-self : goal.invariant_of-self
@@ -16,7 +17,8 @@ invariant_of-self c =
         references = c.self.invariant.references;
         above = c.self.invariant.above;
         first = c.self.invariant.first;
-        links = rw made (linked_puts _ _ _ _ there c.self.invariant.links _);
+        links = rw made (linked_changed _ _ _ _ _ there (as_puts _ _) c.self.invariant.links);
+        named = rw made (named_changed _ _ _ _ there (as_puts _ _) c.self.invariant.named);
       }
       | inr same ↦ record {
         windows = c.self.invariant.windows;
@@ -25,6 +27,7 @@ invariant_of-self c =
         above = c.self.invariant.above;
         first = c.self.invariant.first;
         links = rw same c.self.invariant.links;
+        named = rw same c.self.invariant.named;
       }
     ]
 

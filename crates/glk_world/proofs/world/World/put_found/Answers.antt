@@ -1,21 +1,23 @@
 use Rattle.glk_world.specs.Kept.{flat_of}
 use Rattle.glk_world.proofs.Kept.{streams_with}
-use Rattle.glk_world.proofs.Links.{linked_put}
+use Rattle.glk_world.proofs.Links.{linked_changed, as_put}
 use Rattle.glk_world.proofs.Alone.{text_put, text_grows, plain_there, plain_stays, window_stays, place_stays, on_err}
 use Rattle.glk_world.proofs.Alone.{on_ok_by}
+use Rattle.glk_world.proofs.Names.{named_changed}
 use Rattle.glk_world.proofs.world.World.put_found.Goals as goal
 
 pub invariant_of-self : goal.invariant_of-self
 invariant_of-self c =
     let text = rw (← c.self.view_is) at c.requires.text in
+    let there = plain_there (flat_of c.self.inside).scene c.args.stream text in
     record {
       windows = c.self.invariant.windows;
       streams = rw (c.count.ensures c.args.c) (streams_with _ _ _ c.self.invariant.streams);
       references = c.self.invariant.references;
       above = c.self.invariant.above;
       first = c.self.invariant.first;
-      links = rw (c.count.ensures c.args.c)
-          (linked_put _ _ _ _ (plain_there (flat_of c.self.inside).scene c.args.stream text) c.self.invariant.links _);
+      links = rw (c.count.ensures c.args.c) (linked_changed _ _ _ _ _ there (as_put _ _) c.self.invariant.links);
+      named = rw (c.count.ensures c.args.c) (named_changed _ _ _ _ there (as_put _ _) c.self.invariant.named);
     }
 
 pub returns-clause-ok : goal.returns-clause-ok

@@ -4,6 +4,7 @@ use Rattle.glk_world.specs.World.{FlatWorld}
 use Rattle.glk_world.specs.Putting.{leads_along, leads_to}
 use Rattle.glk_world.specs.Kept.{flat_of}
 use Rattle.glk_world.proofs.Echoes.{linked_echoed, echo_given, fuel_to_lead}
+use Rattle.glk_world.proofs.Names.{named_echoed}
 use Rattle.glk_world.proofs.world.World.set_echo.Goals as goal
 
 pub invariant_of-self : goal.invariant_of-self
@@ -24,6 +25,7 @@ invariant_of-self c =
       links = rw c.set_echo.ensures
           (linked_echoed (flat_of c.self.inside).scene c.args.win c.args.stream c.self.inside.next_id
           c.self.invariant.links window apart less);
+      named = rw c.set_echo.ensures (named_echoed _ _ _ _ window c.self.invariant.named);
     }
 
 pub returns-then-not-leads_along-clause-whole : goal.returns-then-not-leads_along-clause-whole

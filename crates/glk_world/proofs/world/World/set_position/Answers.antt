@@ -1,5 +1,6 @@
 use Rattle.glk_world.proofs.Kept.{streams_with}
-use Rattle.glk_world.proofs.Links.{linked_moved}
+use Rattle.glk_world.proofs.Links.{linked_changed, as_moved}
+use Rattle.glk_world.proofs.Names.{named_changed}
 use Rattle.glk_world.proofs.world.World.set_position.Goals as goal
 
 pub invariant_of-self : goal.invariant_of-self
@@ -11,5 +12,6 @@ invariant_of-self c =
       references = c.self.invariant.references;
       above = c.self.invariant.above;
       first = c.self.invariant.first;
-      links = rw c.set_position.ensures (linked_moved _ _ _ _ there c.self.invariant.links _ _);
+      links = rw c.set_position.ensures (linked_changed _ _ _ _ _ there (as_moved _ _ _) c.self.invariant.links);
+      named = rw c.set_position.ensures (named_changed _ _ _ _ there (as_moved _ _ _) c.self.invariant.named);
     }

@@ -1,5 +1,6 @@
 use Rattle.glk_world.proofs.Kept.{streams_with}
-use Rattle.glk_world.proofs.Links.{linked_put}
+use Rattle.glk_world.proofs.Links.{linked_changed, as_put}
+use Rattle.glk_world.proofs.Names.{named_changed}
 use Rattle.glk_world.proofs.world.World.stream_put.Goals as goal
 
 pub invariant_of-self-then-win-eq0 : goal.invariant_of-self-then-win-eq0
@@ -11,7 +12,8 @@ invariant_of-self-then-win-eq0 c =
       references = c.self.invariant.references;
       above = c.self.invariant.above;
       first = c.self.invariant.first;
-      links = rw c.in_ok-put.ensures.ok (linked_put _ _ _ _ there c.self.invariant.links _);
+      links = rw c.in_ok-put.ensures.ok (linked_changed _ _ _ _ _ there (as_put _ _) c.self.invariant.links);
+      named = rw c.in_ok-put.ensures.ok (named_changed _ _ _ _ there (as_put _ _) c.self.invariant.named);
     }
 
 pub invariant_of-self-else-win-eq0 : goal.invariant_of-self-else-win-eq0
@@ -23,5 +25,6 @@ invariant_of-self-else-win-eq0 c =
       references = c.self.invariant.references;
       above = c.self.invariant.above;
       first = c.self.invariant.first;
-      links = rw c.in_ok-put.ensures.ok (linked_put _ _ _ _ there c.self.invariant.links _);
+      links = rw c.in_ok-put.ensures.ok (linked_changed _ _ _ _ _ there (as_put _ _) c.self.invariant.links);
+      named = rw c.in_ok-put.ensures.ok (named_changed _ _ _ _ there (as_put _ _) c.self.invariant.named);
     }

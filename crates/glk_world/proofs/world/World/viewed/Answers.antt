@@ -1,6 +1,7 @@
 use Rattle.std.proofs.Common.{arith}
 use Rattle.glk_world.proofs.Kept.{none_new}
 use Rattle.glk_world.proofs.Links.{linked_none}
+use Rattle.glk_world.proofs.Names.{named_none}
 use Rattle.glk_world.proofs.world.World.viewed.Goals as goal
 
 pub invariant_of-result : goal.invariant_of-result
@@ -11,4 +12,5 @@ invariant_of-result c = record {
   above = rw c.new-5.ensures.items tt;
   first = rw c.new-5.ensures.items tt;
   links = rw (c.new.ensures, c.new-4.ensures) (linked_none 1 (omega arith));
+  named = rw (c.new.ensures, c.new-4.ensures) named_none;
 }

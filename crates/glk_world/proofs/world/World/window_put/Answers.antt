@@ -10,4 +10,5 @@ invariant_of-self c = record {
   above = c.self.invariant.above;
   first = c.self.invariant.first;
   links = rw (c.put.ensures, entries_put) c.self.invariant.links;
+  named = rw (c.put.ensures, entries_put) c.self.invariant.named;
 }

@@ -1,6 +1,6 @@
 -- What is found by an identifier after a change of the objects.
-use Rattle.std.proofs.Common.{◌≡◌, ◌≢◌, ◌<◌, ◌==◌, ◌||◌, ℕ, Bool, true, false, if◌then◌else◌, List, [], ◌∷◌, ◌++◌, map}
-use Rattle.std.proofs.Common.{refl, sym, arith}
+use Rattle.std.proofs.Common.{◌≡◌, ◌≢◌, ◌<◌, ◌==◌, ◌&&◌, ◌||◌, ℕ, Bool, true, false, if◌then◌else◌, List, [], ◌∷◌, ◌++◌}
+use Rattle.std.proofs.Common.{map, refl, sym, arith}
 use Rattle.std.specs.List.{filter}
 use Rattle.std.proofs.lemmas.Bool.Decides.{nat_tests}
 use Rattle.glk_objects.specs.Objects.{IsAbove, IsBelow, Rises, has, at, with, without}
@@ -68,6 +68,11 @@ module _ {T : Type 0} (id_of : T → ℕ) (none : T) where
   at_chosen test [] s = grind (arith, nat_tests)
   at_chosen test (x ∷ xs) s = grind (arith, nat_tests, at_chosen test xs s)
 
+  pub has_chosen : (test : ℕ → Bool) (xs : List T) (s : ℕ)
+      → has id_of (filter (λ x. test (id_of x)) xs) s ≡ (test s && has id_of xs s)
+  has_chosen test [] s = grind (arith, nat_tests)
+  has_chosen test (x ∷ xs) s = grind (arith, nat_tests, has_chosen test xs s)
+
   pub has_without : (xs : List T) (gone s : ℕ) → has id_of (without id_of xs gone) s ≡ true → has id_of xs s ≡ true
   unfolding without
   has_without [] gone s there = absurd (cc)
@@ -86,6 +91,11 @@ module _ {T : Type 0} (id_of : T → ℕ) (none : T) where
   unfolding at
   at_map f same stays [] s = sym stays
   at_map f same stays (x ∷ xs) s = grind (arith, nat_tests, at_map f same stays xs s, same x)
+
+  pub has_map : (f : T → T) → ((x : T) → id_of (f x) ≡ id_of x) → (xs : List T) (s : ℕ)
+      → has id_of (map f xs) s ≡ has id_of xs s
+  has_map f same [] s = refl
+  has_map f same (x ∷ xs) s = grind (arith, nat_tests, has_map f same xs s, same x)
 
   pub below_with : (xs : List T) (new : T) (n : ℕ) → IsBelow id_of xs n → IsBelow id_of (with id_of xs new) n
   unfolding with

@@ -1,6 +1,0 @@
-use Rattle.std.proofs.Common.{◌≡◌, ◌++◌, take, map}
-use Rattle.glk_event_calls.specs.Events.{stored}
-use Rattle.glk_event_calls.proofs.events.push_stored.Given as goal
-
-abbrev pub invariant-loop-c : goal.invariant-loop-c
-invariant-loop-c l = l.out ≡ l.initial.out ++ map (stored l.wide) (take l.c-index l.chars)
