@@ -3,7 +3,7 @@ ghost use Rattle.std.specs.Prelude.{◌≡◌, ◌≢◌, ◌⊎◌, ◌+◌, �
 ghost use Rattle.std.specs.Prelude.{IfOk, IfSome, IsSome, OnOk, OnErr};
 ghost use Rattle.gx_words.specs.Faults.{Does, Makes};
 ghost use Rattle.gx_state.specs.declared.effects.Effect.TheVariants.{Put};
-ghost use Rattle.gx_state.specs.declared.modes.Mode.TheVariants.{Running};
+ghost use Rattle.gx_state.specs.declared.modes.Mode.TheVariants.{Running, Printing as APrinting};
 ghost use Rattle.gx_state.specs.Copies.{IsCopyFor};
 ghost use Rattle.gx_state.specs.Flat.{IsHeight, sp_of};
 ghost use Rattle.gx_state.specs.Replies.{AreInRam, IsReply};
@@ -17,17 +17,17 @@ ghost use Rattle.gx_machine.specs.Quick.{Tries, Passed};
 ghost use Rattle.gx_machine.specs.Saves.{restored_whole, saved_copy};
 ghost use Rattle.gx_machine.specs.Start.{first_machine};
 ghost use Rattle.gx_machine.specs.Step.{asking_of, room_of, stepped, IsStepWriting};
-ghost use Rattle.gx_machine.specs.Advancing.{Advances};
+ghost use Rattle.gx_machine.specs.Advancing.{Advances, Passes};
 ghost use Rattle.gx_machine.specs.Views.{IsPending, result_len};
 
 use crate::quick::quick;
-use crate::rows::{next_put, print, run};
+use crate::rows::{drop_next, next_put, print, run};
 use crate::{Asking, Engine};
 use gx_operands::Plan;
 use gx_state::{Dest, Effect, FlatCopy, Mode, Reply, State};
 use gx_story::Story;
 use gx_undo::Undo;
-use gx_words::{Fault, word_bytes};
+use gx_words::{Fault, Printing, word_bytes};
 use std::alloc::{AllocError, Allocator, Global};
 use std::marker::Model;
 
@@ -180,7 +180,7 @@ impl<A: Allocator + Clone> Machine<A> {
         }
     }
 
-    /// Makes steps the quick way, as long as there are such. A machine that prints has none.
+    /// Makes steps the quick way, as long as there are such: instructions, or characters that are dropped.
     #[inline(always)]
     fn passes(&mut self, budget: &mut u64) -> Result<(), Fault>
         requires asks { self.old.asking ≡ None }
@@ -190,12 +190,71 @@ impl<A: Allocator + Clone> Machine<A> {
     {
         match self.state.mode() {
             Mode::Running => self.passes_running(budget),
-            Mode::Printing(_) => Ok(()),
+            Mode::Printing(_) => {
+                self.passes_printing(budget);
+                Ok(())
+            }
         }
     }
 
-    /// The same for a machine that runs code at first.
+    /// The same for a machine that prints at first. Code runs far more often, and so the compiler is told that this is
+    /// rare: it then takes the steps of code into one function.
+    #[cold]
     #[inline(never)]
+    #[tactic(auto, using(crate::proofs::Steps::steps))]
+    fn passes_printing(&mut self, budget: &mut u64)
+        requires asks { self.old.asking ≡ None }
+        ensures value { (word : ℕ)
+            → (n : ℕ) × Passes word n (self.old, budget.old) None (self.new, budget.new) None }
+        ensures asks { self.new.asking ≡ None }
+        ensures no_more { budget.new ≤ budget.old }
+    {
+        while self.pass_printing(budget) {}
+    }
+
+    /// One step that drops a character. Nothing is done where the next one does something else.
+    #[inline(always)]
+    #[tactic(auto, using(crate::proofs::Steps::steps))]
+    fn pass_printing(&mut self, budget: &mut u64) -> bool
+        requires asks { self.old.asking ≡ None }
+        ensures value { (word : ℕ) → Tries ⊥ (Ok result) (self.old, budget.old) (self.new, budget.new)
+            (stepped self.old word budget.old) }
+        ensures asks { self.new.asking ≡ None }
+        ensures fewer { result ≡ true → budget.new < budget.old }
+        ensures no_more { budget.new ≤ budget.old }
+    {
+        if *budget == 0 || self.state.stack().size() == 0 {
+            return false;
+        }
+        match self.state.mode() {
+            Mode::Running => false,
+            Mode::Printing(printing) => self.pass_char(&printing, budget),
+        }
+    }
+
+    /// The same for a machine that prints, with a unit at least.
+    #[inline(always)]
+    #[tactic(auto, using(crate::proofs::Steps::steps))]
+    fn pass_char(&mut self, printing: &Printing, budget: &mut u64) -> bool
+        requires asks { self.old.asking ≡ None }
+        requires some { 1 ≤ budget.old }
+        requires live { 0 < sp_of self.old.machine.flat }
+        requires printing { self.old.machine.flat.mode ≡ APrinting printing.now }
+        ensures value { (word : ℕ) → Tries ⊥ (Ok result) (self.old, budget.old) (self.new, budget.new)
+            (stepped self.old word budget.old) }
+        ensures asks { self.new.asking ≡ None }
+        ensures fewer { result ≡ true → budget.new < budget.old }
+        ensures no_more { budget.new ≤ budget.old }
+    {
+        if drop_next(&mut self.state, printing) {
+            *budget -= 1;
+            return true;
+        }
+        false
+    }
+
+    /// The same for a machine that runs code at first.
+    #[inline(always)]
     #[tactic(auto, using(crate::proofs::Steps::steps))]
     fn passes_running(&mut self, budget: &mut u64) -> Result<(), Fault>
         requires asks { self.old.asking ≡ None }

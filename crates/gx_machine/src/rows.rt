@@ -15,6 +15,7 @@ ghost use Rattle.ops_memory.specs.Costs.{probes_of, charged, IsAfforded};
 ghost use Rattle.ops_print.specs.Rows as print;
 ghost use Rattle.ops_print.specs.Items.{printed, is_put};
 ghost use Rattle.gx_machine.specs.declared.askings.Asking.TheVariants as asking;
+ghost use Rattle.gx_machine.specs.Quick.{Tries};
 ghost use Rattle.gx_machine.specs.Rows.{room_above, glk, row_effect, IsWriting};
 ghost use Rattle.gx_machine.specs.Step.{asking_of, mode_step, probes_in, IsModeWriting};
 ghost use Rattle.gx_machine.specs.Views.{IsPending, result_len, machine_of};
@@ -226,6 +227,26 @@ fn next_item<A: Allocator + Clone>(
     };
     *pending = Some(put_pending(sp, state.pc(), Mode::Printing(next)));
     Some(c)
+}
+
+/// Drops the character that the next step drops. Nothing is done where that does something else.
+#[inline(always)]
+pub(crate) fn drop_next<A: Allocator + Clone>(state: &mut State<A>, printing: &Printing) -> bool
+    requires printing { state.old.flat.mode ≡ APrinting printing.now }
+    ensures value { Tries ⊥ (Ok result) state.old.flat state.new.flat (printed state.old.flat) }
+    ensures story { state.new.flat.story ≡ state.old.flat.story }
+{
+    match ops_print::next_dropped(state, printing) {
+        None => false,
+        Some((at, bit)) => {
+            state.set_mode(Mode::Printing(Printing {
+                at,
+                bit,
+                ..*printing
+            }));
+            true
+        }
+    }
 }
 
 /// What is pending after a row of Game asked.

@@ -1,10 +1,11 @@
 //! Reading the instruction at PC.
 //!
 //! Operands are read from left to right; nothing is changed, and no memory is taken.
-ghost use Rattle.std.specs.Prelude.{◌≡◌, ◌+◌, ◌-◌, ◌*◌, ◌≤◌, ◌<◌, ◌%◌, ◌^◌, ◌/◌, [], length, OnOk, IfOk};
+ghost use Rattle.std.specs.Prelude.{◌≡◌, ◌+◌, ◌-◌, ◌*◌, ◌≤◌, ◌<◌, ◌%◌, ◌^◌, ◌/◌, [], length, Ok, Err};
+ghost use Rattle.std.specs.Prelude.{None, OnOk, IfOk, IfSome};
 ghost use Rattle.std.specs.Option.{ok_or};
 ghost use Rattle.arrayvec.specs.ArrayVec.{array_vec_len};
-ghost use Rattle.gx_words.specs.declared.faults.Fault.TheVariants.{BadOpcode};
+ghost use Rattle.gx_words.specs.declared.faults.Fault.TheVariants.{BadAddress, BadOpcode};
 ghost use Rattle.gx_words.specs.Numbers.{IsWidth, extended};
 ghost use Rattle.gx_words.specs.Faults.{Reads};
 ghost use Rattle.gx_pages.specs.Memory.{number_in};
@@ -102,14 +103,51 @@ fn constant<A: Allocator + Clone>(
     Ok(low(extended(n, v), width))
 }
 
-/// The number of so many bytes at an address. It stands apart, so that `load` stays small enough to be copied to where
-/// it is called.
+/// The number of so many bytes at an address; None where one of them isn't in memory. It stands apart, so that `load`
+/// stays small enough to be copied to where it is called.
 #[inline(never)]
-fn number<A: Allocator + Clone>(state: &State<A>, width: u32, at: u32) -> Result<u32, Fault>
+#[tactic(auto, unfolding(gx_pages::specs::Memory::number_in))]
+fn number<A: Allocator + Clone>(state: &State<A>, width: u32, at: u32) -> Option<u32>
+    requires { IsWidth width }
+    ensures value { IfSome result (λ v. number_in width state.now.flat.memory at ≡ Ok v) }
+    ensures none { result ≡ None → number_in width state.now.flat.memory at ≡ Err BadAddress }
+{
+    let memory = state.memory();
+    if u64::from(at) + u64::from(width) <= u64::from(memory.size()) {
+        Some(memory.number(width, at))
+    } else {
+        None
+    }
+}
+
+/// The word at an address. One inside a page, as most are, is read with no look at the next page.
+#[inline(never)]
+#[tactic(auto, unfolding(gx_pages::specs::Memory::number_in))]
+fn word<A: Allocator + Clone>(state: &State<A>, at: u32) -> Option<u32>
+    ensures value { IfSome result (λ v. number_in 4 state.now.flat.memory at ≡ Ok v) }
+    ensures none { result ≡ None → number_in 4 state.now.flat.memory at ≡ Err BadAddress }
+{
+    let memory = state.memory();
+    if at % 256 <= 252 && u64::from(at) + 4 <= u64::from(memory.size()) {
+        return Some(memory.word(at));
+    }
+    number(state, 4, at)
+}
+
+/// The number of so many bytes at an address: a word most often.
+#[inline(always)]
+fn stored<A: Allocator + Clone>(state: &State<A>, width: u32, at: u32) -> Result<u32, Fault>
     requires { IsWidth width }
     ensures { Reads (λ v. v) result (number_in width state.now.flat.memory at) }
 {
-    state.memory().try_number(width, at)
+    let found = match width {
+        4 => word(state, at),
+        _ => number(state, width, at),
+    };
+    match found {
+        Some(v) => Ok(v),
+        None => Err(Fault::BadAddress),
+    }
 }
 
 /// The contents of memory at an address of so many bytes.
@@ -129,7 +167,7 @@ fn contents<A: Allocator + Clone>(
     ensures popped { OnOk result (HasValues state.now.flat cursor.new.popped) }
 {
     let at = data(state, cursor, n)?;
-    number(state, width, at)
+    stored(state, width, at)
 }
 
 /// The contents of the RAM address of so many bytes.
@@ -149,7 +187,7 @@ fn ram_contents<A: Allocator + Clone>(
 {
     let offset = data(state, cursor, n)?;
     let at = state.ramstart().wrapping_add(offset);
-    number(state, width, at)
+    stored(state, width, at)
 }
 
 /// The local at an offset of so many bytes.

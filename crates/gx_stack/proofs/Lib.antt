@@ -1,5 +1,6 @@
 pub mod Constants
 pub mod Turns
+pub mod Words
 pub mod Pieces
 pub mod Kept
 pub mod Lists

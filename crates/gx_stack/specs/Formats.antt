@@ -23,6 +23,11 @@ pub record IsFormat (format : List ℕ) : Type 0 where
   pub ends : byte format (length format - 2) ≡ 0
   pub few : length format ≤ 130
 
+-- the format of locals of four bytes alone: one pair, and the ending one
+pub record IsOfWords (format : List ℕ) : Type 0 where
+  pub pairs : length format ≡ 4
+  pub words : byte format 0 ≡ 4
+
 -- how far it is from an offset to the least multiple of 1, 2 or 4 at or after it
 abbrev pub gap : ℕ → ℕ → ℕ
 gap t at = if t == 1 then 0 else if t == 2 then at % 2 else (4 - at % 4) % 4

@@ -3,10 +3,10 @@
 //! Each group of locals begins at the least multiple of its size at or after the end of the group
 //! before, a group of no locals too. The frame is pushed onto a Vec that has the room for it.
 ghost use Rattle.std.specs.Prelude.{◌≡◌, ◌+◌, ◌*◌, ◌%◌, ◌≤◌, ◌<◌, ◌^◌, ◌++◌, [], ◌∷◌, length, drop, replicate, vec_len};
-ghost use Rattle.std.specs.Prelude.{vec_capacity};
+ghost use Rattle.std.specs.Prelude.{vec_capacity, IsTrue};
 ghost use Rattle.gx_words.specs.Numbers.{IsWidth, bytes_of_word};
-ghost use Rattle.gx_stack.specs.Formats.{ArePairs, IsFormat, pairs_of, gap, filled, locals, locals_len, locals_pos};
-ghost use Rattle.gx_stack.specs.Formats.{padded, padded_len, frame_len, frame};
+ghost use Rattle.gx_stack.specs.Formats.{ArePairs, IsFormat, IsOfWords, pairs_of, gap, filled, locals, locals_len};
+ghost use Rattle.gx_stack.specs.Formats.{locals_pos, padded, padded_len, frame_len, frame};
 
 use crate::room::{push_bytes, push_number, push_word, push_zeros};
 
@@ -108,15 +108,27 @@ fn locals_pos(format: &[u8]) -> u32
     8 + len + gap(4, len)
 }
 
+/// Whether a format is that of locals of four bytes alone, as most are: one pair, and the ending one.
+#[inline(always)]
+fn has_words(format: &[u8]) -> bool
+    ensures { IsTrue result → IsOfWords format.now }
+{
+    format.len() == 4 && format[0] == 4
+}
+
 /// FrameLen: how many bytes the frame of a format is.
 ///
 /// The format is that of a function in memory: at most 64 pairs, and its ending pair.
+#[tactic(auto, using(crate::proofs::Words::word_frames))]
 pub fn frame_len(format: &[u8]) -> u32
     requires { IsFormat format.now }
     ensures value { result ≡ frame_len format.now }
     ensures aligned { result % 4 ≡ 0 }
     ensures fits { result < 2 ^ 18 }
 {
+    if has_words(format) {
+        return 12 + 4 * u32::from(format[1]);
+    }
     let body = locals_len(0, &format[..format.len() - 2]);
     locals_pos(format) + body + gap(4, body)
 }
@@ -139,9 +151,44 @@ fn push_header(out: &mut Vec<u8>, pairs: &[u8], len: u32, begin: u32)
     push_zeros(out, gap(4, pairs.len() as u32 + 2));
 }
 
+/// Pushes the frame of a format of words, with arguments in its locals; `len` is FrameLen.
+#[inline(always)]
+#[tactic(auto, using(crate::proofs::Words::word_frames))]
+fn push_words(out: &mut Vec<u8>, format: &[u8], len: u32, args: &[u32])
+    requires format { IsOfWords format.now }
+    requires len { len ≡ frame_len format.now }
+    requires room { vec_len out.old + len ≤ vec_capacity out.old }
+    ensures items { out.new.items ≡ out.old.items ++ frame format.now args.now }
+    ensures len { vec_len out.new ≡ vec_len out.old + len }
+    ensures room { vec_capacity out.old ≤ vec_capacity out.new }
+{
+    let count = format[1];
+    push_word(out, len);
+    push_word(out, 12);
+    push_bytes(out, &[4, count, 0, 0]);
+    push_filled(out, 4, count, args);
+}
+
 /// Pushes the frame of a format, with arguments in its locals; `len` is FrameLen.
-#[tactic(auto, using(crate::proofs::Pieces::frame_pieces))]
 pub fn push_frame(out: &mut Vec<u8>, format: &[u8], len: u32, args: &[u32])
+    requires format { IsFormat format.now }
+    requires len { len ≡ frame_len format.now }
+    requires room { vec_len out.old + len ≤ vec_capacity out.old }
+    ensures items { out.new.items ≡ out.old.items ++ frame format.now args.now }
+    ensures len { vec_len out.new ≡ vec_len out.old + len }
+    ensures room { vec_capacity out.old ≤ vec_capacity out.new }
+{
+    if has_words(format) {
+        push_words(out, format, len, args);
+    } else {
+        push_pairs(out, format, len, args);
+    }
+}
+
+/// The same pair by pair.
+#[inline(never)]
+#[tactic(auto, using(crate::proofs::Pieces::frame_pieces))]
+fn push_pairs(out: &mut Vec<u8>, format: &[u8], len: u32, args: &[u32])
     requires format { IsFormat format.now }
     requires len { len ≡ frame_len format.now }
     requires room { vec_len out.old + len ≤ vec_capacity out.old }

@@ -55,6 +55,15 @@ impl Frame {
     {
         u64::from(at) + u64::from(width) <= u64::from(self.values.saturating_sub(self.locals))
     }
+
+    /// The same for a frame whose locals don't begin behind its values.
+    #[inline(always)]
+    pub(crate) fn reaches(&self, at: u32, width: u32) -> bool
+        requires { self.now.locals ≤ self.now.values }
+        ensures { result ≡ has_local self.now at width }
+    {
+        u64::from(self.locals) + u64::from(at) + u64::from(width) <= u64::from(self.values)
+    }
 }
 
 impl Stack {

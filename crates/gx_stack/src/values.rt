@@ -173,7 +173,7 @@ impl Stack {
         requires width { IsWidth width }
         ensures { result ≡ local_at self.now.bytes frame.now at width }
     {
-        if !frame.has_local(at, width) {
+        if !frame.reaches(at, width) {
             return Err(StackFault::BadLocal);
         }
         Ok(number_at(&self.bytes, width, frame.locals as usize + at as usize))
@@ -196,7 +196,7 @@ impl Stack {
         ensures size { length self.new.bytes ≡ length self.old.bytes }
         ensures read_back { OnOk result (local_at self.new.bytes frame.now at width ≡ Ok (v % 256 ^ width)) }
     {
-        if !frame.has_local(at, width) {
+        if !frame.reaches(at, width) {
             return Err(StackFault::BadLocal);
         }
         let place = frame.locals as usize + at as usize;

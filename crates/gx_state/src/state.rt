@@ -1,7 +1,7 @@
 //! The state, its readers, and the calls that set one part.
 //!
 //! A state shares its story with the forks that `copies` makes of it.
-ghost use Rattle.std.specs.Prelude.{◌≡◌, ◌+◌, ◌<◌, ◌≤◌, ◌^◌, length, IfOk, IfErr, OnOk};
+ghost use Rattle.std.specs.Prelude.{◌≡◌, ◌+◌, ◌*◌, ◌<◌, ◌≤◌, ◌^◌, length, Ok, Err, None, IfOk, IfErr, IfSome, OnOk};
 ghost use Rattle.gx_words.specs.Constants.{ceiling};
 ghost use Rattle.gx_words.specs.Numbers.{IsWidth, byte};
 ghost use Rattle.gx_words.specs.declared.faults.Fault.TheVariants.{BadAddress};
@@ -175,23 +175,31 @@ impl<A: Allocator + Clone> State<A> {
         if u64::from(at) + u64::from(width) <= u64::from(self.story.ramstart()) {
             return Ok(number_at(self.story.bytes(), width, at as usize));
         }
-        self.number_in_ram(width, at)
+        match self.number_in_ram(width, at) {
+            Some(v) => Ok(v),
+            None => Err(Fault::BadAddress),
+        }
     }
 
-    /// The same where they aren't all the story's.
+    /// The same where they aren't all the story's: None where one of them isn't in memory.
     #[inline(never)]
-    fn number_in_ram(&self, width: u32, at: u32) -> Result<u32, Fault>
+    #[tactic(auto, unfolding(gx_pages::specs::Memory::number_in))]
+    fn number_in_ram(&self, width: u32, at: u32) -> Option<u32>
         requires { IsWidth width }
-        ensures value { Reads (λ v. v) result (number_in width self.now.flat.memory at) }
-        ensures low { OnOk result (at + width ≤ ceiling) }
-        ensures fits { IfOk result (λ v. v < 256 ^ width) }
+        ensures value { IfSome result (λ v. number_in width self.now.flat.memory at ≡ Ok v) }
+        ensures none { result ≡ None → number_in width self.now.flat.memory at ≡ Err BadAddress }
+        ensures low { IfSome result (λ v. at + width ≤ ceiling) }
+        ensures fits { IfSome result (λ v. v < 256 ^ width) }
     {
-        self.memory.try_number(width, at)
+        if u64::from(at) + u64::from(width) <= u64::from(self.memory.size()) {
+            Some(self.memory.number(width, at))
+        } else {
+            None
+        }
     }
 
     /// The same for two numbers of one byte each.
     #[inline(always)]
-    #[tactic(auto, using(crate::proofs::Bytes::code_byte))]
     pub fn code_pair(&self, at: u32) -> Result<(u32, u32), Fault>
         ensures there { OnOk result (at + 2 ≤ length self.now.flat.memory) }
         ensures low { OnOk result (at + 2 ≤ ceiling) }
@@ -200,15 +208,31 @@ impl<A: Allocator + Clone> State<A> {
         ensures fits { IfOk result (λ pair. (pair.0 < 2 ^ 8) × (pair.1 < 2 ^ 8)) }
         ensures fault { IfErr result (λ fault. (fault ≡ BadAddress) × (length self.now.flat.memory < at + 2)) }
     {
+        let both = self.both_bytes(at)?;
+        Ok((both % 256, both / 256))
+    }
+
+    /// The same as one number, the first byte lowest.
+    #[inline(always)]
+    #[tactic(auto, using(crate::proofs::Bytes::code_byte))]
+    fn both_bytes(&self, at: u32) -> Result<u32, Fault>
+        ensures there { OnOk result (at + 2 ≤ length self.now.flat.memory) }
+        ensures low { OnOk result (at + 2 ≤ ceiling) }
+        ensures value { IfOk result (λ both. both
+            ≡ byte self.now.flat.memory at + 256 * byte self.now.flat.memory (at + 1)) }
+        ensures fits { OnOk result ((byte self.now.flat.memory at < 256)
+            × (byte self.now.flat.memory (at + 1) < 256)) }
+        ensures fault { IfErr result (λ fault. (fault ≡ BadAddress) × (length self.now.flat.memory < at + 2)) }
+    {
+        if u64::from(at) + 2 <= u64::from(self.story.ramstart()) {
+            let bytes = self.story.bytes();
+            let at = at as usize;
+            return Ok(u32::from(bytes[at]) + 256 * u32::from(bytes[at + 1]));
+        }
         if u64::from(at) + 2 > u64::from(self.memory.size()) {
             return Err(Fault::BadAddress);
         }
-        if at + 1 < self.story.ramstart() {
-            let bytes = self.story.bytes();
-            let at = at as usize;
-            return Ok((u32::from(bytes[at]), u32::from(bytes[at + 1])));
-        }
-        Ok((self.memory.byte(at), self.memory.byte(at + 1)))
+        Ok(self.memory.byte(at) + 256 * self.memory.byte(at + 1))
     }
 
     /// The first address that the story may write to.

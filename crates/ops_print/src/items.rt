@@ -2,7 +2,7 @@
 ghost use Rattle.std.specs.Prelude.{◌≡◌, ◌<◌, None, Ok, false, IfOk, IfSome};
 ghost use Rattle.gx_words.specs.Faults.{TakesNone};
 ghost use Rattle.gx_words.specs.Results.{Turns};
-ghost use Rattle.gx_state.specs.declared.effects.Effect.TheVariants.{Put};
+ghost use Rattle.gx_state.specs.declared.effects.Effect.TheVariants.{Put, Went};
 ghost use Rattle.gx_state.specs.declared.modes.Mode.TheVariants.{Printing as APrinting};
 ghost use Rattle.gx_state.specs.Flat.{sp_of};
 ghost use Rattle.gx_state.specs.Relations.{Goes};
@@ -149,6 +149,26 @@ pub fn next_put<A: Allocator + Clone>(
         return None;
     }
     next_char(state.memory(), state.table(), printing)
+}
+
+/// The address and the bit behind the character that the next step of a machine that prints drops; None where that does
+/// something else.
+#[inline(always)]
+#[tactic(auto, unfolding(crate::specs::Items::item, crate::specs::Items::item_printed, crate::specs::Items::character_printed))]
+pub fn next_dropped<A: Allocator + Clone>(
+    state: &State<A>,
+    printing: &Printing,
+) -> Option<(u32, u32)>
+    requires { state.now.flat.mode ≡ APrinting printing.now }
+    ensures { IfSome result (λ r. printed state.now.flat
+        ≡ Ok (record state.now.flat { mode = APrinting (record printing.now { at = r.0; bit = r.1 }) }, Went)) }
+{
+    let (system, _) = state.iosys();
+    if system == GLK_SYSTEM || system == FILTER_SYSTEM || !is_place(printing) {
+        return None;
+    }
+    let (_, at, bit) = next_char(state.memory(), state.table(), printing)?;
+    Some((at, bit))
 }
 
 /// Makes one step of printing like `item`, and answers with it the mode behind the character, where the

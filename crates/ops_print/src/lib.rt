@@ -25,7 +25,7 @@ use gx_operands::Plan;
 use gx_rows::{STREAMCHAR, STREAMNUM, STREAMSTR, STREAMUNICHAR};
 use gx_state::{Effect, State};
 use gx_words::Fault;
-pub use items::{item, item_and_mode, next_put};
+pub use items::{item, item_and_mode, next_dropped, next_put};
 use rows::{streamchar, streamnum, streamstr, streamunichar};
 use std::alloc::Allocator;
 

@@ -1,0 +1,25 @@
+-- a character that is dropped costs one unit
+use Rattle.std.proofs.Common.{◌≡◌, ◌<◌, ◌-◌, None, Ok, subst, sym, ◌∙◌}
+use Rattle.gx_words.specs.declared.strings.Printing.{Printing}
+use Rattle.gx_state.specs.declared.effects.Effect.TheVariants.{Went}
+use Rattle.gx_state.specs.declared.modes.Mode.TheVariants as mode
+use Rattle.gx_state.specs.Flat.{sp_of}
+use Rattle.gx_machine.specs.Machine.{Whole}
+use Rattle.gx_machine.specs.Step.{stepped}
+use Rattle.gx_machine.specs.Views.{whole_of}
+use Rattle.gx_machine.proofs.Steps.{print_ok}
+use Rattle.gx_machine.proofs.machine.Machine.pass_char.Goals as goal
+
+not_running : (p : Printing) → mode.Printing p ≡ mode.Running → ⊥
+not_running p same = cc
+
+pub returns-then-drop_next-clause-value : goal.returns-then-drop_next-clause-value
+returns-then-drop_next-clause-value g c =
+    let w : Whole = whole_of c.self.inside in
+    let live = subst (λ (x : Whole). 0 < sp_of x.machine.flat) (sym c.self.view_is) c.requires.live in
+    let prints : w.machine.flat.mode ≡ mode.Printing c.args.printing.now = subst (λ (x : Whole). x.machine.flat.mode ≡ mode.Printing c.args.printing.now) (sym c.self.view_is) c.requires.printing in
+    let asks : w.asking ≡ None = subst (λ (x : Whole). x.asking ≡ None) (sym c.self.view_is) c.requires.asks in
+    let done = rw c.if-drop_next.true at c.drop_next.ensures.value in
+    λ word. subst (λ (x : Whole). stepped x word c.args.budget.now ≡ Ok ((record { machine = record { flat = c.drop_next.new.state.flat; undo = c.self.inside.undo }; asking = w.asking }, c.args.budget.now - 1), Went))
+    c.self.view_is
+    (print_ok w word c.args.budget.now c.drop_next.new.state.flat Went w.asking c.requires.some live (λ running. not_running c.args.printing.now (sym prints ∙ running)) (sym asks) done)
