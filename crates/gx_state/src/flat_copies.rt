@@ -7,9 +7,10 @@ ghost use Rattle.std.specs.Prelude.{◌≡◌, ◌+◌, ◌-◌, ◌<◌, ◌≤
 ghost use Rattle.std.specs.Prelude.{OnErr};
 ghost use Rattle.gx_pages.specs.Memory.{put_back_of};
 ghost use Rattle.gx_stack.specs.Constants.{to_memory};
-ghost use Rattle.gx_state.specs.Flat.{IsHeight, cut, sp_of};
-ghost use Rattle.gx_state.specs.Copies.{IsCopyFor, HasPlaceFor, copy_of, gone_back, stub_in};
-ghost use Rattle.gx_state.specs.Returns.{wrote};
+ghost use Rattle.gx_state.specs.Flat.{cut, sp_of, IsHeight};
+ghost use Rattle.gx_state.specs.Copies.{IsCopyFor, copy_of, restored_to, stub_in};
+ghost use Rattle.gx_state.specs.Allowed.{HasPlaceFor};
+ghost use Rattle.gx_state.specs.Calls.{wrote};
 
 use crate::copies::MINUS_ONE;
 use crate::{Dest, State};
@@ -85,7 +86,7 @@ impl<A: Allocator + Clone> State<A> {
     #[tactic(auto, using(crate::proofs::FlatCopies::backs))]
     pub fn with_bytes(&mut self, copy: &FlatCopy) -> Result<(), AllocError>
         requires { IsCopyFor self.old.flat.story copy.now }
-        ensures ok { OnOk result (self.new.flat ≡ gone_back self.old.flat copy.now) }
+        ensures ok { OnOk result (self.new.flat ≡ restored_to self.old.flat copy.now) }
         ensures err { OnErr result (self.new ≡ self.old) }
         ensures story { self.new.flat.story ≡ self.old.flat.story }
         ensures live { OnOk result (0 < sp_of self.new.flat) }
