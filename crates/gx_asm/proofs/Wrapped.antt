@@ -1,5 +1,7 @@
 -- The story of a code: its length and checksum, that it is accepted, and its listing.
-use Rattle.std.proofs.Common.{◌≡◌, ◌<◌, ◌≤◌, ◌+◌, ◌-◌, ◌*◌, ◌/◌, ◌%◌, ◌^◌, nat_le, nat_lt, not, if◌then◌else◌, ℕ, zero, suc, Bool, true, false, List, [], ◌∷◌, ◌++◌, length, get_or, take, drop, replicate, Some, Result, Ok, Err, refl, sym, ap, ◌∙◌, arith, eqb as nat_eq}
+use Rattle.std.proofs.Common.{◌≡◌, ◌<◌, ◌≤◌, ◌+◌, ◌-◌, ◌*◌, ◌/◌, ◌%◌, ◌^◌, nat_le, nat_lt, not, if◌then◌else◌, ℕ, zero}
+use Rattle.std.proofs.Common.{suc, Bool, true, false, List, [], ◌∷◌, ◌++◌, length, get_or, take, drop, replicate, Some}
+use Rattle.std.proofs.Common.{Result, Ok, Err, refl, sym, ap, ◌∙◌, arith, eqb as nat_eq}
 use Rattle.std.proofs.Math.ListN.{get_or-append}
 use Rattle.std.proofs.lemmas.Bool.{eq-eqb, ltb-true}
 use Rattle.std.proofs.lemmas.Bool.Decides.{nat_tests}
@@ -7,12 +9,15 @@ use Rattle.std.proofs.lemmas.List.{get_or-append-add, length-append, length-repl
 use Rattle.std.specs.List.{flat_map}
 use Rattle.gx_words.specs.Constants.{magic, header_len, locals_function, checksum_at, ceiling}
 use Rattle.gx_words.specs.Numbers.{bytes_of_word, spliced, sum_of_words, word}
-use Rattle.gx_story.specs.Stories.{FlatStory, accepted, bare, has_header, has_magic, has_sizes, has_stored_part, has_version, header, header_at_start, is_checked, is_whole, is_within_limits, stored_story}
+use Rattle.gx_story.specs.Stories.{FlatStory, accepted, bare, has_sizes, header, header_at_start, is_checked, is_whole}
+use Rattle.gx_story.specs.Stories.{stored_story}
+use Rattle.gx_story.proofs.HeaderTests.{has_header, has_magic, has_version, is_within_limits, has_stored_part}
 use Rattle.gx_story.specs.declared.faults.StoryFault.{StoryFault}
 use Rattle.gx_story.specs.declared.headers.Header.{Header}
 use Rattle.gx_asm.specs.Codes.{text_from}
 use Rattle.gx_asm.specs.Instructions.{bytes_of}
-use Rattle.gx_asm.specs.Stories.{IsListedBack, checksum_of, code_at, code_start, format_len, header_of, listed_story, story_len, story_with, wrapped, wrapped_story}
+use Rattle.gx_asm.specs.Stories.{IsListedBack, checksum_of, code_at, code_start, format_len, header_of, listed_story}
+use Rattle.gx_asm.specs.Stories.{story_len, story_with, wrapped, wrapped_story}
 use Rattle.gx_asm.proofs.StoryListings.{listed_to_end}
 
 -- ---- bytes

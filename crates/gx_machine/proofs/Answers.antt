@@ -1,5 +1,6 @@
 -- What answers the instruction that asked.
-use Rattle.std.proofs.Common.{◌≡◌, ◌≤◌, ◌+◌, ◌-◌, ◌*◌, ◌%◌, ◌<◌, ℕ, Bool, true, false, nat_le, if◌then◌else◌, refl, ap, subst, sym, ◌∙◌, arith, List, [], take, Result, Ok, Err, IsOkAnd, Some, None}
+use Rattle.std.proofs.Common.{◌≡◌, ◌≤◌, ◌+◌, ◌-◌, ◌*◌, ◌%◌, ◌<◌, ℕ, Bool, true, false, nat_le, if◌then◌else◌, refl, ap}
+use Rattle.std.proofs.Common.{subst, sym, ◌∙◌, arith, List, [], take, Result, Ok, Err, IsOkAnd, Some, None}
 use Rattle.std.proofs.lemmas.Bool.{leb-true}
 use Rattle.std.proofs.lemmas.List.{append-nil}
 use Rattle.gx_words.specs.declared.faults.Fault.{Fault}
@@ -14,14 +15,15 @@ use Rattle.gx_state.specs.declared.modes.Dest.TheVariants.{Nowhere, Memory, Loca
 use Rattle.gx_state.specs.declared.modes.Mode.{Mode}
 use Rattle.gx_state.specs.declared.modes.Mode.TheVariants.{Running, Printing}
 use Rattle.gx_stack.specs.Values.{in_order}
-use Rattle.gx_state.specs.Flat.{FlatState, IsHeight, frame_of, sp_of, cut}
+use Rattle.gx_state.specs.Flat.{FlatState, frame_of, sp_of, cut, IsHeight}
 use Rattle.gx_state.specs.Replies.{IsDone}
 use Rattle.gx_operands.specs.Instructions.{Instruction, instruction, L2, going_to}
-use Rattle.gx_machine.specs.Answer.{answered_state, answered_in, answered_by, answered_row, replied, IsStoredAnswer, IsStoredIn, IsStoredBy}
-use Rattle.ops_game.specs.Rows.{IsAsking, IsSaveAtMost}
-use Rattle.ops_memory.specs.Costs.{EndsWithin}
-use Rattle.ops_print.specs.Items.{item_by, mode_after}
-use Rattle.ops_print.specs.Rows.{IsPutAtMost}
+use Rattle.gx_machine.specs.Answer.{answered_state, answered_in, answered_by, answered_row, replied, IsStoredAnswer}
+use Rattle.gx_machine.specs.Answer.{IsStoredIn, IsStoredBy}
+use Rattle.ops_game.specs.Asks.{IsAsking, IsSaveAtMost}
+use Rattle.ops_memory.specs.Charges.{EndsWithin}
+use Rattle.ops_print.specs.Items.{mode_after}
+use Rattle.ops_print.specs.Asks.{item_by, IsPutAtMost}
 use Rattle.gx_state.specs.Stores.{store_fault}
 use Rattle.gx_undo.specs.Undo.{FlatUndo}
 use Rattle.gx_machine.specs.declared.askings.Asking.{Asking}

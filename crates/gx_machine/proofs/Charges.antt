@@ -11,7 +11,8 @@ use Rattle.gx_undo.specs.Undo.{FlatUndo}
 use Rattle.gx_operands.specs.Instructions.{Instruction}
 use Rattle.ops_memory.specs.Rows as memory
 use Rattle.ops_memory.specs.Writes as memory_writes
-use Rattle.ops_memory.specs.Costs.{probes_of, lowered, charged, acted}
+use Rattle.ops_memory.specs.Costs.{probes_of}
+use Rattle.ops_memory.specs.Charges.{lowered, charged, acted}
 use Rattle.gx_machine.specs.Machine.{FlatMachine}
 use Rattle.gx_machine.specs.Rows.{row_effect, with_copies, IsWriting}
 

@@ -7,7 +7,7 @@ use Rattle.gx_state.specs.declared.effects.Effect.{Effect}
 use Rattle.gx_state.specs.declared.effects.Effect.TheVariants.{Went, Drew, Put, Glk, Save, Restore, Quit, Spent}
 use Rattle.gx_state.specs.declared.modes.Mode.TheVariants.{Running}
 use Rattle.gx_state.specs.Flat.{sp_of}
-use Rattle.ops_memory.specs.Costs.{lowered, charged}
+use Rattle.ops_memory.specs.Charges.{lowered, charged}
 use Rattle.gx_machine.specs.Machine.{FlatMachine, Whole}
 use Rattle.gx_machine.specs.Step.{mode_step, probes_in, stepped, IsModeWriting, IsStepWriting}
 use Rattle.gx_machine.specs.Log.{Log}

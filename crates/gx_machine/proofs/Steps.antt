@@ -11,8 +11,8 @@ use Rattle.gx_state.specs.declared.effects.Effect.TheVariants.{Put, Spent, Went}
 use Rattle.gx_state.specs.declared.modes.Mode.{Mode}
 use Rattle.gx_state.specs.declared.modes.Mode.TheVariants.{Running, Printing}
 use Rattle.gx_state.specs.Flat.{FlatState, sp_of}
-use Rattle.ops_memory.specs.Costs.{lowered, charged, IsAfforded}
-use Rattle.ops_print.specs.Items.{item_by, printed, is_put}
+use Rattle.ops_memory.specs.Charges.{lowered, charged, IsAfforded}
+use Rattle.ops_print.specs.Asks.{item_by, printed, is_put}
 use Rattle.std.specs.Option.{option_map}
 use Rattle.gx_undo.specs.Undo.{FlatUndo}
 use Rattle.gx_machine.specs.declared.askings.Asking.{Asking}

@@ -1,5 +1,5 @@
 -- Steps that an engine makes one after the other, and what it records of them.
-use Rattle.std.specs.Prelude.{◌≡◌, ℕ, zero, suc, ◌⊎◌, Option, IsSome, Result, Ok, Err, IfOk}
+use Rattle.std.specs.Prelude.{◌≡◌, ℕ, zero, suc, ◌⊎◌, Option, IsSome, Result, Ok, Err, IfOk, ◌-◌, ◌^◌, Some, None}
 use Rattle.gx_words.specs.declared.faults.Fault.{Fault}
 use Rattle.gx_words.specs.declared.faults.Fault.TheVariants.{NoMemory}
 use Rattle.gx_words.specs.Faults.{Does}
@@ -7,7 +7,8 @@ use Rattle.gx_state.specs.declared.effects.Effect.{Effect}
 use Rattle.gx_state.specs.declared.effects.Effect.TheVariants.{Went, Drew, Quit}
 use Rattle.gx_machine.specs.Machine.{FlatMachine, Whole}
 use Rattle.gx_machine.specs.Step.{stepped, asking_of, IsStepWriting}
-use Rattle.gx_machine.specs.Log.{Log, logged}
+use Rattle.gx_machine.specs.Log.{Log, logged, units_of}
+use Rattle.gx_machine.specs.declared.askings.Asking.{Asking}
 
 -- So many steps with one word, each of which goes on, asks nothing and leaves the word: from a machine and its budget
 -- to those that it comes to, with what is recorded before and after them.
@@ -46,3 +47,16 @@ pub record Advances (word : ℕ) (result : Result Effect Fault) (old : Whole × 
       (stepped before word budget) ⊎ IsUnrecorded log result (before, budget) new
   pub stands : IfOk result (λ effect. IsSome (asking_of effect) → new.0.machine ≡ before.machine)
   pub logs : last ≡ logged_after result log before.machine
+
+-- How many units can still be taken: the units of a record are a number below 2^64.
+abbrev pub units_left : Option Log → ℕ
+units_left None = 2 ^ 64 - 1
+units_left (Some log) = 2 ^ 64 - 1 - units_of log.before
+
+-- the same once what is asked is answered, where something is asked
+abbrev pub left_by : Option Asking → Option Log → FlatMachine → ℕ
+left_by None log m = units_left log
+left_by (Some asking) log m = units_left (logged log m)
+
+abbrev pub left_after : Option Log → Whole → ℕ
+left_after log m = left_by m.asking log m.machine

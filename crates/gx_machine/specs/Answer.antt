@@ -1,5 +1,5 @@
 -- The machine after what it asked is answered.
-use Rattle.std.specs.Prelude.{ℕ, ◌-◌, ◌*◌, ◌++◌, IsSome, None, Result, Ok, Err, IsOkAnd}
+use Rattle.std.specs.Prelude.{ℕ, ◌-◌, ◌*◌, ◌++◌, Result, Ok, Err, IsOkAnd, None, IsSome}
 use Rattle.gx_words.specs.declared.faults.Fault.{Fault}
 use Rattle.gx_pages.specs.Memory.{all_spliced}
 use Rattle.gx_stack.specs.Values.{in_order}
@@ -11,11 +11,11 @@ use Rattle.gx_state.specs.declared.modes.Dest.TheVariants.{Nowhere, Push}
 use Rattle.gx_state.specs.declared.modes.Mode.{Mode}
 use Rattle.gx_state.specs.declared.modes.Mode.TheVariants as mode
 use Rattle.gx_state.specs.Flat.{FlatState, sp_of, cut}
-use Rattle.gx_state.specs.Replies.{IsReply}
 use Rattle.gx_state.specs.Stores.{with_value, IsMemory}
 use Rattle.gx_operands.specs.Instructions.{Instruction, instruction, L2, going_to}
 use Rattle.ops_print.specs.Items.{mode_after}
 use Rattle.gx_machine.specs.Machine.{FlatMachine, Whole}
+use Rattle.gx_state.specs.Replies.{IsReply}
 use Rattle.gx_machine.specs.Step.{room_of}
 
 -- the writes of a reply, in order, and its value where that goes to memory or a local
@@ -58,15 +58,6 @@ answered_state f r = answered_in f r f.mode
 unfoldable pub answer_of : FlatMachine → Reply → FlatMachine
 answer_of m r = record m { flat = answered_state m.flat r }
 
--- an asking is answered
-abbrev pub answered : Whole → Reply → Whole
-answered m r = record { machine = answer_of m.machine r; asking = None }
-
--- An asking is pending, and the reply fits it.
-pub record IsAnswer (m : Whole) (reply : Reply) : Type 0 where
-  pub pending : IsSome m.asking
-  pub fits : IsReply m.machine.flat (room_of m.asking) reply
-
 -- The value of an answer is stored in memory: that of a Glk call, a save or a restore may be.
 abbrev pub IsStoredBy : Class → Instruction → Type 0
 IsStoredBy class.Glk i = IsMemory i.dest
@@ -79,3 +70,14 @@ IsStoredIn f (mode.Printing p) = ⊥
 
 unfoldable pub IsStoredAnswer : FlatState → Type 0
 IsStoredAnswer f = IsStoredIn f f.mode
+
+-- WHAT CONTRACTS SAY
+
+-- an asking is answered
+abbrev pub answered : Whole → Reply → Whole
+answered m r = record { machine = answer_of m.machine r; asking = None }
+
+-- An asking is pending, and the reply fits it.
+pub record IsAnswer (m : Whole) (reply : Reply) : Type 0 where
+  pub pending : IsSome m.asking
+  pub fits : IsReply m.machine.flat (room_of m.asking) reply

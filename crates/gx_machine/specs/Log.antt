@@ -1,7 +1,6 @@
 -- What is recorded of a run by an engine that can go back in it.
-use Rattle.std.specs.Prelude.{ℕ, ◌+◌, ◌-◌, ◌^◌, List, [], ◌∷◌, Option, Some, None}
-use Rattle.gx_machine.specs.declared.askings.Asking.{Asking}
-use Rattle.gx_machine.specs.Machine.{FlatMachine, Whole}
+use Rattle.std.specs.Prelude.{ℕ, ◌+◌, List, [], ◌∷◌, Option, Some, None}
+use Rattle.gx_machine.specs.Machine.{FlatMachine}
 use Rattle.gx_machine.specs.Step.{cost_of}
 
 -- An event is a step, with the answer to what it asked. The machine as it stood at the beginning of each event so far,
@@ -23,16 +22,3 @@ logged (Some log) m = Some (record { before = m ∷ log.before; after = [] })
 unfoldable pub units_of : List FlatMachine → ℕ
 units_of [] = 0
 units_of (m ∷ ms) = cost_of m + units_of ms
-
--- How many units can still be taken: the units of a record are a number below 2^64.
-abbrev pub units_left : Option Log → ℕ
-units_left None = 2 ^ 64 - 1
-units_left (Some log) = 2 ^ 64 - 1 - units_of log.before
-
--- the same once what is asked is answered, where something is asked
-abbrev pub left_by : Option Asking → Option Log → FlatMachine → ℕ
-left_by None log m = units_left log
-left_by (Some asking) log m = units_left (logged log m)
-
-abbrev pub left_after : Option Log → Whole → ℕ
-left_after log m = left_by m.asking log m.machine

@@ -1,26 +1,24 @@
 -- The copy that a save asks to be written, and the machine after a restore (Glulx 3.1.2, "Game State").
-use Rattle.std.specs.Prelude.{None, Result, Ok, Err}
+use Rattle.std.specs.Prelude.{Result, Ok, Err, None}
 use Rattle.gx_words.specs.declared.faults.Fault.{Fault}
 use Rattle.gx_state.specs.Flat.{FlatState, cut}
-use Rattle.gx_state.specs.Copies.{Copy, copy_of, gone_back}
+use Rattle.gx_state.specs.Copies.{Copy, copy_of, restored_to}
 use Rattle.gx_operands.specs.Instructions.{Instruction, instruction}
 use Rattle.gx_machine.specs.Machine.{FlatMachine, Whole}
-
--- a copy of a state that is none: of nothing
-abbrev pub no_copy : FlatState → Copy
-no_copy f = record { memory = f.memory; stack = f.stack.bytes; heap = f.heap }
 
 -- the copy that the instruction at PC takes once its operands are popped, with the stub of its store operand on top
 abbrev pub copy_by : FlatState → Result Instruction Fault → Copy
 copy_by f (Ok i) = copy_of (cut f i.sp) i.dest i.next
-copy_by f (Err fault) = no_copy f
+copy_by f (Err fault) = record { memory = f.memory; stack = f.stack.bytes; heap = f.heap }
 
 unfoldable pub saved_copy : FlatState → Copy
 saved_copy f = copy_by f (instruction f)
 
 -- A restore: the machine goes back to a copy. Its copies for undo stay.
 unfoldable pub restored : FlatMachine → Copy → FlatMachine
-restored m c = record m { flat = gone_back m.flat c }
+restored m c = record m { flat = restored_to m.flat c }
+
+-- WHAT CONTRACTS SAY
 
 abbrev pub restored_whole : Whole → Copy → Whole
 restored_whole m c = record { machine = restored m.machine c; asking = None }

@@ -55,14 +55,6 @@ asking_of (Restore stream) = Some asking.Restore
 asking_of Quit = None
 asking_of Spent = None
 
--- how many values the reply to an asking may push
-abbrev pub room_of : Option Asking → ℕ
-room_of None = 0
-room_of (Some asking.Put) = 0
-room_of (Some (asking.Glk room)) = room
-room_of (Some asking.Save) = 0
-room_of (Some asking.Restore) = 0
-
 -- One step within a budget.
 unfoldable pub stepped : Whole → ℕ → ℕ → Result ((Whole × ℕ) × Effect) Fault
 stepped m word budget =
@@ -78,3 +70,13 @@ IsModeWriting m (mode.Printing p) = ⊥
 -- such a step, where the budget has its cost: one that isn't made wants none
 abbrev pub IsStepWriting : FlatMachine → ℕ → Type 0
 IsStepWriting m budget = (cost_of m ≤ budget) × IsModeWriting m m.flat.mode
+
+-- WHAT CONTRACTS SAY
+
+-- how many values the reply to an asking may push
+abbrev pub room_of : Option Asking → ℕ
+room_of None = 0
+room_of (Some asking.Put) = 0
+room_of (Some (asking.Glk room)) = room
+room_of (Some asking.Save) = 0
+room_of (Some asking.Restore) = 0

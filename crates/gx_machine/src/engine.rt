@@ -5,13 +5,13 @@ ghost use Rattle.gx_pages.specs.Memory.{HasBytes};
 ghost use Rattle.gx_state.specs.declared.effects.Effect.TheVariants.{Put};
 ghost use Rattle.gx_state.specs.declared.modes.Mode.TheVariants.{Running};
 ghost use Rattle.gx_state.specs.Copies.{IsCopyFor};
-ghost use Rattle.ops_print.specs.Items.{is_put};
+ghost use Rattle.ops_print.specs.Asks.{is_put};
 ghost use Rattle.gx_machine.specs.Machine.{Whole};
-ghost use Rattle.gx_machine.specs.Answer.{answered, IsAnswer, IsStoredAnswer};
+ghost use Rattle.gx_machine.specs.Answer.{IsStoredAnswer, answered, IsAnswer};
 ghost use Rattle.gx_machine.specs.Saves.{restored_whole, saved_copy};
 ghost use Rattle.gx_machine.specs.Step.{stepped};
-ghost use Rattle.gx_machine.specs.Log.{Log, logged, units_left};
-ghost use Rattle.gx_machine.specs.Advancing.{Advances};
+ghost use Rattle.gx_machine.specs.Log.{Log, logged};
+ghost use Rattle.gx_machine.specs.Advancing.{units_left, Advances};
 
 use crate::Asking;
 use gx_state::{Effect, FlatCopy, Reply, State};

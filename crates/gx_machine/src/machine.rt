@@ -5,16 +5,17 @@ ghost use Rattle.gx_words.specs.Faults.{Does, Makes};
 ghost use Rattle.gx_state.specs.declared.effects.Effect.TheVariants.{Put};
 ghost use Rattle.gx_state.specs.declared.modes.Mode.TheVariants.{Running, Printing as APrinting};
 ghost use Rattle.gx_state.specs.Copies.{IsCopyFor};
-ghost use Rattle.gx_state.specs.Flat.{IsHeight, sp_of};
+ghost use Rattle.gx_state.specs.Flat.{sp_of, IsHeight};
 ghost use Rattle.gx_state.specs.Replies.{AreInRam, IsReply};
 ghost use Rattle.gx_state.specs.Stores.{store_fault, IsMemory};
 ghost use Rattle.gx_pages.specs.Memory.{HasBytes};
-ghost use Rattle.ops_print.specs.Items.{is_put};
+ghost use Rattle.ops_print.specs.Asks.{is_put};
 ghost use Rattle.gx_undo.specs.Undo.{most_undo};
 ghost use Rattle.gx_machine.specs.declared.askings.Asking.TheVariants as asking;
-ghost use Rattle.gx_machine.specs.Answer.{answered, answered_state, with_writes, with_pushes, IsAnswer, IsStoredAnswer};
-ghost use Rattle.gx_machine.specs.Quick.{Tries, Passed};
+ghost use Rattle.gx_machine.specs.Answer.{answered_state, with_writes, with_pushes, IsStoredAnswer, answered, IsAnswer};
 ghost use Rattle.gx_machine.specs.Saves.{restored_whole, saved_copy};
+ghost use Rattle.gx_machine.specs.Step.{room_of, asking_of, stepped, IsStepWriting};
+ghost use Rattle.gx_machine.specs.Quick.{Tries, Passed};
 ghost use Rattle.gx_machine.specs.Start.{first_machine};
 ghost use Rattle.gx_machine.specs.Step.{asking_of, room_of, stepped, IsStepWriting};
 ghost use Rattle.gx_machine.specs.Advancing.{Advances, Passes};
@@ -430,7 +431,7 @@ impl<A: Allocator + Clone> Machine<A> {
 }
 
 /// Makes the writes of a reply, and stores its value where that goes to memory or a local.
-#[tactic(auto, unfolding(gx_state::specs::Stores::store_fault, gx_state::specs::Flat::with_local, gx_stack::specs::Values::with_local))]
+#[tactic(auto, unfolding(gx_state::specs::Stores::store_fault, gx_state::specs::Calls::with_local, gx_stack::specs::Calls::with_local))]
 fn write_all<A: Allocator + Clone>(
     state: &mut State<A>,
     pending: &Pending,
@@ -458,7 +459,7 @@ fn write_all<A: Allocator + Clone>(
 }
 
 /// Pushes the values of a reply, and its value where that is pushed.
-#[tactic(auto, unfolding(gx_state::specs::Flat::pushed, gx_state::specs::Flat::pushed_all, gx_stack::specs::Values::pushed, gx_stack::specs::Values::pushed_all), using(gx_stack::proofs::Turns::value_turns))]
+#[tactic(auto, unfolding(gx_state::specs::Calls::pushed, gx_state::specs::Calls::pushed_all, gx_stack::specs::Calls::pushed, gx_stack::specs::Calls::pushed_all), using(gx_stack::proofs::Turns::value_turns))]
 fn push_all<A: Allocator + Clone>(state: &mut State<A>, pending: &Pending, reply: &Reply)
     requires live { 0 < sp_of state.old.flat }
     requires room { sp_of state.old.flat + 4 * length reply.now.pushes + result_len pending.now.dest

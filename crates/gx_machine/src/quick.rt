@@ -10,14 +10,13 @@ ghost use Rattle.std.specs.Int.{w32, cast_signed, cast_unsigned, int_div_euclid,
 ghost use Rattle.gx_words.specs.declared.faults.Fault.TheVariants.{BadAddress};
 ghost use Rattle.gx_words.specs.Constants.{ceiling};
 ghost use Rattle.gx_words.specs.Numbers.{IsWidth, byte};
-ghost use Rattle.ops_calc.specs.Arithmetic as calc;
-ghost use Rattle.ops_calc.specs.Branches as branch;
+ghost use Rattle.ops_calc.specs.Acts as acts;
 ghost use Rattle.gx_state.specs.declared.effects.Effect.TheVariants.{Went};
 ghost use Rattle.gx_state.specs.declared.modes.Mode.TheVariants.{Running};
-ghost use Rattle.gx_state.specs.Flat.{IsHeight, cut, sp_of};
+ghost use Rattle.gx_state.specs.Flat.{cut, sp_of, IsHeight};
 ghost use Rattle.gx_state.specs.Returns.{IsReturnWriting};
 ghost use Rattle.gx_state.specs.Stores.{IsMemory};
-ghost use Rattle.gx_operands.specs.Instructions.{HasValues};
+ghost use Rattle.gx_operands.specs.Plans.{HasValues};
 ghost use Rattle.gx_undo.specs.Undo.{FlatUndo};
 ghost use Rattle.ops_flow.specs.Rows.{branches, returns};
 ghost use Rattle.gx_machine.specs.Quick.{Tries, IsPlain, IsQuick, quick_row, read_effect, IsReadWriting, IsRowWriting};
@@ -121,7 +120,7 @@ fn compute<A: Allocator + Clone>(
     cursor: &Cursor,
 ) -> Result<bool, Fault>
     requires live { 0 < sp_of state.old.flat }
-    requires act { IsTrue (calc.is_calc act) }
+    requires act { IsTrue (acts.is_calc act) }
     requires popped { HasValues state.old.flat cursor.now.popped }
     ensures value { Tries (IsMemory dest) result state.old.flat state.new.flat
         (computed_on state.old.flat act a b dest cursor.now) }
@@ -272,7 +271,7 @@ fn give_back<A: Allocator + Clone>(
     cursor: &Cursor,
 ) -> Result<bool, Fault>
     requires live { 0 < sp_of state.old.flat }
-    ensures value { Tries (IsReturnWriting state.old.flat state.old.flat.fp None) result state.old.flat state.new.flat
+    ensures value { Tries (IsReturnWriting state.old.flat state.old.flat.fp) result state.old.flat state.new.flat
         (returns state.old.flat cursor.now.at value) }
     ensures story { state.new.flat.story ≡ state.old.flat.story }
 {
@@ -297,7 +296,7 @@ fn do_two_and_store<A: Allocator + Clone>(
 ) -> Result<bool, Fault>
     requires live { 0 < sp_of state.old.flat }
     requires quick { IsQuick row.now.class }
-    requires calc { row.now.class ≡ Class.Calc → IsTrue (calc.is_calc row.now.act) }
+    requires calc { row.now.class ≡ Class.Calc → IsTrue (acts.is_calc row.now.act) }
     requires popped { HasValues state.old.flat cursor.now.popped }
     ensures value { Tries (IsReadWriting state.old.flat row.now (a ∷ b ∷ []) dest cursor.now) result state.old.flat
         state.new.flat (read_effect state.old.flat row.now (a ∷ b ∷ []) dest cursor.now) }
@@ -335,7 +334,7 @@ fn do_three<A: Allocator + Clone>(
     requires live { 0 < sp_of state.old.flat }
     requires quick { IsQuick row.now.class }
     requires loads { row.now.loads ≡ 3 }
-    requires branch { row.now.class ≡ Class.Branch → IsTrue (branch.is_branch row.now.act) }
+    requires branch { row.now.class ≡ Class.Branch → IsTrue (acts.is_branch row.now.act) }
     requires popped { HasValues state.old.flat cursor.now.popped }
     ensures value { Tries (IsReadWriting state.old.flat row.now (a ∷ b ∷ c ∷ []) Dest.Nowhere cursor.now) result
         state.old.flat state.new.flat (read_effect state.old.flat row.now (a ∷ b ∷ c ∷ []) Dest.Nowhere cursor.now) }
@@ -366,7 +365,7 @@ fn do_two<A: Allocator + Clone>(
     requires live { 0 < sp_of state.old.flat }
     requires quick { IsQuick row.now.class }
     requires loads { row.now.loads ≡ 2 }
-    requires branch { row.now.class ≡ Class.Branch → IsTrue (branch.is_branch row.now.act) }
+    requires branch { row.now.class ≡ Class.Branch → IsTrue (acts.is_branch row.now.act) }
     requires popped { HasValues state.old.flat cursor.now.popped }
     ensures value { Tries (IsReadWriting state.old.flat row.now (a ∷ b ∷ []) Dest.Nowhere cursor.now) result
         state.old.flat state.new.flat (read_effect state.old.flat row.now (a ∷ b ∷ []) Dest.Nowhere cursor.now) }
@@ -391,7 +390,7 @@ fn do_one_and_store<A: Allocator + Clone>(
     requires live { 0 < sp_of state.old.flat }
     requires quick { IsQuick row.now.class }
     requires width { row.now.width ≡ 4 }
-    requires calc { row.now.class ≡ Class.Calc → IsTrue (calc.is_calc row.now.act) }
+    requires calc { row.now.class ≡ Class.Calc → IsTrue (acts.is_calc row.now.act) }
     requires popped { HasValues state.old.flat cursor.now.popped }
     ensures value { Tries (IsReadWriting state.old.flat row.now (a ∷ []) dest cursor.now) result state.old.flat
         state.new.flat (read_effect state.old.flat row.now (a ∷ []) dest cursor.now) }
@@ -407,7 +406,7 @@ fn do_one_and_store<A: Allocator + Clone>(
 
 /// Does a row of one load.
 #[inline(always)]
-#[tactic(auto, unfolding(ops_flow::specs::Rows::jumps, ops_flow::specs::Rows::flow, ops_flow::specs::Rows::return_))]
+#[tactic(auto, unfolding(ops_flow::specs::Rows::jumps, ops_flow::specs::Rows::flow))]
 fn do_one<A: Allocator + Clone>(
     state: &mut State<A>,
     row: &Row,
@@ -417,7 +416,7 @@ fn do_one<A: Allocator + Clone>(
     requires live { 0 < sp_of state.old.flat }
     requires quick { IsQuick row.now.class }
     requires loads { row.now.loads ≡ 1 }
-    requires branch { row.now.class ≡ Class.Branch → IsTrue (branch.is_branch row.now.act) }
+    requires branch { row.now.class ≡ Class.Branch → IsTrue (acts.is_branch row.now.act) }
     requires popped { HasValues state.old.flat cursor.now.popped }
     ensures value { Tries (IsReadWriting state.old.flat row.now (a ∷ []) Dest.Nowhere cursor.now) result state.old.flat
         state.new.flat (read_effect state.old.flat row.now (a ∷ []) Dest.Nowhere cursor.now) }
@@ -556,7 +555,7 @@ fn two_and_store<A: Allocator + Clone>(
 ) -> Result<bool, Fault>
     requires live { 0 < sp_of state.old.flat }
     requires quick { IsQuick row.now.class }
-    requires calc { row.now.class ≡ Class.Calc → IsTrue (calc.is_calc row.now.act) }
+    requires calc { row.now.class ≡ Class.Calc → IsTrue (acts.is_calc row.now.act) }
     requires plain { IsPlain row.now }
     requires loads { row.now.loads ≡ 2 }
     requires stores { row.now.stores ≡ 1 }
@@ -580,7 +579,7 @@ fn two_and_store<A: Allocator + Clone>(
 fn three<A: Allocator + Clone>(state: &mut State<A>, row: &Row, modes: u32) -> Result<bool, Fault>
     requires live { 0 < sp_of state.old.flat }
     requires quick { IsQuick row.now.class }
-    requires branch { row.now.class ≡ Class.Branch → IsTrue (branch.is_branch row.now.act) }
+    requires branch { row.now.class ≡ Class.Branch → IsTrue (acts.is_branch row.now.act) }
     requires plain { IsPlain row.now }
     requires loads { row.now.loads ≡ 3 }
     requires stores { row.now.stores ≡ 0 }
@@ -604,7 +603,7 @@ fn three<A: Allocator + Clone>(state: &mut State<A>, row: &Row, modes: u32) -> R
 fn two<A: Allocator + Clone>(state: &mut State<A>, row: &Row, modes: u32) -> Result<bool, Fault>
     requires live { 0 < sp_of state.old.flat }
     requires quick { IsQuick row.now.class }
-    requires branch { row.now.class ≡ Class.Branch → IsTrue (branch.is_branch row.now.act) }
+    requires branch { row.now.class ≡ Class.Branch → IsTrue (acts.is_branch row.now.act) }
     requires plain { IsPlain row.now }
     requires loads { row.now.loads ≡ 2 }
     requires stores { row.now.stores ≡ 0 }
@@ -631,7 +630,7 @@ fn one_and_store<A: Allocator + Clone>(
 ) -> Result<bool, Fault>
     requires live { 0 < sp_of state.old.flat }
     requires quick { IsQuick row.now.class }
-    requires calc { row.now.class ≡ Class.Calc → IsTrue (calc.is_calc row.now.act) }
+    requires calc { row.now.class ≡ Class.Calc → IsTrue (acts.is_calc row.now.act) }
     requires plain { IsPlain row.now }
     requires loads { row.now.loads ≡ 1 }
     requires stores { row.now.stores ≡ 1 }
@@ -654,7 +653,7 @@ fn one_and_store<A: Allocator + Clone>(
 fn one<A: Allocator + Clone>(state: &mut State<A>, row: &Row, modes: u32) -> Result<bool, Fault>
     requires live { 0 < sp_of state.old.flat }
     requires quick { IsQuick row.now.class }
-    requires branch { row.now.class ≡ Class.Branch → IsTrue (branch.is_branch row.now.act) }
+    requires branch { row.now.class ≡ Class.Branch → IsTrue (acts.is_branch row.now.act) }
     requires plain { IsPlain row.now }
     requires loads { row.now.loads ≡ 1 }
     requires stores { row.now.stores ≡ 0 }
@@ -673,7 +672,7 @@ fn one<A: Allocator + Clone>(state: &mut State<A>, row: &Row, modes: u32) -> Res
 
 /// Does the row of no operands that does nothing.
 #[inline(always)]
-#[tactic(auto, unfolding(ops_flow::specs::Rows::flow, ops_flow::specs::Rows::nop), using(crate::proofs::Reading::none_read))]
+#[tactic(auto, unfolding(ops_flow::specs::Rows::flow), using(crate::proofs::Reading::none_read))]
 fn none<A: Allocator + Clone>(state: &mut State<A>, row: &Row, modes: u32) -> Result<bool, Fault>
     requires live { 0 < sp_of state.old.flat }
     requires quick { IsQuick row.now.class }
@@ -705,8 +704,8 @@ fn by_shape<A: Allocator + Clone>(
 ) -> Result<bool, Fault>
     requires live { 0 < sp_of state.old.flat }
     requires quick { IsQuick row.now.class }
-    requires calc { row.now.class ≡ Class.Calc → IsTrue (calc.is_calc row.now.act) }
-    requires branch { row.now.class ≡ Class.Branch → IsTrue (branch.is_branch row.now.act) }
+    requires calc { row.now.class ≡ Class.Calc → IsTrue (acts.is_calc row.now.act) }
+    requires branch { row.now.class ≡ Class.Branch → IsTrue (acts.is_branch row.now.act) }
     requires one { row.now.loads ≡ 1 → row.now.stores ≡ 0 → IsPlain row.now }
     requires two { row.now.loads ≡ 2 → IsPlain row.now }
     requires three { row.now.loads ≡ 3 → IsPlain row.now }

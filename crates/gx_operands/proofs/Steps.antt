@@ -2,9 +2,10 @@
 use Rattle.std.proofs.Common.{◌≡◌, ◌≤◌, ◌<◌, ◌+◌, ◌-◌, ◌*◌, ℕ, suc, refl, arith, Ok, Err}
 use Rattle.gx_words.specs.declared.faults.Fault.{Fault}
 use Rattle.gx_rows.specs.declared.instructions.Row.{Row}
-use Rattle.gx_state.specs.Flat.{FlatState, IsHeight, sp_of}
+use Rattle.gx_state.specs.Flat.{FlatState, sp_of, IsHeight}
 use Rattle.gx_state.specs.Sound.{IsSound}
-use Rattle.gx_operands.specs.Instructions.{Operands, HasValues, operands, operand}
+use Rattle.gx_operands.specs.Instructions.{Operands, operands, operand}
+use Rattle.gx_operands.specs.Plans.{HasValues}
 
 pub all_taken : (f : FlatState) (row : Row) (modes count i : ℕ) (o : Operands) → count ≤ i → operands f row modes (count - i) i o ≡ Ok o
 unfolding operands

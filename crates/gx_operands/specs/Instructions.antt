@@ -1,11 +1,11 @@
 -- How an instruction is read (Glulx 3.1.2, "Instruction Format"): its number, and its operands from left to
 -- right. The first fault on the way is the instruction's.
-use Rattle.std.specs.Prelude.{ℕ, ◌+◌, ◌-◌, ◌*◌, ◌/◌, ◌%◌, ◌^◌, ◌≤◌, List, [], ◌∷◌, ◌++◌, length, nat_le, nat_lt, ◌==◌}
-use Rattle.std.specs.Prelude.{Bool, true, false, zero, suc, if◌then◌else◌, slice_index, Result, Ok, Err}
+use Rattle.std.specs.Prelude.{ℕ, ◌+◌, ◌-◌, ◌*◌, ◌/◌, ◌%◌, ◌^◌, List, [], ◌∷◌, ◌++◌, length, nat_le, nat_lt, ◌==◌, Bool}
+use Rattle.std.specs.Prelude.{true, false, zero, suc, if◌then◌else◌, slice_index, Result, Ok, Err}
 use Rattle.std.specs.Option.{ok_or}
 use Rattle.gx_words.specs.declared.faults.Fault.{Fault}
 use Rattle.gx_words.specs.declared.faults.Fault.TheVariants.{BadMode, BadAddress, BadOpcode}
-use Rattle.gx_words.specs.Numbers.{IsWidth, byte, low, extended}
+use Rattle.gx_words.specs.Numbers.{byte, low, extended}
 use Rattle.gx_words.specs.Results.{◌>>=◌}
 use Rattle.gx_pages.specs.Memory.{number_in}
 use Rattle.gx_stack.specs.Faults.{lifted}
@@ -32,10 +32,6 @@ opcode f = do
         Ok (number - 0x8000, f.pc + 2)) else (do
           number ← number_in 4 f.memory f.pc
           Ok (number - 0xC0000000, f.pc + 4))
-
--- the frame has so many values
-abbrev pub HasValues : FlatState → ℕ → Type 0
-HasValues f values = values ≤ count f.stack.bytes (frame_of f)
 
 -- the address in RAM that an offset means
 abbrev pub ram_address : FlatState → ℕ → ℕ

@@ -10,11 +10,10 @@ ghost use Rattle.gx_words.specs.Numbers.{IsWidth, extended};
 ghost use Rattle.gx_words.specs.Faults.{Reads};
 ghost use Rattle.gx_pages.specs.Memory.{number_in};
 ghost use Rattle.gx_rows.specs.Table.{row_count, row_of, row_at, RowFits};
-ghost use Rattle.gx_state.specs.Flat.{IsHeight, sp_of};
-ghost use Rattle.gx_operands.specs.Instructions.{opcode, HasValues, past, datum, load_by, load, destination_by};
-ghost use Rattle.gx_operands.specs.Instructions.{destination, with_operand, nibble, operand, operands, all_operands};
-ghost use Rattle.gx_operands.specs.Instructions.{instruction};
-ghost use Rattle.gx_operands.specs.Plans.{operands_of, instruction_of};
+ghost use Rattle.gx_state.specs.Flat.{sp_of, IsHeight};
+ghost use Rattle.gx_operands.specs.Instructions.{opcode, past, datum, load_by, load, destination_by, destination};
+ghost use Rattle.gx_operands.specs.Instructions.{with_operand, nibble, operand, operands, all_operands, instruction};
+ghost use Rattle.gx_operands.specs.Plans.{HasValues, operands_of, instruction_of};
 
 use crate::Plan;
 use crate::cursor::Cursor;

@@ -2,7 +2,7 @@
 ghost use Rattle.std.specs.Prelude.{◌≡◌, ◌<◌};
 ghost use Rattle.gx_words.specs.Numbers.{IsWidth};
 ghost use Rattle.gx_words.specs.Faults.{Reads};
-ghost use Rattle.gx_state.specs.Flat.{IsHeight, frame_of, sp_of};
+ghost use Rattle.gx_state.specs.Flat.{frame_of, sp_of, IsHeight};
 ghost use Rattle.gx_state.specs.Relations.{Stores};
 ghost use Rattle.gx_state.specs.Stores.{IsMemory, store_fault, stored};
 ghost use Rattle.gx_operands.specs.Stores.{settled};
@@ -43,7 +43,7 @@ pub fn can_store<A: Allocator + Clone>(
 }
 
 /// Stores the low 1, 2 or 4 bytes of a value.
-#[tactic(auto, unfolding(gx_state::specs::Stores::stored, gx_state::specs::Stores::store_fault, gx_state::specs::Flat::pushed, gx_state::specs::Flat::with_local, gx_stack::specs::Values::pushed, gx_stack::specs::Values::with_local))]
+#[tactic(auto, unfolding(gx_state::specs::Stores::stored, gx_state::specs::Stores::store_fault, gx_state::specs::Calls::pushed, gx_state::specs::Calls::with_local, gx_stack::specs::Calls::pushed, gx_stack::specs::Calls::with_local))]
 pub fn store<A: Allocator + Clone>(
     state: &mut State<A>,
     dest: &Dest,
@@ -89,7 +89,7 @@ fn write<A: Allocator + Clone>(
 }
 
 /// Stores the low 1, 2 or 4 bytes of a value after the stack was cut to `sp`.
-#[tactic(auto, unfolding(crate::specs::Stores::settled, gx_state::specs::Stores::stored, gx_state::specs::Stores::store_fault, gx_state::specs::Flat::pushed, gx_state::specs::Flat::with_local, gx_stack::specs::Values::pushed, gx_stack::specs::Values::with_local))]
+#[tactic(auto, unfolding(crate::specs::Stores::settled, gx_state::specs::Stores::stored, gx_state::specs::Stores::store_fault, gx_state::specs::Calls::pushed, gx_state::specs::Calls::with_local, gx_stack::specs::Calls::pushed, gx_stack::specs::Calls::with_local))]
 #[inline(always)]
 pub fn settle<A: Allocator + Clone>(
     state: &mut State<A>,

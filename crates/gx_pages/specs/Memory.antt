@@ -14,15 +14,6 @@ pub record IsSize (size : ℕ) : Type 0 where
   pub whole : size % 256 ≡ 0
   pub capped : size ≤ ceiling
 
--- so many bytes from an address on lie in memory; where they are none, any address will do
-abbrev pub IsInside : ℕ → ℕ → ℕ → Type 0
-IsInside at count size = 0 < count → at + count ≤ size
-
--- the same for the bytes of each write
-abbrev pub AreInside : List (ℕ × List ℕ) → ℕ → Type 0
-AreInside [] size = Unit {0}
-AreInside (w ∷ ws) size = IsInside w.0 (length w.1) size × AreInside ws size
-
 -- some write has a byte
 abbrev pub HasBytes : List (ℕ × List ℕ) → Type 0
 HasBytes [] = ⊥
@@ -48,3 +39,14 @@ abbrev pub put_back_of : List ℕ → List ℕ → ℕ → ℕ → List ℕ
 put_back_of present kept from count =
     map (λ a. if nat_le from a && nat_lt a (from + count) then slice_index present a else slice_index kept a)
     (range_with_len 0 (length kept))
+
+-- WHAT CONTRACTS ASK FOR
+
+-- so many bytes from an address on lie in memory; where they are none, any address will do
+abbrev pub IsInside : ℕ → ℕ → ℕ → Type 0
+IsInside at count size = 0 < count → at + count ≤ size
+
+-- the same for the bytes of each write
+abbrev pub AreInside : List (ℕ × List ℕ) → ℕ → Type 0
+AreInside [] size = Unit {0}
+AreInside (w ∷ ws) size = IsInside w.0 (length w.1) size × AreInside ws size

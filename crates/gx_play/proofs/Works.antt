@@ -1,12 +1,16 @@
 -- The story of every number is accepted, and can be started.
-use Rattle.std.proofs.Common.{◌≡◌, ℕ, ◌+◌, ◌-◌, ◌*◌, ◌%◌, ◌^◌, ◌<◌, ◌≤◌, nat_le, not, if◌then◌else◌, Bool, true, false, List, [], ◌∷◌, ◌++◌, length, take, replicate, Some, is_some, IsSome, Result, Ok, Err, refl, ap, sym, ◌∙◌, append_assoc, arith}
+use Rattle.std.proofs.Common.{◌≡◌, ℕ, ◌+◌, ◌-◌, ◌*◌, ◌%◌, ◌^◌, ◌<◌, ◌≤◌, nat_le, not, if◌then◌else◌, Bool, true, false}
+use Rattle.std.proofs.Common.{List, [], ◌∷◌, ◌++◌, length, take, replicate, Some, is_some, IsSome, Result, Ok, Err}
+use Rattle.std.proofs.Common.{refl, ap, sym, ◌∙◌, append_assoc, arith}
 use Rattle.std.proofs.lemmas.Bool.{le-leb}
 use Rattle.std.proofs.lemmas.Bool.Decides.{nat_tests}
 use Rattle.std.proofs.lemmas.List.{length-append, take_all}
+use Rattle.gx_words.specs.Constants.{extstart_at, ceiling}
 use Rattle.gx_words.specs.Numbers.{byte, word, sum_of_words}
-use Rattle.gx_words.specs.Constants.{ceiling, extstart_at}
 use Rattle.iff_chunks.specs.Chunks.{begins_form}
-use Rattle.gx_story.specs.Stories.{FlatStory, accepted, bare, header, header_at_start, stored_story, has_header, has_magic, has_version, has_sizes, is_within_limits, has_stored_part, is_whole}
+use Rattle.gx_story.specs.Stories.{FlatStory, accepted, bare, header, header_at_start, stored_story, has_sizes}
+use Rattle.gx_story.specs.Stories.{is_whole}
+use Rattle.gx_story.proofs.HeaderTests.{has_header, has_magic, has_version, is_within_limits, has_stored_part}
 use Rattle.gx_pages.specs.Memory.{number_in}
 use Rattle.gx_stack.specs.Formats.{locals_len}
 use Rattle.gx_state.specs.Entry.{kind_at, format_from, function_at, entered, started, initial}

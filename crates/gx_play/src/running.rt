@@ -1,6 +1,6 @@
 //! A run as a command asks for it: within its budget, in its view and on its screen, and with its random words.
 ghost use Rattle.std.specs.Prelude.{◌≡◌, ◌≤◌, None, []};
-ghost use Rattle.gx_machine.specs.Log.{units_left};
+ghost use Rattle.gx_machine.specs.Advancing.{units_left};
 ghost use Rattle.gx_outside.specs.Chains.{IsCalled};
 ghost use Rattle.gx_session.specs.Devices.{devices};
 ghost use Rattle.gx_session.specs.Runs.{report_on};

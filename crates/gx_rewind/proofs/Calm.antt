@@ -57,10 +57,10 @@ ended-calm true = tt
 ended-calm false = tt
 
 returns-calm : (f : FlatState) (next v : ℕ) → Calm (flow.returns f next v)
-returns-calm f next v = bind (returned (going_to f next) f.fp v None) (λ r. Ok (r.0, flow.after_return r.1)) (λ r. ended-calm r.1)
+returns-calm f next v = bind (returned (going_to f next) f.fp v) (λ r. Ok (r.0, flow.after_return r.1)) (λ r. ended-calm r.1)
 
 flow-calm : (f : FlatState) (i : Instruction) → Calm (flow.flow f i)
-unfolding flow.flow flow.nop flow.call flow.return_ flow.catch flow.throw flow.tailcall flow.jumpabs flow.callf
+unfolding flow.flow flow.call flow.catch flow.throw flow.tailcall flow.callf
 flow-calm f i = search (bind, choose, returns-calm) depth 40
 
 stack-calm : (f : FlatState) (i : Instruction) → Calm (flow.stack f i)
@@ -143,7 +143,7 @@ from-calm f u i [] = search (bind, leaving) depth 20
 from-calm f u i (c ∷ older) = tt
 
 game-calm : (f : FlatState) (u : FlatUndo) (word : ℕ) (i : Instruction) → Calm (game.row_effect f u word i)
-unfolding game.row_effect game.gestalt game.debugtrap game.setrandom game.quit game.verify game.restart game.save game.restore game.saveundo game.restoreundo game.protect game.hasundo game.discardundo game.getstringtbl game.setstringtbl game.getiosys game.setiosys game.accelerate
+unfolding game.row_effect game.gestalt game.setrandom game.quit game.verify game.restart game.save game.restore game.saveundo game.restoreundo game.protect game.hasundo game.discardundo game.getstringtbl game.setstringtbl game.getiosys game.setiosys
 game-calm f u word i = search (bind, choose, leaving, random-calm, from-calm) depth 60
 
 glk-calm : (f : FlatState) (i : Instruction) → Calm (glk f i)

@@ -162,6 +162,12 @@ place_within place = if nat_lt place row_count then Some place else None
 unfoldable pub place_of : ℕ → Option ℕ
 place_of number = place_within (position_or_len (λ row. row.number == number) table)
 
+-- the row at a place of the table
+unfoldable pub row_at : ℕ → Row
+row_at place = slice_index_or table place (row numbers.nop 0 0 Flow)
+
+-- WHAT CONTRACTS SAY
+
 -- the numbers from one on stand at these places of the table; its length is the place of those that no row has
 unfoldable pub are_places : ℕ → List ℕ → Bool
 are_places number [] = true
@@ -171,10 +177,6 @@ are_places number (place ∷ places) =
 -- no row has a number from this one on
 unfoldable pub are_below : ℕ → List Row → Bool
 are_below most rows = list_all (λ row. nat_lt row.number most) rows
-
--- the row at a place of the table
-unfoldable pub row_at : ℕ → Row
-row_at place = slice_index_or table place (row numbers.nop 0 0 Flow)
 
 -- at most eight operands, at most two of them stored, of 1, 2 or 4 bytes
 abbrev pub row_fits : Row → Bool

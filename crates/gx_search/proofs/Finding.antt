@@ -1,5 +1,6 @@
 -- What a search of one struct after another finds, and that this is its definition.
-use Rattle.std.proofs.Common.{◌≡◌, inl, inr, ◌≤◌, ◌<◌, ◌+◌, ◌-◌, ◌%◌, ◌^◌, ℕ, zero, suc, true, false, List, Option, Some, None, Result, Ok, Err, refl, subst, arith, below_more}
+use Rattle.std.proofs.Common.{◌≡◌, inl, inr, ◌≤◌, ◌<◌, ◌+◌, ◌-◌, ◌%◌, ◌^◌, ℕ, zero, suc, true, false, List, Option}
+use Rattle.std.proofs.Common.{Some, None, Result, Ok, Err, refl, subst, arith, below_more}
 use Rattle.gx_words.specs.declared.faults.Fault.{Fault}
 use Rattle.gx_words.specs.Faults.{Reads, TakesNone}
 use Rattle.gx_words.specs.Results.{◌>>=◌}
@@ -9,7 +10,9 @@ use Rattle.gx_search.specs.declared.asks.Found.TheVariants.{At, Nothing, More}
 use Rattle.gx_search.specs.declared.keys.Seen.TheVariants.{Match, Zero, Other}
 use Rattle.gx_search.specs.declared.turns.Layout.{Layout}
 use Rattle.gx_search.specs.Keys.{has_size, probe}
-use Rattle.gx_search.specs.Searches.{Struct, Search, with_probe, found_by, found_within, next_of, address_of, is_past, place_of, at_struct, search_from, search_of, ArePassed, IsFound}
+use Rattle.gx_search.specs.Searches.{Struct, Search, with_probe, next_of, address_of, is_past, place_of, at_struct}
+use Rattle.gx_search.specs.Searches.{search_from, search_of}
+use Rattle.gx_search.specs.Finding.{found_by, found_within, ArePassed, IsFound}
 use Rattle.gx_search.proofs.Within.{IsAfter, after_none, after_one, ended_within, spent_within}
 
 -- ---- the struct of an index

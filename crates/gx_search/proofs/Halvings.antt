@@ -1,5 +1,6 @@
 -- What a search of a row of rising keys finds, and that this is its definition.
-use Rattle.std.proofs.Common.{◌≡◌, ◌≢◌, ◌⊎◌, inl, inr, ◌≤◌, ◌<◌, ◌+◌, ◌-◌, ◌*◌, ◌^◌, ℕ, zero, suc, Bool, true, false, List, Some, None, Result, Ok, Err, refl, sym, subst, ap, cond, ◌∙◌, arith}
+use Rattle.std.proofs.Common.{◌≡◌, ◌≢◌, ◌⊎◌, inl, inr, ◌≤◌, ◌<◌, ◌+◌, ◌-◌, ◌*◌, ◌^◌, ℕ, zero, suc, Bool, true, false}
+use Rattle.std.proofs.Common.{List, Some, None, Result, Ok, Err, refl, sym, subst, ap, cond, ◌∙◌, arith}
 use Rattle.std.specs.Ordering.{nat_cmp, is_eq}
 use Rattle.std.specs.declared.cmp.Ordering.{Ordering}
 use Rattle.std.specs.declared.cmp.Ordering.TheVariants.{Less, Equal, Greater}
@@ -14,8 +15,9 @@ use Rattle.gx_words.specs.declared.faults.Fault.TheVariants.{BadAddress}
 use Rattle.gx_search.specs.declared.asks.Ask.{Ask}
 use Rattle.gx_search.specs.declared.asks.Found.TheVariants.{At, Nothing, More}
 use Rattle.gx_search.specs.Keys.{sought, key_at, can_probe, compared}
-use Rattle.gx_search.specs.Searches.{no_probe, with_probe, found_within}
-use Rattle.gx_search.specs.Halving.{struct_at, middle, after_order, halving, key_in_row, IsRisingRow, IsFoundInRow}
+use Rattle.gx_search.specs.Searches.{no_probe, with_probe}
+use Rattle.gx_search.specs.Finding.{found_within, key_in_row, IsRisingRow, IsFoundInRow}
+use Rattle.gx_search.specs.Halving.{struct_at, middle, after_order, halving}
 use Rattle.gx_search.proofs.Within.{IsAfter, after_none, after_one, ended_within, spent_within}
 
 -- ---- keys in order

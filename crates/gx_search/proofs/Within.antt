@@ -5,7 +5,8 @@ use Rattle.gx_words.specs.declared.faults.Fault.{Fault}
 use Rattle.gx_words.specs.Results.{◌>>=◌}
 use Rattle.gx_search.specs.declared.asks.Found.{Found}
 use Rattle.gx_search.specs.declared.asks.Found.TheVariants.{At, Nothing, More}
-use Rattle.gx_search.specs.Searches.{Struct, Search, with_probe, found_by, found_within}
+use Rattle.gx_search.specs.Searches.{Struct, Search, with_probe}
+use Rattle.gx_search.specs.Finding.{found_by, found_within}
 
 -- ---- a search that goes on as another after so many probes
 

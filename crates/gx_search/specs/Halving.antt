@@ -1,16 +1,12 @@
 -- The search that halves a row of rising keys: binarysearch (Glulx 3.1.2, "Searching").
-use Rattle.std.specs.Prelude.{◌≡◌, ◌≢◌, ℕ, zero, suc, ◌+◌, ◌-◌, ◌*◌, ◌/◌, ◌%◌, ◌^◌, ◌<◌, Bool, ◌==◌, ◌||◌, nat_lt}
-use Rattle.std.specs.Prelude.{nat_le, if◌then◌else◌, List, length, Some, None, Result, Ok, Err}
-use Rattle.std.specs.Ordering.{nat_cmp}
+use Rattle.std.specs.Prelude.{ℕ, zero, suc, ◌+◌, ◌-◌, ◌*◌, ◌/◌, ◌%◌, ◌^◌, Bool, ◌==◌, ◌||◌, nat_lt, nat_le}
+use Rattle.std.specs.Prelude.{if◌then◌else◌, List, length, Some, None, Result, Ok, Err}
 use Rattle.std.specs.declared.cmp.Ordering.{Ordering}
 use Rattle.std.specs.declared.cmp.Ordering.TheVariants.{Less, Equal, Greater}
-use Rattle.std.specs.Cmp.Lexicographic.{slice_cmp}
 use Rattle.gx_words.specs.declared.faults.Fault.{Fault}
 use Rattle.gx_words.specs.declared.faults.Fault.TheVariants.{BadMode, BadAddress}
 use Rattle.gx_search.specs.declared.asks.Ask.{Ask}
-use Rattle.gx_search.specs.declared.asks.Found.{Found}
-use Rattle.gx_search.specs.declared.asks.Found.TheVariants.{At, Nothing, More}
-use Rattle.gx_search.specs.Keys.{has_size, sought, key_at, compared}
+use Rattle.gx_search.specs.Keys.{has_size, compared}
 use Rattle.gx_search.specs.Searches.{Struct, Search, no_probe, with_probe}
 
 -- The keys of all structs are in memory: that of the last ends there, its address summed without
@@ -51,21 +47,3 @@ binary memory ask =
     if has_size ask
     then (if has_all_keys memory ask then halving memory ask ask.count 0 ask.count else no_probe (Err BadAddress))
     else no_probe (Err BadMode)
-
--- the key of the struct of an index
-abbrev pub key_in_row : List ℕ → Ask → ℕ → List ℕ
-key_in_row memory ask i = key_at memory ask (struct_at ask i)
-
--- the keys of the row rise
-abbrev pub IsRisingRow : List ℕ → Ask → Type 0
-IsRisingRow memory ask =
-    (i j : ℕ) → i < j → j < ask.count → slice_cmp nat_cmp (key_in_row memory ask i) (key_in_row memory ask j) ≡ Less
-
--- What a search of a row of rising keys found: a struct with the key, or that none has it.
-unfoldable pub IsFoundInRow : List ℕ → Ask → Result Found Fault → Type 0
-IsFoundInRow memory ask (Ok (At address index probes)) =
-    (index < ask.count) × (address ≡ struct_at ask index) × (key_in_row memory ask index ≡ sought memory ask)
-IsFoundInRow memory ask (Ok (Nothing probes)) =
-    IsRisingRow memory ask → (i : ℕ) → i < ask.count → key_in_row memory ask i ≢ sought memory ask
-IsFoundInRow memory ask (Ok More) = Unit {0}
-IsFoundInRow memory ask (Err e) = Unit {0}

@@ -2,3 +2,4 @@ pub mod Constants
 pub mod Keys
 pub mod Searches
 pub mod Halving
+pub mod Finding

@@ -1,14 +1,12 @@
 -- A search as a whole, and those that look at one struct after another: linearsearch and linkedsearch
--- (Glulx 3.1.2, "Searching"), with what it means that something was found.
-use Rattle.std.specs.Prelude.{◌≡◌, ◌⊎◌, ℕ, zero, suc, ◌+◌, ◌%◌, ◌^◌, ◌<◌, ◌≤◌, Bool, not, ◌==◌, ◌&&◌, nat_lt, nat_le}
-use Rattle.std.specs.Prelude.{if◌then◌else◌, List, Option, Some, None, Result, Ok, Err}
+-- (Glulx 3.1.2, "Searching").
+use Rattle.std.specs.Prelude.{ℕ, zero, suc, ◌+◌, ◌%◌, ◌^◌, Bool, not, ◌==◌, ◌&&◌, nat_le, if◌then◌else◌, List, Option}
+use Rattle.std.specs.Prelude.{Some, None, Result, Ok, Err}
+use Rattle.gx_words.specs.Results.{◌>>=◌}
 use Rattle.gx_words.specs.declared.faults.Fault.{Fault}
 use Rattle.gx_words.specs.declared.faults.Fault.TheVariants.{BadMode}
-use Rattle.gx_words.specs.Results.{◌>>=◌}
 use Rattle.gx_pages.specs.Memory.{number_in}
 use Rattle.gx_search.specs.declared.asks.Ask.{Ask}
-use Rattle.gx_search.specs.declared.asks.Found.{Found}
-use Rattle.gx_search.specs.declared.asks.Found.TheVariants.{At, Nothing, More}
 use Rattle.gx_search.specs.declared.keys.Seen.{Seen}
 use Rattle.gx_search.specs.declared.keys.Seen.TheVariants.{Match, Zero, Other}
 use Rattle.gx_search.specs.declared.turns.Layout.{Layout}
@@ -33,17 +31,6 @@ no_probe outcome = record { outcome = outcome; probes = 0 }
 -- one probe begins, and the rest follows
 abbrev pub with_probe : Search → Search
 with_probe rest = record rest { probes = rest.probes + 1 }
-
--- What a call answers that may begin so many probes: More exactly where the search begins more.
-abbrev pub found_by : ℕ → Option Struct → Found
-found_by probes None = Nothing probes
-found_by probes (Some s) = At s.address s.index probes
-
-unfoldable pub found_within : ℕ → Search → Result Found Fault
-found_within bound whole =
-    if nat_lt bound whole.probes then Ok More else (do
-      found ← whole.outcome
-      Ok (found_by whole.probes found))
 
 -- ONE STRUCT AFTER ANOTHER
 
@@ -100,29 +87,3 @@ unfoldable pub linked : List ℕ → Ask → Search
 linked memory ask = search_of layout.List memory ask
 
 -- WHAT WAS FOUND
-
--- the struct of an index is at an address, and its probe sees this
-abbrev pub IsSeen : Layout → List ℕ → Ask → ℕ → ℕ → Seen → Type 0
-IsSeen l memory ask i at what = (place_of l memory ask i ≡ Ok (Some at)) × (probe memory ask at ≡ Ok what)
-
--- each probe below an index has no fault, and sees neither the key nor zeros that end the search
-unfoldable pub ArePassed : Layout → List ℕ → Ask → ℕ → Type 0
-ArePassed l memory ask n = (k : ℕ) → k < n → (at : ℕ) × IsSeen l memory ask k at Other
-
--- What a search found: the least index at which something ends it. A match counts first, then
--- zeros; with nothing, they end it or there is no struct at the index; with `More`, no index below
--- the bound ends it; and a fault is that of the index's struct or of its probe.
-unfoldable pub IsFound : Layout → List ℕ → Ask → ℕ → Result Found Fault → Type 0
-IsFound l memory ask bound (Ok (At address index probes)) =
-    (i : ℕ) × ArePassed l memory ask i × IsSeen l memory ask i address Match × (index ≡ i % 2 ^ 32) × (probes ≡ i + 1)
-    × (i < bound)
-IsFound l memory ask bound (Ok (Nothing probes)) =
-    (ArePassed l memory ask probes × (place_of l memory ask probes ≡ Ok None) × (probes ≤ bound))
-    ⊎ ((i : ℕ) × (at : ℕ) × ArePassed l memory ask i × IsSeen l memory ask i at Zero × (probes ≡ i + 1)
-    × (i < bound))
-IsFound l memory ask bound (Ok More) =
-    (at : ℕ) × ArePassed l memory ask bound × (place_of l memory ask bound ≡ Ok (Some at))
-IsFound l memory ask bound (Err e) =
-    (i : ℕ) × ArePassed l memory ask i
-    × (((place_of l memory ask i ≡ Err e) × (i ≤ bound))
-    ⊎ ((at : ℕ) × (place_of l memory ask i ≡ Ok (Some at)) × (probe memory ask at ≡ Err e) × (i < bound)))

@@ -2,8 +2,8 @@
 ghost use Rattle.std.specs.Prelude.{◌≡◌, ◌≢◌, ◌≤◌, IsTrue, Ok};
 ghost use Rattle.gx_words.specs.Faults.{Reads};
 ghost use Rattle.gx_search.specs.Keys.{has_size};
-ghost use Rattle.gx_search.specs.Searches.{found_within};
-ghost use Rattle.gx_search.specs.Halving.{has_all_keys, struct_at, middle, halving, binary, IsFoundInRow};
+ghost use Rattle.gx_search.specs.Finding.{found_within, IsFoundInRow};
+ghost use Rattle.gx_search.specs.Halving.{has_all_keys, struct_at, middle, halving, binary};
 ghost use Rattle.gx_search.specs.declared.asks.Found.TheVariants.{More};
 
 use crate::keys::{compared, has_size};
@@ -81,7 +81,7 @@ fn search_half<A: Allocator + Clone>(
 /// the key, are in memory.
 ///
 /// It is `More` exactly where more than `bound` probes would begin.
-#[tactic(auto, unfolding(crate::specs::Halving::binary, crate::specs::Halving::IsFoundInRow, crate::specs::Searches::found_within))]
+#[tactic(auto, unfolding(crate::specs::Halving::binary, crate::specs::Finding::IsFoundInRow, crate::specs::Finding::found_within))]
 pub fn binary<A: Allocator + Clone>(
     memory: &Pages<A>,
     ask: &Ask,

@@ -2,7 +2,8 @@
 ghost use Rattle.std.specs.Prelude.{◌≡◌, IsTrue};
 ghost use Rattle.gx_words.specs.Faults.{Reads, TakesNone};
 ghost use Rattle.gx_search.specs.Keys.{has_size};
-ghost use Rattle.gx_search.specs.Searches.{next_of, is_past, linear, linked, found_within, IsFound};
+ghost use Rattle.gx_search.specs.Searches.{next_of, is_past, linear, linked};
+ghost use Rattle.gx_search.specs.Finding.{found_within, IsFound};
 
 use crate::keys::{Seen, has_size, probe};
 use crate::{Ask, Found};
@@ -86,7 +87,7 @@ fn search<A: Allocator + Clone>(
 /// size that isn't allowed, and `BadAddress` where a probe looks at a byte that isn't in memory.
 ///
 /// It is `More` exactly where more than `bound` probes would begin.
-#[tactic(auto, unfolding(crate::specs::Searches::linear, crate::specs::Searches::found_within), using(crate::proofs::Finding::searched_is))]
+#[tactic(auto, unfolding(crate::specs::Searches::linear, crate::specs::Finding::found_within), using(crate::proofs::Finding::searched_is))]
 pub fn linear<A: Allocator + Clone>(
     memory: &Pages<A>,
     ask: &Ask,
@@ -107,7 +108,7 @@ pub fn linear<A: Allocator + Clone>(
 /// isn't in memory.
 ///
 /// It is `More` exactly where more than `bound` probes would begin.
-#[tactic(auto, unfolding(crate::specs::Searches::linked, crate::specs::Searches::found_within), using(crate::proofs::Finding::searched_is))]
+#[tactic(auto, unfolding(crate::specs::Searches::linked, crate::specs::Finding::found_within), using(crate::proofs::Finding::searched_is))]
 pub fn linked<A: Allocator + Clone>(
     memory: &Pages<A>,
     ask: &Ask,

@@ -1,7 +1,8 @@
 -- The machine takes a reply, or goes back to a copy, and then the text is sent that is due.
 use Rattle.std.proofs.Common.{◌≡◌, ℕ, ◌≤◌, ◌⊎◌, List, Option, Some, None, IsSome, Result, Ok, Err, IfOk, refl, ap, subst, sym, ◌∙◌}
 use Rattle.gx_machine.specs.Machine.{FlatMachine, Whole}
-use Rattle.gx_machine.specs.Log.{Log, logged, units_left, left_by, left_after}
+use Rattle.gx_machine.specs.Log.{Log, logged}
+use Rattle.gx_machine.specs.Advancing.{units_left, left_by, left_after}
 use Rattle.gx_machine.specs.declared.askings.Asking.{Asking}
 use Rattle.gx_outside.specs.Outside.{FlatSink}
 use Rattle.glk_world.specs.World.{FlatWorld}

@@ -1,12 +1,13 @@
 -- There is room in what is recorded for the units that a step leaves.
-use Rattle.std.proofs.Common.{◌≡◌, ◌≢◌, ◌≤◌, ◌+◌, List, [], ◌∷◌, ℕ, zero, suc, Option, Some, None, IsSome, Ok, refl, subst, sym, arith}
+use Rattle.std.proofs.Common.{◌≡◌, ◌≢◌, ◌≤◌, ◌+◌, List, [], ◌∷◌, ℕ, zero, suc, Option, Some, None, IsSome, Ok, refl}
+use Rattle.std.proofs.Common.{subst, sym, arith}
 use Rattle.gx_state.specs.declared.effects.Effect.{Effect}
 use Rattle.gx_state.specs.declared.effects.Effect.TheVariants as effect
 use Rattle.gx_machine.specs.declared.askings.Asking.{Asking}
 use Rattle.gx_machine.specs.Machine.{FlatMachine, Whole}
 use Rattle.gx_machine.specs.Step.{cost_of, stepped, asking_of}
-use Rattle.gx_machine.specs.Log.{Log, logged, units_of, units_left, left_by, left_after}
-use Rattle.gx_machine.specs.Advancing.{Passes, Advances, logged_by}
+use Rattle.gx_machine.specs.Log.{Log, logged, units_of}
+use Rattle.gx_machine.specs.Advancing.{units_left, left_by, left_after, Passes, Advances, logged_by}
 use Rattle.gx_session.proofs.Passing.{passed-asks, advanced}
 use Rattle.gx_session.proofs.Steps.{step-answers, step-cost}
 

@@ -2,7 +2,7 @@
 use Rattle.std.proofs.Common.{◌≡◌, ℕ, suc, zero, ◌+◌, ◌-◌, ◌==◌, nat_lt, if◌then◌else◌, List, [], ◌∷◌, take, drop, Bool, true, false, Option, Some, None, option_and_then, Result, Ok, Err, refl, ap, subst, sym, ◌∙◌}
 use Rattle.std.proofs.lemmas.Bool.{eqb-true}
 use Rattle.gx_words.specs.declared.faults.Fault.{Fault}
-use Rattle.gx_words.specs.declared.faults.Fault.TheVariants.{BadOpcode, BadFrame, Overflow}
+use Rattle.gx_words.specs.declared.faults.Fault.TheVariants.{BadOpcode, BadFrame, Overflow, DebugTrap}
 use Rattle.gx_words.specs.Results.{◌>>=◌}
 use Rattle.gx_rows.specs.Numbers as numbers
 use Rattle.gx_rows.specs.declared.instructions.Class.{Class}
@@ -13,10 +13,10 @@ use Rattle.gx_state.specs.declared.effects.Reply.{Reply}
 use Rattle.gx_state.specs.declared.modes.Mode.{Mode}
 use Rattle.gx_state.specs.declared.modes.Mode.TheVariants as mode
 use Rattle.gx_state.specs.Flat.{FlatState, cut, sp_of}
-use Rattle.gx_state.specs.Copies.{Copy, copy_of, gone_back}
+use Rattle.gx_state.specs.Copies.{Copy, copy_of, restored_to}
 use Rattle.gx_undo.specs.Undo.{FlatUndo, with_newest, without_newest}
 use Rattle.gx_operands.specs.Instructions.{Instruction, instruction, going_to}
-use Rattle.gx_operands.specs.Stores.{settled}
+use Rattle.gx_operands.specs.Stores.{settled, goes}
 use Rattle.ops_print.specs.Items.{item}
 use Rattle.ops_flow.specs.Rows as flow
 use Rattle.ops_memory.specs.Rows as memory
@@ -81,7 +81,7 @@ others-stay : (f : FlatState) (u : FlatUndo) (word : ℕ) (i : Instruction) → 
 unfolding game.row_effect
 others-stay f u word i not-saves not-restores not-discards =
     stays-if u _ _ _ (stays-lifted u (game.gestalt f i)) (
-    stays-if u _ _ _ (stays-lifted u (game.debugtrap f i)) (
+    stays-if u _ _ _ (stays-faulted u DebugTrap) (
     stays-if u _ _ _ (stays-lifted u (game.random f word i)) (
     stays-if u _ _ _ (stays-lifted u (game.setrandom f i)) (
     stays-if u _ _ _ (stays-lifted u (game.quit f i)) (
@@ -98,8 +98,8 @@ others-stay f u word i not-saves not-restores not-discards =
     stays-if u _ _ _ (stays-lifted u (game.setstringtbl f i)) (
     stays-if u _ _ _ (stays-lifted u (game.getiosys f i)) (
     stays-if u _ _ _ (stays-lifted u (game.setiosys f i)) (
-    stays-if u _ _ _ (stays-lifted u (game.accelerate f i)) (
-    stays-if u _ _ _ (stays-lifted u (game.accelerate f i)) (
+    stays-if u _ _ _ (stays-lifted u (goes f i)) (
+    stays-if u _ _ _ (stays-lifted u (goes f i)) (
     stays-faulted u BadOpcode))))))))))))))))))))
 
 saves-row : (f : FlatState) (u : FlatUndo) (word : ℕ) (i : Instruction) → i.row.number ≡ numbers.saveundo → game.row_effect f u word i ≡ game.saveundo f u i
@@ -147,7 +147,7 @@ stored-by u i (Err fault) p none h = absurd cc
 restored-by : (f : FlatState) (u : FlatUndo) (i : Instruction) (copies : List Copy) (p : (FlatState × FlatUndo) × Effect) → u.copies ≡ copies → game.restored_from f u i copies ≡ Ok p → Restored u p
 restored-by f u i [] p is h = stored-by u i (settled f i.sp 4 i.dest 1) p is h
 restored-by f u i (c ∷ older) p is h =
-    let same : ((gone_back f c, without_newest u), effect.Went) ≡ p = ok-is {A = (FlatState × FlatUndo) × Effect} ((gone_back f c, without_newest u), effect.Went) p h in
+    let same : ((restored_to f c, without_newest u), effect.Went) ≡ p = ok-is {A = (FlatState × FlatUndo) × Effect} ((restored_to f c, without_newest u), effect.Went) p h in
     record { copies = sym (ap (λ (y : (FlatState × FlatUndo) × Effect). y.0.1) same); went = sym (ap (λ (y : (FlatState × FlatUndo) × Effect). y.1) same) }
 
 restored : (f : FlatState) (u : FlatUndo) (i : Instruction) (p : (FlatState × FlatUndo) × Effect) → game.restoreundo f u i ≡ Ok p → Restored u p

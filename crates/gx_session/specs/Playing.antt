@@ -12,8 +12,8 @@ use Rattle.gx_machine.specs.Machine.{FlatMachine, Whole}
 use Rattle.gx_machine.specs.Answer.{answer_of}
 use Rattle.gx_machine.specs.Saves.{restored}
 use Rattle.gx_machine.specs.Step.{asking_of}
-use Rattle.gx_machine.specs.Log.{Log, logged, units_left}
-use Rattle.gx_machine.specs.Advancing.{logged_by}
+use Rattle.gx_machine.specs.Log.{Log, logged}
+use Rattle.gx_machine.specs.Advancing.{units_left, logged_by}
 use Rattle.gx_outside.specs.Outside.{FlatSource, FlatSink, FlatShelf, raised_by}
 use Rattle.gx_outside.specs.Shelves.{Request, stores, Answer, Trace}
 use Rattle.gx_outside.specs.declared.devices.SendFault.{SendFault}

@@ -2,7 +2,7 @@
 ghost use Rattle.std.specs.Prelude.{◌≡◌, ◌≢◌, ◌≤◌, ◌<◌, ◌⊎◌, ◌++◌, ℕ, List, [], None, Ok, Err, IfOk, IfErr};
 ghost use Rattle.std.specs.Option.{option_to_list};
 ghost use Rattle.gx_state.specs.declared.effects.Effect.TheVariants.{Spent};
-ghost use Rattle.gx_machine.specs.Log.{units_left, left_after};
+ghost use Rattle.gx_machine.specs.Advancing.{units_left, left_after};
 ghost use Rattle.gx_machine.specs.Step.{asking_of};
 ghost use Rattle.gx_outside.specs.Chains.{IsCalled};
 ghost use Rattle.gx_outside.specs.Shelves.{Trace};

@@ -5,7 +5,8 @@
 ghost use Rattle.std.specs.Prelude.{◌≡◌, ◌≢◌, ◌≤◌, ◌<◌, ◌⊎◌, ℕ, List, None, Some, Ok, Err, IfOk, IfErr, OnErr};
 ghost use Rattle.gx_machine.specs.declared.askings.Asking.TheVariants as asking;
 ghost use Rattle.gx_machine.specs.Answer.{answered, IsAnswer};
-ghost use Rattle.gx_machine.specs.Log.{logged, left_after};
+ghost use Rattle.gx_machine.specs.Log.{logged};
+ghost use Rattle.gx_machine.specs.Advancing.{left_after};
 ghost use Rattle.glk_replies.specs.Parts.{replies};
 ghost use Rattle.gx_session.specs.Counts.{Blames};
 ghost use Rattle.gx_session.specs.Cuts.{ReplyWants};

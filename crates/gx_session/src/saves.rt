@@ -7,7 +7,7 @@ ghost use Rattle.gx_state.specs.Copies.{IsCopyFor};
 ghost use Rattle.gx_state.specs.Replies.{IsReply};
 ghost use Rattle.gx_state.specs.declared.effects.Effect.TheVariants as effect;
 ghost use Rattle.gx_machine.specs.declared.askings.Asking.TheVariants as asking;
-ghost use Rattle.gx_machine.specs.Log.{left_after};
+ghost use Rattle.gx_machine.specs.Advancing.{left_after};
 ghost use Rattle.gx_machine.specs.Saves.{restored};
 ghost use Rattle.gx_machine.specs.Step.{asking_of};
 ghost use Rattle.glk_world.specs.World.{on_world};

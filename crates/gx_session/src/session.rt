@@ -1,6 +1,6 @@
 //! A run of a session from its start.
 ghost use Rattle.std.specs.Prelude.{◌≡◌, ◌≤◌, [], None, IsSomeAnd};
-ghost use Rattle.gx_machine.specs.Log.{units_left};
+ghost use Rattle.gx_machine.specs.Advancing.{units_left};
 ghost use Rattle.gx_outside.specs.Chains.{IsCalled};
 ghost use Rattle.gx_session.specs.Devices.{devices};
 ghost use Rattle.gx_session.specs.Session.{start_of, fault_address};

@@ -3,7 +3,7 @@ ghost use Rattle.std.specs.Prelude.{◌≡◌, ◌≤◌, ◌++◌, ℕ, List, S
 ghost use Rattle.gx_outside.specs.Chains.{IsCalled};
 ghost use Rattle.gx_state.specs.declared.effects.Effect.TheVariants.{Put, Glk};
 ghost use Rattle.gx_machine.specs.declared.askings.Asking.TheVariants as asking;
-ghost use Rattle.gx_machine.specs.Log.{left_after};
+ghost use Rattle.gx_machine.specs.Advancing.{left_after};
 ghost use Rattle.gx_machine.specs.Step.{asking_of};
 ghost use Rattle.glk_world.specs.World.{after};
 ghost use Rattle.glk_world.specs.Shown.{show_grids, show_line};

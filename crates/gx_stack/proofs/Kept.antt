@@ -1,9 +1,11 @@
 -- What keeps a frame good: a push, a cut above its values, a put behind its header.
-use Rattle.std.proofs.Common.{◌≡◌, ◌≤◌, ◌<◌, ◌+◌, ◌-◌, ◌%◌, ◌^◌, ℕ, List, ◌++◌, length, take, drop, ◌*◌, arith, length-append}
+use Rattle.std.proofs.Common.{◌≡◌, ◌≤◌, ◌<◌, ◌+◌, ◌-◌, ◌%◌, ◌^◌, ℕ, List, ◌++◌, length, take, drop, ◌*◌, arith}
+use Rattle.std.proofs.Common.{length-append}
 use Rattle.std.proofs.lemmas.Grind.{common_steps}
 use Rattle.gx_words.specs.Numbers.{word, spliced}
 use Rattle.gx_stack.specs.declared.frames.Frame.{Frame}
-use Rattle.gx_stack.specs.Formats.{IsFormat, frame, frame_len}
+use Rattle.gx_stack.specs.Formats.{frame, frame_len}
+use Rattle.gx_stack.specs.Held.{IsFormat}
 use Rattle.gx_stack.specs.Frames.{IsGood, IsFrame}
 use Rattle.gx_stack.specs.Values.{turned, turned_top}
 use Rattle.gx_stack.proofs.Pieces.{length-frame, frame_len_read, locals_pos_read}

@@ -6,7 +6,8 @@ use Rattle.gx_words.specs.Numbers.{word, bytes_of_word}
 use Rattle.gx_stack.specs.declared.frames.Frame.{Frame}
 use Rattle.gx_stack.specs.Frames.{IsFrame}
 use Rattle.gx_stack.proofs.Pieces.{digits, word_behind}
-use Rattle.gx_stack.specs.Values.{words, turned, turned_top, last, but_last, rolled_values, values_of}
+use Rattle.gx_stack.specs.Values.{turned, turned_top}
+use Rattle.gx_stack.specs.Laws.{words, last, but_last, rolled_values, values_of}
 
 -- a list of 4 n bytes in front
 words_joined : (n : ℕ) (xs ys : List ℕ) → length xs ≡ 4 * n → words (xs ++ ys) ≡ words xs ++ words ys

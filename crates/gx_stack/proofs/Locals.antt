@@ -1,5 +1,7 @@
 -- Each argument of an entry is read back from its local.
-use Rattle.std.proofs.Common.{Ok, ◌≡◌, inl, inr, ◌≤◌, ◌+◌, ◌-◌, ◌*◌, ◌/◌, ◌%◌, ◌^◌, ℕ, zero, suc, List, [], ◌∷◌, ◌++◌, length, take, drop, replicate, refl, ap, sym, subst, ◌∙◌, arith, length-append, append_assoc}
+use Rattle.std.proofs.Common.{Ok, ◌≡◌, inl, inr, ◌≤◌, ◌+◌, ◌-◌, ◌*◌, ◌/◌, ◌%◌, ◌^◌, ℕ, zero, suc, List, [], ◌∷◌, ◌++◌}
+use Rattle.std.proofs.Common.{length, take, drop, replicate, refl, ap, sym, subst, ◌∙◌, arith, length-append}
+use Rattle.std.proofs.Common.{append_assoc}
 use Rattle.std.proofs.Math.Seq.{drop-nil}
 use Rattle.std.proofs.lemmas.Grind.{common_steps}
 use Rattle.std.proofs.lemmas.List.{length-replicate, map-append}
@@ -8,7 +10,9 @@ use Rattle.gx_stack.specs.declared.frames.Frame.{Frame}
 use Rattle.gx_stack.specs.Values.{local_at}
 use Rattle.gx_words.specs.Numbers.{IsWidth, byte, half, number, bytes_of_word, bytes_of_number, spliced}
 use Rattle.gx_stack.proofs.Pieces.{length-number, length-filled, length-pairs, length-padded, word_behind}
-use Rattle.gx_stack.specs.Formats.{ArePairs, IsFormat, pairs_of, gap, padded, padded_len, filled, locals, locals_pos, frame_len, frame, group, local_places, held, numbers_at}
+use Rattle.gx_stack.specs.Formats.{pairs_of, gap, padded, padded_len, filled, locals, locals_pos, frame_len, frame}
+use Rattle.gx_stack.specs.Held.{ArePairs, IsFormat}
+use Rattle.gx_stack.specs.Laws.{group, local_places, held, numbers_at}
 
 -- what holds at each width
 at_width : (P : ℕ → Type 0) → P 1 → P 2 → P 4 → (t : ℕ) → IsWidth t → P t

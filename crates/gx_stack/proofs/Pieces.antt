@@ -1,10 +1,13 @@
 -- The bytes of a frame: how many they are, and that its two header words are read back.
-use Rattle.std.proofs.Common.{◌-◌, ◌≡◌, ◌<◌, ◌≤◌, ◌+◌, ◌*◌, ◌/◌, ◌%◌, ◌^◌, ℕ, zero, suc, List, [], ◌∷◌, ◌++◌, length, drop, replicate, refl, ◌∙◌, arith, length-append, append_assoc}
+use Rattle.std.proofs.Common.{◌-◌, ◌≡◌, ◌<◌, ◌≤◌, ◌+◌, ◌*◌, ◌/◌, ◌%◌, ◌^◌, ℕ, zero, suc, List, [], ◌∷◌, ◌++◌, length}
+use Rattle.std.proofs.Common.{drop, replicate, refl, ◌∙◌, arith, length-append, append_assoc}
 use Rattle.std.proofs.lemmas.List.{length-replicate}
 use Rattle.std.proofs.lemmas.Grind.{common_steps}
 use Rattle.gx_words.specs.Numbers.{IsWidth, word, bytes_of_word, bytes_of_number}
 use Rattle.gx_stack.specs.Stubs.{stub_below}
-use Rattle.gx_stack.specs.Formats.{ArePairs, IsFormat, pairs_of, gap, padded, padded_len, filled, locals, locals_len, locals_pos, frame_len, frame}
+use Rattle.gx_stack.specs.Formats.{pairs_of, gap, padded, padded_len, filled, locals, locals_len, locals_pos, frame_len}
+use Rattle.gx_stack.specs.Formats.{frame}
+use Rattle.gx_stack.specs.Held.{ArePairs, IsFormat}
 
 -- a word that was written is read again
 pub digits : (v : ℕ) → v < 2 ^ 32 → ((v / 2 ^ 24 % 256) * 256 + v / 2 ^ 16 % 256) * 65536 + ((v / 2 ^ 8 % 256) * 256 + v % 256) ≡ v

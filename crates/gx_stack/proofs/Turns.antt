@@ -5,7 +5,8 @@ use Rattle.std.proofs.lemmas.Bool.{cases_lt}
 use Rattle.std.proofs.lemmas.Grind.{common_steps}
 use Rattle.gx_words.specs.Numbers.{IsWidth, bytes_of_word, bytes_of_number}
 use Rattle.gx_stack.specs.declared.stubs.Stub.{Stub}
-use Rattle.gx_stack.specs.Formats.{ArePairs, gap, filled, locals, locals_len}
+use Rattle.gx_stack.specs.Formats.{gap, filled, locals, locals_len}
+use Rattle.gx_stack.specs.Held.{ArePairs}
 use Rattle.gx_stack.specs.Frames.{topmost_first}
 use Rattle.gx_stack.specs.Stubs.{stubs_bytes, stub_bytes}
 use Rattle.gx_stack.specs.Values.{in_order}

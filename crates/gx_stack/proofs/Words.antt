@@ -2,7 +2,8 @@
 use Rattle.std.proofs.Common.{◌≡◌, ◌+◌, ◌*◌, ℕ, List, [], ◌∷◌, ◌++◌, refl, ◌∙◌, inr, arith, append_assoc, get_or}
 use Rattle.std.proofs.lemmas.List.{append-nil}
 use Rattle.gx_words.specs.Numbers.{IsWidth, bytes_of_word}
-use Rattle.gx_stack.specs.Formats.{IsOfWords, gap, padded, filled, locals, locals_len, frame_len, frame}
+use Rattle.gx_stack.specs.Formats.{gap, padded, filled, locals, locals_len, frame_len, frame}
+use Rattle.gx_stack.specs.Held.{IsOfWords}
 use Rattle.gx_stack.proofs.Pieces.{length-filled}
 
 no_gap : (n : ℕ) → gap 4 (4 * n) ≡ 0

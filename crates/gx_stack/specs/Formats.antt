@@ -2,31 +2,13 @@
 --
 -- A format is the pairs of type and count and an ending pair, as they stand in memory. The type is
 -- the size of each of the pair's locals in bytes.
-use Rattle.std.specs.Prelude.{ℕ, zero, suc, ◌≡◌, ◌+◌, ◌-◌, ◌*◌, ◌%◌, ◌≤◌, ◌==◌, if◌then◌else◌, List, [], ◌∷◌, ◌++◌}
-use Rattle.std.specs.Prelude.{length, take, drop, replicate, ◌^◌, map}
-use Rattle.gx_words.specs.Numbers.{IsWidth, byte, number, bytes_of_word, bytes_of_number}
-
--- pairs of types 1, 2 and 4
-abbrev pub ArePairs : List ℕ → Type 0
-ArePairs [] = Unit {0}
-ArePairs (t ∷ []) = ⊥
-ArePairs (t ∷ n ∷ pairs) = IsWidth t × ArePairs pairs
+use Rattle.std.specs.Prelude.{ℕ, zero, suc, ◌+◌, ◌-◌, ◌*◌, ◌%◌, ◌==◌, if◌then◌else◌, List, [], ◌∷◌, ◌++◌, length, take}
+use Rattle.std.specs.Prelude.{drop, replicate}
+use Rattle.gx_words.specs.Numbers.{bytes_of_word, bytes_of_number}
 
 -- the pairs of a format in front of its ending pair
 abbrev pub pairs_of : List ℕ → List ℕ
 pairs_of format = take (length format - 2) format
-
--- at most 64 pairs and an ending pair, whose type is 0
-pub record IsFormat (format : List ℕ) : Type 0 where
-  pub pairs : ArePairs (pairs_of format)
-  pub ending : 2 ≤ length format
-  pub ends : byte format (length format - 2) ≡ 0
-  pub few : length format ≤ 130
-
--- the format of locals of four bytes alone: one pair, and the ending one
-pub record IsOfWords (format : List ℕ) : Type 0 where
-  pub pairs : length format ≡ 4
-  pub words : byte format 0 ≡ 4
 
 -- how far it is from an offset to the least multiple of 1, 2 or 4 at or after it
 abbrev pub gap : ℕ → ℕ → ℕ
@@ -71,24 +53,3 @@ unfoldable pub frame : List ℕ → List ℕ → List ℕ
 frame format args =
     bytes_of_word (frame_len format) ++ bytes_of_word (locals_pos format)
     ++ padded (pairs_of format ++ 0 ∷ 0 ∷ []) ++ padded (locals 0 (pairs_of format) args)
-
--- the offset and the size of each of n locals of t bytes that stand from an offset on
-unfoldable pub group : ℕ → ℕ → ℕ → List (ℕ × ℕ)
-group at t zero = []
-group at t (suc n) = (at, t) ∷ group (at + t) t n
-
--- the offset and the size of each local of pairs, in order
-unfoldable pub local_places : ℕ → List ℕ → List (ℕ × ℕ)
-local_places at [] = []
-local_places at (t ∷ []) = []
-local_places at (t ∷ n ∷ pairs) = group (at + gap t at) t n ++ local_places (at + gap t at + t * n) pairs
-
--- what locals hold of arguments: each its own, cut to its size, and 0 where there is none left
-unfoldable pub held : List (ℕ × ℕ) → List ℕ → List ℕ
-held [] args = []
-held (local ∷ places) [] = 0 ∷ held places []
-held (local ∷ places) (a ∷ args) = a % 256 ^ local.1 ∷ held places args
-
--- the numbers that stand at these offsets behind a place
-abbrev pub numbers_at : List ℕ → ℕ → List (ℕ × ℕ) → List ℕ
-numbers_at s place locals = map (λ local. number local.1 s (place + local.0)) locals

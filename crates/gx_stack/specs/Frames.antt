@@ -3,10 +3,8 @@ use Rattle.std.specs.Prelude.{◌≡◌, ℕ, ◌+◌, ◌-◌, ◌%◌, ◌≤�
 use Rattle.std.specs.Prelude.{length, Result, Ok, Err}
 use Rattle.gx_words.specs.Numbers.{word, bytes_of_word}
 use Rattle.gx_stack.specs.declared.faults.StackFault.{StackFault}
-use Rattle.gx_stack.specs.declared.faults.StackFault.TheVariants.{Overflow, BadFrame}
+use Rattle.gx_stack.specs.declared.faults.StackFault.TheVariants.{BadFrame}
 use Rattle.gx_stack.specs.declared.frames.Frame.{Frame}
-use Rattle.gx_stack.specs.Flat.{FlatStack}
-use Rattle.gx_stack.specs.Formats.{frame, frame_len}
 
 -- the frame at fp is good
 abbrev pub is_good : List ℕ → ℕ → Bool
@@ -26,28 +24,12 @@ pub record IsGood (s : List ℕ) (fp : ℕ) : Type 0 where
 abbrev pub parts : List ℕ → ℕ → Frame
 parts s fp = record { fp = fp; locals = fp + word s (fp + 4); values = fp + word s fp }
 
--- a good frame, with its parts
-pub record IsFrame (s : List ℕ) (f : Frame) : Type 0 where
-  pub good : IsGood s f.fp
-  pub locals : f.locals ≡ f.fp + word s (f.fp + 4)
-  pub values : f.values ≡ f.fp + word s f.fp
-
 -- so many bytes at an offset into a frame's locals are all in its locals
 abbrev pub has_local : Frame → ℕ → ℕ → Bool
 has_local f at width = nat_le (at + width) (f.values - f.locals)
 
--- every good frame of the old bytes is one of the new
-abbrev pub KeepsFrames : List ℕ → List ℕ → Type 0
-KeepsFrames old new = (f : Frame) → IsFrame old f → IsFrame new f
-
 unfoldable pub frame_in : List ℕ → ℕ → Result Frame StackFault
 frame_in s fp = if is_good s fp then Ok (parts s fp) else Err BadFrame
-
--- the frame of a format pushed, with arguments in its locals
-unfoldable pub entered : FlatStack → List ℕ → List ℕ → Result FlatStack StackFault
-entered s format args =
-    if nat_le (length s.bytes + frame_len format) s.limit
-    then Ok (record s { bytes = s.bytes ++ frame format args }) else Err Overflow
 
 -- words on the stack, the first topmost
 unfoldable pub topmost_first : List ℕ → List ℕ
@@ -57,3 +39,15 @@ topmost_first (v ∷ values) = topmost_first values ++ bytes_of_word v
 -- the arguments of a call on the stack, the first topmost, and their count on top (type C0)
 abbrev pub with_args : List ℕ → List ℕ → List ℕ
 with_args s args = s ++ topmost_first args ++ bytes_of_word (length args)
+
+-- WHAT CONTRACTS SAY
+
+-- a good frame, with its parts
+pub record IsFrame (s : List ℕ) (f : Frame) : Type 0 where
+  pub good : IsGood s f.fp
+  pub locals : f.locals ≡ f.fp + word s (f.fp + 4)
+  pub values : f.values ≡ f.fp + word s f.fp
+
+-- every good frame of the old bytes is one of the new
+abbrev pub KeepsFrames : List ℕ → List ℕ → Type 0
+KeepsFrames old new = (f : Frame) → IsFrame old f → IsFrame new f

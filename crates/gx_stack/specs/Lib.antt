@@ -6,3 +6,6 @@ pub mod Frames
 pub mod Stubs
 pub mod Values
 pub mod Sound
+pub mod Calls
+pub mod Laws
+pub mod Held

@@ -1,30 +1,21 @@
 -- The values and locals of a frame (Glulx 3.1.2, "Call Frames" and "The Stack").
 --
--- Each call is first what it makes of the stack's bytes; the words at the end say the same of the
--- list of the frame's values, the deepest first.
-use Rattle.std.specs.Prelude.{ℕ, ℤ, pos, ◌+◌, ◌-◌, ◌*◌, ◌/◌, ◌==◌, nat_le, nat_lt, if◌then◌else◌, List, [], ◌∷◌, ◌++◌}
-use Rattle.std.specs.Prelude.{length, take, drop, unsigned_abs, Result, Ok, Err}
+-- Each call is what it makes of the stack's bytes. specs/Laws says the same of the list of the frame's values, the
+-- deepest first.
+use Rattle.std.specs.Prelude.{ℕ, ℤ, pos, ◌+◌, ◌-◌, ◌*◌, ◌/◌, ◌==◌, nat_lt, if◌then◌else◌, List, [], ◌∷◌, ◌++◌, length}
+use Rattle.std.specs.Prelude.{take, drop, unsigned_abs, Result, Ok, Err}
 use Rattle.std.specs.Int.{int_rem_euclid}
-use Rattle.gx_words.specs.Numbers.{word, number, bytes_of_word, bytes_of_number, spliced}
+use Rattle.gx_words.specs.Numbers.{word, number, bytes_of_word}
 use Rattle.gx_stack.specs.declared.faults.StackFault.{StackFault}
 use Rattle.gx_stack.specs.declared.faults.StackFault.TheVariants.{Overflow, Underflow, BadLocal}
 use Rattle.gx_stack.specs.declared.frames.Frame.{Frame}
 use Rattle.gx_stack.specs.Flat.{FlatStack}
 use Rattle.gx_stack.specs.Frames.{has_local}
 
-unfoldable pub pushed : FlatStack → ℕ → Result FlatStack StackFault
-pushed s v =
-    if nat_le (length s.bytes + 4) s.limit then Ok (record s { bytes = s.bytes ++ bytes_of_word v }) else Err Overflow
-
 -- values as bytes, the first deepest
 unfoldable pub in_order : List ℕ → List ℕ
 in_order [] = []
 in_order (v ∷ values) = bytes_of_word v ++ in_order values
-
-unfoldable pub pushed_all : FlatStack → List ℕ → Result FlatStack StackFault
-pushed_all s values =
-    if nat_le (length s.bytes + 4 * length values) s.limit
-    then Ok (record s { bytes = s.bytes ++ in_order values }) else Err Overflow
 
 -- how many values a frame has
 abbrev pub count : List ℕ → Frame → ℕ
@@ -33,11 +24,6 @@ count s f = (length s - f.values) / 4
 -- the value i from the top
 unfoldable pub peeked : List ℕ → Frame → ℕ → Result ℕ StackFault
 peeked s f i = if nat_lt i (count s f) then Ok (word s (length s - 4 * (i + 1))) else Err Underflow
-
-unfoldable pub dropped : FlatStack → Frame → ℕ → Result FlatStack StackFault
-dropped s f n =
-    if nat_le n (count s.bytes f) then Ok (record s { bytes = take (length s.bytes - 4 * n) s.bytes })
-    else Err Underflow
 
 -- a list whose last items, so many, come to the front
 abbrev pub turned : {X : Type 0} → List X → ℕ → List X
@@ -70,32 +56,3 @@ copied s f n =
 -- the local of so many bytes at an offset into the locals
 unfoldable pub local_at : List ℕ → Frame → ℕ → ℕ → Result ℕ StackFault
 local_at s f at width = if has_local f at width then Ok (number width s (f.locals + at)) else Err BadLocal
-
-unfoldable pub with_local : FlatStack → Frame → ℕ → ℕ → ℕ → Result FlatStack StackFault
-with_local s f at width v =
-    if has_local f at width then Ok (record s { bytes = spliced s.bytes (f.locals + at) (bytes_of_number width v) })
-    else Err BadLocal
-
--- the words of a list of bytes
-unfoldable pub words : List ℕ → List ℕ
-words [] = []
-words (a ∷ []) = []
-words (a ∷ b ∷ []) = []
-words (a ∷ b ∷ c ∷ []) = []
-words (a ∷ b ∷ c ∷ d ∷ rest) = word (a ∷ b ∷ c ∷ d ∷ []) 0 ∷ words rest
-
--- the list of a frame's values, the deepest first
-abbrev pub values_of : List ℕ → Frame → List ℕ
-values_of s f = words (drop f.values s)
-
--- the last n of a list
-abbrev pub last : ℕ → List ℕ → List ℕ
-last n values = drop (length values - n) values
-
--- all but the last n
-abbrev pub but_last : ℕ → List ℕ → List ℕ
-but_last n values = take (length values - n) values
-
--- the top n values moved up by so many places, cyclically
-abbrev pub rolled_values : ℕ → ℕ → List ℕ → List ℕ
-rolled_values n up values = but_last n values ++ turned (last n values) up

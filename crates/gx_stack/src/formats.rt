@@ -5,8 +5,9 @@
 ghost use Rattle.std.specs.Prelude.{◌≡◌, ◌+◌, ◌*◌, ◌%◌, ◌≤◌, ◌<◌, ◌^◌, ◌++◌, [], ◌∷◌, length, drop, replicate, vec_len};
 ghost use Rattle.std.specs.Prelude.{vec_capacity, IsTrue};
 ghost use Rattle.gx_words.specs.Numbers.{IsWidth, bytes_of_word};
-ghost use Rattle.gx_stack.specs.Formats.{ArePairs, IsFormat, IsOfWords, pairs_of, gap, filled, locals, locals_len};
-ghost use Rattle.gx_stack.specs.Formats.{locals_pos, padded, padded_len, frame_len, frame};
+ghost use Rattle.gx_stack.specs.Formats.{pairs_of, gap, filled, locals, locals_len, locals_pos, padded, padded_len};
+ghost use Rattle.gx_stack.specs.Formats.{frame_len, frame};
+ghost use Rattle.gx_stack.specs.Held.{ArePairs, IsFormat, IsOfWords};
 
 use crate::room::{push_bytes, push_number, push_word, push_zeros};
 

@@ -2,9 +2,11 @@
 ghost use Rattle.std.specs.Prelude.{◌≡◌, ◌+◌, ◌*◌, ◌%◌, ◌≤◌, ◌++◌, [], length, take, IfOk, OnOk};
 ghost use Rattle.gx_words.specs.Constants.{stack_limit};
 ghost use Rattle.gx_words.specs.Results.{Alters};
-ghost use Rattle.gx_stack.specs.Formats.{IsFormat, pairs_of, locals_pos, frame_len, frame, local_places, held};
-ghost use Rattle.gx_stack.specs.Formats.{numbers_at};
-ghost use Rattle.gx_stack.specs.Frames.{IsGood, IsFrame, KeepsFrames, has_local, parts, frame_in, entered, with_args};
+ghost use Rattle.gx_stack.specs.Formats.{pairs_of, locals_pos, frame_len, frame};
+ghost use Rattle.gx_stack.specs.Held.{IsFormat};
+ghost use Rattle.gx_stack.specs.Laws.{local_places, held, numbers_at};
+ghost use Rattle.gx_stack.specs.Frames.{IsGood, has_local, parts, frame_in, with_args, IsFrame, KeepsFrames};
+ghost use Rattle.gx_stack.specs.Calls.{with_frame};
 
 use crate::formats::{frame_len, push_frame};
 use crate::room::push_word;
@@ -106,7 +108,7 @@ impl Stack {
     #[inline(always)]
     pub fn enter_frame(&mut self, format: &[u8]) -> Result<Frame, StackFault>
         requires { IsFormat format.now }
-        ensures value { Alters result self.old self.new (entered self.old format.now []) }
+        ensures value { Alters result self.old self.new (with_frame self.old format.now []) }
         ensures parts { IfOk result (λ frame. frame ≡ parts self.new.bytes (length self.old.bytes)) }
         ensures good { IfOk result (λ frame. IsFrame self.new.bytes frame) }
         ensures keeps { KeepsFrames self.old.bytes self.new.bytes }
@@ -117,11 +119,11 @@ impl Stack {
 
     /// Pushes the frame of a function of type C1: the arguments stand in its locals in order, each
     /// cut to the local's size. Arguments without a local are dropped, locals without one are zero.
-    #[tactic(auto, unfolding(crate::specs::Frames::entered), using(crate::proofs::Kept::entered_frames, crate::proofs::Locals::locals_read))]
+    #[tactic(auto, unfolding(crate::specs::Calls::with_frame), using(crate::proofs::Kept::entered_frames, crate::proofs::Locals::locals_read))]
     #[inline(always)]
     pub fn enter_with(&mut self, format: &[u8], args: &[u32]) -> Result<Frame, StackFault>
         requires { IsFormat format.now }
-        ensures value { Alters result self.old self.new (entered self.old format.now args.now) }
+        ensures value { Alters result self.old self.new (with_frame self.old format.now args.now) }
         ensures parts { IfOk result (λ frame. frame ≡ parts self.new.bytes (length self.old.bytes)) }
         ensures good { IfOk result (λ frame. IsFrame self.new.bytes frame) }
         ensures keeps { KeepsFrames self.old.bytes self.new.bytes }

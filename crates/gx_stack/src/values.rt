@@ -8,8 +8,9 @@ ghost use Rattle.gx_words.specs.Constants.{stack_limit};
 ghost use Rattle.gx_words.specs.Numbers.{IsWidth};
 ghost use Rattle.gx_words.specs.Results.{Alters};
 ghost use Rattle.gx_stack.specs.Frames.{IsFrame, KeepsFrames};
-ghost use Rattle.gx_stack.specs.Values.{pushed, pushed_all, count, peeked, dropped, places, rolled, swapped, copied};
-ghost use Rattle.gx_stack.specs.Values.{local_at, with_local, values_of, last, but_last, rolled_values};
+ghost use Rattle.gx_stack.specs.Values.{count, peeked, places, rolled, swapped, copied, local_at};
+ghost use Rattle.gx_stack.specs.Calls.{pushed, pushed_all, dropped, with_local};
+ghost use Rattle.gx_stack.specs.Laws.{values_of, last, but_last, rolled_values};
 
 use crate::room::{push_from, push_word, put, turn};
 use crate::{Frame, Stack, StackFault};
@@ -27,7 +28,7 @@ fn places(n: u32, by: i32) -> u32
 
 impl Stack {
     /// Pushes a value.
-    #[tactic(auto, unfolding(crate::specs::Values::pushed), using(crate::proofs::Kept::frame_after_push, crate::proofs::Lists::values_pushed))]
+    #[tactic(auto, unfolding(crate::specs::Calls::pushed), using(crate::proofs::Kept::frame_after_push, crate::proofs::Lists::values_pushed))]
     #[inline(always)]
     pub fn push(&mut self, v: u32) -> Result<(), StackFault>
         ensures value { Alters result self.old self.new (pushed self.old v) }
@@ -44,7 +45,7 @@ impl Stack {
     }
 
     /// Pushes values, the first deepest, where all of them fit.
-    #[tactic(auto, unfolding(crate::specs::Values::pushed_all), using(crate::proofs::Turns::value_turns, crate::proofs::Kept::frame_after_push))]
+    #[tactic(auto, unfolding(crate::specs::Calls::pushed_all), using(crate::proofs::Turns::value_turns, crate::proofs::Kept::frame_after_push))]
     pub fn push_all(&mut self, values: &[u32]) -> Result<(), StackFault>
         ensures value { Alters result self.old self.new (pushed_all self.old values.now) }
         ensures keeps { KeepsFrames self.old.bytes self.new.bytes }
@@ -87,7 +88,7 @@ impl Stack {
     }
 
     /// Drops the top n values.
-    #[tactic(auto, unfolding(crate::specs::Values::dropped), using(crate::proofs::Kept::frame_after_cut, crate::proofs::Lists::values_dropped))]
+    #[tactic(auto, unfolding(crate::specs::Calls::dropped), using(crate::proofs::Kept::frame_after_cut, crate::proofs::Lists::values_dropped))]
     pub fn drop_top(&mut self, frame: &Frame, n: u32) -> Result<(), StackFault>
         requires { IsFrame self.old.bytes frame.now }
         ensures value { Alters result self.old self.new (dropped self.old frame.now n) }
@@ -180,7 +181,7 @@ impl Stack {
     }
 
     /// Puts the low 1, 2 or 4 bytes of a number into the local at an offset.
-    #[tactic(auto, unfolding(crate::specs::Values::with_local), using(crate::proofs::Kept::puts))]
+    #[tactic(auto, unfolding(crate::specs::Calls::with_local), using(crate::proofs::Kept::puts))]
     #[inline(always)]
     pub fn set_local(
         &mut self,

@@ -1,9 +1,12 @@
 -- Going back to a copy, and starting again.
-use Rattle.std.proofs.Common.{◌≡◌, ◌≢◌, ◌≤◌, ◌<◌, ◌+◌, ◌-◌, ◌==◌, ℕ, Bool, true, false, cond, get_or, nat_lt, if◌then◌else◌, List, ◌++◌, length, take, replicate, Some, None, Ok, IsTrue, refl, ap, subst, sym, ◌∙◌, arith, length-append}
+use Rattle.std.proofs.Common.{◌≡◌, ◌≢◌, ◌≤◌, ◌<◌, ◌+◌, ◌-◌, ◌==◌, ℕ, Bool, true, false, cond, get_or, nat_lt}
+use Rattle.std.proofs.Common.{if◌then◌else◌, List, ◌++◌, length, take, replicate, Some, None, Ok, Err, Result, IsTrue, refl, ap}
+use Rattle.std.proofs.Common.{subst, sym, ◌∙◌, arith, length-append}
 use Rattle.std.proofs.lemmas.Grind.{common_steps}
 use Rattle.std.proofs.lemmas.List.{get_or-take, take-append-le}
 use Rattle.std.proofs.lemmas.List.FromFn.{fill_by_all, take-map-range_with_len, length-map-range_with_len}
 use Rattle.std.proofs.lemmas.Bool.Decides.{nat_tests}
+use Rattle.gx_words.specs.declared.faults.Fault.{Fault}
 use Rattle.gx_words.specs.Numbers.{spliced, bytes_of_word}
 use Rattle.gx_pages.specs.Memory.{put_back_of}
 use Rattle.gx_stack.specs.declared.stubs.Stub.{Stub}
@@ -15,10 +18,12 @@ use Rattle.gx_state.specs.declared.modes.Dest.{Dest}
 use Rattle.gx_state.specs.declared.modes.Dest.TheVariants.{Nowhere, Memory, Local, Push}
 use Rattle.gx_state.specs.declared.modes.Mode.TheVariants.{Running}
 use Rattle.gx_state.specs.Flat.{FlatState, frame_of, sp_of, written}
-use Rattle.gx_state.specs.Sound.{IsHeapWithin, IsSound}
+use Rattle.gx_state.specs.Sound.{IsSound, IsHeapWithin}
 use Rattle.gx_state.specs.Stores.{stored, store_fault}
-use Rattle.gx_state.specs.Returns.{stub_of, dest_of, stub_to, back, wrote, delivered, returned}
-use Rattle.gx_state.specs.Copies.{Copy, IsCopyFor, HasPlaceFor, copy_of, stub_in, below_stub, laid, gone_back}
+use Rattle.gx_state.specs.Returns.{stub_of, dest_of, stub_to, back, delivered, returned}
+use Rattle.gx_state.specs.Calls.{wrote}
+use Rattle.gx_state.specs.Copies.{Copy, IsCopyFor, copy_of, stub_in, below_stub, laid, restored_to}
+use Rattle.gx_state.specs.Allowed.{HasPlaceFor}
 use Rattle.gx_state.proofs.Bytes.{first_length}
 use Rattle.gx_state.proofs.Kept.{rom_written, framed_good}
 
@@ -49,9 +54,13 @@ stub_there story c fit =
 none_empty : (story : FlatStory) (c : Copy) → IsCopyFor story c → (length c.stack == 0) ≡ false
 none_empty story c fit = grind (arith, nat_tests, fit.stub)
 
-pub delivered_back : (f h : FlatState) (c : Copy) → IsCopyFor f.story c → delivered (back (laid f c) (length c.stack) (stub_in c)) (stub_in c) 0xFFFFFFFF ≡ Ok h → gone_back f c ≡ h
-unfolding gone_back returned
-delivered_back f h c fit is = rw (none_empty f.story c fit, stub_there f.story c fit, is) refl
+returned_back : (f h : FlatState) (c : Copy) → IsCopyFor f.story c → delivered (back (laid f c) (length c.stack) (stub_in c)) (stub_in c) 0xFFFFFFFF ≡ Ok h → returned (laid f c) (length c.stack) 0xFFFFFFFF ≡ Ok (h, false)
+unfolding returned
+returned_back f h c fit is = rw (none_empty f.story c fit, stub_there f.story c fit, is) refl
+
+pub delivered_back : (f h : FlatState) (c : Copy) → IsCopyFor f.story c → delivered (back (laid f c) (length c.stack) (stub_in c)) (stub_in c) 0xFFFFFFFF ≡ Ok h → restored_to f c ≡ h
+unfolding restored_to
+delivered_back f h c fit is = ap (λ (r : Result (FlatState × Bool) Fault). let g : FlatState = elim r [ Ok x ↦ x.0 | Err fault ↦ f ] in g) (returned_back f h c fit is)
 
 -- PC is taken from a stub of the types 0 to 3, whatever it was
 pub same_pc : (f : FlatState) (p : Stub) (v : ℕ) → p.kind ≤ 3 → delivered (record f { pc = p.pc }) p v ≡ delivered f p v
@@ -87,7 +96,7 @@ kept_one f c fit one =
 
 by_kind : (f g h : FlatState) (c : Copy) (one : Bool) → ((stub_in c).kind == 1) ≡ one → IsCopyFor f.story c
     → g ≡ placed f c (stub_in c) (wrote (put_back_of f.memory c.memory f.protected.0 f.protected.1) (if one then Some ((stub_in c).addr, 0xFFFFFFFF) else None))
-    → ((stub_in c).kind ≢ 1 → delivered g (stub_in c) 0xFFFFFFFF ≡ Ok h) → ((stub_in c).kind ≡ 1 → h ≡ g) → h ≡ gone_back f c
+    → ((stub_in c).kind ≢ 1 → delivered g (stub_in c) 0xFFFFFFFF ≡ Ok h) → ((stub_in c).kind ≡ 1 → h ≡ g) → h ≡ restored_to f c
 by_kind f g h c true is fit there other memory =
     let one : (stub_in c).kind ≡ 1 = grind (arith, nat_tests, is) in
     sym (delivered_back f h c fit (kept_one f c fit one ∙ ap Ok (sym (memory one ∙ there))))
@@ -96,7 +105,7 @@ by_kind f g h c false is fit there other memory =
     sym (delivered_back f h c fit (sym (same_pc (back (laid f c) (length c.stack) (stub_in c)) (stub_in c) 0xFFFFFFFF fit.kind) ∙ ap (λ (x : FlatState). delivered x (stub_in c) 0xFFFFFFFF) (sym there) ∙ other no))
 
 pub went_back : (f g h : FlatState) (c : Copy) (p : Stub) (m : List ℕ) → IsCopyFor f.story c → p ≡ stub_in c → m ≡ answered f c p → g ≡ placed f c p m
-    → (p.kind ≢ 1 → delivered g p 0xFFFFFFFF ≡ Ok h) → (p.kind ≡ 1 → h ≡ g) → h ≡ gone_back f c
+    → (p.kind ≢ 1 → delivered g p 0xFFFFFFFF ≡ Ok h) → (p.kind ≡ 1 → h ≡ g) → h ≡ restored_to f c
 went_back f g h c p m fit is memory there other same =
     let now : m ≡ answered f c (stub_in c) = memory ∙ ap (answered f c) is in
     let place : g ≡ placed f c (stub_in c) (answered f c (stub_in c)) = there ∙ ap (λ (q : Stub). placed f c q m) is ∙ ap (placed f c (stub_in c)) now in

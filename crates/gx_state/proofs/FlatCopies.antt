@@ -1,5 +1,6 @@
 -- Copies of a state whose stack was cut, and the ways back to a copy.
-use Rattle.std.proofs.Common.{◌≡◌, ◌≤◌, ◌<◌, ◌+◌, ◌-◌, ℕ, List, ◌++◌, length, take, replicate, IsTrue, refl, subst, sym, ◌∙◌, arith}
+use Rattle.std.proofs.Common.{◌≡◌, ◌≤◌, ◌<◌, ◌+◌, ◌-◌, ℕ, List, ◌++◌, length, take, replicate, IsTrue, refl, subst, sym}
+use Rattle.std.proofs.Common.{◌∙◌, arith}
 use Rattle.std.proofs.lemmas.List.{append-nil, length-take-le}
 use Rattle.gx_stack.specs.declared.stubs.Stub.{Stub}
 use Rattle.gx_stack.specs.declared.frames.Frame.{Frame}
@@ -9,10 +10,11 @@ use Rattle.gx_story.specs.Stories.{FlatStory}
 use Rattle.gx_state.specs.declared.modes.Dest.{Dest}
 use Rattle.gx_state.specs.declared.modes.Dest.TheVariants.{Nowhere, Memory, Local, Push}
 use Rattle.gx_state.specs.declared.modes.Mode.TheVariants.{Running}
-use Rattle.gx_state.specs.Flat.{FlatState, IsHeight, cut, frame_of}
+use Rattle.gx_state.specs.Flat.{FlatState, cut, frame_of, IsHeight}
 use Rattle.gx_state.specs.Sound.{IsSound}
 use Rattle.gx_state.specs.Returns.{stub_of}
-use Rattle.gx_state.specs.Copies.{Copy, IsCopyFor, HasPlaceFor, copy_of, stub_in}
+use Rattle.gx_state.specs.Copies.{Copy, IsCopyFor, copy_of, stub_in}
+use Rattle.gx_state.specs.Allowed.{HasPlaceFor}
 use Rattle.gx_state.proofs.Kept.{framed_cut, values_cut}
 use Rattle.gx_state.proofs.Backs.{copy_fits, placed}
 

@@ -1,22 +1,24 @@
 -- What calls keep: the story's bytes below RAMSTART, and the present frame.
-use Rattle.std.proofs.Common.{◌≡◌, ◌≤◌, ◌<◌, ◌+◌, ℕ, List, [], ◌∷◌, length, take, Option, Some, None, IfSome, ℤ, Bool, true, false, nat_lt, ◌==◌, if◌then◌else◌, Result, Ok, Err, refl, ap, subst, sym, ◌∙◌, arith}
+use Rattle.std.proofs.Common.{◌≡◌, ◌≤◌, ◌<◌, ◌+◌, ℕ, List, [], ◌∷◌, length, take, Option, Some, None, IfSome, ℤ, Bool}
+use Rattle.std.proofs.Common.{true, false, nat_lt, ◌==◌, if◌then◌else◌, Result, Ok, Err, refl, ap, subst, sym, ◌∙◌}
+use Rattle.std.proofs.Common.{arith}
 use Rattle.std.proofs.lemmas.Grind.{common_steps}
 use Rattle.std.proofs.lemmas.List.{take-take}
 use Rattle.std.proofs.lemmas.Bool.Decides.{nat_tests}
 use Rattle.gx_words.specs.Numbers.{word, spliced, bytes_of_word}
 use Rattle.gx_words.specs.Results.{Alters}
-use Rattle.gx_pages.specs.Memory.{AreInside, all_spliced}
+use Rattle.gx_pages.specs.Memory.{all_spliced, AreInside}
 use Rattle.gx_stack.specs.declared.frames.Frame.{Frame}
 use Rattle.gx_stack.specs.declared.faults.StackFault.{StackFault}
 use Rattle.gx_stack.specs.declared.faults.StackFault.TheVariants.{Underflow}
 use Rattle.gx_stack.specs.Flat.{FlatStack}
-use Rattle.gx_stack.specs.Frames.{IsGood, IsFrame, KeepsFrames, parts}
-use Rattle.gx_stack.specs.Stubs.{top_stub}
+use Rattle.gx_stack.specs.Frames.{IsGood, parts, IsFrame, KeepsFrames}
+use Rattle.gx_stack.specs.Calls.{top_stub}
 use Rattle.gx_stack.specs.Values.{count, places, rolled, turned_top}
 use Rattle.gx_stack.proofs.Kept.{frame_after_cut, word-take}
 use Rattle.heap_blocks.specs.Heap.{FlatHeap}
 use Rattle.gx_state.specs.Replies.{AreBetween}
-use Rattle.gx_state.specs.Returns.{wrote}
+use Rattle.gx_state.specs.Calls.{wrote}
 use Rattle.gx_state.specs.Sound.{IsFramed, IsHeapWithin}
 
 -- memory below RAMSTART

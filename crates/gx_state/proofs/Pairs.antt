@@ -11,7 +11,8 @@ use Rattle.gx_words.specs.Numbers.{IsWidth}
 use Rattle.gx_words.specs.Faults.{Reads}
 use Rattle.gx_words.specs.Results.{◌>>=◌}
 use Rattle.gx_pages.specs.Memory.{number_in}
-use Rattle.gx_stack.specs.Formats.{ArePairs, IsFormat, pairs_of}
+use Rattle.gx_stack.specs.Formats.{pairs_of}
+use Rattle.gx_stack.specs.Held.{ArePairs, IsFormat}
 use Rattle.gx_state.specs.Entry.{format_from, format_at, behind, is_type}
 use Rattle.gx_state.proofs.Bytes.{is_there, shared_slice}
 

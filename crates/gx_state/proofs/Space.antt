@@ -1,12 +1,15 @@
 -- Memory of another size, and the blocks of its heap.
-use Rattle.std.proofs.Common.{◌≡◌, ◌≤◌, ◌<◌, ◌%◌, ℕ, suc, ◌==◌, Bool, true, false, List, [], ◌∷◌, length, take, Option, Some, None, refl, ap, subst, sym, ◌∙◌, arith}
+use Rattle.std.proofs.Common.{◌≡◌, ◌≤◌, ◌<◌, ◌%◌, ℕ, suc, ◌==◌, Bool, true, false, List, [], ◌∷◌, length, take, Option}
+use Rattle.std.proofs.Common.{Some, None, refl, ap, subst, sym, ◌∙◌, arith}
 use Rattle.std.specs.Option.{option_map}
 use Rattle.std.proofs.lemmas.Grind.{common_steps}
 use Rattle.std.proofs.lemmas.List.{take-take}
 use Rattle.std.proofs.lemmas.Bool.Decides.{nat_tests}
 use Rattle.gx_pages.specs.Memory.{IsSize, resized}
 use Rattle.heap_blocks.specs.Heap as heaps
-use Rattle.heap_blocks.specs.Heap.{Block, FlatHeap, HeldHeap, IsEndedBy, IsBelow, Frees, is_inactive, without, added, freed, left_by, first_address}
+use Rattle.heap_blocks.specs.Heap.{Block, FlatHeap, IsEndedBy, IsBelow, is_inactive, without, added, freed, left_by}
+use Rattle.heap_blocks.specs.Heap.{first_address, HeldHeap}
+use Rattle.heap_blocks.specs.Relations.{Frees}
 use Rattle.gx_state.specs.Sound.{IsHeapWithin}
 
 -- memory below RAMSTART

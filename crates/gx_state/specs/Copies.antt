@@ -1,6 +1,5 @@
 -- Copies of the state and the way back to them, and the restart of a story (Glulx 3.1.2, "Game State").
-use Rattle.std.specs.Prelude.{◌≡◌, ℕ, Bool, ◌+◌, ◌-◌, ◌%◌, ◌≤◌, List, [], ◌++◌, length, take, None, Result, Ok, Err}
-use Rattle.std.specs.Prelude.{IsTrue}
+use Rattle.std.specs.Prelude.{◌≡◌, ℕ, ◌+◌, ◌-◌, ◌%◌, ◌≤◌, List, [], ◌++◌, length, take, Result, Ok, Err, IsTrue}
 use Rattle.gx_words.specs.declared.faults.Fault.{Fault}
 use Rattle.gx_pages.specs.Memory.{IsSize, put_back_of}
 use Rattle.gx_stack.specs.Constants.{to_memory, to_local, to_stack}
@@ -10,9 +9,8 @@ use Rattle.gx_stack.specs.Stubs.{stub_bytes, stub_below}
 use Rattle.heap_blocks.specs.Heap.{FlatHeap}
 use Rattle.gx_story.specs.Stories.{FlatStory}
 use Rattle.gx_state.specs.declared.modes.Dest.{Dest}
-use Rattle.gx_state.specs.declared.modes.Dest.TheVariants.{Nowhere, Memory, Local, Push}
 use Rattle.gx_state.specs.declared.modes.Mode.TheVariants.{Running}
-use Rattle.gx_state.specs.Flat.{FlatState, frame_of}
+use Rattle.gx_state.specs.Flat.{FlatState}
 use Rattle.gx_state.specs.Entry.{initial, entered}
 use Rattle.gx_state.specs.Returns.{stub_of, returned}
 use Rattle.gx_state.specs.Sound.{IsHeapWithin}
@@ -50,15 +48,14 @@ laid f c = record f {
   mode = Running;
 }
 
--- what a return leaves, where it has no fault
-abbrev pub left_or : FlatState → Result (FlatState × Bool) Fault → FlatState
-left_or f (Ok r) = r.0
-left_or f (Err fault) = f
-
 -- Back at a copy: it is laid over the state, its stub is popped, and -1 is delivered. A copy that is fit for the
 -- story has no fault in this.
-unfoldable pub gone_back : FlatState → Copy → FlatState
-gone_back f c = left_or f (returned (laid f c) (length c.stack) 0xFFFFFFFF None)
+unfoldable pub restored_to : FlatState → Copy → FlatState
+restored_to f c =
+    elim (returned (laid f c) (length c.stack) 0xFFFFFFFF) [
+      | Ok r ↦ r.0
+      | Err fault ↦ f
+    ]
 
 -- A copy is fit for a story: its memory is one of the story's, with the same bytes below RAMSTART; its stack is
 -- within the story's limit and has on top a stub that stores, with a good frame below it, and with its word in RAM or
@@ -76,13 +73,6 @@ pub record IsCopyFor (story : FlatStory) (c : Copy) : Type 0 where
       → (story.header.ramstart ≤ (stub_in c).addr) × ((stub_in c).addr + 4 ≤ length c.memory)
   pub local : (stub_in c).kind ≡ to_local → IsTrue (has_local (parts (below_stub c) (stub_in c).fp) (stub_in c).addr 4)
   pub heap : IsHeapWithin story.header.endmem (length c.memory) c.heap
-
--- a word can be stored there: in RAM or in a local of the frame
-abbrev pub HasPlaceFor : FlatState → Dest → Type 0
-HasPlaceFor f Nowhere = Unit {0}
-HasPlaceFor f (Memory at) = (f.story.header.ramstart ≤ at) × (at + 4 ≤ length f.memory)
-HasPlaceFor f (Local at) = IsTrue (has_local (frame_of f) at 4)
-HasPlaceFor f Push = Unit {0}
 
 -- the state before a restart enters the start function: that of a story which starts, but for the bytes of the
 -- protected range, the range itself and the generator

@@ -1,5 +1,5 @@
 -- The state of the machine as numbers and lists (Glulx 3.1.2, "The Machine").
-use Rattle.std.specs.Prelude.{◌≡◌, ℕ, ℤ, ◌+◌, ◌%◌, ◌<◌, ◌≤◌, nat_lt, if◌then◌else◌, List, length, take, Result, Ok, Err}
+use Rattle.std.specs.Prelude.{ℕ, ℤ, ◌+◌, nat_lt, if◌then◌else◌, List, length, take, Result, Ok, Err, ◌≡◌, ◌%◌, ◌<◌, ◌≤◌}
 use Rattle.gx_words.specs.declared.faults.Fault.{Fault}
 use Rattle.gx_words.specs.declared.faults.Fault.TheVariants.{BadAddress, ReadOnly}
 use Rattle.gx_words.specs.Numbers.{spliced}
@@ -29,12 +29,6 @@ pub record FlatState : Type 0 where
   pub mode : Mode
   pub story : FlatStory
 
--- What contracts see of a State: the flat state, and beside it the room in its list of heap blocks,
--- of which no rule speaks.
-pub record HeldState : Type 0 where
-  pub flat : FlatState
-  pub spare : ℕ
-
 -- the state and its stack pointer
 abbrev pub sp_of : FlatState → ℕ
 sp_of f = length f.stack.bytes
@@ -42,17 +36,6 @@ sp_of f = length f.stack.bytes
 -- the present frame
 abbrev pub frame_of : FlatState → Frame
 frame_of f = parts f.stack.bytes f.fp
-
--- a stack pointer of the frame: a multiple of 4 between the begin of its values and the top
-pub record IsHeight (f : FlatState) (sp : ℕ) : Type 0 where
-  pub live : 0 < sp_of f
-  pub values : (frame_of f).values ≤ sp
-  pub there : sp ≤ sp_of f
-  pub aligned : sp % 4 ≡ 0
-
--- all that is written lies in RAM; nothing may be written anywhere
-abbrev pub IsInRam : FlatState → ℕ → ℕ → Type 0
-IsInRam f at count = 0 < count → (f.story.header.ramstart ≤ at) × (at + count ≤ length f.memory)
 
 -- the fault of a write of so many bytes, one at least, from an address on
 abbrev pub write_fault : FlatState → ℕ → ℕ → Result (Unit {0}) Fault
@@ -68,24 +51,6 @@ cut f sp = record f { stack = record f.stack { bytes = take sp f.stack.bytes } }
 -- bytes written over those of memory from an address on
 abbrev pub written : FlatState → ℕ → List ℕ → FlatState
 written f at bytes = record f { memory = spliced f.memory at bytes }
-
--- a value pushed
-unfoldable pub pushed : FlatState → ℕ → Result FlatState Fault
-pushed f v = do
-  s ← lifted (values.pushed f.stack v)
-  Ok (record f { stack = s })
-
--- values pushed, the first deepest
-unfoldable pub pushed_all : FlatState → List ℕ → Result FlatState Fault
-pushed_all f vs = do
-  s ← lifted (values.pushed_all f.stack vs)
-  Ok (record f { stack = s })
-
--- the low bytes of a number put into a local of the frame
-unfoldable pub with_local : FlatState → ℕ → ℕ → ℕ → Result FlatState Fault
-with_local f at width v = do
-  s ← lifted (values.with_local f.stack (frame_of f) at width v)
-  Ok (record f { stack = s })
 
 -- the top two values exchanged
 unfoldable pub swapped : FlatState → Result FlatState Fault
@@ -104,3 +69,22 @@ unfoldable pub copied : FlatState → ℕ → Result FlatState Fault
 copied f n = do
   s ← lifted (values.copied f.stack (frame_of f) n)
   Ok (record f { stack = s })
+
+-- WHAT CONTRACTS SAY
+
+-- What contracts see of a State: the flat state, and beside it the room in its list of heap blocks,
+-- of which no rule speaks.
+pub record HeldState : Type 0 where
+  pub flat : FlatState
+  pub spare : ℕ
+
+-- a stack pointer of the frame: a multiple of 4 between the begin of its values and the top
+pub record IsHeight (f : FlatState) (sp : ℕ) : Type 0 where
+  pub live : 0 < sp_of f
+  pub values : (frame_of f).values ≤ sp
+  pub there : sp ≤ sp_of f
+  pub aligned : sp % 4 ≡ 0
+
+-- all that is written lies in RAM; nothing may be written anywhere
+abbrev pub IsInRam : FlatState → ℕ → ℕ → Type 0
+IsInRam f at count = 0 < count → (f.story.header.ramstart ≤ at) × (at + count ≤ length f.memory)

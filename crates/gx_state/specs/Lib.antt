@@ -10,3 +10,5 @@ pub mod Space
 pub mod Copies
 pub mod Moments
 pub mod FlatCopies
+pub mod Calls
+pub mod Allowed

@@ -1,12 +1,12 @@
 -- Call stubs, and returns to them (Glulx 3.1.2, "Call Stubs" and "Calling and Returning Within Glulx").
-use Rattle.std.specs.Prelude.{◌≡◌, ◌⊎◌, ℕ, ◌+◌, ◌-◌, ◌≤◌, ◌==◌, nat_lt, if◌then◌else◌, Bool, true, false, List, length}
-use Rattle.std.specs.Prelude.{take, Option, Some, None, IfSome, IsSome, Result, Ok, Err}
+use Rattle.std.specs.Prelude.{◌≡◌, ℕ, ◌-◌, ◌≤◌, ◌==◌, nat_lt, if◌then◌else◌, Bool, true, false, List, take, Option}
+use Rattle.std.specs.Prelude.{Some, None, Result, Ok, Err}
 use Rattle.std.specs.Option.{ok_or}
 use Rattle.gx_words.specs.declared.strings.PrintKind.TheVariants.{E0, E1, E2, Number}
 use Rattle.gx_words.specs.declared.strings.Printing.{Printing}
 use Rattle.gx_words.specs.declared.faults.Fault.{Fault}
 use Rattle.gx_words.specs.declared.faults.Fault.TheVariants.{BadFrame}
-use Rattle.gx_words.specs.Numbers.{bytes_of_word, is_bit, spliced}
+use Rattle.gx_words.specs.Numbers.{is_bit}
 use Rattle.gx_words.specs.Results.{◌>>=◌}
 use Rattle.gx_stack.specs.Constants.{to_nowhere, to_memory, to_local, to_stack, resume_compressed, resume_number}
 use Rattle.gx_stack.specs.Constants.{resume_c_string, resume_unicode}
@@ -60,18 +60,6 @@ popped_stub f = do
   p ← stub_to f.stack.bytes (sp_of f)
   Ok (back f (sp_of f) p, p)
 
--- memory with a word written, where there is one
-abbrev pub wrote : List ℕ → Option (ℕ × ℕ) → List ℕ
-wrote memory None = memory
-wrote memory (Some w) = spliced memory w.0 (bytes_of_word w.1)
-
-abbrev pub with_word : FlatState → Option (ℕ × ℕ) → FlatState
-with_word f w = record f { memory = wrote f.memory w }
-
--- its place lies in RAM
-abbrev pub IsWordInRam : FlatState → Option (ℕ × ℕ) → Type 0
-IsWordInRam f w = IfSome w (λ x. f.story.header.ramstart ≤ x.0) × IfSome w (λ x. x.0 + 4 ≤ length f.memory)
-
 -- What goes on being printed at a stub of the types 10, 12, 13 and 14 (hexadecimal): a compressed string at a bit
 -- below 8, a number at a digit, a C-style or a Unicode string.
 unfoldable pub printing_of : Stub → Option Printing
@@ -90,23 +78,21 @@ printing_on f p = do
 
 -- A value is delivered to a stub that was popped. It is stored in the stub's operand, and the code at the stub's PC
 -- goes on; without an operand the value is dropped, printing goes on, and PC stays.
-abbrev pub delivered_to : FlatState → Stub → ℕ → Option Dest → Result FlatState Fault
-delivered_to f p v (Some d) = stored (record f { pc = p.pc }) 4 d v
-delivered_to f p v None = printing_on f p
-
 unfoldable pub delivered : FlatState → Stub → ℕ → Result FlatState Fault
-delivered f p v = delivered_to f p v (dest_of p)
+delivered f p v =
+    elim (dest_of p) [
+      | Some d ↦ stored (record f { pc = p.pc }) 4 d v
+      | None ↦ printing_on f p
+    ]
 
--- A return of a value with a stack pointer for FramePtr, after a word was written where one is given; and
--- whether the program ends, since no stub is left.
-unfoldable pub returned : FlatState → ℕ → ℕ → Option (ℕ × ℕ) → Result (FlatState × Bool) Fault
-returned f sp v before =
-    let g = with_word f before in
-    if sp == 0 then Ok (cut g 0, true) else (do
+-- A return of a value with a stack pointer for FramePtr; and whether the program ends, since no stub is left.
+unfoldable pub returned : FlatState → ℕ → ℕ → Result (FlatState × Bool) Fault
+returned f sp v =
+    if sp == 0 then Ok (cut f 0, true) else (do
       p ← stub_to f.stack.bytes sp
-      h ← delivered (back g sp p) p v
+      h ← delivered (back f sp p) p v
       Ok (h, false))
 
--- it writes to memory: the word before it, or the value where the stub says so
-abbrev pub IsReturnWriting : FlatState → ℕ → Option (ℕ × ℕ) → Type 0
-IsReturnWriting f sp before = IsSome before ⊎ ((16 ≤ sp) × ((stub_below f.stack.bytes sp).kind ≡ to_memory))
+-- it writes to memory, where the stub says so
+abbrev pub IsReturnWriting : FlatState → ℕ → Type 0
+IsReturnWriting f sp = (16 ≤ sp) × ((stub_below f.stack.bytes sp).kind ≡ to_memory)

@@ -1,6 +1,8 @@
 //! The blocks of the memory allocation heap.
 ghost use Rattle.std.specs.Prelude.{◌≡◌, ◌+◌, ◌<◌, ◌≤◌, OnOk, OnErr};
-ghost use Rattle.gx_state.specs.Space.{IsNewBlock, FreesBlock, with_block, without_block};
+ghost use Rattle.gx_state.specs.Space.{with_block, without_block};
+ghost use Rattle.gx_state.specs.Relations.{FreesBlock};
+ghost use Rattle.gx_state.specs.Allowed.{IsNewBlock};
 
 use crate::State;
 use std::alloc::{AllocError, Allocator};

@@ -3,8 +3,9 @@ ghost use Rattle.std.specs.Prelude.{◌≡◌, ◌⊎◌, ◌+◌, ◌*◌, ◌<
 ghost use Rattle.gx_words.specs.Numbers.{IsWidth};
 ghost use Rattle.gx_words.specs.Faults.{Reads};
 ghost use Rattle.gx_pages.specs.Memory.{HasBytes, all_spliced};
-ghost use Rattle.gx_state.specs.Flat.{IsHeight, IsInRam, write_fault, cut, frame_of, sp_of, written, pushed};
-ghost use Rattle.gx_state.specs.Flat.{pushed_all, with_local, swapped, rolled, copied};
+ghost use Rattle.gx_state.specs.Flat.{write_fault, cut, frame_of, sp_of, written, IsHeight, IsInRam, swapped, rolled};
+ghost use Rattle.gx_state.specs.Flat.{copied};
+ghost use Rattle.gx_state.specs.Calls.{pushed, pushed_all, with_local};
 ghost use Rattle.gx_state.specs.Relations.{Acts};
 ghost use Rattle.gx_state.specs.Replies.{AreInRam};
 
@@ -78,7 +79,7 @@ impl<A: Allocator + Clone> State<A> {
     }
 
     /// Pushes values, the first deepest; `Overflow` exactly where they don't all fit.
-    #[tactic(auto, unfolding(crate::specs::Flat::pushed_all, gx_stack::specs::Values::pushed_all), using(crate::proofs::Kept::framed))]
+    #[tactic(auto, unfolding(crate::specs::Calls::pushed_all, gx_stack::specs::Calls::pushed_all), using(crate::proofs::Kept::framed))]
     pub fn push_all(&mut self, values: &[u32]) -> Result<(), Fault>
         requires { 0 < sp_of self.old.flat }
         ensures value { Acts result self.old self.new (pushed_all self.old.flat values.now) }
@@ -90,7 +91,7 @@ impl<A: Allocator + Clone> State<A> {
     }
 
     /// Pushes a value; `Overflow` exactly where it doesn't fit.
-    #[tactic(auto, unfolding(crate::specs::Flat::pushed, gx_stack::specs::Values::pushed), using(crate::proofs::Kept::framed))]
+    #[tactic(auto, unfolding(crate::specs::Calls::pushed, gx_stack::specs::Calls::pushed), using(crate::proofs::Kept::framed))]
     #[inline(always)]
     pub fn push(&mut self, v: u32) -> Result<(), Fault>
         requires { 0 < sp_of self.old.flat }
@@ -149,7 +150,7 @@ impl<A: Allocator + Clone> State<A> {
 
     /// Puts the low 1, 2 or 4 bytes of a number into the local at an offset; `BadLocal` exactly where
     /// the frame has no such local.
-    #[tactic(auto, unfolding(crate::specs::Flat::with_local, gx_stack::specs::Values::with_local), using(crate::proofs::Kept::framed))]
+    #[tactic(auto, unfolding(crate::specs::Calls::with_local, gx_stack::specs::Calls::with_local), using(crate::proofs::Kept::framed))]
     #[inline(always)]
     pub fn set_local(&mut self, at: u32, width: u32, v: u32) -> Result<(), Fault>
         requires live { 0 < sp_of self.old.flat }

@@ -12,9 +12,11 @@ ghost use Rattle.gx_stack.specs.Frames.{has_local};
 ghost use Rattle.gx_stack.specs.Stubs.{stub_below};
 ghost use Rattle.heap_blocks.specs.Heap.{IsSound};
 ghost use Rattle.gx_state.specs.Flat.{frame_of, sp_of};
-ghost use Rattle.gx_state.specs.Copies.{Copy, IsCopyFor, HasPlaceFor, copy_of, gone_back, restarted, stub_in};
+ghost use Rattle.gx_state.specs.Copies.{Copy, IsCopyFor, copy_of, restored_to, restarted, stub_in};
+ghost use Rattle.gx_state.specs.Allowed.{HasPlaceFor};
 ghost use Rattle.gx_state.specs.Relations.{Begins};
-ghost use Rattle.gx_state.specs.Returns.{delivered, wrote};
+ghost use Rattle.gx_state.specs.Returns.{delivered};
+ghost use Rattle.gx_state.specs.Calls.{wrote};
 
 use crate::entry::{function_at, push_call};
 use crate::readable::Restarted;
@@ -149,7 +151,7 @@ impl<A: Allocator + Clone> State<A> {
     /// decoding table, the iosystem and the generator stay.
     pub fn put_back(&mut self, copy: &Moment<A>) -> Result<(), AllocError>
         requires { IsCopyFor self.old.flat.story copy.now }
-        ensures ok { OnOk result (self.new.flat ≡ gone_back self.old.flat copy.now) }
+        ensures ok { OnOk result (self.new.flat ≡ restored_to self.old.flat copy.now) }
         ensures err { OnErr result (self.new ≡ self.old) }
         ensures story { self.new.flat.story ≡ self.old.flat.story }
         ensures live { OnOk result (0 < sp_of self.new.flat) }
@@ -161,7 +163,7 @@ impl<A: Allocator + Clone> State<A> {
     #[tactic(auto, using(crate::proofs::FlatCopies::backs))]
     pub(crate) fn back_to<C: Copied<A>>(&mut self, copy: &C) -> Result<(), AllocError>
         requires { IsCopyFor self.old.flat.story (C.copy copy.now) }
-        ensures ok { OnOk result (self.new.flat ≡ gone_back self.old.flat (C.copy copy.now)) }
+        ensures ok { OnOk result (self.new.flat ≡ restored_to self.old.flat (C.copy copy.now)) }
         ensures err { OnErr result (self.new ≡ self.old) }
         ensures story { self.new.flat.story ≡ self.old.flat.story }
         ensures live { OnOk result (0 < sp_of self.new.flat) }
@@ -220,7 +222,7 @@ impl<A: Allocator + Clone> State<A> {
     }
 
     /// Stores -1 in the local or on the stack, where the stub says so.
-    #[tactic(auto, unfolding(crate::specs::Returns::delivered, crate::specs::Returns::dest_of, crate::specs::Stores::stored, crate::specs::Stores::store_fault, crate::specs::Flat::with_local, crate::specs::Flat::pushed, gx_stack::specs::Values::with_local, gx_stack::specs::Values::pushed))]
+    #[tactic(auto, unfolding(crate::specs::Returns::delivered, crate::specs::Returns::dest_of, crate::specs::Stores::stored, crate::specs::Stores::store_fault, crate::specs::Calls::with_local, crate::specs::Calls::pushed, gx_stack::specs::Calls::with_local, gx_stack::specs::Calls::pushed))]
     fn answer(&mut self, stub: &Stub)
         requires live { 0 < sp_of self.old.flat }
         requires kind { stub.now.kind ≤ to_stack }

@@ -7,7 +7,8 @@ ghost use Rattle.std.specs.Prelude.{Ok, Err, IfSome, IfOk, IfErr, IsOk, OnOk};
 ghost use Rattle.gx_words.specs.Constants.{ceiling};
 ghost use Rattle.gx_words.specs.declared.faults.Fault.TheVariants.{NoMemory};
 ghost use Rattle.gx_words.specs.Faults.{Makes, Reads};
-ghost use Rattle.gx_stack.specs.Formats.{IsFormat, frame_len};
+ghost use Rattle.gx_stack.specs.Formats.{frame_len};
+ghost use Rattle.gx_stack.specs.Held.{IsFormat};
 ghost use Rattle.gx_stack.specs.Frames.{IsGood};
 ghost use Rattle.gx_stack.specs.Stubs.{stubs_bytes};
 ghost use Rattle.gx_state.specs.Flat.{sp_of};
@@ -85,7 +86,7 @@ pub fn function_at<M: Readable>(
 }
 
 /// Pushes what an entry pushes.
-#[tactic(auto, unfolding(gx_stack::specs::Frames::entered))]
+#[tactic(auto, unfolding(gx_stack::specs::Calls::with_frame))]
 #[inline(always)]
 fn push_entry(stack: &mut Stack, kind: u32, format: &[u8], len: u32, args: &[u32])
     requires format { IsFormat format.now }

@@ -4,8 +4,9 @@
 //! Contracts see such a copy as they see a `Moment`: as memory, the stack with the stub of a store operand on top,
 //! and the heap. What may be refused comes first, so that the state is as before after every refusal.
 ghost use Rattle.std.specs.Prelude.{◌≡◌, ◌+◌, ◌<◌, ◌≤◌, length, IfOk, OnOk, OnErr};
-ghost use Rattle.gx_state.specs.Flat.{IsHeight, cut, sp_of};
-ghost use Rattle.gx_state.specs.Copies.{IsCopyFor, HasPlaceFor, copy_of, gone_back};
+ghost use Rattle.gx_state.specs.Flat.{cut, sp_of, IsHeight};
+ghost use Rattle.gx_state.specs.Copies.{IsCopyFor, copy_of, restored_to};
+ghost use Rattle.gx_state.specs.Allowed.{HasPlaceFor};
 
 use crate::copies::Copied;
 use crate::{Dest, State};
@@ -97,7 +98,7 @@ impl<A: Allocator + Clone> State<A> {
     /// decoding table, the iosystem and the generator stay.
     pub fn with_bytes(&mut self, copy: &FlatCopy) -> Result<(), AllocError>
         requires { IsCopyFor self.old.flat.story copy.now }
-        ensures ok { OnOk result (self.new.flat ≡ gone_back self.old.flat copy.now) }
+        ensures ok { OnOk result (self.new.flat ≡ restored_to self.old.flat copy.now) }
         ensures err { OnErr result (self.new ≡ self.old) }
         ensures story { self.new.flat.story ≡ self.old.flat.story }
         ensures live { OnOk result (0 < sp_of self.new.flat) }

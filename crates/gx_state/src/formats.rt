@@ -6,7 +6,7 @@ ghost use Rattle.std.specs.Prelude.{◌≡◌, ◌+◌, ◌*◌, ◌≤◌, leng
 ghost use Rattle.arrayvec.specs.ArrayVec.{array_vec_len};
 ghost use Rattle.gx_words.specs.Constants.{ceiling};
 ghost use Rattle.gx_words.specs.Faults.{Reads};
-ghost use Rattle.gx_stack.specs.Formats.{ArePairs, IsFormat};
+ghost use Rattle.gx_stack.specs.Held.{ArePairs, IsFormat};
 ghost use Rattle.gx_state.specs.Entry.{format_from, format_at, behind, is_type};
 
 use crate::readable::Readable;

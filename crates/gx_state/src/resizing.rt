@@ -1,7 +1,8 @@
 //! Ranges of memory, and its size.
 ghost use Rattle.std.specs.Prelude.{◌≡◌, ◌<◌, length, OnOk, OnErr};
 ghost use Rattle.gx_state.specs.Flat.{IsInRam};
-ghost use Rattle.gx_state.specs.Space.{IsInMemory, IsGrowth, IsShrinking, zeroed, copied_range, with_size};
+ghost use Rattle.gx_state.specs.Space.{zeroed, copied_range, with_size};
+ghost use Rattle.gx_state.specs.Allowed.{IsInMemory, IsGrowth, IsShrinking};
 
 use crate::State;
 use std::alloc::{AllocError, Allocator};

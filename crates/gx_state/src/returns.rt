@@ -7,12 +7,14 @@ ghost use Rattle.std.specs.Prelude.{◌≡◌, ◌⊎◌, ◌+◌, ◌-◌, ◌*
 ghost use Rattle.std.specs.Prelude.{IsSome};
 ghost use Rattle.gx_words.specs.Faults.{Reads};
 ghost use Rattle.gx_stack.specs.Constants.{to_memory, to_local, to_stack};
-ghost use Rattle.gx_stack.specs.Frames.{IsFrame, IsGood};
+ghost use Rattle.gx_stack.specs.Frames.{IsGood, IsFrame};
 ghost use Rattle.gx_stack.specs.Stubs.{stub_below};
 ghost use Rattle.gx_state.specs.Flat.{cut, frame_of, sp_of};
 ghost use Rattle.gx_state.specs.Relations.{Acts, Goes, Stores, Works};
-ghost use Rattle.gx_state.specs.Returns.{IsReturnWriting, IsWordInRam, stub_of, pushed_stubs, popped_stub, stub_to};
-ghost use Rattle.gx_state.specs.Returns.{back, with_word, printing_of, printing_on, delivered, returned};
+ghost use Rattle.gx_state.specs.Returns.{IsReturnWriting, stub_of, pushed_stubs, popped_stub, stub_to, back};
+ghost use Rattle.gx_state.specs.Returns.{printing_of, printing_on, delivered, returned};
+ghost use Rattle.gx_state.specs.Allowed.{IsWordInRam};
+ghost use Rattle.gx_state.specs.Calls.{with_word};
 
 use crate::{Dest, Mode, State};
 use gx_stack::{
@@ -102,8 +104,8 @@ impl<A: Allocator + Clone> State<A> {
         requires there { sp ≤ sp_of self.old.flat }
         requires aligned { sp % 4 ≡ 0 }
         requires before { IsWordInRam self.old.flat before }
-        ensures value { Works (IsReturnWriting self.old.flat sp before) result self.old.flat self.new.flat
-            (returned self.old.flat sp value before) }
+        ensures value { Works (IsSome before ⊎ IsReturnWriting self.old.flat sp) result self.old.flat self.new.flat
+            (returned (with_word self.old.flat before) sp value) }
         ensures ended { IfOk result (λ ended. ended ≡ (sp == 0)) }
         ensures spare { self.new.spare ≡ self.old.spare }
     {
@@ -234,7 +236,7 @@ impl<A: Allocator + Clone> State<A> {
     }
 
     /// Delivers a value that is stored in a local.
-    #[tactic(auto, unfolding(crate::specs::Returns::delivered, crate::specs::Returns::dest_of, crate::specs::Stores::stored, crate::specs::Stores::store_fault, crate::specs::Flat::with_local, gx_stack::specs::Values::with_local), using(crate::proofs::Kept::words, crate::proofs::Kept::below))]
+    #[tactic(auto, unfolding(crate::specs::Returns::delivered, crate::specs::Returns::dest_of, crate::specs::Stores::stored, crate::specs::Stores::store_fault, crate::specs::Calls::with_local, gx_stack::specs::Calls::with_local), using(crate::proofs::Kept::words, crate::proofs::Kept::below))]
     fn give_local(
         &mut self,
         sp: u32,
@@ -265,7 +267,7 @@ impl<A: Allocator + Clone> State<A> {
     }
 
     /// Delivers a value that is pushed.
-    #[tactic(auto, unfolding(crate::specs::Returns::delivered, crate::specs::Returns::dest_of, crate::specs::Stores::stored, crate::specs::Stores::store_fault, crate::specs::Flat::pushed, gx_stack::specs::Values::pushed), using(crate::proofs::Kept::words))]
+    #[tactic(auto, unfolding(crate::specs::Returns::delivered, crate::specs::Returns::dest_of, crate::specs::Stores::stored, crate::specs::Stores::store_fault, crate::specs::Calls::pushed, gx_stack::specs::Calls::pushed), using(crate::proofs::Kept::words))]
     fn give_push(
         &mut self,
         sp: u32,

@@ -1,6 +1,6 @@
 -- The story in a Blorb (Blorb 2.0.4: the resource index and executable resources).
 use Rattle.std.specs.Prelude.{ℕ, zero, suc, ◌+◌, ◌*◌, ◌==◌, nat_le, ◌&&◌, Bool, if◌then◌else◌, List, [], ◌∷◌, length}
-use Rattle.std.specs.Prelude.{Option, None, Result, Ok, Err}
+use Rattle.std.specs.Prelude.{Option, None, codes, Result, Ok, Err}
 use Rattle.std.specs.List.{find}
 use Rattle.std.specs.Option.{ok_or}
 use Rattle.std.specs.Str.{bytes_eq}
@@ -16,19 +16,6 @@ use Rattle.gx_story.specs.declared.blorbs.Entry.{Entry}
 use Rattle.gx_story.specs.declared.faults.StoryFault.{StoryFault}
 use Rattle.gx_story.specs.declared.faults.StoryFault.TheVariants as fault
 
--- the letters IFRS, RIdx, Exec and GLUL
-abbrev pub ifrs : List ℕ
-ifrs = 0x49 ∷ 0x46 ∷ 0x52 ∷ 0x53 ∷ []
-
-abbrev pub ridx : List ℕ
-ridx = 0x52 ∷ 0x49 ∷ 0x64 ∷ 0x78 ∷ []
-
-abbrev pub exec : List ℕ
-exec = 0x45 ∷ 0x78 ∷ 0x65 ∷ 0x63 ∷ []
-
-abbrev pub glul : List ℕ
-glul = 0x47 ∷ 0x4C ∷ 0x55 ∷ 0x4C ∷ []
-
 -- the entry at a place of an index
 abbrev pub entry_at : List ℕ → ℕ → Entry
 entry_at index at = record { usage = id_at index at; number = word index (at + 4); start = word index (at + 8) }
@@ -40,30 +27,23 @@ entries_from (suc count) index at = entry_at index at ∷ entries_from count ind
 
 -- the entry names the story
 abbrev pub is_story : Entry → Bool
-is_story entry = bytes_eq entry.usage exec && entry.number == 0
+is_story entry = bytes_eq entry.usage (codes "Exec") && entry.number == 0
 
--- an index has a count and as many entries
-abbrev pub has_count : List ℕ → Bool
-has_count index = nat_le count_len (length index)
-
-abbrev pub has_entries : List ℕ → Bool
-has_entries index = nat_le (count_len + entry_len * word index 0) (length index)
-
--- the first entry of an index that names the story
+-- the first entry that names the story, of an index that has a count and as many entries
 unfoldable pub story_entry : List ℕ → Option Entry
 story_entry index =
-    if has_count index && has_entries index
+    if nat_le count_len (length index) && nat_le (count_len + entry_len * word index 0) (length index)
     then find is_story (entries_from (word index 0) index count_len)
     else None
 
 -- the first chunk of a Blorb that is sought
 abbrev pub blorb_part : List ℕ → Sought → Result Part StoryFault
-blorb_part file sought = of_form (part_found sought (chunks file ifrs)) >>= λ part. ok_or part fault.Blorb
+blorb_part file sought = of_form (part_found sought (chunks file (codes "IFRS"))) >>= λ part. ok_or part fault.Blorb
 
 -- the bare story: the body of the chunk `GLUL` whose header is where the first index says
 unfoldable pub story_in : List ℕ → Result (List ℕ) StoryFault
 story_in file = do
-  index ← blorb_part file (Letters ridx)
+  index ← blorb_part file (Letters (codes "RIdx"))
   entry ← ok_or (story_entry (body file index)) fault.Blorb
   chunk ← blorb_part file (Place entry.start)
-  if bytes_eq chunk.id glul then Ok (body file chunk) else Err fault.Blorb
+  if bytes_eq chunk.id (codes "GLUL") then Ok (body file chunk) else Err fault.Blorb

@@ -9,7 +9,7 @@ use Rattle.gx_strings.specs.Constants.{string_terminator, single_character, c_st
 use Rattle.gx_strings.specs.declared.items.Item.{Item}
 use Rattle.gx_strings.specs.Objects.{string_of, call_of, reference_by_type, reference}
 use Rattle.gx_strings.specs.Nodes.{direct, indirect, node_item}
-use Rattle.gx_strings.specs.Items.{is_char}
+use Rattle.gx_strings.specs.Held.{is_char}
 
 -- an item, or a fault, that is no character
 record Other (r : Result Item Fault) : Type 0 where

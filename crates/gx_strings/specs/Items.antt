@@ -1,19 +1,16 @@
 -- The items of what is printed: strings of the three types, and numbers (Glulx 3.1.2, "Strings" and
 -- "Calling and Returning Within Strings").
-use Rattle.std.specs.Prelude.{◌≡◌, ℕ, ◌+◌, ◌%◌, ◌^◌, ◌==◌, if◌then◌else◌, Bool, true, false, List, drop, slice_get}
-use Rattle.std.specs.Prelude.{Option, Some, None, Result, Ok, Err, IsTrue}
+use Rattle.std.specs.Prelude.{ℕ, ◌+◌, ◌%◌, ◌^◌, ◌==◌, if◌then◌else◌, List, drop, slice_get, Some, None, Result, Ok, Err}
 use Rattle.std.specs.Int.{w32, cast_signed}
 use Rattle.std.specs.Fmt.{signed_decimal}
-use Rattle.gx_words.specs.Numbers.{is_bit}
+use Rattle.gx_words.specs.Results.{◌>>=◌}
 use Rattle.gx_words.specs.declared.faults.Fault.{Fault}
 use Rattle.gx_words.specs.declared.faults.Fault.TheVariants.{BadString}
 use Rattle.gx_words.specs.declared.strings.Printing.{Printing}
-use Rattle.gx_words.specs.declared.strings.PrintKind.{PrintKind}
 use Rattle.gx_words.specs.declared.strings.PrintKind.TheVariants.{E0, E1, E2, Number}
-use Rattle.gx_words.specs.Results.{◌>>=◌}
 use Rattle.gx_pages.specs.Memory.{number_in}
 use Rattle.gx_strings.specs.declared.items.Item.{Item}
-use Rattle.gx_strings.specs.declared.items.Item.TheVariants.{Char, Sub, Call, End}
+use Rattle.gx_strings.specs.declared.items.Item.TheVariants.{Char, End}
 use Rattle.gx_strings.specs.Bits.{bits, index_of, with_index}
 use Rattle.gx_strings.specs.Nodes.{walk, node_item}
 
@@ -38,35 +35,19 @@ word_item memory p = do
   Ok (if value == 0 then End else Char value (record p { at = p.at + 4 }))
 
 -- a number: the characters of its decimal text
-abbrev pub digit_or_end : Printing → Option ℕ → Item
-digit_or_end p (Some digit) = Char digit (record p { bit = p.bit + 1 })
-digit_or_end p None = End
-
 unfoldable pub number_item : Printing → Item
-number_item p = digit_or_end p (slice_get (signed_decimal (cast_signed w32 p.at)) p.bit)
+number_item p =
+    elim (slice_get (signed_decimal (cast_signed w32 p.at)) p.bit) [
+      | Some digit ↦ Char digit (record p { bit = p.bit + 1 })
+      | None ↦ End
+    ]
 
 -- the next item of what is printed, under a decoding table
-abbrev pub item_of : PrintKind → List ℕ → ℕ → Printing → Result Item Fault
-item_of E0 memory table p = byte_item memory p
-item_of E1 memory table p = compressed_item memory table p
-item_of E2 memory table p = word_item memory p
-item_of Number memory table p = Ok (number_item p)
-
 unfoldable pub next_item : List ℕ → ℕ → Printing → Result Item Fault
-next_item memory table p = item_of p.kind memory table p
-
--- whether it is a character
-abbrev pub is_char : Result Item Fault → Bool
-is_char (Ok (Char value next)) = true
-is_char _ = false
-
--- a place in a compressed string is at one of the eight bits of a byte
-abbrev pub HasBit : Printing → Type 0
-HasBit p = p.kind ≡ E1 → IsTrue (is_bit p.bit)
-
--- the same for all places of an item
-abbrev pub HasBits : Item → Type 0
-HasBits (Char value next) = HasBit next
-HasBits (Sub back inner) = HasBit back × HasBit inner
-HasBits (Call back at args_at args) = HasBit back
-HasBits End = Unit {0}
+next_item memory table p =
+    elim p.kind [
+      | E0 ↦ byte_item memory p
+      | E1 ↦ compressed_item memory table p
+      | E2 ↦ word_item memory p
+      | Number ↦ Ok (number_item p)
+    ]

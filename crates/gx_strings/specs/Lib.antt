@@ -3,3 +3,4 @@ pub mod Bits
 pub mod Objects
 pub mod Nodes
 pub mod Items
+pub mod Held

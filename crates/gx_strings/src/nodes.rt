@@ -9,7 +9,7 @@ ghost use Rattle.gx_words.specs.declared.strings.Printing.{Printing as APrinting
 ghost use Rattle.gx_strings.specs.declared.items.Item.TheVariants.{Char};
 ghost use Rattle.gx_strings.specs.Bits.{bit, bits};
 ghost use Rattle.gx_strings.specs.Nodes.{child, walk, direct, indirect, node_item};
-ghost use Rattle.gx_strings.specs.Items.{is_char, HasBit, HasBits};
+ghost use Rattle.gx_strings.specs.Held.{is_char, HasBit, HasBits};
 
 use crate::Item;
 use crate::node_types::{

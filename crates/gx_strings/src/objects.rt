@@ -3,7 +3,7 @@ ghost use Rattle.std.specs.Prelude.{◌≡◌, ◌≤◌, IfOk};
 ghost use Rattle.gx_words.specs.Faults.{Reads};
 ghost use Rattle.gx_words.specs.Constants.{ceiling};
 ghost use Rattle.gx_strings.specs.Objects.{from_start, as_inner, string_of, string_at, call_of, reference};
-ghost use Rattle.gx_strings.specs.Items.{HasBit, HasBits};
+ghost use Rattle.gx_strings.specs.Held.{HasBit, HasBits};
 
 use crate::Item;
 use gx_pages::Pages;

@@ -6,8 +6,8 @@ ghost use Rattle.gx_words.specs.Numbers.{is_bit};
 ghost use Rattle.gx_words.specs.Faults.{Reads};
 ghost use Rattle.gx_words.specs.declared.strings.PrintKind.TheVariants.{Number};
 ghost use Rattle.gx_strings.specs.declared.items.Item.TheVariants.{Char};
-ghost use Rattle.gx_strings.specs.Items.{byte_item, compressed_item, word_item, number_item, next_item, is_char};
-ghost use Rattle.gx_strings.specs.Items.{HasBit, HasBits};
+ghost use Rattle.gx_strings.specs.Items.{byte_item, compressed_item, word_item, number_item, next_item};
+ghost use Rattle.gx_strings.specs.Held.{is_char, HasBit, HasBits};
 
 use crate::Item;
 use crate::nodes::{node_char, node_item, walk};

@@ -2,7 +2,8 @@
 use Rattle.std.proofs.Common.{◌≡◌, ◌<◌, ◌^◌, ◌++◌, ℕ, ◌+◌, ◌*◌, List, length, replicate, refl, sym, ◌∙◌}
 use Rattle.gx_words.specs.Numbers.{word, bytes_of_word, bytes_of_number, spliced, sum_of_words}
 use Rattle.gx_words.specs.Constants.{extstart_at, endmem_at, checksum_at}
-use Rattle.gx_work.specs.Work.{page, HasHeader}
+use Rattle.gx_work.specs.Work.{page}
+use Rattle.gx_work.specs.Laws.{HasHeader}
 use Rattle.gx_work.specs.declared.TheConstants.{HEAD, COUNT_AT}
 use Rattle.gx_work.proofs.Words.{read_back}
 

@@ -3,7 +3,8 @@ use Rattle.std.proofs.Common.{◌≡◌, ◌<◌, ◌≤◌, ◌+◌, ◌*◌, �
 use Rattle.std.proofs.lemmas.List.{length-append}
 use Rattle.gx_words.specs.Numbers.{word, bytes_of_word, bytes_of_number, spliced, sum_of_words}
 use Rattle.gx_words.specs.Constants.{checksum_at}
-use Rattle.gx_work.specs.Work.{page, ram, ram_count, ram_word, ram_sum, story_with, work_story, HasHeader}
+use Rattle.gx_work.specs.Work.{page, ram, ram_count, ram_word, story_with, work_story}
+use Rattle.gx_work.specs.Laws.{ram_sum, HasHeader}
 use Rattle.gx_work.proofs.Words.{length-ram, sum_with_ram}
 use Rattle.gx_work.proofs.Pages.{length-page, page_header, page_put, page_read, page_sum}
 use Rattle.gx_work.proofs.Turns.{ram_first, ram_more}

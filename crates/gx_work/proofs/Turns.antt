@@ -1,7 +1,8 @@
 -- One turn of each loop over a definition.
 use Rattle.std.proofs.Common.{◌≡◌, ◌+◌, ◌++◌, [], ℕ, suc, refl, arith}
 use Rattle.gx_words.specs.Numbers.{bytes_of_word}
-use Rattle.gx_work.specs.Work.{ram, ram_word, ram_sum}
+use Rattle.gx_work.specs.Work.{ram, ram_word}
+use Rattle.gx_work.specs.Laws.{ram_sum}
 
 pub ram_sum_more : (n number : ℕ) → ram_sum (n + 1) number ≡ ram_sum n number + ram_word number n
 unfolding ram_sum

@@ -4,7 +4,8 @@ use Rattle.std.proofs.lemmas.Bool.Decides.{nat_tests}
 use Rattle.std.proofs.lemmas.List.{length-append, get_or-append-add}
 use Rattle.std.proofs.Math.ListN.{get_or-append}
 use Rattle.gx_words.specs.Numbers.{word, bytes_of_word, sum_of_words}
-use Rattle.gx_work.specs.Work.{ram, ram_word, ram_sum}
+use Rattle.gx_work.specs.Work.{ram, ram_word}
+use Rattle.gx_work.specs.Laws.{ram_sum}
 use Rattle.gx_words.specs.Constants.{checksum_at}
 use Rattle.gx_words.proofs.Sums.{sum_more}
 

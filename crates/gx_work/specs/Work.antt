@@ -1,9 +1,8 @@
 -- The story of a number (Glulx 3.1.2, "The Memory Map"): a page with header and code, and RAM.
-use Rattle.std.specs.Prelude.{◌≡◌, ℕ, zero, suc, ◌+◌, ◌*◌, ◌%◌, ◌^◌, List, [], ◌∷◌, ◌++◌, length, replicate}
+use Rattle.std.specs.Prelude.{ℕ, zero, suc, ◌+◌, ◌*◌, ◌%◌, ◌^◌, List, [], ◌∷◌, ◌++◌, replicate}
 use Rattle.std.specs.List.{flat_map}
-use Rattle.gx_words.specs.Constants.{magic, magic_at, version_at, ramstart_at, extstart_at, endmem_at, stack_size_at}
-use Rattle.gx_words.specs.Constants.{start_function_at, table_at}
-use Rattle.gx_words.specs.Numbers.{word, bytes_of_word, sum_of_words}
+use Rattle.gx_words.specs.Constants.{magic}
+use Rattle.gx_words.specs.Numbers.{bytes_of_word, sum_of_words}
 
 -- RAM has from 64 to 262,144 words
 abbrev pub ram_count : ℕ → ℕ
@@ -16,11 +15,6 @@ ram_word number index = (number + index) * 0x9E3779B1 % 2 ^ 32
 unfoldable pub ram : ℕ → ℕ → List ℕ
 ram zero number = []
 ram (suc n) number = ram n number ++ bytes_of_word (ram_word number n)
-
--- the sum of the first words of RAM
-unfoldable pub ram_sum : ℕ → ℕ → ℕ
-ram_sum zero number = 0
-ram_sum (suc n) number = ram_sum n number + ram_word number n
 
 -- magic, version 3.1.2, RAMSTART, EXTSTART, ENDMEM, stack size, start function, no table, checksum
 abbrev pub header : ℕ → ℕ → List ℕ
@@ -61,14 +55,3 @@ story_with number checksum = page (ram_count number) checksum ++ ram (ram_count 
 -- the story whose checksum is the sum modulo 2^32 of its words with that word zero
 unfoldable pub work_story : ℕ → List ℕ
 work_story number = story_with number (sum_of_words (64 + ram_count number) (story_with number 0) % 2 ^ 32)
-
--- what the header says of the story
-pub record HasHeader (story : List ℕ) : Type 0 where
-  pub magic : word story magic_at ≡ magic
-  pub version : word story version_at ≡ 0x00030102
-  pub ramstart : word story ramstart_at ≡ 0x100
-  pub extstart : word story extstart_at ≡ length story
-  pub endmem : word story endmem_at ≡ length story
-  pub stack_size : word story stack_size_at ≡ 0x100
-  pub start_function : word story start_function_at ≡ 0x24
-  pub table : word story table_at ≡ 0

@@ -8,7 +8,8 @@
 ghost use Rattle.std.specs.Prelude.{◌≡◌, ◌+◌, ◌*◌, ◌/◌, ◌%◌, ◌^◌, ◌≤◌, length, IfOk};
 ghost use Rattle.gx_words.specs.Constants.{checksum_at};
 ghost use Rattle.gx_words.specs.Numbers.{word, sum_of_words};
-ghost use Rattle.gx_work.specs.Work.{page, ram_count, ram_word, ram_sum, work_story, HasHeader};
+ghost use Rattle.gx_work.specs.Work.{page, ram_count, ram_word, work_story};
+ghost use Rattle.gx_work.specs.Laws.{ram_sum, HasHeader};
 
 use gx_words::{
     Bytes, CHECKSUM_AT, ENDMEM_AT, EXTSTART_AT, put_number, splice, sum_of_words, word_bytes,

@@ -4,7 +4,8 @@ use Rattle.std.specs.List.{remove}
 use Rattle.std.proofs.lemmas.List.{drop_more, drop_all}
 use Rattle.std.proofs.lemmas.Bool.{cases_eq, lt-leb, lt-ltb}
 use Rattle.std.proofs.lemmas.Bool.Decides.{nat_tests}
-use Rattle.heap_blocks.specs.Heap.{Block, FlatHeap, IsRising, IsFree, end_of, first_address, free_place, inserted}
+use Rattle.heap_blocks.specs.Heap.{Block, FlatHeap, IsRising, end_of, first_address, free_place, inserted}
+use Rattle.heap_blocks.specs.Relations.{IsFree}
 use Rattle.heap_blocks.specs.Gapless.{gapless, last_end}
 
 differs : (a b : ℕ) → a ≢ b → nat_eq a b ≡ false

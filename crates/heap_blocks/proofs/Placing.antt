@@ -4,7 +4,8 @@ use Rattle.std.specs.List.{AllPairs}
 use Rattle.std.proofs.lemmas.List.{drop_more, drop_all}
 use Rattle.std.proofs.lemmas.Bool.{cases_lt, le-leb, lt-leb}
 use Rattle.std.proofs.lemmas.Bool.Decides.{nat_tests}
-use Rattle.heap_blocks.specs.Heap.{Block, FlatHeap, IsPlace, IsRising, IsEndedBy, IsSound, AreApart, IsFree, end_of, first_address, free_place}
+use Rattle.heap_blocks.specs.Heap.{Block, FlatHeap, IsRising, IsEndedBy, IsSound, end_of, first_address, free_place}
+use Rattle.heap_blocks.specs.Relations.{IsPlace, AreApart, IsFree}
 
 -- what ends at or before the first block is free
 free_before : (bs : List Block) (from at n : ℕ) → IsRising from bs → at + n ≤ from → IsFree bs at n

@@ -1,7 +1,7 @@
 -- The blocks of the memory allocation heap, and where the next one goes (Glulx 3.1.2,
 -- "Memory Allocation Heap").
-use Rattle.std.specs.Prelude.{◌≡◌, ℕ, ◌+◌, ◌^◌, ◌<◌, ◌≤◌, ◌⊎◌, Bool, ◌==◌, nat_le, nat_lt, if◌then◌else◌, List, [], ◌∷◌}
-use Rattle.std.specs.Prelude.{length, All, AllPairs, Option, Some, None, MatchOption}
+use Rattle.std.specs.Prelude.{◌≡◌, ℕ, ◌+◌, ◌<◌, ◌≤◌, Bool, ◌==◌, nat_le, nat_lt, if◌then◌else◌, List, [], ◌∷◌, length}
+use Rattle.std.specs.Prelude.{Option, Some, None}
 use Rattle.std.specs.Option.{option_map}
 
 -- a block is its address and its length
@@ -15,11 +15,6 @@ end_of b = b.0 + b.1
 pub record FlatHeap : Type 0 where
   pub start : ℕ
   pub blocks : List Block
-
--- a heap beside the number of blocks that it has room for
-pub record HeldHeap : Type 0 where
-  pub heap : FlatHeap
-  pub spare : ℕ
 
 -- a heap is inactive as long as it has no block
 abbrev pub inactive : FlatHeap
@@ -45,39 +40,14 @@ pub record IsSound (h : FlatHeap) : Type 0 where
   pub ends : IsEndedBy 0xFFFFFFFF h.blocks
   pub none : length h.blocks ≡ 0 → h.start ≡ 0
 
--- the same in plain words: each block isn't empty and lies between the start and 2^32, and of any
--- two the one ends before the other begins
-pub record AreApart (h : FlatHeap) : Type 0 where
-  pub each : All (λ b. (h.start ≤ b.0) × (0 < b.1) × (end_of b < 2 ^ 32)) h.blocks
-  pub apart : AllPairs (λ a b. end_of a ≤ b.0) h.blocks
-
 -- nothing of a heap lies past an address
 pub record IsBelow (limit : ℕ) (h : FlatHeap) : Type 0 where
   pub start : h.start ≤ limit
   pub ends : IsEndedBy limit h.blocks
 
--- no block has one of the n bytes at an address
-abbrev pub IsFree : List Block → ℕ → ℕ → Type 0
-IsFree [] at n = Unit {0}
-IsFree (b ∷ bs) at n = ((at + n ≤ b.0) ⊎ (end_of b ≤ at)) × IsFree bs at n
-
 -- the address at which the heap begins, or would begin with its first block
 abbrev pub first_address : FlatHeap → ℕ → ℕ
 first_address h end = if is_inactive h then end else h.start
-
--- n bytes at an address are a block that the heap can get
-pub record IsPlace (h : FlatHeap) (end n ceiling at : ℕ) : Type 0 where
-  pub start : first_address h end ≤ at
-  pub ends : at + n ≤ ceiling
-  pub free : IsFree h.blocks at n
-
--- The standard leaves the address open. It is the least one at which n bytes fit, or none where they
--- fit nowhere, so that it depends on the live blocks alone.
-abbrev pub IsLeast : FlatHeap → ℕ → ℕ → ℕ → Option ℕ → Type 0
-IsLeast h end n ceiling found =
-    MatchOption found
-    ((at : ℕ) → IsPlace h end n ceiling at → ⊥)
-    (λ least. IsPlace h end n ceiling least × ((at : ℕ) → IsPlace h end n ceiling at → least ≤ at))
 
 -- the first free place of n bytes from an address on, among blocks in rising order
 abbrev pub free_place : ℕ → ℕ → List Block → ℕ
@@ -112,9 +82,9 @@ left_by h rest = record { start = if length rest == 0 then 0 else h.start; block
 abbrev pub freed : FlatHeap → ℕ → Option FlatHeap
 freed h at = option_map (left_by h) (without at h.blocks)
 
--- what a call that frees a block answers and leaves: nothing changes where no block begins at the
--- address; else the answer says whether it was the last, and no room is lost
-abbrev pub Frees : HeldHeap → HeldHeap → Option FlatHeap → Option Bool → Type 0
-Frees old new None answer = (answer ≡ None) × (new ≡ old)
-Frees old new (Some left) answer =
-    (answer ≡ Some (is_inactive left)) × (new.heap ≡ left) × (old.spare ≤ new.spare)
+-- WHAT CONTRACTS SEE
+
+-- a heap beside the number of blocks that it has room for
+pub record HeldHeap : Type 0 where
+  pub heap : FlatHeap
+  pub spare : ℕ

@@ -1,3 +1,4 @@
 pub mod Heap
 pub mod Gapless
 pub mod Sound
+pub mod Relations

@@ -14,8 +14,9 @@
 ghost use Rattle.std.specs.Prelude.{◌≡◌, ℕ, ◌+◌, ◌<◌, ◌≤◌, ◌^◌, length, slice_index_or, IfOk, OnOk, OnErr, IfSome};
 ghost use Rattle.std.specs.List.{remove};
 ghost use Rattle.std.specs.Option.{option_map};
-ghost use Rattle.heap_blocks.specs.Heap.{IsSound, AreApart, IsBelow, IsFree, IsLeast, Frees, IsRising, inactive};
-ghost use Rattle.heap_blocks.specs.Heap.{first_address, free_place, place, added, freed, without};
+ghost use Rattle.heap_blocks.specs.Heap.{IsSound, IsBelow, IsRising, inactive, first_address, free_place, place, added};
+ghost use Rattle.heap_blocks.specs.Heap.{freed, without};
+ghost use Rattle.heap_blocks.specs.Relations.{Frees, AreApart, IsFree, IsLeast};
 ghost use Rattle.heap_blocks.specs.Gapless.{gapless, last_end};
 
 use std::alloc::{AllocError, Global};

@@ -9,7 +9,8 @@ use Rattle.iff_chunks.specs.declared.faults.IffFault.TheVariants.{Cut}
 use Rattle.iff_chunks.specs.declared.parts.Part.{Part}
 use Rattle.iff_chunks.specs.declared.parts.Sought.{Sought}
 use Rattle.iff_chunks.specs.Faults.{◌>>=◌}
-use Rattle.iff_chunks.specs.Chunks.{length_at, id_at, part_at, next_place, parts_from, is_sought, found_first, part_found}
+use Rattle.iff_chunks.specs.Chunks.{length_at, id_at, part_at, next_place, parts_from, is_sought, part_found}
+use Rattle.iff_chunks.specs.Laws.{found_first}
 
 pub parts_done : (most : ℕ) (form : List ℕ) (place : ℕ) → length form ≤ place → parts_from most form place ≡ Ok []
 unfolding parts_from

@@ -10,7 +10,8 @@ use Rattle.iff_chunks.specs.declared.faults.IffFault.{IffFault}
 use Rattle.iff_chunks.specs.declared.parts.Part.{Part}
 use Rattle.iff_chunks.specs.Faults.{◌>>=◌}
 use Rattle.iff_chunks.specs.Chunks.{length_at, id_at, part_at, next_place, parts_from, form_in, chunks, body}
-use Rattle.iff_chunks.specs.Writing.{Chunk, chunk_of, chunks_in, bytes_of_length, bytes_of_chunk, bytes_of_form, IsChunk, ReadsBack}
+use Rattle.iff_chunks.specs.Writing.{Chunk, bytes_of_length, bytes_of_chunk, bytes_of_form}
+use Rattle.iff_chunks.specs.Laws.{chunk_of, chunks_in, IsChunk, ReadsBack}
 use Rattle.iff_chunks.proofs.Reading.{parts_done}
 
 digits : (v : ℕ) → v < 2 ^ 32 → ((v / 2 ^ 24 % 256) * 256 + v / 2 ^ 16 % 256) * 65536 + ((v / 2 ^ 8 % 256) * 256 + v % 256) ≡ v

@@ -1,6 +1,6 @@
 -- The chunks of a form (Quetzal 1.4, "Introduction to the IFF format").
 use Rattle.std.specs.Prelude.{ℕ, zero, suc, ◌+◌, ◌*◌, ◌%◌, ◌==◌, nat_eq, ◌&&◌, Bool, not, nat_le, if◌then◌else◌, List}
-use Rattle.std.specs.Prelude.{[], ◌∷◌, length, take, drop, slice_index, Option, Some, None, Result, Ok, Err}
+use Rattle.std.specs.Prelude.{codes, [], ◌∷◌, length, take, drop, slice_index, Option, Result, Ok, Err}
 use Rattle.std.specs.Str.{bytes_eq}
 use Rattle.std.specs.List.{find, starts_with}
 use Rattle.iff_chunks.specs.Faults.{◌>>=◌}
@@ -40,26 +40,17 @@ parts_from (suc most) form place =
     if nat_le (length form) place then Ok [] else
     part_at form place >>= λ part. parts_from most form (next_place part) >>= λ parts. Ok (part ∷ parts)
 
--- the tests of a form; its length counts from its kind on
-abbrev pub has_form_header : List ℕ → Bool
-has_form_header bytes = nat_le 12 (length bytes)
-
 abbrev pub begins_form : List ℕ → Bool
-begins_form bytes = starts_with nat_eq bytes (0x46 ∷ 0x4F ∷ 0x52 ∷ 0x4D ∷ [])
+begins_form bytes = starts_with nat_eq bytes (codes "FORM")
 
-abbrev pub has_kind : List ℕ → List ℕ → Bool
-has_kind bytes kind = bytes_eq (id_at bytes 8) kind
-
-abbrev pub has_length : List ℕ → Bool
-has_length bytes = nat_le 4 (length_at bytes 4) && nat_le (8 + length_at bytes 4) (length bytes)
-
--- a form of a kind at the start of the bytes, or the first fault of its header
+-- A form of a kind at the start of the bytes, or the first fault of its header: FORM, the length from the kind on, the
+-- kind.
 unfoldable pub form_in : List ℕ → List ℕ → Result (List ℕ) IffFault
 form_in bytes kind =
-    if not (has_form_header bytes) then Err fault.Cut else
+    if not (nat_le 12 (length bytes)) then Err fault.Cut else
     if not (begins_form bytes) then Err fault.NotForm else
-    if not (has_kind bytes kind) then Err fault.WrongKind else
-    if not (has_length bytes) then Err fault.Cut else
+    if not (bytes_eq (id_at bytes 8) kind) then Err fault.WrongKind else
+    if not (nat_le 4 (length_at bytes 4) && nat_le (8 + length_at bytes 4) (length bytes)) then Err fault.Cut else
     Ok (take (8 + length_at bytes 4) bytes)
 
 -- the chunks of a form of a kind, or the first fault
@@ -75,19 +66,6 @@ abbrev pub is_sought : Sought → Part → Bool
 is_sought (Letters id) part = bytes_eq part.id id
 is_sought (Place place) part = part.at == place + 8
 
--- the first chunk with these letters
-abbrev pub first : List ℕ → List Part → Option Part
-first id parts = find (is_sought (Letters id)) parts
-
--- the chunk whose header begins at a place
-abbrev pub at_place : ℕ → List Part → Option Part
-at_place place parts = find (is_sought (Place place)) parts
-
 -- the first chunk of a form that is sought
 abbrev pub part_found : Sought → Result (List Part) IffFault → Result (Option Part) IffFault
 part_found sought form = form >>= λ parts. Ok (find (is_sought sought) parts)
-
--- what was found already, or else a chunk where it is sought
-abbrev pub found_first : Sought → Option Part → Part → Option Part
-found_first sought (Some found) part = Some found
-found_first sought None part = if is_sought sought part then Some part else None

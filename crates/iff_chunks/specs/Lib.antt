@@ -1,3 +1,4 @@
 pub mod Faults
 pub mod Chunks
 pub mod Writing
+pub mod Laws

@@ -4,8 +4,8 @@
 ghost use Rattle.std.specs.Prelude.{◌≡◌, ◌≢◌, length, IfErr, IsOk, OnOk};
 ghost use Rattle.std.specs.List.{find};
 ghost use Rattle.iff_chunks.specs.Faults.{Makes, Reads};
-ghost use Rattle.iff_chunks.specs.Chunks.{at_place, begins_form, chunks, first, form_in, is_sought, part_found};
-ghost use Rattle.iff_chunks.specs.Chunks.{parts_from};
+ghost use Rattle.iff_chunks.specs.Chunks.{begins_form, chunks, form_in, is_sought, part_found, parts_from};
+ghost use Rattle.iff_chunks.specs.Laws.{at_place, first};
 ghost use Rattle.iff_chunks.specs.declared.faults.IffFault.{IffFault};
 
 use crate::parts::{HEADER_LEN, id_at, length_at};

@@ -1,7 +1,8 @@
 //! One chunk of a form: its letters, and where its body lies.
 ghost use Rattle.std.specs.Prelude.{◌≡◌, ◌+◌, ◌≤◌, ◌<◌, ◌^◌, length, IfOk};
 ghost use Rattle.iff_chunks.specs.Faults.{Reads};
-ghost use Rattle.iff_chunks.specs.Chunks.{body, found_first, id_at, is_sought, length_at, next_place, part_at};
+ghost use Rattle.iff_chunks.specs.Chunks.{body, id_at, is_sought, length_at, next_place, part_at};
+ghost use Rattle.iff_chunks.specs.Laws.{found_first};
 
 use crate::IffFault;
 use byteorder::{BigEndian, ByteOrder};

@@ -8,7 +8,8 @@ use Rattle.std.proofs.lemmas.Int.{ints, to_z-of_z, quot-rem, rem_below}
 use Rattle.std.specs.Prelude.{ℤ, pos, negsuc, ◌≤ℤ◌, int_div, int_rem, unsigned_abs, FitsSigned, neg_ℤ}
 use Rattle.std.specs.Int.{w32}
 use Rattle.std.specs.Int.Signed.{mag_rem}
-use Rattle.ops_calc.specs.Arithmetic.{IsDivision, IsQuotient, IsRemainder, has_no_quotient, signed, word_of}
+use Rattle.ops_calc.specs.Arithmetic.{has_no_quotient, signed, word_of}
+use Rattle.ops_calc.specs.Laws.{IsDivision, IsQuotient, IsRemainder}
 
 rem_positive : (a b : ℤ) → pos 0 ≤ℤ a → pos 0 ≤ℤ int_rem a b
 rem_positive (pos a) b h = omega (arith, ints)

@@ -1,10 +1,8 @@
 -- What integer math gives (Glulx 3.1.2, "Integer Math"), and the sign extensions ("Moving Data").
 --
 -- Operands and answers are words of 32 bits. Sums, differences and products are modulo 2^32.
-use Rattle.std.specs.Prelude.{◌≡◌, ℕ, ℤ, ◌+◌, ◌-◌, ◌*◌, ◌/◌, ◌%◌, ◌^◌, Bool, ◌==◌, ◌&&◌, ◌||◌, nat_lt, if◌then◌else◌}
-use Rattle.std.specs.Prelude.{List, [], ◌∷◌, Option, Some, None, bit_and, bit_or, bit_xor, int_div, int_rem, pos}
-use Rattle.std.specs.Prelude.{unsigned_abs, ◌<◌, ◌+ℤ◌, ◌*ℤ◌, ◌≤ℤ◌}
-use Rattle.std.specs.List.{list_any}
+use Rattle.std.specs.Prelude.{ℕ, ℤ, ◌+◌, ◌-◌, ◌*◌, ◌/◌, ◌%◌, ◌^◌, Bool, ◌==◌, ◌&&◌, ◌||◌, nat_lt, if◌then◌else◌, Option}
+use Rattle.std.specs.Prelude.{Some, None, bit_and, bit_or, bit_xor, int_div, int_rem}
 use Rattle.std.specs.Int.{w32, cast_signed, cast_unsigned, int_shr}
 use Rattle.gx_words.specs.Numbers.{extended}
 
@@ -14,18 +12,6 @@ signed v = cast_signed w32 v
 
 abbrev pub word_of : ℤ → ℕ
 word_of z = cast_unsigned w32 z
-
--- 10 add
-abbrev pub add : ℕ → ℕ → ℕ
-add a b = (a + b) % 2 ^ 32
-
--- 11 sub
-abbrev pub sub : ℕ → ℕ → ℕ
-sub a b = (a + (2 ^ 32 - b)) % 2 ^ 32
-
--- 12 mul
-abbrev pub mul : ℕ → ℕ → ℕ
-mul a b = a * b % 2 ^ 32
 
 -- There is no quotient by 0. The standard is silent on -2^31 by -1, whose quotient has no place in
 -- a word: it has none either, and no remainder, so that each answer is a division as below.
@@ -40,39 +26,9 @@ div a b = if has_no_quotient a b then None else Some (word_of (int_div (signed a
 unfoldable pub mod_ : ℕ → ℕ → Option ℕ
 mod_ a b = if has_no_quotient a b then None else Some (word_of (int_rem (signed a) (signed b)))
 
--- the standard's words: q times the divisor and r are the dividend, and r is nearer to 0 than the
--- divisor, with the sign of the dividend where it isn't 0
-pub record IsDivision (a b q r : ℤ) : Type 0 where
-  pub whole : (q *ℤ b) +ℤ r ≡ a
-  pub nearer : unsigned_abs r < unsigned_abs b
-  pub positive : pos 0 ≤ℤ a → pos 0 ≤ℤ r
-  pub negative : a ≤ℤ pos 0 → r ≤ℤ pos 0
-
-abbrev pub IsQuotient : ℕ → ℕ → ℕ → Type 0
-IsQuotient a b q = (r : ℤ) × IsDivision (signed a) (signed b) (signed q) r
-
-abbrev pub IsRemainder : ℕ → ℕ → ℕ → Type 0
-IsRemainder a b r = (q : ℤ) × IsDivision (signed a) (signed b) q (signed r)
-
 -- 15 neg
 abbrev pub neg : ℕ → ℕ
 neg a = (2 ^ 32 - a) % 2 ^ 32
-
--- 18 bitand
-abbrev pub bitand : ℕ → ℕ → ℕ
-bitand a b = bit_and a b
-
--- 19 bitor
-abbrev pub bitor : ℕ → ℕ → ℕ
-bitor a b = bit_or a b
-
--- 1A bitxor
-abbrev pub bitxor : ℕ → ℕ → ℕ
-bitxor a b = bit_xor a b
-
--- 1B bitnot
-abbrev pub bitnot : ℕ → ℕ
-bitnot a = 0xFFFFFFFF - a
 
 -- 1C shiftl: all bits are gone after 32 places
 abbrev pub shiftl : ℕ → ℕ → ℕ
@@ -93,31 +49,22 @@ sexs a = extended 2 (a % 2 ^ 16)
 abbrev pub sexb : ℕ → ℕ
 sexb a = extended 1 (a % 2 ^ 8)
 
--- the instructions by the low byte of their numbers; None is a division with no quotient
+-- The instructions by the low byte of their numbers; None is a division with no quotient.
 unfoldable pub calc : ℕ → ℕ → ℕ → Option ℕ
 calc act a b =
-    if act == 0x10 then Some (add a b) else
-    if act == 0x11 then Some (sub a b) else
-    if act == 0x12 then Some (mul a b) else
+    if act == 0x10 then Some ((a + b) % 2 ^ 32) else  -- add
+    if act == 0x11 then Some ((a + (2 ^ 32 - b)) % 2 ^ 32) else  -- sub
+    if act == 0x12 then Some (a * b % 2 ^ 32) else  -- mul
     if act == 0x13 then div a b else
     if act == 0x14 then mod_ a b else
     if act == 0x15 then Some (neg a) else
-    if act == 0x18 then Some (bitand a b) else
-    if act == 0x19 then Some (bitor a b) else
-    if act == 0x1A then Some (bitxor a b) else
-    if act == 0x1B then Some (bitnot a) else
+    if act == 0x18 then Some (bit_and a b) else  -- bitand
+    if act == 0x19 then Some (bit_or a b) else  -- bitor
+    if act == 0x1A then Some (bit_xor a b) else  -- bitxor
+    if act == 0x1B then Some (0xFFFFFFFF - a) else  -- bitnot
     if act == 0x1C then Some (shiftl a b) else
     if act == 0x1D then Some (sshiftr a b) else
     if act == 0x1E then Some (ushiftr a b) else
     if act == 0x44 then Some (sexs a) else
     if act == 0x45 then Some (sexb a) else
     None
-
-abbrev pub calc_acts : List ℕ
-calc_acts =
-    0x10 ∷ 0x11 ∷ 0x12 ∷ 0x13 ∷ 0x14 ∷ 0x15 ∷
-    0x18 ∷ 0x19 ∷ 0x1A ∷ 0x1B ∷ 0x1C ∷ 0x1D ∷ 0x1E ∷
-    0x44 ∷ 0x45 ∷ []
-
-abbrev pub is_calc : ℕ → Bool
-is_calc act = list_any (λ n. n == act) calc_acts

@@ -1,9 +1,9 @@
 -- The random words of a story (Glulx 3.1.2, "Random Number Generator").
-use Rattle.std.specs.Prelude.{ℕ, pos, ◌<ℤ◌, ◌≤ℤ◌, ◌%◌, ◌==◌, nat_lt, Bool, true, false, if◌then◌else◌}
+use Rattle.std.specs.Prelude.{ℕ, ◌%◌, ◌==◌, nat_lt, Bool, true, false, if◌then◌else◌}
 use Rattle.rand_core.specs.Pcg32Seed.{pcg32_seed}
 use Rattle.rand_pcg.specs.Lcg.{Lcg}
 use Rattle.rand_pcg.specs.Pcg.{pcg32, pcg32_of_seed}
-use Rattle.ops_calc.specs.Arithmetic.{neg, signed}
+use Rattle.ops_calc.specs.Arithmetic.{neg}
 use Rattle.ops_calc.specs.declared.random.Generator.{Generator}
 use Rattle.ops_calc.specs.declared.random.Generator.TheVariants.{Outside, Seeded}
 
@@ -37,8 +37,3 @@ pick limit word =
     if limit == 0 then word else
     if nat_lt limit 0x80000000 then word % limit else
     neg (word % neg limit)
-
--- from 0 to the limit less one, or from the limit and one to 0
-pub record IsPicked (limit picked : ℕ) : Type 0 where
-  pub positive : pos 0 <ℤ signed limit → (pos 0 ≤ℤ signed picked) × (signed picked <ℤ signed limit)
-  pub negative : signed limit <ℤ pos 0 → (signed limit <ℤ signed picked) × (signed picked ≤ℤ pos 0)

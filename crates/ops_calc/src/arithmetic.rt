@@ -3,8 +3,9 @@
 //! Each is its definition of specs/Arithmetic for all operands. A division without a quotient is
 //! `None`; all else has an answer.
 ghost use Rattle.std.specs.Prelude.{◌≡◌, IsTrue, IfSome};
-ghost use Rattle.ops_calc.specs.Arithmetic.{calc, is_calc, has_no_quotient, div, mod_, IsQuotient, IsRemainder, shiftl};
-ghost use Rattle.ops_calc.specs.Arithmetic.{sshiftr, ushiftr, sexs, sexb};
+ghost use Rattle.ops_calc.specs.Arithmetic.{calc, has_no_quotient, div, mod_, shiftl, sshiftr, ushiftr, sexs, sexb};
+ghost use Rattle.ops_calc.specs.Laws.{IsQuotient, IsRemainder};
+ghost use Rattle.ops_calc.specs.Acts.{is_calc};
 
 use gx_words::{low, signed};
 

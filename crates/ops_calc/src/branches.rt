@@ -2,7 +2,8 @@
 #![tactic(auto, unfolding(crate::specs::Branches::test))]
 
 ghost use Rattle.std.specs.Prelude.{◌≡◌, IsTrue};
-ghost use Rattle.ops_calc.specs.Branches.{test, is_branch};
+ghost use Rattle.ops_calc.specs.Branches.{test};
+ghost use Rattle.ops_calc.specs.Acts.{is_branch};
 
 use gx_words::signed;
 

@@ -3,7 +3,8 @@
 //! The words come from outside, each handed in, until the story seeds its own generator; from then
 //! on they are those of a Pcg32, the same in every run.
 ghost use Rattle.std.specs.Prelude.{◌≡◌, Ok};
-ghost use Rattle.ops_calc.specs.Generator.{seeded_by, is_outside, word_from, after_word, pick, IsPicked};
+ghost use Rattle.ops_calc.specs.Generator.{seeded_by, is_outside, word_from, after_word, pick};
+ghost use Rattle.ops_calc.specs.Laws.{IsPicked};
 
 use rand_core::SeedableRng;
 use rand_core::utils::NextWord;

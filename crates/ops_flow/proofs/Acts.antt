@@ -7,8 +7,7 @@ use Rattle.gx_rows.specs.declared.instructions.Class.{Class}
 use Rattle.gx_rows.specs.declared.instructions.Class.TheVariants as class
 use Rattle.gx_rows.specs.Table.{table, row_at, row_count}
 use Rattle.gx_rows.proofs.Places.{rows_counted}
-use Rattle.ops_calc.specs.Arithmetic.{is_calc}
-use Rattle.ops_calc.specs.Branches.{is_branch}
+use Rattle.ops_calc.specs.Acts.{is_calc, is_branch}
 
 -- whether the act of a row is one of its class
 act_fits : Class → ℕ → Bool

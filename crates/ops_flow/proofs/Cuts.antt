@@ -1,5 +1,6 @@
 -- A return looks only at what lies below its stack pointer.
-use Rattle.std.proofs.Common.{◌≡◌, ◌≤◌, ◌<◌, ◌+◌, ◌-◌, ℕ, Bool, true, false, nat_lt, if◌then◌else◌, List, [], ◌∷◌, ◌++◌, length, take, Option, Some, None, Result, Ok, Err, refl, arith, ap, sym, ◌∙◌}
+use Rattle.std.proofs.Common.{◌≡◌, ◌≤◌, ◌<◌, ◌+◌, ◌-◌, ℕ, Bool, true, false, nat_lt, if◌then◌else◌, List, [], ◌∷◌, ◌++◌}
+use Rattle.std.proofs.Common.{length, take, Some, Result, Ok, Err, refl, arith, ap, sym, ◌∙◌}
 use Rattle.std.proofs.lemmas.List.{take-take, take-append-le, append-nil}
 use Rattle.std.proofs.lemmas.Grind.{common_steps}
 use Rattle.std.proofs.lemmas.Bool.Decides.{nat_tests}
@@ -9,16 +10,19 @@ use Rattle.gx_words.specs.Results.{◌>>=◌}
 use Rattle.gx_words.specs.Numbers.{word, spliced, bytes_of_word, bytes_of_number}
 use Rattle.gx_stack.specs.declared.stubs.Stub.{Stub}
 use Rattle.gx_stack.specs.declared.frames.Frame.{Frame}
-use Rattle.gx_stack.specs.Frames.{IsFrame, has_local}
+use Rattle.gx_stack.specs.Frames.{has_local, IsFrame}
 use Rattle.gx_stack.specs.Stubs.{stub_bytes, stubs_bytes}
 use Rattle.gx_stack.proofs.Kept.{word-take}
 use Rattle.gx_state.specs.declared.modes.Dest.{Dest}
 use Rattle.gx_state.specs.declared.modes.Dest.TheVariants.{Nowhere, Memory, Local, Push}
-use Rattle.gx_state.specs.Flat.{FlatState, IsHeight, cut, written, frame_of, sp_of}
-use Rattle.gx_state.specs.Returns.{stub_of, returned, stub_to, IsWordInRam}
+use Rattle.gx_state.specs.Flat.{FlatState, cut, written, frame_of, sp_of, IsHeight}
+use Rattle.gx_state.specs.Allowed.{IsWordInRam}
+use Rattle.gx_state.specs.Returns.{stub_of, returned, stub_to}
+use Rattle.gx_state.specs.Calls.{with_word}
 use Rattle.gx_state.specs.Stores.{store_fault, with_value, stored}
 use Rattle.gx_operands.specs.Instructions.{Instruction, going_to, L1}
-use Rattle.ops_flow.specs.Rows.{with_stub, lasting, after_return, catch}
+use Rattle.ops_flow.specs.Rows.{with_stub, after_return, catch}
+use Rattle.ops_flow.specs.Catches.{lasting}
 
 with_bytes : FlatState → List ℕ → FlatState
 with_bytes f xs = record f { stack = record f.stack { bytes = xs } }
@@ -38,17 +42,17 @@ stub_same : (xs ys : List ℕ) (sp : ℕ) → take sp xs ≡ take sp ys → stub
 stub_same xs ys sp same = sym (stub_cut xs sp) ∙ ap (λ (zs : List ℕ). stub_to zs sp) same ∙ stub_cut ys sp
 
 -- the return to it
-returned_same : (f : FlatState) (xs ys : List ℕ) (sp v : ℕ) (w : Option (ℕ × ℕ)) → take sp xs ≡ take sp ys → returned (with_bytes f xs) sp v w ≡ returned (with_bytes f ys) sp v w
+returned_same : (f : FlatState) (xs ys : List ℕ) (sp v : ℕ) → take sp xs ≡ take sp ys → returned (with_bytes f xs) sp v ≡ returned (with_bytes f ys) sp v
 unfolding returned with_bytes
-returned_same f xs ys sp v w same =
+returned_same f xs ys sp v same =
     let stub = stub_same xs ys sp same in
     let least : sp - 16 ≤ sp = omega arith in
     let below : take (sp - 16) xs ≡ take (sp - 16) ys = sym (take-take (sp - 16) sp xs least) ∙ ap (take (sp - 16)) same ∙ take-take (sp - 16) sp ys least in
     rw (stub, below) refl
 
-pub returned_cut : (f : FlatState) (next sp v : ℕ) → f.fp ≤ sp → returned (going_to (cut f sp) next) f.fp v None ≡ returned (going_to f next) f.fp v None
+pub returned_cut : (f : FlatState) (next sp v : ℕ) → f.fp ≤ sp → returned (going_to (cut f sp) next) f.fp v ≡ returned (going_to f next) f.fp v
 unfolding with_bytes
-returned_cut f next sp v below = returned_same (going_to f next) (take sp f.stack.bytes) f.stack.bytes f.fp v None (take-take f.fp sp f.stack.bytes below)
+returned_cut f next sp v below = returned_same (going_to f next) (take sp f.stack.bytes) f.stack.bytes f.fp v (take-take f.fp sp f.stack.bytes below)
 
 pub ruleset cuts = (returned_cut)
 
@@ -65,20 +69,20 @@ take_put : (xs bytes : List ℕ) (at n : ℕ) → n ≤ at → n ≤ length xs �
 take_put xs bytes at n below there = grind (arith, common_steps)
 
 pub caught : (f : FlatState) (i : Instruction) (d : Dest) (token v : ℕ) → f.fp ≤ i.sp → i.sp ≤ sp_of f
-    → returned (going_to (with_value (with_stub f i) 4 d token) i.next) (with_value (with_stub f i) 4 d token).fp v None ≡ returned (going_to f i.next) f.fp v (lasting d token)
+    → returned (going_to (with_value (with_stub f i) 4 d token) i.next) (with_value (with_stub f i) 4 d token).fp v ≡ returned (with_word (going_to f i.next) (lasting d token)) f.fp v
 unfolding returned with_bytes with_stub
 caught f i Nowhere token v below there =
-    returned_same (going_to f i.next) (with_stub f i).stack.bytes f.stack.bytes f.fp v None (take_kept f.stack.bytes _ i.sp f.fp below there)
+    returned_same (going_to f i.next) (with_stub f i).stack.bytes f.stack.bytes f.fp v (take_kept f.stack.bytes _ i.sp f.fp below there)
 caught f i (Memory at) token v below there =
-    returned_same (going_to f i.next) (with_stub f i).stack.bytes f.stack.bytes f.fp v (Some (at, token)) (take_kept f.stack.bytes _ i.sp f.fp below there)
+    returned_same (with_word (going_to f i.next) (Some (at, token))) (with_stub f i).stack.bytes f.stack.bytes f.fp v (take_kept f.stack.bytes _ i.sp f.fp below there)
 caught f i (Local at) token v below there =
     let long : f.fp ≤ length (with_stub f i).stack.bytes = grind (arith, common_steps) in
     let kept = take_put (with_stub f i).stack.bytes (bytes_of_number 4 token) ((frame_of (with_stub f i)).locals + at) f.fp (omega arith) long in
-    returned_same (going_to f i.next) (with_value (with_stub f i) 4 (Local at) token).stack.bytes f.stack.bytes f.fp v None (kept ∙ take_kept f.stack.bytes _ i.sp f.fp below there)
+    returned_same (going_to f i.next) (with_value (with_stub f i) 4 (Local at) token).stack.bytes f.stack.bytes f.fp v (kept ∙ take_kept f.stack.bytes _ i.sp f.fp below there)
 caught f i Push token v below there =
     let long : f.fp ≤ length (with_stub f i).stack.bytes = grind (arith, common_steps) in
     let kept = take_front (with_stub f i).stack.bytes (bytes_of_word token) f.fp long in
-    returned_same (going_to f i.next) (with_value (with_stub f i) 4 Push token).stack.bytes f.stack.bytes f.fp v None (kept ∙ take_kept f.stack.bytes _ i.sp f.fp below there)
+    returned_same (going_to f i.next) (with_value (with_stub f i) 4 Push token).stack.bytes f.stack.bytes f.fp v (kept ∙ take_kept f.stack.bytes _ i.sp f.fp below there)
 
 -- the stack with a stub on top
 stub_length : (p : Stub) → length (stub_bytes p) ≡ 16
@@ -141,7 +145,7 @@ pub ruleset catches = (caught, stub_stored)
 
 -- a catch whose branch returns
 pub catch_returns : (f : FlatState) (i : Instruction) → IsFrame f.stack.bytes (frame_of f) → IsHeight f i.sp → i.sp + 16 ≤ f.stack.limit → store_fault f 4 i.dest (i.sp + 16) ≡ Ok tt → f.fp ≤ i.sp → L1 i < 2
-    → catch f i ≡ (returned (going_to f i.next) f.fp (L1 i) (lasting i.dest (i.sp + 16)) >>= (λ (r : FlatState × Bool). Ok (r.0, after_return r.1)))
+    → catch f i ≡ (returned (with_word (going_to f i.next) (lasting i.dest (i.sp + 16))) f.fp (L1 i) >>= (λ (r : FlatState × Bool). Ok (r.0, after_return r.1)))
 unfolding catch
 catch_returns f i frame height room fits below few =
     let inside : nat_lt f.stack.limit (i.sp + 16) ≡ false = grind (arith, nat_tests) in

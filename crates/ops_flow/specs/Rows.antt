@@ -4,7 +4,7 @@
 -- An instruction's pops are made in its `sp`, its results are words, and PC becomes `next` where nothing
 -- else is said. A fault in any line leaves the state as it is.
 use Rattle.std.specs.Prelude.{ℕ, ◌+◌, ◌-◌, ◌*◌, ◌%◌, ◌^◌, ◌==◌, ◌&&◌, ◌||◌, nat_lt, nat_le, if◌then◌else◌, Bool, List}
-use Rattle.std.specs.Prelude.{[], ◌∷◌, ◌++◌, drop, take, Option, Some, None, Result, Ok, Err}
+use Rattle.std.specs.Prelude.{[], ◌∷◌, ◌++◌, drop, take, Result, Ok, Err}
 use Rattle.std.specs.Option.{ok_or}
 use Rattle.gx_words.specs.declared.faults.Fault.{Fault}
 use Rattle.gx_words.specs.declared.faults.Fault.TheVariants.{BadOpcode, Divide, Overflow, Underflow, BadToken}
@@ -18,8 +18,6 @@ use Rattle.ops_calc.specs.Arithmetic.{calc, signed}
 use Rattle.ops_calc.specs.Branches.{test}
 use Rattle.gx_state.specs.declared.effects.Effect.{Effect}
 use Rattle.gx_state.specs.declared.effects.Effect.TheVariants.{Went, Quit}
-use Rattle.gx_state.specs.declared.modes.Dest.{Dest}
-use Rattle.gx_state.specs.declared.modes.Dest.TheVariants.{Nowhere, Memory, Local, Push}
 use Rattle.gx_state.specs.Flat.{FlatState, cut, swapped, rolled, copied}
 use Rattle.gx_state.specs.Entry.{entered}
 use Rattle.gx_state.specs.Returns.{stub_of, returned}
@@ -38,7 +36,7 @@ after_return ended = if ended then Quit else Went
 -- away
 abbrev pub returns : FlatState → ℕ → ℕ → Result (FlatState × Effect) Fault
 returns f next v = do
-  r ← returned (going_to f next) f.fp v None
+  r ← returned (going_to f next) f.fp v
   Ok (r.0, after_return r.1)
 
 -- a branch by an offset: those of 0 and 1 return this value from the present function
@@ -72,10 +70,6 @@ jumps f i =
 
 -- FUNCTIONS AND CONTINUATIONS
 
--- 00 nop
-unfoldable pub nop : FlatState → Instruction → Result (FlatState × Effect) Fault
-nop f i = goes f i
-
 -- 30 call (L1 L2 S1): pops L2 arguments, the first topmost, and calls L1. No more than 256 are told apart,
 -- since more than 255 are a fault of the entry.
 unfoldable pub call : FlatState → Instruction → Result (FlatState × Effect) Fault
@@ -83,21 +77,10 @@ call f i = do
   args ← arguments f i.sp (L2 i) 256
   calls f i (i.sp - 4 * L2 i) args
 
--- 31 return (L1): returns L1
-unfoldable pub return_ : FlatState → Instruction → Result (FlatState × Effect) Fault
-return_ f i = returns f i.next (L1 i)
-
 -- the stack with the stub of a catch on top
 unfoldable pub with_stub : FlatState → Instruction → FlatState
 with_stub f i =
     record f { stack = record f.stack { bytes = take i.sp f.stack.bytes ++ stub_bytes (stub_of f i.dest i.next) } }
-
--- the word of a catch that outlasts a return from its function
-abbrev pub lasting : Dest → ℕ → Option (ℕ × ℕ)
-lasting Nowhere token = None
-lasting (Memory at) token = Some (at, token)
-lasting (Local at) token = None
-lasting Push token = None
 
 -- 32 catch (S1 L1): pushes the stub of S1; S1 = the stack pointer above it, which is the token; then
 -- branches by L1
@@ -107,16 +90,12 @@ catch f i =
       g ← stored (with_stub f i) 4 i.dest (i.sp + 16)
       branches g i.next (L1 i))
 
--- a token is the end of a stub on the stack
-abbrev pub is_token : ℕ → ℕ → Bool
-is_token token sp = nat_le 16 token && nat_le token sp && token % 4 == 0
-
 -- 33 throw (L1 L2): the stack is cut to the token L2, and L1 is returned to the stub there, with PC at the next
--- instruction
+-- instruction; a token is the end of a stub on the stack
 unfoldable pub throw : FlatState → Instruction → Result (FlatState × Effect) Fault
 throw f i =
-    if is_token (L2 i) i.sp then (do
-      r ← returned (going_to f i.next) (L2 i) (L1 i) None
+    if nat_le 16 (L2 i) && nat_le (L2 i) i.sp && L2 i % 4 == 0 then (do
+      r ← returned (going_to f i.next) (L2 i) (L1 i)
       Ok (r.0, Went)) else Err BadToken
 
 -- 34 tailcall (L1 L2): pops L2 arguments, and calls L1 in place of the present function
@@ -125,10 +104,6 @@ tailcall f i = do
   args ← arguments f i.sp (L2 i) 256
   g ← entered f f.fp [] (L1 i) args
   Ok (g, Went)
-
--- 104 jumpabs (L1): PC = L1
-unfoldable pub jumpabs : FlatState → Instruction → Result (FlatState × Effect) Fault
-jumpabs f i = goes_to (cut f i.sp) (L1 i)
 
 -- 160 callf (L1 S1), 161 callfi (L1 L2 S1), 162 callfii (L1 L2 L3 S1), 163 callfiii (L1 L2 L3 L4 S1): calls L1
 -- with the other operands as arguments
@@ -167,15 +142,16 @@ stkcopy f i = do
 
 -- THE ROW OF AN INSTRUCTION
 
+-- Beside those above: 00 nop; 31 return (L1): returns L1; 104 jumpabs (L1): PC = L1.
 unfoldable pub flow : FlatState → Instruction → Result (FlatState × Effect) Fault
 flow f i =
-    if i.row.number == numbers.nop then nop f i else
+    if i.row.number == numbers.nop then goes f i else
     if i.row.number == numbers.call then call f i else
-    if i.row.number == numbers.return then return_ f i else
+    if i.row.number == numbers.return then returns f i.next (L1 i) else
     if i.row.number == numbers.catch then catch f i else
     if i.row.number == numbers.throw then throw f i else
     if i.row.number == numbers.tailcall then tailcall f i else
-    if i.row.number == numbers.jumpabs then jumpabs f i else
+    if i.row.number == numbers.jumpabs then goes_to (cut f i.sp) (L1 i) else
     if i.row.number == numbers.callf || i.row.number == numbers.callfi || i.row.number == numbers.callfii ||
     i.row.number == numbers.callfiii then callf f i else
     Err BadOpcode
@@ -193,9 +169,5 @@ abbrev pub row_effect : Class → FlatState → Instruction → Result (FlatStat
 row_effect class.Calc f i = computes f i
 row_effect class.Branch f i = jumps f i
 row_effect class.Flow f i = flow f i
-row_effect class.Copy f i = Err BadOpcode
-row_effect class.Memory f i = Err BadOpcode
 row_effect class.Stack f i = stack f i
-row_effect class.Print f i = Err BadOpcode
-row_effect class.Game f i = Err BadOpcode
-row_effect class.Glk f i = Err BadOpcode
+row_effect c f i = Err BadOpcode

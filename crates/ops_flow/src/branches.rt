@@ -1,9 +1,11 @@
 //! The rows of Branch, and the return from a function (Glulx 3.1.2, "Branches").
-ghost use Rattle.std.specs.Prelude.{◌≡◌, ◌%◌, ◌<◌, ◌≤◌, ◌==◌, None, IfOk};
-ghost use Rattle.gx_state.specs.Flat.{IsHeight, cut, sp_of};
+ghost use Rattle.std.specs.Prelude.{◌≡◌, ◌⊎◌, ◌%◌, ◌<◌, ◌≤◌, ◌==◌, IfOk, IsSome};
+ghost use Rattle.gx_state.specs.Flat.{cut, sp_of, IsHeight};
 ghost use Rattle.gx_state.specs.Relations.{Works};
 ghost use Rattle.gx_state.specs.Replies.{IsDone};
-ghost use Rattle.gx_state.specs.Returns.{IsReturnWriting, IsWordInRam, returned};
+ghost use Rattle.gx_state.specs.Returns.{IsReturnWriting, returned};
+ghost use Rattle.gx_state.specs.Calls.{with_word};
+ghost use Rattle.gx_state.specs.Allowed.{IsWordInRam};
 ghost use Rattle.gx_operands.specs.Instructions.{going_to};
 ghost use Rattle.gx_operands.specs.Plans.{instruction_of};
 ghost use Rattle.ops_flow.specs.Rows.{after_return, returns, branches, jumps};
@@ -37,8 +39,8 @@ pub fn deliver<A: Allocator + Clone>(
     requires there { sp ≤ sp_of state.old.flat }
     requires aligned { sp % 4 ≡ 0 }
     requires before { IsWordInRam state.old.flat before }
-    ensures value { Works (IsReturnWriting state.old.flat sp before) result state.old.flat state.new.flat
-        (returned (going_to state.old.flat next) sp value before) }
+    ensures value { Works (IsSome before ⊎ IsReturnWriting state.old.flat sp) result state.old.flat state.new.flat
+        (returned (with_word (going_to state.old.flat next) before) sp value) }
     ensures ended { IfOk result (λ ended. ended ≡ (sp == 0)) }
 {
     let pc = state.pc();
@@ -59,7 +61,7 @@ pub fn leave<A: Allocator + Clone>(
     next: u32,
 ) -> Result<Effect, Fault>
     requires { 0 < sp_of state.old.flat }
-    ensures value { Works (IsReturnWriting state.old.flat state.old.flat.fp None) result state.old.flat state.new.flat
+    ensures value { Works (IsReturnWriting state.old.flat state.old.flat.fp) result state.old.flat state.new.flat
         (returns state.old.flat next value) }
     ensures done { IfOk result IsDone }
 {

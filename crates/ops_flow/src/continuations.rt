@@ -1,15 +1,16 @@
 //! catch and throw (Glulx 3.1.2, "Continuations").
-ghost use Rattle.std.specs.Prelude.{◌≡◌, ◌<◌, ◌≤◌, ◌+◌, None, Ok, IfOk};
+ghost use Rattle.std.specs.Prelude.{◌≡◌, ◌⊎◌, ◌<◌, ◌≤◌, ◌+◌, Ok, IfOk};
 ghost use Rattle.gx_words.specs.Faults.{Reads};
-ghost use Rattle.gx_state.specs.Flat.{IsHeight, sp_of};
+ghost use Rattle.gx_state.specs.Flat.{sp_of, IsHeight};
 ghost use Rattle.gx_state.specs.Relations.{Stores, Works};
 ghost use Rattle.gx_state.specs.Replies.{IsDone};
 ghost use Rattle.gx_state.specs.Returns.{IsReturnWriting};
 ghost use Rattle.gx_state.specs.Stores.{IsMemory, store_fault, with_value};
-ghost use Rattle.gx_operands.specs.Instructions.{L2};
+ghost use Rattle.gx_operands.specs.Instructions.{L1, L2};
 ghost use Rattle.gx_operands.specs.Plans.{instruction_of};
-ghost use Rattle.ops_flow.specs.Rows.{with_stub, lasting, catch, throw};
-ghost use Rattle.ops_flow.specs.Writes.{IsCatchWriting};
+ghost use Rattle.ops_flow.specs.Rows.{with_stub, catch, throw};
+ghost use Rattle.ops_flow.specs.Catches.{lasting};
+ghost use Rattle.ops_flow.specs.Writes.{IsBranchWriting};
 
 use crate::branches::{after_return, deliver};
 use gx_operands::{Plan, can_store, store};
@@ -96,8 +97,8 @@ fn store_token<A: Allocator + Clone>(
 #[tactic(auto, unfolding(crate::specs::Rows::catch), using(crate::proofs::Cuts::catches))]
 pub fn catch<A: Allocator + Clone>(state: &mut State<A>, plan: &Plan) -> Result<Effect, Fault>
     requires { IsHeight state.old.flat plan.now.sp }
-    ensures value { Works (IsCatchWriting state.old.flat (instruction_of plan.now)) result state.old.flat state.new.flat
-        (catch state.old.flat (instruction_of plan.now)) }
+    ensures value { Works (IsMemory plan.now.dest ⊎ IsBranchWriting state.old.flat (L1 (instruction_of plan.now)))
+        result state.old.flat state.new.flat (catch state.old.flat (instruction_of plan.now)) }
     ensures done { IfOk result IsDone }
 {
     let offset = plan.load(0);
@@ -122,7 +123,7 @@ pub fn catch<A: Allocator + Clone>(state: &mut State<A>, plan: &Plan) -> Result<
 #[tactic(auto, unfolding(crate::specs::Rows::throw))]
 pub fn throw<A: Allocator + Clone>(state: &mut State<A>, plan: &Plan) -> Result<Effect, Fault>
     requires { IsHeight state.old.flat plan.now.sp }
-    ensures value { Works (IsReturnWriting state.old.flat (L2 (instruction_of plan.now)) None) result state.old.flat
+    ensures value { Works (IsReturnWriting state.old.flat (L2 (instruction_of plan.now))) result state.old.flat
         state.new.flat (throw state.old.flat (instruction_of plan.now)) }
     ensures done { IfOk result IsDone }
 {

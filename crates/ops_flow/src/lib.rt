@@ -10,7 +10,7 @@
 #![tactic(auto)]
 
 ghost use Rattle.std.specs.Prelude.{◌≡◌, Ok, IfOk};
-ghost use Rattle.gx_state.specs.Flat.{IsHeight, cut};
+ghost use Rattle.gx_state.specs.Flat.{cut, IsHeight};
 ghost use Rattle.gx_state.specs.Relations.{Works};
 ghost use Rattle.gx_state.specs.Replies.{IsDone};
 ghost use Rattle.gx_state.specs.Stores.{IsMemory};
@@ -53,7 +53,7 @@ fn goes_to<A: Allocator + Clone>(state: &mut State<A>, sp: u32, pc: u32) -> Effe
 }
 
 /// A row of Flow.
-#[tactic(auto, unfolding(crate::specs::Rows::flow, crate::specs::Rows::nop, crate::specs::Rows::return_, crate::specs::Rows::jumpabs), using(crate::proofs::Relations::relations))]
+#[tactic(auto, unfolding(crate::specs::Rows::flow), using(crate::proofs::Relations::relations))]
 fn flow<A: Allocator + Clone>(state: &mut State<A>, plan: &Plan) -> Result<Effect, Fault>
     requires { IsHeight state.old.flat plan.now.sp }
     ensures value { Works (IsFlowWriting state.old.flat (instruction_of plan.now)) result state.old.flat state.new.flat

@@ -7,7 +7,7 @@ use Rattle.gx_state.specs.Flat.{FlatState}
 use Rattle.gx_state.specs.Replies.{IsDone}
 use Rattle.gx_undo.specs.Undo.{FlatUndo}
 use Rattle.gx_operands.specs.Instructions.{Instruction}
-use Rattle.ops_game.specs.Rows.{IsSaveAtMost}
+use Rattle.ops_game.specs.Asks.{IsSaveAtMost}
 
 pub effect_done : (old new : FlatState × FlatUndo) (i : Instruction) (e : Effect) → IsDone e → IsSaveAtMost old new i e
 effect_done old new i Went done = tt

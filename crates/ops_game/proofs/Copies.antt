@@ -7,7 +7,8 @@ use Rattle.gx_state.specs.declared.modes.Dest.TheVariants.{Nowhere, Memory, Loca
 use Rattle.gx_state.specs.Flat.{FlatState}
 use Rattle.gx_state.specs.Stores.{store_fault}
 use Rattle.gx_operands.specs.Stores.{stores}
-use Rattle.gx_state.specs.Copies.{Copy, HasPlaceFor, gone_back}
+use Rattle.gx_state.specs.Copies.{Copy, restored_to}
+use Rattle.gx_state.specs.Allowed.{HasPlaceFor}
 use Rattle.gx_state.specs.declared.effects.Effect.TheVariants.{Went}
 use Rattle.gx_operands.specs.Instructions.{Instruction}
 use Rattle.ops_game.specs.Rows.{leaving_copies, restored_from}
@@ -36,11 +37,11 @@ none_by f u i (c ∷ copies) none = absurd cc
 pub restored_none : (f : FlatState) (u : FlatUndo) (i : Instruction) → slice_get u.copies 0 ≡ None → restored_from f u i u.copies ≡ leaving_copies u (stores f i 1)
 restored_none f u i none = none_by f u i u.copies none
 
-some_by : (f : FlatState) (u : FlatUndo) (i : Instruction) (c : Copy) (copies : List Copy) → slice_get copies 0 ≡ Some c → restored_from f u i copies ≡ Ok ((gone_back f c, without_newest u), Went)
+some_by : (f : FlatState) (u : FlatUndo) (i : Instruction) (c : Copy) (copies : List Copy) → slice_get copies 0 ≡ Some c → restored_from f u i copies ≡ Ok ((restored_to f c, without_newest u), Went)
 some_by f u i c [] some = absurd cc
 some_by f u i c (newest ∷ copies) some = let same : newest ≡ c = cc in rw same refl
 
-pub restored_some : (f : FlatState) (u : FlatUndo) (i : Instruction) (c : Copy) → slice_get u.copies 0 ≡ Some c → restored_from f u i u.copies ≡ Ok ((gone_back f c, without_newest u), Went)
+pub restored_some : (f : FlatState) (u : FlatUndo) (i : Instruction) (c : Copy) → slice_get u.copies 0 ≡ Some c → restored_from f u i u.copies ≡ Ok ((restored_to f c, without_newest u), Went)
 restored_some f u i c some = some_by f u i c u.copies some
 
 again_by : (n : ℕ) (c : Copy) (copies : List Copy) → length copies ≤ n → slice_get copies 0 ≡ Some c → take n (c ∷ drop 1 copies) ≡ copies

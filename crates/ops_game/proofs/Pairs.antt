@@ -1,5 +1,6 @@
 -- The two stores of getiosys: the fault of the second after the first, and the stores made beside one write to memory.
-use Rattle.std.proofs.Common.{◌≡◌, ◌⊎◌, inl, inr, ◌≤◌, ◌<◌, ◌+◌, ◌-◌, ℕ, List, ◌++◌, if◌then◌else◌, Option, IsSome, length, take, Result, Ok, Err, refl, ap, subst, ◌∙◌, arith}
+use Rattle.std.proofs.Common.{◌≡◌, ◌⊎◌, inl, inr, ◌≤◌, ◌<◌, ◌+◌, ◌-◌, ℕ, List, ◌++◌, if◌then◌else◌, Option, IsSome}
+use Rattle.std.proofs.Common.{length, take, Result, Ok, Err, refl, ap, subst, ◌∙◌, arith}
 use Rattle.std.proofs.lemmas.Grind.{common_steps}
 use Rattle.std.proofs.lemmas.Bool.Decides.{nat_tests}
 use Rattle.gx_words.specs.declared.faults.Fault.{Fault}
@@ -11,9 +12,10 @@ use Rattle.gx_stack.specs.Frames.{IsGood, has_local, parts}
 use Rattle.gx_stack.proofs.Kept.{length-spliced, word-append, word-spliced, word-take}
 use Rattle.gx_state.specs.declared.modes.Dest.{Dest}
 use Rattle.gx_state.specs.declared.modes.Dest.TheVariants.{Nowhere, Memory, Local, Push}
-use Rattle.gx_state.specs.Flat.{FlatState, HeldState, IsHeight, frame_of, sp_of}
+use Rattle.gx_state.specs.Flat.{FlatState, frame_of, sp_of, HeldState, IsHeight}
 use Rattle.gx_state.specs.Relations.{Stores}
-use Rattle.gx_state.specs.Returns.{IsWordInRam, with_word}
+use Rattle.gx_state.specs.Allowed.{IsWordInRam}
+use Rattle.gx_state.specs.Calls.{with_word}
 use Rattle.gx_state.specs.Sound.{IsSound}
 use Rattle.gx_state.specs.Stores.{IsMemory, store_fault, with_value, stored}
 use Rattle.gx_operands.specs.Instructions.{Instruction}

@@ -3,7 +3,7 @@
 --
 -- An instruction's pops are made in its `sp`, and PC becomes `next` where nothing else is said. A fault in any
 -- line leaves the state and the copies as they are. `word` is the random word from outside that a step may use.
-use Rattle.std.specs.Prelude.{◌≡◌, ℕ, ◌+◌, ◌≤◌, ◌==◌, nat_lt, if◌then◌else◌, List, [], ◌∷◌, length, Result, Ok, Err}
+use Rattle.std.specs.Prelude.{ℕ, ◌+◌, ◌==◌, nat_lt, if◌then◌else◌, List, [], ◌∷◌, length, Result, Ok, Err}
 use Rattle.gx_words.specs.declared.faults.Fault.{Fault}
 use Rattle.gx_words.specs.declared.faults.Fault.TheVariants.{BadOpcode, Overflow, DebugTrap}
 use Rattle.gx_words.specs.Constants.{null_system}
@@ -14,9 +14,9 @@ use Rattle.gx_story.specs.Stories.{is_checked}
 use Rattle.ops_calc.specs.declared.random.Generator.{Generator}
 use Rattle.ops_calc.specs.Generator.{pick, word_from, after_word, seeded_by, is_outside}
 use Rattle.gx_state.specs.declared.effects.Effect.{Effect}
-use Rattle.gx_state.specs.declared.effects.Effect.TheVariants.{Went, Drew, Put, Glk, Save, Restore, Quit, Spent}
+use Rattle.gx_state.specs.declared.effects.Effect.TheVariants.{Went, Drew, Save, Restore, Quit}
 use Rattle.gx_state.specs.Flat.{FlatState, sp_of, cut}
-use Rattle.gx_state.specs.Copies.{Copy, copy_of, gone_back, restarted}
+use Rattle.gx_state.specs.Copies.{Copy, copy_of, restored_to, restarted}
 use Rattle.gx_state.specs.Stores.{store_fault, stored}
 use Rattle.gx_undo.specs.Undo.{FlatUndo, with_newest, without_newest}
 use Rattle.gx_operands.specs.Instructions.{Instruction, L1, L2, going_to}
@@ -35,10 +35,6 @@ leaving_copies u (Err fault) = Err fault
 -- 100 gestalt (L1 L2 S1): S1 = the answer to the selector L1 with argument L2
 unfoldable pub gestalt : FlatState → Instruction → Result (FlatState × Effect) Fault
 gestalt f i = stores f i (gestalt_of (L1 i) (L2 i) f.heap.start)
-
--- 101 debugtrap (L1): a fault, since there is no debugger
-unfoldable pub debugtrap : FlatState → Instruction → Result (FlatState × Effect) Fault
-debugtrap f i = Err DebugTrap
 
 -- RANDOM NUMBER GENERATOR
 
@@ -104,7 +100,7 @@ saveundo f u i =
 abbrev pub restored_from : FlatState → FlatUndo → Instruction → List Copy
     → Result ((FlatState × FlatUndo) × Effect) Fault
 restored_from f u i [] = leaving_copies u (stores f i 1)
-restored_from f u i (c ∷ older) = Ok ((gone_back f c, without_newest u), Went)
+restored_from f u i (c ∷ older) = Ok ((restored_to f c, without_newest u), Went)
 
 -- 126 restoreundo (S1): goes back to the newest copy, which is dropped, where the store operand of its saveundo
 -- gets -1; with no copy S1 = 1
@@ -149,18 +145,14 @@ getiosys f i = do
 unfoldable pub setiosys : FlatState → Instruction → Result (FlatState × Effect) Fault
 setiosys f i = goes (record f { iosys = if is_iosystem (L1 i) then (L1 i, L2 i) else (null_system, 0) }) i
 
--- ACCELERATED FUNCTIONS
-
--- 180 accelfunc (L1 L2), 181 accelparam (L1 L2): nothing, since no function is accelerated
-unfoldable pub accelerate : FlatState → Instruction → Result (FlatState × Effect) Fault
-accelerate f i = goes f i
-
 -- THE ROW OF AN INSTRUCTION
 
+-- Beside the rows above: 101 debugtrap (L1): a fault, since there is no debugger; 180 accelfunc (L1 L2), 181 accelparam
+-- (L1 L2): nothing, since no function is accelerated.
 unfoldable pub row_effect : FlatState → FlatUndo → ℕ → Instruction → Result ((FlatState × FlatUndo) × Effect) Fault
 row_effect f u word i =
     if i.row.number == numbers.gestalt then leaving_copies u (gestalt f i) else
-    if i.row.number == numbers.debugtrap then leaving_copies u (debugtrap f i) else
+    if i.row.number == numbers.debugtrap then Err DebugTrap else
     if i.row.number == numbers.random then leaving_copies u (random f word i) else
     if i.row.number == numbers.setrandom then leaving_copies u (setrandom f i) else
     if i.row.number == numbers.quit then leaving_copies u (quit f i) else
@@ -177,24 +169,6 @@ row_effect f u word i =
     if i.row.number == numbers.setstringtbl then leaving_copies u (setstringtbl f i) else
     if i.row.number == numbers.getiosys then leaving_copies u (getiosys f i) else
     if i.row.number == numbers.setiosys then leaving_copies u (setiosys f i) else
-    if i.row.number == numbers.accelfunc then leaving_copies u (accelerate f i) else
-    if i.row.number == numbers.accelparam then leaving_copies u (accelerate f i) else
+    if i.row.number == numbers.accelfunc then leaving_copies u (goes f i) else
+    if i.row.number == numbers.accelparam then leaving_copies u (goes f i) else
     Err BadOpcode
-
--- What holds of a step that asks for a save or a restore: the state and the copies stand, so many bytes fit above the
--- pops, and the answer has its place.
-pub record IsAsking (old new : FlatState × FlatUndo) (i : Instruction) (above : ℕ) : Type 0 where
-  pub stands : new ≡ old
-  pub room : i.sp + above ≤ old.0.stack.limit
-  pub stores : store_fault old.0 4 i.dest i.sp ≡ Ok tt
-
--- A step of this class is done, or asks for a save, which has a stub, or for a restore.
-abbrev pub IsSaveAtMost : FlatState × FlatUndo → FlatState × FlatUndo → Instruction → Effect → Type 0
-IsSaveAtMost old new i Went = Unit {0}
-IsSaveAtMost old new i Drew = Unit {0}
-IsSaveAtMost old new i (Put c) = ⊥
-IsSaveAtMost old new i (Glk selector args room) = ⊥
-IsSaveAtMost old new i (Save stream) = IsAsking old new i 16
-IsSaveAtMost old new i (Restore stream) = IsAsking old new i 0
-IsSaveAtMost old new i Quit = Unit {0}
-IsSaveAtMost old new i Spent = ⊥

@@ -18,7 +18,8 @@ ghost use Rattle.gx_state.specs.Replies.{IsDone};
 ghost use Rattle.gx_state.specs.Stores.{IsMemory};
 ghost use Rattle.gx_operands.specs.Plans.{instruction_of};
 ghost use Rattle.gx_undo.specs.Undo.{AreCopiesFor};
-ghost use Rattle.ops_game.specs.Rows.{gestalt, quit, verify, restart, protect, row_effect, IsSaveAtMost};
+ghost use Rattle.ops_game.specs.Rows.{gestalt, quit, verify, restart, protect, row_effect};
+ghost use Rattle.ops_game.specs.Asks.{IsSaveAtMost};
 ghost use Rattle.ops_game.specs.Writes.{IsWriting};
 
 mod chances;
@@ -102,7 +103,7 @@ fn protect<A: Allocator + Clone>(state: &mut State<A>, plan: &Plan) -> Effect
 
 /// Does the row of a plan that `decode` made of this state. `word` is the random word from outside
 /// that the step may use.
-#[tactic(auto, unfolding(crate::specs::Rows::row_effect, crate::specs::Rows::debugtrap, crate::specs::Rows::accelerate), using(crate::proofs::Asks::asks))]
+#[tactic(auto, unfolding(crate::specs::Rows::row_effect), using(crate::proofs::Asks::asks))]
 pub fn act<A: Allocator + Clone>(
     state: &mut State<A>,
     plan: &Plan,

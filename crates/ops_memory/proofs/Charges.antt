@@ -3,7 +3,8 @@ use Rattle.std.proofs.Common.{◌≡◌, ◌≤◌, ◌<◌, ℕ, Result, Ok, Er
 use Rattle.std.proofs.lemmas.Bool.{lt-ltb, le-ltb}
 use Rattle.gx_words.specs.declared.faults.Fault.{Fault}
 use Rattle.gx_search.specs.declared.asks.Found.TheVariants.{At, Nothing, More}
-use Rattle.gx_search.specs.Searches.{Search, found_within}
+use Rattle.gx_search.specs.Searches.{Search}
+use Rattle.gx_search.specs.Finding.{found_within}
 use Rattle.gx_search.proofs.Within.{is_answer}
 use Rattle.gx_state.specs.declared.effects.Effect.{Effect}
 use Rattle.gx_state.specs.declared.effects.Effect.TheVariants.{Went, Drew, Put, Glk, Save, Restore, Quit, Spent}
@@ -13,7 +14,7 @@ use Rattle.gx_operands.specs.Instructions.{Instruction}
 use Rattle.gx_operands.specs.Stores.{stores}
 use Rattle.ops_memory.specs.declared.searches.Method.{Method}
 use Rattle.ops_memory.specs.Rows.{search_by, is_indexed, searches}
-use Rattle.ops_memory.specs.Costs.{lowered, charged, EndsWithin}
+use Rattle.ops_memory.specs.Charges.{lowered, charged, EndsWithin}
 
 -- ---- a row without probes
 

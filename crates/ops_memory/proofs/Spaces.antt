@@ -10,12 +10,14 @@ use Rattle.gx_words.specs.Constants.{ceiling}
 use Rattle.gx_words.specs.Numbers.{spliced, bytes_of_number}
 use Rattle.gx_words.specs.Results.{◌>>=◌}
 use Rattle.gx_pages.specs.Memory.{IsSize, resized}
-use Rattle.heap_blocks.specs.Heap.{Block, FlatHeap, IsPlace, IsSound, IsEndedBy, IsBelow}
+use Rattle.heap_blocks.specs.Heap.{Block, FlatHeap, IsSound, IsEndedBy, IsBelow}
+use Rattle.heap_blocks.specs.Relations.{IsPlace}
 use Rattle.gx_state.specs.declared.modes.Dest.{Dest}
 use Rattle.gx_state.specs.declared.modes.Dest.TheVariants.{Nowhere, Memory, Local, Push}
 use Rattle.gx_state.specs.Flat.{FlatState, cut}
 use Rattle.gx_state.specs.Sound as states
-use Rattle.gx_state.specs.Space.{IsNewBlock, IsShrinking, with_size}
+use Rattle.gx_state.specs.Space.{with_size}
+use Rattle.gx_state.specs.Allowed.{IsNewBlock, IsShrinking}
 use Rattle.gx_state.specs.Stores.{IsMemory, store_fault}
 use Rattle.gx_operands.specs.Stores.{settled, with_settled}
 

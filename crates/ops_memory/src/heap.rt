@@ -5,7 +5,7 @@
 ghost use Rattle.std.specs.Prelude.{◌≡◌, ◌+◌, ◌<◌, ◌≤◌, length, IfOk};
 ghost use Rattle.gx_words.specs.Constants.{ceiling};
 ghost use Rattle.gx_pages.specs.Memory.{IsSize};
-ghost use Rattle.heap_blocks.specs.Heap.{IsPlace};
+ghost use Rattle.heap_blocks.specs.Relations.{IsPlace};
 ghost use Rattle.gx_state.specs.Flat.{IsHeight};
 ghost use Rattle.gx_state.specs.Relations.{Goes, Works};
 ghost use Rattle.gx_state.specs.Replies.{IsDone};

@@ -18,7 +18,8 @@ ghost use Rattle.gx_state.specs.Replies.{IsDone};
 ghost use Rattle.gx_state.specs.Stores.{IsMemory};
 ghost use Rattle.gx_operands.specs.Plans.{instruction_of};
 ghost use Rattle.ops_memory.specs.Rows.{copy, memory};
-ghost use Rattle.ops_memory.specs.Costs.{charged, memory_probes, acted, EndsWithin, IsAfforded, probes_of};
+ghost use Rattle.ops_memory.specs.Costs.{memory_probes, probes_of};
+ghost use Rattle.ops_memory.specs.Charges.{charged, acted, EndsWithin, IsAfforded};
 ghost use Rattle.ops_memory.specs.Writes.{IsMemoryWriting, IsWriting};
 
 mod arrays;
@@ -102,7 +103,7 @@ fn memory<A: Allocator + Clone>(
 ///
 /// `left` is the budget after the instruction's own step. A search lowers it by the probes that it
 /// begins; where they are more, it answers `Spent` and nothing changes.
-#[tactic(auto, unfolding(crate::specs::Costs::acted), using(crate::proofs::Charges::done_within))]
+#[tactic(auto, unfolding(crate::specs::Charges::acted), using(crate::proofs::Charges::done_within))]
 pub fn act<A: Allocator + Clone>(
     state: &mut State<A>,
     plan: &Plan,

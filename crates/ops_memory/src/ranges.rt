@@ -4,7 +4,7 @@ ghost use Rattle.gx_words.specs.Faults.{Reads};
 ghost use Rattle.gx_state.specs.Flat.{IsHeight, IsInRam};
 ghost use Rattle.gx_state.specs.Relations.{Works};
 ghost use Rattle.gx_state.specs.Replies.{IsDone};
-ghost use Rattle.gx_state.specs.Space.{IsInMemory};
+ghost use Rattle.gx_state.specs.Allowed.{IsInMemory};
 ghost use Rattle.gx_operands.specs.Instructions.{L1};
 ghost use Rattle.gx_operands.specs.Plans.{instruction_of};
 ghost use Rattle.ops_memory.specs.Rows.{source_fault, target_fault, mzero, mcopy};

@@ -4,14 +4,14 @@
 //! `left` is lowered by its probes, but stands after a fault.
 ghost use Rattle.std.specs.Prelude.{◌≡◌, ◌≤◌, if◌then◌else◌, IfErr, IfOk};
 ghost use Rattle.gx_words.specs.Faults.{Reads, Does};
-ghost use Rattle.gx_search.specs.Searches.{found_within};
+ghost use Rattle.gx_search.specs.Finding.{found_within};
 ghost use Rattle.gx_state.specs.Flat.{IsHeight};
 ghost use Rattle.gx_state.specs.Stores.{IsMemory};
 ghost use Rattle.gx_state.specs.Replies.{IsDone};
 ghost use Rattle.gx_operands.specs.Plans.{instruction_of};
 ghost use Rattle.gx_operands.specs.Stores.{stores};
 ghost use Rattle.ops_memory.specs.Rows.{row_ask, list_ask, search_by, is_indexed, searches};
-ghost use Rattle.ops_memory.specs.Costs.{lowered, charged, EndsWithin, IsAfforded};
+ghost use Rattle.ops_memory.specs.Charges.{lowered, charged, EndsWithin, IsAfforded};
 
 use gx_operands::{Plan, stores};
 use gx_search::{Ask, Found, RETURN_INDEX, binary, linear, linked};

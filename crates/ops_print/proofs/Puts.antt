@@ -1,12 +1,14 @@
 -- Steps of printing that put no character.
-use Rattle.std.proofs.Common.{◌≡◌, ◌==◌, if◌then◌else◌, ℕ, Bool, true, false, List, refl, sym, subst, ◌⊎◌, inl, inr, Result, Ok, Err, IfOk}
+use Rattle.std.proofs.Common.{◌≡◌, ◌==◌, if◌then◌else◌, ℕ, Bool, true, false, List, refl, sym, subst, ◌⊎◌, inl, inr}
+use Rattle.std.proofs.Common.{Result, Ok, Err, IfOk}
 use Rattle.gx_words.specs.declared.faults.Fault.{Fault}
 use Rattle.gx_words.specs.Constants.{filter_system, glk_system}
 use Rattle.gx_words.specs.declared.strings.Printing.{Printing}
 use Rattle.gx_words.specs.Results.{◌>>=◌}
 use Rattle.gx_strings.specs.declared.items.Item.{Item}
 use Rattle.gx_strings.specs.declared.items.Item.TheVariants.{Char, Sub, Call, End}
-use Rattle.gx_strings.specs.Items.{next_item, is_char}
+use Rattle.gx_strings.specs.Items.{next_item}
+use Rattle.gx_strings.specs.Held.{is_char}
 use Rattle.gx_state.specs.declared.effects.Effect.{Effect}
 use Rattle.gx_state.specs.declared.modes.Mode.{Mode}
 use Rattle.gx_state.specs.declared.modes.Mode.TheVariants as mode
@@ -14,7 +16,9 @@ use Rattle.gx_state.specs.Flat.{FlatState, sp_of}
 use Rattle.gx_state.specs.Entry.{entered}
 use Rattle.gx_state.specs.Returns.{pushed_stubs}
 use Rattle.ops_print.specs.Stubs.{ways_back, inner_ended}
-use Rattle.ops_print.specs.Items.{arguments_in, function_called, character_printed, string_begun, reference_called, string_ended, item_printed, is_place, item, item_by, printed, is_put}
+use Rattle.ops_print.specs.Items.{arguments_in, function_called, character_printed, string_begun, reference_called}
+use Rattle.ops_print.specs.Items.{string_ended, item_printed, is_place, item}
+use Rattle.ops_print.specs.Asks.{item_by, printed, is_put}
 
 -- a step, or a fault, that puts no character
 record Quiet (r : Result (FlatState × Effect) Fault) : Type 0 where

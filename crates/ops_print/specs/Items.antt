@@ -2,14 +2,13 @@
 -- and "Calling and Returning During Output Filtering").
 --
 -- A fault in any line leaves the state as it is.
-use Rattle.std.specs.Prelude.{ℕ, zero, suc, ◌+◌, ◌==◌, min, if◌then◌else◌, Bool, true, false, List, [], ◌∷◌, Result, Ok}
-use Rattle.std.specs.Prelude.{Err}
+use Rattle.std.specs.Prelude.{ℕ, zero, suc, ◌+◌, ◌==◌, min, if◌then◌else◌, Bool, true, List, [], ◌∷◌, Result, Ok, Err}
 use Rattle.gx_words.specs.declared.faults.Fault.{Fault}
 use Rattle.gx_words.specs.declared.faults.Fault.TheVariants.{BadFrame}
 use Rattle.gx_words.specs.Constants.{filter_system, glk_system}
 use Rattle.gx_words.specs.declared.strings.Printing.{Printing}
 use Rattle.gx_words.specs.declared.strings.PrintKind.{PrintKind}
-use Rattle.gx_words.specs.declared.strings.PrintKind.TheVariants.{E0, E1, E2, Number}
+use Rattle.gx_words.specs.declared.strings.PrintKind.TheVariants.{E1}
 use Rattle.gx_words.specs.Numbers.{is_bit}
 use Rattle.gx_words.specs.Results.{◌>>=◌}
 use Rattle.gx_pages.specs.Memory.{number_in}
@@ -81,10 +80,8 @@ item_printed f started End = string_ended f started
 
 -- a compressed string stands at one of the eight bits of a byte
 abbrev pub is_place : PrintKind → ℕ → Bool
-is_place E0 bit = true
 is_place E1 bit = is_bit bit
-is_place E2 bit = true
-is_place Number bit = true
+is_place kind bit = true
 
 -- One step of printing. A place that no string has is the fault of a stub with it.
 unfoldable pub item : FlatState → Printing → Result (FlatState × Effect) Fault
@@ -94,30 +91,14 @@ item f p =
       item_printed f p.started i) else
     Err BadFrame
 
--- the same by the mode; where code runs there is nothing to print
-abbrev pub item_by : FlatState → Mode → Result (FlatState × Effect) Fault
-item_by f mode.Running = Err BadFrame
-item_by f (mode.Printing p) = item f p
-
-abbrev pub printed : FlatState → Result (FlatState × Effect) Fault
-printed f = item_by f f.mode
-
 -- The mode after a character that was put: on behind it.
 abbrev pub mode_behind : Mode → Result Item Fault → Mode
 mode_behind m (Ok (Char value next)) = mode.Printing next
-mode_behind m (Ok (Sub back inner)) = m
-mode_behind m (Ok (Call back at args_at count)) = m
-mode_behind m (Ok End) = m
-mode_behind m (Err fault) = m
-
-abbrev pub mode_by : FlatState → Mode → Mode
-mode_by f mode.Running = mode.Running
-mode_by f (mode.Printing p) = mode_behind f.mode (next_item f.memory f.table p)
+mode_behind m item = m
 
 unfoldable pub mode_after : FlatState → Mode
-mode_after f = mode_by f f.mode
-
--- whether a character is asked to be put
-abbrev pub is_put : Effect → Bool
-is_put (Put c) = true
-is_put _ = false
+mode_after f =
+    elim f.mode [
+      | mode.Running ↦ mode.Running
+      | mode.Printing p ↦ mode_behind f.mode (next_item f.memory f.table p)
+    ]

@@ -10,7 +10,6 @@ use Rattle.gx_words.specs.Constants.{filter_system, glk_system}
 use Rattle.gx_words.specs.declared.strings.Printing.{Printing}
 use Rattle.gx_words.specs.declared.strings.PrintKind.TheVariants.{Number}
 use Rattle.gx_words.specs.Results.{◌>>=◌}
-use Rattle.gx_rows.specs.Numbers as numbers
 use Rattle.gx_strings.specs.Objects.{string_at}
 use Rattle.gx_state.specs.declared.effects.Effect.{Effect}
 use Rattle.gx_state.specs.declared.effects.Effect.TheVariants.{Went, Put}
@@ -21,6 +20,7 @@ use Rattle.gx_state.specs.Entry.{entered}
 use Rattle.gx_state.specs.Returns.{stub_of}
 use Rattle.gx_operands.specs.Instructions.{Instruction, L1, going_to}
 use Rattle.gx_operands.specs.Stores.{goes}
+use Rattle.gx_rows.specs.Numbers as numbers
 
 -- WHAT ROWS SHARE
 
@@ -68,9 +68,3 @@ row_effect f i =
     if i.row.number == numbers.streamstr then streamstr f i else
     if i.row.number == numbers.streamunichar then streamunichar f i else
     Err BadOpcode
-
--- A step of this class is done, or asks for a character to be put: then `stands` holds.
-abbrev pub IsPutAtMost : Effect → Type 0 → Type 0
-IsPutAtMost Went stands = Unit {0}
-IsPutAtMost (Put c) stands = stands
-IsPutAtMost _ stands = ⊥

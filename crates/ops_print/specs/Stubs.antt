@@ -5,7 +5,6 @@ use Rattle.std.specs.Prelude.{◌==◌, if◌then◌else◌, Bool, List, [], ◌
 use Rattle.gx_words.specs.declared.faults.Fault.{Fault}
 use Rattle.gx_words.specs.declared.faults.Fault.TheVariants.{BadFrame}
 use Rattle.gx_words.specs.declared.strings.Printing.{Printing}
-use Rattle.gx_words.specs.declared.strings.PrintKind.{PrintKind}
 use Rattle.gx_words.specs.declared.strings.PrintKind.TheVariants.{E0, E1, E2, Number}
 use Rattle.gx_words.specs.Results.{◌>>=◌}
 use Rattle.gx_stack.specs.Constants.{resume_compressed, resume_code, resume_number, resume_c_string, resume_unicode}
@@ -16,14 +15,14 @@ use Rattle.gx_state.specs.Returns.{popped_stub, printing_on}
 
 -- The stub that resumes a string or number: at a bit of a compressed string, at a digit of a number, at the next
 -- character of another string.
-unfoldable pub resuming_by : PrintKind → FlatState → Printing → Stub
-resuming_by E0 f p = record { kind = resume_c_string; addr = 0; pc = p.at; fp = f.fp }
-resuming_by E1 f p = record { kind = resume_compressed; addr = p.bit; pc = p.at; fp = f.fp }
-resuming_by E2 f p = record { kind = resume_unicode; addr = 0; pc = p.at; fp = f.fp }
-resuming_by Number f p = record { kind = resume_number; addr = p.bit; pc = p.at; fp = f.fp }
-
-abbrev pub resuming : FlatState → Printing → Stub
-resuming f p = resuming_by p.kind f p
+unfoldable pub resuming : FlatState → Printing → Stub
+resuming f p =
+    elim p.kind [
+      | E0 ↦ record { kind = resume_c_string; addr = 0; pc = p.at; fp = f.fp }
+      | E1 ↦ record { kind = resume_compressed; addr = p.bit; pc = p.at; fp = f.fp }
+      | E2 ↦ record { kind = resume_unicode; addr = 0; pc = p.at; fp = f.fp }
+      | Number ↦ record { kind = resume_number; addr = p.bit; pc = p.at; fp = f.fp }
+    ]
 
 -- the stub that goes back to the code once a string or number has ended
 unfoldable pub to_code : FlatState → Stub
@@ -35,8 +34,8 @@ abbrev pub ways_back : FlatState → Bool → Printing → List Stub
 ways_back f started back = if started then resuming f back ∷ [] else to_code f ∷ resuming f back ∷ []
 
 -- The stub was popped at the end of a string or number: code goes on, or the compressed string around it.
-unfoldable pub gone_on : FlatState → Stub → Result FlatState Fault
-gone_on f p =
+unfoldable pub after_stub : FlatState → Stub → Result FlatState Fault
+after_stub f p =
     if p.kind == resume_compressed then printing_on f p else
     if p.kind == resume_code then Ok (record f { pc = p.pc; mode = mode.Running }) else
     Err BadFrame
@@ -45,4 +44,4 @@ gone_on f p =
 unfoldable pub inner_ended : FlatState → Result FlatState Fault
 inner_ended f = do
   r ← popped_stub f
-  gone_on r.0 r.1
+  after_stub r.0 r.1

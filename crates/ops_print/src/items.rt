@@ -6,9 +6,9 @@ ghost use Rattle.gx_state.specs.declared.effects.Effect.TheVariants.{Put, Went};
 ghost use Rattle.gx_state.specs.declared.modes.Mode.TheVariants.{Printing as APrinting};
 ghost use Rattle.gx_state.specs.Flat.{sp_of};
 ghost use Rattle.gx_state.specs.Relations.{Goes};
-ghost use Rattle.ops_print.specs.Rows.{IsPutAtMost};
+ghost use Rattle.ops_print.specs.Asks.{IsPutAtMost, printed, is_put};
 ghost use Rattle.ops_print.specs.Items.{function_called, character_printed, string_begun, reference_called};
-ghost use Rattle.ops_print.specs.Items.{string_ended, is_place, printed, mode_after, is_put};
+ghost use Rattle.ops_print.specs.Items.{string_ended, is_place, mode_after};
 
 use crate::arguments::arguments_in;
 use crate::stubs::{end_inner, resuming, to_code};

@@ -4,7 +4,8 @@ ghost use Rattle.gx_state.specs.Flat.{IsHeight};
 ghost use Rattle.gx_state.specs.Relations.{Goes};
 ghost use Rattle.gx_operands.specs.Plans.{instruction_of};
 ghost use Rattle.ops_print.specs.Rows.{character_streamed, printing_begun, streamchar, streamnum, streamstr};
-ghost use Rattle.ops_print.specs.Rows.{streamunichar, IsPutAtMost};
+ghost use Rattle.ops_print.specs.Rows.{streamunichar};
+ghost use Rattle.ops_print.specs.Asks.{IsPutAtMost};
 
 use gx_operands::{Plan, goes};
 use gx_state::{Dest, Effect, Mode, State};

@@ -6,7 +6,8 @@ use Rattle.std.proofs.lemmas.Bool.{le-ltb, lt-ltb, le-leb, lt-leb}
 use Rattle.std.proofs.lemmas.List.{append-nil, drop_more, drop_all}
 use Rattle.gx_words.specs.Numbers.{word}
 use Rattle.heap_blocks.specs.Heap.{Block}
-use Rattle.quetzal.specs.Blocks.{blocks_from, is_block, rises}
+use Rattle.quetzal.specs.Blocks.{blocks_from, is_block}
+use Rattle.quetzal.specs.Laws.{rises}
 
 -- the block at an index, and those behind it
 abbrev at_index : List ℕ → ℕ → Block

@@ -1,6 +1,9 @@
 -- A copy that is fit for its story and is written as a save is read back.
-use Rattle.std.proofs.Common.{◌≡◌, inl, inr, ◌≤◌, ◌<◌, ◌+◌, ◌-◌, ◌*◌, ◌/◌, ◌%◌, ◌^◌, ◌==◌, ℕ, Bool, true, false, cond, List, [], ◌∷◌, ◌++◌, append_assoc, length, take, drop, map, Option, Some, None, Result, Ok, Err, IsTrue, if◌then◌else◌, refl, sym, ap, subst, ◌∙◌, arith, ltb as nat_lt, leb as nat_le, eqb as nat_eq, length-append}
-use Rattle.std.specs.Prelude.{◌&&◌}
+use Rattle.std.proofs.Common.{◌≡◌, inl, inr, ◌≤◌, ◌<◌, ◌+◌, ◌-◌, ◌*◌, ◌/◌, ◌%◌, ◌^◌, ◌==◌, ℕ, Bool, true, false, cond}
+use Rattle.std.proofs.Common.{List, [], ◌∷◌, ◌++◌, append_assoc, length, take, drop, map, Option, Some, None, Result}
+use Rattle.std.proofs.Common.{Ok, Err, IsTrue, if◌then◌else◌, refl, sym, ap, subst, ◌∙◌, arith, ltb as nat_lt}
+use Rattle.std.proofs.Common.{leb as nat_le, eqb as nat_eq, length-append}
+use Rattle.std.specs.Prelude.{codes, ◌&&◌}
 use Rattle.std.specs.List.{AllByRecursion, find, flat_map, list_all}
 use Rattle.std.specs.Option.{option_map}
 use Rattle.std.specs.Str.{bytes_eq}
@@ -18,14 +21,15 @@ use Rattle.gx_stack.specs.Frames.{IsGood, is_good, has_local, parts}
 use Rattle.gx_stack.specs.Stubs.{stub_below}
 use Rattle.heap_blocks.specs.Heap.{Block, FlatHeap, IsRising, IsEndedBy, end_of, inactive, is_inactive, inserted}
 use Rattle.gx_story.specs.Stories.{FlatStory, IsStory}
-use Rattle.gx_state.specs.Sound.{IsHeapWithin}
 use Rattle.gx_state.specs.Copies.{Copy, IsCopyFor}
+use Rattle.gx_state.specs.Sound.{IsHeapWithin}
 use Rattle.iff_chunks.specs.declared.faults.IffFault.{IffFault}
 use Rattle.iff_chunks.specs.declared.parts.Part.{Part}
 use Rattle.iff_chunks.specs.declared.parts.Sought.TheVariants.{Letters}
 use Rattle.iff_chunks.specs.Faults.{◌>>=◌ as ◌iff>>=◌}
 use Rattle.iff_chunks.specs.Chunks.{body, chunks, is_sought, part_found}
-use Rattle.iff_chunks.specs.Writing.{Chunk, IsChunk, IsForm, bytes_of_chunk, chunk_of, chunks_in}
+use Rattle.iff_chunks.specs.Writing.{Chunk, bytes_of_chunk}
+use Rattle.iff_chunks.specs.Laws.{IsChunk, IsForm, chunk_of, chunks_in}
 use Rattle.iff_chunks.proofs.ReadingBack as iff
 use Rattle.iff_chunks.proofs.ReadingBack.{length-bytes_of_chunk}
 use Rattle.zero_runs.specs.Packing.{packed, xored}
@@ -33,11 +37,14 @@ use Rattle.zero_runs.specs.Unpacking.{unpacked}
 use Rattle.zero_runs.proofs.RoundTrip.{unpacked-packed, length-packed}
 use Rattle.zero_runs.proofs.UnpackingTurns.{length-xored}
 use Rattle.quetzal.specs.Faults.{of_form}
-use Rattle.quetzal.specs.Chunks.{MemoryBody, body_in, cmem, ifhd, ifzs, mall, memory_in, needed, parts_in, stks, umem}
-use Rattle.quetzal.specs.Memory.{bytes_in, first_ram, is_size, memory_bytes, memory_of, ram_of, size_in}
+use Rattle.quetzal.specs.Chunks.{MemoryBody, body_in, memory_in, needed, parts_in}
+use Rattle.quetzal.specs.Memory.{bytes_in, first_ram, is_memory_size, memory_bytes, memory_of, ram_of, size_in}
 use Rattle.quetzal.specs.Stacks.{has_height, is_place, is_stack, is_stub}
-use Rattle.quetzal.specs.Blocks.{are_apart, are_blocks, blocks_from, blocks_in, bytes_of_block, count_in, has_count, has_no_heap, heap_bytes, heap_of, in_order, is_block, is_heap, is_start, rises, start_in}
-use Rattle.quetzal.specs.Writing.{ReadsBack, chunk_len, form_len, heap_chunks, saved, saved_chunks}
+use Rattle.quetzal.specs.Blocks.{are_apart, are_blocks, blocks_from, blocks_in, bytes_of_block, count_in, has_count}
+use Rattle.quetzal.specs.Blocks.{has_no_heap, heap_bytes, heap_of, ordered_blocks, is_block, is_heap, is_start}
+use Rattle.quetzal.specs.Blocks.{start_in}
+use Rattle.quetzal.specs.Laws.{rises, ReadsBack, chunk_len, form_len}
+use Rattle.quetzal.specs.Writing.{heap_chunks, saved, saved_chunks}
 use Rattle.quetzal.proofs.Sorting.{both, rises_by, rises_parts, rising_blocks}
 use Rattle.quetzal.proofs.SaveReading.{save_taken}
 
@@ -65,13 +72,13 @@ found_by : (save id : List ℕ) (r : Result (List Part) IffFault) (cs : List Chu
 found_by save id (Ok ps) cs h = let e : map (chunk_of save) ps ≡ cs = cc in ap (λ (b : Option (List ℕ)). Ok b) (body_found save id ps ∙ ap (first_body id) e)
 found_by save id (Err e) cs h = absurd cc
 
-body_written : (save id : List ℕ) (cs : List Chunk) → chunks_in save ifzs ≡ Ok cs → body_in save id ≡ Ok (first_body id cs)
+body_written : (save id : List ℕ) (cs : List Chunk) → chunks_in save (codes "IFZS") ≡ Ok cs → body_in save id ≡ Ok (first_body id cs)
 unfolding body_in
-body_written save id cs h = found_by save id (chunks save ifzs) cs h
+body_written save id cs h = found_by save id (chunks save (codes "IFZS")) cs h
 
 -- the parts, step by step
-parts_by : (save : List ℕ) (story : FlatStory) (header stack memory : List ℕ) (heap : Option (List ℕ)) (rest : List ℕ) → body_in save ifhd ≡ Ok (Some header) → body_in save stks ≡ Ok (Some stack)
-    → body_in save cmem ≡ Ok (Some memory) → body_in save umem ≡ Ok None → body_in save mall ≡ Ok heap → nat_le 4 (length memory) ≡ true → bytes_eq header (take 128 story.bytes) ≡ true
+parts_by : (save : List ℕ) (story : FlatStory) (header stack memory : List ℕ) (heap : Option (List ℕ)) (rest : List ℕ) → body_in save (codes "IFhd") ≡ Ok (Some header) → body_in save (codes "Stks") ≡ Ok (Some stack)
+    → body_in save (codes "CMem") ≡ Ok (Some memory) → body_in save (codes "UMem") ≡ Ok None → body_in save (codes "MAll") ≡ Ok heap → nat_le 4 (length memory) ≡ true → bytes_eq header (take 128 story.bytes) ≡ true
     → (let r : List ℕ = elim heap [ Some b ↦ b | None ↦ [] ] in r ≡ rest) → parts_in save story ≡ Ok (record { stack = stack; memory = record { is_packed = true; body = memory }; heap = rest })
 unfolding parts_in needed memory_in
 parts_by save story header stack memory None rest a b c d e f g h = rw (a, b, c, d, e, f, g, ← h) refl
@@ -108,7 +115,7 @@ memory_again story memory small low rom =
     rw ram (ap (λ (xs : List ℕ). Ok xs) (ap (λ (front : List ℕ). front ++ drop story.header.ramstart memory) (sym rom) ∙ take-append-drop story.header.ramstart memory))
 
 -- the tests of a copy that is fit
-size_there : (story : FlatStory) (c : Copy) → IsCopyFor story c → is_size ceiling story (length c.memory) ≡ true
+size_there : (story : FlatStory) (c : Copy) → IsCopyFor story c → is_memory_size ceiling story (length c.memory) ≡ true
 size_there story c fit = both _ _ (both _ _ (eq-eqb _ _ fit.size.whole) (le-leb _ _ fit.endmem)) (le-leb _ _ fit.size.capped)
 
 good_there : (s : List ℕ) (fp : ℕ) → IsGood s fp → is_good s fp ≡ true
@@ -150,8 +157,8 @@ rises_words (b ∷ bs) at size small h =
     let n = rises_count bs (end_of b) size p.2 in
     ((omega (arith, n, small), omega (arith, n, small)), rises_words bs (end_of b) size small p.2)
 
-in_order_same : (bs : List Block) (at size : ℕ) → rises at size bs ≡ true → in_order bs ≡ bs
-unfolding in_order inserted
+in_order_same : (bs : List Block) (at size : ℕ) → rises at size bs ≡ true → ordered_blocks bs ≡ bs
+unfolding ordered_blocks inserted
 in_order_same [] at size h = refl
 in_order_same (b ∷ []) at size h = refl
 in_order_same (b ∷ c ∷ bs) at size h =
@@ -189,7 +196,7 @@ length-heap_bytes heap = omega (arith, length-blocks heap.blocks)
 pub heap_rises : (endmem size : ℕ) (heap : FlatHeap) → IsHeapWithin endmem size heap → rises heap.start size heap.blocks ≡ true
 heap_rises endmem size heap fit = rises_from heap.blocks heap.start size fit.within.start fit.blocks.rises fit.within.ends
 
-heap_by : (story : FlatStory) (size : ℕ) (body : List ℕ) (heap : FlatHeap) → length body ≡ 8 + 8 * length heap.blocks → 0 < length heap.blocks → start_in body ≡ heap.start → count_in body ≡ length heap.blocks → blocks_in body ≡ heap.blocks → in_order heap.blocks ≡ heap.blocks
+heap_by : (story : FlatStory) (size : ℕ) (body : List ℕ) (heap : FlatHeap) → length body ≡ 8 + 8 * length heap.blocks → 0 < length heap.blocks → start_in body ≡ heap.start → count_in body ≡ length heap.blocks → blocks_in body ≡ heap.blocks → ordered_blocks heap.blocks ≡ heap.blocks
     → is_start story size heap.start ≡ true → are_blocks heap.start size heap.blocks ≡ true → heap_of story size body ≡ Ok heap
 unfolding heap_of is_heap
 heap_by story size body heap len some start count blocks order begins are =
@@ -237,11 +244,11 @@ heap_again story size heap true none small fit =
 heap_again story size heap false none small fit = let some : 0 < length heap.blocks = grind (arith, nat_tests, none) in rw none (some_again story size heap small some fit)
 
 -- the chunks, in which the heap's comes last or is missing
-heap_found : (heap : FlatHeap) (none : Bool) → is_inactive heap ≡ none → (let r : List ℕ = elim (first_body mall (heap_chunks heap)) [ Some b ↦ b | None ↦ [] ] in r ≡ heap_body heap)
+heap_found : (heap : FlatHeap) (none : Bool) → is_inactive heap ≡ none → (let r : List ℕ = elim (first_body (codes "MAll") (heap_chunks heap)) [ Some b ↦ b | None ↦ [] ] in r ≡ heap_body heap)
 heap_found heap true none = rw none refl
 heap_found heap false none = rw none refl
 
-none_before : (heap : FlatHeap) (none : Bool) → is_inactive heap ≡ none → first_body umem (heap_chunks heap) ≡ None
+none_before : (heap : FlatHeap) (none : Bool) → is_inactive heap ≡ none → first_body (codes "UMem") (heap_chunks heap) ≡ None
 none_before heap true none = rw none refl
 none_before heap false none = rw none refl
 
@@ -249,15 +256,15 @@ none_before heap false none = rw none refl
 length-heap_chunks : (heap : FlatHeap) (none : Bool) → is_inactive heap ≡ none → length (flat_map bytes_of_chunk (heap_chunks heap)) ≡ (if length heap.blocks == 0 then 0 else chunk_len (8 + 8 * length heap.blocks))
 length-heap_chunks heap true none = rw none refl
 length-heap_chunks heap false none =
-    let last : Chunk = record { id = mall; body = heap_bytes heap } in
+    let last : Chunk = record { id = codes "MAll"; body = heap_bytes heap } in
     rw none (ap length (append-nil (bytes_of_chunk last)) ∙ length-bytes_of_chunk last refl ∙ ap chunk_len (length-heap_bytes heap))
 
 pub length-saved_chunks : (story : FlatStory) (c : Copy) (none : Bool) → is_inactive c.heap ≡ none → 128 ≤ length story.bytes
     → 4 + length (flat_map bytes_of_chunk (saved_chunks story c)) ≡ form_len (length (memory_bytes story c.memory)) (length c.stack) (length c.heap.blocks)
 length-saved_chunks story c none is header =
-    let first : Chunk = record { id = ifhd; body = take 128 story.bytes } in
-    let second : Chunk = record { id = cmem; body = memory_bytes story c.memory } in
-    let third : Chunk = record { id = stks; body = c.stack } in
+    let first : Chunk = record { id = codes "IFhd"; body = take 128 story.bytes } in
+    let second : Chunk = record { id = codes "CMem"; body = memory_bytes story c.memory } in
+    let third : Chunk = record { id = codes "Stks"; body = c.stack } in
     let rest = heap_chunks c.heap in
     let whole : length (take 128 story.bytes) ≡ 128 = omega (arith, length-take 128 story.bytes, header) in
     let a = length-bytes_of_chunk first refl in
@@ -297,7 +304,7 @@ heap_is_chunk heap false none few = rw none ((refl, omega (arith, few, length-he
 pub form_fits : (memory stack blocks : ℕ) → memory ≤ 0x20000004 → stack ≤ 0x01000000 → blocks ≤ ceiling → form_len memory stack blocks < 2 ^ 32
 form_fits memory stack blocks a b c = elim (cases_lt 0 blocks) [ inl some ↦ (let t : (blocks == 0) ≡ false = grind (arith, nat_tests, some) in rw t (omega (arith, a, b, c))) | inr none ↦ (let t : (blocks == 0) ≡ true = grind (arith, nat_tests, none) in rw t (omega (arith, a, b, c))) ]
 
-is_form : (story : FlatStory) (c : Copy) → Small story c → IsForm ifzs (saved_chunks story c)
+is_form : (story : FlatStory) (c : Copy) → Small story c → IsForm (codes "IFZS") (saved_chunks story c)
 is_form story c s =
     let len = length-saved_chunks story c (is_inactive c.heap) refl s.header in
     let first : length (take 128 story.bytes) ≤ 128 = omega (arith, length-take 128 story.bytes) in
@@ -313,9 +320,9 @@ unfolding saved
 reads_back story c good fit =
     let s = small story c good fit in
     let save = saved story c in
-    let all = iff.reads_back ifzs (saved_chunks story c) (is_form story c s) in
+    let all = iff.reads_back (codes "IFZS") (saved_chunks story c) (is_form story c s) in
     let find : (id : List ℕ) → body_in save id ≡ Ok (first_body id (saved_chunks story c)) = λ id. body_written save id (saved_chunks story c) all in
     let none = none_before c.heap (is_inactive c.heap) refl in
-    let parts = parts_by save story (take 128 story.bytes) c.stack (memory_bytes story c.memory) (first_body mall (heap_chunks c.heap)) (heap_body c.heap) (find ifhd) (find stks) (find cmem) (find umem ∙ ap (λ (b : Option (List ℕ)). Ok b) none) (find mall) (memory_long story c.memory) (same_bytes (take 128 story.bytes)) (heap_found c.heap (is_inactive c.heap) refl) in
+    let parts = parts_by save story (take 128 story.bytes) c.stack (memory_bytes story c.memory) (first_body (codes "MAll") (heap_chunks c.heap)) (heap_body c.heap) (find (codes "IFhd")) (find (codes "Stks")) (find (codes "CMem")) (find (codes "UMem") ∙ ap (λ (b : Option (List ℕ)). Ok b) none) (find (codes "MAll")) (memory_long story c.memory) (same_bytes (take 128 story.bytes)) (heap_found c.heap (is_inactive c.heap) refl) in
     save_taken save story (record { stack = c.stack; memory = record { is_packed = true; body = memory_bytes story c.memory }; heap = heap_body c.heap }) (length c.memory) c.memory c.heap parts
     (sym (memory_word story c.memory s.memory)) (size_there story c fit) (memory_again story c.memory s.memory s.low fit.rom) (stack_there story c fit) (heap_again story (length c.memory) c.heap (is_inactive c.heap) refl s.memory fit.heap)

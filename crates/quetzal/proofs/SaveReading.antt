@@ -1,5 +1,7 @@
 -- What is read of a save: its exits, and that the copy is fit for the story.
-use Rattle.std.proofs.Common.{◌≡◌, ◌⊎◌, inl, inr, ◌≤◌, ◌<◌, ◌+◌, ◌-◌, ◌*◌, ◌%◌, ℕ, zero, suc, Bool, true, false, List, [], ◌∷◌, length, take, Result, Ok, Err, IsOk, IsTrue, if◌then◌else◌, refl, sym, ap, subst, ◌∙◌, arith, ltb as nat_lt, leb as nat_le, eqb as nat_eq}
+use Rattle.std.proofs.Common.{◌≡◌, ◌⊎◌, inl, inr, ◌≤◌, ◌<◌, ◌+◌, ◌-◌, ◌*◌, ◌%◌, ℕ, zero, suc, Bool, true, false, List}
+use Rattle.std.proofs.Common.{[], ◌∷◌, length, take, Result, Ok, Err, IsOk, IsTrue, if◌then◌else◌, refl, sym, ap, subst}
+use Rattle.std.proofs.Common.{◌∙◌, arith, ltb as nat_lt, leb as nat_le, eqb as nat_eq}
 use Rattle.std.specs.Prelude.{◌&&◌}
 use Rattle.std.specs.List.{list_all}
 use Rattle.std.proofs.lemmas.Bool.{lt-ltb, leb-true, ltb-true, and_parts, eqb-true}
@@ -17,10 +19,12 @@ use Rattle.quetzal.specs.declared.faults.SaveFault.{SaveFault}
 use Rattle.quetzal.specs.declared.faults.SaveFault.TheVariants as fault
 use Rattle.quetzal.specs.Faults.{allowed}
 use Rattle.quetzal.specs.Chunks.{Parts, parts_in}
-use Rattle.quetzal.specs.Memory.{is_size, size_in, memory_of}
+use Rattle.quetzal.specs.Memory.{is_memory_size, size_in, memory_of}
 use Rattle.quetzal.specs.Stacks.{is_stack, is_place, has_height}
-use Rattle.quetzal.specs.Blocks.{are_apart, are_blocks, blocks_from, blocks_in, count_in, has_count, has_no_heap, heap_of, in_order, is_block, is_heap, is_start, may_meet, ordered, rises, start_in}
-use Rattle.quetzal.specs.Saves.{MayMeet, save_of}
+use Rattle.quetzal.specs.Blocks.{are_apart, are_blocks, blocks_from, blocks_in, count_in, has_count, has_no_heap}
+use Rattle.quetzal.specs.Blocks.{heap_of, ordered_blocks, is_block, is_heap, is_start, start_in}
+use Rattle.quetzal.specs.Laws.{may_meet, ordered, rises, MayMeet}
+use Rattle.quetzal.specs.Saves.{save_of}
 use Rattle.quetzal.proofs.Sorting.{both, rises_parts, rises_size, order_none, order_rises, order_wanted}
 
 -- sizes
@@ -29,13 +33,13 @@ pub record Sizes (story : FlatStory) (size : ℕ) : Type 0 where
   pub endmem : story.header.endmem ≤ size
   pub capped : size ≤ ceiling
 
-pub size_parts : (story : FlatStory) (size : ℕ) → is_size ceiling story size ≡ true → Sizes story size
+pub size_parts : (story : FlatStory) (size : ℕ) → is_memory_size ceiling story size ≡ true → Sizes story size
 size_parts story size h =
     let a = and_parts _ _ h in
     let b = and_parts _ _ a.0 in
     record { whole = eqb-true _ _ b.0; endmem = leb-true _ _ b.1; capped = leb-true _ _ a.1 }
 
-pub rom_there : (story : FlatStory) (size : ℕ) → IsStory story → is_size ceiling story size ≡ true → (story.header.ramstart ≤ size) × (story.header.ramstart ≤ length story.bytes)
+pub rom_there : (story : FlatStory) (size : ℕ) → IsStory story → is_memory_size ceiling story size ≡ true → (story.header.ramstart ≤ size) × (story.header.ramstart ≤ length story.bytes)
 rom_there story size good h =
     let s = size_parts story size h in
     (omega (arith, good.ramstart_first, good.extstart_first, s.endmem), omega (arith, good.ramstart_first, good.stored_whole))
@@ -54,17 +58,17 @@ ends_higher : (bs : List Block) (low high : ℕ) → low ≤ high → IsEndedBy 
 ends_higher [] low high le ends = tt
 ends_higher (b ∷ bs) low high le ends = (omega (arith, ends.0), ends_higher bs low high le ends.1)
 
-length-in_order : (bs : List Block) → length (in_order bs) ≡ length bs
-unfolding in_order
-length-in_order [] = refl
-length-in_order (b ∷ bs) = length-inserted (in_order bs) b ∙ omega (arith, length-in_order bs)
+length-ordered_blocks : (bs : List Block) → length (ordered_blocks bs) ≡ length bs
+unfolding ordered_blocks
+length-ordered_blocks [] = refl
+length-ordered_blocks (b ∷ bs) = length-inserted (ordered_blocks bs) b ∙ omega (arith, length-ordered_blocks bs)
 
 pub length-blocks_from : (count : ℕ) (body : List ℕ) (at : ℕ) → length (blocks_from count body at) ≡ count
 unfolding blocks_from
 length-blocks_from zero body at = refl
 length-blocks_from (suc count) body at = ap suc (length-blocks_from count body (at + 8))
 
-some_within : (story : FlatStory) (size : ℕ) (body : List ℕ) → size ≤ ceiling → is_heap story size body ≡ true → IsHeapWithin story.header.endmem size (record { start = start_in body; blocks = in_order (blocks_in body) })
+some_within : (story : FlatStory) (size : ℕ) (body : List ℕ) → size ≤ ceiling → is_heap story size body ≡ true → IsHeapWithin story.header.endmem size (record { start = start_in body; blocks = ordered_blocks (blocks_in body) })
 unfolding is_heap
 some_within story size body capped h =
     let start = start_in body in
@@ -75,9 +79,9 @@ some_within story size body capped h =
     let d = and_parts (nat_eq (start % 256) 0) (nat_le story.header.endmem start) c.0 in
     let blocks = and_parts (list_all (is_block (start_in body) size) (blocks_in body)) (are_apart (blocks_in body)) a.1 in
     let begins = leb-true _ _ c.1 in
-    let up = in_parts (in_order (blocks_in body)) (start_in body) size (order_rises (blocks_in body) start size begins blocks.0 blocks.1) in
+    let up = in_parts (ordered_blocks (blocks_in body)) (start_in body) size (order_rises (blocks_in body) start size begins blocks.0 blocks.1) in
     record {
-      blocks = record { rises = up.0; ends = ends_higher (in_order (blocks_in body)) size 0xFFFFFFFF (omega (arith, capped)) up.1; none = λ none. absurd (omega (arith, none, count, length-in_order (blocks_in body), length-blocks_from (count_in body) body 8)) };
+      blocks = record { rises = up.0; ends = ends_higher (ordered_blocks (blocks_in body)) size 0xFFFFFFFF (omega (arith, capped)) up.1; none = λ none. absurd (omega (arith, none, count, length-ordered_blocks (blocks_in body), length-blocks_from (count_in body) body 8)) };
       begins = λ _. leb-true _ _ d.1;
       whole = eqb-true _ _ d.0;
       within = record { start = begins; ends = up.1 };
@@ -92,9 +96,9 @@ none_within endmem size = record {
 }
 
 within_by : (story : FlatStory) (size : ℕ) (body : List ℕ) (heap : FlatHeap) (none some : Bool) → is_heap story size body ≡ some → size ≤ ceiling
-    → (let r : Result FlatHeap SaveFault = if none then Ok inactive else if some then Ok (record { start = start_in body; blocks = in_order (blocks_in body) }) else Err fault.Blocks in r ≡ Ok heap) → IsHeapWithin story.header.endmem size heap
+    → (let r : Result FlatHeap SaveFault = if none then Ok inactive else if some then Ok (record { start = start_in body; blocks = ordered_blocks (blocks_in body) }) else Err fault.Blocks in r ≡ Ok heap) → IsHeapWithin story.header.endmem size heap
 within_by story size body heap true some is capped h = let e : inactive ≡ heap = cc in subst (IsHeapWithin story.header.endmem size) e (none_within story.header.endmem size)
-within_by story size body heap false true is capped h = let made : FlatHeap = record { start = start_in body; blocks = in_order (blocks_in body) } in let e : made ≡ heap = cc in subst (IsHeapWithin story.header.endmem size) e (some_within story size body capped is)
+within_by story size body heap false true is capped h = let made : FlatHeap = record { start = start_in body; blocks = ordered_blocks (blocks_in body) } in let e : made ≡ heap = cc in subst (IsHeapWithin story.header.endmem size) e (some_within story size body capped is)
 within_by story size body heap false false is capped h = absurd cc
 
 pub heap_within : (story : FlatStory) (size : ℕ) (body : List ℕ) (heap : FlatHeap) → size ≤ ceiling → heap_of story size body ≡ Ok heap → IsHeapWithin story.header.endmem size heap
@@ -202,7 +206,7 @@ local_by : (story : FlatStory) (size : ℕ) (below : List ℕ) (p : Stub) → is
 local_by story size below p h two = rw two at h
 
 -- what is read is fit for the story
-pub copy_fits : (story : FlatStory) (size : ℕ) (c : Copy) → length c.memory ≡ size → take story.header.ramstart c.memory ≡ take story.header.ramstart story.bytes → is_size ceiling story size ≡ true → is_stack story size c.stack ≡ true → IsHeapWithin story.header.endmem size c.heap → IsCopyFor story c
+pub copy_fits : (story : FlatStory) (size : ℕ) (c : Copy) → length c.memory ≡ size → take story.header.ramstart c.memory ≡ take story.header.ramstart story.bytes → is_memory_size ceiling story size ≡ true → is_stack story size c.stack ≡ true → IsHeapWithin story.header.endmem size c.heap → IsCopyFor story c
 copy_fits story size c len rom sizes stack heap =
     let s = size_parts story size sizes in
     let t = stack_parts story size c.stack stack in
@@ -231,11 +235,11 @@ pub not_allowed : (passes : Bool) (e given : SaveFault) → (let r : Result (Uni
 not_allowed true e given h = absurd cc
 not_allowed false e given h = (refl, cc)
 
-pub size_refused : (save : List ℕ) (story : FlatStory) (p : Parts) (size : ℕ) → parts_in save story ≡ Ok p → size ≡ size_in p.memory → is_size ceiling story size ≡ false → save_of ceiling save story ≡ Err fault.Size
+pub size_refused : (save : List ℕ) (story : FlatStory) (p : Parts) (size : ℕ) → parts_in save story ≡ Ok p → size ≡ size_in p.memory → is_memory_size ceiling story size ≡ false → save_of ceiling save story ≡ Err fault.Size
 unfolding save_of
 size_refused save story p size h is not = rw (h, ← is, not) refl
 
-pub memory_refused : (save : List ℕ) (story : FlatStory) (p : Parts) (size : ℕ) (e : SaveFault) → parts_in save story ≡ Ok p → size ≡ size_in p.memory → is_size ceiling story size ≡ true → memory_of story p.memory ≡ Err e → save_of ceiling save story ≡ Err e
+pub memory_refused : (save : List ℕ) (story : FlatStory) (p : Parts) (size : ℕ) (e : SaveFault) → parts_in save story ≡ Ok p → size ≡ size_in p.memory → is_memory_size ceiling story size ≡ true → memory_of story p.memory ≡ Err e → save_of ceiling save story ≡ Err e
 unfolding save_of
 memory_refused save story p size e h is fits not = rw (h, ← is, fits, not) refl
 
@@ -243,7 +247,7 @@ memory_refused save story p size e h is fits not = rw (h, ← is, fits, not) ref
 abbrev pub behind : Result (List ℕ) SaveFault → Bool → List ℕ → Result FlatHeap SaveFault → Result Copy SaveFault
 behind memory stacks stack heap = memory >>= (λ m. allowed stacks fault.Stack >>= (λ _. heap >>= (λ g. let made : Copy = record { memory = m; stack = stack; heap = g } in Ok made)))
 
-pub save_by : (save : List ℕ) (story : FlatStory) (p : Parts) (size : ℕ) → parts_in save story ≡ Ok p → size ≡ size_in p.memory → is_size ceiling story size ≡ true
+pub save_by : (save : List ℕ) (story : FlatStory) (p : Parts) (size : ℕ) → parts_in save story ≡ Ok p → size ≡ size_in p.memory → is_memory_size ceiling story size ≡ true
     → save_of ceiling save story ≡ behind (memory_of story p.memory) (is_stack story size p.stack) p.stack (heap_of story size p.heap)
 unfolding save_of
 save_by save story p size h is fits = rw (h, ← is, fits) refl
@@ -272,6 +276,6 @@ save_wanted memory stack heap stacks meet all there good so (inr is) = inr (heap
 pub meet_by : (save : List ℕ) (story : FlatStory) (p : Parts) (size : ℕ) → parts_in save story ≡ Ok p → size ≡ size_in p.memory → may_meet story size p.heap ≡ true → MayMeet save story
 meet_by save story p size h is meet = rw (h, ← is) (ap (λ (t : Bool). Ok t) meet)
 
-pub save_taken : (save : List ℕ) (story : FlatStory) (p : Parts) (size : ℕ) (memory : List ℕ) (heap : FlatHeap) → parts_in save story ≡ Ok p → size ≡ size_in p.memory → is_size ceiling story size ≡ true → memory_of story p.memory ≡ Ok memory → is_stack story size p.stack ≡ true → heap_of story size p.heap ≡ Ok heap
+pub save_taken : (save : List ℕ) (story : FlatStory) (p : Parts) (size : ℕ) (memory : List ℕ) (heap : FlatHeap) → parts_in save story ≡ Ok p → size ≡ size_in p.memory → is_memory_size ceiling story size ≡ true → memory_of story p.memory ≡ Ok memory → is_stack story size p.stack ≡ true → heap_of story size p.heap ≡ Ok heap
     → save_of ceiling save story ≡ Ok (record { memory = memory; stack = p.stack; heap = heap })
 save_taken save story p size memory heap h is fits ram stack there = save_by save story p size h is fits ∙ rw (ram, stack, there) refl

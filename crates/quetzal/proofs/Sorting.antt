@@ -9,7 +9,8 @@ use Rattle.std.proofs.lemmas.List.Sums.{sum_by-cons}
 use Rattle.std.proofs.lemmas.List.Sorted.{sum_by-IsPermutation}
 use Rattle.heap_blocks.specs.Heap.{Block, end_of, inserted}
 use Rattle.quetzal.specs.declared.faults.SaveFault.TheVariants as fault
-use Rattle.quetzal.specs.Blocks.{IsSortedFrom, are_apart, are_blocks, in_order, is_apart, is_block, ordered, rises}
+use Rattle.quetzal.specs.Blocks.{are_apart, are_blocks, ordered_blocks, is_apart, is_block}
+use Rattle.quetzal.specs.Laws.{IsSortedFrom, ordered, rises}
 
 pub both : (x y : Bool) → x ≡ true → y ≡ true → (x && y) ≡ true
 both true true a b = refl
@@ -134,26 +135,26 @@ all_inserted p x (b ∷ bs) =
       | inr above ↦ ap (list_all p) ((by_address x b bs).1 (le-ltb b.0 x.0 above))
     ]
 
-all_in_order : (p : Block → Bool) (bs : List Block) → list_all p (in_order bs) ≡ list_all p bs
-unfolding in_order
+all_in_order : (p : Block → Bool) (bs : List Block) → list_all p (ordered_blocks bs) ≡ list_all p bs
+unfolding ordered_blocks
 all_in_order p [] = refl
-all_in_order p (b ∷ bs) = all_inserted p b (in_order bs) ∙ ap (λ (t : Bool). p b && t) (all_in_order p bs)
+all_in_order p (b ∷ bs) = all_inserted p b (ordered_blocks bs) ∙ ap (λ (t : Bool). p b && t) (all_in_order p bs)
 
 -- blocks of a heap rise in order, and only they do
-pub order_rises : (bs : List Block) (start size : ℕ) → start ≤ size → list_all (is_block start size) bs ≡ true → are_apart bs ≡ true → rises start size (in_order bs) ≡ true
-unfolding in_order
+pub order_rises : (bs : List Block) (start size : ℕ) → start ≤ size → list_all (is_block start size) bs ≡ true → are_apart bs ≡ true → rises start size (ordered_blocks bs) ≡ true
+unfolding ordered_blocks
 order_rises [] start size le blocks apart = le-leb start size le
 order_rises (b ∷ bs) start size le blocks apart =
     let p = and_parts (is_block start size b) (list_all (is_block start size) bs) blocks in
     let q = and_parts (list_all (is_apart b) bs) (are_apart bs) apart in
     let is = block_parts start size b p.0 in
-    rises_inserted (in_order bs) start size b is.1 is.0 is.2 (all_in_order (is_apart b) bs ∙ q.0) (order_rises bs start size le p.1 q.1)
+    rises_inserted (ordered_blocks bs) start size b is.1 is.0 is.2 (all_in_order (is_apart b) bs ∙ q.0) (order_rises bs start size le p.1 q.1)
 
-pub rising_blocks : (bs : List Block) (start size : ℕ) → rises start size (in_order bs) ≡ true → (list_all (is_block start size) bs ≡ true) × (are_apart bs ≡ true)
-unfolding in_order
+pub rising_blocks : (bs : List Block) (start size : ℕ) → rises start size (ordered_blocks bs) ≡ true → (list_all (is_block start size) bs ≡ true) × (are_apart bs ≡ true)
+unfolding ordered_blocks
 rising_blocks [] start size h = (refl, refl)
 rising_blocks (b ∷ bs) start size h =
-    let p = inserted_rises (in_order bs) start size b h in
+    let p = inserted_rises (ordered_blocks bs) start size b h in
     let q = rising_blocks bs start size p.rest in
     (both (is_block start size b) (list_all (is_block start size) bs) (block_by start size b p.some p.low p.ends) q.0, both (list_all (is_apart b) bs) (are_apart bs) (sym (all_in_order (is_apart b) bs) ∙ p.apart) q.1)
 
@@ -187,10 +188,10 @@ up_inserted x (b ∷ bs) h =
       | inr above ↦ subst Up (sym ((by_address x b bs).1 (le-ltb b.0 x.0 above))) ((above, low_less b.0 x.0 bs above h.0), h)
     ]
 
-up_in_order : (bs : List Block) → Up (in_order bs)
-unfolding in_order
+up_in_order : (bs : List Block) → Up (ordered_blocks bs)
+unfolding ordered_blocks
 up_in_order [] = tt
-up_in_order (b ∷ bs) = up_inserted b (in_order bs) (up_in_order bs)
+up_in_order (b ∷ bs) = up_inserted b (ordered_blocks bs) (up_in_order bs)
 
 low_by : (n : ℕ) (bs : List Block) → ((j : ℕ) → j < length bs → n ≤ (get_or bs j (0, 0)).0) → Low n bs
 low_by n [] h = tt
@@ -266,21 +267,21 @@ sum_inserted f x (b ∷ bs) =
       | inr above ↦ ap (sum_by f) ((by_address x b bs).1 (le-ltb b.0 x.0 above)) ∙ sum_by-cons f x (b ∷ bs)
     ]
 
-sum_in_order : (f : Block → ℕ) (bs : List Block) → sum_by f (in_order bs) ≡ sum_by f bs
-unfolding in_order
+sum_in_order : (f : Block → ℕ) (bs : List Block) → sum_by f (ordered_blocks bs) ≡ sum_by f bs
+unfolding ordered_blocks
 sum_in_order f [] = refl
-sum_in_order f (b ∷ bs) = sum_inserted f b (in_order bs) ∙ omega (arith, sum_in_order f bs, sum_by-cons f b bs)
+sum_in_order f (b ∷ bs) = sum_inserted f b (ordered_blocks bs) ∙ omega (arith, sum_in_order f bs, sum_by-cons f b bs)
 
 -- what is sorted
-in_order_is : (bs sorted : List Block) (start size : ℕ) → IsSortedFrom bs sorted → rises start size sorted ≡ true → sorted ≡ in_order bs
+in_order_is : (bs sorted : List Block) (start size : ℕ) → IsSortedFrom bs sorted → rises start size sorted ≡ true → sorted ≡ ordered_blocks bs
 in_order_is bs sorted start size from up =
-    one_list sorted (in_order bs) start size up (up_in_order bs) (λ f. sum_by-IsPermutation f bs sorted from.same ∙ sym (sum_in_order f bs))
+    one_list sorted (ordered_blocks bs) start size up (up_in_order bs) (λ f. sum_by-IsPermutation f bs sorted from.same ∙ sym (sum_in_order f bs))
 
 sorted_rises : (bs sorted : List Block) (start size : ℕ) → IsSortedFrom bs sorted → start ≤ size → are_blocks start size bs ≡ true → rises start size sorted ≡ true
 sorted_rises bs sorted start size from le are =
     let p = and_parts (list_all (is_block start size) bs) (are_apart bs) are in
     let up = order_rises bs start size le p.0 p.1 in
-    let is = one_list (in_order bs) sorted start size up (up_by sorted from.order) (λ f. sum_in_order f bs ∙ sym (sum_by-IsPermutation f bs sorted from.same)) in
+    let is = one_list (ordered_blocks bs) sorted start size up (up_by sorted from.order) (λ f. sum_in_order f bs ∙ sym (sum_by-IsPermutation f bs sorted from.same)) in
     subst (λ (xs : List Block). rises start size xs ≡ true) is up
 
 not_true : (t : Bool) → (t ≡ true → false ≡ true) → t ≡ false

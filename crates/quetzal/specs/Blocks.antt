@@ -3,7 +3,6 @@
 use Rattle.std.specs.Prelude.{ℕ, zero, suc, Bool, true, ◌+◌, ◌*◌, ◌%◌, ◌==◌, nat_lt, nat_le, ◌&&◌, ◌||◌, if◌then◌else◌}
 use Rattle.std.specs.Prelude.{List, [], ◌∷◌, ◌++◌, length, Result, Ok, Err}
 use Rattle.std.specs.List.{flat_map, list_all}
-use Rattle.std.specs.List.Sorted.{IsPermutation, IsNonDecreasingBy}
 use Rattle.gx_words.specs.Numbers.{word, bytes_of_word}
 use Rattle.heap_blocks.specs.Heap.{Block, FlatHeap, end_of, inactive, inserted}
 use Rattle.gx_story.specs.Stories.{FlatStory}
@@ -58,36 +57,16 @@ unfoldable pub is_heap : FlatStory → ℕ → List ℕ → Bool
 is_heap story size body =
     has_count body && is_start story size (start_in body) && are_blocks (start_in body) size (blocks_in body)
 
--- nothing else is wrong with the heap, and it has two blocks at least: they may still meet
-unfoldable pub may_meet : FlatStory → ℕ → List ℕ → Bool
-may_meet story size body =
-    has_count body && is_start story size (start_in body) && list_all (is_block (start_in body) size) (blocks_in body)
-    && nat_lt 1 (count_in body)
-
 -- blocks by their address
-unfoldable pub in_order : List Block → List Block
-in_order [] = []
-in_order (b ∷ bs) = inserted b (in_order bs)
-
--- blocks in rising order from an address on, none empty, none past a size, no two that meet
-abbrev pub rises : ℕ → ℕ → List Block → Bool
-rises at size [] = nat_le at size
-rises at size (b ∷ bs) = nat_le at b.0 && nat_lt 0 b.1 && rises (end_of b) size bs
-
--- the same blocks, by their address
-pub record IsSortedFrom (bs sorted : List Block) : Type 0 where
-  pub same : IsPermutation bs sorted
-  pub order : IsNonDecreasingBy (λ b. b.0) sorted
-
--- the blocks in order, where they are blocks of a heap
-abbrev pub ordered : ℕ → ℕ → List Block → Result (List Block) SaveFault
-ordered start size bs = if are_blocks start size bs then Ok (in_order bs) else Err fault.Blocks
+unfoldable pub ordered_blocks : List Block → List Block
+ordered_blocks [] = []
+ordered_blocks (b ∷ bs) = inserted b (ordered_blocks bs)
 
 -- the heap, if any
 unfoldable pub heap_of : FlatStory → ℕ → List ℕ → Result FlatHeap SaveFault
 heap_of story size body =
     if has_no_heap body then Ok inactive else
-    if is_heap story size body then Ok (record { start = start_in body; blocks = in_order (blocks_in body) }) else
+    if is_heap story size body then Ok (record { start = start_in body; blocks = ordered_blocks (blocks_in body) }) else
     Err fault.Blocks
 
 -- the body of a heap's chunk as it is written

@@ -1,6 +1,6 @@
 -- The chunks of a save that are looked at (Quetzal 1.4, sections 3 to 5; Glulx 3.1.2, "Contents of the Save File").
-use Rattle.std.specs.Prelude.{ℕ, Bool, true, false, nat_le, List, [], ◌∷◌, length, take, Option, Some, None, unwrap_or}
-use Rattle.std.specs.Prelude.{Result, Ok}
+use Rattle.std.specs.Prelude.{ℕ, Bool, true, false, nat_le, List, [], length, take, Option, Some, None, unwrap_or}
+use Rattle.std.specs.Prelude.{codes, Result, Ok}
 use Rattle.std.specs.Option.{ok_or, option_map}
 use Rattle.std.specs.Str.{bytes_eq}
 use Rattle.gx_words.specs.Results.{◌>>=◌}
@@ -12,28 +12,10 @@ use Rattle.quetzal.specs.Faults.{of_form, allowed}
 use Rattle.quetzal.specs.declared.faults.SaveFault.{SaveFault}
 use Rattle.quetzal.specs.declared.faults.SaveFault.TheVariants as fault
 
--- the letters IFZS, IFhd, CMem, UMem, Stks and MAll
-abbrev pub ifzs : List ℕ
-ifzs = 0x49 ∷ 0x46 ∷ 0x5A ∷ 0x53 ∷ []
-
-abbrev pub ifhd : List ℕ
-ifhd = 0x49 ∷ 0x46 ∷ 0x68 ∷ 0x64 ∷ []
-
-abbrev pub cmem : List ℕ
-cmem = 0x43 ∷ 0x4D ∷ 0x65 ∷ 0x6D ∷ []
-
-abbrev pub umem : List ℕ
-umem = 0x55 ∷ 0x4D ∷ 0x65 ∷ 0x6D ∷ []
-
-abbrev pub stks : List ℕ
-stks = 0x53 ∷ 0x74 ∷ 0x6B ∷ 0x73 ∷ []
-
-abbrev pub mall : List ℕ
-mall = 0x4D ∷ 0x41 ∷ 0x6C ∷ 0x6C ∷ []
-
 -- the body of the first chunk with these letters, where there is one
 unfoldable pub body_in : List ℕ → List ℕ → Result (Option (List ℕ)) SaveFault
-body_in save id = of_form (part_found (Letters id) (chunks save ifzs)) >>= λ part. Ok (option_map (body save) part)
+body_in save id =
+    of_form (part_found (Letters id) (chunks save (codes "IFZS"))) >>= λ part. Ok (option_map (body save) part)
 
 -- a chunk that has to be there
 unfoldable pub needed : List ℕ → List ℕ → Result (List ℕ) SaveFault
@@ -52,8 +34,8 @@ either None None = None
 
 unfoldable pub memory_in : List ℕ → Result (Option MemoryBody) SaveFault
 memory_in save = do
-  packed ← body_in save cmem
-  plain ← body_in save umem
+  packed ← body_in save (codes "CMem")
+  plain ← body_in save (codes "UMem")
   Ok (either packed plain)
 
 -- it begins with a word, the size of memory
@@ -73,11 +55,11 @@ pub record Parts : Type 0 where
 
 unfoldable pub parts_in : List ℕ → FlatStory → Result Parts SaveFault
 parts_in save story = do
-  header ← needed save ifhd
-  stack ← needed save stks
+  header ← needed save (codes "IFhd")
+  stack ← needed save (codes "Stks")
   memory ← memory_in save
   _ ← allowed (has_size memory) fault.Form
   _ ← allowed (is_of_story story header) fault.OtherStory
   chunk ← ok_or memory fault.NoMemoryChunk
-  heap ← body_in save mall
+  heap ← body_in save (codes "MAll")
   Ok (record { stack = stack; memory = chunk; heap = unwrap_or heap [] })

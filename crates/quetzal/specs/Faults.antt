@@ -1,6 +1,5 @@
--- The faults of a save: their numbers, what the faults of a form and of packed bytes become, how a test gives one, and
--- where want of memory may come.
-use Rattle.std.specs.Prelude.{◌≡◌, ◌≢◌, ℕ, ◌⊎◌, Bool, true, false, Result, Ok, Err, IsOk}
+-- The faults of a save: their numbers, what the faults of a form and of packed bytes become, and how a test gives one.
+use Rattle.std.specs.Prelude.{ℕ, Bool, true, false, Result, Ok, Err}
 use Rattle.iff_chunks.specs.declared.faults.IffFault.{IffFault}
 use Rattle.iff_chunks.specs.declared.faults.IffFault.TheVariants as iff
 use Rattle.zero_runs.specs.declared.faults.RunFault.{RunFault}
@@ -20,10 +19,8 @@ number_of fault.NoMemory = 8
 
 -- whatever is wrong with the form
 abbrev pub fault_of : IffFault → SaveFault
-fault_of iff.Cut = fault.Form
-fault_of iff.NotForm = fault.Form
-fault_of iff.WrongKind = fault.Form
 fault_of iff.NoMemory = fault.NoMemory
+fault_of e = fault.Form
 
 abbrev pub of_form : {A : Type 0} → Result A IffFault → Result A SaveFault
 of_form (Ok x) = Ok x
@@ -31,9 +28,8 @@ of_form (Err e) = Err (fault_of e)
 
 -- whatever is wrong with the packed bytes
 abbrev pub fault_of_run : RunFault → SaveFault
-fault_of_run run.Cut = fault.Runs
-fault_of_run run.TooMany = fault.Runs
 fault_of_run run.NoMemory = fault.NoMemory
+fault_of_run e = fault.Runs
 
 abbrev pub of_runs : {A : Type 0} → Result A RunFault → Result A SaveFault
 of_runs (Ok x) = Ok x
@@ -43,10 +39,3 @@ of_runs (Err e) = Err (fault_of_run e)
 abbrev pub allowed : Bool → SaveFault → Result (Unit {0}) SaveFault
 allowed true e = Ok tt
 allowed false e = Err e
-
--- The answer, seen by `view`, is the definition's. Want of memory comes only where the definition has no fault, or in
--- place of the fault of blocks that meet, where they may: to see whether they do they are sorted, in memory.
-abbrev pub MaySort : {X Y : Type 0} → Type 0 → (X → Y) → Result X SaveFault → Result Y SaveFault → Type 0
-MaySort meet view (Ok x) defined = defined ≡ Ok (view x)
-MaySort meet view (Err e) defined =
-    (e ≢ fault.NoMemory → defined ≡ Err e) × (e ≡ fault.NoMemory → IsOk defined ⊎ ((defined ≡ Err fault.Blocks) × meet))

@@ -7,3 +7,5 @@ pub mod Stacks
 pub mod Blocks
 pub mod Saves
 pub mod Writing
+pub mod Laws
+pub mod Relations

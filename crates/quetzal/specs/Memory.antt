@@ -20,8 +20,8 @@ abbrev pub bytes_in : MemoryBody → List ℕ
 bytes_in memory = drop size_len memory.body
 
 -- a size that memory may have under a ceiling
-abbrev pub is_size : ℕ → FlatStory → ℕ → Bool
-is_size ceiling story size = size % 256 == 0 && nat_le story.header.endmem size && nat_le size ceiling
+abbrev pub is_memory_size : ℕ → FlatStory → ℕ → Bool
+is_memory_size ceiling story size = size % 256 == 0 && nat_le story.header.endmem size && nat_le size ceiling
 
 -- the first bytes of RAM, which is zero past the stored part
 abbrev pub first_ram : FlatStory → List ℕ

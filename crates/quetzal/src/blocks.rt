@@ -5,10 +5,10 @@
 ghost use Rattle.std.specs.Prelude.{◌≡◌, ◌≢◌, ◌+◌, ◌-◌, ◌*◌, ◌≤◌, ◌<◌, length, Ok, IfOk, IfErr, IsTrue, OnOk};
 ghost use Rattle.std.specs.List.{list_all};
 ghost use Rattle.gx_words.specs.Numbers.{word};
-ghost use Rattle.quetzal.specs.Faults.{MaySort};
+ghost use Rattle.quetzal.specs.Relations.{MaySort};
 ghost use Rattle.quetzal.specs.Constants.{block_len};
-ghost use Rattle.quetzal.specs.Blocks.{IsSortedFrom, may_meet, blocks_in, count_in, has_count, has_no_heap, heap_of};
-ghost use Rattle.quetzal.specs.Blocks.{is_block, is_start, ordered, rises};
+ghost use Rattle.quetzal.specs.Blocks.{blocks_in, count_in, has_count, has_no_heap, heap_of, is_block, is_start};
+ghost use Rattle.quetzal.specs.Laws.{IsSortedFrom, may_meet, ordered, rises};
 ghost use Rattle.gx_words.specs.Constants.{ceiling};
 ghost use Rattle.gx_state.specs.Sound.{IsHeapWithin};
 ghost use Rattle.quetzal.specs.Views.{heap_from};

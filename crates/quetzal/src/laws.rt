@@ -1,6 +1,5 @@
 //! What holds of the definitions of this crate.
-ghost use Rattle.quetzal.specs.Saves.{OldSavesLoad};
-ghost use Rattle.quetzal.specs.Writing.{ReadsBack};
+ghost use Rattle.quetzal.specs.Laws.{OldSavesLoad, ReadsBack};
 
 /// A copy that is fit for its story and is written as a save is read from it as it was.
 pub fn written_saves_are_read()

@@ -5,7 +5,7 @@ ghost use Rattle.std.specs.Prelude.{◌≡◌, ◌≢◌, ◌≤◌, length, tak
 ghost use Rattle.gx_words.specs.Results.{Gives};
 ghost use Rattle.gx_words.specs.Constants.{ceiling};
 ghost use Rattle.quetzal.specs.Constants.{size_len};
-ghost use Rattle.quetzal.specs.Memory.{bytes_in, is_size, memory_of, size_in};
+ghost use Rattle.quetzal.specs.Memory.{bytes_in, is_memory_size, memory_of, size_in};
 ghost use Rattle.quetzal.specs.Views.{memory_body};
 
 use crate::SaveFault;
@@ -36,7 +36,7 @@ impl MemoryChunk<'_> {
     #[tactic(auto, unfolding(crate::specs::Memory::ram_of), using(crate::proofs::SaveReading::sizes))]
     pub fn check(&self, story: &Story) -> Result<(), SaveFault>
         requires there { size_len ≤ length self.now.body.now }
-        requires size { IsTrue (is_size ceiling story.now (size_in (memory_body self.now))) }
+        requires size { IsTrue (is_memory_size ceiling story.now (size_in (memory_body self.now))) }
         ensures ok { OnOk result (IsOk (memory_of story.now (memory_body self.now))) }
         ensures fault { IfErr result (λ fault. memory_of story.now (memory_body self.now) ≡ Err fault) }
         ensures memory { IfErr result (λ fault. fault ≢ SaveFault.NoMemory) }
@@ -56,7 +56,7 @@ impl MemoryChunk<'_> {
     /// is asked for once.
     pub fn memory(&self, alloc: Global, story: &Story) -> Result<Bytes, SaveFault>
         requires there { size_len ≤ length self.now.body.now }
-        requires size { IsTrue (is_size ceiling story.now (size_in (memory_body self.now))) }
+        requires size { IsTrue (is_memory_size ceiling story.now (size_in (memory_body self.now))) }
         requires fine { IsOk (memory_of story.now (memory_body self.now)) }
         ensures value { Gives SaveFault.NoMemory (λ memory. memory) result
             (memory_of story.now (memory_body self.now)) }
@@ -74,7 +74,7 @@ impl MemoryChunk<'_> {
     #[tactic(auto, unfolding(crate::specs::Memory::ram_of), using(crate::proofs::SaveReading::sizes))]
     fn push_ram(&self, story: &Story, memory: &mut Bytes) -> Result<(), SaveFault>
         requires there { size_len ≤ length self.now.body.now }
-        requires size { IsTrue (is_size ceiling story.now (size_in (memory_body self.now))) }
+        requires size { IsTrue (is_memory_size ceiling story.now (size_in (memory_body self.now))) }
         requires rom { memory.old ≡ take story.now.header.ramstart story.now.bytes }
         ensures value { Gives SaveFault.NoMemory (λ _. memory.new) result (memory_of story.now (memory_body self.now)) }
         ensures len { OnOk result (length memory.new ≡ size_in (memory_body self.now)) }
@@ -93,8 +93,8 @@ impl MemoryChunk<'_> {
 }
 
 /// Whether a story's memory may have a size.
-pub(crate) fn is_size(story: &Story, size: u32) -> bool
-    ensures { result ≡ is_size ceiling story.now size }
+pub(crate) fn is_memory_size(story: &Story, size: u32) -> bool
+    ensures { result ≡ is_memory_size ceiling story.now size }
 {
     size % 256 == 0 && story.endmem() <= size && size <= CEILING
 }

@@ -4,14 +4,15 @@
 ghost use Rattle.std.specs.Prelude.{◌≡◌, IfOk};
 ghost use Rattle.gx_words.specs.Constants.{ceiling};
 ghost use Rattle.gx_state.specs.Copies.{IsCopyFor};
-ghost use Rattle.quetzal.specs.Faults.{MaySort};
-ghost use Rattle.quetzal.specs.Saves.{MayMeet, save_of};
+ghost use Rattle.quetzal.specs.Relations.{MaySort};
+ghost use Rattle.quetzal.specs.Saves.{save_of};
+ghost use Rattle.quetzal.specs.Laws.{MayMeet};
 
 use crate::SaveFault;
 use crate::blocks::heap_of;
 use crate::chunks::Parts;
 use crate::faults::allowed;
-use crate::memory::is_size;
+use crate::memory::is_memory_size;
 use crate::stacks::is_stack;
 use gx_state::FlatCopy;
 use gx_story::Story;
@@ -30,7 +31,7 @@ pub fn read_save(alloc: Global, bytes: &[u8], story: &Story) -> Result<FlatCopy,
 {
     let parts = Parts::find(bytes, story)?;
     let size = parts.memory.size();
-    allowed(is_size(story, size), SaveFault::Size)?;
+    allowed(is_memory_size(story, size), SaveFault::Size)?;
     parts.memory.check(story)?;
     allowed(is_stack(story, size, parts.stack), SaveFault::Stack)?;
     let (heap, blocks) = heap_of(alloc, story, size, parts.heap)?;

@@ -7,7 +7,8 @@ ghost use Rattle.gx_state.specs.Copies.{IsCopyFor};
 ghost use Rattle.quetzal.specs.Memory.{memory_bytes};
 ghost use Rattle.quetzal.specs.Blocks.{bytes_of_block, heap_bytes};
 ghost use Rattle.quetzal.specs.Saves.{save_of};
-ghost use Rattle.quetzal.specs.Writing.{chunk_len, form_len, heap_chunks, saved};
+ghost use Rattle.quetzal.specs.Writing.{heap_chunks, saved};
+ghost use Rattle.quetzal.specs.Laws.{chunk_len, form_len};
 
 use crate::blocks::{BLOCK_LEN, HEAP_HEADER_LEN};
 use crate::chunks::STORY_START;

@@ -6,7 +6,8 @@ use Rattle.std.specs.Int.Bits.{bit_xor, xor_assoc, xor_self, xor_zero_r}
 use Rattle.gx_words.specs.Results.{◌>>=◌}
 use Rattle.zero_runs.specs.declared.faults.RunFault.{RunFault}
 use Rattle.zero_runs.specs.Packing.{run, pair, full_pairs, packed_behind, packed, xored}
-use Rattle.zero_runs.specs.Unpacking.{expand, before, without_last_zeros, filled, unpacked}
+use Rattle.zero_runs.specs.Unpacking.{expand, filled, unpacked}
+use Rattle.zero_runs.specs.Laws.{before, without_last_zeros}
 use Rattle.zero_runs.proofs.UnpackingTurns.{length-xored}
 
 -- a list behind so many zeros

@@ -7,7 +7,8 @@ use Rattle.gx_words.specs.Results.{◌>>=◌}
 use Rattle.zero_runs.specs.declared.faults.RunFault.{RunFault}
 use Rattle.zero_runs.specs.declared.faults.RunFault.TheVariants.{Cut}
 use Rattle.zero_runs.specs.Packing.{xored}
-use Rattle.zero_runs.specs.Unpacking.{expand, expanded_len, filled, unpacked, unpacked_onto}
+use Rattle.zero_runs.specs.Unpacking.{expand, filled, unpacked}
+use Rattle.zero_runs.specs.Laws.{expanded_len, unpacked_onto}
 use Rattle.zero_runs.proofs.PackingTurns.{front_added}
 
 -- a list behind what is written already, over the old bytes from there on

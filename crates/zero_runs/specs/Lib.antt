@@ -1,3 +1,4 @@
 pub mod Faults
 pub mod Packing
 pub mod Unpacking
+pub mod Laws

@@ -1,7 +1,8 @@
 //! What packing and unpacking mean for each other.
 ghost use Rattle.std.specs.Prelude.{◌≡◌, ℕ, List, [], ◌∷◌, ◌++◌, Ok, replicate, length, ◌≢◌, ◌*◌, ◌≤◌};
 ghost use Rattle.zero_runs.specs.Packing.{xored, run, packed};
-ghost use Rattle.zero_runs.specs.Unpacking.{expand, unpacked, without_last_zeros};
+ghost use Rattle.zero_runs.specs.Unpacking.{expand, unpacked};
+ghost use Rattle.zero_runs.specs.Laws.{without_last_zeros};
 
 /// States the laws of `pack` and `unpack`, for all lists; the call does nothing.
 pub fn unpack_inverts_pack()

@@ -5,7 +5,8 @@ ghost use Rattle.std.specs.Prelude.{◌≡◌, ◌≢◌, ◌<◌, ◌+◌, ◌+
 ghost use Rattle.std.specs.Prelude.{OnErr, IfOk, IfErr, IsOk};
 ghost use Rattle.gx_words.specs.Results.{Gives};
 ghost use Rattle.zero_runs.specs.Packing.{xored};
-ghost use Rattle.zero_runs.specs.Unpacking.{expand, expanded_len, expanded_onto, unpacked, unpacked_onto};
+ghost use Rattle.zero_runs.specs.Unpacking.{expand, unpacked};
+ghost use Rattle.zero_runs.specs.Laws.{expanded_len, expanded_onto, unpacked_onto};
 
 use crate::faults::RunFault;
 use crate::packing::byte_or_zero;

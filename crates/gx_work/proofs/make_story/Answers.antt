@@ -1,7 +1,8 @@
 -- The loop adds RAM to the page, and the whole is the story.
 use Rattle.std.proofs.Common.{◌≡◌, ℕ, List, ap, sym, subst, ◌∙◌}
 use Rattle.gx_words.specs.Numbers.{bytes_of_word}
-use Rattle.gx_work.specs.Work.{work_story, HasHeader}
+use Rattle.gx_work.specs.Work.{work_story}
+use Rattle.gx_work.specs.Laws.{HasHeader}
 use Rattle.gx_work.proofs.Stories.{begun, grown, done, checked, headed, length-work}
 use Rattle.gx_work.proofs.make_story.Goals as goal
 

@@ -1,5 +1,5 @@
 use Rattle.std.proofs.Common.{◌≡◌, ◌%◌, ◌^◌}
-use Rattle.gx_work.specs.Work.{ram_sum}
+use Rattle.gx_work.specs.Laws.{ram_sum}
 use Rattle.gx_work.proofs.ram_sum.Given as goal
 
 abbrev pub invariant-loop-index : goal.invariant-loop-index

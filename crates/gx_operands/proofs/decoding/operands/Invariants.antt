@@ -1,7 +1,7 @@
 -- what is left to take gives what all operands give
 use Rattle.std.proofs.Common.{◌≡◌, ◌≤◌, ◌-◌, length}
-use Rattle.gx_operands.specs.Instructions.{HasValues, operands}
-use Rattle.gx_operands.specs.Plans.{operands_of}
+use Rattle.gx_operands.specs.Instructions.{operands}
+use Rattle.gx_operands.specs.Plans.{HasValues, operands_of}
 use Rattle.gx_operands.proofs.decoding.operands.Given as goal
 
 abbrev pub invariant-loop-i : goal.invariant-loop-i

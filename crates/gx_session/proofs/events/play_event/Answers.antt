@@ -2,7 +2,8 @@
 use Rattle.std.proofs.Common.{[], ◌-◌, ◌≤◌, Option, subst, sym}
 use Rattle.gx_state.specs.declared.effects.Effect.TheVariants.{Put}
 use Rattle.gx_machine.specs.Machine.{Whole}
-use Rattle.gx_machine.specs.Log.{Log, units_left}
+use Rattle.gx_machine.specs.Log.{Log}
+use Rattle.gx_machine.specs.Advancing.{units_left}
 use Rattle.gx_session.specs.Devices.{Devices, devices}
 use Rattle.gx_session.specs.Playing.{Going, EventGives, Held, held, asking_in}
 use Rattle.gx_session.proofs.Asking.{step-follows}

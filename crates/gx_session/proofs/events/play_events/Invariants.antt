@@ -1,5 +1,5 @@
 use Rattle.std.proofs.Common.{◌≡◌, ◌≤◌, [], ◌++◌, None}
-use Rattle.gx_machine.specs.Log.{units_left}
+use Rattle.gx_machine.specs.Advancing.{units_left}
 use Rattle.gx_outside.specs.Chains.{IsCalled}
 use Rattle.gx_outside.specs.Shelves.{Trace}
 use Rattle.gx_session.specs.Devices.{Devices, devices}

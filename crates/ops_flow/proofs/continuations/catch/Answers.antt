@@ -3,7 +3,7 @@ use Rattle.std.proofs.Common.{◌≡◌, ◌+◌, true, nat_lt, subst, sym, arit
 use Rattle.std.proofs.lemmas.Bool.Decides.{nat_tests}
 use Rattle.gx_stack.specs.declared.frames.Frame.{Frame}
 use Rattle.gx_stack.specs.Frames.{IsFrame}
-use Rattle.gx_state.specs.Returns.{IsWordInRam}
+use Rattle.gx_state.specs.Allowed.{IsWordInRam}
 use Rattle.gx_operands.specs.Instructions.{L1}
 use Rattle.gx_operands.specs.Plans.{instruction_of}
 use Rattle.ops_flow.proofs.Cuts.{lasting_place, catch_returns}

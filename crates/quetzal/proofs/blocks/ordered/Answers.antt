@@ -1,7 +1,8 @@
 -- sorted blocks that rise are those of the definition, and others are refused
 use Rattle.std.proofs.Common.{◌∙◌, ap, sym, subst, inl, IsOk, refl}
 use Rattle.std.proofs.lemmas.Result.{err_from_is_err_and}
-use Rattle.quetzal.specs.Blocks.{blocks_in, rises}
+use Rattle.quetzal.specs.Blocks.{blocks_in}
+use Rattle.quetzal.specs.Laws.{rises}
 use Rattle.quetzal.proofs.Sorting.{order_taken, order_refused}
 use Rattle.quetzal.proofs.SaveReading.{blocks_wanted}
 use Rattle.quetzal.proofs.blocks.ordered.Goals as goal

@@ -1,5 +1,6 @@
 use Rattle.std.proofs.Common.{◌≡◌, ◌≤◌, ◌+◌, ◌*◌, length}
-use Rattle.zero_runs.specs.Unpacking.{expand, expanded_len}
+use Rattle.zero_runs.specs.Unpacking.{expand}
+use Rattle.zero_runs.specs.Laws.{expanded_len}
 use Rattle.zero_runs.proofs.UnpackingTurns.{counted}
 use Rattle.zero_runs.proofs.unpacking.expanded_len.Given as goal
 

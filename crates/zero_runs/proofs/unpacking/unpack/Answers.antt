@@ -1,6 +1,6 @@
 -- a list that is added to none
 use Rattle.std.proofs.Common.{◌≡◌, ℕ, List, Ok, subst, sym, ◌∙◌}
-use Rattle.zero_runs.specs.Unpacking.{unpacked_onto}
+use Rattle.zero_runs.specs.Laws.{unpacked_onto}
 use Rattle.zero_runs.proofs.UnpackingTurns.{length-unpacked, onto_nothing, unpacked-none}
 use Rattle.zero_runs.proofs.unpacking.unpack.Goals as goal
 

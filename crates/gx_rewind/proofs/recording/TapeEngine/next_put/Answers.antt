@@ -1,6 +1,6 @@
 -- the step that asks is pending
 use Rattle.std.proofs.Common.{◌≤◌, refl, sym, subst}
-use Rattle.gx_machine.specs.Log.{units_left}
+use Rattle.gx_machine.specs.Advancing.{units_left}
 use Rattle.gx_machine.specs.Machine.{FlatMachine}
 use Rattle.std.specs.Prelude.{Some}
 use Rattle.gx_rewind.specs.Tape.{FlatTape}

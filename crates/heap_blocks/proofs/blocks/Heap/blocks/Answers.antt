@@ -1,5 +1,6 @@
 use Rattle.std.proofs.Common.{subst}
-use Rattle.heap_blocks.specs.Heap.{HeldHeap, AreApart}
+use Rattle.heap_blocks.specs.Heap.{HeldHeap}
+use Rattle.heap_blocks.specs.Relations.{AreApart}
 use Rattle.heap_blocks.specs.Sound.{flat_of}
 use Rattle.heap_blocks.proofs.Placing.{are_apart}
 use Rattle.heap_blocks.proofs.blocks.Heap.blocks.Goals as goal
