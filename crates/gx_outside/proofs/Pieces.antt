@@ -2,7 +2,7 @@
 use Rattle.std.proofs.Common.{◌≡◌, ℕ, ◌+◌, ◌-◌, ◌<◌, ◌≤◌, min, List, [], ◌++◌, length, take, drop, ap, sym, ◌∙◌, arith}
 use Rattle.std.proofs.lemmas.List.{take-append-drop, drop-drop}
 use Rattle.std.proofs.lemmas.Grind.{common_steps}
-use Rattle.gx_outside.specs.Outside.{TakesFront}
+use Rattle.gx_outside.specs.Reads.{TakesFront}
 
 -- from a place to the end is all that is left there
 pub take_all-drop : (at : ℕ) (xs : List ℕ) → take (length xs - at) (drop at xs) ≡ drop at xs
@@ -15,18 +15,21 @@ front_again n xs ys fits = grind (arith, common_steps)
 front : (n : ℕ) (left into : List ℕ) → n ≤ length left → left ≡ take n (take n left ++ drop n into) ++ drop n left
 front n left into fits = rw (front_again n left (drop n into) fits) (sym (take-append-drop n left))
 
--- an empty piece says that nothing is left
-end : (n piece : ℕ) (left into : List ℕ) → n ≡ min (min (length into) piece) (length left) → 1 ≤ piece → n ≡ 0 → 0 < length (take n left ++ drop n into) → left ≡ []
-end n piece left into size some none room = grind (arith, common_steps)
+-- a piece of no bytes says that nothing is left
+end : (n piece : ℕ) (left into : List ℕ) → n ≡ min (min (length into) piece) (length left) → 1 ≤ piece → take n (take n left ++ drop n into) ≡ [] → 0 < length into → left ≡ []
+end n piece left into size some none room =
+    let fits : n ≤ length left = omega arith in
+    let count : length (take n left) ≡ 0 = ap length (sym (front_again n left (drop n into) fits) ∙ none) in
+    grind (arith, common_steps)
 
-reads : (n piece : ℕ) (left into : List ℕ) → n ≡ min (min (length into) piece) (length left) → 1 ≤ piece → TakesFront left (drop n left) (take n left ++ drop n into) n
+reads : (n piece : ℕ) (left into : List ℕ) → n ≡ min (min (length into) piece) (length left) → 1 ≤ piece → TakesFront left (drop n left) (length into) (take n (take n left ++ drop n into))
 reads n piece left into size some = record {
-  bytes = front n left into (omega arith);
+  next = front n left into (omega arith);
   end = end n piece left into size some;
 }
 
 -- What a read of a source in memory does: `ds` are the bytes as a slice, of which the part from `at` on is read.
-pub reads_front : (at n piece most : ℕ) (bytes ds left into copied : List ℕ) → drop at bytes ≡ left → ds ≡ bytes → copied ≡ take n (take (length ds - at) (drop at ds)) → most ≡ min (length into) piece → n ≡ min most (length (take (length ds - at) (drop at ds))) → 1 ≤ piece → TakesFront left (drop (at + n) bytes) (copied ++ drop n into) n
+pub reads_front : (at n piece most : ℕ) (bytes ds left into copied : List ℕ) → drop at bytes ≡ left → ds ≡ bytes → copied ≡ take n (take (length ds - at) (drop at ds)) → most ≡ min (length into) piece → n ≡ min most (length (take (length ds - at) (drop at ds))) → 1 ≤ piece → TakesFront left (drop (at + n) bytes) (length into) (take n (copied ++ drop n into))
 reads_front at n piece most bytes ds left into copied is same copy bound size some =
     let all : take (length ds - at) (drop at ds) ≡ left = take_all-drop at ds ∙ ap (drop at) same ∙ is in
     let rest : drop (at + n) bytes ≡ drop n left = sym (drop-drop n at bytes) ∙ ap (drop n) is in

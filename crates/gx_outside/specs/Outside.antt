@@ -1,6 +1,6 @@
 -- What the calls of a source, a sink and a shelf do to what they hold, and to their counts.
-use Rattle.std.specs.Prelude.{◌≡◌, ℕ, zero, suc, ◌+◌, ◌-◌, ◌^◌, ◌≤◌, ◌<◌, min, if◌then◌else◌, List, ◌++◌, take, length}
-use Rattle.std.specs.Prelude.{Bool, true, false, Result, Ok, Err, OnOk, []}
+use Rattle.std.specs.Prelude.{◌≡◌, ℕ, zero, suc, ◌+◌, ◌-◌, ◌^◌, ◌≤◌, min, if◌then◌else◌, List, ◌++◌, length}
+use Rattle.std.specs.Prelude.{Bool, true, false, Result, Ok, Err, OnOk}
 use Rattle.gx_outside.specs.declared.calls.Calls.{Calls}
 use Rattle.gx_outside.specs.declared.devices.SendFault.{SendFault}
 use Rattle.gx_outside.specs.declared.devices.SendFault.TheVariants as of_send
@@ -94,16 +94,6 @@ abbrev pub shelf_wanted : {T : Type 0} → Result T ShelfFault → Bool
 shelf_wanted (Ok x) = false
 shelf_wanted (Err of_shelf.Failed) = false
 shelf_wanted (Err of_shelf.NoMemory) = true
-
--- A front of the slice is what was next. Nothing in a slice that isn't empty says that nothing is left.
-pub record TakesFront (before after into : List ℕ) (count : ℕ) : Type 0 where
-  pub bytes : before ≡ take count into ++ after
-  pub end : count ≡ 0 → 0 < length into → before ≡ []
-
--- what a read does to the bytes left, which stand where it failed
-abbrev pub ReadGives : {E : Type 0} → List ℕ → List ℕ → List ℕ → Result ℕ E → Type 0
-ReadGives before after into (Ok count) = TakesFront before after into count
-ReadGives before after into (Err e) = after ≡ before
 
 -- A front of the bytes was taken, and all of them at Ok.
 pub record Sends {T E : Type 0} (tells : Bool) (before after bytes : List ℕ) (result : Result T E) : Type 0 where

@@ -10,9 +10,10 @@
 //!
 //! Want of memory, which is no failure of the device, may come at any call that has an answer for
 //! it; at `load` it comes only where there are bytes to be handed out.
-ghost use Rattle.std.specs.Prelude.{◌≡◌, ◌≤◌, false, true, length, is_err, IfOk};
-ghost use Rattle.gx_outside.specs.Outside.{FlatSource, FlatSink, FlatShelf, HasCause, ReadGives, offered_by, Sends};
-ghost use Rattle.gx_outside.specs.Outside.{send_failed, send_wanted};
+ghost use Rattle.std.specs.Prelude.{◌≡◌, ◌≤◌, length, IfOk};
+ghost use Rattle.gx_outside.specs.Outside.{FlatSource, FlatSink, FlatShelf};
+ghost use Rattle.gx_outside.specs.Reads.{Read, SourceCall, given};
+ghost use Rattle.gx_outside.specs.Sends.{Send, SinkCall};
 ghost use Rattle.gx_outside.specs.Shelves.{Call, ShelfCall, loads, stores, removes, looks, answered, loaded, stored};
 ghost use Rattle.gx_outside.specs.Shelves.{was};
 
@@ -78,37 +79,41 @@ pub enum Load {
     Found(Bytes),
 }
 
-/// Where input comes from. Contracts see the bytes that are left.
+/// Where input comes from. Contracts see the bytes that are left, and each call.
+///
+/// What a call is to a device, `called`, is left to the device, here and at the other two. So what is proved for every
+/// device is proved of the very calls that were made: nothing else leads from what the device was to what it is.
 pub trait Source {
     ghost seen: { Self → FlatSource };
+
+    ghost called: { Self → Read → Self → Type 0 };
 
     /// Fills a front of the slice with the next bytes, and answers its length.
     ///
     /// 0 for a slice that isn't empty means that nothing is left.
     fn read(&mut self, into: &mut [u8]) -> Result<usize, Failed>
         ensures bound { IfOk result (λ count. count ≤ length into.old) }
-        ensures cause { HasCause (seen self.old).calls (seen self.new).calls (is_err result) false }
-        ensures offered { (seen self.new).offered ≡ offered_by (length into.old) (seen self.old).offered }
-        ensures tells { (seen self.new).tells ≡ (seen self.old).tells }
-        ensures bytes { (seen self.old).tells ≡ true
-            → ReadGives (seen self.old).left (seen self.new).left into.new result };
+        ensures call { called self.old (length into.old, given into.new result) self.new };
+
+    ghost called_so: { (before : Self) (r : Read) (now : Self)
+        → called before r now → SourceCall (seen before) r (seen now) };
 }
 
-/// Where output goes. Contracts see the bytes that were taken.
+/// Where output goes. Contracts see the bytes that were taken, and each call.
 pub trait Sink {
     ghost seen: { Self → FlatSink };
 
+    ghost called: { Self → Send → Self → Type 0 };
+
     /// Adds all the bytes; after a refusal it has added a front of them, none or all of them too.
     fn send(&mut self, bytes: &[u8]) -> Result<(), SendFault>
-        ensures cause { HasCause (seen self.old).calls (seen self.new).calls (send_failed result) (send_wanted result) }
-        ensures tells { (seen self.new).tells ≡ (seen self.old).tells }
-        ensures bytes { Sends (seen self.old).tells (seen self.old).taken (seen self.new).taken bytes.now result };
+        ensures { called self.old (bytes.now, result) self.new };
+
+    ghost called_so: { (before : Self) (s : Send) (now : Self)
+        → called before s now → SinkCall (seen before) s (seen now) };
 }
 
 /// Where files stand, each under a name. Contracts see a map from names to bytes, and each call.
-///
-/// What a call is to a device, `called`, is left to the device. So what is proved for every shelf is proved of the
-/// very calls that were made: nothing else leads from what the shelf was to what it is.
 pub trait Shelf {
     ghost seen: { Self → FlatShelf };
 

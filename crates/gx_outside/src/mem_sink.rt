@@ -1,7 +1,8 @@
 //! A sink in memory.
-ghost use Rattle.std.specs.Prelude.{◌≡◌, [], ◌++◌, true, IfOk, OnOk, OnErr};
+ghost use Rattle.std.specs.Prelude.{◌≡◌, [], ◌++◌, IfOk, OnOk, OnErr};
 ghost use Rattle.gx_outside.specs.Fakes.{no_calls, fails_next, after_call, seen_sink};
-ghost use Rattle.gx_outside.specs.Outside.{HasCause, Sends, send_failed, send_wanted};
+ghost use Rattle.gx_outside.specs.Outside.{send_failed, send_wanted};
+ghost use Rattle.gx_outside.specs.Sends.{SinkCall};
 
 use crate::numbered::NumberedCalls;
 use crate::{SendFault, Sink};
@@ -47,13 +48,16 @@ impl MemSink {
 impl Sink for MemSink {
     ghost seen = { seen_sink };
 
+    ghost called = { λ before s now. SinkCall (seen_sink before) s (seen_sink now) };
+
+    ghost called_so = { λ before s now does. does };
+
     fn send(&mut self, bytes: &[u8]) -> Result<(), SendFault>
         ensures fails { send_failed result ≡ fails_next self.old.calls }
         ensures calls { self.new.calls ≡ after_call self.old.calls (send_wanted result) }
         ensures ok { OnOk result (self.new.taken ≡ self.old.taken ++ bytes.now) }
         ensures err { OnErr result (self.new.taken ≡ self.old.taken) }
-        ensures cause { HasCause self.old.calls.counts self.new.calls.counts (send_failed result) (send_wanted result) }
-        ensures bytes { Sends true self.old.taken self.new.taken bytes.now result }
+        ensures does { SinkCall (seen_sink self.old) (bytes.now, result) (seen_sink self.new) }
     {
         if self.calls.begin() {
             return Err(SendFault::Failed);

@@ -1,7 +1,8 @@
 //! A source in memory.
 ghost use Rattle.std.specs.Prelude.{◌≡◌, ◌≤◌, ◌++◌, min, length, false, take, drop, is_err, IfOk, OnErr};
 ghost use Rattle.gx_outside.specs.Fakes.{no_calls, fails_next, after_call, seen_source};
-ghost use Rattle.gx_outside.specs.Outside.{HasCause, ReadGives, offered_by};
+ghost use Rattle.gx_outside.specs.Outside.{offered_by};
+ghost use Rattle.gx_outside.specs.Reads.{SourceCall, given};
 
 use crate::numbered::NumberedCalls;
 use crate::{Failed, Source};
@@ -56,6 +57,10 @@ impl MemSource {
 impl Source for MemSource {
     ghost seen = { seen_source };
 
+    ghost called = { λ before r now. SourceCall (seen_source before) r (seen_source now) };
+
+    ghost called_so = { λ before r now does. does };
+
     fn read(&mut self, into: &mut [u8]) -> Result<usize, Failed>
         ensures fails { is_err result ≡ fails_next self.old.calls }
         ensures calls { self.new.calls ≡ after_call self.old.calls false }
@@ -67,8 +72,7 @@ impl Source for MemSource {
         ensures left { IfOk result (λ count. self.new.left ≡ drop count self.old.left) }
         ensures err { OnErr result ((self.new.left ≡ self.old.left) × (into.new ≡ into.old)) }
         ensures bound { IfOk result (λ count. count ≤ length into.old) }
-        ensures cause { HasCause self.old.calls.counts self.new.calls.counts (is_err result) false }
-        ensures bytes { ReadGives self.old.left self.new.left into.new result }
+        ensures does { SourceCall (seen_source self.old) (length into.old, given into.new result) (seen_source self.new) }
     {
         self.offered = self.offered.saturating_add(into.len() as u64);
         if self.calls.begin() {

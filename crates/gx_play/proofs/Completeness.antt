@@ -1,5 +1,7 @@
 -- That the status is the outcome's where no device failed.
 use Rattle.std.proofs.Common.{◌≡◌, ℕ, ◌<◌, ◌≤◌, ◌⊎◌, inl, inr, true, List, Option, Some, None, IsSomeAnd, refl, ap, subst, sym, ◌∙◌, arith}
+use Rattle.gx_outside.specs.Sends.{Send}
+use Rattle.gx_outside.specs.declared.devices.SendFault.TheVariants as of_send
 use Rattle.gx_outside.specs.Outside.{FlatShelf, FlatSink}
 use Rattle.gx_outside.specs.Shelves.{Request, Answer, Trace}
 use Rattle.gx_machine.specs.Machine.{Whole}
@@ -31,9 +33,9 @@ module _ {A : Type 0} (ended : Ended A) (entry exit : Devices) where
       abbrev loaded : Devices
       loaded = record entry { shelf = shelf; words = words }
 
-      at-end : (input : List ℕ) (answers : Trace → Request → Answer) → input ≡ start.input → answers ≡ start.answers → IsSession (record start { input = input; answers = answers }) loaded leaving r
+      at-end : (input coming : List ℕ) (answers : Trace → Request → Answer) → input ≡ start.input → answers ≡ start.answers → IsSession (record start { input = input; answers = answers }) loaded leaving coming r
           → r.status < status_shelf_fault → r.status ≡ status_of (final_of start).stop
-      at-end input answers is same session early =
+      at-end input coming answers is same session early =
           (session.ended early).status_is
           ∙ ap (λ (i : List ℕ). status_of (final_of (record start { input = i; answers = answers })).stop) is
           ∙ ap (λ (a : Trace → Request → Answer). status_of (final_of (record start { answers = a })).stop) same
@@ -44,7 +46,7 @@ module _ {A : Type 0} (ended : Ended A) (entry exit : Devices) where
           let s = run.session in
           elim (either r.status run.report.status_is (λ e. fine.shelf (counts.shelf.rose (sym same ∙ e)))
           (λ e. fine.source (counts.source.rose (sym same ∙ e))) (λ e. fine.sink (counts.sink.rose (sym same ∙ e)))) [
-            | inl early ↦ inl (at-end s.input s.answers (s.input_is source-tells) (s.answers_are (kept ∙ shelf-tells)) s.session early)
+            | inl early ↦ inl (at-end s.input s.coming s.answers (s.input_is source-tells) (s.answers_are (kept ∙ shelf-tells)) s.session early)
             | inr memory ↦ inr memory
           ]
 
@@ -56,11 +58,11 @@ module _ {A : Type 0} (ended : Ended A) (entry exit : Devices) where
         run-ends start shelf (words_for seed entry.words) (record exit { asked = asked; words = left }) (report_of ended whole) kept run refl source-tells shelf-tells
 
     -- so does one on a tape, but for want of memory at the line
-    line-sent : (line : List ℕ) (r : Report) (before now : FlatSink) → SendsLine line r before now ended → (r.status ≡ ended.status) ⊎ (ended.status ≡ status_no_memory)
-    line-sent line r before now (inl (has, sent)) = inl (sym has.status_is)
-    line-sent line r before now (inr (inl (inl has, sent))) = absurd (fine.sink (counts.sink.rose has.status_is))
-    line-sent line r before now (inr (inl (inr (has, wanted), sent))) = inr has.status_is
-    line-sent line r before now (inr (inr (has, same))) = inr has.status_is
+    line-sent : (line : List ℕ) (r : Report) (before now : FlatSink) (sends : List Send) → SendsLine line r before now sends ended → (r.status ≡ ended.status) ⊎ (ended.status ≡ status_no_memory)
+    line-sent line r before now sends (inl (has, sent)) = inl (sym has.status_is)
+    line-sent line r before now sends (inr (inl (of_send.Failed, has, sent))) = absurd (fine.sink (counts.sink.rose has.status_is))
+    line-sent line r before now sends (inr (inl (of_send.NoMemory, (has, wanted), sent))) = inr has.status_is
+    line-sent line r before now sends (inr (inr (has, same, none))) = inr has.status_is
 
     below : (status : ℕ) → (status < status_shelf_fault) ⊎ (status_shelf_fault ≤ status)
     below status = grind arith
@@ -69,10 +71,10 @@ module _ {A : Type 0} (ended : Ended A) (entry exit : Devices) where
         → entry.source.tells ≡ true → entry.shelf.tells ≡ true → (ended.status ≡ status_of (final_of start).stop) ⊎ (ended.status ≡ status_no_memory)
     tape-ends seed back start shelf asked kept run source-tells shelf-tells =
         let r : Report = run.report in
-        let mid : Devices = record exit { sink = run.sink; asked = asked; words = run.run.0 } in
+        let mid : Devices = record exit { sink = run.sink; sends = run.sends; asked = asked; words = run.run.0 } in
         let same : (r.status ≡ ended.status) ⊎ (ended.status ≡ status_no_memory) =
         elim (below r.status) [
-          | inl early ↦ line-sent (rewind_line back r) r run.sink exit.sink (run.rewound.told early)
+          | inl early ↦ line-sent (rewind_line back r) r run.sink exit.sink run.more (run.rewound.told early)
           | inr late ↦ inl (sym (run.rewound.early late).0.status_is)
         ] in
         elim same [
@@ -84,10 +86,10 @@ module _ {A : Type 0} (ended : Ended A) (entry exit : Devices) where
               ]
         ]
 
-    output-ends : (status : ℕ) (output : List ℕ) (before now : FlatSink) → SendsOutput status output before now ended → (ended.status ≡ 10 → ⊥) → (ended.status ≡ status) ⊎ (ended.status ≡ status_no_memory)
-    output-ends status output before now (inl (absent, sent)) sink = inl absent.status_is
-    output-ends status output before now (inr (inl absent, sent)) sink = absurd (sink absent.status_is)
-    output-ends status output before now (inr (inr (absent, wanted), sent)) sink = inr absent.status_is
+    output-ends : (status : ℕ) (output : List ℕ) (before now : FlatSink) (sends : List Send) → SendsOutput status output before now sends ended → (ended.status ≡ 10 → ⊥) → (ended.status ≡ status) ⊎ (ended.status ≡ status_no_memory)
+    output-ends status output before now sends (inl (absent, sent)) sink = inl absent.status_is
+    output-ends status output before now sends (inr (of_send.Failed, absent, sent)) sink = absurd (sink absent.status_is)
+    output-ends status output before now sends (inr (of_send.NoMemory, (absent, wanted), sent)) sink = inr absent.status_is
 
     outcome-ends : (outcome : Outcome) → Plays outcome entry exit ended → entry.source.tells ≡ true → entry.shelf.tells ≡ true → (ended.status ≡ status_of_outcome outcome) ⊎ (ended.status ≡ status_no_memory)
     outcome-ends (refused status fault at) (inl absent, same) source-tells shelf-tells = inl absent.status_is
@@ -98,7 +100,7 @@ module _ {A : Type 0} (ended : Ended A) (entry exit : Devices) where
     outcome-ends (runs seed start) (inr (is, same)) source-tells shelf-tells = inr (unbegun is)
     outcome-ends (rewinds seed back start) (inl begun) source-tells shelf-tells = tape-ends seed back start begun.shelf begun.asked begun.does.tells begun.run source-tells shelf-tells
     outcome-ends (rewinds seed back start) (inr (is, same)) source-tells shelf-tells = inr (unbegun is)
-    outcome-ends (tells status output) (inl sends) source-tells shelf-tells = output-ends status output entry.sink exit.sink sends (λ e. fine.sink (counts.sink.rose e))
+    outcome-ends (tells status output) (inl sends) source-tells shelf-tells = output-ends status output entry.sink exit.sink exit.sends sends (λ e. fine.sink (counts.sink.rose e))
     outcome-ends (tells status output) (inr (is, same)) source-tells shelf-tells = inr (unbegun is)
 
   pub complete : (command : Option Command) → ComesOut command entry exit ended → Counts entry exit ended.status → IsComplete command entry exit ended.status

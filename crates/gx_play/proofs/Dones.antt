@@ -3,7 +3,10 @@ use Rattle.std.proofs.Common.{◌≡◌, ◌≢◌, ℕ, ◌≤◌, ◌⊎◌, i
 use Rattle.gx_words.specs.Constants.{ceiling}
 use Rattle.gx_outside.specs.Chains.{Chain}
 use Rattle.gx_outside.specs.Outside.{FlatShelf, FlatSink}
+use Rattle.gx_outside.specs.Reads.{SourceCall}
+use Rattle.gx_outside.specs.Sends.{Send, SinkCall}
 use Rattle.gx_outside.specs.Shelves.{loads, Call, Trace, ShelfCall}
+use Rattle.gx_outside.specs.declared.devices.SendFault.TheVariants as of_send
 use Rattle.gx_story.specs.Stories.{FlatStory, is_checked}
 use Rattle.gx_asm.specs.declared.faults.AsmFault.{AsmFault}
 use Rattle.gx_asm.specs.declared.faults.ListFault.{ListFault}
@@ -22,7 +25,7 @@ use Rattle.gx_play.specs.declared.loading.Refusal.TheVariants as refusal
 use Rattle.gx_play.specs.Commands.{Command, command_of}
 use Rattle.gx_play.specs.Constants.{most_text}
 use Rattle.gx_play.specs.Jobs.{work_line, check_status, check_line}
-use Rattle.gx_play.specs.Headline.{Outcome, refused, unstarted, runs, rewinds, tells, outcome_of_job, outcome_of_check, outcome_of_text, outcome_of_code, outcome_of_list, outcome_of_listing, story_of, text_of, HasNoMachine, IsUnbegun, IsBegun, IsUnrun, IsLoadable, SendsOutput, Plays, PlaysStory, MayWant, LoadsFirst, LoadsOnce, LoadsOnceFor, ComesOut, HasItsParts, HandsBack, IsPlaying, IsPlayed}
+use Rattle.gx_play.specs.Headline.{Outcome, refused, unstarted, runs, rewinds, tells, outcome_of_job, outcome_of_check, outcome_of_text, outcome_of_code, outcome_of_list, outcome_of_listing, story_of, text_of, HasNoMachine, IsUnbegun, KeepsSink, IsBegun, IsUnrun, IsLoadable, SendsOutput, Plays, PlaysStory, MayWant, LoadsFirst, LoadsOnce, LoadsOnceFor, ComesOut, HasItsParts, HandsBack, IsPlaying, IsPlayed}
 use Rattle.gx_play.specs.Loading.{status_of, fault_of, LoadGives, LoadsFile, JobTells, BlamesSink, HasRunParts, IsIdle, IsDone}
 use Rattle.gx_play.proofs.Completeness.{complete}
 use Rattle.gx_play.proofs.Loads.{loadable, text-loadable}
@@ -96,7 +99,7 @@ module _ {A : Type 0} (ended : Ended A) where
     not_run = p.not_run;
   }
 
-  unbegun-plays : (outcome : Outcome) (entry exit : Devices) → IsUnbegun ended → exit.sink ≡ entry.sink → Plays outcome entry exit ended
+  unbegun-plays : (outcome : Outcome) (entry exit : Devices) → IsUnbegun ended → KeepsSink entry exit → Plays outcome entry exit ended
   unbegun-plays (refused status fault at) entry exit is unsent = (inr is, unsent)
   unbegun-plays (unstarted fault at) entry exit is unsent = (inr is, unsent)
   unbegun-plays (runs seed start) entry exit is unsent = inr (is, unsent)
@@ -116,16 +119,16 @@ module _ {A : Type 0} (ended : Ended A) where
     listing_fault = λ e. absurd (grind (arith, which, e));
   }
 
-  sent : (status : ℕ) (output : List ℕ) (before now : FlatSink) → (status ≡ 0) ⊎ (status ≡ 3) → SendsOutput status output before now ended → IsTold ended
-  sent status output before now which (inl (absent, took)) = quiet status absent (grind (arith, which))
-  sent status output before now which (inr (inl absent, took)) = quiet status_output_fault absent (inr (inr (inl refl)))
-  sent status output before now which (inr (inr (absent, wanted), took)) = quiet status_no_memory absent (inr (inr (inr refl)))
+  sent : (status : ℕ) (output : List ℕ) (before now : FlatSink) (sends : List Send) → (status ≡ 0) ⊎ (status ≡ 3) → SendsOutput status output before now sends ended → IsTold ended
+  sent status output before now sends which (inl (absent, took)) = quiet status absent (grind (arith, which))
+  sent status output before now sends which (inr (of_send.Failed, absent, took)) = quiet status_output_fault absent (inr (inr (inl refl)))
+  sent status output before now sends which (inr (of_send.NoMemory, (absent, wanted), took)) = quiet status_no_memory absent (inr (inr (inr refl)))
 
   -- a text's code, or its fault
-  code-told : (r : Result (List ℕ) AsmFault) (before now : FlatSink) → (ended.status ≡ status_bad_text → (1 ≤ ended.fault) × (ended.fault ≤ 4)) → JobTells (outcome_of_code r) before now ended → IsTold ended
-  code-told (Ok code) before now number (inl sends) = sent status_ended (wrapped code) before now (inl refl) sends
-  code-told (Ok code) before now number (inr (absent, same)) = quiet status_no_memory absent (inr (inr (inr refl)))
-  code-told (Err fault) before now number (absent, same) =
+  code-told : (r : Result (List ℕ) AsmFault) (before now : FlatSink) (sends : List Send) → (ended.status ≡ status_bad_text → (1 ≤ ended.fault) × (ended.fault ≤ 4)) → JobTells (outcome_of_code r) before now sends ended → IsTold ended
+  code-told (Ok code) before now sends number (inl once) = sent status_ended (wrapped code) before now sends (inl refl) once
+  code-told (Ok code) before now sends number (inr (absent, same, none)) = quiet status_no_memory absent (inr (inr (inr refl)))
+  code-told (Err fault) before now sends number (absent, same, none) =
       let range = number absent.status_is in
       let f = absent.fault_is in
       record {
@@ -140,10 +143,10 @@ module _ {A : Type 0} (ended : Ended A) where
       }
 
   -- a story's listing, or its fault
-  listing-told : (r : Result (List ℕ) ListFault) (before now : FlatSink) → (ended.status ≡ status_no_listing → (1 ≤ ended.fault) × (ended.fault ≤ 5)) → JobTells (outcome_of_listing r) before now ended → IsTold ended
-  listing-told (Ok text) before now number (inl sends) = sent status_ended text before now (inl refl) sends
-  listing-told (Ok text) before now number (inr (absent, same)) = quiet status_no_memory absent (inr (inr (inr refl)))
-  listing-told (Err fault) before now number (absent, same) =
+  listing-told : (r : Result (List ℕ) ListFault) (before now : FlatSink) (sends : List Send) → (ended.status ≡ status_no_listing → (1 ≤ ended.fault) × (ended.fault ≤ 5)) → JobTells (outcome_of_listing r) before now sends ended → IsTold ended
+  listing-told (Ok text) before now sends number (inl once) = sent status_ended text before now sends (inl refl) once
+  listing-told (Ok text) before now sends number (inr (absent, same, none)) = quiet status_no_memory absent (inr (inr (inr refl)))
+  listing-told (Err fault) before now sends number (absent, same, none) =
       let range = number absent.status_is in
       let f = absent.fault_is in
       record {
@@ -157,22 +160,22 @@ module _ {A : Type 0} (ended : Ended A) where
         listing_fault = λ _. (omega (arith, f, range.0), omega (arith, f, range.1));
       }
 
-  plays-told : (outcome : Outcome) (entry exit : Devices) → JobTells outcome entry.sink exit.sink ended → Plays outcome entry exit ended
-  plays-told (refused status fault at) entry exit (absent, same) = (inl absent, same)
-  plays-told (tells status output) entry exit (inl sends) = inl sends
-  plays-told (tells status output) entry exit (inr (absent, same)) = inr (inr absent, same)
-  plays-told outcome entry exit none = absurd none
+  plays-told : (outcome : Outcome) (entry exit : Devices) → JobTells outcome entry.sink exit.sink exit.sends ended → entry.sends ≡ [] → Plays outcome entry exit ended
+  plays-told (refused status fault at) entry exit (absent, same, unsent) first = (inl absent, record { sink = same; sends = unsent ∙ sym first })
+  plays-told (tells status output) entry exit (inl once) first = inl once
+  plays-told (tells status output) entry exit (inr (absent, same, unsent)) first = inr (inr absent, record { sink = same; sends = unsent ∙ sym first })
+  plays-told outcome entry exit none first = absurd none
 
   -- A JOB that hands no machine back, over the file that was loaded
-  module _ (job : Job) (command : Command) (d : Devices) (before now : FlatShelf) (taken took : FlatSink) (asked : Trace) where
+  module _ (job : Job) (command : Command) (d : Devices) (before now : FlatShelf) (taken took : FlatSink) (sends : List Send) (asked : Trace) where
     abbrev at-entry : Devices
-    at-entry = record d { sink = taken; shelf = before; asked = [] }
+    at-entry = record d { sink = taken; shelf = before; sends = []; asked = [] }
 
     abbrev at-exit : Devices
-    at-exit = record d { sink = took; shelf = now; asked = asked }
+    at-exit = record d { sink = took; shelf = now; sends = sends; asked = asked }
 
     told-done : (file : Option (List ℕ)) (outcome : Outcome) (failed : Type 0) → (PlaysStory job → ⊥) → (before.tells ≡ true → file ≡ before.files command.story) → outcome_of_job job command file at-entry ≡ outcome
-        → MayWant job file → LoadsFirst job command file asked → LoadsOnce job asked → Blames before.calls now.calls failed → (failed → ⊥) → IsTold ended → JobTells outcome taken took ended → BlamesSink taken took ended.status
+        → MayWant job file → LoadsFirst job command file asked → LoadsOnce job asked → Blames before.calls now.calls failed → (failed → ⊥) → IsTold ended → JobTells outcome taken took sends ended → BlamesSink taken took ended.status
         → IsDone job command at-entry at-exit ended
     told-done file outcome failed idle holds is may first once count fine t tell blames =
         let s = t.absent.status_is in
@@ -181,13 +184,13 @@ module _ {A : Type 0} (ended : Ended A) where
           file = file;
           file_is = holds;
           loads = first;
-          plays = subst (λ (o : Outcome). Plays o at-entry at-exit ended) (sym is) (plays-told outcome at-entry at-exit tell);
+          plays = subst (λ (o : Outcome). Plays o at-entry at-exit ended) (sym is) (plays-told outcome at-entry at-exit tell refl);
           memory = λ _. may;
           began = λ e. absurd (grind (arith, s, which, e));
           begun = inr (record {
             machine = t.absent.machine_is;
             loads = once;
-            untouched = record { steps = t.absent.steps_are; source = refl; words = refl };
+            untouched = record { steps = t.absent.steps_are; source = refl; reads = refl; words = refl };
             unsent = λ plays. absurd (idle plays);
           });
           counts = record {
@@ -199,35 +202,35 @@ module _ {A : Type 0} (ended : Ended A) where
         }
 
   -- JOB WORK
-  module _ (number : ℕ) (command : Command) (d : Devices) (before now : FlatSink) where
-    work-done : IsTold ended → JobTells (tells status_ended (work_line number)) before now ended → BlamesSink before now ended.status → IsDone (Work number) command (record d { sink = before; asked = [] }) (record d { sink = now; asked = [] }) ended
+  module _ (number : ℕ) (command : Command) (d : Devices) (before now : FlatSink) (sends : List Send) where
+    work-done : IsTold ended → JobTells (tells status_ended (work_line number)) before now sends ended → BlamesSink before now ended.status → IsDone (Work number) command (record d { sink = before; sends = []; asked = [] }) (record d { sink = now; sends = sends; asked = [] }) ended
     work-done t tell blames =
-        told-done (Work number) command d d.shelf d.shelf before now [] (d.shelf.files command.story) (tells status_ended (work_line number)) ⊥ (λ plays. plays) (λ _. refl) refl tt tt refl
+        told-done (Work number) command d d.shelf d.shelf before now sends [] (d.shelf.files command.story) (tells status_ended (work_line number)) ⊥ (λ plays. plays) (λ _. refl) refl tt tt refl
         (blames-none d.shelf.calls d.shelf.calls ⊥ refl (λ e. e)) (λ e. e) t tell blames
 
-    pub work-told : SendsOutput status_ended (work_line number) before now ended → BlamesSink before now ended.status → IsDone (Work number) command (record d { sink = before; asked = [] }) (record d { sink = now; asked = [] }) ended
-    work-told sends blames = work-done (sent status_ended (work_line number) before now (inl refl) sends) (inl sends) blames
+    pub work-told : SendsOutput status_ended (work_line number) before now sends ended → BlamesSink before now ended.status → IsDone (Work number) command (record d { sink = before; sends = []; asked = [] }) (record d { sink = now; sends = sends; asked = [] }) ended
+    work-told once blames = work-done (sent status_ended (work_line number) before now sends (inl refl) once) (inl once) blames
 
-  pub work-unmade : (number : ℕ) (command : Command) (d : Devices) → HasNoMachine ended status_no_memory 0 0 → IsDone (Work number) command (record d { asked = [] }) (record d { asked = [] }) ended
+  pub work-unmade : (number : ℕ) (command : Command) (d : Devices) → HasNoMachine ended status_no_memory 0 0 → IsDone (Work number) command (record d { sends = []; asked = [] }) (record d { sends = []; asked = [] }) ended
   work-unmade number command d absent =
       let s = absent.status_is in
-      work-done number command d d.sink d.sink (quiet status_no_memory absent (inr (inr (inr refl)))) (inr (absent, refl))
+      work-done number command d d.sink d.sink [] (quiet status_no_memory absent (inr (inr (inr refl)))) (inr (absent, refl, refl))
       (blames-none d.sink.calls d.sink.calls (ended.status ≡ status_output_fault) refl (λ e. absurd (omega (arith, s, e))))
 
   -- NOTHING WAS LOADED in a job that loads a file
   module _ {X : Type 0} (most : ℕ) (defined : Option (List ℕ) → Result X ℕ) (command : Command) (d : Devices) (before now : FlatShelf) (asked : Trace) where
     abbrev entry : Devices
-    entry = record d { shelf = before; asked = [] }
+    entry = record d { shelf = before; sends = []; asked = [] }
 
     abbrev exit : Devices
-    exit = record d { shelf = now; asked = asked }
+    exit = record d { shelf = now; sends = []; asked = asked }
 
     not-loaded : (file : Option (List ℕ)) (r : Refusal) (outcome : Outcome) → ((fault : ℕ) → defined file ≡ Err fault → outcome ≡ refused status_bad_story fault 0) → LoadGives most defined file (Err r) → HasNoMachine ended (status_of r) (fault_of r) 0
         → Plays outcome entry exit ended
     not-loaded file (refusal.BadStory fault) outcome bad gives absent =
-        subst (λ (o : Outcome). Plays o entry exit ended) (sym (bad fault gives)) (inl absent, refl)
-    not-loaded file refusal.Shelf outcome bad gives absent = unbegun-plays outcome entry exit (inl absent) refl
-    not-loaded file refusal.NoMemory outcome bad gives absent = unbegun-plays outcome entry exit (inr absent) refl
+        subst (λ (o : Outcome). Plays o entry exit ended) (sym (bad fault gives)) (inl absent, record { sink = refl; sends = refl })
+    not-loaded file refusal.Shelf outcome bad gives absent = unbegun-plays outcome entry exit (inl absent) (record { sink = refl; sends = refl })
+    not-loaded file refusal.NoMemory outcome bad gives absent = unbegun-plays outcome entry exit (inr absent) (record { sink = refl; sends = refl })
 
     wants : (file : Option (List ℕ)) (r : Refusal) → LoadGives most defined file (Err r) → HasNoMachine ended (status_of r) (fault_of r) 0 → ended.status ≡ status_no_memory → IsLoadable most file
     wants file (refusal.BadStory fault) gives absent e = let s = absent.status_is in absurd (omega (arith, s, e))
@@ -268,8 +271,8 @@ module _ {A : Type 0} (ended : Ended A) where
           begun = inr (record {
             machine = absent.machine_is;
             loads = once ((loads command.story most, l.answer), l.asked_are);
-            untouched = record { steps = absent.steps_are; source = refl; words = refl };
-            unsent = λ _. refl;
+            untouched = record { steps = absent.steps_are; source = refl; reads = refl; words = refl };
+            unsent = λ _. record { sink = refl; sends = refl };
           });
           counts = record {
             shelf = refusal-blames r absent count;
@@ -284,27 +287,27 @@ module _ {A : Type 0} (ended : Ended A) where
   either true = inl refl
   either false = inr refl
 
-  module _ (command : Command) (d : Devices) (before now : FlatShelf) (taken took : FlatSink) (asked : Trace) (blames : BlamesSink taken took ended.status) where
+  module _ (command : Command) (d : Devices) (before now : FlatShelf) (taken took : FlatSink) (sends : List Send) (asked : Trace) (blames : BlamesSink taken took ended.status) where
     pub check-told : (story : FlatStory) (l : LoadsFile ceiling story_of before now command.story asked (Ok story)) → Blames before.calls now.calls (let e : Result FlatStory Refusal = Ok story in e ≡ Err refusal.Shelf)
-        → SendsOutput (check_status (is_checked story)) (check_line (is_checked story)) taken took ended → IsDone Check command (record d { sink = taken; shelf = before; asked = [] }) (record d { sink = took; shelf = now; asked = asked }) ended
-    check-told story l count sends =
-        told-done Check command d before now taken took asked l.file (tells (check_status (is_checked story)) (check_line (is_checked story))) _ (λ plays. plays) l.file_is (ap outcome_of_check l.gives) (loadable l.file story l.gives)
+        → SendsOutput (check_status (is_checked story)) (check_line (is_checked story)) taken took sends ended → IsDone Check command (record d { sink = taken; shelf = before; sends = []; asked = [] }) (record d { sink = took; shelf = now; sends = sends; asked = asked }) ended
+    check-told story l count once =
+        told-done Check command d before now taken took sends asked l.file (tells (check_status (is_checked story)) (check_line (is_checked story))) _ (λ plays. plays) l.file_is (ap outcome_of_check l.gives) (loadable l.file story l.gives)
         (subst (LoadsFirst Check command l.file) (sym l.asked_are) (refl, l.handed)) ((loads command.story ceiling, l.answer), l.asked_are) count (λ e. absurd cc)
-        (sent (check_status (is_checked story)) (check_line (is_checked story)) taken took (either (is_checked story)) sends) (inl sends) blames
+        (sent (check_status (is_checked story)) (check_line (is_checked story)) taken took sends (either (is_checked story)) once) (inl once) blames
 
     pub asm-told : (text : List ℕ) (l : LoadsFile most_text text_of before now command.story asked (Ok text)) → Blames before.calls now.calls (let e : Result (List ℕ) Refusal = Ok text in e ≡ Err refusal.Shelf) → (ended.status ≡ status_bad_text → (1 ≤ ended.fault) × (ended.fault ≤ 4))
-        → JobTells (outcome_of_code (assembled text)) taken took ended → IsDone Asm command (record d { sink = taken; shelf = before; asked = [] }) (record d { sink = took; shelf = now; asked = asked }) ended
+        → JobTells (outcome_of_code (assembled text)) taken took sends ended → IsDone Asm command (record d { sink = taken; shelf = before; sends = []; asked = [] }) (record d { sink = took; shelf = now; sends = sends; asked = asked }) ended
     asm-told text l count number tell =
-        told-done Asm command d before now taken took asked l.file (outcome_of_code (assembled text)) _ (λ plays. plays) l.file_is (ap outcome_of_text l.gives) (text-loadable l.file text l.gives)
+        told-done Asm command d before now taken took sends asked l.file (outcome_of_code (assembled text)) _ (λ plays. plays) l.file_is (ap outcome_of_text l.gives) (text-loadable l.file text l.gives)
         (subst (LoadsFirst Asm command l.file) (sym l.asked_are) (refl, l.handed)) ((loads command.story most_text, l.answer), l.asked_are) count (λ e. absurd cc)
-        (code-told (assembled text) taken took number tell) tell blames
+        (code-told (assembled text) taken took sends number tell) tell blames
 
     pub list-told : (story : FlatStory) (l : LoadsFile ceiling story_of before now command.story asked (Ok story)) → Blames before.calls now.calls (let e : Result FlatStory Refusal = Ok story in e ≡ Err refusal.Shelf) → (ended.status ≡ status_no_listing → (1 ≤ ended.fault) × (ended.fault ≤ 5))
-        → JobTells (outcome_of_listing (listed_story story)) taken took ended → IsDone Listing command (record d { sink = taken; shelf = before; asked = [] }) (record d { sink = took; shelf = now; asked = asked }) ended
+        → JobTells (outcome_of_listing (listed_story story)) taken took sends ended → IsDone Listing command (record d { sink = taken; shelf = before; sends = []; asked = [] }) (record d { sink = took; shelf = now; sends = sends; asked = asked }) ended
     list-told story l count number tell =
-        told-done Listing command d before now taken took asked l.file (outcome_of_listing (listed_story story)) _ (λ plays. plays) l.file_is (ap outcome_of_list l.gives) (loadable l.file story l.gives)
+        told-done Listing command d before now taken took sends asked l.file (outcome_of_listing (listed_story story)) _ (λ plays. plays) l.file_is (ap outcome_of_list l.gives) (loadable l.file story l.gives)
         (subst (LoadsFirst Listing command l.file) (sym l.asked_are) (refl, l.handed)) ((loads command.story ceiling, l.answer), l.asked_are) count (λ e. absurd cc)
-        (listing-told (listed_story story) taken took number tell) tell blames
+        (listing-told (listed_story story) taken took sends number tell) tell blames
 
   -- no run was begun by a command with this job
   unrun : (command : Command) (d e : Devices) (outcome : Outcome) → IsBegun outcome d e ended ⊎ IsIdle command.job d e ended
@@ -315,8 +318,9 @@ module _ {A : Type 0} (ended : Ended A) where
   -- THE WHOLE CALL
   module _ (words : List (List ℕ)) (entry : Devices) where
     -- the command line has a command, and its job was done
-    pub played-done : (command : Command) (exit : Devices) → command_of words ≡ Some command → Chain ShelfCall entry.shelf exit.asked exit.shelf → IsDone command.job command entry exit ended → IsPlayed words entry exit ended
-    played-done command exit is chain done =
+    pub played-done : (command : Command) (exit : Devices) → command_of words ≡ Some command → Chain SourceCall entry.source exit.reads exit.source → Chain SinkCall entry.sink exit.sends exit.sink
+        → Chain ShelfCall entry.shelf exit.asked exit.shelf → IsDone command.job command entry exit ended → IsPlayed words entry exit ended
+    played-done command exit is read sent chain done =
         let headline : ComesOut (command_of words) entry exit ended =
         subst (λ (o : Option Command). ComesOut o entry exit ended) (sym is) (record {
           file = done.file;
@@ -328,6 +332,8 @@ module _ {A : Type 0} (ended : Ended A) where
         }) in
         record {
           headline = headline;
+          source_calls = read;
+          sink_calls = sent;
           shelf_calls = chain;
           complete = complete ended entry exit (command_of words) headline done.counts;
           bad_words = (λ e. absurd (done.began e), λ none. let absent = none.0 in absurd cc);
@@ -341,8 +347,8 @@ module _ {A : Type 0} (ended : Ended A) where
         }
 
     -- no device was called
-    no-calls : entry.asked ≡ [] → Chain ShelfCall entry.shelf entry.asked entry.shelf
-    no-calls first = subst (λ (t : Trace). Chain ShelfCall entry.shelf t entry.shelf) (sym first) refl
+    no-calls : {S C : Type 0} (step : S → C → S → Type 0) (s : S) (trace : List C) → trace ≡ [] → Chain step s trace s
+    no-calls step s trace none = subst (λ (t : List _). Chain step s t s) (sym none) refl
 
     none-called : (status : ℕ) → ended.status ≡ status → (status ≡ 1) ⊎ (status ≡ 11) → Counts entry entry ended.status
     none-called status s which = record {
@@ -355,26 +361,28 @@ module _ {A : Type 0} (ended : Ended A) where
     untouched-by o machine steps once = record {
       machine = machine;
       loads = once;
-      untouched = record { steps = steps; source = refl; words = refl };
-      unsent = λ _. refl;
+      untouched = record { steps = steps; source = refl; reads = refl; words = refl };
+      unsent = λ _. record { sink = refl; sends = refl };
     }
 
     -- it has none
-    pub played-none : entry.asked ≡ [] → command_of words ≡ None → HasNoMachine ended status_bad_words 0 0 → IsPlayed words entry entry ended
-    played-none first none absent =
+    pub played-none : entry.reads ≡ [] → entry.sends ≡ [] → entry.asked ≡ [] → command_of words ≡ None → HasNoMachine ended status_bad_words 0 0 → IsPlayed words entry entry ended
+    played-none unread unsent first none absent =
         let s = absent.status_is in
         let headline : ComesOut (command_of words) entry entry ended =
         subst (λ (o : Option Command). ComesOut o entry entry ended) (sym none) (record {
           file = None;
           file_is = tt;
           loads = first;
-          plays = (inl absent, refl);
+          plays = (inl absent, record { sink = refl; sends = refl });
           begun = inr (untouched-by None absent.machine_is absent.steps_are refl);
           memory = λ e. absurd (omega (arith, s, e));
         }) in
         record {
           headline = headline;
-          shelf_calls = no-calls first;
+          source_calls = no-calls SourceCall entry.source entry.reads unread;
+          sink_calls = no-calls SinkCall entry.sink entry.sends unsent;
+          shelf_calls = no-calls ShelfCall entry.shelf entry.asked first;
           complete = complete ended entry entry (command_of words) headline (none-called status_bad_words s (inl refl));
           bad_words = (λ _. (none, λ e. absurd (omega (arith, s, e))), λ _. s);
           unread = λ _. refl;
@@ -391,7 +399,7 @@ module _ {A : Type 0} (ended : Ended A) where
       file = None;
       file_is = tt;
       loads = first;
-      plays = (inr (inr absent), refl);
+      plays = (inr (inr absent), record { sink = refl; sends = refl });
       begun = inr (untouched-by None absent.machine_is absent.steps_are refl);
       memory = λ _. inl refl;
     }
@@ -399,18 +407,20 @@ module _ {A : Type 0} (ended : Ended A) where
       file = entry.shelf.files command.story;
       file_is = λ _. refl;
       loads = subst (LoadsFirst command.job command (entry.shelf.files command.story)) (sym first) tt;
-      plays = unbegun-plays (outcome_of_job command.job command (entry.shelf.files command.story) entry) entry entry (inr absent) refl;
+      plays = unbegun-plays (outcome_of_job command.job command (entry.shelf.files command.story) entry) entry entry (inr absent) (record { sink = refl; sends = refl });
       begun = inr (untouched-by (Some command) absent.machine_is absent.steps_are (inr (absent.status_is, refl)));
       memory = λ _. inl refl;
     }
 
     -- memory ran out while the words were read
-    pub played-unread : entry.asked ≡ [] → HasNoMachine ended status_no_memory 0 0 → IsPlayed words entry entry ended
-    played-unread first absent =
+    pub played-unread : entry.reads ≡ [] → entry.sends ≡ [] → entry.asked ≡ [] → HasNoMachine ended status_no_memory 0 0 → IsPlayed words entry entry ended
+    played-unread unread unsent first absent =
         let s = absent.status_is in
         record {
           headline = unread-comes (command_of words) first absent;
-          shelf_calls = no-calls first;
+          source_calls = no-calls SourceCall entry.source entry.reads unread;
+          sink_calls = no-calls SinkCall entry.sink entry.sends unsent;
+          shelf_calls = no-calls ShelfCall entry.shelf entry.asked first;
           complete = λ _ _ _. inr s;
           bad_words = (λ e. absurd (omega (arith, s, e)), λ p. absurd (p.1 s));
           unread = λ _. refl;

@@ -22,7 +22,7 @@ use Rattle.gx_session.specs.Session.{Configuration}
 use Rattle.gx_play.specs.declared.command.Job.{Job}
 use Rattle.gx_play.specs.declared.command.Job.TheVariants.{Play, Rewind}
 use Rattle.gx_play.specs.Commands.{Command}
-use Rattle.gx_play.specs.Headline.{Outcome, unstarted, runs, rewinds, outcome_of_start, outcome_of_story, outcome_of_job, story_of, start_for, HasNoMachine, IsRunOf, IsRewindOf, BeginsAfter, IsBegun, IsHanded, LoadsFirst, IsLoadable, LoadsOnce, MayWant, Plays, PlaysStory}
+use Rattle.gx_play.specs.Headline.{Outcome, unstarted, runs, rewinds, outcome_of_start, outcome_of_story, outcome_of_job, story_of, start_for, HasNoMachine, KeepsSink, IsRunOf, IsRewindOf, BeginsAfter, IsBegun, IsHanded, LoadsFirst, IsLoadable, LoadsOnce, MayWant, Plays, PlaysStory}
 use Rattle.gx_play.specs.Loading.{IsIdle, IsStill, StoryPlays}
 use Rattle.gx_play.specs.Seeds.{devices_for, words_for}
 use Rattle.gx_session.proofs.Counting.{well-of, blames-on}
@@ -64,7 +64,17 @@ answers-moved : (start : Configuration) (answers : Trace → Request → Answer)
 answers-moved start answers entry exit r same run =
     let s = run.session in
     record {
-      session = record { input = s.input; input_is = s.input_is; answers = s.answers; answers_are = λ tells. s.answers_are tells ∙ same tells; session = s.session };
+      session = record {
+        input = s.input;
+        input_is = s.input_is;
+        coming = s.coming;
+        read = s.read;
+        answers = s.answers;
+        answers_are = λ tells. s.answers_are tells ∙ same tells;
+        session = s.session;
+      };
+      source_calls = run.source_calls;
+      sink_calls = run.sink_calls;
       shelf_calls = run.shelf_calls;
       counts = run.counts;
       source_tells = run.source_tells;
@@ -88,6 +98,23 @@ module _ {A : Type 0} (ended : Ended A) where
   plays-unstarted job command story entry r NoMemory is memory stands = still job command story entry entry r (inr (memory refl), refl)
   plays-unstarted job command story entry r f is memory stands =
       subst (λ (x : Result Whole Fault). StoryPlays (outcome_of_start job command story entry x) entry entry ended) (sym (is (λ e. cc))) (inl (stands (λ e. cc), refl))
+
+  -- it ran, in job rewind and in another
+  pub plays-rewound : (job : Job) (command : Command) (story : FlatStory) (entry exit : Devices) (r : Result Whole Fault) (whole : Whole) → job ≡ Rewind → r ≡ Ok whole
+      → IsRewindOf command.seed command.back (start_for command whole (Some no_events) entry) entry exit ended ⊎ IsStill entry exit ended → StoryPlays (outcome_of_start job command story entry r) entry exit ended
+  plays-rewound job command story entry exit r whole is good run =
+      subst (λ (j : Job). StoryPlays (outcome_of_start j command story entry r) entry exit ended) (sym is)
+      (subst (λ (x : Result Whole Fault). StoryPlays (outcome_of_start Rewind command story entry x) entry exit ended) (sym good) run)
+
+  run-by : (job : Job) (command : Command) (story : FlatStory) (entry exit : Devices) (whole : Whole) → job ≢ Rewind → IsRunOf command.seed (start_for command whole None entry) entry exit ended
+      → StoryPlays (outcome_of_start job command story entry (Ok whole)) entry exit ended
+  run-by Rewind command story entry exit whole other run = absurd (other refl)
+  run-by job command story entry exit whole other run = inl run
+
+  pub plays-run : (job : Job) (command : Command) (story : FlatStory) (entry exit : Devices) (r : Result Whole Fault) (whole : Whole) → job ≢ Rewind → r ≡ Ok whole
+      → IsRunOf command.seed (start_for command whole None entry) entry exit ended → StoryPlays (outcome_of_start job command story entry r) entry exit ended
+  plays-run job command story entry exit r whole other good run =
+      subst (λ (x : Result Whole Fault). StoryPlays (outcome_of_start job command story entry x) entry exit ended) (sym good) (run-by job command story entry exit whole other run)
 
   -- the shelf of a run is that after the story was loaded
   module _ (entry exit : Devices) (most : ℕ) (name : List ℕ) (answer : Result Answer ShelfFault) (shelf : FlatShelf) (asked : Trace) (none-before : entry.asked ≡ [])
@@ -119,10 +146,13 @@ module _ {A : Type 0} (ended : Ended A) where
         inl (record {
           report = run.report;
           sink = run.sink;
+          sends = run.sends;
+          more = run.more;
+          sends_are = run.sends_are;
           run = (
             run.run.0,
             run.run.1,
-            answers-moved (start_for command whole (Some no_events) before) (told_by entry.shelf.files) (devices_for command.seed before) (record after { sink = run.sink; words = run.run.0 }) run.report same-answers run.run.2,
+            answers-moved (start_for command whole (Some no_events) before) (told_by entry.shelf.files) (devices_for command.seed before) (record after { sink = run.sink; sends = run.sends; words = run.run.0 }) run.report same-answers run.run.2,
           );
           rewound = run.rewound;
         })
@@ -138,12 +168,15 @@ module _ {A : Type 0} (ended : Ended A) where
       abbrev Comes : Outcome → Type 0
       Comes outcome = Plays outcome entry exit ended × (IsBegun outcome entry exit ended ⊎ IsIdle job entry exit ended)
 
+      kept : after ≡ before → KeepsSink entry exit
+      kept same = record { sink = ap (λ (d : Devices). d.sink) same; sends = ap (λ (d : Devices). d.sends) same }
+
       idle : ended.machine ≡ None → ended.steps ≡ 0 → after ≡ before → IsIdle job entry exit ended
       idle machine steps same = record {
         machine = machine;
         loads = loads-story job exit.asked plays ((loads name most, answer), asked-are ∙ ap (λ (t : Trace). (loads name most, answer) ∷ t) (ap (λ (d : Devices). d.asked) same ∙ none-before));
-        untouched = record { steps = steps; source = ap (λ (d : Devices). d.source) same; words = ap (λ (d : Devices). d.words) same };
-        unsent = λ _. ap (λ (d : Devices). d.sink) same;
+        untouched = record { steps = steps; source = ap (λ (d : Devices). d.source) same; reads = ap (λ (d : Devices). d.reads) same; words = ap (λ (d : Devices). d.words) same };
+        unsent = λ _. kept same;
       }
 
       unbegun : IsStill before after ended → IsIdle job entry exit ended
@@ -154,16 +187,16 @@ module _ {A : Type 0} (ended : Ended A) where
       begins Run run = record { load = (loads name most, answer); shelf = shelf; asked = asked; asked_are = asked-are; does = does; run = run }
 
       found : (outcome : Outcome) → StoryPlays outcome before after ended → Comes outcome
-      found (unstarted fault at) (inl (absent, same)) = ((inl absent, ap (λ (d : Devices). d.sink) same), inr (idle absent.machine_is absent.steps_are same))
-      found (unstarted fault at) (inr (is, same)) = ((inr is, ap (λ (d : Devices). d.sink) same), inr (unbegun (is, same)))
+      found (unstarted fault at) (inl (absent, same)) = ((inl absent, kept same), inr (idle absent.machine_is absent.steps_are same))
+      found (unstarted fault at) (inr (is, same)) = ((inr is, kept same), inr (unbegun (is, same)))
       found (runs seed start) (inl run) =
           let begun = begins (λ first last. IsRunOf seed start first last ended) run in
           (inl begun, inl begun)
-      found (runs seed start) (inr (is, same)) = (inr (is, ap (λ (d : Devices). d.sink) same), inr (unbegun (is, same)))
+      found (runs seed start) (inr (is, same)) = (inr (is, kept same), inr (unbegun (is, same)))
       found (rewinds seed back start) (inl run) =
           let begun = begins (λ first last. IsRewindOf seed back start first last ended) run in
           (inl begun, inl begun)
-      found (rewinds seed back start) (inr (is, same)) = (inr (is, ap (λ (d : Devices). d.sink) same), inr (unbegun (is, same)))
+      found (rewinds seed back start) (inr (is, same)) = (inr (is, kept same), inr (unbegun (is, same)))
       found outcome none = absurd none
 
       -- the story that was loaded is played

@@ -1,5 +1,7 @@
 -- What job rewind comes to, from its run and the line after it.
 use Rattle.std.proofs.Common.{◌≡◌, ◌≢◌, ℕ, ◌<◌, ◌≤◌, ◌⊎◌, inl, inr, List, refl, subst, sym, arith}
+use Rattle.gx_outside.specs.Sends.{Send}
+use Rattle.gx_outside.specs.declared.devices.SendFault.TheVariants as of_send
 use Rattle.gx_outside.specs.Outside.{FlatSink}
 use Rattle.gx_session.specs.declared.ended.Ended.{Ended}
 use Rattle.gx_session.specs.Constants.{status_ended, status_shelf_fault, status_input_fault, status_output_fault, status_no_memory}
@@ -14,16 +16,21 @@ use Rattle.gx_play.proofs.RunParts.{report-parts}
 
 module _ {A : Type 0} (ended : Ended A) where
   -- THE ANSWER where the line wasn't sent whole
-  module _ (sent : Ended A) (line : List ℕ) (r : Report) (before now : FlatSink) where
-    pub line-unsent : SendsOutput status_ended line before now sent → sent.status ≢ status_ended → HasRun ended sent.status 0 0 r.steps → SendsLine line r before now ended
-    line-unsent (inl (absent, took)) not has = absurd (not absent.status_is)
-    line-unsent (inr (inl absent, front)) not has = inr (inl (inl (subst (λ (s : ℕ). HasRun ended s 0 0 r.steps) absent.status_is has), front))
-    line-unsent (inr (inr (absent, wanted), front)) not has = inr (inl (inr (subst (λ (s : ℕ). HasRun ended s 0 0 r.steps) absent.status_is has, wanted), front))
+  module _ (sent : Ended A) (line : List ℕ) (r : Report) (before now : FlatSink) (sends : List Send) where
+    pub line-whole : SendsOutput status_ended line before now sends sent → sent.status ≡ status_ended → HasRun ended r.status r.fault r.at r.steps → SendsLine line r before now sends ended
+    line-whole (inl (absent, once)) is has = inl (has, once)
+    line-whole (inr (of_send.Failed, absent, front)) is has = let s = absent.status_is in absurd (omega (arith, s, is))
+    line-whole (inr (of_send.NoMemory, (absent, wanted), front)) is has = let s = absent.status_is in absurd (omega (arith, s, is))
 
-  module _ (back : ℕ) (r : Report) (before now : FlatSink) where
+    pub line-unsent : SendsOutput status_ended line before now sends sent → sent.status ≢ status_ended → HasRun ended sent.status 0 0 r.steps → SendsLine line r before now sends ended
+    line-unsent (inl (absent, took)) not has = absurd (not absent.status_is)
+    line-unsent (inr (of_send.Failed, absent, front)) not has = inr (inl (of_send.Failed, subst (λ (s : ℕ). HasRun ended s 0 0 r.steps) absent.status_is has, front))
+    line-unsent (inr (of_send.NoMemory, (absent, wanted), front)) not has = inr (inl (of_send.NoMemory, (subst (λ (s : ℕ). HasRun ended s 0 0 r.steps) absent.status_is has, wanted), front))
+
+  module _ (back : ℕ) (r : Report) (before now : FlatSink) (sends : List Send) where
     -- after a run that came to its end
-    pub rewound-told : r.status < status_shelf_fault → SendsLine (rewind_line back r) r before now ended → IsRewound back r before now ended
-    rewound-told early sends = record { told = λ _. sends; early = λ late. absurd (omega (arith, early, late)) }
+    pub rewound-told : r.status < status_shelf_fault → SendsLine (rewind_line back r) r before now sends ended → IsRewound back r before now sends ended
+    rewound-told early line = record { told = λ _. line; early = λ late. absurd (omega (arith, early, late)) }
 
     below : (status : ℕ) → (status < status_shelf_fault) ⊎ (status_shelf_fault ≤ status)
     below status = grind arith
@@ -39,29 +46,29 @@ module _ {A : Type 0} (ended : Ended A) where
     as-run : (status fault at : ℕ) → HasRun ended status fault at r.steps → IsReport status fault at → IsReport ended.status ended.fault ended.at
     as-run status fault at has report = rw (has.status_is, has.fault_is, has.at_is) report
 
-    line-report : SendsLine (rewind_line back r) r before now ended → IsReport r.status r.fault r.at → IsReport ended.status ended.fault ended.at
+    line-report : SendsLine (rewind_line back r) r before now sends ended → IsReport r.status r.fault r.at → IsReport ended.status ended.fault ended.at
     line-report (inl (has, took)) report = as-run r.status r.fault r.at has report
-    line-report (inr (inl (inl has, front))) report = as-run status_output_fault 0 0 has (quiet status_output_fault (inl refl))
-    line-report (inr (inl (inr (has, wanted), front))) report = as-run status_no_memory 0 0 has (quiet status_no_memory (inr refl))
-    line-report (inr (inr (has, same))) report = as-run status_no_memory 0 0 has (quiet status_no_memory (inr refl))
+    line-report (inr (inl (of_send.Failed, has, front))) report = as-run status_output_fault 0 0 has (quiet status_output_fault (inl refl))
+    line-report (inr (inl (of_send.NoMemory, (has, wanted), front))) report = as-run status_no_memory 0 0 has (quiet status_no_memory (inr refl))
+    line-report (inr (inr (has, same, none))) report = as-run status_no_memory 0 0 has (quiet status_no_memory (inr refl))
 
-    rewound-report : IsRewound back r before now ended → IsReport r.status r.fault r.at → IsReport ended.status ended.fault ended.at
+    rewound-report : IsRewound back r before now sends ended → IsReport r.status r.fault r.at → IsReport ended.status ended.fault ended.at
     rewound-report rewound report =
         elim (below r.status) [
           | inl early ↦ line-report (rewound.told early) report
           | inr late ↦ as-run r.status r.fault r.at (rewound.early late).0 report
         ]
 
-    pub rewound-parts : IsRewound back r before now ended → IsReport r.status r.fault r.at → HasRunParts ⊥ ended
+    pub rewound-parts : IsRewound back r before now sends ended → IsReport r.status r.fault r.at → HasRunParts ⊥ ended
     rewound-parts rewound report = report-parts ended ⊥ (rewound-report rewound report) (λ none. absurd none)
 
   -- THE COUNTS over the run and the line
   module _ (back : ℕ) (r : Report) (entry mid exit : Devices) (counts : Counts entry mid r.status) where
-    line-status : (before now : FlatSink) → SendsLine (rewind_line back r) r before now ended → (ended.status ≡ r.status) ⊎ (ended.status ≡ 10) ⊎ (ended.status ≡ 11)
-    line-status before now (inl (has, took)) = inl has.status_is
-    line-status before now (inr (inl (inl has, front))) = inr (inl has.status_is)
-    line-status before now (inr (inl (inr (has, wanted), front))) = inr (inr has.status_is)
-    line-status before now (inr (inr (has, same))) = inr (inr has.status_is)
+    line-status : (before now : FlatSink) (sends : List Send) → SendsLine (rewind_line back r) r before now sends ended → (ended.status ≡ r.status) ⊎ (ended.status ≡ 10) ⊎ (ended.status ≡ 11)
+    line-status before now sends (inl (has, took)) = inl has.status_is
+    line-status before now sends (inr (inl (of_send.Failed, has, front))) = inr (inl has.status_is)
+    line-status before now sends (inr (inl (of_send.NoMemory, (has, wanted), front))) = inr (inr has.status_is)
+    line-status before now sends (inr (inr (has, same, none))) = inr (inr has.status_is)
 
     told-counts : r.status < status_shelf_fault → (ended.status ≡ r.status) ⊎ (ended.status ≡ 10) ⊎ (ended.status ≡ 11) → BlamesSink mid.sink exit.sink ended.status
         → Counts entry (record mid { sink = exit.sink }) ended.status
@@ -71,10 +78,10 @@ module _ {A : Type 0} (ended : Ended A) where
       sink = blames-on entry.sink.calls mid.sink.calls exit.sink.calls (ended.status ≡ status_output_fault) (well-of entry.sink.calls mid.sink.calls _ counts.sink (λ e. omega (arith, early, e))) blames;
     }
 
-    pub rewound-counts : IsRewound back r mid.sink exit.sink ended → (r.status < status_shelf_fault → BlamesSink mid.sink exit.sink ended.status) → Counts entry (record mid { sink = exit.sink }) ended.status
-    rewound-counts rewound blames =
-        elim (below back r mid.sink exit.sink r.status) [
-          | inl early ↦ told-counts early (line-status mid.sink exit.sink (rewound.told early)) (blames early)
+    pub rewound-counts : (sends : List Send) → IsRewound back r mid.sink exit.sink sends ended → (r.status < status_shelf_fault → BlamesSink mid.sink exit.sink ended.status) → Counts entry (record mid { sink = exit.sink }) ended.status
+    rewound-counts sends rewound blames =
+        elim (below back r mid.sink exit.sink sends r.status) [
+          | inl early ↦ told-counts early (line-status mid.sink exit.sink sends (rewound.told early)) (blames early)
           | inr late ↦
               let over = rewound.early late in
               subst (λ (k : FlatSink). Counts entry (record mid { sink = k }) ended.status) (sym over.1)

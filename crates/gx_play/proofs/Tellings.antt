@@ -1,5 +1,7 @@
 -- What the run of a story that is made of a number comes to.
 use Rattle.std.proofs.Common.{◌≡◌, ℕ, ◌-◌, ◌<◌, ◌≤◌, ◌⊎◌, inl, inr, Bool, true, false, List, [], ◌∷◌, ◌++◌, length, Some, refl, ap, subst, ◌∙◌, arith, decimal}
+use Rattle.gx_outside.specs.Reads.{Read}
+use Rattle.gx_outside.specs.Sends.{Send}
 use Rattle.gx_outside.specs.Shelves.{Request, Answer, Trace}
 use Rattle.gx_state.specs.Flat.{FlatState}
 use Rattle.gx_machine.specs.Machine.{Whole, FlatMachine}
@@ -7,15 +9,13 @@ use Rattle.gx_session.specs.Constants.{status_shelf_fault, status_no_memory}
 use Rattle.gx_session.specs.Devices.{Devices, devices}
 use Rattle.gx_session.specs.Session.{Configuration, final_of}
 use Rattle.gx_session.specs.Runs.{IsRun, IsSession, Report, EndsAt}
-use Rattle.gx_play.specs.Jobs.{no_shelf, zeros, work_machine, work_start, work_line, ram_sum_of}
+use Rattle.gx_play.specs.Jobs.{gathered, no_shelf, no_source, zeros, work_machine, work_start, work_line, ram_sum_of}
 
 -- devices that hold nothing but this text, and never failed, after so many calls; how many bytes were offered in all,
 -- and whether the last send wanted memory, and the last call of the shelf
-abbrev pub quiet : ℕ → ℕ → ℕ → List ℕ → ℕ → Bool → Bool → Trace → Devices
-quiet reads offered sends text asks send-wanted shelf-wanted asked =
-    devices (record { calls = record { made = reads; faults = 0; failing = false; wanting = false }; offered = offered; tells = true; left = [] })
-    (record { calls = record { made = sends; faults = 0; failing = false; wanting = send-wanted }; tells = true; taken = text })
-    (no_shelf asks shelf-wanted) zeros asked
+abbrev pub quiet : ℕ → ℕ → ℕ → List ℕ → ℕ → Bool → Bool → List Read → List Send → Trace → Devices
+quiet reads offered sends text asks send-wanted shelf-wanted read sent asked =
+    devices (no_source reads offered) (gathered sends send-wanted text) (no_shelf asks shelf-wanted) zeros read sent asked
 
 -- the three numbers of a run, and the machine
 pub record Tells (start : Configuration) (text : List ℕ) (r : Report) : Type 0 where
@@ -23,18 +23,18 @@ pub record Tells (start : Configuration) (text : List ℕ) (r : Report) : Type 0
   pub text_is : text ≡ (final_of start).configuration.world.text
   pub machine : r.machine.machine ≡ (final_of start).configuration.machine
 
-module _ (w : Whole) (reads offered sends asks reads' offered' sends' asks' : ℕ) (send shelf send' shelf' : Bool) (asked : Trace) (text : List ℕ) (r : Report) where
+module _ (w : Whole) (reads offered sends asks reads' offered' sends' asks' : ℕ) (send shelf send' shelf' : Bool) (read : List Read) (sent : List Send) (asked : Trace) (text : List ℕ) (r : Report) where
   abbrev start : Configuration
   start = work_start w
 
   abbrev entry : Devices
-  entry = quiet reads offered sends [] asks send shelf []
+  entry = quiet reads offered sends [] asks send shelf [] [] []
 
   abbrev exit : Devices
-  exit = quiet reads' offered' sends' text asks' send' shelf' asked
+  exit = quiet reads' offered' sends' text asks' send' shelf' read sent asked
 
-  at-end : EndsAt start (final_of start) entry exit r → Tells start text r
-  at-end e =
+  at-end : (coming : List ℕ) → EndsAt start (final_of start) entry exit coming r → Tells start text r
+  at-end coming e =
       let steps = e.steps_are in
       record {
         steps = omega (arith, steps);
@@ -42,11 +42,11 @@ module _ (w : Whole) (reads offered sends asks reads' offered' sends' asks' : �
         machine = ap (λ (x : Whole). x.machine) e.machine_is;
       }
 
-  told : (input : List ℕ) (answers : Trace → Request → Answer) → input ≡ [] → answers ≡ start.answers → IsSession (record start { input = input; answers = answers }) entry exit r → r.status < status_shelf_fault → Tells start text r
-  told input answers is same session early =
-      at-end
-      (subst (λ (a : Trace → Request → Answer). EndsAt (record start { answers = a }) (final_of (record start { answers = a })) entry exit r) same
-      (subst (λ (i : List ℕ). EndsAt (record start { input = i; answers = answers }) (final_of (record start { input = i; answers = answers })) entry exit r) is (session.ended early)))
+  told : (input coming : List ℕ) (answers : Trace → Request → Answer) → input ≡ [] → answers ≡ start.answers → IsSession (record start { input = input; answers = answers }) entry exit coming r → r.status < status_shelf_fault → Tells start text r
+  told input coming answers is same session early =
+      at-end coming
+      (subst (λ (a : Trace → Request → Answer). EndsAt (record start { answers = a }) (final_of (record start { answers = a })) entry exit coming r) same
+      (subst (λ (i : List ℕ). EndsAt (record start { input = i; answers = answers }) (final_of (record start { input = i; answers = answers })) entry exit coming r) is (session.ended early)))
 
   below : (status : ℕ) → (status ≡ 0) ⊎ ((3 ≤ status) × (status ≤ 11)) → (status ≡ 8 → ⊥) → (status ≡ 9 → ⊥) → (status ≡ 10 → ⊥) → (status ≡ 11 → ⊥) → status < 8
   below status (inl e) shelf source sink memory = omega (arith, e)
@@ -61,10 +61,10 @@ module _ (w : Whole) (reads offered sends asks reads' offered' sends' asks' : �
       (λ e. let rose : 0 ≡ 1 = run.counts.sink.rose e in absurd (omega (arith, rose)))
       memory in
       let s = run.session in
-      told s.input s.answers (s.input_is refl) (s.answers_are refl) s.session early
+      told s.input s.coming s.answers (s.input_is refl) (s.answers_are refl) s.session early
 
-  pub tells-of : (before : List ℕ) → before ≡ [] → IsRun (work_start w) (quiet reads offered sends before asks send shelf []) exit r → (r.status ≡ status_no_memory → ⊥) → Tells (work_start w) text r
-  tells-of before is run memory = came (subst (λ (b : List ℕ). IsRun (work_start w) (quiet reads offered sends b asks send shelf []) exit r) is run) memory
+  pub tells-of : (before : List ℕ) → before ≡ [] → IsRun (work_start w) (quiet reads offered sends before asks send shelf [] [] []) exit r → (r.status ≡ status_no_memory → ⊥) → Tells (work_start w) text r
+  tells-of before is run memory = came (subst (λ (b : List ℕ). IsRun (work_start w) (quiet reads offered sends b asks send shelf [] [] []) exit r) is run) memory
 
   -- the line that is made of them
   pub line-is : (number : ℕ) (f : FlatState) (sum : ℕ) → work_machine number ≡ Some w → Tells (work_start w) text r → f ≡ r.machine.machine.flat → sum ≡ ram_sum_of f

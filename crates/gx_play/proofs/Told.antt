@@ -1,5 +1,6 @@
 -- What the jobs asm and list tell, by what their parts answered.
-use Rattle.std.proofs.Common.{◌≡◌, ◌≢◌, ◌≤◌, ℕ, List, Result, Ok, Err, IsOk, inl, inr, refl, sym, subst, arith}
+use Rattle.std.proofs.Common.{◌≡◌, ◌≢◌, ◌≤◌, ℕ, List, Result, Ok, Err, IsOk, inl, inr, refl, sym, subst, arith, []}
+use Rattle.gx_outside.specs.Sends.{Send}
 use Rattle.gx_outside.specs.Outside.{FlatSink}
 use Rattle.gx_asm.specs.declared.faults.AsmFault.{AsmFault}
 use Rattle.gx_asm.specs.declared.faults.AsmFault.TheVariants as of_text
@@ -14,45 +15,45 @@ use Rattle.gx_play.specs.Loading.{JobTells}
 
 module _ {A : Type 0} (ended : Ended A) where
   -- JOB ASM
-  code-unsent : (r : Result (List ℕ) AsmFault) (before : FlatSink) → IsOk r → HasNoMachine ended status_no_memory 0 0 → JobTells (outcome_of_code r) before before ended
-  code-unsent (Ok code) before is absent = inr (absent, refl)
+  code-unsent : (r : Result (List ℕ) AsmFault) (before : FlatSink) → IsOk r → HasNoMachine ended status_no_memory 0 0 → JobTells (outcome_of_code r) before before [] ended
+  code-unsent (Ok code) before is absent = inr (absent, refl, refl)
   code-unsent (Err fault) before is absent = absurd (cc)
 
-  code-faulty : (r : Result (List ℕ) AsmFault) (before : FlatSink) (fault : AsmFault) → r ≡ Err fault → HasNoMachine ended status_bad_text (number_in_text fault) (line_in_text fault) → JobTells (outcome_of_code r) before before ended
-  code-faulty r before fault is absent = subst (λ (x : Result (List ℕ) AsmFault). JobTells (outcome_of_code x) before before ended) (sym is) (absent, refl)
+  code-faulty : (r : Result (List ℕ) AsmFault) (before : FlatSink) (fault : AsmFault) → r ≡ Err fault → HasNoMachine ended status_bad_text (number_in_text fault) (line_in_text fault) → JobTells (outcome_of_code r) before before [] ended
+  code-faulty r before fault is absent = subst (λ (x : Result (List ℕ) AsmFault). JobTells (outcome_of_code x) before before [] ended) (sym is) (absent, refl, refl)
 
   pub code-refused : (r : Result (List ℕ) AsmFault) (before : FlatSink) (fault : AsmFault) → (fault ≢ of_text.NoMemory → r ≡ Err fault) → (fault ≡ of_text.NoMemory → IsOk r)
       → (fault ≡ of_text.NoMemory → HasNoMachine ended status_no_memory 0 0) → (fault ≢ of_text.NoMemory → HasNoMachine ended status_bad_text (number_in_text fault) (line_in_text fault))
-      → JobTells (outcome_of_code r) before before ended
+      → JobTells (outcome_of_code r) before before [] ended
   code-refused r before of_text.NoMemory is ok memory absent = code-unsent r before (ok refl) (memory refl)
   code-refused r before fault is ok memory absent = code-faulty r before fault (is (λ e. cc)) (absent (λ e. cc))
 
   -- memory ran out before its story was whole
-  pub code-unwrapped : (r : Result (List ℕ) AsmFault) (before : FlatSink) (code : List ℕ) → r ≡ Ok code → HasNoMachine ended status_no_memory 0 0 → JobTells (outcome_of_code r) before before ended
-  code-unwrapped r before code is absent = subst (λ (x : Result (List ℕ) AsmFault). JobTells (outcome_of_code x) before before ended) (sym is) (inr (absent, refl))
+  pub code-unwrapped : (r : Result (List ℕ) AsmFault) (before : FlatSink) (code : List ℕ) → r ≡ Ok code → HasNoMachine ended status_no_memory 0 0 → JobTells (outcome_of_code r) before before [] ended
+  code-unwrapped r before code is absent = subst (λ (x : Result (List ℕ) AsmFault). JobTells (outcome_of_code x) before before [] ended) (sym is) (inr (absent, refl, refl))
 
-  pub code-sent : (r : Result (List ℕ) AsmFault) (before now : FlatSink) (code story : List ℕ) → r ≡ Ok code → story ≡ wrapped code → SendsOutput status_ended story before now ended → JobTells (outcome_of_code r) before now ended
-  code-sent r before now code story is made sends =
-      subst (λ (x : Result (List ℕ) AsmFault). JobTells (outcome_of_code x) before now ended) (sym is)
-      (inl (subst (λ (s : List ℕ). SendsOutput status_ended s before now ended) made sends))
+  pub code-sent : (r : Result (List ℕ) AsmFault) (before now : FlatSink) (sends : List Send) (code story : List ℕ) → r ≡ Ok code → story ≡ wrapped code → SendsOutput status_ended story before now sends ended → JobTells (outcome_of_code r) before now sends ended
+  code-sent r before now sends code story is made once =
+      subst (λ (x : Result (List ℕ) AsmFault). JobTells (outcome_of_code x) before now sends ended) (sym is)
+      (inl (subst (λ (s : List ℕ). SendsOutput status_ended s before now sends ended) made once))
 
   -- JOB LIST
-  listing-unsent : (r : Result (List ℕ) ListFault) (before : FlatSink) → IsOk r → HasNoMachine ended status_no_memory 0 0 → JobTells (outcome_of_listing r) before before ended
-  listing-unsent (Ok text) before is absent = inr (absent, refl)
+  listing-unsent : (r : Result (List ℕ) ListFault) (before : FlatSink) → IsOk r → HasNoMachine ended status_no_memory 0 0 → JobTells (outcome_of_listing r) before before [] ended
+  listing-unsent (Ok text) before is absent = inr (absent, refl, refl)
   listing-unsent (Err fault) before is absent = absurd (cc)
 
   listing-faulty : (r : Result (List ℕ) ListFault) (before : FlatSink) (fault : ListFault) → r ≡ Err fault → HasNoMachine ended status_no_listing (number_in_code fault) (place_in_code fault)
-      → JobTells (outcome_of_listing r) before before ended
-  listing-faulty r before fault is absent = subst (λ (x : Result (List ℕ) ListFault). JobTells (outcome_of_listing x) before before ended) (sym is) (absent, refl)
+      → JobTells (outcome_of_listing r) before before [] ended
+  listing-faulty r before fault is absent = subst (λ (x : Result (List ℕ) ListFault). JobTells (outcome_of_listing x) before before [] ended) (sym is) (absent, refl, refl)
 
   pub listing-refused : (r : Result (List ℕ) ListFault) (before : FlatSink) (fault : ListFault) → (fault ≢ of_code.NoMemory → r ≡ Err fault) → (fault ≡ of_code.NoMemory → IsOk r)
       → (fault ≡ of_code.NoMemory → HasNoMachine ended status_no_memory 0 0) → (fault ≢ of_code.NoMemory → HasNoMachine ended status_no_listing (number_in_code fault) (place_in_code fault))
-      → JobTells (outcome_of_listing r) before before ended
+      → JobTells (outcome_of_listing r) before before [] ended
   listing-refused r before of_code.NoMemory is ok memory absent = listing-unsent r before (ok refl) (memory refl)
   listing-refused r before fault is ok memory absent = listing-faulty r before fault (is (λ e. cc)) (absent (λ e. cc))
 
-  pub listing-sent : (r : Result (List ℕ) ListFault) (before now : FlatSink) (text : List ℕ) → r ≡ Ok text → SendsOutput status_ended text before now ended → JobTells (outcome_of_listing r) before now ended
-  listing-sent r before now text is sends = subst (λ (x : Result (List ℕ) ListFault). JobTells (outcome_of_listing x) before now ended) (sym is) (inl sends)
+  pub listing-sent : (r : Result (List ℕ) ListFault) (before now : FlatSink) (sends : List Send) (text : List ℕ) → r ≡ Ok text → SendsOutput status_ended text before now sends ended → JobTells (outcome_of_listing r) before now sends ended
+  listing-sent r before now sends text is once = subst (λ (x : Result (List ℕ) ListFault). JobTells (outcome_of_listing x) before now sends ended) (sym is) (inl once)
 
 -- the numbers that a line shows
 pub text-number : (fault : AsmFault) → fault ≢ of_text.NoMemory → number_in_text fault ≤ 4

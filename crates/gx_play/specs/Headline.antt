@@ -10,11 +10,12 @@
 --   sent or drawn then either.
 -- - Else the story runs. The run is the session of gx_session/specs/Session, from the story's first machine, with the
 --   command's depth of undo, to the session's end (`IsRun`): its status, fault, address and steps, the machine and what
---   it asks, the text, the random words and the input that is left; how often some of the text was sent; and the calls
---   of the shelf, one by one: what was loaded, stored, removed and looked for, under which names and in which order, and
---   what the shelf answered (`asked_are`). Or it was cut short, because a device failed or memory ran out: then the
---   machine stands at one of the session's configurations, a front of the text up to there was sent, and the calls of
---   the shelf are those up to there, with the one that was refused where it was the shelf that refused.
+--   it asks, the text, the random words and the input that is left; the calls of the sink, one by one: which bytes of
+--   the text each was handed, and that it took them whole (`sends_are`); and the calls of the shelf, one by one: what
+--   was loaded, stored, removed and looked for, under which names and in which order, and what the shelf answered
+--   (`asked_are`). Or it was cut short, because a device failed or memory ran out: then the machine stands at one of the
+--   session's configurations, and the calls of the sink and of the shelf are those up to there, with the one that was
+--   refused where it was the sink or the shelf that refused.
 -- - In job rewind the story runs just so, and its run is recorded. Where it came to its end, with a status below 8, one
 --   line of specs/Rewinding follows the text as it stands, also in mid-line. It tells of the machine at the newest
 --   beginning of a step since when at least so many units were used as the command says; at the first one, where fewer
@@ -57,7 +58,8 @@
 --
 -- The shelf is asked once for the file, and then exactly as the session asks it; in job work it isn't asked. Where it
 -- tells what it holds, each answer is the one of its files as the calls before left them, and its files in the end are
--- what the calls make of them, but for the one that a refused store or remove leaves open (`shelf_calls`). Text is
+-- what the calls make of them, but for the one that a refused store or remove leaves open (`shelf_calls`). What a
+-- source and a sink that tell hold in the end follows likewise (`source_calls`, `sink_calls`). Text is
 -- sent before the shelf or the source is asked for anything. Each read of the source has room for 4,096 bytes; fewer
 -- are read ahead of the lines that were taken, and none where no line is awaited. The status blames a device exactly
 -- where a call of it failed in this run, which was then its last one. Each restoreundo of the session goes back to the
@@ -71,8 +73,10 @@
 -- in memory does. A real one doesn't, and there the run is that of the bytes that it handed out (`loads`), and the
 -- session's answers are those that it gave (`answers` in `IsSomeSession`): whatever a shelf does, the session's calls
 -- are those that were made, with the answers that came. Likewise the input is what a source that tells has left; for a
--- real one there is some input with which the run is the session. Which bytes the sink took is said of one that tells,
--- and how often it was called of every one.
+-- real one it is the bytes that its reads gave, one after another, and some that may be still to come (`GiveInput`).
+-- Which bytes a sink was handed, call by call, is said of every one; which of them it took, of one that tells. What a
+-- call of a device is to it, `called`, may be no more than how it is counted, as with the program's own: that the calls
+-- here are those that were made rests on `play` being proved for every source, sink and shelf.
 --
 -- Limits: nothing is said of time, nor of how much memory a run takes; that ample memory suffices is only tested.
 -- Nothing is said of what a terminal makes of the text: the composed screen counts columns by the crate unicode_width.
@@ -108,7 +112,11 @@ use Rattle.gx_words.specs.Constants.{ceiling}
 use Rattle.gx_outside.specs.Chains.{Chain}
 use Rattle.gx_outside.specs.Files.{Files}
 use Rattle.gx_outside.specs.Outside.{FlatShelf, FlatSink, raised}
+use Rattle.gx_outside.specs.Reads.{SourceCall}
+use Rattle.gx_outside.specs.Sends.{Send, SinkCall}
 use Rattle.gx_outside.specs.Shelves.{loads, Answer, loaded, Call, Trace, load_of, ShelfCall}
+use Rattle.gx_outside.specs.declared.devices.SendFault.{SendFault}
+use Rattle.gx_outside.specs.declared.devices.SendFault.TheVariants as of_send
 use Rattle.gx_outside.specs.declared.devices.ShelfFault.{ShelfFault}
 use Rattle.gx_story.specs.declared.faults.StoryFault.{StoryFault}
 use Rattle.gx_story.specs.declared.faults.StoryFault.TheVariants.{TooLarge}
@@ -240,21 +248,34 @@ abbrev pub IsUnbegun : {A : Type 0} → Ended A → Type 0
 IsUnbegun ended = HasNoMachine ended status_shelf_fault 0 0 ⊎ HasNoMachine ended status_no_memory 0 0
 
 -- an output wasn't sent whole: the sink failed, or it says that it wanted memory
-abbrev pub IsUnsent : {A : Type 0} → FlatSink → Ended A → Type 0
-IsUnsent sink ended =
-    HasNoMachine ended status_output_fault 0 0 ⊎ (HasNoMachine ended status_no_memory 0 0 × (sink.calls.wanting ≡ true))
+abbrev pub IsUnsent : {A : Type 0} → SendFault → FlatSink → Ended A → Type 0
+IsUnsent of_send.Failed sink ended = HasNoMachine ended status_output_fault 0 0
+IsUnsent of_send.NoMemory sink ended = HasNoMachine ended status_no_memory 0 0 × (sink.calls.wanting ≡ true)
 
--- The sink was called once, and took these bytes.
-pub record TakesOnce (bytes : List ℕ) (before now : FlatSink) : Type 0 where
+-- The sink wasn't called.
+pub record KeepsSink (entry exit : Devices) : Type 0 where
+  pub sink : exit.sink ≡ entry.sink
+  pub sends : exit.sends ≡ entry.sends
+
+-- The sink was called once, with these bytes and this answer. One that tells has taken this of them.
+pub record SendsOnce (bytes taken : List ℕ) (answer : Result (Unit {0}) SendFault) (before now : FlatSink)
+    (sends : List Send) : Type 0 where
+  pub sends_are : sends ≡ (bytes, answer) ∷ []
   pub made : now.calls.made ≡ raised before.calls.made
   pub tells : now.tells ≡ before.tells
-  pub taken : before.tells ≡ true → now.taken ≡ before.taken ++ bytes
+  pub taken_is : before.tells ≡ true → now.taken ≡ before.taken ++ taken
+
+-- It was refused, and a front was taken.
+pub record SendsFront (bytes : List ℕ) (fault : SendFault) (before now : FlatSink) (sends : List Send) : Type 0 where
+  pub front : List ℕ
+  pub is_front : IsFront front bytes
+  pub once : SendsOnce bytes front (Err fault) before now sends
 
 -- an output was sent, or a front of it
-abbrev pub SendsOutput : {A : Type 0} → ℕ → List ℕ → FlatSink → FlatSink → Ended A → Type 0
-SendsOutput status output before now ended =
-    (HasNoMachine ended status 0 0 × TakesOnce output before now)
-    ⊎ (IsUnsent now ended × ((front : List ℕ) × IsFront front output × TakesOnce front before now))
+abbrev pub SendsOutput : {A : Type 0} → ℕ → List ℕ → FlatSink → FlatSink → List Send → Ended A → Type 0
+SendsOutput status output before now sends ended =
+    (HasNoMachine ended status 0 0 × SendsOnce output output (Ok tt) before now sends)
+    ⊎ ((fault : SendFault) × IsUnsent fault now ended × SendsFront output fault before now sends)
 
 -- The session from a start was run over these devices, with the words of the seed or the device's.
 abbrev pub IsRunOf : {A : Type 0} → Option ℕ → Configuration → Devices → Devices → Ended A → Type 0
@@ -272,21 +293,24 @@ pub record HasRun {A : Type 0} (ended : Ended A) (status fault at steps : ℕ) :
   pub machine_is : ended.machine ≡ None
 
 -- its line wasn't sent whole: the sink failed, or it says that it wanted memory
-abbrev pub IsLineUnsent : {A : Type 0} → FlatSink → Ended A → ℕ → Type 0
-IsLineUnsent sink ended steps =
-    HasRun ended status_output_fault 0 0 steps ⊎ (HasRun ended status_no_memory 0 0 steps × (sink.calls.wanting ≡ true))
+abbrev pub IsLineUnsent : {A : Type 0} → SendFault → FlatSink → Ended A → ℕ → Type 0
+IsLineUnsent of_send.Failed sink ended steps = HasRun ended status_output_fault 0 0 steps
+IsLineUnsent of_send.NoMemory sink ended steps =
+    HasRun ended status_no_memory 0 0 steps × (sink.calls.wanting ≡ true)
 
 -- the line was sent, or a front of it, or memory ran out before
-abbrev pub SendsLine : {A : Type 0} → List ℕ → Report → FlatSink → FlatSink → Ended A → Type 0
-SendsLine line r before now ended =
-    (HasRun ended r.status r.fault r.at r.steps × TakesOnce line before now)
-    ⊎ (IsLineUnsent now ended r.steps × ((front : List ℕ) × IsFront front line × TakesOnce front before now))
-    ⊎ (HasRun ended status_no_memory 0 0 r.steps × (now ≡ before))
+abbrev pub SendsLine : {A : Type 0} → List ℕ → Report → FlatSink → FlatSink → List Send → Ended A → Type 0
+SendsLine line r before now sends ended =
+    (HasRun ended r.status r.fault r.at r.steps × SendsOnce line line (Ok tt) before now sends)
+    ⊎ ((fault : SendFault) × IsLineUnsent fault now ended r.steps × SendsFront line fault before now sends)
+    ⊎ (HasRun ended status_no_memory 0 0 r.steps × (now ≡ before) × (sends ≡ []))
 
 -- After a run that came to its end the line is sent, and after one that was cut short nothing.
-pub record IsRewound {A : Type 0} (back : ℕ) (r : Report) (before now : FlatSink) (ended : Ended A) : Type 0 where
-  pub told : r.status < status_shelf_fault → SendsLine (rewind_line back r) r before now ended
-  pub early : status_shelf_fault ≤ r.status → HasRun ended r.status r.fault r.at r.steps × (now ≡ before)
+pub record IsRewound {A : Type 0} (back : ℕ) (r : Report) (before now : FlatSink) (sends : List Send)
+    (ended : Ended A) : Type 0 where
+  pub told : r.status < status_shelf_fault → SendsLine (rewind_line back r) r before now sends ended
+  pub early : status_shelf_fault ≤ r.status
+      → HasRun ended r.status r.fault r.at r.steps × (now ≡ before) × (sends ≡ [])
 
 -- The session from a start was run over these devices in the same way, up to this report.
 abbrev pub IsRunTo : Option ℕ → Configuration → Devices → Devices → Report → Type 0
@@ -294,13 +318,16 @@ IsRunTo seed start entry exit r =
     (left : Stream) × AreLeft seed left entry.words exit.words
     × IsRun start (devices_for seed entry) (record exit { words = left }) r
 
--- It was so, and left this sink; and then came the line.
+-- It was so, and left this sink after these sends; and then came the line.
 pub record IsRewindOf {A : Type 0} (seed : Option ℕ) (back : ℕ) (start : Configuration) (entry exit : Devices)
     (ended : Ended A) : Type 0 where
   pub report : Report
   pub sink : FlatSink
-  pub run : IsRunTo seed start entry (record exit { sink = sink }) report
-  pub rewound : IsRewound back report sink exit.sink ended
+  pub sends : List Send
+  pub more : List Send
+  pub sends_are : exit.sends ≡ sends ++ more
+  pub run : IsRunTo seed start entry (record exit { sink = sink; sends = sends }) report
+  pub rewound : IsRewound back report sink exit.sink more ended
 
 -- A run was begun, after one call of the shelf. It finds the shelf as it is then, and what it asks is the rest.
 pub record BeginsAfter (entry exit : Devices) (Run : Devices → Devices → Type 0) : Type 0 where
@@ -321,15 +348,15 @@ IsBegun outcome entry exit ended = ⊥
 -- What is answered and left behind is the outcome's.
 abbrev pub Plays : {A : Type 0} → Outcome → Devices → Devices → Ended A → Type 0
 Plays (refused status fault at) entry exit ended =
-    (HasNoMachine ended status fault at ⊎ IsUnbegun ended) × (exit.sink ≡ entry.sink)
+    (HasNoMachine ended status fault at ⊎ IsUnbegun ended) × KeepsSink entry exit
 Plays (unstarted fault at) entry exit ended =
-    (HasNoMachine ended status_fault (number_of fault) at ⊎ IsUnbegun ended) × (exit.sink ≡ entry.sink)
+    (HasNoMachine ended status_fault (number_of fault) at ⊎ IsUnbegun ended) × KeepsSink entry exit
 Plays (runs seed start) entry exit ended =
-    IsBegun (runs seed start) entry exit ended ⊎ (IsUnbegun ended × (exit.sink ≡ entry.sink))
+    IsBegun (runs seed start) entry exit ended ⊎ (IsUnbegun ended × KeepsSink entry exit)
 Plays (rewinds seed back start) entry exit ended =
-    IsBegun (rewinds seed back start) entry exit ended ⊎ (IsUnbegun ended × (exit.sink ≡ entry.sink))
+    IsBegun (rewinds seed back start) entry exit ended ⊎ (IsUnbegun ended × KeepsSink entry exit)
 Plays (tells status output) entry exit ended =
-    SendsOutput status output entry.sink exit.sink ended ⊎ (IsUnbegun ended × (exit.sink ≡ entry.sink))
+    SendsOutput status output entry.sink exit.sink exit.sends ended ⊎ (IsUnbegun ended × KeepsSink entry exit)
 
 -- what a shelf that tells holds under the file's name
 abbrev pub IsFile : Option Command → FlatShelf → Option (List ℕ) → Type 0
@@ -386,6 +413,7 @@ LoadsOnceFor (Some command) entry exit status =
 pub record IsUntouched {A : Type 0} (entry exit : Devices) (ended : Ended A) : Type 0 where
   pub steps : ended.steps ≡ 0
   pub source : exit.source ≡ entry.source
+  pub reads : exit.reads ≡ entry.reads
   pub words : exit.words ≡ entry.words
 
 -- the jobs that play a story
@@ -404,7 +432,7 @@ pub record IsUnrun {A : Type 0} (command : Option Command) (entry exit : Devices
   pub machine : ended.machine ≡ None
   pub loads : LoadsOnceFor command entry exit ended.status
   pub untouched : IsUntouched entry exit ended
-  pub unsent : IsPlaying command → exit.sink ≡ entry.sink
+  pub unsent : IsPlaying command → KeepsSink entry exit
 
 -- A COMMAND COMES TO ITS OUTCOME, and a run was begun or not.
 pub record ComesOut {A : Type 0} (command : Option Command) (entry exit : Devices) (ended : Ended A) : Type 0 where
@@ -482,6 +510,8 @@ IsComplete command entry exit status =
 -- THE CONTRACT OF `play`, between what the devices hold at entry and at exit.
 pub record IsPlayed {A : Type 0} (words : List (List ℕ)) (entry exit : Devices) (ended : Ended A) : Type 0 where
   pub headline : ComesOut (command_of words) entry exit ended
+  pub source_calls : Chain SourceCall entry.source exit.reads exit.source
+  pub sink_calls : Chain SinkCall entry.sink exit.sends exit.sink
   pub shelf_calls : Chain ShelfCall entry.shelf exit.asked exit.shelf
   pub bad_words : (ended.status ≡ status_bad_words) ↔ ((command_of words ≡ None) × (ended.status ≢ status_no_memory))
   pub unread : command_of words ≡ None → exit ≡ entry

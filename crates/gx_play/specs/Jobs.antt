@@ -4,7 +4,7 @@ use Rattle.std.specs.Prelude.{length, replicate, Option, Some, None, Result, Ok,
 use Rattle.gx_words.specs.Numbers.{word}
 use Rattle.gx_words.specs.declared.faults.Fault.{Fault}
 use Rattle.gx_outside.specs.Files.{no_files}
-use Rattle.gx_outside.specs.Outside.{FlatShelf, no_call}
+use Rattle.gx_outside.specs.Outside.{FlatSource, FlatSink, FlatShelf}
 use Rattle.gx_story.specs.declared.faults.StoryFault.{StoryFault}
 use Rattle.gx_story.specs.Stories.{FlatStory, accepted}
 use Rattle.gx_state.specs.Flat.{FlatState}
@@ -40,6 +40,25 @@ check_line false = line_of (codes "checksum differs")
 abbrev pub zeros : Stream
 zeros = record { u32_after = λ calls. 0; u64_after = λ calls. 0; bytes_after = λ calls n. replicate n 0 }
 
+-- a source in which nothing is left, after so many reads, which had room for so many bytes in all
+abbrev pub no_source : ℕ → ℕ → FlatSource
+no_source reads offered =
+    record {
+      calls = record { made = reads; faults = 0; failing = false; wanting = false };
+      offered = offered;
+      tells = true;
+      left = [];
+    }
+
+-- a sink with this text, after so many sends, the last of which wanted memory or didn't
+abbrev pub gathered : ℕ → Bool → List ℕ → FlatSink
+gathered sends wanting text =
+    record {
+      calls = record { made = sends; faults = 0; failing = false; wanting = wanting };
+      tells = true;
+      taken = text;
+    }
+
 -- a shelf without files, after so many calls, the last of which wanted memory or didn't
 abbrev pub no_shelf : ℕ → Bool → FlatShelf
 no_shelf calls wanting =
@@ -51,10 +70,7 @@ no_shelf calls wanting =
 
 -- no input, no text, no files
 abbrev pub nothing : Devices
-nothing =
-    devices (record { calls = no_call; offered = 0; tells = true; left = [] })
-    (record { calls = no_call; tells = true; taken = [] })
-    (no_shelf 0 false) zeros []
+nothing = devices (no_source 0 0) (gathered 0 false []) (no_shelf 0 false) zeros [] [] []
 
 -- the machine that starts the story of a number, where the story is accepted and can be started (every one is and can:
 -- `works` in specs/Headline)

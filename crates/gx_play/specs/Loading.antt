@@ -3,6 +3,7 @@
 use Rattle.std.specs.Prelude.{◌≡◌, ◌≢◌, ◌⊎◌, ℕ, true, List, [], ◌∷◌, Option, None, Result, Ok, Err}
 use Rattle.gx_words.specs.Faults.{number_of}
 use Rattle.gx_outside.specs.Outside.{FlatShelf, FlatSink}
+use Rattle.gx_outside.specs.Sends.{Send}
 use Rattle.gx_outside.specs.Shelves.{loads, Answer, Trace, ShelfCall}
 use Rattle.gx_outside.specs.declared.devices.ShelfFault.{ShelfFault}
 use Rattle.gx_outside.specs.declared.devices.ShelfFault.TheVariants as of_shelf
@@ -20,7 +21,8 @@ use Rattle.gx_play.specs.declared.loading.Refusal.{Refusal}
 use Rattle.gx_play.specs.declared.loading.Refusal.TheVariants as refusal
 use Rattle.gx_play.specs.Commands.{Command}
 use Rattle.gx_play.specs.Headline.{Outcome, refused, unstarted, runs, rewinds, tells, outcome_of_job, HasNoMachine}
-use Rattle.gx_play.specs.Headline.{IsUnbegun, SendsOutput, IsRunOf, IsRewindOf, IsBegun, IsHanded, LoadsFirst}
+use Rattle.gx_play.specs.Headline.{IsUnbegun, KeepsSink, SendsOutput, IsRunOf, IsRewindOf, IsBegun, IsHanded}
+use Rattle.gx_play.specs.Headline.{LoadsFirst}
 use Rattle.gx_play.specs.Headline.{IsLoadable, HasItsParts, IsUntouched, LoadsOnce, MayWant, Plays, PlaysStory}
 
 -- what a shelf's fault is to a story that is loaded
@@ -77,11 +79,13 @@ StoryPlays outcome entry exit ended = ⊥
 
 -- What a file that was loaded is told as, where no machine is started: nothing is sent with a refusal; and before an
 -- output is sent, memory may run out.
-abbrev pub JobTells : {A : Type 0} → Outcome → FlatSink → FlatSink → Ended A → Type 0
-JobTells (refused status fault at) before now ended = HasNoMachine ended status fault at × (now ≡ before)
-JobTells (tells status output) before now ended =
-    SendsOutput status output before now ended ⊎ (HasNoMachine ended status_no_memory 0 0 × (now ≡ before))
-JobTells outcome before now ended = ⊥
+abbrev pub JobTells : {A : Type 0} → Outcome → FlatSink → FlatSink → List Send → Ended A → Type 0
+JobTells (refused status fault at) before now sends ended =
+    HasNoMachine ended status fault at × (now ≡ before) × (sends ≡ [])
+JobTells (tells status output) before now sends ended =
+    SendsOutput status output before now sends ended
+    ⊎ (HasNoMachine ended status_no_memory 0 0 × (now ≡ before) × (sends ≡ []))
+JobTells outcome before now sends ended = ⊥
 
 -- what goes with the status where a story is played, with the machine or without it
 abbrev pub HasRunParts : {A : Type 0} → Type 0 → Ended A → Type 0
@@ -96,7 +100,7 @@ pub record IsIdle {A : Type 0} (job : Job) (entry exit : Devices) (ended : Ended
   pub machine : ended.machine ≡ None
   pub loads : LoadsOnce job exit.asked
   pub untouched : IsUntouched entry exit ended
-  pub unsent : PlaysStory job → exit.sink ≡ entry.sink
+  pub unsent : PlaysStory job → KeepsSink entry exit
 
 -- WHAT A COMMAND COMES TO with this job: the clauses of `play` for a command line that has one.
 pub record IsDone {A : Type 0} (job : Job) (command : Command) (entry exit : Devices) (ended : Ended A) : Type 0 where

@@ -30,10 +30,10 @@ pub fn assemble_file<A: Allocator + Clone, K: Sink, F: Shelf>(
     output: &mut K,
     shelf: &mut F,
 ) -> Ended<A>
-    ensures { IsCalled F.called shelf.old shelf.new
+    ensures { IsCalled K.called output.old output.new (λ sends. IsCalled F.called shelf.old shelf.new
         (λ asked. (d : Devices) → IsDone Asm (seen command.entry)
-        (record d { sink = K.seen output.old; shelf = F.seen shelf.old; asked = [] })
-        (record d { sink = K.seen output.new; shelf = F.seen shelf.new; asked = asked }) result) }
+        (record d { sink = K.seen output.old; shelf = F.seen shelf.old; sends = []; asked = [] })
+        (record d { sink = K.seen output.new; shelf = F.seen shelf.new; sends = sends; asked = asked }) result)) }
 {
     match load_text(shelf, command.story) {
         Err(refusal) => without_story(refusal),
@@ -44,7 +44,8 @@ pub fn assemble_file<A: Allocator + Clone, K: Sink, F: Shelf>(
 /// Sends the story of a text's code.
 fn send_story<A: Allocator + Clone, K: Sink>(alloc: Global, text: &[u8], output: &mut K) -> Ended<A>
     requires { length text.now ≤ most_text }
-    ensures tells { JobTells (outcome_of_code (assembled text.now)) (K.seen output.old) (K.seen output.new) result }
+    ensures tells { IsCalled K.called output.old output.new (λ sends.
+        JobTells (outcome_of_code (assembled text.now)) (K.seen output.old) (K.seen output.new) sends result) }
     ensures blames { BlamesSink (K.seen output.old) (K.seen output.new) result.status }
     ensures number { result.status ≡ status_bad_text → (1 ≤ result.fault) × (result.fault ≤ 4) }
 {

@@ -22,10 +22,10 @@ pub fn check_file<A: Allocator + Clone, K: Sink, F: Shelf>(
     output: &mut K,
     shelf: &mut F,
 ) -> Ended<A>
-    ensures { IsCalled F.called shelf.old shelf.new
+    ensures { IsCalled K.called output.old output.new (λ sends. IsCalled F.called shelf.old shelf.new
         (λ asked. (d : Devices) → IsDone Check (seen command.entry)
-        (record d { sink = K.seen output.old; shelf = F.seen shelf.old; asked = [] })
-        (record d { sink = K.seen output.new; shelf = F.seen shelf.new; asked = asked }) result) }
+        (record d { sink = K.seen output.old; shelf = F.seen shelf.old; sends = []; asked = [] })
+        (record d { sink = K.seen output.new; shelf = F.seen shelf.new; sends = sends; asked = asked }) result)) }
 {
     match load_story(alloc, shelf, command.story) {
         Err(refusal) => without_story(refusal),
@@ -35,8 +35,8 @@ pub fn check_file<A: Allocator + Clone, K: Sink, F: Shelf>(
 
 /// Tells that a checksum is right, or that it isn't.
 fn tell_checksum<A: Allocator + Clone, K: Sink>(is_right: bool, output: &mut K) -> Ended<A>
-    ensures sends { SendsOutput (check_status is_right) (check_line is_right) (K.seen output.old)
-        (K.seen output.new) result }
+    ensures sends { IsCalled K.called output.old output.new (λ sends.
+        SendsOutput (check_status is_right) (check_line is_right) (K.seen output.old) (K.seen output.new) sends result) }
     ensures blames { BlamesSink (K.seen output.old) (K.seen output.new) result.status }
 {
     if is_right {

@@ -40,10 +40,12 @@ pub fn play<A: Allocator + Clone, S: Source, K: Sink, F: Shelf, R: Rng>(
     shelf: &mut F,
     dice: &mut R,
 ) -> Ended<A>
-    ensures { IsCalled F.called shelf.old shelf.new (λ asked.
-        let entry = devices (S.seen input.old) (K.seen output.old) (F.seen shelf.old) (R.stream dice.old) [] in
-        let exit = devices (S.seen input.new) (K.seen output.new) (F.seen shelf.new) (R.stream dice.new) asked in
-        IsPlayed (map (λ word. word.now) words.now) entry exit result) }
+    ensures { IsCalled S.called input.old input.new (λ reads. IsCalled K.called output.old output.new (λ sends.
+        IsCalled F.called shelf.old shelf.new (λ asked.
+        let entry = devices (S.seen input.old) (K.seen output.old) (F.seen shelf.old) (R.stream dice.old) [] [] [] in
+        let exit = devices (S.seen input.new) (K.seen output.new) (F.seen shelf.new) (R.stream dice.new) reads sends
+        asked in
+        IsPlayed (map (λ word. word.now) words.now) entry exit result))) }
 {
     match read_command(alloc, words) {
         Err(CommandFault::BadWords) => without_machine(statuses::BAD_WORDS, 0, 0),
@@ -63,10 +65,12 @@ fn do_job<A: Allocator + Clone, S: Source, K: Sink, F: Shelf, R: Rng>(
     dice: &mut R,
 ) -> Ended<A>
     requires { IsInRange command }
-    ensures { IsCalled F.called shelf.old shelf.new (λ asked.
-        let entry = devices (S.seen input.old) (K.seen output.old) (F.seen shelf.old) (R.stream dice.old) [] in
-        let exit = devices (S.seen input.new) (K.seen output.new) (F.seen shelf.new) (R.stream dice.new) asked in
-        IsDone command.entry.job (seen command.entry) entry exit result) }
+    ensures { IsCalled S.called input.old input.new (λ reads. IsCalled K.called output.old output.new (λ sends.
+        IsCalled F.called shelf.old shelf.new (λ asked.
+        let entry = devices (S.seen input.old) (K.seen output.old) (F.seen shelf.old) (R.stream dice.old) [] [] [] in
+        let exit = devices (S.seen input.new) (K.seen output.new) (F.seen shelf.new) (R.stream dice.new) reads sends
+        asked in
+        IsDone command.entry.job (seen command.entry) entry exit result))) }
 {
     match command.job {
         Job::Play | Job::Rewind => play_file(alloc, pages, command, input, output, shelf, dice),

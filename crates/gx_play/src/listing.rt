@@ -29,10 +29,10 @@ pub fn list_file<A: Allocator + Clone, K: Sink, F: Shelf>(
     output: &mut K,
     shelf: &mut F,
 ) -> Ended<A>
-    ensures { IsCalled F.called shelf.old shelf.new
+    ensures { IsCalled K.called output.old output.new (λ sends. IsCalled F.called shelf.old shelf.new
         (λ asked. (d : Devices) → IsDone List (seen command.entry)
-        (record d { sink = K.seen output.old; shelf = F.seen shelf.old; asked = [] })
-        (record d { sink = K.seen output.new; shelf = F.seen shelf.new; asked = asked }) result) }
+        (record d { sink = K.seen output.old; shelf = F.seen shelf.old; sends = []; asked = [] })
+        (record d { sink = K.seen output.new; shelf = F.seen shelf.new; sends = sends; asked = asked }) result)) }
 {
     match load_story(alloc, shelf, command.story) {
         Err(refusal) => without_story(refusal),
@@ -46,8 +46,8 @@ fn send_listing<A: Allocator + Clone, K: Sink>(
     story: &Story,
     output: &mut K,
 ) -> Ended<A>
-    ensures tells { JobTells (outcome_of_listing (listed_story story.now)) (K.seen output.old)
-        (K.seen output.new) result }
+    ensures tells { IsCalled K.called output.old output.new (λ sends.
+        JobTells (outcome_of_listing (listed_story story.now)) (K.seen output.old) (K.seen output.new) sends result) }
     ensures blames { BlamesSink (K.seen output.old) (K.seen output.new) result.status }
     ensures number { result.status ≡ status_no_listing → (1 ≤ result.fault) × (result.fault ≤ 5) }
 {

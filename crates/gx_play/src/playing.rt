@@ -37,10 +37,12 @@ pub fn play_file<A: Allocator + Clone, S: Source, K: Sink, F: Shelf, R: Rng>(
 ) -> Ended<A>
     requires range { IsInRange command }
     requires plays { PlaysStory command.job }
-    ensures { IsCalled F.called shelf.old shelf.new (λ asked.
-        let entry = devices (S.seen input.old) (K.seen output.old) (F.seen shelf.old) (R.stream dice.old) [] in
-        let exit = devices (S.seen input.new) (K.seen output.new) (F.seen shelf.new) (R.stream dice.new) asked in
-        IsDone command.entry.job (seen command.entry) entry exit result) }
+    ensures { IsCalled S.called input.old input.new (λ reads. IsCalled K.called output.old output.new (λ sends.
+        IsCalled F.called shelf.old shelf.new (λ asked.
+        let entry = devices (S.seen input.old) (K.seen output.old) (F.seen shelf.old) (R.stream dice.old) [] [] [] in
+        let exit = devices (S.seen input.new) (K.seen output.new) (F.seen shelf.new) (R.stream dice.new) reads sends
+        asked in
+        IsDone command.entry.job (seen command.entry) entry exit result))) }
 {
     match load_story(alloc, shelf, command.story) {
         Err(refusal) => without_story(refusal),
@@ -60,13 +62,15 @@ fn play_story<A: Allocator + Clone, S: Source, K: Sink, F: Shelf, R: Rng>(
     dice: &mut R,
 ) -> Ended<A>
     requires { IsInRange command }
-    ensures plays { IsCalled F.called shelf.old shelf.new (λ asked.
-        let entry = devices (S.seen input.old) (K.seen output.old) (F.seen shelf.old) (R.stream dice.old) [] in
-        let exit = devices (S.seen input.new) (K.seen output.new) (F.seen shelf.new) (R.stream dice.new) asked in
-        StoryPlays (outcome_of_start command.entry.job (seen command.entry) story entry (first_machine story command.entry.undo)) entry exit result) }
+    ensures plays { IsCalled S.called input.old input.new (λ reads. IsCalled K.called output.old output.new (λ sends.
+        IsCalled F.called shelf.old shelf.new (λ asked.
+        let entry = devices (S.seen input.old) (K.seen output.old) (F.seen shelf.old) (R.stream dice.old) [] [] [] in
+        let exit = devices (S.seen input.new) (K.seen output.new) (F.seen shelf.new) (R.stream dice.new) reads sends
+        asked in
+        StoryPlays (outcome_of_start command.entry.job (seen command.entry) story entry (first_machine story command.entry.undo)) entry exit result))) }
     ensures counts { let entry = devices (S.seen input.old) (K.seen output.old) (F.seen shelf.old)
-        (R.stream dice.old) [] in
-        let exit = devices (S.seen input.new) (K.seen output.new) (F.seen shelf.new) (R.stream dice.new) [] in
+        (R.stream dice.old) [] [] [] in
+        let exit = devices (S.seen input.new) (K.seen output.new) (F.seen shelf.new) (R.stream dice.new) [] [] [] in
         Counts entry exit result.status }
     ensures parts { HasRunParts (command.entry.job ≡ Play) result }
     ensures began { result.status ≢ status_bad_words }
@@ -93,13 +97,15 @@ fn run_machine<A: Allocator + Clone, S: Source, K: Sink, F: Shelf, R: Rng>(
 ) -> Ended<A>
     requires asks_nothing { machine.asking ≡ None }
     requires range { IsInRange command }
-    ensures runs { IsCalled F.called shelf.old shelf.new (λ asked.
-        let entry = devices (S.seen input.old) (K.seen output.old) (F.seen shelf.old) (R.stream dice.old) [] in
-        let exit = devices (S.seen input.new) (K.seen output.new) (F.seen shelf.new) (R.stream dice.new) asked in
-        IsRunOf command.entry.seed (start_for (seen command.entry) machine None entry) entry exit result) }
+    ensures runs { IsCalled S.called input.old input.new (λ reads. IsCalled K.called output.old output.new (λ sends.
+        IsCalled F.called shelf.old shelf.new (λ asked.
+        let entry = devices (S.seen input.old) (K.seen output.old) (F.seen shelf.old) (R.stream dice.old) [] [] [] in
+        let exit = devices (S.seen input.new) (K.seen output.new) (F.seen shelf.new) (R.stream dice.new) reads sends
+        asked in
+        IsRunOf command.entry.seed (start_for (seen command.entry) machine None entry) entry exit result))) }
     ensures counts { let entry = devices (S.seen input.old) (K.seen output.old) (F.seen shelf.old)
-        (R.stream dice.old) [] in
-        let exit = devices (S.seen input.new) (K.seen output.new) (F.seen shelf.new) (R.stream dice.new) [] in
+        (R.stream dice.old) [] [] [] in
+        let exit = devices (S.seen input.new) (K.seen output.new) (F.seen shelf.new) (R.stream dice.new) [] [] [] in
         Counts entry exit result.status }
     ensures parts { HasRunParts (Unit {0}) result }
     ensures began { result.status ≢ status_bad_words }

@@ -47,13 +47,15 @@ pub fn rewind_machine<A: Allocator + Clone, S: Source, K: Sink, F: Shelf, R: Rng
 ) -> Ended<A>
     requires asks_nothing { machine.asking ≡ None }
     requires range { IsInRange command }
-    ensures rewinds { IsCalled F.called shelf.old shelf.new (λ asked.
-        let entry = devices (S.seen input.old) (K.seen output.old) (F.seen shelf.old) (R.stream dice.old) [] in
-        let exit = devices (S.seen input.new) (K.seen output.new) (F.seen shelf.new) (R.stream dice.new) asked in
-        IsRewindOf command.entry.seed command.entry.back (start_for (seen command.entry) machine (Some no_events) entry) entry exit result ⊎ IsStill entry exit result) }
+    ensures rewinds { IsCalled S.called input.old input.new (λ reads. IsCalled K.called output.old output.new (λ sends.
+        IsCalled F.called shelf.old shelf.new (λ asked.
+        let entry = devices (S.seen input.old) (K.seen output.old) (F.seen shelf.old) (R.stream dice.old) [] [] [] in
+        let exit = devices (S.seen input.new) (K.seen output.new) (F.seen shelf.new) (R.stream dice.new) reads sends
+        asked in
+        IsRewindOf command.entry.seed command.entry.back (start_for (seen command.entry) machine (Some no_events) entry) entry exit result ⊎ IsStill entry exit result))) }
     ensures counts { let entry = devices (S.seen input.old) (K.seen output.old) (F.seen shelf.old)
-        (R.stream dice.old) [] in
-        let exit = devices (S.seen input.new) (K.seen output.new) (F.seen shelf.new) (R.stream dice.new) [] in
+        (R.stream dice.old) [] [] [] in
+        let exit = devices (S.seen input.new) (K.seen output.new) (F.seen shelf.new) (R.stream dice.new) [] [] [] in
         Counts entry exit result.status }
     ensures parts { HasRunParts ⊥ result }
     ensures began { result.status ≢ status_bad_words }
@@ -74,8 +76,8 @@ fn tell_rewound<A: Allocator + Clone, K: Sink>(
     back: u64,
     output: &mut K,
 ) -> Ended<A>
-    ensures rewound { IsRewound back (report_on (λ tape. tape.whole) (λ tape. Some tape.log) ended) (K.seen output.old)
-        (K.seen output.new) result }
+    ensures rewound { IsCalled K.called output.old output.new (λ sends.
+        IsRewound back (report_on (λ tape. tape.whole) (λ tape. Some tape.log) ended) (K.seen output.old) (K.seen output.new) sends result) }
     ensures blames { ended.status < status_shelf_fault
         → BlamesSink (K.seen output.old) (K.seen output.new) result.status }
 {

@@ -28,10 +28,12 @@ pub fn run_command<A: Allocator + Clone, E: Engine<A>, S: Source, K: Sink, F: Sh
     requires asks_nothing { (E.whole engine).asking ≡ None }
     requires room { command.steps ≤ units_left (E.log engine) }
     requires range { IsInRange command }
-    ensures { IsCalled F.called shelf.old shelf.new (λ asked.
-        let entry = devices (S.seen input.old) (K.seen output.old) (F.seen shelf.old) (R.stream dice.old) [] in
-        let exit = devices (S.seen input.new) (K.seen output.new) (F.seen shelf.new) (R.stream dice.new) asked in
-        IsRunTo command.entry.seed (start_for (seen command.entry) (E.whole engine) (E.log engine) entry) entry exit (report_on E.whole E.log result)) }
+    ensures { IsCalled S.called input.old input.new (λ reads. IsCalled K.called output.old output.new (λ sends.
+        IsCalled F.called shelf.old shelf.new (λ asked.
+        let entry = devices (S.seen input.old) (K.seen output.old) (F.seen shelf.old) (R.stream dice.old) [] [] [] in
+        let exit = devices (S.seen input.new) (K.seen output.new) (F.seen shelf.new) (R.stream dice.new) reads sends
+        asked in
+        IsRunTo command.entry.seed (start_for (seen command.entry) (E.whole engine) (E.log engine) entry) entry exit (report_on E.whole E.log result)))) }
 {
     let world = command.world(alloc);
     match command.seed {

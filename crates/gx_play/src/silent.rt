@@ -1,8 +1,10 @@
 //! Devices for a run that nothing is to come from: no input, no files, no chance. They never fail.
-ghost use Rattle.std.specs.Prelude.{◌≡◌, [], false, true, length};
+ghost use Rattle.std.specs.Prelude.{◌≡◌, [], length};
 ghost use Rattle.gx_outside.specs.Outside.{raised};
+ghost use Rattle.gx_outside.specs.Reads.{SourceCall};
+ghost use Rattle.gx_outside.specs.Sends.{SinkCall};
 ghost use Rattle.gx_outside.specs.Shelves.{ShelfCall};
-ghost use Rattle.gx_play.specs.Jobs.{no_shelf, zeros};
+ghost use Rattle.gx_play.specs.Jobs.{gathered, no_shelf, no_source, zeros};
 
 use gx_outside::{Failed, Load, SendFault, Shelf, ShelfFault, Sink, Source};
 use gx_words::Bytes;
@@ -26,12 +28,12 @@ impl NoInput {
 }
 
 impl Source for NoInput {
-    ghost seen = { λ s. record {
-      calls = record { made = s.reads; faults = 0; failing = false; wanting = false };
-      offered = s.offered;
-      tells = true;
-      left = [];
-    } };
+    ghost seen = { λ s. no_source s.reads s.offered };
+
+    ghost called = { λ before r now. SourceCall (no_source before.reads before.offered) r
+        (no_source now.reads now.offered) };
+
+    ghost called_so = { λ before r now does. does };
 
     fn read(&mut self, into: &mut [u8]) -> Result<usize, Failed> {
         self.reads = self.reads.saturating_add(1);
@@ -122,11 +124,12 @@ impl Gathered {
 }
 
 impl Sink for Gathered {
-    ghost seen = { λ s. record {
-      calls = record { made = s.sends; faults = 0; failing = false; wanting = s.wanting };
-      tells = true;
-      taken = s.text;
-    } };
+    ghost seen = { λ s. gathered s.sends s.wanting s.text };
+
+    ghost called = { λ before s now. SinkCall (gathered before.sends before.wanting before.text) s
+        (gathered now.sends now.wanting now.text) };
+
+    ghost called_so = { λ before s now does. does };
 
     fn send(&mut self, bytes: &[u8]) -> Result<(), SendFault> {
         self.sends = self.sends.saturating_add(1);

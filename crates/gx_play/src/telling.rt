@@ -1,5 +1,6 @@
 //! An output in one call of the sink: a line, a story or a listing, whole or not.
 ghost use Rattle.std.specs.Prelude.{◌≢◌};
+ghost use Rattle.gx_outside.specs.Chains.{IsCalled};
 ghost use Rattle.gx_session.specs.Constants.{status_output_fault};
 ghost use Rattle.gx_play.specs.Headline.{SendsOutput};
 ghost use Rattle.gx_play.specs.Loading.{BlamesSink};
@@ -16,7 +17,8 @@ pub fn send_output<A: Allocator + Clone, K: Sink>(
     status: u8,
 ) -> Ended<A>
     requires { status ≢ status_output_fault }
-    ensures sends { SendsOutput status bytes.now (K.seen output.old) (K.seen output.new) result }
+    ensures sends { IsCalled K.called output.old output.new
+        (λ sends. SendsOutput status bytes.now (K.seen output.old) (K.seen output.new) sends result) }
     ensures blames { BlamesSink (K.seen output.old) (K.seen output.new) result.status }
 {
     match output.send(bytes) {

@@ -1,6 +1,7 @@
 //! Job work: the story of a number is played to its end, and one line tells what it came to: the steps, the length
 //! of the text and the sum of RAM. It measures the machine, and its line is the same everywhere.
 ghost use Rattle.std.specs.Prelude.{◌≡◌, [], ◌++◌, ◌∷◌, Some, None, IfOk, decimal, string_bytes};
+ghost use Rattle.gx_outside.specs.Chains.{IsCalled};
 ghost use Rattle.gx_session.specs.Devices.{Devices};
 ghost use Rattle.gx_play.specs.declared.command.Job.TheVariants.{Work};
 ghost use Rattle.gx_play.specs.Jobs.{work_machine, work_line};
@@ -28,9 +29,9 @@ pub fn work<A: Allocator + Clone, K: Sink>(
     number: u32,
     output: &mut K,
 ) -> Ended<A>
-    ensures { (command : Command) (d : Devices)
-        → IsDone (Work number) command (record d { sink = K.seen output.old; asked = [] })
-        (record d { sink = K.seen output.new; asked = [] }) result }
+    ensures { IsCalled K.called output.old output.new (λ sends. (command : Command) (d : Devices)
+        → IsDone (Work number) command (record d { sink = K.seen output.old; sends = []; asked = [] })
+        (record d { sink = K.seen output.new; sends = sends; asked = [] }) result) }
 {
     match work_line(alloc, pages, number) {
         Err(_) => without_machine(statuses::NO_MEMORY, 0, 0),

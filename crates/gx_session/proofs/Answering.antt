@@ -12,13 +12,12 @@ use Rattle.gx_session.specs.declared.ends.Next.{Next}
 use Rattle.gx_session.specs.declared.ends.Next.TheVariants as next
 use Rattle.gx_session.specs.Constants.{enough}
 use Rattle.gx_session.specs.declared.running.Running.{Running}
-use Rattle.gx_session.specs.Devices.{Devices}
 use Rattle.gx_session.specs.Session.{Configuration, steps}
-use Rattle.gx_session.specs.Playing.{Held, held, asking_in, Standing, Resumes, EventGives, Flushes, Becomes, IsNext, Leads}
+use Rattle.gx_session.specs.Playing.{Sending, Handed, Held, held, asking_in, Standing, Resumes, EventGives, Flushes, Becomes, IsNext, Leads}
 use Rattle.gx_session.proofs.Asking.{resumed-on, resumed-early}
 use Rattle.gx_session.proofs.Playing.{flushed, cut-send}
 
-module _ {E : Type 0} (whole : E → Whole) (log : E → Option Log) (old mid : Running E) (coming : List ℕ) (machine : FlatMachine) (left : ℕ) (start : Configuration) (entry d : Devices) (wanted : Type 0)
+module _ {K : Type 0} {sending : Sending K} {E : Type 0} (whole : E → Whole) (log : E → Option Log) (old mid : Running E) (coming : List ℕ) (machine : FlatMachine) (left : ℕ) (start : Configuration) (entry d : Handed sending) (wanted : Type 0)
     (r : Resumes start entry (held whole log old coming) (asking_in whole old) d left machine wanted) where
   abbrev h : Held
   h = held whole log old coming
@@ -28,7 +27,7 @@ module _ {E : Type 0} (whole : E → Whole) (log : E → Option Log) (old mid : 
       → EventGives start entry (held whole log mid coming) (asking_in whole mid) d (Err e)
   give-early e memory wants g =
       subst (λ (x : Halt). EventGives start entry (held whole log mid coming) (asking_in whole mid) d (Err x)) (sym memory)
-      (resumed-early start entry h d (asking_in whole old) left machine wanted r wants (held whole log mid coming) (ap (λ (w : Whole). w.machine) g.err.0) (ap (λ (x : Running E). x.left) g.err.1) g.err.2 (asking_in whole mid)
+      (resumed-early start entry h d (asking_in whole old) left machine wanted r wants (held whole log mid coming) (ap (λ (w : Whole). w.machine) g.err.0) (ap (λ (x : Running E). x.left) g.err.1) g.err.2 refl (asking_in whole mid)
       (ap (λ (w : Whole). w.asking) g.err.0))
 
   module _ (g : (let q : Result (Unit {0}) Halt = Ok tt in Becomes whole log old mid machine left q)) where
@@ -45,12 +44,12 @@ module _ {E : Type 0} (whole : E → Whole) (log : E → Option Log) (old mid : 
     given-standing = subst (λ (x : Held). Standing start entry x d steps) (sym given-held) (resumed-on start entry h d (asking_in whole old) left machine wanted r)
 
     -- the text that was due then is refused
-    pub flush-early : (world : FlatWorld) (sink : FlatSink) (e : Halt) → (e ≡ halt.Output) ⊎ (e ≡ halt.NoMemory) → Flushes enough d.sink sink mid.world world (Err e)
+    pub flush-early : (world : FlatWorld) (sink : K) (e : Halt) → (e ≡ halt.Output) ⊎ (e ≡ halt.NoMemory) → Flushes sending enough d.sink sink mid.world world (Err e)
         → EventGives start entry (held whole log (record mid { world = world }) coming) (asking_in whole mid) (record d { sink = sink }) (Err e)
     flush-early world sink e only f = (cut-send start entry (held whole log mid coming) d world sink steps enough (λ s text. refl) (asking_in whole mid) e given-standing none-asked only f)
 
     -- it was sent
-    pub flush-on : (world : FlatWorld) (sink : FlatSink) → Flushes enough d.sink sink mid.world world (Ok tt)
+    pub flush-on : (world : FlatWorld) (sink : K) → Flushes sending enough d.sink sink mid.world world (Ok tt)
         → EventGives start entry (held whole log (record mid { world = world }) coming) (asking_in whole mid) (record d { sink = sink }) (Ok next.Goes)
     flush-on world sink f = (flushed start entry (held whole log mid coming) d world sink steps enough (λ s text. refl) given-standing f)
 

@@ -1,6 +1,7 @@
 -- What the effects of a step, and the answers to what it asks, make of a run.
 use Rattle.std.proofs.Common.{◌≡◌, ◌≢◌, ℕ, ◌<◌, ◌≤◌, List, [], ◌∷◌, ◌++◌, length, ◌⊎◌, inl, inr, Bool, true, false, Option, Some, None, is_some, IsSome, IsTrue, Result, Ok, Err, IsOk, if◌then◌else◌, refl, ap, subst, sym, ◌∙◌, append_assoc, arith}
 use Rattle.arrayvec.specs.ArrayVec.{ArrayVec}
+use Rattle.std.specs.List.{concat}
 use Rattle.gx_words.specs.declared.faults.Fault.{Fault}
 use Rattle.gx_words.specs.declared.faults.Fault.TheVariants as fault
 use Rattle.gx_state.specs.Copies.{Copy}
@@ -36,13 +37,12 @@ use Rattle.gx_session.specs.declared.questions.Question.{Question}
 use Rattle.gx_session.specs.declared.questions.Question.TheVariants as asks-for
 use Rattle.gx_session.specs.declared.running.Waiting.{Waiting}
 use Rattle.gx_session.specs.Cuts.{IsLineStop, IsWait, request_of, BeginsSave, ReplyWants, AnswerWants, TurnWants, RestoreWants, AskingWants, WantsMemory}
-use Rattle.gx_session.specs.Devices.{Devices}
 use Rattle.gx_session.specs.Input.{NextLine, line, next_line}
 use Rattle.gx_session.specs.Questions.{turn_of, request_for}
 use Rattle.gx_session.specs.Reading.{ReadsFew}
 use Rattle.gx_session.specs.Saving.{is_begun, is_read, saving, restoring, IsReadBack}
 use Rattle.gx_session.specs.Session.{Configuration, Doing, steps, asks, goes_on, goes, stops, after_reply, after_restoring, waiting_for, asking_for, after_turn, after_given, after_line, after_asking, given_of, shelf_gives, after_effect, act_of, effect_at, asked, asked_at}
-use Rattle.gx_session.specs.Playing.{Held, WordIs, Past, configuration_of, IsPast, Standing, Ready, Going, Waits, Done, Early, Follows, Resumes, Replies, Turns, GoesOn, TakesInput, EventGives, FaultGives}
+use Rattle.gx_session.specs.Playing.{Sending, Handed, Held, WordIs, Past, configuration_of, IsPast, Standing, Ready, Going, Waits, Done, Early, Follows, Resumes, Replies, Turns, GoesOn, TakesInput, EventGives, FaultGives}
 use Rattle.gx_session.proofs.Calling.{answered-and}
 use Rattle.gx_session.proofs.Steps.{step-does, step-faults, step-asks, step-effect, step-asks-nothing, ok-is, asked-same}
 use Rattle.gx_session.proofs.NextLines.{some-input, shorter-input}
@@ -72,7 +72,7 @@ word-drawn : (word : ℕ) (mine : Option ℕ) (stream words : Stream) → mine �
 word-drawn word mine stream words drawn is = subst (λ (w : Option ℕ). WordIs w stream words) drawn is
 
 -- a fault stops the run where it isn't want of memory
-pub fault-gives : (start : Configuration) (entry : Devices) (h : Held) (asking : Option Asking) (d : Devices) (f : Fault) (result : Result Next Halt) → FaultGives f result
+pub fault-gives : {K : Type 0} {sending : Sending K} → (start : Configuration) (entry : Handed sending) (h : Held) (asking : Option Asking) (d : Handed sending) (f : Fault) (result : Result Next Halt) → FaultGives f result
     → (f ≡ fault.NoMemory → Early start entry h asking d halt.NoMemory) → (f ≢ fault.NoMemory → Done start entry h asking d (stop.Faulted f))
     → EventGives start entry h asking d result
 fault-gives start entry h asking d f result (inl e) early stopped = subst (EventGives start entry h asking d) (sym e.1) (early e.0)
@@ -163,7 +163,7 @@ answered-is turn.Exit is other = is
 pub sent-before : (sent : List ℕ) (w : FlatWorld) (said : Said) → after (record { scene = w.scene; text = sent ++ w.text }) said ≡ record { scene = (after w said).scene; text = sent ++ (after w said).text }
 sent-before sent w said = ap (λ (x : List ℕ). let y : FlatWorld = record { scene = said.0; text = x } in y) (append_assoc sent w.text said.1)
 
-module _ (start : Configuration) (entry : Devices) (h : Held) (d : Devices) where
+module _ {K : Type 0} {sending : Sending K} (start : Configuration) (entry : Handed sending) (h : Held) (d : Handed sending) where
   -- A step was answered with an effect, or refused.
   module _ (asking : Option Asking) (word : ℕ) (drawn : h.word ≡ Some word) (g : Going start entry h d) where
     abbrev m : Configuration
@@ -192,12 +192,12 @@ module _ (start : Configuration) (entry : Devices) (h : Held) (d : Devices) wher
         → IsSome h.log ⊎ (IsStepWriting h.machine h.left × IsOk (stepped (record { machine = h.machine; asking = asking }) word h.left))
         → Early start entry (record h { machine = machine; log = log }) now d halt.NoMemory
     step-wants now machine log same stands nothing nothing' (inl recorded) =
-        wants start entry h d steps g (record h { machine = machine; log = log }) now (inl (nothing', inl recorded)) same refl stands
+        wants start entry h d steps g (record h { machine = machine; log = log }) now (inl (nothing', inl recorded)) same refl stands refl
     step-wants now machine log same stands nothing nothing' (inr lack) =
         let is : IsOk (stepped (record { machine = h.machine; asking = None }) (next_u32 g.now.past.words).0 h.left) =
         subst (λ (x : ℕ). IsOk (stepped (record { machine = h.machine; asking = None }) x h.left)) (sym first)
         (subst (λ (a : Option Asking). IsOk (stepped (record { machine = h.machine; asking = a }) word h.left)) nothing lack.1) in
-        wants start entry h d steps g (record h { machine = machine; log = log }) now (inl (nothing', inr (lack.0, is))) same refl stands
+        wants start entry h d steps g (record h { machine = machine; log = log }) now (inl (nothing', inr (lack.0, is))) same refl stands refl
 
     pub step-stops : (machine : FlatMachine) (log : Option Log) (f : Fault) (now : Option Asking) → machine ≡ h.machine → log ≡ h.log → now ≡ None → stepped (record { machine = h.machine; asking = asking }) word h.left ≡ Err f
         → Done start entry (record h { machine = machine; log = log }) now d (stop.Faulted f)
@@ -301,15 +301,15 @@ module _ (start : Configuration) (entry : Devices) (h : Held) (d : Devices) wher
     resumed-act =
         r.event
         ∙ ap (λ (w : FlatWorld). goes (record at { machine = machine; world = w; left = left; log = logged at.log at.machine; doing = steps }))
-        (sent-before r.going.now.past.sent r.world r.said ∙ ap (λ (w : FlatWorld). let x : FlatWorld = record { scene = w.scene; text = r.going.now.past.sent ++ w.text } in x) (sym r.moved))
+        (sent-before (concat r.going.now.past.sent) r.world r.said ∙ ap (λ (w : FlatWorld). let x : FlatWorld = record { scene = w.scene; text = concat r.going.now.past.sent ++ w.text } in x) (sym r.moved))
 
     pub resumed-on : Standing start entry resumed-held d steps
     resumed-on = moves-on start entry before d r.doing r.going r.going.now.past steps resumed-held d resumed-past r.going.now.few r.going.now.reads resumed-act r.saved
 
-    pub resumed-early : wanted → (h' : Held) → h'.machine ≡ h.machine → h'.left ≡ h.left → h'.log ≡ h.log → (asking' : Option Asking) → asking' ≡ asking → Early start entry h' asking' d halt.NoMemory
-    resumed-early wants-it h' stands units log asking' same =
+    pub resumed-early : wanted → (h' : Held) → h'.machine ≡ h.machine → h'.left ≡ h.left → h'.log ≡ h.log → h'.coming ≡ h.coming → (asking' : Option Asking) → asking' ≡ asking → Early start entry h' asking' d halt.NoMemory
+    resumed-early wants-it h' stands units log coming asking' same =
         wants start entry before d r.doing r.going h' asking'
-        (subst (WantsMemory r.doing at) (sym same) (r.memory wants-it)) stands units log
+        (subst (WantsMemory r.doing at) (sym same) (r.memory wants-it)) stands units log coming
 
   -- THE TURN OF A CALL
   module _ (asking : Option Asking) (w : Waiting) (t : Turn) (r : Turns start entry h asking d w t) where
@@ -334,8 +334,8 @@ module _ (start : Configuration) (entry : Devices) (h : Held) (d : Devices) wher
         }
 
     -- the world that was called, with what was sent
-    turned-world : after called.world r.said ≡ record { scene = h.world.scene; text = r.going.now.past.sent ++ h.world.text }
-    turned-world = sent-before r.going.now.past.sent r.world r.said ∙ ap (λ (x : FlatWorld). let y : FlatWorld = record { scene = x.scene; text = r.going.now.past.sent ++ x.text } in y) (sym r.moved)
+    turned-world : after called.world r.said ≡ record { scene = h.world.scene; text = concat r.going.now.past.sent ++ h.world.text }
+    turned-world = sent-before (concat r.going.now.past.sent) r.world r.said ∙ ap (λ (x : FlatWorld). let y : FlatWorld = record { scene = x.scene; text = concat r.going.now.past.sent ++ x.text } in y) (sym r.moved)
 
     -- it asks the shelf
     pub turn-asks : after_turn called w (Ok (r.said, t)) ≡ asking_for called w r.said t → Waits start entry h asking d (asks t w)
@@ -353,9 +353,9 @@ module _ (start : Configuration) (entry : Devices) (h : Held) (d : Devices) wher
     turn-waits world shown e =
         let h' : Held = record h { world = after h.world (show_grids h.world.scene) } in
         let scene : r.said.0 ≡ h.world.scene = ap (λ (x : FlatWorld). x.scene) (sym r.moved) in
-        let grids : after (after called.world r.said) (show_grids r.said.0) ≡ record { scene = h'.world.scene; text = r.going.now.past.sent ++ h'.world.text } =
+        let grids : after (after called.world r.said) (show_grids r.said.0) ≡ record { scene = h'.world.scene; text = concat r.going.now.past.sent ++ h'.world.text } =
         ap (λ (x : Scene). after (after called.world r.said) (show_grids x)) scene ∙ ap (λ (x : FlatWorld). after x (show_grids h.world.scene)) turned-world
-        ∙ sent-before r.going.now.past.sent h.world (show_grids h.world.scene) in
+        ∙ sent-before (concat r.going.now.past.sent) h.world (show_grids h.world.scene) in
         let act : act_of called ≡ goes (configuration_of r.going.now.past (asks t w) h' d) =
         r.event ∙ e ∙ ap (λ (x : FlatWorld). goes (record called { world = x; doing = asks t w })) grids in
         let waits : Waits start entry h' asking d (asks t w) = record {
@@ -394,11 +394,11 @@ module _ (start : Configuration) (entry : Devices) (h : Held) (d : Devices) wher
     }
 
     -- that wants memory
-    pub turn-wants : IsWait t → ShowWants h.world.scene → (h' : Held) → h'.machine ≡ h.machine → h'.left ≡ h.left → h'.log ≡ h.log → Early start entry h' asking d halt.NoMemory
-    turn-wants is some h' machine units log =
+    pub turn-wants : IsWait t → ShowWants h.world.scene → (h' : Held) → h'.machine ≡ h.machine → h'.left ≡ h.left → h'.log ≡ h.log → h'.coming ≡ h.coming → Early start entry h' asking d halt.NoMemory
+    turn-wants is some h' machine units log coming =
         let scene : r.said.0 ≡ h.world.scene = ap (λ (x : FlatWorld). x.scene) (sym r.moved) in
         wants start entry turning d steps r.going h' asking
-        (r.memory (wait-wants h.log h.machine r.said t is (subst ShowWants (sym scene) some))) machine units log
+        (r.memory (wait-wants h.log h.machine r.said t is (subst ShowWants (sym scene) some))) machine units log coming
 
   -- A call goes on.
   abbrev pub on-ready : (asking : Option Asking) (g : Given) (w : Waiting) → Waits start entry h asking d (goes_on g w) → Ready start entry h d (goes_on g w)
@@ -412,7 +412,7 @@ module _ (start : Configuration) (entry : Devices) (h : Held) (d : Devices) wher
         let m : Configuration = here start entry h d (asks (turn_of q) w) g.now in
         let i = g.now.is_past in
         let p : Past = g.now.past in
-        let d' : Devices = record d { shelf = shelf; asked = d.asked ++ (request_for q, Ok answer) ∷ [] } in
+        let d' : Handed sending = record d { shelf = shelf; asked = d.asked ++ (request_for q, Ok answer) ∷ [] } in
         let past : IsPast start entry p h d' = record {
           taken = i.taken;
           answers = i.answers;
@@ -470,7 +470,7 @@ module _ (start : Configuration) (entry : Devices) (h : Held) (d : Devices) wher
     abbrev was : Held
     was = record h { ahead = r.ahead; coming = r.coming; over = r.over }
 
-    abbrev d-was : Devices
+    abbrev d-was : Handed sending
     d-was = record d { source = r.source }
 
     abbrev asking-at : Configuration
@@ -510,10 +510,10 @@ module _ (start : Configuration) (entry : Devices) (h : Held) (d : Devices) wher
         subst (λ (x : FlatWorld). Waits start entry (record h { world = x }) asking d (goes_on (given.Line chars) w)) (sym shown) waits
       where
         shown-line : (p : Past) (b : Bool)
-            → goes (record asking-at { world = if b then after (record { scene = h.world.scene; text = p.sent ++ h.world.text }) (show_line h.world.scene chars) else record { scene = h.world.scene; text = p.sent ++ h.world.text }; input = h.ahead ++ h.coming; doing = goes_on (given.Line chars) w })
-            ≡ goes (record asking-at { world = (let x : FlatWorld = if b then after h.world (show_line h.world.scene chars) else h.world in record { scene = x.scene; text = p.sent ++ x.text }); input = h.ahead ++ h.coming; doing = goes_on (given.Line chars) w })
+            → goes (record asking-at { world = if b then after (record { scene = h.world.scene; text = concat p.sent ++ h.world.text }) (show_line h.world.scene chars) else record { scene = h.world.scene; text = concat p.sent ++ h.world.text }; input = h.ahead ++ h.coming; doing = goes_on (given.Line chars) w })
+            ≡ goes (record asking-at { world = (let x : FlatWorld = if b then after h.world (show_line h.world.scene chars) else h.world in record { scene = x.scene; text = concat p.sent ++ x.text }); input = h.ahead ++ h.coming; doing = goes_on (given.Line chars) w })
         shown-line p true =
-            ap (λ (x : FlatWorld). goes (record asking-at { world = x; input = h.ahead ++ h.coming; doing = goes_on (given.Line chars) w })) (sent-before p.sent h.world (show_line h.world.scene chars))
+            ap (λ (x : FlatWorld). goes (record asking-at { world = x; input = h.ahead ++ h.coming; doing = goes_on (given.Line chars) w })) (sent-before (concat p.sent) h.world (show_line h.world.scene chars))
         shown-line p false = refl
 
   -- A CHARACTER IS PUT, A CALL IS MADE, A GAME IS SAVED OR RESTORED, A CALL GOES ON
@@ -593,7 +593,7 @@ module _ (start : Configuration) (entry : Devices) (h : Held) (d : Devices) wher
     asking-wants asking asks-is takes = inr (asks-is ∙ sym a.asking_is, subst (AskingWants asking-here) (sym a.effect_is) takes)
 
     pub asking-early : (world : FlatWorld) (asking : Option Asking) → asking ≡ asking_of does → AsksMemory → Early start entry (record h { world = world }) asking d halt.NoMemory
-    asking-early world asking asks-is takes = wants start entry h d steps a.going (record h { world = world }) asking (asking-wants asking asks-is takes) refl refl refl
+    asking-early world asking asks-is takes = wants start entry h d steps a.going (record h { world = world }) asking (asking-wants asking asks-is takes) refl refl refl refl
 
     -- the machine takes an answer, or goes back to a copy
     pub asking-resumes : (asking : Option Asking) (world : FlatWorld) (said : Said) (machine : FlatMachine) (wanted : Type 0) → asking ≡ asking_of does → world ≡ after h.world said
@@ -636,7 +636,7 @@ module _ (start : Configuration) (entry : Devices) (h : Held) (d : Devices) wher
         → Early start entry (record h { world = world }) asking d halt.NoMemory
     given-early world flat same grows fine =
         wants start entry h d (goes_on g w) (on-ready asking g w waits) (record h { world = world }) asking
-        (waits.asking_is, inl (subst (λ (x : FlatState). IsTrue (go_grows h.world.scene x g)) same grows, subst (λ (x : FlatState). IsOk (glk_go_on h.world.scene x w.room g)) same fine)) refl refl refl
+        (waits.asking_is, inl (subst (λ (x : FlatState). IsTrue (go_grows h.world.scene x g)) same grows, subst (λ (x : FlatState). IsOk (glk_go_on h.world.scene x w.room g)) same fine)) refl refl refl refl
 
     pub given-turns : (world : FlatWorld) (said : Said) (t : Turn) (flat : FlatState) → world ≡ after h.world said → flat ≡ h.machine.flat → glk_go_on h.world.scene flat w.room g ≡ Ok (said, t)
         → GoesOn start entry (record h { world = world }) asking d w t

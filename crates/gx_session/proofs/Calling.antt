@@ -7,15 +7,18 @@ use Rattle.gx_outside.specs.Shelves.{Request, loads, stores, removes, looks, Ans
 use Rattle.gx_outside.specs.declared.devices.Load.TheVariants.{Found}
 use Rattle.gx_outside.specs.declared.devices.ShelfFault.{ShelfFault}
 use Rattle.gx_outside.specs.declared.devices.ShelfFault.TheVariants as fault
-use Rattle.gx_session.specs.Devices.{Devices}
-use Rattle.gx_session.specs.Playing.{Held, Going}
+use Rattle.gx_session.specs.Playing.{Sending, Handed, Held, Going}
 use Rattle.gx_session.specs.Questions.{AreAnswered, AreTold}
 use Rattle.gx_session.specs.Session.{Configuration}
 
 -- THE CALLS
-chain-append : {S C : Type 0} (step : S → C → S → Type 0) (a b c : S) (one two : List C) → Chain step a one b → Chain step b two c → Chain step a (one ++ two) c
+pub chain-append : {S C : Type 0} (step : S → C → S → Type 0) (a b c : S) (one two : List C) → Chain step a one b → Chain step b two c → Chain step a (one ++ two) c
 chain-append {S} step a b c [] two same rest = subst (λ (x : S). Chain step x two c) same rest
 chain-append step a b c (x ∷ one) two chain rest = (chain.0, chain.1, chain-append step chain.0 b c one two chain.2 rest)
+
+pub chain-split : {S C : Type 0} (step : S → C → S → Type 0) (a c : S) (one two : List C) → Chain step a (one ++ two) c → (b : S) × Chain step a one b × Chain step b two c
+chain-split step a c [] two chain = (a, refl, chain)
+chain-split step a c (x ∷ one) two chain = let rest = chain-split step chain.0 c one two chain.2 in (rest.0, (chain.0, chain.1, rest.1), rest.2)
 
 -- seen in another way
 pub chain-map : {S T C : Type 0} (f : S → T) (step : S → C → S → Type 0) (step' : T → C → T → Type 0) → ((x : S) (c : C) (y : S) → step x c y → step' (f x) c (f y))
@@ -41,15 +44,48 @@ called-on step a b c P Q R f g join = record {
 pub called-as : {S C : Type 0} (step : S → C → S → Type 0) (a b : S) (P Q : List C → Type 0) → IsCalled step a b P → ((trace : List C) → P trace → Q trace) → IsCalled step a b Q
 called-as step a b P Q f to = record { trace = f.trace; chain = f.chain; holds = to f.trace f.holds }
 
--- with the calls at hand
-pub called-chained : {S C : Type 0} (step : S → C → S → Type 0) (a b : S) (P : List C → Type 0) → IsCalled step a b P → IsCalled step a b (λ trace. Chain step a trace b × P trace)
-called-chained step a b P f = record { trace = f.trace; chain = f.chain; holds = (f.chain, f.holds) }
+-- THE CALLS OF THREE DEVICES
+module _ {S K F A B C : Type 0} (reading : S → A → S → Type 0) (sending : K → B → K → Type 0) (asking : F → C → F → Type 0) where
+  -- no call
+  pub none-called : (s : S) (k : K) (f : F) (P : List A → List B → List C → Type 0) → P [] [] [] → IsCalled reading s s (λ x. IsCalled sending k k (λ y. IsCalled asking f f (P x y)))
+  none-called s k f P holds = called-none reading s _ (called-none sending k _ (called-none asking f _ holds))
+
+  module _ (s t : S) (k l : K) (f g : F) (P Q : List A → List B → List C → Type 0) (calls : IsCalled reading s t (λ x. IsCalled sending k l (λ y. IsCalled asking f g (P x y)))) where
+    pub all-as : ((x : List A) (y : List B) (z : List C) → P x y z → Q x y z) → IsCalled reading s t (λ x. IsCalled sending k l (λ y. IsCalled asking f g (Q x y)))
+    all-as to = called-as reading s t _ _ calls (λ x c. called-as sending k l _ _ c (λ y d. called-as asking f g _ _ d (λ z holds. to x y z holds)))
+
+    -- with the calls at hand
+    pub all-chained : ((x : List A) (y : List B) (z : List C) → Chain reading s x t → Chain sending k y l → Chain asking f z g → P x y z → Q x y z) → IsCalled reading s t (λ x. IsCalled sending k l (λ y. IsCalled asking f g (Q x y)))
+    all-chained to =
+        let one = calls.holds in
+        let two = one.holds in
+        record {
+          trace = calls.trace;
+          chain = calls.chain;
+          holds = record {
+            trace = one.trace;
+            chain = one.chain;
+            holds = record { trace = two.trace; chain = two.chain; holds = to calls.trace one.trace two.trace calls.chain one.chain two.chain two.holds };
+          };
+        }
+
+  -- and then the sink alone
+  pub all-sent : (s t : S) (k l m : K) (f g : F) (P : List A → List B → List C → Type 0) (Q : List B → Type 0) (R : List A → List B → List C → Type 0) → IsCalled reading s t (λ x. IsCalled sending k l (λ y. IsCalled asking f g (P x y))) → IsCalled sending l m Q
+      → ((x : List A) (y more : List B) (z : List C) → P x y z → Q more → R x (y ++ more) z) → IsCalled reading s t (λ x. IsCalled sending k m (λ y. IsCalled asking f g (R x y)))
+  all-sent s t k l m f g P Q R calls last to =
+      called-as reading s t _ _ calls
+      (λ x c. called-on sending k l m _ _ _ c last (λ y more d told. called-as asking f g _ _ d (λ z holds. to x y more z holds told)))
+
+-- the calls of two of them
+pub both-as : {S K A B : Type 0} (reading : S → A → S → Type 0) (sending : K → B → K → Type 0) (s t : S) (k l : K) (P Q : List A → List B → Type 0) → IsCalled reading s t (λ x. IsCalled sending k l (P x)) → ((x : List A) (y : List B) → P x y → Q x y)
+    → IsCalled reading s t (λ x. IsCalled sending k l (Q x))
+both-as reading sending s t k l P Q calls to = called-as reading s t _ _ calls (λ x c. called-as sending k l _ _ c (λ y holds. to x y holds))
 
 -- the calls so far
-pub asked-none : (d : Devices) (P : Devices → Type 0) → P d → P (record d { asked = d.asked ++ [] })
+pub asked-none : {K : Type 0} {sending : Sending K} → (d : Handed sending) (P : Handed sending → Type 0) → P d → P (record d { asked = d.asked ++ [] })
 asked-none d P holds = subst (λ (t : Trace). P (record d { asked = t })) (sym (append-nil d.asked)) holds
 
-pub asked-on : (d : Devices) (one two : Trace) (P : Devices → Type 0) → P (record d { asked = (d.asked ++ one) ++ two }) → P (record d { asked = d.asked ++ (one ++ two) })
+pub asked-on : {K : Type 0} {sending : Sending K} → (d : Handed sending) (one two : Trace) (P : Handed sending → Type 0) → P (record d { asked = (d.asked ++ one) ++ two }) → P (record d { asked = d.asked ++ (one ++ two) })
 asked-on d one two P holds = subst (λ (t : Trace). P (record d { asked = t })) (append_assoc d.asked one two) holds
 
 -- CALLS THAT WEREN'T REFUSED
@@ -78,7 +114,7 @@ told-back answers asked ((r, Ok answer) ∷ one) two all told =
 told-back answers asked ((r, Err e) ∷ one) two all told = absurd all
 
 -- by the second of two parts of a run
-pub told-next : (start : Configuration) (entry : Devices) (h : Held) (d : Devices) (before one two : Trace) → d.asked ≡ before ++ one → Going start entry h d
+pub told-next : {K : Type 0} {sending : Sending K} → (start : Configuration) (entry : Handed sending) (h : Held) (d : Handed sending) (before one two : Trace) → d.asked ≡ before ++ one → Going start entry h d
     → AreTold start.answers before (one ++ two) → AreTold start.answers (before ++ one) two
 told-next start entry h d before one two same g told =
     told-back start.answers before one two (answered-back before one (subst AreAnswered same g.now.is_past.answered)) told

@@ -14,12 +14,11 @@ use Rattle.gx_session.specs.declared.lines.NoLine.TheVariants as no
 use Rattle.gx_session.specs.declared.questions.Question.{Question}
 use Rattle.gx_session.specs.declared.running.Waiting.{Waiting}
 use Rattle.gx_session.specs.Cuts.{IsWait, request_of}
-use Rattle.gx_session.specs.Devices.{Devices}
 use Rattle.gx_session.specs.Input.{none, too_long}
 use Rattle.gx_session.specs.Questions.{turn_of, request_for, AreTold}
 use Rattle.gx_session.specs.Reading.{TakesLine, HoldsFew, ReadsFew, failures}
 use Rattle.gx_session.specs.Session.{Configuration, asks, given_of, goes_on, asked}
-use Rattle.gx_session.specs.Playing.{Held, WordIs, Ready, Waits, Flushes, TakesInput, EventGives, Early, halt_of_shelf, without_line}
+use Rattle.gx_session.specs.Playing.{Sending, Handed, Held, WordIs, Ready, Waits, Flushes, TakesInput, EventGives, Early, halt_of_shelf, without_line}
 use Rattle.gx_session.proofs.Asking.{request-is, shelf-answers, line-stops}
 use Rattle.gx_session.proofs.Feeding.{reads-on}
 use Rattle.gx_session.proofs.Playing.{here, flushed, cut-send, refused, unread, wants-line}
@@ -31,18 +30,18 @@ next-word : (word : Option ℕ) (stream a b : Stream) → WordIs word stream a �
 next-word None stream a b is is' = ap (λ (s : Stream). (next_u32 s).0) (is ∙ sym is')
 next-word (Some w) stream a b is is' = ap (λ (p : ℕ × Stream). p.0) (is ∙ sym is')
 
-module _ (start : Configuration) (entry : Devices) (h : Held) (asking : Option Asking) (d : Devices) (t : Turn) (w : Waiting) (waits : Waits start entry h asking d (asks t w)) (world : FlatWorld) (sink : FlatSink) where
+module _ {K : Type 0} {sending : Sending K} (start : Configuration) (entry : Handed sending) (h : Held) (asking : Option Asking) (d : Handed sending) (t : Turn) (w : Waiting) (waits : Waits start entry h asking d (asks t w)) (world : FlatWorld) (sink : K) where
   abbrev h1 : Held
   h1 = record h { world = world }
 
-  abbrev d1 : Devices
+  abbrev d1 : Handed sending
   d1 = record d { sink = sink }
 
   -- the text that was due before it was refused
-  pub text-refused : (e : Halt) → (e ≡ halt.Output) ⊎ (e ≡ halt.NoMemory) → Flushes 1 d.sink sink h.world world (Err e) → EventGives start entry h1 asking d1 (Err e)
+  pub text-refused : (e : Halt) → (e ≡ halt.Output) ⊎ (e ≡ halt.NoMemory) → Flushes sending 1 d.sink sink h.world world (Err e) → EventGives start entry h1 asking d1 (Err e)
   text-refused e only f = cut-send start entry h d world sink (asks t w) 1 (λ s text. refl) asking e waits.now waits.asking_is only f
 
-  module _ (f : Flushes 1 d.sink sink h.world world (Ok tt)) where
+  module _ (f : Flushes sending 1 d.sink sink h.world world (Ok tt)) where
     ready : Ready start entry h1 d1 (asks t w)
     ready = flushed start entry h d world sink (asks t w) 1 (λ s text. refl) waits.now f
 
@@ -74,7 +73,7 @@ module _ (start : Configuration) (entry : Devices) (h : Held) (asking : Option A
       abbrev h2 : Held
       h2 = record h1 { ahead = ahead; coming = coming; over = over }
 
-      abbrev d2 : Devices
+      abbrev d2 : Handed sending
       d2 = record d1 { source = source }
 
       -- the reads since the run began

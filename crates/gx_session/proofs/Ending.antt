@@ -6,7 +6,11 @@ use Rattle.gx_words.specs.Faults.{number_of}
 use Rattle.gx_machine.specs.declared.askings.Asking.{Asking}
 use Rattle.gx_machine.specs.Machine.{FlatMachine, Whole}
 use Rattle.gx_machine.specs.Log.{Log}
-use Rattle.gx_outside.specs.Outside.{FlatShelf, raised_by}
+use Rattle.std.specs.List.{concat}
+use Rattle.gx_outside.specs.Chains.{Chain}
+use Rattle.gx_outside.specs.Outside.{FlatSink, FlatShelf}
+use Rattle.gx_outside.specs.Reads.{Read}
+use Rattle.gx_outside.specs.Sends.{Send, SinkCall}
 use Rattle.gx_outside.specs.Shelves.{stores, Trace}
 use Rattle.gx_outside.specs.declared.devices.ShelfFault.{ShelfFault}
 use Rattle.gx_outside.specs.declared.devices.ShelfFault.TheVariants as of_shelf
@@ -20,11 +24,14 @@ use Rattle.gx_session.specs.Counts.{Counts}
 use Rattle.gx_session.specs.Cuts.{in_listing, in_store, IsLineStop, IsShelfStatus, fault_at, stopped}
 use Rattle.gx_session.specs.Devices.{Devices}
 use Rattle.gx_session.specs.Endings.{Store, open_files_of, stores_of, call_of, told_all, after_stores, last_of}
+use Rattle.gx_session.specs.Sending.{taken}
 use Rattle.gx_session.specs.Session.{Configuration, Ending, final_of, status_of, fault_number, fault_address}
-use Rattle.gx_session.specs.Runs.{IsFront, LeavesInput, read_failures, AreDrawn, Report, EndsAt, StopsEarly, IsReport, IsSession}
-use Rattle.gx_session.specs.Playing.{Held, configuration_of, HasTaken, Told, Finished, Early, EndingGives, RunGives, IsStop, status_of_halt, halt_of_shelf, Keeps, StoredSome, StoresFiles}
+use Rattle.gx_session.specs.Runs.{IsFront, LeavesInput, read_failures, AreDrawn, Report, EndsAt, IsReport, IsSession}
+use Rattle.gx_session.specs.Playing.{Sending, Handed, devices_of, Held, configuration_of, Told, Finished, Early, EndingGives, RunGives, IsStop, status_of_halt, halt_of_shelf, Keeps, StoredSome, StoresFiles}
+use Rattle.gx_session.proofs.Calling.{chain-map}
 use Rattle.gx_session.proofs.Counting.{blames-same}
 use Rattle.gx_session.proofs.Playing.{cut-at, input-left, words-left}
+use Rattle.gx_session.proofs.Sinks.{took-whole, takes-front}
 
 pub status-low : (why : Stop) → status_of why < status_shelf_fault
 status-low stop.Ended = omega arith
@@ -42,13 +49,13 @@ status-high halt.Output = omega arith
 status-high halt.NoMemory = omega arith
 
 -- THE STORES OF THE ENDING
-module _ (start : Configuration) (entry : Devices) (h : Held) (asking : Option Asking) (d : Devices) (why : Stop) (t : Told start entry h asking d why) where
+module _ {K : Type 0} {sending : Sending K} (start : Configuration) (entry : Handed sending) (h : Held) (asking : Option Asking) (d : Handed sending) (why : Stop) (t : Told start entry h asking d why) where
   abbrev told-now : Configuration
   told-now = configuration_of t.past t.doing h d
 
   -- the text is whole
-  whole-text : (stopped start).world.text ≡ t.past.sent
-  whole-text = ap (λ (m : Configuration). m.world.text) t.is_end ∙ ap (λ (x : List ℕ). t.past.sent ++ x) t.none_left ∙ append-nil t.past.sent
+  whole-text : (stopped start).world.text ≡ concat t.past.sent
+  whole-text = ap (λ (m : Configuration). m.world.text) t.is_end ∙ ap (λ (x : List ℕ). concat t.past.sent ++ x) t.none_left ∙ append-nil (concat t.past.sent)
 
   whole-front : IsFront (stopped start).world.text (final_of start).configuration.world.text
   whole-front = ([], sym (append-nil (stopped start).world.text))
@@ -56,18 +63,19 @@ module _ (start : Configuration) (entry : Devices) (h : Held) (asking : Option A
   scene-is : (stopped start).world.scene ≡ h.world.scene
   scene-is = ap (λ (m : Configuration). m.world.scene) t.is_end
 
-  sent-bytes : (told_all (stopped start)).sent.bytes ≡ length t.past.sent
-  sent-bytes = ap (λ (m : Configuration). m.sent.bytes) t.is_end
+  -- what was sent is all of it
+  sent-front : IsFront (concat (told_all (stopped start)).sent) (stopped start).world.text
+  sent-front = subst (λ (m : Configuration). IsFront (concat m.sent) m.world.text) (sym t.is_end) (h.world.text, refl)
 
-  sent-taken : HasTaken entry.sink d.sink t.past.sent (told_all (stopped start)).sent.calls
-  sent-taken = subst (HasTaken entry.sink d.sink t.past.sent) (sym (ap (λ (m : Configuration). m.sent.calls) t.is_end)) t.is_past.taken
+  sends-then : map taken t.past.sent ≡ map taken (told_all (stopped start)).sent
+  sends-then = ap (λ (m : Configuration). map taken m.sent) (sym t.is_end)
 
   words-are : AreDrawn (stopped start).words d.words
   words-are = subst (λ (m : Configuration). AreDrawn m.words d.words) (sym t.is_end) (words-left h.word d.words t.past.words t.is_past.word)
 
-  input-are : LeavesInput start.input (stopped start).input entry.source d.source (IsLineStop (final_of start).stop) ((final_of start).stop ≡ stop.LineTooLong) 0
+  input-are : LeavesInput start.input (stopped start).input h.coming entry.source d.source (IsLineStop (final_of start).stop) ((final_of start).stop ≡ stop.LineTooLong) 0
   input-are =
-      subst (λ (m : Configuration). LeavesInput start.input m.input entry.source d.source (IsLineStop (final_of start).stop) ((final_of start).stop ≡ stop.LineTooLong) 0) (sym t.is_end)
+      subst (λ (m : Configuration). LeavesInput start.input m.input h.coming entry.source d.source (IsLineStop (final_of start).stop) ((final_of start).stop ≡ stop.LineTooLong) 0) (sym t.is_end)
       (input-left start entry h d (IsLineStop (final_of start).stop) ((final_of start).stop ≡ stop.LineTooLong) (λ short. t.few (λ e. short (t.stop_is ∙ e)))
       (λ other. t.reads (λ is. other (subst IsLineStop (sym t.stop_is) is))) t.is_past.reads t.is_past.left)
 
@@ -80,15 +88,15 @@ module _ (start : Configuration) (entry : Devices) (h : Held) (asking : Option A
   asked-then = ap (λ (m : Configuration). m.asked) t.is_end
 
   module _ (shelf : FlatShelf) (asked : Trace) where
-    abbrev d-now : Devices
+    abbrev d-now : Handed sending
     d-now = record d { shelf = shelf; asked = d.asked ++ asked }
 
     -- memory ran out before them
     listing-wants : asked ≡ [] → open_files_of h.world.scene ≢ [] → Early start entry h asking d-now halt.NoMemory
     listing-wants none some =
-        cut-at start entry d-now h asking halt.NoMemory in_listing (told_all (stopped start)) t.past.sent [] (refl, open-still some, refl, t.asking_is) (sym (ap (λ (m : Configuration). m.machine) t.is_end)) (sym (ap (λ (m : Configuration). m.left) t.is_end)) (sym (ap (λ (m : Configuration). m.log) t.is_end))
-        (whole-text ∙ sym (append-nil t.past.sent)) sent-taken whole-front (omega (arith, sent-bytes)) (omega (arith, sent-bytes))
-        (ap (λ (x : Trace). d.asked ++ x) none ∙ append-nil d.asked ∙ sym asked-then) (λ other. input-are) words-are t.saves (λ e. tt)
+        cut-at start entry d-now h asking halt.NoMemory in_listing (told_all (stopped start)) (map taken t.past.sent) (refl, open-still some, refl, t.asking_is) (sym (ap (λ (m : Configuration). m.machine) t.is_end)) (sym (ap (λ (m : Configuration). m.left) t.is_end)) (sym (ap (λ (m : Configuration). m.log) t.is_end))
+        sent-front sends-then t.is_past.taken whole-front
+        (ap (λ (x : Trace). d.asked ++ x) none ∙ append-nil d.asked ∙ sym asked-then) (λ other. input-are) words-are t.saves
 
     shelf-status : (fault : ShelfFault) → IsShelfStatus (status_of_halt (halt_of_shelf fault))
     shelf-status of_shelf.Failed = inl refl
@@ -109,13 +117,13 @@ module _ (start : Configuration) (entry : Devices) (h : Held) (asking : Option A
         let m : Configuration = after_stores (told_all (stopped start)) front in
         let split : stores_of (stopped start).world.scene ≡ front ++ next ∷ rest = ap stores_of scene-is ∙ files in
         let call : Trace = (stores next.0 next.1, Err fault) ∷ [] in
-        cut-at start entry d-now h asking (halt_of_shelf fault) (in_store front next) m t.past.sent []
+        cut-at start entry d-now h asking (halt_of_shelf fault) (in_store front next) m (map taken t.past.sent)
         (refl, shelf-status fault, t.asking_is, (rest, split)) (sym (ap (λ (m : Configuration). m.machine) t.is_end)) (sym (ap (λ (m : Configuration). m.left) t.is_end)) (sym (ap (λ (m : Configuration). m.log) t.is_end))
-        (whole-text ∙ sym (append-nil t.past.sent)) sent-taken whole-front (omega (arith, sent-bytes)) (omega (arith, sent-bytes))
+        sent-front sends-then t.is_past.taken whole-front
         (ap (λ (x : Trace). d.asked ++ x) asked-are ∙ sym (append_assoc d.asked (map call_of front) call) ∙ ap (λ (x : Trace). (x ++ map call_of front) ++ call) (sym asked-then)
         ∙ ap (λ (f : ShelfFault). m.asked ++ (stores next.0 next.1, Err f) ∷ []) (sym (fault-is fault)))
         (λ other.
-        subst (LeavesInput start.input m.input entry.source d.source (IsLineStop (final_of start).stop) ((final_of start).stop ≡ stop.LineTooLong)) (sym (no-failures fault)) input-are) words-are t.saves (λ e. tt)
+        subst (LeavesInput start.input m.input h.coming entry.source d.source (IsLineStop (final_of start).stop) ((final_of start).stop ≡ stop.LineTooLong)) (sym (no-failures fault)) input-are) words-are t.saves
 
     closes-by : (halted : Halt) → ((halted ≡ halt.NoMemory) × (asked ≡ []) × (open_files_of h.world.scene ≢ [])) ⊎ StoredSome (stores_of h.world.scene) asked halted → Early start entry h asking d-now halted
     closes-by halted (inl none) = subst (Early start entry h asking d-now) (sym none.0) (listing-wants none.1 none.2)
@@ -124,49 +132,6 @@ module _ (start : Configuration) (entry : Devices) (h : Held) (asking : Option A
     pub closes : (r : Result (Unit {0}) Halt) → StoresFiles h.world.scene asked r → EndingGives start entry h asking d-now why r
     closes (Ok u) s = record { shelf = d.shelf; before = d.asked; told = t; asked_are = ap (λ (x : Trace). d.asked ++ x) s }
     closes (Err halted) s = closes-by halted s
-
--- a run that came to its end, with all text sent and all files stored
-pub ended-at : (start : Configuration) (entry : Devices) (h : Held) (asking : Option Asking) (d : Devices) (why : Stop) → h.left ≤ start.left → Finished start entry h asking d why
-    → EndsAt start (final_of start) entry d (record {
-      status = status_of why;
-      fault = fault_number why;
-      at = fault_address why h.machine;
-      steps = start.left - h.left;
-      machine = record { machine = h.machine; asking = asking };
-      log = h.log;
-    })
-ended-at start entry h asking d why fewer f =
-    let t = f.told in
-    let d0 : Devices = record d { shelf = f.shelf; asked = f.before } in
-    let e : Ending = final_of start in
-    let units : start.left - h.left + h.left ≡ start.left = omega arith in
-    let left : e.configuration.left ≡ h.left = ap (λ (m : Configuration). m.left) t.is_end in
-    let machine : h.machine ≡ e.configuration.machine = sym (ap (λ (m : Configuration). m.machine) t.is_end) in
-    let scene : e.configuration.world.scene ≡ h.world.scene = scene-is start entry h asking d0 why t in
-    let asked-is : e.configuration.asked ≡ f.before = ap (λ (m : Configuration). m.asked) t.is_end in
-    record {
-      status_is = ap status_of (sym t.stop_is);
-      fault_is = ap fault_number (sym t.stop_is);
-      at_is = ap (λ (x : FlatMachine). fault_address why x) machine ∙ ap (λ (x : Stop). fault_address x e.configuration.machine) (sym t.stop_is);
-      steps_are = omega arith;
-      machine_is =
-          ap (λ (x : FlatMachine). let w : Whole = record { machine = x; asking = asking } in w) machine
-          ∙ ap (λ (x : Option Asking). let w : Whole = record { machine = e.configuration.machine; asking = x } in w) t.asking_is;
-      log_is = sym (ap (λ (m : Configuration). m.log) t.is_end);
-      text_is = λ told. t.is_past.taken.taken (t.is_past.taken.tells ∙ told) ∙ ap (λ (x : List ℕ). entry.sink.taken ++ x) (sym (whole-text start entry h asking d0 why t));
-      sends_are = t.is_past.taken.made ∙ ap (λ (m : Configuration). raised_by m.sent.calls entry.sink.calls.made) (sym t.is_end);
-      asked_are =
-          f.asked_are ∙ ap (λ (x : Trace). x ++ map call_of (stores_of h.world.scene)) (sym asked-is)
-          ∙ ap (λ (x : Scene). e.configuration.asked ++ map call_of (stores_of x)) (sym scene);
-      input_is = input-are start entry h asking d0 why t;
-      words_are = words-are start entry h asking d0 why t;
-      saves_are = t.saves;
-    }
-
--- what a run that was cut short used and left
-pub units-left : (start : Configuration) (entry d : Devices) (status : ℕ) (left : ℕ) (machine : Whole) (log : Option Log) → left ≤ start.left → StopsEarly start entry d status left machine log
-    → (n : ℕ) × (start.left - left + n ≡ start.left) × StopsEarly start entry d status n machine log
-units-left start entry d status left machine log fewer early = (left, omega arith, early)
 
 numbered : (f : Fault) → f ≢ NoMemory → (1 ≤ number_of f) × (number_of f ≤ 16)
 numbered NoMemory other = absurd (other refl)
@@ -223,17 +188,75 @@ counts-of-halt entry exit why k =
     status-from : (why one : Halt) → status_of_halt why ≡ status_of_halt one → (let r : Result Stop Halt = Err why in r ≡ Err one)
     status-from why one e = ap (λ (x : Halt). let r : Result Stop Halt = Err x in r) (sym (back why) ∙ ap halt-of e ∙ back one)
 
--- A whole run is the session.
-module _ (start : Configuration) (entry : Devices) (h : Held) (asking : Option Asking) (d : Devices) (fewer : h.left ≤ start.left) where
-  abbrev pub report-at : ℕ → ℕ → ℕ → Report
+-- a run that came to its end, with all text sent and all files stored
+pub ended-at : {K : Type 0} {sending : Sending K} → (start : Configuration) (entry : Handed sending) (h : Held) (asking : Option Asking) (d : Handed sending) (why : Stop) → h.left ≤ start.left → (f : Finished start entry h asking d why)
+    → (before now : FlatSink) (reads : List Read) → Chain SinkCall before (map taken f.told.past.sent) now → EndsAt start (final_of start) (devices_of entry before [] []) (devices_of d now reads (map taken f.told.past.sent)) h.coming (record {
+      status = status_of why;
+      fault = fault_number why;
+      at = fault_address why h.machine;
+      steps = start.left - h.left;
+      machine = record { machine = h.machine; asking = asking };
+      log = h.log;
+    })
+ended-at {sending = sending} start entry h asking d why fewer f before now reads chain =
+    let t = f.told in
+    let d0 : Handed sending = record d { shelf = f.shelf; asked = f.before } in
+    let e : Ending = final_of start in
+    let units : start.left - h.left + h.left ≡ start.left = omega arith in
+    let left : e.configuration.left ≡ h.left = ap (λ (m : Configuration). m.left) t.is_end in
+    let machine : h.machine ≡ e.configuration.machine = sym (ap (λ (m : Configuration). m.machine) t.is_end) in
+    let scene : e.configuration.world.scene ≡ h.world.scene = scene-is start entry h asking d0 why t in
+    let asked-is : e.configuration.asked ≡ f.before = ap (λ (m : Configuration). m.asked) t.is_end in
+    record {
+      status_is = ap status_of (sym t.stop_is);
+      fault_is = ap fault_number (sym t.stop_is);
+      at_is = ap (λ (x : FlatMachine). fault_address why x) machine ∙ ap (λ (x : Stop). fault_address x e.configuration.machine) (sym t.stop_is);
+      steps_are = omega arith;
+      machine_is =
+          ap (λ (x : FlatMachine). let w : Whole = record { machine = x; asking = asking } in w) machine
+          ∙ ap (λ (x : Option Asking). let w : Whole = record { machine = e.configuration.machine; asking = x } in w) t.asking_is;
+      log_is = sym (ap (λ (m : Configuration). m.log) t.is_end);
+      text_is = λ told. (took-whole before now t.past.sent chain).all told ∙ ap (λ (x : List ℕ). before.taken ++ x) (sym (whole-text start entry h asking d0 why t));
+      sends_are = sends-then start entry h asking d0 why t;
+      asked_are =
+          f.asked_are ∙ ap (λ (x : Trace). x ++ map call_of (stores_of h.world.scene)) (sym asked-is)
+          ∙ ap (λ (x : Scene). e.configuration.asked ++ map call_of (stores_of x)) (sym scene);
+      input_is = input-are start entry h asking d0 why t;
+      words_are = words-are start entry h asking d0 why t;
+      saves_are = t.saves;
+    }
+
+-- A whole run is the session, over these calls of the sink.
+module _ {K : Type 0} {sending : Sending K} (seen : K → FlatSink) (law : (x : K) (c : Send) (y : K) → sending x c y → SinkCall (seen x) c (seen y)) (reads : List Read)
+    (start : Configuration) (entry : Handed sending) (h : Held) (asking : Option Asking) (d : Handed sending) (fewer : h.left ≤ start.left) where
+  abbrev report-at : ℕ → ℕ → ℕ → Report
   report-at status fault at = record { status = status; fault = fault; at = at; steps = start.left - h.left; machine = record { machine = h.machine; asking = asking }; log = h.log }
 
-  pub session-of-stop : (why : Stop) → RunGives start entry h asking d (Ok why) → IsSession start entry d (report-at (status_of why) (fault_number why) (fault_address why h.machine))
+  abbrev IsSessionOver : List Send → Report → Type 0
+  IsSessionOver sends r = IsSession start (devices_of entry (seen entry.sink) [] []) (devices_of d (seen d.sink) reads sends) h.coming r
+
+  seen-so : (sends : List Send) → Chain sending entry.sink sends d.sink → Chain SinkCall (seen entry.sink) sends (seen d.sink)
+  seen-so sends chain = chain-map seen sending SinkCall law entry.sink d.sink sends chain
+
+  pub session-of-stop : (why : Stop) → RunGives start entry h asking d (Ok why)
+      → (sends : List Send) × Chain sending entry.sink sends d.sink × IsSessionOver sends (report-at (status_of why) (fault_number why) (fault_address why h.machine))
   session-of-stop why f =
       let low : status_of why < status_shelf_fault = status-low why in
-      record { ended = λ _. ended-at start entry h asking d why fewer f; early = λ high. absurd (omega arith) }
+      let sends : List Send = map taken f.told.past.sent in
+      let chain : Chain sending entry.sink sends d.sink = f.told.is_past.taken in (
+        sends,
+        chain,
+        record { ended = λ _. ended-at start entry h asking d why fewer f (seen entry.sink) (seen d.sink) reads (seen-so sends chain); early = λ high. absurd (omega arith) },
+      )
 
-  pub session-of-halt : (why : Halt) → RunGives start entry h asking d (Err why) → IsSession start entry d (report-at (status_of_halt why) 0 0)
+  pub session-of-halt : (why : Halt) → RunGives start entry h asking d (Err why)
+      → (sends : List Send) × Chain sending entry.sink sends d.sink × IsSessionOver sends (report-at (status_of_halt why) 0 0)
   session-of-halt why early =
       let high : status_shelf_fault ≤ status_of_halt why = status-high why in
-      record { ended = λ low. absurd (omega arith); early = λ _. units-left start entry d (status_of_halt why) h.left (record { machine = h.machine; asking = asking }) h.log fewer early }
+      let e = early.stops (seen entry.sink) (seen d.sink) reads in
+      let units : start.left - h.left + h.left ≡ start.left = omega arith in
+      let front = takes-front (seen entry.sink) (seen d.sink) e.configuration e.sent_of (status_of_halt why) e.cut early.sends e.sends_are (seen-so early.sends early.chain) in (
+        early.sends,
+        early.chain,
+        record { ended = λ low. absurd (omega arith); early = λ _. (h.left, units, e, front) },
+      )

@@ -1,43 +1,102 @@
 -- What comes of a source over parts of a run that follow one another.
-use Rattle.std.proofs.Common.{◌≡◌, ℕ, zero, suc, ◌+◌, ◌<◌, ◌≤◌, ◌-◌, ◌⊎◌, inl, inr, List, [], ◌∷◌, ◌++◌, length, take, drop, Bool, true, false, Result, Ok, Err, IfOk, IfErr, refl, ap, subst, sym, ◌∙◌, arith, append_assoc, length-append, length-drop}
+use Rattle.std.proofs.Common.{◌≡◌, ℕ, zero, suc, ◌+◌, ◌<◌, ◌≤◌, ◌-◌, ◌⊎◌, inl, inr, List, [], ◌∷◌, ◌++◌, length, take, drop, Bool, true, false, Result, Ok, Err, IfOk, IfErr, refl, ap, subst, sym, ◌∙◌, arith, append_assoc, append-nil, length-append, length-drop}
 use Rattle.std.proofs.lemmas.Bool.{cases_lt}
 use Rattle.gx_outside.specs.Outside.{FlatSource, raised, raised_by, offered_by, offered_in}
+use Rattle.gx_outside.specs.Reads.{Read}
+use Rattle.gx_outside.specs.declared.devices.Failed.{Failed}
 use Rattle.gx_session.specs.declared.lines.NoLine.{NoLine}
 use Rattle.gx_session.specs.declared.lines.NoLine.TheVariants as no
 use Rattle.gx_session.specs.Constants.{longest, piece}
 use Rattle.gx_session.specs.Input.{line, chars_of, next_line}
 use Rattle.gx_session.specs.Lines.{HeldLines}
-use Rattle.gx_session.specs.Reading.{IsComing, IsOver, Fed, spare, ReadsFew, Takes, GrowsBy, Fills, IsPartial, HoldsFew}
+use Rattle.gx_session.specs.Reading.{IsComing, IsOver, bytes_read, HavePieces, SayEnd, Reading, Fed, FillsBy, spare, ReadsFew, Takes, GrowsBy, Fills, IsPartial, HoldsFew}
+use Rattle.gx_session.proofs.Calling.{chain-append}
 use Rattle.gx_session.proofs.Storing.{raised-more}
 use Rattle.gx_session.proofs.NextLines.{pos, next-long, next-held, next-last, next-none}
 
-pub fed-on : (a b c : HeldLines) (s t u : FlatSource) (P Q R : List ℕ → List ℕ → Type 0) → Fed a b s t P → Fed b c t u Q → ((x y z : List ℕ) → P x y → Q y z → R x z) → Fed a c s u R
-fed-on a b c s t u P Q R f g join = record {
+-- THE READS
+pieces-and : (one two : List Read) → HavePieces one → HavePieces two → HavePieces (one ++ two)
+pieces-and [] two all more = more
+pieces-and ((room, gave) ∷ one) two all more = (all.0, pieces-and one two all.1 more)
+
+read-append : (one two : List Read) → bytes_read (one ++ two) ≡ bytes_read one ++ bytes_read two
+read-append [] two = refl
+read-append ((room, Ok bytes) ∷ one) two = ap (λ (x : List ℕ). bytes ++ x) (read-append one two) ∙ sym (append_assoc bytes (bytes_read one) (bytes_read two))
+read-append ((room, Err e) ∷ one) two = read-append one two
+
+says-split : (one two : List Read) → SayEnd (one ++ two) → SayEnd one ⊎ SayEnd two
+says-split [] two s = inr s
+says-split ((room, Ok []) ∷ one) two s = inl tt
+says-split ((room, Ok (x ∷ xs)) ∷ one) two s = says-split one two s
+says-split ((room, Err e) ∷ one) two s = says-split one two s
+
+either : {A B C : Type 0} → (A → C) → (B → C) → A ⊎ B → C
+either f g (inl x) = f x
+either f g (inr y) = g y
+
+-- a read that gave some bytes doesn't say so
+says-some : (got : List ℕ) → 0 < length got → SayEnd ((piece, Ok got) ∷ []) → ⊥
+says-some [] some s = absurd (omega arith)
+says-some (x ∷ xs) some s = s
+
+pub fed-on : {S : Type 0} (reading : Reading S) (seen : S → FlatSource) (a b c : HeldLines) (s t u : S) (P Q R : List ℕ → List ℕ → Type 0) → Fed reading seen a b s t P → Fed reading seen b c t u Q → ((x y z : List ℕ) → P x y → Q y z → R x z)
+    → Fed reading seen a c s u R
+fed-on reading seen a b c s t u P Q R f g join = record {
+  reads = f.reads ++ g.reads;
+  chain = chain-append reading s t u f.reads g.reads f.chain g.chain;
+  pieces = pieces-and f.reads g.reads f.pieces g.pieces;
+  said = either (λ e. g.said (inl (f.said (inl e)))) (λ e. either (λ x. g.said (inl (f.said (inr x)))) (λ y. g.said (inr y)) (says-split f.reads g.reads e));
   over = λ o. g.over (f.over o);
   comes = λ z is. let two = g.comes z is in let one = f.comes two.0 two.1 in (one.0, one.1, join one.0 two.0 z one.2 two.2);
+  given = λ z is.
+      let two = g.comes z is in
+      f.given two.0 two.1 ∙ ap (λ (x : List ℕ). bytes_read f.reads ++ x) (g.given z is)
+      ∙ sym (append_assoc (bytes_read f.reads) (bytes_read g.reads) z) ∙ ap (λ (x : List ℕ). x ++ z) (sym (read-append f.reads g.reads));
 }
 
 -- nothing was read
-pub fed-same : (a : HeldLines) (s : FlatSource) (P : List ℕ → List ℕ → Type 0) → ((x : List ℕ) → P x x) → Fed a a s s P
-fed-same a s P same = record { over = λ o. o; comes = λ x is. (x, is, same x) }
+pub fed-same : {S : Type 0} (reading : Reading S) (seen : S → FlatSource) (a : HeldLines) (s : S) (P : List ℕ → List ℕ → Type 0) → ((x : List ℕ) → P x x) → Fed reading seen a a s s P
+fed-same reading seen a s P same = record {
+  reads = [];
+  chain = refl;
+  pieces = tt;
+  said = either (λ e. e) (λ n. absurd n);
+  over = λ o. o;
+  comes = λ x is. (x, is, same x);
+  given = λ x is. refl;
+}
 
-pub fed-lines : (a b : HeldLines) (s : FlatSource) (P : List ℕ → List ℕ → Type 0) → b ≡ a → ((x : List ℕ) → P x x) → Fed a b s s P
-fed-lines a b s P lines same = subst (λ (c : HeldLines). Fed a c s s P) (sym lines) (fed-same a s P same)
-
-pub fed-as : (a b : HeldLines) (s t : FlatSource) (P Q : List ℕ → List ℕ → Type 0) → Fed a b s t P → ((x y : List ℕ) → P x y → Q x y) → Fed a b s t Q
-fed-as a b s t P Q f to = record { over = f.over; comes = λ y is. let one = f.comes y is in (one.0, one.1, to one.0 y one.2) }
+pub fed-lines : {S : Type 0} (reading : Reading S) (seen : S → FlatSource) (a b : HeldLines) (s : S) (P : List ℕ → List ℕ → Type 0) → b ≡ a → ((x : List ℕ) → P x x) → Fed reading seen a b s s P
+fed-lines reading seen a b s P lines same = subst (λ (c : HeldLines). Fed reading seen a c s s P) (sym lines) (fed-same reading seen a s P same)
 
 -- what is said of what may come is handed on
-pub fed-coming : (a b c : HeldLines) (s t : FlatSource) (P Q : List ℕ → List ℕ → Type 0) → c ≡ b → Fed a b s t P → ((x y : List ℕ) → IsComing b t y → P x y → Q x y) → Fed a c s t Q
-fed-coming a b c s t P Q lines f to =
-    let here : Fed a b s t Q = record { over = f.over; comes = λ y is. let one = f.comes y is in (one.0, one.1, to one.0 y is one.2) } in
-    subst (λ (l : HeldLines). Fed a l s t Q) (sym lines) here
+pub fed-coming : {S : Type 0} (reading : Reading S) (seen : S → FlatSource) (a b c : HeldLines) (s t : S) (P Q : List ℕ → List ℕ → Type 0) → c ≡ b → Fed reading seen a b s t P → ((x y : List ℕ) → IsComing b (seen t) y → P x y → Q x y)
+    → Fed reading seen a c s t Q
+fed-coming reading seen a b c s t P Q lines f to =
+    let here : Fed reading seen a b s t Q = record {
+      reads = f.reads;
+      chain = f.chain;
+      pieces = f.pieces;
+      said = f.said;
+      over = f.over;
+      comes = λ y is. let one = f.comes y is in (one.0, one.1, to one.0 y is one.2);
+      given = λ y is. f.given y is;
+    } in
+    subst (λ (l : HeldLines). Fed reading seen a l s t Q) (sym lines) here
+
+pub fed-as : {S : Type 0} (reading : Reading S) (seen : S → FlatSource) (a b : HeldLines) (s t : S) (P Q : List ℕ → List ℕ → Type 0) → Fed reading seen a b s t P → ((x y : List ℕ) → P x y → Q x y) → Fed reading seen a b s t Q
+fed-as reading seen a b s t P Q f to = fed-coming reading seen a b b s t P Q refl f (λ x y is. to x y)
 
 -- nothing was read, and all stands but what is held
-pub fed-still : (a b : HeldLines) (s : FlatSource) → b.ended ≡ a.ended → Fed a b s s (λ x y. x ≡ y)
-fed-still a b s ended = record {
+pub fed-still : {S : Type 0} (reading : Reading S) (seen : S → FlatSource) (a b : HeldLines) (s : S) → b.ended ≡ a.ended → Fed reading seen a b s s (λ x y. x ≡ y)
+fed-still reading seen a b s ended = record {
+  reads = [];
+  chain = refl;
+  pieces = tt;
+  said = either (λ e. ended ∙ e) (λ n. absurd n);
   over = λ o e. o (sym ended ∙ e);
   comes = λ x is. (x, record { told = is.told; over = λ e. is.over (ended ∙ e) }, refl);
+  given = λ x is. refl;
 }
 
 -- no read was made, or more after others
@@ -68,10 +127,10 @@ pub record ReadOn (first now : HeldLines) (before source : FlatSource) (x y : Li
   pub same : first.held ++ x ≡ now.held ++ y
   pub reads : ReadsFew first.ended now.ended before source x y 0
 
-module _ (first now : HeldLines) (before source : FlatSource) (fed : Fed first now before source (ReadOn first now before source)) where
-  pub too-long : longest ≤ pos now.held → Fed first now before source (λ x y. Takes first now before source x y (Err no.TooLong))
+module _ {S : Type 0} (reading : Reading S) (seen : S → FlatSource) (first now : HeldLines) (before source : S) (fed : Fed reading seen first now before source (ReadOn first now (seen before) (seen source))) where
+  pub too-long : longest ≤ pos now.held → Fed reading seen first now before source (λ x y. Takes first now (seen before) (seen source) x y (Err no.TooLong))
   too-long long =
-      fed-as first now before source (ReadOn first now before source) (λ x y. Takes first now before source x y (Err no.TooLong)) fed
+      fed-as reading seen first now before source (ReadOn first now (seen before) (seen source)) (λ x y. Takes first now (seen before) (seen source) x y (Err no.TooLong)) fed
       (λ x y r. record { line = (ap next_line r.same ∙ next-long now.held y long, sym r.same); reads = r.reads })
 
   pub few-held : (searched : ℕ) (later : HeldLines) (r : Result (List ℕ) NoLine) → pos now.held < length now.held → searched ≤ pos now.held → length now.held ≤ searched + piece
@@ -84,10 +143,10 @@ module _ (first now : HeldLines) (before source : FlatSource) (fed : Fed first n
   few-held searched later (Err e) here after few ok err = subst (λ (f : NoLine). HoldsFew later.held (let q : Result (List ℕ) NoLine = Err f in q)) (sym err.0) tt
 
   -- nothing more was read
-  read-still : (later : HeldLines) → later.ended ≡ now.ended → (x y z : List ℕ) → ReadOn first now before source x y → y ≡ z → ReadsFew first.ended later.ended before source x z 0
+  read-still : (later : HeldLines) → later.ended ≡ now.ended → (x y z : List ℕ) → ReadOn first now (seen before) (seen source) x y → y ≡ z → ReadsFew first.ended later.ended (seen before) (seen source) x z 0
   read-still later ended x y z r same =
-      subst (λ (w : List ℕ). ReadsFew first.ended later.ended before source x w 0) same
-      (reads-on first.ended now.ended later.ended before source source x y y 0 r.reads (reads-none now.ended later.ended source y ended))
+      subst (λ (w : List ℕ). ReadsFew first.ended later.ended (seen before) (seen source) x w 0) same
+      (reads-on first.ended now.ended later.ended (seen before) (seen source) (seen source) x y y 0 r.reads (reads-none now.ended later.ended (seen source) y ended))
 
   some-held : (x y : List ℕ) → 0 < length now.held → first.held ++ x ≡ now.held ++ y → 0 < length (first.held ++ x)
   some-held x y some same =
@@ -97,10 +156,10 @@ module _ (first now : HeldLines) (before source : FlatSource) (fed : Fed first n
   -- a line that is held
   pub takes-held : (later : HeldLines) (r : Result (List ℕ) NoLine) → pos now.held < length now.held → pos now.held < longest
       → IfOk r (λ chars. (chars ≡ chars_of (take (pos now.held) now.held)) × (later ≡ record now { held = drop (pos now.held + 1) now.held }))
-      → IfErr r (λ e. (e ≡ no.NoMemory) × (later ≡ now)) → Fed first later before source (λ x y. Takes first later before source x y r)
+      → IfErr r (λ e. (e ≡ no.NoMemory) × (later ≡ now)) → Fed reading seen first later before source (λ x y. Takes first later (seen before) (seen source) x y r)
   takes-held later (Ok chars) here short ok err =
-      fed-on first now later before source source (ReadOn first now before source) (λ x y. x ≡ y) (λ x y. Takes first later before source x y (Ok chars)) fed
-      (fed-still now later source (ap (λ (l : HeldLines). l.ended) ok.1))
+      fed-on reading seen first now later before source source (ReadOn first now (seen before) (seen source)) (λ x y. x ≡ y) (λ x y. Takes first later (seen before) (seen source) x y (Ok chars)) fed
+      (fed-still reading seen now later source (ap (λ (l : HeldLines). l.ended) ok.1))
       (λ x y z r same. record {
         line =
             ap next_line r.same ∙ next-held now.held y here short ∙ ap (λ (c : List ℕ). line c (drop (pos now.held + 1) now.held ++ y)) (sym ok.0)
@@ -108,9 +167,9 @@ module _ (first now : HeldLines) (before source : FlatSource) (fed : Fed first n
         reads = read-still later (ap (λ (l : HeldLines). l.ended) ok.1) x y z r same;
       })
   takes-held later (Err e) here short ok err =
-      fed-on first now later before source source (ReadOn first now before source) (λ x y. x ≡ y) (λ x y. Takes first later before source x y (Err e)) fed
-      (fed-still now later source (ap (λ (l : HeldLines). l.ended) err.1))
-      (λ x y z r same. subst (λ (f : NoLine). Takes first later before source x z (Err f)) (sym err.0)
+      fed-on reading seen first now later before source source (ReadOn first now (seen before) (seen source)) (λ x y. x ≡ y) (λ x y. Takes first later (seen before) (seen source) x y (Err e)) fed
+      (fed-still reading seen now later source (ap (λ (l : HeldLines). l.ended) err.1))
+      (λ x y z r same. subst (λ (f : NoLine). Takes first later (seen before) (seen source) x z (Err f)) (sym err.0)
       (record { line = some-held x y (omega arith) r.same; reads = read-still later (ap (λ (l : HeldLines). l.ended) err.1) x y z r same }))
 
   -- the last line, or none
@@ -119,25 +178,30 @@ module _ (first now : HeldLines) (before source : FlatSource) (fed : Fed first n
     record Nothing (later : HeldLines) (x y : List ℕ) : Type 0 where
       same : first.held ++ x ≡ now.held ++ []
       none-left : y ≡ []
-      reads : ReadsFew first.ended later.ended before source x y 0
+      reads : ReadsFew first.ended later.ended (seen before) (seen source) x y 0
 
-    nothing-comes : (later : HeldLines) → later.ended ≡ now.ended → Fed first later before source (Nothing later)
+    nothing-comes : (later : HeldLines) → later.ended ≡ now.ended → Fed reading seen first later before source (Nothing later)
     nothing-comes later same =
         record {
+          reads = fed.reads;
+          chain = fed.chain;
+          pieces = fed.pieces;
+          said = λ e. same ∙ fed.said e;
           over = λ o e. fed.over o (sym same ∙ e);
           comes = λ y is.
               let gone : y ≡ [] = is.over (same ∙ over) in
               let one = fed.comes y (record { told = is.told; over = λ e. is.over (same ∙ e) }) in
               (one.0, one.1, record { same = one.2.same ∙ ap (λ (w : List ℕ). now.held ++ w) gone; none-left = gone; reads = read-still later same one.0 y y one.2 refl });
+          given = λ y is. fed.given y (record { told = is.told; over = λ e. is.over (same ∙ e) });
         }
 
     empty-is : (xs : List ℕ) → length xs ≡ 0 → xs ≡ []
     empty-is [] e = refl
     empty-is (x ∷ xs) e = cc
 
-    pub takes-none : (later : HeldLines) → length now.held ≡ 0 → later ≡ now → Fed first later before source (λ x y. Takes first later before source x y (Err no.Ended))
+    pub takes-none : (later : HeldLines) → length now.held ≡ 0 → later ≡ now → Fed reading seen first later before source (λ x y. Takes first later (seen before) (seen source) x y (Err no.Ended))
     takes-none later empty same =
-        fed-as first later before source (Nothing later) (λ x y. Takes first later before source x y (Err no.Ended)) (nothing-comes later (ap (λ (l : HeldLines). l.ended) same))
+        fed-as reading seen first later before source (Nothing later) (λ x y. Takes first later (seen before) (seen source) x y (Err no.Ended)) (nothing-comes later (ap (λ (l : HeldLines). l.ended) same))
         (λ x y e. record {
           line = (
             ap next_line (e.same ∙ ap (λ (w : List ℕ). w ++ []) (empty-is now.held empty)) ∙ next-none,
@@ -147,9 +211,9 @@ module _ (first now : HeldLines) (before source : FlatSource) (fed : Fed first n
         })
 
     pub takes-last : (later : HeldLines) (r : Result (List ℕ) NoLine) → 0 < length now.held → IfOk r (λ chars. (chars ≡ chars_of now.held) × (later ≡ record now { held = [] }))
-        → IfErr r (λ e. (e ≡ no.NoMemory) × (later ≡ now)) → Fed first later before source (λ x y. Takes first later before source x y r)
+        → IfErr r (λ e. (e ≡ no.NoMemory) × (later ≡ now)) → Fed reading seen first later before source (λ x y. Takes first later (seen before) (seen source) x y r)
     takes-last later (Ok chars) some ok err =
-        fed-as first later before source (Nothing later) (λ x y. Takes first later before source x y (Ok chars)) (nothing-comes later (ap (λ (l : HeldLines). l.ended) ok.1))
+        fed-as reading seen first later before source (Nothing later) (λ x y. Takes first later (seen before) (seen source) x y (Ok chars)) (nothing-comes later (ap (λ (l : HeldLines). l.ended) ok.1))
         (λ x y e. record {
           line =
               ap next_line e.same ∙ next-last now.held all some short ∙ ap (λ (c : List ℕ). line c []) (sym ok.0)
@@ -157,82 +221,103 @@ module _ (first now : HeldLines) (before source : FlatSource) (fed : Fed first n
           reads = e.reads;
         })
     takes-last later (Err f) some ok err =
-        fed-as first later before source (Nothing later) (λ x y. Takes first later before source x y (Err f)) (nothing-comes later (ap (λ (l : HeldLines). l.ended) err.1))
-        (λ x y e. subst (λ (g : NoLine). Takes first later before source x y (Err g)) (sym err.0) (record { line = some-held x [] some e.same; reads = e.reads }))
+        fed-as reading seen first later before source (Nothing later) (λ x y. Takes first later (seen before) (seen source) x y (Err f)) (nothing-comes later (ap (λ (l : HeldLines). l.ended) err.1))
+        (λ x y e. subst (λ (g : NoLine). Takes first later (seen before) (seen source) x y (Err g)) (sym err.0) (record { line = some-held x [] some e.same; reads = e.reads }))
 
     pub takes-rest : (later : HeldLines) (r : Result (List ℕ) NoLine) → (length now.held ≡ 0 → (r ≡ Err no.Ended) × (later ≡ now)) → IfOk r (λ chars. (chars ≡ chars_of now.held) × (later ≡ record now { held = [] }))
-        → (0 < length now.held → IfErr r (λ e. (e ≡ no.NoMemory) × (later ≡ now))) → Fed first later before source (λ x y. Takes first later before source x y r)
+        → (0 < length now.held → IfErr r (λ e. (e ≡ no.NoMemory) × (later ≡ now))) → Fed reading seen first later before source (λ x y. Takes first later (seen before) (seen source) x y r)
     takes-rest later r nothing ok err = rest-by (cases_lt 0 (length now.held))
       where
-        rest-by : (0 < length now.held) ⊎ (length now.held ≤ 0) → Fed first later before source (λ x y. Takes first later before source x y r)
+        rest-by : (0 < length now.held) ⊎ (length now.held ≤ 0) → Fed reading seen first later before source (λ x y. Takes first later (seen before) (seen source) x y r)
         rest-by (inl some) = takes-last later r some ok (err some)
         rest-by (inr empty) =
             let zero : length now.held ≡ 0 = omega arith in
             let is = nothing zero in
-            subst (λ (q : Result (List ℕ) NoLine). Fed first later before source (λ x y. Takes first later before source x y q)) (sym is.0) (takes-none later zero is.1)
+            subst (λ (q : Result (List ℕ) NoLine). Fed reading seen first later before source (λ x y. Takes first later (seen before) (seen source) x y q)) (sym is.0) (takes-none later zero is.1)
 
   -- the source failed, or memory ran out
-  module _ (later : HeldLines) (source' : FlatSource) (going : now.ended ≡ false) (tells : source'.tells ≡ source.tells) (made : source'.calls.made ≡ raised source.calls.made)
-      (offered : source'.offered ≡ offered_by piece source.offered) where
+  module _ (later : HeldLines) (source' : S) (going : now.ended ≡ false) (tells : (seen source').tells ≡ (seen source).tells) (made : (seen source').calls.made ≡ raised (seen source).calls.made)
+      (offered : (seen source').offered ≡ offered_by piece (seen source).offered) where
+    not-over : {C : Type 0} → now.ended ≡ true → C
+    not-over e = let g = going in absurd cc
+
     going-on : later ≡ now → later.ended ≡ true → ⊥
     going-on same e = let e' : now.ended ≡ true = ap (λ (l : HeldLines). l.ended) (sym same) ∙ e in cc
 
     -- one more read
-    one-more : (over : Bool) (y z : List ℕ) (more : ℕ) → 1 + length z + spare over ≤ length y + 1 + more → ReadsFew now.ended over source source' y z more
+    one-more : (over : Bool) (y z : List ℕ) (more : ℕ) → 1 + length z + spare over ≤ length y + 1 + more → ReadsFew now.ended over (seen source) (seen source') y z more
     one-more over y z more less =
         let one : spare now.ended ≡ 1 = ap spare going in
         record { reads = 1; made = made; offered = offered; few = omega arith }
 
-    pub fails : (e : NoLine) → Fills now later source source' (Err e) → Fed first later before source' (λ x y. Takes first later before source' x y (Err e))
-    fails no.Failed is =
-        fed-on first now later before source source' (ReadOn first now before source) (λ x y. x ≡ y) (λ x y. Takes first later before source' x y (Err no.Failed)) fed
+    pub fails : (gave : Result (List ℕ) Failed) → reading source (piece, gave) source' → (e : NoLine) → Fills now later (seen source) (seen source') (Err e) gave → Fed reading seen first later before source' (λ x y. Takes first later (seen before) (seen source') x y (Err e))
+    fails (Err f) call no.Failed is =
+        fed-on reading seen first now later before source source' (ReadOn first now (seen before) (seen source)) (λ x y. x ≡ y) (λ x y. Takes first later (seen before) (seen source') x y (Err no.Failed)) fed
         (record {
+          reads = (piece, Err f) ∷ [];
+          chain = (source', call, refl);
+          pieces = (refl, tt);
+          said = either (λ e. not-over e) (λ n. absurd n);
           over = λ o e. absurd (going-on is.0 e);
-          comes = λ y c. (y, record { told = λ t. c.told (tells ∙ t) ∙ is.1 t; over = λ e. absurd (let g = going in cc) }, refl);
+          comes = λ y c. (y, record { told = λ t. c.told (tells ∙ t) ∙ is.1 t; over = λ e. not-over e }, refl);
+          given = λ y c. refl;
         })
         (λ x y z r same. record {
           line = ap (λ (l : HeldLines). l.held ++ z) is.0 ∙ ap (λ (w : List ℕ). now.held ++ w) (sym same) ∙ sym r.same;
           reads = failed x y z r same;
         })
       where
-        failed : (x y z : List ℕ) → ReadOn first now before source x y → y ≡ z → ReadsFew first.ended later.ended before source' x z 1
+        failed : (x y z : List ℕ) → ReadOn first now (seen before) (seen source) x y → y ≡ z → ReadsFew first.ended later.ended (seen before) (seen source') x z 1
         failed x y z r same =
             let over : spare later.ended ≡ 1 = ap (λ (l : HeldLines). spare l.ended) is.0 ∙ ap spare going in
             let size : length y ≡ length z = ap length same in
-            reads-on first.ended now.ended later.ended before source source' x y z 1 r.reads (one-more later.ended y z 1 (omega arith))
-    fails no.NoMemory is =
-        let l = is.1 in
-        fed-on first now later before source source' (ReadOn first now before source) (λ x y. x ≡ is.0 ++ y) (λ x y. Takes first later before source' x y (Err no.NoMemory)) fed
+            reads-on first.ended now.ended later.ended (seen before) (seen source) (seen source') x y z 1 r.reads (one-more later.ended y z 1 (omega arith))
+    fails (Ok got) call no.NoMemory is =
+        let l = is in
+        fed-on reading seen first now later before source source' (ReadOn first now (seen before) (seen source)) (λ x y. x ≡ got ++ y) (λ x y. Takes first later (seen before) (seen source') x y (Err no.NoMemory)) fed
         (record {
+          reads = (piece, Ok got) ∷ [];
+          chain = (source', call, refl);
+          pieces = (refl, tt);
+          said = either (λ e. not-over e) (λ s. absurd (says-some got l.some s));
           over = λ o e. absurd (let g = l.going in cc);
-          comes = λ y c. (is.0 ++ y, l.comes y c, refl);
+          comes = λ y c. (got ++ y, l.comes y c, refl);
+          given = λ y c. ap (λ (x : List ℕ). x ++ y) (sym (append-nil got));
         })
         (λ x y z r same. record { line = lost x y z r.same same; reads = lost-reads x y z r same })
       where
-        lost : (x y z : List ℕ) → first.held ++ x ≡ now.held ++ y → y ≡ is.0 ++ z → 0 < length (first.held ++ x)
+        lost : (x y z : List ℕ) → first.held ++ x ≡ now.held ++ y → y ≡ got ++ z → 0 < length (first.held ++ x)
         lost x y z e same =
-            let some : 0 < length is.0 = is.1.some in
+            let some : 0 < length got = is.some in
             let size : length (first.held ++ x) ≡ length now.held + length y = ap length e ∙ length-append now.held y in
-            let size' : length y ≡ length is.0 + length z = ap length same ∙ length-append is.0 z in
+            let size' : length y ≡ length got + length z = ap length same ∙ length-append got z in
             omega arith
 
-        lost-reads : (x y z : List ℕ) → ReadOn first now before source x y → y ≡ is.0 ++ z → ReadsFew first.ended later.ended before source' x z 0
+        lost-reads : (x y z : List ℕ) → ReadOn first now (seen before) (seen source) x y → y ≡ got ++ z → ReadsFew first.ended later.ended (seen before) (seen source') x z 0
         lost-reads x y z r same =
-            let some : 0 < length is.0 = is.1.some in
-            let over : spare later.ended ≡ 1 = ap spare is.1.going in
-            let size : length y ≡ length is.0 + length z = ap length same ∙ length-append is.0 z in
-            reads-on first.ended now.ended later.ended before source source' x y z 0 r.reads (one-more later.ended y z 0 (omega arith))
-    fails no.Ended is = absurd is
-    fails no.TooLong is = absurd is
+            let some : 0 < length got = is.some in
+            let over : spare later.ended ≡ 1 = ap spare is.going in
+            let size : length y ≡ length got + length z = ap length same ∙ length-append got z in
+            reads-on first.ended now.ended later.ended (seen before) (seen source) (seen source') x y z 0 r.reads (one-more later.ended y z 0 (omega arith))
+    fails (Ok got) call no.Failed is = absurd is
+    fails (Err f) call no.NoMemory is = absurd is
+    fails (Ok got) call no.Ended is = absurd is
+    fails (Err f) call no.Ended is = absurd is
+    fails (Ok got) call no.TooLong is = absurd is
+    fails (Err f) call no.TooLong is = absurd is
 
-    pub fails-few : (e : NoLine) → Fills now later source source' (Err e) → pos now.held ≡ length now.held → length now.held < longest → HoldsFew later.held (let r : Result (List ℕ) NoLine = Err e in r)
-    fails-few no.Failed is all short = subst IsPartial (ap (λ (l : HeldLines). l.held) (sym is.0)) (all, short)
-    fails-few no.NoMemory is all short = tt
-    fails-few no.Ended is all short = absurd is
-    fails-few no.TooLong is all short = tt
+    pub fails-few : (gave : Result (List ℕ) Failed) → reading source (piece, gave) source' → (e : NoLine) → Fills now later (seen source) (seen source') (Err e) gave → pos now.held ≡ length now.held → length now.held < longest → HoldsFew later.held (let r : Result (List ℕ) NoLine = Err e in r)
+    fails-few (Err f) call no.Failed is all short = subst IsPartial (ap (λ (l : HeldLines). l.held) (sym is.0)) (all, short)
+    fails-few (Ok got) call no.NoMemory is all short = tt
+    fails-few (Ok got) call no.Failed is all short = absurd is
+    fails-few (Err f) call no.NoMemory is all short = tt
+    fails-few (Ok got) call no.Ended is all short = absurd is
+    fails-few (Err f) call no.Ended is all short = absurd is
+    fails-few (Ok got) call no.TooLong is all short = tt
+    fails-few (Err f) call no.TooLong is all short = tt
 
     -- a piece was read
-    module _ (got : List ℕ) (g : GrowsBy now later source source' got) where
+    module _ (got : List ℕ) (call : reading source (piece, Ok got) source') (g : GrowsBy now later (seen source) (seen source') got) where
       ended-or : (b : Bool) → later.ended ≡ b → 1 + spare later.ended ≤ length got + 1
       ended-or true e = let units : spare later.ended ≡ 0 = ap spare e in omega arith
       ended-or false e =
@@ -240,27 +325,48 @@ module _ (first now : HeldLines) (before source : FlatSource) (fed : Fed first n
           let some : 0 < length got = g.more e in
           omega arith
 
-      grown : (x y z : List ℕ) → ReadOn first now before source x y → y ≡ got ++ z → ReadOn first later before source' x z
+      says-ended : (b : Bool) → later.ended ≡ b → SayEnd ((piece, Ok got) ∷ []) → later.ended ≡ true
+      says-ended true e s = e
+      says-ended false e s = absurd (says-some got (g.more e) s)
+
+      grown : (x y z : List ℕ) → ReadOn first now (seen before) (seen source) x y → y ≡ got ++ z → ReadOn first later (seen before) (seen source') x z
       grown x y z r same =
           let size : length y ≡ length got + length z = ap length same ∙ length-append got z in
           let units : 1 + spare later.ended ≤ length got + 1 = ended-or later.ended refl in
           record {
             same = r.same ∙ ap (λ (w : List ℕ). now.held ++ w) same ∙ sym (append_assoc now.held got z) ∙ ap (λ (w : List ℕ). w ++ z) (sym g.held);
-            reads = reads-on first.ended now.ended later.ended before source source' x y z 0 r.reads (one-more later.ended y z 0 (omega arith));
+            reads = reads-on first.ended now.ended later.ended (seen before) (seen source) (seen source') x y z 0 r.reads (one-more later.ended y z 0 (omega arith));
           }
 
-      pub grows : Fed first later before source' (ReadOn first later before source')
+      pub grows : Fed reading seen first later before source' (ReadOn first later (seen before) (seen source'))
       grows =
-          fed-on first now later before source source' (ReadOn first now before source) (λ x y. x ≡ got ++ y) (ReadOn first later before source') fed
+          fed-on reading seen first now later before source source' (ReadOn first now (seen before) (seen source)) (λ x y. x ≡ got ++ y) (ReadOn first later (seen before) (seen source')) fed
           (record {
+            reads = (piece, Ok got) ∷ [];
+            chain = (source', call, refl);
+            pieces = (refl, tt);
+            said = either (λ e. not-over e) (λ s. says-ended later.ended refl s);
             over = λ o. g.over;
             comes = λ y c. (got ++ y, g.comes y c, refl);
+            given = λ y c. ap (λ (x : List ℕ). x ++ y) (sym (append-nil got));
           })
           grown
 
+-- a read that filled gave the bytes by which it did
+by-fill : (old new : HeldLines) (before now : FlatSource) (gave : Result (List ℕ) Failed) → Fills old new before now (Ok tt) gave → (got : List ℕ) × (gave ≡ Ok got) × GrowsBy old new before now got
+by-fill old new before now (Ok got) is = (got, refl, is)
+by-fill old new before now (Err f) is = absurd is
+
+pub grows-by : {S : Type 0} (reading : Reading S) (seen : S → FlatSource) (old new : HeldLines) (before now : S) → FillsBy reading seen old new before now (Ok tt)
+    → (got : List ℕ) × reading before (piece, Ok got) now × GrowsBy old new (seen before) (seen now) got
+grows-by reading seen old new before now f =
+    let by = by-fill old new (seen before) (seen now) f.gave f.fills in
+    (by.0, subst (λ (r : Result (List ℕ) Failed). reading before (piece, r) now) by.1 f.call, by.2)
+
 -- at first nothing was read
-pub read-first : (first : HeldLines) (source : FlatSource) → Fed first first source source (ReadOn first first source source)
-read-first first source = fed-same first source (ReadOn first first source source) (λ x. record { same = refl; reads = reads-none first.ended first.ended source x refl })
+pub read-first : {S : Type 0} (reading : Reading S) (seen : S → FlatSource) (first : HeldLines) (source : S) → Fed reading seen first first source source (ReadOn first first (seen source) (seen source))
+read-first reading seen first source =
+    fed-same reading seen first source (ReadOn first first (seen source) (seen source)) (λ x. record { same = refl; reads = reads-none first.ended first.ended (seen source) x refl })
 
 -- some bytes may come
 coming-by : (lines : HeldLines) (source : FlatSource) (b : Bool) → source.tells ≡ b → IsOver lines source → (coming : List ℕ) × IsComing lines source coming

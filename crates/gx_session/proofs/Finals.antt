@@ -1,6 +1,8 @@
 -- Moves bring a session nearer to its stop, which stays the same.
-use Rattle.std.proofs.Common.{◌≡◌, ℕ, suc, zero, ◌+◌, ◌-◌, ◌*◌, ◌<◌, ◌≤◌, nat_lt, if◌then◌else◌, Bool, true, false, List, ◌++◌, length, Option, Some, None, Result, Ok, Err, refl, ap, subst, sym, ◌∙◌, arith, option_and_then}
+use Rattle.std.proofs.Common.{◌≡◌, ℕ, suc, zero, ◌+◌, ◌-◌, ◌*◌, ◌<◌, ◌≤◌, nat_lt, if◌then◌else◌, Bool, true, false, List, [], ◌∷◌, ◌++◌, length, length-append, length-drop, Option, Some, None, Result, Ok, Err, refl, ap, subst, sym, ◌∙◌, arith, option_and_then}
 use Rattle.std.proofs.lemmas.Bool.{ltb-false, lt-leb}
+use Rattle.std.proofs.lemmas.List.Folds.{concat-append}
+use Rattle.std.specs.List.{concat}
 use Rattle.gx_words.specs.declared.faults.Fault.{Fault}
 use Rattle.gx_state.specs.declared.effects.Effect.{Effect}
 use Rattle.gx_state.specs.declared.effects.Effect.TheVariants as effect
@@ -21,7 +23,7 @@ use Rattle.gx_session.specs.Constants.{enough as enough_text}
 use Rattle.gx_session.specs.declared.running.Waiting.{Waiting}
 use Rattle.gx_session.specs.Input.{next_line}
 use Rattle.gx_session.specs.Saving.{saving, restoring}
-use Rattle.gx_session.specs.Sending.{Sent, is_due, with_all}
+use Rattle.gx_session.specs.Sending.{Sent, pending, is_due, with_all}
 use Rattle.gx_session.specs.Session.{Configuration, Doing, steps, asks, goes_on, Verdict, goes, stops, after_reply, after_restoring, after_turn, after_effect, after_step, step_from, act_by, act_of, is_due_by, sends_now, all_sent, move_of, Ending, end_after, final_in, moves_by, moves_left, stop_of, next_of, run_of}
 use Rattle.gx_session.proofs.Cases.{turn-cases, given-cases, line-cases, asking-cases}
 use Rattle.rand_core.specs.Stream.{next_u32}
@@ -32,7 +34,12 @@ at-most-one false = omega arith
 
 -- Once all text is sent none is due.
 none-due : (enough : ℕ) (s : Sent) (text : List ℕ) → 0 < enough → is_due enough (with_all s text) text ≡ false
-none-due enough s text some = lt-leb enough (length text - length text) (omega arith)
+none-due enough s text some =
+    let size : length (concat (with_all s text)) ≡ length (concat s) + (length (pending s text) + 0) =
+    ap length (concat-append s (pending s text ∷ [])) ∙ length-append (concat s) (pending s text ++ []) ∙ ap (λ (n : ℕ). length (concat s) + n) (length-append (pending s text) []) in
+    let rest : length (pending s text) ≡ length text - length (concat s) = length-drop (length (concat s)) text in
+    let none : length (pending (with_all s text) text) ≡ length text - length (concat (with_all s text)) = length-drop (length (concat (with_all s text))) text in
+    lt-leb enough (length (pending (with_all s text) text)) (omega arith)
 
 pub quiet-sent : (doing : Doing) (s : Sent) (text : List ℕ) → is_due_by doing (with_all s text) text ≡ false
 quiet-sent steps s text = none-due enough_text s text (omega arith)

@@ -19,6 +19,7 @@ pub mod Rooms
 pub mod Saved
 pub mod Saving
 pub mod Screens
+pub mod Sinks
 pub mod Storing
 pub mod Texts
 pub mod Undoing

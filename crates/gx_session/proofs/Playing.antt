@@ -1,9 +1,16 @@
 -- What the code holds stays a configuration of the run.
-use Rattle.std.proofs.Common.{◌≡◌, ◌≢◌, ℕ, suc, ◌+◌, ◌-◌, ◌<◌, ◌≤◌, ◌⊎◌, inl, inr, nat_le, if◌then◌else◌, Bool, true, false, List, [], ◌∷◌, ◌++◌, length, take, Option, None, Some, Ok, Err, refl, ap, subst, sym, ◌∙◌, arith, append_assoc, append-nil, length-append}
-use Rattle.std.proofs.Math.Seq.{take-append_seam}
+use Rattle.std.proofs.Common.{◌≡◌, ◌≢◌, ℕ, suc, ◌+◌, ◌-◌, ◌<◌, ◌≤◌, ◌⊎◌, inl, inr, nat_le, if◌then◌else◌, Bool, true, false, List, [], ◌∷◌, ◌++◌, map, length, Option, None, Some, Ok, Err, refl, ap, subst, sym, ◌∙◌, arith, append_assoc, append-nil, length-append}
+use Rattle.std.proofs.Math.Seq.{drop-append_seam}
+use Rattle.std.proofs.lemmas.List.{map-append}
+use Rattle.std.proofs.lemmas.List.Folds.{concat-append}
+use Rattle.std.specs.List.{concat}
 use Rattle.std.proofs.lemmas.Bool.{leb-true, leb-false}
 use Rattle.gx_machine.specs.declared.askings.Asking.{Asking}
-use Rattle.gx_outside.specs.Outside.{FlatSource, FlatSink, FlatShelf, raised}
+use Rattle.gx_outside.specs.Chains.{Chain}
+use Rattle.gx_outside.specs.Outside.{FlatSource, FlatShelf}
+use Rattle.gx_outside.specs.Sends.{Send}
+use Rattle.gx_outside.specs.declared.devices.SendFault.{SendFault}
+use Rattle.gx_outside.specs.declared.devices.SendFault.TheVariants as of_send
 use Rattle.gx_outside.specs.Shelves.{Request, Answer, Trace, MayWant}
 use Rattle.gx_outside.specs.declared.devices.ShelfFault.{ShelfFault}
 use Rattle.gx_outside.specs.declared.devices.ShelfFault.TheVariants as of_shelf
@@ -13,37 +20,37 @@ use Rattle.gx_session.specs.declared.ends.Stop.{Stop}
 use Rattle.gx_session.specs.declared.ends.Stop.TheVariants as stop
 use Rattle.gx_session.specs.declared.ends.Halt.{Halt}
 use Rattle.gx_session.specs.declared.ends.Halt.TheVariants as halt
-use Rattle.gx_session.specs.Constants.{status_no_memory, piece, enough as enough_text}
+use Rattle.gx_session.specs.Constants.{piece, enough as enough_text}
 use Rattle.gx_session.specs.declared.running.Waiting.{Waiting}
-use Rattle.gx_session.specs.Cuts.{Cut, in_move, in_send, in_question, in_reading, in_last_send, IsCut, IsLineCut, IsWaiting, IsSendStatus, IsWait, request_of, IsRefused, WantsMemory, IsLineStop, AwaitedAt, LongAt, asking_between, stopped, asking_at_stop, WantedBy, most_sent, sends_at, fault_at, refused_call, asked_by_cut}
-use Rattle.gx_session.specs.Devices.{Devices}
+use Rattle.gx_session.specs.Cuts.{Cut, in_move, in_send, in_question, in_reading, in_last_send, IsCut, IsLineCut, IsWaiting, IsSendStatus, IsWait, request_of, IsRefused, WantsMemory, IsLineStop, AwaitedAt, LongAt, asking_between, stopped, asking_at_stop, send_fault_at, refused_send, sends_by_cut, fault_at, refused_call, asked_by_cut}
 use Rattle.gx_session.specs.Endings.{told_all}
 use Rattle.gx_session.specs.Questions.{AreAnswered, AreTold}
 use Rattle.gx_session.specs.Reading.{IsPartial, spare, ReadsFew}
-use Rattle.gx_session.specs.Sending.{Sent, is_due, with_all}
+use Rattle.gx_session.specs.Sending.{Sent, pending, is_due, with_all, taken}
 use Rattle.gx_session.specs.Session.{Configuration, Doing, steps, asks, goes, stops, act_of, move_of, is_due_by, sends_now, all_sent, Ending, final_of, asked, asked_at}
 use Rattle.gx_session.specs.Runs.{IsFront, AreDrawn, LeavesInput, IsSaved, SavedBy, read_failures}
-use Rattle.gx_session.specs.Playing.{Held, WordIs, Past, configuration_of, HasTaken, IsPast, IsRead, Standing, Ready, Going, Done, Shown, Told, Early, status_of_halt, halt_of_shelf, SendsAll, Flushes}
+use Rattle.gx_session.specs.Playing.{Sending, Handed, Held, WordIs, Past, configuration_of, HasTaken, IsPast, IsRead, Standing, Ready, Going, Done, Shown, Told, Early, status_of_halt, halt_of_send, halt_of_shelf, SendsAll, Flushes}
+use Rattle.gx_session.proofs.Calling.{chain-append}
 use Rattle.gx_session.proofs.Saved.{unsaved-send, saved-more, saved-all}
 use Rattle.gx_session.proofs.Texts.{final-grows}
 use Rattle.gx_session.proofs.Finals.{quiet-sent, stop-stays, stop-comes, reached-goes, move-sends, move-acts}
 use Rattle.rand_core.specs.Stream.{Stream}
 
 -- nothing was done so far
-abbrev pub no_past : (Trace → Request → Answer) → Devices → Past
-no_past answers d = record { sent = []; sends = 0; answers = answers; words = d.words }
+abbrev pub no_past : {K : Type 0} {sending : Sending K} → (Trace → Request → Answer) → Handed sending → Past
+no_past answers d = record { sent = []; answers = answers; words = d.words }
 
-due-of-none : (text : List ℕ) → text ≡ [] → is_due enough_text (record { bytes = 0; calls = 0 }) text ≡ false
-due-of-none text none = subst (λ (x : List ℕ). is_due enough_text (record { bytes = 0; calls = 0 }) x ≡ false) (sym none) refl
+due-of-none : (text : List ℕ) → text ≡ [] → is_due enough_text [] text ≡ false
+due-of-none text none = subst (λ (x : List ℕ). is_due enough_text [] x ≡ false) (sym none) refl
 
 -- a run begins at its start
-pub starts : (answers : Trace → Request → Answer) (d : Devices) (h : Held) → d.asked ≡ [] → h.word ≡ None → h.ahead ≡ [] → h.over ≡ false → h.world.text ≡ [] → (d.source.tells ≡ true → h.coming ≡ d.source.left) → Going (configuration_of (no_past answers d) steps h d) d h d
+pub starts : {K : Type 0} {sending : Sending K} → (answers : Trace → Request → Answer) (d : Handed sending) (h : Held) → d.asked ≡ [] → h.word ≡ None → h.ahead ≡ [] → h.over ≡ false → h.world.text ≡ [] → (d.source.tells ≡ true → h.coming ≡ d.source.left) → Going (configuration_of (no_past answers d) steps h d) d h d
 starts answers d h first none nothing going empty left =
     let few : length h.ahead ≡ 0 = ap length nothing in
     let size : length (h.ahead ++ h.coming) ≡ length h.ahead + length h.coming = length-append h.ahead h.coming in
     let spare-is : spare h.over ≡ 1 = ap spare going in
     let is : IsPast (configuration_of (no_past answers d) steps h d) d (no_past answers d) h d = record {
-      taken = record { tells = refl; made = refl; taken = λ t. sym (append-nil d.sink.taken) };
+      taken = refl;
       answers = refl;
       answered = subst AreAnswered (sym first) tt;
       word = subst (λ (w : Option ℕ). WordIs w d.words d.words) (sym none) refl;
@@ -68,66 +75,52 @@ pub words-left : (word : Option ℕ) (stream words : Stream) → WordIs word str
 words-left None stream words is = inl (sym is)
 words-left (Some w) stream words is = inr (sym (ap (λ (p : ℕ × Stream). p.1) is))
 
-has-taken : (entry now now' : FlatSink) (sent more : List ℕ) (calls : ℕ) → HasTaken entry now sent calls → HasTaken now now' more 1 → HasTaken entry now' (sent ++ more) (suc calls)
-has-taken entry now now' sent more calls a b = record {
-  tells = b.tells ∙ a.tells;
-  made = b.made ∙ ap raised a.made;
-  taken = λ t.
-      b.taken t ∙ ap (λ (x : List ℕ). x ++ more) (a.taken (sym b.tells ∙ t)) ∙ append_assoc entry.taken sent more;
+-- what is pending of a text of which this was sent
+pub pending-is : (sent : Sent) (text : List ℕ) → pending sent (concat sent ++ text) ≡ text
+pending-is sent text = drop-append_seam (concat sent) text
+
+has-taken : {K : Type 0} (sending : Sending K) (entry now now' : K) (sent : Sent) (text : List ℕ) → HasTaken sending entry now sent → sending now (taken text) now' → HasTaken sending entry now' (sent ++ text ∷ [])
+has-taken sending entry now now' sent text before call =
+    subst (λ (t : List Send). Chain sending entry t now') (sym (map-append taken sent (text ∷ []))) (chain-append sending entry now now' (map taken sent) (taken text ∷ []) before (now', call, refl))
+
+-- what is due of it
+due-is : (enough : ℕ) (sent : Sent) (text : List ℕ) (b : Bool) → nat_le enough (length text) ≡ b → is_due enough sent (concat sent ++ text) ≡ b
+due-is enough sent text b e = ap (λ (x : List ℕ). nat_le enough (length x)) (pending-is sent text) ∙ e
+
+-- A run is cut short at a configuration, after these calls of the sink.
+pub cut-at : {K : Type 0} {sending : Sending K} → (start : Configuration) (entry exit : Handed sending) (h : Held) (asking : Option Asking) (why : Halt) (cut : Cut) (m : Configuration) (sends : List Send)
+    → IsCut start cut m (status_of_halt why) asking → h.machine ≡ m.machine → h.left ≡ m.left → h.log ≡ m.log → IsFront (concat m.sent) m.world.text → sends ≡ sends_by_cut cut m (status_of_halt why)
+    → Chain sending entry.sink sends exit.sink → IsFront m.world.text (final_of start).configuration.world.text → exit.asked ≡ asked_by_cut cut m (status_of_halt why)
+    → ((IsLineCut cut m → ⊥) → LeavesInput start.input m.input h.coming entry.source exit.source (AwaitedAt start cut) (LongAt start cut) (read_failures (status_of_halt why)))
+    → AreDrawn m.words exit.words → SavedBy start cut → Early start entry h asking exit why
+cut-at start entry exit h asking why cut m sends is machine left log front calls chain shown questions input words saves = record {
+  sends = sends;
+  chain = chain;
+  stops = λ before now reads. record {
+    cut = cut;
+    configuration = m;
+    is_cut = is;
+    left_is = left;
+    machine_is = machine;
+    log_is = log;
+    shown = shown;
+    sent_of = front;
+    sends_are = calls;
+    asked_are = questions;
+    input_is = input;
+    words_are = words;
+    saves_are = saves;
+  };
 }
 
--- what is due of a text of which this was sent
-due-is : (enough : ℕ) (sent text : List ℕ) (calls : ℕ) (b : Bool) → nat_le enough (length text) ≡ b → is_due enough (record { bytes = length sent; calls = calls }) (sent ++ text) ≡ b
-due-is enough sent text calls b e =
-    let all : length (sent ++ text) ≡ length sent + length text = length-append sent text in
-    let size : length (sent ++ text) - length sent ≡ length text = omega arith in
-    ap (nat_le enough) size ∙ e
-
--- a run that is cut short with this status wanted memory
-pub memory-of : (why : Halt) → status_of_halt why ≡ status_no_memory → why ≡ halt.NoMemory
-memory-of halt.NoMemory e = refl
-memory-of halt.Shelf e = absurd (omega arith)
-memory-of halt.Input e = absurd (omega arith)
-memory-of halt.Output e = absurd (omega arith)
-
--- A run is cut short at a configuration, of whose text a front was taken.
-pub cut-at : (start : Configuration) (entry exit : Devices) (h : Held) (asking : Option Asking) (why : Halt) (cut : Cut) (m : Configuration) (sent rest : List ℕ)
-    → IsCut start cut m (status_of_halt why) asking → h.machine ≡ m.machine → h.left ≡ m.left → h.log ≡ m.log → m.world.text ≡ sent ++ rest → HasTaken entry.sink exit.sink sent (sends_at cut m)
-    → IsFront m.world.text (final_of start).configuration.world.text → m.sent.bytes ≤ length sent → length sent ≤ most_sent cut m
-    → exit.asked ≡ asked_by_cut cut m (status_of_halt why)
-    → ((IsLineCut cut m → ⊥) → LeavesInput start.input m.input entry.source exit.source (AwaitedAt start cut) (LongAt start cut) (read_failures (status_of_halt why)))
-    → AreDrawn m.words exit.words → SavedBy start cut → (status_of_halt why ≡ status_no_memory → WantedBy cut exit) → Early start entry h asking exit why
-cut-at start entry exit h asking why cut m sent rest is machine left log text has shown least most questions input words saves wanted =
-    let front : take (length sent) m.world.text ≡ sent = ap (take (length sent)) text ∙ take-append_seam sent rest in
-    record {
-      cut = cut;
-      configuration = m;
-      is_cut = is;
-      wanted = wanted;
-      left_is = left;
-      machine_is = machine;
-      log_is = log;
-      shown = shown;
-      sent = length sent;
-      at_least = least;
-      at_most = most;
-      text_is = λ tells. has.taken (has.tells ∙ tells) ∙ ap (λ (x : List ℕ). entry.sink.taken ++ x) (sym front);
-      sends_are = has.made;
-      asked_are = questions;
-      input_is = input;
-      words_are = words;
-      saves_are = saves;
-    }
-
-module _ (start : Configuration) (entry : Devices) (h : Held) (d : Devices) where
+module _ {K : Type 0} {sending : Sending K} (start : Configuration) (entry : Handed sending) (h : Held) (d : Handed sending) where
   -- the input that is left
   pub input-left : (awaited long : Type 0) → ((long → ⊥) → length h.ahead < piece) → ((awaited → ⊥) → IsRead start.input entry h d) → ReadsFew false h.over entry.source d.source start.input h.coming 0
-      → (d.source.tells ≡ true → h.coming ≡ d.source.left) → LeavesInput start.input (h.ahead ++ h.coming) entry.source d.source awaited long 0
+      → (d.source.tells ≡ true → h.coming ≡ d.source.left) → LeavesInput start.input (h.ahead ++ h.coming) h.coming entry.source d.source awaited long 0
   input-left awaited long few unread reads left =
       let less : reads.reads + length h.coming + spare h.over ≤ length start.input + 1 + 0 = reads.few in
       record {
         ahead = h.ahead;
-        coming = h.coming;
         split = refl;
         left = left;
         few = λ short none. few short;
@@ -148,7 +141,7 @@ module _ (start : Configuration) (entry : Devices) (h : Held) (d : Devices) wher
     shown-is s = final-grows (here s) start s.same_end
 
     -- the run goes on
-    abbrev pub moves-on : (g : Ready start entry h d doing) (p' : Past) (doing' : Doing) (h' : Held) (d' : Devices) → IsPast start entry p' h' d' → length h'.ahead < piece → IsRead start.input entry h' d'
+    abbrev pub moves-on : (g : Ready start entry h d doing) (p' : Past) (doing' : Doing) (h' : Held) (d' : Handed sending) → IsPast start entry p' h' d' → length h'.ahead < piece → IsRead start.input entry h' d'
         → act_of (here g.now) ≡ goes (configuration_of p' doing' h' d') → IsSaved (here g.now) → Standing start entry h' d' doing'
     moves-on g p' doing' h' d' is few reads act saved =
         let move : move_of (here g.now) ≡ goes (configuration_of p' doing' h' d') = move-acts (here g.now) g.quiet ∙ act in
@@ -164,7 +157,7 @@ module _ (start : Configuration) (entry : Devices) (h : Held) (d : Devices) wher
         }
 
     -- the run stops
-    pub stops-at : (g : Ready start entry h d doing) (why : Stop) (p' : Past) (doing' : Doing) (h' : Held) (d' : Devices) (asking : Option Asking) → IsPast start entry p' h' d'
+    pub stops-at : (g : Ready start entry h d doing) (why : Stop) (p' : Past) (doing' : Doing) (h' : Held) (d' : Handed sending) (asking : Option Asking) → IsPast start entry p' h' d'
         → (why ≢ stop.LineTooLong → length h'.ahead < piece) → ((IsLineStop why → ⊥) → IsRead start.input entry h' d') → act_of (here g.now) ≡ stops why (configuration_of p' doing' h' d')
         → asking ≡ asked_at why (configuration_of p' doing' h' d') → Done start entry h' asking d' why
     stops-at g why p' doing' h' d' asking is few reads act asking-is =
@@ -182,20 +175,20 @@ module _ (start : Configuration) (entry : Devices) (h : Held) (d : Devices) wher
 
     -- memory ran out, with this input left
     wants-by : (g : Ready start entry h d doing) (h' : Held) (source : FlatSource) (asking : Option Asking)
-        → ((IsWaiting doing → ⊥) → LeavesInput start.input (here g.now).input entry.source source ⊥ ⊥ 0) → WantsMemory doing (here g.now) asking
+        → ((IsWaiting doing → ⊥) → LeavesInput start.input (here g.now).input h'.coming entry.source source ⊥ ⊥ 0) → WantsMemory doing (here g.now) asking
         → h'.machine ≡ h.machine → h'.left ≡ h.left → h'.log ≡ h.log → Early start entry h' asking (record d { source = source }) halt.NoMemory
     wants-by g h' source asking input is machine left log =
         let s = g.now in
-        cut-at start entry (record d { source = source }) h' asking halt.NoMemory (in_move s.moves) (here s) s.past.sent h.world.text
-        (s.reached, g.quiet, refl, is) machine left log refl s.is_past.taken (shown-is s) (omega arith) (omega arith) refl input
-        (words-left h.word d.words s.past.words s.is_past.word) s.saves (λ e. tt)
+        cut-at start entry (record d { source = source }) h' asking halt.NoMemory (in_move s.moves) (here s) (map taken s.past.sent)
+        (s.reached, g.quiet, refl, is) machine left log (h.world.text, refl) refl s.is_past.taken (shown-is s) refl input
+        (words-left h.word d.words s.past.words s.is_past.word) s.saves
 
     -- the source wasn't asked since then
     pub wants : (g : Ready start entry h d doing) (h' : Held) (asking : Option Asking) → WantsMemory doing (here g.now) asking
-        → h'.machine ≡ h.machine → h'.left ≡ h.left → h'.log ≡ h.log → Early start entry h' asking d halt.NoMemory
-    wants g h' asking is machine left log =
+        → h'.machine ≡ h.machine → h'.left ≡ h.left → h'.log ≡ h.log → h'.coming ≡ h.coming → Early start entry h' asking d halt.NoMemory
+    wants g h' asking is machine left log coming =
         let s = g.now in
-        wants-by g h' d.source asking (λ other. input-left ⊥ ⊥ (λ short. s.few) (λ short. s.reads) s.is_past.reads s.is_past.left) is machine left log
+        wants-by g h' d.source asking (λ other. subst (λ (c : List ℕ). LeavesInput start.input (here g.now).input c entry.source d.source ⊥ ⊥ 0) (sym coming) (input-left ⊥ ⊥ (λ short. s.few) (λ short. s.reads) s.is_past.reads s.is_past.left)) is machine left log
 
     -- at a wait for a line
     pub wants-line : (g : Ready start entry h d doing) (h' : Held) (source : FlatSource) (asking : Option Asking) → IsWaiting doing → WantsMemory doing (here g.now) asking
@@ -213,11 +206,11 @@ module _ (start : Configuration) (entry : Devices) (h : Held) (d : Devices) wher
         let status : ℕ = status_of_halt (halt_of_shelf fault) in
         let call : (r, Err fault) ∷ [] ≡ refused_call (request_of turn) status =
         ap (λ (f : ShelfFault). let c : Trace = (r, Err f) ∷ [] in c) (sym at) ∙ ap (λ (o : Option Request). refused_call o status) (sym is) in
-        cut-at start entry (record d { shelf = shelf; asked = d.asked ++ (r, Err fault) ∷ [] }) h asking (halt_of_shelf fault) (in_question s.moves) m s.past.sent h.world.text
-        (s.reached, g.quiet, subst (λ (o : Option Request). IsRefused m o status) (sym is) cut, asking-is) refl refl refl refl s.is_past.taken (shown-is (asks turn w) s) (omega arith) (omega arith)
+        cut-at start entry (record d { shelf = shelf; asked = d.asked ++ (r, Err fault) ∷ [] }) h asking (halt_of_shelf fault) (in_question s.moves) m (map taken s.past.sent)
+        (s.reached, g.quiet, subst (λ (o : Option Request). IsRefused m o status) (sym is) cut, asking-is) refl refl refl (h.world.text, refl) refl s.is_past.taken (shown-is (asks turn w) s)
         (ap (λ (t : Trace). d.asked ++ t) call)
-        (λ other. subst (LeavesInput start.input m.input entry.source d.source ⊥ ⊥) (sym failures) (input-left ⊥ ⊥ (λ short. s.few) (λ short. s.reads) s.is_past.reads s.is_past.left))
-        (words-left h.word d.words s.past.words s.is_past.word) s.saves (λ e. tt)
+        (λ other. subst (LeavesInput start.input m.input h.coming entry.source d.source ⊥ ⊥) (sym failures) (input-left ⊥ ⊥ (λ short. s.few) (λ short. s.reads) s.is_past.reads s.is_past.left))
+        (words-left h.word d.words s.past.words s.is_past.word) s.saves
 
     pub refused : (g : Ready start entry h d (asks turn w)) (shelf : FlatShelf) (r : Request) (fault : ShelfFault) (asking : Option Asking) → request_of turn ≡ Some r
         → AreTold start.answers d.asked ((r, Err fault) ∷ []) → asking ≡ asked (here (asks turn w) g.now)
@@ -234,9 +227,8 @@ module _ (start : Configuration) (entry : Devices) (h : Held) (d : Devices) wher
     unread g h' source asking is input reads partial same machine left log asking-is =
         let s = g.now in
         let less : reads.reads + length h'.coming + spare h'.over ≤ length start.input + 1 + 1 = reads.few in
-        let leaves : LeavesInput start.input (h.ahead ++ h.coming) entry.source source ⊥ ⊥ 1 = record {
+        let leaves : LeavesInput start.input (h.ahead ++ h.coming) h'.coming entry.source source ⊥ ⊥ 1 = record {
           ahead = h'.ahead;
-          coming = h'.coming;
           split = sym same;
           left = input;
           few = λ short none. absurd cc;
@@ -247,9 +239,9 @@ module _ (start : Configuration) (entry : Devices) (h : Held) (d : Devices) wher
           few_reads = omega arith;
           unread = λ short none. absurd cc;
         } in
-        cut-at start entry (record d { source = source }) h' asking halt.Input (in_reading s.moves) (here (asks turn w) s) s.past.sent h.world.text
-        (s.reached, g.quiet, refl, is, asking-is) machine left log refl s.is_past.taken (shown-is (asks turn w) s) (omega arith) (omega arith) refl (λ other. leaves)
-        (words-left h.word d.words s.past.words s.is_past.word) s.saves (λ e. tt)
+        cut-at start entry (record d { source = source }) h' asking halt.Input (in_reading s.moves) (here (asks turn w) s) (map taken s.past.sent)
+        (s.reached, g.quiet, refl, is, asking-is) machine left log (h.world.text, refl) refl s.is_past.taken (shown-is (asks turn w) s) refl (λ other. leaves)
+        (words-left h.word d.words s.past.words s.is_past.word) s.saves
 
   -- a word was drawn
   pub redrawn : (word : Option ℕ) (stream : Stream) → Going start entry h d → ((words : Stream) → WordIs h.word d.words words → WordIs word stream words)
@@ -278,27 +270,30 @@ module _ (start : Configuration) (entry : Devices) (h : Held) (d : Devices) wher
       } in
       record { now = now; quiet = g.quiet }
 
-  module _ (world : FlatWorld) (sink : FlatSink) where
+  module _ (world : FlatWorld) (sink : K) where
     abbrev h-now : Held
     h-now = record h { world = world }
 
-    abbrev d-now : Devices
+    abbrev d-now : Handed sending
     d-now = record d { sink = sink }
 
-    all-sent : (s : SendsAll d.sink sink h.world world (Ok tt)) → h.world.text ≡ s.more
-    all-sent s = s.front ∙ ap (λ (x : List ℕ). s.more ++ x) s.whole.0 ∙ append-nil s.more
-
     -- what was done once this was sent
-    abbrev with-more : Past → List ℕ → Past
-    with-more p more = record p { sent = p.sent ++ more; sends = suc p.sends }
+    abbrev with-more : Past → Past
+    with-more p = record p { sent = p.sent ++ h.world.text ∷ [] }
 
     -- pending text that was sent was shown before too
-    still : (p : Past) (doing : Doing) (s : SendsAll d.sink sink h.world world (Ok tt)) → configuration_of (with-more p s.more) doing h-now d-now ≡ all_sent (configuration_of p doing h d)
-    still p doing s = rw (all-sent s, s.whole.1, append-nil (p.sent ++ s.more)) refl
+    still : (p : Past) (doing : Doing) → world ≡ record h.world { text = [] } → configuration_of (with-more p) doing h-now d-now ≡ all_sent (configuration_of p doing h d)
+    still p doing none =
+        let m : Configuration = configuration_of p doing h d in
+        let texts : concat (p.sent ++ h.world.text ∷ []) ++ [] ≡ concat p.sent ++ h.world.text =
+        append-nil (concat (p.sent ++ h.world.text ∷ [])) ∙ concat-append p.sent (h.world.text ∷ []) ∙ ap (λ (x : List ℕ). concat p.sent ++ x) (append-nil h.world.text) in
+        ap (λ (w : FlatWorld). configuration_of (with-more p) doing (record h { world = w }) d-now) none
+        ∙ ap (λ (x : List ℕ). record m { world = record m.world { text = x }; sent = p.sent ++ h.world.text ∷ [] }) texts
+        ∙ ap (λ (x : List ℕ). record m { sent = p.sent ++ x ∷ [] }) (sym (pending-is p.sent h.world.text))
 
-    sent-past : (p : Past) (more : List ℕ) → IsPast start entry p h d → HasTaken d.sink sink more 1 → IsPast start entry (with-more p more) h-now d-now
-    sent-past p more i has = record {
-      taken = has-taken entry.sink d.sink sink p.sent more p.sends i.taken has;
+    sent-past : (p : Past) → IsPast start entry p h d → sending d.sink (taken h.world.text) sink → IsPast start entry (with-more p) h-now d-now
+    sent-past p i call = record {
+      taken = has-taken sending entry.sink d.sink sink p.sent h.world.text i.taken call;
       answers = i.answers;
       answered = i.answered;
       word = i.word;
@@ -311,27 +306,27 @@ module _ (start : Configuration) (entry : Devices) (h : Held) (d : Devices) wher
     stood : (doing : Doing) → Ready start entry h d doing → (sink ≡ d.sink) → (world ≡ h.world) → Ready start entry h-now d-now doing
     stood doing g same-sink same-world =
         subst (λ (x : FlatWorld). Ready start entry (record h { world = x }) (record d { sink = sink }) doing) (sym same-world)
-        (subst (λ (k : FlatSink). Ready start entry h (record d { sink = k }) doing) (sym same-sink) g)
+        (subst (λ (k : K). Ready start entry h (record d { sink = k }) doing) (sym same-sink) g)
 
     module _ (doing : Doing) (enough : ℕ) (due : (s : Sent) (text : List ℕ) → is_due_by doing s text ≡ is_due enough s text) where
       due-now : (s : Standing start entry h d doing) (b : Bool) → nat_le enough (length h.world.text) ≡ b → sends_now (here doing s) ≡ b
-      due-now s b e = due (here doing s).sent (here doing s).world.text ∙ due-is enough s.past.sent h.world.text s.past.sends b e
+      due-now s b e = due (here doing s).sent (here doing s).world.text ∙ due-is enough s.past.sent h.world.text b e
 
-      sends : (g : Standing start entry h d doing) (b : Bool) → nat_le enough (length h.world.text) ≡ b → Flushes enough d.sink sink h.world world (Ok tt) → Ready start entry h-now d-now doing
+      sends : (g : Standing start entry h d doing) (b : Bool) → nat_le enough (length h.world.text) ≡ b → Flushes sending enough d.sink sink h.world world (Ok tt) → Ready start entry h-now d-now doing
       sends g true e f =
-          let s : SendsAll d.sink sink h.world world (Ok tt) = f.many (leb-true enough (length h.world.text) e) in
-          let same : configuration_of (with-more g.past s.more) doing h-now d-now ≡ all_sent (here doing g) = still g.past doing s in
-          let move : move_of (here doing g) ≡ goes (configuration_of (with-more g.past s.more) doing h-now d-now) =
+          let s : SendsAll sending d.sink sink h.world world (Ok tt) = f.many (leb-true enough (length h.world.text) e) in
+          let same : configuration_of (with-more g.past) doing h-now d-now ≡ all_sent (here doing g) = still g.past doing s.1 in
+          let move : move_of (here doing g) ≡ goes (configuration_of (with-more g.past) doing h-now d-now) =
           move-sends (here doing g) (due-now g true e) ∙ ap goes (sym same) in
           let now : Standing start entry h-now d-now doing = record {
-            past = with-more g.past s.more;
+            past = with-more g.past;
             moves = suc g.moves;
-            is_past = sent-past g.past s.more g.is_past s.has_taken;
+            is_past = sent-past g.past g.is_past s.0;
             few = g.few;
             reads = g.reads;
-            reached = reached-goes start (here doing g) (configuration_of (with-more g.past s.more) doing h-now d-now) g.moves g.reached move;
+            reached = reached-goes start (here doing g) (configuration_of (with-more g.past) doing h-now d-now) g.moves g.reached move;
             saves = saved-more start g.moves (here doing g) g.reached (unsaved-send (here doing g) (due-now g true e)) g.saves;
-            same_end = stop-stays (here doing g) (configuration_of (with-more g.past s.more) doing h-now d-now) move ∙ g.same_end;
+            same_end = stop-stays (here doing g) (configuration_of (with-more g.past) doing h-now d-now) move ∙ g.same_end;
           } in
           record { now = now; quiet = ap sends_now same ∙ quiet-sent doing (here doing g).sent (here doing g).world.text }
       sends g false e f =
@@ -339,12 +334,12 @@ module _ (start : Configuration) (entry : Devices) (h : Held) (d : Devices) wher
           stood doing (record { now = g; quiet = due-now g false e }) same.0 same.1
 
       -- THE TEXT THAT IS DUE BETWEEN TWO MOVES was sent.
-      pub flushed : Standing start entry h d doing → Flushes enough d.sink sink h.world world (Ok tt) → Ready start entry h-now d-now doing
+      pub flushed : Standing start entry h d doing → Flushes sending enough d.sink sink h.world world (Ok tt) → Ready start entry h-now d-now doing
       flushed g f = sends g (nat_le enough (length h.world.text)) refl f
 
     -- one that was refused was due
-    was-due : (enough : ℕ) (why : Halt) (b : Bool) → nat_le enough (length h.world.text) ≡ b → Flushes enough d.sink sink h.world world (Err why)
-        → (nat_le enough (length h.world.text) ≡ true) × SendsAll d.sink sink h.world world (Err why)
+    was-due : (enough : ℕ) (why : Halt) (b : Bool) → nat_le enough (length h.world.text) ≡ b → Flushes sending enough d.sink sink h.world world (Err why)
+        → (nat_le enough (length h.world.text) ≡ true) × SendsAll sending d.sink sink h.world world (Err why)
     was-due enough why true e f = (e, f.many (leb-true enough (length h.world.text) e))
     was-due enough why false e f = let ok = (f.few (leb-false enough (length h.world.text) e)).2 in cc
 
@@ -356,29 +351,37 @@ module _ (start : Configuration) (entry : Devices) (h : Held) (d : Devices) wher
     no-failures why (inl e) = ap (λ (x : Halt). read_failures (status_of_halt x)) e
     no-failures why (inr e) = ap (λ (x : Halt). read_failures (status_of_halt x)) e
 
+    fault-is : (fault : SendFault) → send_fault_at (status_of_halt (halt_of_send fault)) ≡ fault
+    fault-is of_send.Failed = refl
+    fault-is of_send.NoMemory = refl
+
     -- A send is refused that is due.
     cut-sending : (asking : Option Asking) (why : Halt) (cut : Cut) (p : Past) (doing : Doing) → IsCut start cut (configuration_of p doing h d) (status_of_halt why) asking
-        → IsPast start entry p h d → (why ≡ halt.Output) ⊎ (why ≡ halt.NoMemory) → sends_at cut (configuration_of p doing h d) ≡ suc p.sends → most_sent cut (configuration_of p doing h d) ≡ length (p.sent ++ h.world.text)
+        → IsPast start entry p h d → (why ≡ halt.Output) ⊎ (why ≡ halt.NoMemory)
+        → sends_by_cut cut (configuration_of p doing h d) (status_of_halt why) ≡ map taken p.sent ++ refused_send (configuration_of p doing h d) (status_of_halt why) ∷ []
         → d.asked ≡ asked_by_cut cut (configuration_of p doing h d) (status_of_halt why)
-        → LeavesInput start.input (h.ahead ++ h.coming) entry.source d.source (AwaitedAt start cut) (LongAt start cut) 0
-        → IsFront (p.sent ++ h.world.text) (final_of start).configuration.world.text → SavedBy start cut → (sink.calls.wanting ≡ true → WantedBy cut d-now)
-        → SendsAll d.sink sink h.world world (Err why) → Early start entry h-now asking d-now why
-    cut-sending asking why cut p doing is past only calls most questions input shown saves wanted s =
-        let text : p.sent ++ h.world.text ≡ (p.sent ++ s.more) ++ s.rest = ap (λ (x : List ℕ). p.sent ++ x) s.front ∙ sym (append_assoc p.sent s.more s.rest) in
-        let size : length (p.sent ++ s.more) ≡ length p.sent + length s.more = length-append p.sent s.more in
-        let whole : length (p.sent ++ h.world.text) ≡ length (p.sent ++ s.more) + length s.rest = ap length text ∙ length-append (p.sent ++ s.more) s.rest in
-        let has : HasTaken entry.sink sink (p.sent ++ s.more) (suc p.sends) = has-taken entry.sink d.sink sink p.sent s.more p.sends past.taken s.has_taken in
-        cut-at start entry d-now h-now asking why cut (configuration_of p doing h d) (p.sent ++ s.more) s.rest is refl refl refl text
-        (subst (HasTaken entry.sink sink (p.sent ++ s.more)) (sym calls) has) shown (omega arith) (omega arith) questions (λ other. subst (LeavesInput start.input (h.ahead ++ h.coming) entry.source d.source (AwaitedAt start cut) (LongAt start cut)) (sym (no-failures why only)) input)
-        (words-left h.word d.words p.words past.word) saves (λ e. wanted (s.wants (ap (λ (x : Halt). Err x) (memory-of why e))))
+        → LeavesInput start.input (h.ahead ++ h.coming) h.coming entry.source d.source (AwaitedAt start cut) (LongAt start cut) 0
+        → IsFront (concat p.sent ++ h.world.text) (final_of start).configuration.world.text → SavedBy start cut
+        → SendsAll sending d.sink sink h.world world (Err why) → Early start entry h-now asking d-now why
+    cut-sending asking why cut p doing is past only calls questions input shown saves s =
+        let refused : Send = (h.world.text, Err s.0) in
+        let fault : s.0 ≡ send_fault_at (status_of_halt why) = sym (ap (λ (x : Halt). send_fault_at (status_of_halt x)) s.2 ∙ fault-is s.0) in
+        let call : refused ≡ refused_send (configuration_of p doing h d) (status_of_halt why) =
+        ap (λ (x : List ℕ). let c : Send = (x, Err s.0) in c) (sym (pending-is p.sent h.world.text))
+        ∙ ap (λ (f : SendFault). let c : Send = (pending p.sent (concat p.sent ++ h.world.text), Err f) in c) fault in
+        cut-at start entry d-now h-now asking why cut (configuration_of p doing h d) (map taken p.sent ++ refused ∷ []) is refl refl refl (h.world.text, refl)
+        (ap (λ (c : Send). map taken p.sent ++ c ∷ []) call ∙ sym calls)
+        (chain-append sending entry.sink d.sink sink (map taken p.sent) (refused ∷ []) past.taken (sink, s.1, refl)) shown questions
+        (λ other. subst (LeavesInput start.input (h.ahead ++ h.coming) h.coming entry.source d.source (AwaitedAt start cut) (LongAt start cut)) (sym (no-failures why only)) input)
+        (words-left h.word d.words p.words past.word) saves
 
     -- The text that is due between two moves was refused.
     pub cut-send : (doing : Doing) (enough : ℕ) → ((s : Sent) (text : List ℕ) → is_due_by doing s text ≡ is_due enough s text) → (asking : Option Asking) (why : Halt) (g : Standing start entry h d doing)
-        → asking ≡ asking_between doing (here doing g) → (why ≡ halt.Output) ⊎ (why ≡ halt.NoMemory) → Flushes enough d.sink sink h.world world (Err why) → Early start entry h-now asking d-now why
+        → asking ≡ asking_between doing (here doing g) → (why ≡ halt.Output) ⊎ (why ≡ halt.NoMemory) → Flushes sending enough d.sink sink h.world world (Err why) → Early start entry h-now asking d-now why
     cut-send doing enough due asking why g asking-is only f =
         let was = was-due enough why (nat_le enough (length h.world.text)) refl f in
         let is : IsCut start (in_send g.moves) (here doing g) (status_of_halt why) asking = (g.reached, due-now doing enough due g true was.0, send-status why only, asking-is) in
-        cut-sending asking why (in_send g.moves) g.past doing is g.is_past only refl refl refl (input-left ⊥ ⊥ (λ short. g.few) (λ short. g.reads) g.is_past.reads g.is_past.left) (shown-is doing g) g.saves (λ e. e) was.1
+        cut-sending asking why (in_send g.moves) g.past doing is g.is_past only refl refl (input-left ⊥ ⊥ (λ short. g.few) (λ short. g.reads) g.is_past.reads g.is_past.left) (shown-is doing g) g.saves was.1
 
     -- THE TEXT THAT IS DUE AT THE END
     module _ (asking : Option Asking) (why : Stop) (g : Shown start entry h asking d why) where
@@ -392,27 +395,27 @@ module _ (start : Configuration) (entry : Devices) (h : Held) (d : Devices) wher
       asks-still = g.asking_is ∙ ap (λ (e : Ending). asked_at e.stop e.configuration) (sym g.is_end)
 
       told-is : (b : Bool) → nat_le 1 (length h.world.text) ≡ b → told_all last ≡ (if b then all_sent last else last)
-      told-is true e = ap (λ (b : Bool). record last { sent = if b then with_all last.sent last.world.text else last.sent }) (due-is 1 g.past.sent h.world.text g.past.sends true e)
-      told-is false e = ap (λ (b : Bool). record last { sent = if b then with_all last.sent last.world.text else last.sent }) (due-is 1 g.past.sent h.world.text g.past.sends false e)
+      told-is true e = ap (λ (b : Bool). record last { sent = if b then with_all last.sent last.world.text else last.sent }) (due-is 1 g.past.sent h.world.text true e)
+      told-is false e = ap (λ (b : Bool). record last { sent = if b then with_all last.sent last.world.text else last.sent }) (due-is 1 g.past.sent h.world.text false e)
 
       no-bytes : (text : List ℕ) → length text < 1 → text ≡ []
       no-bytes [] few = refl
       no-bytes (x ∷ xs) few = absurd (omega arith)
 
-      sends-end : (b : Bool) → nat_le 1 (length h.world.text) ≡ b → Flushes 1 d.sink sink h.world world (Ok tt) → Told start entry h-now asking d-now why
+      sends-end : (b : Bool) → nat_le 1 (length h.world.text) ≡ b → Flushes sending 1 d.sink sink h.world world (Ok tt) → Told start entry h-now asking d-now why
       sends-end true e f =
-          let s : SendsAll d.sink sink h.world world (Ok tt) = f.many (leb-true 1 (length h.world.text) e) in
+          let s : SendsAll sending d.sink sink h.world world (Ok tt) = f.many (leb-true 1 (length h.world.text) e) in
           record {
-            past = with-more g.past s.more;
+            past = with-more g.past;
             doing = g.doing;
-            is_past = sent-past g.past s.more g.is_past s.has_taken;
+            is_past = sent-past g.past g.is_past s.0;
             few = g.few;
             reads = g.reads;
             stop_is = ap (λ (x : Ending). x.stop) g.is_end;
-            is_end = ap told_all stopped-is ∙ told-is true e ∙ sym (still g.past g.doing s);
+            is_end = ap told_all stopped-is ∙ told-is true e ∙ sym (still g.past g.doing s.1);
             saves = g.saves;
             asking_is = asks-still;
-            none_left = ap (λ (w : FlatWorld). w.text) s.whole.1;
+            none_left = ap (λ (w : FlatWorld). w.text) s.1;
           }
       sends-end false e f =
           let same = f.few (leb-false 1 (length h.world.text) e) in
@@ -429,18 +432,18 @@ module _ (start : Configuration) (entry : Devices) (h : Held) (d : Devices) wher
             none_left = no-bytes h.world.text (leb-false 1 (length h.world.text) e);
           } in
           subst (λ (x : FlatWorld). Told start entry (record h { world = x }) asking (record d { sink = sink }) why) (sym same.1)
-          (subst (λ (k : FlatSink). Told start entry h asking (record d { sink = k }) why) (sym same.0) told)
+          (subst (λ (k : K). Told start entry h asking (record d { sink = k }) why) (sym same.0) told)
 
-      pub flushed-end : Flushes 1 d.sink sink h.world world (Ok tt) → Told start entry h-now asking d-now why
+      pub flushed-end : Flushes sending 1 d.sink sink h.world world (Ok tt) → Told start entry h-now asking d-now why
       flushed-end f = sends-end (nat_le 1 (length h.world.text)) refl f
 
-      pub cut-end : (halted : Halt) → (halted ≡ halt.Output) ⊎ (halted ≡ halt.NoMemory) → Flushes 1 d.sink sink h.world world (Err halted)
+      pub cut-end : (halted : Halt) → (halted ≡ halt.Output) ⊎ (halted ≡ halt.NoMemory) → Flushes sending 1 d.sink sink h.world world (Err halted)
           → Early start entry h-now asking d-now halted
       cut-end halted only f =
           let was = was-due 1 halted (nat_le 1 (length h.world.text)) refl f in
           let stop-is : (final_of start).stop ≡ why = ap (λ (x : Ending). x.stop) g.is_end in
-          let is : IsCut start in_last_send last (status_of_halt halted) asking = (sym stopped-is, due-is 1 g.past.sent h.world.text g.past.sends true was.0, send-status halted only, asks-still) in
-          cut-sending asking halted in_last_send g.past g.doing is g.is_past only refl refl refl
+          let is : IsCut start in_last_send last (status_of_halt halted) asking = (sym stopped-is, due-is 1 g.past.sent h.world.text true was.0, send-status halted only, asks-still) in
+          cut-sending asking halted in_last_send g.past g.doing is g.is_past only refl refl
           (input-left (IsLineStop (final_of start).stop) ((final_of start).stop ≡ stop.LineTooLong) (λ short. g.few (λ e. short (stop-is ∙ e)))
           (λ other. g.reads (λ is'. other (subst IsLineStop (sym stop-is) is'))) g.is_past.reads g.is_past.left)
-          ([], ap (λ (x : Configuration). x.world.text) stopped-is ∙ sym (append-nil (g.past.sent ++ h.world.text))) g.saves (λ e. e) was.1
+          ([], ap (λ (x : Configuration). x.world.text) stopped-is ∙ sym (append-nil (concat g.past.sent ++ h.world.text))) g.saves was.1

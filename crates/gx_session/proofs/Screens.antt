@@ -1,5 +1,6 @@
 -- The last screen of a run.
-use Rattle.std.proofs.Common.{◌≡◌, true, Option, refl, ap, subst, sym, ◌∙◌, arith}
+use Rattle.std.proofs.Common.{◌≡◌, true, Option, refl, ap, subst, sym, ◌∙◌, arith, map}
+use Rattle.std.specs.List.{concat}
 use Rattle.gx_machine.specs.declared.askings.Asking.{Asking}
 use Rattle.glk_world.specs.World.{FlatWorld, after, is_composed}
 use Rattle.glk_world.specs.Shown.{end_text}
@@ -7,10 +8,10 @@ use Rattle.gx_session.specs.declared.ends.Stop.{Stop}
 use Rattle.gx_session.specs.declared.ends.Stop.TheVariants as stop
 use Rattle.gx_session.specs.declared.ends.Halt.TheVariants as halt
 use Rattle.gx_session.specs.Cuts.{in_last_screen, IsLineStop, asking_at_stop}
-use Rattle.gx_session.specs.Devices.{Devices}
 use Rattle.gx_session.specs.Runs.{IsFront, LeavesInput}
+use Rattle.gx_session.specs.Sending.{taken}
 use Rattle.gx_session.specs.Session.{Configuration, Ending, stop_of, with_last_screen, final_of, asked_at}
-use Rattle.gx_session.specs.Playing.{Held, configuration_of, IsPast, Done, Shown, Early}
+use Rattle.gx_session.specs.Playing.{Sending, Handed, Held, configuration_of, IsPast, Done, Shown, Early}
 use Rattle.gx_session.proofs.Asking.{sent-before}
 use Rattle.gx_session.proofs.Playing.{cut-at, input-left, words-left}
 use Rattle.gx_session.proofs.Steps.{asked-same}
@@ -35,7 +36,7 @@ asks-same stop.InputEnded m m' machine words = asked-same m m' machine words
 asks-same stop.Stuck m m' machine words = asked-same m m' machine words
 asks-same stop.LineTooLong m m' machine words = asked-same m m' machine words
 
-module _ (start : Configuration) (entry : Devices) (h : Held) (d : Devices) (asking : Option Asking) (why : Stop) where
+module _ {K : Type 0} {sending : Sending K} (start : Configuration) (entry : Handed sending) (h : Held) (d : Handed sending) (asking : Option Asking) (why : Stop) where
   module _ (g : Done start entry h asking d why) where
     abbrev at-stop : Configuration
     at-stop = configuration_of g.past g.doing h d
@@ -65,7 +66,7 @@ module _ (start : Configuration) (entry : Devices) (h : Held) (d : Devices) (ask
         let m : Configuration = configuration_of g.past g.doing h' d in
         let same : with_last_screen at-stop ≡ m =
         ap (λ (x : FlatWorld). record at-stop { world = x })
-        (sent-before g.past.sent h.world (end_text h.world.scene)) in
+        (sent-before (concat g.past.sent) h.world (end_text h.world.scene)) in
         let shown : Shown start entry h' asking d why = record {
           past = g.past;
           doing = g.doing;
@@ -97,7 +98,7 @@ module _ (start : Configuration) (entry : Devices) (h : Held) (d : Devices) (ask
     abbrev long : Type 0
     long = (final_of start).stop ≡ stop.LineTooLong
 
-    input-then : LeavesInput start.input at-stop.input entry.source d.source awaited long 0
+    input-then : LeavesInput start.input at-stop.input h.coming entry.source d.source awaited long 0
     input-then =
         input-left start entry h d awaited long
         (λ short. g.few (λ e. short (stop-is ∙ e))) (λ other. g.reads (λ is. other (subst IsLineStop (sym stop-is) is)))
@@ -108,7 +109,7 @@ module _ (start : Configuration) (entry : Devices) (h : Held) (d : Devices) (ask
         → Early start entry (record h { world = world }) asking d halt.NoMemory
     screen-wants world composed =
         let here : at-stop ≡ (stop_of start).configuration = sym (ap (λ (e : Ending). e.configuration) g.is_end) in
-        cut-at start entry d (record h { world = world }) asking halt.NoMemory in_last_screen at-stop g.past.sent
-        h.world.text (here, composed, refl, asks-end) refl refl refl refl g.is_past.taken shown-by-then (omega arith)
-        (omega arith) refl (λ other. input-then)
-        (words-left h.word d.words g.past.words g.is_past.word) g.saves (λ e. tt)
+        cut-at start entry d (record h { world = world }) asking halt.NoMemory in_last_screen at-stop
+        (map taken g.past.sent) (here, composed, refl, asks-end) refl refl refl (h.world.text, refl) refl
+        g.is_past.taken shown-by-then refl (λ other. input-then)
+        (words-left h.word d.words g.past.words g.is_past.word) g.saves

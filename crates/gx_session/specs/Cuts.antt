@@ -1,6 +1,7 @@
 -- The ways in which a run is cut short: memory ran out, or a device failed.
-use Rattle.std.specs.Prelude.{◌≡◌, ◌≢◌, ℕ, suc, ◌<◌, ◌==◌, if◌then◌else◌, List, [], ◌∷◌, ◌++◌, length, ◌⊎◌, false, true}
+use Rattle.std.specs.Prelude.{◌≡◌, ◌≢◌, ℕ, ◌<◌, ◌==◌, if◌then◌else◌, List, [], ◌∷◌, ◌++◌, map, length, ◌⊎◌, false, true}
 use Rattle.std.specs.Prelude.{Option, Some, None, IsSome, Result, Ok, Err, IsOk, IsTrue}
+use Rattle.std.specs.List.{concat}
 use Rattle.gx_words.specs.declared.faults.Fault.{Fault}
 use Rattle.gx_pages.specs.Memory.{HasBytes}
 use Rattle.gx_state.specs.declared.effects.Effect.{Effect}
@@ -12,7 +13,11 @@ use Rattle.gx_machine.specs.Answer.{IsStoredAnswer}
 use Rattle.gx_machine.specs.Machine.{FlatMachine}
 use Rattle.gx_machine.specs.Log.{Log}
 use Rattle.gx_machine.specs.Step.{stepped, IsStepWriting}
+use Rattle.gx_outside.specs.Outside.{FlatSink}
+use Rattle.gx_outside.specs.Sends.{Send}
 use Rattle.gx_outside.specs.Shelves.{Request, loads, stores, removes, looks, Trace, MayWant}
+use Rattle.gx_outside.specs.declared.devices.SendFault.{SendFault}
+use Rattle.gx_outside.specs.declared.devices.SendFault.TheVariants as of_send
 use Rattle.gx_outside.specs.declared.devices.ShelfFault.{ShelfFault}
 use Rattle.gx_outside.specs.declared.devices.ShelfFault.TheVariants as of_shelf
 use Rattle.glk_world.specs.World.{Said, is_composed}
@@ -30,11 +35,10 @@ use Rattle.gx_session.specs.declared.ends.Stop.TheVariants as stop
 use Rattle.gx_session.specs.Constants.{status_shelf_fault, status_input_fault, status_output_fault, status_no_memory}
 use Rattle.gx_session.specs.Constants.{most_loaded, failed}
 use Rattle.gx_session.specs.declared.running.Waiting.{Waiting}
-use Rattle.gx_session.specs.Devices.{Devices}
 use Rattle.gx_session.specs.Session.{Configuration, Doing, steps, asks, goes_on, sends_now, run_of, stop_of, final_of}
 use Rattle.gx_session.specs.Session.{effect_at, asked, asked_at}
 use Rattle.gx_session.specs.Saving.{saving, restoring, is_begun, is_read}
-use Rattle.gx_session.specs.Sending.{is_due}
+use Rattle.gx_session.specs.Sending.{pending, is_due, taken}
 use Rattle.gx_session.specs.Endings.{Store, open_files_of, stores_of, told_all, after_stores}
 use Rattle.rand_core.specs.Stream.{next_u32}
 
@@ -201,21 +205,30 @@ IsCut start (in_store front next) m status asking =
     × ((rest : List Store) × (stores_of m.world.scene ≡ front ++ next ∷ rest))
 
 -- Where the sink refused for want of memory, its last call is the one that wanted it.
-abbrev pub WantedBy : Cut → Devices → Type 0
-WantedBy (in_send j) exit = exit.sink.calls.wanting ≡ true
-WantedBy in_last_send exit = exit.sink.calls.wanting ≡ true
-WantedBy cut exit = Unit {0}
+abbrev pub WantedBy : Cut → FlatSink → Type 0
+WantedBy (in_send j) sink = sink.calls.wanting ≡ true
+WantedBy in_last_send sink = sink.calls.wanting ≡ true
+WantedBy cut sink = Unit {0}
 
--- how many bytes were sent at most, and in how many calls
-abbrev pub most_sent : Cut → Configuration → ℕ
-most_sent (in_send j) m = length m.world.text
-most_sent in_last_send m = length m.world.text
-most_sent cut m = m.sent.bytes
+-- how many bytes were taken at most
+abbrev pub most_taken : Cut → Configuration → ℕ
+most_taken (in_send j) m = length m.world.text
+most_taken in_last_send m = length m.world.text
+most_taken cut m = length (concat m.sent)
 
-abbrev pub sends_at : Cut → Configuration → ℕ
-sends_at (in_send j) m = suc m.sent.calls
-sends_at in_last_send m = suc m.sent.calls
-sends_at cut m = m.sent.calls
+-- why the sink refused
+abbrev pub send_fault_at : ℕ → SendFault
+send_fault_at status = if status == status_output_fault then of_send.Failed else of_send.NoMemory
+
+-- the call in which it refused what was pending
+abbrev pub refused_send : Configuration → ℕ → Send
+refused_send m status = (pending m.sent m.world.text, Err (send_fault_at status))
+
+-- the calls of the sink, the last of which was refused where it is the sink that cut the run short
+abbrev pub sends_by_cut : Cut → Configuration → ℕ → List Send
+sends_by_cut (in_send j) m status = map taken m.sent ++ refused_send m status ∷ []
+sends_by_cut in_last_send m status = map taken m.sent ++ refused_send m status ∷ []
+sends_by_cut cut m status = map taken m.sent
 
 -- why the shelf refused
 abbrev pub fault_at : ℕ → ShelfFault

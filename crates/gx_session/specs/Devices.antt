@@ -1,5 +1,8 @@
 -- What contracts see of the four objects that a run is handed.
+use Rattle.std.specs.Prelude.{List}
 use Rattle.gx_outside.specs.Outside.{FlatSource, FlatSink, FlatShelf}
+use Rattle.gx_outside.specs.Reads.{Read}
+use Rattle.gx_outside.specs.Sends.{Send}
 use Rattle.gx_outside.specs.Shelves.{Trace}
 use Rattle.rand_core.specs.Stream.{Stream}
 
@@ -9,9 +12,19 @@ pub record Devices : Type 0 where
   pub sink : FlatSink
   pub shelf : FlatShelf
   pub words : Stream
-  -- the calls of the shelf since the run began
+  -- the calls of the source, of the sink and of the shelf since the run began
+  pub reads : List Read
+  pub sends : List Send
   pub asked : Trace
 
-abbrev pub devices : FlatSource → FlatSink → FlatShelf → Stream → Trace → Devices
-devices source sink shelf words asked =
-    record { source = source; sink = sink; shelf = shelf; words = words; asked = asked }
+abbrev pub devices : FlatSource → FlatSink → FlatShelf → Stream → List Read → List Send → Trace → Devices
+devices source sink shelf words reads sends asked =
+    record {
+      source = source;
+      sink = sink;
+      shelf = shelf;
+      words = words;
+      reads = reads;
+      sends = sends;
+      asked = asked;
+    }

@@ -1,6 +1,7 @@
 -- How the code plays a session: what it holds is a configuration of the run, after text that was sent.
 use Rattle.std.specs.Prelude.{◌≡◌, ◌≢◌, ℕ, ◌<◌, ◌≤◌, List, [], ◌∷◌, ◌++◌, map, ◌⊎◌, length, IsSome, IsOk, IfOk, OnOk}
 use Rattle.std.specs.Prelude.{OnErr, Bool, true, false, Result, Ok, Err, Option, Some, None}
+use Rattle.std.specs.List.{concat}
 use Rattle.gx_words.specs.declared.faults.Fault.{Fault}
 use Rattle.gx_words.specs.declared.faults.Fault.TheVariants.{NoMemory}
 use Rattle.gx_state.specs.declared.effects.Effect.{Effect}
@@ -14,7 +15,10 @@ use Rattle.gx_machine.specs.Saves.{restored}
 use Rattle.gx_machine.specs.Step.{asking_of}
 use Rattle.gx_machine.specs.Log.{Log, logged}
 use Rattle.gx_machine.specs.Advancing.{units_left, logged_by}
-use Rattle.gx_outside.specs.Outside.{FlatSource, FlatSink, FlatShelf, raised_by}
+use Rattle.gx_outside.specs.Chains.{Chain}
+use Rattle.gx_outside.specs.Outside.{FlatSource, FlatSink, FlatShelf}
+use Rattle.gx_outside.specs.Reads.{Read}
+use Rattle.gx_outside.specs.Sends.{Send}
 use Rattle.gx_outside.specs.Shelves.{Request, stores, Answer, Trace}
 use Rattle.gx_outside.specs.declared.devices.SendFault.{SendFault}
 use Rattle.gx_outside.specs.declared.devices.SendFault.TheVariants as of_send
@@ -39,9 +43,10 @@ use Rattle.gx_session.specs.declared.running.Running.{Running}
 use Rattle.gx_session.specs.declared.running.Waiting.{Waiting}
 use Rattle.gx_session.specs.Counts.{Blames}
 use Rattle.gx_session.specs.Cuts.{IsWait, IsLineStop, ReplyWants, TurnWants, WantsMemory, stopped, asking_at_stop}
-use Rattle.gx_session.specs.Devices.{Devices}
+use Rattle.gx_session.specs.Devices.{Devices, devices}
 use Rattle.gx_session.specs.Endings.{Store, open_files_of, stores_of, call_of, told_all}
 use Rattle.gx_session.specs.Input.{line, next_line}
+use Rattle.gx_session.specs.Sending.{Sent, taken}
 use Rattle.gx_session.specs.Session.{Configuration, Doing, steps, asks, goes_on, goes, act_of, after_effect, after_turn}
 use Rattle.gx_session.specs.Session.{after_given, sends_now, Ending, stop_of, final_of, run_of, effect_at, asked}
 use Rattle.gx_session.specs.Session.{asked_at}
@@ -86,20 +91,39 @@ abbrev pub WordIs : Option ℕ → Stream → Stream → Type 0
 WordIs None stream words = words ≡ stream
 WordIs (Some word) stream words = next_u32 words ≡ (word, stream)
 
--- What was done so far, and what is to come: the text that was sent, in so many calls; the answers of the shelf; the
+-- THE OBJECTS of a run, as contracts see them, but for the sink, which is there itself: `sending` says what one of its
+-- calls leads to.
+abbrev pub Sending : Type 0 → Type 1
+Sending K = K → Send → K → Type 0
+
+pub record Handed {K : Type 0} (sending : Sending K) : Type 0 where
+  pub source : FlatSource
+  pub sink : K
+  pub shelf : FlatShelf
+  pub words : Stream
+  pub asked : Trace
+
+abbrev pub handed : {K : Type 0} {sending : Sending K} → FlatSource → K → FlatShelf → Stream → Trace → Handed sending
+handed source sink shelf words asked =
+    record { source = source; sink = sink; shelf = shelf; words = words; asked = asked }
+
+-- with what contracts see of the sink, and with these calls of the source and of the sink
+abbrev pub devices_of : {K : Type 0} {sending : Sending K} → Handed sending → FlatSink → List Read → List Send → Devices
+devices_of d sink reads sends = devices d.source sink d.shelf d.words reads sends d.asked
+
+-- What was done so far, and what is to come: the text that was sent, call by call; the answers of the shelf; the
 -- random words.
 pub record Past : Type 0 where
-  pub sent : List ℕ
-  pub sends : ℕ
+  pub sent : Sent
   pub answers : Trace → Request → Answer
   pub words : Stream
 
 -- the configuration that is held
-abbrev pub configuration_of : Past → Doing → Held → Devices → Configuration
+abbrev pub configuration_of : {K : Type 0} {sending : Sending K} → Past → Doing → Held → Handed sending → Configuration
 configuration_of p doing h d = record {
   machine = h.machine;
-  world = record { scene = h.world.scene; text = p.sent ++ h.world.text };
-  sent = record { bytes = length p.sent; calls = p.sends };
+  world = record { scene = h.world.scene; text = concat p.sent ++ h.world.text };
+  sent = p.sent;
   input = h.ahead ++ h.coming;
   echo = h.echo;
   answers = p.answers;
@@ -110,15 +134,14 @@ configuration_of p doing h d = record {
   doing = doing;
 }
 
--- The sink has taken this since entry, in so many calls.
-pub record HasTaken (entry now : FlatSink) (sent : List ℕ) (calls : ℕ) : Type 0 where
-  pub tells : now.tells ≡ entry.tells
-  pub made : now.calls.made ≡ raised_by calls entry.calls.made
-  pub taken : now.tells ≡ true → now.taken ≡ entry.taken ++ sent
+-- The sink was called so since entry, and took each text whole.
+abbrev pub HasTaken : {K : Type 0} → Sending K → K → K → Sent → Type 0
+HasTaken sending entry now sent = Chain sending entry (map taken sent) now
 
 -- The devices are those at entry after what was done so far.
-pub record IsPast (start : Configuration) (entry : Devices) (p : Past) (h : Held) (d : Devices) : Type 0 where
-  pub taken : HasTaken entry.sink d.sink p.sent p.sends
+pub record IsPast {K : Type 0} {sending : Sending K} (start : Configuration) (entry : Handed sending) (p : Past)
+    (h : Held) (d : Handed sending) : Type 0 where
+  pub taken : HasTaken sending entry.sink d.sink p.sent
   pub answers : p.answers ≡ start.answers
   pub answered : AreAnswered d.asked
   pub word : WordIs h.word d.words p.words
@@ -127,11 +150,12 @@ pub record IsPast (start : Configuration) (entry : Devices) (p : Past) (h : Held
   pub reads : ReadsFew false h.over entry.source d.source start.input h.coming 0
 
 -- The source wasn't asked where no line was taken.
-abbrev pub IsRead : List ℕ → Devices → Held → Devices → Type 0
+abbrev pub IsRead : {K : Type 0} {sending : Sending K} → List ℕ → Handed sending → Held → Handed sending → Type 0
 IsRead first entry h d = (d.source ≡ entry.source) ⊎ (length (h.ahead ++ h.coming) < length first)
 
 -- What is held stands after so many moves of the run from the start.
-pub record Standing (start : Configuration) (entry : Devices) (h : Held) (d : Devices) (doing : Doing) : Type 0 where
+pub record Standing {K : Type 0} {sending : Sending K} (start : Configuration) (entry : Handed sending) (h : Held)
+    (d : Handed sending) (doing : Doing) : Type 0 where
   pub past : Past
   pub moves : ℕ
   pub is_past : IsPast start entry past h d
@@ -142,23 +166,24 @@ pub record Standing (start : Configuration) (entry : Devices) (h : Held) (d : De
   pub same_end : stop_of (configuration_of past doing h d) ≡ stop_of start
 
 -- So it stands, and no text is due.
-pub record Ready (start : Configuration) (entry : Devices) (h : Held) (d : Devices) (doing : Doing) : Type 0 where
+pub record Ready {K : Type 0} {sending : Sending K} (start : Configuration) (entry : Handed sending) (h : Held)
+    (d : Handed sending) (doing : Doing) : Type 0 where
   pub now : Standing start entry h d doing
   pub quiet : sends_now (configuration_of now.past doing h d) ≡ false
 
 -- So it stands before a step.
-abbrev pub Going : Configuration → Devices → Held → Devices → Type 0
+abbrev pub Going : {K : Type 0} {sending : Sending K} → Configuration → Handed sending → Held → Handed sending → Type 0
 Going start entry h d = Ready start entry h d steps
 
 -- So it stands in the middle of a Glk call, with a machine that asks for it.
-pub record Waits (start : Configuration) (entry : Devices) (h : Held) (asking : Option Asking) (d : Devices)
-    (doing : Doing) : Type 0 where
+pub record Waits {K : Type 0} {sending : Sending K} (start : Configuration) (entry : Handed sending) (h : Held)
+    (asking : Option Asking) (d : Handed sending) (doing : Doing) : Type 0 where
   pub now : Standing start entry h d doing
   pub asking_is : asking ≡ asked (configuration_of now.past doing h d)
 
 -- The run has come to this end.
-pub record ComesTo (end : Ending) (start : Configuration) (entry : Devices) (h : Held) (asking : Option Asking)
-    (d : Devices) (why : Stop) : Type 0 where
+pub record ComesTo {K : Type 0} {sending : Sending K} (end : Ending) (start : Configuration)
+    (entry : Handed sending) (h : Held) (asking : Option Asking) (d : Handed sending) (why : Stop) : Type 0 where
   pub past : Past
   pub doing : Doing
   pub is_past : IsPast start entry past h d
@@ -169,7 +194,8 @@ pub record ComesTo (end : Ending) (start : Configuration) (entry : Devices) (h :
   pub asking_is : asking ≡ asked_at why (configuration_of past doing h d)
 
 -- A stop has come.
-abbrev pub Done : Configuration → Devices → Held → Option Asking → Devices → Stop → Type 0
+abbrev pub Done : {K : Type 0} {sending : Sending K} → Configuration → Handed sending → Held → Option Asking
+    → Handed sending → Stop → Type 0
 Done start entry h asking d why = ComesTo (stop_of start) start entry h asking d why
 
 -- the status of a run that is cut short
@@ -188,14 +214,18 @@ abbrev pub halt_of_shelf : ShelfFault → Halt
 halt_of_shelf of_shelf.Failed = halt.Shelf
 halt_of_shelf of_shelf.NoMemory = halt.NoMemory
 
--- The run is cut short.
-abbrev pub Early : Configuration → Devices → Held → Option Asking → Devices → Halt → Type 0
-Early start entry h asking d why =
-    StopsEarly start entry d (status_of_halt why) h.left (record { machine = h.machine; asking = asking }) h.log
+-- The run is cut short, after these calls of the sink.
+pub record Early {K : Type 0} {sending : Sending K} (start : Configuration) (entry : Handed sending) (h : Held)
+    (asking : Option Asking) (d : Handed sending) (why : Halt) : Type 0 where
+  pub sends : List Send
+  pub chain : Chain sending entry.sink sends d.sink
+  pub stops : (before now : FlatSink) (reads : List Read)
+      → StopsEarly start (devices_of entry before [] []) (devices_of d now reads sends)
+      h.coming (status_of_halt why) h.left (record { machine = h.machine; asking = asking }) h.log
 
 -- The machine has made a step from a configuration of the run, with this effect and these units left.
-pub record Follows (start : Configuration) (entry : Devices) (h : Held) (d : Devices) (left : ℕ)
-    (does : Effect) : Type 0 where
+pub record Follows {K : Type 0} {sending : Sending K} (start : Configuration) (entry : Handed sending) (h : Held)
+    (d : Handed sending) (left : ℕ) (does : Effect) : Type 0 where
   -- the machine before the step, and what was recorded then
   pub before : FlatMachine
   pub recorded : Option Log
@@ -213,8 +243,8 @@ pub record Follows (start : Configuration) (entry : Devices) (h : Held) (d : Dev
 
 -- From a configuration of the run the Glk world has moved on, and the machine becomes this one, with which the event is
 -- recorded. It may want memory for that where this holds.
-pub record Resumes (start : Configuration) (entry : Devices) (h : Held) (asking : Option Asking) (d : Devices)
-    (left : ℕ) (machine : FlatMachine) (wants : Type 0) : Type 0 where
+pub record Resumes {K : Type 0} {sending : Sending K} (start : Configuration) (entry : Handed sending) (h : Held)
+    (asking : Option Asking) (d : Handed sending) (left : ℕ) (machine : FlatMachine) (wants : Type 0) : Type 0 where
   -- the world before
   pub world : FlatWorld
   pub said : Said
@@ -235,17 +265,19 @@ pub record Resumes (start : Configuration) (entry : Devices) (h : Held) (asking 
       wants → WantsMemory doing m asking
 
 -- It takes a reply.
-abbrev pub Replies : Configuration → Devices → Held → Option Asking → Devices → ℕ → Reply → Type 0
+abbrev pub Replies : {K : Type 0} {sending : Sending K} → Configuration → Handed sending → Held → Option Asking
+    → Handed sending → ℕ → Reply → Type 0
 Replies start entry h asking d left reply =
     Resumes start entry h asking d left (answer_of h.machine reply) (ReplyWants h.log h.machine reply)
 
 -- It goes back to a copy.
-abbrev pub GoesBack : Configuration → Devices → Held → Option Asking → Devices → ℕ → Copy → Type 0
+abbrev pub GoesBack : {K : Type 0} {sending : Sending K} → Configuration → Handed sending → Held → Option Asking
+    → Handed sending → ℕ → Copy → Type 0
 GoesBack start entry h asking d left copy = Resumes start entry h asking d left (restored h.machine copy) (Unit {0})
 
 -- A Glk call has come to a turn from a configuration of the run.
-pub record Turns (start : Configuration) (entry : Devices) (h : Held) (asking : Option Asking) (d : Devices)
-    (w : Waiting) (turn : Turn) : Type 0 where
+pub record Turns {K : Type 0} {sending : Sending K} (start : Configuration) (entry : Handed sending) (h : Held)
+    (asking : Option Asking) (d : Handed sending) (w : Waiting) (turn : Turn) : Type 0 where
   pub world : FlatWorld
   pub said : Said
   pub moved : h.world ≡ after world said
@@ -268,13 +300,15 @@ IsNext (next.Stops stop) = IsStop stop
 
 -- WHAT A PART OF A RUN COMES TO
 -- an event
-abbrev pub EventGives : Configuration → Devices → Held → Option Asking → Devices → Result Next Halt → Type 0
+abbrev pub EventGives : {K : Type 0} {sending : Sending K} → Configuration → Handed sending → Held → Option Asking
+    → Handed sending → Result Next Halt → Type 0
 EventGives start entry h asking d (Ok next.Goes) = Going start entry h d
 EventGives start entry h asking d (Ok (next.Stops stop)) = Done start entry h asking d stop
 EventGives start entry h asking d (Err why) = Early start entry h asking d why
 
 -- all events
-abbrev pub StopGives : Configuration → Devices → Held → Option Asking → Devices → Result Stop Halt → Type 0
+abbrev pub StopGives : {K : Type 0} {sending : Sending K} → Configuration → Handed sending → Held → Option Asking
+    → Handed sending → Result Stop Halt → Type 0
 StopGives start entry h asking d (Ok stop) = Done start entry h asking d stop
 StopGives start entry h asking d (Err why) = Early start entry h asking d why
 
@@ -284,21 +318,17 @@ FaultGives fault result =
     ((fault ≡ NoMemory) × (result ≡ Err halt.NoMemory))
     ⊎ ((fault ≢ NoMemory) × (result ≡ Ok (next.Stops (stop.Faulted fault))))
 
--- A front of the pending text was sent, in one call, and all of it at Ok. Where memory ran out, the sink wanted it in
--- that call.
-pub record SendsAll (before now : FlatSink) (old new : FlatWorld) (result : Result (Unit {0}) Halt) : Type 0 where
-  pub more : List ℕ
-  pub rest : List ℕ
-  pub front : old.text ≡ more ++ rest
-  pub has_taken : HasTaken before now more 1
-  pub whole : OnOk result ((rest ≡ []) × (new ≡ record old { text = [] }))
-  pub wants : result ≡ Err halt.NoMemory → now.calls.wanting ≡ true
+-- The pending text was sent in one call, which took it whole or was refused.
+abbrev pub SendsAll : {K : Type 0} → Sending K → K → K → FlatWorld → FlatWorld → Result (Unit {0}) Halt → Type 0
+SendsAll sending before now old new (Ok u) = sending before (taken old.text) now × (new ≡ record old { text = [] })
+SendsAll sending before now old new (Err why) =
+    (fault : SendFault) × sending before (old.text, Err fault) now × (why ≡ halt_of_send fault)
 
 -- The pending text is sent where it has so many bytes or more, and else nothing happens.
-pub record Flushes (enough : ℕ) (before now : FlatSink) (old new : FlatWorld)
+pub record Flushes {K : Type 0} (sending : Sending K) (enough : ℕ) (before now : K) (old new : FlatWorld)
     (result : Result (Unit {0}) Halt) : Type 0 where
   pub few : length old.text < enough → (now ≡ before) × (new ≡ old) × IsOk result
-  pub many : enough ≤ length old.text → SendsAll before now old new result
+  pub many : enough ≤ length old.text → SendsAll sending before now old new result
 
 -- The machine became this one, which asks nothing, and the event was recorded; or both stand for want of memory. All
 -- else stands.
@@ -347,8 +377,8 @@ pub record Keeps {T : Type 0} (before now : Devices) (result : Result T Halt) : 
   pub shelf_tells : now.shelf.tells ≡ before.shelf.tells
 
 -- A Glk call that went on has come to a turn from a configuration of the run.
-pub record GoesOn (start : Configuration) (entry : Devices) (h : Held) (asking : Option Asking) (d : Devices)
-    (w : Waiting) (turn : Turn) : Type 0 where
+pub record GoesOn {K : Type 0} {sending : Sending K} (start : Configuration) (entry : Handed sending) (h : Held)
+    (asking : Option Asking) (d : Handed sending) (w : Waiting) (turn : Turn) : Type 0 where
   pub world : FlatWorld
   pub said : Said
   pub given : Given
@@ -362,8 +392,8 @@ pub record GoesOn (start : Configuration) (entry : Devices) (h : Held) (asking :
       TurnWants h.log h.machine (Ok (said, turn)) → WantsMemory (goes_on given w) m asking
 
 -- A line was taken at a wait.
-pub record TakesInput (start : Configuration) (entry : Devices) (h : Held) (asking : Option Asking) (d : Devices)
-    (chars : List ℕ) (w : Waiting) : Type 0 where
+pub record TakesInput {K : Type 0} {sending : Sending K} (start : Configuration) (entry : Handed sending) (h : Held)
+    (asking : Option Asking) (d : Handed sending) (chars : List ℕ) (w : Waiting) : Type 0 where
   -- the wait, and what was held and read before
   pub turn : Turn
   pub ahead : List ℕ
@@ -389,12 +419,13 @@ without_line no.NoMemory = Err halt.NoMemory
 
 -- THE ENDING
 -- A stop has come, and the last screen was shown.
-abbrev pub Shown : Configuration → Devices → Held → Option Asking → Devices → Stop → Type 0
+abbrev pub Shown : {K : Type 0} {sending : Sending K} → Configuration → Handed sending → Held → Option Asking
+    → Handed sending → Stop → Type 0
 Shown start entry h asking d why = ComesTo (final_of start) start entry h asking d why
 
 -- Then all text was sent.
-pub record Told (start : Configuration) (entry : Devices) (h : Held) (asking : Option Asking) (d : Devices)
-    (why : Stop) : Type 0 where
+pub record Told {K : Type 0} {sending : Sending K} (start : Configuration) (entry : Handed sending) (h : Held)
+    (asking : Option Asking) (d : Handed sending) (why : Stop) : Type 0 where
   pub past : Past
   pub doing : Doing
   pub is_past : IsPast start entry past h d
@@ -407,21 +438,22 @@ pub record Told (start : Configuration) (entry : Devices) (h : Held) (asking : O
   pub none_left : h.world.text ≡ []
 
 -- Then all open files were stored, after these calls of the shelf, which was this one.
-pub record Finished (start : Configuration) (entry : Devices) (h : Held) (asking : Option Asking) (d : Devices)
-    (why : Stop) : Type 0 where
+pub record Finished {K : Type 0} {sending : Sending K} (start : Configuration) (entry : Handed sending) (h : Held)
+    (asking : Option Asking) (d : Handed sending) (why : Stop) : Type 0 where
   pub shelf : FlatShelf
   pub before : Trace
   pub told : Told start entry h asking (record d { shelf = shelf; asked = before }) why
   pub asked_are : d.asked ≡ before ++ map call_of (stores_of h.world.scene)
 
 -- what the ending comes to
-abbrev pub EndingGives : Configuration → Devices → Held → Option Asking → Devices → Stop → Result (Unit {0}) Halt
-    → Type 0
+abbrev pub EndingGives : {K : Type 0} {sending : Sending K} → Configuration → Handed sending → Held → Option Asking
+    → Handed sending → Stop → Result (Unit {0}) Halt → Type 0
 EndingGives start entry h asking d stop (Ok u) = Finished start entry h asking d stop
 EndingGives start entry h asking d stop (Err why) = Early start entry h asking d why
 
 -- what a run comes to
-abbrev pub RunGives : Configuration → Devices → Held → Option Asking → Devices → Result Stop Halt → Type 0
+abbrev pub RunGives : {K : Type 0} {sending : Sending K} → Configuration → Handed sending → Held → Option Asking
+    → Handed sending → Result Stop Halt → Type 0
 RunGives start entry h asking d (Ok stop) = Finished start entry h asking d stop
 RunGives start entry h asking d (Err why) = Early start entry h asking d why
 

@@ -2,9 +2,13 @@
 --
 -- A source that tells has so many bytes left. Of one that doesn't, what is to come is unknown: what is said here of a
 -- call is said of all bytes that may come after it, and gives the bytes that came before it.
-use Rattle.std.specs.Prelude.{◌≡◌, ℕ, ◌+◌, ◌<◌, ◌≤◌, List, [], ◌++◌, length, Bool, true, false, Result, Ok, Err}
+use Rattle.std.specs.Prelude.{◌≡◌, ℕ, ◌+◌, ◌<◌, ◌≤◌, ◌⊎◌, List, [], ◌∷◌, ◌++◌, length, Bool, true, false}
+use Rattle.std.specs.Prelude.{Result, Ok, Err}
 use Rattle.std.specs.List.{position_or_len}
+use Rattle.gx_outside.specs.Chains.{Chain}
 use Rattle.gx_outside.specs.Outside.{FlatSource, raised_by, offered_in}
+use Rattle.gx_outside.specs.Reads.{Read}
+use Rattle.gx_outside.specs.declared.devices.Failed.{Failed}
 use Rattle.gx_session.specs.declared.lines.NoLine.{NoLine}
 use Rattle.gx_session.specs.declared.lines.NoLine.TheVariants as no
 use Rattle.gx_session.specs.Constants.{longest, piece}
@@ -20,11 +24,40 @@ pub record IsComing (lines : HeldLines) (source : FlatSource) (coming : List ℕ
 abbrev pub IsOver : HeldLines → FlatSource → Type 0
 IsOver lines source = lines.ended ≡ true → source.tells ≡ true → source.left ≡ []
 
--- Whatever comes after a call, there is what came before it, so that the call relates them so.
-pub record Fed (old new : HeldLines) (before now : FlatSource) (P : List ℕ → List ℕ → Type 0) : Type 0 where
-  pub over : IsOver old before → IsOver new now
-  pub comes : (after : List ℕ) → IsComing new now after
-      → (coming : List ℕ) × IsComing old before coming × P coming after
+-- THE READS of a source
+-- the bytes that they gave, one after another
+abbrev pub bytes_read : List Read → List ℕ
+bytes_read [] = []
+bytes_read ((room, Ok bytes) ∷ reads) = bytes ++ bytes_read reads
+bytes_read ((room, Err e) ∷ reads) = bytes_read reads
+
+-- Each has room for a piece.
+abbrev pub HavePieces : List Read → Type 0
+HavePieces [] = Unit {0}
+HavePieces ((room, gave) ∷ reads) = (room ≡ piece) × HavePieces reads
+
+-- One of them gave nothing, and so said that nothing is left.
+abbrev pub SayEnd : List Read → Type 0
+SayEnd [] = ⊥
+SayEnd ((room, Ok []) ∷ reads) = Unit {0}
+SayEnd ((room, gave) ∷ reads) = SayEnd reads
+
+-- what one read of a source leads to
+abbrev pub Reading : Type 0 → Type 1
+Reading S = S → Read → S → Type 0
+
+-- The source was called so. Whatever comes after these calls, there is what came before them, so that the calls relate
+-- the two so: it begins with the bytes that they gave.
+pub record Fed {S : Type 0} (reading : Reading S) (seen : S → FlatSource) (old new : HeldLines) (before now : S)
+    (P : List ℕ → List ℕ → Type 0) : Type 0 where
+  pub reads : List Read
+  pub chain : Chain reading before reads now
+  pub pieces : HavePieces reads
+  pub said : (old.ended ≡ true) ⊎ SayEnd reads → new.ended ≡ true
+  pub over : IsOver old (seen before) → IsOver new (seen now)
+  pub comes : (after : List ℕ) → IsComing new (seen now) after
+      → (coming : List ℕ) × IsComing old (seen before) coming × P coming after
+  pub given : (after : List ℕ) (is : IsComing new (seen now) after) → (comes after is).0 ≡ bytes_read reads ++ after
 
 -- a line feed is held
 abbrev pub IsWhole : List ℕ → Type 0
@@ -87,12 +120,20 @@ pub record Takes (old new : HeldLines) (before now : FlatSource) (coming after :
   pub line : TakesLine (old.held ++ coming) (new.held ++ after) result
   pub reads : ReadsFew old.ended new.ended before now coming after (failures result)
 
--- what a read does
-abbrev pub Fills : HeldLines → HeldLines → FlatSource → FlatSource → Result (Unit {0}) NoLine → Type 0
-Fills old new before now (Ok u) = (got : List ℕ) × GrowsBy old new before now got
-Fills old new before now (Err no.Failed) = (new ≡ old) × (before.tells ≡ true → now.left ≡ before.left)
-Fills old new before now (Err no.NoMemory) = (got : List ℕ) × Loses old new before now got
-Fills old new before now (Err e) = ⊥
+-- what a read that gave so does
+abbrev pub Fills : HeldLines → HeldLines → FlatSource → FlatSource → Result (Unit {0}) NoLine → Result (List ℕ) Failed
+    → Type 0
+Fills old new before now (Ok u) (Ok got) = GrowsBy old new before now got
+Fills old new before now (Err no.Failed) (Err f) = (new ≡ old) × (before.tells ≡ true → now.left ≡ before.left)
+Fills old new before now (Err no.NoMemory) (Ok got) = Loses old new before now got
+Fills old new before now result gave = ⊥
+
+-- A piece was read, in one call.
+pub record FillsBy {S : Type 0} (reading : Reading S) (seen : S → FlatSource) (old new : HeldLines) (before now : S)
+    (result : Result (Unit {0}) NoLine) : Type 0 where
+  pub gave : Result (List ℕ) Failed
+  pub call : reading before (piece, gave) now
+  pub fills : Fills old new (seen before) (seen now) result gave
 
 -- the source failed
 abbrev pub is_failed : Result (Unit {0}) NoLine → Bool

@@ -1,10 +1,13 @@
 -- What a run reports and leaves behind, against the definition of a session.
 use Rattle.std.specs.Prelude.{◌≡◌, ◌≢◌, ℕ, suc, ◌+◌, ◌<◌, ◌≤◌, ◌++◌, ◌⊎◌, ◌==◌, if◌then◌else◌, true, false, Option}
-use Rattle.std.specs.Prelude.{None, Some, List, length, take}
+use Rattle.std.specs.Prelude.{None, Some, List, [], map, length, take}
+use Rattle.std.specs.List.{concat}
 use Rattle.gx_machine.specs.Machine.{Whole}
 use Rattle.gx_machine.specs.Log.{Log}
 use Rattle.gx_outside.specs.Chains.{Chain}
-use Rattle.gx_outside.specs.Outside.{FlatSource, raised_by, offered_in}
+use Rattle.gx_outside.specs.Outside.{FlatSource, FlatSink, raised_by, offered_in}
+use Rattle.gx_outside.specs.Reads.{Read, SourceCall}
+use Rattle.gx_outside.specs.Sends.{SinkCall}
 use Rattle.gx_outside.specs.Shelves.{Request, Answer, Trace, ShelfCall}
 use Rattle.gx_session.specs.declared.ended.Ended.{Ended}
 use Rattle.gx_session.specs.Constants.{status_ended, status_fault, status_shelf_fault, status_input_fault}
@@ -13,11 +16,13 @@ use Rattle.gx_session.specs.declared.session.EndedOn.{EndedOn}
 use Rattle.gx_session.specs.declared.ends.Stop.TheVariants as stop
 use Rattle.gx_session.specs.Counts.{Counts}
 use Rattle.gx_session.specs.Cuts.{Cut, in_move, in_send, in_question, in_reading, IsCut, IsLineCut, BeginsSave}
-use Rattle.gx_session.specs.Cuts.{IsLineStop, AwaitedAt, LongAt, WantedBy, most_sent, sends_at, asked_by_cut}
+use Rattle.gx_session.specs.Cuts.{IsLineStop, AwaitedAt, LongAt, WantedBy, most_taken, sends_by_cut}
+use Rattle.gx_session.specs.Cuts.{asked_by_cut}
 use Rattle.gx_session.specs.Devices.{Devices}
 use Rattle.gx_session.specs.Endings.{last_of}
-use Rattle.gx_session.specs.Reading.{IsPartial}
+use Rattle.gx_session.specs.Reading.{IsPartial, bytes_read, HavePieces, SayEnd}
 use Rattle.gx_session.specs.Saving.{IsReadBack, SavesReadBack}
+use Rattle.gx_session.specs.Sending.{taken}
 use Rattle.gx_session.specs.Session.{Configuration, steps, Ending, sends_now, run_of, final_of, effect_at, asked_at}
 use Rattle.gx_session.specs.Session.{status_of, fault_number, fault_address}
 use Rattle.gx_session.specs.Recording.{Records}
@@ -63,14 +68,13 @@ IsFront xs ys = (more : List ℕ) × (ys ≡ xs ++ more)
 abbrev pub AreDrawn : Stream → Stream → Type 0
 AreDrawn words stream = (stream ≡ words) ⊎ (stream ≡ (next_u32 words).1)
 
--- The input that is left: what is to be read of the source, after the bytes that were read ahead. These are few, unless
+-- The input that is left: what is to come of the source, after the bytes that were read ahead. These are few, unless
 -- the line that was awaited is too long, or the source failed in it. Each read offered a piece and gave something, but
 -- for one that said that nothing is left, and one that failed. Where no line was taken and none was awaited at the end,
 -- the source wasn't asked.
-pub record LeavesInput (first input : List ℕ) (before now : FlatSource) (awaited long : Type 0)
+pub record LeavesInput (first input coming : List ℕ) (before now : FlatSource) (awaited long : Type 0)
     (failures : ℕ) : Type 0 where
   pub ahead : List ℕ
-  pub coming : List ℕ
   pub split : input ≡ ahead ++ coming
   pub left : now.tells ≡ true → coming ≡ now.left
   pub few : (long → ⊥) → failures ≡ 0 → length ahead < piece
@@ -106,7 +110,8 @@ abbrev pub read_failures : ℕ → ℕ
 read_failures status = if status == status_input_fault then 1 else 0
 
 -- The run came to its end: all text was sent, with the last screen, and all open files were stored.
-pub record EndsAt (start : Configuration) (e : Ending) (entry exit : Devices) (r : Report) : Type 0 where
+pub record EndsAt (start : Configuration) (e : Ending) (entry exit : Devices) (coming : List ℕ)
+    (r : Report) : Type 0 where
   pub status_is : r.status ≡ status_of e.stop
   pub fault_is : r.fault ≡ fault_number e.stop
   pub at_is : r.at ≡ fault_address e.stop e.configuration.machine
@@ -114,38 +119,42 @@ pub record EndsAt (start : Configuration) (e : Ending) (entry exit : Devices) (r
   pub machine_is : r.machine ≡ record { machine = e.configuration.machine; asking = asked_at e.stop e.configuration }
   pub log_is : r.log ≡ e.configuration.log
   pub text_is : entry.sink.tells ≡ true → exit.sink.taken ≡ entry.sink.taken ++ e.configuration.world.text
-  pub sends_are : exit.sink.calls.made ≡ raised_by (last_of e.configuration).sent.calls entry.sink.calls.made
+  pub sends_are : exit.sends ≡ map taken (last_of e.configuration).sent
   pub asked_are : exit.asked ≡ (last_of e.configuration).asked
-  pub input_is : LeavesInput start.input e.configuration.input entry.source exit.source (IsLineStop e.stop)
+  pub input_is : LeavesInput start.input e.configuration.input coming entry.source exit.source (IsLineStop e.stop)
       (e.stop ≡ stop.LineTooLong) 0
   pub words_are : AreDrawn e.configuration.words exit.words
   pub saves_are : SavedAll start
 
--- The run was cut short, with so many units left and this recorded. The text that was sent is a front of what was shown
--- by then: all that was due before, and some of a send that was refused. Where memory was wanted at a send, it was by the
--- last call of the sink. Where memory was wanted at a wait for a line, nothing is said of the input: more of it may have
--- been read.
-pub record StopsEarly (start : Configuration) (entry exit : Devices) (status left : ℕ) (machine : Whole)
-    (log : Option Log) : Type 0 where
+-- The run was cut short, with so many units left and this recorded, at a configuration whose text a front of was sent.
+-- The sends are those of the session up to there, and one that was refused. Where memory was wanted at a wait for a
+-- line, nothing is said of the input: more of it may have been read.
+pub record StopsEarly (start : Configuration) (entry exit : Devices) (coming : List ℕ) (status left : ℕ)
+    (machine : Whole) (log : Option Log) : Type 0 where
   pub cut : Cut
   pub configuration : Configuration
   pub is_cut : IsCut start cut configuration status machine.asking
-  pub wanted : status ≡ status_no_memory → WantedBy cut exit
   pub left_is : left ≡ configuration.left
   pub machine_is : machine.machine ≡ configuration.machine
   pub log_is : log ≡ configuration.log
   pub shown : IsFront configuration.world.text (final_of start).configuration.world.text
-  pub sent : ℕ
-  pub at_least : configuration.sent.bytes ≤ sent
-  pub at_most : sent ≤ most_sent cut configuration
-  pub text_is : entry.sink.tells ≡ true → exit.sink.taken ≡ entry.sink.taken ++ take sent configuration.world.text
-  pub sends_are : exit.sink.calls.made ≡ raised_by (sends_at cut configuration) entry.sink.calls.made
+  pub sent_of : IsFront (concat configuration.sent) configuration.world.text
+  pub sends_are : exit.sends ≡ sends_by_cut cut configuration status
   pub asked_are : exit.asked ≡ asked_by_cut cut configuration status
   pub input_is : (IsLineCut cut configuration → ⊥)
-      → LeavesInput start.input configuration.input entry.source exit.source (AwaitedAt start cut) (LongAt start cut)
-      (read_failures status)
+      → LeavesInput start.input configuration.input coming entry.source exit.source (AwaitedAt start cut)
+      (LongAt start cut) (read_failures status)
   pub words_are : AreDrawn configuration.words exit.words
   pub saves_are : SavedBy start cut
+
+-- What a sink that tells has taken then: all that was sent before, and a front of a send that was refused. Where memory
+-- was wanted at a send, it was by the last call of the sink.
+pub record TakesText (before now : FlatSink) (cut : Cut) (m : Configuration) (status : ℕ) : Type 0 where
+  pub wanted : status ≡ status_no_memory → WantedBy cut now
+  pub count : ℕ
+  pub at_least : length (concat m.sent) ≤ count
+  pub at_most : count ≤ most_taken cut m
+  pub text_is : before.tells ≡ true → now.taken ≡ before.taken ++ take count m.world.text
 
 -- The statuses of a run. A fault has a number from 1 to 16, and only a fault has one and an address.
 pub record IsReport (status fault at : ℕ) : Type 0 where
@@ -153,26 +162,41 @@ pub record IsReport (status fault at : ℕ) : Type 0 where
   pub fault_is : status ≡ status_fault → (1 ≤ fault) × (fault ≤ 16)
   pub no_fault : status ≢ status_fault → (fault ≡ 0) × (at ≡ 0)
 
--- The run is the session from a start. The statuses from `status_shelf_fault` on are those of a run that was cut short.
-pub record IsSession (start : Configuration) (entry exit : Devices) (r : Report) : Type 0 where
-  pub ended : r.status < status_shelf_fault → EndsAt start (final_of start) entry exit r
+-- The run is the session from a start, after which this is to come of the source. The statuses from
+-- `status_shelf_fault` on are those of a run that was cut short.
+pub record IsSession (start : Configuration) (entry exit : Devices) (coming : List ℕ) (r : Report) : Type 0 where
+  pub ended : r.status < status_shelf_fault → EndsAt start (final_of start) entry exit coming r
   pub early : status_shelf_fault ≤ r.status
-      → (left : ℕ) × (r.steps + left ≡ start.left) × StopsEarly start entry exit r.status left r.machine r.log
+      → (left : ℕ) × (r.steps + left ≡ start.left)
+      × (e : StopsEarly start entry exit coming r.status left r.machine r.log)
+      × TakesText entry.sink exit.sink e.cut e.configuration r.status
+
+-- The reads, each with room for a piece, gave the input but for what is to come, and all of it where one said that
+-- nothing is left.
+pub record GiveInput (reads : List Read) (input coming : List ℕ) : Type 0 where
+  pub pieces : HavePieces reads
+  pub given : input ≡ bytes_read reads ++ coming
+  pub end : SayEnd reads → coming ≡ []
 
 -- It is that with some input and some answers of the shelf: with what the source has left, where the source tells it,
--- and with what the shelf's files answer, where the shelf tells them. The session's calls of the shelf are those that
--- were made (`asked_are`), so that its answers are those that the shelf gave.
+-- and with what the shelf's files answer, where the shelf tells them. The input begins with the bytes that the reads
+-- gave. The session's calls of the shelf are those that were made (`asked_are`), so that its answers are those that the
+-- shelf gave.
 pub record IsSomeSession (start : Configuration) (entry exit : Devices) (r : Report) : Type 0 where
   pub input : List ℕ
   pub input_is : entry.source.tells ≡ true → input ≡ start.input
+  pub coming : List ℕ
+  pub read : GiveInput exit.reads input coming
   pub answers : Trace → Request → Answer
   pub answers_are : entry.shelf.tells ≡ true → answers ≡ start.answers
-  pub session : IsSession (record start { input = input; answers = answers }) entry exit r
+  pub session : IsSession (record start { input = input; answers = answers }) entry exit coming r
 
--- A RUN, between what the devices hold at entry and at exit: it is the session. What the shelf holds is what the calls
--- made of it.
+-- A RUN, between what the devices hold at entry and at exit: it is the session. What the devices hold is what the calls
+-- made of them.
 pub record IsRun (start : Configuration) (entry exit : Devices) (r : Report) : Type 0 where
   pub session : IsSomeSession start entry exit r
+  pub source_calls : Chain SourceCall entry.source exit.reads exit.source
+  pub sink_calls : Chain SinkCall entry.sink exit.sends exit.sink
   pub shelf_calls : Chain ShelfCall entry.shelf exit.asked exit.shelf
   pub counts : Counts entry exit r.status
   pub source_tells : exit.source.tells ≡ entry.source.tells

@@ -1,23 +1,28 @@
--- When the text of a session is sent, and how much of it was: each time all that is pending, in one call of the
--- sink.
-use Rattle.std.specs.Prelude.{ℕ, suc, ◌-◌, nat_le, if◌then◌else◌, Bool, List, length}
+-- When the text of a session is sent, and what was sent of it: each time all that is pending, in one call of the sink.
+use Rattle.std.specs.Prelude.{ℕ, nat_le, if◌then◌else◌, Bool, List, [], ◌∷◌, ◌++◌, drop, length, Ok}
+use Rattle.std.specs.List.{concat}
+use Rattle.gx_outside.specs.Sends.{Send}
 
--- What was sent of a text: how many bytes, in how many calls.
-pub record Sent : Type 0 where
-  pub bytes : ℕ
-  pub calls : ℕ
+-- What was sent of a text, call by call.
+abbrev pub Sent : Type 0
+Sent = List (List ℕ)
 
-abbrev pub none_sent : Sent
-none_sent = record { bytes = 0; calls = 0 }
+-- the rest of the text is pending
+abbrev pub pending : Sent → List ℕ → List ℕ
+pending s text = drop (length (concat s)) text
 
--- so many bytes of the text, or more, are pending
+-- so many bytes of it, or more
 abbrev pub is_due : ℕ → Sent → List ℕ → Bool
-is_due enough s text = nat_le enough (length text - s.bytes)
+is_due enough s text = nat_le enough (length (pending s text))
 
 -- all of the text is sent
 abbrev pub with_all : Sent → List ℕ → Sent
-with_all s text = record { bytes = length text; calls = suc s.calls }
+with_all s text = s ++ pending s text ∷ []
 
 -- the same where some of it is pending
 abbrev pub with_rest : Sent → List ℕ → Sent
 with_rest s text = if is_due 1 s text then with_all s text else s
+
+-- the call of the sink that took it whole
+abbrev pub taken : List ℕ → Send
+taken bytes = (bytes, Ok tt)

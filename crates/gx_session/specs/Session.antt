@@ -34,7 +34,7 @@ use Rattle.glk_replies.specs.Parts.{replies}
 use Rattle.gx_session.specs.Devices.{Devices}
 use Rattle.gx_session.specs.Saving.{saving, restoring}
 use Rattle.gx_session.specs.Input.{NextLine, too_long, none, line, next_line}
-use Rattle.gx_session.specs.Sending.{Sent, none_sent, is_due, with_all}
+use Rattle.gx_session.specs.Sending.{Sent, is_due, with_all}
 use Rattle.gx_session.specs.declared.ends.Stop.{Stop}
 use Rattle.gx_session.specs.declared.ends.Stop.TheVariants as stop
 use Rattle.gx_session.specs.Constants.{status_ended, status_fault, status_spent, status_input_ended, status_stuck}
@@ -56,7 +56,7 @@ pub record Configuration : Type 0 where
   pub machine : FlatMachine
   -- with all the text that was shown
   pub world : FlatWorld
-  -- how much of it was sent
+  -- what was sent of it, call by call
   pub sent : Sent
   -- the bytes of input that weren't taken
   pub input : List ℕ
@@ -297,7 +297,7 @@ abbrev pub start_of : FlatMachine → FlatWorld → Devices → Bool → ℕ →
 start_of machine world d echo left log = record {
   machine = machine;
   world = world;
-  sent = none_sent;
+  sent = [];
   input = d.source.left;
   echo = echo;
   answers = told_by d.shelf.files;

@@ -12,7 +12,8 @@ ghost use Rattle.gx_session.specs.Devices.{Devices, devices};
 ghost use Rattle.gx_session.specs.Questions.{AreTold};
 ghost use Rattle.gx_session.specs.Reading.{Fed};
 ghost use Rattle.gx_session.specs.Session.{Configuration};
-ghost use Rattle.gx_session.specs.Playing.{held, asking_in, Going, Follows, Done, EventGives, StopGives, EndingGives};
+ghost use Rattle.gx_session.specs.Playing.{held, Handed, handed, asking_in, Going, Follows, Done, EventGives};
+ghost use Rattle.gx_session.specs.Playing.{StopGives, EndingGives};
 ghost use Rattle.gx_session.specs.Playing.{RunGives, IsStop, IsNext, Leads, Keeps, Stores, StoresFiles};
 
 use crate::ends::{Halt, Next, Stop};
@@ -39,15 +40,15 @@ fn follow<A: Allocator + Clone, E: Engine<A>, S: Source, K: Sink, F: Shelf>(
     requires fewer { left ≤ run.old.left }
     requires room { left ≤ left_after (E.log run.old.engine) (E.whole run.old.engine) }
     ensures plays { IsCalled F.called shelf.old shelf.new
-        (λ asked. Fed run.old.lines run.new.lines (S.seen input.old) (S.seen input.new)
-        (λ coming after. (start : Configuration) (entry d : Devices)
+        (λ asked. Fed S.called S.seen run.old.lines run.new.lines input.old input.new
+        (λ coming after. (start : Configuration) (entry d : Handed K.called)
         → AreTold start.answers d.asked asked
         → Follows start entry (held E.whole E.log run.old coming)
-        (record d { source = S.seen input.old; sink = K.seen output.old; shelf = F.seen shelf.old }) left effect
+        (record d { source = S.seen input.old; sink = output.old; shelf = F.seen shelf.old }) left effect
         → EventGives start entry (held E.whole E.log run.new after) (asking_in E.whole run.new)
         (record d {
           source = S.seen input.new;
-          sink = K.seen output.new;
+          sink = output.new;
           shelf = F.seen shelf.new;
           asked = d.asked
               ++ asked;
@@ -106,21 +107,21 @@ fn play_step<A: Allocator + Clone, E: Engine<A>, S: Source, K: Sink, F: Shelf, R
     requires none { (E.whole run.old.engine).asking ≡ None }
     requires room { run.old.left ≤ units_left (E.log run.old.engine) }
     ensures plays { IsCalled F.called shelf.old shelf.new
-        (λ asked. Fed run.old.lines run.new.lines (S.seen input.old) (S.seen input.new)
-        (λ coming after. (start : Configuration) (entry : Devices) (before : Trace)
+        (λ asked. Fed S.called S.seen run.old.lines run.new.lines input.old input.new
+        (λ coming after. (start : Configuration) (entry : Handed K.called) (before : Trace)
         → AreTold start.answers before asked
         → Going start entry (held E.whole E.log run.old coming)
-        (devices (S.seen input.old) (K.seen output.old) (F.seen shelf.old) (R.stream dice.old) before)
+        (handed (S.seen input.old) output.old (F.seen shelf.old) (R.stream dice.old) before)
         → EventGives start entry (held E.whole E.log run.new after) (asking_in E.whole run.new)
-        (devices (S.seen input.new) (K.seen output.new) (F.seen shelf.new) (R.stream dice.new) (before ++ asked))
+        (handed (S.seen input.new) output.new (F.seen shelf.new) (R.stream dice.new) (before ++ asked))
         result)) }
     ensures none { result ≡ Ok Next.Goes → (E.whole run.new.engine).asking ≡ None }
     ensures room { result ≡ Ok Next.Goes → run.new.left ≤ units_left (E.log run.new.engine) }
     ensures nearer { result ≡ Ok Next.Goes → run.new.left < run.old.left }
     ensures no_more { run.new.left ≤ run.old.left }
     ensures stop { IfOk result IsNext }
-    ensures keeps { Keeps (devices (S.seen input.old) (K.seen output.old) (F.seen shelf.old) (R.stream dice.old) [])
-        (devices (S.seen input.new) (K.seen output.new) (F.seen shelf.new) (R.stream dice.new) []) result }
+    ensures keeps { Keeps (devices (S.seen input.old) (K.seen output.old) (F.seen shelf.old) (R.stream dice.old) [] [] [])
+        (devices (S.seen input.new) (K.seen output.new) (F.seen shelf.new) (R.stream dice.new) [] [] []) result }
 {
     let word = draw(&mut run.word, dice);
     let mut left = 0;
@@ -141,21 +142,21 @@ fn play_event<A: Allocator + Clone, E: Engine<A>, S: Source, K: Sink, F: Shelf, 
     requires none { (E.whole run.old.engine).asking ≡ None }
     requires room { run.old.left ≤ units_left (E.log run.old.engine) }
     ensures plays { IsCalled F.called shelf.old shelf.new
-        (λ asked. Fed run.old.lines run.new.lines (S.seen input.old) (S.seen input.new)
-        (λ coming after. (start : Configuration) (entry : Devices) (before : Trace)
+        (λ asked. Fed S.called S.seen run.old.lines run.new.lines input.old input.new
+        (λ coming after. (start : Configuration) (entry : Handed K.called) (before : Trace)
         → AreTold start.answers before asked
         → Going start entry (held E.whole E.log run.old coming)
-        (devices (S.seen input.old) (K.seen output.old) (F.seen shelf.old) (R.stream dice.old) before)
+        (handed (S.seen input.old) output.old (F.seen shelf.old) (R.stream dice.old) before)
         → EventGives start entry (held E.whole E.log run.new after) (asking_in E.whole run.new)
-        (devices (S.seen input.new) (K.seen output.new) (F.seen shelf.new) (R.stream dice.new) (before ++ asked))
+        (handed (S.seen input.new) output.new (F.seen shelf.new) (R.stream dice.new) (before ++ asked))
         result)) }
     ensures none { result ≡ Ok Next.Goes → (E.whole run.new.engine).asking ≡ None }
     ensures room { result ≡ Ok Next.Goes → run.new.left ≤ units_left (E.log run.new.engine) }
     ensures nearer { result ≡ Ok Next.Goes → run.new.left < run.old.left }
     ensures no_more { run.new.left ≤ run.old.left }
     ensures stop { IfOk result IsNext }
-    ensures keeps { Keeps (devices (S.seen input.old) (K.seen output.old) (F.seen shelf.old) (R.stream dice.old) [])
-        (devices (S.seen input.new) (K.seen output.new) (F.seen shelf.new) (R.stream dice.new) []) result }
+    ensures keeps { Keeps (devices (S.seen input.old) (K.seen output.old) (F.seen shelf.old) (R.stream dice.old) [] [] [])
+        (devices (S.seen input.new) (K.seen output.new) (F.seen shelf.new) (R.stream dice.new) [] [] []) result }
 {
     match run.engine.next_put(run.left) {
         Some(c) => {
@@ -178,18 +179,18 @@ fn play_events<A: Allocator + Clone, E: Engine<A>, S: Source, K: Sink, F: Shelf,
     requires none { (E.whole run.old.engine).asking ≡ None }
     requires room { run.old.left ≤ units_left (E.log run.old.engine) }
     ensures plays { IsCalled F.called shelf.old shelf.new
-        (λ asked. Fed run.old.lines run.new.lines (S.seen input.old) (S.seen input.new)
-        (λ coming after. (start : Configuration) (entry : Devices) (before : Trace)
+        (λ asked. Fed S.called S.seen run.old.lines run.new.lines input.old input.new
+        (λ coming after. (start : Configuration) (entry : Handed K.called) (before : Trace)
         → AreTold start.answers before asked
         → Going start entry (held E.whole E.log run.old coming)
-        (devices (S.seen input.old) (K.seen output.old) (F.seen shelf.old) (R.stream dice.old) before)
+        (handed (S.seen input.old) output.old (F.seen shelf.old) (R.stream dice.old) before)
         → StopGives start entry (held E.whole E.log run.new after) (asking_in E.whole run.new)
-        (devices (S.seen input.new) (K.seen output.new) (F.seen shelf.new) (R.stream dice.new) (before ++ asked))
+        (handed (S.seen input.new) output.new (F.seen shelf.new) (R.stream dice.new) (before ++ asked))
         result)) }
     ensures no_more { run.new.left ≤ run.old.left }
     ensures stop { IfOk result IsStop }
-    ensures keeps { Keeps (devices (S.seen input.old) (K.seen output.old) (F.seen shelf.old) (R.stream dice.old) [])
-        (devices (S.seen input.new) (K.seen output.new) (F.seen shelf.new) (R.stream dice.new) []) result }
+    ensures keeps { Keeps (devices (S.seen input.old) (K.seen output.old) (F.seen shelf.old) (R.stream dice.old) [] [] [])
+        (devices (S.seen input.new) (K.seen output.new) (F.seen shelf.new) (R.stream dice.new) [] [] []) result }
 {
     loop {
         match play_event(run, input, output, shelf, dice)? {
@@ -238,11 +239,11 @@ fn end<A: Allocator + Clone, E: Engine<A>, K: Sink, F: Shelf>(
     shelf: &mut F,
 ) -> Result<(), Halt>
     ensures plays { IsCalled F.called shelf.old shelf.new
-        (λ asked. (coming : List ℕ) (start : Configuration) (entry d : Devices) (stop : Stop)
+        (λ asked. (coming : List ℕ) (start : Configuration) (entry d : Handed K.called) (stop : Stop)
         → Done start entry (held E.whole E.log run.old coming) (asking_in E.whole run.old)
-        (record d { sink = K.seen output.old; shelf = F.seen shelf.old }) stop
+        (record d { sink = output.old; shelf = F.seen shelf.old }) stop
         → EndingGives start entry (held E.whole E.log run.new coming) (asking_in E.whole run.new)
-        (record d { sink = K.seen output.new; shelf = F.seen shelf.new; asked = d.asked ++ asked }) stop result) }
+        (record d { sink = output.new; shelf = F.seen shelf.new; asked = d.asked ++ asked }) stop result) }
     ensures same { run.new ≡ record run.old { world = run.new.world } }
     ensures keeps { (d : Devices) → Keeps (record d { sink = K.seen output.old; shelf = F.seen shelf.old })
         (record d { sink = K.seen output.new; shelf = F.seen shelf.new }) result }
@@ -264,18 +265,18 @@ pub fn play_out<A: Allocator + Clone, E: Engine<A>, S: Source, K: Sink, F: Shelf
     requires none { (E.whole run.old.engine).asking ≡ None }
     requires room { run.old.left ≤ units_left (E.log run.old.engine) }
     ensures plays { IsCalled F.called shelf.old shelf.new
-        (λ asked. Fed run.old.lines run.new.lines (S.seen input.old) (S.seen input.new)
-        (λ coming after. (start : Configuration) (entry : Devices) (before : Trace)
+        (λ asked. Fed S.called S.seen run.old.lines run.new.lines input.old input.new
+        (λ coming after. (start : Configuration) (entry : Handed K.called) (before : Trace)
         → AreTold start.answers before asked
         → Going start entry (held E.whole E.log run.old coming)
-        (devices (S.seen input.old) (K.seen output.old) (F.seen shelf.old) (R.stream dice.old) before)
+        (handed (S.seen input.old) output.old (F.seen shelf.old) (R.stream dice.old) before)
         → RunGives start entry (held E.whole E.log run.new after) (asking_in E.whole run.new)
-        (devices (S.seen input.new) (K.seen output.new) (F.seen shelf.new) (R.stream dice.new) (before ++ asked))
+        (handed (S.seen input.new) output.new (F.seen shelf.new) (R.stream dice.new) (before ++ asked))
         result)) }
     ensures no_more { run.new.left ≤ run.old.left }
     ensures stop { IfOk result IsStop }
-    ensures keeps { Keeps (devices (S.seen input.old) (K.seen output.old) (F.seen shelf.old) (R.stream dice.old) [])
-        (devices (S.seen input.new) (K.seen output.new) (F.seen shelf.new) (R.stream dice.new) []) result }
+    ensures keeps { Keeps (devices (S.seen input.old) (K.seen output.old) (F.seen shelf.old) (R.stream dice.old) [] [] [])
+        (devices (S.seen input.new) (K.seen output.new) (F.seen shelf.new) (R.stream dice.new) [] [] []) result }
 {
     let stop = play_events(run, input, output, shelf, dice)?;
     end(alloc, run, output, shelf)?;

@@ -6,9 +6,9 @@
 //! a restore are, specs/Endings what is sent and stored at the end, specs/Cuts how a run is cut short, and
 //! specs/Runs what a run reports and leaves behind (`IsRun`). A run is the definition's, to its status, fault,
 //! place, steps, machine, record, text, files and the calls of the sink and the shelf, unless a device fails or
-//! memory runs out; then it stands at one of the definition's configurations, and a front of the text that was
-//! shown by then was sent. Two laws are handed out with each run: specs/Undoing says which copies are kept for undo,
-//! and specs/Recording which machines are recorded.
+//! memory runs out; then it stands at one of the definition's configurations, and its calls are those up to there.
+//! Two laws are handed out with each run: specs/Undoing says which copies are kept for undo, and specs/Recording
+//! which machines are recorded.
 //!
 //! - `lines` takes lines of a source. It reads no further than it has to.
 //! - `questions` asks the shelf what a Glk call wants of it.

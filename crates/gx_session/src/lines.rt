@@ -9,7 +9,7 @@ ghost use Rattle.std.specs.List.{position_or_len};
 ghost use Rattle.gx_outside.specs.Outside.{HasCause, offered_by};
 ghost use Rattle.gx_session.specs.Constants.{longest, piece as one_piece};
 ghost use Rattle.gx_session.specs.Input.{is_line_feed, chars_of};
-ghost use Rattle.gx_session.specs.Reading.{Fed, Takes, HoldsFew, IsWhole, Fills, is_failed};
+ghost use Rattle.gx_session.specs.Reading.{Fed, Takes, HoldsFew, IsWhole, FillsBy, is_failed};
 ghost use Rattle.gx_session.specs.Counts.{Blames};
 
 use bstr::ByteSlice;
@@ -143,7 +143,7 @@ impl Lines {
     fn fill<S: Source>(&mut self, source: &mut S) -> Result<(), NoLine>
         requires going { self.old.ended ≡ false }
         requires short { length self.old.held < longest }
-        ensures grows { Fills self.old self.new (S.seen source.old) (S.seen source.new) result }
+        ensures fills { FillsBy S.called S.seen self.old self.new source.old source.new result }
         ensures count { HasCause (S.seen source.old).calls (S.seen source.new).calls (is_failed result) false }
         ensures offered { (S.seen source.new).offered ≡ offered_by one_piece (S.seen source.old).offered }
         ensures tells { (S.seen source.new).tells ≡ (S.seen source.old).tells }
@@ -164,7 +164,7 @@ impl Lines {
 impl Lines {
     /// Takes the next line of the source: its characters.
     pub fn next<S: Source>(&mut self, source: &mut S) -> Result<Numbers, NoLine>
-        ensures takes { Fed self.old self.new (S.seen source.old) (S.seen source.new)
+        ensures takes { Fed S.called S.seen self.old self.new source.old source.new
             (λ coming after. Takes self.old self.new (S.seen source.old) (S.seen source.new) coming after result) }
         ensures few { length self.old.held < one_piece → HoldsFew self.new.held result }
         ensures unread { IsWhole self.old.held → S.seen source.new ≡ S.seen source.old }

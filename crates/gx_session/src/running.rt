@@ -12,7 +12,8 @@ ghost use Rattle.gx_session.specs.Counts.{Blames};
 ghost use Rattle.gx_session.specs.Cuts.{ReplyWants};
 ghost use Rattle.gx_session.specs.Devices.{Devices};
 ghost use Rattle.gx_session.specs.Session.{Configuration, steps};
-ghost use Rattle.gx_session.specs.Playing.{held, asking_in, WordIs, Standing, Replies, EventGives, IsNext, Flushes};
+ghost use Rattle.gx_session.specs.Playing.{held, Handed, asking_in, WordIs, Standing, Replies, EventGives, IsNext};
+ghost use Rattle.gx_session.specs.Playing.{Flushes};
 ghost use Rattle.gx_session.specs.Playing.{TakesReply, FaultGives, Leads, Keeps};
 ghost use Rattle.rand_core.specs.Stream.{Stream};
 
@@ -56,7 +57,7 @@ pub struct Waiting {
 
 /// Sends the pending text where it has so many bytes or more.
 pub fn flush<K: Sink>(world: &mut World, output: &mut K, enough: usize) -> Result<(), Halt>
-    ensures sends { Flushes enough (K.seen output.old) (K.seen output.new) world.old world.new result }
+    ensures sends { Flushes K.called enough output.old output.new world.old world.new result }
     ensures count { Blames (K.seen output.old).calls (K.seen output.new).calls (result ≡ Err Halt.Output) }
     ensures tells { (K.seen output.new).tells ≡ (K.seen output.old).tells }
     ensures only { IfErr result (λ halt. (halt ≡ Halt.Output) ⊎ (halt ≡ Halt.NoMemory)) }
@@ -121,10 +122,10 @@ fn send_due<A: Allocator + Clone, E: Engine<A>, K: Sink>(
     output: &mut K,
 ) -> Result<Next, Halt>
     requires { (E.whole run.old.engine).asking ≡ None }
-    ensures plays { (coming : List ℕ) (start : Configuration) (entry d : Devices)
-        → Standing start entry (held E.whole E.log run.old coming) (record d { sink = K.seen output.old }) steps
+    ensures plays { (coming : List ℕ) (start : Configuration) (entry d : Handed K.called)
+        → Standing start entry (held E.whole E.log run.old coming) (record d { sink = output.old }) steps
         → EventGives start entry (held E.whole E.log run.new coming) (asking_in E.whole run.new)
-        (record d { sink = K.seen output.new }) result }
+        (record d { sink = output.new }) result }
     ensures same { run.new ≡ record run.old { world = run.new.world } }
     ensures goes { IfOk result (λ next. next ≡ Next.Goes) }
     ensures keeps { (d : Devices) → Keeps (record d { sink = K.seen output.old })
@@ -144,11 +145,11 @@ pub fn answer<A: Allocator + Clone, E: Engine<A>, K: Sink>(
     requires fits { IsAnswer (E.whole run.old.engine) reply.now }
     requires fewer { left ≤ run.old.left }
     requires room { left ≤ left_after (E.log run.old.engine) (E.whole run.old.engine) }
-    ensures plays { (coming : List ℕ) (start : Configuration) (entry d : Devices)
+    ensures plays { (coming : List ℕ) (start : Configuration) (entry d : Handed K.called)
         → Replies start entry (held E.whole E.log run.old coming) (asking_in E.whole run.old)
-        (record d { sink = K.seen output.old }) left reply.now
+        (record d { sink = output.old }) left reply.now
         → EventGives start entry (held E.whole E.log run.new coming) (asking_in E.whole run.new)
-        (record d { sink = K.seen output.new }) result }
+        (record d { sink = output.new }) result }
     ensures leads { Leads E.whole E.log run.old run.new left result }
     ensures keeps { (d : Devices) → Keeps (record d { sink = K.seen output.old })
         (record d { sink = K.seen output.new }) result }
@@ -180,11 +181,11 @@ pub fn answer_put<A: Allocator + Clone, E: Engine<A>, K: Sink>(
     requires asks { (E.whole run.old.engine).asking ≡ Some asking.Put }
     requires fewer { left ≤ run.old.left }
     requires room { left ≤ left_after (E.log run.old.engine) (E.whole run.old.engine) }
-    ensures plays { (coming : List ℕ) (start : Configuration) (entry d : Devices)
+    ensures plays { (coming : List ℕ) (start : Configuration) (entry d : Handed K.called)
         → Replies start entry (held E.whole E.log run.old coming) (asking_in E.whole run.old)
-        (record d { sink = K.seen output.old }) left (replies 0)
+        (record d { sink = output.old }) left (replies 0)
         → EventGives start entry (held E.whole E.log run.new coming) (asking_in E.whole run.new)
-        (record d { sink = K.seen output.new }) result }
+        (record d { sink = output.new }) result }
     ensures leads { Leads E.whole E.log run.old run.new left result }
     ensures keeps { (d : Devices) → Keeps (record d { sink = K.seen output.old })
         (record d { sink = K.seen output.new }) result }

@@ -14,7 +14,8 @@ ghost use Rattle.glk_world.specs.World.{on_world};
 ghost use Rattle.glk_replies.specs.Parts.{replies};
 ghost use Rattle.gx_session.specs.Constants.{failed as failed_value};
 ghost use Rattle.gx_session.specs.Devices.{Devices};
-ghost use Rattle.gx_session.specs.Playing.{held, asking_in, Follows, GoesBack, Becomes, MaySave, Refuses, EventGives};
+ghost use Rattle.gx_session.specs.Playing.{held, Handed, asking_in, Follows, GoesBack, Becomes, MaySave, Refuses};
+ghost use Rattle.gx_session.specs.Playing.{EventGives};
 ghost use Rattle.gx_session.specs.Playing.{Leads, Keeps};
 ghost use Rattle.gx_session.specs.Saving.{may_take, is_begun, is_read, saving, restoring, IsReadBack, SavesReadBack};
 ghost use Rattle.gx_session.specs.Session.{Configuration};
@@ -90,11 +91,11 @@ pub fn ask_save<A: Allocator + Clone, E: Engine<A>, K: Sink>(
     requires asks { (E.whole run.old.engine).asking ≡ asking_of (effect.Save stream) }
     requires fewer { left ≤ run.old.left }
     requires room { left ≤ left_after (E.log run.old.engine) (E.whole run.old.engine) }
-    ensures plays { (coming : List ℕ) (start : Configuration) (entry d : Devices)
-        → Follows start entry (held E.whole E.log run.old coming) (record d { sink = K.seen output.old }) left
+    ensures plays { (coming : List ℕ) (start : Configuration) (entry d : Handed K.called)
+        → Follows start entry (held E.whole E.log run.old coming) (record d { sink = output.old }) left
         (effect.Save stream)
         → EventGives start entry (held E.whole E.log run.new coming) (asking_in E.whole run.new)
-        (record d { sink = K.seen output.new }) result }
+        (record d { sink = output.new }) result }
     ensures leads { Leads E.whole E.log run.old run.new left result }
     ensures keeps { (d : Devices) → Keeps (record d { sink = K.seen output.old })
         (record d { sink = K.seen output.new }) result }
@@ -167,11 +168,11 @@ fn resume<A: Allocator + Clone, E: Engine<A>, K: Sink>(
     requires fits { IsCopyFor (E.whole run.old.engine).machine.flat.story copy.now }
     requires fewer { left ≤ run.old.left }
     requires room { left ≤ left_after (E.log run.old.engine) (E.whole run.old.engine) }
-    ensures plays { (coming : List ℕ) (start : Configuration) (entry d : Devices)
+    ensures plays { (coming : List ℕ) (start : Configuration) (entry d : Handed K.called)
         → GoesBack start entry (held E.whole E.log run.old coming) (asking_in E.whole run.old)
-        (record d { sink = K.seen output.old }) left copy.now
+        (record d { sink = output.old }) left copy.now
         → EventGives start entry (held E.whole E.log run.new coming) (asking_in E.whole run.new)
-        (record d { sink = K.seen output.new }) result }
+        (record d { sink = output.new }) result }
     ensures leads { Leads E.whole E.log run.old run.new left result }
     ensures keeps { (d : Devices) → Keeps (record d { sink = K.seen output.old })
         (record d { sink = K.seen output.new }) result }
@@ -192,11 +193,11 @@ pub fn ask_restore<A: Allocator + Clone, E: Engine<A>, K: Sink>(
     requires asks { (E.whole run.old.engine).asking ≡ asking_of (effect.Restore stream) }
     requires fewer { left ≤ run.old.left }
     requires room { left ≤ left_after (E.log run.old.engine) (E.whole run.old.engine) }
-    ensures plays { (coming : List ℕ) (start : Configuration) (entry d : Devices)
-        → Follows start entry (held E.whole E.log run.old coming) (record d { sink = K.seen output.old }) left
+    ensures plays { (coming : List ℕ) (start : Configuration) (entry d : Handed K.called)
+        → Follows start entry (held E.whole E.log run.old coming) (record d { sink = output.old }) left
         (effect.Restore stream)
         → EventGives start entry (held E.whole E.log run.new coming) (asking_in E.whole run.new)
-        (record d { sink = K.seen output.new }) result }
+        (record d { sink = output.new }) result }
     ensures leads { Leads E.whole E.log run.old run.new left result }
     ensures keeps { (d : Devices) → Keeps (record d { sink = K.seen output.old })
         (record d { sink = K.seen output.new }) result }

@@ -69,10 +69,12 @@ pub fn run_on<A: Allocator + Clone, E: Engine<A>, S: Source, K: Sink, F: Shelf, 
     requires asks_nothing { (E.whole engine).asking ≡ None }
     requires room { steps ≤ units_left (E.log engine) }
     requires no_text { world.text ≡ [] }
-    ensures { IsCalled F.called shelf.old shelf.new (λ asked.
-        let entry = devices (S.seen input.old) (K.seen output.old) (F.seen shelf.old) (R.stream dice.old) [] in
-        let exit = devices (S.seen input.new) (K.seen output.new) (F.seen shelf.new) (R.stream dice.new) asked in
-        IsRun (start_of (E.whole engine).machine world entry echo steps (E.log engine)) entry exit (report_on E.whole E.log result)) }
+    ensures { IsCalled S.called input.old input.new (λ reads. IsCalled K.called output.old output.new (λ sends.
+        IsCalled F.called shelf.old shelf.new (λ asked.
+        let entry = devices (S.seen input.old) (K.seen output.old) (F.seen shelf.old) (R.stream dice.old) [] [] [] in
+        let exit = devices (S.seen input.new) (K.seen output.new) (F.seen shelf.new) (R.stream dice.new) reads sends
+        asked in
+        IsRun (start_of (E.whole engine).machine world entry echo steps (E.log engine)) entry exit (report_on E.whole E.log result)))) }
 {
     saves_read_back(&engine);
     let mut run = Running {
@@ -125,10 +127,12 @@ pub fn run<A: Allocator + Clone, S: Source, K: Sink, F: Shelf, R: Rng>(
 ) -> Ended<A>
     requires asks_nothing { machine.asking ≡ None }
     requires no_text { world.text ≡ [] }
-    ensures { IsCalled F.called shelf.old shelf.new (λ asked.
-        let entry = devices (S.seen input.old) (K.seen output.old) (F.seen shelf.old) (R.stream dice.old) [] in
-        let exit = devices (S.seen input.new) (K.seen output.new) (F.seen shelf.new) (R.stream dice.new) asked in
-        IsSomeAnd result.machine (λ end. IsRun (start_of machine.machine world entry echo steps None) entry exit (report_of result end))) }
+    ensures { IsCalled S.called input.old input.new (λ reads. IsCalled K.called output.old output.new (λ sends.
+        IsCalled F.called shelf.old shelf.new (λ asked.
+        let entry = devices (S.seen input.old) (K.seen output.old) (F.seen shelf.old) (R.stream dice.old) [] [] [] in
+        let exit = devices (S.seen input.new) (K.seen output.new) (F.seen shelf.new) (R.stream dice.new) reads sends
+        asked in
+        IsSomeAnd result.machine (λ end. IsRun (start_of machine.machine world entry echo steps None) entry exit (report_of result end))))) }
 {
     let ended = run_on(
         alloc, machine, world, echo, steps, input, output, shelf, dice,

@@ -17,7 +17,8 @@ ghost use Rattle.gx_session.specs.Devices.{Devices};
 ghost use Rattle.gx_session.specs.Questions.{turn_of, AreTold};
 ghost use Rattle.gx_session.specs.Reading.{Fed};
 ghost use Rattle.gx_session.specs.Session.{Configuration, asks, goes_on};
-ghost use Rattle.gx_session.specs.Playing.{held, asking_in, Follows, Waits, Turns, GoesOn, TakesInput, EventGives};
+ghost use Rattle.gx_session.specs.Playing.{held, Handed, asking_in, Follows, Waits, Turns, GoesOn, TakesInput};
+ghost use Rattle.gx_session.specs.Playing.{EventGives};
 ghost use Rattle.gx_session.specs.Playing.{Leads, Keeps, without_line};
 
 use crate::ends::{Halt, Next, Stop};
@@ -42,10 +43,10 @@ pub fn ask_put<A: Allocator + Clone, E: Engine<A>, K: Sink>(
     requires asks { (E.whole run.old.engine).asking ≡ asking_of (Put c) }
     requires fewer { left ≤ run.old.left }
     requires room { left ≤ left_after (E.log run.old.engine) (E.whole run.old.engine) }
-    ensures plays { (coming : List ℕ) (start : Configuration) (entry d : Devices)
-        → Follows start entry (held E.whole E.log run.old coming) (record d { sink = K.seen output.old }) left (Put c)
+    ensures plays { (coming : List ℕ) (start : Configuration) (entry d : Handed K.called)
+        → Follows start entry (held E.whole E.log run.old coming) (record d { sink = output.old }) left (Put c)
         → EventGives start entry (held E.whole E.log run.new coming) (asking_in E.whole run.new)
-        (record d { sink = K.seen output.new }) result }
+        (record d { sink = output.new }) result }
     ensures leads { Leads E.whole E.log run.old run.new left result }
     ensures keeps { (d : Devices) → Keeps (record d { sink = K.seen output.old })
         (record d { sink = K.seen output.new }) result }
@@ -69,10 +70,10 @@ fn ask_any_put<A: Allocator + Clone, E: Engine<A>, K: Sink>(
     requires asks { (E.whole run.old.engine).asking ≡ asking_of (Put c) }
     requires fewer { left ≤ run.old.left }
     requires room { left ≤ left_after (E.log run.old.engine) (E.whole run.old.engine) }
-    ensures plays { (coming : List ℕ) (start : Configuration) (entry d : Devices)
-        → Follows start entry (held E.whole E.log run.old coming) (record d { sink = K.seen output.old }) left (Put c)
+    ensures plays { (coming : List ℕ) (start : Configuration) (entry d : Handed K.called)
+        → Follows start entry (held E.whole E.log run.old coming) (record d { sink = output.old }) left (Put c)
         → EventGives start entry (held E.whole E.log run.new coming) (asking_in E.whole run.new)
-        (record d { sink = K.seen output.new }) result }
+        (record d { sink = output.new }) result }
     ensures leads { Leads E.whole E.log run.old run.new left result }
     ensures keeps { (d : Devices) → Keeps (record d { sink = K.seen output.old })
         (record d { sink = K.seen output.new }) result }
@@ -96,11 +97,11 @@ fn take_answer<A: Allocator + Clone, E: Engine<A>, K: Sink>(
     requires fits { IsTurnFor (E.whole run.old.engine).machine.flat wait.room turn }
     requires fewer { wait.left ≤ run.old.left }
     requires room { wait.left ≤ left_after (E.log run.old.engine) (E.whole run.old.engine) }
-    ensures plays { (coming : List ℕ) (start : Configuration) (entry d : Devices)
+    ensures plays { (coming : List ℕ) (start : Configuration) (entry d : Handed K.called)
         → GoesOn start entry (held E.whole E.log run.old coming) (asking_in E.whole run.old)
-        (record d { sink = K.seen output.old }) wait turn
+        (record d { sink = output.old }) wait turn
         → EventGives start entry (held E.whole E.log run.new coming) (asking_in E.whole run.new)
-        (record d { sink = K.seen output.new }) result }
+        (record d { sink = output.new }) result }
     ensures leads { Leads E.whole E.log run.old run.new wait.left result }
     ensures keeps { (d : Devices) → Keeps (record d { sink = K.seen output.old })
         (record d { sink = K.seen output.new }) result }
@@ -123,11 +124,11 @@ fn go_on<A: Allocator + Clone, E: Engine<A>, K: Sink>(
     requires awaits { Awaits run.old.world.scene given }
     requires fewer { wait.left ≤ run.old.left }
     requires room { wait.left ≤ left_after (E.log run.old.engine) (E.whole run.old.engine) }
-    ensures plays { (coming : List ℕ) (start : Configuration) (entry d : Devices)
+    ensures plays { (coming : List ℕ) (start : Configuration) (entry d : Handed K.called)
         → Waits start entry (held E.whole E.log run.old coming) (asking_in E.whole run.old)
-        (record d { sink = K.seen output.old }) (goes_on given wait)
+        (record d { sink = output.old }) (goes_on given wait)
         → EventGives start entry (held E.whole E.log run.new coming) (asking_in E.whole run.new)
-        (record d { sink = K.seen output.new }) result }
+        (record d { sink = output.new }) result }
     ensures leads { Leads E.whole E.log run.old run.new wait.left result }
     ensures keeps { (d : Devices) → Keeps (record d { sink = K.seen output.old })
         (record d { sink = K.seen output.new }) result }
@@ -152,12 +153,12 @@ fn consult<A: Allocator + Clone, E: Engine<A>, K: Sink, F: Shelf>(
     requires fewer { wait.left ≤ run.old.left }
     requires room { wait.left ≤ left_after (E.log run.old.engine) (E.whole run.old.engine) }
     ensures plays { IsCalled F.called shelf.old shelf.new
-        (λ asked. (coming : List ℕ) (start : Configuration) (entry d : Devices)
+        (λ asked. (coming : List ℕ) (start : Configuration) (entry d : Handed K.called)
         → AreTold start.answers d.asked asked
         → Waits start entry (held E.whole E.log run.old coming) (asking_in E.whole run.old)
-        (record d { sink = K.seen output.old; shelf = F.seen shelf.old }) (asks (turn_of question) wait)
+        (record d { sink = output.old; shelf = F.seen shelf.old }) (asks (turn_of question) wait)
         → EventGives start entry (held E.whole E.log run.new coming) (asking_in E.whole run.new)
-        (record d { sink = K.seen output.new; shelf = F.seen shelf.new; asked = d.asked ++ asked }) result) }
+        (record d { sink = output.new; shelf = F.seen shelf.new; asked = d.asked ++ asked }) result) }
     ensures leads { Leads E.whole E.log run.old run.new wait.left result }
     ensures keeps { (d : Devices) → Keeps (record d { sink = K.seen output.old; shelf = F.seen shelf.old })
         (record d { sink = K.seen output.new; shelf = F.seen shelf.new }) result }
@@ -195,11 +196,11 @@ fn take_line<A: Allocator + Clone, E: Engine<A>, K: Sink>(
     requires awaits { Awaits run.old.world.scene (given.Line line) }
     requires fewer { wait.left ≤ run.old.left }
     requires room { wait.left ≤ left_after (E.log run.old.engine) (E.whole run.old.engine) }
-    ensures plays { (coming : List ℕ) (start : Configuration) (entry d : Devices)
+    ensures plays { (coming : List ℕ) (start : Configuration) (entry d : Handed K.called)
         → TakesInput start entry (held E.whole E.log run.old coming) (asking_in E.whole run.old)
-        (record d { sink = K.seen output.old }) line wait
+        (record d { sink = output.old }) line wait
         → EventGives start entry (held E.whole E.log run.new coming) (asking_in E.whole run.new)
-        (record d { sink = K.seen output.new }) result }
+        (record d { sink = output.new }) result }
     ensures leads { Leads E.whole E.log run.old run.new wait.left result }
     ensures keeps { (d : Devices) → Keeps (record d { sink = K.seen output.old })
         (record d { sink = K.seen output.new }) result }
@@ -232,13 +233,13 @@ fn await_line<A: Allocator + Clone, E: Engine<A>, S: Source, K: Sink>(
     requires awaits { (line : List ℕ) → Awaits run.old.world.scene (given.Line line) }
     requires fewer { wait.left ≤ run.old.left }
     requires room { wait.left ≤ left_after (E.log run.old.engine) (E.whole run.old.engine) }
-    ensures plays { Fed run.old.lines run.new.lines (S.seen input.old) (S.seen input.new)
-        (λ coming after. (turn : Turn) (start : Configuration) (entry d : Devices)
+    ensures plays { Fed S.called S.seen run.old.lines run.new.lines input.old input.new
+        (λ coming after. (turn : Turn) (start : Configuration) (entry d : Handed K.called)
         → IsWait turn
         → Waits start entry (held E.whole E.log run.old coming) (asking_in E.whole run.old)
-        (record d { source = S.seen input.old; sink = K.seen output.old }) (asks turn wait)
+        (record d { source = S.seen input.old; sink = output.old }) (asks turn wait)
         → EventGives start entry (held E.whole E.log run.new after) (asking_in E.whole run.new)
-        (record d { source = S.seen input.new; sink = K.seen output.new }) result) }
+        (record d { source = S.seen input.new; sink = output.new }) result) }
     ensures leads { Leads E.whole E.log run.old run.new wait.left result }
     ensures keeps { (d : Devices) → Keeps (record d { source = S.seen input.old; sink = K.seen output.old })
         (record d { source = S.seen input.new; sink = K.seen output.new }) result }
@@ -261,13 +262,13 @@ fn wait_for_line<A: Allocator + Clone, E: Engine<A>, S: Source, K: Sink>(
     requires awaits { (line : List ℕ) → Awaits run.old.world.scene (given.Line line) }
     requires fewer { wait.left ≤ run.old.left }
     requires room { wait.left ≤ left_after (E.log run.old.engine) (E.whole run.old.engine) }
-    ensures plays { Fed run.old.lines run.new.lines (S.seen input.old) (S.seen input.new)
-        (λ coming after. (turn : Turn) (start : Configuration) (entry d : Devices)
+    ensures plays { Fed S.called S.seen run.old.lines run.new.lines input.old input.new
+        (λ coming after. (turn : Turn) (start : Configuration) (entry d : Handed K.called)
         → IsWait turn
         → Turns start entry (held E.whole E.log run.old coming) (asking_in E.whole run.old)
-        (record d { source = S.seen input.old; sink = K.seen output.old }) wait turn
+        (record d { source = S.seen input.old; sink = output.old }) wait turn
         → EventGives start entry (held E.whole E.log run.new after) (asking_in E.whole run.new)
-        (record d { source = S.seen input.new; sink = K.seen output.new }) result) }
+        (record d { source = S.seen input.new; sink = output.new }) result) }
     ensures leads { Leads E.whole E.log run.old run.new wait.left result }
     ensures keeps { (d : Devices) → Keeps (record d { source = S.seen input.old; sink = K.seen output.old })
         (record d { source = S.seen input.new; sink = K.seen output.new }) result }
@@ -291,15 +292,15 @@ fn take_turn<A: Allocator + Clone, E: Engine<A>, S: Source, K: Sink, F: Shelf>(
     requires fewer { wait.left ≤ run.old.left }
     requires room { wait.left ≤ left_after (E.log run.old.engine) (E.whole run.old.engine) }
     ensures plays { IsCalled F.called shelf.old shelf.new
-        (λ asked. Fed run.old.lines run.new.lines (S.seen input.old) (S.seen input.new)
-        (λ coming after. (start : Configuration) (entry d : Devices)
+        (λ asked. Fed S.called S.seen run.old.lines run.new.lines input.old input.new
+        (λ coming after. (start : Configuration) (entry d : Handed K.called)
         → AreTold start.answers d.asked asked
         → Turns start entry (held E.whole E.log run.old coming) (asking_in E.whole run.old)
-        (record d { source = S.seen input.old; sink = K.seen output.old; shelf = F.seen shelf.old }) wait turn
+        (record d { source = S.seen input.old; sink = output.old; shelf = F.seen shelf.old }) wait turn
         → EventGives start entry (held E.whole E.log run.new after) (asking_in E.whole run.new)
         (record d {
           source = S.seen input.new;
-          sink = K.seen output.new;
+          sink = output.new;
           shelf = F.seen shelf.new;
           asked = d.asked
               ++ asked;
@@ -341,16 +342,16 @@ pub fn ask_glk<A: Allocator + Clone, E: Engine<A>, S: Source, K: Sink, F: Shelf>
     requires fewer { wait.left ≤ run.old.left }
     requires room { wait.left ≤ left_after (E.log run.old.engine) (E.whole run.old.engine) }
     ensures plays { IsCalled F.called shelf.old shelf.new
-        (λ asked. Fed run.old.lines run.new.lines (S.seen input.old) (S.seen input.new)
-        (λ coming after. (start : Configuration) (entry d : Devices)
+        (λ asked. Fed S.called S.seen run.old.lines run.new.lines input.old input.new
+        (λ coming after. (start : Configuration) (entry d : Handed K.called)
         → AreTold start.answers d.asked asked
         → Follows start entry (held E.whole E.log run.old coming)
-        (record d { source = S.seen input.old; sink = K.seen output.old; shelf = F.seen shelf.old }) wait.left
+        (record d { source = S.seen input.old; sink = output.old; shelf = F.seen shelf.old }) wait.left
         (Glk selector args.now wait.room)
         → EventGives start entry (held E.whole E.log run.new after) (asking_in E.whole run.new)
         (record d {
           source = S.seen input.new;
-          sink = K.seen output.new;
+          sink = output.new;
           shelf = F.seen shelf.new;
           asked = d.asked
               ++ asked;

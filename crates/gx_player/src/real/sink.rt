@@ -5,7 +5,8 @@
 //! written.
 ghost use Rattle.std.specs.Prelude.{◌≡◌, OnOk, false, []};
 ghost use Rattle.std.specs.Io.KnownBytes.{Appends};
-ghost use Rattle.gx_outside.specs.Outside.{HasCause, Sends, no_call, send_failed, send_wanted};
+ghost use Rattle.gx_outside.specs.Outside.{no_call};
+ghost use Rattle.gx_outside.specs.Sends.{SinkCall};
 
 use gx_outside::{Calls, SendFault, Sink};
 use std::io::Write;
@@ -32,9 +33,17 @@ impl<W: Write> StdSink<W> {
 impl<W: Write> Sink for StdSink<W> {
     ghost seen = { λ s. record { calls = s.calls; tells = false; taken = [] } };
 
+    // What a call does is said as far as std tells: how it is counted, and what a writer whose bytes std tells holds
+    // then. That a run makes the session's calls is proved for every sink, whatever `called` says of it.
+    ghost called = { λ before s now. SinkCall (record { calls = before.calls; tells = false; taken = [] }) s
+        (record { calls = now.calls; tells = false; taken = [] })
+        × OnOk s.1 (Appends (W.contents before.writer) (W.contents now.writer) s.0) };
+
+    ghost called_so = { λ before s now does. does.0 };
+
     fn send(&mut self, bytes: &[u8]) -> Result<(), SendFault>
-        ensures cause { HasCause self.old.calls self.new.calls (send_failed result) (send_wanted result) }
-        ensures bytes { Sends false [] [] bytes.now result }
+        ensures does { SinkCall (record { calls = self.old.calls; tells = false; taken = [] }) (bytes.now, result)
+            (record { calls = self.new.calls; tells = false; taken = [] }) }
         ensures written { OnOk result (Appends (W.contents self.old.writer) (W.contents self.new.writer) bytes.now) }
     {
         let written = self.writer.write_all(bytes);

@@ -3,9 +3,10 @@
 //! What is handed out are the reader's next bytes, and it keeps the rest: proved for every reader
 //! whose bytes std tells. Of standard input it tells none, nor when a read fails. That the
 //! reader is handed the whole slice, as is noted, no clause on a reader can say.
-ghost use Rattle.std.specs.Prelude.{◌≡◌, ◌≤◌, false, [], IfOk, length, is_err};
+ghost use Rattle.std.specs.Prelude.{◌≡◌, ◌≤◌, false, [], IfOk, length};
 ghost use Rattle.std.specs.Io.KnownBytes.{ReadConsumes};
-ghost use Rattle.gx_outside.specs.Outside.{HasCause, no_call, offered_by};
+ghost use Rattle.gx_outside.specs.Outside.{no_call};
+ghost use Rattle.gx_outside.specs.Reads.{SourceCall};
 
 use gx_outside::{Calls, Failed, Source};
 use std::io::Read;
@@ -35,10 +36,16 @@ impl<I: Read> StdSource<I> {
 impl<I: Read> Source for StdSource<I> {
     ghost seen = { λ s. record { calls = s.calls; offered = s.offered; tells = false; left = [] } };
 
+    // What a call does is said as far as std tells, which is how it is counted. That a run makes so many calls, with
+    // so much room, is proved for every source, whatever `called` says of it.
+    ghost called = { λ before r now. SourceCall
+        (record { calls = before.calls; offered = before.offered; tells = false; left = [] }) r
+        (record { calls = now.calls; offered = now.offered; tells = false; left = [] }) };
+
+    ghost called_so = { λ before r now does. does };
+
     fn read(&mut self, into: &mut [u8]) -> Result<usize, Failed>
         ensures bound { IfOk result (λ count. count ≤ length into.old) }
-        ensures cause { HasCause self.old.calls self.new.calls (is_err result) false }
-        ensures offered { self.new.offered ≡ offered_by (length into.old) self.old.offered }
         ensures given { ReadConsumes (I.remaining self.old.reader) (I.remaining self.new.reader) result into.new }
     {
         self.offered = self.offered.saturating_add(into.len() as u64);

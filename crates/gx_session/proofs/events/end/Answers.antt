@@ -5,7 +5,7 @@ use Rattle.glk_world.specs.World.{FlatWorld}
 use Rattle.gx_session.specs.declared.ends.Halt.{Halt}
 use Rattle.gx_session.specs.declared.ends.Halt.TheVariants as halt
 use Rattle.gx_session.specs.Devices.{Devices}
-use Rattle.gx_session.specs.Playing.{Held, held, asking_in, Early}
+use Rattle.gx_session.specs.Playing.{Handed, Held, held, asking_in, Early}
 use Rattle.gx_session.proofs.Calling.{called-none, called-as, asked-none}
 use Rattle.gx_session.proofs.Ending.{closes}
 use Rattle.gx_session.proofs.Keeping.{keeps-sink, stays-of, keeps-after}
@@ -19,10 +19,10 @@ returns-in_err-end_text-clause-plays g c =
     rw (p.1, p.2)
     (called-none g.F.Shelf.called c.args.shelf.now _
     (λ coming start entry d why done.
-    let now : Devices = record d { sink = g.K.Sink.seen c.args.output.now; shelf = g.F.Shelf.seen c.args.shelf.now } in
+    let now : Handed g.K.Sink.called = record d { sink = c.args.output.now; shelf = g.F.Shelf.seen c.args.shelf.now } in
     let h : Held = held g.E.Engine.whole g.E.Engine.log c.args.run.now coming in
     let asking = asking_in g.E.Engine.whole c.args.run.now in
-    asked-none now (λ (e : Devices). Early start entry (record h { world = c.end_text.new.self }) asking e halt.NoMemory)
+    asked-none now (λ (e : Handed g.K.Sink.called). Early start entry (record h { world = c.end_text.new.self }) asking e halt.NoMemory)
     (screen-wants start entry h now asking why done c.end_text.new.self c.in_err-end_text.ensures.memory)))
 
 pub returns-in_err-flush-clause-plays : goal.returns-in_err-flush-clause-plays
@@ -32,12 +32,12 @@ returns-in_err-flush-clause-plays g c =
     rw (p.1, p.2)
     (called-none g.F.Shelf.called c.args.shelf.now _
     (λ coming start entry d why done.
-    let now : Devices = record d { sink = g.K.Sink.seen c.args.output.now; shelf = g.F.Shelf.seen c.args.shelf.now } in
+    let now : Handed g.K.Sink.called = record d { sink = c.args.output.now; shelf = g.F.Shelf.seen c.args.shelf.now } in
     let h : Held = held g.E.Engine.whole g.E.Engine.log c.args.run.now coming in
     let asking = asking_in g.E.Engine.whole c.args.run.now in
-    asked-none (record now { sink = g.K.Sink.seen c.flush.new.output })
-    (λ (e : Devices). Early start entry (record h { world = c.flush.new.world }) asking e c.in_err-flush.field-0.0)
-    (cut-end start entry (record h { world = world }) now c.flush.new.world (g.K.Sink.seen c.flush.new.output) asking why
+    asked-none (record now { sink = c.flush.new.output })
+    (λ (e : Handed g.K.Sink.called). Early start entry (record h { world = c.flush.new.world }) asking e c.in_err-flush.field-0.0)
+    (cut-end start entry (record h { world = world }) now c.flush.new.world c.flush.new.output asking why
     (screen-shown start entry h now asking why done world c.in_ok-end_text.ensures.ok)
     c.in_err-flush.field-0.0 c.in_err-flush.ensures.only c.in_err-flush.ensures.sends)))
 
@@ -45,11 +45,11 @@ pub returns-clause-plays : goal.returns-clause-plays
 returns-clause-plays g c =
     called-as g.F.Shelf.called c.args.shelf.now c.store_files.new.shelf _ _ c.store_files.ensures.stores
     (λ calls stores coming start entry d why done.
-    let now : Devices = record d { sink = g.K.Sink.seen c.args.output.now; shelf = g.F.Shelf.seen c.args.shelf.now } in
+    let now : Handed g.K.Sink.called = record d { sink = c.args.output.now; shelf = g.F.Shelf.seen c.args.shelf.now } in
     let h : Held = held g.E.Engine.whole g.E.Engine.log c.args.run.now coming in
     let asking = asking_in g.E.Engine.whole c.args.run.now in
     let world : FlatWorld = c.end_text.new.self in
-    let sink : FlatSink = g.K.Sink.seen c.flush.new.output in
+    let sink = c.flush.new.output in
     closes start entry (record h { world = c.flush.new.world }) asking (record now { sink = sink }) why
     (flushed-end start entry (record h { world = world }) now c.flush.new.world sink asking why
     (screen-shown start entry h now asking why done world c.in_ok-end_text.ensures.ok) c.in_ok-flush.ensures.sends)

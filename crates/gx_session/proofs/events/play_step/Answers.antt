@@ -1,7 +1,7 @@
 use Rattle.std.proofs.Common.{[], ◌≡◌, None, ap, ◌∙◌, arith}
 use Rattle.gx_machine.specs.Machine.{Whole}
-use Rattle.gx_session.specs.Devices.{Devices, devices}
-use Rattle.gx_session.specs.Playing.{Held, held, EventGives}
+use Rattle.gx_session.specs.Devices.{devices}
+use Rattle.gx_session.specs.Playing.{Handed, handed, Held, held, EventGives}
 use Rattle.gx_session.proofs.Asking.{step-follows, step-wants, step-stops, fault-gives}
 use Rattle.gx_session.proofs.Calling.{called-none, called-as, asked-none}
 use Rattle.gx_session.proofs.Feeding.{fed-same, fed-as}
@@ -40,10 +40,10 @@ returns-in-Ok-clause-no_more g c =
 pub returns-in-Err-clause-plays : goal.returns-in-Err-clause-plays
 returns-in-Err-clause-plays g c =
     called-none g.F.Shelf.called c.args.shelf.now _
-    (fed-same c.args.run.now.lines (g.S.Source.seen c.args.input.now) _
+    (fed-same g.S.Source.called g.S.Source.seen c.args.run.now.lines c.args.input.now _
     (λ x start entry before told f.
-    let was : Devices = devices (g.S.Source.seen c.args.input.now) (g.K.Sink.seen c.args.output.now) (g.F.Shelf.seen c.args.shelf.now) (g.R.Rng.stream c.args.dice.now) before in
-    let now : Devices = record was { words = g.R.Rng.stream c.draw-word.new.dice } in
+    let was : Handed g.K.Sink.called = handed (g.S.Source.seen c.args.input.now) c.args.output.now (g.F.Shelf.seen c.args.shelf.now) (g.R.Rng.stream c.args.dice.now) before in
+    let now : Handed g.K.Sink.called = record was { words = g.R.Rng.stream c.draw-word.new.dice } in
     let h : Held = held g.E.Engine.whole g.E.Engine.log c.args.run.now x in
     let drawn : Held = record h { word = c.draw-word.new.word } in
     let going = redrawn start entry h was c.draw-word.new.word (g.R.Rng.stream c.draw-word.new.dice) f c.draw-word.ensures.is in
@@ -55,7 +55,7 @@ returns-in-Err-clause-plays g c =
     let machine : (g.E.Engine.whole c.advance.new.self).machine ≡ mid.machine = ap (λ (w : Whole). w.machine) same in
     let nothing : (g.E.Engine.whole c.advance.new.self).asking ≡ None = ap (λ (w : Whole). w.asking) same ∙ none in
     let end : Held = record mid { machine = (g.E.Engine.whole c.advance.new.self).machine; log = g.E.Engine.log c.advance.new.self } in
-    asked-none now (λ (e : Devices). EventGives start entry end (g.E.Engine.whole c.advance.new.self).asking e c.faulted.result)
+    asked-none now (λ (e : Handed g.K.Sink.called). EventGives start entry end (g.E.Engine.whole c.advance.new.self).asking e c.faulted.result)
     (fault-gives start entry (record mid { machine = (g.E.Engine.whole c.advance.new.self).machine; log = g.E.Engine.log c.advance.new.self }) (g.E.Engine.whole c.advance.new.self).asking now c.in-Err.fault _ c.faulted.ensures.gives
     (λ wants. step-wants start entry mid now a.before.asking c.draw-word.result c.draw-word.ensures.in_hand reached
     (g.E.Engine.whole c.advance.new.self).asking (g.E.Engine.whole c.advance.new.self).machine (g.E.Engine.log c.advance.new.self) machine a.logs none nothing (refused-wants _ _ _ _ _ _ _ _ _ a wants))
@@ -66,10 +66,10 @@ pub returns-in-Ok-clause-plays : goal.returns-in-Ok-clause-plays
 returns-in-Ok-clause-plays g c =
     called-as g.F.Shelf.called c.args.shelf.now c.follow.new.shelf _ _ c.follow.ensures.plays
     (λ calls fed.
-    fed-as c.args.run.now.lines c.follow.new.run.lines (g.S.Source.seen c.args.input.now) (g.S.Source.seen c.follow.new.input) _ _ fed
+    fed-as g.S.Source.called g.S.Source.seen c.args.run.now.lines c.follow.new.run.lines c.args.input.now c.follow.new.input _ _ fed
     (λ x y plays start entry before told f.
-    let was : Devices = devices (g.S.Source.seen c.args.input.now) (g.K.Sink.seen c.args.output.now) (g.F.Shelf.seen c.args.shelf.now) (g.R.Rng.stream c.args.dice.now) before in
-    let now : Devices = record was { words = g.R.Rng.stream c.draw-word.new.dice } in
+    let was : Handed g.K.Sink.called = handed (g.S.Source.seen c.args.input.now) c.args.output.now (g.F.Shelf.seen c.args.shelf.now) (g.R.Rng.stream c.args.dice.now) before in
+    let now : Handed g.K.Sink.called = record was { words = g.R.Rng.stream c.draw-word.new.dice } in
     let h : Held = held g.E.Engine.whole g.E.Engine.log c.args.run.now x in
     let drawn : Held = record h { word = c.draw-word.new.word } in
     let going = redrawn start entry h was c.draw-word.new.word (g.R.Rng.stream c.draw-word.new.dice) f c.draw-word.ensures.is in
@@ -82,7 +82,7 @@ returns-in-Ok-clause-plays g c =
 
 pub returns-in-Ok-clause-keeps : goal.returns-in-Ok-clause-keeps
 returns-in-Ok-clause-keeps g c =
-    let k = c.follow.ensures.keeps (devices (g.S.Source.seen c.args.input.now) (g.K.Sink.seen c.args.output.now) (g.F.Shelf.seen c.args.shelf.now) (g.R.Rng.stream c.args.dice.now) []) in
+    let k = c.follow.ensures.keeps (devices (g.S.Source.seen c.args.input.now) (g.K.Sink.seen c.args.output.now) (g.F.Shelf.seen c.args.shelf.now) (g.R.Rng.stream c.args.dice.now) [] [] []) in
     record { sink = k.sink; sink_tells = k.sink_tells; source = k.source; source_tells = k.source_tells; shelf = k.shelf; shelf_tells = k.shelf_tells }
 
 pub returns-in-Ok-clause-room : goal.returns-in-Ok-clause-room

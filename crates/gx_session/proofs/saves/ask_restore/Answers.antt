@@ -7,8 +7,7 @@ use Rattle.gx_machine.specs.Saves.{restored}
 use Rattle.glk_replies.specs.Parts.{replies}
 use Rattle.gx_session.specs.Constants.{failed}
 use Rattle.gx_session.specs.Cuts.{ReplyWants}
-use Rattle.gx_session.specs.Devices.{Devices}
-use Rattle.gx_session.specs.Playing.{Held, held, asking_in, Replies}
+use Rattle.gx_session.specs.Playing.{Handed, Held, held, asking_in, Replies}
 use Rattle.gx_session.specs.Saving.{restoring}
 use Rattle.gx_session.specs.Session.{steps}
 use Rattle.gx_session.proofs.Asking.{asks-now, restoring-does, restore-reads, restore-takes, asking-early, asking-resumes, fault-stops, fault-gives, world-ok, world-err}
@@ -16,7 +15,7 @@ use Rattle.gx_session.proofs.saves.ask_restore.Goals as goal
 
 pub returns-in-Err-clause-plays : goal.returns-in-Err-clause-plays
 returns-in-Err-clause-plays g c coming start entry d f =
-    let now : Devices = record d { sink = g.K.Sink.seen c.args.output.now } in
+    let now : Handed g.K.Sink.called = record d { sink = c.args.output.now } in
     let h : Held = held g.E.Engine.whole g.E.Engine.log c.args.run.now coming in
     let asking = asking_in g.E.Engine.whole c.args.run.now in
     let a = asks-now start entry h now c.args.left (Restore c.args.stream) f refl in
@@ -30,7 +29,7 @@ returns-in-Err-clause-plays g c coming start entry d f =
 
 pub returns-in-Ok-None-clause-plays : goal.returns-in-Ok-None-clause-plays
 returns-in-Ok-None-clause-plays g c coming start entry d f =
-    let now : Devices = record d { sink = g.K.Sink.seen c.args.output.now } in
+    let now : Handed g.K.Sink.called = record d { sink = c.args.output.now } in
     let h : Held = held g.E.Engine.whole g.E.Engine.log c.args.run.now coming in
     let a = asks-now start entry h now c.args.left (Restore c.args.stream) f refl in
     let w = world-ok {X = Option Copy} h.world c.read.new.world (restoring h.world.scene h.machine.flat c.args.stream) None (rw c.in-Ok-None.field-0-is at c.in-Ok-None.ensures.value) in
@@ -42,7 +41,7 @@ returns-in-Ok-None-clause-plays g c coming start entry d f =
 
 pub returns-in-Ok-Some-clause-plays : goal.returns-in-Ok-Some-clause-plays
 returns-in-Ok-Some-clause-plays g c coming start entry d f =
-    let now : Devices = record d { sink = g.K.Sink.seen c.args.output.now } in
+    let now : Handed g.K.Sink.called = record d { sink = c.args.output.now } in
     let h : Held = held g.E.Engine.whole g.E.Engine.log c.args.run.now coming in
     let a = asks-now start entry h now c.args.left (Restore c.args.stream) f refl in
     let w = world-ok {X = Option Copy} h.world c.read.new.world (restoring h.world.scene h.machine.flat c.args.stream) (Some c.in-Ok-Some.copy) (rw c.in-Ok-Some.field-0-is at c.in-Ok-Some.ensures.value) in

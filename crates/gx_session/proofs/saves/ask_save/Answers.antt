@@ -2,8 +2,7 @@ use Rattle.std.proofs.Common.{refl, ◌∙◌, sym, Ok, Err}
 use Rattle.gx_state.specs.declared.effects.Effect.TheVariants.{Save}
 use Rattle.gx_machine.specs.Answer.{answer_of}
 use Rattle.gx_session.specs.Cuts.{ReplyWants}
-use Rattle.gx_session.specs.Devices.{Devices}
-use Rattle.gx_session.specs.Playing.{Held, held, asking_in}
+use Rattle.gx_session.specs.Playing.{Handed, Held, held, asking_in}
 use Rattle.gx_session.specs.Saving.{saving}
 use Rattle.gx_session.specs.Session.{steps}
 use Rattle.gx_session.proofs.Asking.{asks-now, saving-does, save-begun, save-takes, asking-early, asking-resumes, fault-stops, fault-gives, world-ok, world-err}
@@ -11,7 +10,7 @@ use Rattle.gx_session.proofs.saves.ask_save.Goals as goal
 
 pub returns-in-Err-clause-plays : goal.returns-in-Err-clause-plays
 returns-in-Err-clause-plays g c coming start entry d f =
-    let now : Devices = record d { sink = g.K.Sink.seen c.args.output.now } in
+    let now : Handed g.K.Sink.called = record d { sink = c.args.output.now } in
     let h : Held = held g.E.Engine.whole g.E.Engine.log c.args.run.now coming in
     let asking = asking_in g.E.Engine.whole c.args.run.now in
     let a = asks-now start entry h now c.args.left (Save c.args.stream) f refl in
@@ -24,7 +23,7 @@ returns-in-Err-clause-plays g c coming start entry d f =
 
 pub returns-in-Ok-clause-plays : goal.returns-in-Ok-clause-plays
 returns-in-Ok-clause-plays g c coming start entry d f =
-    let now : Devices = record d { sink = g.K.Sink.seen c.args.output.now } in
+    let now : Handed g.K.Sink.called = record d { sink = c.args.output.now } in
     let h : Held = held g.E.Engine.whole g.E.Engine.log c.args.run.now coming in
     let a = asks-now start entry h now c.args.left (Save c.args.stream) f refl in
     let w = world-ok h.world c.save.new.world (saving h.world.scene h.machine.flat c.args.stream) c.in-Ok.reply c.in-Ok.ensures.value in

@@ -2,8 +2,7 @@ use Rattle.std.proofs.Common.{refl, sym, ◌∙◌, Ok, Err}
 use Rattle.gx_state.specs.declared.effects.Effect.TheVariants.{Glk}
 use Rattle.glk_replies.specs.declared.Turn.{Turn}
 use Rattle.glk_dispatch.specs.Calls.{glk_call}
-use Rattle.gx_session.specs.Devices.{Devices}
-use Rattle.gx_session.specs.Playing.{Held, held, asking_in, EventGives}
+use Rattle.gx_session.specs.Playing.{Handed, Held, held, asking_in, EventGives}
 use Rattle.gx_session.specs.Session.{steps}
 use Rattle.gx_session.proofs.Asking.{asks-now, call-does, call-grows, call-takes, call-turns, asking-early, fault-stops, fault-gives, world-ok, world-err}
 use Rattle.gx_session.proofs.Calling.{called-none, called-as, asked-none}
@@ -13,16 +12,16 @@ use Rattle.gx_session.proofs.turns.ask_glk.Goals as goal
 pub returns-in-Err-clause-plays : goal.returns-in-Err-clause-plays
 returns-in-Err-clause-plays g c =
     called-none g.F.Shelf.called c.args.shelf.now _
-    (fed-same c.args.run.now.lines (g.S.Source.seen c.args.input.now) _
+    (fed-same g.S.Source.called g.S.Source.seen c.args.run.now.lines c.args.input.now _
     (λ x start entry d told f.
-    let now : Devices = record d { source = g.S.Source.seen c.args.input.now; sink = g.K.Sink.seen c.args.output.now; shelf = g.F.Shelf.seen c.args.shelf.now } in
+    let now : Handed g.K.Sink.called = record d { source = g.S.Source.seen c.args.input.now; sink = c.args.output.now; shelf = g.F.Shelf.seen c.args.shelf.now } in
     let h : Held = held g.E.Engine.whole g.E.Engine.log c.args.run.now x in
     let asking = asking_in g.E.Engine.whole c.args.run.now in
     let does = Glk c.args.selector c.args.args.now c.args.wait.room in
     let a = asks-now start entry h now c.args.wait.left does f refl in
     let value = c.in-Err.ensures.value in
     let made = glk_call h.world.scene c.state.result.now.flat c.args.wait.room c.args.selector c.as_slice.result.now in
-    asked-none now (λ (e : Devices). EventGives start entry (record h { world = c.call.new.world }) asking e c.faulted.result)
+    asked-none now (λ (e : Handed g.K.Sink.called). EventGives start entry (record h { world = c.call.new.world }) asking e c.faulted.result)
     (fault-gives start entry (record h { world = c.call.new.world }) asking now c.in-Err.fault _ c.faulted.ensures.gives
     (λ wants. asking-early start entry h now c.args.wait.left does a c.call.new.world asking c.requires.asks
     (call-grows start entry h now c.args.wait.left does a c.args.selector c.args.args.now c.as_slice.result.now c.args.wait c.state.result.now.flat refl c.state.ensures c.as_slice.ensures.value (value.1.1 wants).0 (value.1.1 wants).1))
@@ -34,9 +33,9 @@ pub returns-in-Ok-clause-plays : goal.returns-in-Ok-clause-plays
 returns-in-Ok-clause-plays g c =
     called-as g.F.Shelf.called c.args.shelf.now c.take_turn.new.shelf _ _ c.take_turn.ensures.plays
     (λ calls fed.
-    fed-as c.args.run.now.lines c.take_turn.new.run.lines (g.S.Source.seen c.args.input.now) (g.S.Source.seen c.take_turn.new.input) _ _ fed
+    fed-as g.S.Source.called g.S.Source.seen c.args.run.now.lines c.take_turn.new.run.lines c.args.input.now c.take_turn.new.input _ _ fed
     (λ x y plays start entry d told f.
-    let now : Devices = record d { source = g.S.Source.seen c.args.input.now; sink = g.K.Sink.seen c.args.output.now; shelf = g.F.Shelf.seen c.args.shelf.now } in
+    let now : Handed g.K.Sink.called = record d { source = g.S.Source.seen c.args.input.now; sink = c.args.output.now; shelf = g.F.Shelf.seen c.args.shelf.now } in
     let h : Held = held g.E.Engine.whole g.E.Engine.log c.args.run.now x in
     let does = Glk c.args.selector c.args.args.now c.args.wait.room in
     let a = asks-now start entry h now c.args.wait.left does f refl in

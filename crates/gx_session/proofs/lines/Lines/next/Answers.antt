@@ -6,7 +6,7 @@ use Rattle.gx_session.specs.Constants.{piece}
 use Rattle.gx_session.specs.Input.{is_line_feed, chars_of}
 use Rattle.gx_session.specs.Lines.{HeldLines}
 use Rattle.gx_session.proofs.Counting.{blames-call, well-none, well-on}
-use Rattle.gx_session.proofs.Feeding.{too-long, few-held, takes-held, takes-rest, fails, fails-few, grows, read-first}
+use Rattle.gx_session.proofs.Feeding.{too-long, few-held, takes-held, takes-rest, fails, fails-few, grows, grows-by, read-first}
 use Rattle.gx_session.proofs.NextLines.{pos, pos-bound}
 use Rattle.gx_session.proofs.lines.Lines.next.Goals as goal
 
@@ -15,7 +15,7 @@ loop-self-init g c = record {
   within = omega arith;
   before = λ k less. absurd (omega arith);
   few = λ start. omega arith;
-  fed = read-first c.args.self.now (g.S.Source.seen c.args.source.now);
+  fed = read-first g.S.Source.called g.S.Source.seen c.args.self.now c.args.source.now;
   whole = λ is. (refl, refl);
   count = well-none (g.S.Source.seen c.args.source.now).calls;
   tells = refl;
@@ -24,20 +24,20 @@ loop-self-init g c = record {
 pub returns-then-end-ge-LONGEST-clause-takes : goal.returns-then-end-ge-LONGEST-clause-takes
 returns-then-end-ge-LONGEST-clause-takes g c =
     let end : c.line_end-end.result ≡ pos c.loop-self.self.held = c.line_end-end.ensures.is ∙ ap pos c.held.ensures in
-    too-long c.args.self.now c.loop-self.self (g.S.Source.seen c.args.source.now) (g.S.Source.seen c.loop-self.source) c.loop-self.invariant.fed (omega arith)
+    too-long g.S.Source.called g.S.Source.seen c.args.self.now c.loop-self.self c.args.source.now c.loop-self.source c.loop-self.invariant.fed (omega arith)
 
 pub returns-then-end-held-clause-takes : goal.returns-then-end-held-clause-takes
 returns-then-end-held-clause-takes g c =
     let end : c.line_end-end.result ≡ pos c.loop-self.self.held = c.line_end-end.ensures.is ∙ ap pos c.held.ensures in
     let size : length c.held-in-loop-self.result.now ≡ length c.loop-self.self.held = ap length c.held-in-loop-self.ensures in
-    takes-held c.args.self.now c.loop-self.self (g.S.Source.seen c.args.source.now) (g.S.Source.seen c.loop-self.source) c.loop-self.invariant.fed c.take.new.self c.take.result (omega arith) (omega arith)
+    takes-held g.S.Source.called g.S.Source.seen c.args.self.now c.loop-self.self c.args.source.now c.loop-self.source c.loop-self.invariant.fed c.take.new.self c.take.result (omega arith) (omega arith)
     (subst (λ (n : ℕ). IfOk c.take.result (λ chars. (chars ≡ chars_of (take n c.loop-self.self.held)) × (c.take.new.self ≡ record c.loop-self.self { held = drop (n + 1) c.loop-self.self.held }))) end c.take.ensures.ok) c.take.ensures.err
 
 pub returns-then-end-held-clause-few : goal.returns-then-end-held-clause-few
 returns-then-end-held-clause-few g c few =
     let end : c.line_end-end.result ≡ pos c.loop-self.self.held = c.line_end-end.ensures.is ∙ ap pos c.held.ensures in
     let size : length c.held-in-loop-self.result.now ≡ length c.loop-self.self.held = ap length c.held-in-loop-self.ensures in
-    few-held c.args.self.now c.loop-self.self (g.S.Source.seen c.args.source.now) (g.S.Source.seen c.loop-self.source) c.loop-self.invariant.fed c.loop-self.searched c.take.new.self c.take.result (omega arith) (omega (arith, c.line_end-end.ensures.later)) (c.loop-self.invariant.few few)
+    few-held g.S.Source.called g.S.Source.seen c.args.self.now c.loop-self.self c.args.source.now c.loop-self.source c.loop-self.invariant.fed c.loop-self.searched c.take.new.self c.take.result (omega arith) (omega (arith, c.line_end-end.ensures.later)) (c.loop-self.invariant.few few)
     (subst (λ (n : ℕ). IfOk c.take.result (λ chars. (chars ≡ chars_of (take n c.loop-self.self.held)) × (c.take.new.self ≡ record c.loop-self.self { held = drop (n + 1) c.loop-self.self.held }))) end c.take.ensures.ok) c.take.ensures.err
 
 pub returns-then-self-clause-takes : goal.returns-then-self-clause-takes
@@ -45,15 +45,15 @@ returns-then-self-clause-takes g c =
     let end : c.line_end-end.result ≡ pos c.loop-self.self.held = c.line_end-end.ensures.is ∙ ap pos c.held.ensures in
     let size : length c.held-in-loop-self.result.now ≡ length c.loop-self.self.held = ap length c.held-in-loop-self.ensures in
     let few : pos c.loop-self.self.held ≤ length c.loop-self.self.held = pos-bound c.loop-self.self.held in
-    takes-rest c.args.self.now c.loop-self.self (g.S.Source.seen c.args.source.now) (g.S.Source.seen c.loop-self.source) c.loop-self.invariant.fed (ap (λ (l : HeldLines). l.ended) (sym c.self.view_is) ∙ c.if-self.true) (omega arith) (omega arith)
+    takes-rest g.S.Source.called g.S.Source.seen c.args.self.now c.loop-self.self c.args.source.now c.loop-self.source c.loop-self.invariant.fed (ap (λ (l : HeldLines). l.ended) (sym c.self.view_is) ∙ c.if-self.true) (omega arith) (omega arith)
     c.take_rest.new.self c.take_rest.result c.take_rest.ensures.none c.take_rest.ensures.ok c.take_rest.ensures.err
 
 pub returns-in_err-fill-clause-takes : goal.returns-in_err-fill-clause-takes
 returns-in_err-fill-clause-takes g c =
     let p = err_from_is_err_and c.from_residual.result c.from_residual.ensures.1 in
     rw (p.1, p.2)
-    (fails c.args.self.now c.loop-self.self (g.S.Source.seen c.args.source.now) (g.S.Source.seen c.loop-self.source) c.loop-self.invariant.fed c.fill.new.self (g.S.Source.seen c.fill.new.source)
-    (ap (λ (l : HeldLines). l.ended) (sym c.self.view_is) ∙ c.if-self.false) c.fill.ensures.tells c.fill.ensures.count.made c.fill.ensures.offered c.in_err-fill.field-0.0 c.in_err-fill.ensures.grows)
+    (fails g.S.Source.called g.S.Source.seen c.args.self.now c.loop-self.self c.args.source.now c.loop-self.source c.loop-self.invariant.fed c.fill.new.self c.fill.new.source
+    (ap (λ (l : HeldLines). l.ended) (sym c.self.view_is) ∙ c.if-self.false) c.fill.ensures.tells c.fill.ensures.count.made c.fill.ensures.offered c.in_err-fill.ensures.fills.gave c.in_err-fill.ensures.fills.call c.in_err-fill.field-0.0 c.in_err-fill.ensures.fills.fills)
 
 pub returns-in_err-fill-clause-few : goal.returns-in_err-fill-clause-few
 returns-in_err-fill-clause-few g c few =
@@ -62,16 +62,17 @@ returns-in_err-fill-clause-few g c few =
     let size : length c.held-in-loop-self.result.now ≡ length c.loop-self.self.held = ap length c.held-in-loop-self.ensures in
     let bound : pos c.loop-self.self.held ≤ length c.loop-self.self.held = pos-bound c.loop-self.self.held in
     rw (p.1, p.2)
-    (fails-few c.args.self.now c.loop-self.self (g.S.Source.seen c.args.source.now) (g.S.Source.seen c.loop-self.source) c.loop-self.invariant.fed c.fill.new.self (g.S.Source.seen c.fill.new.source)
-    (ap (λ (l : HeldLines). l.ended) (sym c.self.view_is) ∙ c.if-self.false) c.fill.ensures.tells c.fill.ensures.count.made c.fill.ensures.offered c.in_err-fill.field-0.0 c.in_err-fill.ensures.grows (omega arith) (omega arith))
+    (fails-few g.S.Source.called g.S.Source.seen c.args.self.now c.loop-self.self c.args.source.now c.loop-self.source c.loop-self.invariant.fed c.fill.new.self c.fill.new.source
+    (ap (λ (l : HeldLines). l.ended) (sym c.self.view_is) ∙ c.if-self.false) c.fill.ensures.tells c.fill.ensures.count.made c.fill.ensures.offered c.in_err-fill.ensures.fills.gave c.in_err-fill.ensures.fills.call c.in_err-fill.field-0.0 c.in_err-fill.ensures.fills.fills (omega arith) (omega arith))
 
 pub loop-self-preserved : goal.loop-self-preserved
 loop-self-preserved g c =
     let end : c.line_end-end.result ≡ pos c.loop-self.self.held = c.line_end-end.ensures.is ∙ ap pos c.held.ensures in
     let size : length c.held-in-loop-self.result.now ≡ length c.loop-self.self.held = ap length c.held-in-loop-self.ensures in
     let bound : pos c.loop-self.self.held ≤ length c.loop-self.self.held = pos-bound c.loop-self.self.held in
-    let got = c.in_ok-fill.ensures.grows.0 in
-    let more = c.in_ok-fill.ensures.grows.1 in
+    let grown = grows-by (g.S.Source.called) g.S.Source.seen c.loop-self.self c.fill.new.self c.loop-self.source c.fill.new.source c.in_ok-fill.ensures.fills in
+    let got = grown.0 in
+    let more = grown.2 in
     let len : length c.fill.new.self.held ≡ length c.loop-self.self.held + length got = ap length more.held ∙ length-append c.loop-self.self.held got in
     let few : length got ≤ piece = more.few in
     record {
@@ -81,8 +82,8 @@ loop-self-preserved g c =
           ∙ ap is_line_feed (get_or_append_left c.loop-self.self.held got 0 k (omega arith))
           ∙ fails_before_first is_line_feed c.loop-self.self.held k 0 (omega arith);
       few = λ start. omega arith;
-      fed = grows c.args.self.now c.loop-self.self (g.S.Source.seen c.args.source.now) (g.S.Source.seen c.loop-self.source) c.loop-self.invariant.fed c.fill.new.self (g.S.Source.seen c.fill.new.source)
-          (ap (λ (l : HeldLines). l.ended) (sym c.self.view_is) ∙ c.if-self.false) c.fill.ensures.tells c.fill.ensures.count.made c.fill.ensures.offered got more;
+      fed = grows g.S.Source.called g.S.Source.seen c.args.self.now c.loop-self.self c.args.source.now c.loop-self.source c.loop-self.invariant.fed c.fill.new.self c.fill.new.source
+          (ap (λ (l : HeldLines). l.ended) (sym c.self.view_is) ∙ c.if-self.false) c.fill.ensures.tells c.fill.ensures.count.made c.fill.ensures.offered got grown.1 more;
       whole = λ is.
           let same = c.loop-self.invariant.whole is in
           let first : pos c.args.self.now.held < length c.args.self.now.held = is in
