@@ -13,11 +13,11 @@ use Rattle.gx_session.specs.declared.ends.Next.TheVariants as next
 use Rattle.gx_session.specs.Constants.{enough}
 use Rattle.gx_session.specs.declared.running.Running.{Running}
 use Rattle.gx_session.specs.Session.{Configuration, steps}
-use Rattle.gx_session.specs.Playing.{Sending, Handed, Held, held, asking_in, Standing, Resumes, EventGives, Flushes, Becomes, IsNext, Leads}
+use Rattle.gx_session.specs.Playing.{SendStep, Handed, Held, held, asking_in, Standing, Resumes, EventGives, Flushes, Becomes, IsNext, Leads}
 use Rattle.gx_session.proofs.Asking.{resumed-on, resumed-early}
 use Rattle.gx_session.proofs.Playing.{flushed, cut-send}
 
-module _ {K : Type 0} {sending : Sending K} {E : Type 0} (whole : E → Whole) (log : E → Option Log) (old mid : Running E) (coming : List ℕ) (machine : FlatMachine) (left : ℕ) (start : Configuration) (entry d : Handed sending) (wanted : Type 0)
+module _ {K : Type 0} {sending : SendStep K} {E : Type 0} (whole : E → Whole) (log : E → Option Log) (old mid : Running E) (coming : List ℕ) (machine : FlatMachine) (left : ℕ) (start : Configuration) (entry d : Handed sending) (wanted : Type 0)
     (r : Resumes start entry (held whole log old coming) (asking_in whole old) d left machine wanted) where
   abbrev h : Held
   h = held whole log old coming

@@ -42,7 +42,7 @@ use Rattle.gx_session.specs.Questions.{turn_of, request_for}
 use Rattle.gx_session.specs.Reading.{ReadsFew}
 use Rattle.gx_session.specs.Saving.{is_begun, is_read, saving, restoring, IsReadBack}
 use Rattle.gx_session.specs.Session.{Configuration, Doing, steps, asks, goes_on, goes, stops, after_reply, after_restoring, waiting_for, asking_for, after_turn, after_given, after_line, after_asking, given_of, shelf_gives, after_effect, act_of, effect_at, asked, asked_at}
-use Rattle.gx_session.specs.Playing.{Sending, Handed, Held, WordIs, Past, configuration_of, IsPast, Standing, Ready, Going, Waits, Done, Early, Follows, Resumes, Replies, Turns, GoesOn, TakesInput, EventGives, FaultGives}
+use Rattle.gx_session.specs.Playing.{SendStep, Handed, Held, WordIs, Past, configuration_of, IsPast, Standing, Ready, Going, Waits, Done, Early, Follows, Resumes, Replies, Turns, GoesOn, TakesInput, EventGives, FaultGives}
 use Rattle.gx_session.proofs.Calling.{answered-and}
 use Rattle.gx_session.proofs.Steps.{step-does, step-faults, step-asks, step-effect, step-asks-nothing, ok-is, asked-same}
 use Rattle.gx_session.proofs.NextLines.{some-input, shorter-input}
@@ -72,7 +72,7 @@ word-drawn : (word : ℕ) (mine : Option ℕ) (stream words : Stream) → mine �
 word-drawn word mine stream words drawn is = subst (λ (w : Option ℕ). WordIs w stream words) drawn is
 
 -- a fault stops the run where it isn't want of memory
-pub fault-gives : {K : Type 0} {sending : Sending K} → (start : Configuration) (entry : Handed sending) (h : Held) (asking : Option Asking) (d : Handed sending) (f : Fault) (result : Result Next Halt) → FaultGives f result
+pub fault-gives : {K : Type 0} {sending : SendStep K} → (start : Configuration) (entry : Handed sending) (h : Held) (asking : Option Asking) (d : Handed sending) (f : Fault) (result : Result Next Halt) → FaultGives f result
     → (f ≡ fault.NoMemory → Early start entry h asking d halt.NoMemory) → (f ≢ fault.NoMemory → Done start entry h asking d (stop.Faulted f))
     → EventGives start entry h asking d result
 fault-gives start entry h asking d f result (inl e) early stopped = subst (EventGives start entry h asking d) (sym e.1) (early e.0)
@@ -163,7 +163,7 @@ answered-is turn.Exit is other = is
 pub sent-before : (sent : List ℕ) (w : FlatWorld) (said : Said) → after (record { scene = w.scene; text = sent ++ w.text }) said ≡ record { scene = (after w said).scene; text = sent ++ (after w said).text }
 sent-before sent w said = ap (λ (x : List ℕ). let y : FlatWorld = record { scene = said.0; text = x } in y) (append_assoc sent w.text said.1)
 
-module _ {K : Type 0} {sending : Sending K} (start : Configuration) (entry : Handed sending) (h : Held) (d : Handed sending) where
+module _ {K : Type 0} {sending : SendStep K} (start : Configuration) (entry : Handed sending) (h : Held) (d : Handed sending) where
   -- A step was answered with an effect, or refused.
   module _ (asking : Option Asking) (word : ℕ) (drawn : h.word ≡ Some word) (g : Going start entry h d) where
     abbrev m : Configuration

@@ -7,7 +7,7 @@ use Rattle.gx_outside.specs.Shelves.{Request, loads, stores, removes, looks, Ans
 use Rattle.gx_outside.specs.declared.devices.Load.TheVariants.{Found}
 use Rattle.gx_outside.specs.declared.devices.ShelfFault.{ShelfFault}
 use Rattle.gx_outside.specs.declared.devices.ShelfFault.TheVariants as fault
-use Rattle.gx_session.specs.Playing.{Sending, Handed, Held, Going}
+use Rattle.gx_session.specs.Playing.{SendStep, Handed, Held, Going}
 use Rattle.gx_session.specs.Questions.{AreAnswered, AreTold}
 use Rattle.gx_session.specs.Session.{Configuration}
 
@@ -82,10 +82,10 @@ pub both-as : {S K A B : Type 0} (reading : S → A → S → Type 0) (sending :
 both-as reading sending s t k l P Q calls to = called-as reading s t _ _ calls (λ x c. called-as sending k l _ _ c (λ y holds. to x y holds))
 
 -- the calls so far
-pub asked-none : {K : Type 0} {sending : Sending K} → (d : Handed sending) (P : Handed sending → Type 0) → P d → P (record d { asked = d.asked ++ [] })
+pub asked-none : {K : Type 0} {sending : SendStep K} → (d : Handed sending) (P : Handed sending → Type 0) → P d → P (record d { asked = d.asked ++ [] })
 asked-none d P holds = subst (λ (t : Trace). P (record d { asked = t })) (sym (append-nil d.asked)) holds
 
-pub asked-on : {K : Type 0} {sending : Sending K} → (d : Handed sending) (one two : Trace) (P : Handed sending → Type 0) → P (record d { asked = (d.asked ++ one) ++ two }) → P (record d { asked = d.asked ++ (one ++ two) })
+pub asked-on : {K : Type 0} {sending : SendStep K} → (d : Handed sending) (one two : Trace) (P : Handed sending → Type 0) → P (record d { asked = (d.asked ++ one) ++ two }) → P (record d { asked = d.asked ++ (one ++ two) })
 asked-on d one two P holds = subst (λ (t : Trace). P (record d { asked = t })) (append_assoc d.asked one two) holds
 
 -- CALLS THAT WEREN'T REFUSED
@@ -114,7 +114,7 @@ told-back answers asked ((r, Ok answer) ∷ one) two all told =
 told-back answers asked ((r, Err e) ∷ one) two all told = absurd all
 
 -- by the second of two parts of a run
-pub told-next : {K : Type 0} {sending : Sending K} → (start : Configuration) (entry : Handed sending) (h : Held) (d : Handed sending) (before one two : Trace) → d.asked ≡ before ++ one → Going start entry h d
+pub told-next : {K : Type 0} {sending : SendStep K} → (start : Configuration) (entry : Handed sending) (h : Held) (d : Handed sending) (before one two : Trace) → d.asked ≡ before ++ one → Going start entry h d
     → AreTold start.answers before (one ++ two) → AreTold start.answers (before ++ one) two
 told-next start entry h d before one two same g told =
     told-back start.answers before one two (answered-back before one (subst AreAnswered same g.now.is_past.answered)) told

@@ -18,7 +18,7 @@ use Rattle.gx_session.specs.Input.{none, too_long}
 use Rattle.gx_session.specs.Questions.{turn_of, request_for, AreTold}
 use Rattle.gx_session.specs.Reading.{TakesLine, HoldsFew, ReadsFew, failures}
 use Rattle.gx_session.specs.Session.{Configuration, asks, given_of, goes_on, asked}
-use Rattle.gx_session.specs.Playing.{Sending, Handed, Held, WordIs, Ready, Waits, Flushes, TakesInput, EventGives, Early, halt_of_shelf, without_line}
+use Rattle.gx_session.specs.Playing.{SendStep, Handed, Held, WordIs, Ready, Waits, Flushes, TakesInput, EventGives, Early, halt_of_shelf, without_line}
 use Rattle.gx_session.proofs.Asking.{request-is, shelf-answers, line-stops}
 use Rattle.gx_session.proofs.Feeding.{reads-on}
 use Rattle.gx_session.proofs.Playing.{here, flushed, cut-send, refused, unread, wants-line}
@@ -30,7 +30,7 @@ next-word : (word : Option ℕ) (stream a b : Stream) → WordIs word stream a �
 next-word None stream a b is is' = ap (λ (s : Stream). (next_u32 s).0) (is ∙ sym is')
 next-word (Some w) stream a b is is' = ap (λ (p : ℕ × Stream). p.0) (is ∙ sym is')
 
-module _ {K : Type 0} {sending : Sending K} (start : Configuration) (entry : Handed sending) (h : Held) (asking : Option Asking) (d : Handed sending) (t : Turn) (w : Waiting) (waits : Waits start entry h asking d (asks t w)) (world : FlatWorld) (sink : K) where
+module _ {K : Type 0} {sending : SendStep K} (start : Configuration) (entry : Handed sending) (h : Held) (asking : Option Asking) (d : Handed sending) (t : Turn) (w : Waiting) (waits : Waits start entry h asking d (asks t w)) (world : FlatWorld) (sink : K) where
   abbrev h1 : Held
   h1 = record h { world = world }
 

@@ -27,7 +27,7 @@ use Rattle.gx_session.specs.Endings.{Store, open_files_of, stores_of, call_of, t
 use Rattle.gx_session.specs.Sending.{taken}
 use Rattle.gx_session.specs.Session.{Configuration, Ending, final_of, status_of, fault_number, fault_address}
 use Rattle.gx_session.specs.Runs.{IsFront, LeavesInput, read_failures, AreDrawn, Report, EndsAt, IsReport, IsSession}
-use Rattle.gx_session.specs.Playing.{Sending, Handed, devices_of, Held, configuration_of, Told, Finished, Early, EndingGives, RunGives, IsStop, status_of_halt, halt_of_shelf, Keeps, StoredSome, StoresFiles}
+use Rattle.gx_session.specs.Playing.{SendStep, Handed, devices_of, Held, configuration_of, Told, Finished, Early, EndingGives, RunGives, IsStop, status_of_halt, halt_of_shelf, Keeps, StoredSome, StoresFiles}
 use Rattle.gx_session.proofs.Calling.{chain-map}
 use Rattle.gx_session.proofs.Counting.{blames-same}
 use Rattle.gx_session.proofs.Playing.{cut-at, input-left, words-left}
@@ -49,7 +49,7 @@ status-high halt.Output = omega arith
 status-high halt.NoMemory = omega arith
 
 -- THE STORES OF THE ENDING
-module _ {K : Type 0} {sending : Sending K} (start : Configuration) (entry : Handed sending) (h : Held) (asking : Option Asking) (d : Handed sending) (why : Stop) (t : Told start entry h asking d why) where
+module _ {K : Type 0} {sending : SendStep K} (start : Configuration) (entry : Handed sending) (h : Held) (asking : Option Asking) (d : Handed sending) (why : Stop) (t : Told start entry h asking d why) where
   abbrev told-now : Configuration
   told-now = configuration_of t.past t.doing h d
 
@@ -189,7 +189,7 @@ counts-of-halt entry exit why k =
     status-from why one e = ap (λ (x : Halt). let r : Result Stop Halt = Err x in r) (sym (back why) ∙ ap halt-of e ∙ back one)
 
 -- a run that came to its end, with all text sent and all files stored
-pub ended-at : {K : Type 0} {sending : Sending K} → (start : Configuration) (entry : Handed sending) (h : Held) (asking : Option Asking) (d : Handed sending) (why : Stop) → h.left ≤ start.left → (f : Finished start entry h asking d why)
+pub ended-at : {K : Type 0} {sending : SendStep K} → (start : Configuration) (entry : Handed sending) (h : Held) (asking : Option Asking) (d : Handed sending) (why : Stop) → h.left ≤ start.left → (f : Finished start entry h asking d why)
     → (before now : FlatSink) (reads : List Read) → Chain SinkCall before (map taken f.told.past.sent) now → EndsAt start (final_of start) (devices_of entry before [] []) (devices_of d now reads (map taken f.told.past.sent)) h.coming (record {
       status = status_of why;
       fault = fault_number why;
@@ -227,7 +227,7 @@ ended-at {sending = sending} start entry h asking d why fewer f before now reads
     }
 
 -- A whole run is the session, over these calls of the sink.
-module _ {K : Type 0} {sending : Sending K} (seen : K → FlatSink) (law : (x : K) (c : Send) (y : K) → sending x c y → SinkCall (seen x) c (seen y)) (reads : List Read)
+module _ {K : Type 0} {sending : SendStep K} (seen : K → FlatSink) (law : (x : K) (c : Send) (y : K) → sending x c y → SinkCall (seen x) c (seen y)) (reads : List Read)
     (start : Configuration) (entry : Handed sending) (h : Held) (asking : Option Asking) (d : Handed sending) (fewer : h.left ≤ start.left) where
   abbrev report-at : ℕ → ℕ → ℕ → Report
   report-at status fault at = record { status = status; fault = fault; at = at; steps = start.left - h.left; machine = record { machine = h.machine; asking = asking }; log = h.log }

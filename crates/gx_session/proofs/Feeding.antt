@@ -9,7 +9,7 @@ use Rattle.gx_session.specs.declared.lines.NoLine.TheVariants as no
 use Rattle.gx_session.specs.Constants.{longest, piece}
 use Rattle.gx_session.specs.Input.{line, chars_of, next_line}
 use Rattle.gx_session.specs.Lines.{HeldLines}
-use Rattle.gx_session.specs.Reading.{IsComing, IsOver, bytes_read, HavePieces, SayEnd, Reading, Fed, FillsBy, spare, ReadsFew, Takes, GrowsBy, Fills, IsPartial, HoldsFew}
+use Rattle.gx_session.specs.Reading.{IsComing, IsOver, bytes_read, HavePieces, SayEnd, ReadStep, Fed, FillsBy, spare, ReadsFew, Takes, GrowsBy, Fills, IsPartial, HoldsFew}
 use Rattle.gx_session.proofs.Calling.{chain-append}
 use Rattle.gx_session.proofs.Storing.{raised-more}
 use Rattle.gx_session.proofs.NextLines.{pos, next-long, next-held, next-last, next-none}
@@ -39,7 +39,7 @@ says-some : (got : List ℕ) → 0 < length got → SayEnd ((piece, Ok got) ∷ 
 says-some [] some s = absurd (omega arith)
 says-some (x ∷ xs) some s = s
 
-pub fed-on : {S : Type 0} (reading : Reading S) (seen : S → FlatSource) (a b c : HeldLines) (s t u : S) (P Q R : List ℕ → List ℕ → Type 0) → Fed reading seen a b s t P → Fed reading seen b c t u Q → ((x y z : List ℕ) → P x y → Q y z → R x z)
+pub fed-on : {S : Type 0} (reading : ReadStep S) (seen : S → FlatSource) (a b c : HeldLines) (s t u : S) (P Q R : List ℕ → List ℕ → Type 0) → Fed reading seen a b s t P → Fed reading seen b c t u Q → ((x y z : List ℕ) → P x y → Q y z → R x z)
     → Fed reading seen a c s u R
 fed-on reading seen a b c s t u P Q R f g join = record {
   reads = f.reads ++ g.reads;
@@ -55,7 +55,7 @@ fed-on reading seen a b c s t u P Q R f g join = record {
 }
 
 -- nothing was read
-pub fed-same : {S : Type 0} (reading : Reading S) (seen : S → FlatSource) (a : HeldLines) (s : S) (P : List ℕ → List ℕ → Type 0) → ((x : List ℕ) → P x x) → Fed reading seen a a s s P
+pub fed-same : {S : Type 0} (reading : ReadStep S) (seen : S → FlatSource) (a : HeldLines) (s : S) (P : List ℕ → List ℕ → Type 0) → ((x : List ℕ) → P x x) → Fed reading seen a a s s P
 fed-same reading seen a s P same = record {
   reads = [];
   chain = refl;
@@ -66,11 +66,11 @@ fed-same reading seen a s P same = record {
   given = λ x is. refl;
 }
 
-pub fed-lines : {S : Type 0} (reading : Reading S) (seen : S → FlatSource) (a b : HeldLines) (s : S) (P : List ℕ → List ℕ → Type 0) → b ≡ a → ((x : List ℕ) → P x x) → Fed reading seen a b s s P
+pub fed-lines : {S : Type 0} (reading : ReadStep S) (seen : S → FlatSource) (a b : HeldLines) (s : S) (P : List ℕ → List ℕ → Type 0) → b ≡ a → ((x : List ℕ) → P x x) → Fed reading seen a b s s P
 fed-lines reading seen a b s P lines same = subst (λ (c : HeldLines). Fed reading seen a c s s P) (sym lines) (fed-same reading seen a s P same)
 
 -- what is said of what may come is handed on
-pub fed-coming : {S : Type 0} (reading : Reading S) (seen : S → FlatSource) (a b c : HeldLines) (s t : S) (P Q : List ℕ → List ℕ → Type 0) → c ≡ b → Fed reading seen a b s t P → ((x y : List ℕ) → IsComing b (seen t) y → P x y → Q x y)
+pub fed-coming : {S : Type 0} (reading : ReadStep S) (seen : S → FlatSource) (a b c : HeldLines) (s t : S) (P Q : List ℕ → List ℕ → Type 0) → c ≡ b → Fed reading seen a b s t P → ((x y : List ℕ) → IsComing b (seen t) y → P x y → Q x y)
     → Fed reading seen a c s t Q
 fed-coming reading seen a b c s t P Q lines f to =
     let here : Fed reading seen a b s t Q = record {
@@ -84,11 +84,11 @@ fed-coming reading seen a b c s t P Q lines f to =
     } in
     subst (λ (l : HeldLines). Fed reading seen a l s t Q) (sym lines) here
 
-pub fed-as : {S : Type 0} (reading : Reading S) (seen : S → FlatSource) (a b : HeldLines) (s t : S) (P Q : List ℕ → List ℕ → Type 0) → Fed reading seen a b s t P → ((x y : List ℕ) → P x y → Q x y) → Fed reading seen a b s t Q
+pub fed-as : {S : Type 0} (reading : ReadStep S) (seen : S → FlatSource) (a b : HeldLines) (s t : S) (P Q : List ℕ → List ℕ → Type 0) → Fed reading seen a b s t P → ((x y : List ℕ) → P x y → Q x y) → Fed reading seen a b s t Q
 fed-as reading seen a b s t P Q f to = fed-coming reading seen a b b s t P Q refl f (λ x y is. to x y)
 
 -- nothing was read, and all stands but what is held
-pub fed-still : {S : Type 0} (reading : Reading S) (seen : S → FlatSource) (a b : HeldLines) (s : S) → b.ended ≡ a.ended → Fed reading seen a b s s (λ x y. x ≡ y)
+pub fed-still : {S : Type 0} (reading : ReadStep S) (seen : S → FlatSource) (a b : HeldLines) (s : S) → b.ended ≡ a.ended → Fed reading seen a b s s (λ x y. x ≡ y)
 fed-still reading seen a b s ended = record {
   reads = [];
   chain = refl;
@@ -127,7 +127,7 @@ pub record ReadOn (first now : HeldLines) (before source : FlatSource) (x y : Li
   pub same : first.held ++ x ≡ now.held ++ y
   pub reads : ReadsFew first.ended now.ended before source x y 0
 
-module _ {S : Type 0} (reading : Reading S) (seen : S → FlatSource) (first now : HeldLines) (before source : S) (fed : Fed reading seen first now before source (ReadOn first now (seen before) (seen source))) where
+module _ {S : Type 0} (reading : ReadStep S) (seen : S → FlatSource) (first now : HeldLines) (before source : S) (fed : Fed reading seen first now before source (ReadOn first now (seen before) (seen source))) where
   pub too-long : longest ≤ pos now.held → Fed reading seen first now before source (λ x y. Takes first now (seen before) (seen source) x y (Err no.TooLong))
   too-long long =
       fed-as reading seen first now before source (ReadOn first now (seen before) (seen source)) (λ x y. Takes first now (seen before) (seen source) x y (Err no.TooLong)) fed
@@ -357,14 +357,14 @@ by-fill : (old new : HeldLines) (before now : FlatSource) (gave : Result (List �
 by-fill old new before now (Ok got) is = (got, refl, is)
 by-fill old new before now (Err f) is = absurd is
 
-pub grows-by : {S : Type 0} (reading : Reading S) (seen : S → FlatSource) (old new : HeldLines) (before now : S) → FillsBy reading seen old new before now (Ok tt)
+pub grows-by : {S : Type 0} (reading : ReadStep S) (seen : S → FlatSource) (old new : HeldLines) (before now : S) → FillsBy reading seen old new before now (Ok tt)
     → (got : List ℕ) × reading before (piece, Ok got) now × GrowsBy old new (seen before) (seen now) got
 grows-by reading seen old new before now f =
     let by = by-fill old new (seen before) (seen now) f.gave f.fills in
     (by.0, subst (λ (r : Result (List ℕ) Failed). reading before (piece, r) now) by.1 f.call, by.2)
 
 -- at first nothing was read
-pub read-first : {S : Type 0} (reading : Reading S) (seen : S → FlatSource) (first : HeldLines) (source : S) → Fed reading seen first first source source (ReadOn first first (seen source) (seen source))
+pub read-first : {S : Type 0} (reading : ReadStep S) (seen : S → FlatSource) (first : HeldLines) (source : S) → Fed reading seen first first source source (ReadOn first first (seen source) (seen source))
 read-first reading seen first source =
     fed-same reading seen first source (ReadOn first first (seen source) (seen source)) (λ x. record { same = refl; reads = reads-none first.ended first.ended (seen source) x refl })
 

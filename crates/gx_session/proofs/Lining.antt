@@ -13,7 +13,7 @@ use Rattle.gx_session.specs.declared.ends.Halt.TheVariants as halt
 use Rattle.gx_session.specs.declared.running.Running.{Running}
 use Rattle.gx_session.specs.declared.running.Waiting.{Waiting}
 use Rattle.gx_session.specs.Session.{Configuration, goes_on}
-use Rattle.gx_session.specs.Playing.{Sending, Handed, held, asking_in, Waits, TakesInput, EventGives}
+use Rattle.gx_session.specs.Playing.{SendStep, Handed, held, asking_in, Waits, TakesInput, EventGives}
 use Rattle.gx_session.proofs.Asking.{line-wants, line-taken}
 
 -- what a call awaits is the same once a line is shown
@@ -21,7 +21,7 @@ pub awaits-shown : (w : FlatWorld) (chars : List ℕ) (g : Given) (b : Bool) →
 awaits-shown w chars g true is = awaits-line w.scene chars g is
 awaits-shown w chars g false is = is
 
-module _ {K : Type 0} {sending : Sending K} {E : Type 0} (whole : E → Whole) (log : E → Option Log) (old mid : Running E) (coming chars : List ℕ) (w : Waiting) (start : Configuration) (entry d : Handed sending)
+module _ {K : Type 0} {sending : SendStep K} {E : Type 0} (whole : E → Whole) (log : E → Option Log) (old mid : Running E) (coming chars : List ℕ) (w : Waiting) (start : Configuration) (entry d : Handed sending)
     (r : TakesInput start entry (held whole log old coming) (asking_in whole old) d chars w) where
   -- the showing wants memory
   pub line-refused : (e : Halt) → e ≡ halt.NoMemory → mid ≡ record old { world = mid.world } → EventGives start entry (held whole log mid coming) (asking_in whole mid) d (Err e)

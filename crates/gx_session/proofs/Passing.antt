@@ -10,7 +10,7 @@ use Rattle.gx_machine.specs.Log.{Log}
 use Rattle.gx_machine.specs.Advancing.{Passes, Advances}
 use Rattle.gx_machine.proofs.Steps.{went_lower, went_asks}
 use Rattle.gx_session.specs.Session.{Configuration}
-use Rattle.gx_session.specs.Playing.{Sending, Handed, Held, Going}
+use Rattle.gx_session.specs.Playing.{SendStep, Handed, Held, Going}
 use Rattle.gx_session.proofs.Asking.{step-follows, went-on}
 
 pub passed-asks : (word n : ℕ) (w w' : Whole) (left left' : ℕ) (first last : Option Log) → w.asking ≡ None → Passes word n (w, left) first (w', left') last → w'.asking ≡ None
@@ -22,7 +22,7 @@ passed-lower word zero w w' left left' first last p = subst (λ (q : Whole × �
 passed-lower word (suc n) w w' left left' first last p =
     omega (arith, went_lower p.0.0 w' word p.0.1 left' p.3, passed-lower word n w p.0.0 left p.0.1 first p.1 p.2)
 
-pub passed-going : {K : Type 0} {sending : Sending K} → (start : Configuration) (entry d : Handed sending) (h : Held) (word n : ℕ) (w w' : Whole) (left left' : ℕ) (first last : Option Log) → h.word ≡ Some word → w.asking ≡ None
+pub passed-going : {K : Type 0} {sending : SendStep K} → (start : Configuration) (entry d : Handed sending) (h : Held) (word n : ℕ) (w w' : Whole) (left left' : ℕ) (first last : Option Log) → h.word ≡ Some word → w.asking ≡ None
     → Going start entry (record h { machine = w.machine; left = left; log = first }) d → Passes word n (w, left) first (w', left') last
     → Going start entry (record h { machine = w'.machine; left = left'; log = last }) d
 passed-going start entry d h word zero w w' left left' first last drawn nothing going p =

@@ -29,7 +29,7 @@ use Rattle.gx_session.specs.Reading.{IsPartial, spare, ReadsFew}
 use Rattle.gx_session.specs.Sending.{Sent, pending, is_due, with_all, taken}
 use Rattle.gx_session.specs.Session.{Configuration, Doing, steps, asks, goes, stops, act_of, move_of, is_due_by, sends_now, all_sent, Ending, final_of, asked, asked_at}
 use Rattle.gx_session.specs.Runs.{IsFront, AreDrawn, LeavesInput, IsSaved, SavedBy, read_failures}
-use Rattle.gx_session.specs.Playing.{Sending, Handed, Held, WordIs, Past, configuration_of, HasTaken, IsPast, IsRead, Standing, Ready, Going, Done, Shown, Told, Early, status_of_halt, halt_of_send, halt_of_shelf, SendsAll, Flushes}
+use Rattle.gx_session.specs.Playing.{SendStep, Handed, Held, WordIs, Past, configuration_of, HasTaken, IsPast, IsRead, Standing, Ready, Going, Done, Shown, Told, Early, status_of_halt, halt_of_send, halt_of_shelf, SendsAll, Flushes}
 use Rattle.gx_session.proofs.Calling.{chain-append}
 use Rattle.gx_session.proofs.Saved.{unsaved-send, saved-more, saved-all}
 use Rattle.gx_session.proofs.Texts.{final-grows}
@@ -37,14 +37,14 @@ use Rattle.gx_session.proofs.Finals.{quiet-sent, stop-stays, stop-comes, reached
 use Rattle.rand_core.specs.Stream.{Stream}
 
 -- nothing was done so far
-abbrev pub no_past : {K : Type 0} {sending : Sending K} → (Trace → Request → Answer) → Handed sending → Past
+abbrev pub no_past : {K : Type 0} {sending : SendStep K} → (Trace → Request → Answer) → Handed sending → Past
 no_past answers d = record { sent = []; answers = answers; words = d.words }
 
 due-of-none : (text : List ℕ) → text ≡ [] → is_due enough_text [] text ≡ false
 due-of-none text none = subst (λ (x : List ℕ). is_due enough_text [] x ≡ false) (sym none) refl
 
 -- a run begins at its start
-pub starts : {K : Type 0} {sending : Sending K} → (answers : Trace → Request → Answer) (d : Handed sending) (h : Held) → d.asked ≡ [] → h.word ≡ None → h.ahead ≡ [] → h.over ≡ false → h.world.text ≡ [] → (d.source.tells ≡ true → h.coming ≡ d.source.left) → Going (configuration_of (no_past answers d) steps h d) d h d
+pub starts : {K : Type 0} {sending : SendStep K} → (answers : Trace → Request → Answer) (d : Handed sending) (h : Held) → d.asked ≡ [] → h.word ≡ None → h.ahead ≡ [] → h.over ≡ false → h.world.text ≡ [] → (d.source.tells ≡ true → h.coming ≡ d.source.left) → Going (configuration_of (no_past answers d) steps h d) d h d
 starts answers d h first none nothing going empty left =
     let few : length h.ahead ≡ 0 = ap length nothing in
     let size : length (h.ahead ++ h.coming) ≡ length h.ahead + length h.coming = length-append h.ahead h.coming in
@@ -79,7 +79,7 @@ words-left (Some w) stream words is = inr (sym (ap (λ (p : ℕ × Stream). p.1)
 pub pending-is : (sent : Sent) (text : List ℕ) → pending sent (concat sent ++ text) ≡ text
 pending-is sent text = drop-append_seam (concat sent) text
 
-has-taken : {K : Type 0} (sending : Sending K) (entry now now' : K) (sent : Sent) (text : List ℕ) → HasTaken sending entry now sent → sending now (taken text) now' → HasTaken sending entry now' (sent ++ text ∷ [])
+has-taken : {K : Type 0} (sending : SendStep K) (entry now now' : K) (sent : Sent) (text : List ℕ) → HasTaken sending entry now sent → sending now (taken text) now' → HasTaken sending entry now' (sent ++ text ∷ [])
 has-taken sending entry now now' sent text before call =
     subst (λ (t : List Send). Chain sending entry t now') (sym (map-append taken sent (text ∷ []))) (chain-append sending entry now now' (map taken sent) (taken text ∷ []) before (now', call, refl))
 
@@ -88,7 +88,7 @@ due-is : (enough : ℕ) (sent : Sent) (text : List ℕ) (b : Bool) → nat_le en
 due-is enough sent text b e = ap (λ (x : List ℕ). nat_le enough (length x)) (pending-is sent text) ∙ e
 
 -- A run is cut short at a configuration, after these calls of the sink.
-pub cut-at : {K : Type 0} {sending : Sending K} → (start : Configuration) (entry exit : Handed sending) (h : Held) (asking : Option Asking) (why : Halt) (cut : Cut) (m : Configuration) (sends : List Send)
+pub cut-at : {K : Type 0} {sending : SendStep K} → (start : Configuration) (entry exit : Handed sending) (h : Held) (asking : Option Asking) (why : Halt) (cut : Cut) (m : Configuration) (sends : List Send)
     → IsCut start cut m (status_of_halt why) asking → h.machine ≡ m.machine → h.left ≡ m.left → h.log ≡ m.log → IsFront (concat m.sent) m.world.text → sends ≡ sends_by_cut cut m (status_of_halt why)
     → Chain sending entry.sink sends exit.sink → IsFront m.world.text (final_of start).configuration.world.text → exit.asked ≡ asked_by_cut cut m (status_of_halt why)
     → ((IsLineCut cut m → ⊥) → LeavesInput start.input m.input h.coming entry.source exit.source (AwaitedAt start cut) (LongAt start cut) (read_failures (status_of_halt why)))
@@ -113,7 +113,7 @@ cut-at start entry exit h asking why cut m sends is machine left log front calls
   };
 }
 
-module _ {K : Type 0} {sending : Sending K} (start : Configuration) (entry : Handed sending) (h : Held) (d : Handed sending) where
+module _ {K : Type 0} {sending : SendStep K} (start : Configuration) (entry : Handed sending) (h : Held) (d : Handed sending) where
   -- the input that is left
   pub input-left : (awaited long : Type 0) → ((long → ⊥) → length h.ahead < piece) → ((awaited → ⊥) → IsRead start.input entry h d) → ReadsFew false h.over entry.source d.source start.input h.coming 0
       → (d.source.tells ≡ true → h.coming ≡ d.source.left) → LeavesInput start.input (h.ahead ++ h.coming) h.coming entry.source d.source awaited long 0

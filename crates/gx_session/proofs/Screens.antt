@@ -11,7 +11,7 @@ use Rattle.gx_session.specs.Cuts.{in_last_screen, IsLineStop, asking_at_stop}
 use Rattle.gx_session.specs.Runs.{IsFront, LeavesInput}
 use Rattle.gx_session.specs.Sending.{taken}
 use Rattle.gx_session.specs.Session.{Configuration, Ending, stop_of, with_last_screen, final_of, asked_at}
-use Rattle.gx_session.specs.Playing.{Sending, Handed, Held, configuration_of, IsPast, Done, Shown, Early}
+use Rattle.gx_session.specs.Playing.{SendStep, Handed, Held, configuration_of, IsPast, Done, Shown, Early}
 use Rattle.gx_session.proofs.Asking.{sent-before}
 use Rattle.gx_session.proofs.Playing.{cut-at, input-left, words-left}
 use Rattle.gx_session.proofs.Steps.{asked-same}
@@ -36,7 +36,7 @@ asks-same stop.InputEnded m m' machine words = asked-same m m' machine words
 asks-same stop.Stuck m m' machine words = asked-same m m' machine words
 asks-same stop.LineTooLong m m' machine words = asked-same m m' machine words
 
-module _ {K : Type 0} {sending : Sending K} (start : Configuration) (entry : Handed sending) (h : Held) (d : Handed sending) (asking : Option Asking) (why : Stop) where
+module _ {K : Type 0} {sending : SendStep K} (start : Configuration) (entry : Handed sending) (h : Held) (d : Handed sending) (asking : Option Asking) (why : Stop) where
   module _ (g : Done start entry h asking d why) where
     abbrev at-stop : Configuration
     at-stop = configuration_of g.past g.doing h d

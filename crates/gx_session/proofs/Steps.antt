@@ -66,7 +66,7 @@ asks-by w budget left (Err f) w' left' does false e some = cc
 
 -- the effect of a step
 effect-by : (w : Whole) (budget left : ℕ) (r : Result (FlatMachine × Effect) Fault) (w' : Whole) (left' : ℕ) (does : Effect) (b : Bool)
-    → (if b then Ok ((w, budget), effect.Spent) else step-done left r) ≡ Ok ((w', left'), does) → does ≢ effect.Spent → effect_of r ≡ Some does
+    → (if b then Ok ((w, budget), effect.Spent) else step-done left r) ≡ Ok ((w', left'), does) → does ≢ effect.Spent → (if b then None else effect_of r) ≡ Some does
 effect-by w budget left r w' left' does true e done =
     let spent : effect.Spent ≡ does = ap (λ (q : (Whole × ℕ) × Effect). q.1) (ok-is {A = (Whole × ℕ) × Effect} ((w, budget), effect.Spent) ((w', left'), does) e) in
     absurd (done (sym spent))
@@ -94,7 +94,7 @@ module _ (m : Configuration) (asking : Option Asking) (word : ℕ) (drawn : (nex
       → does ≢ effect.Spent → effect_at m ≡ Some does
   unfolding stepped
   step-effect w left does e done =
-      ap (λ (x : ℕ). effect_of (step_of m.machine x)) drawn
+      ap (λ (x : ℕ). if nat_lt m.left (cost_of m.machine) then None else effect_of (step_of m.machine x)) drawn
       ∙ effect-by (record { machine = m.machine; asking = asking }) m.left (m.left - cost_of m.machine) (step_of m.machine word) w left does (nat_lt m.left (cost_of m.machine)) e done
 
   -- One that meets a fault asks nothing.

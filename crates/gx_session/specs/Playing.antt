@@ -93,22 +93,22 @@ WordIs (Some word) stream words = next_u32 words ≡ (word, stream)
 
 -- THE OBJECTS of a run, as contracts see them, but for the sink, which is there itself: `sending` says what one of its
 -- calls leads to.
-abbrev pub Sending : Type 0 → Type 1
-Sending K = K → Send → K → Type 0
+abbrev pub SendStep : Type 0 → Type 1
+SendStep K = K → Send → K → Type 0
 
-pub record Handed {K : Type 0} (sending : Sending K) : Type 0 where
+pub record Handed {K : Type 0} (sending : SendStep K) : Type 0 where
   pub source : FlatSource
   pub sink : K
   pub shelf : FlatShelf
   pub words : Stream
   pub asked : Trace
 
-abbrev pub handed : {K : Type 0} {sending : Sending K} → FlatSource → K → FlatShelf → Stream → Trace → Handed sending
+abbrev pub handed : {K : Type 0} {sending : SendStep K} → FlatSource → K → FlatShelf → Stream → Trace → Handed sending
 handed source sink shelf words asked =
     record { source = source; sink = sink; shelf = shelf; words = words; asked = asked }
 
 -- with what contracts see of the sink, and with these calls of the source and of the sink
-abbrev pub devices_of : {K : Type 0} {sending : Sending K} → Handed sending → FlatSink → List Read → List Send → Devices
+abbrev pub devices_of : {K : Type 0} {sending : SendStep K} → Handed sending → FlatSink → List Read → List Send → Devices
 devices_of d sink reads sends = devices d.source sink d.shelf d.words reads sends d.asked
 
 -- What was done so far, and what is to come: the text that was sent, call by call; the answers of the shelf; the
@@ -119,7 +119,7 @@ pub record Past : Type 0 where
   pub words : Stream
 
 -- the configuration that is held
-abbrev pub configuration_of : {K : Type 0} {sending : Sending K} → Past → Doing → Held → Handed sending → Configuration
+abbrev pub configuration_of : {K : Type 0} {sending : SendStep K} → Past → Doing → Held → Handed sending → Configuration
 configuration_of p doing h d = record {
   machine = h.machine;
   world = record { scene = h.world.scene; text = concat p.sent ++ h.world.text };
@@ -135,11 +135,11 @@ configuration_of p doing h d = record {
 }
 
 -- The sink was called so since entry, and took each text whole.
-abbrev pub HasTaken : {K : Type 0} → Sending K → K → K → Sent → Type 0
+abbrev pub HasTaken : {K : Type 0} → SendStep K → K → K → Sent → Type 0
 HasTaken sending entry now sent = Chain sending entry (map taken sent) now
 
 -- The devices are those at entry after what was done so far.
-pub record IsPast {K : Type 0} {sending : Sending K} (start : Configuration) (entry : Handed sending) (p : Past)
+pub record IsPast {K : Type 0} {sending : SendStep K} (start : Configuration) (entry : Handed sending) (p : Past)
     (h : Held) (d : Handed sending) : Type 0 where
   pub taken : HasTaken sending entry.sink d.sink p.sent
   pub answers : p.answers ≡ start.answers
@@ -150,11 +150,11 @@ pub record IsPast {K : Type 0} {sending : Sending K} (start : Configuration) (en
   pub reads : ReadsFew false h.over entry.source d.source start.input h.coming 0
 
 -- The source wasn't asked where no line was taken.
-abbrev pub IsRead : {K : Type 0} {sending : Sending K} → List ℕ → Handed sending → Held → Handed sending → Type 0
+abbrev pub IsRead : {K : Type 0} {sending : SendStep K} → List ℕ → Handed sending → Held → Handed sending → Type 0
 IsRead first entry h d = (d.source ≡ entry.source) ⊎ (length (h.ahead ++ h.coming) < length first)
 
 -- What is held stands after so many moves of the run from the start.
-pub record Standing {K : Type 0} {sending : Sending K} (start : Configuration) (entry : Handed sending) (h : Held)
+pub record Standing {K : Type 0} {sending : SendStep K} (start : Configuration) (entry : Handed sending) (h : Held)
     (d : Handed sending) (doing : Doing) : Type 0 where
   pub past : Past
   pub moves : ℕ
@@ -166,23 +166,23 @@ pub record Standing {K : Type 0} {sending : Sending K} (start : Configuration) (
   pub same_end : stop_of (configuration_of past doing h d) ≡ stop_of start
 
 -- So it stands, and no text is due.
-pub record Ready {K : Type 0} {sending : Sending K} (start : Configuration) (entry : Handed sending) (h : Held)
+pub record Ready {K : Type 0} {sending : SendStep K} (start : Configuration) (entry : Handed sending) (h : Held)
     (d : Handed sending) (doing : Doing) : Type 0 where
   pub now : Standing start entry h d doing
   pub quiet : sends_now (configuration_of now.past doing h d) ≡ false
 
 -- So it stands before a step.
-abbrev pub Going : {K : Type 0} {sending : Sending K} → Configuration → Handed sending → Held → Handed sending → Type 0
+abbrev pub Going : {K : Type 0} {sending : SendStep K} → Configuration → Handed sending → Held → Handed sending → Type 0
 Going start entry h d = Ready start entry h d steps
 
 -- So it stands in the middle of a Glk call, with a machine that asks for it.
-pub record Waits {K : Type 0} {sending : Sending K} (start : Configuration) (entry : Handed sending) (h : Held)
+pub record Waits {K : Type 0} {sending : SendStep K} (start : Configuration) (entry : Handed sending) (h : Held)
     (asking : Option Asking) (d : Handed sending) (doing : Doing) : Type 0 where
   pub now : Standing start entry h d doing
   pub asking_is : asking ≡ asked (configuration_of now.past doing h d)
 
 -- The run has come to this end.
-pub record ComesTo {K : Type 0} {sending : Sending K} (end : Ending) (start : Configuration)
+pub record ComesTo {K : Type 0} {sending : SendStep K} (end : Ending) (start : Configuration)
     (entry : Handed sending) (h : Held) (asking : Option Asking) (d : Handed sending) (why : Stop) : Type 0 where
   pub past : Past
   pub doing : Doing
@@ -194,7 +194,7 @@ pub record ComesTo {K : Type 0} {sending : Sending K} (end : Ending) (start : Co
   pub asking_is : asking ≡ asked_at why (configuration_of past doing h d)
 
 -- A stop has come.
-abbrev pub Done : {K : Type 0} {sending : Sending K} → Configuration → Handed sending → Held → Option Asking
+abbrev pub Done : {K : Type 0} {sending : SendStep K} → Configuration → Handed sending → Held → Option Asking
     → Handed sending → Stop → Type 0
 Done start entry h asking d why = ComesTo (stop_of start) start entry h asking d why
 
@@ -215,7 +215,7 @@ halt_of_shelf of_shelf.Failed = halt.Shelf
 halt_of_shelf of_shelf.NoMemory = halt.NoMemory
 
 -- The run is cut short, after these calls of the sink.
-pub record Early {K : Type 0} {sending : Sending K} (start : Configuration) (entry : Handed sending) (h : Held)
+pub record Early {K : Type 0} {sending : SendStep K} (start : Configuration) (entry : Handed sending) (h : Held)
     (asking : Option Asking) (d : Handed sending) (why : Halt) : Type 0 where
   pub sends : List Send
   pub chain : Chain sending entry.sink sends d.sink
@@ -224,7 +224,7 @@ pub record Early {K : Type 0} {sending : Sending K} (start : Configuration) (ent
       h.coming (status_of_halt why) h.left (record { machine = h.machine; asking = asking }) h.log
 
 -- The machine has made a step from a configuration of the run, with this effect and these units left.
-pub record Follows {K : Type 0} {sending : Sending K} (start : Configuration) (entry : Handed sending) (h : Held)
+pub record Follows {K : Type 0} {sending : SendStep K} (start : Configuration) (entry : Handed sending) (h : Held)
     (d : Handed sending) (left : ℕ) (does : Effect) : Type 0 where
   -- the machine before the step, and what was recorded then
   pub before : FlatMachine
@@ -243,7 +243,7 @@ pub record Follows {K : Type 0} {sending : Sending K} (start : Configuration) (e
 
 -- From a configuration of the run the Glk world has moved on, and the machine becomes this one, with which the event is
 -- recorded. It may want memory for that where this holds.
-pub record Resumes {K : Type 0} {sending : Sending K} (start : Configuration) (entry : Handed sending) (h : Held)
+pub record Resumes {K : Type 0} {sending : SendStep K} (start : Configuration) (entry : Handed sending) (h : Held)
     (asking : Option Asking) (d : Handed sending) (left : ℕ) (machine : FlatMachine) (wants : Type 0) : Type 0 where
   -- the world before
   pub world : FlatWorld
@@ -265,18 +265,18 @@ pub record Resumes {K : Type 0} {sending : Sending K} (start : Configuration) (e
       wants → WantsMemory doing m asking
 
 -- It takes a reply.
-abbrev pub Replies : {K : Type 0} {sending : Sending K} → Configuration → Handed sending → Held → Option Asking
+abbrev pub Replies : {K : Type 0} {sending : SendStep K} → Configuration → Handed sending → Held → Option Asking
     → Handed sending → ℕ → Reply → Type 0
 Replies start entry h asking d left reply =
     Resumes start entry h asking d left (answer_of h.machine reply) (ReplyWants h.log h.machine reply)
 
 -- It goes back to a copy.
-abbrev pub GoesBack : {K : Type 0} {sending : Sending K} → Configuration → Handed sending → Held → Option Asking
+abbrev pub GoesBack : {K : Type 0} {sending : SendStep K} → Configuration → Handed sending → Held → Option Asking
     → Handed sending → ℕ → Copy → Type 0
 GoesBack start entry h asking d left copy = Resumes start entry h asking d left (restored h.machine copy) (Unit {0})
 
 -- A Glk call has come to a turn from a configuration of the run.
-pub record Turns {K : Type 0} {sending : Sending K} (start : Configuration) (entry : Handed sending) (h : Held)
+pub record Turns {K : Type 0} {sending : SendStep K} (start : Configuration) (entry : Handed sending) (h : Held)
     (asking : Option Asking) (d : Handed sending) (w : Waiting) (turn : Turn) : Type 0 where
   pub world : FlatWorld
   pub said : Said
@@ -300,14 +300,14 @@ IsNext (next.Stops stop) = IsStop stop
 
 -- WHAT A PART OF A RUN COMES TO
 -- an event
-abbrev pub EventGives : {K : Type 0} {sending : Sending K} → Configuration → Handed sending → Held → Option Asking
+abbrev pub EventGives : {K : Type 0} {sending : SendStep K} → Configuration → Handed sending → Held → Option Asking
     → Handed sending → Result Next Halt → Type 0
 EventGives start entry h asking d (Ok next.Goes) = Going start entry h d
 EventGives start entry h asking d (Ok (next.Stops stop)) = Done start entry h asking d stop
 EventGives start entry h asking d (Err why) = Early start entry h asking d why
 
 -- all events
-abbrev pub StopGives : {K : Type 0} {sending : Sending K} → Configuration → Handed sending → Held → Option Asking
+abbrev pub StopGives : {K : Type 0} {sending : SendStep K} → Configuration → Handed sending → Held → Option Asking
     → Handed sending → Result Stop Halt → Type 0
 StopGives start entry h asking d (Ok stop) = Done start entry h asking d stop
 StopGives start entry h asking d (Err why) = Early start entry h asking d why
@@ -319,13 +319,13 @@ FaultGives fault result =
     ⊎ ((fault ≢ NoMemory) × (result ≡ Ok (next.Stops (stop.Faulted fault))))
 
 -- The pending text was sent in one call, which took it whole or was refused.
-abbrev pub SendsAll : {K : Type 0} → Sending K → K → K → FlatWorld → FlatWorld → Result (Unit {0}) Halt → Type 0
+abbrev pub SendsAll : {K : Type 0} → SendStep K → K → K → FlatWorld → FlatWorld → Result (Unit {0}) Halt → Type 0
 SendsAll sending before now old new (Ok u) = sending before (taken old.text) now × (new ≡ record old { text = [] })
 SendsAll sending before now old new (Err why) =
     (fault : SendFault) × sending before (old.text, Err fault) now × (why ≡ halt_of_send fault)
 
 -- The pending text is sent where it has so many bytes or more, and else nothing happens.
-pub record Flushes {K : Type 0} (sending : Sending K) (enough : ℕ) (before now : K) (old new : FlatWorld)
+pub record Flushes {K : Type 0} (sending : SendStep K) (enough : ℕ) (before now : K) (old new : FlatWorld)
     (result : Result (Unit {0}) Halt) : Type 0 where
   pub few : length old.text < enough → (now ≡ before) × (new ≡ old) × IsOk result
   pub many : enough ≤ length old.text → SendsAll sending before now old new result
@@ -377,7 +377,7 @@ pub record Keeps {T : Type 0} (before now : Devices) (result : Result T Halt) : 
   pub shelf_tells : now.shelf.tells ≡ before.shelf.tells
 
 -- A Glk call that went on has come to a turn from a configuration of the run.
-pub record GoesOn {K : Type 0} {sending : Sending K} (start : Configuration) (entry : Handed sending) (h : Held)
+pub record GoesOn {K : Type 0} {sending : SendStep K} (start : Configuration) (entry : Handed sending) (h : Held)
     (asking : Option Asking) (d : Handed sending) (w : Waiting) (turn : Turn) : Type 0 where
   pub world : FlatWorld
   pub said : Said
@@ -392,7 +392,7 @@ pub record GoesOn {K : Type 0} {sending : Sending K} (start : Configuration) (en
       TurnWants h.log h.machine (Ok (said, turn)) → WantsMemory (goes_on given w) m asking
 
 -- A line was taken at a wait.
-pub record TakesInput {K : Type 0} {sending : Sending K} (start : Configuration) (entry : Handed sending) (h : Held)
+pub record TakesInput {K : Type 0} {sending : SendStep K} (start : Configuration) (entry : Handed sending) (h : Held)
     (asking : Option Asking) (d : Handed sending) (chars : List ℕ) (w : Waiting) : Type 0 where
   -- the wait, and what was held and read before
   pub turn : Turn
@@ -419,12 +419,12 @@ without_line no.NoMemory = Err halt.NoMemory
 
 -- THE ENDING
 -- A stop has come, and the last screen was shown.
-abbrev pub Shown : {K : Type 0} {sending : Sending K} → Configuration → Handed sending → Held → Option Asking
+abbrev pub Shown : {K : Type 0} {sending : SendStep K} → Configuration → Handed sending → Held → Option Asking
     → Handed sending → Stop → Type 0
 Shown start entry h asking d why = ComesTo (final_of start) start entry h asking d why
 
 -- Then all text was sent.
-pub record Told {K : Type 0} {sending : Sending K} (start : Configuration) (entry : Handed sending) (h : Held)
+pub record Told {K : Type 0} {sending : SendStep K} (start : Configuration) (entry : Handed sending) (h : Held)
     (asking : Option Asking) (d : Handed sending) (why : Stop) : Type 0 where
   pub past : Past
   pub doing : Doing
@@ -438,7 +438,7 @@ pub record Told {K : Type 0} {sending : Sending K} (start : Configuration) (entr
   pub none_left : h.world.text ≡ []
 
 -- Then all open files were stored, after these calls of the shelf, which was this one.
-pub record Finished {K : Type 0} {sending : Sending K} (start : Configuration) (entry : Handed sending) (h : Held)
+pub record Finished {K : Type 0} {sending : SendStep K} (start : Configuration) (entry : Handed sending) (h : Held)
     (asking : Option Asking) (d : Handed sending) (why : Stop) : Type 0 where
   pub shelf : FlatShelf
   pub before : Trace
@@ -446,13 +446,13 @@ pub record Finished {K : Type 0} {sending : Sending K} (start : Configuration) (
   pub asked_are : d.asked ≡ before ++ map call_of (stores_of h.world.scene)
 
 -- what the ending comes to
-abbrev pub EndingGives : {K : Type 0} {sending : Sending K} → Configuration → Handed sending → Held → Option Asking
+abbrev pub EndingGives : {K : Type 0} {sending : SendStep K} → Configuration → Handed sending → Held → Option Asking
     → Handed sending → Stop → Result (Unit {0}) Halt → Type 0
 EndingGives start entry h asking d stop (Ok u) = Finished start entry h asking d stop
 EndingGives start entry h asking d stop (Err why) = Early start entry h asking d why
 
 -- what a run comes to
-abbrev pub RunGives : {K : Type 0} {sending : Sending K} → Configuration → Handed sending → Held → Option Asking
+abbrev pub RunGives : {K : Type 0} {sending : SendStep K} → Configuration → Handed sending → Held → Option Asking
     → Handed sending → Result Stop Halt → Type 0
 RunGives start entry h asking d (Ok stop) = Finished start entry h asking d stop
 RunGives start entry h asking d (Err why) = Early start entry h asking d why

@@ -43,12 +43,12 @@ SayEnd ((room, Ok []) ∷ reads) = Unit {0}
 SayEnd ((room, gave) ∷ reads) = SayEnd reads
 
 -- what one read of a source leads to
-abbrev pub Reading : Type 0 → Type 1
-Reading S = S → Read → S → Type 0
+abbrev pub ReadStep : Type 0 → Type 1
+ReadStep S = S → Read → S → Type 0
 
 -- The source was called so. Whatever comes after these calls, there is what came before them, so that the calls relate
 -- the two so: it begins with the bytes that they gave.
-pub record Fed {S : Type 0} (reading : Reading S) (seen : S → FlatSource) (old new : HeldLines) (before now : S)
+pub record Fed {S : Type 0} (reading : ReadStep S) (seen : S → FlatSource) (old new : HeldLines) (before now : S)
     (P : List ℕ → List ℕ → Type 0) : Type 0 where
   pub reads : List Read
   pub chain : Chain reading before reads now
@@ -129,7 +129,7 @@ Fills old new before now (Err no.NoMemory) (Ok got) = Loses old new before now g
 Fills old new before now result gave = ⊥
 
 -- A piece was read, in one call.
-pub record FillsBy {S : Type 0} (reading : Reading S) (seen : S → FlatSource) (old new : HeldLines) (before now : S)
+pub record FillsBy {S : Type 0} (reading : ReadStep S) (seen : S → FlatSource) (old new : HeldLines) (before now : S)
     (result : Result (Unit {0}) NoLine) : Type 0 where
   pub gave : Result (List ℕ) Failed
   pub call : reading before (piece, gave) now

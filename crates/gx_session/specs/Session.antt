@@ -272,9 +272,10 @@ abbrev pub effect_of : Result (FlatMachine × Effect) Fault → Option Effect
 effect_of (Ok r) = Some r.1
 effect_of (Err fault) = None
 
--- What the step from here does or asks.
+-- What the step from here does or asks, where the budget is enough for it.
 abbrev pub effect_at : Configuration → Option Effect
-effect_at m = effect_of (step_of m.machine (next_u32 m.words).0)
+effect_at m =
+    if nat_lt m.left (cost_of m.machine) then None else effect_of (step_of m.machine (next_u32 m.words).0)
 
 -- what a step asks, if it is done and asks something
 abbrev pub asked_by : Result (FlatMachine × Effect) Fault → Option Asking
