@@ -10,12 +10,13 @@
 --   sent or drawn then either.
 -- - Else the story runs. The run is the session of gx_session/specs/Session, from the story's first machine, with the
 --   command's depth of undo, to the session's end (`IsRun`): its status, fault, address and steps, the machine and what
---   it asks, the text, the random words and the input that is left; the calls of the sink, one by one: which bytes of
---   the text each was handed, and that it took them whole (`sends_are`); and the calls of the shelf, one by one: what
---   was loaded, stored, removed and looked for, under which names and in which order, and what the shelf answered
---   (`asked_are`). Or it was cut short, because a device failed or memory ran out: then the machine stands at one of the
---   session's configurations, and the calls of the sink and of the shelf are those up to there, with the one that was
---   refused where it was the sink or the shelf that refused.
+--   it asks, the text, the input and the random words that are left (one more of these may be drawn, since a step is
+--   handed the word that it may use); the calls of the sink, one by one: which bytes of the text each was handed, and
+--   that it took them whole (`sends_are`); and the calls of the shelf, one by one: what was loaded, stored, removed and
+--   looked for, under which names and in which order, and what the shelf answered (`asked_are`). Or it was cut short,
+--   because a device failed or memory ran out: then the machine stands at one of the session's configurations, and the
+--   calls of the sink and of the shelf are those up to there, with the one that was refused where it was one of these
+--   two that refused.
 -- - In job rewind the story runs just so, and its run is recorded. Where it came to its end, with a status below 8, one
 --   line of specs/Rewinding follows the text as it stands, also in mid-line. It tells of the machine at the newest
 --   beginning of a step since when at least so many units were used as the command says; at the first one, where fewer
@@ -59,15 +60,17 @@
 -- The shelf is asked once for the file, and then exactly as the session asks it; in job work it isn't asked. Where it
 -- tells what it holds, each answer is the one of its files as the calls before left them, and its files in the end are
 -- what the calls make of them, but for the one that a refused store or remove leaves open (`shelf_calls`). What a
--- source and a sink that tell hold in the end follows likewise (`source_calls`, `sink_calls`). Text is
--- sent before the shelf or the source is asked for anything. Each read of the source has room for 4,096 bytes; fewer
--- are read ahead of the lines that were taken, and none where no line is awaited. The status blames a device exactly
--- where a call of it failed in this run, which was then its last one. Each restoreundo of the session goes back to the
--- newest saveundo that was neither used, nor discarded, nor dropped as the oldest (`LastsUndo`), whatever was restored
--- from files in between; the protected range keeps its bytes. The bytes of each save that the session makes are read as
--- the very copy that was saved (`SavedAll`, `SavedBy`). So is every copy that fits the story, and each save that was one while memory had a lower ceiling, such
--- as 0x04000000, is restored as the same copy (`SavesReadBack`). And where no count of failures rose the status is the
--- outcome's, or memory ran out (`IsComplete`).
+-- source and a sink that tell hold in the end follows likewise (`source_calls`, `sink_calls`). Text is sent before the
+-- shelf or the source is asked for anything. Each read of the source has room for 4,096 bytes; fewer are read ahead of
+-- the lines that were taken, but for a line that was awaited and is too long, one in which the source failed (then
+-- fewer than 65,536; `LeavesInput`), and one in which memory was wanted, of which nothing is said. None is read where
+-- no line is awaited. The status blames a device exactly where a call of it failed in this run, which was then its last
+-- one. Each restoreundo of the session goes back to the newest saveundo that was neither used, nor discarded, nor
+-- dropped as the oldest (`LastsUndo`), whatever was restored from files in between; the protected range keeps its
+-- bytes. The bytes that each save of the session puts to its stream are read as the very copy that was saved
+-- (`SavedAll`, `SavedBy`). So are those of every copy that fits the story; and each save that was one while memory had
+-- a lower ceiling, such as 0x04000000, is restored as the same copy (`SavesReadBack`). And where no count of failures
+-- rose the status is the outcome's, or memory ran out (`IsComplete`).
 --
 -- Premises: that the story's file is the one that the shelf holds is said of a shelf that tells what it holds, as one
 -- in memory does. A real one doesn't, and there the run is that of the bytes that it handed out (`loads`), and the
@@ -80,6 +83,9 @@
 --
 -- Limits: nothing is said of time, nor of how much memory a run takes; that ample memory suffices is only tested.
 -- Nothing is said of what a terminal makes of the text: the composed screen counts columns by the crate unicode_width.
+-- Three definitions have a last case that no run comes to, and no clause here says so: `final_in` without moves (that
+-- there are always enough is proved in gx_session/proofs/Finals), a turn that is no answer where a call has gone on (a
+-- clause of glk_dispatch's `go_on`), and a fault on the way back to a copy (gx_state/proofs/Backs).
 -- Status 11 (`status_no_memory`) is a free answer in these places, and, of devices that tell, in no others:
 --
 -- - Before anything is done, whatever the words are. So a body that does nothing and answers so meets the contract.
@@ -101,9 +107,10 @@
 --   comes to, and at each answer; and after the run where it goes back, and for the line. Where the line is sent it is
 --   one only if the sink says that it wanted memory.
 --
--- So status 11 may not stand for a story that isn't there, a device that failed, a step's fault, a step that neither
--- writes nor asks, the end of the input, the end of a program, a vain wait or a spent budget. Two exceptions are named
--- above: a fault of a save, and the ending. In job rewind any step may want memory.
+-- So, once the shelf was asked for the story, status 11 may not stand for a story that isn't there, a device that
+-- failed, a step's fault, a step that neither writes nor asks, the end of the input, the end of a program, a vain wait
+-- or a spent budget. Two exceptions are named above: a fault of a save, and the ending. In job rewind any step may want
+-- memory.
 use Rattle.std.specs.Prelude.{◌≡◌, ◌≢◌, ℕ, ◌<◌, ◌≤◌, nat_lt, if◌then◌else◌, length, List, [], ◌∷◌, ◌++◌, ◌⊎◌, ◌↔◌, true}
 use Rattle.std.specs.Prelude.{Option, Some, None, IsSome, IsSomeAnd, Result, Ok, Err}
 use Rattle.gx_words.specs.declared.faults.Fault.{Fault}
