@@ -16,7 +16,7 @@ use Rattle.gx_state.specs.Flat.{FlatState, cut, sp_of}
 use Rattle.gx_state.specs.Copies.{Copy, copy_of, restored_to}
 use Rattle.gx_undo.specs.Undo.{FlatUndo, with_newest, without_newest}
 use Rattle.gx_operands.specs.Instructions.{Instruction, instruction, going_to}
-use Rattle.gx_operands.specs.Stores.{settled, goes}
+use Rattle.gx_operands.specs.Stores.{settled, goes as row-goes}
 use Rattle.ops_print.specs.Items.{item}
 use Rattle.ops_flow.specs.Rows as flow
 use Rattle.ops_memory.specs.Rows as memory
@@ -98,8 +98,8 @@ others-stay f u word i not-saves not-restores not-discards =
     stays-if u _ _ _ (stays-lifted u (game.setstringtbl f i)) (
     stays-if u _ _ _ (stays-lifted u (game.getiosys f i)) (
     stays-if u _ _ _ (stays-lifted u (game.setiosys f i)) (
-    stays-if u _ _ _ (stays-lifted u (goes f i)) (
-    stays-if u _ _ _ (stays-lifted u (goes f i)) (
+    stays-if u _ _ _ (stays-lifted u (row-goes f i)) (
+    stays-if u _ _ _ (stays-lifted u (row-goes f i)) (
     stays-faulted u BadOpcode))))))))))))))))))))
 
 saves-row : (f : FlatState) (u : FlatUndo) (word : ℕ) (i : Instruction) → i.row.number ≡ numbers.saveundo → game.row_effect f u word i ≡ game.saveundo f u i
