@@ -6,7 +6,7 @@
 ghost use Rattle.std.specs.Prelude.{◌≡◌, ◌≤◌, false, [], IfOk, length};
 ghost use Rattle.std.specs.Io.KnownBytes.{ReadConsumes};
 ghost use Rattle.gx_outside.specs.Outside.{no_call};
-ghost use Rattle.gx_outside.specs.Reads.{SourceCall};
+ghost use Rattle.gx_outside.specs.Reads.{SourceCall, given};
 
 use gx_outside::{Calls, Failed, Source};
 use std::io::Read;
@@ -46,7 +46,11 @@ impl<I: Read> Source for StdSource<I> {
 
     fn read(&mut self, into: &mut [u8]) -> Result<usize, Failed>
         ensures bound { IfOk result (λ count. count ≤ length into.old) }
-        ensures given { ReadConsumes (I.remaining self.old.reader) (I.remaining self.new.reader) result into.new }
+        ensures does { SourceCall
+            (record { calls = self.old.calls; offered = self.old.offered; tells = false; left = [] })
+            (length into.old, given into.new result)
+            (record { calls = self.new.calls; offered = self.new.offered; tells = false; left = [] }) }
+        ensures next { ReadConsumes (I.remaining self.old.reader) (I.remaining self.new.reader) result into.new }
     {
         self.offered = self.offered.saturating_add(into.len() as u64);
         let count = self.reader.read(into);
