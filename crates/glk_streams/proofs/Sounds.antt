@@ -75,6 +75,10 @@ pub sound_move : (s : Stream) (position : ℕ) → IsSoundStream s → position 
     → IsSoundStream (record s { position = position })
 sound_move s position sound within = record { kind = sound.kind; position = within }
 
+-- a stream that goes nowhere
+pub sound_taken : (s : Stream) → s.kind ≡ kinds.Memory 0 0 false → s.position ≡ 0 → IsSoundStream s
+sound_taken s kind position = record { kind = rw kind tt; position = grind (arith, position) }
+
 -- a window's stream is counted alone
 window_kind : (k : StreamKind) (s : Stream) (c : ℕ) → window_in k ≢ 0 → put_in k s c ≡ s
 window_kind (kinds.Window win) s c some = refl

@@ -184,6 +184,11 @@ file_in (kinds.Window win) = None
 file_in (kinds.Memory at len wide) = None
 file_in (kinds.File name content form) = Some (name, content)
 
+-- A file is taken out of its stream, to be stored. The stream goes nowhere then, as one of memory without a buffer
+-- ("Memory Streams"); its counts stay.
+abbrev pub without_file : Stream → Stream
+without_file s = record s { kind = kinds.Memory 0 0 false; position = 0 }
+
 -- a file that has to be stored when it is closed
 abbrev pub is_stored : StreamKind → Stream → Bool
 is_stored (kinds.Window win) s = false

@@ -1,10 +1,10 @@
 //! One stream: a character is put, or got, or its position moves (Glk 0.7.5, "Streams").
 ghost use Rattle.std.specs.Prelude.{ℕ, ◌≡◌, ◌≢◌, ◌≤◌, ◌<◌, ◌+◌, ◌^◌, not, length, OnErr, OnOk, IfOk, IfSome};
-ghost use Rattle.std.specs.Prelude.{MatchOption, IsTrue};
-ghost use Rattle.glk_streams.specs.Stream.{readable, writable, allows, opened, window_of, file_in, is_stored};
+ghost use Rattle.std.specs.Prelude.{MatchOption, IsTrue, Some, is_some};
+ghost use Rattle.glk_streams.specs.Stream.{readable, writable, allows, opened, window_of, file_in, without_file};
 ghost use Rattle.glk_streams.specs.Stream.{places_of, end_of, after_put, after_puts, takes_bytes, latin_rest};
 ghost use Rattle.glk_streams.specs.Stream.{lengthens, next_of, next_from, passed, char_of, after_get, clamped, moved};
-ghost use Rattle.glk_streams.specs.Stream.{places, fits};
+ghost use Rattle.glk_streams.specs.Stream.{is_stored, places, fits};
 ghost use Rattle.glk_streams.specs.Sound.{IsSoundKind, IsSoundStream};
 
 use crate::content::{byte_at, positions_in, put_in, read_in, saved_size};
@@ -12,7 +12,9 @@ use crate::{
     FROM_CURRENT, FROM_END, FROM_START, FileForm, LARGEST, Places, READ, READ_WRITE, Stream,
     StreamKind, WRITE, WRITE_APPEND,
 };
+use gx_words::{Bytes, Name};
 use std::alloc::AllocError;
+use std::mem;
 
 pub fn readable(stream: &Stream) -> bool
     ensures { result ≡ readable stream.now }
@@ -70,6 +72,29 @@ pub fn file_in(stream: &Stream) -> Option<(&str, &[u8])>
     match &stream.kind {
         StreamKind::File { name, content, .. } => Some((name.as_str(), content.as_slice())),
         _ => None,
+    }
+}
+
+/// Takes the full name and the content of a file out of its stream, which goes nowhere then.
+#[tactic(auto, using(crate::proofs::Sounds::sound_taken))]
+pub fn take_file(stream: &mut Stream) -> (Name, Bytes)
+    requires sound { IsSoundStream stream.old }
+    requires file { IsTrue (is_some (file_in stream.old.kind)) }
+    ensures value { file_in stream.old.kind ≡ Some result }
+    ensures fits { length result.1 ≤ LARGEST }
+    ensures new { stream.new ≡ without_file stream.old }
+    ensures sound { IsSoundStream stream.new }
+    ensures id { stream.new.id ≡ stream.old.id }
+{
+    stream.position = 0;
+    let nowhere = StreamKind::Memory {
+        at: 0,
+        len: 0,
+        wide: false,
+    };
+    match mem::replace(&mut stream.kind, nowhere) {
+        StreamKind::File { name, content, .. } => (name, content),
+        _ => unreachable!(),
     }
 }
 

@@ -1,6 +1,6 @@
 //! All streams, in order of creation.
 ghost use Rattle.std.specs.Prelude.{ℕ, ◌≡◌, ◌≢◌, ◌≤◌, ◌<◌, ◌+◌, ◌^◌, ◌++◌, ◌∷◌, ◌==◌, [], true, false, not, length};
-ghost use Rattle.std.specs.Prelude.{filter, map, IfOk, IfSome, MatchOption, OnErr, OnOk, IsTrue};
+ghost use Rattle.std.specs.Prelude.{filter, map, Some, is_some, IfOk, IfSome, MatchOption, OnErr, OnOk, IsTrue};
 ghost use Rattle.std.specs.List.{list_any};
 ghost use Rattle.glk_objects.specs.Objects.{IsAbove, IsBelow, place, met_from};
 ghost use Rattle.glk_streams.specs.Stream as one;
@@ -11,7 +11,7 @@ ghost use Rattle.glk_streams.specs.Constants.{largest};
 
 use crate::{Places, Stream, StreamKind, one};
 use glk_objects::{next, place};
-use gx_words::Numbers;
+use gx_words::{Bytes, Name, Numbers};
 use std::alloc::{AllocError, Global};
 use std::marker::Model;
 
@@ -305,6 +305,19 @@ impl Streams {
         ensures fits { IfSome result (λ file. length file.1.now ≤ largest) }
     {
         one::file_in(self.items.get(place(&self.items, id))?)
+    }
+
+    /// Takes the full name and the content of a file out of its stream, which goes nowhere then.
+    #[tactic(auto, using(crate::proofs::Lists::places))]
+    pub fn take_file(&mut self, id: u32) -> (Name, Bytes)
+        requires there { IsTrue (has self.old id) }
+        requires file { IsTrue (is_some (file_of self.old id)) }
+        ensures value { file_of self.old id ≡ Some result }
+        ensures fits { length result.1 ≤ largest }
+        ensures new { self.new ≡ with_stream self.old (one.without_file (stream self.old id)) }
+    {
+        let at = place(&self.items, id);
+        one::take_file(&mut self.items[at])
     }
 
     /// The files that are open for writing, in order of creation: they are stored when they are closed.
