@@ -12,6 +12,7 @@ use Rattle.glk_objects.proofs.Rising.{rises_filter}
 use Rattle.glk_objects.proofs.Above.{above_more, above_end, at_absent}
 use Rattle.glk_streams.specs.declared.kinds.Stream.{Stream}
 use Rattle.glk_streams.specs.declared.kinds.StreamKind.{StreamKind}
+use Rattle.glk_streams.specs.declared.kinds.StreamKind.TheVariants as kinds
 use Rattle.glk_streams.specs.Stream as one
 use Rattle.glk_streams.specs.Streams as streams
 use Rattle.glk_windows.specs.declared.entries.Entry.{Entry}
@@ -435,6 +436,16 @@ moved_kind s pos seek = grind (arith, nat_tests)
 
 pub as_moved : (s : Stream) (pos seek : ℕ) → IsAsNamed s (one.moved s pos seek)
 as_moved s pos seek = record { id = moved_id s pos seek; window = ap one.window_in (moved_kind s pos seek) }
+
+-- a file is no window's
+file_window : (kind : StreamKind) (file : List ℕ × List ℕ) → one.file_in kind ≡ Some file → one.window_in kind ≡ 0
+file_window (kinds.Window win) file is = absurd (cc)
+file_window (kinds.Memory at len wide) file is = refl
+file_window (kinds.File name content form) file is = refl
+
+pub as_taken : (s : Stream) (file : List ℕ × List ℕ) → one.file_in s.kind ≡ Some file
+    → IsAsNamed s (one.without_file s)
+as_taken s file is = record { id = refl; window = sym (file_window s.kind file is) }
 
 pub linked_changed : (es : List Entry) (xs : List Stream) (s n : ℕ) (new : Stream) → streams.has xs s ≡ true
     → IsAsNamed (streams.stream xs s) new → AreLinked es xs n → AreLinked es (streams.with_stream xs new) n

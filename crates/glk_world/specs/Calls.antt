@@ -131,6 +131,11 @@ without_stream w id = record w {
   current = if w.current == id then 0 else w.current;
 }
 
+-- a file is taken out of its stream, to be stored
+unfoldable pub without_file : Scene → ℕ → Scene
+without_file w id =
+    record w { streams = streams.with_stream w.streams (one.without_file (streams.stream w.streams id)) }
+
 unfoldable pub sought : Scene → ℕ → ℕ → ℕ → Scene
 sought w id pos seek =
     record w { streams = streams.with_stream w.streams (one.moved (streams.stream w.streams id) pos seek) }

@@ -1,6 +1,8 @@
 //! Windows, streams, file references and requests are made, changed and taken away.
-ghost use Rattle.std.specs.Prelude.{◌≡◌, [], ◌+◌, ◌≤◌, ◌<◌, ◌^◌, ◌⊎◌, None, OnOk, OnErr, IfOk, IsTrue};
+ghost use Rattle.std.specs.Prelude.{◌≡◌, [], ◌+◌, ◌≤◌, ◌<◌, ◌^◌, ◌⊎◌, None, Some, is_some, OnOk, OnErr, IfOk, IsTrue};
+ghost use Rattle.std.specs.Prelude.{length};
 ghost use Rattle.glk_objects.specs.Objects as objects;
+ghost use Rattle.glk_streams.specs.Constants.{largest};
 ghost use Rattle.glk_streams.specs.Stream as one;
 ghost use Rattle.glk_streams.specs.Streams as streams;
 ghost use Rattle.glk_streams.specs.Sound.{IsSoundKind};
@@ -13,7 +15,7 @@ ghost use Rattle.glk_world.specs.Shown.{line_taken};
 ghost use Rattle.glk_world.specs.Calls.{is_identifier, new_id, with_reference, without_reference, can_open, opened_id};
 ghost use Rattle.glk_world.specs.Calls.{with_streams, window_stream, with_window, unless_gone, without_requests};
 ghost use Rattle.glk_world.specs.Calls.{without_texts, window_counts, without_window, arranged, cleared, moved};
-ghost use Rattle.glk_world.specs.Calls.{with_stream, without_stream, sought};
+ghost use Rattle.glk_world.specs.Calls.{with_stream, without_stream, without_file, sought};
 
 use crate::{FileReference, LAST_IDENTIFIER, World};
 use glk_events::{Request, Requests};
@@ -21,7 +23,7 @@ use glk_objects::place;
 use glk_screen::Screen;
 use glk_streams::{StreamKind, Streams, WRITE};
 use glk_windows::Windows;
-use gx_words::Name;
+use gx_words::{Bytes, Name};
 use std::alloc::{AllocError, Global};
 
 impl World {
@@ -162,6 +164,18 @@ impl World {
         if self.current == id {
             self.current = 0;
         }
+    }
+
+    /// Takes the full name and the content of a file out of its stream, which stays and goes nowhere.
+    #[tactic(auto, using(crate::proofs::Kept::streams_kept), unfolding(crate::specs::Calls::without_file))]
+    pub fn take_file(&mut self, id: u32) -> (Name, Bytes)
+        requires there { IsTrue (streams.has self.old.scene.streams id) }
+        requires file { IsTrue (is_some (streams.file_of self.old.scene.streams id)) }
+        ensures value { streams.file_of self.old.scene.streams id ≡ Some result }
+        ensures fits { length result.1 ≤ largest }
+        ensures new { self.new ≡ after self.old (silent (without_file self.old.scene id)) }
+    {
+        self.streams.take_file(id)
     }
 
     /// Sets a stream's position, which `pos` counts as a signed number from the start, the position or the end.
