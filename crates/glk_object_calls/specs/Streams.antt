@@ -12,7 +12,7 @@ use Rattle.glk_streams.specs.declared.kinds.StreamKind.TheVariants as kinds
 use Rattle.glk_streams.specs.Stream as one
 use Rattle.glk_streams.specs.Streams as streams
 use Rattle.glk_world.specs.World.{Scene, silent, Outcome, answered, waits, arg}
-use Rattle.glk_world.specs.Calls.{new_id, with_stream, without_stream, sought}
+use Rattle.glk_world.specs.Calls.{new_id, with_stream, without_stream, without_file, sought}
 use Rattle.glk_replies.specs.declared.Turn.{Turn}
 use Rattle.glk_replies.specs.declared.Turn.TheVariants.{Answer, Store}
 use Rattle.glk_replies.specs.Numbers as selectors
@@ -62,17 +62,18 @@ close w f room args = do
   reply ← give f room 0 (arg args 1) (counts w (arg args 0))
   answered (closed w (arg args 0)) reply
 
--- the name and the content of a file that is open for writing: it is stored before it is closed
+-- the name and the content of a file that is open for writing: it is stored before its stream is closed
 abbrev pub stored : Scene → ℕ → Option (List ℕ × List ℕ)
 stored w id = if one.writable (stream_of w id) then streams.file_of w.streams id else None
 
+-- the file is taken out of its stream, which is closed once the file is stored
 abbrev pub closing_by : Option (List ℕ × List ℕ) → Scene → FlatState → ℕ → List ℕ → Outcome Turn
 closing_by None w f room args = do
   done ← close w f room args
   Ok (done.0, Answer done.1)
 closing_by (Some file) w f room args = do
   there ← can_give_pair f room (arg args 1)
-  Ok (silent (waits w selectors.stream_close args), Store file.0 file.1)
+  Ok (silent (waits (without_file w (arg args 0)) selectors.stream_close args), Store file.0 file.1)
 
 unfoldable pub stream_close : Scene → FlatState → ℕ → List ℕ → Outcome Turn
 stream_close w f room args = closing_by (stored w (arg args 0)) w f room args

@@ -1,10 +1,9 @@
 //! The calls of streams (Glk 0.7.5, "Streams"; specs/Streams).
-ghost use Rattle.std.specs.Prelude.{◌≡◌, ℕ, ◌+◌, ◌==◌, ◌≤◌, ◌&&◌, ◌||◌, not, Some, None, Ok, is_some, length, map};
-ghost use Rattle.std.specs.Prelude.{IfOk, IfSome, IsTrue, MatchOption};
+ghost use Rattle.std.specs.Prelude.{◌≡◌, ℕ, ◌+◌, ◌==◌, ◌≤◌, ◌&&◌, not, Ok, is_some, length, map};
+ghost use Rattle.std.specs.Prelude.{IfOk, IsTrue};
 ghost use Rattle.gx_state.specs.Flat.{FlatState};
 ghost use Rattle.gx_state.specs.Replies.{IsReply};
 ghost use Rattle.glk_objects.specs.Objects.{met_from};
-ghost use Rattle.glk_streams.specs.Constants.{largest};
 ghost use Rattle.glk_streams.specs.Stream as one;
 ghost use Rattle.glk_streams.specs.Streams as streams;
 ghost use Rattle.glk_world.specs.World.{after, silent, arg, Calls};
@@ -20,7 +19,7 @@ use glk_replies::{Turn, can_give_pair, give, reply};
 use glk_streams::{READ, READ_WRITE, StreamKind, WRITE};
 use glk_world::{World, arg};
 use gx_state::{Reply, State};
-use gx_words::{Bytes, Fault, Name};
+use gx_words::Fault;
 use std::alloc::Allocator;
 
 /// The rock of a stream, 0 where there is none.
@@ -123,21 +122,15 @@ pub fn close<A: Allocator + Clone>(
     Ok(reply)
 }
 
-/// The name and the content of a file that has to be stored.
-fn stored(world: &World, id: u32) -> Option<(&str, &[u8])>
+/// Whether a stream is a file that has to be stored.
+fn is_stored(world: &World, id: u32) -> bool
     requires { IsTrue (streams.has world.now.scene.streams id) }
-    ensures value { MatchOption result (stored world.now.scene id ≡ None)
-        (λ file. stored world.now.scene id ≡ Some (file.0.now, file.1.now)) }
-    ensures fits { IfSome result (λ file. length file.1.now ≤ largest) }
+    ensures { result ≡ is_some (stored world.now.scene id) }
 {
-    if world.streams().writable(id) {
-        world.streams().file(id)
-    } else {
-        None
-    }
+    world.streams().writable(id) && world.streams().file(id).is_some()
 }
 
-/// stream_close: a file that is open for writing is stored first.
+/// stream_close: a file that is open for writing is taken out of its stream and stored first.
 #[tactic(auto, unfolding(crate::specs::Streams::stream_close))]
 pub fn stream_close<A: Allocator + Clone>(
     world: &mut World,
@@ -146,16 +139,17 @@ pub fn stream_close<A: Allocator + Clone>(
     args: &[u32],
 ) -> Result<Turn, Fault>
     requires { IsTrue (streams.has world.old.scene.streams (arg args.now 0)) }
-    ensures value { Calls (IsTrue (not (arg args.now 1 == 0) || is_some (stored world.old.scene (arg args.now 0))))
-        result world.old world.new (stream_close world.old.scene state.now.flat room args.now) }
+    ensures value { Calls
+        (IsTrue (not (arg args.now 1 == 0) && not (is_some (stored world.old.scene (arg args.now 0))))) result
+        world.old world.new (stream_close world.old.scene state.now.flat room args.now) }
     ensures fits { IfOk result (IsTurnFor state.now.flat room) }
 {
-    let Some((name, content)) = stored(world, arg(args, 0)) else {
+    let id = arg(args, 0);
+    if !is_stored(world, id) {
         return Ok(Turn::Answer(close(world, state, room, args)?));
-    };
+    }
     can_give_pair(state, room, arg(args, 1))?;
-    let name = Name::from_str(world.alloc(), name)?;
-    let content = Bytes::from_slice(world.alloc(), content)?;
+    let (name, content) = world.take_file(id);
     world.wait(STREAM_CLOSE, args);
     Ok(Turn::Store(name, content))
 }
