@@ -43,16 +43,18 @@ abbrev pub read_behind : List ℕ → Result (List ℕ × ℕ) Fault → Result 
 read_behind cs (Ok got) = Ok (cs ++ got.0, got.1)
 read_behind cs (Err e) = Err e
 
+-- the next character, the last of its line or with those that are read behind it; none at the end
+abbrev pub read_with : Bool → ℕ → Option (ℕ × ℕ) → (ℕ → Result (List ℕ × ℕ) Fault) → Result (List ℕ × ℕ) Fault
+read_with stops position None behind = Ok ([], position)
+read_with stops position (Some got) behind =
+    if ends_line stops got.0 then Ok (got.0 ∷ [], got.1) else read_behind (got.0 ∷ []) (behind got.1)
+
 -- the characters that are read where so many more may be, and the position behind them
 unfoldable pub read_on : ℕ → Bool → FlatState → Places → Stream → ℕ → ℕ → Result (List ℕ × ℕ) Fault
 read_on zero stops f p s i position = Ok ([], position)
-read_on (suc more) stops f p s i position =
-    next_char f p s i position >>= λ next. elim next [
-      | None ↦ Ok ([], position)
-      | Some got ↦
-          if ends_line stops got.0 then Ok (got.0 ∷ [], got.1) else
-          read_behind (got.0 ∷ []) (read_on more stops f p s (i + 1) got.1)
-    ]
+read_on (suc more) stops f p s i position = do
+  next ← next_char f p s i position
+  read_with stops position next (read_on more stops f p s (i + 1))
 
 -- so many characters at most, of a line up to its end
 abbrev pub reading : Scene → FlatState → ℕ → Bool → ℕ → Result (List ℕ × ℕ) Fault
