@@ -12,6 +12,7 @@ use Rattle.gx_words.specs.declared.faults.Fault.{Fault}
 use Rattle.glk_world.specs.Shown.{show_prompt}
 use Rattle.glk_world.specs.World.{Scene, Said, FlatWorld, Calls, silent, after, on_world, Outcome, has_reference, waits}
 use Rattle.glk_world.specs.World.{arg}
+use Rattle.glk_world.specs.Calls.{without_file}
 use Rattle.glk_replies.specs.Numbers as selectors
 use Rattle.glk_replies.specs.Parts.{replies, pushed, can_give, can_give_pair, fitting}
 use Rattle.glk_replies.specs.declared.Turn.{Turn}
@@ -31,7 +32,7 @@ use Rattle.glk_dispatch.specs.Calls.{looked, is_on_none, nothing, as_turn, done,
 use Rattle.glk_dispatch.specs.Ready.{IsReady}
 use Rattle.glk_dispatch.specs.Turns.{HasRequest, Awaits, Looked}
 use Rattle.glk_dispatch.proofs.Ready.{ready_looks}
-use Rattle.glk_dispatch.proofs.Waiting.{stored_windowless}
+use Rattle.glk_dispatch.proofs.Waiting.{taken_there, taken_windowless}
 
 -- of a state of the machine, and room for what is pushed
 module _ (f : FlatState) (room : ℕ) where
@@ -109,27 +110,26 @@ module _ (f : FlatState) (room : ℕ) where
       (λ mode. load_asked w selector args (file_name w (arg args 0)) opens there mode) is
 
   store_asked : (w : Scene) (args : List ℕ) (file : List ℕ × List ℕ) → can_give_pair f room (arg args 1) ≡ Ok tt
-      → streams.has w.streams (arg args 0) ≡ true → stored w (arg args 0) ≡ Some file
-      → IsAsked (silent (waits w selectors.stream_close args), turn.Store file.0 file.1)
+      → streams.has w.streams (arg args 0) ≡ true
+      → IsAsked (silent (waits (without_file w (arg args 0)) selectors.stream_close args), turn.Store file.0 file.1)
   unfolding Awaits Looked
-  store_asked w args file looks there is (given.Line line) for = absurd for
-  store_asked w args file looks there is (given.Loaded load) for = absurd for
-  store_asked w args file looks there is given.Stored for =
-      ((refl, there, stored_windowless w (arg args 0) file is), looks)
-  store_asked w args file looks there is (given.Was was) for = absurd for
+  store_asked w args file looks there (given.Line line) for = absurd for
+  store_asked w args file looks there (given.Loaded load) for = absurd for
+  store_asked w args file looks there given.Stored for =
+      ((refl, taken_there w (arg args 0) there, taken_windowless w (arg args 0) there), looks)
+  store_asked w args file looks there (given.Was was) for = absurd for
 
   closing_asks : (file : Option (List ℕ × List ℕ)) (w : Scene) (args : List ℕ) (r : Said × Turn)
-      → streams.has w.streams (arg args 0) ≡ true → stored w (arg args 0) ≡ file → closing_by file w f room args ≡ Ok r
-      → IsAsked r
-  closing_asks None w args r there same is = then_answers (close w f room args) r is
-  closing_asks (Some file) w args r there same is = looked_asks (can_give_pair f room (arg args 1))
-      (silent (waits w selectors.stream_close args), turn.Store file.0 file.1) r
-      (λ looks. store_asked w args file looks there same) is
+      → streams.has w.streams (arg args 0) ≡ true → closing_by file w f room args ≡ Ok r → IsAsked r
+  closing_asks None w args r there is = then_answers (close w f room args) r is
+  closing_asks (Some file) w args r there is = looked_asks (can_give_pair f room (arg args 1))
+      (silent (waits (without_file w (arg args 0)) selectors.stream_close args), turn.Store file.0 file.1) r
+      (λ looks. store_asked w args file looks there) is
 
   close_asks : (w : Scene) (args : List ℕ) (r : Said × Turn) → streams.has w.streams (arg args 0) ≡ true
       → stream_close w f room args ≡ Ok r → IsAsked r
   unfolding stream_close
-  close_asks w args r there is = closing_asks (stored w (arg args 0)) w args r there refl is
+  close_asks w args r there is = closing_asks (stored w (arg args 0)) w args r there is
 
   prompt_asked : (w : Scene) (args text : List ℕ)
       → IsAsked ((waits w selectors.fileref_create_by_prompt args, text), turn.Prompt)

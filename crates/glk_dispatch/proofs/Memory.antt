@@ -311,11 +311,6 @@ loading_takes w selector args r true other some is =
     asked w r (silent (waits w selector args), turn.Load (reference.file_name w (arg args 0))) refl is
 loading_takes w selector args r false other some is = absurd (let e = rw other at some in cc)
 
-stores_takes : (w : Scene) (look : Result (Unit {0}) Fault) (r x : Said × Turn) → turn_takes x.1 ≡ true
-    → (look >>= λ _. Ok x) ≡ Ok r → takes_memory w r ≡ true
-stores_takes w (Ok _) r x takes is = asked w r x takes is
-stores_takes w (Err e) r x takes is = absurd (cc)
-
 pub prompt_takes : (w : Scene) (args : List ℕ) (r : Said × Turn) → is_composed w ≡ false
     → reference.fileref_create_by_prompt w args ≡ Ok r → takes_memory w r ≡ true
 unfolding reference.fileref_create_by_prompt show_prompt
@@ -524,17 +519,17 @@ file_takes w selector args r some is =
     ]
 
 close_takes : (w : Scene) (f : FlatState) (room : ℕ) (args : List ℕ) (r : Said × Turn) (file : Option (List ℕ × List ℕ))
-    → (not (arg args 1 == 0) || is_some file) ≡ true → stream.closing_by file w f room args ≡ Ok r
+    → (not (arg args 1 == 0) && not (is_some file)) ≡ true → stream.closing_by file w f room args ≡ Ok r
     → takes_memory w r ≡ true
 unfolding stream.close
 close_takes w f room args r None some is =
     let given : (arg args 1 == 0) ≡ false = grind (arith, some) in
     gives_one w (stream.closed w (arg args 0)) f room 0 (arg args 1) _ _ given r
     (sym (as_answer (stream.close w f room args)) ∙ is)
-close_takes w f room args r (Some file) some is = stores_takes w (can_give_pair f room (arg args 1)) r _ refl is
+close_takes w f room args r (Some file) some is = absurd (grind (arith, some))
 
 pub closing_takes : (w : Scene) (f : FlatState) (room : ℕ) (args : List ℕ) (r : Said × Turn)
-    → (not (arg args 1 == 0) || is_some (stream.stored w (arg args 0))) ≡ true
+    → (not (arg args 1 == 0) && not (is_some (stream.stored w (arg args 0)))) ≡ true
     → stream.stream_close w f room args ≡ Ok r → takes_memory w r ≡ true
 unfolding stream.stream_close
 closing_takes w f room args r some is = close_takes w f room args r (stream.stored w (arg args 0)) some is

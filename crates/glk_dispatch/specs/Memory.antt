@@ -21,14 +21,14 @@ has_some (x ∷ xs) = true
 abbrev pub gives_some : Reply → Bool
 gives_some reply = has_some reply.writes || has_some reply.pushes
 
--- so does the turn's, or it asks for a file by its name
+-- so does the turn's, or the name of a file is made for it
 abbrev pub turn_takes : Turn → Bool
 turn_takes (turn.Answer reply) = gives_some reply
 turn_takes turn.Wait = false
 turn_takes turn.Stuck = false
 turn_takes turn.Prompt = false
 turn_takes (turn.Load name) = true
-turn_takes (turn.Store name bytes) = true
+turn_takes (turn.Store name bytes) = false
 turn_takes (turn.Remove name) = true
 turn_takes (turn.Has name) = true
 turn_takes turn.Exit = false

@@ -216,7 +216,7 @@ stream_calls =
     wants opens (on Reference (row selectors.stream_open_file 3 (opens_file selectors.stream_open_file))) ∷
     wants (λ w f args. one.allows (memory_kind args false) (arg args 2) && is_identifier w.next_id)
     (row selectors.stream_open_memory 4 (plain (λ w args. stream_open_memory w args false))) ∷
-    wants (λ w f args. given 1 w f args || is_some (stored w (arg args 0)))
+    wants (λ w f args. given 1 w f args && not (is_some (stored w (arg args 0))))
     (giving 1 2 (on Stream (row selectors.stream_close 2 (turns stream_close)))) ∷
     on Stream (row selectors.stream_set_position 3 (plain stream_set_position)) ∷
     on Stream (row selectors.stream_get_position 1 (plain stream_get_position)) ∷
