@@ -5,6 +5,7 @@
 //! - `objects` begins a string, and follows a reference to a string or function.
 //! - `nodes` walks the bits of a compressed string over its decoding table, whose nodes have the types of
 //!   `node_types`.
+//! - `rom` reads the nodes and numbers that lie in ROM.
 //! - `printing` gives the next item of a string or number, and the next character alone.
 //!
 //! The files of specs/ define the items over the list of all bits of memory; the code has no such
@@ -18,6 +19,7 @@ mod node_types;
 mod nodes;
 mod objects;
 mod printing;
+mod rom;
 
 pub use items::Item;
 pub use objects::begin;

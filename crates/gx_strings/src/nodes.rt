@@ -11,7 +11,6 @@ ghost use Rattle.gx_strings.specs.Bits.{bit, bits};
 ghost use Rattle.gx_strings.specs.Nodes.{child, walk, direct, indirect, node_item};
 ghost use Rattle.gx_strings.specs.Held.{is_char, HasBit, HasBits};
 
-use crate::Item;
 use crate::node_types::{
     BRANCH, C_STYLE_STRING, C_STYLE_UNICODE_STRING, DOUBLE_INDIRECT_REFERENCE,
     DOUBLE_INDIRECT_REFERENCE_WITH_ARGUMENTS, INDIRECT_REFERENCE,
@@ -19,12 +18,14 @@ use crate::node_types::{
     STRING_TERMINATOR,
 };
 use crate::objects::{as_inner, from_start, reference};
+use crate::{Item, rom};
 use gx_pages::Pages;
 use gx_words::{Fault, PrintKind, Printing, word_at};
 use std::alloc::Allocator;
 
 /// A bit of a byte, bit 0 being the lowest.
-fn bit(byte: u32, i: u32) -> bool
+#[inline(always)]
+pub fn bit(byte: u32, i: u32) -> bool
     requires { IsTrue (is_bit i) }
     ensures { result ≡ bit byte i }
 {
@@ -44,25 +45,6 @@ fn node_bytes<A: Allocator + Clone>(memory: &Pages<A>, node: u32) -> Result<&[u8
         return Err(Fault::BadAddress);
     }
     Ok(memory.bytes_in_page(node))
-}
-
-/// The byte behind a node's first.
-#[inline(always)]
-#[tactic(auto, unfolding(gx_pages::specs::Memory::number_in))]
-fn byte_behind<A: Allocator + Clone>(
-    memory: &Pages<A>,
-    node: u32,
-    bytes: &[u8],
-) -> Result<u32, Fault>
-    requires bytes { bytes.now ≡ take (256 - node % 256) (drop node memory.now) }
-    requires low { node < ceiling }
-    ensures { Reads (λ v. v) result (number_in 1 memory.now (node + 1)) }
-{
-    if bytes.len() >= 2 {
-        Ok(u32::from(bytes[1]))
-    } else {
-        memory.try_number(1, node + 1)
-    }
 }
 
 /// The node to which a bit leads from a branch.
@@ -97,9 +79,13 @@ pub struct Ending {
 ///
 /// `from` is the index of the first bit among those of memory. It is `BadAddress` where a node or
 /// an address that is taken isn't in memory, or where the bits run out.
-#[inline(always)]
+#[inline(never)]
 #[tactic(auto, using(crate::proofs::Walks::turns))]
-pub fn walk<A: Allocator + Clone>(memory: &Pages<A>, root: u32, from: u64) -> Result<Ending, Fault>
+fn walk_in_memory<A: Allocator + Clone>(
+    memory: &Pages<A>,
+    root: u32,
+    from: u64,
+) -> Result<Ending, Fault>
     requires { from < 2 ^ 35 }
     ensures value { Reads (λ e. (e.node, e.used)) result (walk memory.now root 0 (drop from (bits memory.now))) }
     ensures used { IfOk result (λ e. (e.used ≡ 0) ⊎ (from + e.used ≤ 8 * ceiling)) }
@@ -119,6 +105,27 @@ pub fn walk<A: Allocator + Clone>(memory: &Pages<A>, root: u32, from: u64) -> Re
         let one = bit(memory.byte((place / 8) as u32), (place % 8) as u32);
         node = child(memory, node, bytes, one)?;
         used += 1;
+    }
+}
+
+/// The same, in ROM where all that is read lies there.
+#[inline(always)]
+#[tactic(auto, using(crate::proofs::Roms::in_rom))]
+pub fn walk<A: Allocator + Clone>(
+    rom: &[u8],
+    memory: &Pages<A>,
+    root: u32,
+    from: u64,
+) -> Result<Ending, Fault>
+    requires rom { rom.now ≡ take (length rom.now) memory.now }
+    requires from { from < 2 ^ 35 }
+    ensures value { Reads (λ e. (e.node, e.used)) result (walk memory.now root 0 (drop from (bits memory.now))) }
+    ensures used { IfOk result (λ e. (e.used ≡ 0) ⊎ (from + e.used ≤ 8 * ceiling)) }
+{
+    let _size = memory.size(); // at most the largest memory, and ROM is no larger
+    match rom::walk(rom, root, from) {
+        Some(end) => Ok(end),
+        None => walk_in_memory(memory, root, from),
     }
 }
 
@@ -193,16 +200,17 @@ pub fn node_item<A: Allocator + Clone>(
 /// The character that a node holds; None of any other node.
 #[inline(always)]
 #[tactic(auto, using(crate::proofs::Chars::other_node), unfolding(crate::specs::Nodes::node_item))]
-pub fn node_char<A: Allocator + Clone>(memory: &Pages<A>, node: u32) -> Option<u32>
+pub fn node_char<A: Allocator + Clone>(rom: &[u8], memory: &Pages<A>, node: u32) -> Option<u32>
+    requires { rom.now ≡ take (length rom.now) memory.now }
     ensures value { IfSome result (λ c. (next : APrinting) → node_item memory.now node next ≡ Ok (Char c next)) }
     ensures none { result ≡ None → (next : APrinting) → is_char (node_item memory.now node next) ≡ false }
 {
-    let Ok(bytes) = node_bytes(memory, node) else {
+    let Ok(type_byte) = rom::number(rom, memory, 1, node) else {
         return None;
     };
-    let value = match u32::from(bytes[0]) {
-        SINGLE_CHARACTER => byte_behind(memory, node, bytes),
-        SINGLE_UNICODE_CHARACTER => memory.try_number(4, node + 1),
+    let value = match type_byte {
+        SINGLE_CHARACTER => rom::number(rom, memory, 1, node + 1),
+        SINGLE_UNICODE_CHARACTER => rom::number(rom, memory, 4, node + 1),
         _ => return None,
     };
     value.ok()

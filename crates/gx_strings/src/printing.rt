@@ -1,5 +1,6 @@
 //! The next item of a string or number.
-ghost use Rattle.std.specs.Prelude.{◌≡◌, ◌+◌, ◌<◌, ◌^◌, slice_get, None, Ok, false, IsTrue, IfOk, IfSome};
+ghost use Rattle.std.specs.Prelude.{◌≡◌, ◌+◌, ◌<◌, ◌^◌, take, length, slice_get, None, Ok, false, IsTrue, IfOk};
+ghost use Rattle.std.specs.Prelude.{IfSome};
 ghost use Rattle.std.specs.Int.{w32, cast_signed};
 ghost use Rattle.std.specs.Fmt.{signed_decimal};
 ghost use Rattle.gx_words.specs.Numbers.{is_bit};
@@ -9,8 +10,8 @@ ghost use Rattle.gx_strings.specs.declared.items.Item.TheVariants.{Char};
 ghost use Rattle.gx_strings.specs.Items.{byte_item, compressed_item, word_item, number_item, next_item};
 ghost use Rattle.gx_strings.specs.Held.{is_char, HasBit, HasBits};
 
-use crate::Item;
 use crate::nodes::{node_char, node_item, walk};
+use crate::{Item, rom};
 use gx_pages::Pages;
 use gx_words::{Fault, PrintKind, Printing};
 use itoa::Buffer;
@@ -19,12 +20,17 @@ use std::alloc::Allocator;
 /// The byte at the place, where a zero byte is the end.
 #[inline(always)]
 #[tactic(auto, unfolding(crate::specs::Items::byte_item))]
-fn byte_item<A: Allocator + Clone>(memory: &Pages<A>, printing: &Printing) -> Result<Item, Fault>
-    requires { HasBit printing.now }
+fn byte_item<A: Allocator + Clone>(
+    rom: &[u8],
+    memory: &Pages<A>,
+    printing: &Printing,
+) -> Result<Item, Fault>
+    requires rom { rom.now ≡ take (length rom.now) memory.now }
+    requires bit { HasBit printing.now }
     ensures value { Reads (λ item. item) result (byte_item memory.now printing.now) }
     ensures bits { IfOk result HasBits }
 {
-    let value = memory.try_number(1, printing.at)?;
+    let value = rom::number(rom, memory, 1, printing.at)?;
     if value == 0 {
         return Ok(Item::End);
     }
@@ -39,20 +45,22 @@ fn byte_item<A: Allocator + Clone>(memory: &Pages<A>, printing: &Printing) -> Re
 #[inline(always)]
 #[tactic(auto, unfolding(crate::specs::Items::compressed_item))]
 fn compressed_item<A: Allocator + Clone>(
+    rom: &[u8],
     memory: &Pages<A>,
     table: u32,
     printing: &Printing,
 ) -> Result<Item, Fault>
-    requires { IsTrue (is_bit printing.now.bit) }
+    requires rom { rom.now ≡ take (length rom.now) memory.now }
+    requires bit { IsTrue (is_bit printing.now.bit) }
     ensures value { Reads (λ item. item) result (compressed_item memory.now table printing.now) }
     ensures bits { IfOk result HasBits }
 {
     if table == 0 {
         return Err(Fault::BadString);
     }
-    let root = memory.try_number(4, table.wrapping_add(8))?;
+    let root = rom::number(rom, memory, 4, table.wrapping_add(8))?;
     let from = 8 * u64::from(printing.at) + u64::from(printing.bit);
-    let end = walk(memory, root, from)?;
+    let end = walk(rom, memory, root, from)?;
     let place = from + end.used;
     let next = Printing {
         at: (place / 8) as u32,
@@ -65,12 +73,17 @@ fn compressed_item<A: Allocator + Clone>(
 /// The word at the place, where a zero word is the end.
 #[inline(always)]
 #[tactic(auto, unfolding(crate::specs::Items::word_item))]
-fn word_item<A: Allocator + Clone>(memory: &Pages<A>, printing: &Printing) -> Result<Item, Fault>
-    requires { HasBit printing.now }
+fn word_item<A: Allocator + Clone>(
+    rom: &[u8],
+    memory: &Pages<A>,
+    printing: &Printing,
+) -> Result<Item, Fault>
+    requires rom { rom.now ≡ take (length rom.now) memory.now }
+    requires bit { HasBit printing.now }
     ensures value { Reads (λ item. item) result (word_item memory.now printing.now) }
     ensures bits { IfOk result HasBits }
 {
-    let value = memory.try_number(4, printing.at)?;
+    let value = rom::number(rom, memory, 4, printing.at)?;
     if value == 0 {
         return Ok(Item::End);
     }
@@ -114,7 +127,8 @@ fn number_item(printing: &Printing) -> Item
     }
 }
 
-/// The next item of what is printed, under the decoding table at `table`.
+/// The next item of what is printed, under the decoding table at `table`. `rom` is the first bytes of memory, as many
+/// of them as lie in one slice.
 ///
 /// `BadAddress` where a byte that is looked at isn't in memory, or where a compressed string has no
 /// bit left; `BadFunction` where a reference is to a function of no known type; `BadString` where
@@ -122,18 +136,20 @@ fn number_item(printing: &Printing) -> Item
 #[inline(always)]
 #[tactic(auto, unfolding(crate::specs::Items::next_item))]
 pub fn next_item<A: Allocator + Clone>(
+    rom: &[u8],
     memory: &Pages<A>,
     table: u32,
     printing: &Printing,
 ) -> Result<Item, Fault>
+    requires rom { rom.now ≡ take (length rom.now) memory.now }
     requires bit { HasBit printing.now }
     ensures value { Reads (λ item. item) result (next_item memory.now table printing.now) }
     ensures bits { IfOk result HasBits }
 {
     match printing.kind {
-        PrintKind::E0 => byte_item(memory, printing),
-        PrintKind::E1 => compressed_item(memory, table, printing),
-        PrintKind::E2 => word_item(memory, printing),
+        PrintKind::E0 => byte_item(rom, memory, printing),
+        PrintKind::E1 => compressed_item(rom, memory, table, printing),
+        PrintKind::E2 => word_item(rom, memory, printing),
         PrintKind::Number => Ok(number_item(printing)),
     }
 }
@@ -142,11 +158,13 @@ pub fn next_item<A: Allocator + Clone>(
 #[inline(always)]
 #[tactic(auto, unfolding(crate::specs::Items::compressed_item))]
 fn compressed_char<A: Allocator + Clone>(
+    rom: &[u8],
     memory: &Pages<A>,
     table: u32,
     printing: &Printing,
 ) -> Option<(u32, u32, u32)>
-    requires { IsTrue (is_bit printing.now.bit) }
+    requires rom { rom.now ≡ take (length rom.now) memory.now }
+    requires bit { IsTrue (is_bit printing.now.bit) }
     ensures value { IfSome result (λ r. compressed_item memory.now table printing.now
         ≡ Ok (Char r.0 (record printing.now { at = r.1; bit = r.2 }))) }
     ensures none { result ≡ None → is_char (compressed_item memory.now table printing.now) ≡ false }
@@ -154,15 +172,15 @@ fn compressed_char<A: Allocator + Clone>(
     if table == 0 {
         return None;
     }
-    let Ok(root) = memory.try_number(4, table.wrapping_add(8)) else {
+    let Ok(root) = rom::number(rom, memory, 4, table.wrapping_add(8)) else {
         return None;
     };
     let from = 8 * u64::from(printing.at) + u64::from(printing.bit);
-    let Ok(end) = walk(memory, root, from) else {
+    let Ok(end) = walk(rom, memory, root, from) else {
         return None;
     };
     let place = from + end.used;
-    let value = node_char(memory, end.node)?;
+    let value = node_char(rom, memory, end.node)?;
     Some((value, (place / 8) as u32, (place % 8) as u32))
 }
 
@@ -171,22 +189,24 @@ fn compressed_char<A: Allocator + Clone>(
 #[inline(always)]
 #[tactic(auto, unfolding(crate::specs::Items::next_item, crate::specs::Items::byte_item, crate::specs::Items::word_item, crate::specs::Items::number_item))]
 pub fn next_char<A: Allocator + Clone>(
+    rom: &[u8],
     memory: &Pages<A>,
     table: u32,
     printing: &Printing,
 ) -> Option<(u32, u32, u32)>
-    requires { HasBit printing.now }
+    requires rom { rom.now ≡ take (length rom.now) memory.now }
+    requires bit { HasBit printing.now }
     ensures value { IfSome result (λ r. next_item memory.now table printing.now
         ≡ Ok (Char r.0 (record printing.now { at = r.1; bit = r.2 }))) }
     ensures none { result ≡ None → is_char (next_item memory.now table printing.now) ≡ false }
 {
     match printing.kind {
-        PrintKind::E0 => match memory.try_number(1, printing.at) {
+        PrintKind::E0 => match rom::number(rom, memory, 1, printing.at) {
             Ok(value) if value != 0 => Some((value, printing.at + 1, printing.bit)),
             _ => None,
         },
-        PrintKind::E1 => compressed_char(memory, table, printing),
-        PrintKind::E2 => match memory.try_number(4, printing.at) {
+        PrintKind::E1 => compressed_char(rom, memory, table, printing),
+        PrintKind::E2 => match rom::number(rom, memory, 4, printing.at) {
             Ok(value) if value != 0 => Some((value, printing.at + 4, printing.bit)),
             _ => None,
         },

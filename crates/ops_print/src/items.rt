@@ -1,5 +1,5 @@
 //! One step of printing: the next item of a string or number, by the I/O system.
-ghost use Rattle.std.specs.Prelude.{◌≡◌, ◌<◌, None, Ok, false, IfOk, IfSome};
+ghost use Rattle.std.specs.Prelude.{◌≡◌, ◌<◌, take, length, None, Ok, false, IfOk, IfSome};
 ghost use Rattle.gx_words.specs.Faults.{TakesNone};
 ghost use Rattle.gx_words.specs.Results.{Turns};
 ghost use Rattle.gx_state.specs.declared.effects.Effect.TheVariants.{Put, Went};
@@ -130,6 +130,16 @@ fn is_place(printing: &Printing) -> bool
     }
 }
 
+/// ROM: the bytes below RAMSTART, which are the story's in every state.
+#[inline(always)]
+#[tactic(auto, using(crate::proofs::Roms::stored))]
+fn rom<A: Allocator + Clone>(state: &State<A>) -> &[u8]
+    ensures { result.now ≡ take (length result.now) state.now.flat.memory }
+{
+    let _memory = state.memory(); // a state is sound
+    &state.story().bytes()[..state.ramstart() as usize]
+}
+
 /// The character that the next step of a machine that prints asks to be put, with the address and the bit behind it;
 /// None where it does something else.
 #[inline(always)]
@@ -148,7 +158,7 @@ pub fn next_put<A: Allocator + Clone>(
     if system != GLK_SYSTEM || !is_place(printing) {
         return None;
     }
-    next_char(state.memory(), state.table(), printing)
+    next_char(rom(state), state.memory(), state.table(), printing)
 }
 
 /// The address and the bit behind the character that the next step of a machine that prints drops; None where that does
@@ -167,7 +177,7 @@ pub fn next_dropped<A: Allocator + Clone>(
     if system == GLK_SYSTEM || system == FILTER_SYSTEM || !is_place(printing) {
         return None;
     }
-    let (_, at, bit) = next_char(state.memory(), state.table(), printing)?;
+    let (_, at, bit) = next_char(rom(state), state.memory(), state.table(), printing)?;
     Some((at, bit))
 }
 
@@ -191,7 +201,7 @@ pub fn item_and_mode<A: Allocator + Clone>(state: &mut State<A>) -> Result<(Effe
         return Err(Fault::BadFrame);
     }
     let started = printing.started;
-    match next_item(state.memory(), state.table(), &printing)? {
+    match next_item(rom(state), state.memory(), state.table(), &printing)? {
         Item::Char { value, next } => {
             let effect = print_character(state, started, value, &next)?;
             Ok((effect, Mode::Printing(next)))

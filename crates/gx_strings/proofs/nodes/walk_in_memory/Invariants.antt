@@ -2,7 +2,7 @@
 use Rattle.std.proofs.Common.{◌≡◌, ◌≤◌, ◌+◌, ◌-◌, ◌*◌, ◌⊎◌, length, drop}
 use Rattle.gx_strings.specs.Bits.{bits}
 use Rattle.gx_strings.specs.Nodes.{walk}
-use Rattle.gx_strings.proofs.nodes.walk.Given as goal
+use Rattle.gx_strings.proofs.nodes.walk_in_memory.Given as goal
 
 abbrev pub invariant-bits : goal.invariant-bits
 invariant-bits g l = record {

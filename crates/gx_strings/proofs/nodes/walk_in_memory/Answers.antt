@@ -1,8 +1,8 @@
 -- one bit more
-use Rattle.std.proofs.Common.{◌≡◌, ◌+◌, ◌/◌, ◌%◌, ℕ, inr, ap, sym, arith, ◌∙◌}
+use Rattle.std.proofs.Common.{◌≡◌, ◌+◌, ◌%◌, ℕ, inr, ap, sym, arith, ◌∙◌}
 use Rattle.gx_strings.specs.Bits.{bit}
 use Rattle.gx_strings.proofs.Walks.{further}
-use Rattle.gx_strings.proofs.nodes.walk.Goals as goal
+use Rattle.gx_strings.proofs.nodes.walk_in_memory.Goals as goal
 
 pub bits-preserved : goal.bits-preserved
 bits-preserved g c =
