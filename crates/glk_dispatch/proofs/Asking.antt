@@ -10,11 +10,12 @@ use Rattle.glk_events.specs.declared.requests.Request.{Request}
 use Rattle.glk_events.specs.Requests.{oldest}
 use Rattle.gx_words.specs.declared.faults.Fault.{Fault}
 use Rattle.glk_world.specs.Shown.{show_prompt}
-use Rattle.glk_world.specs.World.{Scene, Said, FlatWorld, Calls, silent, after, on_world, Outcome, has_reference, waits}
+use Rattle.glk_world.specs.World.{Scene, Said, FlatWorld, MakesCall, silent, after, on_world, Outcome, has_reference, waits}
 use Rattle.glk_world.specs.World.{arg}
 use Rattle.glk_world.specs.Calls.{without_file}
 use Rattle.glk_replies.specs.Numbers as selectors
-use Rattle.glk_replies.specs.Parts.{replies, pushed, can_give, can_give_pair, fitting}
+use Rattle.glk_replies.specs.TextNumbers as texts
+use Rattle.glk_replies.specs.Parts.{replies, pushes_for, can_give, can_give_pair, can_push}
 use Rattle.glk_replies.specs.declared.Turn.{Turn}
 use Rattle.glk_replies.specs.declared.Turn.TheVariants as turn
 use Rattle.glk_replies.specs.declared.Given.{Given}
@@ -22,13 +23,15 @@ use Rattle.glk_replies.specs.declared.Given.TheVariants as given
 use Rattle.glk_replies.specs.Turns.{IsGivenFor}
 use Rattle.glk_streams.specs.Constants.{write_mode}
 use Rattle.glk_object_calls.specs.Streams.{stream_close, closing_by, stored, close}
-use Rattle.glk_object_calls.specs.References.{stream_open_file, open_with, loads, file_name, fileref_create_by_prompt}
+use Rattle.glk_object_calls.specs.References.{stream_open_file, open_with, mode_loads, file_name, fileref_create_by_prompt}
 use Rattle.glk_object_calls.specs.References.{fileref_delete_file, fileref_does_file_exist}
 use Rattle.glk_event_calls.specs.Events.{select, waits_for, no_event}
 use Rattle.glk_dispatch.specs.declared.table.Selector.{Selector}
-use Rattle.glk_dispatch.specs.Table.{Doing, answers, turns, Row, table, row_in, row_of, exits, window_calls}
-use Rattle.glk_dispatch.specs.Table.{stream_calls, text_calls, event_calls, unicode_calls}
-use Rattle.glk_dispatch.specs.Calls.{looked, is_on_none, nothing, as_turn, done, dropping, call_by, glk_call}
+use Rattle.glk_dispatch.specs.Rows.{Doing, answers, turns, Row}
+use Rattle.glk_dispatch.specs.ObjectCalls.{exits, window_calls, stream_calls}
+use Rattle.glk_dispatch.specs.TextCalls.{text_calls, event_calls, unicode_calls}
+use Rattle.glk_dispatch.specs.Table.{call_table, row_in, row_for}
+use Rattle.glk_dispatch.specs.Calls.{looked_at, is_on_none, nothing, as_turn, done, dropping, call_by, glk_call}
 use Rattle.glk_dispatch.specs.Ready.{IsReady}
 use Rattle.glk_dispatch.specs.Turns.{HasRequest, Awaits, Looked}
 use Rattle.glk_dispatch.proofs.Ready.{ready_looks}
@@ -64,7 +67,7 @@ module _ (f : FlatState) (room : ℕ) where
 
   load_asked : (w : Scene) (selector : ℕ) (args name : List ℕ)
       → (selector ≡ selectors.stream_open_file) ⊎ (selector ≡ selectors.stream_open_file_uni)
-      → has_reference w (arg args 0) ≡ true → loads (arg args 1) ≡ true
+      → has_reference w (arg args 0) ≡ true → mode_loads (arg args 1) ≡ true
       → IsAsked (silent (waits w selector args), turn.Load name)
   unfolding Awaits Looked
   load_asked w selector args name opens there mode (given.Line line) for = absurd for
@@ -105,7 +108,7 @@ module _ (f : FlatState) (room : ℕ) where
       → has_reference w (arg args 0) ≡ true → stream_open_file w selector args ≡ Ok r → IsAsked r
   unfolding stream_open_file
   open_asks w selector args r opens there is =
-      by_mode (arg args 1 == write_mode) (loads (arg args 1)) (open_with w selector args [])
+      by_mode (arg args 1 == write_mode) (mode_loads (arg args 1)) (open_with w selector args [])
       (silent (waits w selector args), turn.Load (file_name w (arg args 0))) w (replies 0) r
       (λ mode. load_asked w selector args (file_name w (arg args 0)) opens there mode) is
 
@@ -181,7 +184,7 @@ module _ (f : FlatState) (room : ℕ) where
   has_request (first ∷ all) r is = tt
 
   event_asked : (w : Scene) (args : List ℕ) → HasRequest w.requests
-      → IsAsked (silent (waits w selectors.select args), turn.Wait)
+      → IsAsked (silent (waits w texts.select args), turn.Wait)
   unfolding Awaits Looked
   event_asked w args has (given.Line line) for = (inl (refl, has), tt)
   event_asked w args has (given.Loaded load) for = absurd for
@@ -201,7 +204,7 @@ module _ (f : FlatState) (room : ℕ) where
   select_asks : (w : Scene) (args : List ℕ) (r : Said × Turn) → select w f room args ≡ Ok r → IsAsked r
   unfolding select
   select_asks w args r is =
-      looks_asks (can_give f (arg args 0) 4) (fitting room (length (pushed (arg args 0) no_event)))
+      looks_asks (can_give f (arg args 0) 4) (can_push room (length (pushes_for (arg args 0) no_event)))
       (waits_for w args (oldest w.requests)) r (wait_asked w args (oldest w.requests) refl) is
 
   -- ---- over the table
@@ -215,7 +218,7 @@ module _ (f : FlatState) (room : ℕ) where
   AllAsk [] = Unit {0}
   AllAsk (row ∷ rows) = AskAnd row.does row.looks (AllAsk rows)
 
-  table_asks : AllAsk table
+  table_asks : AllAsk call_table
   unfolding window_calls stream_calls text_calls event_calls unicode_calls
   table_asks = (
     (λ w args r ready is. exits_asks w args r is),
@@ -261,13 +264,13 @@ module _ (f : FlatState) (room : ℕ) where
   -- ---- of the call
 
   on_none : (none : Bool) (w : Scene) (row : Row) (args : List ℕ) (r : Said × Turn) → is_on_none row.looks args ≡ none
-      → looked w row.looks args ≡ Ok tt → Asks (done row.does) row.looks
+      → looked_at w row.looks args ≡ Ok tt → Asks (done row.does) row.looks
       → (if none then as_turn (nothing w f room row.looks args) else done row.does w f room args) ≡ Ok r → IsAsked r
   on_none true w row args r same ok asks is = answered_asks (nothing w f room row.looks args) r is
   on_none false w row args r same ok asks is = asks w args r (ready_looks w row.looks args ok same) is
 
   on_looks : (look : Result (Unit {0}) Fault) (w : Scene) (row : Row) (args : List ℕ) (r : Said × Turn)
-      → looked w row.looks args ≡ look → Asks (done row.does) row.looks
+      → looked_at w row.looks args ≡ look → Asks (done row.does) row.looks
       → (look >>= λ _. if is_on_none row.looks args then as_turn (nothing w f room row.looks args)
       else done row.does w f room args) ≡ Ok r → IsAsked r
   on_looks (Ok _) w row args r same asks is = on_none (is_on_none row.looks args) w row args r refl same asks is
@@ -280,15 +283,15 @@ module _ (f : FlatState) (room : ℕ) where
   then_dropped (Err e) w r is = absurd (cc)
 
   found_asks : (found : Option Row) (w : Scene) (selector : ℕ) (args : List ℕ) (r : Said × Turn)
-      → row_in table selector ≡ found → call_by found w f room selector args ≡ Ok r → IsAsked r
+      → row_in call_table selector ≡ found → call_by found w f room selector args ≡ Ok r → IsAsked r
   found_asks None w selector args r same is = then_dropped (dropping selector) w r is
   found_asks (Some row) w selector args r same is =
-      on_looks (looked w row.looks args) w row args r refl (row_asks selector table row table_asks same) is
+      on_looks (looked_at w row.looks args) w row args r refl (row_asks selector call_table row table_asks same) is
 
   call_asks : (w : Scene) (selector : ℕ) (args : List ℕ) (r : Said × Turn) → glk_call w f room selector args ≡ Ok r
       → IsAsked r
-  unfolding glk_call row_of
-  call_asks w selector args r is = found_asks (row_in table selector) w selector args r refl is
+  unfolding glk_call row_for
+  call_asks w selector args r is = found_asks (row_in call_table selector) w selector args r refl is
 
   world_asks : (old new : FlatWorld) (asked : Turn) (outcome : Outcome Turn)
       → ((r : Said × Turn) → outcome ≡ Ok r → IsAsked r) → on_world old outcome ≡ Ok (new, asked) → (g : Given)
@@ -306,14 +309,14 @@ module _ (f : FlatState) (room : ℕ) where
 
 -- what a call answers asks for what the world waits for, and the looks for that were made
 pub turn_asks : (wants : Type 0) (result : Result Turn Fault) (old new : FlatWorld) (f : FlatState) (room selector : ℕ)
-    (args : List ℕ) → Calls wants result old new (glk_call old.scene f room selector args)
+    (args : List ℕ) → MakesCall wants result old new (glk_call old.scene f room selector args)
     → IfOk result (λ asked. (g : Given) → IsGivenFor asked g → Awaits new.scene g)
 turn_asks wants (Ok asked) old new f room selector args is =
     λ g for. (asks_for f room old new selector args asked is g for).0
 turn_asks wants (Err e) old new f room selector args is = tt
 
 pub turn_looks : (wants : Type 0) (result : Result Turn Fault) (old new : FlatWorld) (f : FlatState) (room selector : ℕ)
-    (args : List ℕ) → Calls wants result old new (glk_call old.scene f room selector args)
+    (args : List ℕ) → MakesCall wants result old new (glk_call old.scene f room selector args)
     → IfOk result (λ asked. (g : Given) → IsGivenFor asked g → Looked f room new.scene g)
 turn_looks wants (Ok asked) old new f room selector args is =
     λ g for. (asks_for f room old new selector args asked is g for).1

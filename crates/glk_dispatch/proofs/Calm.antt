@@ -9,9 +9,9 @@ use Rattle.gx_outside.specs.declared.devices.Load.TheVariants as of_load
 use Rattle.gx_state.specs.Flat.{FlatState}
 use Rattle.gx_state.specs.declared.effects.Reply.{Reply}
 use Rattle.glk_streams.specs.Constants.{read_mode}
-use Rattle.glk_world.specs.World.{Call, Scene, Said, FlatWorld, Calls, Outcome, answered, on_world, arg}
+use Rattle.glk_world.specs.World.{WaitingCall, Scene, Said, FlatWorld, MakesCall, Outcome, answered, on_world, arg}
 use Rattle.glk_replies.specs.Constants.{on_stack}
-use Rattle.glk_replies.specs.Parts.{can_give, can_give_pair, fitting, pushed, give}
+use Rattle.glk_replies.specs.Parts.{can_give, can_give_pair, can_push, pushes_for, give}
 use Rattle.glk_replies.specs.declared.Turn.{Turn}
 use Rattle.glk_replies.specs.declared.Turn.TheVariants.{Answer}
 use Rattle.glk_replies.specs.declared.Given.{Given}
@@ -28,7 +28,7 @@ both : (first second : Result (Unit {0}) Fault) → (first >>= λ _. second) ≡
 both (Ok _) second is = (refl, is)
 both (Err e) second is = absurd (cc)
 
-pair_pushed : (at a b : ℕ) → length (pushed at (a ∷ b ∷ [])) ≡ (if at == on_stack then 2 else 0)
+pair_pushed : (at a b : ℕ) → length (pushes_for at (a ∷ b ∷ [])) ≡ (if at == on_stack then 2 else 0)
 pair_pushed at a b = elim (at == on_stack) as (λ on. length (if on then a ∷ b ∷ [] else []) ≡ (if on then 2 else 0)) [
   | true ↦ refl
   | false ↦ refl
@@ -37,7 +37,7 @@ pair_pushed at a b = elim (at == on_stack) as (λ on. length (if on then a ∷ b
 gives : (f : FlatState) (room at a b : ℕ) → can_give_pair f room at ≡ Ok tt → IsOk (give f room 0 at (a ∷ b ∷ []))
 unfolding can_give_pair give
 gives f room at a b looks =
-    let parts = both (can_give f at 2) (fitting room (if at == on_stack then 2 else 0)) looks in
+    let parts = both (can_give f at 2) (can_push room (if at == on_stack then 2 else 0)) looks in
     rw (parts.0, pair_pushed at a b, parts.1) refl
 
 then_done : (w : Scene) (replied : Result Reply Fault) → IsOk replied → IsOk (replied >>= λ reply. answered w reply)
@@ -61,7 +61,7 @@ opens w selector args of_load.Missing =
 opens w selector args of_load.TooLong = refl
 opens w selector args (of_load.Found bytes) = refl
 
-resumes : (w : Scene) (f : FlatState) (room : ℕ) (call : Call) (g : Given) → IsOfFile g → IsLookedBy f room call g
+resumes : (w : Scene) (f : FlatState) (room : ℕ) (call : WaitingCall) (g : Given) → IsOfFile g → IsLookedBy f room call g
     → IsOk (resumed w f room call g)
 resumes w f room call (given.Line line) file looks = absurd file
 resumes w f room call (given.Loaded load) file looks = opens w call.selector call.arguments load
@@ -72,7 +72,7 @@ then_turns : (outcome : Outcome Reply) → IsOk outcome → IsOk {T = Said × Tu
 then_turns (Ok done) is = refl
 then_turns (Err e) is = is
 
-goes_by : (waiting : Option Call) (w : Scene) (f : FlatState) (room : ℕ) (g : Given) → IsOfFile g
+goes_by : (waiting : Option WaitingCall) (w : Scene) (f : FlatState) (room : ℕ) (g : Given) → IsOfFile g
     → LookedIn f room waiting g → IsOk (go_by waiting w f room g)
 goes_by None w f room g file looks = absurd looks
 goes_by (Some call) w f room g file looks =
@@ -96,7 +96,7 @@ no_fault old (Ok r) e fine is = absurd (cc)
 no_fault old (Err other) e fine is = absurd (cc)
 
 pub calm : (wants : Type 0) (result : Result Turn Fault) (old new : FlatWorld) (f : FlatState) (room : ℕ) (g : Given)
-    → Calls wants result old new (glk_go_on old.scene f room g)
+    → MakesCall wants result old new (glk_go_on old.scene f room g)
     → IsOfFile g → Looked f room old.scene g → MeetsNoFault result
 calm wants (Ok turn) old new f room g is file looks = tt
 calm wants (Err e) old new f room g is file looks =

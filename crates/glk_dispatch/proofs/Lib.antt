@@ -9,3 +9,4 @@ pub mod Resuming
 pub mod Calm
 pub mod Memory
 pub mod Outcomes
+pub mod Opened

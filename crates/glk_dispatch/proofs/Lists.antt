@@ -6,8 +6,11 @@ use Rattle.std.specs.Option.{option_or}
 use Rattle.std.proofs.lemmas.Bool.Decides.{nat_tests}
 use Rattle.std.proofs.lemmas.List.Folds.{find-append}
 use Rattle.glk_replies.specs.Numbers as selectors
-use Rattle.glk_dispatch.specs.Table.{Row, row_in, row_of, window_calls, stream_calls, text_calls, event_calls}
-use Rattle.glk_dispatch.specs.Table.{unicode_calls}
+use Rattle.glk_replies.specs.TextNumbers as texts
+use Rattle.glk_dispatch.specs.Rows.{Row}
+use Rattle.glk_dispatch.specs.ObjectCalls.{window_calls, stream_calls}
+use Rattle.glk_dispatch.specs.TextCalls.{text_calls, event_calls, unicode_calls}
+use Rattle.glk_dispatch.specs.Table.{row_in, row_for}
 
 -- rows of other selectors
 abbrev others : ℕ → List Row → Type 0
@@ -62,60 +65,60 @@ behind_streams = text_calls ++ (event_calls ++ unicode_calls)
 abbrev behind_texts : List Row
 behind_texts = event_calls ++ unicode_calls
 
-not_windows : (number : ℕ) → selectors.stream_iterate ≤ number → row_of number ≡ row_in behind_windows number
-unfolding row_of window_calls
+not_windows : (number : ℕ) → selectors.stream_iterate ≤ number → row_for number ≡ row_in behind_windows number
+unfolding row_for window_calls
 not_windows number reached =
     behind number window_calls behind_windows
     (below_are_others number selectors.stream_iterate window_calls refl reached)
 
-not_streams : (number : ℕ) → selectors.put_char ≤ number → row_of number ≡ row_in behind_streams number
+not_streams : (number : ℕ) → texts.put_char ≤ number → row_for number ≡ row_in behind_streams number
 unfolding stream_calls
 not_streams number reached =
     not_windows number (omega arith)
     ∙ behind number stream_calls behind_streams
-    (below_are_others number selectors.put_char stream_calls refl reached)
+    (below_are_others number texts.put_char stream_calls refl reached)
 
-not_texts : (number : ℕ) → selectors.select ≤ number → row_of number ≡ row_in behind_texts number
+not_texts : (number : ℕ) → texts.select ≤ number → row_for number ≡ row_in behind_texts number
 unfolding text_calls
 not_texts number reached =
     not_streams number (omega arith)
-    ∙ behind number text_calls behind_texts (below_are_others number selectors.select text_calls refl reached)
+    ∙ behind number text_calls behind_texts (below_are_others number texts.select text_calls refl reached)
 
-pub of_windows : (number : ℕ) → number < selectors.stream_iterate → row_of number ≡ row_in window_calls number
-unfolding row_of stream_calls text_calls event_calls unicode_calls
+pub of_windows : (number : ℕ) → number < selectors.stream_iterate → row_for number ≡ row_in window_calls number
+unfolding row_for stream_calls text_calls event_calls unicode_calls
 of_windows number until =
     before number window_calls behind_windows
     (above_are_others number selectors.stream_iterate behind_windows refl until)
 
-pub of_streams : (number : ℕ) → selectors.stream_iterate ≤ number → number < selectors.put_char
-    → row_of number ≡ row_in stream_calls number
+pub of_streams : (number : ℕ) → selectors.stream_iterate ≤ number → number < texts.put_char
+    → row_for number ≡ row_in stream_calls number
 unfolding text_calls event_calls unicode_calls
 of_streams number reached until =
     not_windows number reached
     ∙ before number stream_calls behind_streams
-    (above_are_others number selectors.put_char behind_streams refl until)
+    (above_are_others number texts.put_char behind_streams refl until)
 
-pub of_texts : (number : ℕ) → selectors.put_char ≤ number → number < selectors.select
-    → row_of number ≡ row_in text_calls number
+pub of_texts : (number : ℕ) → texts.put_char ≤ number → number < texts.select
+    → row_for number ≡ row_in text_calls number
 unfolding event_calls unicode_calls
 of_texts number reached until =
     not_streams number reached
-    ∙ before number text_calls behind_texts (above_are_others number selectors.select behind_texts refl until)
+    ∙ before number text_calls behind_texts (above_are_others number texts.select behind_texts refl until)
 
-pub of_events : (number : ℕ) → selectors.select ≤ number → number < selectors.buffer_to_lower_case_uni
-    → row_of number ≡ row_in event_calls number
+pub of_events : (number : ℕ) → texts.select ≤ number → number < texts.buffer_to_lower_case_uni
+    → row_for number ≡ row_in event_calls number
 unfolding unicode_calls
 of_events number reached until =
     not_texts number reached
     ∙ before number event_calls unicode_calls
-    (above_are_others number selectors.buffer_to_lower_case_uni unicode_calls refl until)
+    (above_are_others number texts.buffer_to_lower_case_uni unicode_calls refl until)
 
-pub of_unicode : (number : ℕ) → selectors.buffer_to_lower_case_uni ≤ number
-    → row_of number ≡ row_in unicode_calls number
+pub of_unicode : (number : ℕ) → texts.buffer_to_lower_case_uni ≤ number
+    → row_for number ≡ row_in unicode_calls number
 unfolding event_calls
 of_unicode number reached =
     not_texts number (omega arith)
     ∙ behind number event_calls unicode_calls
-    (below_are_others number selectors.buffer_to_lower_case_uni event_calls refl reached)
+    (below_are_others number texts.buffer_to_lower_case_uni event_calls refl reached)
 
 pub ruleset lists = (of_windows, of_streams, of_texts, of_events, of_unicode)

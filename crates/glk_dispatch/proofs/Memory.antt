@@ -22,25 +22,25 @@ use Rattle.glk_events.specs.Requests as requests
 use Rattle.glk_world.specs.World.{Scene, Said, silent, Outcome, answered}
 use Rattle.glk_world.specs.World.{is_composed}
 use Rattle.glk_world.specs.World.{has_reference, arg, waits}
-use Rattle.glk_world.specs.Calls.{is_identifier, new_id, with_reference, with_stream, with_window, with_streams}
+use Rattle.glk_world.specs.Calls.{is_identifier, new_id, with_reference, with_new_stream, with_window, with_streams}
 use Rattle.glk_world.specs.Calls.{can_open}
-use Rattle.glk_world.specs.Calls.{passed, window_stream, arranged}
+use Rattle.glk_world.specs.Calls.{chars_got, window_stream, with_arrangement}
 use Rattle.glk_world.specs.Shown.{show_prompt}
 use Rattle.glk_world.specs.declared.references.FileReference.{FileReference}
 use Rattle.glk_files.specs.Names.{base_of}
 use Rattle.glk_replies.specs.Strings.{string_length, string_chars}
-use Rattle.glk_object_calls.specs.Gestalts.{gestalt_of}
+use Rattle.glk_object_calls.specs.Gestalts.{gestalt_answer}
 use Rattle.glk_replies.specs.Constants.{on_stack}
 use Rattle.glk_replies.specs.Numbers as selectors
 use Rattle.glk_replies.specs.Parts.{can_read, can_lay, numbers_in}
-use Rattle.glk_replies.specs.Parts.{replies, laid, filled, can_give, can_give_pair, can_give_each, fitting}
-use Rattle.glk_replies.specs.Parts.{pushed}
-use Rattle.glk_replies.specs.Parts.{written, give, give_each, pushed_each, written_each, some_given}
+use Rattle.glk_replies.specs.Parts.{replies, char_writes, reply_filling, can_give, can_give_each, can_push}
+use Rattle.glk_replies.specs.Parts.{pushes_for}
+use Rattle.glk_replies.specs.Parts.{writes_for, give, give_each, pushes_for_each, writes_for_each, some_given}
 use Rattle.glk_replies.specs.declared.Turn.{Turn}
 use Rattle.glk_replies.specs.declared.Turn.TheVariants as turn
 use Rattle.glk_dispatch.specs.Calls.{as_turn, done, is_on_none}
-use Rattle.glk_dispatch.specs.Table.{Row}
-use Rattle.glk_dispatch.specs.Memory.{has_some, gives_some, turn_takes, is_more, takes_memory, is_left_out}
+use Rattle.glk_dispatch.specs.Rows.{Row}
+use Rattle.glk_dispatch.specs.Memory.{has_some, gives_some, turn_takes, is_more, takes_some, is_left_out}
 use Rattle.glk_object_calls.specs.Gestalts.{gestalt_ext, has_glyphs, glyphs_place}
 use Rattle.glk_object_calls.specs.Windows as window
 use Rattle.glk_object_calls.specs.Streams as stream
@@ -119,32 +119,32 @@ opening_left false is = is
 
 -- ---- what the parts of an outcome take
 
-takes_by_turn : (w : Scene) (r : Said × Turn) → turn_takes r.1 ≡ true → takes_memory w r ≡ true
+takes_by_turn : (w : Scene) (r : Said × Turn) → turn_takes r.1 ≡ true → takes_some w r ≡ true
 takes_by_turn w r is =
     first_of_two (turn_takes r.1 || has_some r.0.1) (is_more w r.0.0)
     (first_of_two (turn_takes r.1) (has_some r.0.1) is)
 
-takes_by_text : (w : Scene) (r : Said × Turn) → has_some r.0.1 ≡ true → takes_memory w r ≡ true
+takes_by_text : (w : Scene) (r : Said × Turn) → has_some r.0.1 ≡ true → takes_some w r ≡ true
 takes_by_text w r is =
     first_of_two (turn_takes r.1 || has_some r.0.1) (is_more w r.0.0)
     (second_of_two (turn_takes r.1) (has_some r.0.1) is)
 
-takes_by_more : (w : Scene) (r : Said × Turn) → is_more w r.0.0 ≡ true → takes_memory w r ≡ true
+takes_by_more : (w : Scene) (r : Said × Turn) → is_more w r.0.0 ≡ true → takes_some w r ≡ true
 takes_by_more w r is = second_of_two (turn_takes r.1 || has_some r.0.1) (is_more w r.0.0) is
 
 -- what an outcome of a call that answers takes
 abbrev pub Takes : Scene → Outcome Reply → Type 0
-Takes w outcome = (r : Said × Turn) → as_turn outcome ≡ Ok r → takes_memory w r ≡ true
+Takes w outcome = (r : Said × Turn) → as_turn outcome ≡ Ok r → takes_some w r ≡ true
 
 -- an answer that gives, or that leaves more
 pub gives : (w : Scene) (said : Said) (reply : Reply) → gives_some reply ≡ true → Takes w (Ok (said, reply))
 gives w said reply is r same =
-    subst (λ (x : Said × Turn). takes_memory w x ≡ true) (let e : (said, turn.Answer reply) ≡ r = (cc) in e)
+    subst (λ (x : Said × Turn). takes_some w x ≡ true) (let e : (said, turn.Answer reply) ≡ r = (cc) in e)
     (takes_by_turn w (said, turn.Answer reply) is)
 
 leaves : (w v : Scene) (reply : Reply) → is_more w v ≡ true → Takes w (answered v reply)
 leaves w v reply is r same =
-    subst (λ (x : Said × Turn). takes_memory w x ≡ true) (let e : (silent v, turn.Answer reply) ≡ r = (cc) in e)
+    subst (λ (x : Said × Turn). takes_some w x ≡ true) (let e : (silent v, turn.Answer reply) ≡ r = (cc) in e)
     (takes_by_more w (silent v, turn.Answer reply) is)
 
 -- behind a look, or something that is read
@@ -166,10 +166,10 @@ two_looks (Ok _) (Err e) value reply is = absurd (cc)
 two_looks (Err e) second value reply is = absurd (cc)
 
 given_one : (at x : ℕ) (words : List ℕ) → (at == 0) ≡ false
-    → (has_some (written at (x ∷ words)) || has_some (pushed at (x ∷ words))) ≡ true
+    → (has_some (writes_for at (x ∷ words)) || has_some (pushes_for at (x ∷ words))) ≡ true
 given_one at x words some = elim (there_or_not (at == on_stack)) [
-  | inl on ↦ second_of_two (has_some (written at (x ∷ words))) (has_some (pushed at (x ∷ words))) (rw on refl)
-  | inr off ↦ first_of_two (has_some (written at (x ∷ words))) (has_some (pushed at (x ∷ words))) (rw (some, off) refl)
+  | inl on ↦ second_of_two (has_some (writes_for at (x ∷ words))) (has_some (pushes_for at (x ∷ words))) (rw on refl)
+  | inr off ↦ first_of_two (has_some (writes_for at (x ∷ words))) (has_some (pushes_for at (x ∷ words))) (rw (some, off) refl)
 ]
 
 pub give_some : (f : FlatState) (room value at x : ℕ) (words : List ℕ) (reply : Reply) → (at == 0) ≡ false
@@ -177,34 +177,34 @@ pub give_some : (f : FlatState) (room value at x : ℕ) (words : List ℕ) (repl
 unfolding give
 give_some f room value at x words reply some is =
     let same =
-    two_looks (can_give f at (length (x ∷ words))) (fitting room (length (pushed at (x ∷ words))))
-    (record { value = value; pushes = pushed at (x ∷ words); writes = written at (x ∷ words) }) reply is in
+    two_looks (can_give f at (length (x ∷ words))) (can_push room (length (pushes_for at (x ∷ words))))
+    (record { value = value; pushes = pushes_for at (x ∷ words); writes = writes_for at (x ∷ words) }) reply is in
     subst (λ (y : Reply). gives_some y ≡ true) same (given_one at x words some)
 
 given_each : (ats words : List ℕ) → length ats ≤ length words → some_given ats ≡ true
-    → (has_some (written_each ats words) || has_some (pushed_each ats words)) ≡ true
-unfolding pushed_each written_each
+    → (has_some (writes_for_each ats words) || has_some (pushes_for_each ats words)) ≡ true
+unfolding pushes_for_each writes_for_each
 given_each [] words enough some = absurd (cc)
 given_each (at ∷ ats) [] enough some = absurd (omega arith)
 given_each (at ∷ ats) (word ∷ words) enough some =
-    let writes : Bool = has_some (written at (word ∷ []) ++ written_each ats words) in
-    let pushes : Bool = has_some (pushed at (word ∷ []) ++ pushed_each ats words) in
+    let writes : Bool = has_some (writes_for at (word ∷ []) ++ writes_for_each ats words) in
+    let pushes : Bool = has_some (pushes_for at (word ∷ []) ++ pushes_for_each ats words) in
     elim (there_or_not (at == 0)) [
       | inl none ↦
           let rest = given_each ats words (omega arith) (rw none at some) in
-          elim (either (has_some (written_each ats words)) (has_some (pushed_each ats words)) rest) [
+          elim (either (has_some (writes_for_each ats words)) (has_some (pushes_for_each ats words)) rest) [
             | inl is ↦
-                first_of_two writes pushes (some_append (written at (word ∷ [])) (written_each ats words) (inr is))
+                first_of_two writes pushes (some_append (writes_for at (word ∷ [])) (writes_for_each ats words) (inr is))
             | inr is ↦
-                second_of_two writes pushes (some_append (pushed at (word ∷ [])) (pushed_each ats words) (inr is))
+                second_of_two writes pushes (some_append (pushes_for at (word ∷ [])) (pushes_for_each ats words) (inr is))
           ]
       | inr one ↦
-          elim (either (has_some (written at (word ∷ []))) (has_some (pushed at (word ∷ [])))
+          elim (either (has_some (writes_for at (word ∷ []))) (has_some (pushes_for at (word ∷ [])))
           (given_one at word [] one)) [
             | inl is ↦
-                first_of_two writes pushes (some_append (written at (word ∷ [])) (written_each ats words) (inl is))
+                first_of_two writes pushes (some_append (writes_for at (word ∷ [])) (writes_for_each ats words) (inl is))
             | inr is ↦
-                second_of_two writes pushes (some_append (pushed at (word ∷ [])) (pushed_each ats words) (inl is))
+                second_of_two writes pushes (some_append (pushes_for at (word ∷ [])) (pushes_for_each ats words) (inl is))
           ]
     ]
 
@@ -213,8 +213,8 @@ pub give_each_some : (f : FlatState) (room value : ℕ) (ats words : List ℕ) (
 unfolding give_each
 give_each_some f room value ats words reply enough some is =
     let same =
-    two_looks (can_give_each f ats) (fitting room (length (pushed_each ats words)))
-    (record { value = value; pushes = pushed_each ats words; writes = written_each ats words }) reply is in
+    two_looks (can_give_each f ats) (can_push room (length (pushes_for_each ats words)))
+    (record { value = value; pushes = pushes_for_each ats words; writes = writes_for_each ats words }) reply is in
     subst (λ (y : Reply). gives_some y ≡ true) same (given_each ats words enough some)
 
 -- a call that gives to a reference, to some, and fills places
@@ -231,9 +231,9 @@ gives_each w v f room value ats words enough some =
     (λ reply is. gives w (silent v) reply (give_each_some f room value ats words reply enough some is))
 
 fills : (w : Scene) (said : Said) (value : ℕ) (p : Places) (cs : List ℕ) → (p.count == 0) ≡ false
-    → Takes w (Ok (said, filled value p cs))
+    → Takes w (Ok (said, reply_filling value p cs))
 fills w said value p cs some =
-    gives w said (filled value p cs) (first_of_two (has_some (laid p cs)) false (rw some refl))
+    gives w said (reply_filling value p cs) (first_of_two (has_some (char_writes p cs)) false (rw some refl))
 
 -- ---- what is made is more
 
@@ -245,8 +245,8 @@ opened_more w split method size kind rock may =
     (streams_longer w.streams split w.next_id))
 
 stream_more : (w : Scene) (kind : StreamKind) (mode rock : ℕ) → is_identifier w.next_id ≡ true
-    → is_more w (with_stream w kind mode rock) ≡ true
-unfolding with_stream
+    → is_more w (with_new_stream w kind mode rock) ≡ true
+unfolding with_new_stream
 stream_more w kind mode rock may =
     rw may (or_first (nat_lt (length w.streams) (length (w.streams ++ one.opened w.next_id kind mode rock ∷ []))) _ _ _
     (longer w.streams (one.opened w.next_id kind mode rock)))
@@ -266,10 +266,10 @@ request_more w r may =
     (some_grow w.windows.tree (w.windows.columns, w.windows.rows) w.windows.grids) (longer w.requests r))
 
 arranged_more : (w : Scene) (win method size key : ℕ) → arranging_grows w.windows win method size key ≡ true
-    → is_more w (arranged w win method size key) ≡ true
-unfolding arranged windows.arranged arranging_grows
+    → is_more w (with_arrangement w win method size key) ≡ true
+unfolding with_arrangement windows.arranged arranging_grows
 arranged_more w win method size key some =
-    elim (there_or_not (windows.allows w.windows win method key)) [
+    elim (there_or_not (windows.allows_arrangement w.windows win method key)) [
       | inl may ↦
           rw may (or_fourth (nat_lt (length w.streams) (length w.streams))
           (nat_lt (length w.references) (length w.references)) (nat_lt (length w.requests) (length w.requests))
@@ -287,7 +287,7 @@ some_chars got stops read is (inr some) =
 
 -- for writing alone an identifier is left
 opening_may : (mode : ℕ) (left : Bool) → mode ≡ write_mode
-    → ((mode == write_mode && left) || reference.loads mode) ≡ true → left ≡ true
+    → ((mode == write_mode && left) || reference.mode_loads mode) ≡ true → left ≡ true
 opening_may mode left is some = opening_left left (rw is at some)
 
 -- what an outcome is
@@ -300,34 +300,34 @@ loaded_by loads w selector args =
     if loads then Ok (silent (waits w selector args), turn.Load (reference.file_name w (arg args 0)))
     else Ok (silent w, turn.Answer (replies 0))
 
-asked : (w : Scene) (r x : Said × Turn) → turn_takes x.1 ≡ true → Comes (Ok x) r → takes_memory w r ≡ true
+asked : (w : Scene) (r x : Said × Turn) → turn_takes x.1 ≡ true → Comes (Ok x) r → takes_some w r ≡ true
 asked w r x takes is =
-    subst (λ (y : Said × Turn). takes_memory w y ≡ true) (let e : x ≡ r = (cc) in e) (takes_by_turn w x takes)
+    subst (λ (y : Said × Turn). takes_some w y ≡ true) (let e : x ≡ r = (cc) in e) (takes_by_turn w x takes)
 
 loading_takes : (w : Scene) (selector : ℕ) (args : List ℕ) (r : Said × Turn) (loads : Bool)
     → (arg args 1 == write_mode) ≡ false → ((arg args 1 == write_mode && is_identifier w.next_id) || loads) ≡ true
-    → loaded_by loads w selector args ≡ Ok r → takes_memory w r ≡ true
+    → loaded_by loads w selector args ≡ Ok r → takes_some w r ≡ true
 loading_takes w selector args r true other some is =
     asked w r (silent (waits w selector args), turn.Load (reference.file_name w (arg args 0))) refl is
 loading_takes w selector args r false other some is = absurd (let e = rw other at some in cc)
 
 pub prompt_takes : (w : Scene) (args : List ℕ) (r : Said × Turn) → is_composed w ≡ false
-    → reference.fileref_create_by_prompt w args ≡ Ok r → takes_memory w r ≡ true
+    → reference.fileref_create_by_prompt w args ≡ Ok r → takes_some w r ≡ true
 unfolding reference.fileref_create_by_prompt show_prompt
 prompt_takes w args r beside is =
     let shown : Said = show_prompt w in
     let text : has_some shown.1 ≡ true = rw beside refl in
-    subst (λ (x : Said × Turn). takes_memory w x ≡ true)
+    subst (λ (x : Said × Turn). takes_some w x ≡ true)
     (let e : ((waits shown.0 selectors.fileref_create_by_prompt args, shown.1), turn.Prompt) ≡ r = (cc) in e)
     (takes_by_text w ((waits shown.0 selectors.fileref_create_by_prompt args, shown.1), turn.Prompt) text)
 
 pub delete_takes : (w : Scene) (args : List ℕ) (r : Said × Turn) → reference.fileref_delete_file w args ≡ Ok r
-    → takes_memory w r ≡ true
+    → takes_some w r ≡ true
 unfolding reference.fileref_delete_file
 delete_takes w args r is = asked w r _ refl is
 
 pub exist_takes : (w : Scene) (args : List ℕ) (r : Said × Turn) → reference.fileref_does_file_exist w args ≡ Ok r
-    → takes_memory w r ≡ true
+    → takes_some w r ≡ true
 unfolding reference.fileref_does_file_exist
 exist_takes w args r is = asked w r _ refl is
 
@@ -338,7 +338,7 @@ abbrev pub Law : Row → Type 0
 Law row =
     (w : Scene) (f : FlatState) (room : ℕ) (args : List ℕ) (r : Said × Turn)
     → is_left_out w row.looks.number args ≡ false → is_on_none row.looks args ≡ false → row.wants w f args ≡ true
-    → done row.does w f room args ≡ Ok r → takes_memory w r ≡ true
+    → done row.does w f room args ≡ Ok r → takes_some w r ≡ true
 
 -- a stream that isn't there is put nothing
 pub no_stream : {P : Type 0} (there more : Bool) → (there || false) ≡ false → (there && more) ≡ true → P
@@ -355,13 +355,13 @@ pub gestalt_ext_takes : (w : Scene) (f : FlatState) (args : List ℕ) → has_gl
 unfolding gestalt_ext
 gestalt_ext_takes w f args some =
     let reply : Reply = record {
-      value = gestalt_of (arg args 0) (arg args 1);
+      value = gestalt_answer (arg args 0) (arg args 1);
       pushes = [];
-      writes = laid (glyphs_place args) (1 ∷ []);
+      writes = char_writes (glyphs_place args) (1 ∷ []);
     } in
     behind w (can_lay f (glyphs_place args)) (λ _. answered w reply)
     (λ _ _. gives w (silent w) reply
-    (first_of_two (has_some (laid (glyphs_place args) (1 ∷ []))) false (rw some refl)))
+    (first_of_two (has_some (char_writes (glyphs_place args) (1 ∷ []))) false (rw some refl)))
 
 pub iterate_takes : (w : Scene) (f : FlatState) (room : ℕ) (args : List ℕ) → (arg args 1 == 0) ≡ false
     → Takes w (window.window_iterate w f room args)
@@ -399,12 +399,12 @@ unfolding stream.stream_iterate
 stream_iterate_takes w f room args some = gives_one w w f room _ (arg args 1) _ [] some
 
 pub memory_takes : (w : Scene) (args : List ℕ) (wide : Bool)
-    → (one.allows (stream.memory_kind args wide) (arg args 2) && is_identifier w.next_id) ≡ true
+    → (one.allows_mode (stream.memory_kind args wide) (arg args 2) && is_identifier w.next_id) ≡ true
     → Takes w (stream.stream_open_memory w args wide)
 unfolding stream.stream_open_memory
 memory_takes w args wide may =
-    let so = both (one.allows (stream.memory_kind args wide) (arg args 2)) (is_identifier w.next_id) may in
-    by_test w (one.allows (stream.memory_kind args wide) (arg args 2)) _ _
+    let so = both (one.allows_mode (stream.memory_kind args wide) (arg args 2)) (is_identifier w.next_id) may in
+    by_test w (one.allows_mode (stream.memory_kind args wide) (arg args 2)) _ _
     (λ _. leaves w _ _ (stream_more w (stream.memory_kind args wide) (arg args 2) (arg args 3) so.1))
     (λ no. absurd (let e = so.0 in cc))
 
@@ -441,11 +441,11 @@ chars_take : (w : Scene) (f : FlatState) (from : ℕ) (stops : Bool) (most width
 unfolding input.get_chars
 chars_take w f from stops most width at some =
     let buffer : List ℕ × ℕ → Places = λ got. input.buffer_for at width (length got.0 + input.ending_len stops) in
-    let said : List ℕ × ℕ → Said = λ got. silent (passed w from got.1 (length got.0)) in
+    let said : List ℕ × ℕ → Said = λ got. silent (chars_got w from got.1 (length got.0)) in
     let cs : List ℕ × ℕ → List ℕ = λ got. got.0 ++ input.ending stops in
     behind w (input.reading w f from stops most)
-    (λ got. can_lay f (buffer got) >>= λ _. Ok (said got, filled (length got.0) (buffer got) (cs got)))
-    (λ got is. behind w (can_lay f (buffer got)) (λ _. Ok (said got, filled (length got.0) (buffer got) (cs got)))
+    (λ got. can_lay f (buffer got) >>= λ _. Ok (said got, reply_filling (length got.0) (buffer got) (cs got)))
+    (λ got is. behind w (can_lay f (buffer got)) (λ _. Ok (said got, reply_filling (length got.0) (buffer got) (cs got)))
     (λ _ _. fills w (said got) (length got.0) (buffer got) (cs got)
     (some_chars got stops (input.reading w f from stops most) is some)))
 
@@ -466,8 +466,8 @@ case_takes w f first others args some =
     let buffer = characters.buffer_of args in
     let chars : List ℕ = characters.recased first others (numbers_in 4 f.memory (arg args 0) buffer.count) in
     behind w (can_read f (arg args 0) (4 * buffer.count))
-    (λ _. can_lay f buffer >>= λ _. answered w (filled (arg args 2) buffer chars))
-    (λ _ _. behind w (can_lay f buffer) (λ _. answered w (filled (arg args 2) buffer chars))
+    (λ _. can_lay f buffer >>= λ _. answered w (reply_filling (arg args 2) buffer chars))
+    (λ _ _. behind w (can_lay f buffer) (λ _. answered w (reply_filling (arg args 2) buffer chars))
     (λ _ _. fills w (silent w) (arg args 2) buffer chars (grind (arith, nat_tests, some))))
 
 pub poll_takes : (w : Scene) (f : FlatState) (room : ℕ) (args : List ℕ) → (arg args 0 == 0) ≡ false
@@ -491,7 +491,7 @@ char_event_takes w wide args may = asks_takes w _ may
 pub cancel_takes : (w : Scene) (f : FlatState) (room : ℕ) (args : List ℕ) → (arg args 1 == 0) ≡ false
     → Takes w (events.cancel_line_event w f room args)
 unfolding events.cancel_line_event
-cancel_takes w f room args some = elim (events.is_line (requests.of w.requests (arg args 0))) as (λ b. Takes w
+cancel_takes w f room args some = elim (events.asks_line (requests.of w.requests (arg args 0))) as (λ b. Takes w
     (give f room 0 (arg args 1) (if b then events.event line_event_type (arg args 0) 0 else events.no_event)
     >>= λ reply. answered (if b then events.without_request w (arg args 0) else w) reply)) [
       | true ↦ gives_one w (events.without_request w (arg args 0)) f room 0 (arg args 1) _ _ some
@@ -506,7 +506,7 @@ as_answer (Ok done) = refl
 as_answer (Err e) = refl
 
 pub file_takes : (w : Scene) (selector : ℕ) (args : List ℕ) (r : Said × Turn) → reference.opening_grows w args ≡ true
-    → reference.stream_open_file w selector args ≡ Ok r → takes_memory w r ≡ true
+    → reference.stream_open_file w selector args ≡ Ok r → takes_some w r ≡ true
 unfolding reference.stream_open_file reference.open_with
 file_takes w selector args r some is =
     elim (there_or_not (arg args 1 == write_mode)) [
@@ -515,12 +515,12 @@ file_takes w selector args r some is =
           let may : is_identifier w.next_id ≡ true = opening_may (arg args 1) (is_identifier w.next_id) mode some in
           leaves w _ _ (stream_more w (reference.file_kind w selector args []) (arg args 1) (arg args 2) may) r
           (rw writes at is)
-      | inr other ↦ loading_takes w selector args r (reference.loads (arg args 1)) other some (rw other at is)
+      | inr other ↦ loading_takes w selector args r (reference.mode_loads (arg args 1)) other some (rw other at is)
     ]
 
 close_takes : (w : Scene) (f : FlatState) (room : ℕ) (args : List ℕ) (r : Said × Turn) (file : Option (List ℕ × List ℕ))
     → (not (arg args 1 == 0) && not (is_some file)) ≡ true → stream.closing_by file w f room args ≡ Ok r
-    → takes_memory w r ≡ true
+    → takes_some w r ≡ true
 unfolding stream.close
 close_takes w f room args r None some is =
     let given : (arg args 1 == 0) ≡ false = grind (arith, some) in
@@ -530,6 +530,6 @@ close_takes w f room args r (Some file) some is = absurd (grind (arith, some))
 
 pub closing_takes : (w : Scene) (f : FlatState) (room : ℕ) (args : List ℕ) (r : Said × Turn)
     → (not (arg args 1 == 0) && not (is_some (stream.stored w (arg args 0)))) ≡ true
-    → stream.stream_close w f room args ≡ Ok r → takes_memory w r ≡ true
+    → stream.stream_close w f room args ≡ Ok r → takes_some w r ≡ true
 unfolding stream.stream_close
 closing_takes w f room args r some is = close_takes w f room args r (stream.stored w (arg args 0)) some is

@@ -11,18 +11,20 @@ use Rattle.gx_words.specs.declared.faults.Fault.{Fault}
 use Rattle.gx_words.specs.declared.faults.Fault.TheVariants.{NoMemory}
 use Rattle.gx_state.specs.Flat.{FlatState}
 use Rattle.gx_state.specs.declared.effects.Reply.{Reply}
-use Rattle.glk_world.specs.World.{Scene, Said, FlatWorld, Calls, silent, on_world, Outcome, answered}
+use Rattle.glk_world.specs.World.{Scene, Said, FlatWorld, MakesCall, silent, on_world, Outcome, answered}
 use Rattle.glk_world.specs.World.{is_composed}
 use Rattle.glk_world.specs.World.{arg}
 use Rattle.glk_replies.specs.Numbers as selectors
 use Rattle.glk_replies.specs.Parts.{give, give_each, some_given}
 use Rattle.glk_replies.specs.declared.Turn.{Turn}
 use Rattle.glk_dispatch.specs.declared.table.Selector.{Selector}
-use Rattle.glk_dispatch.specs.Calls.{as_turn, done, looked, is_on_none, nothing, gives_nothing, call_by}
+use Rattle.glk_dispatch.specs.Calls.{as_turn, done, looked_at, is_on_none, nothing, gives_nothing, call_by}
 use Rattle.glk_dispatch.specs.Calls.{glk_call, grows_by, grows, IsGrowing}
-use Rattle.glk_dispatch.specs.Table.{Row, table, row_in, row_of, window_calls, stream_calls, text_calls, event_calls}
-use Rattle.glk_dispatch.specs.Table.{unicode_calls}
-use Rattle.glk_dispatch.specs.Memory.{gives_some, takes_memory, is_left_out, TakesMemory}
+use Rattle.glk_dispatch.specs.Rows.{Row}
+use Rattle.glk_dispatch.specs.ObjectCalls.{window_calls, stream_calls}
+use Rattle.glk_dispatch.specs.TextCalls.{text_calls, event_calls, unicode_calls}
+use Rattle.glk_dispatch.specs.Table.{call_table, row_in, row_for}
+use Rattle.glk_dispatch.specs.Memory.{gives_some, takes_some, is_left_out, TakesMemory}
 use Rattle.glk_dispatch.proofs.Memory.{not_so, there_or_not, both, Takes, gives, behind, by_test, give_some}
 use Rattle.glk_dispatch.proofs.Memory.{give_each_some, prompt_takes, delete_takes, exist_takes, Law, no_stream}
 use Rattle.glk_dispatch.proofs.Memory.{some_object}
@@ -302,7 +304,7 @@ all_append : (rows more : List Row) → AllLaw rows → AllLaw more → AllLaw (
 all_append [] more laws rest = rest
 all_append (row ∷ rows) more laws rest = (laws.0, all_append rows more laws.1 rest)
 
-table_laws : AllLaw table
+table_laws : AllLaw call_table
 table_laws =
     all_append window_calls _ window_laws
     (all_append stream_calls _ stream_laws
@@ -323,7 +325,7 @@ row_law number (first ∷ rows) row all is =
 abbrev gives_words : Selector → Bool
 gives_words row = not (row.references == 1) || nat_lt 0 row.words
 
-words_given : list_all gives_words (map (λ row. row.looks) table) ≡ true
+words_given : list_all gives_words (map (λ row. row.looks) call_table) ≡ true
 unfolding window_calls stream_calls text_calls event_calls unicode_calls
 words_given = refl
 
@@ -386,43 +388,43 @@ on_row : (none : Bool) (w : Scene) (f : FlatState) (room : ℕ) (row : Row) (arg
     → is_left_out w row.looks.number args ≡ false
     → (if none then gives_nothing row.looks args else row.wants w f args) ≡ true
     → (if none then as_turn (nothing w f room row.looks args) else done row.does w f room args) ≡ Ok r
-    → takes_memory w r ≡ true
+    → takes_some w r ≡ true
 on_row true w f room row args r law on words within wants is = nothing_takes w f room row.looks args words wants r is
 on_row false w f room row args r law on words within wants is = law w f room args r within on wants is
 
 behind_looks : (look : Result (Unit {0}) Fault) (w : Scene) (does : Outcome Turn) (r : Said × Turn)
-    → (does ≡ Ok r → takes_memory w r ≡ true) → (look >>= λ _. does) ≡ Ok r → takes_memory w r ≡ true
+    → (does ≡ Ok r → takes_some w r ≡ true) → (look >>= λ _. does) ≡ Ok r → takes_some w r ≡ true
 behind_looks (Ok _) w does r takes is = takes is
 behind_looks (Err e) w does r takes is = absurd (cc)
 
 found_takes : (found : Option Row) (w : Scene) (f : FlatState) (room selector : ℕ) (args : List ℕ) (r : Said × Turn)
-    → row_in table selector ≡ found → is_left_out w selector args ≡ false → grows_by found w f args ≡ true
-    → call_by found w f room selector args ≡ Ok r → takes_memory w r ≡ true
+    → row_in call_table selector ≡ found → is_left_out w selector args ≡ false → grows_by found w f args ≡ true
+    → call_by found w f room selector args ≡ Ok r → takes_some w r ≡ true
 found_takes None w f room selector args r same within wants is = absurd (cc)
 found_takes (Some row) w f room selector args r same within wants is =
-    let law = row_law selector table row table_laws same in
+    let law = row_law selector call_table row table_laws same in
     let number : row.looks.number ≡ selector = (let e = law.1 in grind (arith, nat_tests, e)) in
-    let words = row_words selector table row words_given same in
+    let words = row_words selector call_table row words_given same in
     let out : is_left_out w row.looks.number args ≡ false = rw number within in
-    behind_looks (looked w row.looks args) w
+    behind_looks (looked_at w row.looks args) w
     (if is_on_none row.looks args then as_turn (nothing w f room row.looks args) else done row.does w f room args) r
     (λ does. on_row (is_on_none row.looks args) w f room row args r law.0 refl words out wants does) is
 
 call_takes : (w : Scene) (f : FlatState) (room selector : ℕ) (args : List ℕ) (r : Said × Turn)
     → is_left_out w selector args ≡ false → grows w f selector args ≡ true → glk_call w f room selector args ≡ Ok r
-    → takes_memory w r ≡ true
-unfolding glk_call grows row_of
+    → takes_some w r ≡ true
+unfolding glk_call grows row_for
 call_takes w f room selector args r within wants is =
-    found_takes (row_in table selector) w f room selector args r refl within wants is
+    found_takes (row_in call_table selector) w f room selector args r refl within wants is
 
 taking : (w : Scene) (old : FlatWorld) (outcome : Outcome Turn)
-    → ((r : Said × Turn) → outcome ≡ Ok r → takes_memory w r ≡ true)
+    → ((r : Said × Turn) → outcome ≡ Ok r → takes_some w r ≡ true)
     → IsOk (on_world old outcome) → TakesMemory w outcome
 taking w old (Ok r) takes fine = takes r refl
 taking w old (Err e) takes fine = absurd (cc)
 
 pub wants_for : (result : Result Turn Fault) (old new : FlatWorld) (f : FlatState) (room selector : ℕ) (args : List ℕ)
-    → Calls (IsGrowing old.scene f selector args) result old new (glk_call old.scene f room selector args)
+    → MakesCall (IsGrowing old.scene f selector args) result old new (glk_call old.scene f room selector args)
     → is_left_out old.scene selector args ≡ false → result ≡ Err NoMemory
     → TakesMemory old.scene (glk_call old.scene f room selector args)
 wants_for (Ok x) old new f room selector args is within none = absurd (cc)

@@ -8,8 +8,9 @@ use Rattle.gx_state.specs.Flat.{FlatState}
 use Rattle.glk_world.specs.World.{Scene, arg}
 use Rattle.glk_dispatch.specs.declared.table.Class.{Class}
 use Rattle.glk_dispatch.specs.declared.table.Selector.{Selector}
-use Rattle.glk_dispatch.specs.Table.{Row, row_of, row_fits}
-use Rattle.glk_dispatch.specs.Calls.{is_there, named, looked, is_on_none, call_by, grows_by, glk_call, grows}
+use Rattle.glk_dispatch.specs.Rows.{Row}
+use Rattle.glk_dispatch.specs.Table.{row_for, selector_fits}
+use Rattle.glk_dispatch.specs.Calls.{has_object, named, looked_at, is_on_none, call_by, grows_by, glk_call, grows}
 use Rattle.glk_dispatch.specs.Ready.{IsNamed, IsFirst, IsReady, IsReadyBy, done_by, wants_by, call_looked, wants_looked}
 
 -- ---- by the looks
@@ -26,32 +27,32 @@ grows_is None w f args = refl
 grows_is (Some row) w f args = refl
 
 pub glk_call_is : (w : Scene) (f : FlatState) (room selector : ℕ) (args : List ℕ) → glk_call w f room selector args
-    ≡ call_looked (option_map (λ row. row.looks) (row_of selector))
-    (done_by (row_of selector) w f room args) w f room selector args
+    ≡ call_looked (option_map (λ row. row.looks) (row_for selector))
+    (done_by (row_for selector) w f room args) w f room selector args
 unfolding glk_call
-glk_call_is w f room selector args = call_is (row_of selector) w f room selector args
+glk_call_is w f room selector args = call_is (row_for selector) w f room selector args
 
 pub glk_grows_is : (w : Scene) (f : FlatState) (selector : ℕ) (args : List ℕ) → grows w f selector args
-    ≡ wants_looked (option_map (λ row. row.looks) (row_of selector)) (wants_by (row_of selector) w f args) args
+    ≡ wants_looked (option_map (λ row. row.looks) (row_for selector)) (wants_by (row_for selector) w f args) args
 unfolding grows
-glk_grows_is w f selector args = grows_is (row_of selector) w f args
+glk_grows_is w f selector args = grows_is (row_for selector) w f args
 
 pub ruleset by_looks = (glk_call_is, glk_grows_is)
 
 -- ---- the objects
 
 -- an identifier that was looked at is 0 or there
-first_named : (w : Scene) (row : Selector) (args : List ℕ) → looked w row args ≡ Ok tt
+first_named : (w : Scene) (row : Selector) (args : List ℕ) → looked_at w row args ≡ Ok tt
     → named w row.first (arg args 0) ≡ Ok tt
-unfolding looked
+unfolding looked_at
 first_named w row args ok = grind (arith, common_steps, nat_tests)
 
-other_named : (w : Scene) (row : Selector) (args : List ℕ) → looked w row args ≡ Ok tt
+other_named : (w : Scene) (row : Selector) (args : List ℕ) → looked_at w row args ≡ Ok tt
     → named w row.other (arg args row.other_place) ≡ Ok tt
-unfolding looked
+unfolding looked_at
 other_named w row args ok = grind (arith, common_steps, nat_tests)
 
-is_named : (w : Scene) (class : Class) (id : ℕ) → named w class id ≡ Ok tt → (id == 0 || is_there w class id) ≡ true
+is_named : (w : Scene) (class : Class) (id : ℕ) → named w class id ≡ Ok tt → (id == 0 || has_object w class id) ≡ true
 is_named w class id ok = grind (arith, common_steps)
 
 or_named : (a b : Bool) → (a || b) ≡ true → (a ≡ true) ⊎ (b ≡ true)
@@ -60,8 +61,8 @@ or_named false b h = inr h
 
 zero_or : (w : Scene) (class : Class) (id : ℕ) → named w class id ≡ Ok tt → IsNamed w class id
 zero_or w class id ok =
-    elim (or_named (id == 0) (is_there w class id) (is_named w class id ok)) as
-    (λ _. (id ≡ 0) ⊎ (is_there w class id ≡ true)) [
+    elim (or_named (id == 0) (has_object w class id) (is_named w class id ok)) as
+    (λ _. (id ≡ 0) ⊎ (has_object w class id ≡ true)) [
       | inl none ↦ inl (grind (arith, nat_tests))
       | inr there ↦ inr there
     ]
@@ -73,7 +74,7 @@ first_there true w class id (inl none) some = absurd (grind (arith, nat_tests, s
 first_there true w class id (inr there) some = there
 first_there false w class id named some = named
 
-pub ready_looks : (w : Scene) (row : Selector) (args : List ℕ) → looked w row args ≡ Ok tt → is_on_none row args ≡ false
+pub ready_looks : (w : Scene) (row : Selector) (args : List ℕ) → looked_at w row args ≡ Ok tt → is_on_none row args ≡ false
     → IsReady row w args
 ready_looks w row args ok some = (
   first_there row.needs_first w row.first (arg args 0)
@@ -88,16 +89,16 @@ by_row (Some found) row w args is ready = let same : row ≡ found.looks = (cc) 
     subst (λ looks. IsReady looks w args) same ready
 
 pub ready_row : (selector : ℕ) (w : Scene) (row : Selector) (args : List ℕ)
-    → option_map (λ row. row.looks) (row_of selector) ≡ Some row → looked w row args ≡ Ok tt
+    → option_map (λ row. row.looks) (row_for selector) ≡ Some row → looked_at w row args ≡ Ok tt
     → is_on_none row args ≡ false
-    → IsReadyBy (row_of selector) w args
-ready_row selector w row args is ok some = by_row (row_of selector) row w args is (ready_looks w row args ok some)
+    → IsReadyBy (row_for selector) w args
+ready_row selector w row args is ok some = by_row (row_for selector) row w args is (ready_looks w row args ok some)
 
 both : (a b : Bool) → (a && b) ≡ true → (a ≡ true) × (b ≡ true)
 both true b h = (refl, h)
 both false b h = absurd (cc)
 
-pub words_few : (row : Selector) → row_fits row ≡ true → row.words ≤ 4
+pub words_few : (row : Selector) → selector_fits row ≡ true → row.words ≤ 4
 words_few row fits = let b = both (nat_le row.references 3) (nat_le row.words 4) fits in grind (arith, nat_tests, b.1)
 
 pub ruleset ready = (ready_row, words_few)

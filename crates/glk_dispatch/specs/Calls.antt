@@ -20,23 +20,24 @@ use Rattle.glk_replies.specs.Parts.{replies, give, give_each}
 use Rattle.glk_dispatch.specs.declared.table.Class.{Class}
 use Rattle.glk_dispatch.specs.declared.table.Class.TheVariants.{Plain, Window, Stream, Reference}
 use Rattle.glk_dispatch.specs.declared.table.Selector.{Selector}
-use Rattle.glk_dispatch.specs.Table.{Doing, answers, turns, Row, row_of, is_dropped}
+use Rattle.glk_dispatch.specs.Rows.{Doing, answers, turns, Row}
+use Rattle.glk_dispatch.specs.Table.{row_for, is_dropped}
 
 -- ---- the looks at arguments
 
 -- an object of a class has this identifier
-abbrev pub is_there : Scene → Class → ℕ → Bool
-is_there w Plain id = true
-is_there w Window id = is_window w.windows id
-is_there w Stream id = streams.has w.streams id
-is_there w Reference id = has_reference w id
+abbrev pub has_object : Scene → Class → ℕ → Bool
+has_object w Plain id = true
+has_object w Window id = is_window w.windows id
+has_object w Stream id = streams.has w.streams id
+has_object w Reference id = has_reference w id
 
 -- an argument that names an object is 0 or names one
 abbrev pub named : Scene → Class → ℕ → Result (Unit {0}) Fault
-named w class id = if id == 0 || is_there w class id then Ok tt else Err BadGlk
+named w class id = if id == 0 || has_object w class id then Ok tt else Err BadGlk
 
-unfoldable pub looked : Scene → Selector → List ℕ → Result (Unit {0}) Fault
-looked w row args =
+unfoldable pub looked_at : Scene → Selector → List ℕ → Result (Unit {0}) Fault
+looked_at w row args =
     if nat_lt (length args) row.arguments then Err BadGlk else (do
       first ← named w row.first (arg args 0)
       named w row.other (arg args row.other_place))
@@ -74,12 +75,12 @@ call_by None w f room selector args = do
   reply ← dropping selector
   Ok (silent w, Answer reply)
 call_by (Some row) w f room selector args = do
-  there ← looked w row.looks args
+  there ← looked_at w row.looks args
   if is_on_none row.looks args then as_turn (nothing w f room row.looks args) else done row.does w f room args
 
 -- THE CALL of a selector.
 unfoldable pub glk_call : Scene → FlatState → ℕ → ℕ → List ℕ → Outcome Turn
-glk_call w f room selector args = call_by (row_of selector) w f room selector args
+glk_call w f room selector args = call_by (row_for selector) w f room selector args
 
 -- ---- where it may want memory
 
@@ -95,7 +96,7 @@ grows_by (Some row) w f args = if is_on_none row.looks args then gives_nothing r
 
 -- the call of a selector that may want memory: one that adds text, writes, pushes, names a file or makes an object
 unfoldable pub grows : Scene → FlatState → ℕ → List ℕ → Bool
-grows w f selector args = grows_by (row_of selector) w f args
+grows w f selector args = grows_by (row_for selector) w f args
 
 abbrev pub IsGrowing : Scene → FlatState → ℕ → List ℕ → Type 0
 IsGrowing w f selector args = grows w f selector args ≡ true

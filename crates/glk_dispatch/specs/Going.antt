@@ -4,35 +4,36 @@ use Rattle.gx_words.specs.declared.faults.Fault.TheVariants.{BadGlk}
 use Rattle.gx_words.specs.Results.{◌>>=◌}
 use Rattle.gx_state.specs.Flat.{FlatState}
 use Rattle.gx_state.specs.declared.effects.Reply.{Reply}
-use Rattle.glk_world.specs.World.{Call, Scene, Outcome, answered, arg}
+use Rattle.glk_world.specs.World.{WaitingCall, Scene, Outcome, answered, arg}
 use Rattle.glk_replies.specs.declared.Turn.{Turn}
 use Rattle.glk_replies.specs.declared.Turn.TheVariants.{Answer}
 use Rattle.glk_replies.specs.declared.Given.{Given}
 use Rattle.glk_replies.specs.declared.Given.TheVariants as given
 use Rattle.glk_replies.specs.Numbers as selectors
+use Rattle.glk_replies.specs.TextNumbers as texts
 use Rattle.glk_replies.specs.Parts.{replies}
 use Rattle.glk_object_calls.specs.Streams.{close}
 use Rattle.glk_object_calls.specs.References.{prompt_goes_on, prompt_goes_on_grow, open_goes_on, open_goes_on_grow}
 use Rattle.glk_event_calls.specs.Events.{select_goes_on, select_goes_on_grow}
 
 -- a line for the call that waits for an event, or for a prompt
-abbrev pub with_line : Scene → FlatState → ℕ → Call → List ℕ → Outcome Reply
+abbrev pub with_line : Scene → FlatState → ℕ → WaitingCall → List ℕ → Outcome Reply
 with_line w f room call line =
-    if call.selector == selectors.select then select_goes_on w f room call.arguments line
+    if call.selector == texts.select then select_goes_on w f room call.arguments line
     else prompt_goes_on w call.arguments line
 
 -- a file was removed, or looked for
 abbrev pub was_of : ℕ → Bool → ℕ
 was_of selector was = if selector == selectors.fileref_does_file_exist && was then 1 else 0
 
-abbrev pub resumed : Scene → FlatState → ℕ → Call → Given → Outcome Reply
+abbrev pub resumed : Scene → FlatState → ℕ → WaitingCall → Given → Outcome Reply
 resumed w f room call (given.Line line) = with_line w f room call line
 resumed w f room call (given.Loaded load) = open_goes_on w call.selector call.arguments load
 resumed w f room call given.Stored = close w f room call.arguments
 resumed w f room call (given.Was was) = answered w (replies (was_of call.selector was))
 
 -- it waits no longer then
-abbrev pub go_by : Option Call → Scene → FlatState → ℕ → Given → Outcome Turn
+abbrev pub go_by : Option WaitingCall → Scene → FlatState → ℕ → Given → Outcome Turn
 go_by None w f room g = Err BadGlk
 go_by (Some call) w f room g = do
   done ← resumed (record w { waiting = None }) f room call g
@@ -43,21 +44,21 @@ glk_go_on w f room g = go_by w.waiting w f room g
 
 -- ---- where memory may be wanted
 
-abbrev pub with_line_grow : Scene → FlatState → Call → List ℕ → Bool
+abbrev pub with_line_grow : Scene → FlatState → WaitingCall → List ℕ → Bool
 with_line_grow w f call line =
-    if call.selector == selectors.select
+    if call.selector == texts.select
     then select_goes_on_grow w f call.arguments line
     else prompt_goes_on_grow w line
 
-abbrev pub resumed_grow : Scene → FlatState → Call → Given → Bool
+abbrev pub resumed_grow : Scene → FlatState → WaitingCall → Given → Bool
 resumed_grow w f call (given.Line line) = with_line_grow w f call line
 resumed_grow w f call (given.Loaded load) = open_goes_on_grow w call.arguments load
 resumed_grow w f call given.Stored = not (arg call.arguments 1 == 0)
 resumed_grow w f call (given.Was was) = false
 
-abbrev pub go_grows_by : Option Call → Scene → FlatState → Given → Bool
-go_grows_by None w f g = false
-go_grows_by (Some call) w f g = resumed_grow (record w { waiting = None }) f call g
-
 unfoldable pub go_grows : Scene → FlatState → Given → Bool
-go_grows w f g = go_grows_by w.waiting w f g
+go_grows w f g =
+    elim w.waiting [
+      | None ↦ false
+      | Some call ↦ resumed_grow (record w { waiting = None }) f call g
+    ]

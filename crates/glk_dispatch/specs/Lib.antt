@@ -1,4 +1,7 @@
 pub mod Turns
+pub mod Rows
+pub mod ObjectCalls
+pub mod TextCalls
 pub mod Table
 pub mod Calls
 pub mod Ready

@@ -10,6 +10,7 @@ use Rattle.glk_streams.specs.Streams as streams
 use Rattle.glk_windows.specs.Changes.{some_grow}
 use Rattle.glk_world.specs.World.{Scene, Said, Outcome, arg}
 use Rattle.glk_replies.specs.Numbers as selectors
+use Rattle.glk_replies.specs.TextNumbers as texts
 use Rattle.glk_replies.specs.declared.Turn.{Turn}
 use Rattle.glk_replies.specs.declared.Turn.TheVariants as turn
 
@@ -41,21 +42,21 @@ is_more w v =
     || some_grow v.windows.tree (w.windows.columns, w.windows.rows) w.windows.grids
 
 -- one of these, or text is added
-abbrev pub takes_memory : Scene → Said × Turn → Bool
-takes_memory w r = turn_takes r.1 || has_some r.0.1 || is_more w r.0.0
+abbrev pub takes_some : Scene → Said × Turn → Bool
+takes_some w r = turn_takes r.1 || has_some r.0.1 || is_more w r.0.0
 
 -- the calls that put characters to the current stream
 abbrev pub puts_to_current : ℕ → Bool
 puts_to_current selector =
-    selector == selectors.put_char || selector == selectors.put_string || selector == selectors.put_buffer
-    || is_in_range selectors.put_char_uni selectors.put_buffer_uni selector
+    selector == texts.put_char || selector == texts.put_string || selector == texts.put_buffer
+    || is_in_range texts.put_char_uni texts.put_buffer_uni selector
 
 -- those that put characters to the stream of the first argument
 abbrev pub puts_to_stream : ℕ → Bool
 puts_to_stream selector =
-    selector == selectors.put_char_stream || selector == selectors.put_string_stream
-    || selector == selectors.put_buffer_stream
-    || is_in_range selectors.put_char_stream_uni selectors.put_buffer_stream_uni selector
+    selector == texts.put_char_stream || selector == texts.put_string_stream
+    || selector == texts.put_buffer_stream
+    || is_in_range texts.put_char_stream_uni texts.put_buffer_stream_uni selector
 
 -- what is left out: characters for a stream that is there, and a window that is closed
 abbrev pub is_left_out : Scene → ℕ → List ℕ → Bool
@@ -64,5 +65,5 @@ is_left_out w selector args =
     || ((puts_to_stream selector || selector == selectors.window_close) && not (arg args 0 == 0))
 
 abbrev pub TakesMemory : Scene → Outcome Turn → Type 0
-TakesMemory w (Ok r) = IsTrue (takes_memory w r)
+TakesMemory w (Ok r) = IsTrue (takes_some w r)
 TakesMemory w (Err e) = ⊥

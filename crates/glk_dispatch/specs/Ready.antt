@@ -8,19 +8,19 @@ use Rattle.glk_replies.specs.declared.Turn.{Turn}
 use Rattle.glk_replies.specs.declared.Turn.TheVariants.{Answer}
 use Rattle.glk_dispatch.specs.declared.table.Class.{Class}
 use Rattle.glk_dispatch.specs.declared.table.Selector.{Selector}
-use Rattle.glk_dispatch.specs.Table.{Row}
-use Rattle.glk_dispatch.specs.Calls.{is_there, looked, is_on_none, nothing, as_turn, done, dropping, gives_nothing}
+use Rattle.glk_dispatch.specs.Rows.{Row}
+use Rattle.glk_dispatch.specs.Calls.{has_object, looked_at, is_on_none, nothing, as_turn, done, dropping, gives_nothing}
 
-abbrev pub IsThere : Scene → Class → ℕ → Type 0
-IsThere w class id = is_there w class id ≡ true
+abbrev pub IsObject : Scene → Class → ℕ → Type 0
+IsObject w class id = has_object w class id ≡ true
 
 -- the object 0, or one that is there
 abbrev pub IsNamed : Scene → Class → ℕ → Type 0
-IsNamed w class id = (id ≡ 0) ⊎ IsThere w class id
+IsNamed w class id = (id ≡ 0) ⊎ IsObject w class id
 
 -- the first argument of a row that needs it isn't 0
 abbrev pub IsFirst : Bool → Scene → Class → ℕ → Type 0
-IsFirst true w class id = IsThere w class id
+IsFirst true w class id = IsObject w class id
 IsFirst false w class id = IsNamed w class id
 
 -- the objects that a row names are there
@@ -50,7 +50,7 @@ call_looked None does w f room selector args = do
   reply ← dropping selector
   Ok (silent w, Answer reply)
 call_looked (Some looks) does w f room selector args = do
-  there ← looked w looks args
+  there ← looked_at w looks args
   call_on looks does w f room args
 
 abbrev pub wants_on : Selector → Bool → List ℕ → Bool

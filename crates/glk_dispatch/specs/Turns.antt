@@ -8,10 +8,11 @@ use Rattle.glk_streams.specs.Constants.{largest}
 use Rattle.glk_streams.specs.Stream as one
 use Rattle.glk_streams.specs.Streams as streams
 use Rattle.glk_events.specs.declared.requests.Request.{Request}
-use Rattle.glk_world.specs.World.{Call, Scene, has_reference, arg}
+use Rattle.glk_world.specs.World.{WaitingCall, Scene, has_reference, arg}
 use Rattle.glk_replies.specs.Numbers as selectors
+use Rattle.glk_replies.specs.TextNumbers as texts
 use Rattle.glk_replies.specs.Parts.{can_give_pair}
-use Rattle.glk_object_calls.specs.References.{loads}
+use Rattle.glk_object_calls.specs.References.{mode_loads}
 use Rattle.glk_replies.specs.declared.Given.{Given}
 use Rattle.glk_replies.specs.declared.Given.TheVariants as given
 
@@ -21,12 +22,14 @@ HasRequest [] = ⊥
 HasRequest (r ∷ rs) = Unit {0}
 
 -- what the waiting call goes on with, and what it needs then
-abbrev pub IsAwaited : Scene → Call → Given → Type 0
+abbrev pub IsAwaited : Scene → WaitingCall → Given → Type 0
 IsAwaited w call (given.Line line) =
-    ((call.selector ≡ selectors.select) × HasRequest w.requests) ⊎ (call.selector ≡ selectors.fileref_create_by_prompt)
+    ((call.selector ≡ texts.select) × HasRequest w.requests) ⊎ (call.selector ≡ selectors.fileref_create_by_prompt)
 IsAwaited w call (given.Loaded load) =
     ((call.selector ≡ selectors.stream_open_file) ⊎ (call.selector ≡ selectors.stream_open_file_uni))
-    × (has_reference w (arg call.arguments 0) ≡ true) × (loads (arg call.arguments 1) ≡ true) × IsBounded largest load
+    × (has_reference w (arg call.arguments 0) ≡ true)
+    × (mode_loads (arg call.arguments 1) ≡ true)
+    × IsBounded largest load
 IsAwaited w call given.Stored =
     (call.selector ≡ selectors.stream_close)
     × (streams.has w.streams (arg call.arguments 0) ≡ true)
@@ -34,7 +37,7 @@ IsAwaited w call given.Stored =
 IsAwaited w call (given.Was was) =
     (call.selector ≡ selectors.fileref_delete_file) ⊎ (call.selector ≡ selectors.fileref_does_file_exist)
 
-abbrev pub AwaitsIn : Scene → Option Call → Given → Type 0
+abbrev pub AwaitsIn : Scene → Option WaitingCall → Given → Type 0
 AwaitsIn w None g = ⊥
 AwaitsIn w (Some call) g = IsAwaited w call g
 
@@ -46,13 +49,13 @@ Awaits w g = AwaitsIn w w.waiting g
 
 -- The looks at what a call gives back were made before it asked: a stream_close looks at its reference before the file
 -- is stored. A line is looked at once it is there.
-abbrev pub IsLookedBy : FlatState → ℕ → Call → Given → Type 0
+abbrev pub IsLookedBy : FlatState → ℕ → WaitingCall → Given → Type 0
 IsLookedBy f room call (given.Line line) = Unit {0}
 IsLookedBy f room call (given.Loaded load) = Unit {0}
 IsLookedBy f room call given.Stored = can_give_pair f room (arg call.arguments 1) ≡ Ok tt
 IsLookedBy f room call (given.Was was) = Unit {0}
 
-abbrev pub LookedIn : FlatState → ℕ → Option Call → Given → Type 0
+abbrev pub LookedIn : FlatState → ℕ → Option WaitingCall → Given → Type 0
 LookedIn f room None g = ⊥
 LookedIn f room (Some call) g = IsLookedBy f room call g
 

@@ -1,14 +1,14 @@
 //! The one way that every call goes (Glk 0.7.5, "The Dispatch Layer"; specs/Calls): its row, the looks at its
 //! arguments, and then what the row does.
-ghost use Rattle.std.specs.Prelude.{◌≡◌, ◌≤◌, length, replicate, false, true, IfOk, IfSome, IsTrue, option_map, Some};
+ghost use Rattle.std.specs.Prelude.{◌≡◌, ◌≤◌, length, replicate, false, IfOk, IfSome, IsTrue, option_map, Some};
 ghost use Rattle.gx_words.specs.Faults.{Reads};
 ghost use Rattle.gx_state.specs.Replies.{IsReply};
-ghost use Rattle.glk_world.specs.World.{Calls};
+ghost use Rattle.glk_world.specs.World.{MakesCall};
 ghost use Rattle.glk_replies.specs.Turns.{IsTurnFor, IsGivenFor};
 ghost use Rattle.glk_replies.specs.declared.Given.{Given};
 ghost use Rattle.glk_dispatch.specs.Turns.{Awaits, Looked};
-ghost use Rattle.glk_dispatch.specs.Table.{row_of, row_fits};
-ghost use Rattle.glk_dispatch.specs.Calls.{is_there, named, looked, is_on_none, nothing, gives_nothing, dropping};
+ghost use Rattle.glk_dispatch.specs.Table.{row_for, selector_fits};
+ghost use Rattle.glk_dispatch.specs.Calls.{has_object, named, looked_at, is_on_none, nothing, gives_nothing, dropping};
 ghost use Rattle.glk_dispatch.specs.Calls.{glk_call, IsGrowing};
 ghost use Rattle.gx_words.specs.declared.faults.Fault.TheVariants.{NoMemory};
 ghost use Rattle.glk_dispatch.specs.Memory.{is_left_out, TakesMemory};
@@ -24,7 +24,7 @@ use std::alloc::Allocator;
 
 /// Whether an object of a class has this identifier.
 fn is_there(world: &World, class: Class, id: u32) -> bool
-    ensures { result ≡ is_there world.now.scene class id }
+    ensures { result ≡ has_object world.now.scene class id }
 {
     match class {
         Class::Plain => true,
@@ -46,9 +46,9 @@ fn named(world: &World, class: Class, id: u32) -> Result<(), Fault>
 }
 
 /// Looks at the arguments.
-#[tactic(auto, unfolding(crate::specs::Calls::looked))]
+#[tactic(auto, unfolding(crate::specs::Calls::looked_at))]
 fn looked(world: &World, row: &Selector, args: &[u32]) -> Result<(), Fault>
-    ensures { Reads (λ _. tt) result (looked world.now.scene row.now args.now) }
+    ensures { Reads (λ _. tt) result (looked_at world.now.scene row.now args.now) }
 {
     if args.len() < usize::from(row.arguments) {
         return Err(Fault::BadGlk);
@@ -83,7 +83,7 @@ fn nothing<A: Allocator + Clone>(
     args: &[u32],
 ) -> Result<Reply, Fault>
     requires { row.now.words ≤ 4 }
-    ensures value { Calls (IsTrue (gives_nothing row.now args.now)) result world.old world.new
+    ensures value { MakesCall (IsTrue (gives_nothing row.now args.now)) result world.old world.new
         (nothing world.old.scene state.now.flat room row.now args.now) }
     ensures fits { IfOk result (IsReply state.now.flat room) }
 {
@@ -126,10 +126,10 @@ fn call_of<A: Allocator + Clone>(
     args: &[u32],
 ) -> Result<Turn, Fault>
     requires words { row.now.words ≤ 4 }
-    requires ready { is_on_none row.now args.now ≡ false → IsReadyBy (row_of selector) world.old.scene args.now }
-    ensures value { Calls (IsTrue (wants_on row.now (wants_by (row_of selector) world.old.scene state.now.flat args.now)
-        args.now)) result world.old world.new
-        (call_on row.now (done_by (row_of selector) world.old.scene state.now.flat room args.now) world.old.scene
+    requires ready { is_on_none row.now args.now ≡ false → IsReadyBy (row_for selector) world.old.scene args.now }
+    ensures value { MakesCall (IsTrue (wants_on row.now
+        (wants_by (row_for selector) world.old.scene state.now.flat args.now) args.now)) result world.old world.new
+        (call_on row.now (done_by (row_for selector) world.old.scene state.now.flat room args.now) world.old.scene
         state.now.flat room args.now) }
     ensures fits { IfOk result (IsTurnFor state.now.flat room) }
 {
@@ -150,12 +150,12 @@ fn call_row<A: Allocator + Clone>(
     selector: u32,
     args: &[u32],
 ) -> Result<Turn, Fault>
-    requires row { option_map (λ row. row.looks) (row_of selector) ≡ Some row.now }
-    requires fits { IsTrue (row_fits row.now) }
-    ensures value { Calls (IsTrue (wants_on row.now (wants_by (row_of selector) world.old.scene state.now.flat args.now)
-        args.now)) result world.old world.new
+    requires row { option_map (λ row. row.looks) (row_for selector) ≡ Some row.now }
+    requires fits { IsTrue (selector_fits row.now) }
+    ensures value { MakesCall (IsTrue (wants_on row.now
+        (wants_by (row_for selector) world.old.scene state.now.flat args.now) args.now)) result world.old world.new
         (call_looked (Some row.now)
-        (done_by (row_of selector) world.old.scene state.now.flat room args.now) world.old.scene state.now.flat room
+        (done_by (row_for selector) world.old.scene state.now.flat room args.now) world.old.scene state.now.flat room
         selector args.now) }
     ensures fits { IfOk result (IsTurnFor state.now.flat room) }
 {
@@ -183,12 +183,12 @@ fn call_found<A: Allocator + Clone>(
     selector: u32,
     args: &[u32],
 ) -> Result<Turn, Fault>
-    requires row { option_map (λ row. row.now) found ≡ option_map (λ row. row.looks) (row_of selector) }
-    requires fits { IfSome found (λ row. IsTrue (row_fits row.now)) }
-    ensures value { Calls (IsTrue (wants_looked (option_map (λ row. row.now) found.entry)
-        (wants_by (row_of selector) world.old.scene state.now.flat args.now) args.now)) result world.old world.new
+    requires row { option_map (λ row. row.now) found ≡ option_map (λ row. row.looks) (row_for selector) }
+    requires fits { IfSome found (λ row. IsTrue (selector_fits row.now)) }
+    ensures value { MakesCall (IsTrue (wants_looked (option_map (λ row. row.now) found.entry)
+        (wants_by (row_for selector) world.old.scene state.now.flat args.now) args.now)) result world.old world.new
         (call_looked (option_map (λ row. row.now) found.entry)
-        (done_by (row_of selector) world.old.scene state.now.flat room args.now) world.old.scene state.now.flat room
+        (done_by (row_for selector) world.old.scene state.now.flat room args.now) world.old.scene state.now.flat room
         selector args.now) }
     ensures fits { IfOk result (IsTurnFor state.now.flat room) }
 {
@@ -207,7 +207,7 @@ fn call_selector<A: Allocator + Clone>(
     selector: u32,
     args: &[u32],
 ) -> Result<Turn, Fault>
-    ensures value { Calls (IsGrowing world.old.scene state.now.flat selector args.now) result world.old world.new
+    ensures value { MakesCall (IsGrowing world.old.scene state.now.flat selector args.now) result world.old world.new
         (glk_call world.old.scene state.now.flat room selector args.now) }
     ensures fits { IfOk result (IsTurnFor state.now.flat room) }
 {
@@ -223,7 +223,7 @@ pub fn call<A: Allocator + Clone>(
     selector: u32,
     args: &[u32],
 ) -> Result<Turn, Fault>
-    ensures value { Calls (IsGrowing world.old.scene state.now.flat selector args.now) result world.old world.new
+    ensures value { MakesCall (IsGrowing world.old.scene state.now.flat selector args.now) result world.old world.new
         (glk_call world.old.scene state.now.flat room selector args.now) }
     ensures fits { IfOk result (IsTurnFor state.now.flat room) }
     ensures asks { IfOk result (λ turn. (given : Given) → IsGivenFor turn given → Awaits world.new.scene given) }

@@ -1,11 +1,12 @@
 //! What the rows of the table do (specs/Table): a line a call, in the order of the table.
 //!
 //! The calls stand in the lists of the table, a function each; `do_call` finds the one of a selector.
-ghost use Rattle.std.specs.Prelude.{◌≡◌, IfOk, IsTrue};
-ghost use Rattle.glk_world.specs.World.{Calls};
+ghost use Rattle.std.specs.Prelude.{IfOk, IsTrue};
+ghost use Rattle.glk_world.specs.World.{MakesCall};
 ghost use Rattle.glk_replies.specs.Turns.{IsTurnFor};
-ghost use Rattle.glk_dispatch.specs.Table.{row_of, row_in, window_calls, stream_calls, text_calls, event_calls};
-ghost use Rattle.glk_dispatch.specs.Table.{unicode_calls};
+ghost use Rattle.glk_dispatch.specs.ObjectCalls.{window_calls, stream_calls};
+ghost use Rattle.glk_dispatch.specs.TextCalls.{text_calls, event_calls, unicode_calls};
+ghost use Rattle.glk_dispatch.specs.Table.{row_for, row_in};
 ghost use Rattle.glk_dispatch.specs.Ready.{IsReadyBy, done_by, wants_by};
 
 use glk_event_calls::events::{
@@ -39,7 +40,7 @@ use gx_words::Fault;
 use std::alloc::Allocator;
 
 /// The calls of the program, of what the library can do, of windows.
-#[tactic(auto, using(crate::proofs::Fitting::fitting), unfolding(crate::specs::Table::window_calls))]
+#[tactic(auto, using(crate::proofs::Fitting::fitting), unfolding(crate::specs::ObjectCalls::window_calls))]
 fn window_call<A: Allocator + Clone>(
     selector: u32,
     world: &mut World,
@@ -48,7 +49,7 @@ fn window_call<A: Allocator + Clone>(
     args: &[u32],
 ) -> Result<Turn, Fault>
     requires { IsReadyBy (row_in window_calls selector) world.old.scene args.now }
-    ensures value { Calls (IsTrue (wants_by (row_in window_calls selector) world.old.scene state.now.flat args.now))
+    ensures value { MakesCall (IsTrue (wants_by (row_in window_calls selector) world.old.scene state.now.flat args.now))
         result world.old world.new
         (done_by (row_in window_calls selector) world.old.scene state.now.flat room args.now) }
     ensures fits { IfOk result (IsTurnFor state.now.flat room) }
@@ -82,7 +83,7 @@ fn window_call<A: Allocator + Clone>(
 }
 
 /// The calls of streams and file references.
-#[tactic(auto, using(crate::proofs::Fitting::fitting), unfolding(crate::specs::Table::stream_calls))]
+#[tactic(auto, using(crate::proofs::Fitting::fitting), unfolding(crate::specs::ObjectCalls::stream_calls))]
 fn stream_call<A: Allocator + Clone>(
     selector: u32,
     world: &mut World,
@@ -91,7 +92,7 @@ fn stream_call<A: Allocator + Clone>(
     args: &[u32],
 ) -> Result<Turn, Fault>
     requires { IsReadyBy (row_in stream_calls selector) world.old.scene args.now }
-    ensures value { Calls (IsTrue (wants_by (row_in stream_calls selector) world.old.scene state.now.flat args.now))
+    ensures value { MakesCall (IsTrue (wants_by (row_in stream_calls selector) world.old.scene state.now.flat args.now))
         result world.old world.new
         (done_by (row_in stream_calls selector) world.old.scene state.now.flat room args.now) }
     ensures fits { IfOk result (IsTurnFor state.now.flat room) }
@@ -120,7 +121,7 @@ fn stream_call<A: Allocator + Clone>(
 }
 
 /// The calls of output, input, the case of characters, styles.
-#[tactic(auto, using(crate::proofs::Fitting::fitting), unfolding(crate::specs::Table::text_calls))]
+#[tactic(auto, using(crate::proofs::Fitting::fitting), unfolding(crate::specs::TextCalls::text_calls))]
 fn text_call<A: Allocator + Clone>(
     selector: u32,
     world: &mut World,
@@ -129,7 +130,7 @@ fn text_call<A: Allocator + Clone>(
     args: &[u32],
 ) -> Result<Turn, Fault>
     requires { IsReadyBy (row_in text_calls selector) world.old.scene args.now }
-    ensures value { Calls (IsTrue (wants_by (row_in text_calls selector) world.old.scene state.now.flat args.now))
+    ensures value { MakesCall (IsTrue (wants_by (row_in text_calls selector) world.old.scene state.now.flat args.now))
         result world.old world.new (done_by (row_in text_calls selector) world.old.scene state.now.flat room args.now) }
     ensures fits { IfOk result (IsTurnFor state.now.flat room) }
 {
@@ -177,7 +178,7 @@ fn text_call<A: Allocator + Clone>(
 }
 
 /// The calls of events.
-#[tactic(auto, using(crate::proofs::Fitting::fitting), unfolding(crate::specs::Table::event_calls))]
+#[tactic(auto, using(crate::proofs::Fitting::fitting), unfolding(crate::specs::TextCalls::event_calls))]
 fn event_call<A: Allocator + Clone>(
     selector: u32,
     world: &mut World,
@@ -186,7 +187,7 @@ fn event_call<A: Allocator + Clone>(
     args: &[u32],
 ) -> Result<Turn, Fault>
     requires { IsReadyBy (row_in event_calls selector) world.old.scene args.now }
-    ensures value { Calls (IsTrue (wants_by (row_in event_calls selector) world.old.scene state.now.flat args.now))
+    ensures value { MakesCall (IsTrue (wants_by (row_in event_calls selector) world.old.scene state.now.flat args.now))
         result world.old world.new
         (done_by (row_in event_calls selector) world.old.scene state.now.flat room args.now) }
     ensures fits { IfOk result (IsTurnFor state.now.flat room) }
@@ -203,7 +204,7 @@ fn event_call<A: Allocator + Clone>(
 }
 
 /// The calls of Unicode, and of the echo of line input.
-#[tactic(auto, using(crate::proofs::Fitting::fitting), unfolding(crate::specs::Table::unicode_calls))]
+#[tactic(auto, using(crate::proofs::Fitting::fitting), unfolding(crate::specs::TextCalls::unicode_calls))]
 fn unicode_call<A: Allocator + Clone>(
     selector: u32,
     world: &mut World,
@@ -212,8 +213,8 @@ fn unicode_call<A: Allocator + Clone>(
     args: &[u32],
 ) -> Result<Turn, Fault>
     requires { IsReadyBy (row_in unicode_calls selector) world.old.scene args.now }
-    ensures value { Calls (IsTrue (wants_by (row_in unicode_calls selector) world.old.scene state.now.flat args.now))
-        result world.old world.new
+    ensures value { MakesCall (IsTrue (wants_by (row_in unicode_calls selector) world.old.scene state.now.flat
+        args.now)) result world.old world.new
         (done_by (row_in unicode_calls selector) world.old.scene state.now.flat room args.now) }
     ensures fits { IfOk result (IsTurnFor state.now.flat room) }
 {
@@ -293,9 +294,9 @@ pub fn do_call<A: Allocator + Clone>(
     room: u32,
     args: &[u32],
 ) -> Result<Turn, Fault>
-    requires { IsReadyBy (row_of selector) world.old.scene args.now }
-    ensures value { Calls (IsTrue (wants_by (row_of selector) world.old.scene state.now.flat args.now)) result world.old
-        world.new (done_by (row_of selector) world.old.scene state.now.flat room args.now) }
+    requires { IsReadyBy (row_for selector) world.old.scene args.now }
+    ensures value { MakesCall (IsTrue (wants_by (row_for selector) world.old.scene state.now.flat args.now)) result
+        world.old world.new (done_by (row_for selector) world.old.scene state.now.flat room args.now) }
     ensures fits { IfOk result (IsTurnFor state.now.flat room) }
 {
     if selector < STREAM_ITERATE {

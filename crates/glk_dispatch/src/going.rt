@@ -1,8 +1,8 @@
 //! A call that waited goes on with what it was given (specs/Going): always to an answer.
-ghost use Rattle.std.specs.Prelude.{◌≡◌, ◌==◌, ◌&&◌, IfOk, IsTrue};
+ghost use Rattle.std.specs.Prelude.{◌≡◌, IfOk, IsTrue};
 ghost use Rattle.gx_state.specs.Replies.{IsReply};
-ghost use Rattle.glk_world.specs.Kept.{call_of};
-ghost use Rattle.glk_world.specs.World.{Calls};
+ghost use Rattle.glk_world.specs.Kept.{flat_call};
+ghost use Rattle.glk_world.specs.World.{MakesCall};
 ghost use Rattle.glk_replies.specs.Turns.{IsTurnFor, IsAnswered};
 ghost use Rattle.glk_dispatch.specs.Turns.{IsAwaited, Awaits, IsOfFile, Looked, MeetsNoFault};
 ghost use Rattle.glk_dispatch.specs.Going.{with_line, with_line_grow, was_of, resumed, resumed_grow, glk_go_on};
@@ -27,9 +27,9 @@ fn with_line<A: Allocator + Clone>(
     call: &Waiting,
     line: &[u32],
 ) -> Result<Reply, Fault>
-    requires { IsAwaited world.old.scene (call_of call.now) (given.Line line.now) }
-    ensures value { Calls (IsTrue (with_line_grow world.old.scene state.now.flat (call_of call.now) line.now)) result
-        world.old world.new (with_line world.old.scene state.now.flat room (call_of call.now) line.now) }
+    requires { IsAwaited world.old.scene (flat_call call.now) (given.Line line.now) }
+    ensures value { MakesCall (IsTrue (with_line_grow world.old.scene state.now.flat (flat_call call.now) line.now))
+        result world.old world.new (with_line world.old.scene state.now.flat room (flat_call call.now) line.now) }
     ensures fits { IfOk result (IsReply state.now.flat room) }
 {
     if call.selector == SELECT {
@@ -54,9 +54,9 @@ fn resume<A: Allocator + Clone>(
     call: &Waiting,
     given: Given,
 ) -> Result<Reply, Fault>
-    requires { IsAwaited world.old.scene (call_of call.now) given }
-    ensures value { Calls (IsTrue (resumed_grow world.old.scene state.now.flat (call_of call.now) given)) result
-        world.old world.new (resumed world.old.scene state.now.flat room (call_of call.now) given) }
+    requires { IsAwaited world.old.scene (flat_call call.now) given }
+    ensures value { MakesCall (IsTrue (resumed_grow world.old.scene state.now.flat (flat_call call.now) given)) result
+        world.old world.new (resumed world.old.scene state.now.flat room (flat_call call.now) given) }
     ensures fits { IfOk result (IsReply state.now.flat room) }
 {
     match given {
@@ -68,7 +68,7 @@ fn resume<A: Allocator + Clone>(
 }
 
 /// Goes on with the call that waits; after a fault it waits again.
-#[tactic(auto, using(crate::proofs::Resuming::going_rules), unfolding(crate::specs::Going::glk_go_on, crate::specs::Going::go_grows, crate::specs::Turns::Awaits))]
+#[tactic(auto, using(crate::proofs::Resuming::going_rules), unfolding(crate::proofs::Opened::going_on))]
 fn resume_waiting<A: Allocator + Clone>(
     world: &mut World,
     state: &State<A>,
@@ -76,7 +76,7 @@ fn resume_waiting<A: Allocator + Clone>(
     given: Given,
 ) -> Result<Turn, Fault>
     requires { Awaits world.old.scene given }
-    ensures value { Calls (IsTrue (go_grows world.old.scene state.now.flat given)) result world.old world.new
+    ensures value { MakesCall (IsTrue (go_grows world.old.scene state.now.flat given)) result world.old world.new
         (glk_go_on world.old.scene state.now.flat room given) }
     ensures fits { IfOk result (IsTurnFor state.now.flat room) }
     ensures answers { IfOk result IsAnswered }
@@ -101,7 +101,7 @@ pub fn go_on<A: Allocator + Clone>(
     given: Given,
 ) -> Result<Turn, Fault>
     requires { Awaits world.old.scene given }
-    ensures value { Calls (IsTrue (go_grows world.old.scene state.now.flat given)) result world.old world.new
+    ensures value { MakesCall (IsTrue (go_grows world.old.scene state.now.flat given)) result world.old world.new
         (glk_go_on world.old.scene state.now.flat room given) }
     ensures fits { IfOk result (IsTurnFor state.now.flat room) }
     ensures answers { IfOk result IsAnswered }

@@ -5,7 +5,7 @@
 ghost use Rattle.std.specs.Prelude.{◌≡◌, IsTrue, IfSome, option_map, map, length};
 ghost use Rattle.std.specs.List.{list_all};
 ghost use Rattle.gx_rows.specs.Keys.{is_rising};
-ghost use Rattle.glk_dispatch.specs.Table.{table, row_of, row_fits, is_dropped};
+ghost use Rattle.glk_dispatch.specs.Table.{call_table, row_for, selector_fits, is_dropped};
 
 use glk_replies::selectors::*;
 use gx_rows::{Keyed, find_row};
@@ -181,12 +181,12 @@ pub const SELECTORS: [Selector; 79] = rows! {
 };
 
 /// The table.
-#[tactic(auto, unfolding(crate::specs::Table::window_calls, crate::specs::Table::stream_calls, crate::specs::Table::text_calls, crate::specs::Table::event_calls, crate::specs::Table::unicode_calls))]
+#[tactic(auto, unfolding(crate::proofs::Opened::parts_of_table))]
 pub fn selectors() -> &'static [Selector; 79]
-    ensures table { result.now ≡ map (λ row. row.looks) table }
-    ensures count { length table ≡ 79 }
+    ensures table { result.now ≡ map (λ row. row.looks) call_table }
+    ensures count { length call_table ≡ 79 }
     ensures rising { IsTrue (is_rising (λ row. row.number) result.now) }
-    ensures fits { IsTrue (list_all row_fits result.now) }
+    ensures fits { IsTrue (list_all selector_fits result.now) }
 {
     &SELECTORS
 }
@@ -194,8 +194,8 @@ pub fn selectors() -> &'static [Selector; 79]
 /// The row of a selector; None where it has none.
 #[tactic(auto, using(crate::proofs::Rows::rows))]
 pub fn row_of(number: u32) -> Option<&'static Selector>
-    ensures row { option_map (λ row. row.now) result ≡ option_map (λ row. row.looks) (row_of number) }
-    ensures fits { IfSome result (λ row. IsTrue (row_fits row.now)) }
+    ensures row { option_map (λ row. row.now) result ≡ option_map (λ row. row.looks) (row_for number) }
+    ensures fits { IfSome result (λ row. IsTrue (selector_fits row.now)) }
 {
     let rows = selectors();
     let place = find_row(rows, number)?;

@@ -1,6 +1,6 @@
 -- What a line gives: how many characters, and where they are written.
-use Rattle.std.proofs.Common.{◌≡◌, ◌≤◌, ◌<◌, ◌+◌, ◌++◌, ◌==◌, ◌&&◌, ℕ, Bool, true, false, if◌then◌else◌, List, [], ◌∷◌}
-use Rattle.std.proofs.Common.{length, take, map, refl, sym, inl, inr, arith, Ok}
+use Rattle.std.proofs.Common.{◌≡◌, ◌≤◌, ◌+◌, ◌++◌, ◌&&◌, ℕ, Bool, true, false, if◌then◌else◌, List, [], ◌∷◌}
+use Rattle.std.proofs.Common.{length, take, map, refl, inl, inr, arith, Ok}
 use Rattle.std.proofs.lemmas.Grind.{common_steps}
 use Rattle.std.proofs.lemmas.List.{length-append, append-nil}
 use Rattle.gx_words.specs.Constants.{line_feed}
@@ -14,8 +14,8 @@ use Rattle.glk_streams.specs.declared.kinds.StreamKind.TheVariants as kinds
 use Rattle.glk_streams.specs.Stream as one
 use Rattle.glk_streams.specs.Streams as streams
 use Rattle.glk_world.specs.World.{Scene}
-use Rattle.glk_world.specs.Putting.{places_of, end_of}
-use Rattle.glk_replies.specs.Parts.{IsCharWidth, pushed, laid, written, can_lay, can_give}
+use Rattle.glk_world.specs.Putting.{places_of, chain_end}
+use Rattle.glk_replies.specs.Parts.{IsCharWidth, pushes_for, char_writes, writes_for, can_lay, can_give}
 use Rattle.glk_replies.proofs.Ram.{between_append, laid_in_ram, written_in_ram}
 use Rattle.glk_event_calls.specs.Events.{in_buffer, echo_for, echoes, echoed, event_of, line_places, echo_places}
 use Rattle.glk_event_calls.specs.Events.{line_reply}
@@ -46,19 +46,19 @@ width_in (kinds.Memory at len true) position count = inr refl
 width_in (kinds.Memory at len false) position count = inl refl
 width_in (kinds.File name content form) position count = inl refl
 
-width_of : (s : Stream) (count : ℕ) → IsCharWidth (one.places s count).width
-unfolding one.places
+width_of : (s : Stream) (count : ℕ) → IsCharWidth (one.next_places s count).width
+unfolding one.next_places
 width_of s count = width_in s.kind s.position count
 
 places_width : (w : Scene) (stream count : ℕ) → IsCharWidth (places_of w stream count).width
 places_width w stream count =
-    elim (one.writable (streams.stream w.streams (end_of w stream))) as
-    (λ b. IsCharWidth (if b then one.places (streams.stream w.streams (end_of w stream)) count else record {
+    elim (one.writable (streams.stream w.streams (chain_end w stream))) as
+    (λ b. IsCharWidth (if b then one.next_places (streams.stream w.streams (chain_end w stream)) count else record {
       at = 0;
       width = 1;
       count = 0;
     }).width) [
-      | true ↦ width_of (streams.stream w.streams (end_of w stream)) count
+      | true ↦ width_of (streams.stream w.streams (chain_end w stream)) count
       | false ↦ inl refl
     ]
 
@@ -76,12 +76,12 @@ event_length r line = grind (arith, common_steps)
 
 pub reply_fits : (f : FlatState) (room : ℕ) (w : Scene) (at : ℕ) (r : Request) (line : List ℕ)
     → (line_places r line).count ≤ length line → (echo_places w r line).count ≤ length (echoed w r line)
-    → can_lay f (line_places r line) ≡ Ok tt → can_give f at 4 ≡ Ok tt → length (pushed at (event_of r line)) ≤ room
+    → can_lay f (line_places r line) ≡ Ok tt → can_give f at 4 ≡ Ok tt → length (pushes_for at (event_of r line)) ≤ room
     → can_lay f (echo_places w r line) ≡ Ok tt → IsReply f room (line_reply w at r line)
 reply_fits f room w at r line few less buffer there fits echo = record {
-  writes = between_append _ _ (laid (line_places r line) line ++ written at (event_of r line))
-      (laid (echo_places w r line) (echoed w r line))
-      (between_append _ _ (laid (line_places r line) line) (written at (event_of r line))
+  writes = between_append _ _ (char_writes (line_places r line) line ++ writes_for at (event_of r line))
+      (char_writes (echo_places w r line) (echoed w r line))
+      (between_append _ _ (char_writes (line_places r line) line) (writes_for at (event_of r line))
       (laid_in_ram f (line_places r line) line (line_width r line) few buffer)
       (written_in_ram f at (event_of r line) (rw (event_length r line) there)))
       (laid_in_ram f (echo_places w r line) (echoed w r line) (echo_width w r line) less echo);

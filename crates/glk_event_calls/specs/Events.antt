@@ -10,18 +10,18 @@ use Rattle.gx_words.specs.Constants.{line_feed}
 use Rattle.glk_text.specs.Characters.{latin_of}
 use Rattle.glk_streams.specs.declared.kinds.Places.{Places}
 use Rattle.glk_streams.specs.Streams as streams
-use Rattle.glk_windows.specs.Windows.{entry_at, has_text}
+use Rattle.glk_windows.specs.Windows.{window_entry, has_text}
 use Rattle.glk_events.specs.declared.requests.Request.{Request}
 use Rattle.glk_events.specs.Requests as requests
 use Rattle.glk_events.specs.Requests.{line_length, char_value}
 use Rattle.glk_world.specs.World.{Scene, Said, silent, Outcome, waits, answered, arg}
-use Rattle.glk_world.specs.Putting.{places_of, no_places, puts}
+use Rattle.glk_world.specs.Putting.{places_of, no_places, put_chars}
 use Rattle.glk_world.specs.Shown.{line_taken}
 use Rattle.glk_replies.specs.declared.Turn.{Turn}
 use Rattle.glk_replies.specs.declared.Turn.TheVariants.{Wait, Stuck}
-use Rattle.glk_replies.specs.Numbers as selectors
+use Rattle.glk_replies.specs.TextNumbers as texts
 use Rattle.glk_event_calls.specs.Constants.{no_event_type, char_event_type, line_event_type}
-use Rattle.glk_replies.specs.Parts.{replies, can_lay, laid, pushed, written, can_give, fitting, give}
+use Rattle.glk_replies.specs.Parts.{replies, can_lay, char_writes, pushes_for, writes_for, can_give, can_push, give}
 
 -- an event: its type, its window, and a value; a second value is 0
 abbrev pub event : ℕ → ℕ → ℕ → List ℕ
@@ -34,11 +34,11 @@ no_event = event no_event_type 0 0
 
 -- a window may ask: it has text, and no other request
 abbrev pub may_ask : Scene → ℕ → Bool
-may_ask w win = has_text (entry_at w.windows.entries win).kind && is_none (requests.of w.requests win)
+may_ask w win = has_text (window_entry w.windows.entries win).kind && is_none (requests.of w.requests win)
 
 -- a window asks, if it may
 abbrev pub asking : Scene → Request → Scene
-asking w r = if may_ask w r.win then record w { requests = requests.added w.requests r } else w
+asking w r = if may_ask w r.win then record w { requests = requests.with_request w.requests r } else w
 
 abbrev pub requested : Scene → Request → Outcome Reply
 requested w r = answered (asking w r) (replies 0)
@@ -53,13 +53,13 @@ unfoldable pub request_char_event : Bool → Scene → List ℕ → Outcome Repl
 request_char_event wide w args = requested w (record { win = arg args 0; line = false; wide = wide; buf = 0; max = 0 })
 
 -- a window waits for a line, or for a character
-abbrev pub is_line : Option Request → Bool
-is_line None = false
-is_line (Some r) = r.line
+abbrev pub asks_line : Option Request → Bool
+asks_line None = false
+asks_line (Some r) = r.line
 
-abbrev pub is_char : Option Request → Bool
-is_char None = false
-is_char (Some r) = not r.line
+abbrev pub asks_char : Option Request → Bool
+asks_char None = false
+asks_char (Some r) = not r.line
 
 -- the request of a window is dropped
 abbrev pub without_request : Scene → ℕ → Scene
@@ -68,12 +68,12 @@ without_request w win = record w { requests = requests.removed w.requests win }
 -- cancel_char_event
 unfoldable pub cancel_char_event : Scene → List ℕ → Outcome Reply
 cancel_char_event w args =
-    answered (if is_char (requests.of w.requests (arg args 0)) then without_request w (arg args 0) else w) (replies 0)
+    answered (if asks_char (requests.of w.requests (arg args 0)) then without_request w (arg args 0) else w) (replies 0)
 
 -- cancel_line_event: gives the event of a line of no characters where one was waited for
 unfoldable pub cancel_line_event : Scene → FlatState → ℕ → List ℕ → Outcome Reply
 cancel_line_event w f room args = do
-  let cancels = is_line (requests.of w.requests (arg args 0))
+  let cancels = asks_line (requests.of w.requests (arg args 0))
   reply ← give f room 0 (arg args 1) (if cancels then event line_event_type (arg args 0) 0 else no_event)
   answered (if cancels then without_request w (arg args 0) else w) reply
 
@@ -88,13 +88,13 @@ select_poll w f room args = do
 -- with no request nothing could come; else the call waits
 abbrev pub waits_for : Scene → List ℕ → Option Request → Said × Turn
 waits_for w args None = (silent w, Stuck)
-waits_for w args (Some r) = (silent (waits w selectors.select args), Wait)
+waits_for w args (Some r) = (silent (waits w texts.select args), Wait)
 
 -- select: the place of the event is looked at before the wait
 unfoldable pub select : Scene → FlatState → ℕ → List ℕ → Outcome Turn
 select w f room args = do
   there ← can_give f (arg args 0) 4
-  fits ← fitting room (length (pushed (arg args 0) no_event))
+  fits ← can_push room (length (pushes_for (arg args 0) no_event))
   Ok (waits_for w args (requests.oldest w.requests))
 
 -- ---- what a line gives to the request that it meets
@@ -115,7 +115,7 @@ in_buffer wide c = if wide then c else latin_of c
 
 -- the echo stream of a request's window, 0 for none
 abbrev pub echo_for : Scene → Request → ℕ
-echo_for w r = (entry_at w.windows.entries r.win).echo
+echo_for w r = (window_entry w.windows.entries r.win).echo
 
 -- a line is put to the window's echo stream, where that is there
 abbrev pub echoes : Scene → Request → Bool
@@ -135,43 +135,41 @@ unfoldable pub looked_at_line : Scene → FlatState → ℕ → ℕ → Request 
 looked_at_line w f room at r line = do
   buffer ← can_lay f (line_places r line)
   there ← can_give f at 4
-  fits ← fitting room (length (pushed at (event_of r line)))
+  fits ← can_push room (length (pushes_for at (event_of r line)))
   can_lay f (echo_places w r line)
 
 -- what is given: the characters in the buffer, the event, and the characters in memory where the echo stream ends
 abbrev pub line_reply : Scene → ℕ → Request → List ℕ → Reply
 line_reply w at r line = record {
   value = 0;
-  pushes = pushed at (event_of r line);
+  pushes = pushes_for at (event_of r line);
   writes =
-      laid (line_places r line) line ++ written at (event_of r line) ++ laid (echo_places w r line) (echoed w r line);
+      char_writes (line_places r line) line ++ writes_for at (event_of r line)
+      ++ char_writes (echo_places w r line) (echoed w r line);
 }
 
--- a request ends by a line that was taken for it
-abbrev pub ended : Said → ℕ → Said
-ended said win = (line_taken (without_request said.0 win), said.1)
-
--- a line meets a request
+-- a line meets a request, which ends
 unfoldable pub met : Scene → FlatState → ℕ → ℕ → Request → List ℕ → Outcome Reply
 met w f room at r line = do
   looked ← looked_at_line w f room at r line
-  Ok (ended (puts w (echo_for w r) (echoed w r line)) r.win, line_reply w at r line)
+  let said = put_chars w (echo_for w r) (echoed w r line)
+  Ok ((line_taken (without_request said.0 r.win), said.1), line_reply w at r line)
 
 -- Memory is wanted for the event, the characters in the buffer, and those that are put to the echo stream.
 unfoldable pub met_grows : Scene → ℕ → Request → List ℕ → Bool
 met_grows w at r line = not (at == 0) || not ((line_places r line).count == 0) || echoes w r
 
-abbrev pub met_oldest : Scene → FlatState → ℕ → ℕ → Option Request → List ℕ → Outcome Reply
-met_oldest w f room at None line = Err BadGlk
-met_oldest w f room at (Some r) line = met w f room at r line
-
 -- select goes on with a line, which meets the oldest request, whatever its window.
 unfoldable pub select_goes_on : Scene → FlatState → ℕ → List ℕ → List ℕ → Outcome Reply
-select_goes_on w f room args line = met_oldest w f room (arg args 0) (requests.oldest w.requests) line
-
-abbrev pub oldest_grows : Scene → ℕ → Option Request → List ℕ → Bool
-oldest_grows w at None line = false
-oldest_grows w at (Some r) line = met_grows w at r line
+select_goes_on w f room args line =
+    elim (requests.oldest w.requests) [
+      | None ↦ Err BadGlk
+      | Some r ↦ met w f room (arg args 0) r line
+    ]
 
 unfoldable pub select_goes_on_grow : Scene → FlatState → List ℕ → List ℕ → Bool
-select_goes_on_grow w f args line = oldest_grows w (arg args 0) (requests.oldest w.requests) line
+select_goes_on_grow w f args line =
+    elim (requests.oldest w.requests) [
+      | None ↦ false
+      | Some r ↦ met_grows w (arg args 0) r line
+    ]

@@ -1,17 +1,16 @@
 //! The calls of events (Glk 0.7.5, "Events"): requests, polling, waiting, and what a line gives to the request that it
 //! meets.
-ghost use Rattle.std.specs.Prelude.{◌≡◌, ℕ, ◌==◌, not, ◌<◌, ◌≤◌, ◌^◌, ◌≢◌, ◌⊎◌, ◌+◌, ◌*◌, ◌++◌, length, take, map};
-ghost use Rattle.std.specs.Prelude.{if◌then◌else◌, OnOk, OnErr, IfOk, IsTrue};
+ghost use Rattle.std.specs.Prelude.{◌≡◌, ℕ, ◌==◌, not, ◌<◌, ◌≤◌, ◌^◌, ◌+◌, ◌*◌, ◌++◌, length, map};
+ghost use Rattle.std.specs.Prelude.{OnOk, OnErr, IfOk, IsTrue};
 ghost use Rattle.gx_words.specs.Constants.{ceiling};
 ghost use Rattle.gx_words.specs.Faults.{Reads};
 ghost use Rattle.gx_state.specs.Flat.{FlatState};
 ghost use Rattle.gx_state.specs.Replies.{IsReply};
 ghost use Rattle.glk_replies.specs.Turns.{IsTurnFor};
-ghost use Rattle.glk_replies.specs.Parts.{IsCharWidth, can_lay, laid, can_give, pushed, written};
-ghost use Rattle.glk_world.specs.World.{arg, Calls};
-ghost use Rattle.glk_world.specs.Putting.{puts};
+ghost use Rattle.glk_replies.specs.Parts.{IsCharWidth, can_lay, can_give, pushes_for};
+ghost use Rattle.glk_world.specs.World.{arg, MakesCall};
 ghost use Rattle.glk_event_calls.specs.Events.{event, may_ask, requested, request_line_event, request_char_event};
-ghost use Rattle.glk_event_calls.specs.Events.{is_line, is_char, cancel_char_event, cancel_line_event, select_poll};
+ghost use Rattle.glk_event_calls.specs.Events.{asks_line, asks_char, cancel_char_event, cancel_line_event, select_poll};
 ghost use Rattle.glk_event_calls.specs.Events.{select, event_of, line_places, in_buffer, echo_for, echoes, echoed};
 ghost use Rattle.glk_event_calls.specs.Events.{echo_places, looked_at_line, line_reply, met_grows, met, select_goes_on};
 ghost use Rattle.glk_event_calls.specs.Events.{select_goes_on_grow};
@@ -51,7 +50,7 @@ fn may_ask(world: &World, win: u32) -> bool
 
 /// A window asks, if it may.
 fn requested(world: &mut World, request: Request) -> Result<Reply, Fault>
-    ensures value { Calls (IsTrue (may_ask world.old.scene request.win)) result world.old world.new
+    ensures value { MakesCall (IsTrue (may_ask world.old.scene request.win)) result world.old world.new
         (requested world.old.scene request) }
     ensures fits { (f : FlatState) (room : ℕ) → IfOk result (IsReply f room) }
 {
@@ -64,7 +63,7 @@ fn requested(world: &mut World, request: Request) -> Result<Reply, Fault>
 /// request_line_event, and request_line_event_uni where `wide`.
 #[tactic(auto, unfolding(crate::specs::Events::request_line_event))]
 pub fn request_line_event(world: &mut World, wide: bool, args: &[u32]) -> Result<Reply, Fault>
-    ensures value { Calls (IsTrue (may_ask world.old.scene (arg args.now 0))) result world.old world.new
+    ensures value { MakesCall (IsTrue (may_ask world.old.scene (arg args.now 0))) result world.old world.new
         (request_line_event wide world.old.scene args.now) }
     ensures fits { (f : FlatState) (room : ℕ) → IfOk result (IsReply f room) }
 {
@@ -81,7 +80,7 @@ pub fn request_line_event(world: &mut World, wide: bool, args: &[u32]) -> Result
 /// request_char_event, and request_char_event_uni where `wide`.
 #[tactic(auto, unfolding(crate::specs::Events::request_char_event))]
 pub fn request_char_event(world: &mut World, wide: bool, args: &[u32]) -> Result<Reply, Fault>
-    ensures value { Calls (IsTrue (may_ask world.old.scene (arg args.now 0))) result world.old world.new
+    ensures value { MakesCall (IsTrue (may_ask world.old.scene (arg args.now 0))) result world.old world.new
         (request_char_event wide world.old.scene args.now) }
     ensures fits { (f : FlatState) (room : ℕ) → IfOk result (IsReply f room) }
 {
@@ -97,7 +96,7 @@ pub fn request_char_event(world: &mut World, wide: bool, args: &[u32]) -> Result
 
 /// Whether it is a request for a line.
 fn is_line(request: Option<Request>) -> bool
-    ensures { result ≡ is_line request }
+    ensures { result ≡ asks_line request }
 {
     match request {
         None => false,
@@ -107,7 +106,7 @@ fn is_line(request: Option<Request>) -> bool
 
 /// Whether it is a request for a character.
 fn is_char(request: Option<Request>) -> bool
-    ensures { result ≡ is_char request }
+    ensures { result ≡ asks_char request }
 {
     match request {
         None => false,
@@ -118,7 +117,7 @@ fn is_char(request: Option<Request>) -> bool
 /// cancel_char_event: drops a request for a character.
 #[tactic(auto, unfolding(crate::specs::Events::cancel_char_event))]
 pub fn cancel_char_event(world: &mut World, args: &[u32]) -> Result<Reply, Fault>
-    ensures value { Calls ⊥ result world.old world.new (cancel_char_event world.old.scene args.now) }
+    ensures value { MakesCall ⊥ result world.old world.new (cancel_char_event world.old.scene args.now) }
     ensures fits { (f : FlatState) (room : ℕ) → IfOk result (IsReply f room) }
 {
     let win = arg(args, 0);
@@ -136,7 +135,7 @@ pub fn cancel_line_event<A: Allocator + Clone>(
     room: u32,
     args: &[u32],
 ) -> Result<Reply, Fault>
-    ensures value { Calls (IsTrue (not (arg args.now 1 == 0))) result world.old world.new
+    ensures value { MakesCall (IsTrue (not (arg args.now 1 == 0))) result world.old world.new
         (cancel_line_event world.old.scene state.now.flat room args.now) }
     ensures fits { IfOk result (IsReply state.now.flat room) }
 {
@@ -172,7 +171,7 @@ pub fn select_poll<A: Allocator + Clone>(
     room: u32,
     args: &[u32],
 ) -> Result<Reply, Fault>
-    ensures value { Calls (IsTrue (not (arg args.now 0 == 0))) result world.old world.new
+    ensures value { MakesCall (IsTrue (not (arg args.now 0 == 0))) result world.old world.new
         (select_poll world.old.scene state.now.flat room args.now) }
     ensures fits { IfOk result (IsReply state.now.flat room) }
 {
@@ -194,7 +193,7 @@ pub fn select<A: Allocator + Clone>(
     room: u32,
     args: &[u32],
 ) -> Result<Turn, Fault>
-    ensures value { Calls ⊥ result world.old world.new (select world.old.scene state.now.flat room args.now) }
+    ensures value { MakesCall ⊥ result world.old world.new (select world.old.scene state.now.flat room args.now) }
     ensures fits { IfOk result (IsTurnFor state.now.flat room) }
 {
     let at = arg(args, 0);
@@ -268,7 +267,7 @@ fn echo_places(world: &World, request: &Request, line: &[u32], given: Places) ->
 }
 
 /// Looks at all that a line would write for a request; answers the places of the echo stream.
-#[tactic(auto, using(crate::proofs::Lines::line_rules), unfolding(crate::specs::Events::looked_at_line, glk_replies::specs::Parts::fitting))]
+#[tactic(auto, using(crate::proofs::Lines::line_rules), unfolding(crate::proofs::Opened::looking_at_line))]
 fn looked_at_line<A: Allocator + Clone>(
     world: &World,
     state: &State<A>,
@@ -282,7 +281,7 @@ fn looked_at_line<A: Allocator + Clone>(
     ensures places { IfOk result (λ places. places ≡ echo_places world.now.scene request.now line.now) }
     ensures buffer { OnOk result (can_lay state.now.flat (line_places request.now line.now) ≡ Ok tt) }
     ensures there { OnOk result (can_give state.now.flat at 4 ≡ Ok tt) }
-    ensures fits { OnOk result (length (pushed at (event_of request.now line.now)) ≤ room) }
+    ensures fits { OnOk result (length (pushes_for at (event_of request.now line.now)) ≤ room) }
     ensures echo { OnOk result (can_lay state.now.flat (echo_places world.now.scene request.now line.now) ≡ Ok tt) }
     ensures low { OnOk result
         (0 < (line_places request.now line.now).count → (line_places request.now line.now).at < 2 ^ 32) }
@@ -359,7 +358,7 @@ fn line_reply(
 }
 
 /// A line meets a request.
-#[tactic(auto, using(crate::proofs::Lines::reply_rules), unfolding(crate::specs::Events::met, crate::specs::Events::met_grows))]
+#[tactic(auto, using(crate::proofs::Lines::reply_rules), unfolding(crate::proofs::Opened::meeting))]
 fn met<A: Allocator + Clone>(
     world: &mut World,
     state: &State<A>,
@@ -368,7 +367,7 @@ fn met<A: Allocator + Clone>(
     request: &Request,
     line: &[u32],
 ) -> Result<Reply, Fault>
-    ensures value { Calls (IsTrue (met_grows world.old.scene at request.now line.now)) result world.old world.new
+    ensures value { MakesCall (IsTrue (met_grows world.old.scene at request.now line.now)) result world.old world.new
         (met world.old.scene state.now.flat room at request.now line.now) }
     ensures fits { IfOk result (IsReply state.now.flat room) }
 {
@@ -390,7 +389,7 @@ pub fn select_goes_on<A: Allocator + Clone>(
     args: &[u32],
     line: &[u32],
 ) -> Result<Reply, Fault>
-    ensures value { Calls (IsTrue (select_goes_on_grow world.old.scene state.now.flat args.now line.now)) result
+    ensures value { MakesCall (IsTrue (select_goes_on_grow world.old.scene state.now.flat args.now line.now)) result
         world.old world.new (select_goes_on world.old.scene state.now.flat room args.now line.now) }
     ensures fits { IfOk result (IsReply state.now.flat room) }
 {

@@ -14,8 +14,8 @@ abbrev pub oldest : List Request → Option Request
 oldest requests = slice_get requests 0
 
 -- a request is made
-abbrev pub added : List Request → Request → List Request
-added requests r = requests ++ r ∷ []
+abbrev pub with_request : List Request → Request → List Request
+with_request requests r = requests ++ r ∷ []
 
 -- the request of a window is met or cancelled
 abbrev pub removed : List Request → ℕ → List Request

@@ -1,7 +1,6 @@
 //! The requests that aren't met yet.
 ghost use Rattle.std.specs.Prelude.{◌≡◌, [], OnOk, OnErr};
-ghost use Rattle.std.specs.Option.{option_copied};
-ghost use Rattle.glk_events.specs.Requests.{of, oldest, added, removed};
+ghost use Rattle.glk_events.specs.Requests.{of, oldest, with_request, removed};
 
 use std::alloc::{AllocError, Global};
 use std::marker::Model;
@@ -69,7 +68,7 @@ impl Requests {
     /// Makes a request of a window that has none.
     pub fn add(&mut self, request: Request) -> Result<(), AllocError>
         requires { of self.old request.win ≡ None }
-        ensures ok { OnOk result (self.new ≡ added self.old request) }
+        ensures ok { OnOk result (self.new ≡ with_request self.old request) }
         ensures err { OnErr result (self.new ≡ self.old) }
     {
         self.all.push(request)?;

@@ -2,22 +2,22 @@
 use Rattle.std.proofs.Common.{◌≡◌, refl}
 use Rattle.glk_object_calls.specs.declared.gestalts.TheConstants as gestalt
 use Rattle.glk_object_calls.specs.declared.references.TheConstants as reference
-use Rattle.glk_object_calls.specs.Constants.{version, char_input, line_input, char_output, unicode, cannot_print}
+use Rattle.glk_object_calls.specs.Constants.{gestalt_version, gestalt_char_input, gestalt_line_input, gestalt_char_output, gestalt_unicode, cannot_print}
 use Rattle.glk_object_calls.specs.Constants.{exact_print, text_mode}
 
-pub VERSION_is : gestalt.VERSION ≡ version
+pub VERSION_is : gestalt.VERSION ≡ gestalt_version
 VERSION_is = refl
 
-pub CHAR_INPUT_is : gestalt.CHAR_INPUT ≡ char_input
+pub CHAR_INPUT_is : gestalt.CHAR_INPUT ≡ gestalt_char_input
 CHAR_INPUT_is = refl
 
-pub LINE_INPUT_is : gestalt.LINE_INPUT ≡ line_input
+pub LINE_INPUT_is : gestalt.LINE_INPUT ≡ gestalt_line_input
 LINE_INPUT_is = refl
 
-pub CHAR_OUTPUT_is : gestalt.CHAR_OUTPUT ≡ char_output
+pub CHAR_OUTPUT_is : gestalt.CHAR_OUTPUT ≡ gestalt_char_output
 CHAR_OUTPUT_is = refl
 
-pub UNICODE_is : gestalt.UNICODE ≡ unicode
+pub UNICODE_is : gestalt.UNICODE ≡ gestalt_unicode
 UNICODE_is = refl
 
 pub CANNOT_PRINT_is : gestalt.CANNOT_PRINT ≡ cannot_print

@@ -1,2 +1,3 @@
 mod Constants
 pub mod Absent
+pub mod Opened

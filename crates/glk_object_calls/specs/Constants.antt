@@ -1,25 +1,26 @@
--- The numbers of the gestalts and of usages (Glk 0.7.5). The constants of the same names in code are tied to these.
+-- The numbers of the gestalts and of usages (Glk 0.7.5). The constants of code, VERSION for gestalt_version and so on,
+-- are tied to these.
 use Rattle.std.specs.Prelude.{ℕ}
 
 -- what gestalt is asked: gestalt_Version ("The Version Number")
-abbrev pub version : ℕ
-version = 0
+abbrev pub gestalt_version : ℕ
+gestalt_version = 0
 
 -- gestalt_CharInput ("Character Input")
-abbrev pub char_input : ℕ
-char_input = 1
+abbrev pub gestalt_char_input : ℕ
+gestalt_char_input = 1
 
 -- gestalt_LineInput ("Line Input")
-abbrev pub line_input : ℕ
-line_input = 2
+abbrev pub gestalt_line_input : ℕ
+gestalt_line_input = 2
 
 -- gestalt_CharOutput ("Output")
-abbrev pub char_output : ℕ
-char_output = 3
+abbrev pub gestalt_char_output : ℕ
+gestalt_char_output = 3
 
 -- gestalt_Unicode ("Testing for Unicode Capabilities")
-abbrev pub unicode : ℕ
-unicode = 15
+abbrev pub gestalt_unicode : ℕ
+gestalt_unicode = 15
 
 -- what gestalt_CharOutput is answered ("Output"): gestalt_CharOutput_CannotPrint, gestalt_CharOutput_ExactPrint
 abbrev pub cannot_print : ℕ

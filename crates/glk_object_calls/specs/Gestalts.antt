@@ -9,27 +9,28 @@ use Rattle.gx_words.specs.Results.{◌>>=◌}
 use Rattle.gx_state.specs.Flat.{FlatState}
 use Rattle.gx_state.specs.declared.effects.Reply.{Reply}
 use Rattle.glk_world.specs.World.{Scene, Outcome, answered, arg}
-use Rattle.glk_object_calls.specs.Constants.{version, char_input, line_input, char_output, unicode, cannot_print}
+use Rattle.glk_object_calls.specs.Constants.{gestalt_version, gestalt_char_input, gestalt_line_input}
+use Rattle.glk_object_calls.specs.Constants.{gestalt_char_output, gestalt_unicode, cannot_print}
 use Rattle.glk_object_calls.specs.Constants.{exact_print}
-use Rattle.glk_replies.specs.Parts.{can_lay, filled}
+use Rattle.glk_replies.specs.Parts.{can_lay, reply_filling}
 use Rattle.glk_object_calls.specs.Answers.{tells}
 
 -- by selector and value
-unfoldable pub gestalt_of : ℕ → ℕ → ℕ
-gestalt_of sel val =
-    if sel == version then 0x00000705 else  -- 0.7.5
-    if sel == char_input then (if is_printable val || val == return_key then 1 else 0) else
-    if sel == line_input then (if is_printable val then 1 else 0) else
-    if sel == char_output then (if is_printable val || val == line_feed then exact_print else cannot_print) else
-    if sel == unicode then 1 else 0  -- the mouse, timers, graphics, sounds, links, others
+unfoldable pub gestalt_answer : ℕ → ℕ → ℕ
+gestalt_answer sel val =
+    if sel == gestalt_version then 0x00000705 else  -- 0.7.5
+    if sel == gestalt_char_input then (if is_printable val || val == return_key then 1 else 0) else
+    if sel == gestalt_line_input then (if is_printable val then 1 else 0) else
+    if sel == gestalt_char_output then (if is_printable val || val == line_feed then exact_print else cannot_print) else
+    if sel == gestalt_unicode then 1 else 0  -- the mouse, timers, graphics, sounds, links, others
 
 -- gestalt
 unfoldable pub gestalt : Scene → List ℕ → Outcome Reply
-gestalt w args = tells w (gestalt_of (arg args 0) (arg args 1))
+gestalt w args = tells w (gestalt_answer (arg args 0) (arg args 1))
 
 -- the number of glyphs of a character has a place in the array
 abbrev pub has_glyphs : List ℕ → Bool
-has_glyphs args = arg args 0 == char_output && not (arg args 2 == 0) && not (arg args 3 == 0)
+has_glyphs args = arg args 0 == gestalt_char_output && not (arg args 2 == 0) && not (arg args 3 == 0)
 
 -- that place
 abbrev pub glyphs_place : List ℕ → Places
@@ -39,4 +40,4 @@ glyphs_place args = record { at = arg args 2; width = 4; count = if has_glyphs a
 unfoldable pub gestalt_ext : Scene → FlatState → List ℕ → Outcome Reply
 gestalt_ext w f args = do
   writable ← can_lay f (glyphs_place args)
-  answered w (filled (gestalt_of (arg args 0) (arg args 1)) (glyphs_place args) (1 ∷ []))
+  answered w (reply_filling (gestalt_answer (arg args 0) (arg args 1)) (glyphs_place args) (1 ∷ []))

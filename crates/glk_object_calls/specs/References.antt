@@ -14,7 +14,7 @@ use Rattle.glk_streams.specs.declared.kinds.StreamKind.{StreamKind}
 use Rattle.glk_streams.specs.declared.kinds.StreamKind.TheVariants as kinds
 use Rattle.glk_world.specs.World.{Scene, silent, has_reference, reference_at, next_reference, Outcome, answered, waits}
 use Rattle.glk_world.specs.World.{arg}
-use Rattle.glk_world.specs.Calls.{is_identifier, new_id, with_reference, without_reference, with_stream}
+use Rattle.glk_world.specs.Calls.{is_identifier, new_id, with_reference, without_reference, with_new_stream}
 use Rattle.glk_world.specs.Shown.{show_prompt, line_taken}
 use Rattle.glk_replies.specs.declared.Turn.{Turn}
 use Rattle.glk_replies.specs.declared.Turn.TheVariants as turn
@@ -107,11 +107,11 @@ file_kind w selector args content =
 -- a stream of a file with this content
 unfoldable pub open_with : Scene → ℕ → List ℕ → List ℕ → Outcome Reply
 open_with w selector args content =
-    answered (with_stream w (file_kind w selector args content) (arg args 1) (arg args 2)) (replies (new_id w))
+    answered (with_new_stream w (file_kind w selector args content) (arg args 1) (arg args 2)) (replies (new_id w))
 
 -- a mode in which a file is loaded
-abbrev pub loads : ℕ → Bool
-loads mode = mode == read_mode || mode == read_write_mode || mode == write_append_mode
+abbrev pub mode_loads : ℕ → Bool
+mode_loads mode = mode == read_mode || mode == read_write_mode || mode == write_append_mode
 
 -- stream_open_file: for writing alone the file begins empty, else it is loaded; another mode is refused
 unfoldable pub stream_open_file : Scene → ℕ → List ℕ → Outcome Turn
@@ -119,12 +119,12 @@ stream_open_file w selector args =
     if arg args 1 == write_mode then (do
       done ← open_with w selector args []
       Ok (done.0, turn.Answer done.1)) else
-    if loads (arg args 1) then Ok (silent (waits w selector args), turn.Load (file_name w (arg args 0))) else
+    if mode_loads (arg args 1) then Ok (silent (waits w selector args), turn.Load (file_name w (arg args 0))) else
     Ok (silent w, turn.Answer (replies 0))
 
 -- where that may want memory: a stream is made, or the name of the file that is loaded
 abbrev pub opening_grows : Scene → List ℕ → Bool
-opening_grows w args = (arg args 1 == write_mode && is_identifier w.next_id) || loads (arg args 1)
+opening_grows w args = (arg args 1 == write_mode && is_identifier w.next_id) || mode_loads (arg args 1)
 
 -- the file was loaded: one that is missing begins empty, unless it was to be read alone
 abbrev pub open_goes_on : Scene → ℕ → List ℕ → Load → Outcome Reply

@@ -12,7 +12,7 @@ use Rattle.glk_streams.specs.declared.kinds.StreamKind.TheVariants as kinds
 use Rattle.glk_streams.specs.Stream as one
 use Rattle.glk_streams.specs.Streams as streams
 use Rattle.glk_world.specs.World.{Scene, silent, Outcome, answered, waits, arg}
-use Rattle.glk_world.specs.Calls.{new_id, with_stream, without_stream, without_file, sought}
+use Rattle.glk_world.specs.Calls.{new_id, with_new_stream, without_stream, without_file, repositioned}
 use Rattle.glk_replies.specs.declared.Turn.{Turn}
 use Rattle.glk_replies.specs.declared.Turn.TheVariants.{Answer, Store}
 use Rattle.glk_replies.specs.Numbers as selectors
@@ -43,8 +43,8 @@ memory_kind args wide = kinds.Memory (arg args 0) (arg args 1) wide
 -- stream_open_memory, stream_open_memory_uni; another mode than writing, reading or both is refused
 unfoldable pub stream_open_memory : Scene → List ℕ → Bool → Outcome Reply
 stream_open_memory w args wide =
-    if one.allows (memory_kind args wide) (arg args 2)
-    then answered (with_stream w (memory_kind args wide) (arg args 2) (arg args 3)) (replies (new_id w))
+    if one.allows_mode (memory_kind args wide) (arg args 2)
+    then answered (with_new_stream w (memory_kind args wide) (arg args 2) (arg args 3)) (replies (new_id w))
     else tells w 0
 
 -- ---- "Closing Streams"
@@ -81,7 +81,7 @@ stream_close w f room args = closing_by (stored w (arg args 0)) w f room args
 -- ---- "Stream Positions"
 
 unfoldable pub stream_set_position : Scene → List ℕ → Outcome Reply
-stream_set_position w args = answered (sought w (arg args 0) (arg args 1) (arg args 2)) (replies 0)
+stream_set_position w args = answered (repositioned w (arg args 0) (arg args 1) (arg args 2)) (replies 0)
 
 unfoldable pub stream_get_position : Scene → List ℕ → Outcome Reply
 stream_get_position w args = tells w (stream_of w (arg args 0)).position

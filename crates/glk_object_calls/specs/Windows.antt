@@ -8,23 +8,22 @@ use Rattle.gx_state.specs.declared.effects.Reply.{Reply}
 use Rattle.glk_windows.specs.declared.tree.Pair.{Pair}
 use Rattle.glk_windows.specs.declared.entries.Entry.{Entry}
 use Rattle.glk_windows.specs.Windows as all
-use Rattle.glk_windows.specs.Windows.{FlatWindows, entry_at}
+use Rattle.glk_windows.specs.Windows.{FlatWindows, window_entry}
 use Rattle.glk_world.specs.World.{Scene, Outcome, answered, arg}
-use Rattle.glk_world.specs.Calls.{opened_id, with_window, window_counts, without_window, arranged, cleared, moved}
+use Rattle.glk_world.specs.Calls.{opened_id, with_window, window_counts, without_window, with_arrangement}
+use Rattle.glk_world.specs.Calls.{window_cleared, cursor_moved}
 use Rattle.glk_world.specs.Calls.{with_echo}
 use Rattle.glk_replies.specs.Parts.{replies, give, give_each}
 use Rattle.glk_object_calls.specs.Answers.{tells}
 
 -- the window of the first argument; that of 0 has neither rock nor stream
 abbrev pub first_window : Scene → List ℕ → Entry
-first_window w args = entry_at w.windows.entries (arg args 0)
+first_window w args = window_entry w.windows.entries (arg args 0)
 
 -- a pair window; other windows are none, with zeros
-abbrev pub no_pair : Pair
-no_pair = record { first = 0; second = 0; method = 0; size = 0; key = 0 }
-
 abbrev pub pair_at : FlatWindows → ℕ → Pair
-pair_at f win = unwrap_or (all.pair f win) no_pair
+pair_at f win =
+    unwrap_or (all.window_pair f win) (record { first = 0; second = 0; method = 0; size = 0; key = 0 })
 
 -- ---- "Window Opening, Closing, and Constraints"
 
@@ -53,7 +52,7 @@ window_get_size w f room args = do
 -- window_set_arrangement: the key 0 leaves the key as it is
 unfoldable pub window_set_arrangement : Scene → List ℕ → Outcome Reply
 window_set_arrangement w args =
-    answered (arranged w (arg args 0) (arg args 1) (arg args 2) (arg args 3)) (replies 0)
+    answered (with_arrangement w (arg args 0) (arg args 1) (arg args 2) (arg args 3)) (replies 0)
 
 -- window_get_arrangement: method, size and key of a pair window, zeros for other windows
 unfoldable pub window_get_arrangement : Scene → FlatState → ℕ → List ℕ → Outcome Reply
@@ -65,7 +64,7 @@ window_get_arrangement w f room args = do
 -- ---- "The Types of Windows"
 
 unfoldable pub window_move_cursor : Scene → List ℕ → Outcome Reply
-window_move_cursor w args = answered (moved w (arg args 0) (arg args 1) (arg args 2)) (replies 0)
+window_move_cursor w args = answered (cursor_moved w (arg args 0) (arg args 1) (arg args 2)) (replies 0)
 
 -- ---- "Echo Streams"
 
@@ -81,7 +80,7 @@ window_get_echo_stream w args = tells w (first_window w args).echo
 unfoldable pub window_iterate : Scene → FlatState → ℕ → List ℕ → Outcome Reply
 window_iterate w f room args = do
   let win = all.next w.windows (arg args 0)
-  reply ← give f room win (arg args 1) ((entry_at w.windows.entries win).rock ∷ [])
+  reply ← give f room win (arg args 1) ((window_entry w.windows.entries win).rock ∷ [])
   answered w reply
 
 unfoldable pub window_get_rock : Scene → List ℕ → Outcome Reply
@@ -95,11 +94,9 @@ unfoldable pub window_get_parent : Scene → List ℕ → Outcome Reply
 window_get_parent w args = tells w (all.parent w.windows (arg args 0))
 
 -- the other child of the pair above a window, 0 for none
-abbrev pub other_child : Pair → ℕ → ℕ
-other_child above win = if above.first == win then above.second else above.first
-
 abbrev pub sibling : FlatWindows → ℕ → ℕ
-sibling f win = other_child (pair_at f (all.parent f win)) win
+sibling f win =
+    let above = pair_at f (all.parent f win) in if above.first == win then above.second else above.first
 
 unfoldable pub window_get_sibling : Scene → List ℕ → Outcome Reply
 window_get_sibling w args = tells w (sibling w.windows (arg args 0))
@@ -108,7 +105,7 @@ unfoldable pub window_get_root : Scene → Outcome Reply
 window_get_root w = tells w (all.root w.windows)
 
 unfoldable pub window_clear : Scene → List ℕ → Outcome Reply
-window_clear w args = answered (cleared w (arg args 0)) (replies 0)
+window_clear w args = answered (window_cleared w (arg args 0)) (replies 0)
 
 unfoldable pub window_get_stream : Scene → List ℕ → Outcome Reply
 window_get_stream w args = tells w (first_window w args).stream

@@ -2,8 +2,8 @@
 ghost use Rattle.std.specs.Prelude.{◌≡◌, ℕ, ◌≤◌, ◌<◌, ◌^◌, Ok, IfOk, IsTrue};
 ghost use Rattle.gx_state.specs.Flat.{FlatState};
 ghost use Rattle.gx_state.specs.Replies.{IsReply};
-ghost use Rattle.glk_world.specs.World.{Calls};
-ghost use Rattle.glk_object_calls.specs.Gestalts.{gestalt_of, gestalt, has_glyphs, glyphs_place, gestalt_ext};
+ghost use Rattle.glk_world.specs.World.{MakesCall};
+ghost use Rattle.glk_object_calls.specs.Gestalts.{gestalt_answer, gestalt, has_glyphs, glyphs_place, gestalt_ext};
 
 use glk_events::RETURN;
 use glk_replies::{can_lay, lay, reply};
@@ -32,9 +32,9 @@ const CANNOT_PRINT: u32 = 0;
 const EXACT_PRINT: u32 = 2;
 
 /// The answer to a selector with its value.
-#[tactic(auto, unfolding(crate::specs::Gestalts::gestalt_of))]
+#[tactic(auto, unfolding(crate::specs::Gestalts::gestalt_answer))]
 fn gestalt_of(sel: u32, val: u32) -> u32
-    ensures { result ≡ gestalt_of sel val }
+    ensures { result ≡ gestalt_answer sel val }
 {
     match sel {
         VERSION => 0x0000_0705,
@@ -50,7 +50,7 @@ fn gestalt_of(sel: u32, val: u32) -> u32
 /// gestalt: the answer alone.
 #[tactic(auto, unfolding(crate::specs::Gestalts::gestalt))]
 pub fn gestalt(world: &World, args: &[u32]) -> Reply
-    ensures value { Calls ⊥ (Ok result) world.now world.now (gestalt world.now.scene args.now) }
+    ensures value { MakesCall ⊥ (Ok result) world.now world.now (gestalt world.now.scene args.now) }
     ensures fits { (f : FlatState) (room : ℕ) → IsReply f room result }
 {
     reply(world.alloc(), gestalt_of(arg(args, 0), arg(args, 1)))
@@ -84,7 +84,7 @@ pub fn gestalt_ext<A: Allocator + Clone>(
     state: &State<A>,
     args: &[u32],
 ) -> Result<Reply, Fault>
-    ensures value { Calls (IsTrue (has_glyphs args.now)) result world.now world.now
+    ensures value { MakesCall (IsTrue (has_glyphs args.now)) result world.now world.now
         (gestalt_ext world.now.scene state.now.flat args.now) }
     ensures fits { (room : ℕ) → IfOk result (IsReply state.now.flat room) }
 {

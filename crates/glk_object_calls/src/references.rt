@@ -8,14 +8,14 @@ ghost use Rattle.gx_state.specs.Replies.{IsReply};
 ghost use Rattle.glk_objects.specs.Objects.{met_from};
 ghost use Rattle.glk_streams.specs.Constants.{largest};
 ghost use Rattle.glk_world.specs.World.{after, silent, waits, reference_id, is_composed, has_reference, reference_at};
-ghost use Rattle.glk_world.specs.World.{arg, Calls};
+ghost use Rattle.glk_world.specs.World.{arg, MakesCall};
 ghost use Rattle.glk_world.specs.Calls.{is_identifier};
 ghost use Rattle.glk_replies.specs.Turns.{IsTurnFor};
 ghost use Rattle.glk_object_calls.specs.References.{created, temporary_name, fileref_create_temp};
 ghost use Rattle.glk_object_calls.specs.References.{fileref_create_by_name, fileref_create_by_prompt, prompt_goes_on};
 ghost use Rattle.glk_object_calls.specs.References.{prompt_goes_on_grow, fileref_create_from_fileref, fileref_destroy};
 ghost use Rattle.glk_object_calls.specs.References.{fileref_iterate, fileref_get_rock, file_name, fileref_delete_file};
-ghost use Rattle.glk_object_calls.specs.References.{fileref_does_file_exist, form_for, open_with, loads};
+ghost use Rattle.glk_object_calls.specs.References.{fileref_does_file_exist, form_for, open_with, mode_loads};
 ghost use Rattle.glk_object_calls.specs.References.{stream_open_file, opening_grows, open_goes_on, open_goes_on_grow};
 
 use glk_files::{base_name, full_name};
@@ -37,7 +37,7 @@ pub const TEXT_MODE: u32 = 0x100;
 
 /// Makes a file reference.
 fn create(world: &mut World, base: Name, usage: u32, rock: u32) -> Result<Reply, Fault>
-    ensures value { Calls (IsTrue (is_identifier world.old.scene.next_id)) result world.old world.new
+    ensures value { MakesCall (IsTrue (is_identifier world.old.scene.next_id)) result world.old world.new
         (created world.old.scene base usage rock) }
     ensures fits { (f : FlatState) (room : ℕ) → IfOk result (IsReply f room) }
 {
@@ -58,7 +58,7 @@ fn temporary_name(alloc: Global, id: u32) -> Result<Name, AllocError>
 /// fileref_create_temp: a file of a name that no other has.
 #[tactic(auto, unfolding(crate::specs::References::fileref_create_temp, glk_world::specs::Calls::with_reference))]
 pub fn fileref_create_temp(world: &mut World, args: &[u32]) -> Result<Reply, Fault>
-    ensures value { Calls (IsTrue (is_identifier world.old.scene.next_id)) result world.old world.new
+    ensures value { MakesCall (IsTrue (is_identifier world.old.scene.next_id)) result world.old world.new
         (fileref_create_temp world.old.scene args.now) }
     ensures fits { (f : FlatState) (room : ℕ) → IfOk result (IsReply f room) }
 {
@@ -76,7 +76,7 @@ pub fn fileref_create_by_name<A: Allocator + Clone>(
     state: &State<A>,
     args: &[u32],
 ) -> Result<Reply, Fault>
-    ensures value { Calls (IsTrue (is_identifier world.old.scene.next_id)) result world.old world.new
+    ensures value { MakesCall (IsTrue (is_identifier world.old.scene.next_id)) result world.old world.new
         (fileref_create_by_name world.old.scene state.now.flat args.now) }
     ensures fits { (f : FlatState) (room : ℕ) → IfOk result (IsReply f room) }
 {
@@ -93,7 +93,7 @@ pub fn fileref_create_by_name<A: Allocator + Clone>(
 /// fileref_create_by_prompt: waits for the line that is the name.
 #[tactic(auto, unfolding(crate::specs::References::fileref_create_by_prompt))]
 pub fn fileref_create_by_prompt(world: &mut World, args: &[u32]) -> Result<Turn, Fault>
-    ensures value { Calls (IsTrue (not (is_composed world.old.scene))) result world.old world.new
+    ensures value { MakesCall (IsTrue (not (is_composed world.old.scene))) result world.old world.new
         (fileref_create_by_prompt world.old.scene args.now) }
     ensures fits { (f : FlatState) (room : ℕ) → IfOk result (IsTurnFor f room) }
 {
@@ -103,9 +103,9 @@ pub fn fileref_create_by_prompt(world: &mut World, args: &[u32]) -> Result<Turn,
 }
 
 /// The line of a prompt was taken.
-#[tactic(auto, unfolding(crate::specs::References::prompt_goes_on, crate::specs::References::prompt_goes_on_grow, glk_world::specs::Calls::with_reference))]
+#[tactic(auto, unfolding(crate::proofs::Opened::going_on_from_prompt))]
 pub fn prompt_goes_on(world: &mut World, args: &[u32], line: &[u32]) -> Result<Reply, Fault>
-    ensures value { Calls (IsTrue (prompt_goes_on_grow world.old.scene line.now)) result world.old world.new
+    ensures value { MakesCall (IsTrue (prompt_goes_on_grow world.old.scene line.now)) result world.old world.new
         (prompt_goes_on world.old.scene args.now line.now) }
     ensures fits { (f : FlatState) (room : ℕ) → IfOk result (IsReply f room) }
 {
@@ -139,9 +139,9 @@ fn base_of(world: &World, id: u32) -> Result<Option<Name>, AllocError>
 }
 
 /// fileref_create_from_fileref: the same name for another usage.
-#[tactic(auto, unfolding(crate::specs::References::fileref_create_from_fileref, glk_world::specs::Calls::with_reference))]
+#[tactic(auto, unfolding(crate::proofs::Opened::creating_from_fileref))]
 pub fn fileref_create_from_fileref(world: &mut World, args: &[u32]) -> Result<Reply, Fault>
-    ensures value { Calls (IsTrue (has_reference world.old.scene (arg args.now 1) && is_identifier
+    ensures value { MakesCall (IsTrue (has_reference world.old.scene (arg args.now 1) && is_identifier
         world.old.scene.next_id)) result world.old world.new (fileref_create_from_fileref world.old.scene args.now) }
     ensures fits { (f : FlatState) (room : ℕ) → IfOk result (IsReply f room) }
 {
@@ -158,7 +158,7 @@ pub fn fileref_create_from_fileref(world: &mut World, args: &[u32]) -> Result<Re
 #[tactic(auto, unfolding(crate::specs::References::fileref_destroy))]
 pub fn fileref_destroy(world: &mut World, args: &[u32]) -> Result<Reply, Fault>
     requires { IsTrue (has_reference world.old.scene (arg args.now 0)) }
-    ensures value { Calls ⊥ result world.old world.new (fileref_destroy world.old.scene args.now) }
+    ensures value { MakesCall ⊥ result world.old world.new (fileref_destroy world.old.scene args.now) }
     ensures fits { (f : FlatState) (room : ℕ) → IfOk result (IsReply f room) }
 {
     world.remove_ref(arg(args, 0));
@@ -184,7 +184,7 @@ pub fn fileref_iterate<A: Allocator + Clone>(
     room: u32,
     args: &[u32],
 ) -> Result<Reply, Fault>
-    ensures value { Calls (IsTrue (not (arg args.now 1 == 0))) result world.now world.now
+    ensures value { MakesCall (IsTrue (not (arg args.now 1 == 0))) result world.now world.now
         (fileref_iterate world.now.scene state.now.flat room args.now) }
     ensures fits { IfOk result (IsReply state.now.flat room) }
 
@@ -201,7 +201,7 @@ pub fn fileref_iterate<A: Allocator + Clone>(
 /// fileref_get_rock: what the story gave the file reference when it was made.
 #[tactic(auto, unfolding(crate::specs::References::fileref_get_rock))]
 pub fn fileref_get_rock(world: &World, args: &[u32]) -> Reply
-    ensures value { Calls ⊥ (Ok result) world.now world.now (fileref_get_rock world.now.scene args.now) }
+    ensures value { MakesCall ⊥ (Ok result) world.now world.now (fileref_get_rock world.now.scene args.now) }
     ensures fits { (f : FlatState) (room : ℕ) → IsReply f room result }
 {
     reply(world.alloc(), rock_of(world, arg(args, 0)))
@@ -236,7 +236,7 @@ fn wait_for_file(world: &mut World, selector: u32, args: &[u32]) -> Result<Name,
 #[tactic(auto, unfolding(crate::specs::References::fileref_delete_file))]
 pub fn fileref_delete_file(world: &mut World, args: &[u32]) -> Result<Turn, Fault>
     requires { IsTrue (has_reference world.old.scene (arg args.now 0)) }
-    ensures value { Calls (Unit {0}) result world.old world.new (fileref_delete_file world.old.scene args.now) }
+    ensures value { MakesCall (Unit {0}) result world.old world.new (fileref_delete_file world.old.scene args.now) }
     ensures fits { (f : FlatState) (room : ℕ) → IfOk result (IsTurnFor f room) }
 {
     let name = wait_for_file(world, FILEREF_DELETE_FILE, args)?;
@@ -247,7 +247,7 @@ pub fn fileref_delete_file(world: &mut World, args: &[u32]) -> Result<Turn, Faul
 #[tactic(auto, unfolding(crate::specs::References::fileref_does_file_exist))]
 pub fn fileref_does_file_exist(world: &mut World, args: &[u32]) -> Result<Turn, Fault>
     requires { IsTrue (has_reference world.old.scene (arg args.now 0)) }
-    ensures value { Calls (Unit {0}) result world.old world.new (fileref_does_file_exist world.old.scene args.now) }
+    ensures value { MakesCall (Unit {0}) result world.old world.new (fileref_does_file_exist world.old.scene args.now) }
     ensures fits { (f : FlatState) (room : ℕ) → IfOk result (IsTurnFor f room) }
 {
     let name = wait_for_file(world, FILEREF_DOES_FILE_EXIST, args)?;
@@ -281,12 +281,12 @@ fn form_for(selector: u32, usage: u32) -> FileForm
 }
 
 /// Opens a stream of a file with this content; answers 0, and makes no name, where no identifier is left.
-#[tactic(auto, unfolding(crate::specs::References::open_with, glk_world::specs::Calls::with_stream))]
+#[tactic(auto, unfolding(crate::specs::References::open_with, glk_world::specs::Calls::with_new_stream))]
 fn open_with(world: &mut World, selector: u32, args: &[u32], content: Bytes) -> Result<Reply, Fault>
     requires there { IsTrue (has_reference world.old.scene (arg args.now 0)) }
-    requires mode { IsTrue (arg args.now 1 == WRITE || loads (arg args.now 1)) }
+    requires mode { IsTrue (arg args.now 1 == WRITE || mode_loads (arg args.now 1)) }
     requires size { length content ≤ largest }
-    ensures value { Calls (IsTrue (is_identifier world.old.scene.next_id)) result world.old world.new
+    ensures value { MakesCall (IsTrue (is_identifier world.old.scene.next_id)) result world.old world.new
         (open_with world.old.scene selector args.now content) }
     ensures fits { (f : FlatState) (room : ℕ) → IfOk result (IsReply f room) }
 {
@@ -306,7 +306,7 @@ fn open_with(world: &mut World, selector: u32, args: &[u32], content: Bytes) -> 
 #[tactic(auto, unfolding(crate::specs::References::stream_open_file))]
 pub fn stream_open_file(world: &mut World, selector: u32, args: &[u32]) -> Result<Turn, Fault>
     requires { IsTrue (has_reference world.old.scene (arg args.now 0)) }
-    ensures value { Calls (IsTrue (opening_grows world.old.scene args.now)) result world.old world.new
+    ensures value { MakesCall (IsTrue (opening_grows world.old.scene args.now)) result world.old world.new
         (stream_open_file world.old.scene selector args.now) }
     ensures fits { (f : FlatState) (room : ℕ) → IfOk result (IsTurnFor f room) }
 {
@@ -331,9 +331,9 @@ pub fn open_goes_on(
     load: Load,
 ) -> Result<Reply, Fault>
     requires there { IsTrue (has_reference world.old.scene (arg args.now 0)) }
-    requires mode { IsTrue (loads (arg args.now 1)) }
+    requires mode { IsTrue (mode_loads (arg args.now 1)) }
     requires size { IsBounded largest load }
-    ensures value { Calls (IsTrue (open_goes_on_grow world.old.scene args.now load)) result world.old world.new
+    ensures value { MakesCall (IsTrue (open_goes_on_grow world.old.scene args.now load)) result world.old world.new
         (open_goes_on world.old.scene selector args.now load) }
     ensures fits { (f : FlatState) (room : ℕ) → IfOk result (IsReply f room) }
 {

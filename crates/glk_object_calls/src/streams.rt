@@ -1,12 +1,12 @@
 //! The calls of streams (Glk 0.7.5, "Streams"; specs/Streams).
-ghost use Rattle.std.specs.Prelude.{◌≡◌, ℕ, ◌+◌, ◌==◌, ◌≤◌, ◌&&◌, not, Ok, is_some, length, map};
+ghost use Rattle.std.specs.Prelude.{◌≡◌, ℕ, ◌+◌, ◌==◌, ◌&&◌, not, Ok, is_some, length, map};
 ghost use Rattle.std.specs.Prelude.{IfOk, IsTrue};
 ghost use Rattle.gx_state.specs.Flat.{FlatState};
 ghost use Rattle.gx_state.specs.Replies.{IsReply};
 ghost use Rattle.glk_objects.specs.Objects.{met_from};
 ghost use Rattle.glk_streams.specs.Stream as one;
 ghost use Rattle.glk_streams.specs.Streams as streams;
-ghost use Rattle.glk_world.specs.World.{after, silent, arg, Calls};
+ghost use Rattle.glk_world.specs.World.{after, silent, arg, MakesCall};
 ghost use Rattle.glk_world.specs.Calls.{is_identifier};
 ghost use Rattle.glk_replies.specs.Turns.{IsTurnFor};
 ghost use Rattle.glk_object_calls.specs.Streams.{stream_of, stream_iterate, stream_get_rock, memory_kind};
@@ -42,7 +42,7 @@ pub fn stream_iterate<A: Allocator + Clone>(
     room: u32,
     args: &[u32],
 ) -> Result<Reply, Fault>
-    ensures value { Calls (IsTrue (not (arg args.now 1 == 0))) result world.now world.now
+    ensures value { MakesCall (IsTrue (not (arg args.now 1 == 0))) result world.now world.now
         (stream_iterate world.now.scene state.now.flat room args.now) }
     ensures fits { IfOk result (IsReply state.now.flat room) }
 
@@ -58,7 +58,7 @@ pub fn stream_iterate<A: Allocator + Clone>(
 /// stream_get_rock: what the story gave the stream when it was opened.
 #[tactic(auto, unfolding(crate::specs::Streams::stream_get_rock))]
 pub fn stream_get_rock(world: &World, args: &[u32]) -> Reply
-    ensures value { Calls ⊥ (Ok result) world.now world.now (stream_get_rock world.now.scene args.now) }
+    ensures value { MakesCall ⊥ (Ok result) world.now world.now (stream_get_rock world.now.scene args.now) }
     ensures fits { (f : FlatState) (room : ℕ) → IsReply f room result }
 {
     reply(world.alloc(), rock_of(world, arg(args, 0)))
@@ -67,7 +67,7 @@ pub fn stream_get_rock(world: &World, args: &[u32]) -> Reply
 /// stream_open_memory, stream_open_memory_uni: a stream of bytes, or of words where `wide`.
 #[tactic(auto, unfolding(crate::specs::Streams::stream_open_memory))]
 pub fn stream_open_memory(world: &mut World, args: &[u32], wide: bool) -> Result<Reply, Fault>
-    ensures value { Calls (IsTrue (one.allows (memory_kind args.now wide) (arg args.now 2) && is_identifier
+    ensures value { MakesCall (IsTrue (one.allows_mode (memory_kind args.now wide) (arg args.now 2) && is_identifier
         world.old.scene.next_id)) result world.old world.new (stream_open_memory world.old.scene args.now wide) }
     ensures fits { (f : FlatState) (room : ℕ) → IfOk result (IsReply f room) }
 {
@@ -104,7 +104,7 @@ pub fn close<A: Allocator + Clone>(
     args: &[u32],
 ) -> Result<Reply, Fault>
     requires { IsTrue (streams.has world.old.scene.streams (arg args.now 0)) }
-    ensures value { Calls (IsTrue (not (arg args.now 1 == 0))) result world.old world.new
+    ensures value { MakesCall (IsTrue (not (arg args.now 1 == 0))) result world.old world.new
         (close world.old.scene state.now.flat room args.now) }
     ensures fits { IfOk result (IsReply state.now.flat room) }
 {
@@ -139,7 +139,7 @@ pub fn stream_close<A: Allocator + Clone>(
     args: &[u32],
 ) -> Result<Turn, Fault>
     requires { IsTrue (streams.has world.old.scene.streams (arg args.now 0)) }
-    ensures value { Calls
+    ensures value { MakesCall
         (IsTrue (not (arg args.now 1 == 0) && not (is_some (stored world.old.scene (arg args.now 0))))) result
         world.old world.new (stream_close world.old.scene state.now.flat room args.now) }
     ensures fits { IfOk result (IsTurnFor state.now.flat room) }
@@ -158,7 +158,7 @@ pub fn stream_close<A: Allocator + Clone>(
 #[tactic(auto, unfolding(crate::specs::Streams::stream_set_position))]
 pub fn stream_set_position(world: &mut World, args: &[u32]) -> Result<Reply, Fault>
     requires { IsTrue (streams.has world.old.scene.streams (arg args.now 0)) }
-    ensures value { Calls ⊥ result world.old world.new (stream_set_position world.old.scene args.now) }
+    ensures value { MakesCall ⊥ result world.old world.new (stream_set_position world.old.scene args.now) }
     ensures fits { (f : FlatState) (room : ℕ) → IfOk result (IsReply f room) }
 {
     world.set_position(arg(args, 0), arg(args, 1), arg(args, 2));
@@ -169,7 +169,7 @@ pub fn stream_set_position(world: &mut World, args: &[u32]) -> Result<Reply, Fau
 #[tactic(auto, unfolding(crate::specs::Streams::stream_get_position))]
 pub fn stream_get_position(world: &World, args: &[u32]) -> Reply
     requires { IsTrue (streams.has world.now.scene.streams (arg args.now 0)) }
-    ensures value { Calls ⊥ (Ok result) world.now world.now (stream_get_position world.now.scene args.now) }
+    ensures value { MakesCall ⊥ (Ok result) world.now world.now (stream_get_position world.now.scene args.now) }
     ensures fits { (f : FlatState) (room : ℕ) → IsReply f room result }
 {
     reply(world.alloc(), world.streams().position(arg(args, 0)))
@@ -178,7 +178,7 @@ pub fn stream_get_position(world: &World, args: &[u32]) -> Reply
 /// stream_set_current: 0 for none.
 #[tactic(auto, unfolding(crate::specs::Streams::stream_set_current))]
 pub fn stream_set_current(world: &mut World, args: &[u32]) -> Result<Reply, Fault>
-    ensures value { Calls ⊥ result world.old world.new (stream_set_current world.old.scene args.now) }
+    ensures value { MakesCall ⊥ result world.old world.new (stream_set_current world.old.scene args.now) }
     ensures fits { (f : FlatState) (room : ℕ) → IfOk result (IsReply f room) }
 {
     world.set_current(arg(args, 0));
@@ -188,7 +188,7 @@ pub fn stream_set_current(world: &mut World, args: &[u32]) -> Result<Reply, Faul
 /// stream_get_current: 0 for none.
 #[tactic(auto, unfolding(crate::specs::Streams::stream_get_current))]
 pub fn stream_get_current(world: &World) -> Reply
-    ensures value { Calls ⊥ (Ok result) world.now world.now (stream_get_current world.now.scene) }
+    ensures value { MakesCall ⊥ (Ok result) world.now world.now (stream_get_current world.now.scene) }
     ensures fits { (f : FlatState) (room : ℕ) → IsReply f room result }
 {
     reply(world.alloc(), world.current())

@@ -7,7 +7,7 @@ ghost use Rattle.glk_streams.specs.Streams as streams;
 ghost use Rattle.glk_windows.specs.Windows.{entry_id, is_window, parent};
 ghost use Rattle.glk_windows.specs.Changes.{arranging_grows};
 ghost use Rattle.glk_world.specs.Calls.{can_open};
-ghost use Rattle.glk_world.specs.World.{arg, Calls};
+ghost use Rattle.glk_world.specs.World.{arg, MakesCall};
 ghost use Rattle.glk_object_calls.specs.Windows.{first_window, pair_at, sibling, window_open, window_close};
 ghost use Rattle.glk_object_calls.specs.Windows.{window_get_size, window_set_arrangement, window_get_arrangement};
 ghost use Rattle.glk_object_calls.specs.Windows.{window_move_cursor, window_set_echo_stream, window_get_echo_stream};
@@ -49,8 +49,8 @@ fn pair_at(windows: &Windows, win: u32) -> Pair
 #[tactic(auto, unfolding(crate::specs::Windows::window_open))]
 pub fn window_open(world: &mut World, args: &[u32]) -> Result<Reply, Fault>
     requires { arg args.now 0 ≡ 0 ⊎ IsTrue (is_window world.old.scene.windows (arg args.now 0)) }
-    ensures value { Calls (IsTrue (can_open world.old.scene (arg args.now 0) (arg args.now 1) (arg args.now 3))) result
-        world.old world.new (window_open world.old.scene args.now) }
+    ensures value { MakesCall (IsTrue (can_open world.old.scene (arg args.now 0) (arg args.now 1) (arg args.now 3)))
+        result world.old world.new (window_open world.old.scene args.now) }
     ensures fits { (f : FlatState) (room : ℕ) → IfOk result (IsReply f room) }
 {
     let id = world.add_window(
@@ -73,7 +73,7 @@ pub fn window_close<A: Allocator + Clone>(
     args: &[u32],
 ) -> Result<Reply, Fault>
     requires { IsTrue (is_window world.old.scene.windows (arg args.now 0)) }
-    ensures value { Calls (Unit {0}) result world.old world.new
+    ensures value { MakesCall (Unit {0}) result world.old world.new
         (window_close world.old.scene state.now.flat room args.now) }
     ensures fits { IfOk result (IsReply state.now.flat room) }
 {
@@ -99,8 +99,8 @@ pub fn window_get_size<A: Allocator + Clone>(
     room: u32,
     args: &[u32],
 ) -> Result<Reply, Fault>
-    ensures value { Calls (IsTrue (not (arg args.now 1 == 0) || not (arg args.now 2 == 0))) result world.now world.now
-        (window_get_size world.now.scene state.now.flat room args.now) }
+    ensures value { MakesCall (IsTrue (not (arg args.now 1 == 0) || not (arg args.now 2 == 0))) result world.now
+        world.now (window_get_size world.now.scene state.now.flat room args.now) }
     ensures fits { IfOk result (IsReply state.now.flat room) }
 {
     let (columns, rows) = world.windows().text_size(arg(args, 0));
@@ -117,7 +117,7 @@ pub fn window_get_size<A: Allocator + Clone>(
 /// window_set_arrangement: gives a pair window another method, size and key, where the rules of windows allow it.
 #[tactic(auto, unfolding(crate::specs::Windows::window_set_arrangement))]
 pub fn window_set_arrangement(world: &mut World, args: &[u32]) -> Result<Reply, Fault>
-    ensures value { Calls (IsTrue (arranging_grows world.old.scene.windows (arg args.now 0) (arg args.now 1)
+    ensures value { MakesCall (IsTrue (arranging_grows world.old.scene.windows (arg args.now 0) (arg args.now 1)
         (arg args.now 2) (arg args.now 3))) result world.old world.new
         (window_set_arrangement world.old.scene args.now) }
     ensures fits { (f : FlatState) (room : ℕ) → IfOk result (IsReply f room) }
@@ -134,7 +134,8 @@ pub fn window_get_arrangement<A: Allocator + Clone>(
     room: u32,
     args: &[u32],
 ) -> Result<Reply, Fault>
-    ensures value { Calls (IsTrue (not (arg args.now 1 == 0) || not (arg args.now 2 == 0) || not (arg args.now 3 == 0)))
+    ensures value { MakesCall (IsTrue (not (arg args.now 1 == 0) || not (arg args.now 2 == 0) || not
+        (arg args.now 3 == 0)))
         result world.now world.now (window_get_arrangement world.now.scene state.now.flat room args.now) }
     ensures fits { IfOk result (IsReply state.now.flat room) }
 {
@@ -152,7 +153,7 @@ pub fn window_get_arrangement<A: Allocator + Clone>(
 /// window_move_cursor: moves the cursor of a grid.
 #[tactic(auto, unfolding(crate::specs::Windows::window_move_cursor))]
 pub fn window_move_cursor(world: &mut World, args: &[u32]) -> Result<Reply, Fault>
-    ensures value { Calls ⊥ result world.old world.new (window_move_cursor world.old.scene args.now) }
+    ensures value { MakesCall ⊥ result world.old world.new (window_move_cursor world.old.scene args.now) }
     ensures fits { (f : FlatState) (room : ℕ) → IfOk result (IsReply f room) }
 {
     world.move_cursor(arg(args, 0), arg(args, 1), arg(args, 2));
@@ -164,7 +165,7 @@ pub fn window_move_cursor(world: &mut World, args: &[u32]) -> Result<Reply, Faul
 pub fn window_set_echo_stream(world: &mut World, args: &[u32]) -> Result<Reply, Fault>
     requires window { IsTrue (is_window world.old.scene.windows (arg args.now 0)) }
     requires echo { arg args.now 1 ≡ 0 ⊎ IsTrue (streams.has world.old.scene.streams (arg args.now 1)) }
-    ensures value { Calls ⊥ result world.old world.new (window_set_echo_stream world.old.scene args.now) }
+    ensures value { MakesCall ⊥ result world.old world.new (window_set_echo_stream world.old.scene args.now) }
     ensures fits { (f : FlatState) (room : ℕ) → IfOk result (IsReply f room) }
 {
     world.set_echo(arg(args, 0), arg(args, 1));
@@ -174,7 +175,7 @@ pub fn window_set_echo_stream(world: &mut World, args: &[u32]) -> Result<Reply, 
 /// window_get_echo_stream: 0 for none.
 #[tactic(auto, unfolding(crate::specs::Windows::window_get_echo_stream))]
 pub fn window_get_echo_stream(world: &World, args: &[u32]) -> Reply
-    ensures value { Calls ⊥ (Ok result) world.now world.now (window_get_echo_stream world.now.scene args.now) }
+    ensures value { MakesCall ⊥ (Ok result) world.now world.now (window_get_echo_stream world.now.scene args.now) }
     ensures fits { (f : FlatState) (room : ℕ) → IsReply f room result }
 {
     reply(world.alloc(), first_window(world, args).echo)
@@ -188,7 +189,7 @@ pub fn window_iterate<A: Allocator + Clone>(
     room: u32,
     args: &[u32],
 ) -> Result<Reply, Fault>
-    ensures value { Calls (IsTrue (not (arg args.now 1 == 0))) result world.now world.now
+    ensures value { MakesCall (IsTrue (not (arg args.now 1 == 0))) result world.now world.now
         (window_iterate world.now.scene state.now.flat room args.now) }
     ensures fits { IfOk result (IsReply state.now.flat room) }
 
@@ -205,7 +206,7 @@ pub fn window_iterate<A: Allocator + Clone>(
 /// window_get_rock: what the story gave the window when it was opened.
 #[tactic(auto, unfolding(crate::specs::Windows::window_get_rock))]
 pub fn window_get_rock(world: &World, args: &[u32]) -> Reply
-    ensures value { Calls ⊥ (Ok result) world.now world.now (window_get_rock world.now.scene args.now) }
+    ensures value { MakesCall ⊥ (Ok result) world.now world.now (window_get_rock world.now.scene args.now) }
     ensures fits { (f : FlatState) (room : ℕ) → IsReply f room result }
 {
     reply(world.alloc(), first_window(world, args).rock)
@@ -214,7 +215,7 @@ pub fn window_get_rock(world: &World, args: &[u32]) -> Reply
 /// window_get_type: wintype_Pair and others.
 #[tactic(auto, unfolding(crate::specs::Windows::window_get_type))]
 pub fn window_get_type(world: &World, args: &[u32]) -> Reply
-    ensures value { Calls ⊥ (Ok result) world.now world.now (window_get_type world.now.scene args.now) }
+    ensures value { MakesCall ⊥ (Ok result) world.now world.now (window_get_type world.now.scene args.now) }
     ensures fits { (f : FlatState) (room : ℕ) → IsReply f room result }
 {
     reply(world.alloc(), first_window(world, args).kind)
@@ -235,7 +236,7 @@ fn parent(windows: &Windows, win: u32) -> u32
 #[tactic(auto, unfolding(crate::specs::Windows::window_get_parent))]
 pub fn window_get_parent(world: &World, args: &[u32]) -> Reply
     requires { IsTrue (is_window world.now.scene.windows (arg args.now 0)) }
-    ensures value { Calls ⊥ (Ok result) world.now world.now (window_get_parent world.now.scene args.now) }
+    ensures value { MakesCall ⊥ (Ok result) world.now world.now (window_get_parent world.now.scene args.now) }
     ensures fits { (f : FlatState) (room : ℕ) → IsReply f room result }
 {
     reply(world.alloc(), parent(world.windows(), arg(args, 0)))
@@ -258,7 +259,7 @@ fn sibling(windows: &Windows, win: u32) -> u32
 #[tactic(auto, unfolding(crate::specs::Windows::window_get_sibling))]
 pub fn window_get_sibling(world: &World, args: &[u32]) -> Reply
     requires { IsTrue (is_window world.now.scene.windows (arg args.now 0)) }
-    ensures value { Calls ⊥ (Ok result) world.now world.now (window_get_sibling world.now.scene args.now) }
+    ensures value { MakesCall ⊥ (Ok result) world.now world.now (window_get_sibling world.now.scene args.now) }
     ensures fits { (f : FlatState) (room : ℕ) → IsReply f room result }
 {
     reply(world.alloc(), sibling(world.windows(), arg(args, 0)))
@@ -267,7 +268,7 @@ pub fn window_get_sibling(world: &World, args: &[u32]) -> Reply
 /// window_get_root: 0 where there is no window.
 #[tactic(auto, unfolding(crate::specs::Windows::window_get_root))]
 pub fn window_get_root(world: &World) -> Reply
-    ensures value { Calls ⊥ (Ok result) world.now world.now (window_get_root world.now.scene) }
+    ensures value { MakesCall ⊥ (Ok result) world.now world.now (window_get_root world.now.scene) }
     ensures fits { (f : FlatState) (room : ℕ) → IsReply f room result }
 {
     reply(world.alloc(), world.windows().root())
@@ -276,7 +277,7 @@ pub fn window_get_root(world: &World) -> Reply
 /// window_clear: blanks a grid, or the text of a text buffer on the composed screen.
 #[tactic(auto, unfolding(crate::specs::Windows::window_clear))]
 pub fn window_clear(world: &mut World, args: &[u32]) -> Result<Reply, Fault>
-    ensures value { Calls ⊥ result world.old world.new (window_clear world.old.scene args.now) }
+    ensures value { MakesCall ⊥ result world.old world.new (window_clear world.old.scene args.now) }
     ensures fits { (f : FlatState) (room : ℕ) → IfOk result (IsReply f room) }
 {
     world.clear_window(arg(args, 0));
@@ -286,7 +287,7 @@ pub fn window_clear(world: &mut World, args: &[u32]) -> Result<Reply, Fault>
 /// window_get_stream: the stream that the window was opened with.
 #[tactic(auto, unfolding(crate::specs::Windows::window_get_stream))]
 pub fn window_get_stream(world: &World, args: &[u32]) -> Reply
-    ensures value { Calls ⊥ (Ok result) world.now world.now (window_get_stream world.now.scene args.now) }
+    ensures value { MakesCall ⊥ (Ok result) world.now world.now (window_get_stream world.now.scene args.now) }
     ensures fits { (f : FlatState) (room : ℕ) → IsReply f room result }
 {
     reply(world.alloc(), first_window(world, args).stream)
@@ -295,7 +296,7 @@ pub fn window_get_stream(world: &World, args: &[u32]) -> Reply
 /// set_window: the current stream becomes the window's; with window 0 there is none.
 #[tactic(auto, unfolding(crate::specs::Windows::set_window))]
 pub fn set_window(world: &mut World, args: &[u32]) -> Result<Reply, Fault>
-    ensures value { Calls ⊥ result world.old world.new (set_window world.old.scene args.now) }
+    ensures value { MakesCall ⊥ result world.old world.new (set_window world.old.scene args.now) }
     ensures fits { (f : FlatState) (room : ℕ) → IfOk result (IsReply f room) }
 {
     let stream = first_window(world, args).stream;

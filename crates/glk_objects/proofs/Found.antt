@@ -3,7 +3,7 @@ use Rattle.std.proofs.Common.{◌≡◌, ◌≢◌, ◌<◌, ◌==◌, ◌&&◌,
 use Rattle.std.proofs.Common.{map, refl, sym, arith}
 use Rattle.std.specs.List.{filter}
 use Rattle.std.proofs.lemmas.Bool.Decides.{nat_tests}
-use Rattle.glk_objects.specs.Objects.{IsAbove, IsBelow, Rises, has, at, with, without}
+use Rattle.glk_objects.specs.Objects.{IsAboveAll, IsBelowAll, AreRising, has, at, with, all_but}
 
 module _ {T : Type 0} (id_of : T → ℕ) (none : T) where
   -- an object of this identifier takes the place of another
@@ -42,11 +42,11 @@ module _ {T : Type 0} (id_of : T → ℕ) (none : T) where
   at_new (x ∷ xs) new s gone = grind (arith, nat_tests, at_new xs new s)
 
   -- some are left
-  pub has_below : (xs : List T) (n s : ℕ) → IsBelow id_of xs n → has id_of xs s ≡ true → n < s
+  pub has_below : (xs : List T) (n s : ℕ) → IsBelowAll id_of xs n → has id_of xs s ≡ true → n < s
   has_below [] n s below there = absurd (cc)
   has_below (x ∷ xs) n s below there = grind (arith, nat_tests, has_below xs n s below.1, below.0)
 
-  pub has_above : (xs : List T) (n s : ℕ) → IsAbove id_of xs n → has id_of xs s ≡ true → s < n
+  pub has_above : (xs : List T) (n s : ℕ) → IsAboveAll id_of xs n → has id_of xs s ≡ true → s < n
   has_above [] n s above there = absurd (cc)
   has_above (x ∷ xs) n s above there = grind (arith, nat_tests, has_above xs n s above.1, above.0)
 
@@ -54,7 +54,7 @@ module _ {T : Type 0} (id_of : T → ℕ) (none : T) where
   has_filter test [] s there = absurd (cc)
   has_filter test (x ∷ xs) s there = grind (arith, nat_tests, has_filter test xs s)
 
-  pub at_filter : (test : T → Bool) (xs : List T) (s : ℕ) → Rises id_of xs → has id_of (filter test xs) s ≡ true
+  pub at_filter : (test : T → Bool) (xs : List T) (s : ℕ) → AreRising id_of xs → has id_of (filter test xs) s ≡ true
       → at id_of none (filter test xs) s ≡ at id_of none xs s
   unfolding at
   at_filter test [] s up there = refl
@@ -73,14 +73,14 @@ module _ {T : Type 0} (id_of : T → ℕ) (none : T) where
   has_chosen test [] s = grind (arith, nat_tests)
   has_chosen test (x ∷ xs) s = grind (arith, nat_tests, has_chosen test xs s)
 
-  pub has_without : (xs : List T) (gone s : ℕ) → has id_of (without id_of xs gone) s ≡ true → has id_of xs s ≡ true
-  unfolding without
+  pub has_without : (xs : List T) (gone s : ℕ) → has id_of (all_but id_of xs gone) s ≡ true → has id_of xs s ≡ true
+  unfolding all_but
   has_without [] gone s there = absurd (cc)
   has_without (x ∷ xs) gone s there = grind (arith, nat_tests, has_without xs gone s)
 
-  pub at_without : (xs : List T) (gone s : ℕ) → Rises id_of xs → has id_of (without id_of xs gone) s ≡ true
-      → at id_of none (without id_of xs gone) s ≡ at id_of none xs s
-  unfolding without at
+  pub at_without : (xs : List T) (gone s : ℕ) → AreRising id_of xs → has id_of (all_but id_of xs gone) s ≡ true
+      → at id_of none (all_but id_of xs gone) s ≡ at id_of none xs s
+  unfolding all_but at
   at_without [] gone s up there = refl
   at_without (x ∷ xs) gone s up there =
       grind (arith, nat_tests, at_without xs gone s up.1, has_without xs gone s, has_below xs (id_of x) s up.0)
@@ -97,20 +97,20 @@ module _ {T : Type 0} (id_of : T → ℕ) (none : T) where
   has_map f same [] s = refl
   has_map f same (x ∷ xs) s = grind (arith, nat_tests, has_map f same xs s, same x)
 
-  pub below_with : (xs : List T) (new : T) (n : ℕ) → IsBelow id_of xs n → IsBelow id_of (with id_of xs new) n
+  pub below_with : (xs : List T) (new : T) (n : ℕ) → IsBelowAll id_of xs n → IsBelowAll id_of (with id_of xs new) n
   unfolding with
   below_with [] new n below = tt
   below_with (x ∷ xs) new n below = elim (id_of x == id_of new) as
-      (λ b. (id_of x == id_of new) ≡ b → IsBelow id_of (if b then new ∷ xs else x ∷ with id_of xs new) n) [
+      (λ b. (id_of x == id_of new) ≡ b → IsBelowAll id_of (if b then new ∷ xs else x ∷ with id_of xs new) n) [
         | true ↦ λ same. ((let less = below.0 in grind (arith, nat_tests, same, less)), below.1)
         | false ↦ λ other. (below.0, below_with xs new n below.1)
       ] refl
 
-  pub rises_with : (xs : List T) (new : T) → Rises id_of xs → Rises id_of (with id_of xs new)
+  pub rises_with : (xs : List T) (new : T) → AreRising id_of xs → AreRising id_of (with id_of xs new)
   unfolding with
   rises_with [] new up = tt
   rises_with (x ∷ xs) new up = elim (id_of x == id_of new) as
-      (λ b. (id_of x == id_of new) ≡ b → Rises id_of (if b then new ∷ xs else x ∷ with id_of xs new)) [
+      (λ b. (id_of x == id_of new) ≡ b → AreRising id_of (if b then new ∷ xs else x ∷ with id_of xs new)) [
         | true ↦ λ same. (let e : id_of x ≡ id_of new = grind (arith, nat_tests, same) in rw (← e) up.0, up.1)
         | false ↦ λ other. (below_with xs new (id_of x) up.0, rises_with xs new up.1)
       ] refl

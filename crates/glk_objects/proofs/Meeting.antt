@@ -2,7 +2,7 @@
 use Rattle.std.proofs.Common.{zero, suc, ◌≡◌, ◌<◌, ◌≤◌, ◌+◌, ◌==◌, ◌∙◌, ℕ, false, List, [], ◌∷◌, length, map, refl, ap}
 use Rattle.std.proofs.Common.{arith}
 use Rattle.std.proofs.lemmas.Bool.Decides.{nat_tests}
-use Rattle.glk_objects.specs.Objects.{IsBelow, Rises, next, met_from}
+use Rattle.glk_objects.specs.Objects.{IsBelowAll, AreRising, next, met_from}
 
 module _ {T : Type 0} (id_of : T → ℕ) where
   next_here : (x : T) (xs : List T) (id : ℕ) → id < id_of x → next id_of (x ∷ xs) id ≡ id_of x
@@ -14,7 +14,7 @@ module _ {T : Type 0} (id_of : T → ℕ) where
   next_later x xs id past = grind (arith, nat_tests, past)
 
   -- `xs` are those behind an identifier: from there on, nothing else is met
-  meets_rest : (all xs : List T) (most id : ℕ) → length xs ≤ most → IsBelow id_of xs id → Rises id_of xs
+  meets_rest : (all xs : List T) (most id : ℕ) → length xs ≤ most → IsBelowAll id_of xs id → AreRising id_of xs
       → ((k : ℕ) → id ≤ k → next id_of all k ≡ next id_of xs k) → met_from id_of most all id ≡ map id_of xs
   unfolding met_from next
   meets_rest all [] zero id few below up same = refl
@@ -28,6 +28,6 @@ module _ {T : Type 0} (id_of : T → ℕ) where
       (λ k le. let more = below.0 in same k (omega arith) ∙ next_later x xs k le) in
       rw (here, some) (ap (λ (ids : List ℕ). id_of x ∷ ids) rest)
 
-  pub meets_each : (xs : List T) (more : ℕ) → IsBelow id_of xs 0 → Rises id_of xs
+  pub meets_each : (xs : List T) (more : ℕ) → IsBelowAll id_of xs 0 → AreRising id_of xs
       → met_from id_of (length xs + more) xs 0 ≡ map id_of xs
   meets_each xs more first up = meets_rest xs xs (length xs + more) 0 (omega arith) first up (λ k le. refl)

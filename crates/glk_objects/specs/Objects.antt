@@ -5,19 +5,19 @@ use Rattle.std.specs.Prelude.{ℕ, zero, suc, ◌+◌, ◌<◌, ◌≤◌, ◌==
 use Rattle.std.specs.Prelude.{◌∷◌, length, slice_index_or}
 
 -- an identifier is above all that are there
-abbrev pub IsAbove : {T : Type 0} → (T → ℕ) → List T → ℕ → Type 0
-IsAbove id_of [] id = Unit {0}
-IsAbove id_of (x ∷ xs) id = (id_of x < id) × IsAbove id_of xs id
+abbrev pub IsAboveAll : {T : Type 0} → (T → ℕ) → List T → ℕ → Type 0
+IsAboveAll id_of [] id = Unit {0}
+IsAboveAll id_of (x ∷ xs) id = (id_of x < id) × IsAboveAll id_of xs id
 
 -- a number is below all identifiers that are there
-abbrev pub IsBelow : {T : Type 0} → (T → ℕ) → List T → ℕ → Type 0
-IsBelow id_of [] id = Unit {0}
-IsBelow id_of (x ∷ xs) id = (id < id_of x) × IsBelow id_of xs id
+abbrev pub IsBelowAll : {T : Type 0} → (T → ℕ) → List T → ℕ → Type 0
+IsBelowAll id_of [] id = Unit {0}
+IsBelowAll id_of (x ∷ xs) id = (id < id_of x) × IsBelowAll id_of xs id
 
 -- each identifier is below those after it
-abbrev pub Rises : {T : Type 0} → (T → ℕ) → List T → Type 0
-Rises id_of [] = Unit {0}
-Rises id_of (x ∷ xs) = IsBelow id_of xs (id_of x) × Rises id_of xs
+abbrev pub AreRising : {T : Type 0} → (T → ℕ) → List T → Type 0
+AreRising id_of [] = Unit {0}
+AreRising id_of (x ∷ xs) = IsBelowAll id_of xs (id_of x) × AreRising id_of xs
 
 -- an object has the identifier
 abbrev pub has : {T : Type 0} → (T → ℕ) → List T → ℕ → Bool
@@ -25,9 +25,9 @@ has id_of [] id = false
 has id_of (x ∷ xs) id = id_of x == id || has id_of xs id
 
 -- where the object stands, the length where there is none
-unfoldable pub place : {T : Type 0} → (T → ℕ) → List T → ℕ → ℕ
-place id_of [] id = 0
-place id_of (x ∷ xs) id = if id_of x == id then 0 else place id_of xs id + 1
+unfoldable pub object_place : {T : Type 0} → (T → ℕ) → List T → ℕ → ℕ
+object_place id_of [] id = 0
+object_place id_of (x ∷ xs) id = if id_of x == id then 0 else object_place id_of xs id + 1
 
 -- the object, or one that stands for none
 unfoldable pub at : {T : Type 0} → (T → ℕ) → T → List T → ℕ → T
@@ -40,9 +40,9 @@ with id_of [] new = []
 with id_of (x ∷ xs) new = if id_of x == id_of new then new ∷ xs else x ∷ with id_of xs new
 
 -- the object of an identifier is gone
-unfoldable pub without : {T : Type 0} → (T → ℕ) → List T → ℕ → List T
-without id_of [] id = []
-without id_of (x ∷ xs) id = if id_of x == id then xs else x ∷ without id_of xs id
+unfoldable pub all_but : {T : Type 0} → (T → ℕ) → List T → ℕ → List T
+all_but id_of [] id = []
+all_but id_of (x ∷ xs) id = if id_of x == id then xs else x ∷ all_but id_of xs id
 
 -- the first identifier above a number, which is the least of them; 0 where there is none
 unfoldable pub next : {T : Type 0} → (T → ℕ) → List T → ℕ → ℕ

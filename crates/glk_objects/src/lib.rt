@@ -7,7 +7,7 @@
 #![tactic(auto)]
 
 ghost use Rattle.std.specs.Prelude.{ℕ, ◌≡◌, ◌+◌, length, map};
-ghost use Rattle.glk_objects.specs.Objects.{Rises, IsBelow, IsSplit, place, next, met_from};
+ghost use Rattle.glk_objects.specs.Objects.{AreRising, IsBelowAll, IsSplit, object_place, next, met_from};
 
 /// What is found by an identifier.
 pub trait Object {
@@ -22,8 +22,8 @@ pub trait Object {
 
 /// Where the object of an identifier stands; the length where there is none.
 pub fn place<T: Object>(objects: &[T], id: u32) -> usize
-    requires { Rises T.id_of objects.now }
-    ensures { result ≡ place T.id_of objects.now id }
+    requires { AreRising T.id_of objects.now }
+    ensures { result ≡ object_place T.id_of objects.now id }
 {
     match objects.binary_search_by_key(&id, |object| object.id()) {
         Ok(at) => at,
@@ -34,7 +34,7 @@ pub fn place<T: Object>(objects: &[T], id: u32) -> usize
 /// The same in a list of any order, by a walk.
 #[tactic(auto, using(crate::proofs::Places::walks))]
 pub fn first_place<T: Object>(objects: &[T], id: u32) -> usize
-    ensures { result ≡ place T.id_of objects.now id }
+    ensures { result ≡ object_place T.id_of objects.now id }
 {
     for (at, object) in objects.iter().enumerate() {
         if object.id() == id {
@@ -47,7 +47,7 @@ pub fn first_place<T: Object>(objects: &[T], id: u32) -> usize
 /// The least identifier above a number, 0 where there is none.
 #[tactic(auto, using(crate::proofs::Rising::nexts))]
 pub fn next<T: Object>(objects: &[T], id: u32) -> u32
-    requires { Rises T.id_of objects.now }
+    requires { AreRising T.id_of objects.now }
     ensures { result ≡ next T.id_of objects.now id }
 {
     let at = place_above(objects, id);
@@ -60,7 +60,7 @@ pub fn next<T: Object>(objects: &[T], id: u32) -> u32
 
 /// How many objects have identifiers up to a number.
 fn place_above<T: Object>(objects: &[T], id: u32) -> usize
-    requires { Rises T.id_of objects.now }
+    requires { AreRising T.id_of objects.now }
     ensures { IsSplit T.id_of objects.now id result }
 {
     match objects.binary_search_by_key(&id, |object| object.id()) {
@@ -73,7 +73,7 @@ fn place_above<T: Object>(objects: &[T], id: u32) -> usize
 /// met in more turns.
 #[tactic(auto, using(crate::proofs::Meeting::meets_each))]
 pub fn each_is_met<T: Object>(_objects: &[T])
-    requires rises { Rises T.id_of _objects.now }
-    requires first { IsBelow T.id_of _objects.now 0 }
+    requires rises { AreRising T.id_of _objects.now }
+    requires first { IsBelowAll T.id_of _objects.now 0 }
     ensures { (more : ℕ) → met_from T.id_of (length _objects.now + more) _objects.now 0 ≡ map T.id_of _objects.now }
 {}

@@ -4,6 +4,7 @@ use Rattle.glk_replies.specs.declared.parts.TheConstants as part
 use Rattle.glk_replies.specs.declared.selectors.TheConstants as selector
 use Rattle.glk_replies.specs.Constants.{on_stack}
 use Rattle.glk_replies.specs.Numbers as numbers
+use Rattle.glk_replies.specs.TextNumbers as text_numbers
 
 pub ON_STACK_is : part.ON_STACK ≡ on_stack
 ON_STACK_is = refl
@@ -125,109 +126,109 @@ FILEREF_DOES_FILE_EXIST_is = refl
 pub FILEREF_CREATE_FROM_FILEREF_is : selector.FILEREF_CREATE_FROM_FILEREF ≡ numbers.fileref_create_from_fileref
 FILEREF_CREATE_FROM_FILEREF_is = refl
 
-pub PUT_CHAR_is : selector.PUT_CHAR ≡ numbers.put_char
+pub PUT_CHAR_is : selector.PUT_CHAR ≡ text_numbers.put_char
 PUT_CHAR_is = refl
 
-pub PUT_CHAR_STREAM_is : selector.PUT_CHAR_STREAM ≡ numbers.put_char_stream
+pub PUT_CHAR_STREAM_is : selector.PUT_CHAR_STREAM ≡ text_numbers.put_char_stream
 PUT_CHAR_STREAM_is = refl
 
-pub PUT_STRING_is : selector.PUT_STRING ≡ numbers.put_string
+pub PUT_STRING_is : selector.PUT_STRING ≡ text_numbers.put_string
 PUT_STRING_is = refl
 
-pub PUT_STRING_STREAM_is : selector.PUT_STRING_STREAM ≡ numbers.put_string_stream
+pub PUT_STRING_STREAM_is : selector.PUT_STRING_STREAM ≡ text_numbers.put_string_stream
 PUT_STRING_STREAM_is = refl
 
-pub PUT_BUFFER_is : selector.PUT_BUFFER ≡ numbers.put_buffer
+pub PUT_BUFFER_is : selector.PUT_BUFFER ≡ text_numbers.put_buffer
 PUT_BUFFER_is = refl
 
-pub PUT_BUFFER_STREAM_is : selector.PUT_BUFFER_STREAM ≡ numbers.put_buffer_stream
+pub PUT_BUFFER_STREAM_is : selector.PUT_BUFFER_STREAM ≡ text_numbers.put_buffer_stream
 PUT_BUFFER_STREAM_is = refl
 
-pub SET_STYLE_is : selector.SET_STYLE ≡ numbers.set_style
+pub SET_STYLE_is : selector.SET_STYLE ≡ text_numbers.set_style
 SET_STYLE_is = refl
 
-pub SET_STYLE_STREAM_is : selector.SET_STYLE_STREAM ≡ numbers.set_style_stream
+pub SET_STYLE_STREAM_is : selector.SET_STYLE_STREAM ≡ text_numbers.set_style_stream
 SET_STYLE_STREAM_is = refl
 
-pub GET_CHAR_STREAM_is : selector.GET_CHAR_STREAM ≡ numbers.get_char_stream
+pub GET_CHAR_STREAM_is : selector.GET_CHAR_STREAM ≡ text_numbers.get_char_stream
 GET_CHAR_STREAM_is = refl
 
-pub GET_LINE_STREAM_is : selector.GET_LINE_STREAM ≡ numbers.get_line_stream
+pub GET_LINE_STREAM_is : selector.GET_LINE_STREAM ≡ text_numbers.get_line_stream
 GET_LINE_STREAM_is = refl
 
-pub GET_BUFFER_STREAM_is : selector.GET_BUFFER_STREAM ≡ numbers.get_buffer_stream
+pub GET_BUFFER_STREAM_is : selector.GET_BUFFER_STREAM ≡ text_numbers.get_buffer_stream
 GET_BUFFER_STREAM_is = refl
 
-pub CHAR_TO_LOWER_is : selector.CHAR_TO_LOWER ≡ numbers.char_to_lower
+pub CHAR_TO_LOWER_is : selector.CHAR_TO_LOWER ≡ text_numbers.char_to_lower
 CHAR_TO_LOWER_is = refl
 
-pub CHAR_TO_UPPER_is : selector.CHAR_TO_UPPER ≡ numbers.char_to_upper
+pub CHAR_TO_UPPER_is : selector.CHAR_TO_UPPER ≡ text_numbers.char_to_upper
 CHAR_TO_UPPER_is = refl
 
-pub STYLEHINT_SET_is : selector.STYLEHINT_SET ≡ numbers.stylehint_set
+pub STYLEHINT_SET_is : selector.STYLEHINT_SET ≡ text_numbers.stylehint_set
 STYLEHINT_SET_is = refl
 
-pub STYLEHINT_CLEAR_is : selector.STYLEHINT_CLEAR ≡ numbers.stylehint_clear
+pub STYLEHINT_CLEAR_is : selector.STYLEHINT_CLEAR ≡ text_numbers.stylehint_clear
 STYLEHINT_CLEAR_is = refl
 
-pub STYLE_DISTINGUISH_is : selector.STYLE_DISTINGUISH ≡ numbers.style_distinguish
+pub STYLE_DISTINGUISH_is : selector.STYLE_DISTINGUISH ≡ text_numbers.style_distinguish
 STYLE_DISTINGUISH_is = refl
 
-pub STYLE_MEASURE_is : selector.STYLE_MEASURE ≡ numbers.style_measure
+pub STYLE_MEASURE_is : selector.STYLE_MEASURE ≡ text_numbers.style_measure
 STYLE_MEASURE_is = refl
 
-pub SELECT_is : selector.SELECT ≡ numbers.select
+pub SELECT_is : selector.SELECT ≡ text_numbers.select
 SELECT_is = refl
 
-pub SELECT_POLL_is : selector.SELECT_POLL ≡ numbers.select_poll
+pub SELECT_POLL_is : selector.SELECT_POLL ≡ text_numbers.select_poll
 SELECT_POLL_is = refl
 
-pub REQUEST_LINE_EVENT_is : selector.REQUEST_LINE_EVENT ≡ numbers.request_line_event
+pub REQUEST_LINE_EVENT_is : selector.REQUEST_LINE_EVENT ≡ text_numbers.request_line_event
 REQUEST_LINE_EVENT_is = refl
 
-pub CANCEL_LINE_EVENT_is : selector.CANCEL_LINE_EVENT ≡ numbers.cancel_line_event
+pub CANCEL_LINE_EVENT_is : selector.CANCEL_LINE_EVENT ≡ text_numbers.cancel_line_event
 CANCEL_LINE_EVENT_is = refl
 
-pub REQUEST_CHAR_EVENT_is : selector.REQUEST_CHAR_EVENT ≡ numbers.request_char_event
+pub REQUEST_CHAR_EVENT_is : selector.REQUEST_CHAR_EVENT ≡ text_numbers.request_char_event
 REQUEST_CHAR_EVENT_is = refl
 
-pub CANCEL_CHAR_EVENT_is : selector.CANCEL_CHAR_EVENT ≡ numbers.cancel_char_event
+pub CANCEL_CHAR_EVENT_is : selector.CANCEL_CHAR_EVENT ≡ text_numbers.cancel_char_event
 CANCEL_CHAR_EVENT_is = refl
 
-pub BUFFER_TO_LOWER_CASE_UNI_is : selector.BUFFER_TO_LOWER_CASE_UNI ≡ numbers.buffer_to_lower_case_uni
+pub BUFFER_TO_LOWER_CASE_UNI_is : selector.BUFFER_TO_LOWER_CASE_UNI ≡ text_numbers.buffer_to_lower_case_uni
 BUFFER_TO_LOWER_CASE_UNI_is = refl
 
-pub BUFFER_TO_UPPER_CASE_UNI_is : selector.BUFFER_TO_UPPER_CASE_UNI ≡ numbers.buffer_to_upper_case_uni
+pub BUFFER_TO_UPPER_CASE_UNI_is : selector.BUFFER_TO_UPPER_CASE_UNI ≡ text_numbers.buffer_to_upper_case_uni
 BUFFER_TO_UPPER_CASE_UNI_is = refl
 
-pub BUFFER_TO_TITLE_CASE_UNI_is : selector.BUFFER_TO_TITLE_CASE_UNI ≡ numbers.buffer_to_title_case_uni
+pub BUFFER_TO_TITLE_CASE_UNI_is : selector.BUFFER_TO_TITLE_CASE_UNI ≡ text_numbers.buffer_to_title_case_uni
 BUFFER_TO_TITLE_CASE_UNI_is = refl
 
-pub PUT_CHAR_UNI_is : selector.PUT_CHAR_UNI ≡ numbers.put_char_uni
+pub PUT_CHAR_UNI_is : selector.PUT_CHAR_UNI ≡ text_numbers.put_char_uni
 PUT_CHAR_UNI_is = refl
 
-pub PUT_STRING_UNI_is : selector.PUT_STRING_UNI ≡ numbers.put_string_uni
+pub PUT_STRING_UNI_is : selector.PUT_STRING_UNI ≡ text_numbers.put_string_uni
 PUT_STRING_UNI_is = refl
 
-pub PUT_BUFFER_UNI_is : selector.PUT_BUFFER_UNI ≡ numbers.put_buffer_uni
+pub PUT_BUFFER_UNI_is : selector.PUT_BUFFER_UNI ≡ text_numbers.put_buffer_uni
 PUT_BUFFER_UNI_is = refl
 
-pub PUT_CHAR_STREAM_UNI_is : selector.PUT_CHAR_STREAM_UNI ≡ numbers.put_char_stream_uni
+pub PUT_CHAR_STREAM_UNI_is : selector.PUT_CHAR_STREAM_UNI ≡ text_numbers.put_char_stream_uni
 PUT_CHAR_STREAM_UNI_is = refl
 
-pub PUT_STRING_STREAM_UNI_is : selector.PUT_STRING_STREAM_UNI ≡ numbers.put_string_stream_uni
+pub PUT_STRING_STREAM_UNI_is : selector.PUT_STRING_STREAM_UNI ≡ text_numbers.put_string_stream_uni
 PUT_STRING_STREAM_UNI_is = refl
 
-pub PUT_BUFFER_STREAM_UNI_is : selector.PUT_BUFFER_STREAM_UNI ≡ numbers.put_buffer_stream_uni
+pub PUT_BUFFER_STREAM_UNI_is : selector.PUT_BUFFER_STREAM_UNI ≡ text_numbers.put_buffer_stream_uni
 PUT_BUFFER_STREAM_UNI_is = refl
 
-pub GET_CHAR_STREAM_UNI_is : selector.GET_CHAR_STREAM_UNI ≡ numbers.get_char_stream_uni
+pub GET_CHAR_STREAM_UNI_is : selector.GET_CHAR_STREAM_UNI ≡ text_numbers.get_char_stream_uni
 GET_CHAR_STREAM_UNI_is = refl
 
-pub GET_BUFFER_STREAM_UNI_is : selector.GET_BUFFER_STREAM_UNI ≡ numbers.get_buffer_stream_uni
+pub GET_BUFFER_STREAM_UNI_is : selector.GET_BUFFER_STREAM_UNI ≡ text_numbers.get_buffer_stream_uni
 GET_BUFFER_STREAM_UNI_is = refl
 
-pub GET_LINE_STREAM_UNI_is : selector.GET_LINE_STREAM_UNI ≡ numbers.get_line_stream_uni
+pub GET_LINE_STREAM_UNI_is : selector.GET_LINE_STREAM_UNI ≡ text_numbers.get_line_stream_uni
 GET_LINE_STREAM_UNI_is = refl
 
 pub STREAM_OPEN_FILE_UNI_is : selector.STREAM_OPEN_FILE_UNI ≡ numbers.stream_open_file_uni
@@ -236,11 +237,11 @@ STREAM_OPEN_FILE_UNI_is = refl
 pub STREAM_OPEN_MEMORY_UNI_is : selector.STREAM_OPEN_MEMORY_UNI ≡ numbers.stream_open_memory_uni
 STREAM_OPEN_MEMORY_UNI_is = refl
 
-pub REQUEST_CHAR_EVENT_UNI_is : selector.REQUEST_CHAR_EVENT_UNI ≡ numbers.request_char_event_uni
+pub REQUEST_CHAR_EVENT_UNI_is : selector.REQUEST_CHAR_EVENT_UNI ≡ text_numbers.request_char_event_uni
 REQUEST_CHAR_EVENT_UNI_is = refl
 
-pub REQUEST_LINE_EVENT_UNI_is : selector.REQUEST_LINE_EVENT_UNI ≡ numbers.request_line_event_uni
+pub REQUEST_LINE_EVENT_UNI_is : selector.REQUEST_LINE_EVENT_UNI ≡ text_numbers.request_line_event_uni
 REQUEST_LINE_EVENT_UNI_is = refl
 
-pub SET_ECHO_LINE_EVENT_is : selector.SET_ECHO_LINE_EVENT ≡ numbers.set_echo_line_event
+pub SET_ECHO_LINE_EVENT_is : selector.SET_ECHO_LINE_EVENT ≡ text_numbers.set_echo_line_event
 SET_ECHO_LINE_EVENT_is = refl

@@ -2,3 +2,4 @@ mod Constants
 pub mod Laying
 pub mod Ram
 pub mod Counting
+pub mod Opened

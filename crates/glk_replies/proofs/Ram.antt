@@ -1,7 +1,7 @@
 -- What is written lies in RAM where the looks found no fault.
-use Rattle.std.proofs.Common.{◌≡◌, ◌≢◌, ◌⊎◌, ◌<◌, ◌≤◌, ◌+◌, ◌-◌, ◌*◌, ◌==◌, ◌||◌, nat_lt, if◌then◌else◌, ℕ, Bool, true}
+use Rattle.std.proofs.Common.{◌≡◌, ◌≤◌, ◌+◌, ◌-◌, ◌*◌, ◌==◌, ◌||◌, if◌then◌else◌, ℕ, true}
 use Rattle.std.proofs.Common.{false, List, [], ◌∷◌, ◌++◌, append_assoc, length, take, refl, sym, subst, inl, inr, arith}
-use Rattle.std.proofs.Common.{Result, Ok, Err}
+use Rattle.std.proofs.Common.{Ok}
 use Rattle.std.proofs.lemmas.Grind.{common_steps}
 use Rattle.std.proofs.lemmas.Bool.Decides.{nat_tests}
 use Rattle.std.proofs.lemmas.List.{append-nil, length-append}
@@ -9,8 +9,8 @@ use Rattle.gx_state.specs.Flat.{FlatState, write_fault}
 use Rattle.gx_state.specs.Replies.{AreBetween, AreInRam}
 use Rattle.glk_streams.specs.declared.kinds.Places.{Places}
 use Rattle.glk_replies.specs.Constants.{on_stack}
-use Rattle.glk_replies.specs.Parts.{IsCharWidth, char_bytes, chars_bytes, can_lay, laid, can_give, written}
-use Rattle.glk_replies.specs.Parts.{can_give_each, written_each}
+use Rattle.glk_replies.specs.Parts.{IsCharWidth, char_bytes, chars_bytes, can_lay, char_writes, can_give, writes_for}
+use Rattle.glk_replies.specs.Parts.{can_give_each, writes_for_each}
 
 pub between_append : (low high : ℕ) (ws vs : List (ℕ × List ℕ)) → AreBetween low high ws → AreBetween low high vs
     → AreBetween low high (ws ++ vs)
@@ -39,7 +39,7 @@ writable f at count ok = (grind (arith, common_steps, nat_tests), grind (arith, 
 
 -- characters in their places
 pub laid_in_ram : (f : FlatState) (p : Places) (cs : List ℕ) → IsCharWidth p.width → p.count ≤ length cs
-    → can_lay f p ≡ Ok tt → AreInRam f (laid p cs)
+    → can_lay f p ≡ Ok tt → AreInRam f (char_writes p cs)
 unfolding can_lay
 laid_in_ram f p cs width few ok =
     elim (p.count == 0) as (λ none. p.count == 0 ≡ none → AreInRam f
@@ -54,7 +54,7 @@ laid_in_ram f p cs width few ok =
 
 -- words given to a reference
 pub written_in_ram : (f : FlatState) (at : ℕ) (words : List ℕ) → can_give f at (length words) ≡ Ok tt
-    → AreInRam f (written at words)
+    → AreInRam f (writes_for at words)
 unfolding can_give
 written_in_ram f at words ok =
     elim (at == 0 || at == on_stack) as
@@ -68,12 +68,12 @@ written_in_ram f at words ok =
     ] refl
 
 pub each_in_ram : (f : FlatState) (ats words : List ℕ) → can_give_each f ats ≡ Ok tt
-    → AreInRam f (written_each ats words)
-unfolding can_give_each written_each
+    → AreInRam f (writes_for_each ats words)
+unfolding can_give_each writes_for_each
 each_in_ram f [] words ok = tt
 each_in_ram f (at ∷ ats) [] ok = tt
 each_in_ram f (at ∷ ats) (word ∷ words) ok =
-    between_append _ _ (written at (word ∷ [])) (written_each ats words)
+    between_append _ _ (writes_for at (word ∷ [])) (writes_for_each ats words)
     (written_in_ram f at (word ∷ []) (grind (arith, common_steps)))
     (each_in_ram f ats words (grind (arith, common_steps)))
 

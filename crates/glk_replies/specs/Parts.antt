@@ -53,12 +53,12 @@ unfoldable pub can_lay : FlatState → Places → Result (Unit {0}) Fault
 can_lay f p = if p.count == 0 then Ok tt else write_fault f p.at (p.width * p.count)
 
 -- the write of characters to places
-abbrev pub laid : Places → List ℕ → List (ℕ × List ℕ)
-laid p cs = if p.count == 0 then [] else (p.at, chars_bytes p.width (take p.count cs)) ∷ []
+abbrev pub char_writes : Places → List ℕ → List (ℕ × List ℕ)
+char_writes p cs = if p.count == 0 then [] else (p.at, chars_bytes p.width (take p.count cs)) ∷ []
 
 -- a reply that writes characters to places
-abbrev pub filled : ℕ → Places → List ℕ → Reply
-filled value p cs = record { value = value; pushes = []; writes = laid p cs }
+abbrev pub reply_filling : ℕ → Places → List ℕ → Reply
+reply_filling value p cs = record { value = value; pushes = []; writes = char_writes p cs }
 
 -- ---- references ("The Dispatch Layer"): 0 is none, on_stack pushes, and any other is an address of words
 
@@ -67,22 +67,22 @@ unfoldable pub can_give : FlatState → ℕ → ℕ → Result (Unit {0}) Fault
 can_give f at words = if at == 0 || at == on_stack then Ok tt else write_fault f at (4 * words)
 
 -- what is pushed for a reference, and what is written
-abbrev pub pushed : ℕ → List ℕ → List ℕ
-pushed at words = if at == on_stack then words else []
+abbrev pub pushes_for : ℕ → List ℕ → List ℕ
+pushes_for at words = if at == on_stack then words else []
 
-abbrev pub written : ℕ → List ℕ → List (ℕ × List ℕ)
-written at words = if at == 0 || at == on_stack then [] else (at, chars_bytes 4 words) ∷ []
+abbrev pub writes_for : ℕ → List ℕ → List (ℕ × List ℕ)
+writes_for at words = if at == 0 || at == on_stack then [] else (at, chars_bytes 4 words) ∷ []
 
 -- so many values may be pushed
-unfoldable pub fitting : ℕ → ℕ → Result (Unit {0}) Fault
-fitting room pushes = if nat_lt room pushes then Err Overflow else Ok tt
+unfoldable pub can_push : ℕ → ℕ → Result (Unit {0}) Fault
+can_push room pushes = if nat_lt room pushes then Err Overflow else Ok tt
 
 -- the reply of a call that gives words to one reference
 unfoldable pub give : FlatState → ℕ → ℕ → ℕ → List ℕ → Result Reply Fault
 give f room value at words = do
   there ← can_give f at (length words)
-  fits ← fitting room (length (pushed at words))
-  Ok (record { value = value; pushes = pushed at words; writes = written at words })
+  fits ← can_push room (length (pushes_for at words))
+  Ok (record { value = value; pushes = pushes_for at words; writes = writes_for at words })
 
 -- the same for some references, a word for each, from the left to the right
 unfoldable pub can_give_each : FlatState → List ℕ → Result (Unit {0}) Fault
@@ -91,15 +91,15 @@ can_give_each f (at ∷ ats) = do
   there ← can_give f at 1
   can_give_each f ats
 
-unfoldable pub pushed_each : List ℕ → List ℕ → List ℕ
-pushed_each [] words = []
-pushed_each (at ∷ ats) [] = []
-pushed_each (at ∷ ats) (word ∷ words) = pushed at (word ∷ []) ++ pushed_each ats words
+unfoldable pub pushes_for_each : List ℕ → List ℕ → List ℕ
+pushes_for_each [] words = []
+pushes_for_each (at ∷ ats) [] = []
+pushes_for_each (at ∷ ats) (word ∷ words) = pushes_for at (word ∷ []) ++ pushes_for_each ats words
 
-unfoldable pub written_each : List ℕ → List ℕ → List (ℕ × List ℕ)
-written_each [] words = []
-written_each (at ∷ ats) [] = []
-written_each (at ∷ ats) (word ∷ words) = written at (word ∷ []) ++ written_each ats words
+unfoldable pub writes_for_each : List ℕ → List ℕ → List (ℕ × List ℕ)
+writes_for_each [] words = []
+writes_for_each (at ∷ ats) [] = []
+writes_for_each (at ∷ ats) (word ∷ words) = writes_for at (word ∷ []) ++ writes_for_each ats words
 
 -- one of them is there
 abbrev pub some_given : List ℕ → Bool
@@ -109,11 +109,11 @@ some_given (at ∷ ats) = not (at == 0) || some_given ats
 unfoldable pub give_each : FlatState → ℕ → ℕ → List ℕ → List ℕ → Result Reply Fault
 give_each f room value ats words = do
   there ← can_give_each f ats
-  fits ← fitting room (length (pushed_each ats words))
-  Ok (record { value = value; pushes = pushed_each ats words; writes = written_each ats words })
+  fits ← can_push room (length (pushes_for_each ats words))
+  Ok (record { value = value; pushes = pushes_for_each ats words; writes = writes_for_each ats words })
 
 -- two words may be given to a reference
 unfoldable pub can_give_pair : FlatState → ℕ → ℕ → Result (Unit {0}) Fault
 can_give_pair f room at = do
   there ← can_give f at 2
-  fitting room (if at == on_stack then 2 else 0)
+  can_push room (if at == on_stack then 2 else 0)

@@ -3,7 +3,7 @@
 ghost use Rattle.std.specs.Prelude.{◌≡◌, ◌==◌, if◌then◌else◌, ◌≢◌, ◌≤◌, ◌++◌, length, OnOk, OnErr, IfOk, IsTrue};
 ghost use Rattle.gx_words.specs.Faults.{Reads};
 ghost use Rattle.gx_state.specs.Replies.{IsReply};
-ghost use Rattle.glk_replies.specs.Parts.{MayWant, give, can_give_each, pushed_each, written_each, give_each};
+ghost use Rattle.glk_replies.specs.Parts.{MayWant, give, can_give_each, pushes_for_each, writes_for_each, give_each};
 ghost use Rattle.glk_replies.specs.Parts.{some_given, can_give_pair};
 
 use crate::parts::{ON_STACK, add_given, can_give, fitting, reply};
@@ -32,7 +32,7 @@ pub fn can_give_pair<A: Allocator + Clone>(
 }
 
 /// The reply of a call that gives words to one reference.
-#[tactic(auto, using(crate::proofs::Ram::given_rules), unfolding(crate::specs::Parts::give, crate::specs::Parts::fitting))]
+#[tactic(auto, using(crate::proofs::Ram::given_rules), unfolding(crate::proofs::Opened::giving))]
 pub fn give<A: Allocator + Clone>(
     alloc: Global,
     state: &State<A>,
@@ -67,9 +67,9 @@ fn can_give_each<A: Allocator + Clone>(state: &State<A>, ats: &[u32]) -> Result<
 }
 
 /// How many words are pushed for references of a word each.
-#[tactic(auto, unfolding(crate::specs::Parts::pushed_each))]
+#[tactic(auto, unfolding(crate::specs::Parts::pushes_for_each))]
 fn pushes_each(ats: &[u32], words: &[u32]) -> usize
-    ensures value { result ≡ length (pushed_each ats.now words.now) }
+    ensures value { result ≡ length (pushes_for_each ats.now words.now) }
     ensures few { result ≤ length ats.now }
 {
     match ats {
@@ -82,12 +82,12 @@ fn pushes_each(ats: &[u32], words: &[u32]) -> usize
 }
 
 /// Adds what is given to references of a word each.
-#[tactic(auto, using(crate::proofs::Ram::adding_rules), unfolding(crate::specs::Parts::pushed_each, crate::specs::Parts::written_each))]
+#[tactic(auto, using(crate::proofs::Ram::adding_rules), unfolding(crate::proofs::Opened::adding_each))]
 fn add_each(alloc: Global, reply: &mut Reply, ats: &[u32], words: &[u32]) -> Result<(), AllocError>
     ensures ok { OnOk result (reply.new ≡ record reply.old {
-      pushes = reply.old.pushes ++ pushed_each ats.now words.now;
+      pushes = reply.old.pushes ++ pushes_for_each ats.now words.now;
       writes =
-          reply.old.writes ++ written_each ats.now words.now;
+          reply.old.writes ++ writes_for_each ats.now words.now;
     }) }
     ensures memory { OnErr result (IsTrue (some_given ats.now)) }
 {
@@ -104,7 +104,7 @@ fn add_each(alloc: Global, reply: &mut Reply, ats: &[u32], words: &[u32]) -> Res
 }
 
 /// The reply of a call that gives a word to each of some references.
-#[tactic(auto, using(crate::proofs::Ram::given_rules), unfolding(crate::specs::Parts::give_each, crate::specs::Parts::fitting))]
+#[tactic(auto, using(crate::proofs::Ram::given_rules), unfolding(crate::proofs::Opened::giving_each))]
 pub fn give_each<A: Allocator + Clone>(
     alloc: Global,
     state: &State<A>,

@@ -7,7 +7,7 @@ ghost use Rattle.gx_words.specs.Constants.{ceiling};
 ghost use Rattle.gx_words.specs.Faults.{Reads};
 ghost use Rattle.gx_state.specs.Flat.{write_fault};
 ghost use Rattle.glk_replies.specs.Parts.{replies, IsCharWidth, can_read, numbers_in, char_bytes, chars_bytes, can_lay};
-ghost use Rattle.glk_replies.specs.Parts.{laid, filled, can_give, pushed, written, fitting};
+ghost use Rattle.glk_replies.specs.Parts.{char_writes, reply_filling, can_give, pushes_for, writes_for, can_push};
 
 use glk_streams::Places;
 use glk_text::latin;
@@ -94,9 +94,9 @@ pub fn can_give<A: Allocator + Clone>(state: &State<A>, at: u32, words: usize) -
 }
 
 /// Whether so many values may be pushed.
-#[tactic(auto, unfolding(crate::specs::Parts::fitting))]
+#[tactic(auto, unfolding(crate::specs::Parts::can_push))]
 pub fn fitting(room: u32, pushes: usize) -> Result<(), Fault>
-    ensures { Reads (λ _. tt) result (fitting room pushes) }
+    ensures { Reads (λ _. tt) result (can_push room pushes) }
 {
     if pushes > room as usize {
         Err(Fault::Overflow)
@@ -220,7 +220,7 @@ pub fn lay<C: Character>(
 ) -> Result<(), AllocError>
     requires at { 0 < places.count → places.at < 2 ^ 32 }
     requires count { places.count ≤ length (C.chars_of chars.now) }
-    ensures ok { OnOk result (writes.new ≡ writes.old ++ laid places (C.chars_of chars.now)) }
+    ensures ok { OnOk result (writes.new ≡ writes.old ++ char_writes places (C.chars_of chars.now)) }
     ensures memory { OnErr result (0 < places.count) }
 {
     if places.count == 0 {
@@ -234,7 +234,7 @@ pub fn lay<C: Character>(
 pub fn filled(alloc: Global, value: u32, places: Places, chars: &[u32]) -> Result<Reply, AllocError>
     requires at { 0 < places.count → places.at < 2 ^ 32 }
     requires count { places.count ≤ length chars.now }
-    ensures value { IfOk result (λ reply. reply ≡ filled value places chars.now) }
+    ensures value { IfOk result (λ reply. reply ≡ reply_filling value places chars.now) }
     ensures memory { OnErr result (0 < places.count) }
 {
     let mut reply = reply(alloc, value);
@@ -258,8 +258,8 @@ fn push_words(pushes: &mut Numbers, words: &[u32]) -> Result<(), AllocError>
 /// Adds what is given to a reference that was looked at.
 pub fn add_given(alloc: Global, reply: &mut Reply, at: u32, words: &[u32]) -> Result<(), AllocError>
     ensures ok { OnOk result (reply.new ≡ record reply.old {
-      pushes = reply.old.pushes ++ pushed at words.now;
-      writes = reply.old.writes ++ written at words.now;
+      pushes = reply.old.pushes ++ pushes_for at words.now;
+      writes = reply.old.writes ++ writes_for at words.now;
     }) }
     ensures memory { OnErr result (at ≢ 0) }
 {

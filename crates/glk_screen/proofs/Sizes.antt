@@ -17,8 +17,8 @@ use Rattle.glk_windows.specs.Grids.{fit}
 use Rattle.glk_windows.specs.Constants.{text_buffer, text_grid}
 use Rattle.glk_screen.specs.Texts.{FlatText, text_of}
 use Rattle.glk_screen.specs.Wrapping.{width_of, columns_of, columns, wrapped, rows_at}
-use Rattle.glk_screen.specs.Screen.{Drawn, blank_row, blank_rows, drawn_char, is_drawn, drawn_row, bottom_rows}
-use Rattle.glk_screen.specs.Screen.{text_rows, buffer_rows, drawn_cell, grid_row, grid_rows, kind_of, window_rows}
+use Rattle.glk_screen.specs.Screen.{DrawnRows, blank_row, blank_rows, drawn_char, is_drawn, drawn_row, bottom_rows}
+use Rattle.glk_screen.specs.Screen.{text_rows, buffer_rows, drawn_cell, grid_row, grid_rows, window_type, window_rows}
 use Rattle.glk_screen.specs.Screen.{beside, put_together, part_rows, screen_rows}
 use Rattle.glk_screen.specs.Laws.{is_fitting, drawn_columns, is_wide, IsSized, ScreenIsFilled}
 use Rattle.glk_screen.proofs.Holding.{rows_fit}
@@ -89,12 +89,12 @@ all_drop p zero xs all = all
 all_drop p (suc n) [] all = refl
 all_drop p (suc n) (x ∷ xs) all = all_drop p n xs (and_parts (p x) (list_all p xs) all).1
 
-all_map : (width : ℕ) (f : List ℕ → List ℕ) (rows : Drawn) → ((row : List ℕ) → is_wide width (f row) ≡ true)
+all_map : (width : ℕ) (f : List ℕ → List ℕ) (rows : DrawnRows) → ((row : List ℕ) → is_wide width (f row) ≡ true)
     → list_all (is_wide width) (map f rows) ≡ true
 all_map width f [] wide = refl
 all_map width f (row ∷ rows) wide = rw (wide row, all_map width f rows wide) refl
 
-fitting_rows : (width : ℕ) (rows : Drawn) → list_all (is_fitting width) rows ≡ true
+fitting_rows : (width : ℕ) (rows : DrawnRows) → list_all (is_fitting width) rows ≡ true
     → list_all (is_wide width) (map (drawn_row width) rows) ≡ true
 fitting_rows width [] fits = refl
 fitting_rows width (row ∷ rows) fits =
@@ -112,7 +112,7 @@ blank_sized area = record {
 }
 
 -- rows that are few enough, filled with blank ones
-filled_sized : (area : ℕ × ℕ) (rows : Drawn) → length rows ≤ area.1 → list_all (is_wide area.0) rows ≡ true
+filled_sized : (area : ℕ × ℕ) (rows : DrawnRows) → length rows ≤ area.1 → list_all (is_wide area.0) rows ≡ true
     → IsSized area (rows ++ blank_rows (area.0, area.1 - length rows))
 filled_sized area rows few wide =
     let blank = blank_sized (area.0, area.1 - length rows) in
@@ -128,7 +128,7 @@ text_some : (text : List ℕ) (area : ℕ × ℕ) → 1 ≤ area.0
     → text_rows text area ≡ map (drawn_row area.0) (bottom_rows area.1 (rows_at text (wrapped area.0 text)))
 text_some text area some = grind (arith, nat_tests, some)
 
-bottom_few : (count : ℕ) (rows : Drawn) → length (bottom_rows count rows) ≤ count
+bottom_few : (count : ℕ) (rows : DrawnRows) → length (bottom_rows count rows) ≤ count
 bottom_few count rows = rw length-drop (omega arith)
 
 le_or_lt : (i j : ℕ) → (i ≤ j) ⊎ (j < i)
@@ -159,7 +159,7 @@ grid_sized g area = record {
       (λ row. wide_true area.0 (grid_row area.0 row) (grid_columns area.0 row));
 }
 
-either_sized : (b : Bool) (area : ℕ × ℕ) (rows others : Drawn) → IsSized area rows → IsSized area others
+either_sized : (b : Bool) (area : ℕ × ℕ) (rows others : DrawnRows) → IsSized area rows → IsSized area others
     → IsSized area (if b then rows else others)
 either_sized true area rows others first second = first
 either_sized false area rows others first second = second
@@ -168,19 +168,19 @@ window_sized : (texts : List FlatText) (f : FlatWindows) (area : ℕ × ℕ) (wi
     → IsSized area (window_rows texts f area win)
 unfolding window_rows
 window_sized texts f area win =
-    either_sized (kind_of f win == text_buffer) area (buffer_rows (text_of texts win) area) _
+    either_sized (window_type f win == text_buffer) area (buffer_rows (text_of texts win) area) _
     (buffer_sized (text_of texts win) area)
-    (either_sized (kind_of f win == text_grid) area (grid_rows (grid_at f.grids win) area) (blank_rows area)
+    (either_sized (window_type f win == text_grid) area (grid_rows (grid_at f.grids win) area) (blank_rows area)
     (grid_sized (grid_at f.grids win) area) (blank_sized area))
 
 -- ---- pairs
 
-beside_count : (rows others : Drawn) → length rows ≡ length others → length (beside rows others) ≡ length rows
+beside_count : (rows others : DrawnRows) → length rows ≡ length others → length (beside rows others) ≡ length rows
 beside_count [] others same = sym same
 beside_count (row ∷ rows) [] same = refl
 beside_count (row ∷ rows) (other ∷ others) same = ap suc (beside_count rows others (omega (arith, same)))
 
-beside_wide : (width more : ℕ) (rows others : Drawn) → length rows ≡ length others
+beside_wide : (width more : ℕ) (rows others : DrawnRows) → length rows ≡ length others
     → list_all (is_wide width) rows ≡ true → list_all (is_wide more) others ≡ true
     → list_all (is_wide (width + more)) (beside rows others) ≡ true
 beside_wide width more [] [] same left right = refl
@@ -196,7 +196,7 @@ beside_wide width more (row ∷ rows) (other ∷ others) same left right =
       beside_wide width more rows others (omega (arith, same)) parts.1 others_parts.1,
     ) refl
 
-beside_sized : (width more total height : ℕ) (rows others : Drawn) → width + more ≡ total → IsSized (width, height) rows
+beside_sized : (width more total height : ℕ) (rows others : DrawnRows) → width + more ≡ total → IsSized (width, height) rows
     → IsSized (more, height) others → IsSized (total, height) (beside rows others)
 beside_sized width more total height rows others sum left right =
     let same = left.count ∙ sym right.count in
@@ -205,7 +205,7 @@ beside_sized width more total height rows others sum left right =
       wide = rw (← sum) (beside_wide width more rows others same left.wide right.wide);
     }
 
-stacked_sized : (width height more total : ℕ) (rows others : Drawn) → height + more ≡ total
+stacked_sized : (width height more total : ℕ) (rows others : DrawnRows) → height + more ≡ total
     → IsSized (width, height) rows → IsSized (width, more) others → IsSized (width, total) (rows ++ others)
 stacked_sized width height more total rows others sum upper lower = record {
   count = rw (length-append, upper.count, lower.count) sum;
@@ -215,11 +215,11 @@ stacked_sized width height more total rows others sum upper lower = record {
 share_small : (a : Arrangement) (total : ℕ) → share a total ≤ total
 share_small a total = grind (arith, nat_tests)
 
-put_below : (side : ℕ) (first second : Drawn) → 3 ≤ side → put_together side first second ≡ first ++ second
+put_below : (side : ℕ) (first second : DrawnRows) → 3 ≤ side → put_together side first second ≡ first ++ second
 unfolding put_together
 put_below side first second low = grind (arith, nat_tests, low)
 
-pair_sized : (side width height across down : ℕ) (first second : Drawn) → across ≤ width → down ≤ height
+pair_sized : (side width height across down : ℕ) (first second : DrawnRows) → across ≤ width → down ≤ height
     → IsSized (if nat_le side 1 then (width - across, height) else (width, height - down)) first
     → IsSized (if nat_le side 1 then (across, height) else (width, down)) second
     → IsSized (width, height) (put_together side first second)

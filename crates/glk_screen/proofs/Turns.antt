@@ -1,14 +1,14 @@
 -- One turn of each loop that draws.
-use Rattle.std.proofs.Common.{zero, suc, ◌≡◌, ◌≢◌, ◌<◌, ◌≤◌, ◌+◌, ◌-◌, ◌*◌, ◌/◌, ◌==◌, ℕ, Bool, true, false, min, List}
+use Rattle.std.proofs.Common.{zero, suc, ◌≡◌, ◌≢◌, ◌<◌, ◌≤◌, ◌+◌, ◌-◌, ◌*◌, ◌/◌, ℕ, min, List}
 use Rattle.std.proofs.Common.{[], ◌∷◌, ◌++◌, append_assoc, length, get_or, set, map, take, drop, drop-cons, replicate}
-use Rattle.std.proofs.Common.{refl, sym, ◌∙◌, ap, arith, length-drop, if◌then◌else◌, nat_lt}
+use Rattle.std.proofs.Common.{refl, sym, ◌∙◌, ap, arith}
 use Rattle.std.specs.List.{filter}
 use Rattle.std.specs.Char.{encode_utf8}
 use Rattle.std.specs.Str.{encode_utf8_all}
 use Rattle.std.proofs.lemmas.Grind.{common_steps}
 use Rattle.std.proofs.lemmas.Bool.Decides.{nat_tests}
-use Rattle.std.proofs.lemmas.List.{append-nil, replicate_more, take_rest, take_all, drop_all, take_more, take-map}
-use Rattle.std.proofs.lemmas.List.{length-take, length-replicate, length-map, length-append, map-append}
+use Rattle.std.proofs.lemmas.List.{append-nil, replicate_more, take_rest, take_all, drop_all, take_more}
+use Rattle.std.proofs.lemmas.List.{length-take, length-replicate, length-append, map-append}
 use Rattle.glk_text.specs.Utf8.{as_scalar}
 use Rattle.glk_windows.specs.Grids.{fit}
 use Rattle.glk_windows.proofs.Lists.{chosen_past, chosen_here, chosen_not}

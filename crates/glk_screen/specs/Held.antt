@@ -5,8 +5,8 @@ use Rattle.glk_screen.specs.declared.texts.Text.TheInside.{Inside}
 use Rattle.glk_screen.specs.Texts.{FlatText, line_feeds}
 
 -- what stands before its start was dropped
-abbrev pub flat_text : Inside → FlatText
-flat_text t = record { id = t.id; text = drop t.start t.chars.items }
+abbrev pub flat_of : Inside → FlatText
+flat_of t = record { id = t.id; text = drop t.start t.chars.items }
 
 -- what is kept is short enough, has so many line feeds, and one paragraph more
 pub record IsKept (t : Inside) : Type 0 where

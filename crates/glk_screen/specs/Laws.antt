@@ -5,7 +5,7 @@ use Rattle.glk_windows.specs.Windows.{FlatWindows}
 use Rattle.glk_screen.specs.Constants.{most_paragraphs}
 use Rattle.glk_screen.specs.Texts.{FlatText, line_feeds, behind_paragraph, with_char}
 use Rattle.glk_screen.specs.Wrapping.{width_of, columns, wrapped, rows_at}
-use Rattle.glk_screen.specs.Screen.{Drawn, screen_rows}
+use Rattle.glk_screen.specs.Screen.{DrawnRows, screen_rows}
 
 -- a row has no more columns than its window
 abbrev pub is_fitting : ℕ → List ℕ → Bool
@@ -24,7 +24,7 @@ abbrev pub is_wide : ℕ → List ℕ → Bool
 is_wide width row = drawn_columns row == width
 
 -- rows of exactly so many columns, and exactly so many
-pub record IsSized (area : ℕ × ℕ) (rows : Drawn) : Type 0 where
+pub record IsSized (area : ℕ × ℕ) (rows : DrawnRows) : Type 0 where
   pub count : length rows ≡ area.1
   pub wide : IsTrue (list_all (is_wide area.0) rows)
 

@@ -17,13 +17,13 @@ use Rattle.glk_screen.specs.Wrapping.{width_of, is_replaced, columns_of, columns
 use Rattle.glk_screen.specs.Rows.{trimmed}
 
 -- rows of a window
-abbrev pub Drawn : Type 0
-Drawn = List (List ℕ)
+abbrev pub DrawnRows : Type 0
+DrawnRows = List (List ℕ)
 
 abbrev pub blank_row : ℕ → List ℕ
 blank_row width = replicate width blank_cell
 
-abbrev pub blank_rows : ℕ × ℕ → Drawn
+abbrev pub blank_rows : ℕ × ℕ → DrawnRows
 blank_rows area = replicate area.1 (blank_row area.0)
 
 -- ---- a buffer window
@@ -41,20 +41,17 @@ unfoldable pub drawn_row : ℕ → List ℕ → List ℕ
 drawn_row width row = map (drawn_char width) (filter (is_drawn width) row) ++ blank_row (width - columns width row)
 
 -- the last rows of so many, or all
-abbrev pub bottom_rows : ℕ → Drawn → Drawn
+abbrev pub bottom_rows : ℕ → DrawnRows → DrawnRows
 bottom_rows count rows = drop (length rows - count) rows
 
 -- The last rows of a text. A window of no columns shows nothing.
-abbrev pub text_rows : List ℕ → ℕ × ℕ → Drawn
+abbrev pub text_rows : List ℕ → ℕ × ℕ → DrawnRows
 text_rows text area =
     if area.0 == 0 then [] else map (drawn_row area.0) (bottom_rows area.1 (rows_at text (wrapped area.0 text)))
 
--- rows from the window's top, below which it is blank
-abbrev pub from_top : ℕ × ℕ → Drawn → Drawn
-from_top area rows = rows ++ blank_rows (area.0, area.1 - length rows)
-
-unfoldable pub buffer_rows : List ℕ → ℕ × ℕ → Drawn
-buffer_rows text area = from_top area (text_rows text area)
+-- those rows from the window's top, below which it is blank
+unfoldable pub buffer_rows : List ℕ → ℕ × ℕ → DrawnRows
+buffer_rows text area = text_rows text area ++ blank_rows (area.0, area.1 - length (text_rows text area))
 
 -- ---- a grid window: its cells, of which each has one column
 
@@ -65,35 +62,35 @@ drawn_cell c = if width_of c == 1 then c else question_mark
 unfoldable pub grid_row : ℕ → List ℕ → List ℕ
 grid_row width row = map drawn_cell (take width row) ++ blank_row (width - length row)
 
-abbrev pub grid_rows : Grid → ℕ × ℕ → Drawn
+abbrev pub grid_rows : Grid → ℕ × ℕ → DrawnRows
 grid_rows g area = map (grid_row area.0) (fit area.1 [] g.rows)
 
 -- ---- all windows
 
 -- a window's type, 0 where no window has the identifier
-abbrev pub kind_of : FlatWindows → ℕ → ℕ
-kind_of f win = unwrap_or (option_map (λ e. e.kind) (entry f win)) 0
+abbrev pub window_type : FlatWindows → ℕ → ℕ
+window_type f win = unwrap_or (option_map (λ e. e.kind) (entry f win)) 0
 
 -- a window that isn't a pair
-unfoldable pub window_rows : List FlatText → FlatWindows → ℕ × ℕ → ℕ → Drawn
+unfoldable pub window_rows : List FlatText → FlatWindows → ℕ × ℕ → ℕ → DrawnRows
 window_rows texts f area win =
-    if kind_of f win == text_buffer then buffer_rows (text_of texts win) area else
-    if kind_of f win == text_grid then grid_rows (grid_at f.grids win) area else
+    if window_type f win == text_buffer then buffer_rows (text_of texts win) area else
+    if window_type f win == text_grid then grid_rows (grid_at f.grids win) area else
     blank_rows area
 
 -- cells to the right of a row, or below all rows where there is no such row
-abbrev pub appended_at : Drawn → ℕ → List ℕ → Drawn
+abbrev pub appended_at : DrawnRows → ℕ → List ℕ → DrawnRows
 appended_at rows y cells =
     if nat_lt y (length rows) then slice_set rows y (slice_index_or rows y [] ++ cells) else rows ++ cells ∷ []
 
 -- rows to the left of others
-abbrev pub beside : Drawn → Drawn → Drawn
+abbrev pub beside : DrawnRows → DrawnRows → DrawnRows
 beside [] rows = rows
 beside (row ∷ rows) [] = row ∷ rows
 beside (row ∷ rows) (other ∷ others) = (row ++ other) ∷ beside rows others
 
 -- a pair: its second child stands on the side that the direction names
-unfoldable pub put_together : ℕ → Drawn → Drawn → Drawn
+unfoldable pub put_together : ℕ → DrawnRows → DrawnRows → DrawnRows
 put_together side first second =
     if side == left then beside second first else
     if side == right then beside first second else
@@ -101,7 +98,7 @@ put_together side first second =
     first ++ second
 
 -- a part of the tree of so many columns and rows
-abbrev pub part_rows : List FlatText → FlatWindows → ℕ × ℕ → Shape → Drawn
+abbrev pub part_rows : List FlatText → FlatWindows → ℕ × ℕ → Shape → DrawnRows
 part_rows texts f area (One id) = window_rows texts f area id
 part_rows texts f area (Two a first second) =
     put_together (direction a.method)
@@ -109,7 +106,7 @@ part_rows texts f area (Two a first second) =
     (part_rows texts f (second_area a area) second)
 
 -- the whole screen, which is blank where there is no window
-abbrev pub screen_rows : List FlatText → FlatWindows → ℕ × ℕ → Option Shape → Drawn
+abbrev pub screen_rows : List FlatText → FlatWindows → ℕ × ℕ → Option Shape → DrawnRows
 screen_rows texts f area None = blank_rows area
 screen_rows texts f area (Some t) = part_rows texts f area t
 
@@ -118,7 +115,7 @@ abbrev pub line_of : List ℕ → List ℕ
 line_of row = encode_utf8_all (map as_scalar (trimmed row)) ++ line_feed ∷ []
 
 -- rows as text, from the top down
-abbrev pub lines_of : Drawn → List ℕ
+abbrev pub lines_of : DrawnRows → List ℕ
 lines_of [] = []
 lines_of (row ∷ rows) = line_of row ++ lines_of rows
 

@@ -17,13 +17,11 @@ abbrev pub behind_paragraph : List ℕ → List ℕ
 behind_paragraph [] = []
 behind_paragraph (c ∷ cs) = if c == line_feed then cs else behind_paragraph cs
 
--- the first paragraph goes where there is one too many
-abbrev pub last_paragraphs : List ℕ → List ℕ
-last_paragraphs text = if nat_lt (line_feeds text) most_paragraphs then text else behind_paragraph text
-
--- a text with one character more
+-- a text with one character more; the first paragraph goes where there is one too many
 unfoldable pub with_char : List ℕ → ℕ → List ℕ
-with_char text c = last_paragraphs (text ++ c ∷ [])
+with_char text c =
+    let longer = text ++ c ∷ [] in
+    if nat_lt (line_feeds longer) most_paragraphs then longer else behind_paragraph longer
 
 -- the text of a window, none where nothing was put to it
 abbrev pub text_of : List FlatText → ℕ → List ℕ
@@ -31,9 +29,9 @@ text_of [] win = []
 text_of (t ∷ ts) win = if t.id == win then t.text else text_of ts win
 
 -- how many texts stand before that of a window, all of them where it has none
-abbrev pub place_of : List FlatText → ℕ → ℕ
-place_of [] win = 0
-place_of (t ∷ ts) win = if t.id == win then 0 else suc (place_of ts win)
+abbrev pub text_index : List FlatText → ℕ → ℕ
+text_index [] win = 0
+text_index (t ∷ ts) win = if t.id == win then 0 else suc (text_index ts win)
 
 -- a text with a character put to it
 abbrev pub text_put : FlatText → ℕ → FlatText

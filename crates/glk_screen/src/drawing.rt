@@ -4,7 +4,8 @@ ghost use Rattle.glk_windows.specs.Tree.{shape_of};
 ghost use Rattle.glk_windows.specs.Windows.{grid_at};
 ghost use Rattle.glk_screen.specs.Wrapping.{part, rows_at};
 ghost use Rattle.glk_screen.specs.Screen.{blank_row, drawn_char, drawn_row, text_rows, buffer_rows, drawn_cell};
-ghost use Rattle.glk_screen.specs.Screen.{grid_row, grid_rows, kind_of, window_rows, appended_at, beside, put_together};
+ghost use Rattle.glk_screen.specs.Screen.{grid_row, grid_rows, window_type, window_rows, appended_at, beside};
+ghost use Rattle.glk_screen.specs.Screen.{put_together};
 ghost use Rattle.glk_screen.specs.Screen.{part_rows, screen_rows, line_of, lines_of, composed};
 
 use crate::Screen;
@@ -93,7 +94,7 @@ impl Screen {
 
 /// A window's type, 0 where no window has the identifier.
 fn kind_of(windows: &Windows, win: u32) -> u32
-    ensures { result ≡ kind_of windows.now win }
+    ensures { result ≡ window_type windows.now win }
 {
     match windows.entry(win) {
         None => 0,

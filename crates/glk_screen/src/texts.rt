@@ -1,6 +1,6 @@
 //! The text of buffer windows.
 ghost use Rattle.std.specs.Prelude.{◌≡◌, ◌≤◌, ◌<◌, ◌^◌, [], length, drop, OnOk, OnErr};
-ghost use Rattle.glk_screen.specs.Texts.{behind_paragraph, text_of, place_of, text_put, text_cleared, screen_put};
+ghost use Rattle.glk_screen.specs.Texts.{behind_paragraph, text_of, text_index, text_put, text_cleared, screen_put};
 ghost use Rattle.glk_screen.specs.Texts.{screen_cleared, screen_gone};
 
 use gx_words::LINE_FEED;
@@ -28,9 +28,9 @@ impl Model for Text {
 
     ghost coded = { text_code };
 
-    ghost use Rattle.glk_screen.specs.Held.{flat_text, IsKept};
+    ghost use Rattle.glk_screen.specs.Held.{flat_of, IsKept};
 
-    ghost view = { flat_text };
+    ghost view = { flat_of };
 
     ghost invariant = { IsKept };
 }
@@ -127,7 +127,7 @@ fn behind_paragraph(text: &[u32]) -> usize
 
 /// How many texts stand before that of a window, all of them where it has none.
 fn place(texts: &[Text], win: u32) -> usize
-    ensures value { result ≡ place_of texts.now win }
+    ensures value { result ≡ text_index texts.now win }
     ensures within { result ≤ length texts.now }
 {
     match texts {

@@ -2,8 +2,8 @@
 use Rattle.std.proofs.Common.{◌≡◌, refl}
 use Rattle.glk_streams.specs.declared.content.TheConstants as content
 use Rattle.glk_streams.specs.declared.modes.TheConstants as mode
-use Rattle.glk_streams.specs.Constants.{write_mode, read_mode, read_write_mode, write_append_mode, from_start}
-use Rattle.glk_streams.specs.Constants.{from_current, from_end, largest}
+use Rattle.glk_streams.specs.Constants.{write_mode, read_mode, read_write_mode, write_append_mode, seek_start}
+use Rattle.glk_streams.specs.Constants.{seek_current, seek_end, largest}
 
 pub WRITE_is : mode.WRITE ≡ write_mode
 WRITE_is = refl
@@ -17,13 +17,13 @@ READ_WRITE_is = refl
 pub WRITE_APPEND_is : mode.WRITE_APPEND ≡ write_append_mode
 WRITE_APPEND_is = refl
 
-pub FROM_START_is : mode.FROM_START ≡ from_start
+pub FROM_START_is : mode.FROM_START ≡ seek_start
 FROM_START_is = refl
 
-pub FROM_CURRENT_is : mode.FROM_CURRENT ≡ from_current
+pub FROM_CURRENT_is : mode.FROM_CURRENT ≡ seek_current
 FROM_CURRENT_is = refl
 
-pub FROM_END_is : mode.FROM_END ≡ from_end
+pub FROM_END_is : mode.FROM_END ≡ seek_end
 FROM_END_is = refl
 
 pub LARGEST_is : content.LARGEST ≡ largest

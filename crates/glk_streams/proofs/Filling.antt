@@ -12,7 +12,7 @@ use Rattle.glk_streams.specs.declared.kinds.StreamKind.{StreamKind}
 use Rattle.glk_streams.specs.declared.kinds.StreamKind.TheVariants as kinds
 use Rattle.glk_streams.specs.declared.kinds.Stream.{Stream}
 use Rattle.glk_streams.specs.Constants.{largest}
-use Rattle.glk_streams.specs.Stream.{writable, places_of, after_put, after_puts}
+use Rattle.glk_streams.specs.Stream.{writable, place_count, after_put, after_puts}
 use Rattle.glk_streams.proofs.Contents.{length_spliced}
 
 -- one byte over another, and those after it over those behind it
@@ -95,22 +95,22 @@ abbrev pub highest_at : ℕ → ℕ → ℕ → ℕ
 highest_at highest position count = if count == 0 then highest else max highest (position + count)
 
 module _ (s : Stream) (at len : ℕ) (wide : Bool) (is : s.kind ≡ kinds.Memory at len wide) (on : writable s ≡ true) where
-  put_place : (position highest written b : ℕ) → position < places_of at len
+  put_place : (position highest written b : ℕ) → position < place_count at len
       → after_put (memory_at s position highest written) b
       ≡ memory_at s (position + 1) (max highest (position + 1)) ((written + 1) % 2 ^ 32)
   unfolding after_put
   put_place position highest written b less =
-      let there : nat_lt position (places_of at len) ≡ true = grind (arith, nat_tests) in
+      let there : nat_lt position (place_count at len) ≡ true = grind (arith, nat_tests) in
       rw (on, is, there) refl
 
-  put_past : (position highest written b : ℕ) → places_of at len ≤ position
+  put_past : (position highest written b : ℕ) → place_count at len ≤ position
       → after_put (memory_at s position highest written) b ≡ memory_at s position highest ((written + 1) % 2 ^ 32)
   unfolding after_put
   put_past position highest written b past =
-      let gone : nat_lt position (places_of at len) ≡ false = grind (arith, nat_tests) in
+      let gone : nat_lt position (place_count at len) ≡ false = grind (arith, nat_tests) in
       rw (on, is, gone) refl
 
-  puts_past : (bs : List ℕ) (position highest written : ℕ) → places_of at len ≤ position → written < 2 ^ 32
+  puts_past : (bs : List ℕ) (position highest written : ℕ) → place_count at len ≤ position → written < 2 ^ 32
       → after_puts (memory_at s position highest written) bs
       ≡ memory_at s position highest ((written + length bs) % 2 ^ 32)
   unfolding after_puts
@@ -122,40 +122,40 @@ module _ (s : Stream) (at len : ℕ) (wide : Bool) (is : s.kind ≡ kinds.Memory
 
   puts_places : (bs : List ℕ) (position highest written : ℕ) → written < 2 ^ 32
       → after_puts (memory_at s position highest written) bs
-      ≡ memory_at s (position + min (places_of at len - position) (length bs))
-      (highest_at highest position (min (places_of at len - position) (length bs))) ((written + length bs) % 2 ^ 32)
+      ≡ memory_at s (position + min (place_count at len - position) (length bs))
+      (highest_at highest position (min (place_count at len - position) (length bs))) ((written + length bs) % 2 ^ 32)
   unfolding after_puts
   puts_places [] position highest written fits =
       let w : (written + 0) % 2 ^ 32 ≡ written = omega arith in
-      let m : min (places_of at len - position) 0 ≡ 0 = omega arith in
+      let m : min (place_count at len - position) 0 ≡ 0 = omega arith in
       let p : position + 0 ≡ position = omega arith in
       rw (w, m, p) refl
   puts_places (b ∷ bs) position highest written fits =
-      let rest = places_of at len - (position + 1) in
+      let rest = place_count at len - (position + 1) in
       let w : ((written + 1) % 2 ^ 32 + length bs) % 2 ^ 32 ≡ (written + suc (length bs)) % 2 ^ 32 = omega arith in
-      elim (nat_lt position (places_of at len)) as (λ t. nat_lt position (places_of at len) ≡ t
+      elim (nat_lt position (place_count at len)) as (λ t. nat_lt position (place_count at len) ≡ t
       → after_puts (memory_at s position highest written) (b ∷ bs)
-      ≡ memory_at s (position + min (places_of at len - position) (suc (length bs)))
-      (highest_at highest position (min (places_of at len - position) (suc (length bs))))
+      ≡ memory_at s (position + min (place_count at len - position) (suc (length bs)))
+      (highest_at highest position (min (place_count at len - position) (suc (length bs))))
       ((written + suc (length bs)) % 2 ^ 32)) [
         | true ↦ λ less. let p : position + 1 + min rest (length bs)
-            ≡ position + min (places_of at len - position) (suc (length bs)) = grind (arith, nat_tests, less) in
+            ≡ position + min (place_count at len - position) (suc (length bs)) = grind (arith, nat_tests, less) in
             let h : highest_at (max highest (position + 1)) (position + 1) (min rest (length bs))
-            ≡ highest_at highest position (min (places_of at len - position) (suc (length bs))) =
+            ≡ highest_at highest position (min (place_count at len - position) (suc (length bs))) =
             grind (arith, nat_tests, less) in
             rw (put_place position highest written b (grind (arith, nat_tests, less)))
             (puts_places bs (position + 1) (max highest (position + 1)) ((written + 1) % 2 ^ 32) (omega arith)
             ∙ memory_same s _ _ _ _ _ _ p h w)
         | false ↦ λ past.
-            let m : min (places_of at len - position) (suc (length bs)) ≡ 0 = grind (arith, nat_tests, past) in
+            let m : min (place_count at len - position) (suc (length bs)) ≡ 0 = grind (arith, nat_tests, past) in
             let p : position + 0 ≡ position = omega arith in
             puts_past (b ∷ bs) position highest written (grind (arith, nat_tests, past)) fits ∙ rw (m, p) refl
       ] refl
 
 pub memory_puts : (s : Stream) (at len : ℕ) (wide : Bool) (bs : List ℕ) → s.kind ≡ kinds.Memory at len wide
     → writable s ≡ true → s.written < 2 ^ 32
-    → after_puts s bs ≡ memory_at s (s.position + min (places_of at len - s.position) (length bs))
-    (highest_at s.highest s.position (min (places_of at len - s.position) (length bs)))
+    → after_puts s bs ≡ memory_at s (s.position + min (place_count at len - s.position) (length bs))
+    (highest_at s.highest s.position (min (place_count at len - s.position) (length bs)))
     ((s.written + length bs) % 2 ^ 32)
 memory_puts s at len wide bs is on fits = puts_places s at len wide is on bs s.position s.highest s.written fits
 

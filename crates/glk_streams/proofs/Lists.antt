@@ -5,7 +5,7 @@ use Rattle.std.proofs.lemmas.Grind.{common_steps}
 use Rattle.std.proofs.lemmas.List.{append-nil}
 use Rattle.std.specs.List.{filter, remove}
 use Rattle.glk_objects.specs.Objects as objects
-use Rattle.glk_objects.specs.Objects.{IsAbove}
+use Rattle.glk_objects.specs.Objects.{IsAboveAll}
 use Rattle.glk_objects.proofs.Places as found
 use Rattle.glk_objects.proofs.Rising.{rises_end, rises_set, rises_without, rises_filter}
 use Rattle.glk_streams.specs.declared.kinds.Stream.{Stream}
@@ -50,14 +50,14 @@ sound_set ss i new sound h is same = record {
   each = each_set ss i new sound.each is;
 }
 
-pub sound_remove : (ss : List Stream) (id : ℕ) → AreSound ss → objects.place id_of ss id < length ss
-    → AreSound (remove ss (objects.place id_of ss id))
+pub sound_remove : (ss : List Stream) (id : ℕ) → AreSound ss → objects.object_place id_of ss id < length ss
+    → AreSound (remove ss (objects.object_place id_of ss id))
 sound_remove ss id sound h = record {
   rising = rw (found.remove_at_place id_of ss id h) (rises_without id_of ss id sound.rising);
-  each = each_remove ss (objects.place id_of ss id) sound.each;
+  each = each_remove ss (objects.object_place id_of ss id) sound.each;
 }
 
-pub sound_end : (ss : List Stream) (new : Stream) → AreSound ss → IsAbove id_of ss new.id → IsSoundStream new
+pub sound_end : (ss : List Stream) (new : Stream) → AreSound ss → IsAboveAll id_of ss new.id → IsSoundStream new
     → AreSound (ss ++ new ∷ [])
 sound_end ss new sound above is = record {
   rising = rises_end id_of ss new sound.rising above;
@@ -70,7 +70,7 @@ sound_filter test ss sound = record {
   each = each_filter test ss sound.each;
 }
 
-pub rising_of : (ss : List Stream) → AreSound ss → objects.Rises id_of ss
+pub rising_of : (ss : List Stream) → AreSound ss → objects.AreRising id_of ss
 rising_of ss sound = sound.rising
 
 pub ruleset places = (found.places, sound_at, sound_set, sound_remove, rising_of)

@@ -9,19 +9,19 @@ use Rattle.std.proofs.lemmas.Slice.{drop-append-drop}
 use Rattle.std.proofs.Math.Seq.{take-append_seam, get_or-append_seam}
 use Rattle.gx_words.specs.Numbers.{word, bytes_of_word, spliced}
 use Rattle.glk_text.specs.Characters.{latin_of}
-use Rattle.glk_text.specs.Utf8.{as_scalar, written, read}
+use Rattle.glk_text.specs.Utf8.{as_scalar, utf8_bytes, read}
 use Rattle.glk_text.proofs.Reading.{read-written}
 use Rattle.glk_streams.specs.declared.kinds.FileForm.{FileForm}
 use Rattle.glk_streams.specs.declared.kinds.FileForm.TheVariants as forms
 use Rattle.glk_streams.specs.declared.kinds.StreamKind.{StreamKind}
 use Rattle.glk_streams.specs.declared.kinds.StreamKind.TheVariants as kinds
 use Rattle.glk_streams.specs.declared.kinds.Stream.{Stream}
-use Rattle.glk_streams.specs.Constants.{largest, from_start}
-use Rattle.glk_streams.specs.Files.{bytes_in, byte_at, positions_in, read_in}
-use Rattle.glk_streams.specs.Stream.{readable, writable, after_put, after_puts, next_of, after_get, moved, clamped}
-use Rattle.glk_streams.specs.Stream.{end_of}
+use Rattle.glk_streams.specs.Constants.{largest, seek_start}
+use Rattle.glk_streams.specs.Files.{bytes_of_char, byte_at, positions_in, read_in}
+use Rattle.glk_streams.specs.Stream.{readable, writable, after_put, after_puts, read_next, after_get, positioned, clamped}
+use Rattle.glk_streams.specs.Stream.{end_position}
 use Rattle.glk_streams.specs.Sound.{IsSoundStream}
-use Rattle.glk_streams.specs.Laws.{kept_in, all_bytes, AreWords, got, ReadsBack}
+use Rattle.glk_streams.specs.Laws.{kept_in, all_bytes, AreWords, got, FileReadsBack}
 use Rattle.glk_streams.proofs.Contents.{length_spliced}
 use Rattle.glk_streams.proofs.Sounds.{sound_put, there_in}
 
@@ -48,8 +48,8 @@ spliced_more m put bs p there =
 
 -- the position behind a character stands behind its bytes
 byte_behind : (form : FileForm) (position c : ℕ)
-    → byte_at form (position + positions_in form (length (bytes_in form c)))
-    ≡ byte_at form position + length (bytes_in form c)
+    → byte_at form (position + positions_in form (length (bytes_of_char form c)))
+    ≡ byte_at form position + length (bytes_of_char form c)
 byte_behind forms.Latin position c = refl
 byte_behind forms.Wide position c = omega arith
 byte_behind forms.Utf8 position c = refl
@@ -60,13 +60,13 @@ file_at s name form content position written =
     record s { kind = kinds.File name content form; position = position; written = written }
 
 put_one : (s : Stream) (name : List ℕ) (form : FileForm) (content : List ℕ) (position written c : ℕ) → writable s ≡ true
-    → byte_at form position + length (bytes_in form c) ≤ largest
+    → byte_at form position + length (bytes_of_char form c) ≤ largest
     → after_put (file_at s name form content position written) c
-    ≡ file_at s name form (spliced content (byte_at form position) (bytes_in form c))
-    (position + positions_in form (length (bytes_in form c))) ((written + 1) % 2 ^ 32)
+    ≡ file_at s name form (spliced content (byte_at form position) (bytes_of_char form c))
+    (position + positions_in form (length (bytes_of_char form c))) ((written + 1) % 2 ^ 32)
 unfolding after_put
 put_one s name form content position written c on room =
-    let there : nat_le (byte_at form position + length (bytes_in form c)) largest ≡ true =
+    let there : nat_le (byte_at form position + length (bytes_of_char form c)) largest ≡ true =
     grind (arith, nat_tests, room) in
     rw (on, there) refl
 
@@ -85,7 +85,7 @@ puts_all s name form content position written [] on there room =
     let same : spliced content (byte_at form position) [] ≡ content = grind (arith, common_steps) in
     record { kind = rw same refl; mode = refl }
 puts_all s name form content position written (c ∷ cs) on there room =
-    let first = bytes_in form c in
+    let first = bytes_of_char form c in
     let rest = all_bytes form cs in
     let place = byte_at form position in
     let behind = byte_behind form position c in
@@ -119,8 +119,8 @@ word_here out rest c small =
     rw (b0, b1, b2, b3) (omega (arith, small))
 
 read_here : (form : FileForm) (out rest : List ℕ) (position c : ℕ) → length out ≡ byte_at form position → c < 2 ^ 32
-    → read_in form (out ++ (bytes_in form c ++ rest)) position
-    ≡ Some (kept_in form c, position + positions_in form (length (bytes_in form c)))
+    → read_in form (out ++ (bytes_of_char form c ++ rest)) position
+    ≡ Some (kept_in form c, position + positions_in form (length (bytes_of_char form c)))
 read_here forms.Latin out rest position c here small =
     let inside : nat_lt position (length (out ++ (latin_of c ∷ rest))) ≡ true =
     grind (arith, nat_tests, here, length-append out (latin_of c ∷ rest)) in
@@ -136,17 +136,17 @@ read_here forms.Wide out rest position c here small =
     ap (λ (n : ℕ). word (out ++ (bytes_of_word c ++ rest)) n) (sym here) ∙ word_here out rest c small in
     rw (inside, it) refl
 read_here forms.Utf8 out rest position c here small =
-    ap (λ (n : ℕ). read (out ++ (written c ++ rest)) n) (sym here)
-    ∙ ap (λ (x : List ℕ). read x (length out)) (sym (append_assoc out (written c) rest))
+    ap (λ (n : ℕ). read (out ++ (utf8_bytes c ++ rest)) n) (sym here)
+    ∙ ap (λ (x : List ℕ). read x (length out)) (sym (append_assoc out (utf8_bytes c) rest))
     ∙ read-written out c rest
     ∙ ap (λ (n : ℕ). Some (as_scalar c, n))
-    (length-append out (written c) ∙ ap (λ (n : ℕ). n + length (written c)) here)
+    (length-append out (utf8_bytes c) ∙ ap (λ (n : ℕ). n + length (utf8_bytes c)) here)
 
 next_there : (s : Stream) (name : List ℕ) (form : FileForm) (out rest : List ℕ) (c : ℕ)
-    → s.kind ≡ kinds.File name (out ++ (bytes_in form c ++ rest)) form → readable s ≡ true
+    → s.kind ≡ kinds.File name (out ++ (bytes_of_char form c ++ rest)) form → readable s ≡ true
     → length out ≡ byte_at form s.position → c < 2 ^ 32
-    → next_of s 0 ≡ Some (kept_in form c, s.position + positions_in form (length (bytes_in form c)))
-unfolding next_of
+    → read_next s 0 ≡ Some (kept_in form c, s.position + positions_in form (length (bytes_of_char form c)))
+unfolding read_next
 next_there s name form out rest c is on here small = rw (on, is) (read_here form out rest s.position c here small)
 
 gets_all : (cs : List ℕ) (s : Stream) (name : List ℕ) (form : FileForm) (out rest : List ℕ)
@@ -155,7 +155,7 @@ gets_all : (cs : List ℕ) (s : Stream) (name : List ℕ) (form : FileForm) (out
 unfolding got
 gets_all [] s name form out rest is on here small = refl
 gets_all (c ∷ cs) s name form out rest is on here small =
-    let first = bytes_in form c in
+    let first = bytes_of_char form c in
     let more = all_bytes form cs in
     let kind : s.kind ≡ kinds.File name (out ++ (first ++ (more ++ rest))) form =
     is ∙ ap (λ (x : List ℕ). kinds.File name (out ++ x) form) (append_assoc first more rest) in
@@ -176,15 +176,15 @@ sound_puts s [] sound = sound
 sound_puts s (c ∷ cs) sound = sound_puts (after_put s c) cs (sound_put s c sound)
 
 -- setting it comes to a position up to the end
-moves_back : (s : Stream) (position : ℕ) → position ≤ end_of s → position < 2 ^ 31
-    → moved s position from_start ≡ record s { position = position }
-unfolding moved
+moves_back : (s : Stream) (position : ℕ) → position ≤ end_position s → position < 2 ^ 31
+    → positioned s position seek_start ≡ record s { position = position }
+unfolding positioned
 moves_back s position within small =
-    let e : clamped 0 position (end_of s) ≡ position = grind (arith, nat_tests, within, small) in
+    let e : clamped 0 position (end_position s) ≡ position = grind (arith, nat_tests, within, small) in
     ap (λ (n : ℕ). record s { position = n }) e
 
 end_from : (s : Stream) (name content : List ℕ) (form : FileForm) → s.kind ≡ kinds.File name content form
-    → end_of s ≡ positions_in form (length content)
+    → end_position s ≡ positions_in form (length content)
 end_from s name content form is = rw is refl
 
 positions_more : (form : FileForm) (less more : ℕ) → less ≤ more → positions_in form less ≤ positions_in form more
@@ -197,7 +197,7 @@ position_small forms.Latin position le = omega arith
 position_small forms.Wide position le = omega arith
 position_small forms.Utf8 position le = omega arith
 
-pub reads_back : ReadsBack
+pub reads_back : FileReadsBack
 reads_back s name content form cs has words =
     let place = byte_at form s.position in
     let bytes = all_bytes form cs in
@@ -213,7 +213,7 @@ reads_back s name content form cs has words =
     omega (arith, length_spliced content bytes place there) in
     let grown = positions_more form (length content) (length (spliced content place bytes)) longer in
     let end = end_from after name (spliced content place bytes) form put.kind in
-    let within : s.position ≤ end_of after = omega (arith, end, grown, position) in
+    let within : s.position ≤ end_position after = omega (arith, end, grown, position) in
     let back = moves_back after s.position within (position_small form s.position (omega (arith, has.room))) in
     let on : readable (record after { position = s.position }) ≡ true = rw put.mode has.reads in
     let size : length (take place content) ≡ place = grind (arith, common_steps, there) in

@@ -8,8 +8,8 @@ use Rattle.glk_streams.specs.declared.kinds.StreamKind.{StreamKind}
 use Rattle.glk_streams.specs.declared.kinds.StreamKind.TheVariants as kinds
 use Rattle.glk_streams.specs.declared.kinds.Stream.{Stream}
 use Rattle.glk_streams.specs.Constants.{write_mode, largest}
-use Rattle.glk_streams.specs.Files.{bytes_in, byte_at, positions_in, with_bytes, taken}
-use Rattle.glk_streams.specs.Stream.{writable, places_of, put_in, after_put, end_in, end_of, window_in}
+use Rattle.glk_streams.specs.Files.{bytes_of_char, byte_at, positions_in, with_bytes, bytes_put}
+use Rattle.glk_streams.specs.Stream.{writable, place_count, put_in, after_put, end_in, end_position, window_in}
 use Rattle.glk_streams.specs.Sound.{IsSoundKind, IsSoundStream}
 use Rattle.glk_streams.proofs.Contents.{length_spliced}
 
@@ -19,7 +19,7 @@ put_whole : (content bytes : List ℕ) (place : ℕ) → length content ≤ larg
 put_whole content bytes place whole there = grind (arith, nat_tests, length_spliced)
 
 put_end : (form : FileForm) (content bytes : List ℕ) (position : ℕ) → position ≤ positions_in form (length content)
-    → position + positions_in form (taken (byte_at form position) bytes) ≤ positions_in form
+    → position + positions_in form (bytes_put (byte_at form position) bytes) ≤ positions_in form
     (length (with_bytes content (byte_at form position) bytes))
 put_end forms.Latin content bytes position there = grind (arith, nat_tests, length_spliced)
 put_end forms.Wide content bytes position there = grind (arith, nat_tests, length_spliced)
@@ -40,21 +40,21 @@ put_kind : (k : StreamKind) (s : Stream) (c : ℕ) → IsSoundKind k → s.posit
 put_kind (kinds.Window win) s c kind position = record { kind = kind; position = position }
 put_kind (kinds.Memory at len wide) s c kind position =
     let counted : Stream = record s { kind = kinds.Memory at len wide; written = (s.written + 1) % 2 ^ 32 } in
-    elim (nat_lt s.position (places_of at len)) as
-    (λ b. nat_lt s.position (places_of at len) ≡ b
+    elim (nat_lt s.position (place_count at len)) as
+    (λ b. nat_lt s.position (place_count at len) ≡ b
     → IsSoundStream (if b then record counted {
       position = s.position + 1;
       highest = max s.highest (s.position + 1);
     } else counted)) [
       | true ↦ λ is. record {
         kind = tt;
-        position = memory_end s.position s.highest (places_of at len) s.mode (grind (arith, nat_tests, is));
+        position = memory_end s.position s.highest (place_count at len) s.mode (grind (arith, nat_tests, is));
       }
       | false ↦ λ is. record { kind = tt; position = position }
     ] refl
 put_kind (kinds.File name content form) s c kind position = record {
-  kind = put_whole content (bytes_in form c) (byte_at form s.position) kind (there_in form content s.position position);
-  position = put_end form content (bytes_in form c) s.position position;
+  kind = put_whole content (bytes_of_char form c) (byte_at form s.position) kind (there_in form content s.position position);
+  position = put_end form content (bytes_of_char form c) s.position position;
 }
 
 pub sound_put : (s : Stream) (c : ℕ) → IsSoundStream s → IsSoundStream (after_put s c)
@@ -67,11 +67,11 @@ sound_put s c sound =
     ]
 
 -- and where the position alone moves
-pub sound_get : (s : Stream) (position read : ℕ) → IsSoundStream s → position ≤ end_of s
+pub sound_get : (s : Stream) (position read : ℕ) → IsSoundStream s → position ≤ end_position s
     → IsSoundStream (record s { position = position; read = read })
 sound_get s position read sound within = record { kind = sound.kind; position = within }
 
-pub sound_move : (s : Stream) (position : ℕ) → IsSoundStream s → position ≤ end_of s
+pub sound_move : (s : Stream) (position : ℕ) → IsSoundStream s → position ≤ end_position s
     → IsSoundStream (record s { position = position })
 sound_move s position sound within = record { kind = sound.kind; position = within }
 

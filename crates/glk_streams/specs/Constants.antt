@@ -17,14 +17,14 @@ abbrev pub write_append_mode : ℕ
 write_append_mode = 0x05
 
 -- where a position is counted from ("Stream Positions"): seekmode_Start, seekmode_Current, seekmode_End
-abbrev pub from_start : ℕ
-from_start = 0
+abbrev pub seek_start : ℕ
+seek_start = 0
 
-abbrev pub from_current : ℕ
-from_current = 1
+abbrev pub seek_current : ℕ
+seek_current = 1
 
-abbrev pub from_end : ℕ
-from_end = 2
+abbrev pub seek_end : ℕ
+seek_end = 2
 
 -- the most bytes that a file holds, which the standard leaves open
 abbrev pub largest : ℕ

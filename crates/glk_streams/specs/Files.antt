@@ -3,16 +3,16 @@ use Rattle.std.specs.Prelude.{ℕ, ◌+◌, ◌*◌, ◌/◌, nat_le, nat_lt, if
 use Rattle.std.specs.Prelude.{Option, Some, None}
 use Rattle.gx_words.specs.Numbers.{byte, word, bytes_of_word, spliced}
 use Rattle.glk_text.specs.Characters.{latin_of}
-use Rattle.glk_text.specs.Utf8.{written, read}
+use Rattle.glk_text.specs.Utf8.{utf8_bytes, read}
 use Rattle.glk_streams.specs.declared.kinds.FileForm.{FileForm}
 use Rattle.glk_streams.specs.declared.kinds.FileForm.TheVariants as forms
 use Rattle.glk_streams.specs.Constants.{largest}
 
 -- the bytes of a character
-abbrev pub bytes_in : FileForm → ℕ → List ℕ
-bytes_in forms.Latin c = latin_of c ∷ []
-bytes_in forms.Wide c = bytes_of_word c
-bytes_in forms.Utf8 c = written c
+abbrev pub bytes_of_char : FileForm → ℕ → List ℕ
+bytes_of_char forms.Latin c = latin_of c ∷ []
+bytes_of_char forms.Wide c = bytes_of_word c
+bytes_of_char forms.Utf8 c = utf8_bytes c
 
 -- the byte where a position stands: positions count characters, in UTF-8 bytes
 abbrev pub byte_at : FileForm → ℕ → ℕ
@@ -35,8 +35,8 @@ abbrev pub with_bytes : List ℕ → ℕ → List ℕ → List ℕ
 with_bytes content place bytes = if has_room place bytes then spliced content place bytes else content
 
 -- how many bytes were put
-abbrev pub taken : ℕ → List ℕ → ℕ
-taken place bytes = if has_room place bytes then length bytes else 0
+abbrev pub bytes_put : ℕ → List ℕ → ℕ
+bytes_put place bytes = if has_room place bytes then length bytes else 0
 
 -- the character at a position and the position behind it, none at the end
 abbrev pub read_in : FileForm → List ℕ → ℕ → Option (ℕ × ℕ)

@@ -7,9 +7,9 @@ use Rattle.glk_streams.specs.declared.kinds.FileForm.{FileForm}
 use Rattle.glk_streams.specs.declared.kinds.FileForm.TheVariants as forms
 use Rattle.glk_streams.specs.declared.kinds.StreamKind.TheVariants as kinds
 use Rattle.glk_streams.specs.declared.kinds.Stream.{Stream}
-use Rattle.glk_streams.specs.Constants.{largest, from_start}
-use Rattle.glk_streams.specs.Files.{bytes_in, byte_at}
-use Rattle.glk_streams.specs.Stream.{readable, writable, after_puts, next_of, after_get, moved}
+use Rattle.glk_streams.specs.Constants.{largest, seek_start}
+use Rattle.glk_streams.specs.Files.{bytes_of_char, byte_at}
+use Rattle.glk_streams.specs.Stream.{readable, writable, after_puts, read_next, after_get, positioned}
 use Rattle.glk_streams.specs.Sound.{IsSoundStream}
 
 -- the character that a form keeps: in a byte one above FF is a question mark, in UTF-8 one that is no scalar value
@@ -21,7 +21,7 @@ kept_in forms.Utf8 c = as_scalar c
 -- the bytes of characters, one behind the other
 abbrev pub all_bytes : FileForm → List ℕ → List ℕ
 all_bytes form [] = []
-all_bytes form (c ∷ cs) = bytes_in form c ++ all_bytes form cs
+all_bytes form (c ∷ cs) = bytes_of_char form c ++ all_bytes form cs
 
 -- characters are numbers of 32 bits
 abbrev pub AreWords : List ℕ → Type 0
@@ -35,10 +35,10 @@ got_in s (Some got) more = got.0 ∷ more (after_get s (Some got))
 
 unfoldable pub got : ℕ → Stream → List ℕ
 got zero s = []
-got (suc count) s = got_in s (next_of s 0) (got count)
+got (suc count) s = got_in s (read_next s 0) (got count)
 
 -- a file that is open for reading and writing, with room for the bytes of characters from its position on
-pub record HasRoom (s : Stream) (name content : List ℕ) (form : FileForm) (cs : List ℕ) : Type 0 where
+pub record HasRoomFor (s : Stream) (name content : List ℕ) (form : FileForm) (cs : List ℕ) : Type 0 where
   pub file : s.kind ≡ kinds.File name content form
   pub writes : writable s ≡ true
   pub reads : readable s ≡ true
@@ -46,7 +46,8 @@ pub record HasRoom (s : Stream) (name content : List ℕ) (form : FileForm) (cs 
   pub room : byte_at form s.position + length (all_bytes form cs) ≤ largest
 
 -- What is put to a file is read back, in each of its forms, once the position is set to where it was.
-abbrev pub ReadsBack : Type 0
-ReadsBack =
-    (s : Stream) (name content : List ℕ) (form : FileForm) (cs : List ℕ) → HasRoom s name content form cs → AreWords cs
-    → got (length cs) (moved (after_puts s cs) s.position from_start) ≡ map (kept_in form) cs
+abbrev pub FileReadsBack : Type 0
+FileReadsBack =
+    (s : Stream) (name content : List ℕ) (form : FileForm) (cs : List ℕ) → HasRoomFor s name content form cs
+    → AreWords cs
+    → got (length cs) (positioned (after_puts s cs) s.position seek_start) ≡ map (kept_in form) cs

@@ -7,8 +7,9 @@ use Rattle.glk_streams.specs.declared.kinds.StreamKind.TheVariants as kinds
 use Rattle.glk_streams.specs.declared.kinds.Stream.{Stream}
 use Rattle.glk_streams.specs.declared.kinds.Places.{Places}
 use Rattle.glk_streams.specs.Constants.{write_mode, read_mode, read_write_mode, write_append_mode, largest}
-use Rattle.glk_streams.specs.Constants.{from_start, from_current, from_end}
-use Rattle.glk_streams.specs.Files.{bytes_in, byte_at, positions_in, has_room, with_bytes, taken, read_in, saved_size}
+use Rattle.glk_streams.specs.Constants.{seek_start, seek_current, seek_end}
+use Rattle.glk_streams.specs.Files.{bytes_of_char, byte_at, positions_in, has_room, with_bytes, bytes_put, read_in}
+use Rattle.glk_streams.specs.Files.{saved_size}
 
 abbrev pub readable : Stream → Bool
 readable s = s.mode == read_mode || s.mode == read_write_mode
@@ -17,24 +18,24 @@ abbrev pub writable : Stream → Bool
 writable s = s.mode == write_mode || s.mode == read_write_mode || s.mode == write_append_mode
 
 -- the modes in which a kind of stream may be open
-abbrev pub allows : StreamKind → ℕ → Bool
-allows (kinds.Window win) mode = mode == write_mode
-allows (kinds.Memory at len wide) mode = mode == write_mode || mode == read_mode || mode == read_write_mode
-allows (kinds.File name content form) mode =
+abbrev pub allows_mode : StreamKind → ℕ → Bool
+allows_mode (kinds.Window win) mode = mode == write_mode
+allows_mode (kinds.Memory at len wide) mode = mode == write_mode || mode == read_mode || mode == read_write_mode
+allows_mode (kinds.File name content form) mode =
     mode == write_mode || mode == read_mode || mode == read_write_mode || mode == write_append_mode
 
 -- a buffer at 0 has no places
-abbrev pub places_of : ℕ → ℕ → ℕ
-places_of at len = if at == 0 then 0 else len
+abbrev pub place_count : ℕ → ℕ → ℕ
+place_count at len = if at == 0 then 0 else len
 
 -- the position behind the last character
 abbrev pub end_in : StreamKind → ℕ → ℕ → ℕ
 end_in (kinds.Window win) mode highest = 0
-end_in (kinds.Memory at len wide) mode highest = if mode == write_mode then highest else places_of at len
+end_in (kinds.Memory at len wide) mode highest = if mode == write_mode then highest else place_count at len
 end_in (kinds.File name content form) mode highest = positions_in form (length content)
 
-abbrev pub end_of : Stream → ℕ
-end_of s = end_in s.kind s.mode s.highest
+abbrev pub end_position : Stream → ℕ
+end_position s = end_in s.kind s.mode s.highest
 
 -- a stream as it is opened
 unfoldable pub opened : ℕ → StreamKind → ℕ → ℕ → Stream
@@ -54,15 +55,15 @@ opened id kind mode rock = record {
 abbrev pub put_in : StreamKind → Stream → ℕ → Stream
 put_in (kinds.Window win) s c = s
 put_in (kinds.Memory at len wide) s c =
-    if nat_lt s.position (places_of at len)
+    if nat_lt s.position (place_count at len)
     then record s { position = s.position + 1; highest = max s.highest (s.position + 1) }
     else s
 put_in (kinds.File name content form) s c =
-    let bytes = bytes_in form c in
+    let bytes = bytes_of_char form c in
     let place = byte_at form s.position in
     record s {
       kind = kinds.File name (with_bytes content place bytes) form;
-      position = s.position + positions_in form (taken place bytes);
+      position = s.position + positions_in form (bytes_put place bytes);
     }
 
 -- a character is counted and put, unless the stream isn't open for writing
@@ -92,7 +93,7 @@ abbrev pub lengthens : StreamKind → Stream → ℕ → Bool
 lengthens (kinds.Window win) s c = false
 lengthens (kinds.Memory at len wide) s c = false
 lengthens (kinds.File name content form) s c =
-    let bytes = bytes_in form c in
+    let bytes = bytes_of_char form c in
     let place = byte_at form s.position in
     writable s && has_room place bytes && nat_lt (length content) (place + length bytes)
 
@@ -100,16 +101,16 @@ lengthens (kinds.File name content form) s c =
 abbrev pub next_in : StreamKind → Stream → ℕ → Option (ℕ × ℕ)
 next_in (kinds.Window win) s found = None
 next_in (kinds.Memory at len wide) s found =
-    if nat_lt s.position (places_of at len) then Some (found, s.position + 1) else None
+    if nat_lt s.position (place_count at len) then Some (found, s.position + 1) else None
 next_in (kinds.File name content form) s found = read_in form content s.position
 
 -- the same, and none where the stream isn't open for reading
-unfoldable pub next_of : Stream → ℕ → Option (ℕ × ℕ)
-next_of s found = if readable s then next_in s.kind s found else None
+unfoldable pub read_next : Stream → ℕ → Option (ℕ × ℕ)
+read_next s found = if readable s then next_in s.kind s found else None
 
 -- the same from another position
 abbrev pub next_from : Stream → ℕ → ℕ → Option (ℕ × ℕ)
-next_from s position found = next_of (record s { position = position }) found
+next_from s position found = read_next (record s { position = position }) found
 
 -- what is left of a file in Latin-1 that is open for reading: its bytes are the characters
 abbrev pub latin_rest_in : StreamKind → ℕ → Option (List ℕ)
@@ -141,11 +142,11 @@ clamped base by end =
     if nat_lt by (2 ^ 31) then min (base + by) end else min (base - (2 ^ 32 - by)) end
 
 -- the position is set (Glk 0.7.5, "Stream Positions"); another seek does nothing
-unfoldable pub moved : Stream → ℕ → ℕ → Stream
-moved s pos seek =
-    if seek == from_start then record s { position = clamped 0 pos (end_of s) } else
-    if seek == from_current then record s { position = clamped s.position pos (end_of s) } else
-    if seek == from_end then record s { position = clamped (end_of s) pos (end_of s) } else
+unfoldable pub positioned : Stream → ℕ → ℕ → Stream
+positioned s pos seek =
+    if seek == seek_start then record s { position = clamped 0 pos (end_position s) } else
+    if seek == seek_current then record s { position = clamped s.position pos (end_position s) } else
+    if seek == seek_end then record s { position = clamped (end_position s) pos (end_position s) } else
     s
 
 -- the places of memory that so many characters use next
@@ -153,16 +154,16 @@ abbrev pub places_in : StreamKind → ℕ → ℕ → Places
 places_in (kinds.Window win) position count = record { at = 0; width = 1; count = 0 }
 places_in (kinds.Memory at len wide) position count =
     let width = if wide then 4 else 1 in
-    record { at = at + position * width; width = width; count = min count (places_of at len - position) }
+    record { at = at + position * width; width = width; count = min count (place_count at len - position) }
 places_in (kinds.File name content form) position count = record { at = 0; width = 1; count = 0 }
 
-unfoldable pub places : Stream → ℕ → Places
-places s count = places_in s.kind s.position count
+unfoldable pub next_places : Stream → ℕ → Places
+next_places s count = places_in s.kind s.position count
 
 -- there is room for the bytes of a save, put as characters
 abbrev pub fits_in : StreamKind → ℕ → List ℕ → Bool
 fits_in (kinds.Window win) position bytes = false
-fits_in (kinds.Memory at len wide) position bytes = nat_le (length bytes) (places_of at len - position)
+fits_in (kinds.Memory at len wide) position bytes = nat_le (length bytes) (place_count at len - position)
 fits_in (kinds.File name content form) position bytes =
     nat_le (byte_at form position + saved_size form bytes) largest
 

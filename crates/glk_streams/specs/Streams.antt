@@ -32,8 +32,8 @@ stream streams id = objects.at id_of no_stream streams id
 abbrev pub with_stream : List Stream → Stream → List Stream
 with_stream streams new = objects.with id_of streams new
 
-abbrev pub without : List Stream → ℕ → List Stream
-without streams id = objects.without id_of streams id
+abbrev pub all_but : List Stream → ℕ → List Stream
+all_but streams id = objects.all_but id_of streams id
 
 -- the least identifier above a number, 0 where there is none
 abbrev pub next : List Stream → ℕ → ℕ

@@ -1,7 +1,7 @@
 //! A file's content: characters by its form at a position (Glk 0.7.5, "File Streams").
-ghost use Rattle.std.specs.Prelude.{◌≡◌, ◌≤◌, ◌<◌, ◌+◌, ◌*◌, ◌^◌, ◌∷◌, [], length, OnErr, OnOk, IfOk, IfSome, IsTrue};
-ghost use Rattle.std.specs.Prelude.{nat_lt};
-ghost use Rattle.glk_streams.specs.Files.{bytes_in, byte_at, positions_in, has_room, with_bytes, taken, read_in};
+ghost use Rattle.std.specs.Prelude.{◌≡◌, ◌≤◌, ◌<◌, ◌+◌, ◌^◌, length, OnErr, OnOk, IfOk, IfSome, IsTrue};
+ghost use Rattle.glk_streams.specs.Files.{bytes_of_char, byte_at, positions_in, has_room, with_bytes, bytes_put};
+ghost use Rattle.glk_streams.specs.Files.{read_in};
 ghost use Rattle.glk_streams.specs.Files.{saved_size};
 
 use crate::FileForm;
@@ -38,7 +38,7 @@ fn put_bytes(content: &mut Bytes, place: usize, bytes: &[u8]) -> Result<u32, All
     requires whole { length content.old ≤ LARGEST }
     requires few { length bytes.now ≤ 4 }
     ensures ok { OnOk result (content.new ≡ with_bytes content.old place bytes.now) }
-    ensures count { IfOk result (λ count. count ≡ taken place bytes.now) }
+    ensures count { IfOk result (λ count. count ≡ bytes_put place bytes.now) }
     ensures err { OnErr result (content.new ≡ content.old) }
     ensures room { OnErr result (IsTrue (has_room place bytes.now)) }
     ensures memory { OnErr result (length content.old < place + length bytes.now) }
@@ -54,11 +54,11 @@ fn put_bytes(content: &mut Bytes, place: usize, bytes: &[u8]) -> Result<u32, All
 pub fn put_in(content: &mut Bytes, form: FileForm, position: u32, c: u32) -> Result<u32, AllocError>
     requires there { byte_at form position ≤ length content.old }
     requires whole { length content.old ≤ LARGEST }
-    ensures ok { OnOk result (content.new ≡ with_bytes content.old (byte_at form position) (bytes_in form c)) }
-    ensures count { IfOk result (λ count. count ≡ taken (byte_at form position) (bytes_in form c)) }
+    ensures ok { OnOk result (content.new ≡ with_bytes content.old (byte_at form position) (bytes_of_char form c)) }
+    ensures count { IfOk result (λ count. count ≡ bytes_put (byte_at form position) (bytes_of_char form c)) }
     ensures err { OnErr result (content.new ≡ content.old) }
-    ensures room { OnErr result (IsTrue (has_room (byte_at form position) (bytes_in form c))) }
-    ensures memory { OnErr result (length content.old < byte_at form position + length (bytes_in form c)) }
+    ensures room { OnErr result (IsTrue (has_room (byte_at form position) (bytes_of_char form c))) }
+    ensures memory { OnErr result (length content.old < byte_at form position + length (bytes_of_char form c)) }
 {
     let place = byte_at(form, position);
     match form {

@@ -1,10 +1,11 @@
 //! One stream: a character is put, or got, or its position moves (Glk 0.7.5, "Streams").
 ghost use Rattle.std.specs.Prelude.{ℕ, ◌≡◌, ◌≢◌, ◌≤◌, ◌<◌, ◌+◌, ◌^◌, not, length, OnErr, OnOk, IfOk, IfSome};
 ghost use Rattle.std.specs.Prelude.{MatchOption, IsTrue, Some, is_some};
-ghost use Rattle.glk_streams.specs.Stream.{readable, writable, allows, opened, window_of, file_in, without_file};
-ghost use Rattle.glk_streams.specs.Stream.{places_of, end_of, after_put, after_puts, takes_bytes, latin_rest};
-ghost use Rattle.glk_streams.specs.Stream.{lengthens, next_of, next_from, passed, char_of, after_get, clamped, moved};
-ghost use Rattle.glk_streams.specs.Stream.{is_stored, places, fits};
+ghost use Rattle.glk_streams.specs.Stream.{readable, writable, allows_mode, opened, window_of, file_in, without_file};
+ghost use Rattle.glk_streams.specs.Stream.{place_count, end_position, after_put, after_puts, takes_bytes, latin_rest};
+ghost use Rattle.glk_streams.specs.Stream.{lengthens, read_next, next_from, passed, char_of, after_get, clamped};
+ghost use Rattle.glk_streams.specs.Stream.{positioned};
+ghost use Rattle.glk_streams.specs.Stream.{is_stored, next_places, fits};
 ghost use Rattle.glk_streams.specs.Sound.{IsSoundKind, IsSoundStream};
 
 use crate::content::{byte_at, positions_in, put_in, read_in, saved_size};
@@ -31,7 +32,7 @@ pub fn writable(stream: &Stream) -> bool
 /// A stream as it is opened.
 #[tactic(auto, unfolding(crate::specs::Stream::opened))]
 pub fn opened(id: u32, kind: StreamKind, mode: u32, rock: u32) -> Stream
-    requires mode { IsTrue (allows kind mode) }
+    requires mode { IsTrue (allows_mode kind mode) }
     requires kind { IsSoundKind kind }
     ensures value { result ≡ opened id kind mode rock }
     ensures sound { IsSoundStream result }
@@ -107,7 +108,7 @@ pub fn is_stored(stream: &Stream) -> bool
 
 /// How many places a memory stream has.
 fn places_of(at: u32, len: u32) -> u32
-    ensures { result ≡ places_of at len }
+    ensures { result ≡ place_count at len }
 {
     if at == 0 { 0 } else { len }
 }
@@ -115,7 +116,7 @@ fn places_of(at: u32, len: u32) -> u32
 /// The position behind the last character.
 pub fn end_of(stream: &Stream) -> u32
     requires { IsSoundStream stream.now }
-    ensures { result ≡ end_of stream.now }
+    ensures { result ≡ end_position stream.now }
 {
     match &stream.kind {
         StreamKind::Window(_) => 0,
@@ -179,7 +180,7 @@ pub fn put_bytes(stream: &mut Stream, bytes: &[u8]) -> Result<bool, AllocError>
     ensures other { IfOk result (λ put. IsTrue (not put) → stream.new ≡ stream.old) }
     ensures err { OnErr result (stream.new ≡ stream.old) }
     ensures memory { OnErr result (IsTrue (takes_bytes stream.old (length bytes.now))) }
-    ensures longer { OnErr result (end_of stream.old < stream.old.position + length bytes.now) }
+    ensures longer { OnErr result (end_position stream.old < stream.old.position + length bytes.now) }
     ensures some { OnErr result (0 < length bytes.now) }
     ensures sound { IsSoundStream stream.new }
     ensures id { stream.new.id ≡ stream.old.id }
@@ -219,11 +220,11 @@ pub fn put_bytes(stream: &mut Stream, bytes: &[u8]) -> Result<bool, AllocError>
 }
 
 /// The character at a position and the position behind it, None at the end; `found` stands at the place of memory.
-#[tactic(auto, unfolding(crate::specs::Stream::next_of))]
+#[tactic(auto, unfolding(crate::specs::Stream::read_next))]
 pub fn next_from(stream: &Stream, position: u32, found: u32) -> Option<(u32, u32)>
     requires { IsSoundStream stream.now }
     ensures value { result ≡ next_from stream.now position found }
-    ensures behind { IfSome result (λ got. got.1 ≤ end_of stream.now) }
+    ensures behind { IfSome result (λ got. got.1 ≤ end_position stream.now) }
 {
     if !readable(stream) {
         return None;
@@ -264,7 +265,7 @@ pub fn latin_rest(stream: &Stream) -> Option<&[u8]>
 #[tactic(auto, using(crate::proofs::Sounds::sound_get))]
 pub fn pass(stream: &mut Stream, position: u32, count: u32)
     requires sound { IsSoundStream stream.old }
-    requires within { position ≤ end_of stream.old }
+    requires within { position ≤ end_position stream.old }
     ensures new { stream.new ≡ passed stream.old position count }
     ensures sound { IsSoundStream stream.new }
     ensures id { stream.new.id ≡ stream.old.id }
@@ -277,8 +278,8 @@ pub fn pass(stream: &mut Stream, position: u32, count: u32)
 #[tactic(auto, using(crate::proofs::Sounds::sound_get))]
 pub fn get(stream: &mut Stream, found: u32) -> Option<u32>
     requires { IsSoundStream stream.old }
-    ensures value { result ≡ char_of (next_of stream.old found) }
-    ensures new { stream.new ≡ after_get stream.old (next_of stream.old found) }
+    ensures value { result ≡ char_of (read_next stream.old found) }
+    ensures new { stream.new ≡ after_get stream.old (read_next stream.old found) }
     ensures sound { IsSoundStream stream.new }
     ensures id { stream.new.id ≡ stream.old.id }
 {
@@ -301,10 +302,10 @@ fn clamped(base: u32, by: u32, end: u32) -> u32
 }
 
 /// Sets the position, counted from the start, the position or the end.
-#[tactic(auto, using(crate::proofs::Sounds::sound_move), unfolding(crate::specs::Stream::moved))]
+#[tactic(auto, using(crate::proofs::Sounds::sound_move), unfolding(crate::specs::Stream::positioned))]
 pub fn move_to(stream: &mut Stream, pos: u32, seek: u32)
     requires { IsSoundStream stream.old }
-    ensures new { stream.new ≡ moved stream.old pos seek }
+    ensures new { stream.new ≡ positioned stream.old pos seek }
     ensures sound { IsSoundStream stream.new }
     ensures id { stream.new.id ≡ stream.old.id }
 {
@@ -318,9 +319,9 @@ pub fn move_to(stream: &mut Stream, pos: u32, seek: u32)
 }
 
 /// The places of memory that so many characters use next.
-#[tactic(auto, unfolding(crate::specs::Stream::places))]
+#[tactic(auto, unfolding(crate::specs::Stream::next_places))]
 pub fn places(stream: &Stream, count: u32) -> Places
-    ensures value { result ≡ places stream.now count }
+    ensures value { result ≡ next_places stream.now count }
     ensures at { result.at < 2 ^ 40 }
     ensures width { result.width ≤ 4 }
     ensures count { result.count ≤ count }

@@ -1,10 +1,9 @@
 //! All streams, in order of creation.
-ghost use Rattle.std.specs.Prelude.{ℕ, ◌≡◌, ◌≢◌, ◌≤◌, ◌<◌, ◌+◌, ◌^◌, ◌++◌, ◌∷◌, ◌==◌, [], true, false, not, length};
-ghost use Rattle.std.specs.Prelude.{filter, map, Some, is_some, IfOk, IfSome, MatchOption, OnErr, OnOk, IsTrue};
-ghost use Rattle.std.specs.List.{list_any};
-ghost use Rattle.glk_objects.specs.Objects.{IsAbove, IsBelow, place, met_from};
+ghost use Rattle.std.specs.Prelude.{ℕ, ◌≡◌, ◌≢◌, ◌≤◌, ◌<◌, ◌+◌, ◌^◌, ◌++◌, ◌∷◌, [], true, false, not, length};
+ghost use Rattle.std.specs.Prelude.{map, Some, is_some, IfOk, IfSome, MatchOption, OnErr, OnOk, IsTrue};
+ghost use Rattle.glk_objects.specs.Objects.{IsAboveAll, IsBelowAll, object_place, met_from};
 ghost use Rattle.glk_streams.specs.Stream as one;
-ghost use Rattle.glk_streams.specs.Streams.{id_of, has, stream, with_stream, without, next, file_of, without_windows};
+ghost use Rattle.glk_streams.specs.Streams.{id_of, has, stream, with_stream, all_but, next, file_of, without_windows};
 ghost use Rattle.glk_streams.specs.Streams.{open_files};
 ghost use Rattle.glk_streams.specs.Sound.{IsSoundKind};
 ghost use Rattle.glk_streams.specs.Constants.{largest};
@@ -46,8 +45,8 @@ impl Streams {
     /// Adds a stream at its opening position.
     #[tactic(auto, using(crate::proofs::Lists::adds), unfolding(crate::specs::Stream::opened))]
     pub fn add(&mut self, id: u32, kind: StreamKind, mode: u32, rock: u32) -> Result<(), AllocError>
-        requires above { IsAbove id_of self.old id }
-        requires mode { IsTrue (one.allows kind mode) }
+        requires above { IsAboveAll id_of self.old id }
+        requires mode { IsTrue (one.allows_mode kind mode) }
         requires kind { IsSoundKind kind }
         ensures ok { OnOk result (self.new ≡ self.old ++ one.opened id kind mode rock ∷ []) }
         ensures err { OnErr result (self.new ≡ self.old) }
@@ -60,7 +59,7 @@ impl Streams {
     #[tactic(auto, using(crate::proofs::Lists::places))]
     pub fn remove(&mut self, id: u32)
         requires { IsTrue (has self.old id) }
-        ensures { self.new ≡ without self.old id }
+        ensures { self.new ≡ all_but self.old id }
     {
         let at = place(&self.items, id);
         self.items.remove(at);
@@ -94,7 +93,7 @@ impl Streams {
         ensures value { result ≡ next self.now id }
 
         // Going on from one to the next meets each stream once, in order of creation.
-        ensures each { IsBelow id_of self.now 0 → (more : ℕ)
+        ensures each { IsBelowAll id_of self.now 0 → (more : ℕ)
             → met_from id_of (length self.now + more) self.now 0 ≡ map id_of self.now }
     {
         next(&self.items, id)
@@ -121,7 +120,7 @@ impl Streams {
     #[tactic(auto, using(crate::proofs::Lists::places))]
     pub fn find(&self, id: u32) -> Option<(usize, u32)>
         ensures { MatchOption result (has self.now id ≡ false)
-            (λ found. (has self.now id ≡ true) × (found.0 ≡ place id_of self.now id)
+            (λ found. (has self.now id ≡ true) × (found.0 ≡ object_place id_of self.now id)
             × (found.1 ≡ one.window_of (stream self.now id))) }
     {
         let at = place(&self.items, id);
@@ -163,7 +162,7 @@ impl Streams {
     pub fn position(&self, id: u32) -> u32
         requires { IsTrue (has self.now id) }
         ensures value { result ≡ (stream self.now id).position }
-        ensures within { result ≤ one.end_of (stream self.now id) }
+        ensures within { result ≤ one.end_position (stream self.now id) }
     {
         self.items[place(&self.items, id)].position
     }
@@ -172,7 +171,7 @@ impl Streams {
     #[tactic(auto, using(crate::proofs::Lists::places))]
     pub fn end(&self, id: u32) -> u32
         requires { IsTrue (has self.now id) }
-        ensures { result ≡ one.end_of (stream self.now id) }
+        ensures { result ≡ one.end_position (stream self.now id) }
     {
         one::end_of(&self.items[place(&self.items, id)])
     }
@@ -181,7 +180,7 @@ impl Streams {
     #[tactic(auto, using(crate::proofs::Lists::places))]
     pub fn set_position(&mut self, id: u32, pos: u32, seek: u32)
         requires { IsTrue (has self.old id) }
-        ensures { self.new ≡ with_stream self.old (one.moved (stream self.old id) pos seek) }
+        ensures { self.new ≡ with_stream self.old (one.positioned (stream self.old id) pos seek) }
     {
         let at = place(&self.items, id);
         one::move_to(&mut self.items[at], pos, seek);
@@ -191,7 +190,7 @@ impl Streams {
     #[tactic(auto, using(crate::proofs::Lists::places))]
     pub fn places(&self, id: u32, count: u32) -> Places
         requires { IsTrue (has self.now id) }
-        ensures value { result ≡ one.places (stream self.now id) count }
+        ensures value { result ≡ one.next_places (stream self.now id) count }
         ensures at { result.at < 2 ^ 40 }
         ensures width { result.width ≤ 4 }
         ensures count { result.count ≤ count }
@@ -215,7 +214,7 @@ impl Streams {
     #[tactic(auto, using(crate::proofs::Lists::places))]
     pub fn count(&mut self, at: usize, _id: u32)
         requires there { IsTrue (has self.old _id) }
-        requires place { at ≡ place id_of self.old _id }
+        requires place { at ≡ object_place id_of self.old _id }
         requires window { one.window_of (stream self.old _id) ≢ 0 }
         ensures { (c : ℕ) → self.new ≡ with_stream self.old (one.after_put (stream self.old _id) c) }
     {
@@ -234,7 +233,7 @@ impl Streams {
         ensures err { OnErr result (self.new ≡ self.old) }
         ensures memory { OnErr result (IsTrue (one.takes_bytes (stream self.old id) (length bytes.now))) }
         ensures longer { OnErr result
-            (one.end_of (stream self.old id) < (stream self.old id).position + length bytes.now) }
+            (one.end_position (stream self.old id) < (stream self.old id).position + length bytes.now) }
         ensures some { OnErr result (0 < length bytes.now) }
     {
         let at = place(&self.items, id);
@@ -257,9 +256,9 @@ impl Streams {
     #[tactic(auto, using(crate::proofs::Lists::places))]
     pub fn get(&mut self, id: u32, found: u32) -> Option<u32>
         requires { IsTrue (has self.old id) }
-        ensures value { result ≡ one.char_of (one.next_of (stream self.old id) found) }
+        ensures value { result ≡ one.char_of (one.read_next (stream self.old id) found) }
         ensures new { self.new ≡ with_stream self.old
-            (one.after_get (stream self.old id) (one.next_of (stream self.old id) found)) }
+            (one.after_get (stream self.old id) (one.read_next (stream self.old id) found)) }
     {
         let at = place(&self.items, id);
         one::get(&mut self.items[at], found)
@@ -271,7 +270,7 @@ impl Streams {
     pub fn peek(&self, id: u32, position: u32, found: u32) -> Option<(u32, u32)>
         requires { IsTrue (has self.now id) }
         ensures value { result ≡ one.next_from (stream self.now id) position found }
-        ensures behind { IfSome result (λ got. got.1 ≤ one.end_of (stream self.now id)) }
+        ensures behind { IfSome result (λ got. got.1 ≤ one.end_position (stream self.now id)) }
     {
         one::next_from(&self.items[place(&self.items, id)], position, found)
     }
@@ -280,7 +279,7 @@ impl Streams {
     #[tactic(auto, using(crate::proofs::Lists::places))]
     pub fn pass(&mut self, id: u32, position: u32, count: u32)
         requires there { IsTrue (has self.old id) }
-        requires within { position ≤ one.end_of (stream self.old id) }
+        requires within { position ≤ one.end_position (stream self.old id) }
         ensures { self.new ≡ with_stream self.old (one.passed (stream self.old id) position count) }
     {
         let at = place(&self.items, id);

@@ -16,7 +16,7 @@ use Rattle.bstr.proofs.lemmas.PieceLemmas.{size-within}
 use Rattle.bstr.proofs.lemmas.SoundLemmas.{SpellsChar-decoded}
 use Rattle.glk_text.specs.Characters.{question_mark}
 use Rattle.glk_text.specs.Constants.{replacement}
-use Rattle.glk_text.specs.Utf8.{as_scalar, written, taken_at, read, IsWellFormed, IsReading}
+use Rattle.glk_text.specs.Utf8.{as_scalar, utf8_bytes, taken_at, read, IsWellFormed, IsReading}
 
 -- where nothing decodes, no character begins
 no_char : (bytes : List ℕ) → (decoded bytes).char ≡ None → StartsWithNoChar bytes
@@ -70,10 +70,10 @@ some_byte c = grind (arith, nat_tests)
 
 -- Whatever stands behind, what was written is read.
 pub read-written : (out : List ℕ) (v : ℕ) (rest : List ℕ)
-    → read (out ++ written v ++ rest) (length out) ≡ Some (as_scalar v, length (out ++ written v))
+    → read (out ++ utf8_bytes v ++ rest) (length out) ≡ Some (as_scalar v, length (out ++ utf8_bytes v))
 read-written out v rest =
     let c = as_scalar v in
-    let w = written v in
+    let w = utf8_bytes v in
     let here : drop (length out) (out ++ w ++ rest) ≡ w ++ rest =
     ap (drop (length out)) (append_assoc out w rest) ∙ drop-append_seam out (w ++ rest) in
     let is : decoded (drop (length out) (out ++ w ++ rest)) ≡ good c (length w) =
@@ -86,6 +86,6 @@ read-written out v rest =
     ∙ ap (λ (p : Decoded). Some (taken_at (length out) p.char p.size)) is
     ∙ ap (λ (n : ℕ). Some (c, n)) (sym (length-append out w))
 
-pub read_back : (out new : List ℕ) (v : ℕ) → new ≡ out ++ written v → (rest : List ℕ)
+pub read_back : (out new : List ℕ) (v : ℕ) → new ≡ out ++ utf8_bytes v → (rest : List ℕ)
     → read (new ++ rest) (length out) ≡ Some (as_scalar v, length new)
 read_back out new v is rest = rw is (read-written out v rest)

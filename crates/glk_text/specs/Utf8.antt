@@ -12,8 +12,8 @@ abbrev pub as_scalar : ℕ → ℕ
 as_scalar v = if scalar v then v else question_mark
 
 -- the bytes that are written for it
-abbrev pub written : ℕ → List ℕ
-written v = encode_utf8 (as_scalar v)
+abbrev pub utf8_bytes : ℕ → List ℕ
+utf8_bytes v = encode_utf8 (as_scalar v)
 
 -- what stands at a place: the character there and the place behind it, or U+FFFD for one byte
 abbrev pub taken_at : ℕ → Option ℕ → ℕ → ℕ × ℕ

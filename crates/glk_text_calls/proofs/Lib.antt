@@ -3,3 +3,4 @@ pub mod Puts
 pub mod Reading
 pub mod Saving
 pub mod Rests
+pub mod Opened

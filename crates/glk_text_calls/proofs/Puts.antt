@@ -12,16 +12,17 @@ use Rattle.glk_streams.specs.declared.kinds.StreamKind.TheVariants as kinds
 use Rattle.glk_streams.specs.Stream as one
 use Rattle.glk_streams.specs.Streams as streams
 use Rattle.glk_world.specs.World.{Scene, FlatWorld, after, on_world}
-use Rattle.glk_world.specs.Putting.{window_of, entry_of, is_text, is_plain_text, put_of, puts, put_grows, places_of}
-use Rattle.glk_world.specs.Putting.{end_of}
-use Rattle.glk_replies.specs.Parts.{IsCharWidth, replies, can_lay, laid}
+use Rattle.glk_world.specs.Putting.{window_of_stream, entry_of, is_text, is_plain_text, put_of, put_chars, put_grows, places_of}
+use Rattle.glk_world.specs.Putting.{chain_end}
+use Rattle.glk_replies.specs.Parts.{IsCharWidth, replies, can_lay, char_writes}
 use Rattle.glk_text_calls.specs.Putting.{can_put, put_all, put_grows_one}
+use Rattle.glk_replies.proofs.Counting.{count_numbers, some_numbers}
 use Rattle.glk_replies.proofs.Ram.{laid_in_ram}
 
 -- one character
 pub puts_one : (w : FlatWorld) (stream c : ℕ)
-    → after w (puts w.scene stream (c ∷ [])) ≡ after w (put_of w.scene stream c)
-unfolding puts
+    → after w (put_chars w.scene stream (c ∷ [])) ≡ after w (put_of w.scene stream c)
+unfolding put_chars
 puts_one w stream c = rw (append-nil (put_of w.scene stream c).1) refl
 
 -- the width of places
@@ -31,25 +32,25 @@ width_in (kinds.Memory at len true) position count = inr refl
 width_in (kinds.Memory at len false) position count = inl refl
 width_in (kinds.File name content form) position count = inl refl
 
-pub width_of : (s : Stream) (count : ℕ) → IsCharWidth (one.places s count).width
-unfolding one.places
+pub width_of : (s : Stream) (count : ℕ) → IsCharWidth (one.next_places s count).width
+unfolding one.next_places
 width_of s count = width_in s.kind s.position count
 
 pub places_width : (w : Scene) (stream count : ℕ) → IsCharWidth (places_of w stream count).width
 places_width w stream count =
-    elim (one.writable (streams.stream w.streams (end_of w stream))) as
-    (λ b. IsCharWidth (if b then one.places (streams.stream w.streams (end_of w stream)) count else record {
+    elim (one.writable (streams.stream w.streams (chain_end w stream))) as
+    (λ b. IsCharWidth (if b then one.next_places (streams.stream w.streams (chain_end w stream)) count else record {
       at = 0;
       width = 1;
       count = 0;
     }).width) [
-      | true ↦ width_of (streams.stream w.streams (end_of w stream)) count
+      | true ↦ width_of (streams.stream w.streams (chain_end w stream)) count
       | false ↦ inl refl
     ]
 
 pub put_in_ram : (f : FlatState) (w : Scene) (stream count : ℕ) (cs : List ℕ)
     → (places_of w stream count).count ≤ length cs → can_lay f (places_of w stream count) ≡ Ok tt
-    → AreInRam f (laid (places_of w stream count) cs)
+    → AreInRam f (char_writes (places_of w stream count) cs)
 put_in_ram f w stream count cs few ok = laid_in_ram f (places_of w stream count) cs (places_width w stream count) few ok
 
 pub some_counted : (n : ℕ) (cs : List ℕ) → 0 < n → n ≤ length cs → cs ≢ []
@@ -65,7 +66,7 @@ and_first false b h = absurd (cc)
 text_there : (w : Scene) (stream : ℕ) → is_plain_text w stream ≡ true → streams.has w.streams stream ≡ true
 text_there w stream plain =
     let a = streams.has w.streams stream in
-    let b = not (window_of w stream == 0) in
+    let b = not (window_of_stream w stream == 0) in
     and_first a b (and_first (a && b) (is_text w stream)
     (and_first (a && b && is_text w stream) ((entry_of w stream).echo == 0) plain))
 
@@ -90,3 +91,10 @@ pub text_fine : (w : FlatWorld) (f : FlatState) (stream c : ℕ) → is_plain_te
 text_fine w f stream c plain none = rw (text_put w f stream c plain none) refl
 
 pub ruleset text_rules = (text_put, text_grows, text_fine)
+
+pub ruleset puts_and_text = (put_rules, text_rules)
+
+pub ruleset string_rules = (put_rules, count_numbers, some_numbers)
+
+-- the lemmas of a buffer whose characters change case
+pub ruleset case_rules = (count_numbers, laid_in_ram)

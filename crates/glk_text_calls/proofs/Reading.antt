@@ -13,7 +13,7 @@ use Rattle.glk_streams.specs.Streams as streams
 use Rattle.glk_world.specs.World.{Scene}
 use Rattle.glk_world.specs.Putting.{places_read, no_places}
 use Rattle.glk_replies.specs.Parts.{IsCharWidth}
-use Rattle.glk_text_calls.specs.Input.{next_char, ends_line, read_behind, read_on, counted, has_read, ending}
+use Rattle.glk_text_calls.specs.Input.{next_char, ends_line, read_behind, read_on, count_read, has_read, ending}
 use Rattle.glk_text_calls.specs.Input.{ending_len}
 use Rattle.glk_text_calls.proofs.Puts.{width_of}
 use Rattle.glk_replies.proofs.Ram.{laid_in_ram}
@@ -33,7 +33,7 @@ pub ruleset places_rules = (width_times, width_some)
 pub read_width : (w : Scene) (stream count : ℕ) → IsCharWidth (places_read w stream count).width
 read_width w stream count =
     elim (one.readable (streams.stream w.streams stream)) as
-    (λ b. IsCharWidth (if b then one.places (streams.stream w.streams stream) count else no_places).width) [
+    (λ b. IsCharWidth (if b then one.next_places (streams.stream w.streams stream) count else no_places).width) [
       | true ↦ width_of (streams.stream w.streams stream) count
       | false ↦ inl refl
     ]
@@ -94,9 +94,9 @@ pub record IsReading (most : ℕ) (stops : Bool) (f : FlatState) (p : Places) (s
   pub kept : IfSome chars (λ cs. cs ≡ front)
   pub some : chars ≡ None → 0 < i
   pub same : read_behind front (read_on (most - i) stops f p s i position) ≡ read_on most stops f p s 0 s.position
-  pub within : position ≤ one.end_of s
+  pub within : position ≤ one.end_position s
 
-pub begins : (most : ℕ) (stops : Bool) (f : FlatState) (p : Places) (s : Stream) → s.position ≤ one.end_of s
+pub begins : (most : ℕ) (stops : Bool) (f : FlatState) (p : Places) (s : Stream) → s.position ≤ one.end_position s
     → IsReading most stops f p s 0 s.position (Some [])
 begins most stops f p s within = let e : most - 0 ≡ most = omega arith in record {
   front = [];
@@ -130,7 +130,7 @@ module _ (most : ℕ) (stops : Bool) (f : FlatState) (p : Places) (s : Stream) (
   rest_is less = ap (λ n. read_on n stops f p s i position) (sym (fewer most i less))
 
   pub goes : (c next : ℕ) (more : Option (List ℕ)) → i < most → next_char f p s i position ≡ Ok (Some (c, next))
-      → ends_line stops c ≡ false → IsKept chars c more → next ≤ one.end_of s
+      → ends_line stops c ≡ false → IsKept chars c more → next ≤ one.end_position s
       → IsReading most stops f p s (i + 1) next more
   goes c next more less is on keeps within = record {
     front = before.front ++ c ∷ [];
@@ -147,17 +147,17 @@ module _ (most : ℕ) (stops : Bool) (f : FlatState) (p : Places) (s : Stream) (
 
   -- the end of the reading
   ended : (front : List ℕ) (n q : ℕ) (some : Option (List ℕ)) → length front ≡ n → IfSome some (λ cs. cs ≡ front)
-      → all ≡ read_as front q → (counted all ≡ count_as n q) × IfSome some (λ cs. all ≡ read_as cs q)
-  ended front n q None len is same = (ap counted same ∙ ap (λ k. count_as k q) len, tt)
+      → all ≡ read_as front q → (count_read all ≡ count_as n q) × IfSome some (λ cs. all ≡ read_as cs q)
+  ended front n q None len is same = (ap count_read same ∙ ap (λ k. count_as k q) len, tt)
   ended front n q (Some cs) len is same =
-      (ap counted same ∙ ap (λ k. count_as k q) len, same ∙ ap (λ (xs : List ℕ). read_as xs q) (sym is))
+      (ap count_read same ∙ ap (λ k. count_as k q) len, same ∙ ap (λ (xs : List ℕ). read_as xs q) (sym is))
 
   all_is : read_on (most - i) stops f p s i position ≡ read_as [] position → all ≡ read_as before.front position
   all_is is = sym before.same ∙ ap (read_behind before.front) is
       ∙ ap (λ (xs : List ℕ). read_as xs position) (append-nil before.front)
 
   reads_all : most ≤ i → i ≤ most
-      → (counted all ≡ count_as most position) × IfSome chars (λ cs. all ≡ read_as cs position)
+      → (count_read all ≡ count_as most position) × IfSome chars (λ cs. all ≡ read_as cs position)
   reads_all most_le le_most =
       let none : most - i ≡ 0 = omega arith in
       let len : length before.front ≡ most = omega (arith, before.count) in
@@ -165,36 +165,36 @@ module _ (most : ℕ) (stops : Bool) (f : FlatState) (p : Places) (s : Stream) (
       (all_is (ap (λ n. read_on n stops f p s i position) none ∙ last_step stops f p s i position))
 
   reads_none : i < most → next_char f p s i position ≡ Ok None
-      → (counted all ≡ count_as i position) × IfSome chars (λ cs. all ≡ read_as cs position)
+      → (count_read all ≡ count_as i position) × IfSome chars (λ cs. all ≡ read_as cs position)
   reads_none less is = ended before.front i position chars before.count before.kept
       (all_is (sym (rest_is less) ∙ none_step (most - (i + 1)) stops f p s i position is))
 
   reads_stop : (c next : ℕ) (more : Option (List ℕ)) → i < most → next_char f p s i position ≡ Ok (Some (c, next))
       → ends_line stops c ≡ true → IsKept chars c more
-      → (counted all ≡ count_as (i + 1) next) × IfSome more (λ cs. all ≡ read_as cs next)
+      → (count_read all ≡ count_as (i + 1) next) × IfSome more (λ cs. all ≡ read_as cs next)
   reads_stop c next more less is ends keeps = ended (before.front ++ c ∷ []) (i + 1) next more (one_longer c)
       (more_kept chars more before.front c before.kept keeps)
       (sym before.same ∙ ap (read_behind before.front)
       (sym (rest_is less) ∙ stop_step (most - (i + 1)) stops f p s i position c next is ends))
 
-  pub reads_fail : (e : Fault) → i < most → next_char f p s i position ≡ Err e → counted all ≡ Err e
-  reads_fail e less is = ap counted (sym before.same ∙ ap (read_behind before.front)
+  pub reads_fail : (e : Fault) → i < most → next_char f p s i position ≡ Err e → count_read all ≡ Err e
+  reads_fail e less is = ap count_read (sym before.same ∙ ap (read_behind before.front)
       (sym (rest_is less) ∙ fails_step (most - (i + 1)) stops f p s i position e is))
 
-  pub counted_all : most ≤ i → i ≤ most → counted all ≡ count_as most position
+  pub counted_all : most ≤ i → i ≤ most → count_read all ≡ count_as most position
   counted_all most_le le_most = (reads_all most_le le_most).0
 
   pub kept_all : most ≤ i → i ≤ most → IfSome chars (λ cs. all ≡ read_as cs position)
   kept_all most_le le_most = (reads_all most_le le_most).1
 
-  pub counted_none : i < most → next_char f p s i position ≡ Ok None → counted all ≡ count_as i position
+  pub counted_none : i < most → next_char f p s i position ≡ Ok None → count_read all ≡ count_as i position
   counted_none less is = (reads_none less is).0
 
   pub kept_none : i < most → next_char f p s i position ≡ Ok None → IfSome chars (λ cs. all ≡ read_as cs position)
   kept_none less is = (reads_none less is).1
 
   pub counted_stop : (c next : ℕ) (more : Option (List ℕ)) → i < most → next_char f p s i position ≡ Ok (Some (c, next))
-      → ends_line stops c ≡ true → IsKept chars c more → counted all ≡ count_as (i + 1) next
+      → ends_line stops c ≡ true → IsKept chars c more → count_read all ≡ count_as (i + 1) next
   counted_stop c next more less is ends keeps = (reads_stop c next more less is ends keeps).0
 
   pub kept_stop : (c next : ℕ) (more : Option (List ℕ)) → i < most → next_char f p s i position ≡ Ok (Some (c, next))
@@ -210,15 +210,15 @@ abbrev first_of : Result (ℕ × ℕ) Fault → ℕ
 first_of (Ok got) = got.0
 first_of (Err e) = 0
 
-pub read_fails : (r : Result (List ℕ × ℕ) Fault) (e : Fault) → counted r ≡ Err e → r ≡ Err e
+pub read_fails : (r : Result (List ℕ × ℕ) Fault) (e : Fault) → count_read r ≡ Err e → r ≡ Err e
 read_fails (Ok got) e is = absurd (cc)
 read_fails (Err e') e is = cc
 
 pub same_count : (r : Result (List ℕ × ℕ) Fault) (cs : List ℕ) (n q position : ℕ) → r ≡ Ok (cs, position)
-    → counted r ≡ Ok (n, q) → length cs ≡ n
-same_count r cs n q position is many = ap first_of (ap counted (sym is) ∙ many)
+    → count_read r ≡ Ok (n, q) → length cs ≡ n
+same_count r cs n q position is many = ap first_of (ap count_read (sym is) ∙ many)
 
-pub read_some : (r : Result (List ℕ × ℕ) Fault) (n q : ℕ) → counted r ≡ Ok (n, q) → 0 < n → has_read r ≡ true
+pub read_some : (r : Result (List ℕ × ℕ) Fault) (n q : ℕ) → count_read r ≡ Ok (n, q) → 0 < n → has_read r ≡ true
 read_some (Ok got) n q is some = let same : length got.0 ≡ n = ap first_of is in grind (arith, nat_tests)
 read_some (Err e) n q is some = absurd (cc)
 

@@ -16,7 +16,7 @@ use Rattle.glk_streams.specs.Stream as one
 use Rattle.glk_streams.specs.Streams as streams
 use Rattle.glk_world.specs.World.{Scene, silent}
 use Rattle.glk_world.specs.Putting.{places_read, no_places}
-use Rattle.glk_world.specs.Calls.{passed}
+use Rattle.glk_world.specs.Calls.{chars_got}
 use Rattle.glk_replies.specs.Parts.{can_read}
 use Rattle.glk_text_calls.specs.Input.{next_char, read_behind, read_on, reading}
 use Rattle.glk_text_calls.specs.Saves.{as_bytes, rest_len, take_rest, take_rest_grows}
@@ -58,7 +58,7 @@ module _ (f : FlatState) (p : Places) (s : Stream) (name content : List ℕ)
     (is : s.kind ≡ kinds.File name content forms.Latin) (reads : one.readable s ≡ true) (none : p.count ≡ 0) where
   next_latin : (i position : ℕ) → position < length content
       → next_char f p s i position ≡ Ok (Some (byte content position, position + 1))
-  unfolding next_char one.next_of
+  unfolding next_char one.read_next
   next_latin i position less =
       let past : nat_lt i p.count ≡ false = grind (arith, nat_tests, none) in
       let within : nat_lt position (length content) ≡ true = grind (arith, nat_tests) in
@@ -83,15 +83,15 @@ module _ (f : FlatState) (p : Places) (s : Stream) (name content : List ℕ)
       ∙ ap (λ (cs : List ℕ). read_as cs (length content)) left
 
 no_places_of : (s : Stream) (name content : List ℕ) (count : ℕ) → s.kind ≡ kinds.File name content forms.Latin
-    → (one.places s count).count ≡ 0
-unfolding one.places
+    → (one.next_places s count).count ≡ 0
+unfolding one.next_places
 no_places_of s name content count is = rw is refl
 
 no_places_for : (w : Scene) (id count : ℕ) (name content : List ℕ)
     → (streams.stream w.streams id).kind ≡ kinds.File name content forms.Latin → (places_read w id count).count ≡ 0
 no_places_for w id count name content is =
     let s = streams.stream w.streams id in
-    elim (one.readable s) as (λ b. (if b then one.places s count else no_places).count ≡ 0) [
+    elim (one.readable s) as (λ b. (if b then one.next_places s count else no_places).count ≡ 0) [
       | true ↦ no_places_of s name content count is
       | false ↦ refl
     ]
@@ -108,14 +108,14 @@ bytes_pass bs small = rw (all_bytes bs small) refl
 
 module _ (w : Scene) (f : FlatState) (id : ℕ) (rest : List ℕ)
     (latin : one.latin_rest (streams.stream w.streams id) ≡ Some rest)
-    (within : (streams.stream w.streams id).position ≤ one.end_of (streams.stream w.streams id)) where
+    (within : (streams.stream w.streams id).position ≤ one.end_position (streams.stream w.streams id)) where
   abbrev s : Stream
   s = streams.stream w.streams id
 
   found : IsLatin s rest
   found = latin_of_rest s rest latin
 
-  end_is : one.end_of s ≡ length found.content
+  end_is : one.end_position s ≡ length found.content
   end_is = rw found.kind refl
 
   rest_is : rest_len s ≡ length rest
@@ -125,7 +125,7 @@ module _ (w : Scene) (f : FlatState) (id : ℕ) (rest : List ℕ)
   all_left : s.position + rest_len s ≡ length found.content
   all_left = omega (arith, end_is, within)
 
-  pub latin_reading : reading w f id false (rest_len s) ≡ read_as rest (one.end_of s)
+  pub latin_reading : reading w f id false (rest_len s) ≡ read_as rest (one.end_position s)
   latin_reading =
       let p = places_read w id (rest_len s) in
       read_latin f p s found.name found.content found.kind found.reads
@@ -134,7 +134,7 @@ module _ (w : Scene) (f : FlatState) (id : ℕ) (rest : List ℕ)
       ∙ ap (read_as rest) (sym end_is)
 
   pub latin_taken : (bytes : List ℕ) → streams.has w.streams id ≡ true → bytes ≡ rest → as_bytes bytes ≡ Some bytes
-      → take_rest w f id ≡ Ok (silent (passed w id (one.end_of s) (rest_len s)), Some bytes)
+      → take_rest w f id ≡ Ok (silent (chars_got w id (one.end_position s) (rest_len s)), Some bytes)
   unfolding take_rest
   latin_taken bytes here same small =
       let sized : length rest ≡ rest_len s = sym rest_is in
@@ -151,7 +151,7 @@ record IsMemory (s : Stream) (count : ℕ) : Type 0 where
   pub len : ℕ
   pub wide : Bool
   pub kind : s.kind ≡ kinds.Memory at len wide
-  pub few : s.position + count ≤ one.places_of at len
+  pub few : s.position + count ≤ one.place_count at len
 
 kind_memory : (s : Stream) (k : StreamKind) (count : ℕ) → s.kind ≡ k → 0 < count
     → (one.places_in k s.position count).count ≡ count → IsMemory s count
@@ -167,18 +167,18 @@ kind_memory s (kinds.File name content form) count is some all = absurd (omega (
 
 module _ (f : FlatState) (p : Places) (s : Stream) (at len : ℕ) (wide : Bool) (is : s.kind ≡ kinds.Memory at len wide)
     (reads : one.readable s ≡ true) (width : p.width ≡ 1) where
-  next_byte : (i position : ℕ) → i < p.count → p.at + i < length f.memory → position < one.places_of at len
+  next_byte : (i position : ℕ) → i < p.count → p.at + i < length f.memory → position < one.place_count at len
       → next_char f p s i position ≡ Ok (Some (byte f.memory (p.at + i), position + 1))
-  unfolding next_char one.next_of can_read
+  unfolding next_char one.read_next can_read
   next_byte i position less inner within =
       let placed : nat_lt i p.count ≡ true = grind (arith, nat_tests) in
       let one_by : p.at + 1 * i ≡ p.at + i = omega arith in
       let inside : nat_lt (length f.memory) (p.at + i + 1) ≡ false = grind (arith, nat_tests) in
-      let left : nat_lt position (one.places_of at len) ≡ true = grind (arith, nat_tests) in
+      let left : nat_lt position (one.place_count at len) ≡ true = grind (arith, nat_tests) in
       rw (placed, width, one_by, inside, reads, is, left) refl
 
   read_bytes : (more i position : ℕ) → i + more ≡ p.count → p.at + p.count ≤ length f.memory
-      → position + more ≤ one.places_of at len
+      → position + more ≤ one.place_count at len
       → read_on more false f p s i position ≡ read_as (take more (drop (p.at + i) f.memory)) (position + more)
   unfolding read_on
   read_bytes zero i position all whole few = let e : position + 0 ≡ position = omega arith in rw e refl
@@ -196,7 +196,7 @@ module _ (f : FlatState) (p : Places) (s : Stream) (at len : ℕ) (wide : Bool) 
 
 module _ (w : Scene) (f : FlatState) (id : ℕ) (here : streams.has w.streams id ≡ true)
     (reads : one.readable (streams.stream w.streams id) ≡ true)
-    (within : (streams.stream w.streams id).position ≤ one.end_of (streams.stream w.streams id))
+    (within : (streams.stream w.streams id).position ≤ one.end_position (streams.stream w.streams id))
     (some : 0 < rest_len (streams.stream w.streams id))
     (all : (places_read w id (rest_len (streams.stream w.streams id))).count
     ≡ rest_len (streams.stream w.streams id))
@@ -212,17 +212,17 @@ module _ (w : Scene) (f : FlatState) (id : ℕ) (here : streams.has w.streams id
   abbrev places : Places
   places = places_read w id rest
 
-  placed : one.places from rest ≡ places
+  placed : one.next_places from rest ≡ places
   placed = rw reads refl
 
   memory_of : IsMemory from rest
-  unfolding one.places
+  unfolding one.next_places
   memory_of = kind_memory from from.kind rest refl some (ap (λ (q : Places). q.count) placed ∙ all)
 
-  end_behind : from.position + rest ≡ one.end_of from
+  end_behind : from.position + rest ≡ one.end_position from
   end_behind = omega (arith, within)
 
-  memory_reading : reading w f id false rest ≡ read_as (take rest (drop places.at f.memory)) (one.end_of from)
+  memory_reading : reading w f id false rest ≡ read_as (take rest (drop places.at f.memory)) (one.end_position from)
   memory_reading =
       let m = memory_of in
       let a : 0 + rest ≡ rest = omega arith in
@@ -236,7 +236,7 @@ module _ (w : Scene) (f : FlatState) (id : ℕ) (here : streams.has w.streams id
   taken_len = let left = length-drop places.at f.memory in grind (arith, common_steps, left)
 
   memory_taken : (bytes : List ℕ) → bytes ≡ take rest (drop places.at f.memory) → as_bytes bytes ≡ Some bytes
-      → take_rest w f id ≡ Ok (silent (passed w id (one.end_of from) rest), Some bytes)
+      → take_rest w f id ≡ Ok (silent (chars_got w id (one.end_position from) rest), Some bytes)
   unfolding take_rest
   memory_taken bytes same small =
       let whole_bytes : as_bytes (take rest (drop places.at f.memory)) ≡ Some bytes = ap as_bytes (sym same) ∙ small in
@@ -248,7 +248,7 @@ module _ (w : Scene) (f : FlatState) (id : ℕ) (here : streams.has w.streams id
 -- the same for places that were found
 module _ (w : Scene) (f : FlatState) (id most : ℕ) (p : Places) (here : streams.has w.streams id ≡ true)
     (reads : one.readable (streams.stream w.streams id) ≡ true)
-    (within : (streams.stream w.streams id).position ≤ one.end_of (streams.stream w.streams id))
+    (within : (streams.stream w.streams id).position ≤ one.end_position (streams.stream w.streams id))
     (is : p ≡ places_read w id most) (left : most ≡ rest_len (streams.stream w.streams id)) (some : 0 < most)
     (all : p.count ≡ most) (width : p.width ≡ 1) (whole : p.at + most ≤ length f.memory) where
   abbrev own : ℕ
@@ -271,7 +271,7 @@ module _ (w : Scene) (f : FlatState) (id most : ℕ) (p : Places) (here : stream
       (subst (λ (q : Places). q.at + most ≤ length f.memory) (sym same_places) whole)
 
   pub found_taken : (bytes : List ℕ) → bytes ≡ take most (drop p.at f.memory) → as_bytes bytes ≡ Some bytes
-      → take_rest w f id ≡ Ok (silent (passed w id (one.end_of (streams.stream w.streams id)) own), Some bytes)
+      → take_rest w f id ≡ Ok (silent (chars_got w id (one.end_position (streams.stream w.streams id)) own), Some bytes)
   found_taken bytes same small =
       let taken : bytes ≡ take own (drop (places_read w id own).at f.memory) =
       same ∙ ap (λ (n : ℕ). take n (drop p.at f.memory)) left

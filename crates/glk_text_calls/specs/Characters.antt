@@ -8,7 +8,7 @@ use Rattle.glk_text.specs.Characters.{lower_of, upper_of}
 use Rattle.glk_world.specs.World.{Scene, Outcome, answered, arg}
 use Rattle.glk_text_calls.specs.declared.characters.Case.{Case}
 use Rattle.glk_text_calls.specs.declared.characters.Case.TheVariants.{Lower, Upper, Same}
-use Rattle.glk_replies.specs.Parts.{replies, can_read, can_lay, filled, numbers_in}
+use Rattle.glk_replies.specs.Parts.{replies, can_read, can_lay, reply_filling, numbers_in}
 
 -- a character in lower or upper case, or as it is
 abbrev pub changed : Case → ℕ → ℕ
@@ -36,7 +36,7 @@ buffer_to_case w f first others args = do
   there ← can_read f (arg args 0) (4 * (buffer_of args).count)
   writable ← can_lay f (buffer_of args)
   let chars = numbers_in 4 f.memory (arg args 0) (buffer_of args).count
-  answered w (filled (arg args 2) (buffer_of args) (recased first others chars))
+  answered w (reply_filling (arg args 2) (buffer_of args) (recased first others chars))
 
 -- the case of the others in a title
 abbrev pub rest_of : List ℕ → Case

@@ -16,9 +16,9 @@ use Rattle.glk_streams.specs.Stream as one
 use Rattle.glk_streams.specs.Streams as streams
 use Rattle.glk_world.specs.World.{Scene, silent, Outcome, answered, arg}
 use Rattle.glk_world.specs.Putting.{places_read}
-use Rattle.glk_world.specs.Calls.{got_from, after_get, passed}
+use Rattle.glk_world.specs.Calls.{got_from, char_got, chars_got}
 use Rattle.glk_text_calls.specs.Constants.{no_character}
-use Rattle.glk_replies.specs.Parts.{replies, can_read, can_lay, filled}
+use Rattle.glk_replies.specs.Parts.{replies, can_read, can_lay, reply_filling}
 
 -- the number at one of the places of a memory stream; other streams have none
 abbrev pub found_in : FlatState → Places → ℕ → Result ℕ Fault
@@ -78,7 +78,7 @@ get_chars w f stream stops most width at = do
   let count = length got.0
   let buffer = buffer_for at width (count + ending_len stops)
   writable ← can_lay f buffer
-  Ok (silent (passed w stream got.1 count), filled count buffer (got.0 ++ ending stops))
+  Ok (silent (chars_got w stream got.1 count), reply_filling count buffer (got.0 ++ ending stops))
 
 -- get_buffer_stream
 abbrev pub get_buffer : Scene → FlatState → ℕ → List ℕ → Outcome Reply
@@ -91,24 +91,24 @@ get_line w f width args =
     get_chars w f (arg args 0) true (arg args 2 - 1) width (arg args 1)
 
 -- what stands for a character that was read: in one byte it is a character of Latin-1
-abbrev pub char_value : ℕ → Option ℕ → ℕ
-char_value width None = no_character
-char_value width (Some c) = if width == 1 then latin_of c else c
+abbrev pub char_answer : ℕ → Option ℕ → ℕ
+char_answer width None = no_character
+char_answer width (Some c) = if width == 1 then latin_of c else c
 
 -- a character is taken of a stream
 unfoldable pub take_char : Scene → FlatState → ℕ → ℕ → Outcome Reply
 take_char w f stream width = do
   found ← found_in f (places_read w stream 1) 0
-  Ok (silent (after_get w stream found), replies (char_value width (one.char_of (got_from w stream found))))
+  Ok (silent (char_got w stream found), replies (char_answer width (one.char_of (got_from w stream found))))
 
 -- get_char_stream
 abbrev pub get_char : Scene → FlatState → ℕ → List ℕ → Outcome Reply
 get_char w f width args = take_char w f (arg args 0) width
 
 -- how many characters were read, and the position behind them
-abbrev pub counted : Result (List ℕ × ℕ) Fault → Result (ℕ × ℕ) Fault
-counted (Ok got) = Ok (length got.0, got.1)
-counted (Err e) = Err e
+abbrev pub count_read : Result (List ℕ × ℕ) Fault → Result (ℕ × ℕ) Fault
+count_read (Ok got) = Ok (length got.0, got.1)
+count_read (Err e) = Err e
 
 -- ---- where memory may be wanted: for characters that are read
 

@@ -6,8 +6,8 @@ use Rattle.gx_state.specs.Flat.{FlatState}
 use Rattle.gx_state.specs.declared.effects.Reply.{Reply}
 use Rattle.glk_streams.specs.Streams as streams
 use Rattle.glk_world.specs.World.{Scene, Outcome, answered}
-use Rattle.glk_world.specs.Putting.{puts, put_grows, places_of}
-use Rattle.glk_replies.specs.Parts.{replies, can_lay, filled}
+use Rattle.glk_world.specs.Putting.{put_chars, put_grows, places_of}
+use Rattle.glk_replies.specs.Parts.{replies, can_lay, reply_filling}
 
 -- The places where so many characters end in memory may be written; a stream that isn't there is none.
 unfoldable pub can_put : Scene → FlatState → ℕ → ℕ → Result (Unit {0}) Fault
@@ -18,7 +18,7 @@ unfoldable pub put_all : Scene → FlatState → ℕ → List ℕ → Outcome Re
 put_all w f stream cs = do
   there ← can_put w f stream (length cs)
   if streams.has w.streams stream
-      then Ok (puts w stream cs, filled 0 (places_of w stream (length cs)) cs)
+      then Ok (put_chars w stream cs, reply_filling 0 (places_of w stream (length cs)) cs)
       else answered w (replies 0)
 
 -- putting one character wants memory where it adds text, makes a file longer or has a place in memory

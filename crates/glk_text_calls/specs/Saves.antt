@@ -13,7 +13,7 @@ use Rattle.glk_streams.specs.declared.kinds.Stream.{Stream}
 use Rattle.glk_streams.specs.Stream as one
 use Rattle.glk_streams.specs.Streams as streams
 use Rattle.glk_world.specs.World.{Scene, Said, silent}
-use Rattle.glk_world.specs.Calls.{passed}
+use Rattle.glk_world.specs.Calls.{chars_got}
 use Rattle.glk_text_calls.specs.Input.{reading, has_read}
 use Rattle.glk_text_calls.specs.Putting.{put_all}
 
@@ -33,7 +33,7 @@ put_save w f id bytes =
 
 -- how many positions are left before a stream's end
 abbrev pub rest_len : Stream → ℕ
-rest_len s = one.end_of s - s.position
+rest_len s = one.end_position s - s.position
 
 -- characters that are bytes
 abbrev pub as_bytes : List ℕ → Option (List ℕ)
@@ -46,7 +46,7 @@ take_rest w f id =
     let s = streams.stream w.streams id in
     if streams.has w.streams id && one.readable s then (do
       got ← reading w f id false (rest_len s)
-      Ok (silent (passed w id got.1 (length got.0)), as_bytes got.0))
+      Ok (silent (chars_got w id got.1 (length got.0)), as_bytes got.0))
     else Ok (silent w, None)
 
 -- ---- where memory may be wanted: for a byte that is put or that is read

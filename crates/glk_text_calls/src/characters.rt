@@ -1,8 +1,8 @@
 //! The case of characters (Glk 0.7.5, "Upper and Lower Case").
-ghost use Rattle.std.specs.Prelude.{◌≡◌, ℕ, ◌++◌, ◌<◌, ◌≤◌, ◌^◌, nat_lt, map, length, OnOk, OnErr, IfOk, IsTrue};
+ghost use Rattle.std.specs.Prelude.{◌≡◌, ℕ, ◌++◌, ◌<◌, ◌^◌, nat_lt, map, length, OnOk, OnErr, IfOk, IsTrue};
 ghost use Rattle.gx_state.specs.Flat.{FlatState};
 ghost use Rattle.gx_state.specs.Replies.{IsReply};
-ghost use Rattle.glk_world.specs.World.{Calls};
+ghost use Rattle.glk_world.specs.World.{MakesCall};
 ghost use Rattle.glk_text_calls.specs.Characters.{changed, recased, char_to_case, buffer_of, buffer_to_case, rest_of};
 
 use glk_replies::{can_lay, can_read, filled, numbers_at, reply};
@@ -59,7 +59,7 @@ fn recased(alloc: Global, first: Case, others: Case, chars: &[u32]) -> Result<Nu
 /// char_to_lower and char_to_upper: the low eight bits as a character.
 #[tactic(auto, unfolding(crate::specs::Characters::char_to_case))]
 pub fn char_to_case(world: &mut World, case: Case, args: &[u32]) -> Result<Reply, Fault>
-    ensures value { Calls ⊥ result world.old world.new (char_to_case world.old.scene case args.now) }
+    ensures value { MakesCall ⊥ result world.old world.new (char_to_case world.old.scene case args.now) }
     ensures fits { (f : FlatState) (room : ℕ) → IfOk result (IsReply f room) }
 {
     let c = changed(case, arg(args, 0) % 256);
@@ -81,7 +81,7 @@ fn buffer_of(args: &[u32]) -> Places
 
 /// buffer_to_lower_case_uni, buffer_to_upper_case_uni and buffer_to_title_case_uni: the first character of a buffer
 /// gets one case, and all others another.
-#[tactic(auto, using(glk_replies::proofs::Counting::count_numbers, glk_replies::proofs::Ram::laid_in_ram), unfolding(crate::specs::Characters::buffer_to_case))]
+#[tactic(auto, using(crate::proofs::Puts::case_rules), unfolding(crate::specs::Characters::buffer_to_case))]
 pub fn buffer_to_case<A: Allocator + Clone>(
     world: &mut World,
     state: &State<A>,
@@ -89,7 +89,7 @@ pub fn buffer_to_case<A: Allocator + Clone>(
     others: Case,
     args: &[u32],
 ) -> Result<Reply, Fault>
-    ensures value { Calls (IsTrue (nat_lt 0 (buffer_of args.now).count)) result world.old world.new
+    ensures value { MakesCall (IsTrue (nat_lt 0 (buffer_of args.now).count)) result world.old world.new
         (buffer_to_case world.old.scene state.now.flat first others args.now) }
     ensures fits { (room : ℕ) → IfOk result (IsReply state.now.flat room) }
 {

@@ -8,10 +8,10 @@ ghost use Rattle.gx_words.specs.Faults.{Reads};
 ghost use Rattle.gx_state.specs.Replies.{IsReply};
 ghost use Rattle.glk_streams.specs.Stream as one;
 ghost use Rattle.glk_streams.specs.Streams as streams;
-ghost use Rattle.glk_replies.specs.Parts.{IsCharWidth, can_lay, filled};
-ghost use Rattle.glk_world.specs.World.{arg, Calls};
-ghost use Rattle.glk_text_calls.specs.Input.{found_in, next_char, ends_line, read_on, counted, has_read, reading};
-ghost use Rattle.glk_text_calls.specs.Input.{ending, get_chars, get_buffer, get_line, get_buffer_grows, char_value};
+ghost use Rattle.glk_replies.specs.Parts.{IsCharWidth, can_lay, reply_filling};
+ghost use Rattle.glk_world.specs.World.{arg, MakesCall};
+ghost use Rattle.glk_text_calls.specs.Input.{found_in, next_char, ends_line, read_on, count_read, has_read, reading};
+ghost use Rattle.glk_text_calls.specs.Input.{ending, get_chars, get_buffer, get_line, get_buffer_grows, char_answer};
 ghost use Rattle.glk_text_calls.specs.Input.{get_char, take_char};
 
 use glk_replies::{can_lay, can_read, filled, reply};
@@ -55,7 +55,8 @@ fn next_char<A: Allocator + Clone>(
     requires at { places.at < 2 ^ 40 }
     ensures value { Reads (λ next. next) result
         (next_char state.now.flat places (streams.stream all.now stream) i position) }
-    ensures behind { IfOk result (λ next. IfSome next (λ got. got.1 ≤ one.end_of (streams.stream all.now stream))) }
+    ensures behind { IfOk result (λ next. IfSome next
+        (λ got. got.1 ≤ one.end_position (streams.stream all.now stream))) }
 {
     let found = found_in(state, places, i)?;
     Ok(all.peek(stream, position, found))
@@ -105,14 +106,14 @@ pub(crate) fn read_on<A: Allocator + Clone>(
     requires width { IsCharWidth places.width }
     requires at { places.at < 2 ^ 40 }
     ensures value { Reads (λ got. (got.count, got.position)) result
-        (counted (read_on most stops state.now.flat places (streams.stream all.now stream) 0
+        (count_read (read_on most stops state.now.flat places (streams.stream all.now stream) 0
         (streams.stream all.now stream).position)) }
     ensures chars { IfOk result (λ got. IfSome got.chars
         (λ chars. read_on most stops state.now.flat places (streams.stream all.now stream) 0
         (streams.stream all.now stream).position ≡ Ok (chars, got.position))) }
     ensures memory { IfOk result (λ got. got.chars ≡ None → 0 < got.count) }
     ensures few { IfOk result (λ got. got.count ≤ most) }
-    ensures within { IfOk result (λ got. got.position ≤ one.end_of (streams.stream all.now stream)) }
+    ensures within { IfOk result (λ got. got.position ≤ one.end_position (streams.stream all.now stream)) }
 {
     let mut chars = Some(Numbers::new(alloc));
     let mut position = all.position(stream);
@@ -166,7 +167,7 @@ fn reply_with<A: Allocator + Clone>(
     requires width { IsCharWidth places.width }
     requires at { 0 < places.count → places.at < 2 ^ 32 }
     requires count { places.count ≤ length chars.now }
-    ensures value { IfOk result (λ reply. reply ≡ filled value places chars.now) }
+    ensures value { IfOk result (λ reply. reply ≡ reply_filling value places chars.now) }
     ensures fits { (room : ℕ) → IfOk result (IsReply _state.now.flat room) }
     ensures memory { OnErr result (0 < places.count) }
 {
@@ -187,7 +188,7 @@ fn get_chars<A: Allocator + Clone>(
     requires there { IsTrue (streams.has world.old.scene.streams stream) }
     requires width { IsCharWidth width }
     requires few { stops ≡ true → most + 1 < 2 ^ 32 }
-    ensures value { Calls ((stops ≡ true) ⊎ IsTrue
+    ensures value { MakesCall ((stops ≡ true) ⊎ IsTrue
         (has_read (reading world.old.scene state.now.flat stream stops most))) result world.old world.new
         (get_chars world.old.scene state.now.flat stream stops most width at) }
     ensures fits { (room : ℕ) → IfOk result (IsReply state.now.flat room) }
@@ -227,8 +228,8 @@ pub fn get_buffer<A: Allocator + Clone>(
 ) -> Result<Reply, Fault>
     requires there { IsTrue (streams.has world.old.scene.streams (arg args.now 0)) }
     requires width { IsCharWidth width }
-    ensures value { Calls (IsTrue (get_buffer_grows world.old.scene state.now.flat args.now)) result world.old world.new
-        (get_buffer world.old.scene state.now.flat width args.now) }
+    ensures value { MakesCall (IsTrue (get_buffer_grows world.old.scene state.now.flat args.now)) result
+        world.old world.new (get_buffer world.old.scene state.now.flat width args.now) }
     ensures fits { (room : ℕ) → IfOk result (IsReply state.now.flat room) }
 {
     get_chars(
@@ -251,7 +252,7 @@ pub fn get_line<A: Allocator + Clone>(
 ) -> Result<Reply, Fault>
     requires there { IsTrue (streams.has world.old.scene.streams (arg args.now 0)) }
     requires width { IsCharWidth width }
-    ensures value { Calls (IsTrue (not (arg args.now 2 == 0))) result world.old world.new
+    ensures value { MakesCall (IsTrue (not (arg args.now 2 == 0))) result world.old world.new
         (get_line world.old.scene state.now.flat width args.now) }
     ensures fits { (room : ℕ) → IfOk result (IsReply state.now.flat room) }
 {
@@ -272,7 +273,7 @@ pub fn get_line<A: Allocator + Clone>(
 
 /// What stands for a character that was read.
 fn char_value(width: u32, c: Option<u32>) -> u32
-    ensures { result ≡ char_value width c }
+    ensures { result ≡ char_answer width c }
 {
     match c {
         None => NO_CHARACTER,
@@ -289,7 +290,7 @@ pub fn get_char<A: Allocator + Clone>(
     args: &[u32],
 ) -> Result<Reply, Fault>
     requires { IsTrue (streams.has world.old.scene.streams (arg args.now 0)) }
-    ensures value { Calls ⊥ result world.old world.new (get_char world.old.scene state.now.flat width args.now) }
+    ensures value { MakesCall ⊥ result world.old world.new (get_char world.old.scene state.now.flat width args.now) }
     ensures fits { (room : ℕ) → IfOk result (IsReply state.now.flat room) }
 {
     take_char(world, state, arg(args, 0), width)
@@ -304,7 +305,7 @@ fn take_char<A: Allocator + Clone>(
     width: u32,
 ) -> Result<Reply, Fault>
     requires { IsTrue (streams.has world.old.scene.streams stream) }
-    ensures value { Calls ⊥ result world.old world.new (take_char world.old.scene state.now.flat stream width) }
+    ensures value { MakesCall ⊥ result world.old world.new (take_char world.old.scene state.now.flat stream width) }
     ensures fits { (room : ℕ) → IfOk result (IsReply state.now.flat room) }
 {
     let found = found_in(state, world.places_read(stream, 1), 0)?;

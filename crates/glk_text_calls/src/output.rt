@@ -9,7 +9,7 @@ ghost use Rattle.gx_state.specs.Flat.{FlatState};
 ghost use Rattle.gx_state.specs.Replies.{IsReply};
 ghost use Rattle.glk_streams.specs.Streams as streams;
 ghost use Rattle.glk_world.specs.Putting.{is_plain_text};
-ghost use Rattle.glk_world.specs.World.{on_world, Calls};
+ghost use Rattle.glk_world.specs.World.{on_world, MakesCall};
 ghost use Rattle.glk_replies.specs.Parts.{IsCharWidth, replies, numbers_in};
 ghost use Rattle.glk_replies.specs.Strings.{string_length};
 ghost use Rattle.glk_text_calls.specs.Putting.{put_all, put_grows_one};
@@ -37,7 +37,7 @@ pub fn put_char<A: Allocator + Clone>(
     width: u32,
     c: u32,
 ) -> Result<Reply, Fault>
-    ensures value { Calls (IsTrue (put_grows_one world.old.scene stream (char_given width c))) result world.old
+    ensures value { MakesCall (IsTrue (put_grows_one world.old.scene stream (char_given width c))) result world.old
         world.new (put_char world.old.scene state.now.flat stream width c) }
     ensures fits { (room : ℕ) → IfOk result (IsReply state.now.flat room) }
 {
@@ -45,14 +45,14 @@ pub fn put_char<A: Allocator + Clone>(
 }
 
 /// Puts one character to a stream, which mostly is the stream of a text buffer window.
-#[tactic(auto, using(crate::proofs::Puts::put_rules, crate::proofs::Puts::text_rules), unfolding(crate::specs::Putting::put_all, crate::specs::Putting::can_put))]
+#[tactic(auto, using(crate::proofs::Puts::puts_and_text), unfolding(crate::proofs::Opened::putting))]
 fn put_one<A: Allocator + Clone>(
     world: &mut World,
     state: &State<A>,
     stream: u32,
     c: u32,
 ) -> Result<Reply, Fault>
-    ensures value { Calls (IsTrue (put_grows_one world.old.scene stream c)) result world.old world.new
+    ensures value { MakesCall (IsTrue (put_grows_one world.old.scene stream c)) result world.old world.new
         (put_all world.old.scene state.now.flat stream (c ∷ [])) }
     ensures fits { (room : ℕ) → IfOk result (IsReply state.now.flat room) }
 {
@@ -78,7 +78,7 @@ pub fn put_string<A: Allocator + Clone>(
     at: u32,
 ) -> Result<Reply, Fault>
     requires { IsCharWidth width }
-    ensures value { Calls (IsTrue (streams.has world.old.scene.streams stream && has_length
+    ensures value { MakesCall (IsTrue (streams.has world.old.scene.streams stream && has_length
         (string_length state.now.flat width at))) result world.old world.new
         (put_string world.old.scene state.now.flat stream width at) }
     ensures fits { (room : ℕ) → IfOk result (IsReply state.now.flat room) }
@@ -98,7 +98,7 @@ pub fn put_buffer<A: Allocator + Clone>(
     count: u32,
 ) -> Result<Reply, Fault>
     requires { IsCharWidth width }
-    ensures value { Calls (IsTrue (streams.has world.old.scene.streams stream && not (count == 0))) result world.old
+    ensures value { MakesCall (IsTrue (streams.has world.old.scene.streams stream && not (count == 0))) result world.old
         world.new (put_buffer world.old.scene state.now.flat stream width at count) }
     ensures fits { (room : ℕ) → IfOk result (IsReply state.now.flat room) }
 {
@@ -107,7 +107,7 @@ pub fn put_buffer<A: Allocator + Clone>(
 }
 
 /// Puts numbers that are there.
-#[tactic(auto, using(crate::proofs::Puts::put_rules, glk_replies::proofs::Counting::length_rules), unfolding(crate::specs::Putting::put_all, crate::specs::Putting::can_put))]
+#[tactic(auto, using(crate::proofs::Puts::string_rules), unfolding(crate::proofs::Opened::putting))]
 fn put_numbers<A: Allocator + Clone>(
     world: &mut World,
     state: &State<A>,
@@ -119,7 +119,7 @@ fn put_numbers<A: Allocator + Clone>(
     requires width { IsCharWidth width }
     requires there { 0 < count → at + width * count ≤ length state.now.flat.memory }
     requires low { 0 < count → at + width * count < 2 ^ 32 }
-    ensures value { Calls (IsTrue (streams.has world.old.scene.streams stream && not (count == 0))) result world.old
+    ensures value { MakesCall (IsTrue (streams.has world.old.scene.streams stream && not (count == 0))) result world.old
         world.new (put_all world.old.scene state.now.flat stream (numbers_in width state.now.flat.memory at count)) }
     ensures fits { (room : ℕ) → IfOk result (IsReply state.now.flat room) }
 {
@@ -141,7 +141,7 @@ pub fn put<A: Allocator + Clone>(
     state: &State<A>,
     value: u32,
 ) -> Result<Reply, Fault>
-    ensures value { Calls (IsTrue (put_grows_one world.old.scene world.old.scene.current value)) result world.old
+    ensures value { MakesCall (IsTrue (put_grows_one world.old.scene world.old.scene.current value)) result world.old
         world.new (putting world.old.scene state.now.flat value) }
     ensures fits { IfOk result (IsReply state.now.flat 0) }
 {

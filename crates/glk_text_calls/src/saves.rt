@@ -1,14 +1,13 @@
 //! Saves as the bytes of a stream (Glulx 3.1.2, "Game State"; specs/Saves): they are put as characters, and got from
 //! where the stream stands to its end.
-ghost use Rattle.std.specs.Prelude.{ℕ, ◌≡◌, ◌≢◌, ◌<◌, ◌≤◌, ◌^◌, ◌+◌, ◌++◌, [], length, take, drop, IfOk, IfSome, OnOk};
+ghost use Rattle.std.specs.Prelude.{ℕ, ◌≡◌, ◌≢◌, ◌<◌, ◌≤◌, ◌^◌, ◌+◌, [], length, take, drop, IfOk, IfSome};
 ghost use Rattle.std.specs.Prelude.{OnErr, IsTrue, Ok, Some};
 ghost use Rattle.gx_state.specs.Replies.{IsReply};
 ghost use Rattle.glk_streams.specs.Stream as one;
 ghost use Rattle.glk_streams.specs.Streams as streams;
-ghost use Rattle.glk_world.specs.World.{silent, Calls};
+ghost use Rattle.glk_world.specs.World.{silent, MakesCall};
 ghost use Rattle.glk_world.specs.Putting.{places_read};
-ghost use Rattle.glk_world.specs.Calls.{passed};
-ghost use Rattle.glk_replies.specs.Parts.{IsCharWidth};
+ghost use Rattle.glk_world.specs.Calls.{chars_got};
 ghost use Rattle.glk_text_calls.specs.Putting.{put_all};
 ghost use Rattle.glk_text_calls.specs.Saves.{takes_save, put_save, put_save_grows, rest_len, as_bytes, take_rest};
 ghost use Rattle.glk_text_calls.specs.Saves.{take_rest_grows};
@@ -35,7 +34,7 @@ fn takes_save(world: &World, stream: u32, bytes: &[u8]) -> bool
 }
 
 /// Puts bytes to a stream.
-#[tactic(auto, using(crate::proofs::Puts::put_rules), unfolding(crate::specs::Putting::put_all, crate::specs::Putting::can_put))]
+#[tactic(auto, using(crate::proofs::Puts::put_rules), unfolding(crate::proofs::Opened::putting))]
 fn put_bytes<A: Allocator + Clone>(
     world: &mut World,
     state: &State<A>,
@@ -44,7 +43,7 @@ fn put_bytes<A: Allocator + Clone>(
 ) -> Result<Reply, Fault>
     requires there { IsTrue (streams.has world.old.scene.streams stream) }
     requires few { length bytes.now < 2 ^ 32 }
-    ensures value { Calls (bytes.now ≢ []) result world.old world.new
+    ensures value { MakesCall (bytes.now ≢ []) result world.old world.new
         (put_all world.old.scene state.now.flat stream bytes.now) }
     ensures fits { (room : ℕ) → IfOk result (IsReply state.now.flat room) }
 {
@@ -66,7 +65,7 @@ pub fn put_save<A: Allocator + Clone>(
     stream: u32,
     bytes: &[u8],
 ) -> Result<Option<Reply>, Fault>
-    ensures value { Calls (IsTrue (put_save_grows world.old.scene stream bytes.now)) result world.old world.new
+    ensures value { MakesCall (IsTrue (put_save_grows world.old.scene stream bytes.now)) result world.old world.new
         (put_save world.old.scene state.now.flat stream bytes.now) }
     ensures fits { IfOk result (λ reply. IfSome reply (IsReply state.now.flat 0)) }
 {
@@ -93,7 +92,7 @@ fn copy_of(alloc: Global, bytes: &[u8]) -> Result<Bytes, AllocError>
 fn rest_len(all: &Streams, stream: u32) -> u32
     requires { IsTrue (streams.has all.now stream) }
     ensures value { result ≡ rest_len (streams.stream all.now stream) }
-    ensures within { (streams.stream all.now stream).position ≤ one.end_of (streams.stream all.now stream) }
+    ensures within { (streams.stream all.now stream).position ≤ one.end_position (streams.stream all.now stream) }
 {
     all.end(stream) - all.position(stream)
 }
@@ -165,13 +164,13 @@ fn bytes_left<A: Allocator + Clone>(
 ) -> Result<Option<Bytes>, AllocError>
     requires there { IsTrue (streams.has world.now.scene.streams stream) }
     requires reads { IsTrue (one.readable (streams.stream world.now.scene.streams stream)) }
-    requires within { (streams.stream world.now.scene.streams stream).position ≤ one.end_of
+    requires within { (streams.stream world.now.scene.streams stream).position ≤ one.end_position
         (streams.stream world.now.scene.streams stream) }
     requires most { most ≡ rest_len (streams.stream world.now.scene.streams stream) }
     requires places { places ≡ places_read world.now.scene stream most }
     requires at { places.at < 2 ^ 40 }
     ensures value { IfOk result (λ left. IfSome left (λ bytes. take_rest world.now.scene state.now.flat stream ≡ Ok (
-      silent (passed world.now.scene stream (one.end_of (streams.stream world.now.scene.streams stream))
+      silent (chars_got world.now.scene stream (one.end_position (streams.stream world.now.scene.streams stream))
           (rest_len (streams.stream world.now.scene.streams stream))),
       Some bytes,
     ))) }
@@ -200,7 +199,7 @@ pub fn take_rest<A: Allocator + Clone>(
     state: &State<A>,
     stream: u32,
 ) -> Result<Option<Bytes>, Fault>
-    ensures { Calls (IsTrue (take_rest_grows world.old.scene state.now.flat stream)) result world.old world.new
+    ensures { MakesCall (IsTrue (take_rest_grows world.old.scene state.now.flat stream)) result world.old world.new
         (take_rest world.old.scene state.now.flat stream) }
 {
     let all = world.streams();

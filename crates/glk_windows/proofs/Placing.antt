@@ -7,16 +7,16 @@ use Rattle.std.specs.List.{filter}
 use Rattle.std.specs.Option.{option_map}
 use Rattle.std.proofs.lemmas.Bool.Decides.{nat_tests}
 use Rattle.glk_objects.specs.Objects as objects
-use Rattle.glk_objects.specs.Objects.{IsAbove}
+use Rattle.glk_objects.specs.Objects.{IsAboveAll}
 use Rattle.glk_objects.proofs.Found as found
 use Rattle.glk_objects.proofs.Places.{id_at}
 use Rattle.glk_windows.specs.declared.tree.Arrangement.{Arrangement}
 use Rattle.glk_windows.specs.declared.entries.Entry.{Entry}
 use Rattle.glk_windows.specs.Constants.{pair_window}
 use Rattle.glk_windows.specs.Methods.{direction}
-use Rattle.glk_windows.specs.Tree.{Shape, One, Two, id_of, ids_in, is_among, or_else, part_from, parent_in, split_in}
+use Rattle.glk_windows.specs.Tree.{Shape, One, Two, shape_id, ids_in, is_among, or_else, part_from, parent_in, split_in}
 use Rattle.glk_windows.specs.Tree.{closed_in, unkeyed, rearranged, arranged_in}
-use Rattle.glk_windows.specs.Windows.{FlatWindows, entry_id, no_entry, entry_at, is_openable, stream_id}
+use Rattle.glk_windows.specs.Windows.{FlatWindows, entry_id, no_entry, window_entry, is_openable, stream_id}
 use Rattle.glk_windows.specs.Changes.{new_entry, new_pair, leaving_of, leaving, forgetting, left_of, closed_tree}
 use Rattle.glk_windows.specs.Changes.{chosen}
 use Rattle.glk_windows.specs.Laws.{AreDistinct, ids_of, is_pair, HaveTypes, ArePlaced, AreWhole, Tile}
@@ -316,7 +316,7 @@ types_kept es fs (Two a first second) same types =
 
 placed_changed : (es fs : List Entry) (tree : Option Shape)
     → ((win : ℕ) → objects.has entry_id fs win ≡ objects.has entry_id es win)
-    → ((win : ℕ) → (entry_at fs win).kind ≡ (entry_at es win).kind) → ArePlaced es tree → ArePlaced fs tree
+    → ((win : ℕ) → (window_entry fs win).kind ≡ (window_entry es win).kind) → ArePlaced es tree → ArePlaced fs tree
 placed_changed es fs None same kinds placed = record {
   once = placed.once;
   same = λ win. placed.same win ∙ sym (same win);
@@ -352,11 +352,11 @@ forgetting_none gone =
     ]
 
 forgotten_kind : (gone : List ℕ) (es : List Entry) (win : ℕ)
-    → (entry_at (map (forgetting gone) es) win).kind ≡ (entry_at es win).kind
+    → (window_entry (map (forgetting gone) es) win).kind ≡ (window_entry es win).kind
 forgotten_kind gone es win =
     ap (λ (e : Entry). e.kind)
     (found.at_map entry_id no_entry (forgetting gone) (forgetting_id gone) (forgetting_none gone) es win)
-    ∙ forgetting_kind gone (entry_at es win)
+    ∙ forgetting_kind gone (window_entry es win)
 
 pub placed_forgotten : (gone : List ℕ) (es : List Entry) (tree : Option Shape) → ArePlaced es tree
     → ArePlaced (map (forgetting gone) es) tree
@@ -366,26 +366,26 @@ placed_forgotten gone es tree placed =
     (λ win. forgotten_kind gone es win) placed
 
 echoed_kind : (es : List Entry) (win stream other : ℕ) → objects.has entry_id es win ≡ true
-    → (entry_at (objects.with entry_id es (record (entry_at es win) { echo = stream })) other).kind
-    ≡ (entry_at es other).kind
+    → (window_entry (objects.with entry_id es (record (window_entry es win) { echo = stream })) other).kind
+    ≡ (window_entry es other).kind
 echoed_kind es win stream other there =
-    let new = record (entry_at es win) { echo = stream } in
+    let new = record (window_entry es win) { echo = stream } in
     let id : new.id ≡ win = id_at entry_id no_entry es win there in
     elim (there_or_not (other == new.id)) [
       | inl here ↦ let same : other ≡ new.id = grind (arith, nat_tests, here) in
           rw same (ap (λ (e : Entry). e.kind)
           (found.at_with_here entry_id no_entry es new (rw id there))
-          ∙ ap (λ (w : ℕ). (entry_at es w).kind) (sym id))
+          ∙ ap (λ (w : ℕ). (window_entry es w).kind) (sym id))
       | inr apart ↦ ap (λ (e : Entry). e.kind)
           (found.at_with entry_id no_entry es new other (grind (arith, nat_tests, apart)))
     ]
 
 pub placed_echoed : (es : List Entry) (win stream : ℕ) (tree : Option Shape) → objects.has entry_id es win ≡ true
     → ArePlaced es tree
-    → ArePlaced (objects.with entry_id es (record (entry_at es win) { echo = stream })) tree
+    → ArePlaced (objects.with entry_id es (record (window_entry es win) { echo = stream })) tree
 placed_echoed es win stream tree there placed =
-    placed_changed es (objects.with entry_id es (record (entry_at es win) { echo = stream })) tree
-    (λ other. found.has_with entry_id no_entry es (record (entry_at es win) { echo = stream }) other)
+    placed_changed es (objects.with entry_id es (record (window_entry es win) { echo = stream })) tree
+    (λ other. found.has_with entry_id no_entry es (record (window_entry es win) { echo = stream }) other)
     (λ other. echoed_kind es win stream other there) placed
 
 -- ---- windows are opened
@@ -394,7 +394,7 @@ openable_leaf : (kind : ℕ) → is_openable kind ≡ true → (kind == pair_win
 openable_leaf kind may = grind (arith, nat_tests, may)
 
 -- a new window's entry
-not_yet : (es : List Entry) (id win : ℕ) → IsAbove entry_id es id → id ≤ win → objects.has entry_id es win ≡ false
+not_yet : (es : List Entry) (id win : ℕ) → IsAboveAll entry_id es id → id ≤ win → objects.has entry_id es win ≡ false
 not_yet es id win above le = elim (there_or_not (objects.has entry_id es win)) [
   | inl is ↦ absurd (let less = found.has_above entry_id no_entry es id win above is in omega (arith, less, le))
   | inr gone ↦ gone
@@ -409,10 +409,10 @@ new_kind : (es : List Entry) (e : Entry) → objects.has entry_id es e.id ≡ fa
     → is_pair (es ++ e ∷ []) e.id ≡ (e.kind == pair_window)
 new_kind es e gone =
     let here : (e.id == e.id) ≡ true = grind (arith, nat_tests) in
-    let it : entry_at (es ++ e ∷ []) e.id ≡ e = rw (found.at_new entry_id no_entry es e e.id gone, here) refl in
+    let it : window_entry (es ++ e ∷ []) e.id ≡ e = rw (found.at_new entry_id no_entry es e e.id gone, here) refl in
     ap (λ (f : Entry). f.kind == pair_window) it
 
-pub placed_first : (es : List Entry) (id kind rock : ℕ) → IsAbove entry_id es id → is_openable kind ≡ true
+pub placed_first : (es : List Entry) (id kind rock : ℕ) → IsAboveAll entry_id es id → is_openable kind ≡ true
     → ArePlaced es None → ArePlaced (es ++ new_entry id kind rock ∷ []) (Some (One id))
 placed_first es id kind rock above may placed =
     let e = new_entry id kind rock in
@@ -424,7 +424,7 @@ placed_first es id kind rock above may placed =
     }
 
 pub placed_beside : (es : List Entry) (tree : Option Shape) (split method size kind rock id : ℕ)
-    → objects.has entry_id es split ≡ true → IsAbove entry_id es id → is_openable kind ≡ true → ArePlaced es tree
+    → objects.has entry_id es split ≡ true → IsAboveAll entry_id es id → is_openable kind ≡ true → ArePlaced es tree
     → ArePlaced ((es ++ new_entry id kind rock ∷ []) ++ new_entry (id + 2) pair_window 0 ∷ [])
     (option_map (λ t. split_in t split (new_pair method size kind id) id) tree)
 placed_beside es None split method size kind rock id there above may placed =
@@ -490,12 +490,12 @@ record IsClosed (t after : Shape) (gone : List ℕ) : Type 0 where
   pub left : (id : ℕ) → is_among (ids_in after) id ≡ (is_among (ids_in t) id && not (is_among gone id))
   pub within : (id : ℕ) → is_among gone id ≡ true → is_among (ids_in t) id ≡ true
 
-top_there : (t : Shape) (win : ℕ) → (id_of t == win) ≡ true → is_among (ids_in t) win ≡ true
+top_there : (t : Shape) (win : ℕ) → (shape_id t == win) ≡ true → is_among (ids_in t) win ≡ true
 top_there (One id) win top = grind (arith, top)
 top_there (Two a first second) win top = grind (arith, top)
 
-not_top : (t : Shape) (win : ℕ) → is_among (ids_in t) win ≡ false → (id_of t == win) ≡ false
-not_top t win gone = elim (there_or_not (id_of t == win)) [
+not_top : (t : Shape) (win : ℕ) → is_among (ids_in t) win ≡ false → (shape_id t == win) ≡ false
+not_top t win gone = elim (there_or_not (shape_id t == win)) [
   | inl top ↦ absurd (let e = top_there t win top in cc)
   | inr other ↦ other
 ]
@@ -542,7 +542,7 @@ parent_absent (Two a first second) win gone =
     let other = not_top second win not_second in
     rw (one, other, parent_absent first win not_first, parent_absent second win not_second) refl
 
-part_top : (t : Shape) (win : ℕ) → (id_of t == win) ≡ true → part_from t win ≡ Some t
+part_top : (t : Shape) (win : ℕ) → (shape_id t == win) ≡ true → part_from t win ≡ Some t
 part_top (One id) win here = rw here refl
 part_top (Two a first second) win here = rw here refl
 
@@ -647,15 +647,15 @@ closed_second a first second after gone distinct closed =
 
 -- a window below the topmost one is closed
 closed_below : (t : Shape) (win : ℕ) → AreDistinct (ids_in t) → is_among (ids_in t) win ≡ true
-    → (id_of t == win) ≡ false → IsClosed t (closed_in t win) (leaving_of t win)
+    → (shape_id t == win) ≡ false → IsClosed t (closed_in t win) (leaving_of t win)
 closed_below (One id) win distinct there below = absurd (let e = there in grind (arith, e, below))
 closed_below (Two a first second) win distinct there below =
     let xs = ids_in first in
     let ys = ids_in second in
     let parts = apart_of xs ys distinct.1 in
-    elim (there_or_not (id_of first == win)) [
+    elim (there_or_not (shape_id first == win)) [
       | inl top ↦ rw (top, below, part_top first win top) (first_leaves a first second distinct)
-      | inr not_first ↦ elim (there_or_not (id_of second == win)) [
+      | inr not_first ↦ elim (there_or_not (shape_id second == win)) [
         | inl top ↦ let gone = (swapped xs ys parts).apart win (top_there second win top) in
             rw (not_first, top, below, part_absent first win gone, part_top second win top)
             (second_leaves a first second distinct)
@@ -687,10 +687,10 @@ closed_below (Two a first second) win distinct there below =
 closed_types : (es : List Entry) (t : Shape) (win : ℕ) → HaveTypes es t → HaveTypes es (closed_in t win)
 closed_types es (One id) win types = types
 closed_types es (Two a first second) win types =
-    elim (id_of first == win) as (λ b. HaveTypes es (if b then second else if id_of second == win then first else
+    elim (shape_id first == win) as (λ b. HaveTypes es (if b then second else if shape_id second == win then first else
     Two a (closed_in first win) (closed_in second win))) [
       | true ↦ types.1.1
-      | false ↦ elim (id_of second == win) as
+      | false ↦ elim (shape_id second == win) as
           (λ b. HaveTypes es (if b then first else Two a (closed_in first win) (closed_in second win))) [
             | true ↦ types.1.0
             | false ↦ (types.0, (closed_types es first win types.1.0, closed_types es second win types.1.1))
@@ -709,7 +709,7 @@ unkeyed_types es gone (Two a first second) types =
 left_at : (ids : List ℕ) (es : List Entry) (win : ℕ) → is_among ids win ≡ false
     → is_pair (filter (λ e. not (is_among ids e.id)) es) win ≡ is_pair es win
 left_at ids es win stays =
-    let it : entry_at (filter (λ e. not (is_among ids e.id)) es) win ≡ entry_at es win =
+    let it : window_entry (filter (λ e. not (is_among ids e.id)) es) win ≡ window_entry es win =
     rw (found.at_chosen entry_id no_entry (λ (id : ℕ). not (is_among ids id)) es win, stays) refl in
     ap (λ (e : Entry). e.kind == pair_window) it
 
@@ -731,7 +731,7 @@ some_left true false there now kept is left same = cc
 some_left false true there now kept is left same = cc
 some_left false false there now kept is left same = cc
 
-all_gone : (t : Shape) (win : ℕ) → (id_of t == win) ≡ true → leaving_of t win ≡ parent_in t win ∷ ids_in t
+all_gone : (t : Shape) (win : ℕ) → (shape_id t == win) ≡ true → leaving_of t win ≡ parent_in t win ∷ ids_in t
 all_gone t win top = rw (part_top t win top) refl
 
 pub placed_closed : (es : List Entry) (tree : Option Shape) (win : ℕ) → objects.has entry_id es win ≡ true
@@ -745,7 +745,7 @@ placed_closed es (Some t) win there placed =
     let fewer_there : (id : ℕ) → objects.has entry_id fs id ≡ (not (is_among ids id) && objects.has entry_id es id) =
     λ id. found.has_chosen entry_id no_entry (λ (other : ℕ). not (is_among ids other)) es id in
     placed_forgotten (map stream_id (chosen ids es)) fs (closed_tree ids (Some t) win)
-    (elim (there_or_not (id_of t == win)) [
+    (elim (there_or_not (shape_id t == win)) [
       | inl top ↦ let same = all_gone t win top in
           rw top (record {
             once = tt;

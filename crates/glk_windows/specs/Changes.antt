@@ -9,21 +9,21 @@ use Rattle.glk_windows.specs.Constants.{pair_window, blank_window, text_grid}
 use Rattle.glk_windows.specs.declared.tree.Arrangement.{Arrangement}
 use Rattle.glk_windows.specs.declared.entries.Entry.{Entry}
 use Rattle.glk_windows.specs.declared.grid.Grid.{Grid}
-use Rattle.glk_windows.specs.Tree.{Shape, One, id_of, part_from, ids_in, parent_in, split_in, closed_in, is_among}
+use Rattle.glk_windows.specs.Tree.{Shape, One, shape_id, part_from, ids_in, parent_in, split_in, closed_in, is_among}
 use Rattle.glk_windows.specs.Tree.{unkeyed, can_arrange, arranged_in}
-use Rattle.glk_windows.specs.Grids.{grid_id, empty_grid, resized, grows, put, cleared, moved}
-use Rattle.glk_windows.specs.Windows.{FlatWindows, entry_id, stream_id, entry_at, sizes_in, has_grid, grid_at}
+use Rattle.glk_windows.specs.Grids.{grid_id, empty_grid, sized_to, grid_grows, put, blanked, with_cursor}
+use Rattle.glk_windows.specs.Windows.{FlatWindows, entry_id, stream_id, window_entry, sizes_in, has_grid, grid_at}
 
 -- each grid gets its window's size
 abbrev pub fitted_to : Option Shape → ℕ × ℕ → Grid → Grid
-fitted_to tree screen g = resized (sizes_in tree screen g.id) g
+fitted_to tree screen g = sized_to (sizes_in tree screen g.id) g
 
 abbrev pub fitted : FlatWindows → FlatWindows
 fitted f = record f { grids = map (fitted_to f.tree (f.columns, f.rows)) f.grids }
 
 -- a grid gets a row or a cell more then
 abbrev pub some_grow : Option Shape → ℕ × ℕ → List Grid → Bool
-some_grow tree screen grids = list_any (λ g. grows (sizes_in tree screen g.id) g) grids
+some_grow tree screen grids = list_any (λ g. grid_grows (sizes_in tree screen g.id) g) grids
 
 -- ---- opening
 
@@ -57,8 +57,8 @@ split_by f split method size kind rock id = record f {
 }
 
 -- A window is opened. The identifiers from `id` on are those of the window, its stream, the pair, the pair's stream.
-unfoldable pub added : FlatWindows → ℕ → ℕ → ℕ → ℕ → ℕ → ℕ → FlatWindows
-added f split method size kind rock id =
+unfoldable pub with_new_window : FlatWindows → ℕ → ℕ → ℕ → ℕ → ℕ → ℕ → FlatWindows
+with_new_window f split method size kind rock id =
     fitted (if split == 0 then rooted f kind rock id else split_by f split method size kind rock id)
 
 -- ---- closing
@@ -85,7 +85,7 @@ forgetting streams e = if is_among streams e.echo then record e { echo = 0 } els
 -- the tree without a window, and without these keys; none is left where the window is the root
 abbrev pub closed_tree : List ℕ → Option Shape → ℕ → Option Shape
 closed_tree ids None win = None
-closed_tree ids (Some t) win = if id_of t == win then None else Some (unkeyed ids (closed_in t win))
+closed_tree ids (Some t) win = if shape_id t == win then None else Some (unkeyed ids (closed_in t win))
 
 -- the windows but for those of these identifiers, whose streams are gone too
 abbrev pub left_of : List Entry → List ℕ → List Entry
@@ -98,31 +98,32 @@ without_ids f ids =
     record f { entries = left_of f.entries ids; grids = filter (λ g. not (is_among ids g.id)) f.grids }
 
 -- a window is closed, with all windows below it, their pair and their streams
-unfoldable pub closed : FlatWindows → ℕ → FlatWindows
-closed f win =
+unfoldable pub window_closed : FlatWindows → ℕ → FlatWindows
+window_closed f win =
     fitted (record (without_ids f (leaving f.tree win)) { tree = closed_tree (leaving f.tree win) f.tree win })
 
 -- ---- arranging
 
 -- a window is a pair that may get this method and this key
-abbrev pub allows : FlatWindows → ℕ → ℕ → ℕ → Bool
-allows f win method key =
+abbrev pub allows_arrangement : FlatWindows → ℕ → ℕ → ℕ → Bool
+allows_arrangement f win method key =
     unwrap_or (option_map (λ t. can_arrange t method key) (option_and_then (λ t. part_from t win) f.tree)) false
 
 -- the tree with another arrangement of a pair
 abbrev pub arranged_tree : FlatWindows → ℕ → ℕ → ℕ → ℕ → Option Shape
 arranged_tree f win method size key =
-    option_map (λ t. arranged_in t win method size key ((entry_at f.entries key).kind == blank_window)) f.tree
+    option_map (λ t. arranged_in t win method size key ((window_entry f.entries key).kind == blank_window)) f.tree
 
 -- a pair gets another arrangement; nothing changes where it may not
 unfoldable pub arranged : FlatWindows → ℕ → ℕ → ℕ → ℕ → FlatWindows
 arranged f win method size key =
-    if allows f win method key then fitted (record f { tree = arranged_tree f win method size key }) else f
+    if allows_arrangement f win method key then fitted (record f { tree = arranged_tree f win method size key }) else f
 
 -- that makes a grid larger
 unfoldable pub arranging_grows : FlatWindows → ℕ → ℕ → ℕ → ℕ → Bool
 arranging_grows f win method size key =
-    if allows f win method key then some_grow (arranged_tree f win method size key) (f.columns, f.rows) f.grids
+    if allows_arrangement f win method key
+    then some_grow (arranged_tree f win method size key) (f.columns, f.rows) f.grids
     else false
 
 -- ---- text, cursor, echo
@@ -135,16 +136,16 @@ unfoldable pub put_to : FlatWindows → ℕ → ℕ → FlatWindows
 put_to f win c = with_grid_of f win (put (grid_at f.grids win) c)
 
 unfoldable pub cleared_in : FlatWindows → ℕ → FlatWindows
-cleared_in f win = with_grid_of f win (cleared (grid_at f.grids win))
+cleared_in f win = with_grid_of f win (blanked (grid_at f.grids win))
 
 unfoldable pub moved_in : FlatWindows → ℕ → ℕ → ℕ → FlatWindows
-moved_in f win x y = with_grid_of f win (moved (grid_at f.grids win) x y)
+moved_in f win x y = with_grid_of f win (with_cursor (grid_at f.grids win) x y)
 
 -- a window's echo stream, 0 for none
-unfoldable pub echoed : FlatWindows → ℕ → ℕ → FlatWindows
-echoed f win stream =
-    record f { entries = objects.with entry_id f.entries (record (entry_at f.entries win) { echo = stream }) }
+unfoldable pub with_echo_stream : FlatWindows → ℕ → ℕ → FlatWindows
+with_echo_stream f win stream =
+    record f { entries = objects.with entry_id f.entries (record (window_entry f.entries win) { echo = stream }) }
 
 -- a stream is gone
-abbrev pub without_stream : FlatWindows → ℕ → FlatWindows
-without_stream f stream = record f { entries = map (forgetting (stream ∷ [])) f.entries }
+abbrev pub without_echoes : FlatWindows → ℕ → FlatWindows
+without_echoes f stream = record f { entries = map (forgetting (stream ∷ [])) f.entries }

@@ -18,43 +18,43 @@ abbrev pub fit : {A : Type 0} → ℕ → A → List A → List A
 fit n blank xs = take n xs ++ replicate (n - length xs) blank
 
 -- a grid at a size: cells inside both sizes stay, and new ones are blank
-abbrev pub resized : ℕ × ℕ → Grid → Grid
-resized area g = record g { columns = area.0; rows = map (fit area.0 blank_cell) (fit area.1 [] g.rows) }
+abbrev pub sized_to : ℕ × ℕ → Grid → Grid
+sized_to area g = record g { columns = area.0; rows = map (fit area.0 blank_cell) (fit area.1 [] g.rows) }
 
 -- a size has a row more than the grid, or a cell more in one of its rows
-abbrev pub grows : ℕ × ℕ → Grid → Bool
-grows area g = nat_lt (length g.rows) area.1 || list_any (λ row. nat_lt (length row) area.0) g.rows
+abbrev pub grid_grows : ℕ × ℕ → Grid → Bool
+grid_grows area g = nat_lt (length g.rows) area.1 || list_any (λ row. nat_lt (length row) area.0) g.rows
 
 -- a row of the grid, a cell of a row; empty and blank where there is none
-abbrev pub row_of : Grid → ℕ → List ℕ
-row_of g y = slice_index_or g.rows y []
+abbrev pub grid_row_at : Grid → ℕ → List ℕ
+grid_row_at g y = slice_index_or g.rows y []
 
-abbrev pub cell_of : Grid → ℕ → ℕ → ℕ
-cell_of g x y = slice_index_or (row_of g y) x blank_cell
+abbrev pub grid_cell_at : Grid → ℕ → ℕ → ℕ
+grid_cell_at g x y = slice_index_or (grid_row_at g y) x blank_cell
 
 -- the row below; the last number of a row stays
 abbrev pub row_below : ℕ → ℕ
 row_below y = if y == 0xFFFFFFFF then y else y + 1
 
 -- the cursor before a character: past the end of a row it goes to the next one
-abbrev pub wrapped : Grid → Grid
-wrapped g = if nat_lt g.x g.columns then g else record g { x = 0; y = row_below g.y }
+abbrev pub cursor_wrapped : Grid → Grid
+cursor_wrapped g = if nat_lt g.x g.columns then g else record g { x = 0; y = row_below g.y }
 
 -- a character at the cursor; below the last row it is dropped
 unfoldable pub put_at : Grid → ℕ → Grid
 put_at g c =
     if nat_le (length g.rows) g.y || g.columns == 0 then g else
     if c == line_feed then record g { x = 0; y = row_below g.y } else
-    record g { rows = slice_set g.rows g.y (slice_set (row_of g g.y) g.x c); x = g.x + 1 }
+    record g { rows = slice_set g.rows g.y (slice_set (grid_row_at g g.y) g.x c); x = g.x + 1 }
 
 -- a character is put
 abbrev pub put : Grid → ℕ → Grid
-put g c = put_at (wrapped g) c
+put g c = put_at (cursor_wrapped g) c
 
 -- all cells become blank, and the cursor goes to the first
-abbrev pub cleared : Grid → Grid
-cleared g = record g { rows = map (λ row. replicate (length row) blank_cell) g.rows; x = 0; y = 0 }
+abbrev pub blanked : Grid → Grid
+blanked g = record g { rows = map (λ row. replicate (length row) blank_cell) g.rows; x = 0; y = 0 }
 
 -- the cursor is moved; it may be anywhere
-abbrev pub moved : Grid → ℕ → ℕ → Grid
-moved g x y = record g { x = x; y = y }
+abbrev pub with_cursor : Grid → ℕ → ℕ → Grid
+with_cursor g x y = record g { x = x; y = y }

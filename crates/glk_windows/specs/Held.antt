@@ -1,5 +1,5 @@
 -- What contracts see of the windows, and what holds of their fields.
-use Rattle.glk_objects.specs.Objects.{Rises}
+use Rattle.glk_objects.specs.Objects.{AreRising}
 use Rattle.glk_windows.specs.declared.windows.Windows.TheInside.{Inside}
 use Rattle.glk_windows.specs.Grids.{grid_id}
 use Rattle.glk_windows.specs.Windows.{FlatWindows, entry_id, tree_of}
@@ -16,6 +16,6 @@ flat_of w = record {
 
 -- identifiers rise in both lists, and each window has its place in the tree
 pub record IsKept (w : Inside) : Type 0 where
-  pub entries : Rises entry_id w.entries.items
-  pub grids : Rises grid_id w.grids.items
+  pub entries : AreRising entry_id w.entries.items
+  pub grids : AreRising grid_id w.grids.items
   pub placed : ArePlaced w.entries.items (tree_of w.tree)

@@ -9,7 +9,7 @@ use Rattle.glk_windows.specs.declared.tree.Arrangement.{Arrangement}
 use Rattle.glk_windows.specs.declared.entries.Entry.{Entry}
 use Rattle.glk_windows.specs.Methods.{is_across}
 use Rattle.glk_windows.specs.Tree.{Shape, One, Two, ids_in, first_area, second_area, is_among}
-use Rattle.glk_windows.specs.Windows.{FlatWindows, entry_id, entry_at, sizes_in}
+use Rattle.glk_windows.specs.Windows.{FlatWindows, entry_id, window_entry, sizes_in}
 
 -- the windows that aren't pairs
 abbrev pub leaves : Shape → List ℕ
@@ -27,7 +27,7 @@ ids_of tree = unwrap_or (option_map ids_in tree) []
 
 -- a window has the type of pairs
 abbrev pub is_pair : List Entry → ℕ → Bool
-is_pair entries win = (entry_at entries win).kind == pair_window
+is_pair entries win = (window_entry entries win).kind == pair_window
 
 -- those with children have it, and no others
 abbrev pub HaveTypes : List Entry → Shape → Type 0

@@ -18,9 +18,9 @@ abbrev pub shape_of : Tree → Shape
 shape_of (tree.Leaf id) = One id
 shape_of (tree.Pair' a _ first _ second) = Two a (shape_of first) (shape_of second)
 
-abbrev pub id_of : Shape → ℕ
-id_of (One id) = id
-id_of (Two a first second) = a.id
+abbrev pub shape_id : Shape → ℕ
+shape_id (One id) = id
+shape_id (Two a first second) = a.id
 
 abbrev pub or_else : {A : Type 0} → Option A → Option A → Option A
 or_else (Some x) other = Some x
@@ -72,7 +72,7 @@ has_leaf (Two a first second) win = has_leaf first win || has_leaf second win
 abbrev pub parent_in : Shape → ℕ → ℕ
 parent_in (One id) win = 0
 parent_in (Two a first second) win =
-    if id_of first == win || id_of second == win then a.id else
+    if shape_id first == win || shape_id second == win then a.id else
     if parent_in first win == 0 then parent_in second win else
     parent_in first win
 
@@ -80,7 +80,7 @@ parent_in (Two a first second) win =
 abbrev pub pair_of : Shape → Option Pair
 pair_of (One id) = None
 pair_of (Two a first second) =
-    Some (record { first = id_of first; second = id_of second; method = a.method; size = a.size; key = a.key })
+    Some (record { first = shape_id first; second = shape_id second; method = a.method; size = a.size; key = a.key })
 
 -- ---- changes
 
@@ -95,8 +95,8 @@ split_in (Two b first second) split a new =
 abbrev pub closed_in : Shape → ℕ → Shape
 closed_in (One id) win = One id
 closed_in (Two a first second) win =
-    if id_of first == win then second else
-    if id_of second == win then first else
+    if shape_id first == win then second else
+    if shape_id second == win then first else
     Two a (closed_in first win) (closed_in second win)
 
 abbrev pub is_among : List ℕ → ℕ → Bool

@@ -10,8 +10,8 @@ use Rattle.glk_windows.specs.declared.entries.Entry.{Entry}
 use Rattle.glk_windows.specs.declared.entries.Window.{Window}
 use Rattle.glk_windows.specs.declared.grid.Grid.{Grid}
 use Rattle.glk_windows.specs.Methods.{is_method}
-use Rattle.glk_windows.specs.Tree.{Shape, shape_of, id_of, area_in, part_from, parent_in, pair_of}
-use Rattle.glk_windows.specs.Grids.{grid_id, empty_grid, cell_of, row_of}
+use Rattle.glk_windows.specs.Tree.{Shape, shape_of, shape_id, area_in, part_from, parent_in, pair_of}
+use Rattle.glk_windows.specs.Grids.{grid_id, empty_grid, grid_cell_at, grid_row_at}
 
 pub record FlatWindows : Type 0 where
   pub entries : List Entry
@@ -43,11 +43,11 @@ no_entry = record { id = 0; kind = 0; rock = 0; stream = 0; echo = 0 }
 abbrev pub is_window : FlatWindows → ℕ → Bool
 is_window f win = objects.has entry_id f.entries win
 
-abbrev pub entry_at : List Entry → ℕ → Entry
-entry_at entries win = objects.at entry_id no_entry entries win
+abbrev pub window_entry : List Entry → ℕ → Entry
+window_entry entries win = objects.at entry_id no_entry entries win
 
 abbrev pub entry : FlatWindows → ℕ → Option Entry
-entry f win = if is_window f win then Some (entry_at f.entries win) else None
+entry f win = if is_window f win then Some (window_entry f.entries win) else None
 
 -- windows of this type show text
 abbrev pub has_text : ℕ → Bool
@@ -60,21 +60,21 @@ next f win = objects.next entry_id f.entries win
 -- ---- the tree
 
 abbrev pub root : FlatWindows → ℕ
-root f = unwrap_or (option_map id_of f.tree) 0
+root f = unwrap_or (option_map shape_id f.tree) 0
 
 -- the pair above a window, 0 for none
 abbrev pub parent : FlatWindows → ℕ → ℕ
 parent f win = unwrap_or (option_map (λ t. parent_in t win) f.tree) 0
 
 -- all that a story sees of a window
-abbrev pub window_of : Entry → ℕ → Window
-window_of e above = record { id = e.id; kind = e.kind; rock = e.rock; stream = e.stream; echo = e.echo; parent = above }
+abbrev pub as_window : Entry → ℕ → Window
+as_window e above = record { id = e.id; kind = e.kind; rock = e.rock; stream = e.stream; echo = e.echo; parent = above }
 
 abbrev pub window : FlatWindows → ℕ → Option Window
-window f win = option_map (λ e. window_of e (parent f win)) (entry f win)
+window f win = option_map (λ e. as_window e (parent f win)) (entry f win)
 
-abbrev pub pair : FlatWindows → ℕ → Option Pair
-pair f win = option_and_then pair_of (option_and_then (λ t. part_from t win) f.tree)
+abbrev pub window_pair : FlatWindows → ℕ → Option Pair
+window_pair f win = option_and_then pair_of (option_and_then (λ t. part_from t win) f.tree)
 
 -- the columns and rows of each window in a tree, from the root's on; none where there is no such window
 abbrev pub sizes_in : Option Shape → ℕ × ℕ → ℕ → ℕ × ℕ
@@ -85,7 +85,7 @@ sizes f win = sizes_in f.tree (f.columns, f.rows) win
 
 -- "Window Sizes": what a story is told; windows without text have the size 0 by 0
 abbrev pub text_size : FlatWindows → ℕ → ℕ × ℕ
-text_size f win = if has_text (entry_at f.entries win).kind then sizes f win else (0, 0)
+text_size f win = if has_text (window_entry f.entries win).kind then sizes f win else (0, 0)
 
 -- ---- the grids
 
@@ -96,18 +96,18 @@ abbrev pub grid_at : List Grid → ℕ → Grid
 grid_at grids win = objects.at grid_id (empty_grid 0) grids win
 
 -- a cell and a row of a window's grid; blank and empty where there is none
-abbrev pub cell : FlatWindows → ℕ → ℕ → ℕ → ℕ
-cell f win x y = cell_of (grid_at f.grids win) x y
+abbrev pub window_cell : FlatWindows → ℕ → ℕ → ℕ → ℕ
+window_cell f win x y = grid_cell_at (grid_at f.grids win) x y
 
-abbrev pub row : FlatWindows → ℕ → ℕ → List ℕ
-row f win y = row_of (grid_at f.grids win) y
+abbrev pub window_row : FlatWindows → ℕ → ℕ → List ℕ
+window_row f win y = grid_row_at (grid_at f.grids win) y
 
 -- ---- what may be opened
 
 -- an identifier is above those of all windows
 pub record IsNewId (f : FlatWindows) (id : ℕ) : Type 0 where
-  pub entries : objects.IsAbove entry_id f.entries id
-  pub grids : objects.IsAbove grid_id f.grids id
+  pub entries : objects.IsAboveAll entry_id f.entries id
+  pub grids : objects.IsAboveAll grid_id f.grids id
 
 -- a story may open a window of this type
 abbrev pub is_openable : ℕ → Bool

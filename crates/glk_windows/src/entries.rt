@@ -2,7 +2,7 @@
 ghost use Rattle.std.specs.Prelude.{◌≡◌, ◌+◌, ◌<◌, ◌^◌, map, filter, not, IsTrue, IfOk};
 ghost use Rattle.glk_objects.specs.Objects as objects;
 ghost use Rattle.glk_windows.specs.Tree.{is_among};
-ghost use Rattle.glk_windows.specs.Windows.{entry_id, stream_id, entry_at, leaf_count};
+ghost use Rattle.glk_windows.specs.Windows.{entry_id, stream_id, window_entry, leaf_count};
 ghost use Rattle.glk_windows.specs.Changes.{new_entry, chosen, forgetting};
 
 use crate::methods::PAIR;
@@ -64,8 +64,8 @@ pub(crate) fn new_entry(id: u32, kind: u32, rock: u32) -> Entry
 /// The entry of a window, or one of zeros.
 #[tactic(auto, using(glk_objects::proofs::Places::places))]
 pub(crate) fn entry_at(entries: &[Entry], win: u32) -> Entry
-    requires { objects.Rises entry_id entries.now }
-    ensures { result ≡ entry_at entries.now win }
+    requires { objects.AreRising entry_id entries.now }
+    ensures { result ≡ window_entry entries.now win }
 {
     let at = place(entries, win);
     if at < entries.len() {
@@ -127,9 +127,9 @@ pub(crate) fn chosen_streams(
 /// Keeps the windows but for those of these identifiers.
 #[tactic(auto, using(glk_objects::proofs::Rising::rising))]
 pub(crate) fn keep_entries(entries: &mut Vec<Entry>, ids: &[u32])
-    requires { objects.Rises entry_id entries.old.items }
+    requires { objects.AreRising entry_id entries.old.items }
     ensures value { entries.new.items ≡ filter (λ e. not (is_among ids.now e.id)) entries.old.items }
-    ensures rises { objects.Rises entry_id entries.new.items }
+    ensures rises { objects.AreRising entry_id entries.new.items }
 {
     entries.retain(|entry| !is_among(ids, entry.id));
 }
@@ -137,11 +137,11 @@ pub(crate) fn keep_entries(entries: &mut Vec<Entry>, ids: &[u32])
 /// Sets a window's echo stream.
 #[tactic(auto, using(glk_objects::proofs::Places::places, crate::proofs::Lists::forgets))]
 pub(crate) fn set_echo(entries: &mut Vec<Entry>, win: u32, stream: u32)
-    requires rises { objects.Rises entry_id entries.old.items }
+    requires rises { objects.AreRising entry_id entries.old.items }
     requires there { IsTrue (objects.has entry_id entries.old.items win) }
     ensures value { entries.new.items
-        ≡ objects.with entry_id entries.old.items (record (entry_at entries.old.items win) { echo = stream }) }
-    ensures rises { objects.Rises entry_id entries.new.items }
+        ≡ objects.with entry_id entries.old.items (record (window_entry entries.old.items win) { echo = stream }) }
+    ensures rises { objects.AreRising entry_id entries.new.items }
 {
     let at = place(entries, win);
     entries[at].echo = stream;
@@ -163,9 +163,9 @@ fn forgetting(streams: &[u32], entry: Entry) -> Entry
 /// Echo streams that are gone become none.
 #[tactic(auto, using(crate::proofs::Lists::forgets))]
 pub(crate) fn forget(streams: &[u32], entries: &mut Vec<Entry>)
-    requires { objects.Rises entry_id entries.old.items }
+    requires { objects.AreRising entry_id entries.old.items }
     ensures value { entries.new.items ≡ map (forgetting streams.now) entries.old.items }
-    ensures rises { objects.Rises entry_id entries.new.items }
+    ensures rises { objects.AreRising entry_id entries.new.items }
 {
     for at in 0..entries.len() {
         entries[at] = forgetting(streams, entries[at]);

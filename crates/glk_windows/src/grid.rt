@@ -4,8 +4,9 @@
 ghost use Rattle.std.specs.Prelude.{◌≡◌, ◌-◌, ◌<◌, ◌^◌, ◌⊎◌, [], length, map, replicate, slice_set, slice_index_or};
 ghost use Rattle.std.specs.Prelude.{OnOk, OnErr, IsTrue, nat_lt};
 ghost use Rattle.std.specs.List.{list_any};
-ghost use Rattle.glk_windows.specs.Grids.{empty_grid, fit, resized, grows, row_below, wrapped, put_at, put, cleared};
-ghost use Rattle.glk_windows.specs.Grids.{moved};
+ghost use Rattle.glk_windows.specs.Grids.{empty_grid, fit, sized_to, grid_grows, row_below, cursor_wrapped, put_at};
+ghost use Rattle.glk_windows.specs.Grids.{put, blanked};
+ghost use Rattle.glk_windows.specs.Grids.{with_cursor};
 
 use glk_objects::Object;
 use gx_words::LINE_FEED;
@@ -218,7 +219,7 @@ fn row_below(y: u32) -> u32
 
 /// Past the end of a row the cursor goes to the next one.
 fn wrap(grid: &mut Grid)
-    ensures new { grid.new ≡ wrapped grid.old }
+    ensures new { grid.new ≡ cursor_wrapped grid.old }
     ensures id { grid.new.id ≡ grid.old.id }
     ensures room { grid.new.x < 2 ^ 32 - 1 }
 {
@@ -257,7 +258,7 @@ pub(crate) fn put(grid: &mut Grid, c: u32)
 
 /// Makes all cells blank, with the cursor at the first.
 pub(crate) fn clear(grid: &mut Grid)
-    ensures { grid.new ≡ cleared grid.old }
+    ensures { grid.new ≡ blanked grid.old }
 {
     grid.rows.clear();
     grid.x = 0;
@@ -265,7 +266,7 @@ pub(crate) fn clear(grid: &mut Grid)
 }
 
 pub(crate) fn move_cursor(grid: &mut Grid, x: u32, y: u32)
-    ensures { grid.new ≡ moved grid.old x y }
+    ensures { grid.new ≡ with_cursor grid.old x y }
 {
     grid.x = x;
     grid.y = y;
@@ -273,8 +274,8 @@ pub(crate) fn move_cursor(grid: &mut Grid, x: u32, y: u32)
 
 /// Fits the grid to so many columns and rows.
 pub(crate) fn resize(alloc: Global, grid: &mut Grid, area: (u32, u32)) -> Result<(), AllocError>
-    ensures ok { OnOk result (grid.new ≡ resized area grid.old) }
-    ensures grows { OnErr result (IsTrue (grows area grid.old)) }
+    ensures ok { OnOk result (grid.new ≡ sized_to area grid.old) }
+    ensures grows { OnErr result (IsTrue (grid_grows area grid.old)) }
     ensures id { grid.new.id ≡ grid.old.id }
 {
     grid.rows.fit(alloc, area.0 as usize, area.1 as usize)?;

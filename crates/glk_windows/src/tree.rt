@@ -3,7 +3,8 @@
 ghost use Rattle.std.specs.Prelude.{◌≡◌, ◌≤◌, ◌++◌, ◌+◌, true, OnErr, OnOk};
 ghost use Rattle.std.specs.Option.{option_map};
 ghost use Rattle.glk_windows.specs.Methods.{direction};
-ghost use Rattle.glk_windows.specs.Tree.{One, Two, shape_of, id_of, share, second_area, first_area, area_in, part_from};
+ghost use Rattle.glk_windows.specs.Tree.{One, Two, shape_of, shape_id, share, second_area, first_area, area_in};
+ghost use Rattle.glk_windows.specs.Tree.{part_from};
 ghost use Rattle.glk_windows.specs.Tree.{ids_in, has_leaf, parent_in, pair_of, split_in, closed_in, is_among, unkeyed};
 ghost use Rattle.glk_windows.specs.Tree.{can_arrange, rearranged, arranged_in};
 ghost use Rattle.glk_windows.specs.Laws.{AreDistinct};
@@ -49,7 +50,7 @@ pub enum Tree {
 
 /// The identifier of the topmost window.
 pub(crate) fn id_of(tree: &Tree) -> u32
-    ensures { result ≡ id_of (shape_of tree.now) }
+    ensures { result ≡ shape_id (shape_of tree.now) }
 {
     match tree {
         Tree::Leaf(id) => *id,

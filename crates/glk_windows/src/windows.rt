@@ -6,12 +6,16 @@ ghost use Rattle.std.specs.List.Sorted.{IsStrictlyIncreasing};
 ghost use Rattle.glk_objects.specs.Objects as objects;
 ghost use Rattle.glk_windows.specs.Tree.{shape_of, is_among, split_in, arranged_in};
 ghost use Rattle.glk_windows.specs.Grids.{grid_id};
-ghost use Rattle.glk_windows.specs.Windows.{tree_of, no_windows, entry_id, is_window, entry_at, entry, next, root};
-ghost use Rattle.glk_windows.specs.Windows.{parent, window, pair, sizes_in, sizes, text_size, cell, row, is_openable};
+ghost use Rattle.glk_windows.specs.Windows.{tree_of, no_windows, entry_id, is_window, window_entry, entry, next, root};
+ghost use Rattle.glk_windows.specs.Windows.{parent, window, window_pair, sizes_in, sizes, text_size, window_cell};
+ghost use Rattle.glk_windows.specs.Windows.{window_row, is_openable};
 ghost use Rattle.glk_windows.specs.Windows.{can_add, last_given, IsNewId};
-ghost use Rattle.glk_windows.specs.Changes.{fitted_to, fitted, some_grow, with_grid, rooted, split_by, added, leaving};
-ghost use Rattle.glk_windows.specs.Changes.{chosen, left_of, gone, closed_tree, closed, allows, arranged};
-ghost use Rattle.glk_windows.specs.Changes.{arranging_grows, put_to, cleared_in, moved_in, echoed, without_stream};
+ghost use Rattle.glk_windows.specs.Changes.{fitted_to, fitted, some_grow, with_grid, rooted, split_by, with_new_window};
+ghost use Rattle.glk_windows.specs.Changes.{leaving};
+ghost use Rattle.glk_windows.specs.Changes.{chosen, left_of, gone, closed_tree, window_closed, allows_arrangement};
+ghost use Rattle.glk_windows.specs.Changes.{arranged};
+ghost use Rattle.glk_windows.specs.Changes.{arranging_grows, put_to, cleared_in, moved_in, with_echo_stream};
+ghost use Rattle.glk_windows.specs.Changes.{without_echoes};
 ghost use Rattle.glk_windows.specs.Laws.{AreDistinct, ids_of, AreWhole};
 
 use crate::entries::{
@@ -102,7 +106,7 @@ impl Windows {
         ensures value { result ≡ next self.now win }
 
         // Going on from one to the next meets each window once, in order of creation.
-        ensures each { objects.IsBelow entry_id self.now.entries 0 → (more : ℕ)
+        ensures each { objects.IsBelowAll entry_id self.now.entries 0 → (more : ℕ)
             → objects.met_from entry_id (length self.now.entries + more) self.now.entries 0
             ≡ map entry_id self.now.entries }
     {
@@ -124,7 +128,7 @@ impl Windows {
 
     /// The same, with zeros where no window has the identifier.
     pub fn entry_at(&self, win: u32) -> Entry
-        ensures { result ≡ entry_at self.now.entries win }
+        ensures { result ≡ window_entry self.now.entries win }
     {
         entry_at(&self.entries, win)
     }
@@ -158,7 +162,7 @@ impl Windows {
 
     /// A pair window, `None` where no pair window has the identifier.
     pub fn pair(&self, win: u32) -> Option<Pair>
-        ensures { result ≡ pair self.now win }
+        ensures { result ≡ window_pair self.now win }
     {
         match &self.tree {
             None => None,
@@ -198,7 +202,7 @@ impl Windows {
     /// The cells of a row of a window's grid, none where there is no such row.
     #[tactic(auto, using(glk_objects::proofs::Places::places))]
     pub fn row(&self, win: u32, y: u32) -> &[u32]
-        ensures { result.now ≡ row self.now win y }
+        ensures { result.now ≡ window_row self.now win y }
     {
         let at = place(&self.grids, win);
         if at < self.grids.len() {
@@ -210,7 +214,7 @@ impl Windows {
 
     /// A cell of a window's grid, blank where there is no such cell.
     pub fn cell(&self, win: u32, x: u32, y: u32) -> u32
-        ensures { result ≡ cell self.now win x y }
+        ensures { result ≡ window_cell self.now win x y }
     {
         let row = self.row(win, y);
         if (x as usize) < row.len() {
@@ -231,7 +235,7 @@ impl Windows {
     }
 
     /// Opens a window. It gets `id`, its stream the next identifier, then the new pair and the pair's stream.
-    #[tactic(auto, unfolding(crate::specs::Changes::added))]
+    #[tactic(auto, unfolding(crate::specs::Changes::with_new_window))]
     pub fn add(
         &mut self,
         split: u32,
@@ -245,7 +249,7 @@ impl Windows {
         requires split { split ≡ 0 ⊎ IsTrue (is_window self.old split) }
         requires new { IsNewId self.old id }
         requires last { last_given split id ≤ 0xFFFFFFFE }
-        ensures { OnOk result (self.new ≡ added self.old split method size kind rock id) }
+        ensures { OnOk result (self.new ≡ with_new_window self.old split method size kind rock id) }
     {
         if split == 0 {
             self.add_root(kind, rock, id)
@@ -304,12 +308,12 @@ impl Windows {
     }
 
     /// Closes a window, with all windows below it and their pair; answers their identifiers, which rise.
-    #[tactic(auto, unfolding(crate::specs::Changes::closed, crate::specs::Changes::without_ids))]
+    #[tactic(auto, unfolding(crate::specs::Changes::window_closed, crate::specs::Changes::without_ids))]
     pub fn remove(&mut self, win: u32) -> Result<Numbers, AllocError>
         requires { IsTrue (is_window self.old win) }
         ensures gone { IfOk result (λ ids. ids ≡ gone self.old win) }
         ensures rises { IfOk result IsStrictlyIncreasing }
-        ensures new { OnOk result (self.new ≡ closed self.old win) }
+        ensures new { OnOk result (self.new ≡ window_closed self.old win) }
     {
         let leaving = leaving(self.alloc, &self.tree, win)?;
         let gone = remove_entries(self.alloc, &mut self.entries, &leaving)?;
@@ -321,7 +325,7 @@ impl Windows {
 
     /// Whether a window is a pair that may get this method and this key.
     fn allows(&self, win: u32, method: u32, key: u32) -> bool
-        ensures { result ≡ allows self.now win method key }
+        ensures { result ≡ allows_arrangement self.now win method key }
     {
         match &self.tree {
             None => false,
@@ -358,7 +362,7 @@ impl Windows {
     }
 
     /// Puts a character, already as shown, to a window's grid; nothing changes where the window has none.
-    #[tactic(auto, using(glk_objects::proofs::Places::places, glk_objects::proofs::Rising::rising), unfolding(crate::specs::Changes::put_to))]
+    #[tactic(auto, using(crate::proofs::Lists::replaces), unfolding(crate::specs::Changes::put_to))]
     pub fn put(&mut self, win: u32, c: u32)
         ensures { self.new ≡ put_to self.old win c }
     {
@@ -369,7 +373,7 @@ impl Windows {
     }
 
     /// Clears a window's grid; nothing changes where the window has none.
-    #[tactic(auto, using(glk_objects::proofs::Places::places, glk_objects::proofs::Rising::rising), unfolding(crate::specs::Changes::cleared_in))]
+    #[tactic(auto, using(crate::proofs::Lists::replaces), unfolding(crate::specs::Changes::cleared_in))]
     pub fn clear(&mut self, win: u32)
         ensures { self.new ≡ cleared_in self.old win }
     {
@@ -380,7 +384,7 @@ impl Windows {
     }
 
     /// Moves the cursor of a window's grid; nothing changes where the window has none.
-    #[tactic(auto, using(glk_objects::proofs::Places::places, glk_objects::proofs::Rising::rising), unfolding(crate::specs::Changes::moved_in))]
+    #[tactic(auto, using(crate::proofs::Lists::replaces), unfolding(crate::specs::Changes::moved_in))]
     pub fn move_cursor(&mut self, win: u32, x: u32, y: u32)
         ensures { self.new ≡ moved_in self.old win x y }
     {
@@ -391,17 +395,17 @@ impl Windows {
     }
 
     /// Sets a window's echo stream, 0 for none.
-    #[tactic(auto, unfolding(crate::specs::Changes::echoed))]
+    #[tactic(auto, unfolding(crate::specs::Changes::with_echo_stream))]
     pub fn set_echo(&mut self, win: u32, stream: u32)
         requires { IsTrue (is_window self.old win) }
-        ensures { self.new ≡ echoed self.old win stream }
+        ensures { self.new ≡ with_echo_stream self.old win stream }
     {
         set_echo(&mut self.entries, win, stream);
     }
 
     /// A stream is gone: windows of which it was the echo stream have none.
     pub fn forget_stream(&mut self, stream: u32)
-        ensures { self.new ≡ without_stream self.old stream }
+        ensures { self.new ≡ without_echoes self.old stream }
     {
         forget(&[stream], &mut self.entries);
     }
@@ -428,10 +432,10 @@ fn sizes_in(tree: &Option<Tree>, screen: (u32, u32), win: u32) -> (u32, u32)
 #[tactic(auto, using(glk_objects::proofs::Rising::rising))]
 fn push_entry(entries: &mut Vec<Entry>, new: Entry)
     requires room { vec_len entries.old < vec_capacity entries.old }
-    requires rises { objects.Rises entry_id entries.old.items }
-    requires above { objects.IsAbove entry_id entries.old.items new.id }
+    requires rises { objects.AreRising entry_id entries.old.items }
+    requires above { objects.IsAboveAll entry_id entries.old.items new.id }
     ensures value { entries.new.items ≡ entries.old.items ++ new ∷ [] }
-    ensures rises { objects.Rises entry_id entries.new.items }
+    ensures rises { objects.AreRising entry_id entries.new.items }
     ensures len { vec_len entries.new ≡ vec_len entries.old + 1 }
     ensures capacity { vec_capacity entries.new ≡ vec_capacity entries.old }
 {
@@ -442,10 +446,10 @@ fn push_entry(entries: &mut Vec<Entry>, new: Entry)
 #[tactic(auto, using(glk_objects::proofs::Rising::rising))]
 fn push_grid(alloc: Global, grids: &mut Vec<Grid>, kind: u32, id: u32)
     requires room { vec_len grids.old < vec_capacity grids.old }
-    requires rises { objects.Rises grid_id grids.old.items }
-    requires above { objects.IsAbove grid_id grids.old.items id }
+    requires rises { objects.AreRising grid_id grids.old.items }
+    requires above { objects.IsAboveAll grid_id grids.old.items id }
     ensures value { grids.new.items ≡ with_grid grids.old.items kind id }
-    ensures rises { objects.Rises grid_id grids.new.items }
+    ensures rises { objects.AreRising grid_id grids.new.items }
 {
     if kind == TEXT_GRID {
         grids.push_reserved(empty_grid(alloc, id));
@@ -479,9 +483,9 @@ fn fit_grids(
     screen: (u32, u32),
     grids: &mut Vec<Grid>,
 ) -> Result<(), AllocError>
-    requires { objects.Rises grid_id grids.old.items }
+    requires { objects.AreRising grid_id grids.old.items }
     ensures ok { OnOk result (grids.new.items ≡ map (fitted_to (tree_of tree.now) screen) grids.old.items) }
-    ensures rises { objects.Rises grid_id grids.new.items }
+    ensures rises { objects.AreRising grid_id grids.new.items }
     ensures memory { OnErr result (IsTrue (some_grow (tree_of tree.now) screen grids.old.items)) }
 {
     for at in 0..grids.len() {
@@ -512,11 +516,11 @@ fn remove_entries(
     entries: &mut Vec<Entry>,
     ids: &[u32],
 ) -> Result<Numbers, AllocError>
-    requires { objects.Rises entry_id entries.old.items }
+    requires { objects.AreRising entry_id entries.old.items }
     ensures gone { IfOk result (λ found. found ≡ map entry_id (chosen ids.now entries.old.items)) }
     ensures rises { IfOk result IsStrictlyIncreasing }
     ensures new { OnOk result (entries.new.items ≡ left_of entries.old.items ids.now) }
-    ensures order { objects.Rises entry_id entries.new.items }
+    ensures order { objects.AreRising entry_id entries.new.items }
     ensures err { OnErr result (entries.new.items ≡ entries.old.items) }
 {
     let gone = chosen_ids(alloc, ids, entries)?;
@@ -529,9 +533,9 @@ fn remove_entries(
 /// Keeps the grids but for those of these windows.
 #[tactic(auto, using(glk_objects::proofs::Rising::rising))]
 fn keep_grids(grids: &mut Vec<Grid>, ids: &[u32])
-    requires { objects.Rises grid_id grids.old.items }
+    requires { objects.AreRising grid_id grids.old.items }
     ensures value { grids.new.items ≡ filter (λ g. not (is_among ids.now g.id)) grids.old.items }
-    ensures rises { objects.Rises grid_id grids.new.items }
+    ensures rises { objects.AreRising grid_id grids.new.items }
 {
     grids.retain(|grid| !is_among(ids, grid.id));
 }

@@ -5,7 +5,7 @@ use Rattle.std.proofs.Common.{IfOk, IsTrue}
 use Rattle.std.proofs.lemmas.Bool.Decides.{nat_tests}
 use Rattle.std.proofs.lemmas.List.{append-nil}
 use Rattle.glk_objects.specs.Objects as objects
-use Rattle.glk_objects.specs.Objects.{IsBelow}
+use Rattle.glk_objects.specs.Objects.{IsBelowAll}
 use Rattle.glk_objects.proofs.Places.{id_at}
 use Rattle.glk_text.specs.Characters.{shown}
 use Rattle.glk_streams.specs.declared.kinds.Stream.{Stream}
@@ -15,16 +15,16 @@ use Rattle.glk_streams.specs.Stream as one
 use Rattle.glk_streams.specs.Streams as streams
 use Rattle.glk_screen.specs.Texts.{screen_put}
 use Rattle.glk_world.specs.World.{Scene, FlatWorld, Said, after, silent, then_said, is_composed}
-use Rattle.glk_world.specs.Putting.{said_char, buffer_put, window_of, entry_of, is_text, is_plain_text, window_put}
-use Rattle.glk_world.specs.Putting.{counted, stream_put, echo_of, put_along, put_of, puts, grows_along, put_grows}
-use Rattle.glk_world.specs.Putting.{end_of, places_of, no_places}
+use Rattle.glk_world.specs.Putting.{said_char, buffer_put, window_of_stream, entry_of, is_text, is_plain_text, window_put}
+use Rattle.glk_world.specs.Putting.{counted, stream_put, echo_of, put_along, put_of, put_chars, grows_along, put_grows}
+use Rattle.glk_world.specs.Putting.{chain_end, places_of, no_places}
 use Rattle.glk_objects.proofs.Found.{has_with, has_below, at_with_here, below_with}
 use Rattle.glk_world.proofs.Ranks.{nothing_along, stream_put_streams, put_step, put_id, put_window, buffer_put_streams}
 use Rattle.glk_world.proofs.Turns.{end_here}
 
 -- ---- no stream has the identifier 0
 
-pub none_at_0 : (all : List Stream) → IsBelow streams.id_of all 0 → streams.has all 0 ≡ false
+pub none_at_0 : (all : List Stream) → IsBelowAll streams.id_of all 0 → streams.has all 0 ≡ false
 none_at_0 all first = elim (streams.has all 0) as (λ b. streams.has all 0 ≡ b → b ≡ false) [
   | true ↦ λ there. absurd (omega (arith, has_below streams.id_of streams.no_stream all 0 0 first there))
   | false ↦ λ gone. refl
@@ -39,7 +39,7 @@ said_alone said = ap (λ (text : List ℕ). let both : Said = (said.0, text) in 
 
 -- ---- one character
 
-pub put_alone : (w : Scene) (s c : ℕ) → IsBelow streams.id_of w.streams 0 → streams.has w.streams s ≡ true
+pub put_alone : (w : Scene) (s c : ℕ) → IsBelowAll streams.id_of w.streams 0 → streams.has w.streams s ≡ true
     → echo_of w s ≡ 0 → put_of w s c ≡ stream_put w s c
 put_alone w s c first there echo =
     let some = some_streams w.streams s there in
@@ -55,7 +55,7 @@ put_alone w s c first there echo =
     (λ (r : Said). let both : Said = (r.0, (stream_put w s c).1 ++ r.1) in both) rest
     ∙ said_alone (stream_put w s c))
 
-pub end_alone : (w : Scene) (s : ℕ) → IsBelow streams.id_of w.streams 0 → echo_of w s ≡ 0 → end_of w s ≡ s
+pub end_alone : (w : Scene) (s : ℕ) → IsBelowAll streams.id_of w.streams 0 → echo_of w s ≡ 0 → chain_end w s ≡ s
 end_alone w s first echo = end_here w (length w.streams) s (rw echo (none_at_0 w.streams first))
 
 -- ---- a window's stream has no places in memory
@@ -66,13 +66,13 @@ no_places_in (kinds.Window win) position count some = refl
 no_places_in (kinds.Memory at len wide) position count some = absurd (some refl)
 no_places_in (kinds.File name content form) position count some = absurd (some refl)
 
-pub window_places : (w : Scene) (s count : ℕ) → IsBelow streams.id_of w.streams 0 → echo_of w s ≡ 0 → window_of w s ≢ 0
+pub window_places : (w : Scene) (s count : ℕ) → IsBelowAll streams.id_of w.streams 0 → echo_of w s ≡ 0 → window_of_stream w s ≢ 0
     → (places_of w s count).count ≡ 0
-unfolding one.places
+unfolding one.next_places
 window_places w s count first echo some =
     let stream = streams.stream w.streams s in
     rw (end_alone w s first echo)
-    (elim (one.writable stream) as (λ b. (if b then one.places stream count else no_places).count ≡ 0) [
+    (elim (one.writable stream) as (λ b. (if b then one.next_places stream count else no_places).count ≡ 0) [
       | true ↦ no_places_in stream.kind stream.position count some
       | false ↦ refl
     ])
@@ -115,19 +115,19 @@ all_counted w s cs = record w {
   streams = streams.with_stream w.streams (one.after_puts (streams.stream w.streams s) cs);
 }
 
-own_put : (w : Scene) (s c : ℕ) → window_of w s ≡ 0 → stream_put w s c ≡ silent (counted w s c)
+own_put : (w : Scene) (s c : ℕ) → window_of_stream w s ≡ 0 → stream_put w s c ≡ silent (counted w s c)
 unfolding stream_put
 own_put w s c none = rw none refl
 
-own_echo : (w : Scene) (s : ℕ) → window_of w s ≡ 0 → echo_of w s ≡ 0
+own_echo : (w : Scene) (s : ℕ) → window_of_stream w s ≡ 0 → echo_of w s ≡ 0
 own_echo w s none = rw none refl
 
-puts_step : (w : Scene) (s c : ℕ) (cs : List ℕ) → puts w s (c ∷ cs) ≡ then_said (put_of w s c) (λ more. puts more s cs)
-unfolding puts
+puts_step : (w : Scene) (s c : ℕ) (cs : List ℕ) → put_chars w s (c ∷ cs) ≡ then_said (put_of w s c) (λ more. put_chars more s cs)
+unfolding put_chars
 puts_step w s c cs = refl
 
-puts_end : (w : Scene) (s : ℕ) → puts w s [] ≡ silent w
-unfolding puts
+puts_end : (w : Scene) (s : ℕ) → put_chars w s [] ≡ silent w
+unfolding put_chars
 puts_end w s = refl
 
 counted_more : (w : Scene) (s c : ℕ) (cs : List ℕ) → streams.has w.streams s ≡ true
@@ -148,8 +148,8 @@ counted_more w s c cs there =
     (ap (λ (x : Stream). streams.with_stream (streams.with_stream w.streams new) (one.after_puts x cs)) found ∙ twice)
 
 -- all that are put to a stream with no window change that stream alone
-pub puts_alone : (w : Scene) (s : ℕ) (cs : List ℕ) → IsBelow streams.id_of w.streams 0 → streams.has w.streams s ≡ true
-    → window_of w s ≡ 0 → puts w s cs ≡ silent (all_counted w s cs)
+pub puts_alone : (w : Scene) (s : ℕ) (cs : List ℕ) → IsBelowAll streams.id_of w.streams 0 → streams.has w.streams s ≡ true
+    → window_of_stream w s ≡ 0 → put_chars w s cs ≡ silent (all_counted w s cs)
 unfolding one.after_puts
 puts_alone w s [] first there none =
     puts_end w s ∙ ap (λ (all : List Stream). let v : Scene = record w { streams = all } in silent v)
@@ -162,12 +162,12 @@ puts_alone w s (c ∷ cs) first there none =
     let here : streams.stream v.streams new.id ≡ new =
     at_with_here streams.id_of streams.no_stream w.streams new (rw id there) in
     let found : streams.stream v.streams s ≡ new = ap (λ (i : ℕ). streams.stream v.streams i) (sym id) ∙ here in
-    let still : window_of v s ≡ 0 = ap one.window_of found ∙ put_window (streams.stream w.streams s) c ∙ none in
+    let still : window_of_stream v s ≡ 0 = ap one.window_of found ∙ put_window (streams.stream w.streams s) c ∙ none in
     let there' : streams.has v.streams s ≡ true = has_with streams.id_of streams.no_stream w.streams new s ∙ there in
     let once : put_of w s c ≡ silent v = put_alone w s c first there (own_echo w s none) ∙ own_put w s c none in
     let rest = puts_alone v s cs (below_with streams.id_of streams.no_stream w.streams new 0 first) there' still in
     puts_step w s c cs
-    ∙ ap (λ (said : Said). then_said said (λ more. puts more s cs)) once
+    ∙ ap (λ (said : Said). then_said said (λ more. put_chars more s cs)) once
     ∙ ap (λ (said : Said). let both : Said = (said.0, said.1) in both)
     (rest ∙ ap (λ (x : Scene). silent x) (counted_more w s c cs there))
 
@@ -199,20 +199,20 @@ not_true false h = refl
 
 pub record IsPlain (w : Scene) (s : ℕ) : Type 0 where
   pub there : streams.has w.streams s ≡ true
-  pub own : (window_of w s == 0) ≡ false
+  pub own : (window_of_stream w s == 0) ≡ false
   pub text : is_text w s ≡ true
   pub echo : (entry_of w s).echo ≡ 0
 
 pub plain : (w : Scene) (s : ℕ) → is_plain_text w s ≡ true → IsPlain w s
 plain w s h =
-    let own = not (window_of w s == 0) in
+    let own = not (window_of_stream w s == 0) in
     let there = streams.has w.streams s in
     let all = and_both (there && own && is_text w s) ((entry_of w s).echo == 0) h in
     let texts = and_both (there && own) (is_text w s) all.0 in
     let owns = and_both there own texts.0 in
     record {
       there = owns.0;
-      own = not_true (window_of w s == 0) owns.1;
+      own = not_true (window_of_stream w s == 0) owns.1;
       text = texts.1;
       echo = grind (arith, nat_tests, all.1);
     }
@@ -221,14 +221,14 @@ plain_echo : (w : Scene) (s : ℕ) → IsPlain w s → echo_of w s ≡ 0
 plain_echo w s is = rw is.own is.echo
 
 -- a character comes to the text, or to the composed screen
-pub text_put : (w : FlatWorld) (s c : ℕ) → IsBelow streams.id_of w.scene.streams 0 → is_plain_text w.scene s ≡ true
-    → after w (buffer_put (counted w.scene s c) (window_of w.scene s) (shown c)) ≡ after w (put_of w.scene s c)
+pub text_put : (w : FlatWorld) (s c : ℕ) → IsBelowAll streams.id_of w.scene.streams 0 → is_plain_text w.scene s ≡ true
+    → after w (buffer_put (counted w.scene s c) (window_of_stream w.scene s) (shown c)) ≡ after w (put_of w.scene s c)
 unfolding stream_put window_put
 text_put w s c first h =
     let is = plain w.scene s h in
     rw (put_alone w.scene s c first is.there (plain_echo w.scene s is), is.own, is.text) refl
 
-pub text_places : (w : Scene) (s count : ℕ) → IsBelow streams.id_of w.streams 0 → is_plain_text w s ≡ true
+pub text_places : (w : Scene) (s count : ℕ) → IsBelowAll streams.id_of w.streams 0 → is_plain_text w s ≡ true
     → (places_of w s count).count ≡ 0
 text_places w s count first h =
     let is = plain w s h in
@@ -247,11 +247,11 @@ text_grows w s c h =
 pub plain_there : (w : Scene) (s : ℕ) → is_plain_text w s ≡ true → streams.has w.streams s ≡ true
 plain_there w s h = (plain w s h).there
 
-pub plain_window : (w : Scene) (s : ℕ) → is_plain_text w s ≡ true → window_of w s ≢ 0
+pub plain_window : (w : Scene) (s : ℕ) → is_plain_text w s ≡ true → window_of_stream w s ≢ 0
 plain_window w s h = let is = plain w s h in grind (arith, nat_tests, is.own)
 
 -- the window of a stream that has counted a character, and whether it shows text
-window_counted : (w : Scene) (s c : ℕ) → streams.has w.streams s ≡ true → window_of (counted w s c) s ≡ window_of w s
+window_counted : (w : Scene) (s c : ℕ) → streams.has w.streams s ≡ true → window_of_stream (counted w s c) s ≡ window_of_stream w s
 window_counted w s c there =
     let new = one.after_put (streams.stream w.streams s) c in
     let id : new.id ≡ s =
@@ -282,20 +282,20 @@ plain_stays w s c win d h =
       | false ↦ plain_counted w s c h
     ]
 
-pub window_stays : (w : Scene) (s c win d : ℕ) → is_plain_text w s ≡ true → win ≡ window_of w s
-    → win ≡ window_of (buffer_put (counted w s c) win d).0 s
+pub window_stays : (w : Scene) (s c win d : ℕ) → is_plain_text w s ≡ true → win ≡ window_of_stream w s
+    → win ≡ window_of_stream (buffer_put (counted w s c) win d).0 s
 window_stays w s c win d h is =
     is ∙ sym (ap (λ (all : List Stream). one.window_of (streams.stream all s))
     (buffer_put_streams (counted w s c) win d) ∙ window_counted w s c (plain w s h).there)
 
 place_with : (xs : List Stream) (new : Stream) (s : ℕ)
-    → objects.place streams.id_of (streams.with_stream xs new) s ≡ objects.place streams.id_of xs s
-unfolding objects.with objects.place
+    → objects.object_place streams.id_of (streams.with_stream xs new) s ≡ objects.object_place streams.id_of xs s
+unfolding objects.with objects.object_place
 place_with [] new s = refl
 place_with (x ∷ xs) new s = grind (arith, nat_tests, place_with xs new s)
 
-pub place_stays : (w : Scene) (s c win d at : ℕ) → at ≡ objects.place streams.id_of w.streams s
-    → at ≡ objects.place streams.id_of (buffer_put (counted w s c) win d).0.streams s
+pub place_stays : (w : Scene) (s c win d at : ℕ) → at ≡ objects.object_place streams.id_of w.streams s
+    → at ≡ objects.object_place streams.id_of (buffer_put (counted w s c) win d).0.streams s
 place_stays w s c win d at is =
     rw (buffer_put_streams (counted w s c) win d)
     (is ∙ sym (place_with w.streams (one.after_put (streams.stream w.streams s) c) s))
@@ -303,9 +303,9 @@ place_stays w s c win d at is =
 -- ---- a stream with no window
 
 -- bytes that are taken at once
-pub bytes_alone : (w : FlatWorld) (s : ℕ) (cs : List ℕ) → IsBelow streams.id_of w.scene.streams 0
+pub bytes_alone : (w : FlatWorld) (s : ℕ) (cs : List ℕ) → IsBelowAll streams.id_of w.scene.streams 0
     → streams.has w.scene.streams s ≡ true → one.takes_bytes (streams.stream w.scene.streams s) (length cs) ≡ true
-    → record w { scene = all_counted w.scene s cs } ≡ after w (puts w.scene s cs)
+    → record w { scene = all_counted w.scene s cs } ≡ after w (put_chars w.scene s cs)
 bytes_alone w s cs first there room =
     rw (
       puts_alone w.scene s cs first there (bytes_windowless (streams.stream w.scene.streams s) (length cs) room),

@@ -15,7 +15,7 @@ use Rattle.glk_world.specs.Kept.{flat_of}
 
 pub closed_world : (w : Inside) (win : ℕ) (gone : List ℕ) (f : FlatWindows) (ss : List Stream) (rs : List Request)
     (ts : List FlatText) (current : ℕ)
-    → gone ≡ windows.gone w.windows win → f ≡ windows.closed w.windows win → ss ≡ streams.without_windows w.streams gone
+    → gone ≡ windows.gone w.windows win → f ≡ windows.window_closed w.windows win → ss ≡ streams.without_windows w.streams gone
     → rs ≡ without_requests w.requests gone → ts ≡ without_texts w.screen gone → current ≡ unless_gone ss w.current
     → flat_of (record w { windows = f; streams = ss; requests = rs; screen = ts; current = current })
     ≡ after (flat_of w) (silent (without_window (flat_of w).scene win))

@@ -3,15 +3,15 @@ use Rattle.std.proofs.Common.{zero, suc, ◌≡◌, ◌≢◌, ◌<◌, ◌≤�
 use Rattle.std.proofs.Common.{if◌then◌else◌, List, [], ◌∷◌, length, refl, sym, ◌∙◌, ap, arith}
 use Rattle.std.proofs.lemmas.Bool.Decides.{nat_tests}
 use Rattle.glk_objects.specs.Objects as objects
-use Rattle.glk_objects.specs.Objects.{IsAbove}
+use Rattle.glk_objects.specs.Objects.{IsAboveAll}
 use Rattle.glk_objects.proofs.Places.{id_at}
 use Rattle.glk_streams.specs.declared.kinds.Stream.{Stream}
 use Rattle.glk_streams.specs.Streams as streams
 use Rattle.glk_windows.specs.declared.entries.Entry.{Entry}
-use Rattle.glk_windows.specs.Windows.{entry_id, no_entry, entry_at, is_window}
-use Rattle.glk_windows.specs.Changes.{echoed}
+use Rattle.glk_windows.specs.Windows.{entry_id, no_entry, window_entry, is_window}
+use Rattle.glk_windows.specs.Changes.{with_echo_stream}
 use Rattle.glk_world.specs.World.{Scene}
-use Rattle.glk_world.specs.Putting.{window_of, echo_of, leads_along, leads_to}
+use Rattle.glk_world.specs.Putting.{window_of_stream, echo_of, leads_along, leads_to}
 use Rattle.glk_world.specs.Chains.{echo_in, IsRanked, EchoesBelow, AreLinked}
 use Rattle.glk_objects.proofs.Found as found
 use Rattle.glk_world.proofs.Ranks.{under, under_all, under_less, under_some}
@@ -26,7 +26,7 @@ either true b h = inl refl
 either false b h = inr h
 
 leads_step : (n : ℕ) (w : Scene) (s win : ℕ) → leads_along (suc n) w s win
-    ≡ (streams.has w.streams s && (window_of w s == win || leads_along n w (echo_of w s) win))
+    ≡ (streams.has w.streams s && (window_of_stream w s == win || leads_along n w (echo_of w s) win))
 unfolding leads_along
 leads_step n w s win = refl
 
@@ -37,25 +37,25 @@ leads_no w s win = refl
 leads_there : (n : ℕ) (w : Scene) (s win : ℕ) → leads_along n w s win ≡ true → streams.has w.streams s ≡ true
 leads_there zero w s win leads = absurd (let never = leads_no w s win in cc)
 leads_there (suc n) w s win leads =
-    (both (streams.has w.streams s) (window_of w s == win || leads_along n w (echo_of w s) win)
+    (both (streams.has w.streams s) (window_of_stream w s == win || leads_along n w (echo_of w s) win)
     (sym (leads_step n w s win) ∙ leads)).0
 
 -- what leads to the window does so at once, or by its echo stream
 leads_by : (n : ℕ) (w : Scene) (s win : ℕ) → leads_along (suc n) w s win ≡ true
-    → ((window_of w s == win) ≡ true) ⊎ (leads_along n w (echo_of w s) win ≡ true)
+    → ((window_of_stream w s == win) ≡ true) ⊎ (leads_along n w (echo_of w s) win ≡ true)
 leads_by n w s win leads =
-    either (window_of w s == win) (leads_along n w (echo_of w s) win)
-    (both (streams.has w.streams s) (window_of w s == win || leads_along n w (echo_of w s) win)
+    either (window_of_stream w s == win) (leads_along n w (echo_of w s) win)
+    (both (streams.has w.streams s) (window_of_stream w s == win || leads_along n w (echo_of w s) win)
     (sym (leads_step n w s win) ∙ leads)).1
 
-leads_here : (n : ℕ) (w : Scene) (s win : ℕ) → streams.has w.streams s ≡ true → (window_of w s == win) ≡ true
+leads_here : (n : ℕ) (w : Scene) (s win : ℕ) → streams.has w.streams s ≡ true → (window_of_stream w s == win) ≡ true
     → leads_along (suc n) w s win ≡ true
 leads_here n w s win there is = leads_step n w s win ∙ grind (arith, there, is)
 
 leads_on : (n : ℕ) (w : Scene) (s win : ℕ) → streams.has w.streams s ≡ true → leads_along n w (echo_of w s) win ≡ true
     → leads_along (suc n) w s win ≡ true
 leads_on n w s win there leads =
-    leads_step n w s win ∙ elim (window_of w s == win) as
+    leads_step n w s win ∙ elim (window_of_stream w s == win) as
     (λ b. (streams.has w.streams s && (b || leads_along n w (echo_of w s) win)) ≡ true) [
       | true ↦ grind (arith, there)
       | false ↦ grind (arith, there, leads)
@@ -89,13 +89,13 @@ leads_enough (suc m) (suc n) w s win rank ranked few leads =
 
 -- the entry of a window with another echo stream
 echoed_entry : (es : List Entry) (win stream other : ℕ) → objects.has entry_id es win ≡ true
-    → (entry_at (objects.with entry_id es (record (entry_at es win) { echo = stream })) other).echo
-    ≡ (if other == win then stream else (entry_at es other).echo)
+    → (window_entry (objects.with entry_id es (record (window_entry es win) { echo = stream })) other).echo
+    ≡ (if other == win then stream else (window_entry es other).echo)
 echoed_entry es win stream other there =
-    let new : Entry = record (entry_at es win) { echo = stream } in
+    let new : Entry = record (window_entry es win) { echo = stream } in
     let id : new.id ≡ win = id_at entry_id no_entry es win there in
-    elim (other == win) as (λ b. (other == win) ≡ b → (entry_at (objects.with entry_id es new) other).echo ≡
-    (if b then stream else (entry_at es other).echo)) [
+    elim (other == win) as (λ b. (other == win) ≡ b → (window_entry (objects.with entry_id es new) other).echo ≡
+    (if b then stream else (window_entry es other).echo)) [
       | true ↦ λ is.
           let same : other ≡ new.id = grind (arith, nat_tests, is, id) in
           let known : objects.has entry_id es new.id ≡ true = rw id there in
@@ -140,7 +140,7 @@ module _ (w : Scene) (win stream : ℕ) (rank : ℕ → ℕ) where
 
   -- the streams of the window itself, whose echo stream is the new one
   falls_new : IsRanked w.windows.entries w.streams rank → leads_to w stream win ≡ false → (s : ℕ)
-      → streams.has w.streams s ≡ true → (window_of w s == win) ≡ true → lifted stream < lifted s
+      → streams.has w.streams s ≡ true → (window_of_stream w s == win) ≡ true → lifted stream < lifted s
   unfolding leads_in
   falls_new ranked apart s there is =
       let off : leads_in stream ≡ false = elim (there_or_not (leads_along (suc (rank stream)) w stream win)) [
@@ -171,30 +171,30 @@ module _ (w : Scene) (win stream : ℕ) (rank : ℕ → ℕ) where
             omega (arith, low, high, less)
       ]
 
-  new_echo : (s : ℕ) → objects.has entry_id w.windows.entries win ≡ true → (window_of w s == 0) ≡ false
-      → echo_in (echoed w.windows win stream).entries w.streams s
-      ≡ (if window_of w s == win then stream else (entry_at w.windows.entries (window_of w s)).echo)
-  unfolding echoed
-  new_echo s there some = rw some (echoed_entry w.windows.entries win stream (window_of w s) there)
+  new_echo : (s : ℕ) → objects.has entry_id w.windows.entries win ≡ true → (window_of_stream w s == 0) ≡ false
+      → echo_in (with_echo_stream w.windows win stream).entries w.streams s
+      ≡ (if window_of_stream w s == win then stream else (window_entry w.windows.entries (window_of_stream w s)).echo)
+  unfolding with_echo_stream
+  new_echo s there some = rw some (echoed_entry w.windows.entries win stream (window_of_stream w s) there)
 
-  old_echo : (s : ℕ) → (window_of w s == 0) ≡ false → echo_of w s ≡ (entry_at w.windows.entries (window_of w s)).echo
+  old_echo : (s : ℕ) → (window_of_stream w s == 0) ≡ false → echo_of w s ≡ (window_entry w.windows.entries (window_of_stream w s)).echo
   old_echo s some = rw some refl
 
-  zero_echo : (s : ℕ) → (window_of w s == 0) ≡ true → echo_in (echoed w.windows win stream).entries w.streams s ≡ 0
+  zero_echo : (s : ℕ) → (window_of_stream w s == 0) ≡ true → echo_in (with_echo_stream w.windows win stream).entries w.streams s ≡ 0
   zero_echo s none = rw none refl
 
   ranked_echoed : (n : ℕ) → AreLinked w.windows.entries w.streams n → IsRanked w.windows.entries w.streams rank
       → objects.has entry_id w.windows.entries win ≡ true → leads_to w stream win ≡ false
-      → IsRanked (echoed w.windows win stream).entries w.streams lifted
+      → IsRanked (with_echo_stream w.windows win stream).entries w.streams lifted
   ranked_echoed n linked ranked known apart = record {
-    falls = λ s there echo. elim (there_or_not (window_of w s == 0)) [
-      | inl none ↦ absurd (no_zero w.streams (echo_in (echoed w.windows win stream).entries w.streams s) linked.first
+    falls = λ s there echo. elim (there_or_not (window_of_stream w s == 0)) [
+      | inl none ↦ absurd (no_zero w.streams (echo_in (with_echo_stream w.windows win stream).entries w.streams s) linked.first
           (zero_echo s none) echo)
-      | inr some ↦ elim (there_or_not (window_of w s == win)) [
-        | inl is ↦ let e : echo_in (echoed w.windows win stream).entries w.streams s ≡ stream =
+      | inr some ↦ elim (there_or_not (window_of_stream w s == win)) [
+        | inl is ↦ let e : echo_in (with_echo_stream w.windows win stream).entries w.streams s ≡ stream =
             new_echo s known some ∙ rw is refl in
             rw e (falls_new ranked apart s there is)
-        | inr other ↦ let e : echo_in (echoed w.windows win stream).entries w.streams s ≡ echo_of w s =
+        | inr other ↦ let e : echo_in (with_echo_stream w.windows win stream).entries w.streams s ≡ echo_of w s =
             new_echo s known some ∙ rw other refl ∙ sym (old_echo s some) in
             let here : streams.has w.streams (echo_of w s) ≡ true =
             sym (ap (λ (t : ℕ). streams.has w.streams t) e) ∙ echo in
@@ -205,24 +205,24 @@ module _ (w : Scene) (win stream : ℕ) (rank : ℕ → ℕ) where
 
 pub linked_echoed : (w : Scene) (win stream n : ℕ) → AreLinked w.windows.entries w.streams n
     → is_window w.windows win ≡ true → leads_to w stream win ≡ false → stream < n
-    → AreLinked (echoed w.windows win stream).entries w.streams n
-unfolding echoed
+    → AreLinked (with_echo_stream w.windows win stream).entries w.streams n
+unfolding with_echo_stream
 linked_echoed w win stream n linked known apart less = record {
   ranked = (
     lifted w win stream linked.ranked.0,
     ranked_echoed w win stream linked.ranked.0 n linked linked.ranked.1 known apart,
   );
   echoes =
-      echoes_with w.windows.entries (record (entry_at w.windows.entries win) { echo = stream }) n linked.echoes less;
+      echoes_with w.windows.entries (record (window_entry w.windows.entries win) { echo = stream }) n linked.echoes less;
   rises = linked.rises;
   first = linked.first;
   windows = found.below_with entry_id no_entry w.windows.entries
-      (record (entry_at w.windows.entries win) { echo = stream }) 0 linked.windows;
+      (record (window_entry w.windows.entries win) { echo = stream }) 0 linked.windows;
   begun = linked.begun;
 }
 
 -- an echo stream that is there has an identifier that was given
-pub echo_given : (xs : List Stream) (es : List Entry) (stream n : ℕ) → IsAbove streams.id_of xs n → AreLinked es xs n
+pub echo_given : (xs : List Stream) (es : List Entry) (stream n : ℕ) → IsAboveAll streams.id_of xs n → AreLinked es xs n
     → (stream ≡ 0) ⊎ (streams.has xs stream ≡ true) → stream < n
 echo_given xs es stream n above linked (inl is_zero) = let some = linked.begun in omega (arith, some, is_zero)
 echo_given xs es stream n above linked (inr there) =

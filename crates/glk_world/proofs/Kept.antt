@@ -7,7 +7,7 @@ use Rattle.glk_windows.specs.Constants.{pair_window, text_grid}
 use Rattle.glk_world.specs.declared.references.FileReference.{FileReference}
 use Rattle.glk_world.specs.World.{reference_id}
 use Rattle.glk_objects.specs.Objects as objects
-use Rattle.glk_objects.specs.Objects.{IsAbove, IsBelow}
+use Rattle.glk_objects.specs.Objects.{IsAboveAll, IsBelowAll}
 use Rattle.glk_objects.proofs.Rising.{rises_end, rises_without, below_end, below_without}
 use Rattle.glk_objects.proofs.Above.{above_more, above_end, above_with, above_without, above_filter, above_map}
 use Rattle.glk_streams.specs.declared.kinds.Stream.{Stream}
@@ -16,16 +16,17 @@ use Rattle.glk_streams.specs.Stream as one
 use Rattle.glk_streams.specs.Streams as streams
 use Rattle.glk_windows.specs.declared.grid.Grid.{Grid}
 use Rattle.glk_windows.specs.Tree.{is_among}
-use Rattle.glk_windows.specs.Grids.{grid_id, empty_grid, put, cleared, moved}
-use Rattle.glk_windows.specs.Windows.{FlatWindows, entry_id, stream_id, no_windows, entry_at, has_grid, grid_at}
+use Rattle.glk_windows.specs.Grids.{grid_id, empty_grid, put, blanked, with_cursor}
+use Rattle.glk_windows.specs.Windows.{FlatWindows, entry_id, stream_id, no_windows, window_entry, has_grid, grid_at}
 use Rattle.glk_windows.specs.Windows.{last_given, IsNewId}
 use Rattle.glk_windows.proofs.Placing.{forgetting_id}
-use Rattle.glk_windows.specs.Changes.{fitted_to, fitted, new_entry, with_grid, rooted, split_by, added, leaving, chosen}
-use Rattle.glk_windows.specs.Changes.{forgetting, closed_tree, with_grid_of, put_to, cleared_in, moved_in, echoed}
-use Rattle.glk_windows.specs.Changes.{without_stream, allows, arranged_tree, arranged, without_ids, closed}
+use Rattle.glk_world.proofs.Turns.{windowless}
+use Rattle.glk_windows.specs.Changes.{fitted_to, fitted, new_entry, with_grid, rooted, split_by, with_new_window, leaving, chosen}
+use Rattle.glk_windows.specs.Changes.{forgetting, closed_tree, with_grid_of, put_to, cleared_in, moved_in, with_echo_stream}
+use Rattle.glk_windows.specs.Changes.{without_echoes, allows_arrangement, arranged_tree, arranged, without_ids, window_closed}
 
-pub streams_with : (ss : List Stream) (new : Stream) (n : ℕ) → IsAbove streams.id_of ss n
-    → IsAbove streams.id_of (streams.with_stream ss new) n
+pub streams_with : (ss : List Stream) (new : Stream) (n : ℕ) → IsAboveAll streams.id_of ss n
+    → IsAboveAll streams.id_of (streams.with_stream ss new) n
 streams_with ss new n above = above_with streams.id_of ss new n above
 
 fitted_new : (f : FlatWindows) (n : ℕ) → IsNewId f n → IsNewId (fitted f) n
@@ -47,20 +48,20 @@ put_new f win c n new = grid_new f win n (put (grid_at f.grids win) c) new
 
 pub cleared_new : (f : FlatWindows) (win n : ℕ) → IsNewId f n → IsNewId (cleared_in f win) n
 unfolding cleared_in
-cleared_new f win n new = grid_new f win n (cleared (grid_at f.grids win)) new
+cleared_new f win n new = grid_new f win n (blanked (grid_at f.grids win)) new
 
 pub moved_new : (f : FlatWindows) (win x y n : ℕ) → IsNewId f n → IsNewId (moved_in f win x y) n
 unfolding moved_in
-moved_new f win x y n new = grid_new f win n (moved (grid_at f.grids win) x y) new
+moved_new f win x y n new = grid_new f win n (with_cursor (grid_at f.grids win) x y) new
 
-pub echoed_new : (f : FlatWindows) (win stream n : ℕ) → IsNewId f n → IsNewId (echoed f win stream) n
-unfolding echoed
+pub echoed_new : (f : FlatWindows) (win stream n : ℕ) → IsNewId f n → IsNewId (with_echo_stream f win stream) n
+unfolding with_echo_stream
 echoed_new f win stream n new = record {
-  entries = above_with entry_id f.entries (record (entry_at f.entries win) { echo = stream }) n new.entries;
+  entries = above_with entry_id f.entries (record (window_entry f.entries win) { echo = stream }) n new.entries;
   grids = new.grids;
 }
 
-pub forgotten_new : (f : FlatWindows) (stream n : ℕ) → IsNewId f n → IsNewId (without_stream f stream) n
+pub forgotten_new : (f : FlatWindows) (stream n : ℕ) → IsNewId f n → IsNewId (without_echoes f stream) n
 forgotten_new f stream n new = record {
   entries = above_map entry_id (forgetting (stream ∷ [])) (forgetting_id (stream ∷ [])) f.entries n new.entries;
   grids = new.grids;
@@ -70,24 +71,24 @@ pub arranged_new : (f : FlatWindows) (win method size key n : ℕ) → IsNewId f
     → IsNewId (arranged f win method size key) n
 unfolding arranged
 arranged_new f win method size key n new =
-    elim (allows f win method key) as
+    elim (allows_arrangement f win method key) as
     (λ b. IsNewId (if b then fitted (record f { tree = arranged_tree f win method size key }) else f) n) [
       | true ↦ fitted_new (record f { tree = arranged_tree f win method size key }) n
           (record { entries = new.entries; grids = new.grids })
       | false ↦ new
     ]
 
-with_grid_new : (grids : List Grid) (kind id n : ℕ) → IsAbove grid_id grids n → id < n
-    → IsAbove grid_id (with_grid grids kind id) n
+with_grid_new : (grids : List Grid) (kind id n : ℕ) → IsAboveAll grid_id grids n → id < n
+    → IsAboveAll grid_id (with_grid grids kind id) n
 with_grid_new grids kind id n above less =
-    elim (kind == text_grid) as (λ b. IsAbove grid_id (if b then grids ++ empty_grid id ∷ [] else grids) n) [
+    elim (kind == text_grid) as (λ b. IsAboveAll grid_id (if b then grids ++ empty_grid id ∷ [] else grids) n) [
       | true ↦ above_end grid_id grids (empty_grid id) n above less
       | false ↦ above
     ]
 
 pub added_new : (f : FlatWindows) (split method size kind rock id : ℕ) → IsNewId f id
-    → IsNewId (added f split method size kind rock id) (last_given split id + 1)
-unfolding added
+    → IsNewId (with_new_window f split method size kind rock id) (last_given split id + 1)
+unfolding with_new_window
 added_new f split method size kind rock id new =
     elim (split == 0) as (λ b. IsNewId (fitted
     (if b then rooted f kind rock id else split_by f split method size kind rock id))
@@ -108,8 +109,8 @@ added_new f split method size kind rock id new =
       })
     ]
 
-pub closed_new : (f : FlatWindows) (win n : ℕ) → IsNewId f n → IsNewId (closed f win) n
-unfolding closed without_ids
+pub closed_new : (f : FlatWindows) (win n : ℕ) → IsNewId f n → IsNewId (window_closed f win) n
+unfolding window_closed without_ids
 closed_new f win n new =
     let ids = leaving f.tree win in
     let gone = map stream_id (chosen ids f.entries) in
@@ -142,53 +143,57 @@ pub ruleset windows_kept = (
   new_more,
 )
 
-pub streams_without : (ss : List Stream) (id n : ℕ) → IsAbove streams.id_of ss n
-    → IsAbove streams.id_of (streams.without ss id) n
+pub streams_without : (ss : List Stream) (id n : ℕ) → IsAboveAll streams.id_of ss n
+    → IsAboveAll streams.id_of (streams.all_but ss id) n
 streams_without ss id n above = above_without streams.id_of ss id n above
 
-pub streams_gone : (ss : List Stream) (gone : List ℕ) (n : ℕ) → IsAbove streams.id_of ss n
-    → IsAbove streams.id_of (streams.without_windows ss gone) n
+pub streams_gone : (ss : List Stream) (gone : List ℕ) (n : ℕ) → IsAboveAll streams.id_of ss n
+    → IsAboveAll streams.id_of (streams.without_windows ss gone) n
 streams_gone ss gone n above = above_filter streams.id_of _ ss n above
 
-pub streams_more : (ss : List Stream) (n m : ℕ) → IsAbove streams.id_of ss n → n ≤ m → IsAbove streams.id_of ss m
+pub streams_more : (ss : List Stream) (n m : ℕ) → IsAboveAll streams.id_of ss n → n ≤ m → IsAboveAll streams.id_of ss m
 streams_more ss n m above le = above_more streams.id_of ss n m above le
 
-pub streams_opened : (ss : List Stream) (id n mode rock : ℕ) (kind : StreamKind) → IsAbove streams.id_of ss n → id < n
-    → IsAbove streams.id_of (ss ++ one.opened id kind mode rock ∷ []) n
+pub streams_opened : (ss : List Stream) (id n mode rock : ℕ) (kind : StreamKind) → IsAboveAll streams.id_of ss n → id < n
+    → IsAboveAll streams.id_of (ss ++ one.opened id kind mode rock ∷ []) n
 unfolding one.opened
 streams_opened ss id n mode rock kind above less =
     above_end streams.id_of ss (one.opened id kind mode rock) n above less
 
 pub ruleset streams_kept = (streams_with, streams_without, streams_gone, streams_more, streams_opened)
 
-pub references_end : (rs : List FileReference) (new : FileReference) → IsAbove reference_id rs new.id
-    → IsAbove reference_id (rs ++ new ∷ []) (new.id + 1)
+pub ruleset both_kept = (windows_kept, streams_kept)
+
+pub ruleset puts_kept = (windowless, streams_kept)
+
+pub references_end : (rs : List FileReference) (new : FileReference) → IsAboveAll reference_id rs new.id
+    → IsAboveAll reference_id (rs ++ new ∷ []) (new.id + 1)
 references_end rs new above =
     above_end reference_id rs new (new.id + 1) (above_more reference_id rs new.id (new.id + 1) above (omega arith))
     (omega arith)
 
-pub references_rise : (rs : List FileReference) (new : FileReference) → objects.Rises reference_id rs
-    → IsAbove reference_id rs new.id → objects.Rises reference_id (rs ++ new ∷ [])
+pub references_rise : (rs : List FileReference) (new : FileReference) → objects.AreRising reference_id rs
+    → IsAboveAll reference_id rs new.id → objects.AreRising reference_id (rs ++ new ∷ [])
 references_rise rs new up above = rises_end reference_id rs new up above
 
-pub references_left : (rs : List FileReference) (id : ℕ) → objects.Rises reference_id rs
-    → objects.Rises reference_id (objects.without reference_id rs id)
+pub references_left : (rs : List FileReference) (id : ℕ) → objects.AreRising reference_id rs
+    → objects.AreRising reference_id (objects.all_but reference_id rs id)
 references_left rs id up = rises_without reference_id rs id up
 
-pub references_under : (rs : List FileReference) (id n : ℕ) → IsAbove reference_id rs n
-    → IsAbove reference_id (objects.without reference_id rs id) n
+pub references_under : (rs : List FileReference) (id n : ℕ) → IsAboveAll reference_id rs n
+    → IsAboveAll reference_id (objects.all_but reference_id rs id) n
 references_under rs id n above = above_without reference_id rs id n above
 
-pub references_more : (rs : List FileReference) (n m : ℕ) → IsAbove reference_id rs n → n ≤ m
-    → IsAbove reference_id rs m
+pub references_more : (rs : List FileReference) (n m : ℕ) → IsAboveAll reference_id rs n → n ≤ m
+    → IsAboveAll reference_id rs m
 references_more rs n m above le = above_more reference_id rs n m above le
 
-pub references_first : (rs : List FileReference) (new : FileReference) → IsBelow reference_id rs 0 → 0 < new.id
-    → IsBelow reference_id (rs ++ new ∷ []) 0
+pub references_first : (rs : List FileReference) (new : FileReference) → IsBelowAll reference_id rs 0 → 0 < new.id
+    → IsBelowAll reference_id (rs ++ new ∷ []) 0
 references_first rs new first some = below_end reference_id rs 0 new first some
 
-pub references_over : (rs : List FileReference) (id : ℕ) → IsBelow reference_id rs 0
-    → IsBelow reference_id (objects.without reference_id rs id) 0
+pub references_over : (rs : List FileReference) (id : ℕ) → IsBelowAll reference_id rs 0
+    → IsBelowAll reference_id (objects.all_but reference_id rs id) 0
 references_over rs id first = below_without reference_id rs 0 id first
 
 pub ruleset references_kept = (references_end, references_rise, references_left, references_under, references_over)

@@ -5,7 +5,7 @@ use Rattle.std.proofs.Common.{arith}
 use Rattle.std.specs.List.{filter, list_any}
 use Rattle.std.proofs.lemmas.Bool.Decides.{nat_tests}
 use Rattle.glk_objects.specs.Objects as objects
-use Rattle.glk_objects.specs.Objects.{IsAbove, IsBelow}
+use Rattle.glk_objects.specs.Objects.{IsAboveAll, IsBelowAll}
 use Rattle.glk_objects.proofs.Places.{id_at}
 use Rattle.glk_objects.proofs.Rising.{below_end, below_without, below_filter, below_map, rises_end, rises_without}
 use Rattle.glk_objects.proofs.Rising.{rises_filter}
@@ -18,12 +18,12 @@ use Rattle.glk_streams.specs.Streams as streams
 use Rattle.glk_windows.specs.declared.entries.Entry.{Entry}
 use Rattle.glk_windows.specs.Tree.{is_among}
 use Rattle.glk_windows.specs.Constants.{pair_window}
-use Rattle.glk_windows.specs.Windows.{FlatWindows, entry_id, stream_id, no_entry, entry_at, has_grid}
+use Rattle.glk_windows.specs.Windows.{FlatWindows, entry_id, stream_id, no_entry, window_entry, has_grid}
 use Rattle.glk_windows.specs.Windows.{grid_at, last_given, IsNewId}
 use Rattle.glk_windows.specs.declared.grid.Grid.{Grid}
 use Rattle.glk_windows.specs.Grids as grids
-use Rattle.glk_windows.specs.Changes.{fitted, new_entry, rooted, split_by, added, leaving, chosen, forgetting}
-use Rattle.glk_windows.specs.Changes.{without_ids, closed, with_grid_of, cleared_in, moved_in, allows, arranged_tree}
+use Rattle.glk_windows.specs.Changes.{fitted, new_entry, rooted, split_by, with_new_window, leaving, chosen, forgetting}
+use Rattle.glk_windows.specs.Changes.{without_ids, window_closed, with_grid_of, cleared_in, moved_in, allows_arrangement, arranged_tree}
 use Rattle.glk_windows.specs.Changes.{arranged}
 use Rattle.glk_windows.proofs.Placing.{forgetting_id, forgetting_none}
 use Rattle.glk_world.specs.Calls.{window_stream, with_streams}
@@ -37,7 +37,7 @@ there_or_not true = inl refl
 there_or_not false = inr refl
 
 -- 0 is no stream
-pub no_zero : (xs : List Stream) (e : ℕ) → IsBelow streams.id_of xs 0 → e ≡ 0 → streams.has xs e ≡ true → ⊥
+pub no_zero : (xs : List Stream) (e : ℕ) → IsBelowAll streams.id_of xs 0 → e ≡ 0 → streams.has xs e ≡ true → ⊥
 no_zero xs e first is_zero there = let more = found.has_below streams.id_of streams.no_stream xs 0 e first there in
     omega (arith, more, is_zero)
 
@@ -45,7 +45,7 @@ echoes_more : (es : List Entry) (n m : ℕ) → EchoesBelow es n → n ≤ m →
 echoes_more [] n m below le = tt
 echoes_more (e ∷ es) n m below le = (let less = below.0 in omega (arith, less), echoes_more es n m below.1 le)
 
-echo_below : (es : List Entry) (n win : ℕ) → EchoesBelow es n → 0 < n → (entry_at es win).echo < n
+echo_below : (es : List Entry) (n win : ℕ) → EchoesBelow es n → 0 < n → (window_entry es win).echo < n
 unfolding objects.at
 echo_below [] n win below some = some
 echo_below (e ∷ es) n win below some = grind (arith, nat_tests, echo_below es n win below.1 some, below.0)
@@ -54,7 +54,7 @@ echo_below (e ∷ es) n win below some = grind (arith, nat_tests, echo_below es 
 echo_in_below : (es : List Entry) (xs : List Stream) (n s : ℕ) → EchoesBelow es n → 0 < n → echo_in es xs s < n
 echo_in_below es xs n s below some =
     elim (one.window_of (streams.stream xs s) == 0) as
-    (λ b. (if b then 0 else (entry_at es (one.window_of (streams.stream xs s))).echo) < n) [
+    (λ b. (if b then 0 else (window_entry es (one.window_of (streams.stream xs s))).echo) < n) [
       | true ↦ some
       | false ↦ echo_below es n (one.window_of (streams.stream xs s)) below some
     ]
@@ -92,21 +92,21 @@ linked_with es xs new n known same linked = record {
 -- ---- streams are gone, and windows
 
 window_same : (es fs : List Entry) (xs ys : List Stream) (s : ℕ) → streams.stream ys s ≡ streams.stream xs s
-    → ((win : ℕ) → ((entry_at fs win).echo ≡ 0) ⊎ ((entry_at fs win).echo ≡ (entry_at es win).echo))
+    → ((win : ℕ) → ((window_entry fs win).echo ≡ 0) ⊎ ((window_entry fs win).echo ≡ (window_entry es win).echo))
     → (echo_in fs ys s ≡ 0) ⊎ (echo_in fs ys s ≡ echo_in es xs s)
 window_same es fs xs ys s same fewer = rw same (elim (one.window_of (streams.stream xs s) == 0) as (λ b.
-    ((if b then 0 else (entry_at fs (one.window_of (streams.stream xs s))).echo) ≡ 0)
-    ⊎ ((if b then 0 else (entry_at fs (one.window_of (streams.stream xs s))).echo)
-    ≡ (if b then 0 else (entry_at es (one.window_of (streams.stream xs s))).echo))) [
+    ((if b then 0 else (window_entry fs (one.window_of (streams.stream xs s))).echo) ≡ 0)
+    ⊎ ((if b then 0 else (window_entry fs (one.window_of (streams.stream xs s))).echo)
+    ≡ (if b then 0 else (window_entry es (one.window_of (streams.stream xs s))).echo))) [
       | true ↦ inl refl
       | false ↦ fewer (one.window_of (streams.stream xs s))
     ])
 
 -- where streams and echo streams are fewer
-fewer_edge : (es fs : List Entry) (xs ys : List Stream) (s : ℕ) → IsBelow streams.id_of ys 0
+fewer_edge : (es fs : List Entry) (xs ys : List Stream) (s : ℕ) → IsBelowAll streams.id_of ys 0
     → ((t : ℕ) → streams.has ys t ≡ true → streams.has xs t ≡ true)
     → ((t : ℕ) → streams.has ys t ≡ true → streams.stream ys t ≡ streams.stream xs t)
-    → ((win : ℕ) → ((entry_at fs win).echo ≡ 0) ⊎ ((entry_at fs win).echo ≡ (entry_at es win).echo))
+    → ((win : ℕ) → ((window_entry fs win).echo ≡ 0) ⊎ ((window_entry fs win).echo ≡ (window_entry es win).echo))
     → streams.has ys s ≡ true → streams.has ys (echo_in fs ys s) ≡ true → IsEdge es fs xs ys s
 fewer_edge es fs xs ys s first were same fewer there echo = elim (window_same es fs xs ys s (same s there) fewer) [
   | inl none ↦ absurd (no_zero ys (echo_in fs ys s) first none echo)
@@ -125,13 +125,13 @@ forgetting_echo gone e =
     ⊎ ((if b then record e { echo = 0 } else e).echo ≡ e.echo)) [ true ↦ inl refl | false ↦ inr refl ]
 
 forgotten_at : (gone : List ℕ) (es : List Entry) (win : ℕ)
-    → entry_at (map (forgetting gone) es) win ≡ forgetting gone (entry_at es win)
+    → window_entry (map (forgetting gone) es) win ≡ forgetting gone (window_entry es win)
 forgotten_at gone es win =
     found.at_map entry_id no_entry (forgetting gone) (forgetting_id gone) (forgetting_none gone) es win
 
-forgotten_echo : (gone : List ℕ) (es : List Entry) (win : ℕ) → ((entry_at (map (forgetting gone) es) win).echo ≡ 0)
-    ⊎ ((entry_at (map (forgetting gone) es) win).echo ≡ (entry_at es win).echo)
-forgotten_echo gone es win = rw (forgotten_at gone es win) (forgetting_echo gone (entry_at es win))
+forgotten_echo : (gone : List ℕ) (es : List Entry) (win : ℕ) → ((window_entry (map (forgetting gone) es) win).echo ≡ 0)
+    ⊎ ((window_entry (map (forgetting gone) es) win).echo ≡ (window_entry es win).echo)
+forgotten_echo gone es win = rw (forgotten_at gone es win) (forgetting_echo gone (window_entry es win))
 
 echoes_forgotten : (gone : List ℕ) (es : List Entry) (n : ℕ) → 0 < n → EchoesBelow es n
     → EchoesBelow (map (forgetting gone) es) n
@@ -155,12 +155,12 @@ echoes_chosen test (e ∷ es) n below =
 
 -- a stream is closed
 pub linked_without : (es : List Entry) (xs : List Stream) (id n : ℕ) → AreLinked es xs n
-    → AreLinked (map (forgetting (id ∷ [])) es) (streams.without xs id) n
+    → AreLinked (map (forgetting (id ∷ [])) es) (streams.all_but xs id) n
 linked_without es xs id n linked = record {
   ranked = (
     linked.ranked.0,
-    ranked_within es (map (forgetting (id ∷ [])) es) xs (streams.without xs id) linked.ranked.0
-        (λ s there echo. fewer_edge es (map (forgetting (id ∷ [])) es) xs (streams.without xs id) s
+    ranked_within es (map (forgetting (id ∷ [])) es) xs (streams.all_but xs id) linked.ranked.0
+        (λ s there echo. fewer_edge es (map (forgetting (id ∷ [])) es) xs (streams.all_but xs id) s
         (below_without streams.id_of xs 0 id linked.first)
         (λ t is. found.has_without streams.id_of streams.no_stream xs id t is)
         (λ t is. found.at_without streams.id_of streams.no_stream xs id t linked.rises is)
@@ -175,18 +175,18 @@ linked_without es xs id n linked = record {
 
 -- windows are closed, and their streams
 left_echo : (gone ids : List ℕ) (es : List Entry) (win : ℕ)
-    → ((entry_at (map (forgetting gone) (filter (λ e. not (is_among ids e.id)) es)) win).echo ≡ 0)
-    ⊎ ((entry_at (map (forgetting gone) (filter (λ e. not (is_among ids e.id)) es)) win).echo
-    ≡ (entry_at es win).echo)
+    → ((window_entry (map (forgetting gone) (filter (λ e. not (is_among ids e.id)) es)) win).echo ≡ 0)
+    ⊎ ((window_entry (map (forgetting gone) (filter (λ e. not (is_among ids e.id)) es)) win).echo
+    ≡ (window_entry es win).echo)
 left_echo gone ids es win =
     rw (
       forgotten_at gone (filter (λ e. not (is_among ids e.id)) es) win,
       found.at_chosen entry_id no_entry (λ (id : ℕ). not (is_among ids id)) es win,
     )
     (elim (not (is_among ids win)) as
-    (λ b. ((forgetting gone (if b then entry_at es win else no_entry)).echo ≡ 0)
-    ⊎ ((forgetting gone (if b then entry_at es win else no_entry)).echo ≡ (entry_at es win).echo)) [
-      | true ↦ forgetting_echo gone (entry_at es win)
+    (λ b. ((forgetting gone (if b then window_entry es win else no_entry)).echo ≡ 0)
+    ⊎ ((forgetting gone (if b then window_entry es win else no_entry)).echo ≡ (window_entry es win).echo)) [
+      | true ↦ forgetting_echo gone (window_entry es win)
       | false ↦ inl (ap (λ (e : Entry). e.echo) (forgetting_none gone))
     ])
 
@@ -218,13 +218,13 @@ linked_closed es xs gone ids wins n linked =
 
 -- `win` is the new stream's window, 0 for none
 new_edge : (es fs : List Entry) (xs : List Stream) (new : Stream) (s : ℕ) → AreLinked es xs new.id
-    → IsAbove streams.id_of xs new.id → ((t : ℕ) → echo_in es xs t < new.id)
+    → IsAboveAll streams.id_of xs new.id → ((t : ℕ) → echo_in es xs t < new.id)
     → ((t : ℕ) → streams.has xs t ≡ true → echo_in fs (xs ++ new ∷ []) t ≡ echo_in es xs t)
     → echo_in fs (xs ++ new ∷ []) new.id ≡ 0
     → streams.has (xs ++ new ∷ []) s ≡ true → streams.has (xs ++ new ∷ []) (echo_in fs (xs ++ new ∷ []) s) ≡ true
     → IsEdge es fs xs (xs ++ new ∷ []) s
 new_edge es fs xs new s linked above below old none there echo =
-    let first : IsBelow streams.id_of (xs ++ new ∷ []) 0 = below_end streams.id_of xs 0 new linked.first linked.begun in
+    let first : IsBelowAll streams.id_of (xs ++ new ∷ []) 0 = below_end streams.id_of xs 0 new linked.first linked.begun in
     elim (there_or_not (streams.has xs s)) [
       | inl is ↦
           let e = old s is in
@@ -246,8 +246,8 @@ new_edge es fs xs new s linked above below old none there echo =
           absurd (no_zero (xs ++ new ∷ []) (echo_in fs (xs ++ new ∷ []) s) first zero echo)
     ]
 
-new_falls_nowhere : (es : List Entry) (xs : List Stream) (new : Stream) → IsAbove streams.id_of xs new.id
-    → (if one.window_of new == 0 then 0 else (entry_at es (one.window_of new)).echo) ≡ 0
+new_falls_nowhere : (es : List Entry) (xs : List Stream) (new : Stream) → IsAboveAll streams.id_of xs new.id
+    → (if one.window_of new == 0 then 0 else (window_entry es (one.window_of new)).echo) ≡ 0
     → echo_in es (xs ++ new ∷ []) new.id ≡ 0
 new_falls_nowhere es xs new above none =
     let gone : streams.has xs new.id ≡ false = elim (there_or_not (streams.has xs new.id)) [
@@ -260,8 +260,8 @@ new_falls_nowhere es xs new above none =
     rw it none
 
 pub linked_stream : (es : List Entry) (xs : List Stream) (new : Stream) (n : ℕ) → AreLinked es xs n
-    → IsAbove streams.id_of xs n → n ≤ new.id
-    → (if one.window_of new == 0 then 0 else (entry_at es (one.window_of new)).echo) ≡ 0
+    → IsAboveAll streams.id_of xs n → n ≤ new.id
+    → (if one.window_of new == 0 then 0 else (window_entry es (one.window_of new)).echo) ≡ 0
     → AreLinked es (xs ++ new ∷ []) (new.id + 1)
 linked_stream es xs new n linked above le none =
     let known = linked_more es xs n new.id linked le in
@@ -271,7 +271,7 @@ linked_stream es xs new n linked above le none =
         linked.ranked.0,
         ranked_within es es xs (xs ++ new ∷ []) linked.ranked.0 (λ s there echo. new_edge es es xs new s known higher
             (λ t. echo_in_below es xs new.id t known.echoes known.begun)
-            (λ t is. ap (λ (it : Stream). if one.window_of it == 0 then 0 else (entry_at es (one.window_of it)).echo)
+            (λ t is. ap (λ (it : Stream). if one.window_of it == 0 then 0 else (window_entry es (one.window_of it)).echo)
             (found.at_end streams.id_of streams.no_stream xs new t is))
             (new_falls_nowhere es xs new higher none) there echo) linked.ranked.1,
       );
@@ -284,15 +284,15 @@ linked_stream es xs new n linked above le none =
 
 -- a window is new
 entry_end_echo : (es : List Entry) (e : Entry) (win : ℕ) → e.echo ≡ 0
-    → (entry_at (es ++ e ∷ []) win).echo ≡ (entry_at es win).echo
+    → (window_entry (es ++ e ∷ []) win).echo ≡ (window_entry es win).echo
 unfolding objects.at
 entry_end_echo [] e win none = elim (e.id == win) as (λ b. (if b then e else no_entry).echo ≡ 0) [
   | true ↦ none
   | false ↦ refl
 ]
 entry_end_echo (x ∷ es) e win none =
-    elim (x.id == win) as (λ b. (if b then x else entry_at (es ++ e ∷ []) win).echo ≡
-    (if b then x else entry_at es win).echo) [ true ↦ refl | false ↦ entry_end_echo es e win none ]
+    elim (x.id == win) as (λ b. (if b then x else window_entry (es ++ e ∷ []) win).echo ≡
+    (if b then x else window_entry es win).echo) [ true ↦ refl | false ↦ entry_end_echo es e win none ]
 
 echo_in_end : (es : List Entry) (e : Entry) (xs : List Stream) (s : ℕ) → e.echo ≡ 0
     → echo_in (es ++ e ∷ []) xs s ≡ echo_in es xs s
@@ -321,7 +321,7 @@ linked_entry es e xs n none some linked = record {
   begun = linked.begun;
 }
 
-absent_echo : (es : List Entry) (n win : ℕ) → IsAbove entry_id es n → n ≤ win → (entry_at es win).echo ≡ 0
+absent_echo : (es : List Entry) (n win : ℕ) → IsAboveAll entry_id es n → n ≤ win → (window_entry es win).echo ≡ 0
 absent_echo es n win above le =
     let gone : objects.has entry_id es win ≡ false = elim (there_or_not (objects.has entry_id es win)) [
       | inl is ↦ absurd (let less = found.has_above entry_id no_entry es n win above is in omega (arith, less))
@@ -329,27 +329,27 @@ absent_echo es n win above le =
     ] in
     ap (λ (e : Entry). e.echo) (at_absent entry_id no_entry es win gone)
 
-window_stream_none : (es : List Entry) (win : ℕ) → (entry_at es win).echo ≡ 0
-    → (if win == 0 then 0 else (entry_at es win).echo) ≡ 0
-window_stream_none es win none = elim (win == 0) as (λ b. (if b then 0 else (entry_at es win).echo) ≡ 0) [
+window_stream_none : (es : List Entry) (win : ℕ) → (window_entry es win).echo ≡ 0
+    → (if win == 0 then 0 else (window_entry es win).echo) ≡ 0
+window_stream_none es win none = elim (win == 0) as (λ b. (if b then 0 else (window_entry es win).echo) ≡ 0) [
   | true ↦ refl
   | false ↦ none
 ]
 
-linked_first : (es : List Entry) (xs : List Stream) (kind rock n : ℕ) → IsAbove entry_id es n
-    → IsAbove streams.id_of xs n → AreLinked es xs n
+linked_first : (es : List Entry) (xs : List Stream) (kind rock n : ℕ) → IsAboveAll entry_id es n
+    → IsAboveAll streams.id_of xs n → AreLinked es xs n
     → AreLinked (es ++ new_entry n kind rock ∷ []) (xs ++ window_stream n ∷ []) (n + 1 + 1)
 unfolding one.opened
 linked_first es xs kind rock n new above linked =
     let es1 = es ++ new_entry n kind rock ∷ [] in
-    let none : (entry_at es1 n).echo ≡ 0 =
+    let none : (window_entry es1 n).echo ≡ 0 =
     entry_end_echo es (new_entry n kind rock) n refl ∙ absent_echo es n n new (omega arith) in
     linked_stream es1 xs (window_stream n) n
     (linked_entry es (new_entry n kind rock) xs n refl linked.begun linked) above (omega arith)
     (window_stream_none es1 n none)
 
-linked_pair : (es : List Entry) (xs : List Stream) (kind rock n : ℕ) → IsAbove entry_id es n
-    → IsAbove streams.id_of xs n → AreLinked es xs n
+linked_pair : (es : List Entry) (xs : List Stream) (kind rock n : ℕ) → IsAboveAll entry_id es n
+    → IsAboveAll streams.id_of xs n → AreLinked es xs n
     → AreLinked ((es ++ new_entry n kind rock ∷ []) ++ new_entry (n + 2) pair_window 0 ∷ [])
     ((xs ++ window_stream n ∷ []) ++ window_stream (n + 2) ∷ []) (n + 3 + 1)
 unfolding one.opened
@@ -359,10 +359,10 @@ linked_pair es xs kind rock n new above linked =
     let xs1 = xs ++ window_stream n ∷ [] in
     let first = linked_first es xs kind rock n new above linked in
     let more = linked_entry es1 (new_entry (n + 2) pair_window 0) xs1 (n + 1 + 1) refl (omega arith) first in
-    let above1 : IsAbove streams.id_of xs1 (n + 1 + 1) =
+    let above1 : IsAboveAll streams.id_of xs1 (n + 1 + 1) =
     above_end streams.id_of xs (window_stream n) (n + 1 + 1)
     (above_more streams.id_of xs n (n + 1 + 1) above (omega arith)) (omega arith) in
-    let none : (entry_at es2 (n + 2)).echo ≡ 0 =
+    let none : (window_entry es2 (n + 2)).echo ≡ 0 =
     entry_end_echo es1 (new_entry (n + 2) pair_window 0) (n + 2) refl
     ∙ entry_end_echo es (new_entry n kind rock) (n + 2) refl ∙ absent_echo es n (n + 2) new (omega arith) in
     let result : AreLinked es2 (xs1 ++ window_stream (n + 2) ∷ []) (n + 2 + 1 + 1) =
@@ -372,9 +372,9 @@ linked_pair es xs kind rock n new above linked =
     rw same result
 
 pub linked_opened : (f : FlatWindows) (xs : List Stream) (split method size kind rock n : ℕ) → IsNewId f n
-    → IsAbove streams.id_of xs n → AreLinked f.entries xs n
-    → AreLinked (added f split method size kind rock n).entries (with_streams xs split n) (last_given split n + 1)
-unfolding added
+    → IsAboveAll streams.id_of xs n → AreLinked f.entries xs n
+    → AreLinked (with_new_window f split method size kind rock n).entries (with_streams xs split n) (last_given split n + 1)
+unfolding with_new_window
 linked_opened f xs split method size kind rock n new above linked = elim (split == 0) as (λ b.
     AreLinked (fitted (if b then rooted f kind rock n else split_by f split method size kind rock n)).entries
     (if b then xs ++ window_stream n ∷ [] else (xs ++ window_stream n ∷ []) ++ window_stream (n + 2) ∷ [])
@@ -384,8 +384,8 @@ linked_opened f xs split method size kind rock n new above linked = elim (split 
     ]
 
 pub linked_left : (f : FlatWindows) (xs : List Stream) (win n : ℕ) (wins : List ℕ) → AreLinked f.entries xs n
-    → AreLinked (closed f win).entries (streams.without_windows xs wins) n
-unfolding closed without_ids
+    → AreLinked (window_closed f win).entries (streams.without_windows xs wins) n
+unfolding window_closed without_ids
 linked_left f xs win n wins linked =
     linked_closed f.entries xs (map stream_id (chosen (leaving f.tree win) f.entries))
     (leaving f.tree win) wins n linked
@@ -402,7 +402,7 @@ linked_none n some = record {
 
 -- a stream of memory or of a file is new
 pub linked_own : (es : List Entry) (xs : List Stream) (id mode rock : ℕ) (kind : StreamKind) → AreLinked es xs id
-    → IsAbove streams.id_of xs id → one.window_in kind ≡ 0
+    → IsAboveAll streams.id_of xs id → one.window_in kind ≡ 0
     → AreLinked es (xs ++ one.opened id kind mode rock ∷ []) (id + 1)
 unfolding one.opened
 linked_own es xs id mode rock kind linked above own =
@@ -426,15 +426,15 @@ as_got s (Some got) = record { id = refl; window = refl }
 pub as_passed : (s : Stream) (position count : ℕ) → IsAsNamed s (one.passed s position count)
 as_passed s position count = record { id = refl; window = refl }
 
-moved_id : (s : Stream) (pos seek : ℕ) → (one.moved s pos seek).id ≡ s.id
-unfolding one.moved
+moved_id : (s : Stream) (pos seek : ℕ) → (one.positioned s pos seek).id ≡ s.id
+unfolding one.positioned
 moved_id s pos seek = grind (arith, nat_tests)
 
-moved_kind : (s : Stream) (pos seek : ℕ) → (one.moved s pos seek).kind ≡ s.kind
-unfolding one.moved
+moved_kind : (s : Stream) (pos seek : ℕ) → (one.positioned s pos seek).kind ≡ s.kind
+unfolding one.positioned
 moved_kind s pos seek = grind (arith, nat_tests)
 
-pub as_moved : (s : Stream) (pos seek : ℕ) → IsAsNamed s (one.moved s pos seek)
+pub as_moved : (s : Stream) (pos seek : ℕ) → IsAsNamed s (one.positioned s pos seek)
 as_moved s pos seek = record { id = moved_id s pos seek; window = ap one.window_in (moved_kind s pos seek) }
 
 -- a file is no window's
@@ -464,17 +464,17 @@ entries_with f win g =
 
 pub entries_cleared : (f : FlatWindows) (win : ℕ) → (cleared_in f win).entries ≡ f.entries
 unfolding cleared_in
-entries_cleared f win = entries_with f win (grids.cleared (grid_at f.grids win))
+entries_cleared f win = entries_with f win (grids.blanked (grid_at f.grids win))
 
 pub entries_moved : (f : FlatWindows) (win x y : ℕ) → (moved_in f win x y).entries ≡ f.entries
 unfolding moved_in
-entries_moved f win x y = entries_with f win (grids.moved (grid_at f.grids win) x y)
+entries_moved f win x y = entries_with f win (grids.with_cursor (grid_at f.grids win) x y)
 
 pub entries_arranged : (f : FlatWindows) (win method size key : ℕ)
     → (arranged f win method size key).entries ≡ f.entries
 unfolding arranged
 entries_arranged f win method size key =
-    elim (allows f win method key) as
+    elim (allows_arrangement f win method key) as
     (λ b. (if b then fitted (record f { tree = arranged_tree f win method size key }) else f).entries ≡ f.entries) [
       | true ↦ refl
       | false ↦ refl

@@ -5,7 +5,7 @@ use Rattle.std.proofs.Common.{ap, arith}
 use Rattle.std.specs.List.{filter, list_any}
 use Rattle.std.proofs.lemmas.Bool.Decides.{nat_tests}
 use Rattle.glk_objects.specs.Objects as objects
-use Rattle.glk_objects.specs.Objects.{IsAbove, IsBelow, Rises}
+use Rattle.glk_objects.specs.Objects.{IsAboveAll, AreRising}
 use Rattle.glk_objects.proofs.Places.{id_at}
 use Rattle.glk_objects.proofs.Found as found
 use Rattle.glk_streams.specs.declared.kinds.Stream.{Stream}
@@ -15,9 +15,9 @@ use Rattle.glk_streams.specs.Streams as streams
 use Rattle.glk_windows.specs.declared.entries.Entry.{Entry}
 use Rattle.glk_windows.specs.Constants.{pair_window}
 use Rattle.glk_windows.specs.Tree.{is_among}
-use Rattle.glk_windows.specs.Windows.{FlatWindows, entry_id, stream_id, no_entry, entry_at, no_windows, IsNewId}
-use Rattle.glk_windows.specs.Changes.{fitted, new_entry, rooted, split_by, added, leaving, chosen, forgetting}
-use Rattle.glk_windows.specs.Changes.{without_ids, closed, echoed, arranged, gone}
+use Rattle.glk_windows.specs.Windows.{FlatWindows, entry_id, stream_id, no_entry, window_entry, no_windows, IsNewId}
+use Rattle.glk_windows.specs.Changes.{fitted, new_entry, rooted, split_by, with_new_window, leaving, chosen, forgetting}
+use Rattle.glk_windows.specs.Changes.{without_ids, window_closed, with_echo_stream, arranged, gone}
 use Rattle.glk_windows.proofs.Placing.{forgetting_id, forgetting_none}
 use Rattle.glk_world.specs.Calls.{window_stream, with_streams}
 use Rattle.glk_world.specs.Chains.{AreLinked}
@@ -31,19 +31,19 @@ named_none = record { windows = λ win there. absurd (cc); streams = λ s there 
 -- windows and streams that name each other as before
 named_same : (es fs : List Entry) (xs ys : List Stream)
     → ((win : ℕ) → objects.has entry_id fs win ≡ objects.has entry_id es win)
-    → ((win : ℕ) → (entry_at fs win).stream ≡ (entry_at es win).stream)
+    → ((win : ℕ) → (window_entry fs win).stream ≡ (window_entry es win).stream)
     → ((s : ℕ) → streams.has ys s ≡ streams.has xs s)
     → ((s : ℕ) → one.window_of (streams.stream ys s) ≡ one.window_of (streams.stream xs s))
     → AreNamed es xs → AreNamed fs ys
 named_same es fs xs ys wins own all names named = record {
   windows = λ win there. let was = named.windows win (sym (wins win) ∙ there) in (
-    all (entry_at fs win).stream ∙ ap (λ (s : ℕ). streams.has xs s) (own win) ∙ was.0,
-    names (entry_at fs win).stream ∙ ap (λ (s : ℕ). one.window_of (streams.stream xs s)) (own win) ∙ was.1,
+    all (window_entry fs win).stream ∙ ap (λ (s : ℕ). streams.has xs s) (own win) ∙ was.0,
+    names (window_entry fs win).stream ∙ ap (λ (s : ℕ). one.window_of (streams.stream xs s)) (own win) ∙ was.1,
   );
   streams = λ s there some.
       let was = named.streams s (sym (all s) ∙ there) (λ none. some (names s ∙ none)) in (
         ap (λ (win : ℕ). objects.has entry_id fs win) (names s) ∙ wins (one.window_of (streams.stream xs s)) ∙ was.0,
-        ap (λ (win : ℕ). (entry_at fs win).stream) (names s) ∙ own (one.window_of (streams.stream xs s)) ∙ was.1,
+        ap (λ (win : ℕ). (window_entry fs win).stream) (names s) ∙ own (one.window_of (streams.stream xs s)) ∙ was.1,
       );
 }
 
@@ -78,11 +78,11 @@ forgetting_stream lost e =
     ]
 
 forgotten_stream : (lost : List ℕ) (es : List Entry) (win : ℕ)
-    → (entry_at (map (forgetting lost) es) win).stream ≡ (entry_at es win).stream
+    → (window_entry (map (forgetting lost) es) win).stream ≡ (window_entry es win).stream
 forgotten_stream lost es win =
     ap (λ (e : Entry). e.stream)
     (found.at_map entry_id no_entry (forgetting lost) (forgetting_id lost) (forgetting_none lost) es win)
-    ∙ forgetting_stream lost (entry_at es win)
+    ∙ forgetting_stream lost (window_entry es win)
 
 named_forgotten : (lost : List ℕ) (es : List Entry) (xs : List Stream) → AreNamed es xs
     → AreNamed (map (forgetting lost) es) xs
@@ -92,41 +92,41 @@ named_forgotten lost es xs named =
     (λ win. forgotten_stream lost es win) (λ s. refl) (λ s. refl) named
 
 echoed_stream : (es : List Entry) (win stream other : ℕ) → objects.has entry_id es win ≡ true
-    → (entry_at (objects.with entry_id es (record (entry_at es win) { echo = stream })) other).stream
-    ≡ (entry_at es other).stream
+    → (window_entry (objects.with entry_id es (record (window_entry es win) { echo = stream })) other).stream
+    ≡ (window_entry es other).stream
 echoed_stream es win stream other there =
-    let new = record (entry_at es win) { echo = stream } in
+    let new = record (window_entry es win) { echo = stream } in
     let id : new.id ≡ win = id_at entry_id no_entry es win there in
     elim (there_or_not (other == new.id)) [
       | inl here ↦ let same : other ≡ new.id = grind (arith, nat_tests, here) in
           rw same (ap (λ (e : Entry). e.stream)
           (found.at_with_here entry_id no_entry es new (rw id there))
-          ∙ ap (λ (w : ℕ). (entry_at es w).stream) (sym id))
+          ∙ ap (λ (w : ℕ). (window_entry es w).stream) (sym id))
       | inr apart ↦ ap (λ (e : Entry). e.stream)
           (found.at_with entry_id no_entry es new other (grind (arith, nat_tests, apart)))
     ]
 
 pub named_echoed : (f : FlatWindows) (xs : List Stream) (win stream : ℕ) → objects.has entry_id f.entries win ≡ true
-    → AreNamed f.entries xs → AreNamed (echoed f win stream).entries xs
-unfolding echoed
+    → AreNamed f.entries xs → AreNamed (with_echo_stream f win stream).entries xs
+unfolding with_echo_stream
 named_echoed f xs win stream there named =
     let es = f.entries in
-    let new = record (entry_at es win) { echo = stream } in
+    let new = record (window_entry es win) { echo = stream } in
     named_same es (objects.with entry_id es new) xs xs (λ other. found.has_with entry_id no_entry es new other)
     (λ other. echoed_stream es win stream other there) (λ s. refl) (λ s. refl) named
 
 -- ---- a stream with no window is opened or closed
 
 pub named_own : (es : List Entry) (xs : List Stream) (id mode rock : ℕ) (kind : StreamKind)
-    → IsAbove streams.id_of xs id → one.window_in kind ≡ 0 → AreNamed es xs
+    → IsAboveAll streams.id_of xs id → one.window_in kind ≡ 0 → AreNamed es xs
     → AreNamed es (xs ++ one.opened id kind mode rock ∷ [])
 unfolding one.opened
 named_own es xs id mode rock kind above own named =
     let new = one.opened id kind mode rock in
     record {
       windows = λ win there. let was = named.windows win there in (
-        grind (arith, found.has_end streams.id_of streams.no_stream xs new (entry_at es win).stream, was.0),
-        ap one.window_of (found.at_end streams.id_of streams.no_stream xs new (entry_at es win).stream was.0) ∙ was.1,
+        grind (arith, found.has_end streams.id_of streams.no_stream xs new (window_entry es win).stream, was.0),
+        ap one.window_of (found.at_end streams.id_of streams.no_stream xs new (window_entry es win).stream was.0) ∙ was.1,
       );
       streams = λ s there some. elim (there_or_not (streams.has xs s)) [
         | inl is ↦ let same = found.at_end streams.id_of streams.no_stream xs new s is in
@@ -138,17 +138,17 @@ named_own es xs id mode rock kind above own named =
     }
 
 has_left : (xs : List Stream) (id s : ℕ) → streams.has xs s ≡ true → (s == id) ≡ false
-    → streams.has (streams.without xs id) s ≡ true
-unfolding objects.without
+    → streams.has (streams.all_but xs id) s ≡ true
+unfolding objects.all_but
 has_left [] id s there other = there
 has_left (x ∷ xs) id s there other = grind (arith, nat_tests, has_left xs id s, there, other)
 
 pub named_without : (es : List Entry) (xs : List Stream) (id n : ℕ) → one.window_of (streams.stream xs id) ≡ 0
-    → AreLinked es xs n → AreNamed es xs → AreNamed (map (forgetting (id ∷ [])) es) (streams.without xs id)
+    → AreLinked es xs n → AreNamed es xs → AreNamed (map (forgetting (id ∷ [])) es) (streams.all_but xs id)
 named_without es xs id n own linked named =
-    named_forgotten (id ∷ []) es (streams.without xs id) (record {
+    named_forgotten (id ∷ []) es (streams.all_but xs id) (record {
       windows = λ win there. let was = named.windows win there in
-          let t = (entry_at es win).stream in
+          let t = (window_entry es win).stream in
           let some = found.has_below entry_id no_entry es 0 win linked.windows there in
           let other : (t == id) ≡ false = elim (there_or_not (t == id)) [
             | inl here ↦ absurd (let same : t ≡ id = grind (arith, nat_tests, here) in
@@ -168,13 +168,13 @@ named_without es xs id n own linked named =
 
 -- ---- a window is opened
 
-not_there : (es : List Entry) (n win : ℕ) → IsAbove entry_id es n → n ≤ win → objects.has entry_id es win ≡ false
+not_there : (es : List Entry) (n win : ℕ) → IsAboveAll entry_id es n → n ≤ win → objects.has entry_id es win ≡ false
 not_there es n win above le = elim (there_or_not (objects.has entry_id es win)) [
   | inl is ↦ absurd (let less = found.has_above entry_id no_entry es n win above is in omega (arith, less, le))
   | inr lost ↦ lost
 ]
 
-no_stream_yet : (xs : List Stream) (n s : ℕ) → IsAbove streams.id_of xs n → n ≤ s → streams.has xs s ≡ false
+no_stream_yet : (xs : List Stream) (n s : ℕ) → IsAboveAll streams.id_of xs n → n ≤ s → streams.has xs s ≡ false
 no_stream_yet xs n s above le = elim (there_or_not (streams.has xs s)) [
   | inl is ↦
       absurd (let less = found.has_above streams.id_of streams.no_stream xs n s above is in omega (arith, less, le))
@@ -188,7 +188,7 @@ named_more : (es : List Entry) (xs : List Stream) (e : Entry) (new : Stream) →
 named_more es xs e new no_window no_stream own stream named =
     let here : (e.id == e.id) ≡ true = grind (arith, nat_tests) in
     let here' : (new.id == new.id) ≡ true = grind (arith, nat_tests) in
-    let it : entry_at (es ++ e ∷ []) e.id ≡ e = rw (found.at_new entry_id no_entry es e e.id no_window, here) refl in
+    let it : window_entry (es ++ e ∷ []) e.id ≡ e = rw (found.at_new entry_id no_entry es e e.id no_window, here) refl in
     let its : streams.stream (xs ++ new ∷ []) new.id ≡ new =
     rw (found.at_new streams.id_of streams.no_stream xs new new.id no_stream, here') refl in
     record {
@@ -196,8 +196,8 @@ named_more es xs e new no_window no_stream own stream named =
         | inl is ↦ let was = named.windows win is in
             let same = found.at_end entry_id no_entry es e win is in
             rw same (
-              grind (arith, found.has_end streams.id_of streams.no_stream xs new (entry_at es win).stream, was.0),
-              ap one.window_of (found.at_end streams.id_of streams.no_stream xs new (entry_at es win).stream was.0)
+              grind (arith, found.has_end streams.id_of streams.no_stream xs new (window_entry es win).stream, was.0),
+              ap one.window_of (found.at_end streams.id_of streams.no_stream xs new (window_entry es win).stream was.0)
                   ∙ was.1,
             )
         | inr lost ↦ let last : (e.id == win) ≡ true =
@@ -226,16 +226,16 @@ named_more es xs e new no_window no_stream own stream named =
       ];
     }
 
-named_first : (es : List Entry) (xs : List Stream) (kind rock n : ℕ) → IsAbove entry_id es n
-    → IsAbove streams.id_of xs n → AreNamed es xs
+named_first : (es : List Entry) (xs : List Stream) (kind rock n : ℕ) → IsAboveAll entry_id es n
+    → IsAboveAll streams.id_of xs n → AreNamed es xs
     → AreNamed (es ++ new_entry n kind rock ∷ []) (xs ++ window_stream n ∷ [])
 unfolding one.opened
 named_first es xs kind rock n new above named =
     named_more es xs (new_entry n kind rock) (window_stream n) (not_there es n n new (omega arith))
     (no_stream_yet xs n (n + 1) above (omega arith)) refl refl named
 
-named_pair : (es : List Entry) (xs : List Stream) (kind rock n : ℕ) → IsAbove entry_id es n
-    → IsAbove streams.id_of xs n → AreNamed es xs
+named_pair : (es : List Entry) (xs : List Stream) (kind rock n : ℕ) → IsAboveAll entry_id es n
+    → IsAboveAll streams.id_of xs n → AreNamed es xs
     → AreNamed ((es ++ new_entry n kind rock ∷ []) ++ new_entry (n + 2) pair_window 0 ∷ [])
     ((xs ++ window_stream n ∷ []) ++ window_stream (n + 2) ∷ [])
 unfolding one.opened
@@ -252,9 +252,9 @@ named_pair es xs kind rock n new above named =
     (named_first es xs kind rock n new above named)
 
 pub named_opened : (f : FlatWindows) (xs : List Stream) (split method size kind rock n : ℕ) → IsNewId f n
-    → IsAbove streams.id_of xs n → AreNamed f.entries xs
-    → AreNamed (added f split method size kind rock n).entries (with_streams xs split n)
-unfolding added
+    → IsAboveAll streams.id_of xs n → AreNamed f.entries xs
+    → AreNamed (with_new_window f split method size kind rock n).entries (with_streams xs split n)
+unfolding with_new_window
 named_opened f xs split method size kind rock n new above named = elim (split == 0) as (λ b.
     AreNamed (fitted (if b then rooted f kind rock n else split_by f split method size kind rock n)).entries
     (if b then xs ++ window_stream n ∷ [] else (xs ++ window_stream n ∷ []) ++ window_stream (n + 2) ∷ [])) [
@@ -282,7 +282,7 @@ unfolding objects.at
 has_staying stays [] s there on = there
 has_staying stays (x ∷ xs) s there on = grind (arith, nat_tests, has_staying stays xs s, there, on)
 
-staying : (stays : Stream → Bool) (xs : List Stream) (s : ℕ) → Rises streams.id_of xs
+staying : (stays : Stream → Bool) (xs : List Stream) (s : ℕ) → AreRising streams.id_of xs
     → streams.has (filter stays xs) s ≡ true → stays (streams.stream xs s) ≡ true
 unfolding objects.at
 staying stays [] s up there = absurd (cc)
@@ -313,7 +313,7 @@ named_left es xs ids n linked named =
     let fs = filter (λ e. not (is_among ids e.id)) es in
     let kept : (win : ℕ) → objects.has entry_id fs win ≡ (not (is_among ids win) && objects.has entry_id es win) =
     λ win. found.has_chosen entry_id no_entry (λ (id : ℕ). not (is_among ids id)) es win in
-    let same : (win : ℕ) → is_among ids win ≡ false → entry_at fs win ≡ entry_at es win =
+    let same : (win : ℕ) → is_among ids win ≡ false → window_entry fs win ≡ window_entry es win =
     λ win off. rw (found.at_chosen entry_id no_entry (λ (id : ℕ). not (is_among ids id)) es win, off) refl in
     record {
       windows = λ win there.
@@ -321,7 +321,7 @@ named_left es xs ids n linked named =
           let was = named.windows win both.1 in
           let off : list_any (λ (other : ℕ). other == win) wins ≡ false =
           chosen_among ids es win ∙ rw both.0 refl in
-          let t = (entry_at es win).stream in
+          let t = (window_entry es win).stream in
           let left : streams.has (filter stays xs) t ≡ true =
           has_staying stays xs t was.0
           (ap (λ (w : ℕ). not (list_any (λ (other : ℕ). other == w) wins)) was.1 ∙ rw off refl) in
@@ -346,8 +346,8 @@ named_left es xs ids n linked named =
 
 pub named_closed : (f : FlatWindows) (xs : List Stream) (win n : ℕ) (wins : List ℕ) → wins ≡ gone f win
     → AreLinked f.entries xs n → AreNamed f.entries xs
-    → AreNamed (closed f win).entries (streams.without_windows xs wins)
-unfolding closed without_ids
+    → AreNamed (window_closed f win).entries (streams.without_windows xs wins)
+unfolding window_closed without_ids
 named_closed f xs win n wins is linked named =
     let ids = leaving f.tree win in
     rw is (named_forgotten (map stream_id (chosen ids f.entries)) (filter (λ e. not (is_among ids e.id)) f.entries)
@@ -357,7 +357,7 @@ named_closed f xs win n wins is linked named =
 
 pub record AreKept (f : FlatWindows) (xs : List Stream) (n : ℕ) : Type 0 where
   pub windows : IsNewId f n
-  pub streams : IsAbove streams.id_of xs n
+  pub streams : IsAboveAll streams.id_of xs n
   pub links : AreLinked f.entries xs n
   pub named : AreNamed f.entries xs
 

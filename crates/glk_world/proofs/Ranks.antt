@@ -18,8 +18,8 @@ use Rattle.glk_windows.specs.Constants.{text_buffer}
 use Rattle.glk_text.specs.Characters.{shown}
 use Rattle.glk_screen.specs.Texts.{screen_put}
 use Rattle.glk_world.specs.World.{Scene, Said, silent, then_said, is_composed}
-use Rattle.glk_world.specs.Putting.{said_char, buffer_put, window_of, entry_of, window_put, counted, stream_put}
-use Rattle.glk_world.specs.Putting.{echo_of, put_along, put_of, end_along, end_of}
+use Rattle.glk_world.specs.Putting.{said_char, buffer_put, window_of_stream, entry_of, window_put, counted, stream_put}
+use Rattle.glk_world.specs.Putting.{echo_of, put_along, put_of, end_along, chain_end}
 use Rattle.glk_world.specs.Chains.{echo_in, IsRanked}
 use Rattle.glk_objects.proofs.Found.{has_with, at_with, at_with_here}
 
@@ -103,7 +103,7 @@ put_in_window : (kind : StreamKind) (t : Stream) (c : ℕ) → t.kind ≡ kind
     → one.window_of (one.put_in kind t c) ≡ one.window_in kind
 put_in_window (kinds.Window win) t c is = ap one.window_in is
 put_in_window (kinds.Memory at len wide) t c is =
-    elim (nat_lt t.position (one.places_of at len)) as
+    elim (nat_lt t.position (one.place_count at len)) as
     (λ b. one.window_of (if b then record t { position = t.position + 1; highest = max t.highest (t.position + 1) }
     else t) ≡ 0) [
       | true ↦ ap one.window_in is
@@ -178,21 +178,21 @@ window_put_entries w e win c =
 pub stream_put_streams : (w : Scene) (s c : ℕ) → (stream_put w s c).0.streams ≡ (counted w s c).streams
 unfolding stream_put
 stream_put_streams w s c =
-    elim (window_of w s == 0) as
-    (λ b. (if b then silent (counted w s c) else window_put (counted w s c) (entry_of w s) (window_of w s) c).0.streams
+    elim (window_of_stream w s == 0) as
+    (λ b. (if b then silent (counted w s c) else window_put (counted w s c) (entry_of w s) (window_of_stream w s) c).0.streams
     ≡ (counted w s c).streams) [
       | true ↦ refl
-      | false ↦ window_put_streams (counted w s c) (entry_of w s) (window_of w s) c
+      | false ↦ window_put_streams (counted w s c) (entry_of w s) (window_of_stream w s) c
     ]
 
 pub stream_put_entries : (w : Scene) (s c : ℕ) → (stream_put w s c).0.windows.entries ≡ w.windows.entries
 unfolding stream_put
 stream_put_entries w s c =
-    elim (window_of w s == 0) as
+    elim (window_of_stream w s == 0) as
     (λ b. (if b then silent (counted w s c)
-    else window_put (counted w s c) (entry_of w s) (window_of w s) c).0.windows.entries ≡ w.windows.entries) [
+    else window_put (counted w s c) (entry_of w s) (window_of_stream w s) c).0.windows.entries ≡ w.windows.entries) [
       | true ↦ refl
-      | false ↦ window_put_entries (counted w s c) (entry_of w s) (window_of w s) c
+      | false ↦ window_put_entries (counted w s c) (entry_of w s) (window_of_stream w s) c
     ]
 
 -- ---- ranks stay where no echo stream is new
@@ -301,6 +301,6 @@ enough_to_end (suc n) more w rank ranked s there few =
 
 -- and so is that of the way to the end of a chain
 pub fuel_to_end : (w : Scene) (rank : ℕ → ℕ) → IsRanked w.windows.entries w.streams rank → (s more : ℕ)
-    → streams.has w.streams s ≡ true → end_along (length w.streams + more) w s ≡ end_of w s
+    → streams.has w.streams s ≡ true → end_along (length w.streams + more) w s ≡ chain_end w s
 fuel_to_end w rank ranked s more there =
     enough_to_end (length w.streams) more w rank ranked s there (under_all rank (rank s) w.streams)

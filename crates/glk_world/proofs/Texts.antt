@@ -8,7 +8,7 @@ use Rattle.std.specs.Str.{encode_utf8_all}
 use Rattle.glk_text.specs.Characters.{shown}
 use Rattle.glk_world.specs.declared.grids.ShownGrid.{ShownGrid}
 use Rattle.glk_world.specs.World.{FlatWorld, after, silent}
-use Rattle.glk_world.specs.Putting.{put_of, puts}
+use Rattle.glk_world.specs.Putting.{put_of, put_chars}
 use Rattle.glk_world.specs.Shown.{said_row, said_rows, said_grid, said_grids}
 
 -- what says nothing changes nothing
@@ -63,15 +63,15 @@ pub ruleset shown_turns = (shown_none, shown_more)
 
 -- characters that are put one after another
 pub puts_none : (w : FlatWorld) (stream : ℕ) (cs : List ℕ) (n : ℕ) → length cs ≤ n
-    → after w (puts w.scene stream (drop n cs)) ≡ w
-unfolding puts
+    → after w (put_chars w.scene stream (drop n cs)) ≡ w
+unfolding put_chars
 puts_none w stream cs n past = let none : drop n cs ≡ [] = grind (arith, common_steps) in rw none (nothing_said w)
 
 pub puts_more : (w : FlatWorld) (stream : ℕ) (cs : List ℕ) (i d : ℕ) → i < length cs
     → after (after w (put_of w.scene stream (get_or cs i d)))
-    (puts (put_of w.scene stream (get_or cs i d)).0 stream (drop (i + 1) cs))
-    ≡ after w (puts w.scene stream (drop i cs))
-unfolding puts
+    (put_chars (put_of w.scene stream (get_or cs i d)).0 stream (drop (i + 1) cs))
+    ≡ after w (put_chars w.scene stream (drop i cs))
+unfolding put_chars
 puts_more w stream cs i d within = let e : i + 1 ≡ suc i = omega arith in rw (e, drop-cons cs i d, append_assoc) refl
 
 pub ruleset puts_turns = (puts_none, puts_more, some_within)

@@ -7,7 +7,7 @@ use Rattle.glk_streams.specs.declared.kinds.StreamKind.{StreamKind}
 use Rattle.glk_streams.specs.declared.kinds.StreamKind.TheVariants as kinds
 use Rattle.glk_streams.specs.Stream as one
 use Rattle.glk_streams.specs.Streams as streams
-use Rattle.glk_windows.specs.Windows.{can_add, last_given, entry_at}
+use Rattle.glk_windows.specs.Windows.{can_add, last_given, window_entry}
 use Rattle.glk_windows.specs.Changes as windows
 use Rattle.glk_events.specs.declared.requests.Request.{Request}
 use Rattle.glk_events.specs.Requests as requests
@@ -35,7 +35,7 @@ with_reference w base usage rock =
     else w
 
 unfoldable pub without_reference : Scene → ℕ → Scene
-without_reference w id = record w { references = objects.without reference_id w.references id }
+without_reference w id = record w { references = objects.all_but reference_id w.references id }
 
 -- ---- windows ("Windows")
 
@@ -60,7 +60,7 @@ with_streams all split id =
 unfoldable pub with_window : Scene → ℕ → ℕ → ℕ → ℕ → ℕ → Scene
 with_window w split method size kind rock =
     if can_open w split method kind then record w {
-      windows = windows.added w.windows split method size kind rock w.next_id;
+      windows = windows.with_new_window w.windows split method size kind rock w.next_id;
       streams = with_streams w.streams split w.next_id;
       next_id = last_given split w.next_id + 1;
     }
@@ -83,7 +83,7 @@ without_texts texts (win ∷ gone) = without_texts (screen_gone texts win) gone
 -- the counts of a window's stream
 abbrev pub window_counts : Scene → ℕ → ℕ × ℕ
 window_counts w win =
-    let s = streams.stream w.streams (entry_at w.windows.entries win).stream in (s.read, s.written)
+    let s = streams.stream w.streams (window_entry w.windows.entries win).stream in (s.read, s.written)
 
 -- A window is closed with all windows below it and their pair; their streams, requests and texts go too.
 unfoldable pub without_window : Scene → ℕ → Scene
@@ -91,32 +91,32 @@ without_window w win =
     let gone = windows.gone w.windows win in
     let left = streams.without_windows w.streams gone in
     record w {
-      windows = windows.closed w.windows win;
+      windows = windows.window_closed w.windows win;
       streams = left;
       requests = without_requests w.requests gone;
       screen = without_texts w.screen gone;
       current = unless_gone left w.current;
     }
 
-unfoldable pub arranged : Scene → ℕ → ℕ → ℕ → ℕ → Scene
-arranged w win method size key = record w { windows = windows.arranged w.windows win method size key }
+unfoldable pub with_arrangement : Scene → ℕ → ℕ → ℕ → ℕ → Scene
+with_arrangement w win method size key = record w { windows = windows.arranged w.windows win method size key }
 
-unfoldable pub cleared : Scene → ℕ → Scene
-cleared w win =
+unfoldable pub window_cleared : Scene → ℕ → Scene
+window_cleared w win =
     record w { windows = windows.cleared_in w.windows win; screen = screen_cleared w.screen win }
 
-unfoldable pub moved : Scene → ℕ → ℕ → ℕ → Scene
-moved w win x y = record w { windows = windows.moved_in w.windows win x y }
+unfoldable pub cursor_moved : Scene → ℕ → ℕ → ℕ → Scene
+cursor_moved w win x y = record w { windows = windows.moved_in w.windows win x y }
 
 -- a window's echo stream, 0 for none; nothing changes where that would lead back to the window
 unfoldable pub with_echo : Scene → ℕ → ℕ → Scene
 with_echo w win stream =
-    if leads_to w stream win then w else record w { windows = windows.echoed w.windows win stream }
+    if leads_to w stream win then w else record w { windows = windows.with_echo_stream w.windows win stream }
 
 -- ---- streams ("Streams")
 
-unfoldable pub with_stream : Scene → StreamKind → ℕ → ℕ → Scene
-with_stream w kind mode rock =
+unfoldable pub with_new_stream : Scene → StreamKind → ℕ → ℕ → Scene
+with_new_stream w kind mode rock =
     if is_identifier w.next_id then record w {
       streams = w.streams ++ one.opened w.next_id kind mode rock ∷ [];
       next_id = w.next_id + 1;
@@ -126,8 +126,8 @@ with_stream w kind mode rock =
 -- a stream is closed; as a current or an echo stream it becomes none
 unfoldable pub without_stream : Scene → ℕ → Scene
 without_stream w id = record w {
-  windows = windows.without_stream w.windows id;
-  streams = streams.without w.streams id;
+  windows = windows.without_echoes w.windows id;
+  streams = streams.all_but w.streams id;
   current = if w.current == id then 0 else w.current;
 }
 
@@ -136,21 +136,21 @@ unfoldable pub without_file : Scene → ℕ → Scene
 without_file w id =
     record w { streams = streams.with_stream w.streams (one.without_file (streams.stream w.streams id)) }
 
-unfoldable pub sought : Scene → ℕ → ℕ → ℕ → Scene
-sought w id pos seek =
-    record w { streams = streams.with_stream w.streams (one.moved (streams.stream w.streams id) pos seek) }
+unfoldable pub repositioned : Scene → ℕ → ℕ → ℕ → Scene
+repositioned w id pos seek =
+    record w { streams = streams.with_stream w.streams (one.positioned (streams.stream w.streams id) pos seek) }
 
 -- what is got from a stream, and the position behind it
 abbrev pub got_from : Scene → ℕ → ℕ → Option (ℕ × ℕ)
-got_from w id found = one.next_of (streams.stream w.streams id) found
+got_from w id found = one.read_next (streams.stream w.streams id) found
 
 -- so many characters were read from a stream, up to a position
-unfoldable pub passed : Scene → ℕ → ℕ → ℕ → Scene
-passed w id position count =
+unfoldable pub chars_got : Scene → ℕ → ℕ → ℕ → Scene
+chars_got w id position count =
     record w { streams = streams.with_stream w.streams (one.passed (streams.stream w.streams id) position count) }
 
-unfoldable pub after_get : Scene → ℕ → ℕ → Scene
-after_get w id found =
+unfoldable pub char_got : Scene → ℕ → ℕ → Scene
+char_got w id found =
     record w {
       streams = streams.with_stream w.streams (one.after_get (streams.stream w.streams id) (got_from w id found));
     }

@@ -8,7 +8,7 @@ use Rattle.glk_streams.specs.Stream as one
 use Rattle.glk_streams.specs.Streams as streams
 use Rattle.glk_windows.specs.Constants.{text_buffer}
 use Rattle.glk_windows.specs.declared.entries.Entry.{Entry}
-use Rattle.glk_windows.specs.Windows.{entry_at}
+use Rattle.glk_windows.specs.Windows.{window_entry}
 use Rattle.glk_windows.specs.Changes.{put_to}
 use Rattle.glk_screen.specs.Texts.{screen_put}
 use Rattle.glk_world.specs.World.{Scene, Said, silent, then_said, is_composed}
@@ -18,12 +18,12 @@ abbrev pub said_char : Scene → ℕ → Said
 said_char w c = (record w { fresh = c == line_feed }, encode_utf8 c)
 
 -- the window of a stream, 0 for none
-abbrev pub window_of : Scene → ℕ → ℕ
-window_of w stream = one.window_of (streams.stream w.streams stream)
+abbrev pub window_of_stream : Scene → ℕ → ℕ
+window_of_stream w stream = one.window_of (streams.stream w.streams stream)
 
 -- the list's entry of a stream's window
 abbrev pub entry_of : Scene → ℕ → Entry
-entry_of w stream = entry_at w.windows.entries (window_of w stream)
+entry_of w stream = window_entry w.windows.entries (window_of_stream w stream)
 
 abbrev pub is_text : Scene → ℕ → Bool
 is_text w stream = (entry_of w stream).kind == text_buffer
@@ -48,12 +48,12 @@ counted w stream c =
 -- a character comes to one stream, and to its window if it has one
 unfoldable pub stream_put : Scene → ℕ → ℕ → Said
 stream_put w stream c =
-    if window_of w stream == 0 then silent (counted w stream c) else
-    window_put (counted w stream c) (entry_of w stream) (window_of w stream) c
+    if window_of_stream w stream == 0 then silent (counted w stream c) else
+    window_put (counted w stream c) (entry_of w stream) (window_of_stream w stream) c
 
 -- the stream to which what is put to a stream is put after that: its window's echo stream, 0 for none
 abbrev pub echo_of : Scene → ℕ → ℕ
-echo_of w stream = if window_of w stream == 0 then 0 else (entry_of w stream).echo
+echo_of w stream = if window_of_stream w stream == 0 then 0 else (entry_of w stream).echo
 
 -- so many streams at most, one the echo stream of the other
 unfoldable pub put_along : ℕ → Scene → ℕ → ℕ → Said
@@ -69,19 +69,20 @@ abbrev pub put_of : Scene → ℕ → ℕ → Said
 put_of w stream c = put_along (length w.streams) w stream c
 
 -- characters put one after another
-unfoldable pub puts : Scene → ℕ → List ℕ → Said
-puts w stream [] = silent w
-puts w stream (c ∷ cs) = then_said (put_of w stream c) (λ more. puts more stream cs)
+unfoldable pub put_chars : Scene → ℕ → List ℕ → Said
+put_chars w stream [] = silent w
+put_chars w stream (c ∷ cs) = then_said (put_of w stream c) (λ more. put_chars more stream cs)
 
 -- a stream of a text buffer window that has no echo stream
 abbrev pub is_plain_text : Scene → ℕ → Bool
 is_plain_text w stream =
-    streams.has w.streams stream && not (window_of w stream == 0) && is_text w stream && (entry_of w stream).echo == 0
+    streams.has w.streams stream && not (window_of_stream w stream == 0) && is_text w stream
+    && (entry_of w stream).echo == 0
 
 -- putting to one stream adds text, or makes a file longer
 abbrev pub stream_grows : Scene → ℕ → ℕ → Bool
 stream_grows w stream c =
-    if window_of w stream == 0
+    if window_of_stream w stream == 0
     then one.lengthens (streams.stream w.streams stream).kind (streams.stream w.streams stream) c else
     is_text w stream
 
@@ -101,8 +102,8 @@ end_along zero w stream = stream
 end_along (suc n) w stream =
     if streams.has w.streams (echo_of w stream) then end_along n w (echo_of w stream) else stream
 
-abbrev pub end_of : Scene → ℕ → ℕ
-end_of w stream = end_along (length w.streams) w stream
+abbrev pub chain_end : Scene → ℕ → ℕ
+chain_end w stream = end_along (length w.streams) w stream
 
 abbrev pub no_places : Places
 no_places = record { at = 0; width = 1; count = 0 }
@@ -110,20 +111,20 @@ no_places = record { at = 0; width = 1; count = 0 }
 -- the places of memory that so many characters put to a stream use; one that isn't open for writing uses none
 abbrev pub places_of : Scene → ℕ → ℕ → Places
 places_of w stream count =
-    let last = streams.stream w.streams (end_of w stream) in
-    if one.writable last then one.places last count else no_places
+    let last = streams.stream w.streams (chain_end w stream) in
+    if one.writable last then one.next_places last count else no_places
 
 -- the places of memory that so many characters got from a stream use; one that isn't open for reading uses none
 abbrev pub places_read : Scene → ℕ → ℕ → Places
 places_read w stream count =
     let from = streams.stream w.streams stream in
-    if one.readable from then one.places from count else no_places
+    if one.readable from then one.next_places from count else no_places
 
 -- a stream's chain of echo streams comes to a window
 unfoldable pub leads_along : ℕ → Scene → ℕ → ℕ → Bool
 leads_along zero w stream win = false
 leads_along (suc n) w stream win =
-    streams.has w.streams stream && (window_of w stream == win || leads_along n w (echo_of w stream) win)
+    streams.has w.streams stream && (window_of_stream w stream == win || leads_along n w (echo_of w stream) win)
 
 abbrev pub leads_to : Scene → ℕ → ℕ → Bool
 leads_to w stream win = leads_along (length w.streams) w stream win

@@ -13,7 +13,7 @@ use Rattle.glk_world.specs.declared.grids.ShownGrid.{ShownGrid}
 use Rattle.glk_world.specs.declared.views.View.{View}
 use Rattle.glk_world.specs.declared.views.View.TheVariants as view
 use Rattle.glk_world.specs.Constants.{prompt_selector}
-use Rattle.glk_world.specs.World.{Call, Scene, Said, silent, then_said, is_composed}
+use Rattle.glk_world.specs.World.{WaitingCall, Scene, Said, silent, then_said, is_composed}
 
 -- ---- grids: rows without trailing blanks, without trailing empty rows
 
@@ -79,7 +79,7 @@ abbrev pub prompt_words : List ℕ
 prompt_words = codes "File name: "
 
 -- a prompt for a file's name waits
-abbrev pub is_prompting : Option Call → Bool
+abbrev pub is_prompting : Option WaitingCall → Bool
 is_prompting None = false
 is_prompting (Some call) = call.selector == prompt_selector
 

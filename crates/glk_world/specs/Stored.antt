@@ -16,7 +16,7 @@ use Rattle.glk_screen.specs.Texts.{FlatText}
 use Rattle.glk_screen.specs.Stored.{screen_code}
 use Rattle.glk_world.specs.declared.views.View.{View}
 use Rattle.glk_world.specs.declared.views.View.TheVariants as view
-use Rattle.glk_world.specs.World.{Call, Scene, FlatWorld}
+use Rattle.glk_world.specs.World.{WaitingCall, Scene, FlatWorld}
 
 -- ---- streams
 
@@ -25,16 +25,16 @@ form_number forms.Latin = 0
 form_number forms.Wide = 1
 form_number forms.Utf8 = 2
 
-abbrev pub form_of : ℕ → FileForm
-form_of n = if n == 0 then forms.Latin else if n == 1 then forms.Wide else forms.Utf8
+abbrev pub form_from : ℕ → FileForm
+form_from n = if n == 0 then forms.Latin else if n == 1 then forms.Wide else forms.Utf8
 
-abbrev pub form_back : (form : FileForm) → form_of (form_number form) ≡ form
+abbrev pub form_back : (form : FileForm) → form_from (form_number form) ≡ form
 form_back forms.Latin = refl
 form_back forms.Wide = refl
 form_back forms.Utf8 = refl
 
 abbrev pub form_code : Coded FileForm
-form_code = code_by ℕ coded_ℕ form_number form_of form_back
+form_code = code_by ℕ coded_ℕ form_number form_from form_back
 
 abbrev pub Kind : Type 0
 Kind = ℕ ⊎ ((ℕ × (ℕ × Bool)) ⊎ (List ℕ × (List ℕ × FileForm)))
@@ -44,12 +44,12 @@ kind_parts (kinds.Window win) = inl win
 kind_parts (kinds.Memory at len wide) = inr (inl (at, (len, wide)))
 kind_parts (kinds.File name content form) = inr (inr (name, (content, form)))
 
-abbrev pub kind_of : Kind → StreamKind
-kind_of (inl win) = kinds.Window win
-kind_of (inr (inl (at, (len, wide)))) = kinds.Memory at len wide
-kind_of (inr (inr (name, (content, form)))) = kinds.File name content form
+abbrev pub kind_from : Kind → StreamKind
+kind_from (inl win) = kinds.Window win
+kind_from (inr (inl (at, (len, wide)))) = kinds.Memory at len wide
+kind_from (inr (inr (name, (content, form)))) = kinds.File name content form
 
-abbrev pub kind_back : (kind : StreamKind) → kind_of (kind_parts kind) ≡ kind
+abbrev pub kind_back : (kind : StreamKind) → kind_from (kind_parts kind) ≡ kind
 kind_back (kinds.Window win) = refl
 kind_back (kinds.Memory at len wide) = refl
 kind_back (kinds.File name content form) = refl
@@ -57,7 +57,7 @@ kind_back (kinds.File name content form) = refl
 abbrev pub kind_code : Coded StreamKind
 kind_code =
     code_by Kind (coded⊎ coded_ℕ (coded⊎ (coded× coded_ℕ (coded× coded_ℕ coded_bool))
-    (coded× (coded_list coded_ℕ) (coded× (coded_list coded_ℕ) form_code)))) kind_parts kind_of kind_back
+    (coded× (coded_list coded_ℕ) (coded× (coded_list coded_ℕ) form_code)))) kind_parts kind_from kind_back
 
 abbrev pub stream_code : Coded Stream
 stream_code =
@@ -96,7 +96,7 @@ request_code =
     (λ r. (r.win, (r.line, (r.wide, (r.buf, r.max)))))
     (λ p. record { win = p.0; line = p.1.0; wide = p.1.1.0; buf = p.1.1.1.0; max = p.1.1.1.1 }) (λ _. refl)
 
-abbrev pub call_code : Coded Call
+abbrev pub call_code : Coded WaitingCall
 call_code =
     code_by (ℕ × List ℕ) (coded× coded_ℕ (coded_list coded_ℕ)) (λ c. (c.selector, c.arguments))
     (λ p. record { selector = p.0; arguments = p.1 }) (λ _. refl)
@@ -108,22 +108,22 @@ view_number view.Rows = 0
 view_number view.Plain = 1
 view_number view.Screen = 2
 
-abbrev pub view_of : ℕ → View
-view_of n = if n == 0 then view.Rows else if n == 1 then view.Plain else view.Screen
+abbrev pub view_from : ℕ → View
+view_from n = if n == 0 then view.Rows else if n == 1 then view.Plain else view.Screen
 
-abbrev pub view_back : (v : View) → view_of (view_number v) ≡ v
+abbrev pub view_back : (v : View) → view_from (view_number v) ≡ v
 view_back view.Rows = refl
 view_back view.Plain = refl
 view_back view.Screen = refl
 
 abbrev pub view_code : Coded View
-view_code = code_by ℕ coded_ℕ view_number view_of view_back
+view_code = code_by ℕ coded_ℕ view_number view_from view_back
 
 abbrev pub scene_code : Coded Scene
 scene_code =
     code_by (FlatWindows × (View × (List ShownGrid ×
     (List FlatText × (Option (List ℕ) ×
-    (List Stream × (List FileReference × (List Request × (ℕ × (ℕ × (Bool × Option Call)))))))))))
+    (List Stream × (List FileReference × (List Request × (ℕ × (ℕ × (Bool × Option WaitingCall)))))))))))
     (coded× windows_code (coded× view_code
     (coded× (coded_list shown_code)
     (coded× screen_code (coded× (coded_option (coded_list coded_ℕ))

@@ -14,7 +14,7 @@ use Rattle.glk_world.specs.declared.views.View.{View}
 use Rattle.glk_world.specs.declared.views.View.TheVariants as view
 
 -- a Glk call that waits to go on: its selector and its arguments
-pub record Call : Type 0 where
+pub record WaitingCall : Type 0 where
   pub selector : ℕ
   pub arguments : List ℕ
 
@@ -31,7 +31,7 @@ pub record Scene : Type 0 where
   pub current : ℕ  -- the current stream, 0 for none
   pub next_id : ℕ  -- the identifier of the next object
   pub fresh : Bool  -- nothing was shown since the last line feed or the last line that was taken
-  pub waiting : Option Call
+  pub waiting : Option WaitingCall
 
 -- A world is a scene and its text. No call looks at the text, and each adds at its end.
 pub record FlatWorld : Type 0 where
@@ -65,41 +65,41 @@ on_world w (Err e) = Err e
 
 -- How the answer of a call relates to what it comes to. It may want memory where this holds, and then the world can
 -- only be dropped; it stands after every other fault.
-abbrev pub Calls : {X : Type 0} → Type 0 → Result X Fault → FlatWorld → FlatWorld → Outcome X → Type 0
-Calls wants result old new outcome = MayLose wants (λ x. x) result old new (on_world old outcome)
+abbrev pub MakesCall : {X : Type 0} → Type 0 → Result X Fault → FlatWorld → FlatWorld → Outcome X → Type 0
+MakesCall wants result old new outcome = MayLose wants (λ x. x) result old new (on_world old outcome)
 
 -- one thing said after another
 abbrev pub then_said : Said → (Scene → Said) → Said
 then_said first more = ((more first.0).0, first.1 ++ (more first.0).1)
 
 -- the screen is composed, and no text stands beside it
-abbrev pub is_composing : View → Bool
-is_composing view.Rows = false
-is_composing view.Plain = false
-is_composing view.Screen = true
-
 abbrev pub is_composed : Scene → Bool
-is_composed w = is_composing w.view
+is_composed w =
+    elim w.view [
+      | view.Rows ↦ false
+      | view.Plain ↦ false
+      | view.Screen ↦ true
+    ]
 
 -- the world before any call, on a screen of so many columns and rows
-abbrev pub empty_scene : View → ℕ → ℕ → Scene
-empty_scene v columns rows = record {
-  windows = no_windows columns rows;
-  view = v;
-  shown = [];
-  screen = [];
-  last_screen = None;
-  streams = [];
-  references = [];
-  requests = [];
-  current = 0;
-  next_id = 1;
-  fresh = true;
-  waiting = None;
-}
-
 abbrev pub empty_world : View → ℕ → ℕ → FlatWorld
-empty_world v columns rows = record { scene = empty_scene v columns rows; text = [] }
+empty_world v columns rows = record {
+  scene = record {
+    windows = no_windows columns rows;
+    view = v;
+    shown = [];
+    screen = [];
+    last_screen = None;
+    streams = [];
+    references = [];
+    requests = [];
+    current = 0;
+    next_id = 1;
+    fresh = true;
+    waiting = None;
+  };
+  text = [];
+}
 
 -- ---- file references
 
@@ -125,8 +125,7 @@ abbrev pub arg : List ℕ → ℕ → ℕ
 arg args i = slice_index args i
 
 -- a call waits with its first three arguments
-abbrev pub waiting_call : ℕ → List ℕ → Call
-waiting_call selector args = record { selector = selector; arguments = arg args 0 ∷ arg args 1 ∷ arg args 2 ∷ [] }
-
 abbrev pub waits : Scene → ℕ → List ℕ → Scene
-waits w selector args = record w { waiting = Some (waiting_call selector args) }
+waits w selector args = record w {
+  waiting = Some (record { selector = selector; arguments = arg args 0 ∷ arg args 1 ∷ arg args 2 ∷ [] });
+}

@@ -1,6 +1,5 @@
 //! Grids as they are shown: rows without trailing blanks, without trailing empty rows.
-ghost use Rattle.std.specs.Prelude.{◌≡◌, ◌≢◌, ◌≤◌, ◌==◌, [], length, map, take, IfOk, OnErr};
-ghost use Rattle.std.specs.Cmp.Lexicographic.{pointwise};
+ghost use Rattle.std.specs.Prelude.{◌≡◌, ◌≢◌, ◌≤◌, [], length, map, IfOk, OnErr};
 ghost use Rattle.glk_objects.specs.Objects as objects;
 ghost use Rattle.glk_screen.specs.Rows.{trimmed};
 ghost use Rattle.glk_world.specs.Shown.{kept_rows, shown_rows, shown_grid, shown_id, no_grid, same_rows};

@@ -13,9 +13,10 @@ ghost use Rattle.glk_events.specs.Requests as requests;
 ghost use Rattle.glk_world.specs.World.{after, silent, has_reference, reference_id};
 ghost use Rattle.glk_world.specs.Shown.{line_taken};
 ghost use Rattle.glk_world.specs.Calls.{is_identifier, new_id, with_reference, without_reference, can_open, opened_id};
-ghost use Rattle.glk_world.specs.Calls.{with_streams, window_stream, with_window, unless_gone, without_requests};
-ghost use Rattle.glk_world.specs.Calls.{without_texts, window_counts, without_window, arranged, cleared, moved};
-ghost use Rattle.glk_world.specs.Calls.{with_stream, without_stream, without_file, sought};
+ghost use Rattle.glk_world.specs.Calls.{with_streams, with_window, unless_gone, without_requests};
+ghost use Rattle.glk_world.specs.Calls.{without_texts, window_counts, without_window, with_arrangement, window_cleared};
+ghost use Rattle.glk_world.specs.Calls.{cursor_moved};
+ghost use Rattle.glk_world.specs.Calls.{with_new_stream, without_stream, without_file, repositioned};
 
 use crate::{FileReference, LAST_IDENTIFIER, World};
 use glk_events::{Request, Requests};
@@ -59,7 +60,7 @@ impl World {
 
     /// Opens a window: the first one with `split` 0, any other beside the window that is split. Answers its
     /// identifier, and 0 where the rules of windows don't allow it or identifiers are used up.
-    #[tactic(auto, using(crate::proofs::Kept::windows_kept, crate::proofs::Kept::opening_kept), unfolding(crate::specs::Calls::with_window))]
+    #[tactic(auto, using(crate::proofs::Kept::both_kept), unfolding(crate::specs::Calls::with_window))]
     pub fn add_window(
         &mut self,
         split: u32,
@@ -89,7 +90,7 @@ impl World {
 
     /// Closes a window, with all windows below it and their pair; answers the counts of its stream. What goes is
     /// listed, so that memory may always be wanted.
-    #[tactic(auto, using(crate::proofs::Kept::windows_kept, crate::proofs::Kept::streams_kept), unfolding(crate::specs::Calls::without_window))]
+    #[tactic(auto, using(crate::proofs::Kept::both_kept), unfolding(crate::specs::Calls::without_window))]
     pub fn remove_window(&mut self, win: u32) -> Result<(u32, u32), AllocError>
         requires { IsTrue (windows.is_window self.old.scene.windows win) }
         ensures new { OnOk result (self.new ≡ after self.old (silent (without_window self.old.scene win))) }
@@ -107,9 +108,10 @@ impl World {
 
     /// Gives a pair window another method, size and, unless it is 0, key; nothing changes where the rules of
     /// windows don't allow it.
-    #[tactic(auto, using(crate::proofs::Kept::windows_kept), unfolding(crate::specs::Calls::arranged))]
+    #[tactic(auto, using(crate::proofs::Kept::windows_kept), unfolding(crate::specs::Calls::with_arrangement))]
     pub fn arrange(&mut self, win: u32, method: u32, size: u32, key: u32) -> Result<(), AllocError>
-        ensures ok { OnOk result (self.new ≡ after self.old (silent (arranged self.old.scene win method size key))) }
+        ensures ok { OnOk result
+            (self.new ≡ after self.old (silent (with_arrangement self.old.scene win method size key))) }
         ensures memory { OnErr result (IsTrue (arranging_grows self.old.scene.windows win method size key)) }
     {
         let changed = self.windows.arrange(win, method, size, key);
@@ -117,29 +119,29 @@ impl World {
     }
 
     /// Clears a window's grid, or its text on the composed screen; nothing changes where it has none.
-    #[tactic(auto, using(crate::proofs::Kept::windows_kept), unfolding(crate::specs::Calls::cleared))]
+    #[tactic(auto, using(crate::proofs::Kept::windows_kept), unfolding(crate::specs::Calls::window_cleared))]
     pub fn clear_window(&mut self, win: u32)
-        ensures { self.new ≡ after self.old (silent (cleared self.old.scene win)) }
+        ensures { self.new ≡ after self.old (silent (window_cleared self.old.scene win)) }
     {
         self.windows.clear(win);
         self.screen.clear(win);
     }
 
     /// Moves the cursor of a window's grid; nothing changes where it has none.
-    #[tactic(auto, using(crate::proofs::Kept::windows_kept), unfolding(crate::specs::Calls::moved))]
+    #[tactic(auto, using(crate::proofs::Kept::windows_kept), unfolding(crate::specs::Calls::cursor_moved))]
     pub fn move_cursor(&mut self, win: u32, x: u32, y: u32)
-        ensures { self.new ≡ after self.old (silent (moved self.old.scene win x y)) }
+        ensures { self.new ≡ after self.old (silent (cursor_moved self.old.scene win x y)) }
     {
         self.windows.move_cursor(win, x, y);
     }
 
     /// Opens a stream of memory or of a file; answers its identifier, 0 where there is none left.
-    #[tactic(auto, using(crate::proofs::Kept::streams_kept), unfolding(crate::specs::Calls::with_stream))]
+    #[tactic(auto, using(crate::proofs::Kept::streams_kept), unfolding(crate::specs::Calls::with_new_stream))]
     pub fn add_stream(&mut self, kind: StreamKind, mode: u32, rock: u32) -> Result<u32, AllocError>
         requires own { one.window_in kind ≡ 0 }
-        requires mode { IsTrue (one.allows kind mode) }
+        requires mode { IsTrue (one.allows_mode kind mode) }
         requires kind { IsSoundKind kind }
-        ensures new { OnOk result (self.new ≡ after self.old (silent (with_stream self.old.scene kind mode rock))) }
+        ensures new { OnOk result (self.new ≡ after self.old (silent (with_new_stream self.old.scene kind mode rock))) }
         ensures value { IfOk result (λ id. id ≡ new_id self.old.scene) }
         ensures memory { OnErr result (IsTrue (is_identifier self.old.scene.next_id)) }
     {
@@ -153,7 +155,7 @@ impl World {
     }
 
     /// Closes a stream that isn't a window's; as the current stream or an echo stream it becomes none.
-    #[tactic(auto, using(crate::proofs::Kept::windows_kept, crate::proofs::Kept::streams_kept), unfolding(crate::specs::Calls::without_stream))]
+    #[tactic(auto, using(crate::proofs::Kept::both_kept), unfolding(crate::specs::Calls::without_stream))]
     pub fn remove_stream(&mut self, id: u32)
         requires there { IsTrue (streams.has self.old.scene.streams id) }
         requires own { one.window_of (streams.stream self.old.scene.streams id) ≡ 0 }
@@ -179,10 +181,10 @@ impl World {
     }
 
     /// Sets a stream's position, which `pos` counts as a signed number from the start, the position or the end.
-    #[tactic(auto, using(crate::proofs::Kept::streams_kept), unfolding(crate::specs::Calls::sought))]
+    #[tactic(auto, using(crate::proofs::Kept::streams_kept), unfolding(crate::specs::Calls::repositioned))]
     pub fn set_position(&mut self, id: u32, pos: u32, seek: u32)
         requires { IsTrue (streams.has self.old.scene.streams id) }
-        ensures { self.new ≡ after self.old (silent (sought self.old.scene id pos seek)) }
+        ensures { self.new ≡ after self.old (silent (repositioned self.old.scene id pos seek)) }
     {
         self.streams.set_position(id, pos, seek);
     }
@@ -191,7 +193,7 @@ impl World {
     pub fn ask(&mut self, request: Request) -> Result<(), AllocError>
         requires { requests.of self.old.scene.requests request.win ≡ None }
         ensures ok { OnOk result (self.new ≡ after self.old (silent
-            (record self.old.scene { requests = requests.added self.old.scene.requests request }))) }
+            (record self.old.scene { requests = requests.with_request self.old.scene.requests request }))) }
         ensures err { OnErr result (self.new ≡ self.old) }
     {
         self.requests.add(request)
@@ -216,9 +218,9 @@ impl World {
 /// Takes the file reference of an identifier away.
 #[tactic(auto, using(glk_objects::proofs::Places::places))]
 fn remove_reference(references: &mut Vec<FileReference>, id: u32)
-    requires rises { objects.Rises reference_id references.old.items }
+    requires rises { objects.AreRising reference_id references.old.items }
     requires there { IsTrue (objects.has reference_id references.old.items id) }
-    ensures { references.new.items ≡ objects.without reference_id references.old.items id }
+    ensures { references.new.items ≡ objects.all_but reference_id references.old.items id }
 {
     let at = place(references, id);
     references.remove(at);
@@ -246,10 +248,10 @@ fn or_none<T>(
 /// Adds the streams of a window of this identifier and, beside another window, of its pair.
 #[tactic(auto, using(crate::proofs::Kept::streams_kept, crate::proofs::Kept::opening_kept))]
 fn add_streams(all: &mut Streams, split: u32, id: u32) -> Result<(), AllocError>
-    requires above { objects.IsAbove streams.id_of all.old id }
+    requires above { objects.IsAboveAll streams.id_of all.old id }
     requires last { last_given split id < 2 ^ 32 }
     ensures ok { OnOk result (all.new ≡ with_streams all.old split id) }
-    ensures above { objects.IsAbove streams.id_of all.new (last_given split id + 1) }
+    ensures above { objects.IsAboveAll streams.id_of all.new (last_given split id + 1) }
 {
     all.add(id + 1, StreamKind::Window(id), WRITE, 0)?;
     if split != 0 {

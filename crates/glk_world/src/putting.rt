@@ -1,17 +1,20 @@
 //! Characters that are put to streams and got from them (Glk 0.7.5, "Streams" and "Echo Streams").
 ghost use Rattle.std.specs.Prelude.{◌≡◌, ◌≢◌, ◌⊎◌, ℕ, ◌+◌, ◌≤◌, ◌<◌, ◌^◌, [], not, length, true, false, OnOk, OnErr};
 ghost use Rattle.std.specs.Prelude.{IfOk, MatchOption, IsTrue};
-ghost use Rattle.glk_objects.specs.Objects.{place};
+ghost use Rattle.glk_objects.specs.Objects.{object_place};
 ghost use Rattle.glk_streams.specs.Stream as one;
 ghost use Rattle.glk_streams.specs.Streams as streams;
 ghost use Rattle.glk_windows.specs.Windows as windows;
-ghost use Rattle.glk_windows.specs.Windows.{entry_at};
+ghost use Rattle.glk_windows.specs.Windows.{window_entry};
 ghost use Rattle.glk_windows.specs.Constants.{text_buffer};
 ghost use Rattle.glk_world.specs.World.{after, silent};
-ghost use Rattle.glk_world.specs.Putting.{said_char, buffer_put, entry_of, is_text, window_of, window_put, stream_put};
-ghost use Rattle.glk_world.specs.Putting.{stream_grows, echo_of, put_along, put_of, puts, is_plain_text, grows_along};
-ghost use Rattle.glk_world.specs.Putting.{put_grows, end_along, end_of, places_of, places_read, leads_along, leads_to};
-ghost use Rattle.glk_world.specs.Calls.{got_from, passed, after_get, with_echo};
+ghost use Rattle.glk_world.specs.Putting.{said_char, buffer_put, window_of_stream, window_put};
+ghost use Rattle.glk_world.specs.Putting.{stream_put};
+ghost use Rattle.glk_world.specs.Putting.{stream_grows, echo_of, put_along, put_of, put_chars, is_plain_text};
+ghost use Rattle.glk_world.specs.Putting.{grows_along};
+ghost use Rattle.glk_world.specs.Putting.{put_grows, end_along, chain_end, places_of, places_read, leads_along};
+ghost use Rattle.glk_world.specs.Putting.{leads_to};
+ghost use Rattle.glk_world.specs.Calls.{got_from, chars_got, char_got, with_echo};
 
 use crate::{View, World};
 use glk_streams::{NO_PLACES, Places};
@@ -54,7 +57,7 @@ impl World {
     /// Puts characters, one after another.
     #[tactic(auto, using(crate::proofs::Texts::puts_turns))]
     pub fn puts(&mut self, stream: u32, chars: &[u32]) -> Result<(), AllocError>
-        ensures ok { OnOk result (self.new ≡ after self.old (puts self.old.scene stream chars.now)) }
+        ensures ok { OnOk result (self.new ≡ after self.old (put_chars self.old.scene stream chars.now)) }
         ensures memory { OnErr result (chars.now ≢ []) }
     {
         if let Some((at, win)) = self.find_text(stream) {
@@ -71,8 +74,8 @@ impl World {
     fn find_text(&self, stream: u32) -> Option<(usize, u32)>
         ensures value { MatchOption result (is_plain_text self.now.scene stream ≡ false)
             (λ found. (is_plain_text self.now.scene stream ≡ true)
-            × (found.0 ≡ place streams.id_of self.now.scene.streams stream)
-            × (found.1 ≡ window_of self.now.scene stream)) }
+            × (found.0 ≡ object_place streams.id_of self.now.scene.streams stream)
+            × (found.1 ≡ window_of_stream self.now.scene stream)) }
         ensures places { IsTrue (is_plain_text self.now.scene stream) → (count : ℕ)
             → (places_of self.now.scene stream count).count ≡ 0 }
     {
@@ -91,13 +94,13 @@ impl World {
     /// Puts a character to such a stream.
     fn put_found(&mut self, at: usize, win: u32, stream: u32, c: u32) -> Result<(), AllocError>
         requires text { IsTrue (is_plain_text self.old.scene stream) }
-        requires place { at ≡ place streams.id_of self.old.scene.streams stream }
-        requires window { win ≡ window_of self.old.scene stream }
+        requires place { at ≡ object_place streams.id_of self.old.scene.streams stream }
+        requires window { win ≡ window_of_stream self.old.scene stream }
         ensures ok { OnOk result (self.new ≡ after self.old (put_of self.old.scene stream c)) }
         ensures memory { OnErr result (IsTrue (put_grows self.old.scene stream c)) }
         ensures text { OnOk result (IsTrue (is_plain_text self.new.scene stream)) }
-        ensures place { OnOk result (at ≡ place streams.id_of self.new.scene.streams stream) }
-        ensures window { OnOk result (win ≡ window_of self.new.scene stream) }
+        ensures place { OnOk result (at ≡ object_place streams.id_of self.new.scene.streams stream) }
+        ensures window { OnOk result (win ≡ window_of_stream self.new.scene stream) }
     {
         self.streams.count(at, stream);
         self.buffer_put(win, show(c))
@@ -113,9 +116,9 @@ impl World {
         chars: &[u32],
     ) -> Result<(), AllocError>
         requires text { IsTrue (is_plain_text self.old.scene stream) }
-        requires place { at ≡ place streams.id_of self.old.scene.streams stream }
-        requires window { win ≡ window_of self.old.scene stream }
-        ensures ok { OnOk result (self.new ≡ after self.old (puts self.old.scene stream chars.now)) }
+        requires place { at ≡ object_place streams.id_of self.old.scene.streams stream }
+        requires window { win ≡ window_of_stream self.old.scene stream }
+        ensures ok { OnOk result (self.new ≡ after self.old (put_chars self.old.scene stream chars.now)) }
         ensures memory { OnErr result (chars.now ≢ []) }
     {
         for c in chars {
@@ -127,7 +130,7 @@ impl World {
     /// Puts the bytes of a slice as characters, one after another: at once where the stream takes them so.
     #[tactic(auto, using(crate::proofs::Texts::puts_turns))]
     pub fn put_bytes(&mut self, stream: u32, bytes: &[u8]) -> Result<(), AllocError>
-        ensures ok { OnOk result (self.new ≡ after self.old (puts self.old.scene stream bytes.now)) }
+        ensures ok { OnOk result (self.new ≡ after self.old (put_chars self.old.scene stream bytes.now)) }
         ensures memory { OnErr result (bytes.now ≢ []) }
     {
         if self.put_at_once(stream, bytes)? {
@@ -142,7 +145,7 @@ impl World {
     /// Puts bytes to a stream that takes them at once; says whether it did.
     fn put_at_once(&mut self, stream: u32, bytes: &[u8]) -> Result<bool, AllocError>
         ensures put { IfOk result
-            (λ put. IsTrue put → self.new ≡ after self.old (puts self.old.scene stream bytes.now)) }
+            (λ put. IsTrue put → self.new ≡ after self.old (put_chars self.old.scene stream bytes.now)) }
         ensures other { IfOk result (λ put. IsTrue (not put) → self.new ≡ self.old) }
         ensures memory { OnErr result (bytes.now ≢ []) }
     {
@@ -181,7 +184,7 @@ impl World {
     }
 
     /// Puts a character to one stream, and to its window if it has one.
-    #[tactic(auto, using(crate::proofs::Turns::windowless, crate::proofs::Kept::streams_kept), unfolding(crate::specs::Putting::stream_put))]
+    #[tactic(auto, using(crate::proofs::Kept::puts_kept), unfolding(crate::specs::Putting::stream_put))]
     fn stream_put(&mut self, stream: u32, c: u32) -> Result<(), AllocError>
         requires { IsTrue (streams.has self.old.scene.streams stream) }
         ensures ok { OnOk result (self.new ≡ after self.old (stream_put self.old.scene stream c)) }
@@ -200,9 +203,9 @@ impl World {
     #[tactic(auto, using(crate::proofs::Kept::windows_kept), unfolding(crate::specs::Putting::window_put))]
     fn window_put(&mut self, win: u32, c: u32) -> Result<(), AllocError>
         ensures ok { OnOk result
-            (self.new ≡ after self.old (window_put self.old.scene (entry_at self.old.scene.windows.entries win) win
+            (self.new ≡ after self.old (window_put self.old.scene (window_entry self.old.scene.windows.entries win) win
             c)) }
-        ensures memory { OnErr result ((entry_at self.old.scene.windows.entries win).kind ≡ text_buffer) }
+        ensures memory { OnErr result ((window_entry self.old.scene.windows.entries win).kind ≡ text_buffer) }
     {
         if self.windows.entry_at(win).kind == TEXT_BUFFER {
             self.buffer_put(win, show(c))
@@ -262,7 +265,7 @@ impl World {
 
         // A longer walk ends at the same stream.
         ensures whole { (more : ℕ)
-            → end_along (length self.now.scene.streams + more) self.now.scene stream ≡ end_of self.now.scene stream }
+            → end_along (length self.now.scene.streams + more) self.now.scene stream ≡ chain_end self.now.scene stream }
     {
         let last = self.end_along(self.streams.len(), stream);
         if self.streams.writable(last) {
@@ -290,21 +293,21 @@ impl World {
 
     /// Gets the next character; None where the stream isn't open for reading or is at its end. For a memory
     /// stream `found` is the number that stands at the place.
-    #[tactic(auto, using(crate::proofs::Kept::streams_kept), unfolding(crate::specs::Calls::after_get))]
+    #[tactic(auto, using(crate::proofs::Kept::streams_kept), unfolding(crate::specs::Calls::char_got))]
     pub fn get(&mut self, stream: u32, found: u32) -> Option<u32>
         requires { IsTrue (streams.has self.old.scene.streams stream) }
         ensures value { result ≡ one.char_of (got_from self.old.scene stream found) }
-        ensures new { self.new ≡ after self.old (silent (after_get self.old.scene stream found)) }
+        ensures new { self.new ≡ after self.old (silent (char_got self.old.scene stream found)) }
     {
         self.streams.get(stream, found)
     }
 
     /// Counts so many characters as read, and moves to the position behind them.
-    #[tactic(auto, using(crate::proofs::Kept::streams_kept), unfolding(crate::specs::Calls::passed))]
+    #[tactic(auto, using(crate::proofs::Kept::streams_kept), unfolding(crate::specs::Calls::chars_got))]
     pub fn pass(&mut self, stream: u32, position: u32, count: u32)
         requires there { IsTrue (streams.has self.old.scene.streams stream) }
-        requires within { position ≤ one.end_of (streams.stream self.old.scene.streams stream) }
-        ensures { self.new ≡ after self.old (silent (passed self.old.scene stream position count)) }
+        requires within { position ≤ one.end_position (streams.stream self.old.scene.streams stream) }
+        ensures { self.new ≡ after self.old (silent (chars_got self.old.scene stream position count)) }
     {
         self.streams.pass(stream, position, count);
     }

@@ -4,7 +4,7 @@ ghost use Rattle.std.specs.Option.{option_map};
 ghost use Rattle.std.specs.Str.{encode_utf8_all};
 ghost use Rattle.glk_text.specs.Characters.{shown};
 ghost use Rattle.glk_world.specs.World.{after, is_composed};
-ghost use Rattle.glk_world.specs.Naming.{IsWhole};
+ghost use Rattle.glk_world.specs.Naming.{IsWholeScene};
 ghost use Rattle.glk_world.specs.Shown.{said_row, said_rows, said_grid, said_grids, show_rows, screen_of, is_prompting};
 ghost use Rattle.glk_world.specs.Shown.{show_screen, is_last, end_text, show_grids, ShowWants, show_prompt, show_line};
 
@@ -28,7 +28,7 @@ impl World {
         ensures memory { OnErr result (ShowWants self.old.scene) }
 
         // In every world windows and streams name each other, and the windows that aren't pairs tile the screen.
-        ensures whole { IsWhole self.old.scene }
+        ensures whole { IsWholeScene self.old.scene }
     {
         let size = self.windows.size();
         match self.view {

@@ -8,7 +8,7 @@ ghost use Rattle.glk_windows.specs.Windows.{entry_id};
 ghost use Rattle.glk_world.specs.declared.views.View.TheVariants as view;
 ghost use Rattle.glk_world.specs.World.{after, silent, empty_world, has_reference, reference_at, reference_id};
 ghost use Rattle.glk_world.specs.World.{next_reference, arg, waits};
-ghost use Rattle.glk_world.specs.Kept.{call_of, waiting_of};
+ghost use Rattle.glk_world.specs.Kept.{flat_call, waiting_of};
 
 use crate::{FileReference, ShownGrid, View};
 use arrayvec::ArrayVec;
@@ -232,7 +232,7 @@ impl World {
     /// The call that waits to go on.
     pub fn waiting(&self) -> Option<&Waiting>
         ensures { MatchOption result (self.now.scene.waiting ≡ None)
-            (λ call. self.now.scene.waiting ≡ Some (call_of call.now)) }
+            (λ call. self.now.scene.waiting ≡ Some (flat_call call.now)) }
     {
         self.waiting.as_ref()
     }

@@ -12,11 +12,11 @@ use Rattle.gx_rows.specs.Opcodes.{opcode_of, shortest, spelled}
 use Rattle.gx_rows.specs.Table.{RowFits, place_of, row_at, row_count}
 use Rattle.gx_asm.specs.declared.faults.ListFault.{ListFault}
 use Rattle.gx_asm.specs.declared.faults.ListFault.TheVariants as of_code
-use Rattle.gx_asm.specs.Instructions.{Written, IsWritten, operand_count, data_len, all_data_len, fits_kind, nibble_of, packed, number_of, bytes_of, line_of}
-use Rattle.gx_asm.specs.Texts.{allowed}
-use Rattle.gx_asm.specs.Views.{written}
+use Rattle.gx_asm.specs.Instructions.{WrittenInstruction, IsWritten, operand_count, data_len, all_data_len, fits_kind, nibble_of, packed_nibbles, opcode_number, bytes_of, instruction_line}
+use Rattle.gx_asm.specs.Texts.{required}
+use Rattle.gx_asm.specs.Views.{seen_instruction}
 use Rattle.gx_asm.specs.declared.instruction.Instruction.{Instruction}
-use Rattle.gx_asm.specs.Codes.{front, instruction_at, is_end, mode_in, modes_from, modes_len, nibbles, text_from}
+use Rattle.gx_asm.specs.Codes.{front, instruction_at, ends_listing, mode_in, modes_from, modes_len, nibbles, text_from}
 use Rattle.gx_asm.proofs.Nibbles.{all_data_len_small, length-nibbles, length-packed, modes_read}
 use Rattle.gx_asm.proofs.BytesOpcodes.{length-opcode, number_small}
 use Rattle.gx_asm.proofs.CodesRead.{bytes_some, read_by, read_from}
@@ -47,8 +47,8 @@ nibble_high pairs i within odd =
 
 pub ruleset nibble_at = (nibble_low, nibble_high)
 
-packed_at : (ns : List ℕ) (i : ℕ) → 2 * i < length ns → slice_index (packed ns) i ≡ slice_index ns (2 * i) + 16 * slice_index ns (2 * i + 1)
-unfolding packed
+packed_at : (ns : List ℕ) (i : ℕ) → 2 * i < length ns → slice_index (packed_nibbles ns) i ≡ slice_index ns (2 * i) + 16 * slice_index ns (2 * i + 1)
+unfolding packed_nibbles
 packed_at [] i within = absurd (omega arith)
 packed_at (low ∷ []) zero within = omega arith
 packed_at (low ∷ []) (suc i) within = absurd (omega arith)
@@ -59,7 +59,7 @@ packed_at (low ∷ high ∷ rest) (suc i) within =
     rw (first, second) (packed_at rest i (omega arith))
 
 pub pair_whole : (modes : List Addressing) (i : ℕ) (d : Addressing) → 2 * i + 1 < length modes
-    → slice_index (packed (map nibble_of modes)) i ≡ nibble_of (get_or modes (2 * i) d) + 16 * nibble_of (get_or modes (2 * i + 1) d)
+    → slice_index (packed_nibbles (map nibble_of modes)) i ≡ nibble_of (get_or modes (2 * i) d) + 16 * nibble_of (get_or modes (2 * i + 1) d)
 pair_whole modes i d within =
     let low = get_or-map nibble_of modes (2 * i) d 0 (omega arith) in
     let high = get_or-map nibble_of modes (2 * i + 1) d 0 within in
@@ -71,7 +71,7 @@ past_zero (n ∷ ns) zero past = absurd (omega arith)
 past_zero (n ∷ ns) (suc i) past = past_zero ns i (omega arith)
 
 pub pair_half : (modes : List Addressing) (i : ℕ) (d : Addressing) → 2 * i + 1 ≡ length modes
-    → slice_index (packed (map nibble_of modes)) i ≡ nibble_of (get_or modes (2 * i) d)
+    → slice_index (packed_nibbles (map nibble_of modes)) i ≡ nibble_of (get_or modes (2 * i) d)
 pair_half modes i d last =
     let low = get_or-map nibble_of modes (2 * i) d 0 (omega arith) in
     let high = past_zero (map nibble_of modes) (2 * i + 1) (omega (arith, length-map modes nibble_of)) in
@@ -79,17 +79,17 @@ pair_half modes i d last =
 
 pub ruleset pair_at = (pair_whole, pair_half)
 
-pub length-pairs : (modes : List Addressing) → length (packed (map nibble_of modes)) ≡ (length modes + 1) / 2
+pub length-pairs : (modes : List Addressing) → length (packed_nibbles (map nibble_of modes)) ≡ (length modes + 1) / 2
 length-pairs modes = length-packed (map nibble_of modes) ∙ ap (λ (n : ℕ). (n + 1) / 2) (length-map modes nibble_of)
 
-pub pairs_all : (modes : List Addressing) (i : ℕ) → (length modes + 1) / 2 ≤ i → take i (packed (map nibble_of modes)) ≡ packed (map nibble_of modes)
-pairs_all modes i past = take_all i (packed (map nibble_of modes)) (omega (arith, length-pairs modes))
+pub pairs_all : (modes : List Addressing) (i : ℕ) → (length modes + 1) / 2 ≤ i → take i (packed_nibbles (map nibble_of modes)) ≡ packed_nibbles (map nibble_of modes)
+pairs_all modes i past = take_all i (packed_nibbles (map nibble_of modes)) (omega (arith, length-pairs modes))
 
 -- a pair more
-pub pair_more : (modes : List Addressing) (i pair : ℕ) (start code next : List ℕ) → next ≡ code ++ pair ∷ [] → code ≡ start ++ take i (packed (map nibble_of modes))
-    → i < (length modes + 1) / 2 → pair ≡ slice_index (packed (map nibble_of modes)) i → next ≡ start ++ take (i + 1) (packed (map nibble_of modes))
+pub pair_more : (modes : List Addressing) (i pair : ℕ) (start code next : List ℕ) → next ≡ code ++ pair ∷ [] → code ≡ start ++ take i (packed_nibbles (map nibble_of modes))
+    → i < (length modes + 1) / 2 → pair ≡ slice_index (packed_nibbles (map nibble_of modes)) i → next ≡ start ++ take (i + 1) (packed_nibbles (map nibble_of modes))
 pair_more modes i pair start code next pushed so_far within is =
-    let pairs = packed (map nibble_of modes) in
+    let pairs = packed_nibbles (map nibble_of modes) in
     let more : suc i ≡ i + 1 = omega arith in
     let step = take-suc pairs i 0 (omega (arith, length-pairs modes)) in
     pushed ∙ ap (λ (l : List ℕ). l ++ pair ∷ []) so_far ∙ append_assoc start (take i pairs) (pair ∷ [])
@@ -116,12 +116,12 @@ data_whole modes i past = ap all_data_len (take_all i modes past)
 
 pub ruleset data_turns = (data_begun, data_more, data_whole)
 
-pub length_bytes : (w : Written) → w.place < row_count → length (bytes_of w) ≡ shortest (number_of w) + (length w.modes + 1) / 2 + length w.operand_data
+pub length_bytes : (w : WrittenInstruction) → w.place < row_count → length (bytes_of w) ≡ shortest (opcode_number w) + (length w.modes + 1) / 2 + length w.operand_data
 unfolding bytes_of
 length_bytes w placed =
-    let opcode = spelled (number_of w) (shortest (number_of w)) in
-    let pairs = packed (map nibble_of w.modes) in
-    omega (arith, length-append (opcode ++ pairs) w.operand_data, length-append opcode pairs, length-opcode (number_of w) (number_small w.place placed), length-pairs w.modes)
+    let opcode = spelled (opcode_number w) (shortest (opcode_number w)) in
+    let pairs = packed_nibbles (map nibble_of w.modes) in
+    omega (arith, length-append (opcode ++ pairs) w.operand_data, length-append opcode pairs, length-opcode (opcode_number w) (number_small w.place placed), length-pairs w.modes)
 
 -- ---- the modes of a row
 
@@ -307,11 +307,11 @@ read_part at code number size place pairs modes e opened short placed first by b
     let same : (size == shortest number) ≡ true = grind (arith, nat_tests) in
     rw (opened, same, placed, first, by, bad) refl
 
-pub read_written : (at : ℕ) (code : List ℕ) (w : Written) → All (λ b. b < 256) code → instruction_at at code ≡ Ok w → IsWritten w
+pub read_written : (at : ℕ) (code : List ℕ) (w : WrittenInstruction) → All (λ b. b < 256) code → instruction_at at code ≡ Ok w → IsWritten w
 read_written at code w small is = (read_from at code w small is).written
 
-pub are_written : (at : ℕ) (code : List ℕ) (r : Result Instruction ListFault) → All (λ b. b < 256) code → Is written r (instruction_at at code) → IfOk r (λ i. IsWritten (written i))
-are_written at code (Ok i) small is = read_written at code (written i) small is
+pub are_written : (at : ℕ) (code : List ℕ) (r : Result Instruction ListFault) → All (λ b. b < 256) code → Is seen_instruction r (instruction_at at code) → IfOk r (λ i. IsWritten (seen_instruction i))
+are_written at code (Ok i) small is = read_written at code (seen_instruction i) small is
 are_written at code (Err e) small is = tt
 
 pub ruleset reading = (opcode_within, read_cut, read_long, read_unknown, read_half, read_spoilt, read_part, read_by, read_written)
@@ -335,15 +335,15 @@ pub record IsListed (code : List ℕ) (ends : Bool) (from at : ℕ) (whole : Boo
 pub listing_begun : (code : List ℕ) (ends : Bool) (from : ℕ) → from ≤ length code → IsListed code ends from from true []
 listing_begun code ends from within = record { done = []; so_far = begun code ends from within; kept = λ _. refl; begins = omega arith; started = λ e. absurd (cc) }
 
-pub listing_more : (code : List ℕ) (ends : Bool) (from at : ℕ) (whole more : Bool) (text next : List ℕ) (w : Written)
+pub listing_more : (code : List ℕ) (ends : Bool) (from at : ℕ) (whole more : Bool) (text next : List ℕ) (w : WrittenInstruction)
     → IsListed code ends from at whole text → at < length code → All (λ b. b < 256) code → instruction_at at (drop at code) ≡ Ok w
-    → (ends && is_end w) ≡ false → (more ≡ true → (whole ≡ true) × (next ≡ text ++ line_of w))
+    → (ends && ends_listing w) ≡ false → (more ≡ true → (whole ≡ true) × (next ≡ text ++ instruction_line w))
     → IsListed code ends from (at + length (bytes_of w)) more next
 listing_more code ends from at whole more text next w is before small read goes added =
     record {
-      done = is.done ++ line_of w;
+      done = is.done ++ instruction_line w;
       so_far = turn_more code ends from at is.done w is.so_far before small read goes;
-      kept = λ m. (added m).1 ∙ ap (λ (l : List ℕ). l ++ line_of w) (is.kept (added m).0);
+      kept = λ m. (added m).1 ∙ ap (λ (l : List ℕ). l ++ instruction_line w) (is.kept (added m).0);
       begins = omega (arith, is.begins);
       started = λ _. omega (arith, is.begins, bytes_some w);
     }
@@ -353,13 +353,13 @@ given : (defined : Result (List ℕ) ListFault) (done text : List ℕ) (whole : 
 given defined done text true is kept = is ∙ ap (λ (l : List ℕ). Ok l) (sym (kept refl))
 given defined done text false is kept = (λ other. absurd (other refl), λ _. subst IsOk (sym is) refl)
 
-pub listing_last : (code : List ℕ) (ends : Bool) (from at : ℕ) (whole more : Bool) (text next : List ℕ) (w : Written)
+pub listing_last : (code : List ℕ) (ends : Bool) (from at : ℕ) (whole more : Bool) (text next : List ℕ) (w : WrittenInstruction)
     → IsListed code ends from at whole text → at < length code → instruction_at at (drop at code) ≡ Ok w
-    → (ends && is_end w) ≡ true → (more ≡ true → (whole ≡ true) × (next ≡ text ++ line_of w))
+    → (ends && ends_listing w) ≡ true → (more ≡ true → (whole ≡ true) × (next ≡ text ++ instruction_line w))
     → Gives of_code.NoMemory (λ (t : List ℕ). t) (if more then Ok next else Err of_code.NoMemory) (text_from (length code) ends from (drop from code))
 listing_last code ends from at whole more text next w is before read last added =
-    given _ (is.done ++ line_of w) next more (turn_last code ends from at is.done w is.so_far before read last)
-    (λ m. (added m).1 ∙ ap (λ (l : List ℕ). l ++ line_of w) (is.kept (added m).0))
+    given _ (is.done ++ instruction_line w) next more (turn_last code ends from at is.done w is.so_far before read last)
+    (λ m. (added m).1 ∙ ap (λ (l : List ℕ). l ++ instruction_line w) (is.kept (added m).0))
 
 pub listing_bad : (code : List ℕ) (ends : Bool) (from at : ℕ) (whole : Bool) (text : List ℕ) (e : ListFault)
     → IsListed code ends from at whole text → at < length code → instruction_at at (drop at code) ≡ Err e
@@ -412,7 +412,7 @@ ok_or_wants : {A : Type 0} (o : Option A) (fault : ListFault) → fault ≢ of_c
 ok_or_wants (Some x) fault other e h = absurd (cc)
 ok_or_wants {A} None fault other e h = err_wants {A = A} fault other e h
 
-allowed_wants : (b : Bool) (fault : ListFault) → fault ≢ of_code.NoMemory → NoWant (allowed b fault)
+allowed_wants : (b : Bool) (fault : ListFault) → fault ≢ of_code.NoMemory → NoWant (required b fault)
 allowed_wants true fault other e h = absurd (cc)
 allowed_wants false fault other e h = err_wants {A = Unit {0}} fault other e h
 
@@ -427,7 +427,7 @@ mode_wants : (at : ℕ) (kind : Kind) (n : ℕ) → NoWant (mode_in at kind n)
 unfolding mode_in
 mode_wants at kind n =
     bind_wants (ok_or (addressing n) (of_code.BadMode at)) _ (ok_or_wants (addressing n) (of_code.BadMode at) (mode_not at)) (λ mode.
-    bind_wants (allowed (fits_kind kind mode) (of_code.BadMode at)) _ (allowed_wants (fits_kind kind mode) (of_code.BadMode at) (mode_not at)) (λ _.
+    bind_wants (required (fits_kind kind mode) (of_code.BadMode at)) _ (allowed_wants (fits_kind kind mode) (of_code.BadMode at) (mode_not at)) (λ _.
     ok_wants mode))
 
 modes_want : (at : ℕ) (row : Row) (i : ℕ) (nibbles : List ℕ) → NoWant (modes_from at row i nibbles)
@@ -436,13 +436,13 @@ modes_want at row i [] = ok_wants []
 modes_want at row i (n ∷ rest) = cond_wants (nat_lt i (operand_count row)) _ _
     (bind_wants (mode_in at (kind_of row i) n) _ (mode_wants at (kind_of row i) n) (λ mode.
     bind_wants (modes_from at row (i + 1) rest) _ (modes_want at row (i + 1) rest) (λ modes. ok_wants (mode ∷ modes))))
-    (bind_wants (allowed (n == 0) (of_code.BadMode at)) _ (allowed_wants (n == 0) (of_code.BadMode at) (mode_not at)) (λ _. modes_want at row (i + 1) rest))
+    (bind_wants (required (n == 0) (of_code.BadMode at)) _ (allowed_wants (n == 0) (of_code.BadMode at) (mode_not at)) (λ _. modes_want at row (i + 1) rest))
 
 pub instruction_wants : (at : ℕ) (code : List ℕ) (e : ListFault) → instruction_at at code ≡ Err e → e ≢ of_code.NoMemory
 unfolding instruction_at
 instruction_wants at code =
     bind_wants (ok_or (opcode_of code) (of_code.Cut at)) _ (ok_or_wants (opcode_of code) (of_code.Cut at) (cut_not at)) (λ o.
-    bind_wants (allowed (o.1 == shortest o.0) (of_code.Spelling at)) _ (allowed_wants (o.1 == shortest o.0) (of_code.Spelling at) (spelling_not at)) (λ _.
+    bind_wants (required (o.1 == shortest o.0) (of_code.Spelling at)) _ (allowed_wants (o.1 == shortest o.0) (of_code.Spelling at) (spelling_not at)) (λ _.
     bind_wants (ok_or (place_of o.0) (of_code.BadOpcode at)) _ (ok_or_wants (place_of o.0) (of_code.BadOpcode at) (opcode_not at)) (λ place.
     bind_wants (front at (modes_len (operand_count (row_at place))) (drop o.1 code)) _ (front_wants at _ _) (λ pairs.
     bind_wants (modes_from at (row_at place) 0 (nibbles pairs)) _ (modes_want at (row_at place) 0 (nibbles pairs)) (λ modes.

@@ -9,8 +9,8 @@ use Rattle.gx_rows.specs.Opcodes.{opcode_of, shortest, spelled}
 use Rattle.gx_rows.specs.Table.{place_of, row_at, row_count}
 use Rattle.gx_asm.specs.declared.faults.ListFault.{ListFault}
 use Rattle.gx_asm.specs.declared.faults.ListFault.TheVariants as of_code
-use Rattle.gx_asm.specs.Texts.{allowed}
-use Rattle.gx_asm.specs.Instructions.{Written, IsWritten, operand_count, all_data_len, nibble_of, packed, number_of, bytes_of}
+use Rattle.gx_asm.specs.Texts.{required}
+use Rattle.gx_asm.specs.Instructions.{WrittenInstruction, IsWritten, operand_count, all_data_len, nibble_of, packed_nibbles, opcode_number, bytes_of}
 use Rattle.gx_asm.specs.Codes.{front, instruction_at, modes_from, modes_len, nibbles}
 use Rattle.gx_asm.proofs.Nibbles.{bind_ok, ok_or_ok, allowed_ok, AreRead, modes_read, modes_written, length-packed, same_number}
 use Rattle.gx_asm.proofs.BytesOpcodes.{IsThere, length-opcode, number_small, opcode_read, opcode_there, place_found, place_of_row, spelled_some}
@@ -50,28 +50,28 @@ read_by at code number size place pairs bytes modes opened short placed first by
 regrouped : (a b c d : List ℕ) → a ++ b ++ c ++ d ≡ a ++ (b ++ (c ++ d))
 regrouped a b c d = append_assoc (a ++ b) c d ∙ append_assoc a b (c ++ d)
 
-pub reads_back : (at : ℕ) (w : Written) (rest : List ℕ) → IsWritten w → instruction_at at (bytes_of w ++ rest) ≡ Ok w
+pub reads_back : (at : ℕ) (w : WrittenInstruction) (rest : List ℕ) → IsWritten w → instruction_at at (bytes_of w ++ rest) ≡ Ok w
 unfolding bytes_of
 reads_back at w rest is =
     let small = number_small w.place is.place in
-    let opcode = spelled (number_of w) (shortest (number_of w)) in
-    let pairs = packed (map nibble_of w.modes) in
-    let size = length-opcode (number_of w) small in
+    let opcode = spelled (opcode_number w) (shortest (opcode_number w)) in
+    let pairs = packed_nibbles (map nibble_of w.modes) in
+    let size = length-opcode (opcode_number w) small in
     let counted : length (map nibble_of w.modes) ≡ operand_count (row_at w.place) = length-map w.modes nibble_of ∙ is.count in
     let paired : length pairs ≡ modes_len (operand_count (row_at w.place)) = length-packed (map nibble_of w.modes) ∙ ap (λ (n : ℕ). (n + 1) / 2) counted in
-    let head : length (opcode ++ pairs) ≡ shortest (number_of w) + modes_len (operand_count (row_at w.place)) = length-append opcode pairs ∙ omega (arith, size, paired) in
-    let first = front_behind at (modes_len (operand_count (row_at w.place))) (shortest (number_of w)) opcode pairs (w.operand_data ++ rest) size paired in
-    let last = front_behind at (all_data_len w.modes) (shortest (number_of w) + modes_len (operand_count (row_at w.place))) (opcode ++ pairs) w.operand_data rest head is.operand_data in
+    let head : length (opcode ++ pairs) ≡ shortest (opcode_number w) + modes_len (operand_count (row_at w.place)) = length-append opcode pairs ∙ omega (arith, size, paired) in
+    let first = front_behind at (modes_len (operand_count (row_at w.place))) (shortest (opcode_number w)) opcode pairs (w.operand_data ++ rest) size paired in
+    let last = front_behind at (all_data_len w.modes) (shortest (opcode_number w) + modes_len (operand_count (row_at w.place))) (opcode ++ pairs) w.operand_data rest head is.operand_data in
     let by = modes_written at (row_at w.place) (operand_count (row_at w.place)) 0 w.modes refl (omega (arith, is.count)) is.modes in
     let together : opcode ++ pairs ++ (w.operand_data ++ rest) ≡ opcode ++ (pairs ++ (w.operand_data ++ rest)) = append_assoc opcode pairs (w.operand_data ++ rest) in
     subst (λ (code : List ℕ). instruction_at at code ≡ Ok w) (sym (regrouped opcode pairs w.operand_data rest))
-    (read_by at (opcode ++ (pairs ++ (w.operand_data ++ rest))) (number_of w) (shortest (number_of w)) w.place pairs w.operand_data w.modes
-    (opcode_read (number_of w) (pairs ++ (w.operand_data ++ rest)) small) refl (place_of_row w.place is.place) first by
-    (subst (λ (code : List ℕ). front at (all_data_len w.modes) (drop (shortest (number_of w) + modes_len (operand_count (row_at w.place))) code) ≡ Ok w.operand_data) together last))
+    (read_by at (opcode ++ (pairs ++ (w.operand_data ++ rest))) (opcode_number w) (shortest (opcode_number w)) w.place pairs w.operand_data w.modes
+    (opcode_read (opcode_number w) (pairs ++ (w.operand_data ++ rest)) small) refl (place_of_row w.place is.place) first by
+    (subst (λ (code : List ℕ). front at (all_data_len w.modes) (drop (shortest (opcode_number w) + modes_len (operand_count (row_at w.place))) code) ≡ Ok w.operand_data) together last))
 
 -- ---- what is read stands there
 
-pub record IsRead (code : List ℕ) (w : Written) : Type 0 where
+pub record IsRead (code : List ℕ) (w : WrittenInstruction) : Type 0 where
   pub written : IsWritten w
   pub within : length (bytes_of w) ≤ length code
   pub bytes : take (length (bytes_of w)) code ≡ bytes_of w
@@ -100,7 +100,7 @@ read_of code number size place pairs bytes modes small opcode short placed numbe
     let whole : size + n + all_data_len modes ≤ length code = omega (arith, last.0, length-behind, long) in
     let head : spelled (row_at place).number (shortest (row_at place).number) ≡ take size code =
     ap (λ (m : ℕ). spelled m (shortest m)) numbered ∙ ap (λ (s : ℕ). spelled number s) (sym short) ∙ sym opcode.spelled in
-    let same : spelled (row_at place).number (shortest (row_at place).number) ++ packed (map nibble_of modes) ++ bytes ≡ take (size + n + all_data_len modes) code =
+    let same : spelled (row_at place).number (shortest (row_at place).number) ++ packed_nibbles (map nibble_of modes) ++ bytes ≡ take (size + n + all_data_len modes) code =
     rw (head, read.same, sym first.1, sym last.1) (sym (parts size n (all_data_len modes) code)) in
     let there = stands code _ (size + n + all_data_len modes) same whole in
     record {
@@ -115,14 +115,14 @@ read_of code number size place pairs bytes modes small opcode short placed numbe
       bytes = there.1;
     }
 
-same_written : (v w : Written) → ◌≡◌ {A = Result Written ListFault} (Ok v) (Ok w) → v ≡ w
+same_written : (v w : WrittenInstruction) → ◌≡◌ {A = Result WrittenInstruction ListFault} (Ok v) (Ok w) → v ≡ w
 same_written v w e = cc
 
-pub read_from : (at : ℕ) (code : List ℕ) (w : Written) → All (λ b. b < 256) code → instruction_at at code ≡ Ok w → IsRead code w
+pub read_from : (at : ℕ) (code : List ℕ) (w : WrittenInstruction) → All (λ b. b < 256) code → instruction_at at code ≡ Ok w → IsRead code w
 unfolding instruction_at
 read_from at code w small h =
     let o = bind_ok (ok_or (opcode_of code) (of_code.Cut at)) _ w h in
-    let s = bind_ok (allowed (o.0.1 == shortest o.0.0) (of_code.Spelling at)) _ w o.2 in
+    let s = bind_ok (required (o.0.1 == shortest o.0.0) (of_code.Spelling at)) _ w o.2 in
     let p = bind_ok (ok_or (place_of o.0.0) (of_code.BadOpcode at)) _ w s.2 in
     let f = bind_ok (front at (modes_len (operand_count (row_at p.0))) (drop o.0.1 code)) _ w p.2 in
     let m = bind_ok (modes_from at (row_at p.0) 0 (nibbles f.0)) _ w f.2 in
@@ -138,16 +138,16 @@ read_from at code w small h =
     subst (IsRead code) (same_written _ w d.2) is
 
 -- an instruction has bytes
-pub bytes_some : (w : Written) → 0 < length (bytes_of w)
+pub bytes_some : (w : WrittenInstruction) → 0 < length (bytes_of w)
 unfolding bytes_of
 bytes_some w =
-    let some = spelled_some (number_of w) (shortest (number_of w)) in
+    let some = spelled_some (opcode_number w) (shortest (opcode_number w)) in
     omega (
       arith,
       some,
-      length-append (spelled (number_of w) (shortest (number_of w)) ++ packed (map nibble_of w.modes)) w.operand_data,
-      length-append (spelled (number_of w) (shortest (number_of w))) (packed (map nibble_of w.modes)),
+      length-append (spelled (opcode_number w) (shortest (opcode_number w)) ++ packed_nibbles (map nibble_of w.modes)) w.operand_data,
+      length-append (spelled (opcode_number w) (shortest (opcode_number w))) (packed_nibbles (map nibble_of w.modes)),
     )
 
-pub split : (code : List ℕ) (w : Written) → IsRead code w → code ≡ bytes_of w ++ drop (length (bytes_of w)) code
+pub split : (code : List ℕ) (w : WrittenInstruction) → IsRead code w → code ≡ bytes_of w ++ drop (length (bytes_of w)) code
 split code w is = sym (take-append-drop (length (bytes_of w)) code) ∙ ap (λ (l : List ℕ). l ++ drop (length (bytes_of w)) code) is.bytes

@@ -6,8 +6,8 @@ use Rattle.std.proofs.Math.Seq.{drop-append_seam}
 use Rattle.gx_words.specs.Results.{◌>>=◌}
 use Rattle.gx_asm.specs.declared.faults.ListFault.{ListFault}
 use Rattle.gx_asm.specs.declared.faults.ListFault.TheVariants as of_code
-use Rattle.gx_asm.specs.Instructions.{Written, IsWritten, Spelled, bytes_of, line_of}
-use Rattle.gx_asm.specs.Codes.{instruction_at, is_end, listed, text_from}
+use Rattle.gx_asm.specs.Instructions.{WrittenInstruction, IsWritten, Spells, bytes_of, instruction_line}
+use Rattle.gx_asm.specs.Codes.{instruction_at, ends_listing, listed, text_from}
 use Rattle.gx_asm.proofs.Nibbles.{bind_ok}
 use Rattle.gx_asm.proofs.CodesRead.{bytes_some, read_from, reads_back, split}
 
@@ -29,7 +29,7 @@ prefixed_twice a b (Ok text) = ap (λ (l : List ℕ). Ok l) (sym (append_assoc a
 prefixed_twice a b (Err fault) = refl
 
 -- what is left behind an instruction is shorter
-left_shorter : (fuel : ℕ) (b : ℕ) (rest : List ℕ) (w : Written) → length (b ∷ rest) ≤ suc fuel → length (drop (length (bytes_of w)) (b ∷ rest)) ≤ fuel
+left_shorter : (fuel : ℕ) (b : ℕ) (rest : List ℕ) (w : WrittenInstruction) → length (b ∷ rest) ≤ suc fuel → length (drop (length (bytes_of w)) (b ∷ rest)) ≤ fuel
 left_shorter fuel b rest w h = omega (arith, length-drop (length (bytes_of w)) (b ∷ rest), bytes_some w)
 
 -- ---- fuel beyond the length makes no difference
@@ -56,22 +56,22 @@ one_bad fuel ends at [] e some h bad = absurd (omega arith)
 one_bad zero ends at (b ∷ rest) e some h bad = absurd (omega arith)
 one_bad (suc fuel) ends at (b ∷ rest) e some h bad = rw bad refl
 
-pub one_last : (fuel : ℕ) (ends : Bool) (at : ℕ) (code : List ℕ) (w : Written) → 0 < length code → length code ≤ fuel → instruction_at at code ≡ Ok w → (ends && is_end w) ≡ true
-    → text_from fuel ends at code ≡ Ok (line_of w)
+pub one_last : (fuel : ℕ) (ends : Bool) (at : ℕ) (code : List ℕ) (w : WrittenInstruction) → 0 < length code → length code ≤ fuel → instruction_at at code ≡ Ok w → (ends && ends_listing w) ≡ true
+    → text_from fuel ends at code ≡ Ok (instruction_line w)
 unfolding text_from
 one_last fuel ends at [] w some h read last = absurd (omega arith)
 one_last zero ends at (b ∷ rest) w some h read last = absurd (omega arith)
 one_last (suc fuel) ends at (b ∷ rest) w some h read last = rw (read, last) refl
 
-pub one_more : (fuel : ℕ) (ends : Bool) (at : ℕ) (code : List ℕ) (w : Written) → 0 < length code → length code ≤ fuel → instruction_at at code ≡ Ok w → (ends && is_end w) ≡ false
-    → text_from fuel ends at code ≡ prefixed (line_of w) (text_from fuel ends (at + length (bytes_of w)) (drop (length (bytes_of w)) code))
+pub one_more : (fuel : ℕ) (ends : Bool) (at : ℕ) (code : List ℕ) (w : WrittenInstruction) → 0 < length code → length code ≤ fuel → instruction_at at code ≡ Ok w → (ends && ends_listing w) ≡ false
+    → text_from fuel ends at code ≡ prefixed (instruction_line w) (text_from fuel ends (at + length (bytes_of w)) (drop (length (bytes_of w)) code))
 unfolding text_from
 one_more fuel ends at [] w some h read more = absurd (omega arith)
 one_more zero ends at (b ∷ rest) w some h read more = absurd (omega arith)
 one_more (suc fuel) ends at (b ∷ rest) w some h read more =
     let less = left_shorter fuel b rest w h in
-    rw (read, more) (bound (line_of w) _
-    ∙ ap (prefixed (line_of w)) (fuel_free fuel (suc fuel) ends (at + length (bytes_of w)) (drop (length (bytes_of w)) (b ∷ rest)) less (omega (arith, less))))
+    rw (read, more) (bound (instruction_line w) _
+    ∙ ap (prefixed (instruction_line w)) (fuel_free fuel (suc fuel) ends (at + length (bytes_of w)) (drop (length (bytes_of w)) (b ∷ rest)) less (omega (arith, less))))
 
 -- ---- the loop of a listing, which has listed `done` of a code from a place on
 
@@ -96,15 +96,15 @@ turn_bad code ends from at done e so_far more bad =
     let some = rest_some code at more in
     so_far.same ∙ ap (prefixed done) (one_bad (length code) ends at (drop at code) e some.0 some.1 bad)
 
-pub turn_last : (code : List ℕ) (ends : Bool) (from at : ℕ) (done : List ℕ) (w : Written) → IsSoFar code ends from at done → at < length code
-    → instruction_at at (drop at code) ≡ Ok w → (ends && is_end w) ≡ true → text_from (length code) ends from (drop from code) ≡ Ok (done ++ line_of w)
+pub turn_last : (code : List ℕ) (ends : Bool) (from at : ℕ) (done : List ℕ) (w : WrittenInstruction) → IsSoFar code ends from at done → at < length code
+    → instruction_at at (drop at code) ≡ Ok w → (ends && ends_listing w) ≡ true → text_from (length code) ends from (drop from code) ≡ Ok (done ++ instruction_line w)
 turn_last code ends from at done w so_far more read last =
     let some = rest_some code at more in
     so_far.same ∙ ap (prefixed done) (one_last (length code) ends at (drop at code) w some.0 some.1 read last)
 
-pub turn_more : (code : List ℕ) (ends : Bool) (from at : ℕ) (done : List ℕ) (w : Written) → IsSoFar code ends from at done → at < length code
-    → All (λ b. b < 256) code → instruction_at at (drop at code) ≡ Ok w → (ends && is_end w) ≡ false
-    → IsSoFar code ends from (at + length (bytes_of w)) (done ++ line_of w)
+pub turn_more : (code : List ℕ) (ends : Bool) (from at : ℕ) (done : List ℕ) (w : WrittenInstruction) → IsSoFar code ends from at done → at < length code
+    → All (λ b. b < 256) code → instruction_at at (drop at code) ≡ Ok w → (ends && ends_listing w) ≡ false
+    → IsSoFar code ends from (at + length (bytes_of w)) (done ++ instruction_line w)
 turn_more code ends from at done w so_far more small read goes =
     let some = rest_some code at more in
     let is = read_from at (drop at code) w (All-drop (λ b. b < 256) at code small) read in
@@ -112,8 +112,8 @@ turn_more code ends from at done w so_far more small read goes =
     let behind = drop-drop (length (bytes_of w)) at code in
     record {
       within = omega (arith, is.within, length-drop at code);
-      same = so_far.same ∙ ap (prefixed done) next ∙ prefixed_twice done (line_of w) _
-          ∙ ap (λ (l : List ℕ). prefixed (done ++ line_of w) (text_from (length code) ends (at + length (bytes_of w)) l)) behind;
+      same = so_far.same ∙ ap (prefixed done) next ∙ prefixed_twice done (instruction_line w) _
+          ∙ ap (λ (l : List ℕ). prefixed (done ++ instruction_line w) (text_from (length code) ends (at + length (bytes_of w)) l)) behind;
     }
 
 append_none : (l : List ℕ) → l ++ [] ≡ l
@@ -133,7 +133,7 @@ turns_cut code from at done so_far past =
 
 -- ---- a listing and its code spell each other
 
-spells : (fuel at : ℕ) (code text : List ℕ) → All (λ b. b < 256) code → length code ≤ fuel → text_from fuel false at code ≡ Ok text → Spelled text code
+spells : (fuel at : ℕ) (code text : List ℕ) → All (λ b. b < 256) code → length code ≤ fuel → text_from fuel false at code ≡ Ok text → Spells text code
 unfolding text_from
 spells fuel at [] text small h is =
     record { instructions = []; each = All-nil IsWritten; lines = cc; bytes = refl }
@@ -143,28 +143,28 @@ spells (suc fuel) at (b ∷ rest) text small h is =
     let t = bind_ok (text_from fuel false (at + length (bytes_of w.0)) (drop (length (bytes_of w.0)) (b ∷ rest))) _ text w.2 in
     let read = read_from at (b ∷ rest) w.0 small w.1 in
     let others = spells fuel (at + length (bytes_of w.0)) (drop (length (bytes_of w.0)) (b ∷ rest)) t.0 (All-drop (λ b. b < 256) (length (bytes_of w.0)) (b ∷ rest) small) (left_shorter fuel b rest w.0 h) t.1 in
-    let whole : line_of w.0 ++ t.0 ≡ text = cc in
+    let whole : instruction_line w.0 ++ t.0 ≡ text = cc in
     record {
       instructions = w.0 ∷ others.instructions;
       each = All-cons IsWritten w.0 others.instructions read.written others.each;
-      lines = sym whole ∙ ap (λ (l : List ℕ). line_of w.0 ++ l) others.lines;
+      lines = sym whole ∙ ap (λ (l : List ℕ). instruction_line w.0 ++ l) others.lines;
       bytes = split (b ∷ rest) w.0 read ∙ ap (λ (l : List ℕ). bytes_of w.0 ++ l) others.bytes;
     }
 
-lists : (fuel at : ℕ) (ws : List Written) → All IsWritten ws → length (flat_map bytes_of ws) ≤ fuel → text_from fuel false at (flat_map bytes_of ws) ≡ Ok (flat_map line_of ws)
+lists : (fuel at : ℕ) (ws : List WrittenInstruction) → All IsWritten ws → length (flat_map bytes_of ws) ≤ fuel → text_from fuel false at (flat_map bytes_of ws) ≡ Ok (flat_map instruction_line ws)
 lists fuel at [] each h = none_left fuel false at [] refl
 lists fuel at (w ∷ ws) each h =
     let size = length-append (bytes_of w) (flat_map bytes_of ws) in
     let some : 0 < length (bytes_of w ++ flat_map bytes_of ws) = omega (arith, size, bytes_some w) in
     one_more fuel false at (bytes_of w ++ flat_map bytes_of ws) w some h (reads_back at w (flat_map bytes_of ws) (All-head IsWritten w ws each)) refl
-    ∙ ap (λ (l : List ℕ). prefixed (line_of w) (text_from fuel false (at + length (bytes_of w)) l)) (drop-append_seam (bytes_of w) (flat_map bytes_of ws))
-    ∙ ap (prefixed (line_of w)) (lists fuel (at + length (bytes_of w)) ws (All-tail IsWritten w ws each) (omega (arith, size)))
+    ∙ ap (λ (l : List ℕ). prefixed (instruction_line w) (text_from fuel false (at + length (bytes_of w)) l)) (drop-append_seam (bytes_of w) (flat_map bytes_of ws))
+    ∙ ap (prefixed (instruction_line w)) (lists fuel (at + length (bytes_of w)) ws (All-tail IsWritten w ws each) (omega (arith, size)))
 
-pub listing : (code : List ℕ) → All (λ b. b < 256) code → (text : List ℕ) → (listed code ≡ Ok text) ↔ Spelled text code
+pub listing : (code : List ℕ) → All (λ b. b < 256) code → (text : List ℕ) → (listed code ≡ Ok text) ↔ Spells text code
 unfolding listed
 listing code small text = (spells (length code) 0 code text small (omega arith), λ is. of_spelled code text is)
   where
-    of_spelled : (code text : List ℕ) → Spelled text code → text_from (length code) false 0 code ≡ Ok text
+    of_spelled : (code text : List ℕ) → Spells text code → text_from (length code) false 0 code ≡ Ok text
     of_spelled code text is =
         subst (λ (l : List ℕ). text_from (length l) false 0 l ≡ Ok text) (sym is.bytes)
         (lists (length (flat_map bytes_of is.instructions)) 0 is.instructions is.each (omega arith) ∙ ap (λ (l : List ℕ). Ok l) (sym is.lines))

@@ -3,7 +3,8 @@ use Rattle.std.proofs.Common.{◌≡◌, ◌<◌, ◌≤◌, ◌+◌, ◌/◌, �
 use Rattle.std.proofs.Math.ListN.{drop_of_length-le}
 use Rattle.std.proofs.lemmas.List.{flat_map_more, take_all}
 use Rattle.gx_rows.specs.declared.modes.Addressing.{Addressing}
-use Rattle.gx_asm.specs.Instructions.{Written, all_data_len, blank, data_len, digit, digits, digits_of_byte, line_feed, line_of, word_of, words_of}
+use Rattle.gx_asm.specs.Instructions.{WrittenInstruction, all_data_len, blank, data_len, digit, digits, digits_of_byte, instruction_line, operand_word, words_of}
+use Rattle.gx_words.specs.Constants.{line_feed}
 use Rattle.gx_asm.specs.Names.{name_at}
 
 -- the digits of a byte more
@@ -24,7 +25,7 @@ digits_written old own start text i sign start_is all text_is =
 
 -- the words of operands with the first of them named
 one_word : (modes : List Addressing) (i : ℕ) (d : Addressing) (rest : List ℕ) → i < length modes → (let mode = get_or modes i d in
-    words_of (drop i modes) rest ≡ blank ∷ word_of mode (take (data_len mode) rest) ++ words_of (drop (i + 1) modes) (drop (data_len mode) rest))
+    words_of (drop i modes) rest ≡ blank ∷ operand_word mode (take (data_len mode) rest) ++ words_of (drop (i + 1) modes) (drop (data_len mode) rest))
 unfolding words_of
 one_word modes i d rest within = rw (drop-cons modes i d within, add-one i) refl
 
@@ -46,22 +47,22 @@ data_left modes i len d rest others within all len_is cut = let one = one_len mo
 -- an operand more is written
 pub word_written : (modes : List Addressing) (i len : ℕ) (d : Addressing) (text rest own others new whole : List ℕ)
     → i < length modes → text ++ words_of (drop i modes) rest ≡ whole → len ≡ data_len (get_or modes i d)
-    → own ≡ take len rest → others ≡ drop len rest → new ≡ text ++ blank ∷ word_of (get_or modes i d) own
+    → own ≡ take len rest → others ≡ drop len rest → new ≡ text ++ blank ∷ operand_word (get_or modes i d) own
     → new ++ words_of (drop (i + 1) modes) others ≡ whole
 word_written modes i len d text rest own others new whole within before len_is own_is others_is new_is =
     let mode = get_or modes i d in
     let own_part : own ≡ take (data_len mode) rest = own_is ∙ ap (λ (n : ℕ). take n rest) len_is in
     let left : others ≡ drop (data_len mode) rest = others_is ∙ ap (λ (n : ℕ). drop n rest) len_is in
-    ap (λ (b : List ℕ). b ++ words_of (drop (i + 1) modes) others) (new_is ∙ ap (λ (b : List ℕ). text ++ blank ∷ word_of mode b) own_part)
-    ∙ ap (λ (b : List ℕ). (text ++ blank ∷ word_of mode (take (data_len mode) rest)) ++ words_of (drop (i + 1) modes) b) left
-    ∙ append_assoc text (blank ∷ word_of mode (take (data_len mode) rest)) (words_of (drop (i + 1) modes) (drop (data_len mode) rest))
+    ap (λ (b : List ℕ). b ++ words_of (drop (i + 1) modes) others) (new_is ∙ ap (λ (b : List ℕ). text ++ blank ∷ operand_word mode b) own_part)
+    ∙ ap (λ (b : List ℕ). (text ++ blank ∷ operand_word mode (take (data_len mode) rest)) ++ words_of (drop (i + 1) modes) b) left
+    ∙ append_assoc text (blank ∷ operand_word mode (take (data_len mode) rest)) (words_of (drop (i + 1) modes) (drop (data_len mode) rest))
     ∙ ap (λ (b : List ℕ). text ++ b) (sym (one_word modes i d rest within)) ∙ before
 
 -- the whole line is written
-pub line_written : (w : Written) (i : ℕ) (old named text rest new : List ℕ) → named ≡ old ++ name_at w.place → length w.modes ≤ i
+pub line_written : (w : WrittenInstruction) (i : ℕ) (old named text rest new : List ℕ) → named ≡ old ++ name_at w.place → length w.modes ≤ i
     → text ++ words_of (drop i w.modes) rest ≡ named ++ words_of w.modes w.operand_data → new ≡ text ++ line_feed ∷ []
-    → new ≡ old ++ line_of w
-unfolding line_of words_of
+    → new ≡ old ++ instruction_line w
+unfolding instruction_line words_of
 line_written w i old named text rest new named_is all before new_is =
     let none : drop i w.modes ≡ [] = drop_of_length-le w.modes all in
     let written : text ≡ named ++ words_of w.modes w.operand_data =

@@ -5,12 +5,13 @@ use Rattle.std.proofs.lemmas.Bool.{cases_lt, eqb-true, lt-ltb, le-ltb}
 use Rattle.std.proofs.lemmas.List.Sums.{passes_at_first}
 use Rattle.std.proofs.lemmas.Slice.Eq.{bytes_eq-Decides}
 use Rattle.gx_rows.specs.Table.{row_count}
-use Rattle.gx_asm.specs.Names.{named, names, name_at, first_named, place_named}
-use Rattle.gx_asm.specs.Instructions.{blank, line_feed}
+use Rattle.gx_asm.specs.Names.{instruction_names, names, name_at, first_named, place_named}
+use Rattle.gx_asm.specs.Instructions.{blank}
+use Rattle.gx_words.specs.Constants.{line_feed}
 use Rattle.gx_asm.proofs.Words.{both, lacks, all_lack}
 
 pub names_counted : length names ≡ row_count
-unfolding named
+unfolding instruction_names
 names_counted = refl
 
 -- each of the names from a place on stands first at its own place
@@ -19,7 +20,7 @@ stand_from place [] = true
 stand_from place (name ∷ rest) = (first_named name == place) && stand_from (place + 1) rest
 
 all_stand : stand_from 0 names ≡ true
-unfolding named
+unfolding instruction_names
 all_stand = refl
 
 stands : (first i : ℕ) (rest : List (List ℕ)) → stand_from first rest ≡ true → i < length rest → first_named (get_or rest i []) ≡ first + i
@@ -60,11 +61,11 @@ lacks_at mark zero (name ∷ rest) h = (both (lacks mark name) (all_lack mark re
 lacks_at mark (suc place) (name ∷ rest) h = lacks_at mark place rest (both (lacks mark name) (all_lack mark rest) h).1
 
 all_lack_blank : all_lack blank names ≡ true
-unfolding named
+unfolding instruction_names
 all_lack_blank = refl
 
 all_lack_line_feed : all_lack line_feed names ≡ true
-unfolding named
+unfolding instruction_names
 all_lack_line_feed = refl
 
 pub name_lacks_blank : (place : ℕ) → lacks blank (name_at place) ≡ true

@@ -11,8 +11,8 @@ use Rattle.gx_rows.specs.declared.modes.Addressing.TheVariants.{Zero, Constant, 
 use Rattle.gx_rows.specs.declared.modes.Kind.{Kind}
 use Rattle.gx_rows.specs.Modes.{addressing, HasWidth, kind_of}
 use Rattle.gx_asm.specs.declared.faults.ListFault.TheVariants as of_code
-use Rattle.gx_asm.specs.Texts.{allowed}
-use Rattle.gx_asm.specs.Instructions.{AreModes, operand_count, data_len, all_data_len, fits_kind, nibble_of, packed}
+use Rattle.gx_asm.specs.Texts.{required}
+use Rattle.gx_asm.specs.Instructions.{AreModes, operand_count, data_len, all_data_len, fits_kind, nibble_of, packed_nibbles}
 use Rattle.gx_asm.specs.Codes.{modes_from, mode_in, nibbles}
 
 -- ---- steps that may fail
@@ -25,7 +25,7 @@ pub ok_or_ok : {A E : Type 0} (o : Option A) (e : E) (x : A) → ok_or o e ≡ O
 ok_or_ok (Some x) e y h = cc
 ok_or_ok None e y h = absurd (cc)
 
-pub allowed_ok : {E : Type 0} (b : Bool) (e : E) (u : Unit {0}) → allowed b e ≡ Ok u → b ≡ true
+pub allowed_ok : {E : Type 0} (b : Bool) (e : E) (u : Unit {0}) → required b e ≡ Ok u → b ≡ true
 allowed_ok true e u h = refl
 allowed_ok false e u h = absurd (cc)
 
@@ -109,7 +109,7 @@ pub mode_read : (at : ℕ) (kind : Kind) (n : ℕ) (mode : Addressing) → mode_
 unfolding mode_in
 mode_read at kind n mode h =
     let found = bind_ok (ok_or (addressing n) (of_code.BadMode at)) _ mode h in
-    let fit = bind_ok (allowed (fits_kind kind found.0) (of_code.BadMode at)) _ mode found.2 in
+    let fit = bind_ok (required (fits_kind kind found.0) (of_code.BadMode at)) _ mode found.2 in
     let of = is_of n found.0 (ok_or_ok _ _ _ found.1) in
     let same : found.0 ≡ mode = cc in
     let fits = allowed_ok _ _ _ fit.1 in
@@ -129,8 +129,8 @@ high_of : (n m : ℕ) → n < 16 → m < 16 → (n + 16 * m) / 16 ≡ m
 high_of n m h k = omega arith
 
 pub modes_written : (at : ℕ) (row : Row) (count i : ℕ) (modes : List Addressing) → operand_count row ≡ count → i + length modes ≡ count → AreModes row i modes
-    → modes_from at row i (nibbles (packed (map nibble_of modes))) ≡ Ok modes
-unfolding modes_from nibbles packed
+    → modes_from at row i (nibbles (packed_nibbles (map nibble_of modes))) ≡ Ok modes
+unfolding modes_from nibbles packed_nibbles
 modes_written at row count i [] is counted are = refl
 modes_written at row count i (m ∷ []) is counted are =
     let small = nibble_small m are.0 in
@@ -158,13 +158,13 @@ modes_written at row count i (m ∷ n ∷ rest) is counted are =
 pub record AreRead (row : Row) (count i : ℕ) (pairs : List ℕ) (modes : List Addressing) : Type 0 where
   pub are : AreModes row i modes
   pub counted : i + length modes ≡ count
-  pub same : packed (map nibble_of modes) ≡ pairs
+  pub same : packed_nibbles (map nibble_of modes) ≡ pairs
 
 of_pair : (b low high : ℕ) → low ≡ b % 16 → high ≡ b / 16 → low + 16 * high ≡ b
 of_pair b low high l h = omega arith
 
 read_none : (row : Row) (count i : ℕ) (modes : List Addressing) → i ≡ count → [] ≡ modes → AreRead row count i [] modes
-unfolding packed
+unfolding packed_nibbles
 read_none row count i modes past none =
     subst (AreRead row count i []) none (record { are = tt; counted = omega arith; same = refl })
 
@@ -172,7 +172,7 @@ read_none row count i modes past none =
 read_one : (row : Row) (count i b : ℕ) (m : Addressing) (modes : List Addressing) → i + 1 ≡ count
     → HasWidth m × (nibble_of m ≡ b % 16) × (fits_kind (kind_of row i) m ≡ true) → (b / 16 == 0) ≡ true → m ∷ [] ≡ modes
     → AreRead row count i (b ∷ []) modes
-unfolding packed
+unfolding packed_nibbles
 read_one row count i b m modes last is spare same =
     let none : b / 16 ≡ 0 = same_number (b / 16) 0 spare in
     let whole : nibble_of m ≡ b = omega (arith, is.1, none) in
@@ -188,7 +188,7 @@ read_two : (row : Row) (count i b : ℕ) (rest : List ℕ) (m n : Addressing) (o
     → HasWidth n × (nibble_of n ≡ b / 16) × (fits_kind (kind_of row (i + 1)) n ≡ true)
     → AreRead row count (i + 1 + 1) rest others → m ∷ n ∷ others ≡ modes
     → AreRead row count i (b ∷ rest) modes
-unfolding packed
+unfolding packed_nibbles
 read_two row count i b rest m n others modes low high read same =
     let whole = of_pair b (nibble_of m) (nibble_of n) low.1 high.1 in
     subst (AreRead row count i (b ∷ rest)) same (record {
@@ -203,7 +203,7 @@ unfolding modes_from
 modes_past at row i n modes past h =
     let beyond : nat_lt i (operand_count row) ≡ false = grind (arith, nat_tests) in
     let h1 = rw beyond at h in
-    let spare = bind_ok (allowed (n == 0) (of_code.BadMode at)) _ modes h1 in
+    let spare = bind_ok (required (n == 0) (of_code.BadMode at)) _ modes h1 in
     let none : [] ≡ modes = cc in
     (allowed_ok _ _ _ spare.1, none)
 
@@ -260,8 +260,8 @@ modes_read at row count i (b ∷ c ∷ rest) modes is within long h =
 
 -- ---- how long they are
 
-pub length-packed : (ns : List ℕ) → length (packed ns) ≡ (length ns + 1) / 2
-unfolding packed
+pub length-packed : (ns : List ℕ) → length (packed_nibbles ns) ≡ (length ns + 1) / 2
+unfolding packed_nibbles
 length-packed [] = refl
 length-packed (n ∷ []) = refl
 length-packed (n ∷ m ∷ rest) = omega (arith, length-packed rest)

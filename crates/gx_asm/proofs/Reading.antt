@@ -22,8 +22,9 @@ use Rattle.gx_rows.specs.Table.{row_at}
 use Rattle.gx_asm.specs.declared.faults.LineFault.{LineFault}
 use Rattle.gx_asm.specs.declared.faults.LineFault.TheVariants.{BadName, Count, BadOperand}
 use Rattle.gx_asm.specs.Names.{name_at, place_named}
-use Rattle.gx_asm.specs.Instructions.{Written, IsWritten, AreModes, operand_count, data_len, all_data_len, fits_kind, blank, line_feed, constant_sign, memory_sign, local_sign, ram_sign, digit, digits, word_of, words_of, line_of}
-use Rattle.gx_asm.specs.Texts.{allowed, digit_value, bytes_in, mode_with, data_in, operand_in, operands_in, place_in, instruction_of, instruction_in, is_blank}
+use Rattle.gx_asm.specs.Instructions.{WrittenInstruction, IsWritten, AreModes, operand_count, data_len, all_data_len, fits_kind, blank, constant_sign, memory_sign, local_sign, ram_sign, digit, digits, operand_word, words_of, instruction_line}
+use Rattle.gx_words.specs.Constants.{line_feed}
+use Rattle.gx_asm.specs.Texts.{required, digit_value, bytes_spelled, mode_with, data_in, operand_in, operands_in, place_in, instruction_in_words, instruction_in, is_blank}
 use Rattle.gx_asm.proofs.NameLaws.{name_found, named_there, name_lacks_blank, name_lacks_line_feed}
 use Rattle.gx_asm.proofs.Words.{lacks, all_lack, behind, lacks-append, split_parts, split_some, parts_join}
 
@@ -106,23 +107,23 @@ pair_written high low h l rest bytes a b more =
       All-cons (λ b. b < 256) (16 * h + l) bytes (omega (arith, first.1, second.1)) more.1,
     )
 
-pub bytes_written : (ds bytes : List ℕ) → bytes_in ds ≡ Ok bytes → (digits bytes ≡ ds) × All (λ b. b < 256) bytes
-unfolding bytes_in
+pub bytes_written : (ds bytes : List ℕ) → bytes_spelled ds ≡ Ok bytes → (digits bytes ≡ ds) × All (λ b. b < 256) bytes
+unfolding bytes_spelled
 bytes_written [] bytes is =
     let e : [] ≡ bytes = cc in
     subst (λ (bs : List ℕ). (digits bs ≡ []) × All (λ b. b < 256) bs) e (refl, All-nil (λ b. b < 256))
 bytes_written (d ∷ []) bytes is = absurd cc
 bytes_written (high ∷ low ∷ rest) bytes is =
-    let p = unpaired (digit_value high) (digit_value low) (bytes_in rest) bytes is in
+    let p = unpaired (digit_value high) (digit_value low) (bytes_spelled rest) bytes is in
     subst (λ (bs : List ℕ). (digits bs ≡ high ∷ low ∷ rest) × All (λ b. b < 256) bs) p.all_is
     (pair_written high low p.high p.low rest p.more p.high_is p.low_is (bytes_written rest p.more p.more_is))
 
-bytes_read : (bytes : List ℕ) → All (λ b. b < 256) bytes → bytes_in (digits bytes) ≡ Ok bytes
-unfolding bytes_in
+bytes_read : (bytes : List ℕ) → All (λ b. b < 256) bytes → bytes_spelled (digits bytes) ≡ Ok bytes
+unfolding bytes_spelled
 bytes_read [] small = refl
 bytes_read (b ∷ bytes) small =
     let less : b < 256 = All-head (λ b. b < 256) b bytes small in
-    pair_read (digit_value (digit (b / 16))) (digit_value (digit (b % 16))) (bytes_in (digits bytes)) (b / 16) (b % 16) bytes
+    pair_read (digit_value (digit (b / 16))) (digit_value (digit (b % 16))) (bytes_spelled (digits bytes)) (b / 16) (b % 16) bytes
     (digit_read (b / 16) (omega arith)) (digit_read (b % 16) (omega arith)) (bytes_read bytes (All-tail (λ b. b < 256) b bytes small))
     ∙ ap (λ (x : ℕ). Ok (x ∷ bytes)) (omega arith)
 
@@ -150,7 +151,7 @@ at_width f m one two four n width =
 
 -- the mode of a sign, and what a word says with it
 IsSigned : ℕ → ℕ → Addressing → Type 0
-IsSigned sign n mode = HasWidth mode × (data_len mode ≡ n) × ((bytes : List ℕ) → word_of mode bytes ≡ sign ∷ digits bytes)
+IsSigned sign n mode = HasWidth mode × (data_len mode ≡ n) × ((bytes : List ℕ) → operand_word mode bytes ≡ sign ∷ digits bytes)
 
 signed_by : (w c m l r : Bool) (sign n : ℕ) (mode : Addressing)
     → (n == 1 || n == 2 || n == 4) ≡ w → (sign == constant_sign) ≡ c → (sign == memory_sign) ≡ m → (sign == local_sign) ≡ l → (sign == ram_sign) ≡ r
@@ -185,7 +186,7 @@ same_pair {A} {B} {E} a c b d is =
     (ap (λ (p : A × B). p.0) e, ap (λ (p : A × B). p.1) e)
 
 abbrev pub with_fit : Bool → Addressing → List ℕ → Result (Addressing × List ℕ) LineFault
-with_fit fits m bs = allowed fits BadOperand >>= λ _. Ok (m, bs)
+with_fit fits m bs = required fits BadOperand >>= λ _. Ok (m, bs)
 
 granted : (b : Bool) (mode m : Addressing) (bs bytes : List ℕ) → with_fit b m bs ≡ Ok (mode, bytes) → (b ≡ true) × (m ≡ mode) × (bs ≡ bytes)
 granted true mode m bs bytes is =
@@ -214,11 +215,11 @@ has_data kind (Ok bs) rm bytes mode is =
 has_data kind (Err e) rm bytes mode is = absurd cc
 
 data_written : (kind : Kind) (word : List ℕ) (mode : Addressing) (bytes : List ℕ) → data_in kind word ≡ Ok (mode, bytes)
-    → IsOperand kind mode bytes × (word_of mode bytes ≡ word)
+    → IsOperand kind mode bytes × (operand_word mode bytes ≡ word)
 unfolding data_in IsSigned
 data_written kind [] mode bytes is = absurd cc
 data_written kind (sign ∷ rest) mode bytes is =
-    let h = has_data kind (bytes_in rest) (λ bs. mode_with sign (length bs)) bytes mode is in
+    let h = has_data kind (bytes_spelled rest) (λ bs. mode_with sign (length bs)) bytes mode is in
     let n = length bytes in
     let s : IsSigned sign (length bytes) mode = signed_by (n == 1 || n == 2 || n == 4) (sign == constant_sign) (sign == memory_sign) (sign == local_sign) (sign == ram_sign) sign n mode refl refl refl refl refl h.1 in
     let b = bytes_written rest bytes h.0 in
@@ -230,23 +231,23 @@ fits_no_data Store = (refl, refl)
 
 operand_by : (z s : Bool) (kind : Kind) (word : List ℕ) (mode : Addressing) (bytes : List ℕ) → bytes_eq word (codes "z") ≡ z → bytes_eq word (codes "sp") ≡ s
     → (if z then Ok (Zero, []) else if s then Ok (Top, []) else data_in kind word) ≡ Ok (mode, bytes)
-    → IsOperand kind mode bytes × (word_of mode bytes ≡ word)
+    → IsOperand kind mode bytes × (operand_word mode bytes ≡ word)
 operand_by true s kind word mode bytes a b is =
     let h = same_pair {E = LineFault} Zero mode [] bytes is in
     let same : word ≡ codes "z" = (bytes_eq-Decides word (codes "z")).0 a in
-    subst (λ (x : Addressing). IsOperand kind x bytes × (word_of x bytes ≡ word)) h.0
-    (subst (λ (x : List ℕ). IsOperand kind Zero x × (word_of Zero x ≡ word)) h.1
+    subst (λ (x : Addressing). IsOperand kind x bytes × (operand_word x bytes ≡ word)) h.0
+    (subst (λ (x : List ℕ). IsOperand kind Zero x × (operand_word Zero x ≡ word)) h.1
     (record { width = _; fits = (fits_no_data kind).0; len = refl; small = All-nil (λ b. b < 256) }, sym same))
 operand_by false true kind word mode bytes a b is =
     let h = same_pair {E = LineFault} Top mode [] bytes is in
     let same : word ≡ codes "sp" = (bytes_eq-Decides word (codes "sp")).0 b in
-    subst (λ (x : Addressing). IsOperand kind x bytes × (word_of x bytes ≡ word)) h.0
-    (subst (λ (x : List ℕ). IsOperand kind Top x × (word_of Top x ≡ word)) h.1
+    subst (λ (x : Addressing). IsOperand kind x bytes × (operand_word x bytes ≡ word)) h.0
+    (subst (λ (x : List ℕ). IsOperand kind Top x × (operand_word Top x ≡ word)) h.1
     (record { width = _; fits = (fits_no_data kind).1; len = refl; small = All-nil (λ b. b < 256) }, sym same))
 operand_by false false kind word mode bytes a b is = data_written kind word mode bytes is
 
 pub operand_written : (kind : Kind) (word : List ℕ) (mode : Addressing) (bytes : List ℕ) → operand_in kind word ≡ Ok (mode, bytes)
-    → IsOperand kind mode bytes × (word_of mode bytes ≡ word)
+    → IsOperand kind mode bytes × (operand_word mode bytes ≡ word)
 unfolding operand_in
 operand_written kind word mode bytes is = operand_by (bytes_eq word (codes "z")) (bytes_eq word (codes "sp")) kind word mode bytes refl refl is
 
@@ -260,14 +261,14 @@ data_read : (kind : Kind) (sign : ℕ) (m : ℕ → Addressing) (n : ℕ) (bytes
     → data_in kind (sign ∷ digits bytes) ≡ Ok (m n, bytes)
 unfolding data_in
 data_read kind sign m n bytes one two four width len fits small =
-    data_made kind (bytes_in (digits bytes)) (λ bs. mode_with sign (length bs)) bytes (m n) (bytes_read bytes small)
+    data_made kind (bytes_spelled (digits bytes)) (λ bs. mode_with sign (length bs)) bytes (m n) (bytes_read bytes small)
     (ap (mode_with sign) len ∙ at_width (mode_with sign) m one two four n width) fits
 
 none_left : (bytes : List ℕ) → length bytes ≡ 0 → [] ≡ bytes
 none_left [] len = refl
 none_left (b ∷ bytes) len = absurd cc
 
-pub operand_read : (kind : Kind) (mode : Addressing) (bytes : List ℕ) → IsOperand kind mode bytes → operand_in kind (word_of mode bytes) ≡ Ok (mode, bytes)
+pub operand_read : (kind : Kind) (mode : Addressing) (bytes : List ℕ) → IsOperand kind mode bytes → operand_in kind (operand_word mode bytes) ≡ Ok (mode, bytes)
 unfolding operand_in
 operand_read kind Zero bytes o = ap (λ (bs : List ℕ). Ok (Zero, bs)) (none_left bytes o.len)
 operand_read kind (Constant n) bytes o = data_read kind constant_sign Constant n bytes refl refl refl o.width o.len o.fits o.small
@@ -286,7 +287,7 @@ pub record AreOperands (row : Row) (i : ℕ) (modes : List Addressing) (bytes : 
 
 abbrev pub words_in : List Addressing → List ℕ → List (List ℕ)
 words_in [] bytes = []
-words_in (mode ∷ rest) bytes = word_of mode (take (data_len mode) bytes) ∷ words_in rest (drop (data_len mode) bytes)
+words_in (mode ∷ rest) bytes = operand_word mode (take (data_len mode) bytes) ∷ words_in rest (drop (data_len mode) bytes)
 
 pub length-words_in : (modes : List Addressing) (bytes : List ℕ) → length (words_in modes bytes) ≡ length modes
 length-words_in [] bytes = refl
@@ -296,7 +297,7 @@ behind_blanks : (modes : List Addressing) (bytes : List ℕ) → words_of modes 
 unfolding words_of
 behind_blanks [] bytes = refl
 behind_blanks (mode ∷ rest) bytes =
-    ap (λ (more : List ℕ). blank ∷ (word_of mode (take (data_len mode) bytes) ++ more)) (behind_blanks rest (drop (data_len mode) bytes))
+    ap (λ (more : List ℕ). blank ∷ (operand_word mode (take (data_len mode) bytes) ++ more)) (behind_blanks rest (drop (data_len mode) bytes))
 
 abbrev pub then_rest : Result (Addressing × List ℕ) LineFault → Result (List Addressing × List ℕ) LineFault → Result (List Addressing × List ℕ) LineFault
 then_rest first rest = first >>= λ operand. rest >>= λ more. Ok (operand.0 ∷ more.0, operand.1 ++ more.1)
@@ -320,7 +321,7 @@ parted (Ok o) (Err e) modes bytes is = absurd cc
 parted (Err e) rest modes bytes is = absurd cc
 
 operands_join : (row : Row) (i : ℕ) (mode : Addressing) (here : List ℕ) (others : List Addressing) (there word : List ℕ) (words : List (List ℕ))
-    → IsOperand (kind_of row i) mode here × (word_of mode here ≡ word) → AreOperands row (i + 1) others there × (words_in others there ≡ words)
+    → IsOperand (kind_of row i) mode here × (operand_word mode here ≡ word) → AreOperands row (i + 1) others there × (words_in others there ≡ words)
     → AreOperands row i (mode ∷ others) (here ++ there) × (words_in (mode ∷ others) (here ++ there) ≡ word ∷ words)
 unfolding all_data_len
 operands_join row i mode here others there word words first rest =
@@ -331,8 +332,8 @@ operands_join row i mode here others there word words first rest =
         len = omega (arith, length-append here there, first.0.len, rest.0.len);
         small = All-append (λ b. b < 256) here there first.0.small rest.0.small;
       },
-      ap (λ (bs : List ℕ). word_of mode bs ∷ words_in others (drop (data_len mode) (here ++ there))) front
-          ∙ ap (λ (bs : List ℕ). word_of mode here ∷ words_in others bs) back
+      ap (λ (bs : List ℕ). operand_word mode bs ∷ words_in others (drop (data_len mode) (here ++ there))) front
+          ∙ ap (λ (bs : List ℕ). operand_word mode here ∷ words_in others bs) back
           ∙ ap (λ (x : List ℕ). x ∷ words_in others there) first.1
           ∙ ap (λ (xs : List (List ℕ)). word ∷ xs) rest.1,
     )
@@ -365,7 +366,7 @@ operands_read row i (mode ∷ others) bytes o =
     record { width = o.each.0; fits = o.each.1; len = length-take n bytes ∙ omega (arith, o.len); small = All-take (λ b. b < 256) n bytes o.small } in
     let rest : AreOperands row (i + 1) others (drop n bytes) =
     record { each = o.each.2; len = length-drop n bytes ∙ omega (arith, o.len); small = All-drop (λ b. b < 256) n bytes o.small } in
-    rest_made (operand_in (kind_of row i) (word_of mode (take n bytes))) (operands_in row (i + 1) (words_in others (drop n bytes))) mode (take n bytes) others (drop n bytes)
+    rest_made (operand_in (kind_of row i) (operand_word mode (take n bytes))) (operands_in row (i + 1) (words_in others (drop n bytes))) mode (take n bytes) others (drop n bytes)
     (operand_read (kind_of row i) mode (take n bytes) first) (operands_read row (i + 1) others (drop n bytes) rest)
     ∙ ap (λ (bs : List ℕ). Ok (mode ∷ others, bs)) (take-append-drop n bytes)
 
@@ -391,7 +392,7 @@ digits_lack mark (b ∷ bytes) low =
 signed_lack : (mark sign : ℕ) (bytes : List ℕ) → mark < 0x21 → 0x21 ≤ sign → lacks mark (sign ∷ digits bytes) ≡ true
 signed_lack mark sign bytes low high = let first = above mark sign low high in rw first (digits_lack mark bytes low)
 
-word_lacks : (mark : ℕ) (mode : Addressing) (bytes : List ℕ) → mark < 0x21 → lacks mark (word_of mode bytes) ≡ true
+word_lacks : (mark : ℕ) (mode : Addressing) (bytes : List ℕ) → mark < 0x21 → lacks mark (operand_word mode bytes) ≡ true
 word_lacks mark Zero bytes low = let z = above mark 0x7A low (omega arith) in rw z refl
 word_lacks mark (Constant n) bytes low = signed_lack mark constant_sign bytes low (omega arith)
 word_lacks mark (Memory n) bytes low = signed_lack mark memory_sign bytes low (omega arith)
@@ -416,39 +417,39 @@ behind_lacks (part ∷ parts) h =
 -- ---- a line
 
 -- an instruction's line without its end
-abbrev pub body_of : Written → List ℕ
+abbrev pub body_of : WrittenInstruction → List ℕ
 body_of w = name_at w.place ++ words_of w.modes w.operand_data
 
-pub body_lacks : (w : Written) → lacks line_feed (body_of w) ≡ true
+pub body_lacks : (w : WrittenInstruction) → lacks line_feed (body_of w) ≡ true
 body_lacks w =
     lacks-append line_feed (name_at w.place) (words_of w.modes w.operand_data) (name_lacks_line_feed w.place)
     (ap (lacks line_feed) (behind_blanks w.modes w.operand_data) ∙ behind_lacks (words_in w.modes w.operand_data) (words_lack line_feed w.modes w.operand_data (omega arith)))
 
-pub line_of_body : (w : Written) → line_of w ≡ body_of w ++ line_feed ∷ []
-unfolding line_of
+pub line_of_body : (w : WrittenInstruction) → instruction_line w ≡ body_of w ++ line_feed ∷ []
+unfolding instruction_line
 line_of_body w = refl
 
 abbrev placed : Option ℕ → (ℕ → Bool) → Result ℕ LineFault
-placed place test = ok_or place BadName >>= λ p. allowed (test p) Count >>= λ _. Ok p
+placed place test = ok_or place BadName >>= λ p. required (test p) Count >>= λ _. Ok p
 
-abbrev by_place : Result ℕ LineFault → (ℕ → Result (List Addressing × List ℕ) LineFault) → Result Written LineFault
+abbrev by_place : Result ℕ LineFault → (ℕ → Result (List Addressing × List ℕ) LineFault) → Result WrittenInstruction LineFault
 by_place place operands = place >>= λ p. operands p >>= λ o. Ok (record { place = p; modes = o.0; operand_data = o.1 })
 
-operands_by : (operands : Result (List Addressing × List ℕ) LineFault) (place : ℕ) (w : Written)
+operands_by : (operands : Result (List Addressing × List ℕ) LineFault) (place : ℕ) (w : WrittenInstruction)
     → (operands >>= λ o. Ok (record { place = place; modes = o.0; operand_data = o.1 })) ≡ Ok w → (place ≡ w.place) × (operands ≡ Ok (w.modes, w.operand_data))
 operands_by (Ok (modes, bytes)) place w is =
     let same : record { place = place; modes = modes; operand_data = bytes } ≡ w = cc in
-    (ap (λ (x : Written). x.place) same, ap (λ (x : Written). Ok (x.modes, x.operand_data)) same)
+    (ap (λ (x : WrittenInstruction). x.place) same, ap (λ (x : WrittenInstruction). Ok (x.modes, x.operand_data)) same)
 operands_by (Err e) place w is = absurd cc
 
-named_by : (place : Result ℕ LineFault) (operands : ℕ → Result (List Addressing × List ℕ) LineFault) (w : Written)
+named_by : (place : Result ℕ LineFault) (operands : ℕ → Result (List Addressing × List ℕ) LineFault) (w : WrittenInstruction)
     → by_place place operands ≡ Ok w → (place ≡ Ok w.place) × (operands w.place ≡ Ok (w.modes, w.operand_data))
 named_by (Ok place) operands w is =
     let h = operands_by (operands place) place w is in
     (ap (λ (x : ℕ). Ok x) h.0, ap operands (sym h.0) ∙ h.1)
 named_by (Err e) operands w is = absurd cc
 
-tested_by : (b : Bool) (test : ℕ → Bool) (p place : ℕ) → test p ≡ b → (allowed b Count >>= λ _. Ok p) ≡ Ok place → (p ≡ place) × (test place ≡ true)
+tested_by : (b : Bool) (test : ℕ → Bool) (p place : ℕ) → test p ≡ b → (required b Count >>= λ _. Ok p) ≡ Ok place → (p ≡ place) × (test place ≡ true)
 tested_by true test p place t is =
     let same : p ≡ place = cc in
     (same, ap test (sym same) ∙ t)
@@ -463,9 +464,9 @@ placed_by None test place is = absurd cc
 pub name_counted : (name : List ℕ) (count place : ℕ) → place_in name count ≡ Ok place → count ≡ operand_count (row_at place)
 name_counted name count place is = eqb-true _ _ (placed_by (place_named name) (λ p. count == operand_count (row_at p)) place is).1
 
-pub named_written : (name : List ℕ) (words : List (List ℕ)) (w : Written) → instruction_of (name ∷ words) ≡ Ok w
+pub named_written : (name : List ℕ) (words : List (List ℕ)) (w : WrittenInstruction) → instruction_in_words (name ∷ words) ≡ Ok w
     → IsWritten w × (name ++ behind blank words ≡ body_of w)
-unfolding instruction_of
+unfolding instruction_in_words
 named_written name words w is =
     let h = named_by (place_in name (length words)) (λ place. operands_in (row_at place) 0 words) w is in
     let p = placed_by (place_named name) (λ place. length words == operand_count (row_at place)) w.place h.0 in
@@ -479,30 +480,30 @@ named_written name words w is =
     )
 
 -- what a line says is an instruction that is there, and the line is its line
-pub line_written : (line : List ℕ) (w : Written) → instruction_in line ≡ Ok w → IsWritten w × (line ≡ body_of w)
+pub line_written : (line : List ℕ) (w : WrittenInstruction) → instruction_in line ≡ Ok w → IsWritten w × (line ≡ body_of w)
 unfolding instruction_in
 line_written line w is =
     let some = split_some blank line in
-    let h = named_written some.0 some.1 w (sym (ap instruction_of some.2) ∙ is) in
+    let h = named_written some.0 some.1 w (sym (ap instruction_in_words some.2) ∙ is) in
     (h.0, parts_join blank line some.0 some.1 some.2 ∙ h.1)
 
 place_made : (found : Option ℕ) (test : ℕ → Bool) (place : ℕ) → found ≡ Some place → test place ≡ true → placed found test ≡ Ok place
 place_made found test place a b = rw (a, b) refl
 
-name_made : (place : Result ℕ LineFault) (operands : ℕ → Result (List Addressing × List ℕ) LineFault) (w : Written)
+name_made : (place : Result ℕ LineFault) (operands : ℕ → Result (List Addressing × List ℕ) LineFault) (w : WrittenInstruction)
     → place ≡ Ok w.place → operands w.place ≡ Ok (w.modes, w.operand_data) → by_place place operands ≡ Ok w
 name_made place operands w a b = rw (a, b) refl
 
 -- and the line of an instruction says it
-pub line_read : (w : Written) → IsWritten w → instruction_in (body_of w) ≡ Ok w
-unfolding instruction_in instruction_of
+pub line_read : (w : WrittenInstruction) → IsWritten w → instruction_in (body_of w) ≡ Ok w
+unfolding instruction_in instruction_in_words
 line_read w is =
     let words = words_in w.modes w.operand_data in
     let body : body_of w ≡ name_at w.place ++ behind blank words = ap (λ (x : List ℕ). name_at w.place ++ x) (behind_blanks w.modes w.operand_data) in
     let split : slice_split is_blank (body_of w) ≡ name_at w.place ∷ words =
     ap (slice_split is_blank) body ∙ split_parts blank (name_at w.place) words (name_lacks_blank w.place) (words_lack blank w.modes w.operand_data (omega arith)) in
     let count : length words ≡ operand_count (row_at w.place) = length-words_in w.modes w.operand_data ∙ is.count in
-    ap instruction_of split
+    ap instruction_in_words split
     ∙ name_made (place_in (name_at w.place) (length words)) (λ place. operands_in (row_at place) 0 words) w
     (place_made (place_named (name_at w.place)) (λ place. length words == operand_count (row_at place)) w.place (name_found w.place is.place) (eq-eqb _ _ count))
     (operands_read (row_at w.place) 0 w.modes w.operand_data (record { each = is.modes; len = is.operand_data; small = is.bytes }))

@@ -19,9 +19,9 @@ use Rattle.gx_asm.specs.declared.faults.LineFault.{LineFault}
 use Rattle.gx_asm.specs.declared.faults.LineFault.TheVariants.{BadName, Count, BadOperand}
 use Rattle.gx_asm.specs.Names.{names, name_at, first_named, place_named}
 use Rattle.gx_asm.specs.declared.instruction.Instruction.{Instruction}
-use Rattle.gx_asm.specs.Instructions.{Written, IsWritten, operand_count, fits_kind}
-use Rattle.gx_asm.specs.Texts.{allowed, digit_value, bytes_in, mode_with, data_in, operand_in, operands_in, place_in, instruction_of, instruction_in, is_blank}
-use Rattle.gx_asm.specs.Views.{written}
+use Rattle.gx_asm.specs.Instructions.{WrittenInstruction, IsWritten, operand_count, fits_kind}
+use Rattle.gx_asm.specs.Texts.{required, digit_value, bytes_spelled, mode_with, data_in, operand_in, operands_in, place_in, instruction_in_words, instruction_in, is_blank}
+use Rattle.gx_asm.specs.Views.{seen_instruction}
 use Rattle.gx_asm.proofs.NameLaws.{names_counted}
 use Rattle.gx_asm.proofs.Reading.{line_written, paired, with_mode, with_bytes, with_fit, then_rest, bytes_written, data_made, length-digits}
 
@@ -37,70 +37,70 @@ behind_pair done rh rl (Ok more) h l a b = rw (a, b) (ap (λ (bs : List ℕ). Ok
 behind_pair done rh rl (Err e) h l a b = rw (a, b) refl
 
 pair_is : (rest behind after : List ℕ) (high low : ℕ) → rest ≡ high ∷ behind → behind ≡ low ∷ after
-    → bytes_in rest ≡ paired (digit_value high) (digit_value low) (bytes_in after)
-unfolding bytes_in
-pair_is rest behind after high low first second = ap bytes_in (first ∙ ap (λ (xs : List ℕ). high ∷ xs) second)
+    → bytes_spelled rest ≡ paired (digit_value high) (digit_value low) (bytes_spelled after)
+unfolding bytes_spelled
+pair_is rest behind after high low first second = ap bytes_spelled (first ∙ ap (λ (xs : List ℕ). high ∷ xs) second)
 
 pub pair_turn : (rest behind after done : List ℕ) (high low h l : ℕ) (t : Result (List ℕ) LineFault) → rest ≡ high ∷ behind → behind ≡ low ∷ after
-    → digit_value high ≡ Ok h → digit_value low ≡ Ok l → behind_bytes done (bytes_in rest) ≡ t → behind_bytes (done ++ (16 * h + l) ∷ []) (bytes_in after) ≡ t
+    → digit_value high ≡ Ok h → digit_value low ≡ Ok l → behind_bytes done (bytes_spelled rest) ≡ t → behind_bytes (done ++ (16 * h + l) ∷ []) (bytes_spelled after) ≡ t
 pair_turn rest behind after done high low h l t first second a b so_far =
-    behind_pair done (digit_value high) (digit_value low) (bytes_in after) h l a b ∙ ap (behind_bytes done) (sym (pair_is rest behind after high low first second)) ∙ so_far
+    behind_pair done (digit_value high) (digit_value low) (bytes_spelled after) h l a b ∙ ap (behind_bytes done) (sym (pair_is rest behind after high low first second)) ∙ so_far
 
 pub high_fault : (rest behind after done : List ℕ) (high low : ℕ) (e : LineFault) (t : Result (List ℕ) LineFault) → rest ≡ high ∷ behind → behind ≡ low ∷ after
-    → digit_value high ≡ Err e → behind_bytes done (bytes_in rest) ≡ t → t ≡ Err e
+    → digit_value high ≡ Err e → behind_bytes done (bytes_spelled rest) ≡ t → t ≡ Err e
 high_fault rest behind after done high low e t first second a so_far =
     sym so_far ∙ ap (behind_bytes done) (pair_is rest behind after high low first second)
-    ∙ ap (λ (r : Result ℕ LineFault). behind_bytes done (paired r (digit_value low) (bytes_in after))) a
+    ∙ ap (λ (r : Result ℕ LineFault). behind_bytes done (paired r (digit_value low) (bytes_spelled after))) a
 
 pub low_fault : (rest behind after done : List ℕ) (high low h : ℕ) (e : LineFault) (t : Result (List ℕ) LineFault) → rest ≡ high ∷ behind → behind ≡ low ∷ after
-    → digit_value high ≡ Ok h → digit_value low ≡ Err e → behind_bytes done (bytes_in rest) ≡ t → t ≡ Err e
+    → digit_value high ≡ Ok h → digit_value low ≡ Err e → behind_bytes done (bytes_spelled rest) ≡ t → t ≡ Err e
 low_fault rest behind after done high low h e t first second a b so_far =
     sym so_far ∙ ap (behind_bytes done) (pair_is rest behind after high low first second)
-    ∙ ap (λ (r : Result ℕ LineFault). behind_bytes done (paired r (digit_value low) (bytes_in after))) a
-    ∙ ap (λ (r : Result ℕ LineFault). behind_bytes done (paired (Ok h) r (bytes_in after))) b
+    ∙ ap (λ (r : Result ℕ LineFault). behind_bytes done (paired r (digit_value low) (bytes_spelled after))) a
+    ∙ ap (λ (r : Result ℕ LineFault). behind_bytes done (paired (Ok h) r (bytes_spelled after))) b
 
 nothing : (xs : List ℕ) → length xs ≡ 0 → xs ≡ []
 nothing [] none = refl
 nothing (x ∷ xs) none = absurd cc
 
 pub half_fault : (rest behind done : List ℕ) (high : ℕ) (t : Result (List ℕ) LineFault) → rest ≡ high ∷ behind → length behind ≡ 0
-    → behind_bytes done (bytes_in rest) ≡ t → t ≡ Err BadOperand
-unfolding bytes_in
+    → behind_bytes done (bytes_spelled rest) ≡ t → t ≡ Err BadOperand
+unfolding bytes_spelled
 half_fault rest behind done high t first none so_far =
-    sym so_far ∙ ap (λ (xs : List ℕ). behind_bytes done (bytes_in xs)) (first ∙ ap (λ (xs : List ℕ). high ∷ xs) (nothing behind none))
+    sym so_far ∙ ap (λ (xs : List ℕ). behind_bytes done (bytes_spelled xs)) (first ∙ ap (λ (xs : List ℕ). high ∷ xs) (nothing behind none))
 
-pub digits_end : (rest done : List ℕ) (t : Result (List ℕ) LineFault) → length rest ≡ 0 → behind_bytes done (bytes_in rest) ≡ t → t ≡ Ok done
-unfolding bytes_in
+pub digits_end : (rest done : List ℕ) (t : Result (List ℕ) LineFault) → length rest ≡ 0 → behind_bytes done (bytes_spelled rest) ≡ t → t ≡ Ok done
+unfolding bytes_spelled
 digits_end rest done t none so_far =
-    sym so_far ∙ ap (λ (xs : List ℕ). behind_bytes done (bytes_in xs)) (nothing rest none) ∙ ap (λ (bs : List ℕ). Ok bs) (append-nil done)
+    sym so_far ∙ ap (λ (xs : List ℕ). behind_bytes done (bytes_spelled xs)) (nothing rest none) ∙ ap (λ (bs : List ℕ). Ok bs) (append-nil done)
 
 behind_none : (r : Result (List ℕ) LineFault) → behind_bytes [] r ≡ r
 behind_none (Ok bs) = refl
 behind_none (Err e) = refl
 
-pub digits_begin : (digits : List ℕ) → behind_bytes [] (bytes_in digits) ≡ bytes_in digits
-digits_begin digits = behind_none (bytes_in digits)
+pub digits_begin : (digits : List ℕ) → behind_bytes [] (bytes_spelled digits) ≡ bytes_spelled digits
+digits_begin digits = behind_none (bytes_spelled digits)
 
 -- ---- a sign and digits
 
-pub bytes_fault : (kind : Kind) (sign : ℕ) (digits : List ℕ) (e : LineFault) → bytes_in digits ≡ Err e → data_in kind (sign ∷ digits) ≡ Err e
+pub bytes_fault : (kind : Kind) (sign : ℕ) (digits : List ℕ) (e : LineFault) → bytes_spelled digits ≡ Err e → data_in kind (sign ∷ digits) ≡ Err e
 unfolding data_in
 bytes_fault kind sign digits e is = ap (λ (r : Result (List ℕ) LineFault). with_bytes kind r (λ bs. mode_with sign (length bs))) is
 
-pub mode_fault : (kind : Kind) (sign n : ℕ) (digits bytes : List ℕ) (e : LineFault) → bytes_in digits ≡ Ok bytes → n ≡ length bytes → mode_with sign n ≡ Err e
+pub mode_fault : (kind : Kind) (sign n : ℕ) (digits bytes : List ℕ) (e : LineFault) → bytes_spelled digits ≡ Ok bytes → n ≡ length bytes → mode_with sign n ≡ Err e
     → data_in kind (sign ∷ digits) ≡ Err e
 unfolding data_in
 mode_fault kind sign n digits bytes e is len fault =
     ap (λ (r : Result (List ℕ) LineFault). with_bytes kind r (λ bs. mode_with sign (length bs))) is
     ∙ ap (λ (r : Result Addressing LineFault). with_mode kind r bytes) (ap (mode_with sign) (sym len) ∙ fault)
 
-pub data_done : (kind : Kind) (sign n : ℕ) (digits bytes : List ℕ) (mode : Addressing) → bytes_in digits ≡ Ok bytes → n ≡ length bytes → mode_with sign n ≡ Ok mode
+pub data_done : (kind : Kind) (sign n : ℕ) (digits bytes : List ℕ) (mode : Addressing) → bytes_spelled digits ≡ Ok bytes → n ≡ length bytes → mode_with sign n ≡ Ok mode
     → fits_kind kind mode ≡ true → data_in kind (sign ∷ digits) ≡ Ok (mode, bytes)
 unfolding data_in
 data_done kind sign n digits bytes mode is len moded fits =
-    data_made kind (bytes_in digits) (λ bs. mode_with sign (length bs)) bytes mode is (ap (mode_with sign) (sym len) ∙ moded) fits
+    data_made kind (bytes_spelled digits) (λ bs. mode_with sign (length bs)) bytes mode is (ap (mode_with sign) (sym len) ∙ moded) fits
 
-pub data_unfit : (kind : Kind) (sign n : ℕ) (digits bytes : List ℕ) (mode : Addressing) → bytes_in digits ≡ Ok bytes → n ≡ length bytes → mode_with sign n ≡ Ok mode
+pub data_unfit : (kind : Kind) (sign n : ℕ) (digits bytes : List ℕ) (mode : Addressing) → bytes_spelled digits ≡ Ok bytes → n ≡ length bytes → mode_with sign n ≡ Ok mode
     → fits_kind kind mode ≡ false → data_in kind (sign ∷ digits) ≡ Err BadOperand
 unfolding data_in
 data_unfit kind sign n digits bytes mode is len moded unfit =
@@ -126,12 +126,12 @@ paired_fault (Ok h) (Ok l) (Err x) e f g k is = let same : x ≡ e = cc in sym s
 paired_fault (Ok h) (Err x) rest e f g k is = let same : x ≡ e = cc in sym same ∙ g x refl
 paired_fault (Err x) rl rest e f g k is = let same : x ≡ e = cc in sym same ∙ f x refl
 
-only_fault : (ds : List ℕ) (e : LineFault) → bytes_in ds ≡ Err e → e ≡ BadOperand
-unfolding bytes_in
+only_fault : (ds : List ℕ) (e : LineFault) → bytes_spelled ds ≡ Err e → e ≡ BadOperand
+unfolding bytes_spelled
 only_fault [] e is = absurd cc
 only_fault (d ∷ []) e is = cc
 only_fault (high ∷ low ∷ rest) e is =
-    paired_fault (digit_value high) (digit_value low) (bytes_in rest) e (digit_fault high) (digit_fault low) (only_fault rest) is
+    paired_fault (digit_value high) (digit_value low) (bytes_spelled rest) e (digit_fault high) (digit_fault low) (only_fault rest) is
 
 wide : (sign n : ℕ) → 4 < n → mode_with sign n ≡ Err BadOperand
 wide sign n more =
@@ -140,7 +140,7 @@ wide sign n more =
     let four : (n == 4) ≡ false = ne_eqb n 4 (λ e. omega (arith, e)) in
     rw (one, two, four) refl
 
-too_by : (kind : Kind) (sign : ℕ) (ds : List ℕ) (r : Result (List ℕ) LineFault) → 8 < length ds → bytes_in ds ≡ r
+too_by : (kind : Kind) (sign : ℕ) (ds : List ℕ) (r : Result (List ℕ) LineFault) → 8 < length ds → bytes_spelled ds ≡ r
     → with_bytes kind r (λ bs. mode_with sign (length bs)) ≡ Err BadOperand
 too_by kind sign ds (Ok bytes) more is =
     let len : 2 * length bytes ≡ length ds = sym (length-digits bytes) ∙ ap length (bytes_written ds bytes is).0 in
@@ -149,7 +149,7 @@ too_by kind sign ds (Err e) more is = ap (λ (x : LineFault). Err x) (only_fault
 
 pub too_many : (kind : Kind) (sign : ℕ) (ds : List ℕ) → 8 < length ds → data_in kind (sign ∷ ds) ≡ Err BadOperand
 unfolding data_in
-too_many kind sign ds more = too_by kind sign ds (bytes_in ds) more refl
+too_many kind sign ds more = too_by kind sign ds (bytes_spelled ds) more refl
 
 -- ---- an operand's word
 
@@ -239,14 +239,14 @@ operands_begin row words = behind_no_operands (operands_in row 0 words)
 
 -- ---- a line
 
-abbrev made : ℕ → Result (List Addressing × List ℕ) LineFault → Result Written LineFault
+abbrev made : ℕ → Result (List Addressing × List ℕ) LineFault → Result WrittenInstruction LineFault
 made place operands = operands >>= λ o. Ok (record { place = place; modes = o.0; operand_data = o.1 })
 
 line_by : (line name : List ℕ) (words : List (List ℕ)) (place : ℕ) (operands : Result (List Addressing × List ℕ) LineFault) → slice_split is_blank line ≡ name ∷ words
     → place_in name (length words) ≡ Ok place → operands_in (row_at place) 0 words ≡ operands → instruction_in line ≡ made place operands
-unfolding instruction_in instruction_of
+unfolding instruction_in instruction_in_words
 line_by line name words place operands split there is =
-    ap instruction_of split ∙ ap (λ (r : Result ℕ LineFault). r >>= λ p. made p (operands_in (row_at p) 0 words)) there ∙ ap (made place) is
+    ap instruction_in_words split ∙ ap (λ (r : Result ℕ LineFault). r >>= λ p. made p (operands_in (row_at p) 0 words)) there ∙ ap (made place) is
 
 pub line_done : (line name : List ℕ) (words : List (List ℕ)) (count place : ℕ) (modes : List Addressing) (bytes : List ℕ) → slice_split is_blank line ≡ name ∷ words → length words ≡ count
     → place_in name count ≡ Ok place → operands_in (row_at place) 0 words ≡ Ok (modes, bytes)
@@ -260,9 +260,9 @@ line_bad line name words count place e split len there is = line_by line name wo
 
 pub line_unnamed : (line name : List ℕ) (words : List (List ℕ)) (count : ℕ) (e : LineFault) → slice_split is_blank line ≡ name ∷ words → length words ≡ count
     → place_in name count ≡ Err e → instruction_in line ≡ Err e
-unfolding instruction_in instruction_of
+unfolding instruction_in instruction_in_words
 line_unnamed line name words count e split len fault =
-    ap instruction_of split ∙ ap (λ (r : Result ℕ LineFault). r >>= λ p. made p (operands_in (row_at p) 0 words)) (ap (place_in name) len ∙ fault)
+    ap instruction_in_words split ∙ ap (λ (r : Result ℕ LineFault). r >>= λ p. made p (operands_in (row_at p) 0 words)) (ap (place_in name) len ∙ fault)
 
 no_operands : (row : Row) → operands_in row 0 [] ≡ Ok ([], [])
 unfolding operands_in
@@ -276,14 +276,14 @@ line_alone line place modes bytes split there none empty =
 -- what the instruction says that was read at a name's place, and that it is there
 pub line_as : (r : Result Instruction LineFault) (line name : List ℕ) (words : List (List ℕ)) (count place : ℕ) → slice_split is_blank line ≡ name ∷ words → length words ≡ count
     → place_in name count ≡ Ok place → Is (λ i. (i.modes.items, i.operand_data.items)) r (operands_in (row_at place) 0 words) → IfOk r (λ i. i.place ≡ place)
-    → Is written r (instruction_in line)
+    → Is seen_instruction r (instruction_in line)
 line_as (Ok i) line name words count place split len there is same =
     line_done line name words count place i.modes.items i.operand_data.items split len there is
     ∙ ap (λ (p : ℕ). Ok (record { place = p; modes = i.modes.items; operand_data = i.operand_data.items })) (sym same)
 line_as (Err e) line name words count place split len there is same = line_bad line name words count place e split len there is
 
-pub line_there : (r : Result Instruction LineFault) (line : List ℕ) → Is written r (instruction_in line) → IfOk r (λ i. IsWritten (written i))
-line_there (Ok i) line is = (line_written line (written i) is).0
+pub line_there : (r : Result Instruction LineFault) (line : List ℕ) → Is seen_instruction r (instruction_in line) → IfOk r (λ i. IsWritten (seen_instruction i))
+line_there (Ok i) line is = (line_written line (seen_instruction i) is).0
 line_there (Err e) line is = _
 
 pub words_counted : (n : ℕ) (line : List ℕ) → n ≡ count_by is_blank line → length (slice_split is_blank line) ≡ n + 1
@@ -291,7 +291,7 @@ words_counted n line is = length-slice_split is_blank line ∙ ap (λ (k : ℕ).
 
 -- the name and the count
 counted_by : (b : Bool) (found : Option ℕ) (count place : ℕ) → found ≡ Some place → (count == operand_count (row_at place)) ≡ b
-    → (ok_or found BadName >>= λ p. allowed (count == operand_count (row_at p)) Count >>= λ _. Ok p) ≡ (allowed b Count >>= λ _. Ok place)
+    → (ok_or found BadName >>= λ p. required (count == operand_count (row_at p)) Count >>= λ _. Ok p) ≡ (required b Count >>= λ _. Ok place)
 counted_by b found count place is test = rw (is, test) refl
 
 pub place_is : (name : List ℕ) (count place : ℕ) → place_named name ≡ Some place → count ≡ operand_count (row_at place) → place_in name count ≡ Ok place
@@ -301,7 +301,7 @@ pub wrong_count : (name : List ℕ) (count place : ℕ) → place_named name ≡
 wrong_count name count place is other = counted_by false (place_named name) count place is (ne_eqb _ _ other)
 
 pub no_name : (name : List ℕ) (count : ℕ) → place_named name ≡ None → place_in name count ≡ Err BadName
-no_name name count none = ap (λ (o : Option ℕ). ok_or o BadName >>= λ p. allowed (count == operand_count (row_at p)) Count >>= λ _. Ok p) none
+no_name name count none = ap (λ (o : Option ℕ). ok_or o BadName >>= λ p. required (count == operand_count (row_at p)) Count >>= λ _. Ok p) none
 
 -- ---- parts between marks
 

@@ -9,35 +9,36 @@ use Rattle.gx_asm.specs.declared.faults.AsmFault.{AsmFault}
 use Rattle.gx_asm.specs.declared.faults.AsmFault.TheVariants as of_text
 use Rattle.gx_asm.specs.declared.faults.LineFault.{LineFault}
 use Rattle.gx_asm.specs.declared.faults.LineFault.TheVariants as of_line
-use Rattle.gx_asm.specs.Instructions.{Written, IsWritten, Spelled, bytes_of, line_of, line_feed}
-use Rattle.gx_asm.specs.Texts.{numbered, in_line, instruction_in, code_of, is_cut, assembled, is_line_feed}
+use Rattle.gx_asm.specs.Instructions.{WrittenInstruction, IsWritten, Spells, bytes_of, instruction_line}
+use Rattle.gx_words.specs.Constants.{line_feed}
+use Rattle.gx_asm.specs.Texts.{at_line, in_line, instruction_in, code_of, lacks_line_feed, assembled, is_line_feed}
 use Rattle.gx_asm.proofs.Words.{behind, split_first, split_some, split_ended, parts_join}
 use Rattle.gx_asm.proofs.Reading.{body_of, body_lacks, line_of_body, line_read, line_written}
 
 -- ---- lines and their code
 
-abbrev then_code : ℕ → Result Written LineFault → Result (List ℕ) AsmFault → Result (List ℕ) AsmFault
-then_code number first rest = numbered number first >>= λ w. rest >>= λ code. Ok (bytes_of w ++ code)
+abbrev then_code : ℕ → Result WrittenInstruction LineFault → Result (List ℕ) AsmFault → Result (List ℕ) AsmFault
+then_code number first rest = at_line number first >>= λ w. rest >>= λ code. Ok (bytes_of w ++ code)
 
 code_step : (number : ℕ) (line next : List ℕ) (rest : List (List ℕ))
     → code_of number (line ∷ next ∷ rest) ≡ then_code number (instruction_in line) (code_of (number + 1) (next ∷ rest))
 unfolding code_of
 code_step number line next rest = refl
 
-then_made : (number : ℕ) (first : Result Written LineFault) (rest : Result (List ℕ) AsmFault) (w : Written) (code : List ℕ)
+then_made : (number : ℕ) (first : Result WrittenInstruction LineFault) (rest : Result (List ℕ) AsmFault) (w : WrittenInstruction) (code : List ℕ)
     → first ≡ Ok w → rest ≡ Ok code → then_code number first rest ≡ Ok (bytes_of w ++ code)
 then_made number first rest w code a b = rw (a, b) refl
 
 -- the lines of instructions have their bytes
-code_read : (ws : List Written) (number : ℕ) → All IsWritten ws → code_of number (slice_split is_line_feed (flat_map line_of ws)) ≡ Ok (flat_map bytes_of ws)
+code_read : (ws : List WrittenInstruction) (number : ℕ) → All IsWritten ws → code_of number (slice_split is_line_feed (flat_map instruction_line ws)) ≡ Ok (flat_map bytes_of ws)
 unfolding code_of
 code_read [] number each = refl
 code_read (w ∷ ws) number each =
-    let more = flat_map line_of ws in
-    let lines : line_of w ++ more ≡ body_of w ++ line_feed ∷ more =
+    let more = flat_map instruction_line ws in
+    let lines : instruction_line w ++ more ≡ body_of w ++ line_feed ∷ more =
     ap (λ (l : List ℕ). l ++ more) (line_of_body w) ∙ append_assoc (body_of w) (line_feed ∷ []) more in
     let some = split_some line_feed more in
-    let split : slice_split is_line_feed (line_of w ++ more) ≡ body_of w ∷ some.0 ∷ some.1 =
+    let split : slice_split is_line_feed (instruction_line w ++ more) ≡ body_of w ∷ some.0 ∷ some.1 =
     ap (slice_split is_line_feed) lines ∙ split_first line_feed (body_of w) more (body_lacks w) ∙ ap (λ (ls : List (List ℕ)). body_of w ∷ ls) some.2 in
     ap (code_of number) split
     ∙ then_made number (instruction_in (body_of w)) (code_of (number + 1) (some.0 ∷ some.1)) w (flat_map bytes_of ws)
@@ -46,24 +47,24 @@ code_read (w ∷ ws) number each =
 
 -- instructions of which these are the lines without their ends, and the code
 record Said (lines : List (List ℕ)) (code : List ℕ) : Type 0 where
-  instructions : List Written
+  instructions : List WrittenInstruction
   each : All IsWritten instructions
   lines_are : map body_of instructions ≡ lines
   bytes_are : flat_map bytes_of instructions ≡ code
 
-record Told (first : Result Written LineFault) (rest : Result (List ℕ) AsmFault) (code : List ℕ) : Type 0 where
-  here : Written
+record Told (first : Result WrittenInstruction LineFault) (rest : Result (List ℕ) AsmFault) (code : List ℕ) : Type 0 where
+  here : WrittenInstruction
   there : List ℕ
   first_is : first ≡ Ok here
   rest_is : rest ≡ Ok there
   all_is : bytes_of here ++ there ≡ code
 
-told : (number : ℕ) (first : Result Written LineFault) (rest : Result (List ℕ) AsmFault) (code : List ℕ) → then_code number first rest ≡ Ok code → Told first rest code
+told : (number : ℕ) (first : Result WrittenInstruction LineFault) (rest : Result (List ℕ) AsmFault) (code : List ℕ) → then_code number first rest ≡ Ok code → Told first rest code
 told number (Ok w) (Ok more) code is = record { here = w; there = more; first_is = refl; rest_is = refl; all_is = cc }
 told number (Ok w) (Err e) code is = absurd cc
 told number (Err e) rest code is = absurd cc
 
-said_more : (line : List ℕ) (lines : List (List ℕ)) (w : Written) (there code : List ℕ) → instruction_in line ≡ Ok w → bytes_of w ++ there ≡ code → Said lines there → Said (line ∷ lines) code
+said_more : (line : List ℕ) (lines : List (List ℕ)) (w : WrittenInstruction) (there code : List ℕ) → instruction_in line ≡ Ok w → bytes_of w ++ there ≡ code → Said lines there → Said (line ∷ lines) code
 said_more line lines w there code is all rest =
     let h = line_written line w is in
     record {
@@ -83,16 +84,16 @@ code_written (line ∷ next ∷ rest) number code is =
     let t = told number (instruction_in line) (code_of (number + 1) (next ∷ (rest ++ [] ∷ []))) code is in
     said_more line (next ∷ rest) t.here t.there code t.first_is t.all_is (code_written (next ∷ rest) (number + 1) t.there t.rest_is)
 
-line_onto : (w : Written) (more : List ℕ) → line_of w ++ more ≡ body_of w ++ line_feed ∷ more
+line_onto : (w : WrittenInstruction) (more : List ℕ) → instruction_line w ++ more ≡ body_of w ++ line_feed ∷ more
 line_onto w more = ap (λ (l : List ℕ). l ++ more) (line_of_body w) ∙ append_assoc (body_of w) (line_feed ∷ []) more
 
 -- lines between line feeds, and one at the end
-ended_lines : (w : Written) (ws : List Written) → (body_of w ++ behind line_feed (map body_of ws)) ++ line_feed ∷ [] ≡ flat_map line_of (w ∷ ws)
+ended_lines : (w : WrittenInstruction) (ws : List WrittenInstruction) → (body_of w ++ behind line_feed (map body_of ws)) ++ line_feed ∷ [] ≡ flat_map instruction_line (w ∷ ws)
 ended_lines w [] = ap (λ (l : List ℕ). l ++ line_feed ∷ []) (append-nil (body_of w)) ∙ sym (line_onto w [])
 ended_lines w (v ∷ vs) =
     append_assoc (body_of w) (line_feed ∷ (body_of v ++ behind line_feed (map body_of vs))) (line_feed ∷ [])
     ∙ ap (λ (l : List ℕ). body_of w ++ line_feed ∷ l) (ended_lines v vs)
-    ∙ sym (line_onto w (flat_map line_of (v ∷ vs)))
+    ∙ sym (line_onto w (flat_map instruction_line (v ∷ vs)))
 
 -- ---- the end of a text
 
@@ -113,7 +114,7 @@ last_is x xs whole =
     let h = rw (some, e) at whole in
     eqb-true (get_or (x ∷ xs) (length xs) 0) line_feed (not-false (get_or (x ∷ xs) (length xs) 0 == line_feed) h)
 
-uncut_ended : (text : List ℕ) → is_cut text ≡ false → Ended text
+uncut_ended : (text : List ℕ) → lacks_line_feed text ≡ false → Ended text
 uncut_ended [] whole = inl refl
 uncut_ended (x ∷ xs) whole = inr (ends_on x xs (last_is x xs whole))
 
@@ -121,36 +122,36 @@ last_of : (front : List ℕ) → get_or (front ++ line_feed ∷ []) (length fron
 last_of [] = refl
 last_of (x ∷ front) = last_of front
 
-ended_uncut : (front : List ℕ) → is_cut (front ++ line_feed ∷ []) ≡ false
+ended_uncut : (front : List ℕ) → lacks_line_feed (front ++ line_feed ∷ []) ≡ false
 ended_uncut front =
     let len : length (front ++ line_feed ∷ []) - 1 ≡ length front = omega (arith, length-append front (line_feed ∷ [])) in
     let test : (slice_index (front ++ line_feed ∷ []) (length front) == line_feed) ≡ true = eq-eqb _ _ (last_of front) in
     rw (len, test) (grind arith)
 
-lines_ended : (ws : List Written) → Ended (flat_map line_of ws)
+lines_ended : (ws : List WrittenInstruction) → Ended (flat_map instruction_line ws)
 lines_ended [] = inl refl
 lines_ended (w ∷ ws) =
     elim (lines_ended ws) [
-      | inl none ↦ inr (body_of w, line_onto w (flat_map line_of ws) ∙ ap (λ (l : List ℕ). body_of w ++ line_feed ∷ l) none)
-      | inr h ↦ inr (line_of w ++ h.0, ap (λ (l : List ℕ). line_of w ++ l) h.1 ∙ sym (append_assoc (line_of w) h.0 (line_feed ∷ [])))
+      | inl none ↦ inr (body_of w, line_onto w (flat_map instruction_line ws) ∙ ap (λ (l : List ℕ). body_of w ++ line_feed ∷ l) none)
+      | inr h ↦ inr (instruction_line w ++ h.0, ap (λ (l : List ℕ). instruction_line w ++ l) h.1 ∙ sym (append_assoc (instruction_line w) h.0 (line_feed ∷ [])))
     ]
 
-lines_uncut : (text : List ℕ) → Ended text → is_cut text ≡ false
-lines_uncut text (inl none) = ap is_cut none
-lines_uncut text (inr h) = ap is_cut h.1 ∙ ended_uncut h.0
+lines_uncut : (text : List ℕ) → Ended text → lacks_line_feed text ≡ false
+lines_uncut text (inl none) = ap lacks_line_feed none
+lines_uncut text (inr h) = ap lacks_line_feed h.1 ∙ ended_uncut h.0
 
 -- ---- a text
 
-assembled_whole : (text : List ℕ) → is_cut text ≡ false → assembled text ≡ code_of 1 (slice_split is_line_feed text)
+assembled_whole : (text : List ℕ) → lacks_line_feed text ≡ false → assembled text ≡ code_of 1 (slice_split is_line_feed text)
 unfolding assembled
 assembled_whole text whole = rw whole refl
 
-uncut_by : (b : Bool) (text code : List ℕ) → is_cut text ≡ b → (if b then Err of_text.Cut else code_of 1 (slice_split is_line_feed text)) ≡ Ok code → is_cut text ≡ false
+uncut_by : (b : Bool) (text code : List ℕ) → lacks_line_feed text ≡ b → (if b then Err of_text.Cut else code_of 1 (slice_split is_line_feed text)) ≡ Ok code → lacks_line_feed text ≡ false
 uncut_by true text code cut is = absurd cc
 uncut_by false text code cut is = cut
 
 spelled_from : (first : List ℕ) (parts : List (List ℕ)) (text code : List ℕ) → text ≡ (first ++ behind line_feed parts) ++ line_feed ∷ [] → (said : Said (first ∷ parts) code)
-    → (ws : List Written) → said.instructions ≡ ws → Spelled text code
+    → (ws : List WrittenInstruction) → said.instructions ≡ ws → Spells text code
 spelled_from first parts text code is said [] none = absurd (let h = ap (map body_of) none in let e = said.lines_are in cc)
 spelled_from first parts text code is said (w ∷ ws) some =
     let lines : body_of w ∷ map body_of ws ≡ first ∷ parts = ap (map body_of) (sym some) ∙ said.lines_are in
@@ -166,7 +167,7 @@ spelled_from first parts text code is said (w ∷ ws) some =
       bytes = sym said.bytes_are ∙ ap (flat_map bytes_of) some;
     }
 
-spelled_ended : (text code : List ℕ) → Ended text → code_of 1 (slice_split is_line_feed text) ≡ Ok code → Spelled text code
+spelled_ended : (text code : List ℕ) → Ended text → code_of 1 (slice_split is_line_feed text) ≡ Ok code → Spells text code
 unfolding code_of
 spelled_ended text code (inl none) is =
     let h : Ok [] ≡ Ok code = sym (ap (λ (t : List ℕ). code_of 1 (slice_split is_line_feed t)) none) ∙ is in
@@ -179,15 +180,15 @@ spelled_ended text code (inr h) is =
     spelled_from some.0 some.1 text code (h.1 ∙ ap (λ (l : List ℕ). l ++ line_feed ∷ []) (parts_join line_feed h.0 some.0 some.1 some.2)) said said.instructions refl
 
 -- a text has a code exactly where it spells it
-pub assembled_spells : (text code : List ℕ) → (assembled text ≡ Ok code) → Spelled text code
+pub assembled_spells : (text code : List ℕ) → (assembled text ≡ Ok code) → Spells text code
 unfolding assembled
 assembled_spells text code is =
-    let whole = uncut_by (is_cut text) text code refl is in
+    let whole = uncut_by (lacks_line_feed text) text code refl is in
     spelled_ended text code (uncut_ended text whole) (sym (assembled_whole text whole) ∙ is)
 
-pub spelled_assembles : (text code : List ℕ) → Spelled text code → assembled text ≡ Ok code
+pub spelled_assembles : (text code : List ℕ) → Spells text code → assembled text ≡ Ok code
 spelled_assembles text code s =
-    let whole : is_cut text ≡ false = lines_uncut text (subst Ended (sym s.lines) (lines_ended s.instructions)) in
+    let whole : lacks_line_feed text ≡ false = lines_uncut text (subst Ended (sym s.lines) (lines_ended s.instructions)) in
     assembled_whole text whole ∙ ap (λ (t : List ℕ). code_of 1 (slice_split is_line_feed t)) s.lines
     ∙ code_read s.instructions 1 s.each ∙ ap (λ (bs : List ℕ). Ok bs) (sym s.bytes)
 
@@ -202,20 +203,20 @@ behind_nothing (Ok more) = refl
 behind_nothing (Err e) = refl
 
 -- before the first line
-pub none_done : (text : List ℕ) → is_cut text ≡ false → behind_code [] (code_of 1 (slice_split is_line_feed text)) ≡ assembled text
+pub none_done : (text : List ℕ) → lacks_line_feed text ≡ false → behind_code [] (code_of 1 (slice_split is_line_feed text)) ≡ assembled text
 none_done text whole = behind_nothing (code_of 1 (slice_split is_line_feed text)) ∙ sym (assembled_whole text whole)
 
-behind_then : (done : List ℕ) (number : ℕ) (first : Result Written LineFault) (rest : Result (List ℕ) AsmFault) (w : Written) → first ≡ Ok w
+behind_then : (done : List ℕ) (number : ℕ) (first : Result WrittenInstruction LineFault) (rest : Result (List ℕ) AsmFault) (w : WrittenInstruction) → first ≡ Ok w
     → behind_code (done ++ bytes_of w) rest ≡ behind_code done (then_code number first rest)
 behind_then done number first (Ok more) w is = rw is (ap (λ (bs : List ℕ). Ok bs) (append_assoc done (bytes_of w) more))
 behind_then done number first (Err e) w is = rw is refl
 
-fault_then : (done : List ℕ) (number : ℕ) (first : Result Written LineFault) (rest : Result (List ℕ) AsmFault) (e : LineFault) → first ≡ Err e
+fault_then : (done : List ℕ) (number : ℕ) (first : Result WrittenInstruction LineFault) (rest : Result (List ℕ) AsmFault) (e : LineFault) → first ≡ Err e
     → behind_code done (then_code number first rest) ≡ Err (in_line number e)
 fault_then done number first rest e is = rw is refl
 
 -- a line that says an instruction
-pub line_done : (text rest line after done : List ℕ) (number : ℕ) (w : Written) → slice_split is_line_feed rest ≡ line ∷ slice_split is_line_feed after → instruction_in line ≡ Ok w
+pub line_done : (text rest line after done : List ℕ) (number : ℕ) (w : WrittenInstruction) → slice_split is_line_feed rest ≡ line ∷ slice_split is_line_feed after → instruction_in line ≡ Ok w
     → behind_code done (code_of number (slice_split is_line_feed rest)) ≡ assembled text
     → behind_code (done ++ bytes_of w) (code_of (number + 1) (slice_split is_line_feed after)) ≡ assembled text
 line_done text rest line after done number w split is so_far =
@@ -250,6 +251,6 @@ no_want of_line.Count number is = absurd cc
 no_want of_line.BadOperand number is = absurd cc
 
 -- a text that is cut
-pub text_cut : (text : List ℕ) → is_cut text ≡ true → assembled text ≡ Err of_text.Cut
+pub text_cut : (text : List ℕ) → lacks_line_feed text ≡ true → assembled text ≡ Err of_text.Cut
 unfolding assembled
 text_cut text cut = rw cut refl

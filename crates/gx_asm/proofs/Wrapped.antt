@@ -17,7 +17,7 @@ use Rattle.gx_story.specs.declared.headers.Header.{Header}
 use Rattle.gx_asm.specs.Codes.{text_from}
 use Rattle.gx_asm.specs.Instructions.{bytes_of}
 use Rattle.gx_asm.specs.Stories.{IsListedBack, checksum_of, code_at, code_start, format_len, header_of, listed_story}
-use Rattle.gx_asm.specs.Stories.{story_len, story_with, wrapped, wrapped_story}
+use Rattle.gx_asm.specs.Stories.{story_len, story_with_checksum, wrapped_code, wrapped_story}
 use Rattle.gx_asm.proofs.StoryListings.{listed_to_end}
 
 -- ---- bytes
@@ -79,28 +79,28 @@ module _ (checksum : ℕ) (code : List ℕ) where
   abbrev behind : List ℕ
   behind = locals_function ∷ 0 ∷ 0 ∷ code ++ zeros
 
-  pub length-story : length (story_with checksum code) ≡ story_len code
-  unfolding story_with
+  pub length-story : length (story_with_checksum checksum code) ≡ story_len code
+  unfolding story_with_checksum
   length-story =
       let all = length-append code zeros in
       let pad = length-replicate {A = ℕ} (story_len code - (code_at + length code)) 0 in
       omega (arith, all, pad)
 
   -- the checksum's word isn't summed up
-  pub story_sum : (n : ℕ) → sum_of_words n (story_with checksum code) ≡ sum_of_words n (story_with 0 code)
-  unfolding story_with
+  pub story_sum : (n : ℕ) → sum_of_words n (story_with_checksum checksum code) ≡ sum_of_words n (story_with_checksum 0 code)
+  unfolding story_with_checksum
   story_sum n =
-      let before : Before (story_with checksum code) (story_with 0 code) = λ k within.
-      get_or-append front (drop 32 (story_with checksum code)) 0 k within
-      ∙ sym (get_or-append front (drop 32 (story_with 0 code)) 0 k within) in
-      let after : Behind (story_with checksum code) (story_with 0 code) = λ k.
+      let before : Before (story_with_checksum checksum code) (story_with_checksum 0 code) = λ k within.
+      get_or-append front (drop 32 (story_with_checksum checksum code)) 0 k within
+      ∙ sym (get_or-append front (drop 32 (story_with_checksum 0 code)) 0 k within) in
+      let after : Behind (story_with_checksum checksum code) (story_with_checksum 0 code) = λ k.
       get_or-append-add (header_of (story_len code) checksum) behind k 0
       ∙ sym (get_or-append-add (header_of (story_len code) 0) behind k 0) in
-      same_sum n (story_with checksum code) (story_with 0 code) before after
+      same_sum n (story_with_checksum checksum code) (story_with_checksum 0 code) before after
 
   -- it is put over zeros
-  pub story_put : spliced (story_with 0 code) checksum_at (bytes_of_word checksum) ≡ story_with checksum code
-  unfolding story_with
+  pub story_put : spliced (story_with_checksum 0 code) checksum_at (bytes_of_word checksum) ≡ story_with_checksum checksum code
+  unfolding story_with_checksum
   story_put = refl
 
 -- ---- the checksum
@@ -108,14 +108,14 @@ module _ (checksum : ℕ) (code : List ℕ) where
 fits : (code : List ℕ) → checksum_of code < 2 ^ 32
 fits code = omega arith
 
-pub length-wrapped : (code : List ℕ) → length (wrapped code) ≡ story_len code
-unfolding wrapped
+pub length-wrapped : (code : List ℕ) → length (wrapped_code code) ≡ story_len code
+unfolding wrapped_code
 length-wrapped code = length-story (checksum_of code) code
 
 pub checked : (code : List ℕ) → is_checked (wrapped_story code) ≡ true
-unfolding wrapped
+unfolding wrapped_code
 checked code =
-    let sum : sum_of_words (length (wrapped code) / 4) (wrapped code) % 2 ^ 32 ≡ checksum_of code =
+    let sum : sum_of_words (length (wrapped_code code) / 4) (wrapped_code code) % 2 ^ 32 ≡ checksum_of code =
     rw (length-wrapped code, story_sum (checksum_of code) code (story_len code / 4)) refl in
     eq-eqb _ _ sum
 
@@ -123,8 +123,8 @@ checked code =
 
 pub unsummed_made : (code head first second story : List ℕ) (size : ℕ) → size ≡ story_len code
     → head ≡ header_of size 0 ++ locals_function ∷ 0 ∷ 0 ∷ [] → first ≡ [] ++ head → second ≡ first ++ code
-    → story ≡ second ++ take (size - length second) (replicate 256 0) → story ≡ story_with 0 code
-unfolding story_with
+    → story ≡ second ++ take (size - length second) (replicate 256 0) → story ≡ story_with_checksum 0 code
+unfolding story_with_checksum
 unsummed_made code head first second story size size_is head_is first_is second_is story_is =
     let front = header_of (story_len code) 0 ++ locals_function ∷ 0 ∷ 0 ∷ [] in
     let before : second ≡ front ++ code = second_is ∙ ap (λ (b : List ℕ). b ++ code) (first_is ∙ head_is ∙ ap (λ (n : ℕ). header_of n 0 ++ locals_function ∷ 0 ∷ 0 ∷ []) size_is) in
@@ -134,15 +134,15 @@ unsummed_made code head first second story size size_is head_is first_is second_
     story_is ∙ ap (λ (b : List ℕ). second ++ b) padding ∙ ap (λ (b : List ℕ). b ++ replicate (story_len code - (code_at + length code)) 0) before
 
 -- there is a place for the checksum
-pub checksum_within : (code unsummed : List ℕ) → unsummed ≡ story_with 0 code → checksum_at ≤ length unsummed
+pub checksum_within : (code unsummed : List ℕ) → unsummed ≡ story_with_checksum 0 code → checksum_at ≤ length unsummed
 checksum_within code unsummed is =
     let len : length unsummed ≡ story_len code = ap (λ (b : List ℕ). length b) is ∙ length-story 0 code in
     omega (arith, len)
 
-pub wrapped_made : (code unsummed bytes story : List ℕ) (checksum : ℕ) → unsummed ≡ story_with 0 code
+pub wrapped_made : (code unsummed bytes story : List ℕ) (checksum : ℕ) → unsummed ≡ story_with_checksum 0 code
     → checksum ≡ sum_of_words (length unsummed / 4) unsummed % 2 ^ 32 → bytes ≡ bytes_of_word checksum
-    → story ≡ spliced unsummed checksum_at bytes → story ≡ wrapped code
-unfolding wrapped
+    → story ≡ spliced unsummed checksum_at bytes → story ≡ wrapped_code code
+unfolding wrapped_code
 wrapped_made code unsummed bytes story checksum unsummed_is checksum_is bytes_is story_is =
     let sum : checksum ≡ checksum_of code = checksum_is ∙ rw (unsummed_is, length-story 0 code) refl in
     story_is ∙ rw (bytes_is, unsummed_is, sum) (story_put (checksum_of code) code)
@@ -171,19 +171,19 @@ module _ (code : List ℕ) (few : length code ≤ 0x01000000) where
   size_fits : story_len code < 2 ^ 32
   size_fits = omega (arith, few)
 
-  header_read : header_at_start (wrapped code) ≡ its_header
-  unfolding wrapped story_with
+  header_read : header_at_start (wrapped_code code) ≡ its_header
+  unfolding wrapped_code story_with_checksum
   header_read = rw (read_back (story_len code) size_fits, read_back (checksum_of code) (fits code)) refl
 
-  is-no-form : accepted (wrapped code) ≡ bare (wrapped code)
-  unfolding accepted wrapped story_with
+  is-no-form : accepted (wrapped_code code) ≡ bare (wrapped_code code)
+  unfolding accepted wrapped_code story_with_checksum
   is-no-form = refl
 
-  passes-header : has_header (wrapped code) ≡ true
+  passes-header : has_header (wrapped_code code) ≡ true
   passes-header = rw (length-wrapped code) (grind (arith, nat_tests))
 
-  passes-magic : has_magic (wrapped code) ≡ true
-  unfolding wrapped story_with
+  passes-magic : has_magic (wrapped_code code) ≡ true
+  unfolding wrapped_code story_with_checksum
   passes-magic = refl
 
   whole : is_whole (story_len code) ≡ true
@@ -198,54 +198,54 @@ module _ (code : List ℕ) (few : length code ≤ 0x01000000) where
   itself : nat_le (story_len code) (story_len code) ≡ true
   itself = grind (arith, nat_tests)
 
-  passes-version : has_version (header_at_start (wrapped code)) ≡ true
+  passes-version : has_version (header_at_start (wrapped_code code)) ≡ true
   passes-version = ap has_version header_read
 
   right-sizes : has_sizes its_header ≡ true
   right-sizes = rw (whole, not-below, itself) refl
 
-  passes-sizes : has_sizes (header_at_start (wrapped code)) ≡ true
+  passes-sizes : has_sizes (header_at_start (wrapped_code code)) ≡ true
   passes-sizes = ap has_sizes header_read ∙ right-sizes
 
   within-limits : is_within_limits its_header ≡ true
   within-limits = rw not-above refl
 
-  passes-limits : is_within_limits (header_at_start (wrapped code)) ≡ true
+  passes-limits : is_within_limits (header_at_start (wrapped_code code)) ≡ true
   passes-limits = ap is_within_limits header_read ∙ within-limits
 
-  right-stored : has_stored_part its_header (wrapped code) ≡ true
+  right-stored : has_stored_part its_header (wrapped_code code) ≡ true
   right-stored = rw (length-wrapped code, itself) refl
 
-  passes-stored : has_stored_part (header_at_start (wrapped code)) (wrapped code) ≡ true
-  passes-stored = ap (λ (h : Header). has_stored_part h (wrapped code)) header_read ∙ right-stored
+  passes-stored : has_stored_part (header_at_start (wrapped_code code)) (wrapped_code code) ≡ true
+  passes-stored = ap (λ (h : Header). has_stored_part h (wrapped_code code)) header_read ∙ right-stored
 
-  header-is : header (wrapped code) ≡ Ok (header_at_start (wrapped code))
+  header-is : header (wrapped_code code) ≡ Ok (header_at_start (wrapped_code code))
   unfolding header
   header-is =
-      let bytes = wrapped code in
+      let bytes = wrapped_code code in
       all-passed (has_header bytes) (has_magic bytes) (has_version (header_at_start bytes)) (has_sizes (header_at_start bytes)) (is_within_limits (header_at_start bytes))
       (has_stored_part (header_at_start bytes) bytes) _ _ _ _ _ _ (header_at_start bytes)
       passes-header passes-magic passes-version passes-sizes passes-limits passes-stored
 
-  stored-is : stored_story (header_at_start (wrapped code)) (wrapped code) ≡ wrapped_story code
+  stored-is : stored_story (header_at_start (wrapped_code code)) (wrapped_code code) ≡ wrapped_story code
   stored-is =
       let len = length-wrapped code in
-      let all : take (story_len code) (wrapped code) ≡ wrapped code = take_all (story_len code) (wrapped code) (omega (arith, len)) in
-      ap (λ (h : Header). stored_story h (wrapped code)) header_read
+      let all : take (story_len code) (wrapped_code code) ≡ wrapped_code code = take_all (story_len code) (wrapped_code code) (omega (arith, len)) in
+      ap (λ (h : Header). stored_story h (wrapped_code code)) header_read
       ∙ ap (λ (b : List ℕ). let s : FlatStory = record { header = its_header; bytes = b } in s) all
 
-  pub accepts : accepted (wrapped code) ≡ Ok (wrapped_story code)
+  pub accepts : accepted (wrapped_code code) ≡ Ok (wrapped_story code)
   unfolding bare
   accepts = is-no-form ∙ rw header-is refl ∙ ap (λ (s : FlatStory). let r : Result FlatStory StoryFault = Ok s in r) stored-is
 
 -- ---- its listing
 
 starts : (code : List ℕ) → code_start (wrapped_story code) ≡ Some 39
-unfolding wrapped story_with format_len
+unfolding wrapped_code story_with_checksum format_len
 starts code = refl
 
-behind_head : (code : List ℕ) → drop 39 (wrapped code) ≡ code ++ replicate (story_len code - (code_at + length code)) 0
-unfolding wrapped story_with
+behind_head : (code : List ℕ) → drop 39 (wrapped_code code) ≡ code ++ replicate (story_len code - (code_at + length code)) 0
+unfolding wrapped_code story_with_checksum
 behind_head code = refl
 
 pub listed_back : (code : List ℕ) → IsListedBack code
@@ -253,7 +253,7 @@ unfolding listed_story
 listed_back code = λ text spelled ends.
     let zeros : List ℕ = replicate (story_len code - (code_at + length code)) 0 in
     let joined : code ++ zeros ≡ flat_map bytes_of spelled.instructions ++ zeros = ap (λ (bytes : List ℕ). bytes ++ zeros) spelled.bytes in
-    let long : length (code ++ zeros) ≤ length (wrapped code) = omega (arith, length-append code zeros, length-replicate {A = ℕ} (story_len code - (code_at + length code)) 0, length-wrapped code) in
+    let long : length (code ++ zeros) ≤ length (wrapped_code code) = omega (arith, length-append code zeros, length-replicate {A = ℕ} (story_len code - (code_at + length code)) 0, length-wrapped code) in
     rw (starts code, behind_head code)
-    (ap (text_from (length (wrapped code)) true 39) joined
-    ∙ listed_to_end (length (wrapped code)) 39 spelled.instructions zeros spelled.each ends (rw joined at long))
+    (ap (text_from (length (wrapped_code code)) true 39) joined
+    ∙ listed_to_end (length (wrapped_code code)) 39 spelled.instructions zeros spelled.each ends (rw joined at long))

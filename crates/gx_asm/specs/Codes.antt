@@ -13,8 +13,9 @@ use Rattle.gx_rows.specs.Opcodes.{opcode_of, shortest}
 use Rattle.gx_rows.specs.Table.{place_of, row_at}
 use Rattle.gx_asm.specs.declared.faults.ListFault.{ListFault}
 use Rattle.gx_asm.specs.declared.faults.ListFault.TheVariants as of_code
-use Rattle.gx_asm.specs.Instructions.{Written, operand_count, all_data_len, fits_kind, number_of, bytes_of, line_of}
-use Rattle.gx_asm.specs.Texts.{allowed}
+use Rattle.gx_asm.specs.Instructions.{WrittenInstruction, operand_count, all_data_len, fits_kind, opcode_number}
+use Rattle.gx_asm.specs.Instructions.{bytes_of, instruction_line}
+use Rattle.gx_asm.specs.Texts.{required}
 
 -- ---- the modes
 
@@ -31,7 +32,7 @@ nibbles (b ∷ rest) = (b % 16) ∷ (b / 16) ∷ nibbles rest
 unfoldable pub mode_in : ℕ → Kind → ℕ → Result Addressing ListFault
 mode_in at kind nibble = do
   mode ← ok_or (addressing nibble) (of_code.BadMode at)
-  _ ← allowed (fits_kind kind mode) (of_code.BadMode at)
+  _ ← required (fits_kind kind mode) (of_code.BadMode at)
   Ok mode
 
 -- the modes of a row's operands from an index on; a nibble past them has to be 0
@@ -42,7 +43,7 @@ modes_from at row i (nibble ∷ rest) =
       mode ← mode_in at (kind_of row i) nibble
       modes ← modes_from at row (i + 1) rest
       Ok (mode ∷ modes)) else (do
-        _ ← allowed (nibble == 0) (of_code.BadMode at)
+        _ ← required (nibble == 0) (of_code.BadMode at)
         modes_from at row (i + 1) rest)
 
 -- ---- an instruction
@@ -52,10 +53,10 @@ abbrev pub front : ℕ → ℕ → List ℕ → Result (List ℕ) ListFault
 front at n bytes = if nat_lt (length bytes) n then Err (of_code.Cut at) else Ok (take n bytes)
 
 -- the instruction at the head of a code, whose place is `at`
-unfoldable pub instruction_at : ℕ → List ℕ → Result Written ListFault
+unfoldable pub instruction_at : ℕ → List ℕ → Result WrittenInstruction ListFault
 instruction_at at code = do
   opcode ← ok_or (opcode_of code) (of_code.Cut at)
-  _ ← allowed (opcode.1 == shortest opcode.0) (of_code.Spelling at)
+  _ ← required (opcode.1 == shortest opcode.0) (of_code.Spelling at)
   place ← ok_or (place_of opcode.0) (of_code.BadOpcode at)
   pairs ← front at (modes_len (operand_count (row_at place))) (drop opcode.1 code)
   modes ← modes_from at (row_at place) 0 (nibbles pairs)
@@ -65,8 +66,8 @@ instruction_at at code = do
 -- ---- a code
 
 -- quit and return end a listing of a story
-abbrev pub is_end : Written → Bool
-is_end w = number_of w == numbers.quit || number_of w == numbers.return
+abbrev pub ends_listing : WrittenInstruction → Bool
+ends_listing w = opcode_number w == numbers.quit || opcode_number w == numbers.return
 
 -- The text of the instructions from a place on: of all of them, or up to the first that ends, which has to be there.
 -- `fuel` is no smaller than their length.
@@ -75,9 +76,9 @@ text_from fuel ends at [] = if ends then Err (of_code.Cut at) else Ok []
 text_from zero ends at (b ∷ rest) = Ok []
 text_from (suc fuel) ends at (b ∷ rest) = do
   w ← instruction_at at (b ∷ rest)
-  if ends && is_end w then Ok (line_of w) else (do
+  if ends && ends_listing w then Ok (instruction_line w) else (do
     text ← text_from fuel ends (at + length (bytes_of w)) (drop (length (bytes_of w)) (b ∷ rest))
-    Ok (line_of w ++ text))
+    Ok (instruction_line w ++ text))
 
 unfoldable pub listed : List ℕ → Result (List ℕ) ListFault
 listed code = text_from (length code) false 0 code

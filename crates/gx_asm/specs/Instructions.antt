@@ -8,6 +8,7 @@
 use Rattle.std.specs.Prelude.{◌≡◌, ℕ, ◌+◌, ◌*◌, ◌/◌, ◌%◌, ◌<◌, ◌==◌, nat_lt, if◌then◌else◌, Bool, true, false, List, []}
 use Rattle.std.specs.Prelude.{◌∷◌, ◌++◌, length, map, take, drop, codes, All}
 use Rattle.std.specs.List.{flat_map}
+use Rattle.gx_words.specs.Constants.{line_feed}
 use Rattle.gx_rows.specs.declared.instructions.Row.{Row}
 use Rattle.gx_rows.specs.declared.modes.Addressing.{Addressing}
 use Rattle.gx_rows.specs.declared.modes.Addressing.TheVariants.{Zero, Constant, Memory, Top, Local, Ram}
@@ -19,7 +20,7 @@ use Rattle.gx_rows.specs.Table.{row_at, row_count}
 use Rattle.gx_asm.specs.Names.{name_at}
 
 -- the place of an instruction in the table, the modes of its operands, and their data, one after another
-pub record Written : Type 0 where
+pub record WrittenInstruction : Type 0 where
   pub place : ℕ
   pub modes : List Addressing
   pub operand_data : List ℕ
@@ -57,7 +58,7 @@ AreModes row i (mode ∷ rest) =
     modes.HasWidth mode × (fits_kind (modes.kind_of row i) mode ≡ true) × AreModes row (i + 1) rest
 
 -- there is such an instruction
-pub record IsWritten (w : Written) : Type 0 where
+pub record IsWritten (w : WrittenInstruction) : Type 0 where
   pub place : w.place < row_count
   pub count : length w.modes ≡ operand_count (row_at w.place)
   pub modes : AreModes (row_at w.place) 0 w.modes
@@ -80,24 +81,22 @@ nibble_of (Local n) = by_width n modes.local_byte modes.local_short modes.local_
 nibble_of (Ram n) = by_width n modes.ram_byte modes.ram_short modes.ram_word
 
 -- nibbles, two in a byte
-unfoldable pub packed : List ℕ → List ℕ
-packed [] = []
-packed (low ∷ []) = low ∷ []
-packed (low ∷ high ∷ rest) = (low + 16 * high) ∷ packed rest
+unfoldable pub packed_nibbles : List ℕ → List ℕ
+packed_nibbles [] = []
+packed_nibbles (low ∷ []) = low ∷ []
+packed_nibbles (low ∷ high ∷ rest) = (low + 16 * high) ∷ packed_nibbles rest
 
-abbrev pub number_of : Written → ℕ
-number_of w = (row_at w.place).number
+abbrev pub opcode_number : WrittenInstruction → ℕ
+opcode_number w = (row_at w.place).number
 
-unfoldable pub bytes_of : Written → List ℕ
-bytes_of w = spelled (number_of w) (shortest (number_of w)) ++ packed (map nibble_of w.modes) ++ w.operand_data
+unfoldable pub bytes_of : WrittenInstruction → List ℕ
+bytes_of w =
+    spelled (opcode_number w) (shortest (opcode_number w)) ++ packed_nibbles (map nibble_of w.modes) ++ w.operand_data
 
 -- ---- its line
 
 abbrev pub blank : ℕ
 blank = 0x20
-
-abbrev pub line_feed : ℕ
-line_feed = 0x0A
 
 -- the signs of operands: # @ % !
 abbrev pub constant_sign : ℕ
@@ -123,26 +122,26 @@ abbrev pub digits : List ℕ → List ℕ
 digits bytes = flat_map digits_of_byte bytes
 
 -- the word of an operand with its data
-abbrev pub word_of : Addressing → List ℕ → List ℕ
-word_of Zero bytes = codes "z"
-word_of (Constant n) bytes = constant_sign ∷ digits bytes
-word_of (Memory n) bytes = memory_sign ∷ digits bytes
-word_of Top bytes = codes "sp"
-word_of (Local n) bytes = local_sign ∷ digits bytes
-word_of (Ram n) bytes = ram_sign ∷ digits bytes
+abbrev pub operand_word : Addressing → List ℕ → List ℕ
+operand_word Zero bytes = codes "z"
+operand_word (Constant n) bytes = constant_sign ∷ digits bytes
+operand_word (Memory n) bytes = memory_sign ∷ digits bytes
+operand_word Top bytes = codes "sp"
+operand_word (Local n) bytes = local_sign ∷ digits bytes
+operand_word (Ram n) bytes = ram_sign ∷ digits bytes
 
 -- the words of operands, each behind a blank and with its part of the data
 unfoldable pub words_of : List Addressing → List ℕ → List ℕ
 words_of [] bytes = []
 words_of (mode ∷ rest) bytes =
-    blank ∷ word_of mode (take (data_len mode) bytes) ++ words_of rest (drop (data_len mode) bytes)
+    blank ∷ operand_word mode (take (data_len mode) bytes) ++ words_of rest (drop (data_len mode) bytes)
 
-unfoldable pub line_of : Written → List ℕ
-line_of w = name_at w.place ++ words_of w.modes w.operand_data ++ line_feed ∷ []
+unfoldable pub instruction_line : WrittenInstruction → List ℕ
+instruction_line w = name_at w.place ++ words_of w.modes w.operand_data ++ line_feed ∷ []
 
 -- SPELLED: there are instructions of which the text is the lines, in order, and the code the bytes.
-pub record Spelled (text code : List ℕ) : Type 0 where
-  pub instructions : List Written
+pub record Spells (text code : List ℕ) : Type 0 where
+  pub instructions : List WrittenInstruction
   pub each : All IsWritten instructions
-  pub lines : text ≡ flat_map line_of instructions
+  pub lines : text ≡ flat_map instruction_line instructions
   pub bytes : code ≡ flat_map bytes_of instructions

@@ -6,8 +6,8 @@ use Rattle.std.specs.Str.{bytes_eq}
 use Rattle.gx_rows.specs.Numbers as numbers
 use Rattle.gx_rows.specs.Table.{row_count}
 
-unfoldable pub named : List (ℕ × List ℕ)
-named =
+unfoldable pub instruction_names : List (ℕ × List ℕ)
+instruction_names =
     -- No operation
     (numbers.nop, codes "nop") ∷
     -- Integer math
@@ -119,7 +119,7 @@ named =
 
 -- the names alone
 abbrev pub names : List (List ℕ)
-names = map (λ entry. entry.1) named
+names = map (λ entry. entry.1) instruction_names
 
 -- the name of the instruction at a place of the table
 abbrev pub name_at : ℕ → List ℕ

@@ -9,8 +9,8 @@ use Rattle.gx_words.specs.Results.{◌>>=◌}
 use Rattle.gx_story.specs.Stories.{FlatStory}
 use Rattle.gx_asm.specs.declared.faults.ListFault.{ListFault}
 use Rattle.gx_asm.specs.declared.faults.ListFault.TheVariants as of_code
-use Rattle.gx_asm.specs.Codes.{is_end, text_from}
-use Rattle.gx_asm.specs.Instructions.{Spelled, Written, line_of}
+use Rattle.gx_asm.specs.Codes.{ends_listing, text_from}
+use Rattle.gx_asm.specs.Instructions.{Spells, WrittenInstruction, instruction_line}
 
 -- ---- the listing of a story
 
@@ -73,18 +73,18 @@ header_of size checksum =
     flat_map bytes_of_word (magic ∷ 0x00030102 ∷ size ∷ size ∷ size ∷ 0x100 ∷ header_len ∷ 0 ∷ checksum ∷ [])
 
 -- a function without locals, behind the header, and zeros
-unfoldable pub story_with : ℕ → List ℕ → List ℕ
-story_with checksum code =
+unfoldable pub story_with_checksum : ℕ → List ℕ → List ℕ
+story_with_checksum checksum code =
     header_of (story_len code) checksum ++ (locals_function ∷ 0 ∷ 0 ∷ []) ++ code
     ++ replicate (story_len code - (code_at + length code)) 0
 
 -- the sum modulo 2^32 of its words, that of the checksum taken as zero
 abbrev pub checksum_of : List ℕ → ℕ
-checksum_of code = sum_of_words (story_len code / 4) (story_with 0 code) % 2 ^ 32
+checksum_of code = sum_of_words (story_len code / 4) (story_with_checksum 0 code) % 2 ^ 32
 
 -- the story whose checksum is right
-unfoldable pub wrapped : List ℕ → List ℕ
-wrapped code = story_with (checksum_of code) code
+unfoldable pub wrapped_code : List ℕ → List ℕ
+wrapped_code code = story_with_checksum (checksum_of code) code
 
 -- what it is accepted as
 abbrev pub wrapped_story : List ℕ → FlatStory
@@ -99,17 +99,17 @@ wrapped_story code = record {
     table = 0;
     checksum = checksum_of code;
   };
-  bytes = wrapped code;
+  bytes = wrapped_code code;
 }
 
 -- ---- its listing
 
 -- the instructions up to the first quit or return, that one included
-abbrev pub up_to_end : List Written → List Written
+abbrev pub up_to_end : List WrittenInstruction → List WrittenInstruction
 up_to_end [] = []
-up_to_end (w ∷ rest) = if is_end w then w ∷ [] else w ∷ up_to_end rest
+up_to_end (w ∷ rest) = if ends_listing w then w ∷ [] else w ∷ up_to_end rest
 
 -- A code that a text spells and that has a quit or return is listed, in its story, as the text up to the first of them.
 abbrev pub IsListedBack : List ℕ → Type 0
-IsListedBack code = (text : List ℕ) (spelled : Spelled text code) → list_any is_end spelled.instructions ≡ true
-    → listed_story (wrapped_story code) ≡ Ok (flat_map line_of (up_to_end spelled.instructions))
+IsListedBack code = (text : List ℕ) (spelled : Spells text code) → list_any ends_listing spelled.instructions ≡ true
+    → listed_story (wrapped_story code) ≡ Ok (flat_map instruction_line (up_to_end spelled.instructions))

@@ -16,13 +16,15 @@ use Rattle.gx_asm.specs.declared.faults.AsmFault.TheVariants as of_text
 use Rattle.gx_asm.specs.declared.faults.LineFault.{LineFault}
 use Rattle.gx_asm.specs.declared.faults.LineFault.TheVariants as of_line
 use Rattle.gx_asm.specs.Names.{place_named}
-use Rattle.gx_asm.specs.Instructions.{Written, operand_count, fits_kind, bytes_of, blank, line_feed, constant_sign}
+use Rattle.gx_asm.specs.Instructions.{WrittenInstruction, operand_count, fits_kind, bytes_of, blank}
+use Rattle.gx_words.specs.Constants.{line_feed}
+use Rattle.gx_asm.specs.Instructions.{constant_sign}
 use Rattle.gx_asm.specs.Instructions.{memory_sign, local_sign, ram_sign}
 
 -- nothing is amiss, or a fault
-abbrev pub allowed : {E : Type 0} → Bool → E → Result (Unit {0}) E
-allowed true fault = Ok _
-allowed false fault = Err fault
+abbrev pub required : {E : Type 0} → Bool → E → Result (Unit {0}) E
+required true fault = Ok _
+required false fault = Err fault
 
 -- ---- an operand
 
@@ -34,13 +36,13 @@ digit_value d =
     Err of_line.BadOperand
 
 -- the bytes that digits spell, by two
-unfoldable pub bytes_in : List ℕ → Result (List ℕ) LineFault
-bytes_in [] = Ok []
-bytes_in (d ∷ []) = Err of_line.BadOperand
-bytes_in (high ∷ low ∷ rest) = do
+unfoldable pub bytes_spelled : List ℕ → Result (List ℕ) LineFault
+bytes_spelled [] = Ok []
+bytes_spelled (d ∷ []) = Err of_line.BadOperand
+bytes_spelled (high ∷ low ∷ rest) = do
   h ← digit_value high
   l ← digit_value low
-  bytes ← bytes_in rest
+  bytes ← bytes_spelled rest
   Ok ((16 * h + l) ∷ bytes)
 
 -- the mode of a sign and 1, 2 or 4 bytes of data
@@ -57,9 +59,9 @@ mode_with sign n =
 unfoldable pub data_in : Kind → List ℕ → Result (Addressing × List ℕ) LineFault
 data_in kind [] = Err of_line.BadOperand
 data_in kind (sign ∷ rest) = do
-  bytes ← bytes_in rest
+  bytes ← bytes_spelled rest
   mode ← mode_with sign (length bytes)
-  _ ← allowed (fits_kind kind mode) of_line.BadOperand
+  _ ← required (fits_kind kind mode) of_line.BadOperand
   Ok (mode, bytes)
 
 -- those of an operand's word
@@ -86,20 +88,20 @@ is_blank b = b == blank
 abbrev pub place_in : List ℕ → ℕ → Result ℕ LineFault
 place_in name count = do
   place ← ok_or (place_named name) of_line.BadName
-  _ ← allowed (count == operand_count (row_at place)) of_line.Count
+  _ ← required (count == operand_count (row_at place)) of_line.Count
   Ok place
 
 -- the instruction whose name and operands these words are
-unfoldable pub instruction_of : List (List ℕ) → Result Written LineFault
-instruction_of [] = Err of_line.BadName
-instruction_of (name ∷ words) = do
+unfoldable pub instruction_in_words : List (List ℕ) → Result WrittenInstruction LineFault
+instruction_in_words [] = Err of_line.BadName
+instruction_in_words (name ∷ words) = do
   place ← place_in name (length words)
   operands ← operands_in (row_at place) 0 words
   Ok (record { place = place; modes = operands.0; operand_data = operands.1 })
 
 -- that of a line, whose words stand between its blanks
-unfoldable pub instruction_in : List ℕ → Result Written LineFault
-instruction_in line = instruction_of (slice_split is_blank line)
+unfoldable pub instruction_in : List ℕ → Result WrittenInstruction LineFault
+instruction_in line = instruction_in_words (slice_split is_blank line)
 
 -- ---- a text
 
@@ -112,22 +114,22 @@ in_line line of_line.BadName = of_text.BadName line
 in_line line of_line.Count = of_text.Count line
 in_line line of_line.BadOperand = of_text.BadOperand line
 
-abbrev pub numbered : ℕ → Result Written LineFault → Result Written AsmFault
-numbered line (Ok w) = Ok w
-numbered line (Err fault) = Err (in_line line fault)
+abbrev pub at_line : ℕ → Result WrittenInstruction LineFault → Result WrittenInstruction AsmFault
+at_line line (Ok w) = Ok w
+at_line line (Err fault) = Err (in_line line fault)
 
 -- The code of the lines from a number on. What stands behind the last line feed is no line.
 unfoldable pub code_of : ℕ → List (List ℕ) → Result (List ℕ) AsmFault
 code_of number [] = Ok []
 code_of number (last ∷ []) = Ok []
 code_of number (line ∷ next ∷ rest) = do
-  w ← numbered number (instruction_in line)
+  w ← at_line number (instruction_in line)
   code ← code_of (number + 1) (next ∷ rest)
   Ok (bytes_of w ++ code)
 
 -- the text isn't empty, and its last byte is no line feed
-abbrev pub is_cut : List ℕ → Bool
-is_cut text = not (length text == 0) && not (slice_index text (length text - 1) == line_feed)
+abbrev pub lacks_line_feed : List ℕ → Bool
+lacks_line_feed text = not (length text == 0) && not (slice_index text (length text - 1) == line_feed)
 
 unfoldable pub assembled : List ℕ → Result (List ℕ) AsmFault
-assembled text = if is_cut text then Err of_text.Cut else code_of 1 (slice_split is_line_feed text)
+assembled text = if lacks_line_feed text then Err of_text.Cut else code_of 1 (slice_split is_line_feed text)

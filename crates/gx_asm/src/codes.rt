@@ -8,11 +8,13 @@ ghost use Rattle.gx_words.specs.Results.{Is, Gives};
 ghost use Rattle.gx_rows.specs.Opcodes.{shortest, spelled};
 ghost use Rattle.gx_rows.specs.Table.{row_count, RowFits};
 ghost use Rattle.gx_asm.specs.declared.faults.ListFault.{ListFault};
-ghost use Rattle.gx_asm.specs.Codes.{front, instruction_at, is_end, listed, mode_in, modes_from, modes_len, nibbles};
+ghost use Rattle.gx_asm.specs.Codes.{front, instruction_at, ends_listing, listed, mode_in, modes_from, modes_len};
+ghost use Rattle.gx_asm.specs.Codes.{nibbles};
 ghost use Rattle.gx_asm.specs.Codes.{text_from};
-ghost use Rattle.gx_asm.specs.Instructions.{AreModes, IsWritten, Spelled, all_data_len, by_width, bytes_of, line_of};
-ghost use Rattle.gx_asm.specs.Instructions.{nibble_of, operand_count, packed};
-ghost use Rattle.gx_asm.specs.Views.{written};
+ghost use Rattle.gx_asm.specs.Instructions.{AreModes, IsWritten, Spells, all_data_len, by_width, bytes_of};
+ghost use Rattle.gx_asm.specs.Instructions.{instruction_line};
+ghost use Rattle.gx_asm.specs.Instructions.{nibble_of, operand_count, packed_nibbles};
+ghost use Rattle.gx_asm.specs.Views.{seen_instruction};
 
 use crate::faults::ListFault;
 use crate::instruction::{Instruction, data_len, fits_kind};
@@ -32,7 +34,7 @@ pub fn list(alloc: Global, code: &[u8]) -> Result<Bytes, ListFault>
     requires { length code.now < 2 ^ 32 }
     ensures value { Gives ListFault.NoMemory (λ text. text) result (listed code.now) }
     ensures memory { result ≡ Err ListFault.NoMemory → 0 < length code.now }
-    ensures spelled { (text : List ℕ) → (listed code.now ≡ Ok text) ↔ Spelled text code.now }
+    ensures spelled { (text : List ℕ) → (listed code.now ≡ Ok text) ↔ Spells text code.now }
 {
     are_bytes(code);
     list_from(alloc, code, 0, false)
@@ -77,8 +79,9 @@ pub(crate) fn list_from(
 
 /// Adds the line of an instruction to a text that is whole so far. The answer says whether it is whole then.
 fn add_line(instruction: &Instruction, text: &mut Bytes, whole: bool) -> bool
-    requires { IsWritten (written instruction.now) }
-    ensures { result ≡ true → (whole ≡ true) × (text.new ≡ text.old ++ line_of (written instruction.now)) }
+    requires { IsWritten (seen_instruction instruction.now) }
+    ensures { result ≡ true
+        → (whole ≡ true) × (text.new ≡ text.old ++ instruction_line (seen_instruction instruction.now)) }
 {
     whole && instruction.push_line(text).is_ok()
 }
@@ -95,8 +98,8 @@ fn text_in_memory(text: Bytes, whole: bool) -> Result<Bytes, ListFault>
 
 /// The instruction at the head of a code, whose place is `at`.
 fn read_code(code: &[u8], at: u32) -> Result<Instruction, ListFault>
-    ensures value { Is written result (instruction_at at code.now) }
-    ensures whole { IfOk result (λ i. IsWritten (written i)) }
+    ensures value { Is seen_instruction result (instruction_at at code.now) }
+    ensures whole { IfOk result (λ i. IsWritten (seen_instruction i)) }
 {
     are_bytes(code);
     read_parts(code, at)
@@ -105,7 +108,7 @@ fn read_code(code: &[u8], at: u32) -> Result<Instruction, ListFault>
 /// The same, part by part.
 #[tactic(auto, using(crate::proofs::CodesLoops::reading), unfolding(crate::specs::Codes::instruction_at))]
 fn read_parts(code: &[u8], at: u32) -> Result<Instruction, ListFault>
-    ensures { Is written result (instruction_at at code.now) }
+    ensures { Is seen_instruction result (instruction_at at code.now) }
 {
     let (number, size) = read_opcode(code).ok_or(ListFault::Cut { at })?;
     if size != shortest(number) {
@@ -225,7 +228,7 @@ impl Instruction {
     /// Whether a listing that ends does so here.
     fn is_last(&self, ends: bool) -> bool
         requires { self.now.place < row_count }
-        ensures { result ≡ (ends && is_end (written self.now)) }
+        ensures { result ≡ (ends && ends_listing (seen_instruction self.now)) }
     {
         let number = row_at(self.place).number;
         ends && (number == QUIT || number == RETURN)
@@ -235,7 +238,7 @@ impl Instruction {
     #[tactic(auto, using(crate::proofs::CodesLoops::length_bytes))]
     pub fn len(&self) -> usize
         requires { self.now.place < row_count }
-        ensures { result ≡ length (bytes_of (written self.now)) }
+        ensures { result ≡ length (bytes_of (seen_instruction self.now)) }
     {
         let number = row_at(self.place).number;
         usize::from(shortest(number)) + self.modes.len().div_ceil(2) + self.operand_data.len()
@@ -244,8 +247,8 @@ impl Instruction {
     /// Adds its bytes to a code.
     #[tactic(auto, using(crate::proofs::BytesOpcodes::number_small), unfolding(crate::specs::Instructions::bytes_of))]
     pub fn push_bytes(&self, code: &mut Bytes) -> Result<(), AllocError>
-        requires { IsWritten (written self.now) }
-        ensures { OnOk result (code.new ≡ code.old ++ bytes_of (written self.now)) }
+        requires { IsWritten (seen_instruction self.now) }
+        ensures { OnOk result (code.new ≡ code.old ++ bytes_of (seen_instruction self.now)) }
     {
         push_opcode(row_at(self.place).number, code)?;
         push_modes(&self.modes, code)?;
@@ -271,7 +274,7 @@ fn push_opcode(number: u32, code: &mut Bytes) -> Result<(), AllocError>
 #[tactic(auto, using(crate::proofs::CodesLoops::pair_turns))]
 fn push_modes(modes: &[Addressing], code: &mut Bytes) -> Result<(), AllocError>
     requires { length modes.now ≤ 8 }
-    ensures { OnOk result (code.new ≡ code.old ++ packed (map nibble_of modes.now)) }
+    ensures { OnOk result (code.new ≡ code.old ++ packed_nibbles (map nibble_of modes.now)) }
 {
     for i in 0..modes.len().div_ceil(2) {
         code.push(pair_at(modes, i))?;
@@ -283,7 +286,7 @@ fn push_modes(modes: &[Addressing], code: &mut Bytes) -> Result<(), AllocError>
 #[tactic(auto, using(crate::proofs::CodesLoops::pair_at))]
 fn pair_at(modes: &[Addressing], i: usize) -> u8
     requires { 2 * i < length modes.now }
-    ensures { result ≡ slice_index (packed (map nibble_of modes.now)) i }
+    ensures { result ≡ slice_index (packed_nibbles (map nibble_of modes.now)) i }
 {
     let low = nibble_of(modes[2 * i]);
     let high = match modes.get(2 * i + 1) {

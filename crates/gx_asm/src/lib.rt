@@ -6,7 +6,7 @@
 //! - `stories` lists the start function of a story, and wraps a code into a story.
 //! - `faults` has the reasons for which a text has no code, and a code no text.
 //!
-//! A text spells a code where there are instructions of which the text is the lines and the code the bytes: `Spelled`
+//! A text spells a code where there are instructions of which the text is the lines and the code the bytes: `Spells`
 //! of specs/Instructions, one relation for both directions. `assemble` and `list` find the one code of a text and the
 //! one text of a code, wherever there is one, and so undo each other.
 #![tactic(auto)]

@@ -1,10 +1,10 @@
 //! The line of an instruction.
 //!
-//! What is written is `line_of` of specs/Instructions. Where memory runs out, a part of the line may have been added:
-//! the text can only be dropped then.
+//! What is written is `instruction_line` of specs/Instructions. Where memory runs out, a part of the line may have been
+//! added: the text can only be dropped then.
 ghost use Rattle.std.specs.Prelude.{◌≡◌, ◌<◌, ◌∷◌, ◌++◌, OnOk};
-ghost use Rattle.gx_asm.specs.Instructions.{IsWritten, blank, digit, digits, line_of, word_of};
-ghost use Rattle.gx_asm.specs.Views.{written};
+ghost use Rattle.gx_asm.specs.Instructions.{IsWritten, blank, digit, digits, instruction_line, operand_word};
+ghost use Rattle.gx_asm.specs.Views.{seen_instruction};
 
 use crate::instruction::{Instruction, data_len};
 use crate::names::name_at;
@@ -15,8 +15,8 @@ use std::alloc::AllocError;
 impl Instruction {
     /// Adds its line to a text.
     pub fn push_line(&self, text: &mut Bytes) -> Result<(), AllocError>
-        requires { IsWritten (written self.now) }
-        ensures { OnOk result (text.new ≡ text.old ++ line_of (written self.now)) }
+        requires { IsWritten (seen_instruction self.now) }
+        ensures { OnOk result (text.new ≡ text.old ++ instruction_line (seen_instruction self.now)) }
     {
         text.extend_from_slice(name_at(self.place).as_bytes())?;
         let mut rest = self.operand_data.as_slice();
@@ -32,7 +32,7 @@ impl Instruction {
 
 /// Adds a blank and the word of an operand with its data.
 fn push_word(text: &mut Bytes, mode: Addressing, own: &[u8]) -> Result<(), AllocError>
-    ensures { OnOk result (text.new ≡ text.old ++ blank ∷ word_of mode own.now) }
+    ensures { OnOk result (text.new ≡ text.old ++ blank ∷ operand_word mode own.now) }
 {
     match mode {
         Addressing::Zero => text.extend_from_slice(b" z"),

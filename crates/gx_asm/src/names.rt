@@ -4,7 +4,7 @@
 //! its name and a name its place.
 ghost use Rattle.std.specs.Prelude.{◌≡◌, ◌<◌, IfSome, map};
 ghost use Rattle.gx_rows.specs.Table.{row_count, table};
-ghost use Rattle.gx_asm.specs.Names.{named, names, name_at, place_named};
+ghost use Rattle.gx_asm.specs.Names.{instruction_names, names, name_at, place_named};
 
 use gx_rows::ROW_COUNT;
 
@@ -121,7 +121,7 @@ const NAMES: [&str; ROW_COUNT] = [
 /// The names.
 fn names() -> &'static [&'static str; ROW_COUNT]
     ensures names { map (λ name. name.now) result.now ≡ names }
-    ensures order { map (λ entry. entry.0) named ≡ map (λ row. row.number) table }
+    ensures order { map (λ entry. entry.0) instruction_names ≡ map (λ row. row.number) table }
 {
     &NAMES
 }

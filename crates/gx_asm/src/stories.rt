@@ -1,13 +1,13 @@
 //! The listing of a story, and the story of a code (Glulx 3.1.2, "The Header" and "Functions").
 //!
-//! `list_story` is `listed_story` of specs/Stories. `wrap_code` gives exactly `wrapped`: a story that is accepted,
+//! `list_story` is `listed_story` of specs/Stories. `wrap_code` gives exactly `wrapped_code`: a story that is accepted,
 //! whose checksum is right, and which is listed as the text of its code up to the first quit or return.
 ghost use Rattle.std.specs.Prelude.{◌≡◌, ◌≤◌, ◌++◌, ◌∷◌, [], drop, true, Ok, IfOk, IfSome, length};
 ghost use Rattle.gx_words.specs.Constants.{locals_function};
 ghost use Rattle.gx_words.specs.Results.{Gives};
 ghost use Rattle.gx_story.specs.Stories.{accepted, is_checked};
 ghost use Rattle.gx_asm.specs.Stories.{IsListedBack, format_len, head_len, header_of, is_function, is_type};
-ghost use Rattle.gx_asm.specs.Stories.{listed_story, story_with, with_start, wrapped, wrapped_story};
+ghost use Rattle.gx_asm.specs.Stories.{listed_story, story_with_checksum, with_start, wrapped_code, wrapped_story};
 
 use crate::codes::list_from;
 use crate::faults::ListFault;
@@ -90,7 +90,7 @@ fn is_type(kind: u8) -> bool
 /// A bare story whose start function has this code and no locals. The code is at most 0x01000000 bytes.
 pub fn wrap_code(alloc: Global, code: &[u8]) -> Result<Bytes, AllocError>
     requires { length code.now ≤ 0x01000000 }
-    ensures value { IfOk result (λ story. story ≡ wrapped code.now) }
+    ensures value { IfOk result (λ story. story ≡ wrapped_code code.now) }
     ensures accepted { IfOk result (λ story. accepted story ≡ Ok (wrapped_story code.now)) }
     ensures checked { is_checked (wrapped_story code.now) ≡ true }
     ensures listed { IsListedBack code.now }
@@ -104,7 +104,7 @@ pub fn wrap_code(alloc: Global, code: &[u8]) -> Result<Bytes, AllocError>
 /// The story with a checksum of 0.
 fn unsummed_story(alloc: Global, code: &[u8]) -> Result<Bytes, AllocError>
     requires { length code.now ≤ 0x01000000 }
-    ensures { IfOk result (λ story. story ≡ story_with 0 code.now) }
+    ensures { IfOk result (λ story. story ≡ story_with_checksum 0 code.now) }
 {
     let size = (HEAD.len() + code.len()).next_multiple_of(256);
     let mut story = Bytes::with_capacity(alloc, size)?;

@@ -8,10 +8,11 @@ ghost use Rattle.std.specs.Prelude.{IfNone, length};
 ghost use Rattle.std.specs.List.{count_by, position_or_len, slice_split};
 ghost use Rattle.gx_words.specs.Results.{Is, Gives};
 ghost use Rattle.gx_rows.specs.Table.{row_at, row_count};
-ghost use Rattle.gx_asm.specs.Instructions.{IsWritten, Spelled, bytes_of, operand_count};
-ghost use Rattle.gx_asm.specs.Texts.{assembled, bytes_in, data_in, digit_value, instruction_in, is_blank, is_cut};
+ghost use Rattle.gx_asm.specs.Instructions.{IsWritten, Spells, bytes_of, operand_count};
+ghost use Rattle.gx_asm.specs.Texts.{assembled, bytes_spelled, data_in, digit_value, instruction_in, is_blank};
+ghost use Rattle.gx_asm.specs.Texts.{lacks_line_feed};
 ghost use Rattle.gx_asm.specs.Texts.{mode_with, operand_in, operands_in, place_in};
-ghost use Rattle.gx_asm.specs.Views.{written};
+ghost use Rattle.gx_asm.specs.Views.{seen_instruction};
 
 use crate::faults::{AsmFault, LineFault};
 use crate::instruction::{Instruction, fits_kind};
@@ -45,9 +46,9 @@ pub fn assemble(alloc: Global, text: &[u8]) -> Result<Bytes, AsmFault>
     requires { length text.now < 2 ^ 32 }
     ensures value { Gives AsmFault.NoMemory (λ code. code) result (assembled text.now) }
     ensures memory { result ≡ Err AsmFault.NoMemory → 0 < length text.now }
-    ensures spelled { (code : List ℕ) → (assembled text.now ≡ Ok code) ↔ Spelled text.now code }
+    ensures spelled { (code : List ℕ) → (assembled text.now ≡ Ok code) ↔ Spells text.now code }
 {
-    if is_cut(text) {
+    if lacks_line_feed(text) {
         return Err(AsmFault::Cut);
     }
     let mut code = Bytes::new(alloc);
@@ -71,23 +72,23 @@ pub fn assemble(alloc: Global, text: &[u8]) -> Result<Bytes, AsmFault>
 
 /// Adds the bytes of an instruction to a code that is whole so far. The answer says whether it is whole then.
 fn add_bytes(instruction: &Instruction, code: &mut Bytes, whole: bool) -> bool
-    requires { IsWritten (written instruction.now) }
-    ensures { result ≡ true → (whole ≡ true) × (code.new ≡ code.old ++ bytes_of (written instruction.now)) }
+    requires { IsWritten (seen_instruction instruction.now) }
+    ensures { result ≡ true → (whole ≡ true) × (code.new ≡ code.old ++ bytes_of (seen_instruction instruction.now)) }
 {
     whole && instruction.push_bytes(code).is_ok()
 }
 
 /// Whether the last byte isn't the end of a line.
-fn is_cut(text: &[u8]) -> bool
-    ensures { result ≡ is_cut text.now }
+fn lacks_line_feed(text: &[u8]) -> bool
+    ensures { result ≡ lacks_line_feed text.now }
 {
     !text.is_empty() && text[text.len() - 1] != LINE_FEED
 }
 
 /// The instruction of a line.
 pub(crate) fn read_line(line: &[u8]) -> Result<Instruction, LineFault>
-    ensures value { Is written result (instruction_in line.now) }
-    ensures whole { IfOk result (λ i. IsWritten (written i)) }
+    ensures value { Is seen_instruction result (instruction_in line.now) }
+    ensures whole { IfOk result (λ i. IsWritten (seen_instruction i)) }
 {
     match split_once(line, BLANK) {
         Some((name, words)) => {
@@ -192,7 +193,7 @@ fn read_data(
 #[tactic(auto, using(crate::proofs::ReadingTurns::digit_turns))]
 fn read_bytes(digits: &[u8]) -> Result<ArrayVec<u8, 4>, LineFault>
     requires { length digits.now ≤ 8 }
-    ensures { Is (λ bytes. bytes.items) result (bytes_in digits.now) }
+    ensures { Is (λ bytes. bytes.items) result (bytes_spelled digits.now) }
 {
     let mut bytes = ArrayVec::new();
     let mut rest = digits;

@@ -31,7 +31,7 @@ use Rattle.gx_machine.specs.declared.machine.Pending.{Pending}
 use Rattle.gx_machine.specs.declared.askings.Asking.TheVariants as asking
 use Rattle.gx_machine.specs.Saves.{copy_by, saved_copy}
 use Rattle.gx_machine.specs.Step.{asking_of, room_of}
-use Rattle.gx_machine.specs.Views.{IsPending, result_len, resumed}
+use Rattle.gx_machine.specs.Views.{IsPendingAnswer, result_len, resumed_at}
 
 by_class : (f : FlatState) (i : Instruction) (c : Class) → f.mode ≡ Running → instruction f ≡ Ok i → i.row.class ≡ c → (reply : Reply) → answered_state f reply ≡ answered_row c f i reply
 unfolding answered_state
@@ -39,30 +39,30 @@ by_class f i c running decoded is reply =
     ap (answered_in f reply) running ∙ ap (answered_by f reply) decoded ∙ ap (λ (x : Class). answered_row x f i reply) is
 
 -- an answer to code leaves the mode
-on_with : (f : FlatState) (sp : ℕ) (dest : Dest) (next : ℕ) (reply : Reply) → f.mode ≡ Running → going_to (replied f sp dest reply) next ≡ resumed (replied f sp dest reply) next Running
-on_with f sp Nowhere next reply running = ap (resumed (replied f sp Nowhere reply) next) running
-on_with f sp (Memory at) next reply running = ap (resumed (replied f sp (Memory at) reply) next) running
-on_with f sp (Local at) next reply running = ap (resumed (replied f sp (Local at) reply) next) running
-on_with f sp Push next reply running = ap (resumed (replied f sp Push reply) next) running
+on_with : (f : FlatState) (sp : ℕ) (dest : Dest) (next : ℕ) (reply : Reply) → f.mode ≡ Running → going_to (replied f sp dest reply) next ≡ resumed_at (replied f sp dest reply) next Running
+on_with f sp Nowhere next reply running = ap (resumed_at (replied f sp Nowhere reply) next) running
+on_with f sp (Memory at) next reply running = ap (resumed_at (replied f sp (Memory at) reply) next) running
+on_with f sp (Local at) next reply running = ap (resumed_at (replied f sp (Local at) reply) next) running
+on_with f sp Push next reply running = ap (resumed_at (replied f sp Push reply) next) running
 
 pub print_answers : (f : FlatState) (i : Instruction) (reply : Reply) → f.mode ≡ Running → instruction f ≡ Ok i → i.row.class ≡ class.Print
-    → answered_state f reply ≡ resumed (replied f i.sp Nowhere reply) i.next Running
+    → answered_state f reply ≡ resumed_at (replied f i.sp Nowhere reply) i.next Running
 print_answers f i reply running decoded is = by_class f i class.Print running decoded is reply ∙ on_with f i.sp Nowhere i.next reply running
 
 pub glk_answers : (f : FlatState) (i : Instruction) (reply : Reply) → f.mode ≡ Running → instruction f ≡ Ok i → i.row.class ≡ class.Glk
-    → answered_state f reply ≡ resumed (replied f (i.sp - 4 * L2 i) i.dest reply) i.next Running
+    → answered_state f reply ≡ resumed_at (replied f (i.sp - 4 * L2 i) i.dest reply) i.next Running
 glk_answers f i reply running decoded is = by_class f i class.Glk running decoded is reply ∙ on_with f (i.sp - 4 * L2 i) i.dest i.next reply running
 
 pub game_answers : (f : FlatState) (i : Instruction) (reply : Reply) → f.mode ≡ Running → instruction f ≡ Ok i → i.row.class ≡ class.Game
-    → answered_state f reply ≡ resumed (replied f i.sp i.dest reply) i.next Running
+    → answered_state f reply ≡ resumed_at (replied f i.sp i.dest reply) i.next Running
 game_answers f i reply running decoded is = by_class f i class.Game running decoded is reply ∙ on_with f i.sp i.dest i.next reply running
 
 -- the answer to a character of what is printed
-item_answered : (f : FlatState) (reply : Reply) (m : Mode) → f.mode ≡ m → (m ≡ Running → ⊥) → answered_in f reply m ≡ resumed (replied f (sp_of f) Nowhere reply) f.pc (mode_after f)
+item_answered : (f : FlatState) (reply : Reply) (m : Mode) → f.mode ≡ m → (m ≡ Running → ⊥) → answered_in f reply m ≡ resumed_at (replied f (sp_of f) Nowhere reply) f.pc (mode_after f)
 item_answered f reply Running is printing = absurd (printing refl)
 item_answered f reply (Printing p) is printing = refl
 
-pub item_answers : (f : FlatState) (reply : Reply) → (f.mode ≡ Running → ⊥) → answered_state f reply ≡ resumed (replied f (sp_of f) Nowhere reply) f.pc (mode_after f)
+pub item_answers : (f : FlatState) (reply : Reply) → (f.mode ≡ Running → ⊥) → answered_state f reply ≡ resumed_at (replied f (sp_of f) Nowhere reply) f.pc (mode_after f)
 unfolding answered_state
 item_answers f reply printing = item_answered f reply f.mode refl printing
 
@@ -116,10 +116,10 @@ pub ruleset answers = (print_answers, glk_answers, done_asks, within_asks, spent
 
 -- what is pending after a character was put by code
 pub print_pends : (f g : FlatState) (i : Instruction) → g ≡ f → f.mode ≡ Running → instruction f ≡ Ok i → i.row.class ≡ class.Print → IsHeight f i.sp → sp_of f ≤ f.stack.limit
-    → IsPending g (record { asking = asking.Put; sp = i.sp; dest = Nowhere; next = i.next; mode = Running })
+    → IsPendingAnswer g (record { asking = asking.Put; sp = i.sp; dest = Nowhere; next = i.next; mode = Running })
 unfolding store_fault
 print_pends f g i same running decoded is height fits =
-    subst (λ (h : FlatState). IsPending h (record { asking = asking.Put; sp = i.sp; dest = Nowhere; next = i.next; mode = Running })) (sym same)
+    subst (λ (h : FlatState). IsPendingAnswer h (record { asking = asking.Put; sp = i.sp; dest = Nowhere; next = i.next; mode = Running })) (sym same)
     (record {
       height = height;
       stores = refl;
@@ -132,10 +132,10 @@ print_pends f g i same running decoded is height fits =
 
 -- and by what is printed
 pub item_pends : (f g : FlatState) → g ≡ f → (f.mode ≡ Running → ⊥) → 0 < sp_of f → (frame_of f).values ≤ sp_of f → sp_of f % 4 ≡ 0 → sp_of f ≤ f.stack.limit
-    → IsPending g (record { asking = asking.Put; sp = sp_of f; dest = Nowhere; next = f.pc; mode = mode_after f })
+    → IsPendingAnswer g (record { asking = asking.Put; sp = sp_of f; dest = Nowhere; next = f.pc; mode = mode_after f })
 unfolding store_fault
 item_pends f g same printing live values aligned fits =
-    subst (λ (h : FlatState). IsPending h (record { asking = asking.Put; sp = sp_of f; dest = Nowhere; next = f.pc; mode = mode_after f })) (sym same)
+    subst (λ (h : FlatState). IsPendingAnswer h (record { asking = asking.Put; sp = sp_of f; dest = Nowhere; next = f.pc; mode = mode_after f })) (sym same)
     (record {
       height = record { live = live; values = values; there = omega arith; aligned = aligned };
       stores = refl;
@@ -149,7 +149,7 @@ item_pends f g same printing live values aligned fits =
 -- what is pending after a Glk call
 pub glk_pends : (f : FlatState) (i : Instruction) (count room : ℕ) → f.mode ≡ Running → instruction f ≡ Ok i → i.row.class ≡ class.Glk → count ≡ L2 i
     → IsHeight f (i.sp - 4 * count) → store_fault f 4 i.dest (i.sp - 4 * count) ≡ Ok tt → i.sp - 4 * count + 4 * room + result_len i.dest ≤ f.stack.limit
-    → IsPending f (record { asking = asking.Glk room; sp = i.sp - 4 * count; dest = i.dest; next = i.next; mode = Running })
+    → IsPendingAnswer f (record { asking = asking.Glk room; sp = i.sp - 4 * count; dest = i.dest; next = i.next; mode = Running })
 glk_pends f i count room running decoded is counted height stores fits = record {
   height = height;
   stores = stores;
@@ -175,7 +175,7 @@ store_fits f Push sp stores fits = push_fits (nat_le (sp + 4) f.stack.limit) sp 
 -- what is pending after a save or a restore
 game_pends : (f : FlatState) (i : Instruction) (a : Asking) (above : ℕ) → room_of (Some a) ≡ 0 → (a ≡ asking.Save → above ≡ 16) → (a ≡ asking.Put → ⊥)
     → f.mode ≡ Running → instruction f ≡ Ok i → i.row.class ≡ class.Game → IsHeight f i.sp → i.sp + above ≤ f.stack.limit → store_fault f 4 i.dest i.sp ≡ Ok tt
-    → IsPending f (record { asking = a; sp = i.sp; dest = i.dest; next = i.next; mode = Running })
+    → IsPendingAnswer f (record { asking = a; sp = i.sp; dest = i.dest; next = i.next; mode = Running })
 unfolding saved_copy
 game_pends f i a above none stub other running decoded is height fits stores =
     let within = store_fits f i.dest i.sp stores (omega arith) in
@@ -191,24 +191,24 @@ game_pends f i a above none stub other running decoded is height fits stores =
 
 pub save_pends : (f g : FlatState) (u v : FlatUndo) (i : Instruction) → IsAsking (f, u) (g, v) i 16
     → f.mode ≡ Running → instruction f ≡ Ok i → i.row.class ≡ class.Game → IsHeight f i.sp
-    → IsPending g (record { asking = asking.Save; sp = i.sp; dest = i.dest; next = i.next; mode = Running })
+    → IsPendingAnswer g (record { asking = asking.Save; sp = i.sp; dest = i.dest; next = i.next; mode = Running })
 save_pends f g u v i asks running decoded is height =
-    subst (λ (x : FlatState × FlatUndo). IsPending x.0 (record { asking = asking.Save; sp = i.sp; dest = i.dest; next = i.next; mode = Running })) (sym asks.stands)
+    subst (λ (x : FlatState × FlatUndo). IsPendingAnswer x.0 (record { asking = asking.Save; sp = i.sp; dest = i.dest; next = i.next; mode = Running })) (sym asks.stands)
     (game_pends f i asking.Save 16 refl (λ saves. refl) (λ put. cc) running decoded is height asks.room asks.stores)
 
 pub restore_pends : (f g : FlatState) (u v : FlatUndo) (i : Instruction) → IsAsking (f, u) (g, v) i 0
     → f.mode ≡ Running → instruction f ≡ Ok i → i.row.class ≡ class.Game → IsHeight f i.sp
-    → IsPending g (record { asking = asking.Restore; sp = i.sp; dest = i.dest; next = i.next; mode = Running })
+    → IsPendingAnswer g (record { asking = asking.Restore; sp = i.sp; dest = i.dest; next = i.next; mode = Running })
 restore_pends f g u v i asks running decoded is height =
-    subst (λ (x : FlatState × FlatUndo). IsPending x.0 (record { asking = asking.Restore; sp = i.sp; dest = i.dest; next = i.next; mode = Running })) (sym asks.stands)
+    subst (λ (x : FlatState × FlatUndo). IsPendingAnswer x.0 (record { asking = asking.Restore; sp = i.sp; dest = i.dest; next = i.next; mode = Running })) (sym asks.stands)
     (game_pends f i asking.Restore 0 refl (λ saves. absurd cc) (λ put. cc) running decoded is height asks.room asks.stores)
 
 -- a character that was put is answered with nothing to push or to write
-pub put_answered : (f : FlatState) (p : Pending) → IsPending f p → p.asking ≡ asking.Put
-    → answered_state f (record { value = 0; pushes = []; writes = [] }) ≡ resumed (cut f p.sp) p.next p.mode
+pub put_answered : (f : FlatState) (p : Pending) → IsPendingAnswer f p → p.asking ≡ asking.Put
+    → answered_state f (record { value = 0; pushes = []; writes = [] }) ≡ resumed_at (cut f p.sp) p.next p.mode
 unfolding in_order
 put_answered f p is asks =
     let none : Reply = record { value = 0; pushes = []; writes = [] } in
     is.answers none
-    ∙ ap (λ (d : Dest). resumed (replied f p.sp d none) p.next p.mode) (is.puts asks)
-    ∙ ap (λ (b : List ℕ). resumed (record f { stack = record f.stack { bytes = b } }) p.next p.mode) (append-nil (take p.sp f.stack.bytes))
+    ∙ ap (λ (d : Dest). resumed_at (replied f p.sp d none) p.next p.mode) (is.puts asks)
+    ∙ ap (λ (b : List ℕ). resumed_at (record f { stack = record f.stack { bytes = b } }) p.next p.mode) (append-nil (take p.sp f.stack.bytes))

@@ -7,3 +7,4 @@ pub mod Reading
 pub mod Steps
 pub mod Streams
 pub mod Tries
+pub mod Opened

@@ -23,7 +23,7 @@ use Rattle.gx_machine.specs.declared.askings.Asking.TheVariants as asking
 use Rattle.gx_machine.specs.Quick.{IsStreamed, read_as, operands_read}
 use Rattle.gx_machine.specs.Rows.{row_effect, with_copies}
 use Rattle.gx_machine.specs.Step.{mode_step, probes_by, probes_in}
-use Rattle.gx_machine.specs.Views.{IsPending}
+use Rattle.gx_machine.specs.Views.{IsPendingAnswer}
 use Rattle.gx_machine.proofs.Answers.{print_pends}
 use Rattle.gx_machine.proofs.Reading.{one_read}
 use Rattle.gx_machine.proofs.Tries.{instruction_is}
@@ -93,10 +93,10 @@ pub streamed_probes : (f : FlatState) (c sp next : ℕ) → IsStreamed f c sp ne
 streamed_probes f c sp next s = ap (probes_by f) s.reads ∙ ap (λ (d : Class). probes_of d f s.i) s.prints
 
 pub streamed_pends : (f : FlatState) (c sp next : ℕ) → f.mode ≡ Running → IsStreamed f c sp next → IsHeight f sp → sp_of f ≤ f.stack.limit
-    → IsPending f (record { asking = asking.Put; sp = sp; dest = Nowhere; next = next; mode = Running })
+    → IsPendingAnswer f (record { asking = asking.Put; sp = sp; dest = Nowhere; next = next; mode = Running })
 streamed_pends f c sp next running s height fits =
-    subst (λ (n : ℕ). IsPending f (record { asking = asking.Put; sp = n; dest = Nowhere; next = next; mode = Running })) s.pops
-    (subst (λ (n : ℕ). IsPending f (record { asking = asking.Put; sp = s.i.sp; dest = Nowhere; next = n; mode = Running })) s.goes
+    subst (λ (n : ℕ). IsPendingAnswer f (record { asking = asking.Put; sp = n; dest = Nowhere; next = next; mode = Running })) s.pops
+    (subst (λ (n : ℕ). IsPendingAnswer f (record { asking = asking.Put; sp = s.i.sp; dest = Nowhere; next = n; mode = Running })) s.goes
     (print_pends f f s.i refl running s.reads s.prints (subst (IsHeight f) (sym s.pops) height) fits))
 
 pub ruleset steps = (streamed_steps, streamed_probes)

@@ -54,9 +54,9 @@ units_left None = 2 ^ 64 - 1
 units_left (Some log) = 2 ^ 64 - 1 - units_of log.before
 
 -- the same once what is asked is answered, where something is asked
-abbrev pub left_by : Option Asking → Option Log → FlatMachine → ℕ
-left_by None log m = units_left log
-left_by (Some asking) log m = units_left (logged log m)
+abbrev pub left_once_answered : Option Asking → Option Log → FlatMachine → ℕ
+left_once_answered None log m = units_left log
+left_once_answered (Some asking) log m = units_left (logged log m)
 
 abbrev pub left_after : Option Log → Whole → ℕ
-left_after log m = left_by m.asking log m.machine
+left_after log m = left_once_answered m.asking log m.machine

@@ -74,10 +74,10 @@ IsStoredAnswer f = IsStoredIn f f.mode
 -- WHAT CONTRACTS SAY
 
 -- an asking is answered
-abbrev pub answered : Whole → Reply → Whole
-answered m r = record { machine = answer_of m.machine r; asking = None }
+abbrev pub answered_whole : Whole → Reply → Whole
+answered_whole m r = record { machine = answer_of m.machine r; asking = None }
 
 -- An asking is pending, and the reply fits it.
-pub record IsAnswer (m : Whole) (reply : Reply) : Type 0 where
+pub record AnswersAsking (m : Whole) (reply : Reply) : Type 0 where
   pub pending : IsSome m.asking
   pub fits : IsReply m.machine.flat (room_of m.asking) reply

@@ -110,8 +110,8 @@ called_on f at args d p = do
   Ok (g, Went)
 
 -- on at an address, once the pops are made
-abbrev pub gone_on : FlatState → ℕ → Cursor → Result (FlatState × Effect) Fault
-gone_on f pc p = goes_to (cut f (sp_after f p)) pc
+abbrev pub jumped_on : FlatState → ℕ → Cursor → Result (FlatState × Effect) Fault
+jumped_on f pc p = goes_to (cut f (sp_after f p)) pc
 
 -- what the row makes of the values that were read, with its destination; and whether it may want memory
 abbrev pub operands_read : List ℕ → Dest → Bool → Cursor → Operands
@@ -129,9 +129,9 @@ pub record IsPlain (row : Row) : Type 0 where
   pub in_order : row.store_first ≡ false
 
 -- Steps that go on and ask nothing, and after them a fault where there is one: all stands then as the steps left it.
-abbrev pub Passed : ℕ → Result (Unit {0}) Fault → Whole × ℕ → Whole × ℕ → Type 0
-Passed word (Ok x) old new = (n : ℕ) × Passes word n old None new None
-Passed word (Err e) old new =
+abbrev pub PassesUntil : ℕ → Result (Unit {0}) Fault → Whole × ℕ → Whole × ℕ → Type 0
+PassesUntil word (Ok x) old new = (n : ℕ) × Passes word n old None new None
+PassesUntil word (Err e) old new =
     (n : ℕ) × Passes word n old None new None
     × IsRefused (IsStepWriting new.0.machine new.1) e (stepped new.0 word new.1)
 

@@ -7,7 +7,7 @@ ghost use Rattle.gx_state.specs.declared.modes.Mode.TheVariants.{Running};
 ghost use Rattle.gx_state.specs.Copies.{IsCopyFor};
 ghost use Rattle.ops_print.specs.Asks.{is_put};
 ghost use Rattle.gx_machine.specs.Machine.{Whole};
-ghost use Rattle.gx_machine.specs.Answer.{IsStoredAnswer, answered, IsAnswer};
+ghost use Rattle.gx_machine.specs.Answer.{IsStoredAnswer, answered_whole, AnswersAsking};
 ghost use Rattle.gx_machine.specs.Saves.{restored_whole, saved_copy};
 ghost use Rattle.gx_machine.specs.Step.{stepped};
 ghost use Rattle.gx_machine.specs.Log.{Log, logged};
@@ -37,8 +37,8 @@ pub trait Engine<A: Allocator + Clone> {
         ensures { Advances word result (whole self.old, budget.old) (log self.old) budget.new (whole self.new, left.new)
             (log self.new) };
 
-    /// The character that the next step within the budget asks to be put, where it is an item of what is printed, or one
-    /// that code prints by itself: the step is made then. Else nothing is done.
+    /// The character that the next step within the budget asks to be put, where it is an item of what is printed, or
+    /// one that code prints by itself: the step is made then. Else nothing is done.
     fn next_put(&mut self, budget: u64) -> Option<u32>
         requires asks { (whole self.old).asking ≡ None }
         requires room { budget ≤ units_left (log self.old) }
@@ -54,8 +54,8 @@ pub trait Engine<A: Allocator + Clone> {
 
     /// Answers what the last step asked.
     fn finish(&mut self, reply: &Reply) -> Result<(), AllocError>
-        requires { IsAnswer (whole self.old) reply.now }
-        ensures ok { OnOk result (whole self.new ≡ answered (whole self.old) reply.now) }
+        requires { AnswersAsking (whole self.old) reply.now }
+        ensures ok { OnOk result (whole self.new ≡ answered_whole (whole self.old) reply.now) }
         ensures logs { OnOk result (log self.new ≡ logged (log self.old) (whole self.old).machine) }
         ensures err { OnErr result ((whole self.new ≡ whole self.old) × (log self.new ≡ log self.old)) }
         ensures memory { OnErr result (IsSome (log self.old)
@@ -64,7 +64,8 @@ pub trait Engine<A: Allocator + Clone> {
     /// The same for a character that was put, with a reply that pushes and writes nothing. It never wants memory.
     fn finish_put(&mut self)
         requires { (whole self.old).asking ≡ Some Asking.Put }
-        ensures value { whole self.new ≡ answered (whole self.old) (record { value = 0; pushes = []; writes = [] }) }
+        ensures value { whole self.new
+            ≡ answered_whole (whole self.old) (record { value = 0; pushes = []; writes = [] }) }
         ensures logs { log self.new ≡ logged (log self.old) (whole self.old).machine };
 
     /// The copy that the save which the last step asked is to write.

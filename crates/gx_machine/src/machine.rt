@@ -12,14 +12,14 @@ ghost use Rattle.gx_pages.specs.Memory.{HasBytes};
 ghost use Rattle.ops_print.specs.Asks.{is_put};
 ghost use Rattle.gx_undo.specs.Undo.{most_undo};
 ghost use Rattle.gx_machine.specs.declared.askings.Asking.TheVariants as asking;
-ghost use Rattle.gx_machine.specs.Answer.{answered_state, with_writes, with_pushes, IsStoredAnswer, answered, IsAnswer};
+ghost use Rattle.gx_machine.specs.Answer.{answered_state, with_writes, with_pushes, IsStoredAnswer, answered_whole};
+ghost use Rattle.gx_machine.specs.Answer.{AnswersAsking};
 ghost use Rattle.gx_machine.specs.Saves.{restored_whole, saved_copy};
 ghost use Rattle.gx_machine.specs.Step.{room_of, asking_of, stepped, IsStepWriting};
-ghost use Rattle.gx_machine.specs.Quick.{Tries, Passed};
+ghost use Rattle.gx_machine.specs.Quick.{Tries, PassesUntil};
 ghost use Rattle.gx_machine.specs.Start.{first_machine};
-ghost use Rattle.gx_machine.specs.Step.{asking_of, room_of, stepped, IsStepWriting};
 ghost use Rattle.gx_machine.specs.Advancing.{Advances, Passes};
-ghost use Rattle.gx_machine.specs.Views.{IsPending, result_len};
+ghost use Rattle.gx_machine.specs.Views.{IsPendingAnswer, result_len};
 
 use crate::quick::quick;
 use crate::rows::{drop_next, next_put, print, run};
@@ -56,11 +56,11 @@ impl<A: Allocator + Clone> Model for Machine<A> {
 
     ghost Value = { Whole };
 
-    ghost use Rattle.gx_machine.specs.Views.{whole_of, IsWhole};
+    ghost use Rattle.gx_machine.specs.Views.{whole_of, IsMachine};
 
     ghost view = { whole_of };
 
-    ghost invariant = { IsWhole };
+    ghost invariant = { IsMachine };
 }
 
 impl<A: Allocator + Clone> Machine<A> {
@@ -185,7 +185,7 @@ impl<A: Allocator + Clone> Machine<A> {
     #[inline(always)]
     fn passes(&mut self, budget: &mut u64) -> Result<(), Fault>
         requires asks { self.old.asking ≡ None }
-        ensures value { (word : ℕ) → Passed word result (self.old, budget.old) (self.new, budget.new) }
+        ensures value { (word : ℕ) → PassesUntil word result (self.old, budget.old) (self.new, budget.new) }
         ensures asks { self.new.asking ≡ None }
         ensures no_more { budget.new ≤ budget.old }
     {
@@ -259,7 +259,7 @@ impl<A: Allocator + Clone> Machine<A> {
     #[tactic(auto, using(crate::proofs::Steps::steps))]
     fn passes_running(&mut self, budget: &mut u64) -> Result<(), Fault>
         requires asks { self.old.asking ≡ None }
-        ensures value { (word : ℕ) → Passed word result (self.old, budget.old) (self.new, budget.new) }
+        ensures value { (word : ℕ) → PassesUntil word result (self.old, budget.old) (self.new, budget.new) }
         ensures asks { self.new.asking ≡ None }
         ensures no_more { budget.new ≤ budget.old }
     {
@@ -376,8 +376,8 @@ impl<A: Allocator + Clone> Machine<A> {
     /// and the value is stored.
     #[tactic(auto, unfolding(crate::specs::Answer::answer_of))]
     pub fn finish(&mut self, reply: &Reply) -> Result<(), AllocError>
-        requires { IsAnswer self.old reply.now }
-        ensures ok { OnOk result (self.new ≡ answered self.old reply.now) }
+        requires { AnswersAsking self.old reply.now }
+        ensures ok { OnOk result (self.new ≡ answered_whole self.old reply.now) }
         ensures err { OnErr result (self.new ≡ self.old) }
         ensures memory { OnErr result (HasBytes reply.now.writes ⊎ IsStoredAnswer self.old.machine.flat) }
     {
@@ -393,7 +393,7 @@ impl<A: Allocator + Clone> Machine<A> {
     #[tactic(auto, unfolding(crate::specs::Answer::answer_of))]
     pub fn finish_put(&mut self)
         requires { self.old.asking ≡ Some asking.Put }
-        ensures { self.new ≡ answered self.old (record { value = 0; pushes = []; writes = [] }) }
+        ensures { self.new ≡ answered_whole self.old (record { value = 0; pushes = []; writes = [] }) }
     {
         if let Some(pending) = &self.pending {
             answer_put(&mut self.state, pending);
@@ -431,7 +431,7 @@ impl<A: Allocator + Clone> Machine<A> {
 }
 
 /// Makes the writes of a reply, and stores its value where that goes to memory or a local.
-#[tactic(auto, unfolding(gx_state::specs::Stores::store_fault, gx_state::specs::Calls::with_local, gx_stack::specs::Calls::with_local))]
+#[tactic(auto, unfolding(crate::proofs::Opened::setting_local))]
 fn write_all<A: Allocator + Clone>(
     state: &mut State<A>,
     pending: &Pending,
@@ -459,7 +459,7 @@ fn write_all<A: Allocator + Clone>(
 }
 
 /// Pushes the values of a reply, and its value where that is pushed.
-#[tactic(auto, unfolding(gx_state::specs::Calls::pushed, gx_state::specs::Calls::pushed_all, gx_stack::specs::Calls::pushed, gx_stack::specs::Calls::pushed_all), using(gx_stack::proofs::Turns::value_turns))]
+#[tactic(auto, unfolding(crate::proofs::Opened::pushing), using(gx_stack::proofs::Turns::value_turns))]
 fn push_all<A: Allocator + Clone>(state: &mut State<A>, pending: &Pending, reply: &Reply)
     requires live { 0 < sp_of state.old.flat }
     requires room { sp_of state.old.flat + 4 * length reply.now.pushes + result_len pending.now.dest
@@ -484,7 +484,7 @@ fn answer<A: Allocator + Clone>(
     pending: &Pending,
     reply: &Reply,
 ) -> Result<(), AllocError>
-    requires pends { IsPending state.old.flat pending.now }
+    requires pends { IsPendingAnswer state.old.flat pending.now }
     requires fits { IsReply state.old.flat (room_of (Some pending.now.asking)) reply.now }
     ensures ok { OnOk result (state.new.flat ≡ answered_state state.old.flat reply.now) }
     ensures err { OnErr result (state.new.flat ≡ state.old.flat) }
@@ -502,7 +502,7 @@ fn answer<A: Allocator + Clone>(
 #[inline(always)]
 #[tactic(auto, using(crate::proofs::Answers::put_answered))]
 fn answer_put<A: Allocator + Clone>(state: &mut State<A>, pending: &Pending)
-    requires pends { IsPending state.old.flat pending.now }
+    requires pends { IsPendingAnswer state.old.flat pending.now }
     requires asks { pending.now.asking ≡ asking.Put }
     ensures { state.new.flat ≡ answered_state state.old.flat (record { value = 0; pushes = []; writes = [] }) }
 {

@@ -10,7 +10,6 @@ ghost use Rattle.std.specs.Int.{w32, cast_signed, cast_unsigned, int_div_euclid,
 ghost use Rattle.gx_words.specs.declared.faults.Fault.TheVariants.{BadAddress};
 ghost use Rattle.gx_words.specs.Constants.{ceiling};
 ghost use Rattle.gx_words.specs.Numbers.{IsWidth, byte};
-ghost use Rattle.ops_calc.specs.Acts as acts;
 ghost use Rattle.gx_state.specs.declared.effects.Effect.TheVariants.{Went};
 ghost use Rattle.gx_state.specs.declared.modes.Mode.TheVariants.{Running};
 ghost use Rattle.gx_state.specs.Flat.{cut, sp_of, IsHeight};
@@ -20,9 +19,11 @@ ghost use Rattle.gx_operands.specs.Plans.{HasValues};
 ghost use Rattle.gx_undo.specs.Undo.{FlatUndo};
 ghost use Rattle.ops_flow.specs.Rows.{branches, returns};
 ghost use Rattle.gx_machine.specs.Quick.{Tries, IsPlain, IsQuick, quick_row, read_effect, IsReadWriting, IsRowWriting};
-ghost use Rattle.gx_machine.specs.Quick.{sp_after, stored_on, computed_on, fetched_on, called_on, gone_on, IsStreamed};
+ghost use Rattle.gx_machine.specs.Quick.{sp_after, stored_on, computed_on, fetched_on, called_on, jumped_on};
+ghost use Rattle.gx_machine.specs.Quick.{IsStreamed};
 ghost use Rattle.gx_machine.specs.Step.{mode_step, probes_in, IsModeWriting};
-ghost use Rattle.gx_machine.specs.Views.{machine_of};
+ghost use Rattle.gx_machine.specs.Views.{machine_with};
+ghost use Rattle.ops_calc.specs.Acts as acts;
 
 use arrayvec::ArrayVec;
 use gx_operands::{Cursor, arguments, destination, find_row, load, opcode, settle, stack_pointer};
@@ -63,7 +64,7 @@ fn store_on<A: Allocator + Clone>(
 fn go_on<A: Allocator + Clone>(state: &mut State<A>, pc: u32, cursor: &Cursor)
     requires live { 0 < sp_of state.old.flat }
     requires popped { HasValues state.old.flat cursor.now.popped }
-    ensures value { gone_on state.old.flat pc cursor.now ≡ Ok (state.new.flat, Went) }
+    ensures value { jumped_on state.old.flat pc cursor.now ≡ Ok (state.new.flat, Went) }
     ensures story { state.new.flat.story ≡ state.old.flat.story }
 {
     let sp = stack_pointer(state, cursor.popped);
@@ -99,7 +100,7 @@ fn jump<A: Allocator + Clone>(
     requires popped { HasValues state.old.flat cursor.now.popped }
     ensures value { Tries ⊥ (Ok result) state.old.flat state.new.flat
         (if holds then branches (cut state.old.flat (sp_after state.old.flat cursor.now)) cursor.now.at offset
-        else gone_on state.old.flat cursor.now.at cursor.now) }
+        else jumped_on state.old.flat cursor.now.at cursor.now) }
     ensures story { state.new.flat.story ≡ state.old.flat.story }
 {
     if holds {
@@ -285,7 +286,7 @@ fn give_back<A: Allocator + Clone>(
 
 /// Does a row of two loads and a store.
 #[inline(always)]
-#[tactic(auto, unfolding(ops_flow::specs::Rows::computes, ops_flow::specs::Rows::flow, ops_flow::specs::Rows::callf, ops_memory::specs::Rows::memory, ops_memory::specs::Rows::aload, ops_memory::specs::Rows::aloads, ops_memory::specs::Rows::aloadb))]
+#[tactic(auto, unfolding(crate::proofs::Opened::rows_of_two_and_store))]
 fn do_two_and_store<A: Allocator + Clone>(
     state: &mut State<A>,
     row: &Row,
@@ -322,7 +323,7 @@ fn do_two_and_store<A: Allocator + Clone>(
 
 /// Does a row of three loads.
 #[inline(always)]
-#[tactic(auto, unfolding(ops_flow::specs::Rows::jumps, ops_memory::specs::Rows::memory, ops_memory::specs::Rows::astore, ops_memory::specs::Rows::astores, ops_memory::specs::Rows::astoreb))]
+#[tactic(auto, unfolding(crate::proofs::Opened::rows_of_three))]
 fn do_three<A: Allocator + Clone>(
     state: &mut State<A>,
     row: &Row,
@@ -379,7 +380,7 @@ fn do_two<A: Allocator + Clone>(
 
 /// Does a row of a load and a store.
 #[inline(always)]
-#[tactic(auto, unfolding(ops_flow::specs::Rows::computes, ops_flow::specs::Rows::flow, ops_flow::specs::Rows::callf, ops_memory::specs::Rows::copy))]
+#[tactic(auto, unfolding(crate::proofs::Opened::rows_of_one_and_store))]
 fn do_one_and_store<A: Allocator + Clone>(
     state: &mut State<A>,
     row: &Row,
@@ -469,7 +470,7 @@ fn do_three_and_store<A: Allocator + Clone>(
 
 /// Does a row of a store alone.
 #[inline(always)]
-#[tactic(auto, unfolding(ops_memory::specs::Rows::memory, ops_memory::specs::Rows::getmemsize))]
+#[tactic(auto, unfolding(ops_memory::specs::Rows::memory, ops_memory::specs::Space::getmemsize))]
 fn do_store<A: Allocator + Clone>(
     state: &mut State<A>,
     row: &Row,
@@ -743,8 +744,8 @@ fn is_quick(class: Class) -> bool
 pub(crate) fn quick<A: Allocator + Clone>(state: &mut State<A>) -> Result<bool, Fault>
     requires { 0 < sp_of state.old.flat }
     ensures value { (u : FlatUndo) (word : ℕ)
-        → Tries (IsModeWriting (machine_of state.old u) Running) result (machine_of state.old u)
-        (machine_of state.new u) (mode_step (machine_of state.old u) word Running) }
+        → Tries (IsModeWriting (machine_with state.old u) Running) result (machine_with state.old u)
+        (machine_with state.new u) (mode_step (machine_with state.old u) word Running) }
     ensures free { result ≢ Ok false → probes_in state.old.flat Running ≡ 0 }
     ensures story { state.new.flat.story ≡ state.old.flat.story }
 {

@@ -19,7 +19,7 @@ ghost use Rattle.gx_machine.specs.declared.askings.Asking.TheVariants as asking;
 ghost use Rattle.gx_machine.specs.Quick.{Tries};
 ghost use Rattle.gx_machine.specs.Rows.{room_above, glk, row_effect, IsWriting};
 ghost use Rattle.gx_machine.specs.Step.{asking_of, mode_step, probes_in, IsModeWriting};
-ghost use Rattle.gx_machine.specs.Views.{IsPending, result_len, machine_of};
+ghost use Rattle.gx_machine.specs.Views.{IsPendingAnswer, result_len, machine_with};
 
 use crate::Asking;
 use crate::machine::Pending;
@@ -56,7 +56,7 @@ fn glk<A: Allocator + Clone>(
     requires class { (instruction_of plan.now).row.class ≡ Class.Glk }
     ensures value { Reads (λ effect. (state.now.flat, effect)) result (glk state.now.flat (instruction_of plan.now)) }
     ensures asks { IfOk result (λ effect. asking_of effect ≡ option_map (λ p. p.asking) pending.new) }
-    ensures pends { OnOk result (IfSome pending.new (IsPending state.now.flat)) }
+    ensures pends { OnOk result (IfSome pending.new (IsPendingAnswer state.now.flat)) }
     ensures stays { OnErr result (pending.new ≡ pending.old) }
     ensures spent { IfOk result (λ effect. effect ≢ Spent) }
 {
@@ -109,7 +109,7 @@ fn print_row<A: Allocator + Clone>(
         (print.row_effect state.old.flat (instruction_of plan.now)) }
     ensures asks { IfOk result (λ effect. asking_of effect ≡ option_map (λ p. p.asking) pending.new) }
     ensures stands { OnOk result (IsSome pending.new → state.new.flat ≡ state.old.flat) }
-    ensures pends { OnOk result (IfSome pending.new (IsPending state.new.flat)) }
+    ensures pends { OnOk result (IfSome pending.new (IsPendingAnswer state.new.flat)) }
     ensures stays { OnErr result (pending.new ≡ None) }
     ensures spent { IfOk result (λ effect. effect ≢ Spent) }
     ensures story { state.new.flat.story ≡ state.old.flat.story }
@@ -136,7 +136,7 @@ pub(crate) fn print<A: Allocator + Clone>(
     ensures value { Does ⊥ (λ effect. effect) result state.old.flat state.new.flat (printed state.old.flat) }
     ensures asks { IfOk result (λ effect. asking_of effect ≡ option_map (λ p. p.asking) pending.new) }
     ensures stands { OnOk result (IsSome pending.new → state.new.flat ≡ state.old.flat) }
-    ensures pends { OnOk result (IfSome pending.new (IsPending state.new.flat)) }
+    ensures pends { OnOk result (IfSome pending.new (IsPendingAnswer state.new.flat)) }
     ensures stays { OnErr result (pending.new ≡ None) }
     ensures spent { IfOk result (λ effect. effect ≢ Spent) }
     ensures story { state.new.flat.story ≡ state.old.flat.story }
@@ -164,11 +164,11 @@ pub(crate) fn next_put<A: Allocator + Clone>(
     requires free { pending.old ≡ None }
     requires live { 0 < sp_of state.now.flat }
     ensures value { IfSome result (λ c. (u : FlatUndo) (word : ℕ)
-        → mode_step (machine_of state.now u) word state.now.flat.mode ≡ Ok (machine_of state.now u, Put c)) }
+        → mode_step (machine_with state.now u) word state.now.flat.mode ≡ Ok (machine_with state.now u, Put c)) }
     ensures probes { IfSome result (λ c. probes_in state.now.flat state.now.flat.mode ≡ 0) }
     ensures live { 0 < sp_of state.now.flat }
     ensures asks { IfSome result (λ c. option_map (λ p. p.asking) pending.new ≡ Some asking.Put) }
-    ensures pends { IfSome pending.new (IsPending state.now.flat) }
+    ensures pends { IfSome pending.new (IsPendingAnswer state.now.flat) }
     ensures none { result ≡ None → pending.new ≡ None }
     ensures rest { result ≡ None → state.now.flat.mode ≢ Running
         → IfOk (printed state.now.flat) (λ r. is_put r.1 ≡ false) }
@@ -190,10 +190,10 @@ fn next_streamed<A: Allocator + Clone>(
     requires live { 0 < sp_of state.now.flat }
     requires running { state.now.flat.mode ≡ Running }
     ensures value { IfSome result (λ c. (u : FlatUndo) (word : ℕ)
-        → mode_step (machine_of state.now u) word Running ≡ Ok (machine_of state.now u, Put c)) }
+        → mode_step (machine_with state.now u) word Running ≡ Ok (machine_with state.now u, Put c)) }
     ensures probes { IfSome result (λ c. probes_in state.now.flat Running ≡ 0) }
     ensures asks { IfSome result (λ c. option_map (λ p. p.asking) pending.new ≡ Some asking.Put) }
-    ensures pends { IfSome pending.new (IsPending state.now.flat) }
+    ensures pends { IfSome pending.new (IsPendingAnswer state.now.flat) }
     ensures none { result ≡ None → pending.new ≡ None }
 {
     let _stack = state.stack(); // a state is sound
@@ -215,7 +215,7 @@ fn next_item<A: Allocator + Clone>(
     requires printing { state.now.flat.mode ≡ APrinting printing.now }
     ensures value { IfSome result (λ c. printed state.now.flat ≡ Ok (state.now.flat, Put c)) }
     ensures asks { IfSome result (λ c. option_map (λ p. p.asking) pending.new ≡ Some asking.Put) }
-    ensures pends { IfSome pending.new (IsPending state.now.flat) }
+    ensures pends { IfSome pending.new (IsPendingAnswer state.now.flat) }
     ensures none { result ≡ None → pending.new ≡ None }
     ensures rest { result ≡ None → IfOk (printed state.now.flat) (λ r. is_put r.1 ≡ false) }
 {
@@ -288,8 +288,9 @@ fn game_row<A: Allocator + Clone>(
         (state.old.flat, undo.old) (state.new.flat, undo.new)
         (game.row_effect state.old.flat undo.old word (instruction_of plan.now)) }
     ensures asks { IfOk result (λ effect. asking_of effect ≡ option_map (λ p. p.asking) pending.new) }
-    ensures stands { OnOk result (IsSome pending.new → machine_of state.new undo.new ≡ machine_of state.old undo.old) }
-    ensures pends { OnOk result (IfSome pending.new (IsPending state.new.flat)) }
+    ensures stands { OnOk result (IsSome pending.new
+        → machine_with state.new undo.new ≡ machine_with state.old undo.old) }
+    ensures pends { OnOk result (IfSome pending.new (IsPendingAnswer state.new.flat)) }
     ensures stays { OnErr result (pending.new ≡ None) }
     ensures spent { IfOk result (λ effect. effect ≢ Spent) }
     ensures story { state.new.flat.story ≡ state.old.flat.story }
@@ -323,13 +324,14 @@ fn row<A: Allocator + Clone>(
     requires sp { IsHeight state.old.flat plan.now.sp }
     requires decoded { instruction state.old.flat ≡ Ok (instruction_of plan.now) }
     requires copies { AreCopiesFor state.old.flat.story undo.old.copies }
-    ensures value { let machine = machine_of state.old undo.old in let i = instruction_of plan.now in
+    ensures value { let machine = machine_with state.old undo.old in let i = instruction_of plan.now in
         Does (IsWriting i.row.class machine i) (λ effect. effect) result (machine, left.old)
-        (machine_of state.new undo.new, left.new)
+        (machine_with state.new undo.new, left.new)
         (charged left.old (probes_of i.row.class state.old.flat i) machine (row_effect i.row.class machine word i)) }
     ensures asks { IfOk result (λ effect. asking_of effect ≡ option_map (λ p. p.asking) pending.new) }
-    ensures stands { OnOk result (IsSome pending.new → machine_of state.new undo.new ≡ machine_of state.old undo.old) }
-    ensures pends { OnOk result (IfSome pending.new (IsPending state.new.flat)) }
+    ensures stands { OnOk result (IsSome pending.new
+        → machine_with state.new undo.new ≡ machine_with state.old undo.old) }
+    ensures pends { OnOk result (IfSome pending.new (IsPendingAnswer state.new.flat)) }
     ensures stays { OnErr result (pending.new ≡ None) }
     ensures spent { IfOk result (λ effect. effect ≡ Spent
         → left.old < probes_of (instruction_of plan.now).row.class state.old.flat (instruction_of plan.now)) }
@@ -361,13 +363,14 @@ pub(crate) fn run<A: Allocator + Clone>(
     requires live { 0 < sp_of state.old.flat }
     requires running { state.old.flat.mode ≡ Running }
     requires copies { AreCopiesFor state.old.flat.story undo.old.copies }
-    ensures value { let machine = machine_of state.old undo.old in
+    ensures value { let machine = machine_with state.old undo.old in
         Does (IsModeWriting machine Running) (λ effect. effect) result (machine, left.old)
-        (machine_of state.new undo.new, left.new)
+        (machine_with state.new undo.new, left.new)
         (charged left.old (probes_in state.old.flat Running) machine (mode_step machine word Running)) }
     ensures asks { IfOk result (λ effect. asking_of effect ≡ option_map (λ p. p.asking) pending.new) }
-    ensures stands { OnOk result (IsSome pending.new → machine_of state.new undo.new ≡ machine_of state.old undo.old) }
-    ensures pends { OnOk result (IfSome pending.new (IsPending state.new.flat)) }
+    ensures stands { OnOk result (IsSome pending.new
+        → machine_with state.new undo.new ≡ machine_with state.old undo.old) }
+    ensures pends { OnOk result (IfSome pending.new (IsPendingAnswer state.new.flat)) }
     ensures stays { OnErr result (pending.new ≡ None) }
     ensures spent { IfOk result (λ effect. effect ≡ Spent → left.old < probes_in state.old.flat Running) }
     ensures affords { IfErr result (IsAfforded left.old (probes_in state.old.flat Running)) }

@@ -106,9 +106,6 @@ pub record Operands : Type 0 where
 abbrev pub no_operands : Cursor → Operands
 no_operands p = record { loads = []; dest = dest.Nowhere; second = dest.Nowhere; stored = false; cursor = p }
 
-abbrev pub with_load : Operands → ℕ → Cursor → Operands
-with_load o v p = record o { loads = o.loads ++ v ∷ []; cursor = p }
-
 abbrev pub with_destination : Operands → Dest → Cursor → Operands
 with_destination o d p =
     if o.stored then record o { second = d; cursor = p } else record o { dest = d; stored = true; cursor = p }
@@ -117,7 +114,7 @@ with_destination o d p =
 unfoldable pub with_operand : FlatState → ℕ → Kind → ℕ → Operands → Result Operands Fault
 with_operand f width Load nibble o = do
   v ← load f width nibble o.cursor
-  Ok (with_load o v.0 v.1)
+  Ok (record o { loads = o.loads ++ v.0 ∷ []; cursor = v.1 })
 with_operand f width Store nibble o = do
   d ← destination f nibble o.cursor
   Ok (with_destination o d.0 d.1)
@@ -170,35 +167,31 @@ instruction f = do
     sp = sp_of f - 4 * o.cursor.popped;
   })
 
--- a value that an instruction loads, by its index; 0 where it loads fewer
-abbrev pub operand_at : Instruction → ℕ → ℕ
-operand_at i n = slice_index i.loads n
-
--- the load operands by their names in the standard
+-- the load operands by their names in the standard, 0 where an instruction loads fewer
 abbrev pub L1 : Instruction → ℕ
-L1 i = operand_at i 0
+L1 i = slice_index i.loads 0
 
 abbrev pub L2 : Instruction → ℕ
-L2 i = operand_at i 1
+L2 i = slice_index i.loads 1
 
 abbrev pub L3 : Instruction → ℕ
-L3 i = operand_at i 2
+L3 i = slice_index i.loads 2
 
 abbrev pub L4 : Instruction → ℕ
-L4 i = operand_at i 3
+L4 i = slice_index i.loads 3
 
 abbrev pub L5 : Instruction → ℕ
-L5 i = operand_at i 4
+L5 i = slice_index i.loads 4
 
 abbrev pub L6 : Instruction → ℕ
-L6 i = operand_at i 5
+L6 i = slice_index i.loads 5
 
 abbrev pub L7 : Instruction → ℕ
-L7 i = operand_at i 6
+L7 i = slice_index i.loads 6
 
 -- the last of them, which is the offset of a branch
 abbrev pub last_load : Instruction → ℕ
-last_load i = operand_at i (i.row.loads - 1)
+last_load i = slice_index i.loads (i.row.loads - 1)
 
 -- the next instruction is at an address
 abbrev pub going_to : FlatState → ℕ → FlatState

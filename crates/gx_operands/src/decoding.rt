@@ -11,7 +11,7 @@ ghost use Rattle.gx_words.specs.Faults.{Reads};
 ghost use Rattle.gx_pages.specs.Memory.{number_in};
 ghost use Rattle.gx_rows.specs.Table.{row_count, row_of, row_at, RowFits};
 ghost use Rattle.gx_state.specs.Flat.{sp_of, IsHeight};
-ghost use Rattle.gx_operands.specs.Instructions.{opcode, past, datum, load_by, load, destination_by, destination};
+ghost use Rattle.gx_operands.specs.Instructions.{opcode, datum, load_by, load, destination_by, destination};
 ghost use Rattle.gx_operands.specs.Instructions.{with_operand, nibble, operand, operands, all_operands, instruction};
 ghost use Rattle.gx_operands.specs.Plans.{HasValues, operands_of, instruction_of};
 
@@ -273,7 +273,7 @@ fn top<A: Allocator + Clone>(
 
 /// What a load operand gives by its mode's nibble; the cursor goes behind it.
 #[inline(always)]
-#[tactic(auto, unfolding(crate::specs::Instructions::load, gx_rows::specs::Modes::addressing, crate::specs::Instructions::load_by))]
+#[tactic(auto, unfolding(crate::proofs::Opened::loading))]
 pub fn load<A: Allocator + Clone>(
     state: &State<A>,
     width: u32,
@@ -358,7 +358,7 @@ fn to_local<A: Allocator + Clone>(
 
 /// Where a store operand points by its mode's nibble; the cursor goes behind it.
 #[inline(always)]
-#[tactic(auto, unfolding(crate::specs::Instructions::destination, gx_rows::specs::Modes::addressing, crate::specs::Instructions::destination_by))]
+#[tactic(auto, unfolding(crate::proofs::Opened::pointing))]
 pub fn destination<A: Allocator + Clone>(
     state: &State<A>,
     nibble: u32,

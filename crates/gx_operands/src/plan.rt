@@ -1,5 +1,5 @@
 //! An instruction that was read.
-ghost use Rattle.std.specs.Prelude.{◌≡◌, ◌+◌, ◌<◌, []};
+ghost use Rattle.std.specs.Prelude.{◌≡◌, ◌+◌, ◌<◌, [], ◌∷◌, ◌++◌, slice_index};
 ghost use Rattle.arrayvec.specs.ArrayVec.{array_vec_len};
 ghost use Rattle.gx_rows.specs.Table.{row_count};
 
@@ -29,7 +29,7 @@ pub struct Plan {
 
 impl Plan {
     ghost use Rattle.gx_rows.specs.Table.{RowFits};
-    ghost use Rattle.gx_operands.specs.Instructions.{operand_at, no_operands, with_load, with_destination};
+    ghost use Rattle.gx_operands.specs.Instructions.{no_operands, with_destination};
     ghost use Rattle.gx_operands.specs.Plans.{instruction_of, operands_of};
 
     /// A plan that `decode_into` fills. It stands for no instruction yet.
@@ -86,7 +86,10 @@ impl Plan {
     #[inline(always)]
     pub(crate) fn take_load(&mut self, v: u32, cursor: Cursor)
         requires { array_vec_len self.old.loads < 8 }
-        ensures value { operands_of self.new ≡ with_load (operands_of self.old) v cursor }
+        ensures value { operands_of self.new ≡ record (operands_of self.old) {
+          loads = (operands_of self.old).loads ++ v ∷ [];
+          cursor = cursor;
+        } }
         ensures room { array_vec_len self.new.loads ≡ array_vec_len self.old.loads + 1 }
         ensures row { self.new.row ≡ self.old.row }
     {
@@ -122,7 +125,7 @@ impl Plan {
     /// A value that the instruction loads, 0 where it loads fewer.
     #[inline(always)]
     pub fn load(&self, i: usize) -> u32
-        ensures { result ≡ operand_at (instruction_of self.now) i }
+        ensures { result ≡ slice_index (instruction_of self.now).loads i }
     {
         self.loads.get(i).copied().unwrap_or(0)
     }

@@ -43,7 +43,7 @@ pub fn can_store<A: Allocator + Clone>(
 }
 
 /// Stores the low 1, 2 or 4 bytes of a value.
-#[tactic(auto, unfolding(gx_state::specs::Stores::stored, gx_state::specs::Stores::store_fault, gx_state::specs::Calls::pushed, gx_state::specs::Calls::with_local, gx_stack::specs::Calls::pushed, gx_stack::specs::Calls::with_local))]
+#[tactic(auto, unfolding(gx_state::proofs::Opened::storing_anywhere))]
 pub fn store<A: Allocator + Clone>(
     state: &mut State<A>,
     dest: &Dest,
@@ -89,7 +89,7 @@ fn write<A: Allocator + Clone>(
 }
 
 /// Stores the low 1, 2 or 4 bytes of a value after the stack was cut to `sp`.
-#[tactic(auto, unfolding(crate::specs::Stores::settled, gx_state::specs::Stores::stored, gx_state::specs::Stores::store_fault, gx_state::specs::Calls::pushed, gx_state::specs::Calls::with_local, gx_stack::specs::Calls::pushed, gx_stack::specs::Calls::with_local))]
+#[tactic(auto, unfolding(crate::specs::Stores::settled, gx_state::proofs::Opened::storing_anywhere))]
 #[inline(always)]
 pub fn settle<A: Allocator + Clone>(
     state: &mut State<A>,

@@ -8,7 +8,7 @@ use Rattle.std.specs.Cmp.Lexicographic.{slice_cmp}
 use Rattle.std.specs.Ordering.{nat_cmp}
 use Rattle.std.specs.FinMap.{FinMap, code, from_entries, get}
 use Rattle.gx_outside.specs.Files.{Files}
-use Rattle.gx_outside.specs.Outside.{FlatSource, FlatSink, FlatShelf, no_call, raised, counted}
+use Rattle.gx_outside.specs.Outside.{FlatSource, FlatSink, FlatShelf, no_call, raised, counted_call}
 use Rattle.gx_outside.specs.declared.calls.Calls.{Calls}
 
 -- the numbers of the calls that fail, and the counts
@@ -26,7 +26,7 @@ fails_next c = list_any (λ n. n == raised c.counts.made) c.fails
 
 -- one more call was made, and wanted memory or didn't
 abbrev pub after_call : HeldCalls → Bool → HeldCalls
-after_call c wanted = record c { counts = counted c.counts (fails_next c) wanted }
+after_call c wanted = record c { counts = counted_call c.counts (fails_next c) wanted }
 
 -- a sink in memory: the bytes that it has taken
 pub record HeldSink : Type 0 where

@@ -53,8 +53,8 @@ offered_in zero room offered = offered
 offered_in (suc reads) room offered = offered_by room (offered_in reads room offered)
 
 -- the counts after one more call, which failed or not, and wanted memory or not
-abbrev pub counted : Calls → Bool → Bool → Calls
-counted c failed wanted =
+abbrev pub counted_call : Calls → Bool → Bool → Calls
+counted_call c failed wanted =
     record {
       made = raised c.made;
       faults = if failed

@@ -1,11 +1,12 @@
 -- What a source offers room for and what it gives, call by call.
-use Rattle.std.specs.Prelude.{◌≡◌, ◌≤◌, ◌<◌, ◌++◌, ℕ, List, [], take, length, true, false, Result, Ok, Err, IfOk, is_err}
+use Rattle.std.specs.Prelude.{◌≡◌, ◌≤◌, ◌<◌, ◌++◌, ℕ, List, [], take, length, true, false, Result, Ok, Err, IfOk}
+use Rattle.std.specs.Prelude.{is_err}
 use Rattle.gx_outside.specs.declared.devices.Failed.{Failed}
 use Rattle.gx_outside.specs.Outside.{FlatSource, HasCause, offered_by}
 
 -- A read: for how many bytes it had room, and the bytes that it gave, or the failure.
-abbrev pub Read : Type 0
-Read = ℕ × Result (List ℕ) Failed
+abbrev pub SourceRead : Type 0
+SourceRead = ℕ × Result (List ℕ) Failed
 
 -- what was given of a slice, a front of it
 abbrev pub given : List ℕ → Result ℕ Failed → Result (List ℕ) Failed
@@ -18,12 +19,12 @@ pub record TakesFront (before after : List ℕ) (room : ℕ) (bytes : List ℕ) 
   pub end : bytes ≡ [] → 0 < room → before ≡ []
 
 -- what a read does to the bytes left, which stand where it failed
-abbrev pub ReadGives : List ℕ → Read → List ℕ → Type 0
+abbrev pub ReadGives : List ℕ → SourceRead → List ℕ → Type 0
 ReadGives before (room, Ok bytes) after = TakesFront before after room bytes
 ReadGives before (room, Err e) after = after ≡ before
 
 -- ONE CALL of a source.
-pub record SourceCall (before : FlatSource) (r : Read) (now : FlatSource) : Type 0 where
+pub record SourceCall (before : FlatSource) (r : SourceRead) (now : FlatSource) : Type 0 where
   pub bound : IfOk r.1 (λ bytes. length bytes ≤ r.0)
   pub cause : HasCause before.calls now.calls (is_err r.1) false
   pub offered : now.offered ≡ offered_by r.0 before.offered

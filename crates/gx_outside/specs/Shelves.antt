@@ -26,16 +26,16 @@ pub data Answer : Type 0 where
   was : Bool → Answer
 
 -- A call: what was asked, and the answer or the fault. A trace has the calls of a shelf, in order.
-abbrev pub Call : Type 0
-Call = Request × Result Answer ShelfFault
+abbrev pub Exchange : Type 0
+Exchange = Request × Result Answer ShelfFault
 
 abbrev pub Trace : Type 0
-Trace = List Call
+Trace = List Exchange
 
 -- what a call answers, as an answer
-abbrev pub answered : {T : Type 0} → (T → Answer) → Result T ShelfFault → Result Answer ShelfFault
-answered answer (Ok x) = Ok (answer x)
-answered answer (Err e) = Err e
+abbrev pub answer_as : {T : Type 0} → (T → Answer) → Result T ShelfFault → Result Answer ShelfFault
+answer_as answer (Ok x) = Ok (answer x)
+answer_as answer (Err e) = Err e
 
 -- FILES
 -- what is handed out of a file
@@ -66,31 +66,31 @@ LeavesFiles before (removes name) now = KeepsOthers before now name
 LeavesFiles before (looks name) now = now ≡ before
 
 -- Memory may run out in place of this answer: at a load only where there are bytes to be handed out.
-abbrev pub MayWant : Request → Answer → Type 0
-MayWant (loads name most) (loaded (Found bytes)) = length bytes ≤ most
-MayWant (loads name most) answer = ⊥
-MayWant request answer = Unit {0}
+abbrev pub AnswerMayWant : Request → Answer → Type 0
+AnswerMayWant (loads name most) (loaded (Found bytes)) = length bytes ≤ most
+AnswerMayWant (loads name most) answer = ⊥
+AnswerMayWant request answer = Unit {0}
 
 -- what a call does to files
 abbrev pub FilesCall : Files → Request → Result Answer ShelfFault → Files → Type 0
 FilesCall before r (Ok answer) now = (answer ≡ answer_for before r) × (now ≡ files_after before r)
 FilesCall before r (Err fault.Failed) now = LeavesFiles before r now
-FilesCall before r (Err fault.NoMemory) now = LeavesFiles before r now × MayWant r (answer_for before r)
+FilesCall before r (Err fault.NoMemory) now = LeavesFiles before r now × AnswerMayWant r (answer_for before r)
 
 -- an answer of the request's kind; a file that is handed out is within the bound, whatever stands on the shelf
-abbrev pub IsAnswer : Request → Result Answer ShelfFault → Type 0
-IsAnswer (loads name most) (Ok (loaded load)) = IsBounded most load
-IsAnswer (stores name bytes) (Ok stored) = Unit {0}
-IsAnswer (removes name) (Ok (was b)) = Unit {0}
-IsAnswer (looks name) (Ok (was b)) = Unit {0}
-IsAnswer r (Ok answer) = ⊥
-IsAnswer r (Err e) = Unit {0}
+abbrev pub IsAnswerTo : Request → Result Answer ShelfFault → Type 0
+IsAnswerTo (loads name most) (Ok (loaded load)) = IsBounded most load
+IsAnswerTo (stores name bytes) (Ok stored) = Unit {0}
+IsAnswerTo (removes name) (Ok (was b)) = Unit {0}
+IsAnswerTo (looks name) (Ok (was b)) = Unit {0}
+IsAnswerTo r (Ok answer) = ⊥
+IsAnswerTo r (Err e) = Unit {0}
 
 -- ONE CALL of a shelf.
-pub record ShelfCall (before : FlatShelf) (c : Call) (now : FlatShelf) : Type 0 where
+pub record ShelfCall (before : FlatShelf) (c : Exchange) (now : FlatShelf) : Type 0 where
   pub cause : HasCause before.calls now.calls (shelf_failed c.1) (shelf_wanted c.1)
   pub tells : now.tells ≡ before.tells
-  pub answer : IsAnswer c.0 c.1
+  pub answer : IsAnswerTo c.0 c.1
   pub files : before.tells ≡ true → FilesCall before.files c.0 c.1 now.files
 
 -- A SHELF THAT TELLS

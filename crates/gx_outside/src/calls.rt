@@ -1,6 +1,6 @@
 //! How often a device was called, how often it failed, and whether memory ran out in the last call.
 ghost use Rattle.std.specs.Prelude.{◌≡◌};
-ghost use Rattle.gx_outside.specs.Outside.{HasCause, no_call, counted};
+ghost use Rattle.gx_outside.specs.Outside.{HasCause, no_call, counted_call};
 
 /// The counts of a device. A count at 2^64 - 1, which no run reaches, stands still.
 #[derive(Clone, Copy)]
@@ -30,7 +30,7 @@ impl Calls {
 
     /// Notes one more call, whether it failed, and whether memory ran out in it.
     pub fn note(&mut self, failed: bool, wanted: bool)
-        ensures after { self.new ≡ counted self.old failed wanted }
+        ensures after { self.new ≡ counted_call self.old failed wanted }
         ensures cause { HasCause self.old self.new failed wanted }
     {
         self.made = self.made.saturating_add(1);

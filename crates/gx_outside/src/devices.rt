@@ -12,9 +12,10 @@
 //! it; at `load` it comes only where there are bytes to be handed out.
 ghost use Rattle.std.specs.Prelude.{◌≡◌, ◌≤◌, length, IfOk};
 ghost use Rattle.gx_outside.specs.Outside.{FlatSource, FlatSink, FlatShelf};
-ghost use Rattle.gx_outside.specs.Reads.{Read, SourceCall, given};
+ghost use Rattle.gx_outside.specs.Reads.{SourceRead, SourceCall, given};
 ghost use Rattle.gx_outside.specs.Sends.{Send, SinkCall};
-ghost use Rattle.gx_outside.specs.Shelves.{Call, ShelfCall, loads, stores, removes, looks, answered, loaded, stored};
+ghost use Rattle.gx_outside.specs.Shelves.{Exchange, ShelfCall, loads, stores, removes, looks, answer_as, loaded};
+ghost use Rattle.gx_outside.specs.Shelves.{stored};
 ghost use Rattle.gx_outside.specs.Shelves.{was};
 
 use gx_words::Bytes;
@@ -86,7 +87,7 @@ pub enum Load {
 pub trait Source {
     ghost seen: { Self → FlatSource };
 
-    ghost called: { Self → Read → Self → Type 0 };
+    ghost called: { Self → SourceRead → Self → Type 0 };
 
     /// Fills a front of the slice with the next bytes, and answers its length.
     ///
@@ -95,7 +96,7 @@ pub trait Source {
         ensures bound { IfOk result (λ count. count ≤ length into.old) }
         ensures call { called self.old (length into.old, given into.new result) self.new };
 
-    ghost called_so: { (before : Self) (r : Read) (now : Self)
+    ghost called_so: { (before : Self) (r : SourceRead) (now : Self)
         → called before r now → SourceCall (seen before) r (seen now) };
 }
 
@@ -117,26 +118,26 @@ pub trait Sink {
 pub trait Shelf {
     ghost seen: { Self → FlatShelf };
 
-    ghost called: { Self → Call → Self → Type 0 };
+    ghost called: { Self → Exchange → Self → Type 0 };
 
     /// The file of a name, if it has at most `most` bytes. No file changes.
     fn load(&mut self, name: &str, most: usize) -> Result<Load, ShelfFault>
-        ensures { called self.old (loads name.now most, answered loaded result) self.new };
+        ensures { called self.old (loads name.now most, answer_as loaded result) self.new };
 
     /// Makes the name hold the bytes. After a refusal the file of this one name is open: it may
     /// be the old one, the new one, a part of the new one, or gone.
     fn store(&mut self, name: &str, bytes: &[u8]) -> Result<(), ShelfFault>
-        ensures { called self.old (stores name.now bytes.now, answered (λ _. stored) result) self.new };
+        ensures { called self.old (stores name.now bytes.now, answer_as (λ _. stored) result) self.new };
 
     /// Removes the file of a name, and answers whether there was one. After a refusal the file of
     /// this one name is open.
     fn remove(&mut self, name: &str) -> Result<bool, ShelfFault>
-        ensures { called self.old (removes name.now, answered was result) self.new };
+        ensures { called self.old (removes name.now, answer_as was result) self.new };
 
     /// Whether the name has a file. No file changes.
     fn has(&mut self, name: &str) -> Result<bool, ShelfFault>
-        ensures { called self.old (looks name.now, answered was result) self.new };
+        ensures { called self.old (looks name.now, answer_as was result) self.new };
 
-    ghost called_so: { (before : Self) (c : Call) (now : Self)
+    ghost called_so: { (before : Self) (c : Exchange) (now : Self)
         → called before c now → ShelfCall (seen before) c (seen now) };
 }

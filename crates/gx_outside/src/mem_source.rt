@@ -72,7 +72,8 @@ impl Source for MemSource {
         ensures left { IfOk result (λ count. self.new.left ≡ drop count self.old.left) }
         ensures err { OnErr result ((self.new.left ≡ self.old.left) × (into.new ≡ into.old)) }
         ensures bound { IfOk result (λ count. count ≤ length into.old) }
-        ensures does { SourceCall (seen_source self.old) (length into.old, given into.new result) (seen_source self.new) }
+        ensures does { SourceCall (seen_source self.old) (length into.old, given into.new result)
+            (seen_source self.new) }
     {
         self.offered = self.offered.saturating_add(into.len() as u64);
         if self.calls.begin() {

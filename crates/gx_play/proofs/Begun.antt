@@ -1,5 +1,5 @@
 -- Which runs are begun: in the jobs play and rewind alone, and in job play where the machine is handed back.
-use Rattle.std.proofs.Common.{◌≡◌, ◌≢◌, ℕ, inl, inr, List, Option, Some, None, Result, Ok, Err, IsSomeAnd, refl}
+use Rattle.std.proofs.Common.{◌≡◌, ◌≢◌, ℕ, inl, inr, List, [], Option, Some, None, Result, Ok, Err, IsSomeAnd, refl, ap, ◌∙◌}
 use Rattle.gx_words.specs.declared.faults.Fault.{Fault}
 use Rattle.gx_story.specs.Stories.{FlatStory}
 use Rattle.gx_asm.specs.declared.faults.AsmFault.{AsmFault}
@@ -13,53 +13,57 @@ use Rattle.gx_session.specs.Devices.{Devices}
 use Rattle.gx_play.specs.declared.command.Job.{Job}
 use Rattle.gx_play.specs.declared.command.Job.TheVariants.{Play, Rewind, Check, Work, Asm, List as Listing}
 use Rattle.gx_play.specs.Commands.{Command}
-use Rattle.gx_play.specs.Headline.{outcome_of_job, outcome_of_check, outcome_of_code, outcome_of_text, outcome_of_listing, outcome_of_list, text_of, outcome_of_start, outcome_of_story, story_of, IsBegun, IsUnrun, ComesOut, PlaysStory}
+use Rattle.gx_play.specs.Outcomes.{outcome_of_job, outcome_of_code, outcome_of_listing, text_in_file, outcome_of_start, story_in_file}
+use Rattle.gx_play.proofs.Outcomes.{outcome_of_check, outcome_of_text, outcome_of_list, outcome_of_story}
+use Rattle.gx_play.specs.Answers.{IsRunBegun}
+use Rattle.gx_play.specs.Unbegun.{IsUnrun, PlaysStory}
+use Rattle.gx_play.specs.Headline.{ComesOut, IsPlayed}
 
 module _ {A : Type 0} (ended : Ended A) (entry exit : Devices) where
   -- OTHER JOBS begin none
-  check-begins : (r : Result FlatStory ℕ) → IsBegun (outcome_of_check r) entry exit ended → ⊥
+  check-begins : (r : Result FlatStory ℕ) → IsRunBegun (outcome_of_check r) entry exit ended → ⊥
   check-begins (Ok story) none = none
   check-begins (Err fault) none = none
 
-  code-begins : (r : Result (List ℕ) AsmFault) → IsBegun (outcome_of_code r) entry exit ended → ⊥
+  code-begins : (r : Result (List ℕ) AsmFault) → IsRunBegun (outcome_of_code r) entry exit ended → ⊥
   code-begins (Ok code) none = none
   code-begins (Err fault) none = none
 
-  text-begins : (r : Result (List ℕ) ℕ) → IsBegun (outcome_of_text r) entry exit ended → ⊥
+  text-begins : (r : Result (List ℕ) ℕ) → IsRunBegun (outcome_of_text r) entry exit ended → ⊥
   text-begins (Ok text) begun = code-begins (assembled text) begun
   text-begins (Err fault) none = none
 
-  listing-begins : (r : Result (List ℕ) ListFault) → IsBegun (outcome_of_listing r) entry exit ended → ⊥
+  listing-begins : (r : Result (List ℕ) ListFault) → IsRunBegun (outcome_of_listing r) entry exit ended → ⊥
   listing-begins (Ok text) none = none
   listing-begins (Err fault) none = none
 
-  list-begins : (r : Result FlatStory ℕ) → IsBegun (outcome_of_list r) entry exit ended → ⊥
+  list-begins : (r : Result FlatStory ℕ) → IsRunBegun (outcome_of_list r) entry exit ended → ⊥
   list-begins (Ok story) begun = listing-begins (listed_story story) begun
   list-begins (Err fault) none = none
 
-  pub begins-none : (job : Job) (command : Command) (file : Option (List ℕ)) → (PlaysStory job → ⊥) → IsBegun (outcome_of_job job command file entry) entry exit ended → ⊥
+  pub begins-none : (job : Job) (command : Command) (file : Option (List ℕ)) → (PlaysStory job → ⊥) → IsRunBegun (outcome_of_job job command file entry) entry exit ended → ⊥
   begins-none Play command file idle begun = idle tt
   begins-none Rewind command file idle begun = idle tt
-  begins-none Check command file idle begun = check-begins (story_of file) begun
+  begins-none Check command file idle begun = check-begins (story_in_file file) begun
   begins-none (Work number) command file idle begun = begun
-  begins-none Asm command file idle begun = text-begins (text_of file) begun
-  begins-none Listing command file idle begun = list-begins (story_of file) begun
+  begins-none Asm command file idle begun = text-begins (text_in_file file) begun
+  begins-none Listing command file idle begun = list-begins (story_in_file file) begun
 
   -- IN JOB PLAY the machine is handed back
   some : (P : Whole → Type 0) (m : Option Whole) → IsSomeAnd m P → m ≡ None → ⊥
   some P None there none = there
   some P (Some whole) there none = cc
 
-  start-hands : (command : Command) (story : FlatStory) (r : Result Whole Fault) → ended.machine ≡ None → IsBegun (outcome_of_start Play command story entry r) entry exit ended → ⊥
+  start-hands : (command : Command) (story : FlatStory) (r : Result Whole Fault) → ended.machine ≡ None → IsRunBegun (outcome_of_start Play command story entry r) entry exit ended → ⊥
   start-hands command story (Ok whole) none begun = some _ ended.machine begun.run.2 none
   start-hands command story (Err fault) none begun = begun
 
-  story-hands : (command : Command) (r : Result FlatStory ℕ) → ended.machine ≡ None → IsBegun (outcome_of_story Play command entry r) entry exit ended → ⊥
+  story-hands : (command : Command) (r : Result FlatStory ℕ) → ended.machine ≡ None → IsRunBegun (outcome_of_story Play command entry r) entry exit ended → ⊥
   story-hands command (Ok story) none begun = start-hands command story (first_machine story command.undo) none begun
   story-hands command (Err fault) none begun = begun
 
-  job-hands : (job : Job) (command : Command) (file : Option (List ℕ)) → job ≢ Rewind → ended.machine ≡ None → IsBegun (outcome_of_job job command file entry) entry exit ended → ⊥
-  job-hands Play command file other none begun = story-hands command (story_of file) none begun
+  job-hands : (job : Job) (command : Command) (file : Option (List ℕ)) → job ≢ Rewind → ended.machine ≡ None → IsRunBegun (outcome_of_job job command file entry) entry exit ended → ⊥
+  job-hands Play command file other none begun = story-hands command (story_in_file file) none begun
   job-hands Rewind command file other none begun = other refl
   job-hands job command file other none begun = begins-none job command file (λ plays. plays) begun
 
@@ -70,3 +74,7 @@ module _ {A : Type 0} (ended : Ended A) (entry exit : Devices) where
 
   pub uncommanded : ComesOut None entry exit ended → IsUnrun None entry exit ended
   uncommanded comes = elim comes.begun [ inl begun ↦ absurd begun | inr unrun ↦ unrun ]
+
+-- Without a command the shelf isn't asked: nothing is done.
+pub asks-none : {A : Type 0} (ended : Ended A) (entry exit : Devices) → IsPlayed None entry exit ended → entry.asked ≡ [] → exit.asked ≡ []
+asks-none ended entry exit played first = ap (λ (d : Devices). d.asked) (played.unread refl) ∙ first

@@ -1,25 +1,32 @@
 -- That the status is the outcome's where no device failed.
-use Rattle.std.proofs.Common.{◌≡◌, ℕ, ◌<◌, ◌≤◌, ◌⊎◌, inl, inr, true, List, Option, Some, None, IsSomeAnd, refl, ap, subst, sym, ◌∙◌, arith}
+use Rattle.std.proofs.Common.{◌≡◌, ℕ, ◌<◌, ◌≤◌, ◌⊎◌, inl, inr, true, List, Option, Some, None, IsSomeAnd, refl, ap}
+use Rattle.std.proofs.Common.{subst, sym, ◌∙◌, arith}
+use Rattle.std.specs.Option.{option_and_then}
 use Rattle.gx_outside.specs.Sends.{Send}
-use Rattle.gx_outside.specs.declared.devices.SendFault.TheVariants as of_send
 use Rattle.gx_outside.specs.Outside.{FlatShelf, FlatSink}
 use Rattle.gx_outside.specs.Shelves.{Request, Answer, Trace}
 use Rattle.gx_machine.specs.Machine.{Whole}
 use Rattle.gx_session.specs.declared.ended.Ended.{Ended}
 use Rattle.gx_session.specs.Constants.{status_shelf_fault, status_no_memory}
-use Rattle.gx_session.specs.Counts.{Counts}
 use Rattle.gx_session.specs.Devices.{Devices}
 use Rattle.gx_session.specs.Runs.{IsRun, IsSession, Report, report_of}
-use Rattle.gx_session.specs.Session.{Configuration, final_of, status_of}
+use Rattle.gx_session.specs.Session.{final_of, stop_status}
 use Rattle.gx_play.specs.Commands.{Command}
 use Rattle.gx_play.specs.Rewinding.{rewind_line}
 use Rattle.gx_play.specs.Seeds.{devices_for, words_for}
-use Rattle.gx_play.specs.Headline.{Outcome, refused, unstarted, runs, rewinds, tells, outcome_of, IsUnbegun, IsRewindOf, SendsLine, SendsOutput, Plays, ComesOut, HasNoFailure, IsComplete, status_of_outcome}
+use Rattle.gx_play.specs.Outcomes.{CommandOutcome, refused, unstarted, runs, rewinds, tells, outcome_of}
+use Rattle.gx_play.specs.Outcomes.{status_of_outcome}
+use Rattle.gx_play.specs.Answers.{IsUnbegun, IsRewindOf, SendsOutput, Plays}
+use Rattle.gx_play.proofs.Outputs.{SendsLine}
+use Rattle.gx_play.specs.Headline.{ComesOut, HasNoFailure}
 use Rattle.rand_core.specs.Stream.{Stream}
+use Rattle.gx_session.specs.Counts.{FailureCounts}
+use Rattle.gx_session.specs.Configurations.{Configuration}
+use Rattle.gx_outside.specs.declared.devices.SendFault.TheVariants as of_send
 
 module _ {A : Type 0} (ended : Ended A) (entry exit : Devices) where
   -- WHERE NO DEVICE failed
-  module _ (fine : HasNoFailure entry exit) (counts : Counts entry exit ended.status) where
+  module _ (fine : HasNoFailure entry exit) (counts : FailureCounts entry exit ended.status) where
     unbegun : IsUnbegun ended → ended.status ≡ status_no_memory
     unbegun (inl absent) = absurd (fine.shelf (counts.shelf.rose absent.status_is))
     unbegun (inr absent) = absent.status_is
@@ -34,14 +41,14 @@ module _ {A : Type 0} (ended : Ended A) (entry exit : Devices) where
       loaded = record entry { shelf = shelf; words = words }
 
       at-end : (input coming : List ℕ) (answers : Trace → Request → Answer) → input ≡ start.input → answers ≡ start.answers → IsSession (record start { input = input; answers = answers }) loaded leaving coming r
-          → r.status < status_shelf_fault → r.status ≡ status_of (final_of start).stop
+          → r.status < status_shelf_fault → r.status ≡ stop_status (final_of start).stop
       at-end input coming answers is same session early =
           (session.ended early).status_is
-          ∙ ap (λ (i : List ℕ). status_of (final_of (record start { input = i; answers = answers })).stop) is
-          ∙ ap (λ (a : Trace → Request → Answer). status_of (final_of (record start { answers = a })).stop) same
+          ∙ ap (λ (i : List ℕ). stop_status (final_of (record start { input = i; answers = answers })).stop) is
+          ∙ ap (λ (a : Trace → Request → Answer). stop_status (final_of (record start { answers = a })).stop) same
 
       run-ends : shelf.tells ≡ entry.shelf.tells → IsRun start loaded leaving r → r.status ≡ ended.status → entry.source.tells ≡ true → entry.shelf.tells ≡ true
-          → (r.status ≡ status_of (final_of start).stop) ⊎ (r.status ≡ status_no_memory)
+          → (r.status ≡ stop_status (final_of start).stop) ⊎ (r.status ≡ status_no_memory)
       run-ends kept run same source-tells shelf-tells =
           let s = run.session in
           elim (either r.status run.report.status_is (λ e. fine.shelf (counts.shelf.rose (sym same ∙ e)))
@@ -52,23 +59,23 @@ module _ {A : Type 0} (ended : Ended A) (entry exit : Devices) where
 
     some-ends : (seed : Option ℕ) (start : Configuration) (shelf : FlatShelf) (asked : Trace) (left : Stream) (end : Option Whole) → shelf.tells ≡ entry.shelf.tells
         → IsSomeAnd end (λ whole. IsRun start (devices_for seed (record entry { shelf = shelf })) (record exit { asked = asked; words = left }) (report_of ended whole))
-        → entry.source.tells ≡ true → entry.shelf.tells ≡ true → (ended.status ≡ status_of (final_of start).stop) ⊎ (ended.status ≡ status_no_memory)
+        → entry.source.tells ≡ true → entry.shelf.tells ≡ true → (ended.status ≡ stop_status (final_of start).stop) ⊎ (ended.status ≡ status_no_memory)
     some-ends seed start shelf asked left None kept run source-tells shelf-tells = absurd run
     some-ends seed start shelf asked left (Some whole) kept run source-tells shelf-tells =
         run-ends start shelf (words_for seed entry.words) (record exit { asked = asked; words = left }) (report_of ended whole) kept run refl source-tells shelf-tells
 
     -- so does one on a tape, but for want of memory at the line
     line-sent : (line : List ℕ) (r : Report) (before now : FlatSink) (sends : List Send) → SendsLine line r before now sends ended → (r.status ≡ ended.status) ⊎ (ended.status ≡ status_no_memory)
-    line-sent line r before now sends (inl (has, sent)) = inl (sym has.status_is)
-    line-sent line r before now sends (inr (inl (of_send.Failed, has, sent))) = absurd (fine.sink (counts.sink.rose has.status_is))
-    line-sent line r before now sends (inr (inl (of_send.NoMemory, (has, wanted), sent))) = inr has.status_is
-    line-sent line r before now sends (inr (inr (has, same, none))) = inr has.status_is
+    line-sent line r before now sends (inl (inl (has, sent))) = inl (sym has.status_is)
+    line-sent line r before now sends (inl (inr (of_send.Failed, has, sent))) = absurd (fine.sink (counts.sink.rose has.status_is))
+    line-sent line r before now sends (inl (inr (of_send.NoMemory, (has, wanted), sent))) = inr has.status_is
+    line-sent line r before now sends (inr (has, same, none)) = inr has.status_is
 
     below : (status : ℕ) → (status < status_shelf_fault) ⊎ (status_shelf_fault ≤ status)
     below status = grind arith
 
     tape-ends : (seed : Option ℕ) (back : ℕ) (start : Configuration) (shelf : FlatShelf) (asked : Trace) → shelf.tells ≡ entry.shelf.tells → IsRewindOf seed back start (record entry { shelf = shelf }) (record exit { asked = asked }) ended
-        → entry.source.tells ≡ true → entry.shelf.tells ≡ true → (ended.status ≡ status_of (final_of start).stop) ⊎ (ended.status ≡ status_no_memory)
+        → entry.source.tells ≡ true → entry.shelf.tells ≡ true → (ended.status ≡ stop_status (final_of start).stop) ⊎ (ended.status ≡ status_no_memory)
     tape-ends seed back start shelf asked kept run source-tells shelf-tells =
         let r : Report = run.report in
         let mid : Devices = record exit { sink = run.sink; sends = run.sends; asked = asked; words = run.run.0 } in
@@ -86,12 +93,12 @@ module _ {A : Type 0} (ended : Ended A) (entry exit : Devices) where
               ]
         ]
 
-    output-ends : (status : ℕ) (output : List ℕ) (before now : FlatSink) (sends : List Send) → SendsOutput status output before now sends ended → (ended.status ≡ 10 → ⊥) → (ended.status ≡ status) ⊎ (ended.status ≡ status_no_memory)
+    output-ends : (status : ℕ) (output : List ℕ) (before now : FlatSink) (sends : List Send) → SendsOutput status 0 0 0 output before now sends ended → (ended.status ≡ 10 → ⊥) → (ended.status ≡ status) ⊎ (ended.status ≡ status_no_memory)
     output-ends status output before now sends (inl (absent, sent)) sink = inl absent.status_is
     output-ends status output before now sends (inr (of_send.Failed, absent, sent)) sink = absurd (sink absent.status_is)
     output-ends status output before now sends (inr (of_send.NoMemory, (absent, wanted), sent)) sink = inr absent.status_is
 
-    outcome-ends : (outcome : Outcome) → Plays outcome entry exit ended → entry.source.tells ≡ true → entry.shelf.tells ≡ true → (ended.status ≡ status_of_outcome outcome) ⊎ (ended.status ≡ status_no_memory)
+    outcome-ends : (outcome : CommandOutcome) → Plays outcome entry exit ended → entry.source.tells ≡ true → entry.shelf.tells ≡ true → (ended.status ≡ status_of_outcome outcome) ⊎ (ended.status ≡ status_no_memory)
     outcome-ends (refused status fault at) (inl absent, same) source-tells shelf-tells = inl absent.status_is
     outcome-ends (refused status fault at) (inr is, same) source-tells shelf-tells = inr (unbegun is)
     outcome-ends (unstarted fault at) (inl absent, same) source-tells shelf-tells = inl absent.status_is
@@ -103,7 +110,9 @@ module _ {A : Type 0} (ended : Ended A) (entry exit : Devices) where
     outcome-ends (tells status output) (inl sends) source-tells shelf-tells = output-ends status output entry.sink exit.sink exit.sends sends (λ e. fine.sink (counts.sink.rose e))
     outcome-ends (tells status output) (inr (is, same)) source-tells shelf-tells = inr (unbegun is)
 
-  pub complete : (command : Option Command) → ComesOut command entry exit ended → Counts entry exit ended.status → IsComplete command entry exit ended.status
+  pub complete : (command : Option Command) → ComesOut command entry exit ended → FailureCounts entry exit ended.status
+      → entry.source.tells ≡ true → entry.shelf.tells ≡ true → HasNoFailure entry exit
+      → (ended.status ≡ status_of_outcome (outcome_of command (option_and_then (λ (c : Command). entry.shelf.files c.story) command) entry)) ⊎ (ended.status ≡ status_no_memory)
   complete None comes counts = λ source-tells shelf-tells fine. outcome-ends fine counts (outcome_of None comes.file entry) comes.plays source-tells shelf-tells
   complete (Some command) comes counts =
       λ source-tells shelf-tells fine.

@@ -19,7 +19,7 @@ use Rattle.gx_state.specs.Flat.{FlatState}
 use Rattle.gx_operands.specs.declared.cursor.Cursor.{Cursor}
 use Rattle.gx_operands.specs.Instructions.{opcode, nibble, datum, past}
 use Rattle.gx_asm.specs.Codes.{modes_len}
-use Rattle.gx_asm.specs.Instructions.{Written, IsWritten, AreModes, operand_count, data_len, all_data_len, nibble_of, packed, number_of, bytes_of}
+use Rattle.gx_asm.specs.Instructions.{WrittenInstruction, IsWritten, AreModes, operand_count, data_len, all_data_len, nibble_of, packed_nibbles, opcode_number, bytes_of}
 use Rattle.gx_asm.proofs.BytesOpcodes.{number_small, place_of_row, length-opcode}
 use Rattle.gx_asm.proofs.Nibbles.{addressing_of, nibble_small, length-packed}
 use Rattle.gx_play.specs.Spelling.{StandAt, mode_at, data_before, data_of, modes_at, data_at, SeesInstruction}
@@ -150,8 +150,8 @@ module _ (f : FlatState) (n : ℕ) where
 
 -- the nibble of an index among those that are packed
 nibble-packed : (ns : List ℕ) (k : ℕ) → ((n i : ℕ) → i < length ns → get_or ns i n < 16) → k < length ns
-    → (if k % 2 == 0 then byte (packed ns) (k / 2) % 16 else byte (packed ns) (k / 2) / 16) ≡ get_or ns k 0
-unfolding packed
+    → (if k % 2 == 0 then byte (packed_nibbles ns) (k / 2) % 16 else byte (packed_nibbles ns) (k / 2) / 16) ≡ get_or ns k 0
+unfolding packed_nibbles
 nibble-packed [] k small there = absurd (omega arith)
 nibble-packed (low ∷ []) zero small there = let less = small 0 0 there in omega (arith, less)
 nibble-packed (low ∷ []) (suc k) small there = absurd (omega arith)
@@ -200,20 +200,20 @@ width-of (Ram n) has some = has
 
 -- ---- the instruction
 
-module _ (f : FlatState) (w : Written) (is : IsWritten w) where
+module _ (f : FlatState) (w : WrittenInstruction) (is : IsWritten w) where
   abbrev row : Row
   row = row_at w.place
 
   abbrev nibbles : List ℕ
   nibbles = map nibble_of w.modes
 
-  modes-size : length (packed nibbles) ≡ modes_len (operand_count row)
+  modes-size : length (packed_nibbles nibbles) ≡ modes_len (operand_count row)
   modes-size = let size = length-map w.modes nibble_of in let count = is.count in length-packed nibbles ∙ ap (λ (n : ℕ). (n + 1) / 2) (size ∙ count)
 
-  number-size : length (spelled (number_of w) (shortest (number_of w))) ≡ shortest (number_of w)
-  number-size = length-opcode (number_of w) (number_small w.place is.place)
+  number-size : length (spelled (opcode_number w) (shortest (opcode_number w))) ≡ shortest (opcode_number w)
+  number-size = length-opcode (opcode_number w) (number_small w.place is.place)
 
-  module _ (number-stands : Stands f.memory f.pc (spelled (number_of w) (shortest (number_of w)))) (modes-stand : Stands f.memory (modes_at f w) (packed nibbles))
+  module _ (number-stands : Stands f.memory f.pc (spelled (opcode_number w) (shortest (opcode_number w)))) (modes-stand : Stands f.memory (modes_at f w) (packed_nibbles nibbles))
       (data-stand : Stands f.memory (modes_at f w + modes_len (operand_count row)) w.operand_data) where
     mode-seen : (k : ℕ) → k < length w.modes → addressing (nibble f.memory (modes_at f w) k) ≡ Some (mode_at w k)
     mode-seen k there =
@@ -243,14 +243,14 @@ module _ (f : FlatState) (w : Written) (is : IsWritten w) where
     unfolding bytes_of
     end-seen =
         let whole : data_before w (length w.modes) ≡ all_data_len w.modes = ap all_data_len (take_all (length w.modes) w.modes (omega arith)) in
-        let sizes = length-append (spelled (number_of w) (shortest (number_of w)) ++ packed nibbles) w.operand_data in
-        let front = length-append (spelled (number_of w) (shortest (number_of w))) (packed nibbles) in
+        let sizes = length-append (spelled (opcode_number w) (shortest (opcode_number w)) ++ packed_nibbles nibbles) w.operand_data in
+        let front = length-append (spelled (opcode_number w) (shortest (opcode_number w))) (packed_nibbles nibbles) in
         let all = is.operand_data in
         omega (arith, whole, sizes, front, all, number-size, modes-size)
 
     seen : SeesInstruction f w
     seen = record {
-      opcode_is = opcode-seen f (number_of w) (number_small w.place is.place) number-stands;
+      opcode_is = opcode-seen f (opcode_number w) (number_small w.place is.place) number-stands;
       row_is = row-found w.place is.place;
       operands = λ k there. record { mode = mode-seen k there; operand_data = data-seen k there };
       end = end-seen;
@@ -259,11 +259,11 @@ module _ (f : FlatState) (w : Written) (is : IsWritten w) where
   pub decodes : StandAt f.memory f.pc (bytes_of w) → SeesInstruction f w
   unfolding bytes_of
   decodes stand =
-      let number-bytes : List ℕ = spelled (number_of w) (shortest (number_of w)) in
-      let all : Stands f.memory f.pc ((number-bytes ++ packed nibbles) ++ w.operand_data) = stands f.memory f.pc ((number-bytes ++ packed nibbles) ++ w.operand_data) stand in
-      let front = in-front f.memory f.pc (number-bytes ++ packed nibbles) w.operand_data all in
-      let place : f.pc + length (number-bytes ++ packed nibbles) ≡ modes_at f w + modes_len (operand_count row) =
-      ap (λ (n : ℕ). f.pc + n) (length-append number-bytes (packed nibbles)) ∙ omega (arith, number-size, modes-size) in
-      seen (in-front f.memory f.pc number-bytes (packed nibbles) front)
-      (subst (λ (n : ℕ). Stands f.memory (f.pc + n) (packed nibbles)) number-size (behind f.memory f.pc number-bytes (packed nibbles) front))
-      (subst (λ (at : ℕ). Stands f.memory at w.operand_data) place (behind f.memory f.pc (number-bytes ++ packed nibbles) w.operand_data all))
+      let number-bytes : List ℕ = spelled (opcode_number w) (shortest (opcode_number w)) in
+      let all : Stands f.memory f.pc ((number-bytes ++ packed_nibbles nibbles) ++ w.operand_data) = stands f.memory f.pc ((number-bytes ++ packed_nibbles nibbles) ++ w.operand_data) stand in
+      let front = in-front f.memory f.pc (number-bytes ++ packed_nibbles nibbles) w.operand_data all in
+      let place : f.pc + length (number-bytes ++ packed_nibbles nibbles) ≡ modes_at f w + modes_len (operand_count row) =
+      ap (λ (n : ℕ). f.pc + n) (length-append number-bytes (packed_nibbles nibbles)) ∙ omega (arith, number-size, modes-size) in
+      seen (in-front f.memory f.pc number-bytes (packed_nibbles nibbles) front)
+      (subst (λ (n : ℕ). Stands f.memory (f.pc + n) (packed_nibbles nibbles)) number-size (behind f.memory f.pc number-bytes (packed_nibbles nibbles) front))
+      (subst (λ (at : ℕ). Stands f.memory at w.operand_data) place (behind f.memory f.pc (number-bytes ++ packed_nibbles nibbles) w.operand_data all))

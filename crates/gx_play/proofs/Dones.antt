@@ -1,44 +1,55 @@
 -- What a command comes to, from what its parts did.
-use Rattle.std.proofs.Common.{◌≡◌, ◌≢◌, ℕ, ◌≤◌, ◌⊎◌, inl, inr, Bool, true, false, List, [], ◌∷◌, Option, Some, None, Result, Ok, Err, refl, ap, subst, sym, ◌∙◌, arith}
+use Rattle.std.proofs.Common.{◌≡◌, ◌≢◌, ℕ, ◌≤◌, ◌⊎◌, inl, inr, Bool, true, false, List, [], ◌∷◌, Option, Some, None}
+use Rattle.std.proofs.Common.{IfSome, Result, Ok, Err, refl, ap, subst, sym, ◌∙◌, arith}
 use Rattle.gx_words.specs.Constants.{ceiling}
 use Rattle.gx_outside.specs.Chains.{Chain}
 use Rattle.gx_outside.specs.Outside.{FlatShelf, FlatSink}
 use Rattle.gx_outside.specs.Reads.{SourceCall}
 use Rattle.gx_outside.specs.Sends.{Send, SinkCall}
-use Rattle.gx_outside.specs.Shelves.{loads, Call, Trace, ShelfCall}
-use Rattle.gx_outside.specs.declared.devices.SendFault.TheVariants as of_send
+use Rattle.gx_outside.specs.Shelves.{loads, Exchange, Trace, ShelfCall}
 use Rattle.gx_story.specs.Stories.{FlatStory, is_checked}
 use Rattle.gx_asm.specs.declared.faults.AsmFault.{AsmFault}
 use Rattle.gx_asm.specs.declared.faults.ListFault.{ListFault}
 use Rattle.gx_asm.specs.Faults.{number_in_text, line_in_text, number_in_code, place_in_code}
 use Rattle.gx_asm.specs.Texts.{assembled}
-use Rattle.gx_asm.specs.Stories.{wrapped, listed_story}
+use Rattle.gx_asm.specs.Stories.{wrapped_code, listed_story}
 use Rattle.gx_session.specs.declared.ended.Ended.{Ended}
-use Rattle.gx_session.specs.Constants.{status_ended, status_bad_words, status_bad_story, status_shelf_fault, status_input_fault, status_output_fault, status_no_memory, status_bad_text, status_no_listing}
+use Rattle.gx_session.specs.Constants.{status_ended, status_bad_words, status_bad_story, status_shelf_fault}
+use Rattle.gx_session.specs.Constants.{status_input_fault, status_output_fault, status_no_memory, status_bad_text}
+use Rattle.gx_session.specs.Constants.{status_no_listing}
 use Rattle.gx_session.specs.Devices.{Devices}
-use Rattle.gx_session.specs.Counts.{Blames, Counts}
+use Rattle.gx_session.specs.Counts.{Blames, FailureCounts}
 use Rattle.gx_session.proofs.Counting.{blames-none, blames-same}
 use Rattle.gx_play.specs.declared.command.Job.{Job}
 use Rattle.gx_play.specs.declared.command.Job.TheVariants.{Play, Check, Work, Asm, List as Listing}
 use Rattle.gx_play.specs.declared.loading.Refusal.{Refusal}
-use Rattle.gx_play.specs.declared.loading.Refusal.TheVariants as refusal
 use Rattle.gx_play.specs.Commands.{Command, command_of}
 use Rattle.gx_play.specs.Constants.{most_text}
 use Rattle.gx_play.specs.Jobs.{work_line, check_status, check_line}
-use Rattle.gx_play.specs.Headline.{Outcome, refused, unstarted, runs, rewinds, tells, outcome_of_job, outcome_of_check, outcome_of_text, outcome_of_code, outcome_of_list, outcome_of_listing, story_of, text_of, HasNoMachine, IsUnbegun, KeepsSink, IsBegun, IsUnrun, IsLoadable, SendsOutput, Plays, PlaysStory, MayWant, LoadsFirst, LoadsOnce, LoadsOnceFor, ComesOut, HasItsParts, HandsBack, IsPlaying, IsPlayed}
-use Rattle.gx_play.specs.Loading.{status_of, fault_of, LoadGives, LoadsFile, JobTells, BlamesSink, HasRunParts, IsIdle, IsDone}
+use Rattle.gx_play.specs.Outcomes.{CommandOutcome, refused, unstarted, runs, rewinds, tells, outcome_of_job}
+use Rattle.gx_play.specs.Outcomes.{outcome_of_code, outcome_of_listing, story_in_file, text_in_file}
+use Rattle.gx_play.proofs.Outcomes.{outcome_of_check, outcome_of_text, outcome_of_list}
+use Rattle.gx_play.specs.Answers.{HasNoMachine, IsUnbegun, KeepsSink, IsRunBegun, SendsOutput, Plays}
+use Rattle.gx_play.specs.FirstLoad.{IsLoadable, JobMayWant, LoadsFirst}
+use Rattle.gx_play.specs.Unbegun.{IsUnrun, PlaysStory, LoadsOnce}
+use Rattle.gx_play.specs.Statuses.{HasItsParts}
+use Rattle.gx_play.specs.Headline.{ComesOut, IsPlayed}
+use Rattle.gx_play.specs.Loading.{refusal_status, refusal_fault, LoadGives, LoadsFile, JobTells, BlamesSink}
+use Rattle.gx_play.specs.Loading.{HasRunParts, IsIdle, IsJobDone}
 use Rattle.gx_play.proofs.Completeness.{complete}
 use Rattle.gx_play.proofs.Loads.{loadable, text-loadable}
 use Rattle.gx_play.proofs.Seeds.{undrawn, settled}
 use Rattle.gx_play.proofs.Spellings.{spelling}
 use Rattle.gx_play.proofs.Works.{works}
+use Rattle.gx_outside.specs.declared.devices.SendFault.TheVariants as of_send
+use Rattle.gx_play.specs.declared.loading.Refusal.TheVariants as refusal
 
 -- AN ANSWER of a job that hands no machine back: no fault, or one of a text or of a listing.
 record IsTold {A : Type 0} (ended : Ended A) : Type 0 where
   status : ℕ
   fault : ℕ
   place : ℕ
-  absent : HasNoMachine ended status fault place
+  absent : HasNoMachine ended status fault place 0
   which : (status ≡ 0) ⊎ (status ≡ 3) ⊎ (status ≡ 10) ⊎ (status ≡ 11) ⊎ (status ≡ 12) ⊎ (status ≡ 13)
   none : status ≤ 11 → (fault ≡ 0) × (place ≡ 0)
   text_fault : status ≡ 12 → (1 ≤ fault) × (fault ≤ 4)
@@ -46,7 +57,7 @@ record IsTold {A : Type 0} (ended : Ended A) : Type 0 where
 
 module _ {A : Type 0} (ended : Ended A) where
   -- the parts of an answer that was given before anything ran
-  parts-before : (playing handing : Type 0) (status fault : ℕ) → HasNoMachine ended status fault 0 → (status ≡ 1) ⊎ (status ≡ 2) ⊎ (status ≡ 8) ⊎ (status ≡ 11)
+  parts-before : (playing handing : Type 0) (status fault : ℕ) → HasNoMachine ended status fault 0 0 → (status ≡ 1) ⊎ (status ≡ 2) ⊎ (status ≡ 8) ⊎ (status ≡ 11)
       → fault ≤ 7 → (status ≢ 2 → fault ≡ 0) → HasItsParts playing handing ended
   parts-before playing handing status fault absent which small none =
       let s = absent.status_is in
@@ -99,7 +110,7 @@ module _ {A : Type 0} (ended : Ended A) where
     not_run = p.not_run;
   }
 
-  unbegun-plays : (outcome : Outcome) (entry exit : Devices) → IsUnbegun ended → KeepsSink entry exit → Plays outcome entry exit ended
+  unbegun-plays : (outcome : CommandOutcome) (entry exit : Devices) → IsUnbegun ended → KeepsSink entry exit → Plays outcome entry exit ended
   unbegun-plays (refused status fault at) entry exit is unsent = (inr is, unsent)
   unbegun-plays (unstarted fault at) entry exit is unsent = (inr is, unsent)
   unbegun-plays (runs seed start) entry exit is unsent = inr (is, unsent)
@@ -107,7 +118,7 @@ module _ {A : Type 0} (ended : Ended A) where
   unbegun-plays (tells status output) entry exit is unsent = inr (is, unsent)
 
   -- AN OUTPUT that was sent, or a front of it
-  quiet : (status : ℕ) → HasNoMachine ended status 0 0 → (status ≡ 0) ⊎ (status ≡ 3) ⊎ (status ≡ 10) ⊎ (status ≡ 11) → IsTold ended
+  quiet : (status : ℕ) → HasNoMachine ended status 0 0 0 → (status ≡ 0) ⊎ (status ≡ 3) ⊎ (status ≡ 10) ⊎ (status ≡ 11) → IsTold ended
   quiet status absent which = record {
     status = status;
     fault = 0;
@@ -119,14 +130,14 @@ module _ {A : Type 0} (ended : Ended A) where
     listing_fault = λ e. absurd (grind (arith, which, e));
   }
 
-  sent : (status : ℕ) (output : List ℕ) (before now : FlatSink) (sends : List Send) → (status ≡ 0) ⊎ (status ≡ 3) → SendsOutput status output before now sends ended → IsTold ended
+  sent : (status : ℕ) (output : List ℕ) (before now : FlatSink) (sends : List Send) → (status ≡ 0) ⊎ (status ≡ 3) → SendsOutput status 0 0 0 output before now sends ended → IsTold ended
   sent status output before now sends which (inl (absent, took)) = quiet status absent (grind (arith, which))
   sent status output before now sends which (inr (of_send.Failed, absent, took)) = quiet status_output_fault absent (inr (inr (inl refl)))
   sent status output before now sends which (inr (of_send.NoMemory, (absent, wanted), took)) = quiet status_no_memory absent (inr (inr (inr refl)))
 
   -- a text's code, or its fault
   code-told : (r : Result (List ℕ) AsmFault) (before now : FlatSink) (sends : List Send) → (ended.status ≡ status_bad_text → (1 ≤ ended.fault) × (ended.fault ≤ 4)) → JobTells (outcome_of_code r) before now sends ended → IsTold ended
-  code-told (Ok code) before now sends number (inl once) = sent status_ended (wrapped code) before now sends (inl refl) once
+  code-told (Ok code) before now sends number (inl once) = sent status_ended (wrapped_code code) before now sends (inl refl) once
   code-told (Ok code) before now sends number (inr (absent, same, none)) = quiet status_no_memory absent (inr (inr (inr refl)))
   code-told (Err fault) before now sends number (absent, same, none) =
       let range = number absent.status_is in
@@ -160,7 +171,7 @@ module _ {A : Type 0} (ended : Ended A) where
         listing_fault = λ _. (omega (arith, f, range.0), omega (arith, f, range.1));
       }
 
-  plays-told : (outcome : Outcome) (entry exit : Devices) → JobTells outcome entry.sink exit.sink exit.sends ended → entry.sends ≡ [] → Plays outcome entry exit ended
+  plays-told : (outcome : CommandOutcome) (entry exit : Devices) → JobTells outcome entry.sink exit.sink exit.sends ended → entry.sends ≡ [] → Plays outcome entry exit ended
   plays-told (refused status fault at) entry exit (absent, same, unsent) first = (inl absent, record { sink = same; sends = unsent ∙ sym first })
   plays-told (tells status output) entry exit (inl once) first = inl once
   plays-told (tells status output) entry exit (inr (absent, same, unsent)) first = inr (inr absent, record { sink = same; sends = unsent ∙ sym first })
@@ -174,9 +185,9 @@ module _ {A : Type 0} (ended : Ended A) where
     abbrev at-exit : Devices
     at-exit = record d { sink = took; shelf = now; sends = sends; asked = asked }
 
-    told-done : (file : Option (List ℕ)) (outcome : Outcome) (failed : Type 0) → (PlaysStory job → ⊥) → (before.tells ≡ true → file ≡ before.files command.story) → outcome_of_job job command file at-entry ≡ outcome
-        → MayWant job file → LoadsFirst job command file asked → LoadsOnce job asked → Blames before.calls now.calls failed → (failed → ⊥) → IsTold ended → JobTells outcome taken took sends ended → BlamesSink taken took ended.status
-        → IsDone job command at-entry at-exit ended
+    told-done : (file : Option (List ℕ)) (outcome : CommandOutcome) (failed : Type 0) → (PlaysStory job → ⊥) → (before.tells ≡ true → file ≡ before.files command.story) → outcome_of_job job command file at-entry ≡ outcome
+        → JobMayWant job file → LoadsFirst job command file asked → LoadsOnce job asked → Blames before.calls now.calls failed → (failed → ⊥) → IsTold ended → JobTells outcome taken took sends ended → BlamesSink taken took ended.status
+        → IsJobDone job command at-entry at-exit ended
     told-done file outcome failed idle holds is may first once count fine t tell blames =
         let s = t.absent.status_is in
         let which = t.which in
@@ -184,7 +195,7 @@ module _ {A : Type 0} (ended : Ended A) where
           file = file;
           file_is = holds;
           loads = first;
-          plays = subst (λ (o : Outcome). Plays o at-entry at-exit ended) (sym is) (plays-told outcome at-entry at-exit tell refl);
+          plays = subst (λ (o : CommandOutcome). Plays o at-entry at-exit ended) (sym is) (plays-told outcome at-entry at-exit tell refl);
           memory = λ _. may;
           began = λ e. absurd (grind (arith, s, which, e));
           begun = inr (record {
@@ -203,15 +214,15 @@ module _ {A : Type 0} (ended : Ended A) where
 
   -- JOB WORK
   module _ (number : ℕ) (command : Command) (d : Devices) (before now : FlatSink) (sends : List Send) where
-    work-done : IsTold ended → JobTells (tells status_ended (work_line number)) before now sends ended → BlamesSink before now ended.status → IsDone (Work number) command (record d { sink = before; sends = []; asked = [] }) (record d { sink = now; sends = sends; asked = [] }) ended
+    work-done : IsTold ended → JobTells (tells status_ended (work_line number)) before now sends ended → BlamesSink before now ended.status → IsJobDone (Work number) command (record d { sink = before; sends = []; asked = [] }) (record d { sink = now; sends = sends; asked = [] }) ended
     work-done t tell blames =
         told-done (Work number) command d d.shelf d.shelf before now sends [] (d.shelf.files command.story) (tells status_ended (work_line number)) ⊥ (λ plays. plays) (λ _. refl) refl tt tt refl
         (blames-none d.shelf.calls d.shelf.calls ⊥ refl (λ e. e)) (λ e. e) t tell blames
 
-    pub work-told : SendsOutput status_ended (work_line number) before now sends ended → BlamesSink before now ended.status → IsDone (Work number) command (record d { sink = before; sends = []; asked = [] }) (record d { sink = now; sends = sends; asked = [] }) ended
+    pub work-told : SendsOutput status_ended 0 0 0 (work_line number) before now sends ended → BlamesSink before now ended.status → IsJobDone (Work number) command (record d { sink = before; sends = []; asked = [] }) (record d { sink = now; sends = sends; asked = [] }) ended
     work-told once blames = work-done (sent status_ended (work_line number) before now sends (inl refl) once) (inl once) blames
 
-  pub work-unmade : (number : ℕ) (command : Command) (d : Devices) → HasNoMachine ended status_no_memory 0 0 → IsDone (Work number) command (record d { sends = []; asked = [] }) (record d { sends = []; asked = [] }) ended
+  pub work-unmade : (number : ℕ) (command : Command) (d : Devices) → HasNoMachine ended status_no_memory 0 0 0 → IsJobDone (Work number) command (record d { sends = []; asked = [] }) (record d { sends = []; asked = [] }) ended
   work-unmade number command d absent =
       let s = absent.status_is in
       work-done number command d d.sink d.sink [] (quiet status_no_memory absent (inr (inr (inr refl)))) (inr (absent, refl, refl))
@@ -225,24 +236,24 @@ module _ {A : Type 0} (ended : Ended A) where
     abbrev exit : Devices
     exit = record d { shelf = now; sends = []; asked = asked }
 
-    not-loaded : (file : Option (List ℕ)) (r : Refusal) (outcome : Outcome) → ((fault : ℕ) → defined file ≡ Err fault → outcome ≡ refused status_bad_story fault 0) → LoadGives most defined file (Err r) → HasNoMachine ended (status_of r) (fault_of r) 0
+    not-loaded : (file : Option (List ℕ)) (r : Refusal) (outcome : CommandOutcome) → ((fault : ℕ) → defined file ≡ Err fault → outcome ≡ refused status_bad_story fault 0) → LoadGives most defined file (Err r) → HasNoMachine ended (refusal_status r) (refusal_fault r) 0 0
         → Plays outcome entry exit ended
     not-loaded file (refusal.BadStory fault) outcome bad gives absent =
-        subst (λ (o : Outcome). Plays o entry exit ended) (sym (bad fault gives)) (inl absent, record { sink = refl; sends = refl })
+        subst (λ (o : CommandOutcome). Plays o entry exit ended) (sym (bad fault gives)) (inl absent, record { sink = refl; sends = refl })
     not-loaded file refusal.Shelf outcome bad gives absent = unbegun-plays outcome entry exit (inl absent) (record { sink = refl; sends = refl })
     not-loaded file refusal.NoMemory outcome bad gives absent = unbegun-plays outcome entry exit (inr absent) (record { sink = refl; sends = refl })
 
-    wants : (file : Option (List ℕ)) (r : Refusal) → LoadGives most defined file (Err r) → HasNoMachine ended (status_of r) (fault_of r) 0 → ended.status ≡ status_no_memory → IsLoadable most file
+    wants : (file : Option (List ℕ)) (r : Refusal) → LoadGives most defined file (Err r) → HasNoMachine ended (refusal_status r) (refusal_fault r) 0 0 → ended.status ≡ status_no_memory → IsLoadable most file
     wants file (refusal.BadStory fault) gives absent e = let s = absent.status_is in absurd (omega (arith, s, e))
     wants file refusal.Shelf gives absent e = let s = absent.status_is in absurd (omega (arith, s, e))
     wants file refusal.NoMemory gives absent e = gives
 
-    refusal-parts : (playing handing : Type 0) (r : Refusal) → HasNoMachine ended (status_of r) (fault_of r) 0 → ((fault : ℕ) → (let e : Result X Refusal = Err r in e ≡ Err (refusal.BadStory fault)) → fault ≤ 7) → HasItsParts playing handing ended
+    refusal-parts : (playing handing : Type 0) (r : Refusal) → HasNoMachine ended (refusal_status r) (refusal_fault r) 0 0 → ((fault : ℕ) → (let e : Result X Refusal = Err r in e ≡ Err (refusal.BadStory fault)) → fault ≤ 7) → HasItsParts playing handing ended
     refusal-parts playing handing (refusal.BadStory fault) absent small = parts-before playing handing status_bad_story fault absent (inr (inl refl)) (small fault refl) (λ e. absurd (e refl))
     refusal-parts playing handing refusal.Shelf absent small = parts-before playing handing status_shelf_fault 0 absent (inr (inr (inl refl))) (omega arith) (λ _. refl)
     refusal-parts playing handing refusal.NoMemory absent small = parts-before playing handing status_no_memory 0 absent (inr (inr (inr refl))) (omega arith) (λ _. refl)
 
-    refusal-blames : (r : Refusal) → HasNoMachine ended (status_of r) (fault_of r) 0 → Blames before.calls now.calls (let e : Result X Refusal = Err r in e ≡ Err refusal.Shelf)
+    refusal-blames : (r : Refusal) → HasNoMachine ended (refusal_status r) (refusal_fault r) 0 0 → Blames before.calls now.calls (let e : Result X Refusal = Err r in e ≡ Err refusal.Shelf)
         → Blames before.calls now.calls (ended.status ≡ status_shelf_fault)
     refusal-blames (refusal.BadStory fault) absent blames =
         let s = absent.status_is in blames-same before.calls now.calls _ (ended.status ≡ status_shelf_fault) blames (λ e. absurd cc) (λ e. absurd (omega (arith, s, e)))
@@ -250,15 +261,15 @@ module _ {A : Type 0} (ended : Ended A) where
     refusal-blames refusal.NoMemory absent blames =
         let s = absent.status_is in blames-same before.calls now.calls _ (ended.status ≡ status_shelf_fault) blames (λ e. absurd cc) (λ e. absurd (omega (arith, s, e)))
 
-    which-of : (r : Refusal) → HasNoMachine ended (status_of r) (fault_of r) 0 → (ended.status ≡ 2) ⊎ (ended.status ≡ 8) ⊎ (ended.status ≡ 11)
+    which-of : (r : Refusal) → HasNoMachine ended (refusal_status r) (refusal_fault r) 0 0 → (ended.status ≡ 2) ⊎ (ended.status ≡ 8) ⊎ (ended.status ≡ 11)
     which-of (refusal.BadStory fault) absent = inl absent.status_is
     which-of refusal.Shelf absent = inr (inl absent.status_is)
     which-of refusal.NoMemory absent = inr (inr absent.status_is)
 
     pub refused-done : (job : Job) (r : Refusal) (l : LoadsFile most defined before now command.story asked (Err r)) → Blames before.calls now.calls (let e : Result X Refusal = Err r in e ≡ Err refusal.Shelf)
-        → ((fault : ℕ) → (let e : Result X Refusal = Err r in e ≡ Err (refusal.BadStory fault)) → fault ≤ 7) → HasNoMachine ended (status_of r) (fault_of r) 0
-        → ((fault : ℕ) → defined l.file ≡ Err fault → outcome_of_job job command l.file entry ≡ refused status_bad_story fault 0) → (IsLoadable most l.file → MayWant job l.file)
-        → LoadsFirst job command l.file ((loads command.story most, l.answer) ∷ []) → ((load : Call) × (asked ≡ load ∷ []) → LoadsOnce job asked) → IsDone job command entry exit ended
+        → ((fault : ℕ) → (let e : Result X Refusal = Err r in e ≡ Err (refusal.BadStory fault)) → fault ≤ 7) → HasNoMachine ended (refusal_status r) (refusal_fault r) 0 0
+        → ((fault : ℕ) → defined l.file ≡ Err fault → outcome_of_job job command l.file entry ≡ refused status_bad_story fault 0) → (IsLoadable most l.file → JobMayWant job l.file)
+        → LoadsFirst job command l.file ((loads command.story most, l.answer) ∷ []) → ((load : Exchange) × (asked ≡ load ∷ []) → LoadsOnce job asked) → IsJobDone job command entry exit ended
     refused-done job r l count small absent bad may first once =
         let which = which-of r absent in
         record {
@@ -288,30 +299,30 @@ module _ {A : Type 0} (ended : Ended A) where
   either false = inr refl
 
   module _ (command : Command) (d : Devices) (before now : FlatShelf) (taken took : FlatSink) (sends : List Send) (asked : Trace) (blames : BlamesSink taken took ended.status) where
-    pub check-told : (story : FlatStory) (l : LoadsFile ceiling story_of before now command.story asked (Ok story)) → Blames before.calls now.calls (let e : Result FlatStory Refusal = Ok story in e ≡ Err refusal.Shelf)
-        → SendsOutput (check_status (is_checked story)) (check_line (is_checked story)) taken took sends ended → IsDone Check command (record d { sink = taken; shelf = before; sends = []; asked = [] }) (record d { sink = took; shelf = now; sends = sends; asked = asked }) ended
+    pub check-told : (story : FlatStory) (l : LoadsFile ceiling story_in_file before now command.story asked (Ok story)) → Blames before.calls now.calls (let e : Result FlatStory Refusal = Ok story in e ≡ Err refusal.Shelf)
+        → SendsOutput (check_status (is_checked story)) 0 0 0 (check_line (is_checked story)) taken took sends ended → IsJobDone Check command (record d { sink = taken; shelf = before; sends = []; asked = [] }) (record d { sink = took; shelf = now; sends = sends; asked = asked }) ended
     check-told story l count once =
         told-done Check command d before now taken took sends asked l.file (tells (check_status (is_checked story)) (check_line (is_checked story))) _ (λ plays. plays) l.file_is (ap outcome_of_check l.gives) (loadable l.file story l.gives)
         (subst (LoadsFirst Check command l.file) (sym l.asked_are) (refl, l.handed)) ((loads command.story ceiling, l.answer), l.asked_are) count (λ e. absurd cc)
         (sent (check_status (is_checked story)) (check_line (is_checked story)) taken took sends (either (is_checked story)) once) (inl once) blames
 
-    pub asm-told : (text : List ℕ) (l : LoadsFile most_text text_of before now command.story asked (Ok text)) → Blames before.calls now.calls (let e : Result (List ℕ) Refusal = Ok text in e ≡ Err refusal.Shelf) → (ended.status ≡ status_bad_text → (1 ≤ ended.fault) × (ended.fault ≤ 4))
-        → JobTells (outcome_of_code (assembled text)) taken took sends ended → IsDone Asm command (record d { sink = taken; shelf = before; sends = []; asked = [] }) (record d { sink = took; shelf = now; sends = sends; asked = asked }) ended
+    pub asm-told : (text : List ℕ) (l : LoadsFile most_text text_in_file before now command.story asked (Ok text)) → Blames before.calls now.calls (let e : Result (List ℕ) Refusal = Ok text in e ≡ Err refusal.Shelf) → (ended.status ≡ status_bad_text → (1 ≤ ended.fault) × (ended.fault ≤ 4))
+        → JobTells (outcome_of_code (assembled text)) taken took sends ended → IsJobDone Asm command (record d { sink = taken; shelf = before; sends = []; asked = [] }) (record d { sink = took; shelf = now; sends = sends; asked = asked }) ended
     asm-told text l count number tell =
         told-done Asm command d before now taken took sends asked l.file (outcome_of_code (assembled text)) _ (λ plays. plays) l.file_is (ap outcome_of_text l.gives) (text-loadable l.file text l.gives)
         (subst (LoadsFirst Asm command l.file) (sym l.asked_are) (refl, l.handed)) ((loads command.story most_text, l.answer), l.asked_are) count (λ e. absurd cc)
         (code-told (assembled text) taken took sends number tell) tell blames
 
-    pub list-told : (story : FlatStory) (l : LoadsFile ceiling story_of before now command.story asked (Ok story)) → Blames before.calls now.calls (let e : Result FlatStory Refusal = Ok story in e ≡ Err refusal.Shelf) → (ended.status ≡ status_no_listing → (1 ≤ ended.fault) × (ended.fault ≤ 5))
-        → JobTells (outcome_of_listing (listed_story story)) taken took sends ended → IsDone Listing command (record d { sink = taken; shelf = before; sends = []; asked = [] }) (record d { sink = took; shelf = now; sends = sends; asked = asked }) ended
+    pub list-told : (story : FlatStory) (l : LoadsFile ceiling story_in_file before now command.story asked (Ok story)) → Blames before.calls now.calls (let e : Result FlatStory Refusal = Ok story in e ≡ Err refusal.Shelf) → (ended.status ≡ status_no_listing → (1 ≤ ended.fault) × (ended.fault ≤ 5))
+        → JobTells (outcome_of_listing (listed_story story)) taken took sends ended → IsJobDone Listing command (record d { sink = taken; shelf = before; sends = []; asked = [] }) (record d { sink = took; shelf = now; sends = sends; asked = asked }) ended
     list-told story l count number tell =
         told-done Listing command d before now taken took sends asked l.file (outcome_of_listing (listed_story story)) _ (λ plays. plays) l.file_is (ap outcome_of_list l.gives) (loadable l.file story l.gives)
         (subst (LoadsFirst Listing command l.file) (sym l.asked_are) (refl, l.handed)) ((loads command.story ceiling, l.answer), l.asked_are) count (λ e. absurd cc)
         (listing-told (listed_story story) taken took sends number tell) tell blames
 
   -- no run was begun by a command with this job
-  unrun : (command : Command) (d e : Devices) (outcome : Outcome) → IsBegun outcome d e ended ⊎ IsIdle command.job d e ended
-      → IsBegun outcome d e ended ⊎ IsUnrun (Some command) d e ended
+  unrun : (command : Command) (d e : Devices) (outcome : CommandOutcome) → IsRunBegun outcome d e ended ⊎ IsIdle command.job d e ended
+      → IsRunBegun outcome d e ended ⊎ IsUnrun (Some command) d e ended
   unrun command d e outcome (inl begun) = inl begun
   unrun command d e outcome (inr idle) = inr (record { machine = idle.machine; loads = inl idle.loads; untouched = idle.untouched; unsent = idle.unsent })
 
@@ -319,7 +330,7 @@ module _ {A : Type 0} (ended : Ended A) where
   module _ (words : List (List ℕ)) (entry : Devices) where
     -- the command line has a command, and its job was done
     pub played-done : (command : Command) (exit : Devices) → command_of words ≡ Some command → Chain SourceCall entry.source exit.reads exit.source → Chain SinkCall entry.sink exit.sends exit.sink
-        → Chain ShelfCall entry.shelf exit.asked exit.shelf → IsDone command.job command entry exit ended → IsPlayed words entry exit ended
+        → Chain ShelfCall entry.shelf exit.asked exit.shelf → IsJobDone command.job command entry exit ended → IsPlayed (command_of words) entry exit ended
     played-done command exit is read sent chain done =
         let headline : ComesOut (command_of words) entry exit ended =
         subst (λ (o : Option Command). ComesOut o entry exit ended) (sym is) (record {
@@ -341,7 +352,7 @@ module _ {A : Type 0} (ended : Ended A) where
           undrawn = undrawn ended entry exit (command_of words) headline;
           settled = settled (command_of words) entry;
           counts = done.counts;
-          parts = subst (λ (o : Option Command). HasItsParts (IsPlaying o) (HandsBack o) ended) (sym is) done.parts;
+          parts = subst (λ (o : Option Command). HasItsParts (IfSome o (λ (c : Command). PlaysStory c.job)) (IfSome o (λ (c : Command). c.job ≡ Play)) ended) (sym is) done.parts;
           works = works;
           spelling = spelling;
         }
@@ -350,14 +361,14 @@ module _ {A : Type 0} (ended : Ended A) where
     no-calls : {S C : Type 0} (step : S → C → S → Type 0) (s : S) (trace : List C) → trace ≡ [] → Chain step s trace s
     no-calls step s trace none = subst (λ (t : List _). Chain step s t s) (sym none) refl
 
-    none-called : (status : ℕ) → ended.status ≡ status → (status ≡ 1) ⊎ (status ≡ 11) → Counts entry entry ended.status
+    none-called : (status : ℕ) → ended.status ≡ status → (status ≡ 1) ⊎ (status ≡ 11) → FailureCounts entry entry ended.status
     none-called status s which = record {
       shelf = blames-none entry.shelf.calls entry.shelf.calls (ended.status ≡ status_shelf_fault) refl (λ e. absurd (grind (arith, s, which, e)));
       source = blames-none entry.source.calls entry.source.calls (ended.status ≡ status_input_fault) refl (λ e. absurd (grind (arith, s, which, e)));
       sink = blames-none entry.sink.calls entry.sink.calls (ended.status ≡ status_output_fault) refl (λ e. absurd (grind (arith, s, which, e)));
     }
 
-    untouched-by : (o : Option Command) → ended.machine ≡ None → ended.steps ≡ 0 → LoadsOnceFor o entry entry ended.status → IsUnrun o entry entry ended
+    untouched-by : (o : Option Command) → ended.machine ≡ None → ended.steps ≡ 0 → IfSome o (λ (c : Command). LoadsOnce c.job entry.asked ⊎ ((ended.status ≡ status_no_memory) × (entry ≡ entry))) → IsUnrun o entry entry ended
     untouched-by o machine steps once = record {
       machine = machine;
       loads = once;
@@ -366,16 +377,16 @@ module _ {A : Type 0} (ended : Ended A) where
     }
 
     -- it has none
-    pub played-none : entry.reads ≡ [] → entry.sends ≡ [] → entry.asked ≡ [] → command_of words ≡ None → HasNoMachine ended status_bad_words 0 0 → IsPlayed words entry entry ended
+    pub played-none : entry.reads ≡ [] → entry.sends ≡ [] → entry.asked ≡ [] → command_of words ≡ None → HasNoMachine ended status_bad_words 0 0 0 → IsPlayed (command_of words) entry entry ended
     played-none unread unsent first none absent =
         let s = absent.status_is in
         let headline : ComesOut (command_of words) entry entry ended =
         subst (λ (o : Option Command). ComesOut o entry entry ended) (sym none) (record {
           file = None;
           file_is = tt;
-          loads = first;
+          loads = tt;
           plays = (inl absent, record { sink = refl; sends = refl });
-          begun = inr (untouched-by None absent.machine_is absent.steps_are refl);
+          begun = inr (untouched-by None absent.machine_is absent.steps_are tt);
           memory = λ e. absurd (omega (arith, s, e));
         }) in
         record {
@@ -389,18 +400,18 @@ module _ {A : Type 0} (ended : Ended A) where
           undrawn = λ _. refl;
           settled = settled (command_of words) entry;
           counts = none-called status_bad_words s (inl refl);
-          parts = parts-before (IsPlaying (command_of words)) (HandsBack (command_of words)) status_bad_words 0 absent (inl refl) (omega arith) (λ _. refl);
+          parts = parts-before (IfSome (command_of words) (λ (c : Command). PlaysStory c.job)) (IfSome (command_of words) (λ (c : Command). c.job ≡ Play)) status_bad_words 0 absent (inl refl) (omega arith) (λ _. refl);
           works = works;
           spelling = spelling;
         }
 
-    unread-comes : (o : Option Command) → entry.asked ≡ [] → HasNoMachine ended status_no_memory 0 0 → ComesOut o entry entry ended
+    unread-comes : (o : Option Command) → entry.asked ≡ [] → HasNoMachine ended status_no_memory 0 0 0 → ComesOut o entry entry ended
     unread-comes None first absent = record {
       file = None;
       file_is = tt;
-      loads = first;
+      loads = tt;
       plays = (inr (inr absent), record { sink = refl; sends = refl });
-      begun = inr (untouched-by None absent.machine_is absent.steps_are refl);
+      begun = inr (untouched-by None absent.machine_is absent.steps_are tt);
       memory = λ _. inl refl;
     }
     unread-comes (Some command) first absent = record {
@@ -413,7 +424,7 @@ module _ {A : Type 0} (ended : Ended A) where
     }
 
     -- memory ran out while the words were read
-    pub played-unread : entry.reads ≡ [] → entry.sends ≡ [] → entry.asked ≡ [] → HasNoMachine ended status_no_memory 0 0 → IsPlayed words entry entry ended
+    pub played-unread : entry.reads ≡ [] → entry.sends ≡ [] → entry.asked ≡ [] → HasNoMachine ended status_no_memory 0 0 0 → IsPlayed (command_of words) entry entry ended
     played-unread unread unsent first absent =
         let s = absent.status_is in
         record {
@@ -427,7 +438,7 @@ module _ {A : Type 0} (ended : Ended A) where
           undrawn = λ _. refl;
           settled = settled (command_of words) entry;
           counts = none-called status_no_memory s (inr refl);
-          parts = parts-before (IsPlaying (command_of words)) (HandsBack (command_of words)) status_no_memory 0 absent (inr (inr (inr refl))) (omega arith) (λ _. refl);
+          parts = parts-before (IfSome (command_of words) (λ (c : Command). PlaysStory c.job)) (IfSome (command_of words) (λ (c : Command). c.job ≡ Play)) status_no_memory 0 absent (inr (inr (inr refl))) (omega arith) (λ _. refl);
           works = works;
           spelling = spelling;
         }

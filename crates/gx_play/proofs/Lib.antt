@@ -7,6 +7,7 @@ pub mod Digits
 pub mod Dones
 pub mod Loads
 pub mod Matched
+pub mod Outcomes
 pub mod Outputs
 pub mod Plays
 pub mod Rewound

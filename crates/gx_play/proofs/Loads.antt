@@ -4,7 +4,7 @@ use Rattle.std.proofs.lemmas.Bool.{lt-ltb, le-ltb, ltb-true, ltb-false}
 use Rattle.std.proofs.lemmas.List.{length-replicate}
 use Rattle.gx_words.specs.Constants.{ceiling}
 use Rattle.gx_outside.specs.Outside.{FlatShelf, IsBounded}
-use Rattle.gx_outside.specs.Shelves.{loads, loaded, load_of, MayWant, ShelfCall}
+use Rattle.gx_outside.specs.Shelves.{loads, loaded, load_of, AnswerMayWant, ShelfCall}
 use Rattle.gx_outside.specs.declared.devices.Load.{Load}
 use Rattle.gx_outside.specs.declared.devices.Load.TheVariants.{Missing, TooLong, Found}
 use Rattle.gx_outside.specs.declared.devices.ShelfFault.{ShelfFault}
@@ -16,7 +16,9 @@ use Rattle.gx_story.specs.Stories.{FlatStory, accepted}
 use Rattle.gx_play.specs.declared.loading.Refusal.{Refusal}
 use Rattle.gx_play.specs.declared.loading.Refusal.TheVariants as refusal
 use Rattle.gx_play.specs.Constants.{no_file, most_text}
-use Rattle.gx_play.specs.Headline.{numbered, story_of, text_of, IsLoadable}
+use Rattle.gx_play.specs.Outcomes.{story_in_file, text_in_file}
+use Rattle.gx_play.proofs.Outcomes.{story_or_number}
+use Rattle.gx_play.specs.FirstLoad.{IsLoadable}
 use Rattle.gx_play.specs.Loading.{refusal_of_shelf, refusal_of_story, LoadGives, LoadsFile}
 
 -- some bytes that are more than the most
@@ -26,19 +28,19 @@ some-longer most =
     let size : length zeros ≡ most + 1 = length-replicate (most + 1) 0 in
     (zeros, subst (λ (n : ℕ). most < n) (sym size) (omega arith))
 
-longer-story : (bytes : List ℕ) → ceiling < length bytes → story_of (Some bytes) ≡ Err (number_of of_story.TooLarge)
+longer-story : (bytes : List ℕ) → ceiling < length bytes → story_in_file (Some bytes) ≡ Err (number_of of_story.TooLarge)
 longer-story bytes more =
-    ap (λ (b : Bool). if b then Err (number_of of_story.TooLarge) else numbered (accepted bytes)) (lt-ltb ceiling (length bytes) more)
+    ap (λ (b : Bool). if b then Err (number_of of_story.TooLarge) else story_or_number (accepted bytes)) (lt-ltb ceiling (length bytes) more)
 
-shorter-story : (bytes : List ℕ) → length bytes ≤ ceiling → story_of (Some bytes) ≡ numbered (accepted bytes)
+shorter-story : (bytes : List ℕ) → length bytes ≤ ceiling → story_in_file (Some bytes) ≡ story_or_number (accepted bytes)
 shorter-story bytes fits =
-    ap (λ (b : Bool). if b then Err (number_of of_story.TooLarge) else numbered (accepted bytes)) (le-ltb ceiling (length bytes) fits)
+    ap (λ (b : Bool). if b then Err (number_of of_story.TooLarge) else story_or_number (accepted bytes)) (le-ltb ceiling (length bytes) fits)
 
-longer-text : (bytes : List ℕ) → most_text < length bytes → text_of (Some bytes) ≡ Err (number_of of_story.TooLarge)
+longer-text : (bytes : List ℕ) → most_text < length bytes → text_in_file (Some bytes) ≡ Err (number_of of_story.TooLarge)
 longer-text bytes more =
     ap (λ (b : Bool). let r : Result (List ℕ) ℕ = if b then Err (number_of of_story.TooLarge) else Ok bytes in r) (lt-ltb most_text (length bytes) more)
 
-shorter-text : (bytes : List ℕ) → length bytes ≤ most_text → text_of (Some bytes) ≡ Ok bytes
+shorter-text : (bytes : List ℕ) → length bytes ≤ most_text → text_in_file (Some bytes) ≡ Ok bytes
 shorter-text bytes fits =
     ap (λ (b : Bool). let r : Result (List ℕ) ℕ = if b then Err (number_of of_story.TooLarge) else Ok bytes in r) (le-ltb most_text (length bytes) fits)
 
@@ -71,11 +73,11 @@ found-is : (most : ℕ) (bytes : List ℕ) (file : Option (List ℕ)) → loaded
 found-is most bytes None is = absurd cc
 found-is most bytes (Some there) is = ap (λ (x : List ℕ). Some x) (found-by most bytes there (nat_lt most (length there)) is)
 
-wants-by : (most : ℕ) (name bytes : List ℕ) (b : Bool) → nat_lt most (length bytes) ≡ b → MayWant (loads name most) (loaded (if b then TooLong else Found bytes)) → length bytes ≤ most
+wants-by : (most : ℕ) (name bytes : List ℕ) (b : Bool) → nat_lt most (length bytes) ≡ b → AnswerMayWant (loads name most) (loaded (if b then TooLong else Found bytes)) → length bytes ≤ most
 wants-by most name bytes true e may = absurd may
 wants-by most name bytes false e may = may
 
-wants-file : (most : ℕ) (name : List ℕ) (file : Option (List ℕ)) → MayWant (loads name most) (loaded (load_of most file)) → IsLoadable most file
+wants-file : (most : ℕ) (name : List ℕ) (file : Option (List ℕ)) → AnswerMayWant (loads name most) (loaded (load_of most file)) → IsLoadable most file
 wants-file most name None may = absurd may
 wants-file most name (Some bytes) may = wants-by most name bytes (nat_lt most (length bytes)) refl may
 
@@ -134,49 +136,49 @@ module _ (most : ℕ) (name : List ℕ) (before now : FlatShelf) where
 module _ (name : List ℕ) (before now : FlatShelf) where
   -- the story's file is too long
   pub loads-long-story : ShelfCall before (loads name ceiling, Ok (loaded TooLong)) now
-      → LoadsFile ceiling story_of before now name ((loads name ceiling, Ok (loaded TooLong)) ∷ []) (Err (refusal.BadStory (number_of of_story.TooLarge)))
+      → LoadsFile ceiling story_in_file before now name ((loads name ceiling, Ok (loaded TooLong)) ∷ []) (Err (refusal.BadStory (number_of of_story.TooLarge)))
   loads-long-story does =
-      loads-load ceiling name before now story_of TooLong (Err (refusal.BadStory (number_of of_story.TooLarge))) does
-      (λ file handed. let long = long-is ceiling file handed in ap story_of long.1 ∙ longer-story long.0 long.2)
+      loads-load ceiling name before now story_in_file TooLong (Err (refusal.BadStory (number_of of_story.TooLarge))) does
+      (λ file handed. let long = long-is ceiling file handed in ap story_in_file long.1 ∙ longer-story long.0 long.2)
 
   -- so is the text's
   pub loads-long-text : ShelfCall before (loads name most_text, Ok (loaded TooLong)) now
-      → LoadsFile most_text text_of before now name ((loads name most_text, Ok (loaded TooLong)) ∷ []) (Err (refusal.BadStory (number_of of_story.TooLarge)))
+      → LoadsFile most_text text_in_file before now name ((loads name most_text, Ok (loaded TooLong)) ∷ []) (Err (refusal.BadStory (number_of of_story.TooLarge)))
   loads-long-text does =
-      loads-load most_text name before now text_of TooLong (Err (refusal.BadStory (number_of of_story.TooLarge))) does
-      (λ file handed. let long = long-is most_text file handed in ap text_of long.1 ∙ longer-text long.0 long.2)
+      loads-load most_text name before now text_in_file TooLong (Err (refusal.BadStory (number_of of_story.TooLarge))) does
+      (λ file handed. let long = long-is most_text file handed in ap text_in_file long.1 ∙ longer-text long.0 long.2)
 
   module _ (bytes : List ℕ) (does : ShelfCall before (loads name ceiling, Ok (loaded (Found bytes))) now) where
     -- the file is a story
-    pub loads-story : (story : FlatStory) → accepted bytes ≡ Ok story → LoadsFile ceiling story_of before now name ((loads name ceiling, Ok (loaded (Found bytes))) ∷ []) (Ok story)
+    pub loads-story : (story : FlatStory) → accepted bytes ≡ Ok story → LoadsFile ceiling story_in_file before now name ((loads name ceiling, Ok (loaded (Found bytes))) ∷ []) (Ok story)
     loads-story story good =
-        loads-load ceiling name before now story_of (Found bytes) (Ok story) does
-        (λ file handed. ap story_of (found-is ceiling bytes file handed) ∙ shorter-story bytes does.answer ∙ ap numbered good)
+        loads-load ceiling name before now story_in_file (Found bytes) (Ok story) does
+        (λ file handed. ap story_in_file (found-is ceiling bytes file handed) ∙ shorter-story bytes does.answer ∙ ap story_or_number good)
 
-    bad-story : (f : StoryFault) → (f ≢ of_story.NoMemory → accepted bytes ≡ Err f) → LoadGives ceiling story_of (Some bytes) (Err (refusal_of_story f))
+    bad-story : (f : StoryFault) → (f ≢ of_story.NoMemory → accepted bytes ≡ Err f) → LoadGives ceiling story_in_file (Some bytes) (Err (refusal_of_story f))
     bad-story of_story.NoMemory bad = does.answer
-    bad-story f bad = shorter-story bytes does.answer ∙ ap numbered (bad (λ e. cc))
+    bad-story f bad = shorter-story bytes does.answer ∙ ap story_or_number (bad (λ e. cc))
 
     -- it is none
-    pub loads-no-story : (f : StoryFault) → (f ≢ of_story.NoMemory → accepted bytes ≡ Err f) → LoadsFile ceiling story_of before now name ((loads name ceiling, Ok (loaded (Found bytes))) ∷ []) (Err (refusal_of_story f))
+    pub loads-no-story : (f : StoryFault) → (f ≢ of_story.NoMemory → accepted bytes ≡ Err f) → LoadsFile ceiling story_in_file before now name ((loads name ceiling, Ok (loaded (Found bytes))) ∷ []) (Err (refusal_of_story f))
     loads-no-story f bad =
-        loads-load ceiling name before now story_of (Found bytes) (Err (refusal_of_story f)) does
-        (λ file handed. subst (λ (o : Option (List ℕ)). LoadGives ceiling story_of o (Err (refusal_of_story f))) (sym (found-is ceiling bytes file handed)) (bad-story f bad))
+        loads-load ceiling name before now story_in_file (Found bytes) (Err (refusal_of_story f)) does
+        (λ file handed. subst (λ (o : Option (List ℕ)). LoadGives ceiling story_in_file o (Err (refusal_of_story f))) (sym (found-is ceiling bytes file handed)) (bad-story f bad))
 
   -- the file is a text
   pub loads-text : (bytes : List ℕ) → ShelfCall before (loads name most_text, Ok (loaded (Found bytes))) now
-      → LoadsFile most_text text_of before now name ((loads name most_text, Ok (loaded (Found bytes))) ∷ []) (Ok bytes)
+      → LoadsFile most_text text_in_file before now name ((loads name most_text, Ok (loaded (Found bytes))) ∷ []) (Ok bytes)
   loads-text bytes does =
-      loads-load most_text name before now text_of (Found bytes) (Ok bytes) does
-      (λ file handed. ap text_of (found-is most_text bytes file handed) ∙ shorter-text bytes does.answer)
+      loads-load most_text name before now text_in_file (Found bytes) (Ok bytes) does
+      (λ file handed. ap text_in_file (found-is most_text bytes file handed) ∙ shorter-text bytes does.answer)
 
 -- a file with a story can be loaded
 by-size : (bytes : List ℕ) (story : FlatStory) (b : Bool) → nat_lt ceiling (length bytes) ≡ b
-    → (let r : Result FlatStory ℕ = if b then Err (number_of of_story.TooLarge) else numbered (accepted bytes) in r ≡ Ok story) → length bytes ≤ ceiling
+    → (let r : Result FlatStory ℕ = if b then Err (number_of of_story.TooLarge) else story_or_number (accepted bytes) in r ≡ Ok story) → length bytes ≤ ceiling
 by-size bytes story true is e = absurd cc
 by-size bytes story false is e = ltb-false ceiling (length bytes) is
 
-pub loadable : (file : Option (List ℕ)) (story : FlatStory) → story_of file ≡ Ok story → IsLoadable ceiling file
+pub loadable : (file : Option (List ℕ)) (story : FlatStory) → story_in_file file ≡ Ok story → IsLoadable ceiling file
 loadable None story e = cc
 loadable (Some bytes) story e = by-size bytes story (nat_lt ceiling (length bytes)) refl e
 
@@ -186,6 +188,6 @@ text-by-size : (bytes text : List ℕ) (b : Bool) → nat_lt most_text (length b
 text-by-size bytes text true is e = absurd cc
 text-by-size bytes text false is e = ltb-false most_text (length bytes) is
 
-pub text-loadable : (file : Option (List ℕ)) (text : List ℕ) → text_of file ≡ Ok text → IsLoadable most_text file
+pub text-loadable : (file : Option (List ℕ)) (text : List ℕ) → text_in_file file ≡ Ok text → IsLoadable most_text file
 text-loadable None text e = cc
 text-loadable (Some bytes) text e = text-by-size bytes text (nat_lt most_text (length bytes)) refl e

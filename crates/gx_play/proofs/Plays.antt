@@ -1,14 +1,14 @@
 -- What a story that was loaded comes to.
-use Rattle.std.proofs.Common.{◌≡◌, ◌≢◌, ℕ, ◌⊎◌, inl, inr, true, List, [], ◌∷◌, Option, Some, None, IsSomeAnd, Result, Ok, Err, refl, ap, subst, sym, ◌∙◌}
+use Rattle.std.proofs.Common.{◌≡◌, ◌≢◌, ℕ, ◌⊎◌, inl, inr, true, List, [], ◌∷◌, Option, Some, None, IsSomeAnd, Result}
+use Rattle.std.proofs.Common.{Ok, Err, refl, ap, subst, sym, ◌∙◌}
 use Rattle.gx_words.specs.declared.faults.Fault.{Fault}
 use Rattle.gx_words.specs.declared.faults.Fault.TheVariants.{NoMemory}
 use Rattle.gx_words.specs.Constants.{ceiling}
 use Rattle.gx_words.specs.Faults.{number_of}
 use Rattle.gx_outside.specs.Files.{Files}
 use Rattle.gx_outside.specs.Outside.{FlatShelf}
-use Rattle.gx_outside.specs.Shelves.{Request, loads, Answer, Call, Trace, FilesCall, ShelfCall, told_by}
+use Rattle.gx_outside.specs.Shelves.{Request, loads, Answer, Exchange, Trace, FilesCall, ShelfCall, told_by}
 use Rattle.gx_outside.specs.declared.devices.ShelfFault.{ShelfFault}
-use Rattle.gx_outside.specs.declared.devices.ShelfFault.TheVariants as of_shelf
 use Rattle.gx_story.specs.Stories.{FlatStory}
 use Rattle.gx_machine.specs.Log.{no_events}
 use Rattle.gx_machine.specs.Machine.{Whole}
@@ -16,26 +16,32 @@ use Rattle.gx_machine.specs.Start.{first_machine}
 use Rattle.gx_session.specs.declared.ended.Ended.{Ended}
 use Rattle.gx_session.specs.Constants.{status_fault, status_shelf_fault, status_no_memory}
 use Rattle.gx_session.specs.Devices.{Devices}
-use Rattle.gx_session.specs.Counts.{Blames, Counts}
+use Rattle.gx_session.specs.Counts.{Blames, FailureCounts}
 use Rattle.gx_session.specs.Runs.{IsRun, Report, report_of}
-use Rattle.gx_session.specs.Session.{Configuration}
 use Rattle.gx_play.specs.declared.command.Job.{Job}
 use Rattle.gx_play.specs.declared.command.Job.TheVariants.{Play, Rewind}
 use Rattle.gx_play.specs.Commands.{Command}
-use Rattle.gx_play.specs.Headline.{Outcome, unstarted, runs, rewinds, outcome_of_start, outcome_of_story, outcome_of_job, story_of, start_for, HasNoMachine, KeepsSink, IsRunOf, IsRewindOf, BeginsAfter, IsBegun, IsHanded, LoadsFirst, IsLoadable, LoadsOnce, MayWant, Plays, PlaysStory}
+use Rattle.gx_play.specs.Outcomes.{CommandOutcome, unstarted, runs, rewinds, outcome_of_start, outcome_of_job}
+use Rattle.gx_play.specs.Outcomes.{story_in_file, start_for}
+use Rattle.gx_play.proofs.Outcomes.{outcome_of_story}
+use Rattle.gx_play.specs.Answers.{HasNoMachine, KeepsSink, IsRunOf, IsRewindOf, BeginsAfter, IsRunBegun, Plays}
+use Rattle.gx_play.specs.FirstLoad.{IsHanded, LoadsFirst, IsLoadable, JobMayWant}
+use Rattle.gx_play.specs.Unbegun.{LoadsOnce, PlaysStory}
 use Rattle.gx_play.specs.Loading.{IsIdle, IsStill, StoryPlays}
 use Rattle.gx_play.specs.Seeds.{devices_for, words_for}
 use Rattle.gx_session.proofs.Counting.{well-of, blames-on}
 use Rattle.rand_core.specs.Stream.{Stream}
+use Rattle.gx_session.specs.Configurations.{Configuration}
+use Rattle.gx_outside.specs.declared.devices.ShelfFault.TheVariants as of_shelf
 
 -- THE JOBS THAT PLAY A STORY come to what the story comes to
-pub plays-story : (job : Job) (command : Command) (file : Option (List ℕ)) (entry : Devices) → PlaysStory job → outcome_of_job job command file entry ≡ outcome_of_story job command entry (story_of file)
+pub plays-story : (job : Job) (command : Command) (file : Option (List ℕ)) (entry : Devices) → PlaysStory job → outcome_of_job job command file entry ≡ outcome_of_story job command entry (story_in_file file)
 plays-story Play command file entry plays = refl
 plays-story Rewind command file entry plays = refl
 plays-story job command file entry plays = absurd plays
 
 -- they ask the shelf once
-pub loads-story : (job : Job) (asked : Trace) → PlaysStory job → (load : Call) × (asked ≡ load ∷ []) → LoadsOnce job asked
+pub loads-story : (job : Job) (asked : Trace) → PlaysStory job → (load : Exchange) × (asked ≡ load ∷ []) → LoadsOnce job asked
 loads-story Play asked plays once = once
 loads-story Rewind asked plays once = once
 loads-story job asked plays once = absurd plays
@@ -48,7 +54,7 @@ first-story Rewind command file answer rest plays handed = (refl, handed)
 first-story job command file answer rest plays handed = absurd plays
 
 -- and may want memory where there is one
-pub wants-story : (job : Job) (file : Option (List ℕ)) → PlaysStory job → IsLoadable ceiling file → MayWant job file
+pub wants-story : (job : Job) (file : Option (List ℕ)) → PlaysStory job → IsLoadable ceiling file → JobMayWant job file
 wants-story Play file plays may = may
 wants-story Rewind file plays may = may
 wants-story job file plays may = absurd plays
@@ -94,7 +100,7 @@ module _ {A : Type 0} (ended : Ended A) where
 
   -- the start function can't be entered, or memory ran out
   pub plays-unstarted : (job : Job) (command : Command) (story : FlatStory) (entry : Devices) (r : Result Whole Fault) (f : Fault) → (f ≢ NoMemory → r ≡ Err f)
-      → (f ≡ NoMemory → HasNoMachine ended status_no_memory 0 0) → (f ≢ NoMemory → HasNoMachine ended status_fault (number_of f) story.header.start_function) → StoryPlays (outcome_of_start job command story entry r) entry entry ended
+      → (f ≡ NoMemory → HasNoMachine ended status_no_memory 0 0 0) → (f ≢ NoMemory → HasNoMachine ended status_fault (number_of f) story.header.start_function 0) → StoryPlays (outcome_of_start job command story entry r) entry entry ended
   plays-unstarted job command story entry r NoMemory is memory stands = still job command story entry entry r (inr (memory refl), refl)
   plays-unstarted job command story entry r f is memory stands =
       subst (λ (x : Result Whole Fault). StoryPlays (outcome_of_start job command story entry x) entry entry ended) (sym (is (λ e. cc))) (inl (stands (λ e. cc), refl))
@@ -165,8 +171,8 @@ module _ {A : Type 0} (ended : Ended A) where
 
     module _ (job : Job) (plays : PlaysStory job) where
       -- what is done and what is said of it
-      abbrev Comes : Outcome → Type 0
-      Comes outcome = Plays outcome entry exit ended × (IsBegun outcome entry exit ended ⊎ IsIdle job entry exit ended)
+      abbrev Comes : CommandOutcome → Type 0
+      Comes outcome = Plays outcome entry exit ended × (IsRunBegun outcome entry exit ended ⊎ IsIdle job entry exit ended)
 
       kept : after ≡ before → KeepsSink entry exit
       kept same = record { sink = ap (λ (d : Devices). d.sink) same; sends = ap (λ (d : Devices). d.sends) same }
@@ -186,7 +192,7 @@ module _ {A : Type 0} (ended : Ended A) where
       begins : (Run : Devices → Devices → Type 0) → Run before after → BeginsAfter entry exit Run
       begins Run run = record { load = (loads name most, answer); shelf = shelf; asked = asked; asked_are = asked-are; does = does; run = run }
 
-      found : (outcome : Outcome) → StoryPlays outcome before after ended → Comes outcome
+      found : (outcome : CommandOutcome) → StoryPlays outcome before after ended → Comes outcome
       found (unstarted fault at) (inl (absent, same)) = ((inl absent, kept same), inr (idle absent.machine_is absent.steps_are same))
       found (unstarted fault at) (inr (is, same)) = ((inr is, kept same), inr (unbegun (is, same)))
       found (runs seed start) (inl run) =
@@ -200,18 +206,18 @@ module _ {A : Type 0} (ended : Ended A) where
       found outcome none = absurd none
 
       -- the story that was loaded is played
-      pub comes-out : (command : Command) (file : Option (List ℕ)) (story : FlatStory) → story_of file ≡ Ok story
+      pub comes-out : (command : Command) (file : Option (List ℕ)) (story : FlatStory) → story_in_file file ≡ Ok story
           → StoryPlays (outcome_of_start job command story before (first_machine story command.undo)) before after ended
           → Comes (outcome_of_job job command file entry)
       comes-out command file story good played =
           let first : Result Whole Fault = first_machine story command.undo in
           let ran : Comes (outcome_of_start job command story entry first) = found (outcome_of_start job command story entry first) (moved job command story first played) in
-          let told : Comes (outcome_of_story job command entry (story_of file)) =
+          let told : Comes (outcome_of_story job command entry (story_in_file file)) =
           subst (λ (x : Result FlatStory ℕ). Comes (outcome_of_story job command entry x)) (sym good) ran in
-          subst (λ (x : Outcome). Comes x) (sym (plays-story job command file entry plays)) told
+          subst (λ (x : CommandOutcome). Comes x) (sym (plays-story job command file entry plays)) told
 
 -- the counts of a run after the story was loaded
-pub counts-after : (entry exit : Devices) (shelf : FlatShelf) (status : ℕ) (failed : Type 0) → Counts (record entry { shelf = shelf }) exit status → Blames entry.shelf.calls shelf.calls failed → (failed → ⊥) → Counts entry exit status
+pub counts-after : (entry exit : Devices) (shelf : FlatShelf) (status : ℕ) (failed : Type 0) → FailureCounts (record entry { shelf = shelf }) exit status → Blames entry.shelf.calls shelf.calls failed → (failed → ⊥) → FailureCounts entry exit status
 counts-after entry exit shelf status failed counts blames fine = record {
   shelf = blames-on entry.shelf.calls shelf.calls exit.shelf.calls (status ≡ status_shelf_fault) (well-of entry.shelf.calls shelf.calls failed blames fine) counts.shelf;
   source = counts.source;

@@ -3,7 +3,7 @@ use Rattle.std.proofs.Common.{Option, Some, None, IsSome, IsSomeAnd, refl, arith
 use Rattle.gx_machine.specs.Machine.{Whole}
 use Rattle.gx_session.specs.declared.ended.Ended.{Ended}
 use Rattle.gx_session.specs.Devices.{Devices}
-use Rattle.gx_session.specs.Session.{Configuration}
+use Rattle.gx_session.specs.Configurations.{Configuration}
 use Rattle.gx_session.specs.Runs.{IsReport, IsRun, report_of}
 use Rattle.gx_play.specs.Loading.{HasRunParts}
 

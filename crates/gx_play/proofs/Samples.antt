@@ -5,7 +5,7 @@ use Rattle.gx_session.specs.Constants.{status_bad_words, status_bad_story}
 use Rattle.gx_session.specs.Devices.{Devices}
 use Rattle.gx_play.specs.declared.command.Job.TheVariants.{Play, Rewind, Check, Asm, List as Listing}
 use Rattle.gx_play.specs.Commands.{Command}
-use Rattle.gx_play.specs.Headline.{outcome_of, refused, story_of}
+use Rattle.gx_play.specs.Outcomes.{outcome_of, refused, story_in_file}
 
 bad-words : (file : Option (List ℕ)) (d : Devices) → outcome_of None file d ≡ refused status_bad_words 0 0
 bad-words file d = refl
@@ -33,30 +33,30 @@ page magic version =
 abbrev glul : List ℕ
 glul = 0x47 ∷ 0x6C ∷ 0x75 ∷ 0x6C ∷ []
 
-empty-file : story_of (Some []) ≡ Err 1
+empty-file : story_in_file (Some []) ≡ Err 1
 unfolding accepted bare header
 empty-file = refl
 
-short-file : story_of (Some (take 35 (page glul (0 ∷ 3 ∷ 1 ∷ 2 ∷ [])))) ≡ Err 1
+short-file : story_in_file (Some (take 35 (page glul (0 ∷ 3 ∷ 1 ∷ 2 ∷ [])))) ≡ Err 1
 unfolding accepted bare header
 short-file = refl
 
-other-magic : story_of (Some (page (0x48 ∷ 0x6C ∷ 0x75 ∷ 0x6C ∷ []) (0 ∷ 3 ∷ 1 ∷ 2 ∷ []))) ≡ Err 2
+other-magic : story_in_file (Some (page (0x48 ∷ 0x6C ∷ 0x75 ∷ 0x6C ∷ []) (0 ∷ 3 ∷ 1 ∷ 2 ∷ []))) ≡ Err 2
 unfolding accepted bare header
 other-magic = refl
 
-old-version : story_of (Some (page glul (0 ∷ 1 ∷ 0xFF ∷ 0xFF ∷ []))) ≡ Err 3
+old-version : story_in_file (Some (page glul (0 ∷ 1 ∷ 0xFF ∷ 0xFF ∷ []))) ≡ Err 3
 unfolding accepted bare header
 old-version = refl
 
-first-version : is_ok (story_of (Some (page glul (0 ∷ 2 ∷ 0 ∷ 0 ∷ [])))) ≡ true
+first-version : is_ok (story_in_file (Some (page glul (0 ∷ 2 ∷ 0 ∷ 0 ∷ [])))) ≡ true
 unfolding accepted bare header
 first-version = refl
 
-last-version : is_ok (story_of (Some (page glul (0 ∷ 3 ∷ 1 ∷ 0xFF ∷ [])))) ≡ true
+last-version : is_ok (story_in_file (Some (page glul (0 ∷ 3 ∷ 1 ∷ 0xFF ∷ [])))) ≡ true
 unfolding accepted bare header
 last-version = refl
 
-new-version : story_of (Some (page glul (0 ∷ 3 ∷ 2 ∷ 0 ∷ []))) ≡ Err 3
+new-version : story_in_file (Some (page glul (0 ∷ 3 ∷ 2 ∷ 0 ∷ []))) ≡ Err 3
 unfolding accepted bare header
 new-version = refl

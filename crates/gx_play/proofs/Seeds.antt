@@ -1,5 +1,6 @@
 -- With a seed the device's words are neither drawn nor looked at.
-use Rattle.std.proofs.Common.{◌≡◌, ℕ, inl, inr, List, Option, Some, None, Result, Ok, Err, IsSome, refl, ap, subst, sym}
+use Rattle.std.proofs.Common.{◌≡◌, ℕ, inl, inr, List, Option, Some, None, Result, Ok, Err, IsSome, IsSomeAnd, refl, ap}
+use Rattle.std.proofs.Common.{subst, sym}
 use Rattle.gx_words.specs.declared.faults.Fault.{Fault}
 use Rattle.gx_story.specs.Stories.{FlatStory}
 use Rattle.gx_machine.specs.Log.{Log, no_events}
@@ -9,14 +10,18 @@ use Rattle.glk_world.specs.World.{empty_world}
 use Rattle.gx_session.specs.declared.ended.Ended.{Ended}
 use Rattle.gx_session.specs.Devices.{Devices}
 use Rattle.gx_session.specs.Runs.{IsRun, Report}
-use Rattle.gx_session.specs.Session.{Configuration, start_of}
 use Rattle.gx_play.specs.declared.command.Job.{Job}
 use Rattle.gx_play.specs.declared.command.Job.TheVariants.{Play, Rewind, Check, Work, Asm, List as Listing}
 use Rattle.gx_play.specs.Commands.{Command}
 use Rattle.gx_play.specs.Seeds.{seeded_words, words_for, devices_for, AreLeft}
-use Rattle.gx_play.specs.Headline.{runs, rewinds, outcome_of_job, outcome_of_start, outcome_of_story, start_for, story_of, IsBegun, IsRunTo, ComesOut, IsSeeded, IsSettled}
+use Rattle.gx_play.specs.Outcomes.{runs, rewinds, outcome_of_job, outcome_of_start, start_for, story_in_file}
+use Rattle.gx_play.specs.Outcomes.{outcome_of}
+use Rattle.gx_play.proofs.Outcomes.{outcome_of_story}
+use Rattle.gx_play.specs.Answers.{IsRunBegun, IsRunTo}
+use Rattle.gx_play.specs.Headline.{ComesOut}
 use Rattle.gx_play.proofs.Begun.{begins-none}
 use Rattle.rand_core.specs.Stream.{Stream}
+use Rattle.gx_session.specs.Configurations.{Configuration, start_of}
 
 module _ (entry exit : Devices) (command : Command) (whole : Whole) (log : Option Log) (r : Report) where
   abbrev start_with : Devices → Configuration
@@ -44,22 +49,22 @@ module _ {A : Type 0} (ended : Ended A) (entry exit : Devices) where
   left-alone (Some seed) is left are = are
 
   -- A RUN THAT WAS BEGUN has the command's seed
-  start-undrawn : (job : Job) (command : Command) (story : FlatStory) (r : Result Whole Fault) → IsSome command.seed → IsBegun (outcome_of_start job command story entry r) entry exit ended → exit.words ≡ entry.words
+  start-undrawn : (job : Job) (command : Command) (story : FlatStory) (r : Result Whole Fault) → IsSome command.seed → IsRunBegun (outcome_of_start job command story entry r) entry exit ended → exit.words ≡ entry.words
   start-undrawn Rewind command story (Ok whole) is begun = left-alone command.seed is begun.run.run.0 begun.run.run.1
   start-undrawn job command story (Ok whole) is begun = left-alone command.seed is begun.run.0 begun.run.1
   start-undrawn job command story (Err fault) is none = absurd none
 
-  story-undrawn : (job : Job) (command : Command) (r : Result FlatStory ℕ) → IsSome command.seed → IsBegun (outcome_of_story job command entry r) entry exit ended → exit.words ≡ entry.words
+  story-undrawn : (job : Job) (command : Command) (r : Result FlatStory ℕ) → IsSome command.seed → IsRunBegun (outcome_of_story job command entry r) entry exit ended → exit.words ≡ entry.words
   story-undrawn job command (Ok story) is begun = start-undrawn job command story (first_machine story command.undo) is begun
   story-undrawn job command (Err fault) is none = absurd none
 
-  job-undrawn : (job : Job) (command : Command) (file : Option (List ℕ)) → IsSome command.seed → IsBegun (outcome_of_job job command file entry) entry exit ended → exit.words ≡ entry.words
-  job-undrawn Play command file is begun = story-undrawn Play command (story_of file) is begun
-  job-undrawn Rewind command file is begun = story-undrawn Rewind command (story_of file) is begun
+  job-undrawn : (job : Job) (command : Command) (file : Option (List ℕ)) → IsSome command.seed → IsRunBegun (outcome_of_job job command file entry) entry exit ended → exit.words ≡ entry.words
+  job-undrawn Play command file is begun = story-undrawn Play command (story_in_file file) is begun
+  job-undrawn Rewind command file is begun = story-undrawn Rewind command (story_in_file file) is begun
   job-undrawn job command file is begun = absurd (begins-none ended entry exit job command file (λ plays. plays) begun)
 
   -- THE DEVICE has the words that it had
-  pub undrawn : (command : Option Command) → ComesOut command entry exit ended → IsSeeded command → exit.words ≡ entry.words
+  pub undrawn : (command : Option Command) → ComesOut command entry exit ended → IsSomeAnd command (λ (c : Command). IsSome c.seed) → exit.words ≡ entry.words
   undrawn None comes is = absurd is
   undrawn (Some command) comes is =
       elim comes.begun [ inl begun ↦ job-undrawn command.job command comes.file is begun | inr unrun ↦ unrun.untouched.words ]
@@ -85,13 +90,14 @@ module _ (command : Command) (entry : Devices) (other : Stream) (is : IsSome com
   story-settled job (Err fault) = refl
 
   job-settled : (job : Job) (file : Option (List ℕ)) → outcome_of_job job command file (record entry { words = other }) ≡ outcome_of_job job command file entry
-  job-settled Play file = story-settled Play (story_of file)
-  job-settled Rewind file = story-settled Rewind (story_of file)
+  job-settled Play file = story-settled Play (story_in_file file)
+  job-settled Rewind file = story-settled Rewind (story_in_file file)
   job-settled Check file = refl
   job-settled (Work number) file = refl
   job-settled Asm file = refl
   job-settled Listing file = refl
 
-pub settled : (command : Option Command) (entry : Devices) → IsSeeded command → IsSettled command entry
+pub settled : (command : Option Command) (entry : Devices) → IsSomeAnd command (λ (c : Command). IsSome c.seed)
+    → (file : Option (List ℕ)) (other : Stream) → outcome_of command file (record entry { words = other }) ≡ outcome_of command file entry
 settled None entry is = absurd is
 settled (Some command) entry is = λ file other. job-settled command entry other is command.job file

@@ -1,19 +1,21 @@
 -- What the run of a story that is made of a number comes to.
-use Rattle.std.proofs.Common.{◌≡◌, ℕ, ◌-◌, ◌<◌, ◌≤◌, ◌⊎◌, inl, inr, Bool, true, false, List, [], ◌∷◌, ◌++◌, length, Some, refl, ap, subst, ◌∙◌, arith, decimal}
-use Rattle.gx_outside.specs.Reads.{Read}
+use Rattle.std.proofs.Common.{◌≡◌, ℕ, ◌-◌, ◌<◌, ◌≤◌, ◌⊎◌, inl, inr, Bool, List, [], ◌∷◌, ◌++◌, length, Some, refl, ap}
+use Rattle.std.proofs.Common.{subst, ◌∙◌, arith, decimal}
+use Rattle.gx_outside.specs.Reads.{SourceRead}
 use Rattle.gx_outside.specs.Sends.{Send}
 use Rattle.gx_outside.specs.Shelves.{Request, Answer, Trace}
 use Rattle.gx_state.specs.Flat.{FlatState}
 use Rattle.gx_machine.specs.Machine.{Whole, FlatMachine}
 use Rattle.gx_session.specs.Constants.{status_shelf_fault, status_no_memory}
 use Rattle.gx_session.specs.Devices.{Devices, devices}
-use Rattle.gx_session.specs.Session.{Configuration, final_of}
+use Rattle.gx_session.specs.Session.{final_of}
 use Rattle.gx_session.specs.Runs.{IsRun, IsSession, Report, EndsAt}
 use Rattle.gx_play.specs.Jobs.{gathered, no_shelf, no_source, zeros, work_machine, work_start, work_line, ram_sum_of}
+use Rattle.gx_session.specs.Configurations.{Configuration}
 
 -- devices that hold nothing but this text, and never failed, after so many calls; how many bytes were offered in all,
 -- and whether the last send wanted memory, and the last call of the shelf
-abbrev pub quiet : ℕ → ℕ → ℕ → List ℕ → ℕ → Bool → Bool → List Read → List Send → Trace → Devices
+abbrev pub quiet : ℕ → ℕ → ℕ → List ℕ → ℕ → Bool → Bool → List SourceRead → List Send → Trace → Devices
 quiet reads offered sends text asks send-wanted shelf-wanted read sent asked =
     devices (no_source reads offered) (gathered sends send-wanted text) (no_shelf asks shelf-wanted) zeros read sent asked
 
@@ -23,7 +25,7 @@ pub record Tells (start : Configuration) (text : List ℕ) (r : Report) : Type 0
   pub text_is : text ≡ (final_of start).configuration.world.text
   pub machine : r.machine.machine ≡ (final_of start).configuration.machine
 
-module _ (w : Whole) (reads offered sends asks reads' offered' sends' asks' : ℕ) (send shelf send' shelf' : Bool) (read : List Read) (sent : List Send) (asked : Trace) (text : List ℕ) (r : Report) where
+module _ (w : Whole) (reads offered sends asks reads' offered' sends' asks' : ℕ) (send shelf send' shelf' : Bool) (read : List SourceRead) (sent : List Send) (asked : Trace) (text : List ℕ) (r : Report) where
   abbrev start : Configuration
   start = work_start w
 

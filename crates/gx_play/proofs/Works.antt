@@ -2,12 +2,16 @@
 use Rattle.std.proofs.Common.{◌≡◌, ℕ, ◌+◌, ◌-◌, ◌*◌, ◌%◌, ◌^◌, ◌<◌, ◌≤◌, nat_le, not, if◌then◌else◌, Bool, true, false}
 use Rattle.std.proofs.Common.{List, [], ◌∷◌, ◌++◌, length, take, replicate, Some, is_some, IsSome, Result, Ok, Err}
 use Rattle.std.proofs.Common.{refl, ap, sym, ◌∙◌, append_assoc, arith}
+use Rattle.std.specs.Option.{option_and_then}
+use Rattle.std.specs.Result.{result_ok}
 use Rattle.std.proofs.lemmas.Bool.{le-leb}
 use Rattle.std.proofs.lemmas.Bool.Decides.{nat_tests}
 use Rattle.std.proofs.lemmas.List.{length-append, take_all}
 use Rattle.gx_words.specs.Constants.{extstart_at, ceiling}
 use Rattle.gx_words.specs.Numbers.{byte, word, sum_of_words}
 use Rattle.iff_chunks.specs.Chunks.{begins_form}
+use Rattle.gx_words.specs.declared.faults.Fault.{Fault}
+use Rattle.gx_story.specs.declared.faults.StoryFault.{StoryFault}
 use Rattle.gx_story.specs.Stories.{FlatStory, accepted, bare, header, header_at_start, stored_story, has_sizes}
 use Rattle.gx_story.specs.Stories.{is_whole}
 use Rattle.gx_story.proofs.HeaderTests.{has_header, has_magic, has_version, is_within_limits, has_stored_part}
@@ -16,11 +20,11 @@ use Rattle.gx_stack.specs.Formats.{locals_len}
 use Rattle.gx_state.specs.Entry.{kind_at, format_from, function_at, entered, started, initial}
 use Rattle.gx_machine.specs.Machine.{Whole}
 use Rattle.gx_machine.specs.Start.{first_machine}
-use Rattle.gx_work.specs.Work.{page, ram, ram_count, story_with, work_story}
+use Rattle.gx_work.specs.Work.{page, ram, ram_count, work_story_with, work_story}
 use Rattle.gx_work.proofs.Pages.{length-page}
 use Rattle.gx_work.proofs.Stories.{length-work, headed}
 use Rattle.gx_play.specs.Constants.{usual_depth}
-use Rattle.gx_play.specs.Jobs.{work_machine, machine_in, machine_of}
+use Rattle.gx_play.specs.Jobs.{work_machine}
 
 -- THE FILE
 all-passed : {X E : Type 0} (a b c d e f : Bool) (short magic version sizes large cut : E) (x : X) → a ≡ true → b ≡ true → c ≡ true → d ≡ true → e ≡ true → f ≡ true
@@ -34,7 +38,7 @@ module _ (number : ℕ) where
   size = 0x100 + 4 * ram_count number
 
   is-no-form : begins_form (work_story number) ≡ false
-  unfolding work_story story_with page
+  unfolding work_story work_story_with page
   is-no-form = refl
 
   passes-header : has_header (work_story number) ≡ true
@@ -116,17 +120,17 @@ module _ (count checksum : ℕ) (rest : List ℕ) where
   function-is = rw (reads-type, reads-locals, reads-count, reads-end, reads-last) refl
 
 starts : (story : FlatStory) (memory : List ℕ) (x : ℕ × List ℕ) → (initial story).memory ≡ memory → story.header.start_function ≡ 0x24 → story.header.stack_size ≡ 0x100
-    → function_at memory 0x24 0 0 0x100 ≡ Ok x → is_some (machine_of (first_machine story usual_depth)) ≡ true
+    → function_at memory 0x24 0 0 0x100 ≡ Ok x → is_some (result_ok (first_machine story usual_depth)) ≡ true
 unfolding first_machine started entered
 starts story memory x same start stack function = rw (same, start, stack, function) refl
 
 -- memory begins with the first page
 module _ (number : ℕ) where
   abbrev checksum : ℕ
-  checksum = sum_of_words (64 + ram_count number) (story_with number 0) % 2 ^ 32
+  checksum = sum_of_words (64 + ram_count number) (work_story_with number 0) % 2 ^ 32
 
   begins : (zeros : List ℕ) → take (word (work_story number) extstart_at) (work_story number) ++ zeros ≡ page (ram_count number) checksum ++ (ram (ram_count number) number ++ zeros)
-  unfolding work_story story_with
+  unfolding work_story work_story_with
   begins zeros =
       let h = headed number in
       let short : length (work_story number) ≤ word (work_story number) extstart_at = omega (arith, h.extstart) in
@@ -144,4 +148,6 @@ module _ (number : ℕ) where
   -- the machine that was started
   pub started-by : (bytes : List ℕ) (s : FlatStory) (w : Whole) → bytes ≡ work_story number → accepted bytes ≡ Ok s → first_machine s usual_depth ≡ Ok w → work_machine number ≡ Some w
   unfolding work_machine
-  started-by bytes s w is accepts-it starts-it = ap machine_in (ap accepted (sym is) ∙ accepts-it) ∙ ap machine_of starts-it
+  started-by bytes s w is accepts-it starts-it =
+      ap (λ (r : Result FlatStory StoryFault). option_and_then (λ (story : FlatStory). result_ok (first_machine story usual_depth)) (result_ok r)) (ap accepted (sym is) ∙ accepts-it)
+      ∙ ap (λ (r : Result Whole Fault). result_ok r) starts-it

@@ -5,7 +5,7 @@
 -- alike, options stand before or after STORY, and after `--` every word is STORY. A question for help is no command. N
 -- is one decimal digit or more. All options are looked at in every job, also where it uses them for nothing.
 use Rattle.std.specs.Prelude.{ℕ, ◌-◌, ◌^◌, ◌&&◌, Bool, true, false, List, [], ◌∷◌, Option, Some, None, codes, length}
-use Rattle.std.specs.Prelude.{nat_le, nat_lt, if◌then◌else◌, option_map}
+use Rattle.std.specs.Prelude.{nat_le, nat_lt, if◌then◌else◌, option_map, option_and_then}
 use Rattle.std.specs.Char.{is_ascii_digit}
 use Rattle.std.specs.List.{list_all}
 use Rattle.std.specs.Str.{bytes_eq}
@@ -53,28 +53,6 @@ player =
     (flag_rule (codes "plain")))
     (text_rule (codes "job") (codes "play"))
 
--- why the words have no matches: nothing where they have
-unfoldable pub faults_of : List Text → Kinds
-faults_of words = fault_of player words
-
--- what is matched in the words, where they have matches
-unfoldable pub found_in : List Text → List Row
-found_in words = matches_of player words
-
--- THE TEXTS of a command line, where they are there, and which flags are set.
-pub record Texts : Type 0 where
-  pub story : Option Text
-  pub steps : Option Text
-  pub columns : Option Text
-  pub rows : Option Text
-  pub undo : Option Text
-  pub seed : Option Text
-  pub back : Option Text
-  pub echo : Bool
-  pub screen : Bool
-  pub plain : Bool
-  pub job : Option Text
-
 -- WHAT A COMMAND LINE ASKS FOR: the name of the file, the budget of the run, the size of the screen, how many copies
 -- are kept for undo, the seed of the random words, if there is one, how many units job rewind goes back, whether each
 -- line that is taken is shown, how the text is put together, and the job.
@@ -91,25 +69,21 @@ pub record Command : Type 0 where
   pub job : Job
 
 -- the number that one decimal digit or more spell, where it is from the least to the most
-abbrev pub number_of : ℕ → ℕ → Text → Option ℕ
-number_of least most text =
+abbrev pub number_spelled : ℕ → ℕ → Text → Option ℕ
+number_spelled least most text =
     if nat_lt 0 (length text) && (list_all is_ascii_digit text
     && (nat_le least (digits_value 10 text) && nat_le (digits_value 10 text) most))
     then Some (digits_value 10 text) else None
 
-abbrev pub number_in : ℕ → ℕ → Option Text → Option ℕ
-number_in least most None = None
-number_in least most (Some text) = number_of least most text
-
 -- the depth of undo
 abbrev pub depth_of : Option Text → Option ℕ
 depth_of None = Some usual_depth
-depth_of (Some text) = number_of 1 most_undo text
+depth_of (Some text) = number_spelled 1 most_undo text
 
 -- the seed, if there is one
 abbrev pub seed_of : Option Text → Option (Option ℕ)
 seed_of None = Some None
-seed_of (Some text) = option_map (λ number. Some number) (number_of 0 (2 ^ 64 - 1) text)
+seed_of (Some text) = option_map (λ number. Some number) (number_spelled 0 (2 ^ 64 - 1) text)
 
 -- the job of this name; in job work STORY is a number
 abbrev pub job_of : Text → Text → Option Job
@@ -117,75 +91,63 @@ job_of story name =
     if bytes_eq name (codes "play") then Some Play else
     if bytes_eq name (codes "rewind") then Some Rewind else
     if bytes_eq name (codes "check") then Some Check else
-    if bytes_eq name (codes "work") then option_map (λ number. Work number) (number_of 0 (2 ^ 32 - 1) story) else
+    if bytes_eq name (codes "work") then option_map (λ number. Work number) (number_spelled 0 (2 ^ 32 - 1) story) else
     if bytes_eq name (codes "asm") then Some Asm else
     if bytes_eq name (codes "list") then Some Listing else
     None
 
-abbrev pub job_in : Option Text → Option Text → Option Job
-job_in (Some story) (Some name) = job_of story name
-job_in story name = None
-
 -- HOW THE TEXT IS PUT TOGETHER, by the flags screen, plain and echo, and the job. With `--screen` the screen is
 -- composed; that isn't understood with `--plain` or `--echo`, nor in a job other than play and rewind. With `--plain`
 -- grids are shown nowhere. Else rows of grids stand behind a bar.
-abbrev pub view_of : Bool → Bool → Bool → Job → Option View
-view_of false false echo job = Some view.Rows
-view_of false true echo job = Some view.Plain
-view_of true false false Play = Some view.Screen
-view_of true false false Rewind = Some view.Screen
-view_of screen plain echo job = None
-
-abbrev pub view_in : Bool → Bool → Bool → Option Job → Option View
-view_in screen plain echo None = None
-view_in screen plain echo (Some job) = view_of screen plain echo job
-
-abbrev pub command_with : Option Text → Option ℕ → Option ℕ → Option ℕ → Option ℕ → Option (Option ℕ) → Option ℕ → Bool
-    → Option View → Option Job → Option Command
-command_with (Some story) (Some steps) (Some columns) (Some rows) (Some undo) (Some seed) (Some back) echo (Some view)
-    (Some job) =
-    Some (record {
-      story = story;
-      steps = steps;
-      columns = columns;
-      rows = rows;
-      undo = undo;
-      seed = seed;
-      back = back;
-      echo = echo;
-      view = view;
-      job = job;
-    })
-command_with story steps columns rows undo seed back echo view job = None
-
--- what the texts ask for, where each is as it has to be
-abbrev pub command_in : Texts → Option Command
-command_in texts =
-    command_with texts.story (number_in 0 (2 ^ 64 - 1) texts.steps) (number_in 1 255 texts.columns)
-    (number_in 1 255 texts.rows)
-    (depth_of texts.undo) (seed_of texts.seed) (number_in 0 (2 ^ 64 - 1) texts.back) texts.echo
-    (view_in texts.screen texts.plain texts.echo (job_in texts.story texts.job)) (job_in texts.story texts.job)
+abbrev pub view_for : Bool → Bool → Bool → Job → Option View
+view_for false false echo job = Some view.Rows
+view_for false true echo job = Some view.Plain
+view_for true false false Play = Some view.Screen
+view_for true false false Rewind = Some view.Screen
+view_for screen plain echo job = None
 
 -- a flag is set
 abbrev pub is_set : Option Text → Bool
 is_set None = false
 is_set (Some text) = bytes_eq text (codes "true")
 
--- the texts of what is matched
-abbrev pub texts_of : List Row → Texts
-texts_of rows = record {
-  story = first_of (codes "STORY") rows;
-  steps = first_of (codes "steps") rows;
-  columns = first_of (codes "columns") rows;
-  rows = first_of (codes "rows") rows;
-  undo = first_of (codes "undo") rows;
-  seed = first_of (codes "seed") rows;
-  back = first_of (codes "back") rows;
-  echo = is_set (first_of (codes "echo") rows);
-  screen = is_set (first_of (codes "screen") rows);
-  plain = is_set (first_of (codes "plain") rows);
-  job = first_of (codes "job") rows;
-}
+-- one that isn't there makes none of what follows
+infixl 10 ◌>>=◌
+abbrev ◌>>=◌ : {A B : Type 0} → Option A → (A → Option B) → Option B
+o >>= f = option_and_then f o
+
+-- what the texts under the names ask for, where each is as it has to be
+abbrev pub command_in : (Text → Option Text) → Option Command
+command_in under = do
+  story ← under (codes "STORY")
+  steps ← under (codes "steps") >>= number_spelled 0 (2 ^ 64 - 1)
+  columns ← under (codes "columns") >>= number_spelled 1 255
+  rows ← under (codes "rows") >>= number_spelled 1 255
+  undo ← depth_of (under (codes "undo"))
+  seed ← seed_of (under (codes "seed"))
+  back ← under (codes "back") >>= number_spelled 0 (2 ^ 64 - 1)
+  job ← under (codes "job") >>= job_of story
+  view ← view_for (is_set (under (codes "screen"))) (is_set (under (codes "plain"))) (is_set (under (codes "echo"))) job
+  Some (record {
+    story = story;
+    steps = steps;
+    columns = columns;
+    rows = rows;
+    undo = undo;
+    seed = seed;
+    back = back;
+    echo = is_set (under (codes "echo"));
+    view = view;
+    job = job;
+  })
+
+-- why the words have no matches: nothing where they have
+unfoldable pub faults_of : List Text → Kinds
+faults_of words = fault_of player words
+
+-- what is matched in the words, where they have matches
+unfoldable pub matched_in : List Text → List Row
+matched_in words = matches_of player words
 
 abbrev pub are_none : {X : Type 0} → List X → Bool
 are_none [] = true
@@ -193,4 +155,5 @@ are_none (x ∷ xs) = false
 
 -- THE COMMAND of the words, and none where they have no matches or a text isn't as it has to be.
 unfoldable pub command_of : List Text → Option Command
-command_of words = if are_none (faults_of words) then command_in (texts_of (found_in words)) else None
+command_of words =
+    if are_none (faults_of words) then command_in (λ name. first_of name (matched_in words)) else None

@@ -1,27 +1,28 @@
 -- The jobs check and work, each of which sends one line.
 use Rattle.std.specs.Prelude.{ℕ, zero, suc, ◌+◌, ◌-◌, ◌*◌, ◌/◌, ◌%◌, ◌^◌, Bool, true, false, List, [], ◌∷◌, ◌++◌}
-use Rattle.std.specs.Prelude.{length, replicate, Option, Some, None, Result, Ok, Err, codes, decimal}
+use Rattle.std.specs.Prelude.{length, replicate, Option, None, codes, decimal}
+use Rattle.std.specs.Option.{option_and_then, option_map_or}
+use Rattle.std.specs.Result.{result_ok}
 use Rattle.gx_words.specs.Numbers.{word}
-use Rattle.gx_words.specs.declared.faults.Fault.{Fault}
 use Rattle.gx_outside.specs.Files.{no_files}
 use Rattle.gx_outside.specs.Outside.{FlatSource, FlatSink, FlatShelf}
-use Rattle.gx_story.specs.declared.faults.StoryFault.{StoryFault}
 use Rattle.gx_story.specs.Stories.{FlatStory, accepted}
 use Rattle.gx_state.specs.Flat.{FlatState}
 use Rattle.gx_machine.specs.Machine.{Whole}
 use Rattle.gx_machine.specs.Start.{first_machine}
-use Rattle.glk_world.specs.declared.views.View.TheVariants as view
 use Rattle.glk_world.specs.World.{empty_world}
 use Rattle.gx_session.specs.Constants.{status_ended, status_fault}
 use Rattle.gx_session.specs.Devices.{Devices, devices}
-use Rattle.gx_session.specs.Session.{Configuration, start_of, final_of}
+use Rattle.gx_session.specs.Session.{final_of}
 use Rattle.gx_work.specs.Work.{work_story}
 use Rattle.gx_play.specs.Constants.{usual_depth}
 use Rattle.rand_core.specs.Stream.{Stream}
+use Rattle.gx_session.specs.Configurations.{Configuration, start_of}
+use Rattle.glk_world.specs.declared.views.View.TheVariants as view
 
 -- a text and a line feed
-abbrev pub line_of : List ℕ → List ℕ
-line_of text = text ++ 10 ∷ []
+abbrev pub with_line_feed : List ℕ → List ℕ
+with_line_feed text = text ++ 10 ∷ []
 
 -- JOB CHECK: whether a story has the checksum that its header states. A wrong one is a fault without a number.
 abbrev pub check_status : Bool → ℕ
@@ -29,8 +30,8 @@ check_status true = status_ended
 check_status false = status_fault
 
 abbrev pub check_line : Bool → List ℕ
-check_line true = line_of (codes "checksum ok")
-check_line false = line_of (codes "checksum differs")
+check_line true = with_line_feed (codes "checksum ok")
+check_line false = with_line_feed (codes "checksum differs")
 
 -- JOB WORK: the story of a number is played to its end over devices that hold nothing, in the usual view, on a screen
 -- of 80 columns and 24 rows, with the usual depth of undo and within the largest budget, whatever the options say; what
@@ -69,24 +70,18 @@ no_shelf calls wanting =
     }
 
 -- no input, no text, no files
-abbrev pub nothing : Devices
-nothing = devices (no_source 0 0) (gathered 0 false []) (no_shelf 0 false) zeros [] [] []
+abbrev pub empty_devices : Devices
+empty_devices = devices (no_source 0 0) (gathered 0 false []) (no_shelf 0 false) zeros [] [] []
 
 -- the machine that starts the story of a number, where the story is accepted and can be started (every one is and can:
--- `works` in specs/Headline)
-abbrev pub machine_of : Result Whole Fault → Option Whole
-machine_of (Ok whole) = Some whole
-machine_of (Err fault) = None
-
-abbrev pub machine_in : Result FlatStory StoryFault → Option Whole
-machine_in (Ok story) = machine_of (first_machine story usual_depth)
-machine_in (Err fault) = None
-
+-- `works` in Headline)
 unfoldable pub work_machine : ℕ → Option Whole
-work_machine number = machine_in (accepted (work_story number))
+work_machine number =
+    option_and_then (λ (story : FlatStory). result_ok (first_machine story usual_depth))
+    (result_ok (accepted (work_story number)))
 
 abbrev pub work_start : Whole → Configuration
-work_start whole = start_of whole.machine (empty_world view.Rows 80 24) nothing false (2 ^ 64 - 1) None
+work_start whole = start_of whole.machine (empty_world view.Rows 80 24) empty_devices false (2 ^ 64 - 1) None
 
 -- the sum of so many words from an address on
 unfoldable pub sum_from : ℕ → List ℕ → ℕ → ℕ
@@ -98,14 +93,12 @@ abbrev pub ram_sum_of : FlatState → ℕ
 ram_sum_of f = sum_from ((length f.memory - f.story.header.ramstart) / 4) f.memory f.story.header.ramstart % 2 ^ 32
 
 -- the units that were used up to the end of a run, the length of its text, and the sum of its RAM
-abbrev pub tells_end : Configuration → Configuration → List ℕ
-tells_end start end =
-    line_of (decimal (start.left - end.left) ++ 32 ∷ decimal (length end.world.text)
+abbrev pub end_line : Whole → List ℕ
+end_line whole =
+    let start = work_start whole in
+    let end = (final_of start).configuration in
+    with_line_feed (decimal (start.left - end.left) ++ 32 ∷ decimal (length end.world.text)
     ++ 32 ∷ decimal (ram_sum_of end.machine.flat))
 
-abbrev pub line_of_machine : Option Whole → List ℕ
-line_of_machine (Some whole) = tells_end (work_start whole) (final_of (work_start whole)).configuration
-line_of_machine None = []
-
 unfoldable pub work_line : ℕ → List ℕ
-work_line number = line_of_machine (work_machine number)
+work_line number = option_map_or end_line (work_machine number) []

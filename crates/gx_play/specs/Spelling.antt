@@ -10,9 +10,10 @@ use Rattle.gx_state.specs.Flat.{FlatState}
 use Rattle.gx_operands.specs.declared.cursor.Cursor.{Cursor}
 use Rattle.gx_operands.specs.Instructions.{opcode, nibble, datum, past}
 use Rattle.gx_asm.specs.Codes.{listed, modes_len}
-use Rattle.gx_asm.specs.Instructions.{Written, IsWritten, Spelled, operand_count, data_len, all_data_len, number_of}
+use Rattle.gx_asm.specs.Instructions.{WrittenInstruction, IsWritten, Spells, operand_count, data_len, all_data_len}
+use Rattle.gx_asm.specs.Instructions.{opcode_number}
 use Rattle.gx_asm.specs.Instructions.{bytes_of}
-use Rattle.gx_asm.specs.Stories.{wrapped, wrapped_story, IsListedBack}
+use Rattle.gx_asm.specs.Stories.{wrapped_code, wrapped_story, IsListedBack}
 use Rattle.gx_asm.specs.Texts.{assembled}
 use Rattle.gx_story.specs.Stories.{accepted, is_checked}
 use Rattle.gx_play.specs.Constants.{most_text}
@@ -23,35 +24,35 @@ StandAt memory at bytes = take (length bytes) (drop at memory) ≡ bytes
 
 -- ---- an instruction and its operands, by their index
 
-abbrev pub mode_at : Written → ℕ → Addressing
+abbrev pub mode_at : WrittenInstruction → ℕ → Addressing
 mode_at w k = get_or w.modes k Zero
 
 -- how many bytes of data stand before an operand's
-abbrev pub data_before : Written → ℕ → ℕ
+abbrev pub data_before : WrittenInstruction → ℕ → ℕ
 data_before w k = all_data_len (take k w.modes)
 
 -- an operand's data
-abbrev pub data_of : Written → ℕ → List ℕ
+abbrev pub data_of : WrittenInstruction → ℕ → List ℕ
 data_of w k = take (data_len (mode_at w k)) (drop (data_before w k) w.operand_data)
 
 -- where its modes stand, and where the data of an operand does
-abbrev pub modes_at : FlatState → Written → ℕ
-modes_at f w = f.pc + shortest (number_of w)
+abbrev pub modes_at : FlatState → WrittenInstruction → ℕ
+modes_at f w = f.pc + shortest (opcode_number w)
 
-abbrev pub data_at : FlatState → Written → ℕ → ℕ
+abbrev pub data_at : FlatState → WrittenInstruction → ℕ → ℕ
 data_at f w k = modes_at f w + modes_len (operand_count (row_at w.place)) + data_before w k
 
 -- WHAT A MACHINE SEES at PC: an operand by its index, which has this mode and, where the mode has data, these.
-pub record SeesOperand (f : FlatState) (w : Written) (k : ℕ) : Type 0 where
+pub record SeesOperand (f : FlatState) (w : WrittenInstruction) (k : ℕ) : Type 0 where
   pub mode : addressing (nibble f.memory (modes_at f w) k) ≡ Some (mode_at w k)
   pub operand_data : 0 < data_len (mode_at w k) → (p : Cursor) → p.at ≡ data_at f w k
       → datum f.memory p (data_len (mode_at w k))
       ≡ Ok (number (data_len (mode_at w k)) (data_of w k) 0, past p (data_len (mode_at w k)))
 
 -- The instruction: its number, its row, its operands, and no byte of memory more.
-pub record SeesInstruction (f : FlatState) (w : Written) : Type 0 where
-  pub opcode_is : opcode f ≡ Ok (number_of w, modes_at f w)
-  pub row_is : row_of (number_of w) ≡ Some (row_at w.place)
+pub record SeesInstruction (f : FlatState) (w : WrittenInstruction) : Type 0 where
+  pub opcode_is : opcode f ≡ Ok (opcode_number w, modes_at f w)
+  pub row_is : row_of (opcode_number w) ≡ Some (row_at w.place)
   pub operands : (k : ℕ) → k < length w.modes → SeesOperand f w k
   pub end : data_at f w (length w.modes) ≡ f.pc + length (bytes_of w)
 
@@ -59,9 +60,10 @@ pub record SeesInstruction (f : FlatState) (w : Written) : Type 0 where
 -- The story of a code is accepted with its right checksum, and listed as its instructions up to the first quit or
 -- return. A machine at an instruction's bytes sees that instruction.
 pub record IsSpelling : Type 0 where
-  pub assembles : (text code : List ℕ) → (assembled text ≡ Ok code) ↔ Spelled text code
-  pub lists : (code text : List ℕ) → All (λ b. b < 256) code → (listed code ≡ Ok text) ↔ Spelled text code
+  pub assembles : (text code : List ℕ) → (assembled text ≡ Ok code) ↔ Spells text code
+  pub lists : (code text : List ℕ) → All (λ b. b < 256) code → (listed code ≡ Ok text) ↔ Spells text code
   pub wraps : (code : List ℕ) → length code ≤ most_text
-      → (accepted (wrapped code) ≡ Ok (wrapped_story code)) × (is_checked (wrapped_story code) ≡ true)
+      → (accepted (wrapped_code code) ≡ Ok (wrapped_story code)) × (is_checked (wrapped_story code) ≡ true)
   pub lists_back : (code : List ℕ) → IsListedBack code
-  pub decodes : (f : FlatState) (w : Written) → IsWritten w → StandAt f.memory f.pc (bytes_of w) → SeesInstruction f w
+  pub decodes : (f : FlatState) (w : WrittenInstruction) → IsWritten w → StandAt f.memory f.pc (bytes_of w)
+      → SeesInstruction f w

@@ -11,9 +11,10 @@ ghost use Rattle.gx_outside.specs.Chains.{IsCalled};
 ghost use Rattle.gx_session.specs.Devices.{Devices};
 ghost use Rattle.gx_play.specs.declared.command.Job.TheVariants.{Asm};
 ghost use Rattle.gx_play.specs.Constants.{most_text};
-ghost use Rattle.gx_play.specs.Headline.{HasNoMachine, outcome_of_code};
-ghost use Rattle.gx_play.specs.Loading.{IsDone, JobTells, BlamesSink};
-ghost use Rattle.gx_play.specs.Reading.{seen};
+ghost use Rattle.gx_play.specs.Outcomes.{outcome_of_code};
+ghost use Rattle.gx_play.specs.Answers.{HasNoMachine};
+ghost use Rattle.gx_play.specs.Loading.{IsJobDone, JobTells, BlamesSink};
+ghost use Rattle.gx_play.specs.Reading.{command_seen};
 
 use crate::command::Command;
 use crate::loading::{load_text, without_machine, without_story};
@@ -31,7 +32,7 @@ pub fn assemble_file<A: Allocator + Clone, K: Sink, F: Shelf>(
     shelf: &mut F,
 ) -> Ended<A>
     ensures { IsCalled K.called output.old output.new (λ sends. IsCalled F.called shelf.old shelf.new
-        (λ asked. (d : Devices) → IsDone Asm (seen command.entry)
+        (λ asked. (d : Devices) → IsJobDone Asm (command_seen command.entry)
         (record d { sink = K.seen output.old; shelf = F.seen shelf.old; sends = []; asked = [] })
         (record d { sink = K.seen output.new; shelf = F.seen shelf.new; sends = sends; asked = asked }) result)) }
 {
@@ -61,8 +62,9 @@ fn send_story<A: Allocator + Clone, K: Sink>(alloc: Global, text: &[u8], output:
 /// The answer where a text has no code, or where memory ran out.
 #[tactic(auto, using(crate::proofs::Told::numbers))]
 fn without_code<A: Allocator + Clone>(fault: AsmFault) -> Ended<A>
-    ensures memory { fault ≡ NoMemory → HasNoMachine result status_no_memory 0 0 }
-    ensures fault { fault ≢ NoMemory → HasNoMachine result status_bad_text (number_in_text fault) (line_in_text fault) }
+    ensures memory { fault ≡ NoMemory → HasNoMachine result status_no_memory 0 0 0 }
+    ensures fault { fault ≢ NoMemory → HasNoMachine result status_bad_text (number_in_text fault)
+        (line_in_text fault) 0 }
     ensures number { result.status ≡ status_bad_text → (1 ≤ result.fault) × (result.fault ≤ 4) }
 {
     match fault {

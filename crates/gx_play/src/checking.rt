@@ -3,10 +3,10 @@ ghost use Rattle.std.specs.Prelude.{[]};
 ghost use Rattle.gx_outside.specs.Chains.{IsCalled};
 ghost use Rattle.gx_session.specs.Devices.{Devices};
 ghost use Rattle.gx_play.specs.declared.command.Job.TheVariants.{Check};
-ghost use Rattle.gx_play.specs.Headline.{SendsOutput};
+ghost use Rattle.gx_play.specs.Answers.{SendsOutput};
 ghost use Rattle.gx_play.specs.Jobs.{check_status, check_line};
-ghost use Rattle.gx_play.specs.Loading.{IsDone, BlamesSink};
-ghost use Rattle.gx_play.specs.Reading.{seen};
+ghost use Rattle.gx_play.specs.Loading.{IsJobDone, BlamesSink};
+ghost use Rattle.gx_play.specs.Reading.{command_seen};
 
 use crate::command::Command;
 use crate::loading::{load_story, without_story};
@@ -23,7 +23,7 @@ pub fn check_file<A: Allocator + Clone, K: Sink, F: Shelf>(
     shelf: &mut F,
 ) -> Ended<A>
     ensures { IsCalled K.called output.old output.new (λ sends. IsCalled F.called shelf.old shelf.new
-        (λ asked. (d : Devices) → IsDone Check (seen command.entry)
+        (λ asked. (d : Devices) → IsJobDone Check (command_seen command.entry)
         (record d { sink = K.seen output.old; shelf = F.seen shelf.old; sends = []; asked = [] })
         (record d { sink = K.seen output.new; shelf = F.seen shelf.new; sends = sends; asked = asked }) result)) }
 {
@@ -36,7 +36,8 @@ pub fn check_file<A: Allocator + Clone, K: Sink, F: Shelf>(
 /// Tells that a checksum is right, or that it isn't.
 fn tell_checksum<A: Allocator + Clone, K: Sink>(is_right: bool, output: &mut K) -> Ended<A>
     ensures sends { IsCalled K.called output.old output.new (λ sends.
-        SendsOutput (check_status is_right) (check_line is_right) (K.seen output.old) (K.seen output.new) sends result) }
+        SendsOutput (check_status is_right) 0 0 0 (check_line is_right) (K.seen output.old) (K.seen output.new) sends
+        result) }
     ensures blames { BlamesSink (K.seen output.old) (K.seen output.new) result.status }
 {
     if is_right {

@@ -4,14 +4,15 @@
 //! [--screen | --plain] [--job JOB]`, read as specs/Commands has it: a command exactly where the words match, each text
 //! is as it has to be and the flags go together. All options are looked at in every job. Reading takes memory, so that
 //! want of memory may come for any words.
-ghost use Rattle.std.specs.Prelude.{◌≡◌, ◌-◌, ◌^◌, ◌≤◌, Some, map, MatchResult, IfOk, IfSome, option_map, codes};
+ghost use Rattle.std.specs.Prelude.{◌≡◌, ◌≤◌, Some, map, MatchResult, IfOk, IfSome, option_map};
 ghost use Rattle.std.specs.Char.{is_ascii_digit};
 ghost use Rattle.std.specs.List.{list_all};
 ghost use Rattle.clap.specs.Words.{first_value, found_of};
 ghost use Rattle.gx_undo.specs.Undo.{most_undo};
 ghost use Rattle.glk_world.specs.World.{empty_world};
-ghost use Rattle.gx_play.specs.Commands.{command_of, command_in, number_of, depth_of, seed_of, job_of, view_of, is_set};
-ghost use Rattle.gx_play.specs.Reading.{seen, texts_seen, texts_in, IsUnread, IsInRange};
+ghost use Rattle.gx_play.specs.Commands.{command_of, command_in, number_spelled, depth_of, seed_of, job_of, view_for};
+ghost use Rattle.gx_play.specs.Commands.{is_set};
+ghost use Rattle.gx_play.specs.Reading.{command_seen, IsUnread, IsInRange};
 
 use crate::words::match_words;
 use clap::ArgMatches;
@@ -76,22 +77,6 @@ impl Command<'_> {
     }
 }
 
-/// The texts of a command line, of which but two have to be there, and its flags.
-#[derive(Clone, Copy)]
-struct Texts<'a> {
-    story: &'a str,
-    steps: &'a str,
-    columns: &'a str,
-    rows: &'a str,
-    undo: Option<&'a str>,
-    seed: Option<&'a str>,
-    back: &'a str,
-    echo: bool,
-    screen: bool,
-    plain: bool,
-    job: &'a str,
-}
-
 /// Why a command line asks for nothing.
 #[derive(Clone, Copy, Debug, PartialEq, Eq)]
 pub enum CommandFault {
@@ -114,7 +99,7 @@ impl From<AllocError> for CommandFault {
 /// The command of a command line, of which the first word is the program's name.
 pub fn read_command<'a>(alloc: Global, words: &'a [&'a str]) -> Result<Command<'a>, CommandFault>
     ensures command { let texts = map (λ word. word.now) words.entry.now in
-        MatchResult result (λ command. command_of texts ≡ Some (seen command)) (IsUnread texts) }
+        MatchResult result (λ command. command_of texts ≡ Some (command_seen command)) (IsUnread texts) }
     ensures range { IfOk result IsInRange }
 {
     let matches = match_words(alloc, words)?;
@@ -126,23 +111,36 @@ pub fn read_command<'a>(alloc: Global, words: &'a [&'a str]) -> Result<Command<'
 
 /// The command of what is matched.
 fn read_matches<'a>(matches: &ArgMatches<'a>) -> Option<Command<'a>>
-    ensures command { option_map seen result ≡ command_in (texts_in (found_of matches.now)) }
+    ensures command { option_map command_seen result ≡ command_in (first_value (found_of matches.now)) }
     ensures range { IfSome result IsInRange }
 {
-    let texts = Texts {
-        story: matches.get_str("STORY")?,
-        steps: matches.get_str("steps")?,
-        columns: matches.get_str("columns")?,
-        rows: matches.get_str("rows")?,
-        undo: matches.get_str("undo"),
-        seed: matches.get_str("seed"),
-        back: matches.get_str("back")?,
-        echo: is_set(matches, "echo"),
-        screen: is_set(matches, "screen"),
-        plain: is_set(matches, "plain"),
-        job: matches.get_str("job")?,
-    };
-    read_texts(texts)
+    let story = matches.get_str("STORY")?;
+    let steps = read_number(matches.get_str("steps")?, 0, u64::MAX)?;
+    let columns = read_number(matches.get_str("columns")?, 1, 255)?;
+    let rows = read_number(matches.get_str("rows")?, 1, 255)?;
+    let undo = read_depth(matches.get_str("undo"))?;
+    let seed = read_seed(matches.get_str("seed"))?;
+    let back = read_number(matches.get_str("back")?, 0, u64::MAX)?;
+    let job = read_job(story, matches.get_str("job")?)?;
+    let echo = is_set(matches, "echo");
+    let view = read_view(
+        is_set(matches, "screen"),
+        is_set(matches, "plain"),
+        echo,
+        job,
+    )?;
+    Some(Command {
+        story,
+        steps,
+        columns: columns as u32,
+        rows: rows as u32,
+        undo,
+        seed,
+        back,
+        echo,
+        view,
+        job,
+    })
 }
 
 /// Whether the flag of this name is set.
@@ -153,33 +151,6 @@ fn is_set(matches: &ArgMatches, name: &str) -> bool
         Some(text) => text == "true",
         None => false,
     }
-}
-
-/// The command of these texts.
-fn read_texts<'a>(texts: Texts<'a>) -> Option<Command<'a>>
-    ensures command { option_map seen result ≡ command_in (texts_seen texts.entry) }
-    ensures range { IfSome result IsInRange }
-{
-    let steps = read_number(texts.steps, 0, u64::MAX)?;
-    let columns = read_number(texts.columns, 1, 255)?;
-    let rows = read_number(texts.rows, 1, 255)?;
-    let undo = read_depth(texts.undo)?;
-    let seed = read_seed(texts.seed)?;
-    let back = read_number(texts.back, 0, u64::MAX)?;
-    let job = read_job(texts.story, texts.job)?;
-    let view = read_view(texts.screen, texts.plain, texts.echo, job)?;
-    Some(Command {
-        story: texts.story,
-        steps,
-        columns: columns as u32,
-        rows: rows as u32,
-        undo,
-        seed,
-        back,
-        echo: texts.echo,
-        view,
-        job,
-    })
 }
 
 /// The depth of undo.
@@ -223,7 +194,7 @@ fn read_job(story: &str, name: &str) -> Option<Job>
 
 /// How the text is put together; None where the flags don't go together in this job.
 fn read_view(screen: bool, plain: bool, echo: bool, job: Job) -> Option<View>
-    ensures { result ≡ view_of screen plain echo job }
+    ensures { result ≡ view_for screen plain echo job }
 {
     match (screen, plain) {
         (false, false) => Some(View::Rows),
@@ -236,7 +207,7 @@ fn read_view(screen: bool, plain: bool, echo: bool, job: Job) -> Option<View>
 /// The number that decimal digits spell, where it is from the least to the most.
 #[tactic(auto, using(crate::proofs::Digits::digits_are, crate::proofs::Digits::no_plus))]
 fn read_number(text: &str, least: u64, most: u64) -> Option<u64>
-    ensures value { result ≡ number_of least most text.now }
+    ensures value { result ≡ number_spelled least most text.now }
     ensures range { IfSome result (λ number. (least ≤ number) × (number ≤ most)) }
 {
     if text.is_empty() || !is_digits(text.as_bytes()) {

@@ -1,21 +1,16 @@
 //! All that the program does, over objects that are handed in.
 //!
-//! `play` comes to the outcome that specs/Headline has for its command line and for the file under the
-//! name there, unless a device fails or memory runs out.
+//! `play` comes to the outcome that specs/Outcomes has for its command line and for the file under the name there,
+//! unless a device fails or memory runs out. Its contract is the theorem of specs/Headline.
 ghost use Rattle.std.specs.Prelude.{map, []};
 ghost use Rattle.gx_outside.specs.Chains.{IsCalled};
 ghost use Rattle.gx_session.specs.Devices.{devices};
 ghost use Rattle.gx_play.specs.Headline.{IsPlayed};
-ghost use Rattle.gx_play.specs.Loading.{IsDone};
-ghost use Rattle.gx_play.specs.Reading.{seen, IsInRange};
+ghost use Rattle.gx_play.specs.Commands.{command_of};
 
-use crate::assembling::assemble_file;
-use crate::checking::check_file;
-use crate::command::{Command, CommandFault, Job, read_command};
-use crate::listing::list_file;
+use crate::command::{CommandFault, read_command};
+use crate::jobs::do_job;
 use crate::loading::without_machine;
-use crate::playing::play_file;
-use crate::working::work;
 use gx_outside::{Shelf, Sink, Source};
 use gx_session::{Ended, statuses};
 use rand_core::Rng;
@@ -45,38 +40,11 @@ pub fn play<A: Allocator + Clone, S: Source, K: Sink, F: Shelf, R: Rng>(
         let entry = devices (S.seen input.old) (K.seen output.old) (F.seen shelf.old) (R.stream dice.old) [] [] [] in
         let exit = devices (S.seen input.new) (K.seen output.new) (F.seen shelf.new) (R.stream dice.new) reads sends
         asked in
-        IsPlayed (map (λ word. word.now) words.now) entry exit result))) }
+        IsPlayed (command_of (map (λ word. word.now) words.now)) entry exit result))) }
 {
     match read_command(alloc, words) {
         Err(CommandFault::BadWords) => without_machine(statuses::BAD_WORDS, 0, 0),
         Err(CommandFault::NoMemory) => without_machine(statuses::NO_MEMORY, 0, 0),
         Ok(command) => do_job(alloc, pages, command, input, output, shelf, dice),
-    }
-}
-
-/// Does a command's job.
-fn do_job<A: Allocator + Clone, S: Source, K: Sink, F: Shelf, R: Rng>(
-    alloc: Global,
-    pages: A,
-    command: Command<'_>,
-    input: &mut S,
-    output: &mut K,
-    shelf: &mut F,
-    dice: &mut R,
-) -> Ended<A>
-    requires { IsInRange command }
-    ensures { IsCalled S.called input.old input.new (λ reads. IsCalled K.called output.old output.new (λ sends.
-        IsCalled F.called shelf.old shelf.new (λ asked.
-        let entry = devices (S.seen input.old) (K.seen output.old) (F.seen shelf.old) (R.stream dice.old) [] [] [] in
-        let exit = devices (S.seen input.new) (K.seen output.new) (F.seen shelf.new) (R.stream dice.new) reads sends
-        asked in
-        IsDone command.entry.job (seen command.entry) entry exit result))) }
-{
-    match command.job {
-        Job::Play | Job::Rewind => play_file(alloc, pages, command, input, output, shelf, dice),
-        Job::Check => check_file(alloc, command, output, shelf),
-        Job::Work(number) => work(alloc, pages, number, output),
-        Job::Asm => assemble_file(alloc, command, output, shelf),
-        Job::List => list_file(alloc, command, output, shelf),
     }
 }

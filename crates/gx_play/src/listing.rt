@@ -9,9 +9,10 @@ ghost use Rattle.gx_session.specs.Constants.{status_no_listing, status_no_memory
 ghost use Rattle.gx_outside.specs.Chains.{IsCalled};
 ghost use Rattle.gx_session.specs.Devices.{Devices};
 ghost use Rattle.gx_play.specs.declared.command.Job.TheVariants.{List};
-ghost use Rattle.gx_play.specs.Headline.{HasNoMachine, outcome_of_listing};
-ghost use Rattle.gx_play.specs.Loading.{IsDone, JobTells, BlamesSink};
-ghost use Rattle.gx_play.specs.Reading.{seen};
+ghost use Rattle.gx_play.specs.Outcomes.{outcome_of_listing};
+ghost use Rattle.gx_play.specs.Answers.{HasNoMachine};
+ghost use Rattle.gx_play.specs.Loading.{IsJobDone, JobTells, BlamesSink};
+ghost use Rattle.gx_play.specs.Reading.{command_seen};
 
 use crate::command::Command;
 use crate::loading::{load_story, without_machine, without_story};
@@ -30,7 +31,7 @@ pub fn list_file<A: Allocator + Clone, K: Sink, F: Shelf>(
     shelf: &mut F,
 ) -> Ended<A>
     ensures { IsCalled K.called output.old output.new (λ sends. IsCalled F.called shelf.old shelf.new
-        (λ asked. (d : Devices) → IsDone List (seen command.entry)
+        (λ asked. (d : Devices) → IsJobDone List (command_seen command.entry)
         (record d { sink = K.seen output.old; shelf = F.seen shelf.old; sends = []; asked = [] })
         (record d { sink = K.seen output.new; shelf = F.seen shelf.new; sends = sends; asked = asked }) result)) }
 {
@@ -60,9 +61,9 @@ fn send_listing<A: Allocator + Clone, K: Sink>(
 /// The answer where a story has no listing, or where memory ran out.
 #[tactic(auto, using(crate::proofs::Told::numbers))]
 fn without_listing<A: Allocator + Clone>(fault: ListFault) -> Ended<A>
-    ensures memory { fault ≡ NoMemory → HasNoMachine result status_no_memory 0 0 }
+    ensures memory { fault ≡ NoMemory → HasNoMachine result status_no_memory 0 0 0 }
     ensures fault { fault ≢ NoMemory → HasNoMachine result status_no_listing (number_in_code fault)
-        (place_in_code fault) }
+        (place_in_code fault) 0 }
     ensures number { result.status ≡ status_no_listing → (1 ≤ result.fault) × (result.fault ≤ 5) }
 {
     match fault {

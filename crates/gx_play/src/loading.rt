@@ -6,10 +6,10 @@ ghost use Rattle.std.specs.Prelude.{◌≡◌, ◌≤◌, ℕ, Err, IfOk, length
 ghost use Rattle.gx_words.specs.Constants.{ceiling};
 ghost use Rattle.gx_outside.specs.Chains.{IsCalled};
 ghost use Rattle.gx_session.specs.Counts.{Blames};
-ghost use Rattle.gx_session.specs.Constants.{status_bad_story, status_shelf_fault, status_no_memory};
 ghost use Rattle.gx_play.specs.Constants.{most_text};
-ghost use Rattle.gx_play.specs.Headline.{HasNoMachine, story_of, text_of};
-ghost use Rattle.gx_play.specs.Loading.{LoadsFile, status_of, fault_of};
+ghost use Rattle.gx_play.specs.Outcomes.{story_in_file, text_in_file};
+ghost use Rattle.gx_play.specs.Answers.{HasNoMachine};
+ghost use Rattle.gx_play.specs.Loading.{LoadsFile, refusal_status, refusal_fault};
 
 use gx_outside::{Load, Shelf, ShelfFault};
 use gx_session::{Ended, statuses};
@@ -63,7 +63,7 @@ impl From<StoryFault> for Refusal {
 /// The story under a name.
 pub fn load_story<F: Shelf>(alloc: Global, shelf: &mut F, name: &str) -> Result<Story, Refusal>
     ensures value { IsCalled F.called shelf.old shelf.new
-        (λ asked. LoadsFile ceiling story_of (F.seen shelf.old) (F.seen shelf.new) name.now asked result) }
+        (λ asked. LoadsFile ceiling story_in_file (F.seen shelf.old) (F.seen shelf.new) name.now asked result) }
     ensures count { Blames (F.seen shelf.old).calls (F.seen shelf.new).calls (result ≡ Err Refusal.Shelf) }
     ensures fault { (fault : ℕ) → result ≡ Err (Refusal.BadStory fault) → fault ≤ 7 }
 {
@@ -77,7 +77,7 @@ pub fn load_story<F: Shelf>(alloc: Global, shelf: &mut F, name: &str) -> Result<
 /// The text under a name.
 pub fn load_text<F: Shelf>(shelf: &mut F, name: &str) -> Result<Bytes, Refusal>
     ensures value { IsCalled F.called shelf.old shelf.new
-        (λ asked. LoadsFile most_text text_of (F.seen shelf.old) (F.seen shelf.new) name.now asked result) }
+        (λ asked. LoadsFile most_text text_in_file (F.seen shelf.old) (F.seen shelf.new) name.now asked result) }
     ensures count { Blames (F.seen shelf.old).calls (F.seen shelf.new).calls (result ≡ Err Refusal.Shelf) }
     ensures fault { (fault : ℕ) → result ≡ Err (Refusal.BadStory fault) → fault ≤ 7 }
     ensures bound { IfOk result (λ text. length text ≤ most_text) }
@@ -91,7 +91,7 @@ pub fn load_text<F: Shelf>(shelf: &mut F, name: &str) -> Result<Bytes, Refusal>
 
 /// The answer where nothing was loaded.
 pub fn without_story<A: Allocator + Clone>(refusal: Refusal) -> Ended<A>
-    ensures { HasNoMachine result (status_of refusal) (fault_of refusal) 0 }
+    ensures { HasNoMachine result (refusal_status refusal) (refusal_fault refusal) 0 0 }
 {
     match refusal {
         Refusal::BadStory(fault) => without_machine(statuses::BAD_STORY, fault, 0),
@@ -102,7 +102,7 @@ pub fn without_story<A: Allocator + Clone>(refusal: Refusal) -> Ended<A>
 
 /// An answer without a machine.
 pub fn without_machine<A: Allocator + Clone>(status: u8, fault: u8, at: u32) -> Ended<A>
-    ensures { HasNoMachine result status fault at }
+    ensures { HasNoMachine result status fault at 0 }
 {
     Ended {
         status,

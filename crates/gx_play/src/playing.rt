@@ -1,17 +1,19 @@
 //! The jobs play and rewind: the story is loaded and played within a budget, in the view that the words ask for, with
 //! the random words of a seed where there is one. In job rewind it is played on a tape.
-ghost use Rattle.std.specs.Prelude.{◌≡◌, ◌≢◌, ℕ, None, []};
+ghost use Rattle.std.specs.Prelude.{◌≡◌, ◌≢◌, None, []};
 ghost use Rattle.gx_words.specs.declared.faults.Fault.TheVariants.{NoMemory};
 ghost use Rattle.gx_words.specs.Faults.{number_of};
 ghost use Rattle.gx_machine.specs.Start.{first_machine};
 ghost use Rattle.gx_outside.specs.Chains.{IsCalled};
 ghost use Rattle.gx_session.specs.Devices.{devices};
-ghost use Rattle.gx_session.specs.Counts.{Counts};
 ghost use Rattle.gx_session.specs.Constants.{status_bad_words, status_fault, status_no_memory};
 ghost use Rattle.gx_play.specs.declared.command.Job.TheVariants.{Play};
-ghost use Rattle.gx_play.specs.Headline.{outcome_of_start, start_for, HasNoMachine, IsRunOf, PlaysStory};
-ghost use Rattle.gx_play.specs.Loading.{StoryPlays, HasRunParts, IsDone};
-ghost use Rattle.gx_play.specs.Reading.{seen, IsInRange};
+ghost use Rattle.gx_play.specs.Outcomes.{outcome_of_start, start_for};
+ghost use Rattle.gx_play.specs.Answers.{HasNoMachine, IsRunOf};
+ghost use Rattle.gx_play.specs.Unbegun.{PlaysStory};
+ghost use Rattle.gx_play.specs.Loading.{StoryPlays, HasRunParts, IsJobDone};
+ghost use Rattle.gx_play.specs.Reading.{command_seen, IsInRange};
+ghost use Rattle.gx_session.specs.Counts.{FailureCounts};
 
 use crate::command::{Command, Job};
 use crate::loading::{load_story, without_machine, without_story};
@@ -42,7 +44,7 @@ pub fn play_file<A: Allocator + Clone, S: Source, K: Sink, F: Shelf, R: Rng>(
         let entry = devices (S.seen input.old) (K.seen output.old) (F.seen shelf.old) (R.stream dice.old) [] [] [] in
         let exit = devices (S.seen input.new) (K.seen output.new) (F.seen shelf.new) (R.stream dice.new) reads sends
         asked in
-        IsDone command.entry.job (seen command.entry) entry exit result))) }
+        IsJobDone command.entry.job (command_seen command.entry) entry exit result))) }
 {
     match load_story(alloc, shelf, command.story) {
         Err(refusal) => without_story(refusal),
@@ -67,11 +69,13 @@ fn play_story<A: Allocator + Clone, S: Source, K: Sink, F: Shelf, R: Rng>(
         let entry = devices (S.seen input.old) (K.seen output.old) (F.seen shelf.old) (R.stream dice.old) [] [] [] in
         let exit = devices (S.seen input.new) (K.seen output.new) (F.seen shelf.new) (R.stream dice.new) reads sends
         asked in
-        StoryPlays (outcome_of_start command.entry.job (seen command.entry) story entry (first_machine story command.entry.undo)) entry exit result))) }
+        let first = first_machine story command.entry.undo in
+        StoryPlays (outcome_of_start command.entry.job (command_seen command.entry) story entry first) entry exit
+        result))) }
     ensures counts { let entry = devices (S.seen input.old) (K.seen output.old) (F.seen shelf.old)
         (R.stream dice.old) [] [] [] in
         let exit = devices (S.seen input.new) (K.seen output.new) (F.seen shelf.new) (R.stream dice.new) [] [] [] in
-        Counts entry exit result.status }
+        FailureCounts entry exit result.status }
     ensures parts { HasRunParts (command.entry.job ≡ Play) result }
     ensures began { result.status ≢ status_bad_words }
 {
@@ -102,11 +106,11 @@ fn run_machine<A: Allocator + Clone, S: Source, K: Sink, F: Shelf, R: Rng>(
         let entry = devices (S.seen input.old) (K.seen output.old) (F.seen shelf.old) (R.stream dice.old) [] [] [] in
         let exit = devices (S.seen input.new) (K.seen output.new) (F.seen shelf.new) (R.stream dice.new) reads sends
         asked in
-        IsRunOf command.entry.seed (start_for (seen command.entry) machine None entry) entry exit result))) }
+        IsRunOf command.entry.seed (start_for (command_seen command.entry) machine None entry) entry exit result))) }
     ensures counts { let entry = devices (S.seen input.old) (K.seen output.old) (F.seen shelf.old)
         (R.stream dice.old) [] [] [] in
         let exit = devices (S.seen input.new) (K.seen output.new) (F.seen shelf.new) (R.stream dice.new) [] [] [] in
-        Counts entry exit result.status }
+        FailureCounts entry exit result.status }
     ensures parts { HasRunParts (Unit {0}) result }
     ensures began { result.status ≢ status_bad_words }
 {
@@ -122,8 +126,8 @@ fn run_machine<A: Allocator + Clone, S: Source, K: Sink, F: Shelf, R: Rng>(
 
 /// The answer where the start function, at this address, can't be entered.
 fn unstarted<A: Allocator + Clone>(fault: Fault, at: u32) -> Ended<A>
-    ensures memory { fault ≡ NoMemory → HasNoMachine result status_no_memory 0 0 }
-    ensures fault { fault ≢ NoMemory → HasNoMachine result status_fault (number_of fault) at }
+    ensures memory { fault ≡ NoMemory → HasNoMachine result status_no_memory 0 0 0 }
+    ensures fault { fault ≢ NoMemory → HasNoMachine result status_fault (number_of fault) at 0 }
     ensures parts { HasRunParts (Unit {0}) result }
 {
     match fault {

@@ -4,16 +4,17 @@ ghost use Rattle.gx_state.specs.Flat.{sp_of};
 ghost use Rattle.gx_machine.specs.Log.{no_events};
 ghost use Rattle.gx_rewind.specs.Tape.{gone_back};
 ghost use Rattle.gx_session.specs.Constants.{status_bad_words, status_shelf_fault};
-ghost use Rattle.gx_session.specs.Counts.{Counts};
 ghost use Rattle.gx_outside.specs.Chains.{IsCalled};
 ghost use Rattle.gx_session.specs.Devices.{devices};
 ghost use Rattle.gx_session.specs.Reports.{hex_of};
 ghost use Rattle.gx_session.specs.Runs.{report_on};
-ghost use Rattle.gx_play.specs.Headline.{start_for, HasRun, IsRewindOf, IsRewound};
+ghost use Rattle.gx_play.specs.Outcomes.{start_for};
+ghost use Rattle.gx_play.specs.Answers.{HasNoMachine, IsRewindOf, IsRewound};
 ghost use Rattle.gx_play.specs.Jobs.{ram_sum_of};
 ghost use Rattle.gx_play.specs.Loading.{BlamesSink, HasRunParts, IsStill};
-ghost use Rattle.gx_play.specs.Reading.{seen, IsInRange};
+ghost use Rattle.gx_play.specs.Reading.{command_seen, IsInRange};
 ghost use Rattle.gx_play.specs.Rewinding.{line_at};
+ghost use Rattle.gx_session.specs.Counts.{FailureCounts};
 
 use crate::command::Command;
 use crate::figures::ram_sum;
@@ -52,11 +53,12 @@ pub fn rewind_machine<A: Allocator + Clone, S: Source, K: Sink, F: Shelf, R: Rng
         let entry = devices (S.seen input.old) (K.seen output.old) (F.seen shelf.old) (R.stream dice.old) [] [] [] in
         let exit = devices (S.seen input.new) (K.seen output.new) (F.seen shelf.new) (R.stream dice.new) reads sends
         asked in
-        IsRewindOf command.entry.seed command.entry.back (start_for (seen command.entry) machine (Some no_events) entry) entry exit result ⊎ IsStill entry exit result))) }
+        let start = start_for (command_seen command.entry) machine (Some no_events) entry in
+        IsRewindOf command.entry.seed command.entry.back start entry exit result ⊎ IsStill entry exit result))) }
     ensures counts { let entry = devices (S.seen input.old) (K.seen output.old) (F.seen shelf.old)
         (R.stream dice.old) [] [] [] in
         let exit = devices (S.seen input.new) (K.seen output.new) (F.seen shelf.new) (R.stream dice.new) [] [] [] in
-        Counts entry exit result.status }
+        FailureCounts entry exit result.status }
     ensures parts { HasRunParts ⊥ result }
     ensures began { result.status ≢ status_bad_words }
 {
@@ -77,7 +79,8 @@ fn tell_rewound<A: Allocator + Clone, K: Sink>(
     output: &mut K,
 ) -> Ended<A>
     ensures rewound { IsCalled K.called output.old output.new (λ sends.
-        IsRewound back (report_on (λ tape. tape.whole) (λ tape. Some tape.log) ended) (K.seen output.old) (K.seen output.new) sends result) }
+        IsRewound back (report_on (λ tape. tape.whole) (λ tape. Some tape.log) ended) (K.seen output.old)
+        (K.seen output.new) sends result) }
     ensures blames { ended.status < status_shelf_fault
         → BlamesSink (K.seen output.old) (K.seen output.new) result.status }
 {
@@ -104,7 +107,7 @@ fn tell_rewound<A: Allocator + Clone, K: Sink>(
 
 /// An answer without a machine after a run of so many steps.
 fn after_run<A: Allocator + Clone>(status: u8, fault: u8, at: u32, steps: u64) -> Ended<A>
-    ensures { HasRun result status fault at steps }
+    ensures { HasNoMachine result status fault at steps }
 {
     Ended {
         status,
@@ -134,7 +137,8 @@ fn tell_machine<A: Allocator + Clone>(
     state: &State<A>,
 ) -> Result<String, AllocError>
     ensures { let f = state.now.flat in
-        IfOk result (λ line. string_bytes line ≡ (decimal units ++ 32 ∷ hex_of 8 f.pc ++ 32 ∷ decimal (sp_of f) ++ 32 ∷ decimal (ram_sum_of f)) ++ 10 ∷ []) }
+        IfOk result (λ line. string_bytes line
+        ≡ (decimal units ++ 32 ∷ hex_of 8 f.pc ++ 32 ∷ decimal (sp_of f) ++ 32 ∷ decimal (ram_sum_of f)) ++ 10 ∷ []) }
 {
     let mut line = String::new(alloc);
     push_number(&mut line, units)?;

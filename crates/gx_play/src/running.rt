@@ -4,8 +4,9 @@ ghost use Rattle.gx_machine.specs.Advancing.{units_left};
 ghost use Rattle.gx_outside.specs.Chains.{IsCalled};
 ghost use Rattle.gx_session.specs.Devices.{devices};
 ghost use Rattle.gx_session.specs.Runs.{report_on};
-ghost use Rattle.gx_play.specs.Headline.{start_for, IsRunTo};
-ghost use Rattle.gx_play.specs.Reading.{seen, IsInRange};
+ghost use Rattle.gx_play.specs.Outcomes.{start_for};
+ghost use Rattle.gx_play.specs.Answers.{IsRunTo};
+ghost use Rattle.gx_play.specs.Reading.{command_seen, IsInRange};
 
 use crate::command::Command;
 use gx_machine::Engine;
@@ -33,7 +34,8 @@ pub fn run_command<A: Allocator + Clone, E: Engine<A>, S: Source, K: Sink, F: Sh
         let entry = devices (S.seen input.old) (K.seen output.old) (F.seen shelf.old) (R.stream dice.old) [] [] [] in
         let exit = devices (S.seen input.new) (K.seen output.new) (F.seen shelf.new) (R.stream dice.new) reads sends
         asked in
-        IsRunTo command.entry.seed (start_for (seen command.entry) (E.whole engine) (E.log engine) entry) entry exit (report_on E.whole E.log result)))) }
+        let start = start_for (command_seen command.entry) (E.whole engine) (E.log engine) entry in
+        IsRunTo command.entry.seed start entry exit (report_on E.whole E.log result)))) }
 {
     let world = command.world(alloc);
     match command.seed {

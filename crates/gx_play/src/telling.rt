@@ -2,7 +2,7 @@
 ghost use Rattle.std.specs.Prelude.{◌≢◌};
 ghost use Rattle.gx_outside.specs.Chains.{IsCalled};
 ghost use Rattle.gx_session.specs.Constants.{status_output_fault};
-ghost use Rattle.gx_play.specs.Headline.{SendsOutput};
+ghost use Rattle.gx_play.specs.Answers.{SendsOutput};
 ghost use Rattle.gx_play.specs.Loading.{BlamesSink};
 
 use crate::loading::without_machine;
@@ -18,7 +18,7 @@ pub fn send_output<A: Allocator + Clone, K: Sink>(
 ) -> Ended<A>
     requires { status ≢ status_output_fault }
     ensures sends { IsCalled K.called output.old output.new
-        (λ sends. SendsOutput status bytes.now (K.seen output.old) (K.seen output.new) sends result) }
+        (λ sends. SendsOutput status 0 0 0 bytes.now (K.seen output.old) (K.seen output.new) sends result) }
     ensures blames { BlamesSink (K.seen output.old) (K.seen output.new) result.status }
 {
     match output.send(bytes) {

@@ -5,7 +5,7 @@ ghost use Rattle.gx_outside.specs.Chains.{IsCalled};
 ghost use Rattle.gx_session.specs.Devices.{Devices};
 ghost use Rattle.gx_play.specs.declared.command.Job.TheVariants.{Work};
 ghost use Rattle.gx_play.specs.Jobs.{work_machine, work_line};
-ghost use Rattle.gx_play.specs.Loading.{IsDone};
+ghost use Rattle.gx_play.specs.Loading.{IsJobDone};
 ghost use Rattle.gx_play.specs.Commands.{Command};
 
 use crate::command::USUAL_DEPTH;
@@ -30,7 +30,7 @@ pub fn work<A: Allocator + Clone, K: Sink>(
     output: &mut K,
 ) -> Ended<A>
     ensures { IsCalled K.called output.old output.new (λ sends. (command : Command) (d : Devices)
-        → IsDone (Work number) command (record d { sink = K.seen output.old; sends = []; asked = [] })
+        → IsJobDone (Work number) command (record d { sink = K.seen output.old; sends = []; asked = [] })
         (record d { sink = K.seen output.new; sends = sends; asked = [] }) result) }
 {
     match work_line(alloc, pages, number) {

@@ -23,6 +23,8 @@ use Rattle.ops_calc.specs.declared.random.Generator.{Generator}
 use Rattle.ops_calc.specs.declared.random.Generator.TheVariants.{Outside, Seeded}
 use Rattle.ops_flow.specs.Rows as flow
 use Rattle.ops_memory.specs.Rows as memory
+use Rattle.ops_memory.specs.Searching as searching
+use Rattle.ops_memory.specs.Space as space
 use Rattle.ops_print.specs.Items as items
 use Rattle.ops_print.specs.Rows as print
 use Rattle.ops_game.specs.Rows as game
@@ -97,14 +99,14 @@ kept (Err f) g h = tt
 stores-calm : (f : FlatState) (i : Instruction) (v : ℕ) → Calm (stores f i v)
 stores-calm f i v = search bind
 
-found-calm : (f : FlatState) (i : Instruction) (o : Option ℕ) → Calm (memory.allocated_at f i o)
+found-calm : (f : FlatState) (i : Instruction) (o : Option ℕ) → Calm (space.allocated_at f i o)
 found-calm f i None = stores-calm f i 0
 found-calm f i (Some at) =
-    kept (stores (with_size f (memory.covering (length f.memory) (at + L1 i))) i at) (λ (g : FlatState). with_block g (length f.memory) at (L1 i))
-    (stores-calm (with_size f (memory.covering (length f.memory) (at + L1 i))) i at)
+    kept (stores (with_size f (space.covering (length f.memory) (at + L1 i))) i at) (λ (g : FlatState). with_block g (length f.memory) at (L1 i))
+    (stores-calm (with_size f (space.covering (length f.memory) (at + L1 i))) i at)
 
 memory-calm : (f : FlatState) (i : Instruction) → Calm (memory.memory f i)
-unfolding memory.memory memory.aload memory.aloads memory.aloadb memory.aloadbit memory.astore memory.astores memory.astoreb memory.astorebit memory.getmemsize memory.setmemsize memory.linearsearch memory.binarysearch memory.linkedsearch memory.mzero memory.mcopy memory.malloc memory.mfree
+unfolding memory.memory memory.aload memory.aloads memory.aloadb memory.aloadbit memory.astore memory.astores memory.astoreb memory.astorebit space.getmemsize space.setmemsize searching.linearsearch searching.binarysearch searching.linkedsearch space.mzero space.mcopy space.malloc space.mfree
 memory-calm f i = search (bind, choose, found-calm) depth 60
 
 print-calm : (f : FlatState) (i : Instruction) → Calm (print.row_effect f i)

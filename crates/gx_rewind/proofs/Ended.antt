@@ -10,8 +10,8 @@ use Rattle.gx_machine.specs.Machine.{FlatMachine, Whole}
 use Rattle.gx_machine.specs.Step.{asking_of, cost_of, step_of, stepped}
 use Rattle.gx_rewind.specs.declared.books.Book.{Book}
 use Rattle.gx_rewind.specs.declared.books.Taken.TheVariants as taken
-use Rattle.gx_rewind.specs.Path.{after, event, settled, IsFit, IsQuiet}
-use Rattle.gx_rewind.specs.Views.{HasEnded, IsBook, IsPending}
+use Rattle.gx_rewind.specs.Path.{machine_after_step, machine_after_event, answered_by_nothing, IsFit, IsQuiet}
+use Rattle.gx_rewind.specs.Views.{HasEnded, IsBook, IsPendingEvent}
 use Rattle.gx_rewind.proofs.Calm.{never-spent}
 use Rattle.gx_rewind.proofs.Passing.{quiet}
 use Rattle.gx_rewind.proofs.Steps.{step-done, step-left}
@@ -25,8 +25,8 @@ costs before new word budget left cost e unspent step is =
     let left_is = d.left_is in
     omega (arith, enough, left_is, is)
 
-pub none-asked : {A : Type 0} (b : Book A) (new : Whole) → new.asking ≡ None → IfSome new.asking (IsPending b new.machine)
-none-asked b new none = subst (λ (a : Option Asking). IfSome a (IsPending b new.machine)) (sym none) tt
+pub none-asked : {A : Type 0} (b : Book A) (new : Whole) → new.asking ≡ None → IfSome new.asking (IsPendingEvent b new.machine)
+none-asked b new none = subst (λ (a : Option Asking). IfSome a (IsPendingEvent b new.machine)) (sym none) tt
 
 -- such an event took nothing
 pub quiet-fit : (A : Type 0) (before new : Whole) (word budget left : ℕ) (e : Effect) → e ≢ Spent → e ≢ Drew → IsQuiet e → stepped before word budget ≡ Ok ((new, left), e) → IsFit {A = A} before.machine None
@@ -40,11 +40,11 @@ drew-fit A before new word budget left step = (new.machine, (step-done before wo
 -- an event that took nothing has ended
 pub ended-quiet : {A : Type 0} (b : Book A) (before new : Whole) (word budget left : ℕ) (e : Effect) (log : Log) → e ≢ Spent → e ≢ Drew → asking_of e ≡ None
     → stepped before word budget ≡ Ok ((new, left), e) → Some (record { before = before.machine ∷ log.before; after = [] }) ≡ logged_by e (Some log) before.machine
-    → IsBook b (event {A = A} before.machine None) (record { before = before.machine ∷ log.before; after = [] }) → HasEnded e before new log b
+    → IsBook b (machine_after_event {A = A} before.machine None) (record { before = before.machine ∷ log.before; after = [] }) → HasEnded e before new log b
 ended-quiet {A} b before new word budget left e log unspent undrawn none step logs book =
     let d = step-done before word budget new left e unspent step in
     let same = same-step before.machine word new.machine e undrawn d.step in
-    let ends : event {A = A} before.machine None ≡ new.machine = quiet A before.machine new.machine e same ∙ ap (settled new.machine) none in
+    let ends : machine_after_event {A = A} before.machine None ≡ new.machine = quiet A before.machine new.machine e same ∙ ap (answered_by_nothing new.machine) none in
     record {
       last = record { before = before.machine ∷ log.before; after = [] };
       is = logs;
@@ -54,13 +54,13 @@ ended-quiet {A} b before new word budget left e log unspent undrawn none step lo
 
 -- and one that drew a word
 pub ended-drew : {A : Type 0} (b : Book A) (before new : Whole) (word budget left : ℕ) (log : Log) → stepped before word budget ≡ Ok ((new, left), Drew)
-    → IsBook b (event {A = A} before.machine (Some (taken.Word word))) (record { before = before.machine ∷ log.before; after = [] }) → HasEnded Drew before new log b
+    → IsBook b (machine_after_event {A = A} before.machine (Some (taken.Word word))) (record { before = before.machine ∷ log.before; after = [] }) → HasEnded Drew before new log b
 ended-drew {A} b before new word budget left log step book =
     let d = step-done before word budget new left Drew (λ no. cc) step in
     record {
       last = record { before = before.machine ∷ log.before; after = [] };
       is = refl;
-      book = subst (λ (m : FlatMachine). IsBook b m (record { before = before.machine ∷ log.before; after = [] })) (ap (after before.machine) d.step) book;
+      book = subst (λ (m : FlatMachine). IsBook b m (record { before = before.machine ∷ log.before; after = [] })) (ap (machine_after_step before.machine) d.step) book;
       pends = none-asked b new d.asks;
     }
 
@@ -76,7 +76,7 @@ asked b before new word budget left e a log book unspent undrawn asks step cost 
       last = log;
       is = logs;
       book = subst (λ (m : FlatMachine). IsBook b m log) (sym stands) book;
-      pends = subst (λ (x : Option Asking). IfSome x (IsPending b new.machine)) (sym (d.asks ∙ asks)) (record {
+      pends = subst (λ (x : Option Asking). IfSome x (IsPendingEvent b new.machine)) (sym (d.asks ∙ asks)) (record {
         cost = units ∙ sym (ap cost_of stands);
         room = room;
         effect = e;

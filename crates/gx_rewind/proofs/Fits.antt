@@ -3,19 +3,19 @@ use Rattle.std.proofs.Common.{◌≡◌, ◌≢◌, ◌<◌, ◌≤◌, ◌-◌,
 use Rattle.gx_words.specs.declared.faults.Fault.{Fault}
 use Rattle.gx_words.specs.Faults.{IsRefused}
 use Rattle.gx_state.specs.declared.effects.Effect.{Effect}
-use Rattle.gx_state.specs.declared.effects.Effect.TheVariants.{Went, Drew, Put, Glk, Save, Restore, Quit, Spent}
+use Rattle.gx_state.specs.declared.effects.Effect.TheVariants.{Drew, Spent}
 use Rattle.gx_state.specs.declared.effects.Reply.{Reply}
 use Rattle.gx_state.specs.Replies.{IsReply}
 use Rattle.gx_machine.specs.declared.askings.Asking.{Asking}
-use Rattle.gx_machine.specs.Answer.{answered, IsAnswer}
+use Rattle.gx_machine.specs.Answer.{answered_whole, AnswersAsking}
 use Rattle.gx_machine.specs.Machine.{FlatMachine, Whole}
 use Rattle.gx_machine.specs.Step.{asking_of, cost_of, room_of, step_of, stepped}
 use Rattle.gx_rewind.specs.declared.books.Book.{Book}
 use Rattle.gx_rewind.specs.declared.books.Spot.{Spot}
 use Rattle.gx_rewind.specs.declared.books.Taken.{Taken}
 use Rattle.gx_rewind.specs.declared.books.Taken.TheVariants as taken
-use Rattle.gx_rewind.specs.Path.{nothing, settled, taken_at, word_in, IsFit, IsQuiet}
-use Rattle.gx_rewind.specs.Views.{IsKept, IsSpot, IsTried, IsWant, HasRun}
+use Rattle.gx_rewind.specs.Path.{empty_reply, answered_by_nothing, taken_from, word_in, IsFit, IsQuiet}
+use Rattle.gx_rewind.specs.Views.{RecordsSomeRun, IsSpot, IsTried, IsWant, RunsQuietly}
 use Rattle.gx_machine.specs.Advancing.{Advances, Passes}
 use Rattle.gx_machine.specs.Log.{units_of}
 use Rattle.gx_machine.proofs.Costs.{cost-positive}
@@ -25,15 +25,15 @@ use Rattle.gx_rewind.proofs.Parts.{step-fault}
 use Rattle.gx_rewind.proofs.Steps.{step-done, ok-is}
 
 -- the reply that pushes and writes nothing answers whatever is asked
-pub nothing-answers : (m : Whole) (a : Asking) (reply : Reply) → m.asking ≡ Some a → reply ≡ nothing → IsAnswer m reply
+pub nothing-answers : (m : Whole) (a : Asking) (reply : Reply) → m.asking ≡ Some a → reply ≡ empty_reply → AnswersAsking m reply
 nothing-answers m a reply asks is = record {
   pending = subst IsSome (sym asks) refl;
   fits = subst (IsReply m.machine.flat (room_of m.asking)) (sym is) (record { writes = tt; pushes = omega arith });
 }
 
-pub nothing-settles : (m : Whole) (a : Asking) (reply : Reply) → m.asking ≡ Some a → reply ≡ nothing → answered m reply ≡ record { machine = settled m.machine m.asking; asking = None }
+pub nothing-settles : (m : Whole) (a : Asking) (reply : Reply) → m.asking ≡ Some a → reply ≡ empty_reply → answered_whole m reply ≡ record { machine = answered_by_nothing m.machine m.asking; asking = None }
 nothing-settles m a reply asks is =
-    ap (λ (r : Reply). answered m r) is ∙ ap (λ (o : Option Asking). let w : Whole = record { machine = settled m.machine o; asking = None } in w) (sym asks)
+    ap (λ (r : Reply). answered_whole m r) is ∙ ap (λ (o : Option Asking). let w : Whole = record { machine = answered_by_nothing m.machine o; asking = None } in w) (sym asks)
 
 -- the step that an event made
 pub goes : {A : Type 0} (m : FlatMachine) (t : Taken A) → IsFit m (Some t) → (n : FlatMachine) × (e : Effect) × (step_of m (word_in t) ≡ Ok (n, e))
@@ -61,19 +61,19 @@ is-quiet A m new budget left e fit step unspent =
     subst (λ (q : FlatMachine × Effect). IsQuiet q.1) same fit.3
 
 -- what is asked is answered with nothing
-settles : (new end : Whole) (e : Effect) → new.asking ≡ asking_of e → end ≡ record { machine = settled new.machine new.asking; asking = None } → end.machine ≡ settled new.machine (asking_of e)
-settles new end e asks is = ap (λ (w : Whole). w.machine) is ∙ ap (settled new.machine) asks
+settles : (new end : Whole) (e : Effect) → new.asking ≡ asking_of e → end ≡ record { machine = answered_by_nothing new.machine new.asking; asking = None } → end.machine ≡ answered_by_nothing new.machine (asking_of e)
+settles new end e asks is = ap (λ (w : Whole). w.machine) is ∙ ap (answered_by_nothing new.machine) asks
 
 -- an event that took nothing is made
 pub step-made : (A : Type 0) (s : Spot A) (limit left : ℕ) (new end : Whole) (e : Effect) → s.units ≤ limit → stepped s.machine 0 (limit - s.units) ≡ Ok ((new, left), e) → e ≢ Spent
-    → end ≡ record { machine = settled new.machine new.asking; asking = None } → IsTried {A = A} limit None true s (record { machine = end; units = limit - left; index = s.index })
+    → end ≡ record { machine = answered_by_nothing new.machine new.asking; asking = None } → IsTried {A = A} limit None true s (record { machine = end; units = limit - left; index = s.index })
 step-made A s limit left new end e fits step other is =
     let asks = (step-done s.machine 0 (limit - s.units) new left e other step).asks in
     tried-quiet s limit left new end e fits step other (settles new end e asks is) (ap (λ (w : Whole). w.asking) is)
 
 -- the events before a place that took nothing were recorded, so that a step between them is one of theirs
 module _ {A : Type 0} (b : Book A) (s : Spot A) (limit : ℕ) where
-  pub reached : (budget n : ℕ) (before : Whole) → IsKept b → IsSpot b s → s.units ≤ limit → limit ≤ b.units → ((u : ℕ) → s.units ≤ u → u < limit → taken_at b.notes.items s.index u ≡ None)
+  pub reached : (budget n : ℕ) (before : Whole) → RecordsSomeRun b → IsSpot b s → s.units ≤ limit → limit ≤ b.units → ((u : ℕ) → s.units ≤ u → u < limit → taken_from b.notes.items s.index u ≡ None)
       → Passes 0 n (s.machine, limit - s.units) None (before, budget) None → cost_of before.machine ≤ budget → IsFit {A = A} before.machine None
   reached budget n before kept spot fits within free passes enough =
       let lower = passed-lower 0 n s.machine before (limit - s.units) budget None None passes in
@@ -88,7 +88,7 @@ module _ {A : Type 0} (b : Book A) (s : Spot A) (limit : ℕ) where
       let fit = fit-at b there kept place (omega (arith, lower, one, enough, fits, within)) in
       subst (IsFit before.machine) (free (limit - budget) (omega (arith, lower, fits)) (omega (arith, lower, one, enough, fits))) fit
 
-  pub run-wants : (budget left : ℕ) (new : Whole) (f : Fault) → IsKept b → IsSpot b s → s.units ≤ limit → limit ≤ b.units → ((u : ℕ) → s.units ≤ u → u < limit → taken_at b.notes.items s.index u ≡ None)
+  pub run-wants : (budget left : ℕ) (new : Whole) (f : Fault) → RecordsSomeRun b → IsSpot b s → s.units ≤ limit → limit ≤ b.units → ((u : ℕ) → s.units ≤ u → u < limit → taken_from b.notes.items s.index u ≡ None)
       → Advances 0 (Err f) (s.machine, limit - s.units) None budget (new, left) None → IsWant f
   run-wants budget left new f kept spot fits within free a =
       λ other.
@@ -97,7 +97,7 @@ module _ {A : Type 0} (b : Book A) (s : Spot A) (limit : ℕ) where
       let fit = reached budget h.count h.before kept spot fits within free h.passes met.0 in
       ok-err (fit.0, fit.1) f (sym fit.2 ∙ met.1)
 
-  pub run-quiet : (budget left : ℕ) (new : Whole) (e : Effect) → IsKept b → IsSpot b s → s.units ≤ limit → limit ≤ b.units → ((u : ℕ) → s.units ≤ u → u < limit → taken_at b.notes.items s.index u ≡ None)
+  pub run-quiet : (budget left : ℕ) (new : Whole) (e : Effect) → RecordsSomeRun b → IsSpot b s → s.units ≤ limit → limit ≤ b.units → ((u : ℕ) → s.units ≤ u → u < limit → taken_from b.notes.items s.index u ≡ None)
       → e ≢ Spent → Advances 0 (Ok e) (s.machine, limit - s.units) None budget (new, left) None → IsQuiet e
   run-quiet budget left new e kept spot fits within free other a =
       let h = has-advanced 0 (Ok e) (s.machine, limit - s.units) budget (new, left) a in
@@ -106,20 +106,20 @@ module _ {A : Type 0} (b : Book A) (s : Spot A) (limit : ℕ) where
       is-quiet A h.before new budget left e fit h.step other
 
   -- the last of them is made
-  pub run-made : (budget left : ℕ) (new end : Whole) (e : Effect) → IsKept b → IsSpot b s → s.units ≤ limit → limit ≤ b.units → ((u : ℕ) → s.units ≤ u → u < limit → taken_at b.notes.items s.index u ≡ None)
-      → e ≢ Spent → Advances 0 (Ok e) (s.machine, limit - s.units) None budget (new, left) None → end ≡ record { machine = settled new.machine new.asking; asking = None }
-      → (left ≤ limit) × HasRun limit true s (record { machine = end; units = limit - left; index = s.index })
+  pub run-made : (budget left : ℕ) (new end : Whole) (e : Effect) → RecordsSomeRun b → IsSpot b s → s.units ≤ limit → limit ≤ b.units → ((u : ℕ) → s.units ≤ u → u < limit → taken_from b.notes.items s.index u ≡ None)
+      → e ≢ Spent → Advances 0 (Ok e) (s.machine, limit - s.units) None budget (new, left) None → end ≡ record { machine = answered_by_nothing new.machine new.asking; asking = None }
+      → (left ≤ limit) × RunsQuietly limit true s (record { machine = end; units = limit - left; index = s.index })
   run-made budget left new end e kept spot fits within free other a is =
       let asks = asks-by s.machine new (limit - s.units) budget left e other a in
       let plain = run-quiet budget left new e kept spot fits within free other a in
       run-ended s limit budget left new end e fits a other plain (settles new end e asks is) (ap (λ (w : Whole). w.asking) is)
 
 -- where such events end before a limit, the next one takes nothing either
-pub ran-on : {A : Type 0} (b : Book A) (old mid : Spot A) (limit : ℕ) (more : Bool) → IsKept b → limit ≤ b.units → IsSpot b old → ((u : ℕ) → old.units ≤ u → u < limit → taken_at b.notes.items old.index u ≡ None)
-    → HasRun limit more old mid → mid.units < limit → IsSpot b mid × (taken_at b.notes.items mid.index mid.units ≡ None) × IsFit {A = A} mid.machine.machine None
+pub ran-on : {A : Type 0} (b : Book A) (old mid : Spot A) (limit : ℕ) (more : Bool) → RecordsSomeRun b → limit ≤ b.units → IsSpot b old → ((u : ℕ) → old.units ≤ u → u < limit → taken_from b.notes.items old.index u ≡ None)
+    → RunsQuietly limit more old mid → mid.units < limit → IsSpot b mid × (taken_from b.notes.items mid.index mid.units ≡ None) × IsFit {A = A} mid.machine.machine None
 ran-on b old mid limit more kept within spot free ran less =
     let place = ran.spot b.notes.items b.opening free spot in
-    let none : taken_at b.notes.items mid.index mid.units ≡ None = ap (λ (i : ℕ). taken_at b.notes.items i mid.units) ran.index ∙ free mid.units ran.after less in
+    let none : taken_from b.notes.items mid.index mid.units ≡ None = ap (λ (i : ℕ). taken_from b.notes.items i mid.units) ran.index ∙ free mid.units ran.after less in
     (place, none, subst (IsFit mid.machine.machine) none (fit-at b mid kept place (omega (arith, less, within))))
 
 pub map-ok : {E : Type 0} (P : Bool → Type 0) (Q : Type 0) (r : Result Bool E) → IfOk r P → ((x : Bool) → P x → Q) → IfOk r (λ _. Q)

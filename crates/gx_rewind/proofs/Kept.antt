@@ -13,7 +13,8 @@ use Rattle.gx_rewind.specs.declared.books.Book.{Book}
 use Rattle.gx_rewind.specs.declared.books.Note.{Note}
 use Rattle.gx_rewind.specs.declared.books.Spot.{Spot}
 use Rattle.gx_rewind.specs.declared.books.Taken.{Taken}
-use Rattle.gx_rewind.specs.Path.{Place, begun, event, taken_by, taken_at, walk, IsFit, IsPath}
+use Rattle.gx_rewind.specs.Path.{RunPlace, begun, machine_after_event, taken_by, taken_from, last_place_within, IsFit}
+use Rattle.gx_rewind.specs.Path.{IsPath}
 use Rattle.gx_rewind.specs.Views.{log_of, IsBook, IsHeld}
 use Rattle.gx_rewind.proofs.Lists.{taken-last}
 use Rattle.gx_rewind.proofs.Passing.{passes-on, none-passed}
@@ -25,9 +26,9 @@ logged b m log book =
     let one = cost-positive m in
     let units = book.units_is in
     let long = on-long b.notes.items b.units m b.index log.after b.end book.on in
-    let before : walk b.notes.items b.units b.units (begun b.opening.machine) ≡ record { before = log.before; machine = m; index = b.index } =
+    let before : last_place_within b.notes.items b.units b.units (begun b.opening.machine) ≡ record { before = log.before; machine = m; index = b.index } =
     walk-is b.notes.items b.opening.machine b.units b.units log.before m b.index book.path (omega (arith, units)) (omega (arith, units, one)) (omega arith) in
-    ap (λ (p : Place). record { before = p.before; after = (log_of b m).after }) before
+    ap (λ (p : RunPlace). record { before = p.before; after = (log_of b m).after }) before
     ∙ ap (λ (ms : List FlatMachine). record { before = log.before; after = ms }) (onward-is b.notes.items b.end b.units m b.index log.after b.end book.on (omega (arith, long)))
 
 pub booked : {A : Type 0} (b : Book A) (m : FlatMachine) (log : Log) → IsBook b m log → IsBook b m (log_of b m)
@@ -81,7 +82,7 @@ is-cut b c m log book notes index cut = record {
       index ∙ (let e : b.index ≡ length (take b.index b.notes.items) = omega (arith, most, long) in e) ∙ ap length (sym notes);
 }
 
-free-past : {A : Type 0} (notes : List (Note A)) (i u : ℕ) → i ≡ length notes → taken_at notes i u ≡ None
+free-past : {A : Type 0} (notes : List (Note A)) (i u : ℕ) → i ≡ length notes → taken_from notes i u ≡ None
 free-past notes i u full = ap (taken_by u) (slice_get_past notes i (omega (arith, full)))
 
 same-path : {A : Type 0} (notes notes' : List (Note A)) (opening opening' : Whole) (before : List FlatMachine) (m : FlatMachine) (i i' : ℕ) → notes' ≡ notes → opening' ≡ opening → i' ≡ i
@@ -98,14 +99,14 @@ held-on notes opening end end' less xs all k d within = let one = all k d within
 -- an event that took nothing
 pub went-book : {A : Type 0} (c d : Book A) (k : ℕ) (m : FlatMachine) (before : List FlatMachine) → IsCut c m before → k ≡ cost_of m → IsFit {A = A} m None
     → d.opening ≡ c.opening → d.notes.items ≡ c.notes.items → d.checkpoints.items ≡ c.checkpoints.items → d.index ≡ c.index → d.units ≡ c.units + k → d.end ≡ d.units
-    → IsBook d (event {A = A} m None) (record { before = m ∷ before; after = [] })
+    → IsBook d (machine_after_event {A = A} m None) (record { before = m ∷ before; after = [] })
 went-book {A} c d k m before cut cost fit opening notes checkpoints index units end =
     let book = cut.book in
     let sum = units-cons m before in
     let here = book.units_is in
     let whole = book.on in
     record {
-      path = same-path c.notes.items d.notes.items c.opening d.opening (m ∷ before) (event {A = A} m None) c.index d.index notes opening index (extended c.notes.items c.opening.machine before m c.index None (event {A = A} m None) c.index book.path (free-past c.notes.items c.index (units_of before) cut.full) refl refl fit);
+      path = same-path c.notes.items d.notes.items c.opening d.opening (m ∷ before) (machine_after_event {A = A} m None) c.index d.index notes opening index (extended c.notes.items c.opening.machine before m c.index None (machine_after_event {A = A} m None) c.index book.path (free-past c.notes.items c.index (units_of before) cut.full) refl refl fit);
       units_is = omega (arith, sum, here, units, cost);
       on = sym end;
       checkpoints = rw (notes, opening, checkpoints) (held-on c.notes.items c.opening c.end d.end (omega (arith, whole, units, end)) c.checkpoints.items book.checkpoints);
@@ -131,19 +132,19 @@ push-held notes opening end end' n later less xs all k d within =
 -- an event that took something
 pub noted-book : {A : Type 0} (c d : Book A) (k : ℕ) (t : Taken A) (m : FlatMachine) (before : List FlatMachine) → IsCut c m before → k ≡ cost_of m → IsFit m (Some t)
     → d.opening ≡ c.opening → d.notes.items ≡ c.notes.items ++ record { units = c.units; taken = t } ∷ [] → d.checkpoints.items ≡ c.checkpoints.items → d.index ≡ c.index + 1 → d.units ≡ c.units + k → d.end ≡ d.units
-    → IsBook d (event m (Some t)) (record { before = m ∷ before; after = [] })
+    → IsBook d (machine_after_event m (Some t)) (record { before = m ∷ before; after = [] })
 noted-book {A} c d k t m before cut cost fit opening notes checkpoints index units end =
     let book = cut.book in
     let n : Note A = record { units = c.units; taken = t } in
     let sum = units-cons m before in
     let here = book.units_is in
     let whole = book.on in
-    let own : taken_at (c.notes.items ++ n ∷ []) c.index (units_of before) ≡ Some t =
-    ap (λ (i : ℕ). taken_at (c.notes.items ++ n ∷ []) i (units_of before)) cut.full
-    ∙ ap (λ (u : ℕ). taken_at (c.notes.items ++ n ∷ []) (length c.notes.items) u) here
+    let own : taken_from (c.notes.items ++ n ∷ []) c.index (units_of before) ≡ Some t =
+    ap (λ (i : ℕ). taken_from (c.notes.items ++ n ∷ []) i (units_of before)) cut.full
+    ∙ ap (λ (u : ℕ). taken_from (c.notes.items ++ n ∷ []) (length c.notes.items) u) here
     ∙ taken-last c.notes.items n in
     record {
-      path = same-path (c.notes.items ++ n ∷ []) d.notes.items c.opening d.opening (m ∷ before) (event m (Some t)) (c.index + 1) d.index notes opening index (extended (c.notes.items ++ n ∷ []) c.opening.machine before m c.index (Some t) (event m (Some t)) (c.index + 1)
+      path = same-path (c.notes.items ++ n ∷ []) d.notes.items c.opening d.opening (m ∷ before) (machine_after_event m (Some t)) (c.index + 1) d.index notes opening index (extended (c.notes.items ++ n ∷ []) c.opening.machine before m c.index (Some t) (machine_after_event m (Some t)) (c.index + 1)
           (push-path c.notes.items c.opening.machine n before m c.index book.path (omega (arith, here))) own refl refl fit);
       units_is = omega (arith, sum, here, units, cost);
       on = sym end;

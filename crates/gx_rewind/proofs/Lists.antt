@@ -6,7 +6,7 @@ use Rattle.std.proofs.lemmas.Bool.{ltb-false, ltb-true}
 use Rattle.std.proofs.lemmas.Bool.Decides.{nat_tests}
 use Rattle.gx_rewind.specs.declared.books.Note.{Note}
 use Rattle.gx_rewind.specs.declared.books.Taken.{Taken}
-use Rattle.gx_rewind.specs.Path.{taken_by, taken_at, index_after}
+use Rattle.gx_rewind.specs.Path.{taken_by, taken_from, index_after}
 
 pub step-on : {X : Type 0} (b : Bool) (x y : X) → b ≡ false → (if b then x else y) ≡ y
 step-on true x y is = absurd cc
@@ -31,30 +31,30 @@ none-of : {A : Type 0} (j : ℕ) (t : Option (Taken A)) → index_after j t ≤ 
 none-of j None less = refl
 none-of j (Some t) less = absurd (omega (arith, less))
 
-taken-cut-by : {A : Type 0} (b : Bool) (notes : List (Note A)) (k j u : ℕ) → nat_lt j k ≡ b → index_after j (taken_at notes j u) ≤ k → taken_at (take k notes) j u ≡ taken_at notes j u
+taken-cut-by : {A : Type 0} (b : Bool) (notes : List (Note A)) (k j u : ℕ) → nat_lt j k ≡ b → index_after j (taken_from notes j u) ≤ k → taken_from (take k notes) j u ≡ taken_from notes j u
 taken-cut-by true notes k j u is within = let less = ltb-true j k is in ap (taken_by u) (slice_get-take k notes j less)
 taken-cut-by false notes k j u is within =
     let more = ltb-false j k is in
     let long = length-take k notes in
-    let none : taken_at notes j u ≡ None = none-of j (taken_at notes j u) (omega (arith, within, more)) in
+    let none : taken_from notes j u ≡ None = none-of j (taken_from notes j u) (omega (arith, within, more)) in
     ap (taken_by u) (slice_get_past (take k notes) j (omega (arith, more, long))) ∙ sym none
 
 -- the notes before a place, once those from there on are cut off
-pub taken-cut : {A : Type 0} (notes : List (Note A)) (k j u : ℕ) → index_after j (taken_at notes j u) ≤ k → taken_at (take k notes) j u ≡ taken_at notes j u
+pub taken-cut : {A : Type 0} (notes : List (Note A)) (k j u : ℕ) → index_after j (taken_from notes j u) ≤ k → taken_from (take k notes) j u ≡ taken_from notes j u
 taken-cut notes k j u within = taken-cut-by (nat_lt j k) notes k j u refl within
 
-pub taken-past : {A : Type 0} (notes : List (Note A)) (k u : ℕ) → taken_at (take k notes) k u ≡ None
+pub taken-past : {A : Type 0} (notes : List (Note A)) (k u : ℕ) → taken_from (take k notes) k u ≡ None
 taken-past notes k u = let long = length-take k notes in ap (taken_by u) (slice_get_past (take k notes) k (omega (arith, long)))
 
 -- one more note, of a later event
-pub taken-push : {A : Type 0} (notes : List (Note A)) (n : Note A) (j u : ℕ) → u < n.units → taken_at (notes ++ n ∷ []) j u ≡ taken_at notes j u
+pub taken-push : {A : Type 0} (notes : List (Note A)) (n : Note A) (j u : ℕ) → u < n.units → taken_from (notes ++ n ∷ []) j u ≡ taken_from notes j u
 taken-push [] n zero u less = let other : (n.units == u) ≡ false = grind (arith, nat_tests) in step-on (n.units == u) (Some n.taken) None other
 taken-push [] n (suc j) u less = refl
 taken-push (x ∷ xs) n zero u less = refl
 taken-push (x ∷ xs) n (suc j) u less = taken-push xs n j u less
 
 -- and its own event
-pub taken-last : {A : Type 0} (notes : List (Note A)) (n : Note A) → taken_at (notes ++ n ∷ []) (length notes) n.units ≡ Some n.taken
+pub taken-last : {A : Type 0} (notes : List (Note A)) (n : Note A) → taken_from (notes ++ n ∷ []) (length notes) n.units ≡ Some n.taken
 taken-last [] n = let own : (n.units == n.units) ≡ true = grind (arith, nat_tests) in stop-at (n.units == n.units) (Some n.taken) None own
 taken-last (x ∷ xs) n = taken-last xs n
 
@@ -67,8 +67,8 @@ shifted j n None less = omega (arith, less)
 shifted j n (Some t) less = omega (arith, less)
 
 -- the place of the next note is within the list
-pub bound : {A : Type 0} (notes : List (Note A)) (j u : ℕ) → j ≤ length notes → index_after j (taken_at notes j u) ≤ length notes
+pub bound : {A : Type 0} (notes : List (Note A)) (j u : ℕ) → j ≤ length notes → index_after j (taken_from notes j u) ≤ length notes
 bound [] zero u within = omega arith
 bound [] (suc j) u within = absurd (omega (arith, within))
 bound (x ∷ xs) zero u within = one-more (x.units == u) x.taken 0 (suc (length xs)) (omega arith)
-bound (x ∷ xs) (suc j) u within = shifted j (length xs) (taken_at xs j u) (bound xs j u (omega (arith, within)))
+bound (x ∷ xs) (suc j) u within = shifted j (length xs) (taken_from xs j u) (bound xs j u (omega (arith, within)))

@@ -9,7 +9,7 @@ use Rattle.gx_machine.specs.Step.{asking_of, step_of}
 use Rattle.gx_machine.proofs.Costs.{cost-positive}
 use Rattle.gx_machine.proofs.Steps.{went_lower, went_asks}
 use Rattle.gx_rewind.specs.declared.books.Note.{Note}
-use Rattle.gx_rewind.specs.Path.{after, event, settled, taken_at, IsPath}
+use Rattle.gx_rewind.specs.Path.{machine_after_step, machine_after_event, answered_by_nothing, taken_from, IsPath}
 use Rattle.gx_rewind.proofs.Paths.{units-cons, extended}
 use Rattle.gx_rewind.proofs.Steps.{step-done}
 use Rattle.gx_rewind.proofs.Words.{same-step}
@@ -31,8 +31,8 @@ passed-lower word (suc n) w w' left left' x y p =
     omega (arith, less, before)
 
 -- an event that took nothing
-pub quiet : (A : Type 0) (m n : FlatMachine) (e : Effect) → step_of m 0 ≡ Ok (n, e) → event {A = A} m None ≡ settled n (asking_of e)
-quiet A m n e is = ap (after m) is
+pub quiet : (A : Type 0) (m n : FlatMachine) (e : Effect) → step_of m 0 ≡ Ok (n, e) → machine_after_event {A = A} m None ≡ answered_by_nothing n (asking_of e)
+quiet A m n e is = ap (machine_after_step m) is
 
 went-drew : Went ≡ Drew → ⊥
 went-drew same = cc
@@ -56,7 +56,7 @@ pub record HasPassed {A : Type 0} (notes : List (Note A)) (opening : FlatMachine
 module _ {A : Type 0} (notes : List (Note A)) (opening : FlatMachine) where
   pub passes-on : (word n : ℕ) (w w' : Whole) (left left' : ℕ) (before after : List FlatMachine) (i : ℕ) (x : Option Log)
       → Passes word n (w, left) None (w', left') x → IsPath notes opening before w.machine i
-      → ((u : ℕ) → units_of before ≤ u → u < units_of before + left → taken_at notes i u ≡ None)
+      → ((u : ℕ) → units_of before ≤ u → u < units_of before + left → taken_from notes i u ≡ None)
       → HasPassed notes opening word n w w' left left' before after i
   passes-on word zero w w' left left' before after i x p path free =
       subst (λ (q : Whole × ℕ). HasPassed notes opening word 0 w q.0 left q.1 before after i) p.0

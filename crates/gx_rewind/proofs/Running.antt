@@ -17,8 +17,9 @@ use Rattle.gx_rewind.specs.declared.books.Note.{Note}
 use Rattle.gx_rewind.specs.declared.books.Spot.{Spot}
 use Rattle.gx_rewind.specs.declared.books.Taken.{Taken}
 use Rattle.gx_rewind.specs.declared.books.Taken.TheVariants as taken
-use Rattle.gx_rewind.specs.Path.{after, event, settled, taken_at, word_in, IsFit, IsPath, IsQuiet}
-use Rattle.gx_rewind.specs.Views.{IsKept, IsMade, IsPlace, IsSpot, IsTaking, IsTried, HasRun, gone_to}
+use Rattle.gx_rewind.specs.Path.{machine_after_step, machine_after_event, answered_by_nothing, taken_from, word_in}
+use Rattle.gx_rewind.specs.Path.{IsFit, IsPath, IsQuiet}
+use Rattle.gx_rewind.specs.Views.{RecordsSomeRun, IsMade, IsSpotIn, IsSpot, IsTaking, IsTried, RunsQuietly, gone_to}
 use Rattle.gx_rewind.proofs.Calm.{never-spent}
 use Rattle.gx_rewind.proofs.Passing.{no-log, passes-on, passed-asks, passed-lower, quiet}
 use Rattle.gx_rewind.proofs.Paths.{units-cons, extended, was-made}
@@ -51,7 +52,7 @@ has-advanced word result old budget new a =
 
 -- the run stops before an event that doesn't fit
 pub run-spent : {A : Type 0} (s : Spot A) (limit budget left : ℕ) (new : Whole) → s.units ≤ limit → Advances 0 (Ok Spent) (s.machine, limit - s.units) None budget (new, left) None → s.machine.asking ≡ None
-    → (budget ≤ limit) × HasRun limit false s (record { machine = new; units = limit - budget; index = s.index })
+    → (budget ≤ limit) × RunsQuietly limit false s (record { machine = new; units = limit - budget; index = s.index })
 run-spent {A} s limit budget left new fits a asks =
     let h = has-advanced 0 (Ok Spent) (s.machine, limit - s.units) budget (new, left) a in
     let l = step-left h.before 0 budget new left (never-spent h.before.machine 0) h.step in
@@ -81,8 +82,8 @@ run-spent {A} s limit budget left new fits a asks =
 
 -- or after one that is no plain step, once what it asks is answered with nothing
 pub run-ended : {A : Type 0} (s : Spot A) (limit budget left : ℕ) (new end : Whole) (e : Effect) → s.units ≤ limit → Advances 0 (Ok e) (s.machine, limit - s.units) None budget (new, left) None
-    → e ≢ Spent → IsQuiet e → end.machine ≡ settled new.machine (asking_of e) → end.asking ≡ None
-    → (left ≤ limit) × HasRun limit true s (record { machine = end; units = limit - left; index = s.index })
+    → e ≢ Spent → IsQuiet e → end.machine ≡ answered_by_nothing new.machine (asking_of e) → end.asking ≡ None
+    → (left ≤ limit) × RunsQuietly limit true s (record { machine = end; units = limit - left; index = s.index })
 run-ended {A} s limit budget left new end e fits a unspent plain ends asks =
     let h = has-advanced 0 (Ok e) (s.machine, limit - s.units) budget (new, left) a in
     let d = step-done h.before 0 budget new left e unspent h.step in
@@ -116,7 +117,7 @@ run-ended {A} s limit budget left new end e fits a unspent plain ends asks =
 
 -- one event that took nothing
 pub made-quiet : {A : Type 0} (s : Spot A) (limit left : ℕ) (new end : Whole) (e : Effect) → s.units ≤ limit → stepped s.machine 0 (limit - s.units) ≡ Ok ((new, left), e)
-    → e ≢ Spent → end.machine ≡ settled new.machine (asking_of e) → end.asking ≡ None
+    → e ≢ Spent → end.machine ≡ answered_by_nothing new.machine (asking_of e) → end.asking ≡ None
     → (left ≤ limit) × IsMade {A = A} None s (record { machine = end; units = limit - left; index = s.index })
 made-quiet {A} s limit left new end e fits step unspent ends asks =
     let d = step-done s.machine 0 (limit - s.units) new left e unspent step in
@@ -132,7 +133,7 @@ made-quiet {A} s limit left new end e fits step unspent ends asks =
     )
 
 pub tried-quiet : {A : Type 0} (s : Spot A) (limit left : ℕ) (new end : Whole) (e : Effect) → s.units ≤ limit → stepped s.machine 0 (limit - s.units) ≡ Ok ((new, left), e)
-    → e ≢ Spent → end.machine ≡ settled new.machine (asking_of e) → end.asking ≡ None → IsTried {A = A} limit None true s (record { machine = end; units = limit - left; index = s.index })
+    → e ≢ Spent → end.machine ≡ answered_by_nothing new.machine (asking_of e) → end.asking ≡ None → IsTried {A = A} limit None true s (record { machine = end; units = limit - left; index = s.index })
 tried-quiet s limit left new end e fits step unspent ends asks = record {
   made = λ _. (made-quiet s limit left new end e fits step unspent ends asks).1;
   none = λ no. cc;
@@ -168,11 +169,11 @@ takes m new (taken.Reply reply) budget left e unspent step fit =
 takes m new (taken.Machine gone) budget left e unspent step fit = fit.2
 
 takes-machine : {A : Type 0} (m new : Whole) (t : Taken A) (budget left : ℕ) (e : Effect) → e ≢ Spent → stepped m (word_in t) budget ≡ Ok ((new, left), e) → IsFit m.machine (Some t)
-    → event m.machine (Some t) ≡ gone_to new.machine t
+    → machine_after_event m.machine (Some t) ≡ gone_to new.machine t
 takes-machine {A} m new (taken.Word word) budget left e unspent step fit =
     let d = step-done m word budget new left e unspent step in
     let rest = takes {A = A} m new (taken.Word word) budget left e unspent step fit in
-    ap (after m.machine) d.step ∙ ap (settled new.machine) (sym d.asks ∙ rest)
+    ap (machine_after_step m.machine) d.step ∙ ap (answered_by_nothing new.machine) (sym d.asks ∙ rest)
 takes-machine m new (taken.Reply reply) budget left e unspent step fit =
     let d = step-done m 0 budget new left e unspent step in
     let same : (m.machine, fit.0) ≡ (new.machine, e) = ok-is {A = FlatMachine × Effect} (m.machine, fit.0) (new.machine, e) (sym fit.1 ∙ d.step) in
@@ -205,26 +206,26 @@ left-within s limit left m new word e unspent step =
     omega (arith, left_is)
 
 -- an event that is made leads to a place of the run
-pub made-place : {A : Type 0} (notes : List (Note A)) (opening : Whole) (old new : Spot A) (t : Option (Taken A)) → IsPlace notes opening old → taken_at notes old.index old.units ≡ t → IsFit old.machine.machine t → IsMade t old new → IsPlace notes opening new
+pub made-place : {A : Type 0} (notes : List (Note A)) (opening : Whole) (old new : Spot A) (t : Option (Taken A)) → IsSpotIn notes opening old → taken_from notes old.index old.units ≡ t → IsFit old.machine.machine t → IsMade t old new → IsSpotIn notes opening new
 made-place notes opening old new t place is fit made =
     let units = place.units_is in
     let sum = made.units_is in
     let cons = units-cons old.machine.machine place.before in
     record {
       before = old.machine.machine ∷ place.before;
-      path = extended notes opening.machine place.before old.machine.machine old.index t new.machine.machine new.index place.path (ap (λ (u : ℕ). taken_at notes old.index u) units ∙ is) made.machine made.index fit;
+      path = extended notes opening.machine place.before old.machine.machine old.index t new.machine.machine new.index place.path (ap (λ (u : ℕ). taken_from notes old.index u) units ∙ is) made.machine made.index fit;
       units_is = omega (arith, units, sum, cons);
       asks = made.asks;
     }
 
 -- the event at a place before that of a book was recorded
-pub fit-at : {A : Type 0} (b : Book A) (s : Spot A) → IsKept b → IsSpot b s → s.units < b.units → IsFit s.machine.machine (taken_at b.notes.items s.index s.units)
+pub fit-at : {A : Type 0} (b : Book A) (s : Spot A) → RecordsSomeRun b → IsSpot b s → s.units < b.units → IsFit s.machine.machine (taken_from b.notes.items s.index s.units)
 fit-at b s kept spot less =
     let book = kept.2 in
     let here = spot.units_is in
     let there = book.units_is in
     let made = was-made b.notes.items b.opening.machine spot.before s.machine.machine s.index kept.1.before kept.0 b.index spot.path book.path (omega (arith, here, there, less)) in
-    subst (λ (u : ℕ). IsFit s.machine.machine (taken_at b.notes.items s.index u)) here made.0
+    subst (λ (u : ℕ). IsFit s.machine.machine (taken_from b.notes.items s.index u)) here made.0
 
 pub asks-by : (m new : Whole) (b budget left : ℕ) (e : Effect) → e ≢ Spent → Advances 0 (Ok e) (m, b) None budget (new, left) None → new.asking ≡ asking_of e
 asks-by m new b budget left e unspent a =
@@ -232,10 +233,10 @@ asks-by m new b budget left e unspent a =
     (step-done h.before 0 budget new left e unspent h.step).asks
 
 -- an event that was tried leads to a place of the run
-pub tried-place : {A : Type 0} (notes : List (Note A)) (opening : Whole) (old new : Spot A) (t : Option (Taken A)) (limit : ℕ) (b : Bool) → IsPlace notes opening old → taken_at notes old.index old.units ≡ t → IsFit old.machine.machine t
-    → IsTried limit t b old new → IsPlace notes opening new
+pub tried-place : {A : Type 0} (notes : List (Note A)) (opening : Whole) (old new : Spot A) (t : Option (Taken A)) (limit : ℕ) (b : Bool) → IsSpotIn notes opening old → taken_from notes old.index old.units ≡ t → IsFit old.machine.machine t
+    → IsTried limit t b old new → IsSpotIn notes opening new
 tried-place notes opening old new t limit true place is fit tried = made-place notes opening old new t place is fit (tried.made refl)
-tried-place notes opening old new t limit false place is fit tried = subst (IsPlace notes opening) (sym (tried.none refl).0) place
+tried-place notes opening old new t limit false place is fit tried = subst (IsSpotIn notes opening) (sym (tried.none refl).0) place
 
 -- what an event takes is at least a unit
 pub made-after : {A : Type 0} (t : Option (Taken A)) (old new : Spot A) → IsMade t old new → old.units < new.units

@@ -16,24 +16,24 @@ use Rattle.gx_rewind.specs.declared.books.Taken.{Taken}
 use Rattle.gx_rewind.specs.declared.books.Taken.TheVariants as taken
 
 -- the reply that pushes and writes nothing
-abbrev pub nothing : Reply
-nothing = record { value = 0; pushes = []; writes = [] }
+abbrev pub empty_reply : Reply
+empty_reply = record { value = 0; pushes = []; writes = [] }
 
 -- the machine after an event of one step, which is answered with nothing where it asks
-abbrev pub settled : FlatMachine → Option Asking → FlatMachine
-settled m None = m
-settled m (Some asking) = answer_of m nothing
+abbrev pub answered_by_nothing : FlatMachine → Option Asking → FlatMachine
+answered_by_nothing m None = m
+answered_by_nothing m (Some asking) = answer_of m empty_reply
 
-abbrev pub after : FlatMachine → Result (FlatMachine × Effect) Fault → FlatMachine
-after m (Ok r) = settled r.0 (asking_of r.1)
-after m (Err fault) = m
+abbrev pub machine_after_step : FlatMachine → Result (FlatMachine × Effect) Fault → FlatMachine
+machine_after_step m (Ok r) = answered_by_nothing r.0 (asking_of r.1)
+machine_after_step m (Err fault) = m
 
 -- the machine after an event, by what it took from outside
-abbrev pub event : {A : Type 0} → FlatMachine → Option (Taken A) → FlatMachine
-event m None = after m (step_of m 0)
-event m (Some (taken.Word word)) = after m (step_of m word)
-event m (Some (taken.Reply reply)) = answer_of m reply
-event m (Some (taken.Machine gone)) = gone.value.machine
+abbrev pub machine_after_event : {A : Type 0} → FlatMachine → Option (Taken A) → FlatMachine
+machine_after_event m None = machine_after_step m (step_of m 0)
+machine_after_event m (Some (taken.Word word)) = machine_after_step m (step_of m word)
+machine_after_event m (Some (taken.Reply reply)) = answer_of m reply
+machine_after_event m (Some (taken.Machine gone)) = gone.value.machine
 
 -- the word of the step of an event that took this
 abbrev pub word_in : {A : Type 0} → Taken A → ℕ
@@ -46,8 +46,8 @@ abbrev pub taken_by : {A : Type 0} → ℕ → Option (Note A) → Option (Taken
 taken_by units None = None
 taken_by units (Some note) = if note.units == units then Some note.taken else None
 
-abbrev pub taken_at : {A : Type 0} → List (Note A) → ℕ → ℕ → Option (Taken A)
-taken_at notes index units = taken_by units (slice_get notes index)
+abbrev pub taken_from : {A : Type 0} → List (Note A) → ℕ → ℕ → Option (Taken A)
+taken_from notes index units = taken_by units (slice_get notes index)
 
 -- the next note is that after one which was used
 abbrev pub index_after : {A : Type 0} → ℕ → Option (Taken A) → ℕ
@@ -76,22 +76,22 @@ IsFit m (Some (taken.Reply reply)) =
 IsFit m (Some (taken.Machine gone)) = (effect : Effect) × (step_of m 0 ≡ Ok (m, effect)) × (gone.value.asking ≡ None)
 
 -- A place of the run: the machines before it, its machine, and the place of the next note.
-pub record Place : Type 0 where
+pub record RunPlace : Type 0 where
   pub before : List FlatMachine
   pub machine : FlatMachine
   pub index : ℕ
 
-abbrev pub begun : FlatMachine → Place
+abbrev pub begun : FlatMachine → RunPlace
 begun m = record { before = []; machine = m; index = 0 }
 
-abbrev pub taken_in : {A : Type 0} → List (Note A) → Place → Option (Taken A)
-taken_in notes p = taken_at notes p.index (units_of p.before)
+abbrev pub taken_in : {A : Type 0} → List (Note A) → RunPlace → Option (Taken A)
+taken_in notes p = taken_from notes p.index (units_of p.before)
 
 -- the next place
-abbrev pub next : {A : Type 0} → List (Note A) → Place → Place
-next notes p = record {
+abbrev pub following_place : {A : Type 0} → List (Note A) → RunPlace → RunPlace
+following_place notes p = record {
   before = p.machine ∷ p.before;
-  machine = event p.machine (taken_in notes p);
+  machine = machine_after_event p.machine (taken_in notes p);
   index = index_after p.index (taken_in notes p);
 }
 
@@ -100,30 +100,32 @@ abbrev pub IsPath : {A : Type 0} → List (Note A) → FlatMachine → List Flat
 IsPath notes opening [] m i = (m ≡ opening) × (i ≡ 0)
 IsPath notes opening (p ∷ ps) m i =
     (j : ℕ) × IsPath notes opening ps p j
-    × (event p (taken_at notes j (units_of ps)) ≡ m)
-    × (index_after j (taken_at notes j (units_of ps)) ≡ i)
-    × IsFit p (taken_at notes j (units_of ps))
+    × (machine_after_event p (taken_from notes j (units_of ps)) ≡ m)
+    × (index_after j (taken_from notes j (units_of ps)) ≡ i)
+    × IsFit p (taken_from notes j (units_of ps))
 
 -- and it leads on from there, to so many units
 abbrev pub IsOn : {A : Type 0} → List (Note A) → ℕ → FlatMachine → ℕ → List FlatMachine → ℕ → Type 0
 IsOn notes units m i [] end = units ≡ end
 IsOn notes units m i (n ∷ ns) end =
-    (event m (taken_at notes i units) ≡ n)
-    × IsFit m (taken_at notes i units)
-    × IsOn notes (units + cost_of m) n (index_after i (taken_at notes i units)) ns end
+    (machine_after_event m (taken_from notes i units) ≡ n)
+    × IsFit m (taken_from notes i units)
+    × IsOn notes (units + cost_of m) n (index_after i (taken_from notes i units)) ns end
 
 -- the last place before which at most so many units were used
-unfoldable pub walk : {A : Type 0} → List (Note A) → ℕ → ℕ → Place → Place
-walk notes units zero p = p
-walk notes units (suc n) p =
-    if nat_lt units (units_of p.before + cost_of p.machine) then p else walk notes units n (next notes p)
+unfoldable pub last_place_within : {A : Type 0} → List (Note A) → ℕ → ℕ → RunPlace → RunPlace
+last_place_within notes units zero p = p
+last_place_within notes units (suc n) p =
+    if nat_lt units (units_of p.before + cost_of p.machine)
+    then p
+    else last_place_within notes units n (following_place notes p)
 
 -- the machines after a place, up to so many units
 unfoldable pub onward : {A : Type 0} → List (Note A) → ℕ → ℕ → FlatMachine → ℕ → ℕ → List FlatMachine
 onward notes zero units m i end = []
 onward notes (suc n) units m i end =
     if nat_lt units end
-    then event m (taken_at notes i units)
-    ∷ onward notes n (units + cost_of m) (event m (taken_at notes i units))
-    (index_after i (taken_at notes i units)) end
+    then machine_after_event m (taken_from notes i units)
+    ∷ onward notes n (units + cost_of m) (machine_after_event m (taken_from notes i units))
+    (index_after i (taken_from notes i units)) end
     else []

@@ -6,7 +6,7 @@ use Rattle.gx_words.specs.declared.faults.Fault.TheVariants.{NoMemory}
 use Rattle.gx_state.specs.declared.effects.Effect.{Effect}
 use Rattle.gx_machine.specs.declared.askings.Asking.{Asking}
 use Rattle.gx_machine.specs.Advancing.{Advances, logged_by}
-use Rattle.gx_machine.specs.Answer.{answer_of, IsAnswer}
+use Rattle.gx_machine.specs.Answer.{answer_of, AnswersAsking}
 use Rattle.gx_machine.specs.Log.{Log, units_of}
 use Rattle.gx_machine.specs.Machine.{FlatMachine, Whole}
 use Rattle.gx_machine.specs.Step.{asking_of, cost_of, step_of}
@@ -16,13 +16,14 @@ use Rattle.gx_rewind.specs.declared.books.Spot.{Spot}
 use Rattle.gx_rewind.specs.declared.books.Taken.{Taken}
 use Rattle.gx_rewind.specs.declared.books.Taken.TheVariants as taken
 use Rattle.gx_rewind.specs.declared.Tape.TheInside.{Inside}
-use Rattle.gx_rewind.specs.Path.{begun, event, index_after, taken_at, IsPath, IsOn, walk, onward}
+use Rattle.gx_rewind.specs.Path.{begun, machine_after_event, index_after, taken_from, IsPath, IsOn, last_place_within}
+use Rattle.gx_rewind.specs.Path.{onward}
 use Rattle.gx_rewind.specs.Tape.{FlatTape}
 
 -- the record of a book whose machine is this one
 abbrev pub log_of : {A : Type 0} → Book A → FlatMachine → Log
 log_of b m = record {
-  before = (walk b.notes.items b.units b.units (begun b.opening.machine)).before;
+  before = (last_place_within b.notes.items b.units b.units (begun b.opening.machine)).before;
   after = onward b.notes.items b.end b.units m b.index b.end;
 }
 
@@ -36,12 +37,12 @@ pub record IsAt {A : Type 0} (notes : List (Note A)) (opening m : Whole) (index 
   pub units_is : units_of before ≡ units
   pub asks : m.asking ≡ None
 
-abbrev pub IsPlace : {A : Type 0} → List (Note A) → Whole → Spot A → Type 0
-IsPlace notes opening s = IsAt notes opening s.machine s.index s.units
+abbrev pub IsSpotIn : {A : Type 0} → List (Note A) → Whole → Spot A → Type 0
+IsSpotIn notes opening s = IsAt notes opening s.machine s.index s.units
 
 -- the same, before so many units
 abbrev pub IsHeld : {A : Type 0} → List (Note A) → Whole → ℕ → Spot A → Type 0
-IsHeld notes opening end s = IsPlace notes opening s × (s.units ≤ end)
+IsHeld notes opening end s = IsSpotIn notes opening s × (s.units ≤ end)
 
 -- a book records this run
 pub record IsBook {A : Type 0} (b : Book A) (m : FlatMachine) (log : Log) : Type 0 where
@@ -52,11 +53,11 @@ pub record IsBook {A : Type 0} (b : Book A) (m : FlatMachine) (log : Log) : Type
   pub opening : b.opening.asking ≡ None
 
 -- some run is recorded
-abbrev pub IsKept : {A : Type 0} → Book A → Type 0
-IsKept b = (m : FlatMachine) × (log : Log) × IsBook b m log
+abbrev pub RecordsSomeRun : {A : Type 0} → Book A → Type 0
+RecordsSomeRun b = (m : FlatMachine) × (log : Log) × IsBook b m log
 
 -- what is asked is what the next step asks, whose units are pending
-pub record IsPending {A : Type 0} (b : Book A) (m : FlatMachine) (asking : Asking) : Type 0 where
+pub record IsPendingEvent {A : Type 0} (b : Book A) (m : FlatMachine) (asking : Asking) : Type 0 where
   pub cost : b.pending ≡ cost_of m
   pub room : b.units + b.pending ≤ 2 ^ 64 - 1
   pub effect : Effect
@@ -65,11 +66,11 @@ pub record IsPending {A : Type 0} (b : Book A) (m : FlatMachine) (asking : Askin
 
 pub record IsTape {A : Type 0} (t : Inside A) : Type 0 where
   pub book : IsBook t.book t.machine.machine (log_of t.book t.machine.machine)
-  pub pends : IfSome t.machine.asking (IsPending t.book t.machine.machine)
+  pub pends : IfSome t.machine.asking (IsPendingEvent t.book t.machine.machine)
 
 -- a place of the run that a book records
 abbrev pub IsSpot : {A : Type 0} → Book A → Spot A → Type 0
-IsSpot b s = IsPlace b.notes.items b.opening s
+IsSpot b s = IsSpotIn b.notes.items b.opening s
 
 -- books that differ only in their checkpoints
 pub record AreLike {A : Type 0} (old new : Book A) : Type 0 where
@@ -82,7 +83,7 @@ pub record AreLike {A : Type 0} (old new : Book A) : Type 0 where
 
 -- An event is made: the machine after it, the units that it took, and the place of the next note.
 pub record IsMade {A : Type 0} (t : Option (Taken A)) (old new : Spot A) : Type 0 where
-  pub machine : event old.machine.machine t ≡ new.machine.machine
+  pub machine : machine_after_event old.machine.machine t ≡ new.machine.machine
   pub index : index_after old.index t ≡ new.index
   pub units_is : new.units ≡ old.units + cost_of old.machine.machine
   pub asks : new.machine.asking ≡ None
@@ -94,10 +95,10 @@ pub record IsTried {A : Type 0} (limit : ℕ) (t : Option (Taken A)) (done : Boo
   pub within : new.units ≤ limit
 
 -- Events that took nothing were made within so many units, and others may follow, or the next one doesn't fit.
-pub record HasRun {A : Type 0} (limit : ℕ) (ended : Bool) (old new : Spot A) : Type 0 where
+pub record RunsQuietly {A : Type 0} (limit : ℕ) (ended : Bool) (old new : Spot A) : Type 0 where
   pub spot : (notes : List (Note A)) (opening : Whole)
-      → ((u : ℕ) → old.units ≤ u → u < limit → taken_at notes old.index u ≡ None)
-      → IsPlace notes opening old → IsPlace notes opening new
+      → ((u : ℕ) → old.units ≤ u → u < limit → taken_from notes old.index u ≡ None)
+      → IsSpotIn notes opening old → IsSpotIn notes opening new
   pub index : new.index ≡ old.index
   pub within : new.units ≤ limit
   pub after : old.units ≤ new.units
@@ -107,7 +108,7 @@ pub record HasRun {A : Type 0} (limit : ℕ) (ended : Bool) (old new : Spot A) :
 -- once the step of an event is made, what it took can be given to the machine
 abbrev pub IsTaking : {A : Type 0} → Whole → Taken A → Type 0
 IsTaking m (taken.Word word) = m.asking ≡ None
-IsTaking m (taken.Reply reply) = IsAnswer m reply
+IsTaking m (taken.Reply reply) = AnswersAsking m reply
 IsTaking m (taken.Machine gone) = gone.value.asking ≡ None
 
 -- the machine then
@@ -117,19 +118,19 @@ gone_to m (taken.Reply reply) = answer_of m reply
 gone_to m (taken.Machine gone) = gone.value.machine
 
 -- Steps were made by a machine that records nothing, and are recorded.
-abbrev pub Records : {A : Type 0} → ℕ → Result Effect Fault → Whole × ℕ → ℕ → Whole × ℕ → Book A → Book A → Type 0
-Records word result old budget new b c =
+abbrev pub RecordsSteps : {A : Type 0} → ℕ → Result Effect Fault → Whole × ℕ → ℕ → Whole × ℕ → Book A → Book A → Type 0
+RecordsSteps word result old budget new b c =
     (log : Log) → IsBook b old.0.machine log
     → (last : Log) × IsBook c new.0.machine last
     × Advances word result old (Some log) budget new (Some last)
-    × IfSome new.0.asking (IsPending c new.0.machine)
+    × IfSome new.0.asking (IsPendingEvent c new.0.machine)
 
 -- A step is recorded, as far as its event has ended.
 pub record HasEnded {A : Type 0} (effect : Effect) (before new : Whole) (log : Log) (b : Book A) : Type 0 where
   pub last : Log
   pub is : Some last ≡ logged_by effect (Some log) before.machine
   pub book : IsBook b new.machine last
-  pub pends : IfSome new.asking (IsPending b new.machine)
+  pub pends : IfSome new.asking (IsPendingEvent b new.machine)
 
 -- a fault that can only be want of memory
 abbrev pub IsWant : Fault → Type 0

@@ -4,15 +4,15 @@
 //! A note has the units that were used where its event began: an event takes one unit at least, so that these name it.
 //! An event without a note took the word 0, and was answered with nothing where it asked. So all that is left out here
 //! follows from what is kept.
-ghost use Rattle.std.specs.Prelude.{◌≡◌, ◌≢◌, ◌+◌, ◌^◌, ◌*◌, ◌/◌, ◌-◌, ◌<◌, ◌≤◌, ◌++◌, ◌∷◌, [], None, Some, length};
-ghost use Rattle.std.specs.Prelude.{slice_index_or, take, min, List, ℕ, vec_len, vec_capacity, Ok, IsSome, IfOk, OnOk};
+ghost use Rattle.std.specs.Prelude.{◌≡◌, ◌≢◌, ◌+◌, ◌^◌, ◌*◌, ◌/◌, ◌-◌, ◌<◌, ◌≤◌, ◌∷◌, [], None, Some, length};
+ghost use Rattle.std.specs.Prelude.{slice_index_or, take, min, ℕ, vec_len, vec_capacity, Ok, IsSome, IfOk, OnOk};
 ghost use Rattle.gx_machine.specs.Log.{Log, no_events};
 ghost use Rattle.gx_machine.specs.Advancing.{Advances, Passes};
 ghost use Rattle.gx_machine.specs.Machine.{FlatMachine, Whole};
 ghost use Rattle.gx_machine.specs.Step.{asking_of, cost_of, stepped};
 ghost use Rattle.gx_rewind.specs.declared.books.Spot.{Spot};
-ghost use Rattle.gx_rewind.specs.Path.{event, IsFit};
-ghost use Rattle.gx_rewind.specs.Views.{IsBook, AreLike, HasEnded, Records};
+ghost use Rattle.gx_rewind.specs.Path.{machine_after_event, IsFit};
+ghost use Rattle.gx_rewind.specs.Views.{IsBook, AreLike, HasEnded, RecordsSteps};
 
 use gx_machine::Machine;
 use gx_state::{Effect, Reply};
@@ -198,7 +198,7 @@ impl<A: Allocator + Clone> Book<A> {
         requires less { left ≤ budget }
         ensures { (old new : Whole) → old.asking ≡ None
             → Advances word outcome.now (old, start) None budget (new, left) None
-            → Records word outcome.now (old, start) budget (new, left) self.old self.new }
+            → RecordsSteps word outcome.now (old, start) budget (new, left) self.old self.new }
     {
         self.passed(start - budget);
         if let Ok(effect) = outcome {
@@ -250,7 +250,7 @@ impl<A: Allocator + Clone> Book<A> {
         ensures room { vec_capacity self.new.notes ≡ vec_capacity self.old.notes }
         ensures len { vec_len self.new.notes ≤ vec_len self.old.notes }
         ensures book { (m : FlatMachine) (log : Log) → IsBook self.old m log → units ≡ cost_of m → IsFit {A = A} m None
-            → IsBook self.new (event {A = A} m None) (record { before = m ∷ log.before; after = [] }) }
+            → IsBook self.new (machine_after_event {A = A} m None) (record { before = m ∷ log.before; after = [] }) }
     {
         self.cut();
         self.units += units;
@@ -262,7 +262,7 @@ impl<A: Allocator + Clone> Book<A> {
         requires fits { self.old.units + units ≤ 2 ^ 64 - 1 }
         requires room { vec_len self.old.notes < vec_capacity self.old.notes }
         ensures book { (m : FlatMachine) (log : Log) → IsBook self.old m log → units ≡ cost_of m → IsFit m (Some taken)
-            → IsBook self.new (event m (Some taken)) (record { before = m ∷ log.before; after = [] }) }
+            → IsBook self.new (machine_after_event m (Some taken)) (record { before = m ∷ log.before; after = [] }) }
     {
         self.cut();
         let begun = self.units;

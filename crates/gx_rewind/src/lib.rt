@@ -11,9 +11,9 @@
 //! - `replies` copies a reply.
 #![tactic(auto)]
 
-ghost use Rattle.std.specs.Prelude.{◌≡◌, ◌≤◌, ◌<◌, ◌↔◌, None, [], length, IsTrue, IfOk, OnOk, OnErr};
+ghost use Rattle.std.specs.Prelude.{◌≡◌, ◌≤◌, ◌<◌, ◌↔◌, None, length, IsTrue, IfOk, OnOk, OnErr};
 ghost use Rattle.gx_machine.specs.Log.{no_events, units_of};
-ghost use Rattle.gx_rewind.specs.Tape.{end_of, gone_back, gone_on};
+ghost use Rattle.gx_rewind.specs.Tape.{units_at_end, gone_back, gone_on};
 
 mod books;
 mod recording;
@@ -70,7 +70,7 @@ impl<A: Allocator + Clone> Tape<A> {
 
     /// The units at the end of its record.
     pub fn end(&self) -> u64
-        ensures { result ≡ end_of self.now }
+        ensures { result ≡ units_at_end self.now }
     {
         self.book.end
     }

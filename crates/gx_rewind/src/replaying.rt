@@ -3,8 +3,9 @@
 //! All of it is done on forks, so that nothing has changed after a refusal.
 ghost use Rattle.std.specs.Prelude.{◌≡◌, ◌+◌, ◌-◌, ◌^◌, ◌<◌, ◌≤◌, ℕ, true, false, None, Some, IfOk, IfSome, OnOk};
 ghost use Rattle.gx_machine.specs.Step.{cost_of};
-ghost use Rattle.gx_rewind.specs.Path.{settled, taken_at, word_in, IsFit};
-ghost use Rattle.gx_rewind.specs.Views.{IsKept, IsSpot, IsMade, IsTried, IsTaking, IsWant, HasRun, gone_to};
+ghost use Rattle.gx_rewind.specs.Path.{answered_by_nothing, taken_from, word_in, IsFit};
+ghost use Rattle.gx_rewind.specs.Views.{RecordsSomeRun, IsSpot, IsMade, IsTried, IsTaking, IsWant, RunsQuietly};
+ghost use Rattle.gx_rewind.specs.Views.{gone_to};
 
 use crate::books::{Book, Note, Spot, Taken, until};
 use crate::replies::nothing;
@@ -16,7 +17,7 @@ use std::alloc::{AllocError, Allocator, Global};
 impl<A: Allocator + Clone> Book<A> {
     /// The last place before which at most so many units were used.
     pub(crate) fn replayed(&self, target: u64) -> Result<Spot<A>, AllocError>
-        requires kept { IsKept self.now }
+        requires kept { RecordsSomeRun self.now }
         requires within { target ≤ self.now.units }
         ensures spot { IfOk result (λ spot. IsSpot self.now spot) }
         ensures within { IfOk result (λ spot. spot.units ≤ target) }
@@ -31,8 +32,8 @@ impl<A: Allocator + Clone> Book<A> {
     pub(crate) fn followed(&self, machine: &Machine<A>) -> Result<Spot<A>, AllocError>
         requires asks { machine.now.asking ≡ None }
         requires before { self.now.units + cost_of machine.now.machine ≤ self.now.end }
-        requires fit { IsFit machine.now.machine (taken_at self.now.notes.items self.now.index self.now.units) }
-        ensures { IfOk result (λ spot. IsMade (taken_at self.now.notes.items self.now.index self.now.units)
+        requires fit { IsFit machine.now.machine (taken_from self.now.notes.items self.now.index self.now.units) }
+        ensures { IfOk result (λ spot. IsMade (taken_from self.now.notes.items self.now.index self.now.units)
             (record { machine = machine.now; units = self.now.units; index = self.now.index }) spot) }
     {
         let mut spot = Spot {
@@ -57,7 +58,7 @@ impl<A: Allocator + Clone> Book<A> {
 
     /// A fork of the checkpoint that lies nearest before so many units, or of the beginning.
     fn nearest(&self, target: u64) -> Result<Spot<A>, AllocError>
-        requires kept { IsKept self.now }
+        requires kept { RecordsSomeRun self.now }
         ensures spot { IfOk result (λ spot. IsSpot self.now spot) }
         ensures within { IfOk result (λ spot. spot.units ≤ target) }
     {
@@ -79,9 +80,9 @@ impl<A: Allocator + Clone> Book<A> {
 
     /// The note of the event that begins at a place.
     fn note_at(&self, spot: &Spot<A>) -> Option<&Note<A>>
-        ensures some { IfSome result (λ note. taken_at self.now.notes.items spot.now.index spot.now.units
+        ensures some { IfSome result (λ note. taken_from self.now.notes.items spot.now.index spot.now.units
             ≡ Some note.now.taken) }
-        ensures none { result ≡ None → taken_at self.now.notes.items spot.now.index spot.now.units ≡ None }
+        ensures none { result ≡ None → taken_from self.now.notes.items spot.now.index spot.now.units ≡ None }
         ensures index { IfSome result (λ note. spot.now.index < 2 ^ 64 - 1) }
     {
         if spot.index >= self.notes.len() {
@@ -97,9 +98,9 @@ impl<A: Allocator + Clone> Book<A> {
     /// The units up to which the events after a place took nothing, at most those that are handed in.
     fn free_until(&self, spot: &Spot<A>, target: u64) -> u64
         requires before { spot.now.units < target }
-        requires none { taken_at self.now.notes.items spot.now.index spot.now.units ≡ None }
+        requires none { taken_from self.now.notes.items spot.now.index spot.now.units ≡ None }
         ensures free { (u : ℕ) → spot.now.units ≤ u → u < result
-            → taken_at self.now.notes.items spot.now.index u ≡ None }
+            → taken_from self.now.notes.items spot.now.index u ≡ None }
         ensures after { spot.now.units < result }
         ensures within { result ≤ target }
     {
@@ -116,7 +117,7 @@ impl<A: Allocator + Clone> Book<A> {
     /// Makes the next events within so many units: those up to the next one that took something, or that one. Answers
     /// whether more may follow.
     fn go_on(&self, spot: &mut Spot<A>, target: u64) -> Result<bool, AllocError>
-        requires kept { IsKept self.now }
+        requires kept { RecordsSomeRun self.now }
         requires within { target ≤ self.now.units }
         requires spot { IsSpot self.now spot.old }
         requires before { spot.old.units ≤ target }
@@ -148,13 +149,13 @@ impl<A: Allocator + Clone> Book<A> {
     /// Makes the next events, which take nothing, within so many units. Answers whether the last of them was no plain
     /// step, so that others may follow within them.
     fn run(&self, spot: &mut Spot<A>, limit: u64) -> Result<bool, AllocError>
-        requires kept { IsKept self.now }
+        requires kept { RecordsSomeRun self.now }
         requires within { limit ≤ self.now.units }
         requires spot { IsSpot self.now spot.old }
         requires before { spot.old.units ≤ limit }
         requires free { (u : ℕ) → spot.old.units ≤ u → u < limit
-            → taken_at self.now.notes.items spot.old.index u ≡ None }
-        ensures { IfOk result (λ more. HasRun limit more spot.old spot.new) }
+            → taken_from self.now.notes.items spot.old.index u ≡ None }
+        ensures { IfOk result (λ more. RunsQuietly limit more spot.old spot.new) }
     {
         let mut budget = limit - spot.units;
         let mut left = budget;
@@ -205,7 +206,7 @@ fn step<A: Allocator + Clone>(
 /// Answers with nothing what a machine asks, if anything.
 fn settle<A: Allocator + Clone>(machine: &mut Machine<A>, alloc: Global) -> Result<(), AllocError>
     ensures { OnOk result (machine.new
-        ≡ record { machine = settled machine.old.machine machine.old.asking; asking = None }) }
+        ≡ record { machine = answered_by_nothing machine.old.machine machine.old.asking; asking = None }) }
 {
     match machine.asking() {
         None => Ok(()),

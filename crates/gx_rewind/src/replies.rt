@@ -1,6 +1,6 @@
 //! A copy of a reply, and the reply that pushes and writes nothing.
 ghost use Rattle.std.specs.Prelude.{◌≡◌, ◌≢◌, true, false, IfOk};
-ghost use Rattle.gx_rewind.specs.Path.{nothing};
+ghost use Rattle.gx_rewind.specs.Path.{empty_reply};
 
 use gx_state::Reply;
 use gx_words::{Bytes, Numbers, Writes};
@@ -8,7 +8,7 @@ use std::alloc::{AllocError, Global};
 
 /// The reply that pushes and writes nothing.
 pub(crate) fn nothing(alloc: Global) -> Reply
-    ensures { result ≡ nothing }
+    ensures { result ≡ empty_reply }
 {
     Reply {
         value: 0,
@@ -19,8 +19,8 @@ pub(crate) fn nothing(alloc: Global) -> Reply
 
 /// Whether a reply is that one.
 pub(crate) fn is_nothing(reply: &Reply) -> bool
-    ensures yes { result ≡ true → reply.now ≡ nothing }
-    ensures no { result ≡ false → reply.now ≢ nothing }
+    ensures yes { result ≡ true → reply.now ≡ empty_reply }
+    ensures no { result ≡ false → reply.now ≢ empty_reply }
 {
     reply.value == 0 && reply.pushes.len() == 0 && reply.writes.len() == 0
 }

@@ -1,3 +1,5 @@
+pub mod ShortNumbers
+pub mod LongNumbers
 pub mod Numbers
 pub mod Keys
 pub mod Table

@@ -1,5 +1,5 @@
 -- The addressing modes of operands, and which operands are loaded (Glulx 3.1.2, "Instruction Format").
-use Rattle.std.specs.Prelude.{◌≡◌, ℕ, ◌==◌, nat_lt, if◌then◌else◌, Option, Some, None}
+use Rattle.std.specs.Prelude.{ℕ, ◌==◌, nat_lt, if◌then◌else◌, Option, Some, None}
 use Rattle.gx_words.specs.Numbers.{IsWidth}
 use Rattle.gx_rows.specs.declared.instructions.Row.{Row}
 use Rattle.gx_rows.specs.declared.modes.Addressing.{Addressing}

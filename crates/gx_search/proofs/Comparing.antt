@@ -1,5 +1,5 @@
 -- One byte of two keys that are compared.
-use Rattle.std.proofs.Common.{◌≡◌, ◌≢◌, inl, inr, ◌==◌, ◌||◌, ◌≤◌, ◌<◌, ◌+◌, ℕ, true, List, length, get_or, drop, refl, ap, sym, ◌∙◌, arith}
+use Rattle.std.proofs.Common.{◌≡◌, ◌≢◌, inl, inr, ◌==◌, ◌||◌, ◌≤◌, ◌<◌, ◌+◌, ℕ, true, List, length, get_or, take, drop, refl, ap, sym, ◌∙◌, arith}
 use Rattle.std.specs.Ordering.{nat_cmp, is_eq, ordering_then}
 use Rattle.std.specs.Str.{bytes_eq}
 use Rattle.std.proofs.lemmas.Map.Text.{is_eq-slice_cmp}
@@ -9,13 +9,14 @@ use Rattle.std.proofs.lemmas.List.{length-take, length-drop, drop_more}
 use Rattle.std.proofs.lemmas.Bool.{or_cases, and_parts, both_ways, not-true, cond_both, eqb-true, leb-true}
 use Rattle.gx_words.specs.Numbers.{bytes_of_number}
 use Rattle.gx_search.specs.declared.asks.Ask.{Ask}
-use Rattle.gx_search.specs.Keys.{is_indirect, has_size, is_there, bytes_at, sought, key_address, key_at, can_probe}
+use Rattle.gx_search.specs.Constants.{key_indirect}
+use Rattle.gx_search.specs.Keys.{has_option, has_size, is_inside, sought_key, key_address, key_at, can_probe}
 use Rattle.std.proofs.lemmas.Bool.Decides.{nat_tests}
 use Rattle.std.proofs.lemmas.Slice.Eq.{bytes_eq-Decides}
 
 -- ---- the bytes of a key
 
-length_bytes : (m : List ℕ) (at n : ℕ) → is_there m at n ≡ true → length (bytes_at m at n) ≡ n
+length_bytes : (m : List ℕ) (at n : ℕ) → is_inside m at n ≡ true → length (take n (drop at m)) ≡ n
 length_bytes m at n there =
     elim (or_cases _ _ there) [
       | inl none ↦ let none : n ≡ 0 = eqb-true _ _ none in rw none refl
@@ -27,9 +28,9 @@ length_bytes m at n there =
 length_number : (n v : ℕ) → (n == 1 || n == 2 || n == 4) ≡ true → length (bytes_of_number n v) ≡ n
 length_number n v width = grind (arith, nat_tests)
 
-pub sought_length : (m : List ℕ) (q : Ask) (at : ℕ) → can_probe m q at ≡ true → has_size q ≡ true → length (sought m q) ≡ q.key_size
+pub sought_length : (m : List ℕ) (q : Ask) (at : ℕ) → can_probe m q at ≡ true → has_size q ≡ true → length (sought_key m q) ≡ q.key_size
 sought_length m q at there sized =
-    cond_both (is_indirect q) _ _ (λ (key : List ℕ). length key ≡ q.key_size)
+    cond_both (has_option q key_indirect) _ _ (λ (key : List ℕ). length key ≡ q.key_size)
     (λ indirect. elim (or_cases _ _ (and_parts _ _ there).0) [
       | inl direct ↦ absurd (both_ways _ (not-true _ direct) indirect)
       | inr inside ↦ length_bytes m q.key q.key_size inside

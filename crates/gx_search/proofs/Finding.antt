@@ -10,8 +10,8 @@ use Rattle.gx_search.specs.declared.asks.Found.TheVariants.{At, Nothing, More}
 use Rattle.gx_search.specs.declared.keys.Seen.TheVariants.{Match, Zero, Other}
 use Rattle.gx_search.specs.declared.turns.Layout.{Layout}
 use Rattle.gx_search.specs.Keys.{has_size, probe}
-use Rattle.gx_search.specs.Searches.{Struct, Search, with_probe, next_of, address_of, is_past, place_of, at_struct}
-use Rattle.gx_search.specs.Searches.{search_from, search_of}
+use Rattle.gx_search.specs.Searches.{Struct, Search, with_probe, next_address, address_of, is_past, struct_of_index, at_struct}
+use Rattle.gx_search.specs.Searches.{search_from, search_of, linear, linked}
 use Rattle.gx_search.specs.Finding.{found_by, found_within, ArePassed, IsFound}
 use Rattle.gx_search.proofs.Within.{IsAfter, after_none, after_one, ended_within, spent_within}
 
@@ -21,15 +21,15 @@ pub address_first : (l : Layout) (m : List ℕ) (q : Ask) → address_of l m q 0
 unfolding address_of
 address_first l m q = refl
 
-address_after : (l : Layout) (m : List ℕ) (q : Ask) (i at : ℕ) → address_of l m q i ≡ Ok at → address_of l m q (i + 1) ≡ next_of l m q at
+address_after : (l : Layout) (m : List ℕ) (q : Ask) (i at : ℕ) → address_of l m q i ≡ Ok at → address_of l m q (i + 1) ≡ next_address l m q at
 unfolding address_of
 address_after l m q i at here = let turn : i + 1 ≡ suc i = omega arith in rw (turn, here) refl
 
-pub address_next : (l : Layout) (m : List ℕ) (q : Ask) (i at next : ℕ) → address_of l m q i ≡ Ok at → next_of l m q at ≡ Ok next → address_of l m q (i + 1) ≡ Ok next
+pub address_next : (l : Layout) (m : List ℕ) (q : Ask) (i at next : ℕ) → address_of l m q i ≡ Ok at → next_address l m q at ≡ Ok next → address_of l m q (i + 1) ≡ Ok next
 address_next l m q i at next here link = rw (address_after l m q i at here) link
 
-is_place : (l : Layout) (m : List ℕ) (q : Ask) (i at : ℕ) → address_of l m q i ≡ Ok at → is_past l q i at ≡ false → place_of l m q i ≡ Ok (Some at)
-unfolding place_of
+is_place : (l : Layout) (m : List ℕ) (q : Ask) (i at : ℕ) → address_of l m q i ≡ Ok at → is_past l q i at ≡ false → struct_of_index l m q i ≡ Ok (Some at)
+unfolding struct_of_index
 is_place l m q i at here on = rw (here, on) refl
 
 -- ---- what is found, by each end of a search
@@ -53,7 +53,7 @@ unfolding IsFound
 found_zeros l m q bound i at below here on sees h = inr (i, at, below, (is_place l m q i at here on, sees), refl, h)
 
 pub found_end : (l : Layout) (m : List ℕ) (q : Ask) (bound i at : ℕ) → ArePassed l m q i → address_of l m q i ≡ Ok at → is_past l q i at ≡ true → i ≤ bound → IsFound l m q bound (Ok (Nothing i))
-unfolding IsFound place_of
+unfolding IsFound struct_of_index
 found_end l m q bound i at below here past h = inl (below, rw (here, past) refl, h)
 
 pub found_more : (l : Layout) (m : List ℕ) (q : Ask) (bound i at : ℕ) → ArePassed l m q i → address_of l m q i ≡ Ok at → is_past l q i at ≡ false → i ≡ bound → IsFound l m q bound (Ok More)
@@ -65,9 +65,9 @@ pub found_fault : (l : Layout) (m : List ℕ) (q : Ask) (bound i at : ℕ) (e : 
 unfolding IsFound
 found_fault l m q bound i at e below here on fault h = (i, below, inr (at, is_place l m q i at here on, fault, h))
 
-pub found_cut : (l : Layout) (m : List ℕ) (q : Ask) (bound i at : ℕ) (e : Fault) → ArePassed l m q i → address_of l m q i ≡ Ok at → is_past l q i at ≡ false → probe m q at ≡ Ok Other → next_of l m q at ≡ Err e → i < bound
+pub found_cut : (l : Layout) (m : List ℕ) (q : Ask) (bound i at : ℕ) (e : Fault) → ArePassed l m q i → address_of l m q i ≡ Ok at → is_past l q i at ≡ false → probe m q at ≡ Ok Other → next_address l m q at ≡ Err e → i < bound
     → IsFound l m q bound (Err e)
-unfolding IsFound place_of
+unfolding IsFound struct_of_index
 found_cut l m q bound i at e below here on sees link h = (i + 1, passed_more l m q i at below here on sees, inl (rw (address_after l m q i at here, link) refl, omega arith))
 
 pub ruleset finding = (address_first, address_next, passed_none, passed_more, found_match, found_zeros, found_end, found_more, found_fault, found_cut)
@@ -88,13 +88,13 @@ passed_is l m q (suc i) left n below is =
     (after_one i (search_from l m q n 0) (search_from l m q left (i + 1)) (subst (IsAfter i (search_from l m q n 0)) turn before))
 
 -- the whole search, from an index that it comes to
-comes_to : (l : Layout) (m : List ℕ) (q : Ask) (i n : ℕ) → i < n → ArePassed l m q i → (rest : Search) × IsAfter i (search_from l m q n 0) (at_struct m q i rest (place_of l m q i))
+comes_to : (l : Layout) (m : List ℕ) (q : Ask) (i n : ℕ) → i < n → ArePassed l m q i → (rest : Search) × IsAfter i (search_from l m q n 0) (at_struct m q i rest (struct_of_index l m q i))
 unfolding search_from
 comes_to l m q i n h below =
     (search_from l m q (n - (i + 1)) (i + 1), passed_is l m q i (suc (n - (i + 1))) n below (omega arith))
 
 ends_at : (l : Layout) (m : List ℕ) (q : Ask) (bound i n last : ℕ) (r : Result (Option Struct) Fault) → i < n → ArePassed l m q i
-    → ((rest : Search) → ((at_struct m q i rest (place_of l m q i)).outcome ≡ r) × (i + (at_struct m q i rest (place_of l m q i)).probes ≡ last)) → last ≤ bound
+    → ((rest : Search) → ((at_struct m q i rest (struct_of_index l m q i)).outcome ≡ r) × (i + (at_struct m q i rest (struct_of_index l m q i)).probes ≡ last)) → last ≤ bound
     → found_within bound (search_from l m q n 0) ≡ (r >>= (λ (s : Option Struct). Ok (found_by last s)))
 ends_at l m q bound i n last r h below ends within =
     let to = comes_to l m q i n h below in
@@ -125,3 +125,12 @@ reads_by (Err e) defined takes is = (is, takes)
 pub searched_is : (l : Layout) (m : List ℕ) (q : Ask) (bound : ℕ) (r : Result Found Fault) → has_size q ≡ true → bound < 2 ^ 64 → IsFound l m q bound r → TakesNone r
     → Reads (λ (found : Found). found) r (found_within bound (search_of l m q))
 searched_is l m q bound r sized h found takes = reads_by r _ takes (rw sized (search_is l m q bound (2 ^ 64) r h found))
+
+-- what the proof of a whole search opens
+unfoldable pub searching_row : Unit {0}
+unfolding linear found_within
+searching_row = tt
+
+unfoldable pub searching_list : Unit {0}
+unfolding linked found_within
+searching_list = tt

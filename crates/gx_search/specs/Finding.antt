@@ -8,8 +8,8 @@ use Rattle.gx_search.specs.declared.asks.Found.TheVariants.{At, Nothing, More}
 use Rattle.gx_search.specs.declared.keys.Seen.{Seen}
 use Rattle.gx_search.specs.declared.keys.Seen.TheVariants.{Match, Zero, Other}
 use Rattle.gx_search.specs.declared.turns.Layout.{Layout}
-use Rattle.gx_search.specs.Keys.{probe, sought, key_at}
-use Rattle.gx_search.specs.Searches.{Struct, Search, place_of}
+use Rattle.gx_search.specs.Keys.{probe, sought_key, key_at}
+use Rattle.gx_search.specs.Searches.{Struct, Search, struct_of_index}
 use Rattle.std.specs.Ordering.{nat_cmp}
 use Rattle.std.specs.declared.cmp.Ordering.TheVariants.{Less}
 use Rattle.std.specs.Cmp.Lexicographic.{slice_cmp}
@@ -29,7 +29,7 @@ found_within bound whole =
 
 -- the struct of an index is at an address, and its probe sees this
 abbrev pub IsSeen : Layout → List ℕ → Ask → ℕ → ℕ → Seen → Type 0
-IsSeen l memory ask i at what = (place_of l memory ask i ≡ Ok (Some at)) × (probe memory ask at ≡ Ok what)
+IsSeen l memory ask i at what = (struct_of_index l memory ask i ≡ Ok (Some at)) × (probe memory ask at ≡ Ok what)
 
 -- each probe below an index has no fault, and sees neither the key nor zeros that end the search
 unfoldable pub ArePassed : Layout → List ℕ → Ask → ℕ → Type 0
@@ -43,15 +43,15 @@ IsFound l memory ask bound (Ok (At address index probes)) =
     (i : ℕ) × ArePassed l memory ask i × IsSeen l memory ask i address Match × (index ≡ i % 2 ^ 32) × (probes ≡ i + 1)
     × (i < bound)
 IsFound l memory ask bound (Ok (Nothing probes)) =
-    (ArePassed l memory ask probes × (place_of l memory ask probes ≡ Ok None) × (probes ≤ bound))
+    (ArePassed l memory ask probes × (struct_of_index l memory ask probes ≡ Ok None) × (probes ≤ bound))
     ⊎ ((i : ℕ) × (at : ℕ) × ArePassed l memory ask i × IsSeen l memory ask i at Zero × (probes ≡ i + 1)
     × (i < bound))
 IsFound l memory ask bound (Ok More) =
-    (at : ℕ) × ArePassed l memory ask bound × (place_of l memory ask bound ≡ Ok (Some at))
+    (at : ℕ) × ArePassed l memory ask bound × (struct_of_index l memory ask bound ≡ Ok (Some at))
 IsFound l memory ask bound (Err e) =
     (i : ℕ) × ArePassed l memory ask i
-    × (((place_of l memory ask i ≡ Err e) × (i ≤ bound))
-    ⊎ ((at : ℕ) × (place_of l memory ask i ≡ Ok (Some at)) × (probe memory ask at ≡ Err e) × (i < bound)))
+    × (((struct_of_index l memory ask i ≡ Err e) × (i ≤ bound))
+    ⊎ ((at : ℕ) × (struct_of_index l memory ask i ≡ Ok (Some at)) × (probe memory ask at ≡ Err e) × (i < bound)))
 
 -- the key of the struct of an index
 abbrev pub key_in_row : List ℕ → Ask → ℕ → List ℕ
@@ -65,8 +65,8 @@ IsRisingRow memory ask =
 -- What a search of a row of rising keys found: a struct with the key, or that none has it.
 unfoldable pub IsFoundInRow : List ℕ → Ask → Result Found Fault → Type 0
 IsFoundInRow memory ask (Ok (At address index probes)) =
-    (index < ask.count) × (address ≡ struct_at ask index) × (key_in_row memory ask index ≡ sought memory ask)
+    (index < ask.count) × (address ≡ struct_at ask index) × (key_in_row memory ask index ≡ sought_key memory ask)
 IsFoundInRow memory ask (Ok (Nothing probes)) =
-    IsRisingRow memory ask → (i : ℕ) → i < ask.count → key_in_row memory ask i ≢ sought memory ask
+    IsRisingRow memory ask → (i : ℕ) → i < ask.count → key_in_row memory ask i ≢ sought_key memory ask
 IsFoundInRow memory ask (Ok More) = Unit {0}
 IsFoundInRow memory ask (Err e) = Unit {0}

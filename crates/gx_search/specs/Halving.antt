@@ -20,9 +20,6 @@ has_all_keys memory ask =
 abbrev pub struct_at : Ask → ℕ → ℕ
 struct_at ask i = (ask.start + i * ask.struct_size) % 2 ^ 32
 
-abbrev pub middle : ℕ → ℕ → ℕ
-middle low high = (low + high) / 2
-
 -- what the probe of a struct makes of the search: it ends, or goes on below the struct or above it
 abbrev pub after_order : Struct → Search → Search → Result Ordering Fault → Search
 after_order s below above (Ok Less) = below
@@ -34,7 +31,7 @@ after_order s below above (Err e) = no_probe (Err e)
 unfoldable pub halving : List ℕ → Ask → ℕ → ℕ → ℕ → Search
 halving memory ask zero low high = no_probe (Ok None)
 halving memory ask (suc left) low high =
-    let index = middle low high in
+    let index = (low + high) / 2 in
     let at = struct_at ask index in
     if nat_lt low high
     then with_probe

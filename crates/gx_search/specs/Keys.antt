@@ -18,56 +18,47 @@ use Rattle.gx_search.specs.declared.keys.Seen.TheVariants.{Match, Zero, Other}
 abbrev pub has_option : Ask → ℕ → Bool
 has_option ask option = ask.options / option % 2 == 1
 
--- the key is the bytes at an address
-abbrev pub is_indirect : Ask → Bool
-is_indirect ask = has_option ask key_indirect
-
--- a key of zeros ends the search
-abbrev pub stops_at_zero : Ask → Bool
-stops_at_zero ask = has_option ask zero_key_terminates
-
--- a key that isn't at an address has 1, 2 or 4 bytes
+-- KeyIndirect: the key is the bytes at an address; one that isn't has 1, 2 or 4 bytes
 abbrev pub has_size : Ask → Bool
-has_size ask = is_indirect ask || (ask.key_size == 1 || ask.key_size == 2 || ask.key_size == 4)
+has_size ask = has_option ask key_indirect || (ask.key_size == 1 || ask.key_size == 2 || ask.key_size == 4)
 
 -- so many bytes from an address on lie in memory; where they are none, any address will do
-abbrev pub is_there : List ℕ → ℕ → ℕ → Bool
-is_there memory at count = count == 0 || nat_le (at + count) (length memory)
-
-abbrev pub bytes_at : List ℕ → ℕ → ℕ → List ℕ
-bytes_at memory at count = take count (drop at memory)
+abbrev pub is_inside : List ℕ → ℕ → ℕ → Bool
+is_inside memory at count = count == 0 || nat_le (at + count) (length memory)
 
 -- the key that is looked for
-abbrev pub sought : List ℕ → Ask → List ℕ
-sought memory ask =
-    if is_indirect ask then bytes_at memory ask.key ask.key_size else bytes_of_number ask.key_size ask.key
+abbrev pub sought_key : List ℕ → Ask → List ℕ
+sought_key memory ask =
+    if has_option ask key_indirect then take ask.key_size (drop ask.key memory)
+    else bytes_of_number ask.key_size ask.key
 
 -- the address of the key of the struct at an address, and its bytes
 abbrev pub key_address : Ask → ℕ → ℕ
 key_address ask at = (at + ask.key_offset) % 2 ^ 32
 
 abbrev pub key_at : List ℕ → Ask → ℕ → List ℕ
-key_at memory ask at = bytes_at memory (key_address ask at) ask.key_size
+key_at memory ask at = take ask.key_size (drop (key_address ask at) memory)
 
 -- all bytes that a probe of the struct at an address looks at are in memory
 abbrev pub can_probe : List ℕ → Ask → ℕ → Bool
 can_probe memory ask at =
-    (not (is_indirect ask) || is_there memory ask.key ask.key_size) && is_there memory (key_address ask at) ask.key_size
+    (not (has_option ask key_indirect) || is_inside memory ask.key ask.key_size)
+    && is_inside memory (key_address ask at) ask.key_size
 
--- what a probe sees of a key: a match counts first
+-- what a probe sees of a key: a match counts first, and ZeroKeyTerminates: a key of zeros ends the search
 abbrev pub seen : Ask → List ℕ → List ℕ → Seen
 seen ask key there =
     if bytes_eq key there then Match else
-    if stops_at_zero ask && list_all (λ b. b == 0) there then Zero else
+    if has_option ask zero_key_terminates && list_all (λ b. b == 0) there then Zero else
     Other
 
 -- the probe of the struct at an address
 unfoldable pub probe : List ℕ → Ask → ℕ → Result Seen Fault
 probe memory ask at =
-    if can_probe memory ask at then Ok (seen ask (sought memory ask) (key_at memory ask at)) else Err BadAddress
+    if can_probe memory ask at then Ok (seen ask (sought_key memory ask) (key_at memory ask at)) else Err BadAddress
 
 -- the same for an order of keys, which is that of their first bytes that differ, read as unsigned
 unfoldable pub compared : List ℕ → Ask → ℕ → Result Ordering Fault
 compared memory ask at =
-    if can_probe memory ask at then Ok (slice_cmp nat_cmp (sought memory ask) (key_at memory ask at))
+    if can_probe memory ask at then Ok (slice_cmp nat_cmp (sought_key memory ask) (key_at memory ask at))
     else Err BadAddress

@@ -35,16 +35,16 @@ with_probe rest = record rest { probes = rest.probes + 1 }
 -- ONE STRUCT AFTER ANOTHER
 
 -- the address after that of a struct: a row has the next struct there, and in a list a struct holds it
-unfoldable pub next_of : Layout → List ℕ → Ask → ℕ → Result ℕ Fault
-next_of layout.Row memory ask at = Ok ((at + ask.struct_size) % 2 ^ 32)
-next_of layout.List memory ask at = number_in 4 memory ((at + ask.next_offset) % 2 ^ 32)
+unfoldable pub next_address : Layout → List ℕ → Ask → ℕ → Result ℕ Fault
+next_address layout.Row memory ask at = Ok ((at + ask.struct_size) % 2 ^ 32)
+next_address layout.List memory ask at = number_in 4 memory ((at + ask.next_offset) % 2 ^ 32)
 
 -- the address of an index, to which so many steps lead from the start
 unfoldable pub address_of : Layout → List ℕ → Ask → ℕ → Result ℕ Fault
 address_of l memory ask zero = Ok ask.start
 address_of l memory ask (suc i) = do
   at ← address_of l memory ask i
-  next_of l memory ask at
+  next_address l memory ask at
 
 -- a row has `count` structs, and no end where that is FFFFFFFF; address 0 ends a list
 unfoldable pub is_past : Layout → Ask → ℕ → ℕ → Bool
@@ -52,8 +52,8 @@ is_past layout.Row ask i at = not (ask.count == 0xFFFFFFFF) && nat_le ask.count 
 is_past layout.List ask i at = at == 0
 
 -- the address of the struct of an index; None past the last
-unfoldable pub place_of : Layout → List ℕ → Ask → ℕ → Result (Option ℕ) Fault
-place_of l memory ask i = do
+unfoldable pub struct_of_index : Layout → List ℕ → Ask → ℕ → Result (Option ℕ) Fault
+struct_of_index l memory ask i = do
   at ← address_of l memory ask i
   Ok (if is_past l ask i at then None else Some at)
 
@@ -74,7 +74,7 @@ at_struct memory ask i rest (Err e) = no_probe (Err e)
 unfoldable pub search_from : Layout → List ℕ → Ask → ℕ → ℕ → Search
 search_from l memory ask zero i = no_probe (Ok None)
 search_from l memory ask (suc left) i =
-    at_struct memory ask i (search_from l memory ask left (i + 1)) (place_of l memory ask i)
+    at_struct memory ask i (search_from l memory ask left (i + 1)) (struct_of_index l memory ask i)
 
 -- A search without an end begins 2^64 probes, more than any call may.
 abbrev pub search_of : Layout → List ℕ → Ask → Search

@@ -1,9 +1,9 @@
 //! The search of a row of rising keys, which halves it each time.
-ghost use Rattle.std.specs.Prelude.{◌≡◌, ◌≢◌, ◌≤◌, IsTrue, Ok};
+ghost use Rattle.std.specs.Prelude.{◌≡◌, ◌≢◌, ◌≤◌, ◌+◌, ◌/◌, IsTrue, Ok};
 ghost use Rattle.gx_words.specs.Faults.{Reads};
 ghost use Rattle.gx_search.specs.Keys.{has_size};
 ghost use Rattle.gx_search.specs.Finding.{found_within, IsFoundInRow};
-ghost use Rattle.gx_search.specs.Halving.{has_all_keys, struct_at, middle, halving, binary};
+ghost use Rattle.gx_search.specs.Halving.{has_all_keys, struct_at, halving, binary};
 ghost use Rattle.gx_search.specs.declared.asks.Found.TheVariants.{More};
 
 use crate::keys::{compared, has_size};
@@ -34,7 +34,7 @@ fn struct_at(ask: &Ask, i: u32) -> u32
 /// The index in the middle of those from `low` to below `high`.
 fn middle(low: u32, high: u32) -> u32
     requires { low ≤ high }
-    ensures { result ≡ middle low high }
+    ensures { result ≡ (low + high) / 2 }
 {
     low + (high - low) / 2
 }
@@ -81,7 +81,7 @@ fn search_half<A: Allocator + Clone>(
 /// the key, are in memory.
 ///
 /// It is `More` exactly where more than `bound` probes would begin.
-#[tactic(auto, unfolding(crate::specs::Halving::binary, crate::specs::Finding::IsFoundInRow, crate::specs::Finding::found_within))]
+#[tactic(auto, unfolding(crate::proofs::Halvings::halving_row))]
 pub fn binary<A: Allocator + Clone>(
     memory: &Pages<A>,
     ask: &Ask,

@@ -1,14 +1,15 @@
 //! One probe: the comparison of the key with that of one struct.
 //!
 //! No byte is copied; where the key has no bytes, none is looked at.
-ghost use Rattle.std.specs.Prelude.{◌≡◌, ◌+◌, ◌<◌, ◌≤◌, IsTrue, length, slice_index, ◌==◌};
+ghost use Rattle.std.specs.Prelude.{◌≡◌, ◌+◌, ◌<◌, IsTrue, length, slice_index, ◌==◌};
 ghost use Rattle.std.specs.List.{list_all};
 ghost use Rattle.std.specs.Str.{bytes_eq};
 ghost use Rattle.std.specs.Ordering.{nat_cmp};
 ghost use Rattle.std.specs.Cmp.Lexicographic.{slice_cmp};
 ghost use Rattle.gx_words.specs.Faults.{Reads};
 ghost use Rattle.gx_words.specs.Numbers.{byte};
-ghost use Rattle.gx_search.specs.Keys.{is_indirect, stops_at_zero, has_size, is_there, sought, key_at, can_probe};
+ghost use Rattle.gx_search.specs.Constants.{key_indirect, zero_key_terminates};
+ghost use Rattle.gx_search.specs.Keys.{has_option, has_size, is_inside, sought_key, key_at, can_probe};
 ghost use Rattle.gx_search.specs.Keys.{probe, compared};
 
 use crate::{Ask, KEY_INDIRECT, ZERO_KEY_TERMINATES};
@@ -31,7 +32,7 @@ pub enum Seen {
 /// Whether the key is at an address.
 #[inline(always)]
 fn is_indirect(ask: &Ask) -> bool
-    ensures { result ≡ is_indirect ask.now }
+    ensures { result ≡ has_option ask.now key_indirect }
 {
     ask.has(KEY_INDIRECT)
 }
@@ -39,7 +40,7 @@ fn is_indirect(ask: &Ask) -> bool
 /// Whether zeros end the search.
 #[inline(always)]
 fn stops_at_zero(ask: &Ask) -> bool
-    ensures { result ≡ stops_at_zero ask.now }
+    ensures { result ≡ has_option ask.now zero_key_terminates }
 {
     ask.has(ZERO_KEY_TERMINATES)
 }
@@ -53,8 +54,8 @@ pub fn has_size(ask: &Ask) -> bool
 
 /// Whether so many bytes from an address on are in memory.
 #[inline(always)]
-fn is_there<A: Allocator + Clone>(memory: &Pages<A>, at: u32, count: u32) -> bool
-    ensures { result ≡ is_there memory.now at count }
+fn is_inside<A: Allocator + Clone>(memory: &Pages<A>, at: u32, count: u32) -> bool
+    ensures { result ≡ is_inside memory.now at count }
 {
     count == 0 || u64::from(at) + u64::from(count) <= u64::from(memory.size())
 }
@@ -64,8 +65,8 @@ fn is_there<A: Allocator + Clone>(memory: &Pages<A>, at: u32, count: u32) -> boo
 fn can_probe<A: Allocator + Clone>(memory: &Pages<A>, ask: &Ask, at: u32) -> bool
     ensures { result ≡ can_probe memory.now ask.now at }
 {
-    (!is_indirect(ask) || is_there(memory, ask.key, ask.key_size))
-        && is_there(memory, at.wrapping_add(ask.key_offset), ask.key_size)
+    (!is_indirect(ask) || is_inside(memory, ask.key, ask.key_size))
+        && is_inside(memory, at.wrapping_add(ask.key_offset), ask.key_size)
 }
 
 /// The byte so many places after an address.
@@ -84,7 +85,7 @@ fn sought_byte<A: Allocator + Clone>(memory: &Pages<A>, ask: &Ask, at: u32, i: u
     requires there { IsTrue (can_probe memory.now ask.now at) }
     requires sized { IsTrue (has_size ask.now) }
     requires inside { i < ask.now.key_size }
-    ensures { result ≡ slice_index (sought memory.now ask.now) i }
+    ensures { result ≡ slice_index (sought_key memory.now ask.now) i }
 {
     if is_indirect(ask) {
         byte_after(memory, ask.key, i)
@@ -108,7 +109,7 @@ fn key_byte<A: Allocator + Clone>(memory: &Pages<A>, ask: &Ask, at: u32, i: u32)
 fn order<A: Allocator + Clone>(memory: &Pages<A>, ask: &Ask, at: u32) -> Ordering
     requires there { IsTrue (can_probe memory.now ask.now at) }
     requires sized { IsTrue (has_size ask.now) }
-    ensures { result ≡ slice_cmp nat_cmp (sought memory.now ask.now) (key_at memory.now ask.now at) }
+    ensures { result ≡ slice_cmp nat_cmp (sought_key memory.now ask.now) (key_at memory.now ask.now at) }
 {
     for i in 0..ask.key_size {
         let key = sought_byte(memory, ask, at, i);
@@ -126,7 +127,7 @@ fn order<A: Allocator + Clone>(memory: &Pages<A>, ask: &Ask, at: u32) -> Orderin
 fn has_last<A: Allocator + Clone>(memory: &Pages<A>, ask: &Ask, at: u32) -> bool
     requires there { IsTrue (can_probe memory.now ask.now at) }
     requires sized { IsTrue (has_size ask.now) }
-    ensures { IsTrue (bytes_eq (sought memory.now ask.now) (key_at memory.now ask.now at)) → IsTrue result }
+    ensures { IsTrue (bytes_eq (sought_key memory.now ask.now) (key_at memory.now ask.now at)) → IsTrue result }
 {
     if ask.key_size == 0 {
         return true;
@@ -141,7 +142,7 @@ fn has_last<A: Allocator + Clone>(memory: &Pages<A>, ask: &Ask, at: u32) -> bool
 fn is_match<A: Allocator + Clone>(memory: &Pages<A>, ask: &Ask, at: u32) -> bool
     requires there { IsTrue (can_probe memory.now ask.now at) }
     requires sized { IsTrue (has_size ask.now) }
-    ensures { result ≡ bytes_eq (sought memory.now ask.now) (key_at memory.now ask.now at) }
+    ensures { result ≡ bytes_eq (sought_key memory.now ask.now) (key_at memory.now ask.now at) }
 {
     has_last(memory, ask, at) && order(memory, ask, at).is_eq()
 }

@@ -2,7 +2,7 @@
 ghost use Rattle.std.specs.Prelude.{◌≡◌, IsTrue};
 ghost use Rattle.gx_words.specs.Faults.{Reads, TakesNone};
 ghost use Rattle.gx_search.specs.Keys.{has_size};
-ghost use Rattle.gx_search.specs.Searches.{next_of, is_past, linear, linked};
+ghost use Rattle.gx_search.specs.Searches.{next_address, is_past, linear, linked};
 ghost use Rattle.gx_search.specs.Finding.{found_within, IsFound};
 
 use crate::keys::{Seen, has_size, probe};
@@ -33,7 +33,7 @@ fn is_past(ask: &Ask, layout: Layout, i: u64, at: u32) -> bool
 }
 
 /// The address after that of a struct.
-#[tactic(auto, unfolding(crate::specs::Searches::next_of))]
+#[tactic(auto, unfolding(crate::specs::Searches::next_address))]
 #[inline(always)]
 fn next<A: Allocator + Clone>(
     memory: &Pages<A>,
@@ -41,7 +41,7 @@ fn next<A: Allocator + Clone>(
     layout: Layout,
     at: u32,
 ) -> Result<u32, Fault>
-    ensures { Reads (λ next. next) result (next_of layout memory.now ask.now at) }
+    ensures { Reads (λ next. next) result (next_address layout memory.now ask.now at) }
 {
     match layout {
         Layout::Row => Ok(at.wrapping_add(ask.struct_size)),
@@ -87,7 +87,7 @@ fn search<A: Allocator + Clone>(
 /// size that isn't allowed, and `BadAddress` where a probe looks at a byte that isn't in memory.
 ///
 /// It is `More` exactly where more than `bound` probes would begin.
-#[tactic(auto, unfolding(crate::specs::Searches::linear, crate::specs::Finding::found_within), using(crate::proofs::Finding::searched_is))]
+#[tactic(auto, unfolding(crate::proofs::Finding::searching_row), using(crate::proofs::Finding::searched_is))]
 pub fn linear<A: Allocator + Clone>(
     memory: &Pages<A>,
     ask: &Ask,
@@ -108,7 +108,7 @@ pub fn linear<A: Allocator + Clone>(
 /// isn't in memory.
 ///
 /// It is `More` exactly where more than `bound` probes would begin.
-#[tactic(auto, unfolding(crate::specs::Searches::linked, crate::specs::Finding::found_within), using(crate::proofs::Finding::searched_is))]
+#[tactic(auto, unfolding(crate::proofs::Finding::searching_list), using(crate::proofs::Finding::searched_is))]
 pub fn linked<A: Allocator + Clone>(
     memory: &Pages<A>,
     ask: &Ask,

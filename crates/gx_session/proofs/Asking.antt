@@ -36,13 +36,22 @@ use Rattle.gx_session.specs.Constants.{piece}
 use Rattle.gx_session.specs.declared.questions.Question.{Question}
 use Rattle.gx_session.specs.declared.questions.Question.TheVariants as asks-for
 use Rattle.gx_session.specs.declared.running.Waiting.{Waiting}
-use Rattle.gx_session.specs.Cuts.{IsLineStop, IsWait, request_of, BeginsSave, ReplyWants, AnswerWants, TurnWants, RestoreWants, AskingWants, WantsMemory}
+use Rattle.gx_session.specs.Cuts.{IsLineStop, request_in}
+use Rattle.gx_session.specs.Wants.{IsWait, BeginsSave, ReplyWants, TurnWants, RestoreWants, AskingWants}
+use Rattle.gx_session.specs.Wants.{WantsMemory}
 use Rattle.gx_session.specs.Input.{NextLine, line, next_line}
 use Rattle.gx_session.specs.Questions.{turn_of, request_for}
 use Rattle.gx_session.specs.Reading.{ReadsFew}
-use Rattle.gx_session.specs.Saving.{is_begun, is_read, saving, restoring, IsReadBack}
-use Rattle.gx_session.specs.Session.{Configuration, Doing, steps, asks, goes_on, goes, stops, after_reply, after_restoring, waiting_for, asking_for, after_turn, after_given, after_line, after_asking, given_of, shelf_gives, after_effect, act_of, effect_at, asked, asked_at}
-use Rattle.gx_session.specs.Playing.{SendStep, Handed, Held, WordIs, Past, configuration_of, IsPast, Standing, Ready, Going, Waits, Done, Early, Follows, Resumes, Replies, Turns, GoesOn, TakesInput, EventGives, FaultGives}
+use Rattle.gx_session.specs.Saving.{is_save_begun, is_restore_begun, saving, restoring, IsReadBack}
+use Rattle.gx_session.specs.Configurations.{Configuration, Phase, steps, asks, goes_on, goes, stops}
+use Rattle.gx_session.specs.Moves.{after_reply, after_restoring, waiting_for, asking_for, after_turn, after_given}
+use Rattle.gx_session.specs.Moves.{after_line, after_asking, given_of, shelf_gives, after_effect, act_of}
+use Rattle.gx_session.specs.Asked.{effect_at, asked, asked_at}
+use Rattle.gx_session.specs.Holding.{SendStep, Handed, HeldRun, WordIs, History, configuration_of, IsHistory}
+use Rattle.gx_session.specs.Standing.{Standing, Ready, Going, IsInCall, HasStopped, Early, Follows, Resumes}
+use Rattle.gx_session.specs.Standing.{ResumesWithReply, TakesTurn, GoesOn, TakesInput}
+use Rattle.gx_session.specs.Outcomes.{EventGives, FaultGives}
+use Rattle.gx_session.proofs.Parts.{AnswerWants}
 use Rattle.gx_session.proofs.Calling.{answered-and}
 use Rattle.gx_session.proofs.Steps.{step-does, step-faults, step-asks, step-effect, step-asks-nothing, ok-is, asked-same}
 use Rattle.gx_session.proofs.NextLines.{some-input, shorter-input}
@@ -72,8 +81,8 @@ word-drawn : (word : ℕ) (mine : Option ℕ) (stream words : Stream) → mine �
 word-drawn word mine stream words drawn is = subst (λ (w : Option ℕ). WordIs w stream words) drawn is
 
 -- a fault stops the run where it isn't want of memory
-pub fault-gives : {K : Type 0} {sending : SendStep K} → (start : Configuration) (entry : Handed sending) (h : Held) (asking : Option Asking) (d : Handed sending) (f : Fault) (result : Result Next Halt) → FaultGives f result
-    → (f ≡ fault.NoMemory → Early start entry h asking d halt.NoMemory) → (f ≢ fault.NoMemory → Done start entry h asking d (stop.Faulted f))
+pub fault-gives : {K : Type 0} {sending : SendStep K} → (start : Configuration) (entry : Handed sending) (h : HeldRun) (asking : Option Asking) (d : Handed sending) (f : Fault) (result : Result Next Halt) → FaultGives f result
+    → (f ≡ fault.NoMemory → Early start entry h asking d halt.NoMemory) → (f ≢ fault.NoMemory → HasStopped start entry h asking d (stop.Faulted f))
     → EventGives start entry h asking d result
 fault-gives start entry h asking d f result (inl e) early stopped = subst (EventGives start entry h asking d) (sym e.1) (early e.0)
 fault-gives start entry h asking d f result (inr e) early stopped = subst (EventGives start entry h asking d) (sym e.1) (stopped e.0)
@@ -106,11 +115,11 @@ asking-unlogged effect.Quit log m some = cc
 asking-unlogged effect.Spent log m some = cc
 
 -- what a turn says of a question
-pub request-is : (q : Question) → request_of (turn_of q) ≡ Some (request_for q)
-request-is (asks-for.Load name) = refl
-request-is (asks-for.Store name bytes) = refl
-request-is (asks-for.Remove name) = refl
-request-is (asks-for.Has name) = refl
+pub request-is : (q : Question) (w : Waiting) → request_in (asks (turn_of q) w) ≡ Some (request_for q)
+request-is (asks-for.Load name) w = refl
+request-is (asks-for.Store name bytes) w = refl
+request-is (asks-for.Remove name) w = refl
+request-is (asks-for.Has name) w = refl
 
 pub question-gives : (m : Configuration) (w : Waiting) (q : Question) → after_asking m w (turn_of q) ≡ shelf_gives m w (request_for q)
 question-gives m w (asks-for.Load name) = refl
@@ -163,7 +172,7 @@ answered-is turn.Exit is other = is
 pub sent-before : (sent : List ℕ) (w : FlatWorld) (said : Said) → after (record { scene = w.scene; text = sent ++ w.text }) said ≡ record { scene = (after w said).scene; text = sent ++ (after w said).text }
 sent-before sent w said = ap (λ (x : List ℕ). let y : FlatWorld = record { scene = said.0; text = x } in y) (append_assoc sent w.text said.1)
 
-module _ {K : Type 0} {sending : SendStep K} (start : Configuration) (entry : Handed sending) (h : Held) (d : Handed sending) where
+module _ {K : Type 0} {sending : SendStep K} (start : Configuration) (entry : Handed sending) (h : HeldRun) (d : Handed sending) where
   -- A step was answered with an effect, or refused.
   module _ (asking : Option Asking) (word : ℕ) (drawn : h.word ≡ Some word) (g : Going start entry h d) where
     abbrev m : Configuration
@@ -200,20 +209,20 @@ module _ {K : Type 0} {sending : SendStep K} (start : Configuration) (entry : Ha
         wants start entry h d steps g (record h { machine = machine; log = log }) now (inl (nothing', inr (lack.0, is))) same refl stands refl
 
     pub step-stops : (machine : FlatMachine) (log : Option Log) (f : Fault) (now : Option Asking) → machine ≡ h.machine → log ≡ h.log → now ≡ None → stepped (record { machine = h.machine; asking = asking }) word h.left ≡ Err f
-        → Done start entry (record h { machine = machine; log = log }) now d (stop.Faulted f)
+        → HasStopped start entry (record h { machine = machine; log = log }) now d (stop.Faulted f)
     step-stops machine log f now same stands nothing e =
-        subst (λ (x : FlatMachine). Done start entry (record h { machine = x; log = log }) now d (stop.Faulted f)) (sym same)
-        (subst (λ (l : Option Log). Done start entry (record h { log = l }) now d (stop.Faulted f)) (sym stands)
+        subst (λ (x : FlatMachine). HasStopped start entry (record h { machine = x; log = log }) now d (stop.Faulted f)) (sym same)
+        (subst (λ (l : Option Log). HasStopped start entry (record h { log = l }) now d (stop.Faulted f)) (sym stands)
         (stops-at start entry h d steps g (stop.Faulted f) g.now.past steps h d now g.now.is_past (λ long. g.now.few) (λ wait. g.now.reads)
         (step-faults m asking word first f e) (nothing ∙ sym (step-asks-nothing m asking word first f e))))
 
   module _ (left : ℕ) where
     -- what was done stands
-    stood : (before : FlatMachine) (recorded : Option Log) (p : Past) → IsPast start entry p (record h { machine = before; log = recorded }) d → IsPast start entry p (record h { left = left }) d
+    stood : (before : FlatMachine) (recorded : Option Log) (p : History) → IsHistory start entry p (record h { machine = before; log = recorded }) d → IsHistory start entry p (record h { left = left }) d
     stood before recorded p i = record { taken = i.taken; answers = i.answers; answered = i.answered; word = i.word; left = i.left; fewer = i.fewer; reads = i.reads }
 
     -- the configuration that the step comes to
-    abbrev stepped-to : Past → Option Log → Configuration
+    abbrev stepped-to : History → Option Log → Configuration
     stepped-to p log = configuration_of p steps (record h { left = left; log = log }) d
 
     pub went-on : Follows start entry h d left effect.Went → Going start entry (record h { left = left }) d
@@ -231,8 +240,8 @@ module _ {K : Type 0} {sending : SendStep K} (start : Configuration) (entry : Ha
     drew-on f =
         let g = f.going in
         let i = g.now.is_past in
-        let used : Past = record g.now.past { words = (next_u32 g.now.past.words).1 } in
-        let is : IsPast start entry used (record h { left = left; word = None }) d = record {
+        let used : History = record g.now.past { words = (next_u32 g.now.past.words).1 } in
+        let is : IsHistory start entry used (record h { left = left; word = None }) d = record {
           taken = i.taken;
           answers = i.answers;
           answered = i.answered;
@@ -249,13 +258,13 @@ module _ {K : Type 0} {sending : SendStep K} (start : Configuration) (entry : Ha
           quiet = g.quiet;
         }
 
-    pub quit-on : (asking : Option Asking) → asking ≡ None → Follows start entry h d left effect.Quit → Done start entry (record h { left = left }) asking d stop.Ended
+    pub quit-on : (asking : Option Asking) → asking ≡ None → Follows start entry h d left effect.Quit → HasStopped start entry (record h { left = left }) asking d stop.Ended
     quit-on asking nothing f =
         let g = f.going in
         stops-at start entry (record h { machine = f.before; log = f.recorded }) d steps g stop.Ended g.now.past steps (record h { left = left }) d asking (stood f.before f.recorded g.now.past g.now.is_past) (λ long. g.now.few) (λ wait. g.now.reads)
         (f.event ∙ ap (λ (l : Option Log). stops stop.Ended (stepped-to g.now.past l)) (sym f.logs)) nothing
 
-    pub spent-on : (asking : Option Asking) → asking ≡ None → Follows start entry h d left effect.Spent → Done start entry (record h { left = left }) asking d stop.Spent
+    pub spent-on : (asking : Option Asking) → asking ≡ None → Follows start entry h d left effect.Spent → HasStopped start entry (record h { left = left }) asking d stop.Spent
     spent-on asking nothing f =
         let g = f.going in
         stops-at start entry (record h { machine = f.before; log = f.recorded }) d steps g stop.Spent g.now.past steps (record h { left = left }) d asking (stood f.before f.recorded g.now.past g.now.is_past) (λ long. g.now.few) (λ wait. g.now.reads)
@@ -275,51 +284,51 @@ module _ {K : Type 0} {sending : SendStep K} (start : Configuration) (entry : Ha
         (subst (λ (x : FlatMachine). Asks x f.recorded does) (sym (f.stands some)) at_before)
 
   -- A move from here has a fault.
-  module _ (doing : Doing) (g : Ready start entry h d doing) where
-    pub fault-stops : (f : Fault) (world : FlatWorld) (asking : Option Asking) → world ≡ h.world → asking ≡ asked (here start entry h d doing g.now)
-        → act_of (here start entry h d doing g.now) ≡ stops (stop.Faulted f) (here start entry h d doing g.now) → Done start entry (record h { world = world }) asking d (stop.Faulted f)
+  module _ (phase : Phase) (g : Ready start entry h d phase) where
+    pub fault-stops : (f : Fault) (world : FlatWorld) (asking : Option Asking) → world ≡ h.world → asking ≡ asked (here start entry h d phase g.now)
+        → act_of (here start entry h d phase g.now) ≡ stops (stop.Faulted f) (here start entry h d phase g.now) → HasStopped start entry (record h { world = world }) asking d (stop.Faulted f)
     fault-stops f world asking same asks-is e =
-        subst (λ (x : FlatWorld). Done start entry (record h { world = x }) asking d (stop.Faulted f)) (sym same)
-        (stops-at start entry h d doing g (stop.Faulted f) g.now.past doing h d asking g.now.is_past (λ long. g.now.few) (λ wait. g.now.reads) e asks-is)
+        subst (λ (x : FlatWorld). HasStopped start entry (record h { world = x }) asking d (stop.Faulted f)) (sym same)
+        (stops-at start entry h d phase g (stop.Faulted f) g.now.past phase h d asking g.now.is_past (λ long. g.now.few) (λ wait. g.now.reads) e asks-is)
 
   -- THE ANSWER TO AN ASKING, or the way back to a copy
   module _ (asking : Option Asking) (left : ℕ) (machine : FlatMachine) (wanted : Type 0) (r : Resumes start entry h asking d left machine wanted) where
-    abbrev before : Held
+    abbrev before : HeldRun
     before = record h { world = r.world }
 
     abbrev at : Configuration
-    at = here start entry before d r.doing r.going.now
+    at = here start entry before d r.phase r.going.now
 
-    abbrev resumed-held : Held
+    abbrev resumed-held : HeldRun
     resumed-held = record h { machine = machine; left = left; log = logged h.log h.machine }
 
-    resumed-past : IsPast start entry r.going.now.past resumed-held d
+    resumed-past : IsHistory start entry r.going.now.past resumed-held d
     resumed-past = let i = r.going.now.is_past in record { taken = i.taken; answers = i.answers; answered = i.answered; word = i.word; left = i.left; fewer = i.fewer; reads = i.reads }
 
     -- the configuration after it
     resumed-act : act_of at ≡ goes (configuration_of r.going.now.past steps resumed-held d)
     resumed-act =
         r.event
-        ∙ ap (λ (w : FlatWorld). goes (record at { machine = machine; world = w; left = left; log = logged at.log at.machine; doing = steps }))
+        ∙ ap (λ (w : FlatWorld). goes (record at { machine = machine; world = w; left = left; log = logged at.log at.machine; phase = steps }))
         (sent-before (concat r.going.now.past.sent) r.world r.said ∙ ap (λ (w : FlatWorld). let x : FlatWorld = record { scene = w.scene; text = concat r.going.now.past.sent ++ w.text } in x) (sym r.moved))
 
     pub resumed-on : Standing start entry resumed-held d steps
-    resumed-on = moves-on start entry before d r.doing r.going r.going.now.past steps resumed-held d resumed-past r.going.now.few r.going.now.reads resumed-act r.saved
+    resumed-on = moves-on start entry before d r.phase r.going r.going.now.past steps resumed-held d resumed-past r.going.now.few r.going.now.reads resumed-act r.saved
 
-    pub resumed-early : wanted → (h' : Held) → h'.machine ≡ h.machine → h'.left ≡ h.left → h'.log ≡ h.log → h'.coming ≡ h.coming → (asking' : Option Asking) → asking' ≡ asking → Early start entry h' asking' d halt.NoMemory
+    pub resumed-early : wanted → (h' : HeldRun) → h'.machine ≡ h.machine → h'.left ≡ h.left → h'.log ≡ h.log → h'.coming ≡ h.coming → (asking' : Option Asking) → asking' ≡ asking → Early start entry h' asking' d halt.NoMemory
     resumed-early wants-it h' stands units log coming asking' same =
-        wants start entry before d r.doing r.going h' asking'
-        (subst (WantsMemory r.doing at) (sym same) (r.memory wants-it)) stands units log coming
+        wants start entry before d r.phase r.going h' asking'
+        (subst (WantsMemory r.phase at) (sym same) (r.memory wants-it)) stands units log coming
 
   -- THE TURN OF A CALL
-  module _ (asking : Option Asking) (w : Waiting) (t : Turn) (r : Turns start entry h asking d w t) where
-    abbrev pub turning : Held
+  module _ (asking : Option Asking) (w : Waiting) (t : Turn) (r : TakesTurn start entry h asking d w t) where
+    abbrev pub turning : HeldRun
     turning = record h { world = r.world }
 
     abbrev pub called : Configuration
     called = here start entry turning d steps r.going.now
 
-    turn-past : (h' : Held) → h'.word ≡ h.word → h'.ahead ≡ h.ahead → h'.coming ≡ h.coming → h'.over ≡ h.over → IsPast start entry r.going.now.past h' d
+    turn-past : (h' : HeldRun) → h'.word ≡ h.word → h'.ahead ≡ h.ahead → h'.coming ≡ h.coming → h'.over ≡ h.over → IsHistory start entry r.going.now.past h' d
     turn-past h' word ahead coming over =
         let i = r.going.now.is_past in
         let input : h'.ahead ++ h'.coming ≡ h.ahead ++ h.coming = ap (λ (x : List ℕ). x ++ h'.coming) ahead ∙ ap (λ (x : List ℕ). h.ahead ++ x) coming in
@@ -338,10 +347,10 @@ module _ {K : Type 0} {sending : SendStep K} (start : Configuration) (entry : Ha
     turned-world = sent-before (concat r.going.now.past.sent) r.world r.said ∙ ap (λ (x : FlatWorld). let y : FlatWorld = record { scene = x.scene; text = concat r.going.now.past.sent ++ x.text } in y) (sym r.moved)
 
     -- it asks the shelf
-    pub turn-asks : after_turn called w (Ok (r.said, t)) ≡ asking_for called w r.said t → Waits start entry h asking d (asks t w)
+    pub turn-asks : after_turn called w (Ok (r.said, t)) ≡ asking_for called w r.said t → IsInCall start entry h asking d (asks t w)
     turn-asks e =
         let act : act_of called ≡ goes (configuration_of r.going.now.past (asks t w) h d) =
-        r.event ∙ e ∙ ap (λ (x : FlatWorld). goes (record called { world = x; doing = asks t w })) turned-world in
+        r.event ∙ e ∙ ap (λ (x : FlatWorld). goes (record called { world = x; phase = asks t w })) turned-world in
         record {
           now = moves-on start entry turning d steps r.going r.going.now.past (asks t w) h d (turn-past h refl refl refl refl) r.going.now.few r.going.now.reads act r.saved;
           asking_is = r.asks ∙ asked-same called (configuration_of r.going.now.past (asks t w) h d) refl refl;
@@ -349,30 +358,30 @@ module _ {K : Type 0} {sending : SendStep K} (start : Configuration) (entry : Ha
 
     -- it waits for a line: what the view shows is shown
     pub turn-waits : (world : FlatWorld) → world ≡ after h.world (show_grids h.world.scene) → after_turn called w (Ok (r.said, t)) ≡ waiting_for called w r.said t
-        → Waits start entry (record h { world = world }) asking d (asks t w)
+        → IsInCall start entry (record h { world = world }) asking d (asks t w)
     turn-waits world shown e =
-        let h' : Held = record h { world = after h.world (show_grids h.world.scene) } in
+        let h' : HeldRun = record h { world = after h.world (show_grids h.world.scene) } in
         let scene : r.said.0 ≡ h.world.scene = ap (λ (x : FlatWorld). x.scene) (sym r.moved) in
         let grids : after (after called.world r.said) (show_grids r.said.0) ≡ record { scene = h'.world.scene; text = concat r.going.now.past.sent ++ h'.world.text } =
         ap (λ (x : Scene). after (after called.world r.said) (show_grids x)) scene ∙ ap (λ (x : FlatWorld). after x (show_grids h.world.scene)) turned-world
         ∙ sent-before (concat r.going.now.past.sent) h.world (show_grids h.world.scene) in
         let act : act_of called ≡ goes (configuration_of r.going.now.past (asks t w) h' d) =
-        r.event ∙ e ∙ ap (λ (x : FlatWorld). goes (record called { world = x; doing = asks t w })) grids in
-        let waits : Waits start entry h' asking d (asks t w) = record {
+        r.event ∙ e ∙ ap (λ (x : FlatWorld). goes (record called { world = x; phase = asks t w })) grids in
+        let waits : IsInCall start entry h' asking d (asks t w) = record {
           now = moves-on start entry turning d steps r.going r.going.now.past (asks t w) h' d (turn-past h' refl refl refl refl) r.going.now.few r.going.now.reads act r.saved;
           asking_is = r.asks ∙ asked-same called (configuration_of r.going.now.past (asks t w) h' d) refl refl;
         } in
-        subst (λ (x : FlatWorld). Waits start entry (record h { world = x }) asking d (asks t w)) (sym shown) waits
+        subst (λ (x : FlatWorld). IsInCall start entry (record h { world = x }) asking d (asks t w)) (sym shown) waits
 
     -- it ends the program, or waits in vain
-    pub turn-exits : t ≡ turn.Exit → Done start entry (record h { left = w.left }) asking d stop.Exited
+    pub turn-exits : t ≡ turn.Exit → HasStopped start entry (record h { left = w.left }) asking d stop.Exited
     turn-exits e =
         let act : act_of called ≡ stops stop.Exited (configuration_of r.going.now.past steps (record h { left = w.left }) d) =
         r.event ∙ ap (λ (x : Turn). after_turn called w (Ok (r.said, x))) e ∙ ap (λ (x : FlatWorld). stops stop.Exited (record called { world = x; left = w.left })) turned-world in
         stops-at start entry turning d steps r.going stop.Exited r.going.now.past steps (record h { left = w.left }) d asking (turn-past (record h { left = w.left }) refl refl refl refl) (λ long. r.going.now.few) (λ wait. r.going.now.reads) act
         (r.asks ∙ asked-same called (configuration_of r.going.now.past steps (record h { left = w.left }) d) refl refl)
 
-    pub turn-stuck : t ≡ turn.Stuck → Done start entry h asking d stop.Stuck
+    pub turn-stuck : t ≡ turn.Stuck → HasStopped start entry h asking d stop.Stuck
     turn-stuck e =
         let act : act_of called ≡ stops stop.Stuck (configuration_of r.going.now.past steps h d) =
         r.event ∙ ap (λ (x : Turn). after_turn called w (Ok (r.said, x))) e ∙ ap (λ (x : FlatWorld). stops stop.Stuck (record called { world = x })) turned-world in
@@ -380,11 +389,11 @@ module _ {K : Type 0} {sending : SendStep K} (start : Configuration) (entry : Ha
         (r.asks ∙ asked-same called (configuration_of r.going.now.past steps h d) refl refl)
 
     -- it is answered at once
-    pub turn-answers : (reply : Reply) → t ≡ turn.Answer reply → Replies start entry h asking d w.left reply
+    pub turn-answers : (reply : Reply) → t ≡ turn.Answer reply → ResumesWithReply start entry h asking d w.left reply
     turn-answers reply e = record {
       world = r.world;
       said = r.said;
-      doing = steps;
+      phase = steps;
       moved = r.moved;
       going = r.going;
       event = r.event ∙ ap (λ (x : Turn). after_turn called w (Ok (r.said, x))) e;
@@ -394,26 +403,26 @@ module _ {K : Type 0} {sending : SendStep K} (start : Configuration) (entry : Ha
     }
 
     -- that wants memory
-    pub turn-wants : IsWait t → ShowWants h.world.scene → (h' : Held) → h'.machine ≡ h.machine → h'.left ≡ h.left → h'.log ≡ h.log → h'.coming ≡ h.coming → Early start entry h' asking d halt.NoMemory
+    pub turn-wants : IsWait t → ShowWants h.world.scene → (h' : HeldRun) → h'.machine ≡ h.machine → h'.left ≡ h.left → h'.log ≡ h.log → h'.coming ≡ h.coming → Early start entry h' asking d halt.NoMemory
     turn-wants is some h' machine units log coming =
         let scene : r.said.0 ≡ h.world.scene = ap (λ (x : FlatWorld). x.scene) (sym r.moved) in
         wants start entry turning d steps r.going h' asking
         (r.memory (wait-wants h.log h.machine r.said t is (subst ShowWants (sym scene) some))) machine units log coming
 
   -- A call goes on.
-  abbrev pub on-ready : (asking : Option Asking) (g : Given) (w : Waiting) → Waits start entry h asking d (goes_on g w) → Ready start entry h d (goes_on g w)
+  abbrev pub on-ready : (asking : Option Asking) (g : Given) (w : Waiting) → IsInCall start entry h asking d (goes_on g w) → Ready start entry h d (goes_on g w)
   on-ready asking g w waits = record { now = waits.now; quiet = refl }
 
   -- THE SHELF HAS ANSWERED
   module _ (asking : Option Asking) (w : Waiting) (q : Question) (g : Ready start entry h d (asks (turn_of q) w)) (shelf : FlatShelf) where
     pub shelf-answers : (answer : Answer) → start.answers d.asked (request_for q) ≡ answer → asking ≡ asked (here start entry h d (asks (turn_of q) w) g.now)
-        → Waits start entry h asking (record d { shelf = shelf; asked = d.asked ++ (request_for q, Ok answer) ∷ [] }) (goes_on (given_of answer) w)
+        → IsInCall start entry h asking (record d { shelf = shelf; asked = d.asked ++ (request_for q, Ok answer) ∷ [] }) (goes_on (given_of answer) w)
     shelf-answers answer told asks-is =
         let m : Configuration = here start entry h d (asks (turn_of q) w) g.now in
         let i = g.now.is_past in
-        let p : Past = g.now.past in
+        let p : History = g.now.past in
         let d' : Handed sending = record d { shelf = shelf; asked = d.asked ++ (request_for q, Ok answer) ∷ [] } in
-        let past : IsPast start entry p h d' = record {
+        let past : IsHistory start entry p h d' = record {
           taken = i.taken;
           answers = i.answers;
           answered = answered-and d.asked ((request_for q, Ok answer) ∷ []) i.answered tt;
@@ -424,7 +433,7 @@ module _ {K : Type 0} {sending : SendStep K} (start : Configuration) (entry : Ha
         } in
         let same : m.answers m.asked (request_for q) ≡ answer = ap (λ (f : Trace → Request → Answer). f d.asked (request_for q)) i.answers ∙ told in
         let act : act_of m ≡ goes (configuration_of p (goes_on (given_of answer) w) h d') =
-        question-gives m w q ∙ ap (λ (a : Answer). goes (record m { asked = m.asked ++ (request_for q, Ok a) ∷ []; doing = goes_on (given_of a) w })) same in
+        question-gives m w q ∙ ap (λ (a : Answer). goes (record m { asked = m.asked ++ (request_for q, Ok a) ∷ []; phase = goes_on (given_of a) w })) same in
         record {
           now = moves-on start entry h d (asks (turn_of q) w) g p (goes_on (given_of answer) w) h d' past g.now.few g.now.reads act (unsaved m (λ e. cc));
           asking_is = asks-is ∙ asked-same m (configuration_of p (goes_on (given_of answer) w) h d') refl refl;
@@ -439,8 +448,8 @@ module _ {K : Type 0} {sending : SendStep K} (start : Configuration) (entry : Ha
     line-act l e = wait-asks awaiting w t is ∙ ap (after_line awaiting w) e
 
     -- the input that is read and not taken is the same
-    still-awaiting : (h' : Held) → h'.ahead ++ h'.coming ≡ h.ahead ++ h.coming → (p : Past) (source : FlatSource) → (source.tells ≡ true → h'.coming ≡ source.left) → ReadsFew false h'.over entry.source source start.input h'.coming 0 → h'.word ≡ h.word
-        → IsPast start entry p h d → IsPast start entry p h' (record d { source = source })
+    still-awaiting : (h' : HeldRun) → h'.ahead ++ h'.coming ≡ h.ahead ++ h.coming → (p : History) (source : FlatSource) → (source.tells ≡ true → h'.coming ≡ source.left) → ReadsFew false h'.over entry.source source start.input h'.coming 0 → h'.word ≡ h.word
+        → IsHistory start entry p h d → IsHistory start entry p h' (record d { source = source })
     still-awaiting h' same p source left reads word i = record {
       taken = i.taken;
       answers = i.answers;
@@ -452,22 +461,22 @@ module _ {K : Type 0} {sending : SendStep K} (start : Configuration) (entry : Ha
     }
 
     -- none is left, or it is too long
-    pub line-stops : (why : Stop) (l : NextLine) (h' : Held) (source : FlatSource) → next_line (h.ahead ++ h.coming) ≡ l → after_line awaiting w l ≡ stops why awaiting → IsLineStop why
+    pub line-stops : (why : Stop) (l : NextLine) (h' : HeldRun) (source : FlatSource) → next_line (h.ahead ++ h.coming) ≡ l → after_line awaiting w l ≡ stops why awaiting → IsLineStop why
         → h' ≡ record h { ahead = h'.ahead; coming = h'.coming; over = h'.over } → h'.ahead ++ h'.coming ≡ h.ahead ++ h.coming → (source.tells ≡ true → h'.coming ≡ source.left)
         → ReadsFew false h'.over entry.source source start.input h'.coming 0
-        → (why ≢ stop.LineTooLong → length h'.ahead < piece) → asked_at why awaiting ≡ asked awaiting → Done start entry h' asking (record d { source = source }) why
+        → (why ≢ stop.LineTooLong → length h'.ahead < piece) → asked_at why awaiting ≡ asked awaiting → HasStopped start entry h' asking (record d { source = source }) why
     line-stops why l h' source e e' line-stop held same left reads few at =
-        let p : Past = g.now.past in
+        let p : History = g.now.past in
         let same-configuration : configuration_of p (asks t w) h' (record d { source = source }) ≡ awaiting =
-        ap (λ (x : Held). configuration_of p (asks t w) (record x { ahead = h'.ahead; coming = h'.coming; over = h'.over }) (record d { source = source })) held
+        ap (λ (x : HeldRun). configuration_of p (asks t w) (record x { ahead = h'.ahead; coming = h'.coming; over = h'.over }) (record d { source = source })) held
         ∙ ap (λ (x : List ℕ). record awaiting { input = x }) same in
         stops-at start entry h d (asks t w) g why p (asks t w) h' (record d { source = source }) asking
-        (still-awaiting h' same p source left reads (ap (λ (x : Held). x.word) held) g.now.is_past) few (λ other. absurd (other line-stop))
+        (still-awaiting h' same p source left reads (ap (λ (x : HeldRun). x.word) held) g.now.is_past) few (λ other. absurd (other line-stop))
         (line-act l e ∙ e' ∙ ap (stops why) (sym same-configuration)) (asks-is ∙ sym at ∙ ap (asked_at why) (sym same-configuration))
 
   -- A LINE WAS TAKEN
   module _ (asking : Option Asking) (w : Waiting) (chars : List ℕ) (r : TakesInput start entry h asking d chars w) where
-    abbrev was : Held
+    abbrev was : HeldRun
     was = record h { ahead = r.ahead; coming = r.coming; over = r.over }
 
     abbrev d-was : Handed sending
@@ -480,20 +489,20 @@ module _ {K : Type 0} {sending : SendStep K} (start : Configuration) (entry : Ha
     taken-act = wait-asks asking-at w r.turn r.is_wait ∙ ap (after_line asking-at w) r.taken
 
     -- the showing of the line wants memory
-    pub line-wants : (h' : Held) → h'.machine ≡ h.machine → h'.left ≡ h.left → h'.log ≡ h.log → Early start entry h' asking d halt.NoMemory
+    pub line-wants : (h' : HeldRun) → h'.machine ≡ h.machine → h'.left ≡ h.left → h'.log ≡ h.log → Early start entry h' asking d halt.NoMemory
     line-wants h' machine units log =
         wants-line start entry was d-was (asks r.turn w) r.going h' d.source asking r.is_wait (r.asking_is, r.is_wait, some-input (r.ahead ++ r.coming) chars (h.ahead ++ h.coming) r.taken) machine units log
 
     -- it is shown, where lines are
-    pub line-taken : (world : FlatWorld) → world ≡ (if h.echo then after h.world (show_line h.world.scene chars) else h.world) → Waits start entry (record h { world = world }) asking d (goes_on (given.Line chars) w)
+    pub line-taken : (world : FlatWorld) → world ≡ (if h.echo then after h.world (show_line h.world.scene chars) else h.world) → IsInCall start entry (record h { world = world }) asking d (goes_on (given.Line chars) w)
     line-taken world shown =
-        let p : Past = r.going.now.past in
+        let p : History = r.going.now.past in
         let i = r.going.now.is_past in
         let shorter : length (h.ahead ++ h.coming) < length (r.ahead ++ r.coming) = shorter-input (r.ahead ++ r.coming) chars (h.ahead ++ h.coming) r.taken in
         let before : length (r.ahead ++ r.coming) ≤ length start.input = i.fewer in
         let less : length (h.ahead ++ h.coming) < length start.input = omega arith in
-        let h' : Held = record h { world = if h.echo then after h.world (show_line h.world.scene chars) else h.world } in
-        let past : IsPast start entry p h' d = record {
+        let h' : HeldRun = record h { world = if h.echo then after h.world (show_line h.world.scene chars) else h.world } in
+        let past : IsHistory start entry p h' d = record {
           taken = i.taken;
           answers = i.answers;
           answered = i.answered;
@@ -503,17 +512,17 @@ module _ {K : Type 0} {sending : SendStep K} (start : Configuration) (entry : Ha
           reads = r.reads;
         } in
         let act : act_of asking-at ≡ goes (configuration_of p (goes_on (given.Line chars) w) h' d) = taken-act ∙ shown-line p h.echo in
-        let waits : Waits start entry h' asking d (goes_on (given.Line chars) w) = record {
+        let waits : IsInCall start entry h' asking d (goes_on (given.Line chars) w) = record {
           now = moves-on start entry was d-was (asks r.turn w) r.going p (goes_on (given.Line chars) w) h' d past r.few (inr less) act (unsaved asking-at (λ e. cc));
           asking_is = r.asking_is ∙ asked-same asking-at (configuration_of p (goes_on (given.Line chars) w) h' d) refl refl;
         } in
-        subst (λ (x : FlatWorld). Waits start entry (record h { world = x }) asking d (goes_on (given.Line chars) w)) (sym shown) waits
+        subst (λ (x : FlatWorld). IsInCall start entry (record h { world = x }) asking d (goes_on (given.Line chars) w)) (sym shown) waits
       where
-        shown-line : (p : Past) (b : Bool)
-            → goes (record asking-at { world = if b then after (record { scene = h.world.scene; text = concat p.sent ++ h.world.text }) (show_line h.world.scene chars) else record { scene = h.world.scene; text = concat p.sent ++ h.world.text }; input = h.ahead ++ h.coming; doing = goes_on (given.Line chars) w })
-            ≡ goes (record asking-at { world = (let x : FlatWorld = if b then after h.world (show_line h.world.scene chars) else h.world in record { scene = x.scene; text = concat p.sent ++ x.text }); input = h.ahead ++ h.coming; doing = goes_on (given.Line chars) w })
+        shown-line : (p : History) (b : Bool)
+            → goes (record asking-at { world = if b then after (record { scene = h.world.scene; text = concat p.sent ++ h.world.text }) (show_line h.world.scene chars) else record { scene = h.world.scene; text = concat p.sent ++ h.world.text }; input = h.ahead ++ h.coming; phase = goes_on (given.Line chars) w })
+            ≡ goes (record asking-at { world = (let x : FlatWorld = if b then after h.world (show_line h.world.scene chars) else h.world in record { scene = x.scene; text = concat p.sent ++ x.text }); input = h.ahead ++ h.coming; phase = goes_on (given.Line chars) w })
         shown-line p true =
-            ap (λ (x : FlatWorld). goes (record asking-at { world = x; input = h.ahead ++ h.coming; doing = goes_on (given.Line chars) w })) (sent-before (concat p.sent) h.world (show_line h.world.scene chars))
+            ap (λ (x : FlatWorld). goes (record asking-at { world = x; input = h.ahead ++ h.coming; phase = goes_on (given.Line chars) w })) (sent-before (concat p.sent) h.world (show_line h.world.scene chars))
         shown-line p false = refl
 
   -- A CHARACTER IS PUT, A CALL IS MADE, A GAME IS SAVED OR RESTORED, A CALL GOES ON
@@ -573,14 +582,14 @@ module _ {K : Type 0} {sending : SendStep K} (start : Configuration) (entry : Ha
         (subst (λ (x : FlatState). glk_call h.world.scene x w.room selector xs ≡ Ok (said, t)) same e) in
         subst (λ (x : Effect). AskingWants asking-here (Some x)) (sym is) (inr (subst (TurnWants h.log h.machine) (sym call) takes))
 
-    pub save-begun : (stream : ℕ) → does ≡ effect.Save stream → IsTrue (is_begun h.world.scene h.machine.flat stream) → AsksMemory
+    pub save-begun : (stream : ℕ) → does ≡ effect.Save stream → IsTrue (is_save_begun h.world.scene h.machine.flat stream) → AsksMemory
     save-begun stream is begun = subst (λ (e : Effect). AskingWants asking-here (Some e)) (sym is) (inl begun)
 
     pub save-takes : (stream : ℕ) (said : Said) (reply : Reply) → does ≡ effect.Save stream → saving h.world.scene h.machine.flat stream ≡ Ok (said, reply) → ReplyWants h.log h.machine reply → AsksMemory
     save-takes stream said reply is e takes =
         subst (λ (x : Effect). AskingWants asking-here (Some x)) (sym is) (inr (subst (AnswerWants h.log h.machine) (sym e) takes))
 
-    pub restore-reads : (stream : ℕ) → does ≡ effect.Restore stream → IsTrue (is_read h.world.scene h.machine.flat stream) → IsOk (on_world h.world (restoring h.world.scene h.machine.flat stream)) → AsksMemory
+    pub restore-reads : (stream : ℕ) → does ≡ effect.Restore stream → IsTrue (is_restore_begun h.world.scene h.machine.flat stream) → IsOk (on_world h.world (restoring h.world.scene h.machine.flat stream)) → AsksMemory
     restore-reads stream is reads fine =
         subst (λ (e : Effect). AskingWants asking-here (Some e)) (sym is)
         (inl (reads, world-fine {X = Option Copy} h.world (restoring h.world.scene h.machine.flat stream) fine))
@@ -597,12 +606,12 @@ module _ {K : Type 0} {sending : SendStep K} (start : Configuration) (entry : Ha
 
     -- the machine takes an answer, or goes back to a copy
     pub asking-resumes : (asking : Option Asking) (world : FlatWorld) (said : Said) (machine : FlatMachine) (wanted : Type 0) → asking ≡ asking_of does → world ≡ after h.world said
-        → act_of asking-here ≡ goes (record asking-here { machine = machine; world = after asking-here.world said; left = left; log = logged asking-here.log asking-here.machine; doing = steps })
+        → act_of asking-here ≡ goes (record asking-here { machine = machine; world = after asking-here.world said; left = left; log = logged asking-here.log asking-here.machine; phase = steps })
         → (BeginsSave asking-here (Some does) → IsReadBack h.machine.flat) → (wanted → AsksMemory) → Resumes start entry (record h { world = world }) asking d left machine wanted
     asking-resumes asking world said machine wanted asks-is moved e saved takes = record {
       world = h.world;
       said = said;
-      doing = steps;
+      phase = steps;
       moved = moved;
       going = a.going;
       event = e;
@@ -612,7 +621,7 @@ module _ {K : Type 0} {sending : SendStep K} (start : Configuration) (entry : Ha
     }
 
     pub call-turns : (asking : Option Asking) (world : FlatWorld) (said : Said) (w : Waiting) (t : Turn) → asking ≡ asking_of does → world ≡ after h.world said → act_of asking-here ≡ after_turn asking-here w (Ok (said, t))
-        → (BeginsSave asking-here (Some does) → ⊥) → (TurnWants h.log h.machine (Ok (said, t)) → AsksMemory) → Turns start entry (record h { world = world }) asking d w t
+        → (BeginsSave asking-here (Some does) → ⊥) → (TurnWants h.log h.machine (Ok (said, t)) → AsksMemory) → TakesTurn start entry (record h { world = world }) asking d w t
     call-turns asking world said w t asks-is moved e unsaving takes = record {
       world = h.world;
       said = said;
@@ -624,7 +633,7 @@ module _ {K : Type 0} {sending : SendStep K} (start : Configuration) (entry : Ha
       memory = λ x. asking-wants asking asks-is (takes x);
     }
 
-  module _ (asking : Option Asking) (g : Given) (w : Waiting) (waits : Waits start entry h asking d (goes_on g w)) where
+  module _ (asking : Option Asking) (g : Given) (w : Waiting) (waits : IsInCall start entry h asking d (goes_on g w)) where
     abbrev pub going-on : Configuration
     going-on = here start entry h d (goes_on g w) waits.now
 
@@ -652,11 +661,11 @@ module _ {K : Type 0} {sending : SendStep K} (start : Configuration) (entry : Ha
     }
 
   -- it is answered
-  pub given-answers : (asking : Option Asking) (w : Waiting) (t : Turn) (reply : Reply) → t ≡ turn.Answer reply → GoesOn start entry h asking d w t → Replies start entry h asking d w.left reply
+  pub given-answers : (asking : Option Asking) (w : Waiting) (t : Turn) (reply : Reply) → t ≡ turn.Answer reply → GoesOn start entry h asking d w t → ResumesWithReply start entry h asking d w.left reply
   given-answers asking w t reply is r = record {
     world = r.world;
     said = r.said;
-    doing = goes_on r.given w;
+    phase = goes_on r.given w;
     moved = r.moved;
     going = r.going;
     event = r.event ∙ ap (λ (x : Turn). after_given (here start entry (record h { world = r.world }) d (goes_on r.given w) r.going.now) w (Ok (r.said, x))) is;

@@ -1,15 +1,17 @@
 -- The calls of a device over parts of a run that follow one another, and what a run is told of those of a shelf.
-use Rattle.std.proofs.Common.{◌≡◌, ℕ, ◌≤◌, List, [], ◌∷◌, ◌++◌, Bool, true, false, Result, Ok, Err, refl, ap, subst, sym, ◌∙◌, append_assoc, append-nil, arith}
+use Rattle.std.proofs.Common.{◌≡◌, List, [], ◌∷◌, ◌++◌, Bool, true, false, Result, Ok, Err, refl, ap, subst, sym, ◌∙◌}
+use Rattle.std.proofs.Common.{append_assoc, append-nil, arith}
 use Rattle.gx_outside.specs.Chains.{Chain, IsCalled}
 use Rattle.gx_outside.specs.Files.{Files}
 use Rattle.gx_outside.specs.Outside.{FlatShelf}
-use Rattle.gx_outside.specs.Shelves.{Request, loads, stores, removes, looks, Answer, loaded, stored, Call, Trace, MayWant, answer_for, files_after, files_left, told_by, ShelfCall}
+use Rattle.gx_outside.specs.Shelves.{Request, loads, stores, removes, looks, Answer, loaded, stored, Exchange, Trace, AnswerMayWant, answer_for, files_after, files_left, told_by, ShelfCall}
 use Rattle.gx_outside.specs.declared.devices.Load.TheVariants.{Found}
 use Rattle.gx_outside.specs.declared.devices.ShelfFault.{ShelfFault}
 use Rattle.gx_outside.specs.declared.devices.ShelfFault.TheVariants as fault
-use Rattle.gx_session.specs.Playing.{SendStep, Handed, Held, Going}
+use Rattle.gx_session.specs.Holding.{SendStep, Handed, HeldRun}
+use Rattle.gx_session.specs.Standing.{Going}
 use Rattle.gx_session.specs.Questions.{AreAnswered, AreTold}
-use Rattle.gx_session.specs.Session.{Configuration}
+use Rattle.gx_session.specs.Configurations.{Configuration}
 
 -- THE CALLS
 pub chain-append : {S C : Type 0} (step : S → C → S → Type 0) (a b c : S) (one two : List C) → Chain step a one b → Chain step b two c → Chain step a (one ++ two) c
@@ -114,7 +116,7 @@ told-back answers asked ((r, Ok answer) ∷ one) two all told =
 told-back answers asked ((r, Err e) ∷ one) two all told = absurd all
 
 -- by the second of two parts of a run
-pub told-next : {K : Type 0} {sending : SendStep K} → (start : Configuration) (entry : Handed sending) (h : Held) (d : Handed sending) (before one two : Trace) → d.asked ≡ before ++ one → Going start entry h d
+pub told-next : {K : Type 0} {sending : SendStep K} → (start : Configuration) (entry : Handed sending) (h : HeldRun) (d : Handed sending) (before one two : Trace) → d.asked ≡ before ++ one → Going start entry h d
     → AreTold start.answers before (one ++ two) → AreTold start.answers (before ++ one) two
 told-next start entry h d before one two same g told =
     told-back start.answers before one two (answered-back before one (subst AreAnswered same g.now.is_past.answered)) told
@@ -129,11 +131,11 @@ replayed [] asked r = stored
 replayed (c ∷ trace) [] r = answer-in c.1
 replayed (c ∷ trace) (e ∷ asked) r = replayed trace asked r
 
-replayed-at : (asked rest : Trace) (c : Call) (r : Request) → replayed (asked ++ c ∷ rest) asked r ≡ answer-in c.1
+replayed-at : (asked rest : Trace) (c : Exchange) (r : Request) → replayed (asked ++ c ∷ rest) asked r ≡ answer-in c.1
 replayed-at [] rest c r = refl
 replayed-at (e ∷ asked) rest c r = replayed-at asked rest c r
 
-may-want : (r : Request) → MayWant r (loaded (Found []))
+may-want : (r : Request) → AnswerMayWant r (loaded (Found []))
 may-want (loads name most) = omega arith
 may-want (stores name bytes) = tt
 may-want (removes name) = tt
@@ -148,10 +150,10 @@ replayed-told whole asked ((r, Ok answer) ∷ trace) is = (
 )
 replayed-told whole asked ((r, Err fault.Failed) ∷ trace) is = tt
 replayed-told whole asked ((r, Err fault.NoMemory) ∷ trace) is =
-    subst (MayWant r) (sym (ap (λ (t : Trace). replayed t asked r) is ∙ replayed-at asked trace (r, Err fault.NoMemory) r)) (may-want r)
+    subst (AnswerMayWant r) (sym (ap (λ (t : Trace). replayed t asked r) is ∙ replayed-at asked trace (r, Err fault.NoMemory) r)) (may-want r)
 
 -- the answers of a shelf that tells
-left-more : (files : Files) (asked : Trace) (c : Call) → files_left files (asked ++ c ∷ []) ≡ files_after (files_left files asked) c.0
+left-more : (files : Files) (asked : Trace) (c : Exchange) → files_left files (asked ++ c ∷ []) ≡ files_after (files_left files asked) c.0
 left-more files [] c = refl
 left-more files (e ∷ asked) c = left-more (files_after files e.0) asked c
 
@@ -164,7 +166,7 @@ files-told s t files asked ((r, Ok answer) ∷ trace) chain tells same =
           (does.1 ∙ ap (λ (f : Files). files_after f r) same ∙ sym (left-more files asked (r, Ok answer))),
     )
 files-told s t files asked ((r, Err fault.Failed) ∷ trace) chain tells same = tt
-files-told s t files asked ((r, Err fault.NoMemory) ∷ trace) chain tells same = subst (λ (f : Files). MayWant r (answer_for f r)) same (chain.1.files tells).1
+files-told s t files asked ((r, Err fault.NoMemory) ∷ trace) chain tells same = subst (λ (f : Files). AnswerMayWant r (answer_for f r)) same (chain.1.files tells).1
 
 answers-by : (s t : FlatShelf) (trace : Trace) (b : Bool) → s.tells ≡ b → Chain ShelfCall s trace t
     → (answers : Trace → Request → Answer) × (s.tells ≡ true → answers ≡ told_by s.files) × AreTold answers [] trace

@@ -9,7 +9,9 @@ use Rattle.glk_replies.specs.declared.Turn.TheVariants as turn
 use Rattle.gx_session.specs.declared.ends.Stop.TheVariants as stop
 use Rattle.gx_session.specs.declared.running.Waiting.{Waiting}
 use Rattle.gx_session.specs.Input.{NextLine, too_long, none, line, next_line}
-use Rattle.gx_session.specs.Session.{Configuration, Verdict, stops, after_reply, asking_for, waiting_for, after_turn, after_given, after_line, shelf_gives, after_asking}
+use Rattle.gx_session.specs.Configurations.{Configuration, Verdict, stops}
+use Rattle.gx_session.specs.Moves.{after_reply, asking_for, waiting_for, after_turn, after_given, after_line}
+use Rattle.gx_session.specs.Moves.{shelf_gives, after_asking}
 
 module _ (P : Verdict → Type 0) (m : Configuration) where
   -- a turn

@@ -4,7 +4,10 @@ use Rattle.gx_session.specs.declared.lines.TheConstants as lines
 use Rattle.gx_session.specs.declared.running.TheConstants as running
 use Rattle.gx_session.specs.declared.saves.TheConstants as saves
 use Rattle.gx_session.specs.declared.statuses.TheConstants as statuses
-use Rattle.gx_session.specs.Constants.{status_ended, status_bad_words, status_bad_story, status_fault, status_spent, status_input_ended, status_stuck, status_line_too_long, status_shelf_fault, status_input_fault, status_output_fault, status_no_memory, status_bad_text, status_no_listing, longest, piece, enough, most_loaded, failed}
+use Rattle.gx_session.specs.Constants.{status_ended, status_bad_words, status_bad_story, status_fault, status_spent}
+use Rattle.gx_session.specs.Constants.{status_input_ended, status_stuck, status_line_too_long, status_shelf_fault}
+use Rattle.gx_session.specs.Constants.{status_input_fault, status_output_fault, status_no_memory, status_bad_text}
+use Rattle.gx_session.specs.Constants.{status_no_listing, longest_line, piece, enough, most_loaded, failed}
 
 pub ENDED_is : statuses.ENDED ≡ status_ended
 ENDED_is = refl
@@ -48,7 +51,7 @@ BAD_TEXT_is = refl
 pub NO_LISTING_is : statuses.NO_LISTING ≡ status_no_listing
 NO_LISTING_is = refl
 
-pub LONGEST_is : lines.LONGEST ≡ longest
+pub LONGEST_is : lines.LONGEST ≡ longest_line
 LONGEST_is = refl
 
 pub PIECE_is : lines.PIECE ≡ piece

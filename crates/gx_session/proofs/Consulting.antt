@@ -1,7 +1,7 @@
 -- A device is asked in the middle of a Glk call, once the pending text is sent.
 use Rattle.std.proofs.Common.{◌≡◌, ℕ, ◌⊎◌, Bool, true, false, List, [], ◌∷◌, ◌++◌, Option, Some, None, Result, Ok, Err, refl, ap, subst, sym, ◌∙◌}
 use Rattle.gx_machine.specs.declared.askings.Asking.{Asking}
-use Rattle.gx_outside.specs.Outside.{FlatSource, FlatSink, FlatShelf}
+use Rattle.gx_outside.specs.Outside.{FlatSource, FlatShelf}
 use Rattle.gx_outside.specs.Shelves.{Answer}
 use Rattle.gx_outside.specs.declared.devices.ShelfFault.{ShelfFault}
 use Rattle.glk_world.specs.World.{FlatWorld}
@@ -13,12 +13,17 @@ use Rattle.gx_session.specs.declared.lines.NoLine.{NoLine}
 use Rattle.gx_session.specs.declared.lines.NoLine.TheVariants as no
 use Rattle.gx_session.specs.declared.questions.Question.{Question}
 use Rattle.gx_session.specs.declared.running.Waiting.{Waiting}
-use Rattle.gx_session.specs.Cuts.{IsWait, request_of}
+use Rattle.gx_session.specs.Wants.{IsWait}
+use Rattle.gx_session.specs.Cuts.{request_in}
 use Rattle.gx_session.specs.Input.{none, too_long}
 use Rattle.gx_session.specs.Questions.{turn_of, request_for, AreTold}
 use Rattle.gx_session.specs.Reading.{TakesLine, HoldsFew, ReadsFew, failures}
-use Rattle.gx_session.specs.Session.{Configuration, asks, given_of, goes_on, asked}
-use Rattle.gx_session.specs.Playing.{SendStep, Handed, Held, WordIs, Ready, Waits, Flushes, TakesInput, EventGives, Early, halt_of_shelf, without_line}
+use Rattle.gx_session.specs.Configurations.{Configuration, asks, goes_on}
+use Rattle.gx_session.specs.Moves.{given_of}
+use Rattle.gx_session.specs.Asked.{asked}
+use Rattle.gx_session.specs.Holding.{SendStep, Handed, HeldRun, WordIs}
+use Rattle.gx_session.specs.Standing.{Ready, IsInCall, TakesInput, Early}
+use Rattle.gx_session.specs.Outcomes.{Flushes, EventGives, halt_of_shelf, without_line}
 use Rattle.gx_session.proofs.Asking.{request-is, shelf-answers, line-stops}
 use Rattle.gx_session.proofs.Feeding.{reads-on}
 use Rattle.gx_session.proofs.Playing.{here, flushed, cut-send, refused, unread, wants-line}
@@ -30,8 +35,8 @@ next-word : (word : Option ℕ) (stream a b : Stream) → WordIs word stream a �
 next-word None stream a b is is' = ap (λ (s : Stream). (next_u32 s).0) (is ∙ sym is')
 next-word (Some w) stream a b is is' = ap (λ (p : ℕ × Stream). p.0) (is ∙ sym is')
 
-module _ {K : Type 0} {sending : SendStep K} (start : Configuration) (entry : Handed sending) (h : Held) (asking : Option Asking) (d : Handed sending) (t : Turn) (w : Waiting) (waits : Waits start entry h asking d (asks t w)) (world : FlatWorld) (sink : K) where
-  abbrev h1 : Held
+module _ {K : Type 0} {sending : SendStep K} (start : Configuration) (entry : Handed sending) (h : HeldRun) (asking : Option Asking) (d : Handed sending) (t : Turn) (w : Waiting) (waits : IsInCall start entry h asking d (asks t w)) (world : FlatWorld) (sink : K) where
+  abbrev h1 : HeldRun
   h1 = record h { world = world }
 
   abbrev d1 : Handed sending
@@ -56,11 +61,11 @@ module _ {K : Type 0} {sending : SendStep K} (start : Configuration) (entry : Ha
       -- it refused
       pub shelf-refused : (fault : ShelfFault) → AreTold start.answers d.asked ((request_for q, Err fault) ∷ [])
           → Early start entry h1 asking (record d1 { shelf = shelf; asked = d.asked ++ (request_for q, Err fault) ∷ [] }) (halt_of_shelf fault)
-      shelf-refused fault told = refused start entry h1 d1 w t ready shelf (request_for q) fault asking (ap request_of is ∙ request-is q) told asks-is
+      shelf-refused fault told = refused start entry h1 d1 w t ready shelf (request_for q) fault asking (ap (λ (x : Turn). request_in (asks x w)) is ∙ request-is q w) told asks-is
 
       -- it answered
       pub shelf-answered : (answer : Answer) → AreTold start.answers d.asked ((request_for q, Ok answer) ∷ [])
-          → Waits start entry h1 asking (record d1 { shelf = shelf; asked = d.asked ++ (request_for q, Ok answer) ∷ [] }) (goes_on (given_of answer) w)
+          → IsInCall start entry h1 asking (record d1 { shelf = shelf; asked = d.asked ++ (request_for q, Ok answer) ∷ [] }) (goes_on (given_of answer) w)
       shelf-answered answer told =
           let r : Ready start entry h1 d1 (asks (turn_of q) w) = subst (λ (x : Turn). Ready start entry h1 d1 (asks x w)) is ready in
           shelf-answers start entry h1 d1 asking w q r shelf answer told.0
@@ -70,7 +75,7 @@ module _ {K : Type 0} {sending : SendStep K} (start : Configuration) (entry : Ha
 
     -- THE INPUT
     module _ (is : IsWait t) (ahead coming : List ℕ) (over : Bool) (source : FlatSource) (told : source.tells ≡ true → coming ≡ source.left) where
-      abbrev h2 : Held
+      abbrev h2 : HeldRun
       h2 = record h1 { ahead = ahead; coming = coming; over = over }
 
       abbrev d2 : Handed sending

@@ -1,15 +1,15 @@
 -- What a whole run reports, and its ending.
-use Rattle.std.proofs.Common.{◌≡◌, ◌≢◌, ℕ, suc, ◌+◌, ◌-◌, ◌<◌, ◌≤◌, ◌==◌, if◌then◌else◌, ◌⊎◌, inl, inr, Bool, true, false, List, [], ◌∷◌, ◌++◌, map, length, Option, Result, Ok, Err, refl, ap, subst, sym, ◌∙◌, arith, append_assoc, append-nil}
+use Rattle.std.proofs.Common.{◌≡◌, ◌≢◌, ℕ, ◌+◌, ◌-◌, ◌<◌, ◌≤◌, ◌==◌, if◌then◌else◌, ◌⊎◌, inl, inr, List, [], ◌∷◌, ◌++◌}
+use Rattle.std.proofs.Common.{map, Option, Result, Ok, Err, refl, ap, subst, sym, ◌∙◌, arith, append_assoc, append-nil}
 use Rattle.gx_words.specs.declared.faults.Fault.{Fault}
 use Rattle.gx_words.specs.declared.faults.Fault.TheVariants.{NoMemory}
 use Rattle.gx_words.specs.Faults.{number_of}
 use Rattle.gx_machine.specs.declared.askings.Asking.{Asking}
 use Rattle.gx_machine.specs.Machine.{FlatMachine, Whole}
-use Rattle.gx_machine.specs.Log.{Log}
 use Rattle.std.specs.List.{concat}
 use Rattle.gx_outside.specs.Chains.{Chain}
 use Rattle.gx_outside.specs.Outside.{FlatSink, FlatShelf}
-use Rattle.gx_outside.specs.Reads.{Read}
+use Rattle.gx_outside.specs.Reads.{SourceRead}
 use Rattle.gx_outside.specs.Sends.{Send, SinkCall}
 use Rattle.gx_outside.specs.Shelves.{stores, Trace}
 use Rattle.gx_outside.specs.declared.devices.ShelfFault.{ShelfFault}
@@ -20,20 +20,26 @@ use Rattle.gx_session.specs.declared.ends.Stop.TheVariants as stop
 use Rattle.gx_session.specs.declared.ends.Halt.{Halt}
 use Rattle.gx_session.specs.declared.ends.Halt.TheVariants as halt
 use Rattle.gx_session.specs.Constants.{status_shelf_fault, status_input_fault, status_output_fault}
-use Rattle.gx_session.specs.Counts.{Counts}
-use Rattle.gx_session.specs.Cuts.{in_listing, in_store, IsLineStop, IsShelfStatus, fault_at, stopped}
+use Rattle.gx_session.specs.Counts.{FailureCounts}
+use Rattle.gx_session.specs.Cuts.{in_listing, in_store, IsLineStop, stopped}
 use Rattle.gx_session.specs.Devices.{Devices}
-use Rattle.gx_session.specs.Endings.{Store, open_files_of, stores_of, call_of, told_all, after_stores, last_of}
-use Rattle.gx_session.specs.Sending.{taken}
-use Rattle.gx_session.specs.Session.{Configuration, Ending, final_of, status_of, fault_number, fault_address}
-use Rattle.gx_session.specs.Runs.{IsFront, LeavesInput, read_failures, AreDrawn, Report, EndsAt, IsReport, IsSession}
-use Rattle.gx_session.specs.Playing.{SendStep, Handed, devices_of, Held, configuration_of, Told, Finished, Early, EndingGives, RunGives, IsStop, status_of_halt, halt_of_shelf, Keeps, StoredSome, StoresFiles}
+use Rattle.gx_session.specs.Endings.{Store, stores_of, store_call, told_all, after_stores}
+use Rattle.gx_session.specs.Sending.{whole_send}
+use Rattle.gx_session.specs.Configurations.{Configuration}
+use Rattle.gx_session.specs.Session.{RunEnd, final_of, stop_status, fault_number, fault_address}
+use Rattle.gx_session.specs.Runs.{IsFront, AreDrawn, Report, EndsAt, IsReport, IsSession}
+use Rattle.gx_session.specs.Reads.{LeavesInput}
+use Rattle.gx_session.specs.Holding.{SendStep, Handed, devices_of, HeldRun, configuration_of}
+use Rattle.gx_session.specs.Finishing.{Told, Finished, EndingGives, RunGives, StoredSome, StoresFiles}
+use Rattle.gx_session.specs.Standing.{Early, halt_status}
+use Rattle.gx_session.specs.Outcomes.{IsStop, halt_of_shelf, Keeps}
+use Rattle.gx_session.proofs.Parts.{IsShelfStatus, fault_at, open_files_of, read_failures}
 use Rattle.gx_session.proofs.Calling.{chain-map}
 use Rattle.gx_session.proofs.Counting.{blames-same}
 use Rattle.gx_session.proofs.Playing.{cut-at, input-left, words-left}
 use Rattle.gx_session.proofs.Sinks.{took-whole, takes-front}
 
-pub status-low : (why : Stop) → status_of why < status_shelf_fault
+pub status-low : (why : Stop) → stop_status why < status_shelf_fault
 status-low stop.Ended = omega arith
 status-low stop.Exited = omega arith
 status-low (stop.Faulted f) = omega arith
@@ -42,16 +48,16 @@ status-low stop.InputEnded = omega arith
 status-low stop.Stuck = omega arith
 status-low stop.LineTooLong = omega arith
 
-pub status-high : (why : Halt) → status_shelf_fault ≤ status_of_halt why
+pub status-high : (why : Halt) → status_shelf_fault ≤ halt_status why
 status-high halt.Shelf = omega arith
 status-high halt.Input = omega arith
 status-high halt.Output = omega arith
 status-high halt.NoMemory = omega arith
 
 -- THE STORES OF THE ENDING
-module _ {K : Type 0} {sending : SendStep K} (start : Configuration) (entry : Handed sending) (h : Held) (asking : Option Asking) (d : Handed sending) (why : Stop) (t : Told start entry h asking d why) where
+module _ {K : Type 0} {sending : SendStep K} (start : Configuration) (entry : Handed sending) (h : HeldRun) (asking : Option Asking) (d : Handed sending) (why : Stop) (t : Told start entry h asking d why) where
   abbrev told-now : Configuration
-  told-now = configuration_of t.past t.doing h d
+  told-now = configuration_of t.past t.phase h d
 
   -- the text is whole
   whole-text : (stopped start).world.text ≡ concat t.past.sent
@@ -67,8 +73,8 @@ module _ {K : Type 0} {sending : SendStep K} (start : Configuration) (entry : Ha
   sent-front : IsFront (concat (told_all (stopped start)).sent) (stopped start).world.text
   sent-front = subst (λ (m : Configuration). IsFront (concat m.sent) m.world.text) (sym t.is_end) (h.world.text, refl)
 
-  sends-then : map taken t.past.sent ≡ map taken (told_all (stopped start)).sent
-  sends-then = ap (λ (m : Configuration). map taken m.sent) (sym t.is_end)
+  sends-then : map whole_send t.past.sent ≡ map whole_send (told_all (stopped start)).sent
+  sends-then = ap (λ (m : Configuration). map whole_send m.sent) (sym t.is_end)
 
   words-are : AreDrawn (stopped start).words d.words
   words-are = subst (λ (m : Configuration). AreDrawn m.words d.words) (sym t.is_end) (words-left h.word d.words t.past.words t.is_past.word)
@@ -94,33 +100,33 @@ module _ {K : Type 0} {sending : SendStep K} (start : Configuration) (entry : Ha
     -- memory ran out before them
     listing-wants : asked ≡ [] → open_files_of h.world.scene ≢ [] → Early start entry h asking d-now halt.NoMemory
     listing-wants none some =
-        cut-at start entry d-now h asking halt.NoMemory in_listing (told_all (stopped start)) (map taken t.past.sent) (refl, open-still some, refl, t.asking_is) (sym (ap (λ (m : Configuration). m.machine) t.is_end)) (sym (ap (λ (m : Configuration). m.left) t.is_end)) (sym (ap (λ (m : Configuration). m.log) t.is_end))
+        cut-at start entry d-now h asking halt.NoMemory in_listing (told_all (stopped start)) (map whole_send t.past.sent) (refl, open-still some, refl, t.asking_is) (sym (ap (λ (m : Configuration). m.machine) t.is_end)) (sym (ap (λ (m : Configuration). m.left) t.is_end)) (sym (ap (λ (m : Configuration). m.log) t.is_end))
         sent-front sends-then t.is_past.taken whole-front
         (ap (λ (x : Trace). d.asked ++ x) none ∙ append-nil d.asked ∙ sym asked-then) (λ other. input-are) words-are t.saves
 
-    shelf-status : (fault : ShelfFault) → IsShelfStatus (status_of_halt (halt_of_shelf fault))
+    shelf-status : (fault : ShelfFault) → IsShelfStatus (halt_status (halt_of_shelf fault))
     shelf-status of_shelf.Failed = inl refl
     shelf-status of_shelf.NoMemory = inr refl
 
-    no-failures : (fault : ShelfFault) → read_failures (status_of_halt (halt_of_shelf fault)) ≡ 0
+    no-failures : (fault : ShelfFault) → read_failures (halt_status (halt_of_shelf fault)) ≡ 0
     no-failures of_shelf.Failed = refl
     no-failures of_shelf.NoMemory = refl
 
-    fault-is : (fault : ShelfFault) → fault_at (status_of_halt (halt_of_shelf fault)) ≡ fault
+    fault-is : (fault : ShelfFault) → fault_at (halt_status (halt_of_shelf fault)) ≡ fault
     fault-is of_shelf.Failed = refl
     fault-is of_shelf.NoMemory = refl
 
     -- one of them was refused
-    some-refused : (fault : ShelfFault) (front rest : List Store) (next : Store) → stores_of h.world.scene ≡ front ++ next ∷ rest → asked ≡ map call_of front ++ (stores next.0 next.1, Err fault) ∷ []
+    some-refused : (fault : ShelfFault) (front rest : List Store) (next : Store) → stores_of h.world.scene ≡ front ++ next ∷ rest → asked ≡ map store_call front ++ (stores next.0 next.1, Err fault) ∷ []
         → Early start entry h asking d-now (halt_of_shelf fault)
     some-refused fault front rest next files asked-are =
         let m : Configuration = after_stores (told_all (stopped start)) front in
         let split : stores_of (stopped start).world.scene ≡ front ++ next ∷ rest = ap stores_of scene-is ∙ files in
         let call : Trace = (stores next.0 next.1, Err fault) ∷ [] in
-        cut-at start entry d-now h asking (halt_of_shelf fault) (in_store front next) m (map taken t.past.sent)
+        cut-at start entry d-now h asking (halt_of_shelf fault) (in_store front next) m (map whole_send t.past.sent)
         (refl, shelf-status fault, t.asking_is, (rest, split)) (sym (ap (λ (m : Configuration). m.machine) t.is_end)) (sym (ap (λ (m : Configuration). m.left) t.is_end)) (sym (ap (λ (m : Configuration). m.log) t.is_end))
         sent-front sends-then t.is_past.taken whole-front
-        (ap (λ (x : Trace). d.asked ++ x) asked-are ∙ sym (append_assoc d.asked (map call_of front) call) ∙ ap (λ (x : Trace). (x ++ map call_of front) ++ call) (sym asked-then)
+        (ap (λ (x : Trace). d.asked ++ x) asked-are ∙ sym (append_assoc d.asked (map store_call front) call) ∙ ap (λ (x : Trace). (x ++ map store_call front) ++ call) (sym asked-then)
         ∙ ap (λ (f : ShelfFault). m.asked ++ (stores next.0 next.1, Err f) ∷ []) (sym (fault-is fault)))
         (λ other.
         subst (LeavesInput start.input m.input h.coming entry.source d.source (IsLineStop (final_of start).stop) ((final_of start).stop ≡ stop.LineTooLong)) (sym (no-failures fault)) input-are) words-are t.saves
@@ -138,7 +144,7 @@ numbered NoMemory other = absurd (other refl)
 numbered f other = (omega arith, omega arith)
 
 -- the statuses of an end, and of a run that was cut short
-pub report-of-stop : (why : Stop) (machine : FlatMachine) → IsStop why → IsReport (status_of why) (fault_number why) (fault_address why machine)
+pub report-of-stop : (why : Stop) (machine : FlatMachine) → IsStop why → IsReport (stop_status why) (fault_number why) (fault_address why machine)
 report-of-stop stop.Ended machine is = record { status_is = inl refl; fault_is = λ e. absurd (omega arith); no_fault = λ _. (refl, refl) }
 report-of-stop stop.Exited machine is = record { status_is = inl refl; fault_is = λ e. absurd (omega arith); no_fault = λ _. (refl, refl) }
 report-of-stop (stop.Faulted f) machine is = record { status_is = inr (omega arith, omega arith); fault_is = λ _. numbered f is; no_fault = λ other. absurd (other refl) }
@@ -147,51 +153,51 @@ report-of-stop stop.InputEnded machine is = record { status_is = inr (omega arit
 report-of-stop stop.Stuck machine is = record { status_is = inr (omega arith, omega arith); fault_is = λ e. absurd (omega arith); no_fault = λ _. (refl, refl) }
 report-of-stop stop.LineTooLong machine is = record { status_is = inr (omega arith, omega arith); fault_is = λ e. absurd (omega arith); no_fault = λ _. (refl, refl) }
 
-pub report-of-halt : (why : Halt) → IsReport (status_of_halt why) 0 0
+pub report-of-halt : (why : Halt) → IsReport (halt_status why) 0 0
 report-of-halt halt.Shelf = record { status_is = inr (omega arith, omega arith); fault_is = λ e. absurd (omega arith); no_fault = λ _. (refl, refl) }
 report-of-halt halt.Input = record { status_is = inr (omega arith, omega arith); fault_is = λ e. absurd (omega arith); no_fault = λ _. (refl, refl) }
 report-of-halt halt.Output = record { status_is = inr (omega arith, omega arith); fault_is = λ e. absurd (omega arith); no_fault = λ _. (refl, refl) }
 report-of-halt halt.NoMemory = record { status_is = inr (omega arith, omega arith); fault_is = λ e. absurd (omega arith); no_fault = λ _. (refl, refl) }
 
 -- the counts of a run that came to its end, and of one that was cut short
-pub counts-of-stop : (entry exit : Devices) (why : Stop) → (let r : Result Stop Halt = Ok why in Keeps entry exit r) → Counts entry exit (status_of why)
+pub counts-of-stop : (entry exit : Devices) (why : Stop) → (let r : Result Stop Halt = Ok why in Keeps entry exit r) → FailureCounts entry exit (stop_status why)
 counts-of-stop entry exit why k =
-    let low : status_of why < status_shelf_fault = status-low why in
+    let low : stop_status why < status_shelf_fault = status-low why in
     let r : Result Stop Halt = Ok why in
     record {
-      shelf = blames-same entry.shelf.calls exit.shelf.calls (r ≡ Err halt.Shelf) (status_of why ≡ status_shelf_fault) k.shelf (λ e. absurd cc) (λ e. absurd (omega arith));
-      source = blames-same entry.source.calls exit.source.calls (r ≡ Err halt.Input) (status_of why ≡ status_input_fault) k.source (λ e. absurd cc) (λ e. absurd (omega arith));
-      sink = blames-same entry.sink.calls exit.sink.calls (r ≡ Err halt.Output) (status_of why ≡ status_output_fault) k.sink (λ e. absurd cc) (λ e. absurd (omega arith));
+      shelf = blames-same entry.shelf.calls exit.shelf.calls (r ≡ Err halt.Shelf) (stop_status why ≡ status_shelf_fault) k.shelf (λ e. absurd cc) (λ e. absurd (omega arith));
+      source = blames-same entry.source.calls exit.source.calls (r ≡ Err halt.Input) (stop_status why ≡ status_input_fault) k.source (λ e. absurd cc) (λ e. absurd (omega arith));
+      sink = blames-same entry.sink.calls exit.sink.calls (r ≡ Err halt.Output) (stop_status why ≡ status_output_fault) k.sink (λ e. absurd cc) (λ e. absurd (omega arith));
     }
 
 abbrev halt-of : ℕ → Halt
 halt-of n = if n == status_shelf_fault then halt.Shelf else if n == status_input_fault then halt.Input else if n == status_output_fault then halt.Output else halt.NoMemory
 
-pub counts-of-halt : (entry exit : Devices) (why : Halt) → (let r : Result Stop Halt = Err why in Keeps entry exit r) → Counts entry exit (status_of_halt why)
+pub counts-of-halt : (entry exit : Devices) (why : Halt) → (let r : Result Stop Halt = Err why in Keeps entry exit r) → FailureCounts entry exit (halt_status why)
 counts-of-halt entry exit why k =
     let r : Result Stop Halt = Err why in
     record {
-      shelf = blames-same entry.shelf.calls exit.shelf.calls (r ≡ Err halt.Shelf) (status_of_halt why ≡ status_shelf_fault) k.shelf (λ e. status-to why halt.Shelf e) (λ e. status-from why halt.Shelf e);
-      source = blames-same entry.source.calls exit.source.calls (r ≡ Err halt.Input) (status_of_halt why ≡ status_input_fault) k.source (λ e. status-to why halt.Input e) (λ e. status-from why halt.Input e);
-      sink = blames-same entry.sink.calls exit.sink.calls (r ≡ Err halt.Output) (status_of_halt why ≡ status_output_fault) k.sink (λ e. status-to why halt.Output e) (λ e. status-from why halt.Output e);
+      shelf = blames-same entry.shelf.calls exit.shelf.calls (r ≡ Err halt.Shelf) (halt_status why ≡ status_shelf_fault) k.shelf (λ e. status-to why halt.Shelf e) (λ e. status-from why halt.Shelf e);
+      source = blames-same entry.source.calls exit.source.calls (r ≡ Err halt.Input) (halt_status why ≡ status_input_fault) k.source (λ e. status-to why halt.Input e) (λ e. status-from why halt.Input e);
+      sink = blames-same entry.sink.calls exit.sink.calls (r ≡ Err halt.Output) (halt_status why ≡ status_output_fault) k.sink (λ e. status-to why halt.Output e) (λ e. status-from why halt.Output e);
     }
   where
-    status-to : (why one : Halt) → (let r : Result Stop Halt = Err why in r ≡ Err one) → status_of_halt why ≡ status_of_halt one
-    status-to why one e = let same : why ≡ one = cc in ap status_of_halt same
+    status-to : (why one : Halt) → (let r : Result Stop Halt = Err why in r ≡ Err one) → halt_status why ≡ halt_status one
+    status-to why one e = let same : why ≡ one = cc in ap halt_status same
 
-    back : (why : Halt) → halt-of (status_of_halt why) ≡ why
+    back : (why : Halt) → halt-of (halt_status why) ≡ why
     back halt.Shelf = refl
     back halt.Input = refl
     back halt.Output = refl
     back halt.NoMemory = refl
 
-    status-from : (why one : Halt) → status_of_halt why ≡ status_of_halt one → (let r : Result Stop Halt = Err why in r ≡ Err one)
+    status-from : (why one : Halt) → halt_status why ≡ halt_status one → (let r : Result Stop Halt = Err why in r ≡ Err one)
     status-from why one e = ap (λ (x : Halt). let r : Result Stop Halt = Err x in r) (sym (back why) ∙ ap halt-of e ∙ back one)
 
 -- a run that came to its end, with all text sent and all files stored
-pub ended-at : {K : Type 0} {sending : SendStep K} → (start : Configuration) (entry : Handed sending) (h : Held) (asking : Option Asking) (d : Handed sending) (why : Stop) → h.left ≤ start.left → (f : Finished start entry h asking d why)
-    → (before now : FlatSink) (reads : List Read) → Chain SinkCall before (map taken f.told.past.sent) now → EndsAt start (final_of start) (devices_of entry before [] []) (devices_of d now reads (map taken f.told.past.sent)) h.coming (record {
-      status = status_of why;
+pub ended-at : {K : Type 0} {sending : SendStep K} → (start : Configuration) (entry : Handed sending) (h : HeldRun) (asking : Option Asking) (d : Handed sending) (why : Stop) → h.left ≤ start.left → (f : Finished start entry h asking d why)
+    → (before now : FlatSink) (reads : List SourceRead) → Chain SinkCall before (map whole_send f.told.past.sent) now → EndsAt start (final_of start) (devices_of entry before [] []) (devices_of d now reads (map whole_send f.told.past.sent)) h.coming (record {
+      status = stop_status why;
       fault = fault_number why;
       at = fault_address why h.machine;
       steps = start.left - h.left;
@@ -201,14 +207,14 @@ pub ended-at : {K : Type 0} {sending : SendStep K} → (start : Configuration) (
 ended-at {sending = sending} start entry h asking d why fewer f before now reads chain =
     let t = f.told in
     let d0 : Handed sending = record d { shelf = f.shelf; asked = f.before } in
-    let e : Ending = final_of start in
+    let e : RunEnd = final_of start in
     let units : start.left - h.left + h.left ≡ start.left = omega arith in
     let left : e.configuration.left ≡ h.left = ap (λ (m : Configuration). m.left) t.is_end in
     let machine : h.machine ≡ e.configuration.machine = sym (ap (λ (m : Configuration). m.machine) t.is_end) in
     let scene : e.configuration.world.scene ≡ h.world.scene = scene-is start entry h asking d0 why t in
     let asked-is : e.configuration.asked ≡ f.before = ap (λ (m : Configuration). m.asked) t.is_end in
     record {
-      status_is = ap status_of (sym t.stop_is);
+      status_is = ap stop_status (sym t.stop_is);
       fault_is = ap fault_number (sym t.stop_is);
       at_is = ap (λ (x : FlatMachine). fault_address why x) machine ∙ ap (λ (x : Stop). fault_address x e.configuration.machine) (sym t.stop_is);
       steps_are = omega arith;
@@ -219,16 +225,16 @@ ended-at {sending = sending} start entry h asking d why fewer f before now reads
       text_is = λ told. (took-whole before now t.past.sent chain).all told ∙ ap (λ (x : List ℕ). before.taken ++ x) (sym (whole-text start entry h asking d0 why t));
       sends_are = sends-then start entry h asking d0 why t;
       asked_are =
-          f.asked_are ∙ ap (λ (x : Trace). x ++ map call_of (stores_of h.world.scene)) (sym asked-is)
-          ∙ ap (λ (x : Scene). e.configuration.asked ++ map call_of (stores_of x)) (sym scene);
+          f.asked_are ∙ ap (λ (x : Trace). x ++ map store_call (stores_of h.world.scene)) (sym asked-is)
+          ∙ ap (λ (x : Scene). e.configuration.asked ++ map store_call (stores_of x)) (sym scene);
       input_is = input-are start entry h asking d0 why t;
       words_are = words-are start entry h asking d0 why t;
       saves_are = t.saves;
     }
 
 -- A whole run is the session, over these calls of the sink.
-module _ {K : Type 0} {sending : SendStep K} (seen : K → FlatSink) (law : (x : K) (c : Send) (y : K) → sending x c y → SinkCall (seen x) c (seen y)) (reads : List Read)
-    (start : Configuration) (entry : Handed sending) (h : Held) (asking : Option Asking) (d : Handed sending) (fewer : h.left ≤ start.left) where
+module _ {K : Type 0} {sending : SendStep K} (seen : K → FlatSink) (law : (x : K) (c : Send) (y : K) → sending x c y → SinkCall (seen x) c (seen y)) (reads : List SourceRead)
+    (start : Configuration) (entry : Handed sending) (h : HeldRun) (asking : Option Asking) (d : Handed sending) (fewer : h.left ≤ start.left) where
   abbrev report-at : ℕ → ℕ → ℕ → Report
   report-at status fault at = record { status = status; fault = fault; at = at; steps = start.left - h.left; machine = record { machine = h.machine; asking = asking }; log = h.log }
 
@@ -239,10 +245,10 @@ module _ {K : Type 0} {sending : SendStep K} (seen : K → FlatSink) (law : (x :
   seen-so sends chain = chain-map seen sending SinkCall law entry.sink d.sink sends chain
 
   pub session-of-stop : (why : Stop) → RunGives start entry h asking d (Ok why)
-      → (sends : List Send) × Chain sending entry.sink sends d.sink × IsSessionOver sends (report-at (status_of why) (fault_number why) (fault_address why h.machine))
+      → (sends : List Send) × Chain sending entry.sink sends d.sink × IsSessionOver sends (report-at (stop_status why) (fault_number why) (fault_address why h.machine))
   session-of-stop why f =
-      let low : status_of why < status_shelf_fault = status-low why in
-      let sends : List Send = map taken f.told.past.sent in
+      let low : stop_status why < status_shelf_fault = status-low why in
+      let sends : List Send = map whole_send f.told.past.sent in
       let chain : Chain sending entry.sink sends d.sink = f.told.is_past.taken in (
         sends,
         chain,
@@ -250,12 +256,12 @@ module _ {K : Type 0} {sending : SendStep K} (seen : K → FlatSink) (law : (x :
       )
 
   pub session-of-halt : (why : Halt) → RunGives start entry h asking d (Err why)
-      → (sends : List Send) × Chain sending entry.sink sends d.sink × IsSessionOver sends (report-at (status_of_halt why) 0 0)
+      → (sends : List Send) × Chain sending entry.sink sends d.sink × IsSessionOver sends (report-at (halt_status why) 0 0)
   session-of-halt why early =
-      let high : status_shelf_fault ≤ status_of_halt why = status-high why in
+      let high : status_shelf_fault ≤ halt_status why = status-high why in
       let e = early.stops (seen entry.sink) (seen d.sink) reads in
       let units : start.left - h.left + h.left ≡ start.left = omega arith in
-      let front = takes-front (seen entry.sink) (seen d.sink) e.configuration e.sent_of (status_of_halt why) e.cut early.sends e.sends_are (seen-so early.sends early.chain) in (
+      let front = takes-front (seen entry.sink) (seen d.sink) e.configuration e.sent_of (halt_status why) e.cut early.sends e.sends_are (seen-so early.sends early.chain) in (
         early.sends,
         early.chain,
         record { ended = λ low. absurd (omega arith); early = λ _. (h.left, units, e, front) },

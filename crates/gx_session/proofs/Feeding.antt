@@ -2,29 +2,31 @@
 use Rattle.std.proofs.Common.{◌≡◌, ℕ, zero, suc, ◌+◌, ◌<◌, ◌≤◌, ◌-◌, ◌⊎◌, inl, inr, List, [], ◌∷◌, ◌++◌, length, take, drop, Bool, true, false, Result, Ok, Err, IfOk, IfErr, refl, ap, subst, sym, ◌∙◌, arith, append_assoc, append-nil, length-append, length-drop}
 use Rattle.std.proofs.lemmas.Bool.{cases_lt}
 use Rattle.gx_outside.specs.Outside.{FlatSource, raised, raised_by, offered_by, offered_in}
-use Rattle.gx_outside.specs.Reads.{Read}
+use Rattle.gx_outside.specs.Reads.{SourceRead}
 use Rattle.gx_outside.specs.declared.devices.Failed.{Failed}
 use Rattle.gx_session.specs.declared.lines.NoLine.{NoLine}
 use Rattle.gx_session.specs.declared.lines.NoLine.TheVariants as no
-use Rattle.gx_session.specs.Constants.{longest, piece}
+use Rattle.gx_session.specs.Constants.{longest_line, piece}
 use Rattle.gx_session.specs.Input.{line, chars_of, next_line}
 use Rattle.gx_session.specs.Lines.{HeldLines}
-use Rattle.gx_session.specs.Reading.{IsComing, IsOver, bytes_read, HavePieces, SayEnd, ReadStep, Fed, FillsBy, spare, ReadsFew, Takes, GrowsBy, Fills, IsPartial, HoldsFew}
+use Rattle.gx_session.specs.Reading.{IsComing, IsOver, ReadStep, Fed, FillsBy, spare, ReadsFew, Takes, GainsPiece}
+use Rattle.gx_session.specs.Reading.{Fills, HoldsFew}
+use Rattle.gx_session.specs.Reads.{bytes_read, HavePieces, SayEnd, IsPartial}
 use Rattle.gx_session.proofs.Calling.{chain-append}
 use Rattle.gx_session.proofs.Storing.{raised-more}
 use Rattle.gx_session.proofs.NextLines.{pos, next-long, next-held, next-last, next-none}
 
 -- THE READS
-pieces-and : (one two : List Read) → HavePieces one → HavePieces two → HavePieces (one ++ two)
+pieces-and : (one two : List SourceRead) → HavePieces one → HavePieces two → HavePieces (one ++ two)
 pieces-and [] two all more = more
 pieces-and ((room, gave) ∷ one) two all more = (all.0, pieces-and one two all.1 more)
 
-read-append : (one two : List Read) → bytes_read (one ++ two) ≡ bytes_read one ++ bytes_read two
+read-append : (one two : List SourceRead) → bytes_read (one ++ two) ≡ bytes_read one ++ bytes_read two
 read-append [] two = refl
 read-append ((room, Ok bytes) ∷ one) two = ap (λ (x : List ℕ). bytes ++ x) (read-append one two) ∙ sym (append_assoc bytes (bytes_read one) (bytes_read two))
 read-append ((room, Err e) ∷ one) two = read-append one two
 
-says-split : (one two : List Read) → SayEnd (one ++ two) → SayEnd one ⊎ SayEnd two
+says-split : (one two : List SourceRead) → SayEnd (one ++ two) → SayEnd one ⊎ SayEnd two
 says-split [] two s = inr s
 says-split ((room, Ok []) ∷ one) two s = inl tt
 says-split ((room, Ok (x ∷ xs)) ∷ one) two s = says-split one two s
@@ -128,7 +130,7 @@ pub record ReadOn (first now : HeldLines) (before source : FlatSource) (x y : Li
   pub reads : ReadsFew first.ended now.ended before source x y 0
 
 module _ {S : Type 0} (reading : ReadStep S) (seen : S → FlatSource) (first now : HeldLines) (before source : S) (fed : Fed reading seen first now before source (ReadOn first now (seen before) (seen source))) where
-  pub too-long : longest ≤ pos now.held → Fed reading seen first now before source (λ x y. Takes first now (seen before) (seen source) x y (Err no.TooLong))
+  pub too-long : longest_line ≤ pos now.held → Fed reading seen first now before source (λ x y. Takes first now (seen before) (seen source) x y (Err no.TooLong))
   too-long long =
       fed-as reading seen first now before source (ReadOn first now (seen before) (seen source)) (λ x y. Takes first now (seen before) (seen source) x y (Err no.TooLong)) fed
       (λ x y r. record { line = (ap next_line r.same ∙ next-long now.held y long, sym r.same); reads = r.reads })
@@ -154,7 +156,7 @@ module _ {S : Type 0} (reading : ReadStep S) (seen : S → FlatSource) (first no
       omega arith
 
   -- a line that is held
-  pub takes-held : (later : HeldLines) (r : Result (List ℕ) NoLine) → pos now.held < length now.held → pos now.held < longest
+  pub takes-held : (later : HeldLines) (r : Result (List ℕ) NoLine) → pos now.held < length now.held → pos now.held < longest_line
       → IfOk r (λ chars. (chars ≡ chars_of (take (pos now.held) now.held)) × (later ≡ record now { held = drop (pos now.held + 1) now.held }))
       → IfErr r (λ e. (e ≡ no.NoMemory) × (later ≡ now)) → Fed reading seen first later before source (λ x y. Takes first later (seen before) (seen source) x y r)
   takes-held later (Ok chars) here short ok err =
@@ -173,7 +175,7 @@ module _ {S : Type 0} (reading : ReadStep S) (seen : S → FlatSource) (first no
       (record { line = some-held x y (omega arith) r.same; reads = read-still later (ap (λ (l : HeldLines). l.ended) err.1) x y z r same }))
 
   -- the last line, or none
-  module _ (over : now.ended ≡ true) (all : pos now.held ≡ length now.held) (short : length now.held < longest) where
+  module _ (over : now.ended ≡ true) (all : pos now.held ≡ length now.held) (short : length now.held < longest_line) where
     -- what comes is nothing
     record Nothing (later : HeldLines) (x y : List ℕ) : Type 0 where
       same : first.held ++ x ≡ now.held ++ []
@@ -306,7 +308,7 @@ module _ {S : Type 0} (reading : ReadStep S) (seen : S → FlatSource) (first no
     fails (Ok got) call no.TooLong is = absurd is
     fails (Err f) call no.TooLong is = absurd is
 
-    pub fails-few : (gave : Result (List ℕ) Failed) → reading source (piece, gave) source' → (e : NoLine) → Fills now later (seen source) (seen source') (Err e) gave → pos now.held ≡ length now.held → length now.held < longest → HoldsFew later.held (let r : Result (List ℕ) NoLine = Err e in r)
+    pub fails-few : (gave : Result (List ℕ) Failed) → reading source (piece, gave) source' → (e : NoLine) → Fills now later (seen source) (seen source') (Err e) gave → pos now.held ≡ length now.held → length now.held < longest_line → HoldsFew later.held (let r : Result (List ℕ) NoLine = Err e in r)
     fails-few (Err f) call no.Failed is all short = subst IsPartial (ap (λ (l : HeldLines). l.held) (sym is.0)) (all, short)
     fails-few (Ok got) call no.NoMemory is all short = tt
     fails-few (Ok got) call no.Failed is all short = absurd is
@@ -317,7 +319,7 @@ module _ {S : Type 0} (reading : ReadStep S) (seen : S → FlatSource) (first no
     fails-few (Err f) call no.TooLong is all short = tt
 
     -- a piece was read
-    module _ (got : List ℕ) (call : reading source (piece, Ok got) source') (g : GrowsBy now later (seen source) (seen source') got) where
+    module _ (got : List ℕ) (call : reading source (piece, Ok got) source') (g : GainsPiece now later (seen source) (seen source') got) where
       ended-or : (b : Bool) → later.ended ≡ b → 1 + spare later.ended ≤ length got + 1
       ended-or true e = let units : spare later.ended ≡ 0 = ap spare e in omega arith
       ended-or false e =
@@ -353,12 +355,12 @@ module _ {S : Type 0} (reading : ReadStep S) (seen : S → FlatSource) (first no
           grown
 
 -- a read that filled gave the bytes by which it did
-by-fill : (old new : HeldLines) (before now : FlatSource) (gave : Result (List ℕ) Failed) → Fills old new before now (Ok tt) gave → (got : List ℕ) × (gave ≡ Ok got) × GrowsBy old new before now got
+by-fill : (old new : HeldLines) (before now : FlatSource) (gave : Result (List ℕ) Failed) → Fills old new before now (Ok tt) gave → (got : List ℕ) × (gave ≡ Ok got) × GainsPiece old new before now got
 by-fill old new before now (Ok got) is = (got, refl, is)
 by-fill old new before now (Err f) is = absurd is
 
 pub grows-by : {S : Type 0} (reading : ReadStep S) (seen : S → FlatSource) (old new : HeldLines) (before now : S) → FillsBy reading seen old new before now (Ok tt)
-    → (got : List ℕ) × reading before (piece, Ok got) now × GrowsBy old new (seen before) (seen now) got
+    → (got : List ℕ) × reading before (piece, Ok got) now × GainsPiece old new (seen before) (seen now) got
 grows-by reading seen old new before now f =
     let by = by-fill old new (seen before) (seen now) f.gave f.fills in
     (by.0, subst (λ (r : Result (List ℕ) Failed). reading before (piece, r) now) by.1 f.call, by.2)

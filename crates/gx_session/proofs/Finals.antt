@@ -23,8 +23,13 @@ use Rattle.gx_session.specs.Constants.{enough as enough_text}
 use Rattle.gx_session.specs.declared.running.Waiting.{Waiting}
 use Rattle.gx_session.specs.Input.{next_line}
 use Rattle.gx_session.specs.Saving.{saving, restoring}
-use Rattle.gx_session.specs.Sending.{Sent, pending, is_due, with_all}
-use Rattle.gx_session.specs.Session.{Configuration, Doing, steps, asks, goes_on, Verdict, goes, stops, after_reply, after_restoring, after_turn, after_effect, after_step, step_from, act_by, act_of, is_due_by, sends_now, all_sent, move_of, Ending, end_after, final_in, moves_by, moves_left, stop_of, next_of, run_of}
+use Rattle.gx_session.specs.Sending.{Sent, pending, is_due}
+use Rattle.gx_session.specs.Configurations.{Configuration, Phase, steps, asks, goes_on, Verdict, goes, stops}
+use Rattle.gx_session.specs.Moves.{after_reply, after_restoring, after_turn, after_effect, after_step, step_from}
+use Rattle.gx_session.specs.Moves.{act_by, act_of, is_due_by, sends_now, all_sent, move_of}
+use Rattle.gx_session.specs.Session.{RunEnd, end_after, final_in, moves_by, moves_left, stop_of, next_configuration}
+use Rattle.gx_session.specs.Session.{run_of}
+use Rattle.gx_session.proofs.Parts.{with_all}
 use Rattle.gx_session.proofs.Cases.{turn-cases, given-cases, line-cases, asking-cases}
 use Rattle.rand_core.specs.Stream.{next_u32}
 
@@ -41,7 +46,7 @@ none-due enough s text some =
     let none : length (pending (with_all s text) text) ≡ length text - length (concat (with_all s text)) = length-drop (length (concat (with_all s text))) text in
     lt-leb enough (length (pending (with_all s text) text)) (omega arith)
 
-pub quiet-sent : (doing : Doing) (s : Sent) (text : List ℕ) → is_due_by doing (with_all s text) text ≡ false
+pub quiet-sent : (phase : Phase) (s : Sent) (text : List ℕ) → is_due_by phase (with_all s text) text ≡ false
 quiet-sent steps s text = none-due enough_text s text (omega arith)
 quiet-sent (asks t w) s text = none-due 1 s text (omega arith)
 quiet-sent (goes_on g w) s text = refl
@@ -89,11 +94,11 @@ went-near n left b less =
     omega arith
 
 -- a step that leaves so many units
-effected-near : (n : ℕ) (m : Configuration) (left : ℕ) (machine : FlatMachine) (does : Effect) → m.doing ≡ steps → 5 * left + 4 < n → Near n (after_effect m left machine does)
+effected-near : (n : ℕ) (m : Configuration) (left : ℕ) (machine : FlatMachine) (does : Effect) → m.phase ≡ steps → 5 * left + 4 < n → Near n (after_effect m left machine does)
 effected-near n m left machine effect.Went is less =
-    subst (λ (d : Doing). moves_by d left + (if is_due_by d m.sent m.world.text then 1 else 0) < n) (sym is) (went-near n left (is_due enough_text m.sent m.world.text) less)
+    subst (λ (d : Phase). moves_by d left + (if is_due_by d m.sent m.world.text then 1 else 0) < n) (sym is) (went-near n left (is_due enough_text m.sent m.world.text) less)
 effected-near n m left machine effect.Drew is less =
-    subst (λ (d : Doing). moves_by d left + (if is_due_by d m.sent m.world.text then 1 else 0) < n) (sym is) (went-near n left (is_due enough_text m.sent m.world.text) less)
+    subst (λ (d : Phase). moves_by d left + (if is_due_by d m.sent m.world.text then 1 else 0) < n) (sym is) (went-near n left (is_due enough_text m.sent m.world.text) less)
 effected-near n m left machine (effect.Put c) is less = replied-near n m left (putting m.world.scene m.machine.flat c) (omega arith)
 effected-near n m left machine (effect.Glk selector args room) is less =
     turned-near n m (record { room = room; left = left }) (glk_call m.world.scene m.machine.flat room selector args.items) less
@@ -102,24 +107,24 @@ effected-near n m left machine (effect.Restore stream) is less = restored-near n
 effected-near n m left machine effect.Quit is less = tt
 effected-near n m left machine effect.Spent is less = tt
 
-stepped-near : (n : ℕ) (m : Configuration) (left : ℕ) (r : Result (FlatMachine × Effect) Fault) → m.doing ≡ steps → 5 * left + 4 < n → Near n (after_step m left r)
+stepped-near : (n : ℕ) (m : Configuration) (left : ℕ) (r : Result (FlatMachine × Effect) Fault) → m.phase ≡ steps → 5 * left + 4 < n → Near n (after_step m left r)
 stepped-near n m left (Ok r) is less = effected-near n m left r.0 r.1 is less
 stepped-near n m left (Err f) is less = tt
 
-tested-near : (m : Configuration) (cost : ℕ) (r : Result (FlatMachine × Effect) Fault) (b : Bool) → m.doing ≡ steps → nat_lt m.left cost ≡ b → 1 ≤ cost
+tested-near : (m : Configuration) (cost : ℕ) (r : Result (FlatMachine × Effect) Fault) (b : Bool) → m.phase ≡ steps → nat_lt m.left cost ≡ b → 1 ≤ cost
     → Near (5 * m.left) (if b then stops stop.Spent m else after_step m (m.left - cost) r)
-tested-near m cost r true doing is positive = tt
-tested-near m cost r false doing is positive =
+tested-near m cost r true phase is positive = tt
+tested-near m cost r false phase is positive =
     let enough : cost ≤ m.left = ltb-false m.left cost is in
-    stepped-near (5 * m.left) m (m.left - cost) r doing (omega arith)
+    stepped-near (5 * m.left) m (m.left - cost) r phase (omega arith)
 
-step-near : (m : Configuration) → m.doing ≡ steps → Near (5 * m.left) (step_from m)
+step-near : (m : Configuration) → m.phase ≡ steps → Near (5 * m.left) (step_from m)
 unfolding step_from
 step-near m is =
     tested-near m (cost_of m.machine) (step_of m.machine (next_u32 m.words).0) (nat_lt m.left (cost_of m.machine)) is refl (cost-positive m.machine)
 
 -- what comes next
-act-near : (doing : Doing) (m : Configuration) → m.doing ≡ doing → Near (moves_by doing m.left) (act_by doing m)
+act-near : (phase : Phase) (m : Configuration) → m.phase ≡ phase → Near (moves_by phase m.left) (act_by phase m)
 act-near steps m is = step-near m is
 act-near (asks t w) m is =
     asking-cases (Near (5 * w.left + 3)) m w t
@@ -131,13 +136,13 @@ act-near (goes_on g w) m is =
 
 moved-near : (m : Configuration) (b : Bool) → sends_now m ≡ b → Near (moves_left m) (if b then goes (all_sent m) else act_of m)
 moved-near m true is =
-    let before : moves_left m ≡ moves_by m.doing m.left + 1 = ap (λ (b : Bool). moves_by m.doing m.left + (if b then 1 else 0)) is in
-    let now : moves_left (all_sent m) ≡ moves_by m.doing m.left + 0 = ap (λ (b : Bool). moves_by m.doing m.left + (if b then 1 else 0)) (quiet-sent m.doing m.sent m.world.text) in
+    let before : moves_left m ≡ moves_by m.phase m.left + 1 = ap (λ (b : Bool). moves_by m.phase m.left + (if b then 1 else 0)) is in
+    let now : moves_left (all_sent m) ≡ moves_by m.phase m.left + 0 = ap (λ (b : Bool). moves_by m.phase m.left + (if b then 1 else 0)) (quiet-sent m.phase m.sent m.world.text) in
     omega arith
 moved-near m false is =
-    let before : moves_left m ≡ moves_by m.doing m.left + 0 = ap (λ (b : Bool). moves_by m.doing m.left + (if b then 1 else 0)) is in
-    let same : moves_by m.doing m.left ≡ moves_left m = omega arith in
-    subst (λ (n : ℕ). Near n (act_of m)) same (act-near m.doing m refl)
+    let before : moves_left m ≡ moves_by m.phase m.left + 0 = ap (λ (b : Bool). moves_by m.phase m.left + (if b then 1 else 0)) is in
+    let same : moves_by m.phase m.left ≡ moves_left m = omega arith in
+    subst (λ (n : ℕ). Near n (act_of m)) same (act-near m.phase m refl)
 
 move-near : (m : Configuration) → Near (moves_left m) (move_of m)
 unfolding move_of
@@ -148,7 +153,7 @@ pub goes-nearer : (m m' : Configuration) → move_of m ≡ goes m' → moves_lef
 goes-nearer m m' e = subst (Near (moves_left m)) e (move-near m)
 
 -- two ways to go on that agree at the next moment
-agree : (v : Verdict) (f g : Configuration → Ending) → ((m : Configuration) → v ≡ goes m → f m ≡ g m) → end_after v f ≡ end_after v g
+agree : (v : Verdict) (f g : Configuration → RunEnd) → ((m : Configuration) → v ≡ goes m → f m ≡ g m) → end_after v f ≡ end_after v g
 agree (stops s m) f g same = refl
 agree (goes m) f g same = same m refl
 
@@ -174,7 +179,7 @@ stop-comes m m' s e = ap (λ (v : Verdict). end_after v (final_in (moves_left m)
 
 -- One more move is one more configuration of the run.
 pub reached-goes : (start m m' : Configuration) (j : ℕ) → run_of start j ≡ Some m → move_of m ≡ goes m' → run_of start (suc j) ≡ Some m'
-reached-goes start m m' j reached e = ap (λ (o : Option Configuration). option_and_then (λ m. next_of (move_of m)) o) reached ∙ ap next_of e
+reached-goes start m m' j reached e = ap (λ (o : Option Configuration). option_and_then (λ m. next_configuration (move_of m)) o) reached ∙ ap next_configuration e
 
 -- The text that is due is sent, and else what comes next is done.
 pub move-sends : (m : Configuration) → sends_now m ≡ true → move_of m ≡ goes (all_sent m)

@@ -5,7 +5,7 @@ use Rattle.gx_session.specs.declared.ends.Halt.{Halt}
 use Rattle.gx_session.specs.declared.ends.Halt.TheVariants as halt
 use Rattle.gx_session.specs.Counts.{Blames}
 use Rattle.gx_session.specs.Devices.{Devices}
-use Rattle.gx_session.specs.Playing.{Keeps}
+use Rattle.gx_session.specs.Outcomes.{Keeps}
 use Rattle.gx_session.proofs.Counting.{IsWell, blames-none, blames-same, well-none, well-of, well-and, blames-well, blames-on, blames-call}
 
 -- two errors

@@ -12,6 +12,7 @@ pub mod Finals
 pub mod Keeping
 pub mod Lining
 pub mod NextLines
+pub mod Parts
 pub mod Passing
 pub mod Playing
 pub mod Recording

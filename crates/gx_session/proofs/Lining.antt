@@ -12,8 +12,10 @@ use Rattle.gx_session.specs.declared.ends.Halt.{Halt}
 use Rattle.gx_session.specs.declared.ends.Halt.TheVariants as halt
 use Rattle.gx_session.specs.declared.running.Running.{Running}
 use Rattle.gx_session.specs.declared.running.Waiting.{Waiting}
-use Rattle.gx_session.specs.Session.{Configuration, goes_on}
-use Rattle.gx_session.specs.Playing.{SendStep, Handed, held, asking_in, Waits, TakesInput, EventGives}
+use Rattle.gx_session.specs.Configurations.{Configuration, goes_on}
+use Rattle.gx_session.specs.Holding.{SendStep, Handed, held_by, asking_in}
+use Rattle.gx_session.specs.Standing.{IsInCall, TakesInput}
+use Rattle.gx_session.specs.Outcomes.{EventGives}
 use Rattle.gx_session.proofs.Asking.{line-wants, line-taken}
 
 -- what a call awaits is the same once a line is shown
@@ -22,17 +24,17 @@ awaits-shown w chars g true is = awaits-line w.scene chars g is
 awaits-shown w chars g false is = is
 
 module _ {K : Type 0} {sending : SendStep K} {E : Type 0} (whole : E → Whole) (log : E → Option Log) (old mid : Running E) (coming chars : List ℕ) (w : Waiting) (start : Configuration) (entry d : Handed sending)
-    (r : TakesInput start entry (held whole log old coming) (asking_in whole old) d chars w) where
+    (r : TakesInput start entry (held_by whole log old coming) (asking_in whole old) d chars w) where
   -- the showing wants memory
-  pub line-refused : (e : Halt) → e ≡ halt.NoMemory → mid ≡ record old { world = mid.world } → EventGives start entry (held whole log mid coming) (asking_in whole mid) d (Err e)
+  pub line-refused : (e : Halt) → e ≡ halt.NoMemory → mid ≡ record old { world = mid.world } → EventGives start entry (held_by whole log mid coming) (asking_in whole mid) d (Err e)
   line-refused e memory same =
-      subst (λ (x : Halt). EventGives start entry (held whole log mid coming) (asking_in whole mid) d (Err x)) (sym memory)
-      (subst (λ (x : Running E). EventGives start entry (held whole log x coming) (asking_in whole x) d (Err halt.NoMemory)) (sym same)
-      (line-wants start entry (held whole log old coming) d (asking_in whole old) w chars r (held whole log (record old { world = mid.world }) coming) refl refl refl))
+      subst (λ (x : Halt). EventGives start entry (held_by whole log mid coming) (asking_in whole mid) d (Err x)) (sym memory)
+      (subst (λ (x : Running E). EventGives start entry (held_by whole log x coming) (asking_in whole x) d (Err halt.NoMemory)) (sym same)
+      (line-wants start entry (held_by whole log old coming) d (asking_in whole old) w chars r (held_by whole log (record old { world = mid.world }) coming) refl refl refl))
 
   -- it is shown
   pub line-shown : mid ≡ record old { world = if old.echo then after old.world (show_line old.world.scene chars) else old.world }
-      → Waits start entry (held whole log mid coming) (asking_in whole mid) d (goes_on (given.Line chars) w)
+      → IsInCall start entry (held_by whole log mid coming) (asking_in whole mid) d (goes_on (given.Line chars) w)
   line-shown same =
-      subst (λ (x : Running E). Waits start entry (held whole log x coming) (asking_in whole x) d (goes_on (given.Line chars) w)) (sym same)
-      (line-taken start entry (held whole log old coming) d (asking_in whole old) w chars r (if old.echo then after old.world (show_line old.world.scene chars) else old.world) refl)
+      subst (λ (x : Running E). IsInCall start entry (held_by whole log x coming) (asking_in whole x) d (goes_on (given.Line chars) w)) (sym same)
+      (line-taken start entry (held_by whole log old coming) d (asking_in whole old) w chars r (if old.echo then after old.world (show_line old.world.scene chars) else old.world) refl)

@@ -3,7 +3,7 @@ use Rattle.std.proofs.Common.{◌≡◌, ℕ, suc, ◌+◌, ◌-◌, ◌<◌, �
 use Rattle.std.specs.List.{position_or_len, before_first, after_first}
 use Rattle.std.proofs.lemmas.Bool.{le-leb, lt-leb, ne_eqb, cases_lt}
 use Rattle.std.proofs.lemmas.List.{take-append-le, drop-append-le, length-take, take_all, length-drop}
-use Rattle.gx_session.specs.Constants.{longest}
+use Rattle.gx_session.specs.Constants.{longest_line}
 use Rattle.gx_session.specs.Input.{too_long, none, line, is_line_feed, chars_of, next_line}
 
 -- where the first line feed stands
@@ -57,7 +57,7 @@ before-size bytes =
     let size : length (take (pos bytes) bytes) ≡ min (pos bytes) (length bytes) = length-take (pos bytes) bytes in
     omega arith
 
-next-by : (bytes : List ℕ) (long empty : Bool) → nat_le longest (length (before_first is_line_feed bytes)) ≡ long → (length bytes == 0) ≡ empty
+next-by : (bytes : List ℕ) (long empty : Bool) → nat_le longest_line (length (before_first is_line_feed bytes)) ≡ long → (length bytes == 0) ≡ empty
     → next_line bytes ≡ (if long then too_long else if empty then none else line (chars_of (before_first is_line_feed bytes)) (after_first is_line_feed bytes))
 unfolding next_line
 next-by bytes long empty is is' =
@@ -68,18 +68,18 @@ not-empty : (bytes : List ℕ) → 0 < length bytes → (length bytes == 0) ≡ 
 not-empty [] some = absurd (omega arith)
 not-empty (b ∷ bytes) some = ne_eqb (length (b ∷ bytes)) 0 (λ e. omega arith)
 
-fits : (bytes : List ℕ) → pos bytes < longest → nat_le longest (length (before_first is_line_feed bytes)) ≡ false
-fits bytes less = lt-leb longest (length (before_first is_line_feed bytes)) (let size : length (before_first is_line_feed bytes) ≡ pos bytes = before-size bytes in omega arith)
+fits : (bytes : List ℕ) → pos bytes < longest_line → nat_le longest_line (length (before_first is_line_feed bytes)) ≡ false
+fits bytes less = lt-leb longest_line (length (before_first is_line_feed bytes)) (let size : length (before_first is_line_feed bytes) ≡ pos bytes = before-size bytes in omega arith)
 
 -- too many bytes with no line feed
-pub next-long : (held coming : List ℕ) → longest ≤ pos held → next_line (held ++ coming) ≡ too_long
+pub next-long : (held coming : List ℕ) → longest_line ≤ pos held → next_line (held ++ coming) ≡ too_long
 next-long held coming long =
     let later : pos held ≤ pos (held ++ coming) = pos-later held coming in
     let size : length (before_first is_line_feed (held ++ coming)) ≡ pos (held ++ coming) = before-size (held ++ coming) in
-    next-by (held ++ coming) true (length (held ++ coming) == 0) (le-leb longest (length (before_first is_line_feed (held ++ coming))) (omega arith)) refl
+    next-by (held ++ coming) true (length (held ++ coming) == 0) (le-leb longest_line (length (before_first is_line_feed (held ++ coming))) (omega arith)) refl
 
 -- a line that is held
-pub next-held : (held coming : List ℕ) → pos held < length held → pos held < longest
+pub next-held : (held coming : List ℕ) → pos held < length held → pos held < longest_line
     → next_line (held ++ coming) ≡ line (chars_of (take (pos held) held)) (drop (pos held + 1) held ++ coming)
 next-held held coming here short =
     let same : pos (held ++ coming) ≡ pos held = pos-front held coming here in
@@ -98,7 +98,7 @@ drop-past n xs past = none-left (drop n xs) (let size : length (drop n xs) ≡ l
     none-left (y ∷ ys) e = cc
 
 -- the last line
-pub next-last : (held : List ℕ) → pos held ≡ length held → 0 < length held → length held < longest → next_line (held ++ []) ≡ line (chars_of held) []
+pub next-last : (held : List ℕ) → pos held ≡ length held → 0 < length held → length held < longest_line → next_line (held ++ []) ≡ line (chars_of held) []
 next-last held all some short =
     let front : take (pos held) held ≡ held = take_all (pos held) held (omega arith) in
     let back : drop (pos held + 1) held ≡ [] = drop-past (pos held + 1) held (omega arith) in
@@ -123,8 +123,8 @@ taken-by (b ∷ bytes) chars rest false false is e =
 
 pub shorter-input : (bytes chars rest : List ℕ) → next_line bytes ≡ line chars rest → length rest < length bytes
 shorter-input bytes chars rest e =
-    taken-by bytes chars rest (nat_le longest (length (before_first is_line_feed bytes))) (length bytes == 0) refl
-    (sym (next-by bytes (nat_le longest (length (before_first is_line_feed bytes))) (length bytes == 0) refl refl) ∙ e)
+    taken-by bytes chars rest (nat_le longest_line (length (before_first is_line_feed bytes))) (length bytes == 0) refl
+    (sym (next-by bytes (nat_le longest_line (length (before_first is_line_feed bytes))) (length bytes == 0) refl refl) ∙ e)
 
 pub some-input : (bytes chars rest : List ℕ) → next_line bytes ≡ line chars rest → 0 < length bytes
 some-input bytes chars rest e = let less : length rest < length bytes = shorter-input bytes chars rest e in omega arith

@@ -9,8 +9,9 @@ use Rattle.gx_machine.specs.Step.{stepped, IsStepWriting}
 use Rattle.gx_machine.specs.Log.{Log}
 use Rattle.gx_machine.specs.Advancing.{Passes, Advances}
 use Rattle.gx_machine.proofs.Steps.{went_lower, went_asks}
-use Rattle.gx_session.specs.Session.{Configuration}
-use Rattle.gx_session.specs.Playing.{SendStep, Handed, Held, Going}
+use Rattle.gx_session.specs.Configurations.{Configuration}
+use Rattle.gx_session.specs.Holding.{SendStep, Handed, HeldRun}
+use Rattle.gx_session.specs.Standing.{Going}
 use Rattle.gx_session.proofs.Asking.{step-follows, went-on}
 
 pub passed-asks : (word n : ℕ) (w w' : Whole) (left left' : ℕ) (first last : Option Log) → w.asking ≡ None → Passes word n (w, left) first (w', left') last → w'.asking ≡ None
@@ -22,7 +23,7 @@ passed-lower word zero w w' left left' first last p = subst (λ (q : Whole × �
 passed-lower word (suc n) w w' left left' first last p =
     omega (arith, went_lower p.0.0 w' word p.0.1 left' p.3, passed-lower word n w p.0.0 left p.0.1 first p.1 p.2)
 
-pub passed-going : {K : Type 0} {sending : SendStep K} → (start : Configuration) (entry d : Handed sending) (h : Held) (word n : ℕ) (w w' : Whole) (left left' : ℕ) (first last : Option Log) → h.word ≡ Some word → w.asking ≡ None
+pub passed-going : {K : Type 0} {sending : SendStep K} → (start : Configuration) (entry d : Handed sending) (h : HeldRun) (word n : ℕ) (w w' : Whole) (left left' : ℕ) (first last : Option Log) → h.word ≡ Some word → w.asking ≡ None
     → Going start entry (record h { machine = w.machine; left = left; log = first }) d → Passes word n (w, left) first (w', left') last
     → Going start entry (record h { machine = w'.machine; left = left'; log = last }) d
 passed-going start entry d h word zero w w' left left' first last drawn nothing going p =
@@ -30,7 +31,7 @@ passed-going start entry d h word zero w w' left left' first last drawn nothing 
     (subst (λ (q : Whole × ℕ). Going start entry (record h { machine = q.0.machine; left = q.1; log = first }) d) p.0 going)
 passed-going start entry d h word (suc n) w w' left left' first last drawn nothing going p =
     let before : Whole = p.0.0 in
-    let mid : Held = record h { machine = before.machine; left = p.0.1; log = p.1 } in
+    let mid : HeldRun = record h { machine = before.machine; left = p.0.1; log = p.1 } in
     let reached = passed-going start entry d h word n w before left p.0.1 first p.1 drawn nothing going p.2 in
     let follows = step-follows start entry mid d before.asking word drawn reached w' left' effect.Went p.3 (λ some. absurd cc) last p.4 in
     went-on start entry (record mid { machine = w'.machine; log = last }) d left' follows

@@ -1,5 +1,7 @@
 -- What the code holds stays a configuration of the run.
-use Rattle.std.proofs.Common.{◌≡◌, ◌≢◌, ℕ, suc, ◌+◌, ◌-◌, ◌<◌, ◌≤◌, ◌⊎◌, inl, inr, nat_le, if◌then◌else◌, Bool, true, false, List, [], ◌∷◌, ◌++◌, map, length, Option, None, Some, Ok, Err, refl, ap, subst, sym, ◌∙◌, arith, append_assoc, append-nil, length-append}
+use Rattle.std.proofs.Common.{◌≡◌, ◌≢◌, ℕ, suc, ◌+◌, ◌-◌, ◌<◌, ◌≤◌, ◌⊎◌, inl, inr, nat_le, if◌then◌else◌, Bool, true}
+use Rattle.std.proofs.Common.{false, List, [], ◌∷◌, ◌++◌, map, length, Option, None, Some, Ok, Err, refl, ap, subst}
+use Rattle.std.proofs.Common.{sym, ◌∙◌, arith, append-nil, length-append}
 use Rattle.std.proofs.Math.Seq.{drop-append_seam}
 use Rattle.std.proofs.lemmas.List.{map-append}
 use Rattle.std.proofs.lemmas.List.Folds.{concat-append}
@@ -11,7 +13,7 @@ use Rattle.gx_outside.specs.Outside.{FlatSource, FlatShelf}
 use Rattle.gx_outside.specs.Sends.{Send}
 use Rattle.gx_outside.specs.declared.devices.SendFault.{SendFault}
 use Rattle.gx_outside.specs.declared.devices.SendFault.TheVariants as of_send
-use Rattle.gx_outside.specs.Shelves.{Request, Answer, Trace, MayWant}
+use Rattle.gx_outside.specs.Shelves.{Request, Answer, Trace, AnswerMayWant}
 use Rattle.gx_outside.specs.declared.devices.ShelfFault.{ShelfFault}
 use Rattle.gx_outside.specs.declared.devices.ShelfFault.TheVariants as of_shelf
 use Rattle.glk_world.specs.World.{FlatWorld}
@@ -22,14 +24,29 @@ use Rattle.gx_session.specs.declared.ends.Halt.{Halt}
 use Rattle.gx_session.specs.declared.ends.Halt.TheVariants as halt
 use Rattle.gx_session.specs.Constants.{piece, enough as enough_text}
 use Rattle.gx_session.specs.declared.running.Waiting.{Waiting}
-use Rattle.gx_session.specs.Cuts.{Cut, in_move, in_send, in_question, in_reading, in_last_send, IsCut, IsLineCut, IsWaiting, IsSendStatus, IsWait, request_of, IsRefused, WantsMemory, IsLineStop, AwaitedAt, LongAt, asking_between, stopped, asking_at_stop, send_fault_at, refused_send, sends_by_cut, fault_at, refused_call, asked_by_cut}
+use Rattle.gx_session.specs.Cuts.{RunCut, in_move, in_send, in_question, in_reading, in_last_send, IsCutShort}
+use Rattle.gx_session.specs.Cuts.{IsLineCut, IsWaiting, request_in, IsLineStop}
+use Rattle.gx_session.specs.Cuts.{asking_between, stopped, asking_at_stop}
+use Rattle.gx_session.specs.Cuts.{refused_send, sends_by_cut, refused_call, asked_by_cut}
+use Rattle.gx_session.specs.Wants.{IsWait, WantsMemory}
 use Rattle.gx_session.specs.Endings.{told_all}
 use Rattle.gx_session.specs.Questions.{AreAnswered, AreTold}
-use Rattle.gx_session.specs.Reading.{IsPartial, spare, ReadsFew}
-use Rattle.gx_session.specs.Sending.{Sent, pending, is_due, with_all, taken}
-use Rattle.gx_session.specs.Session.{Configuration, Doing, steps, asks, goes, stops, act_of, move_of, is_due_by, sends_now, all_sent, Ending, final_of, asked, asked_at}
-use Rattle.gx_session.specs.Runs.{IsFront, AreDrawn, LeavesInput, IsSaved, SavedBy, read_failures}
-use Rattle.gx_session.specs.Playing.{SendStep, Handed, Held, WordIs, Past, configuration_of, HasTaken, IsPast, IsRead, Standing, Ready, Going, Done, Shown, Told, Early, status_of_halt, halt_of_send, halt_of_shelf, SendsAll, Flushes}
+use Rattle.gx_session.specs.Reads.{IsPartial}
+use Rattle.gx_session.specs.Reading.{spare, ReadsFew}
+use Rattle.gx_session.specs.Sending.{Sent, pending, is_due, whole_send}
+use Rattle.gx_session.specs.Configurations.{Configuration, Phase, steps, asks, goes, stops}
+use Rattle.gx_session.specs.Moves.{act_of, move_of, is_due_by, sends_now, all_sent}
+use Rattle.gx_session.specs.Session.{RunEnd, final_of}
+use Rattle.gx_session.specs.Asked.{asked, asked_at}
+use Rattle.gx_session.specs.Runs.{IsFront, AreDrawn, IsSaved, SavedBy}
+use Rattle.gx_session.specs.Reads.{LeavesInput}
+use Rattle.gx_session.specs.Holding.{SendStep, Handed, HeldRun, WordIs, History, configuration_of, HasTaken, IsHistory}
+use Rattle.gx_session.specs.Holding.{IsRead}
+use Rattle.gx_session.specs.Standing.{Standing, Ready, Going, HasStopped, Early, halt_status}
+use Rattle.gx_session.specs.Finishing.{HasShown, Told}
+use Rattle.gx_session.specs.Outcomes.{halt_of_send, halt_of_shelf, SendsAll, Flushes}
+use Rattle.gx_session.proofs.Parts.{IsSendStatus, IsRequestRefused, AwaitedAt, LongAt, send_fault_at, fault_at}
+use Rattle.gx_session.proofs.Parts.{with_all, read_failures}
 use Rattle.gx_session.proofs.Calling.{chain-append}
 use Rattle.gx_session.proofs.Saved.{unsaved-send, saved-more, saved-all}
 use Rattle.gx_session.proofs.Texts.{final-grows}
@@ -37,19 +54,19 @@ use Rattle.gx_session.proofs.Finals.{quiet-sent, stop-stays, stop-comes, reached
 use Rattle.rand_core.specs.Stream.{Stream}
 
 -- nothing was done so far
-abbrev pub no_past : {K : Type 0} {sending : SendStep K} → (Trace → Request → Answer) → Handed sending → Past
+abbrev pub no_past : {K : Type 0} {sending : SendStep K} → (Trace → Request → Answer) → Handed sending → History
 no_past answers d = record { sent = []; answers = answers; words = d.words }
 
 due-of-none : (text : List ℕ) → text ≡ [] → is_due enough_text [] text ≡ false
 due-of-none text none = subst (λ (x : List ℕ). is_due enough_text [] x ≡ false) (sym none) refl
 
 -- a run begins at its start
-pub starts : {K : Type 0} {sending : SendStep K} → (answers : Trace → Request → Answer) (d : Handed sending) (h : Held) → d.asked ≡ [] → h.word ≡ None → h.ahead ≡ [] → h.over ≡ false → h.world.text ≡ [] → (d.source.tells ≡ true → h.coming ≡ d.source.left) → Going (configuration_of (no_past answers d) steps h d) d h d
+pub starts : {K : Type 0} {sending : SendStep K} → (answers : Trace → Request → Answer) (d : Handed sending) (h : HeldRun) → d.asked ≡ [] → h.word ≡ None → h.ahead ≡ [] → h.over ≡ false → h.world.text ≡ [] → (d.source.tells ≡ true → h.coming ≡ d.source.left) → Going (configuration_of (no_past answers d) steps h d) d h d
 starts answers d h first none nothing going empty left =
     let few : length h.ahead ≡ 0 = ap length nothing in
     let size : length (h.ahead ++ h.coming) ≡ length h.ahead + length h.coming = length-append h.ahead h.coming in
     let spare-is : spare h.over ≡ 1 = ap spare going in
-    let is : IsPast (configuration_of (no_past answers d) steps h d) d (no_past answers d) h d = record {
+    let is : IsHistory (configuration_of (no_past answers d) steps h d) d (no_past answers d) h d = record {
       taken = refl;
       answers = refl;
       answered = subst AreAnswered (sym first) tt;
@@ -79,19 +96,19 @@ words-left (Some w) stream words is = inr (sym (ap (λ (p : ℕ × Stream). p.1)
 pub pending-is : (sent : Sent) (text : List ℕ) → pending sent (concat sent ++ text) ≡ text
 pending-is sent text = drop-append_seam (concat sent) text
 
-has-taken : {K : Type 0} (sending : SendStep K) (entry now now' : K) (sent : Sent) (text : List ℕ) → HasTaken sending entry now sent → sending now (taken text) now' → HasTaken sending entry now' (sent ++ text ∷ [])
+has-taken : {K : Type 0} (sending : SendStep K) (entry now now' : K) (sent : Sent) (text : List ℕ) → HasTaken sending entry now sent → sending now (whole_send text) now' → HasTaken sending entry now' (sent ++ text ∷ [])
 has-taken sending entry now now' sent text before call =
-    subst (λ (t : List Send). Chain sending entry t now') (sym (map-append taken sent (text ∷ []))) (chain-append sending entry now now' (map taken sent) (taken text ∷ []) before (now', call, refl))
+    subst (λ (t : List Send). Chain sending entry t now') (sym (map-append whole_send sent (text ∷ []))) (chain-append sending entry now now' (map whole_send sent) (whole_send text ∷ []) before (now', call, refl))
 
 -- what is due of it
 due-is : (enough : ℕ) (sent : Sent) (text : List ℕ) (b : Bool) → nat_le enough (length text) ≡ b → is_due enough sent (concat sent ++ text) ≡ b
 due-is enough sent text b e = ap (λ (x : List ℕ). nat_le enough (length x)) (pending-is sent text) ∙ e
 
 -- A run is cut short at a configuration, after these calls of the sink.
-pub cut-at : {K : Type 0} {sending : SendStep K} → (start : Configuration) (entry exit : Handed sending) (h : Held) (asking : Option Asking) (why : Halt) (cut : Cut) (m : Configuration) (sends : List Send)
-    → IsCut start cut m (status_of_halt why) asking → h.machine ≡ m.machine → h.left ≡ m.left → h.log ≡ m.log → IsFront (concat m.sent) m.world.text → sends ≡ sends_by_cut cut m (status_of_halt why)
-    → Chain sending entry.sink sends exit.sink → IsFront m.world.text (final_of start).configuration.world.text → exit.asked ≡ asked_by_cut cut m (status_of_halt why)
-    → ((IsLineCut cut m → ⊥) → LeavesInput start.input m.input h.coming entry.source exit.source (AwaitedAt start cut) (LongAt start cut) (read_failures (status_of_halt why)))
+pub cut-at : {K : Type 0} {sending : SendStep K} → (start : Configuration) (entry exit : Handed sending) (h : HeldRun) (asking : Option Asking) (why : Halt) (cut : RunCut) (m : Configuration) (sends : List Send)
+    → IsCutShort start cut m (halt_status why) asking → h.machine ≡ m.machine → h.left ≡ m.left → h.log ≡ m.log → IsFront (concat m.sent) m.world.text → sends ≡ sends_by_cut cut m (halt_status why)
+    → Chain sending entry.sink sends exit.sink → IsFront m.world.text (final_of start).configuration.world.text → exit.asked ≡ asked_by_cut cut m (halt_status why)
+    → ((IsLineCut cut m → ⊥) → LeavesInput start.input m.input h.coming entry.source exit.source (AwaitedAt start cut) (LongAt start cut) (read_failures (halt_status why)))
     → AreDrawn m.words exit.words → SavedBy start cut → Early start entry h asking exit why
 cut-at start entry exit h asking why cut m sends is machine left log front calls chain shown questions input words saves = record {
   sends = sends;
@@ -113,7 +130,7 @@ cut-at start entry exit h asking why cut m sends is machine left log front calls
   };
 }
 
-module _ {K : Type 0} {sending : SendStep K} (start : Configuration) (entry : Handed sending) (h : Held) (d : Handed sending) where
+module _ {K : Type 0} {sending : SendStep K} (start : Configuration) (entry : Handed sending) (h : HeldRun) (d : Handed sending) where
   -- the input that is left
   pub input-left : (awaited long : Type 0) → ((long → ⊥) → length h.ahead < piece) → ((awaited → ⊥) → IsRead start.input entry h d) → ReadsFew false h.over entry.source d.source start.input h.coming 0
       → (d.source.tells ≡ true → h.coming ≡ d.source.left) → LeavesInput start.input (h.ahead ++ h.coming) h.coming entry.source d.source awaited long 0
@@ -132,96 +149,96 @@ module _ {K : Type 0} {sending : SendStep K} (start : Configuration) (entry : Ha
         unread = λ other none. unread other;
       }
 
-  module _ (doing : Doing) where
-    abbrev pub here : Standing start entry h d doing → Configuration
-    here s = configuration_of s.past doing h d
+  module _ (phase : Phase) where
+    abbrev pub here : Standing start entry h d phase → Configuration
+    here s = configuration_of s.past phase h d
 
     -- its text is a front of the end's
-    shown-is : (s : Standing start entry h d doing) → IsFront (here s).world.text (final_of start).configuration.world.text
+    shown-is : (s : Standing start entry h d phase) → IsFront (here s).world.text (final_of start).configuration.world.text
     shown-is s = final-grows (here s) start s.same_end
 
     -- the run goes on
-    abbrev pub moves-on : (g : Ready start entry h d doing) (p' : Past) (doing' : Doing) (h' : Held) (d' : Handed sending) → IsPast start entry p' h' d' → length h'.ahead < piece → IsRead start.input entry h' d'
-        → act_of (here g.now) ≡ goes (configuration_of p' doing' h' d') → IsSaved (here g.now) → Standing start entry h' d' doing'
-    moves-on g p' doing' h' d' is few reads act saved =
-        let move : move_of (here g.now) ≡ goes (configuration_of p' doing' h' d') = move-acts (here g.now) g.quiet ∙ act in
+    abbrev pub moves-on : (g : Ready start entry h d phase) (p' : History) (phase' : Phase) (h' : HeldRun) (d' : Handed sending) → IsHistory start entry p' h' d' → length h'.ahead < piece → IsRead start.input entry h' d'
+        → act_of (here g.now) ≡ goes (configuration_of p' phase' h' d') → IsSaved (here g.now) → Standing start entry h' d' phase'
+    moves-on g p' phase' h' d' is few reads act saved =
+        let move : move_of (here g.now) ≡ goes (configuration_of p' phase' h' d') = move-acts (here g.now) g.quiet ∙ act in
         record {
           past = p';
           moves = suc g.now.moves;
           is_past = is;
           few = few;
           reads = reads;
-          reached = reached-goes start (here g.now) (configuration_of p' doing' h' d') g.now.moves g.now.reached move;
+          reached = reached-goes start (here g.now) (configuration_of p' phase' h' d') g.now.moves g.now.reached move;
           saves = saved-more start g.now.moves (here g.now) g.now.reached saved g.now.saves;
-          same_end = stop-stays (here g.now) (configuration_of p' doing' h' d') move ∙ g.now.same_end;
+          same_end = stop-stays (here g.now) (configuration_of p' phase' h' d') move ∙ g.now.same_end;
         }
 
     -- the run stops
-    pub stops-at : (g : Ready start entry h d doing) (why : Stop) (p' : Past) (doing' : Doing) (h' : Held) (d' : Handed sending) (asking : Option Asking) → IsPast start entry p' h' d'
-        → (why ≢ stop.LineTooLong → length h'.ahead < piece) → ((IsLineStop why → ⊥) → IsRead start.input entry h' d') → act_of (here g.now) ≡ stops why (configuration_of p' doing' h' d')
-        → asking ≡ asked_at why (configuration_of p' doing' h' d') → Done start entry h' asking d' why
-    stops-at g why p' doing' h' d' asking is few reads act asking-is =
-        let move : move_of (here g.now) ≡ stops why (configuration_of p' doing' h' d') = move-acts (here g.now) g.quiet ∙ act in
+    pub stops-at : (g : Ready start entry h d phase) (why : Stop) (p' : History) (phase' : Phase) (h' : HeldRun) (d' : Handed sending) (asking : Option Asking) → IsHistory start entry p' h' d'
+        → (why ≢ stop.LineTooLong → length h'.ahead < piece) → ((IsLineStop why → ⊥) → IsRead start.input entry h' d') → act_of (here g.now) ≡ stops why (configuration_of p' phase' h' d')
+        → asking ≡ asked_at why (configuration_of p' phase' h' d') → HasStopped start entry h' asking d' why
+    stops-at g why p' phase' h' d' asking is few reads act asking-is =
+        let move : move_of (here g.now) ≡ stops why (configuration_of p' phase' h' d') = move-acts (here g.now) g.quiet ∙ act in
         record {
           past = p';
-          doing = doing';
+          phase = phase';
           is_past = is;
           few = few;
           reads = reads;
-          is_end = sym g.now.same_end ∙ stop-comes (here g.now) (configuration_of p' doing' h' d') why move;
-          saves = saved-all start g.now.moves (here g.now) (configuration_of p' doing' h' d') why g.now.reached move g.now.saves;
+          is_end = sym g.now.same_end ∙ stop-comes (here g.now) (configuration_of p' phase' h' d') why move;
+          saves = saved-all start g.now.moves (here g.now) (configuration_of p' phase' h' d') why g.now.reached move g.now.saves;
           asking_is = asking-is;
         }
 
     -- memory ran out, with this input left
-    wants-by : (g : Ready start entry h d doing) (h' : Held) (source : FlatSource) (asking : Option Asking)
-        → ((IsWaiting doing → ⊥) → LeavesInput start.input (here g.now).input h'.coming entry.source source ⊥ ⊥ 0) → WantsMemory doing (here g.now) asking
+    wants-by : (g : Ready start entry h d phase) (h' : HeldRun) (source : FlatSource) (asking : Option Asking)
+        → ((IsWaiting phase → ⊥) → LeavesInput start.input (here g.now).input h'.coming entry.source source ⊥ ⊥ 0) → WantsMemory phase (here g.now) asking
         → h'.machine ≡ h.machine → h'.left ≡ h.left → h'.log ≡ h.log → Early start entry h' asking (record d { source = source }) halt.NoMemory
     wants-by g h' source asking input is machine left log =
         let s = g.now in
-        cut-at start entry (record d { source = source }) h' asking halt.NoMemory (in_move s.moves) (here s) (map taken s.past.sent)
+        cut-at start entry (record d { source = source }) h' asking halt.NoMemory (in_move s.moves) (here s) (map whole_send s.past.sent)
         (s.reached, g.quiet, refl, is) machine left log (h.world.text, refl) refl s.is_past.taken (shown-is s) refl input
         (words-left h.word d.words s.past.words s.is_past.word) s.saves
 
     -- the source wasn't asked since then
-    pub wants : (g : Ready start entry h d doing) (h' : Held) (asking : Option Asking) → WantsMemory doing (here g.now) asking
+    pub wants : (g : Ready start entry h d phase) (h' : HeldRun) (asking : Option Asking) → WantsMemory phase (here g.now) asking
         → h'.machine ≡ h.machine → h'.left ≡ h.left → h'.log ≡ h.log → h'.coming ≡ h.coming → Early start entry h' asking d halt.NoMemory
     wants g h' asking is machine left log coming =
         let s = g.now in
         wants-by g h' d.source asking (λ other. subst (λ (c : List ℕ). LeavesInput start.input (here g.now).input c entry.source d.source ⊥ ⊥ 0) (sym coming) (input-left ⊥ ⊥ (λ short. s.few) (λ short. s.reads) s.is_past.reads s.is_past.left)) is machine left log
 
     -- at a wait for a line
-    pub wants-line : (g : Ready start entry h d doing) (h' : Held) (source : FlatSource) (asking : Option Asking) → IsWaiting doing → WantsMemory doing (here g.now) asking
+    pub wants-line : (g : Ready start entry h d phase) (h' : HeldRun) (source : FlatSource) (asking : Option Asking) → IsWaiting phase → WantsMemory phase (here g.now) asking
         → h'.machine ≡ h.machine → h'.left ≡ h.left → h'.log ≡ h.log → Early start entry h' asking (record d { source = source }) halt.NoMemory
     wants-line g h' source asking waiting is machine left log = wants-by g h' source asking (λ other. absurd (other waiting)) is machine left log
 
   module _ (w : Waiting) (turn : Turn) where
     -- the shelf refused
-    refused-by : (g : Ready start entry h d (asks turn w)) (shelf : FlatShelf) (r : Request) (fault : ShelfFault) (asking : Option Asking) → request_of turn ≡ Some r
-        → IsRefused (here (asks turn w) g.now) (Some r) (status_of_halt (halt_of_shelf fault)) → fault_at (status_of_halt (halt_of_shelf fault)) ≡ fault → read_failures (status_of_halt (halt_of_shelf fault)) ≡ 0
+    refused-by : (g : Ready start entry h d (asks turn w)) (shelf : FlatShelf) (r : Request) (fault : ShelfFault) (asking : Option Asking) → request_in (asks turn w) ≡ Some r
+        → IsRequestRefused (here (asks turn w) g.now) (Some r) (halt_status (halt_of_shelf fault)) → fault_at (halt_status (halt_of_shelf fault)) ≡ fault → read_failures (halt_status (halt_of_shelf fault)) ≡ 0
         → asking ≡ asked (here (asks turn w) g.now) → Early start entry h asking (record d { shelf = shelf; asked = d.asked ++ (r, Err fault) ∷ [] }) (halt_of_shelf fault)
     refused-by g shelf r fault asking is cut at failures asking-is =
         let s = g.now in
         let m : Configuration = here (asks turn w) s in
-        let status : ℕ = status_of_halt (halt_of_shelf fault) in
-        let call : (r, Err fault) ∷ [] ≡ refused_call (request_of turn) status =
+        let status : ℕ = halt_status (halt_of_shelf fault) in
+        let call : (r, Err fault) ∷ [] ≡ refused_call (request_in (asks turn w)) status =
         ap (λ (f : ShelfFault). let c : Trace = (r, Err f) ∷ [] in c) (sym at) ∙ ap (λ (o : Option Request). refused_call o status) (sym is) in
-        cut-at start entry (record d { shelf = shelf; asked = d.asked ++ (r, Err fault) ∷ [] }) h asking (halt_of_shelf fault) (in_question s.moves) m (map taken s.past.sent)
-        (s.reached, g.quiet, subst (λ (o : Option Request). IsRefused m o status) (sym is) cut, asking-is) refl refl refl (h.world.text, refl) refl s.is_past.taken (shown-is (asks turn w) s)
+        cut-at start entry (record d { shelf = shelf; asked = d.asked ++ (r, Err fault) ∷ [] }) h asking (halt_of_shelf fault) (in_question s.moves) m (map whole_send s.past.sent)
+        (s.reached, g.quiet, subst (λ (o : Option Request). IsRequestRefused m o status) (sym is) cut, asking-is) refl refl refl (h.world.text, refl) refl s.is_past.taken (shown-is (asks turn w) s)
         (ap (λ (t : Trace). d.asked ++ t) call)
         (λ other. subst (LeavesInput start.input m.input h.coming entry.source d.source ⊥ ⊥) (sym failures) (input-left ⊥ ⊥ (λ short. s.few) (λ short. s.reads) s.is_past.reads s.is_past.left))
         (words-left h.word d.words s.past.words s.is_past.word) s.saves
 
-    pub refused : (g : Ready start entry h d (asks turn w)) (shelf : FlatShelf) (r : Request) (fault : ShelfFault) (asking : Option Asking) → request_of turn ≡ Some r
+    pub refused : (g : Ready start entry h d (asks turn w)) (shelf : FlatShelf) (r : Request) (fault : ShelfFault) (asking : Option Asking) → request_in (asks turn w) ≡ Some r
         → AreTold start.answers d.asked ((r, Err fault) ∷ []) → asking ≡ asked (here (asks turn w) g.now)
         → Early start entry h asking (record d { shelf = shelf; asked = d.asked ++ (r, Err fault) ∷ [] }) (halt_of_shelf fault)
     refused g shelf r of_shelf.Failed asking is told asking-is = refused-by g shelf r of_shelf.Failed asking is (inl refl) refl refl asking-is
     refused g shelf r of_shelf.NoMemory asking is told asking-is =
         refused-by g shelf r of_shelf.NoMemory asking is
-        (inr (refl, subst (λ (f : Trace → Request → Answer). MayWant r (f d.asked r)) (sym g.now.is_past.answers) told)) refl refl asking-is
+        (inr (refl, subst (λ (f : Trace → Request → Answer). AnswerMayWant r (f d.asked r)) (sym g.now.is_past.answers) told)) refl refl asking-is
 
     -- the source failed
-    pub unread : (g : Ready start entry h d (asks turn w)) (h' : Held) (source : FlatSource) (asking : Option Asking) → IsWait turn → (source.tells ≡ true → h'.coming ≡ source.left) → ReadsFew false h'.over entry.source source start.input h'.coming 1 → IsPartial h'.ahead
+    pub unread : (g : Ready start entry h d (asks turn w)) (h' : HeldRun) (source : FlatSource) (asking : Option Asking) → IsWait turn → (source.tells ≡ true → h'.coming ≡ source.left) → ReadsFew false h'.over entry.source source start.input h'.coming 1 → IsPartial h'.ahead
         → h'.ahead ++ h'.coming ≡ h.ahead ++ h.coming → h'.machine ≡ h.machine → h'.left ≡ h.left → h'.log ≡ h.log
         → asking ≡ asked (here (asks turn w) g.now) → Early start entry h' asking (record d { source = source }) halt.Input
     unread g h' source asking is input reads partial same machine left log asking-is =
@@ -239,7 +256,7 @@ module _ {K : Type 0} {sending : SendStep K} (start : Configuration) (entry : Ha
           few_reads = omega arith;
           unread = λ short none. absurd cc;
         } in
-        cut-at start entry (record d { source = source }) h' asking halt.Input (in_reading s.moves) (here (asks turn w) s) (map taken s.past.sent)
+        cut-at start entry (record d { source = source }) h' asking halt.Input (in_reading s.moves) (here (asks turn w) s) (map whole_send s.past.sent)
         (s.reached, g.quiet, refl, is, asking-is) machine left log (h.world.text, refl) refl s.is_past.taken (shown-is (asks turn w) s) refl (λ other. leaves)
         (words-left h.word d.words s.past.words s.is_past.word) s.saves
 
@@ -249,7 +266,7 @@ module _ {K : Type 0} {sending : SendStep K} (start : Configuration) (entry : Ha
   redrawn word stream g drawn =
       let s = g.now in
       let i = s.is_past in
-      let is : IsPast start entry s.past (record h { word = word }) (record d { words = stream }) = record {
+      let is : IsHistory start entry s.past (record h { word = word }) (record d { words = stream }) = record {
         taken = i.taken;
         answers = i.answers;
         answered = i.answered;
@@ -271,27 +288,27 @@ module _ {K : Type 0} {sending : SendStep K} (start : Configuration) (entry : Ha
       record { now = now; quiet = g.quiet }
 
   module _ (world : FlatWorld) (sink : K) where
-    abbrev h-now : Held
+    abbrev h-now : HeldRun
     h-now = record h { world = world }
 
     abbrev d-now : Handed sending
     d-now = record d { sink = sink }
 
     -- what was done once this was sent
-    abbrev with-more : Past → Past
+    abbrev with-more : History → History
     with-more p = record p { sent = p.sent ++ h.world.text ∷ [] }
 
     -- pending text that was sent was shown before too
-    still : (p : Past) (doing : Doing) → world ≡ record h.world { text = [] } → configuration_of (with-more p) doing h-now d-now ≡ all_sent (configuration_of p doing h d)
-    still p doing none =
-        let m : Configuration = configuration_of p doing h d in
+    still : (p : History) (phase : Phase) → world ≡ record h.world { text = [] } → configuration_of (with-more p) phase h-now d-now ≡ all_sent (configuration_of p phase h d)
+    still p phase none =
+        let m : Configuration = configuration_of p phase h d in
         let texts : concat (p.sent ++ h.world.text ∷ []) ++ [] ≡ concat p.sent ++ h.world.text =
         append-nil (concat (p.sent ++ h.world.text ∷ [])) ∙ concat-append p.sent (h.world.text ∷ []) ∙ ap (λ (x : List ℕ). concat p.sent ++ x) (append-nil h.world.text) in
-        ap (λ (w : FlatWorld). configuration_of (with-more p) doing (record h { world = w }) d-now) none
+        ap (λ (w : FlatWorld). configuration_of (with-more p) phase (record h { world = w }) d-now) none
         ∙ ap (λ (x : List ℕ). record m { world = record m.world { text = x }; sent = p.sent ++ h.world.text ∷ [] }) texts
         ∙ ap (λ (x : List ℕ). record m { sent = p.sent ++ x ∷ [] }) (sym (pending-is p.sent h.world.text))
 
-    sent-past : (p : Past) → IsPast start entry p h d → sending d.sink (taken h.world.text) sink → IsPast start entry (with-more p) h-now d-now
+    sent-past : (p : History) → IsHistory start entry p h d → sending d.sink (whole_send h.world.text) sink → IsHistory start entry (with-more p) h-now d-now
     sent-past p i call = record {
       taken = has-taken sending entry.sink d.sink sink p.sent h.world.text i.taken call;
       answers = i.answers;
@@ -303,38 +320,38 @@ module _ {K : Type 0} {sending : SendStep K} (start : Configuration) (entry : Ha
     }
 
     -- nothing was sent
-    stood : (doing : Doing) → Ready start entry h d doing → (sink ≡ d.sink) → (world ≡ h.world) → Ready start entry h-now d-now doing
-    stood doing g same-sink same-world =
-        subst (λ (x : FlatWorld). Ready start entry (record h { world = x }) (record d { sink = sink }) doing) (sym same-world)
-        (subst (λ (k : K). Ready start entry h (record d { sink = k }) doing) (sym same-sink) g)
+    stood : (phase : Phase) → Ready start entry h d phase → (sink ≡ d.sink) → (world ≡ h.world) → Ready start entry h-now d-now phase
+    stood phase g same-sink same-world =
+        subst (λ (x : FlatWorld). Ready start entry (record h { world = x }) (record d { sink = sink }) phase) (sym same-world)
+        (subst (λ (k : K). Ready start entry h (record d { sink = k }) phase) (sym same-sink) g)
 
-    module _ (doing : Doing) (enough : ℕ) (due : (s : Sent) (text : List ℕ) → is_due_by doing s text ≡ is_due enough s text) where
-      due-now : (s : Standing start entry h d doing) (b : Bool) → nat_le enough (length h.world.text) ≡ b → sends_now (here doing s) ≡ b
-      due-now s b e = due (here doing s).sent (here doing s).world.text ∙ due-is enough s.past.sent h.world.text b e
+    module _ (phase : Phase) (enough : ℕ) (due : (s : Sent) (text : List ℕ) → is_due_by phase s text ≡ is_due enough s text) where
+      due-now : (s : Standing start entry h d phase) (b : Bool) → nat_le enough (length h.world.text) ≡ b → sends_now (here phase s) ≡ b
+      due-now s b e = due (here phase s).sent (here phase s).world.text ∙ due-is enough s.past.sent h.world.text b e
 
-      sends : (g : Standing start entry h d doing) (b : Bool) → nat_le enough (length h.world.text) ≡ b → Flushes sending enough d.sink sink h.world world (Ok tt) → Ready start entry h-now d-now doing
+      sends : (g : Standing start entry h d phase) (b : Bool) → nat_le enough (length h.world.text) ≡ b → Flushes sending enough d.sink sink h.world world (Ok tt) → Ready start entry h-now d-now phase
       sends g true e f =
           let s : SendsAll sending d.sink sink h.world world (Ok tt) = f.many (leb-true enough (length h.world.text) e) in
-          let same : configuration_of (with-more g.past) doing h-now d-now ≡ all_sent (here doing g) = still g.past doing s.1 in
-          let move : move_of (here doing g) ≡ goes (configuration_of (with-more g.past) doing h-now d-now) =
-          move-sends (here doing g) (due-now g true e) ∙ ap goes (sym same) in
-          let now : Standing start entry h-now d-now doing = record {
+          let same : configuration_of (with-more g.past) phase h-now d-now ≡ all_sent (here phase g) = still g.past phase s.1 in
+          let move : move_of (here phase g) ≡ goes (configuration_of (with-more g.past) phase h-now d-now) =
+          move-sends (here phase g) (due-now g true e) ∙ ap goes (sym same) in
+          let now : Standing start entry h-now d-now phase = record {
             past = with-more g.past;
             moves = suc g.moves;
             is_past = sent-past g.past g.is_past s.0;
             few = g.few;
             reads = g.reads;
-            reached = reached-goes start (here doing g) (configuration_of (with-more g.past) doing h-now d-now) g.moves g.reached move;
-            saves = saved-more start g.moves (here doing g) g.reached (unsaved-send (here doing g) (due-now g true e)) g.saves;
-            same_end = stop-stays (here doing g) (configuration_of (with-more g.past) doing h-now d-now) move ∙ g.same_end;
+            reached = reached-goes start (here phase g) (configuration_of (with-more g.past) phase h-now d-now) g.moves g.reached move;
+            saves = saved-more start g.moves (here phase g) g.reached (unsaved-send (here phase g) (due-now g true e)) g.saves;
+            same_end = stop-stays (here phase g) (configuration_of (with-more g.past) phase h-now d-now) move ∙ g.same_end;
           } in
-          record { now = now; quiet = ap sends_now same ∙ quiet-sent doing (here doing g).sent (here doing g).world.text }
+          record { now = now; quiet = ap sends_now same ∙ quiet-sent phase (here phase g).sent (here phase g).world.text }
       sends g false e f =
           let same = f.few (leb-false enough (length h.world.text) e) in
-          stood doing (record { now = g; quiet = due-now g false e }) same.0 same.1
+          stood phase (record { now = g; quiet = due-now g false e }) same.0 same.1
 
       -- THE TEXT THAT IS DUE BETWEEN TWO MOVES was sent.
-      pub flushed : Standing start entry h d doing → Flushes sending enough d.sink sink h.world world (Ok tt) → Ready start entry h-now d-now doing
+      pub flushed : Standing start entry h d phase → Flushes sending enough d.sink sink h.world world (Ok tt) → Ready start entry h-now d-now phase
       flushed g f = sends g (nat_le enough (length h.world.text)) refl f
 
     -- one that was refused was due
@@ -343,56 +360,56 @@ module _ {K : Type 0} {sending : SendStep K} (start : Configuration) (entry : Ha
     was-due enough why true e f = (e, f.many (leb-true enough (length h.world.text) e))
     was-due enough why false e f = let ok = (f.few (leb-false enough (length h.world.text) e)).2 in cc
 
-    send-status : (why : Halt) → (why ≡ halt.Output) ⊎ (why ≡ halt.NoMemory) → IsSendStatus (status_of_halt why)
-    send-status why (inl e) = inl (ap status_of_halt e)
-    send-status why (inr e) = inr (ap status_of_halt e)
+    send-status : (why : Halt) → (why ≡ halt.Output) ⊎ (why ≡ halt.NoMemory) → IsSendStatus (halt_status why)
+    send-status why (inl e) = inl (ap halt_status e)
+    send-status why (inr e) = inr (ap halt_status e)
 
-    no-failures : (why : Halt) → (why ≡ halt.Output) ⊎ (why ≡ halt.NoMemory) → read_failures (status_of_halt why) ≡ 0
-    no-failures why (inl e) = ap (λ (x : Halt). read_failures (status_of_halt x)) e
-    no-failures why (inr e) = ap (λ (x : Halt). read_failures (status_of_halt x)) e
+    no-failures : (why : Halt) → (why ≡ halt.Output) ⊎ (why ≡ halt.NoMemory) → read_failures (halt_status why) ≡ 0
+    no-failures why (inl e) = ap (λ (x : Halt). read_failures (halt_status x)) e
+    no-failures why (inr e) = ap (λ (x : Halt). read_failures (halt_status x)) e
 
-    fault-is : (fault : SendFault) → send_fault_at (status_of_halt (halt_of_send fault)) ≡ fault
+    fault-is : (fault : SendFault) → send_fault_at (halt_status (halt_of_send fault)) ≡ fault
     fault-is of_send.Failed = refl
     fault-is of_send.NoMemory = refl
 
     -- A send is refused that is due.
-    cut-sending : (asking : Option Asking) (why : Halt) (cut : Cut) (p : Past) (doing : Doing) → IsCut start cut (configuration_of p doing h d) (status_of_halt why) asking
-        → IsPast start entry p h d → (why ≡ halt.Output) ⊎ (why ≡ halt.NoMemory)
-        → sends_by_cut cut (configuration_of p doing h d) (status_of_halt why) ≡ map taken p.sent ++ refused_send (configuration_of p doing h d) (status_of_halt why) ∷ []
-        → d.asked ≡ asked_by_cut cut (configuration_of p doing h d) (status_of_halt why)
+    cut-sending : (asking : Option Asking) (why : Halt) (cut : RunCut) (p : History) (phase : Phase) → IsCutShort start cut (configuration_of p phase h d) (halt_status why) asking
+        → IsHistory start entry p h d → (why ≡ halt.Output) ⊎ (why ≡ halt.NoMemory)
+        → sends_by_cut cut (configuration_of p phase h d) (halt_status why) ≡ map whole_send p.sent ++ refused_send (configuration_of p phase h d) (halt_status why) ∷ []
+        → d.asked ≡ asked_by_cut cut (configuration_of p phase h d) (halt_status why)
         → LeavesInput start.input (h.ahead ++ h.coming) h.coming entry.source d.source (AwaitedAt start cut) (LongAt start cut) 0
         → IsFront (concat p.sent ++ h.world.text) (final_of start).configuration.world.text → SavedBy start cut
         → SendsAll sending d.sink sink h.world world (Err why) → Early start entry h-now asking d-now why
-    cut-sending asking why cut p doing is past only calls questions input shown saves s =
+    cut-sending asking why cut p phase is past only calls questions input shown saves s =
         let refused : Send = (h.world.text, Err s.0) in
-        let fault : s.0 ≡ send_fault_at (status_of_halt why) = sym (ap (λ (x : Halt). send_fault_at (status_of_halt x)) s.2 ∙ fault-is s.0) in
-        let call : refused ≡ refused_send (configuration_of p doing h d) (status_of_halt why) =
+        let fault : s.0 ≡ send_fault_at (halt_status why) = sym (ap (λ (x : Halt). send_fault_at (halt_status x)) s.2 ∙ fault-is s.0) in
+        let call : refused ≡ refused_send (configuration_of p phase h d) (halt_status why) =
         ap (λ (x : List ℕ). let c : Send = (x, Err s.0) in c) (sym (pending-is p.sent h.world.text))
         ∙ ap (λ (f : SendFault). let c : Send = (pending p.sent (concat p.sent ++ h.world.text), Err f) in c) fault in
-        cut-at start entry d-now h-now asking why cut (configuration_of p doing h d) (map taken p.sent ++ refused ∷ []) is refl refl refl (h.world.text, refl)
-        (ap (λ (c : Send). map taken p.sent ++ c ∷ []) call ∙ sym calls)
-        (chain-append sending entry.sink d.sink sink (map taken p.sent) (refused ∷ []) past.taken (sink, s.1, refl)) shown questions
+        cut-at start entry d-now h-now asking why cut (configuration_of p phase h d) (map whole_send p.sent ++ refused ∷ []) is refl refl refl (h.world.text, refl)
+        (ap (λ (c : Send). map whole_send p.sent ++ c ∷ []) call ∙ sym calls)
+        (chain-append sending entry.sink d.sink sink (map whole_send p.sent) (refused ∷ []) past.taken (sink, s.1, refl)) shown questions
         (λ other. subst (LeavesInput start.input (h.ahead ++ h.coming) h.coming entry.source d.source (AwaitedAt start cut) (LongAt start cut)) (sym (no-failures why only)) input)
         (words-left h.word d.words p.words past.word) saves
 
     -- The text that is due between two moves was refused.
-    pub cut-send : (doing : Doing) (enough : ℕ) → ((s : Sent) (text : List ℕ) → is_due_by doing s text ≡ is_due enough s text) → (asking : Option Asking) (why : Halt) (g : Standing start entry h d doing)
-        → asking ≡ asking_between doing (here doing g) → (why ≡ halt.Output) ⊎ (why ≡ halt.NoMemory) → Flushes sending enough d.sink sink h.world world (Err why) → Early start entry h-now asking d-now why
-    cut-send doing enough due asking why g asking-is only f =
+    pub cut-send : (phase : Phase) (enough : ℕ) → ((s : Sent) (text : List ℕ) → is_due_by phase s text ≡ is_due enough s text) → (asking : Option Asking) (why : Halt) (g : Standing start entry h d phase)
+        → asking ≡ asking_between phase (here phase g) → (why ≡ halt.Output) ⊎ (why ≡ halt.NoMemory) → Flushes sending enough d.sink sink h.world world (Err why) → Early start entry h-now asking d-now why
+    cut-send phase enough due asking why g asking-is only f =
         let was = was-due enough why (nat_le enough (length h.world.text)) refl f in
-        let is : IsCut start (in_send g.moves) (here doing g) (status_of_halt why) asking = (g.reached, due-now doing enough due g true was.0, send-status why only, asking-is) in
-        cut-sending asking why (in_send g.moves) g.past doing is g.is_past only refl refl (input-left ⊥ ⊥ (λ short. g.few) (λ short. g.reads) g.is_past.reads g.is_past.left) (shown-is doing g) g.saves was.1
+        let is : IsCutShort start (in_send g.moves) (here phase g) (halt_status why) asking = (g.reached, due-now phase enough due g true was.0, send-status why only, asking-is) in
+        cut-sending asking why (in_send g.moves) g.past phase is g.is_past only refl refl (input-left ⊥ ⊥ (λ short. g.few) (λ short. g.reads) g.is_past.reads g.is_past.left) (shown-is phase g) g.saves was.1
 
     -- THE TEXT THAT IS DUE AT THE END
-    module _ (asking : Option Asking) (why : Stop) (g : Shown start entry h asking d why) where
+    module _ (asking : Option Asking) (why : Stop) (g : HasShown start entry h asking d why) where
       abbrev last : Configuration
-      last = configuration_of g.past g.doing h d
+      last = configuration_of g.past g.phase h d
 
       stopped-is : stopped start ≡ last
-      stopped-is = ap (λ (e : Ending). e.configuration) g.is_end
+      stopped-is = ap (λ (e : RunEnd). e.configuration) g.is_end
 
       asks-still : asking ≡ asking_at_stop start
-      asks-still = g.asking_is ∙ ap (λ (e : Ending). asked_at e.stop e.configuration) (sym g.is_end)
+      asks-still = g.asking_is ∙ ap (λ (e : RunEnd). asked_at e.stop e.configuration) (sym g.is_end)
 
       told-is : (b : Bool) → nat_le 1 (length h.world.text) ≡ b → told_all last ≡ (if b then all_sent last else last)
       told-is true e = ap (λ (b : Bool). record last { sent = if b then with_all last.sent last.world.text else last.sent }) (due-is 1 g.past.sent h.world.text true e)
@@ -407,12 +424,12 @@ module _ {K : Type 0} {sending : SendStep K} (start : Configuration) (entry : Ha
           let s : SendsAll sending d.sink sink h.world world (Ok tt) = f.many (leb-true 1 (length h.world.text) e) in
           record {
             past = with-more g.past;
-            doing = g.doing;
+            phase = g.phase;
             is_past = sent-past g.past g.is_past s.0;
             few = g.few;
             reads = g.reads;
-            stop_is = ap (λ (x : Ending). x.stop) g.is_end;
-            is_end = ap told_all stopped-is ∙ told-is true e ∙ sym (still g.past g.doing s.1);
+            stop_is = ap (λ (x : RunEnd). x.stop) g.is_end;
+            is_end = ap told_all stopped-is ∙ told-is true e ∙ sym (still g.past g.phase s.1);
             saves = g.saves;
             asking_is = asks-still;
             none_left = ap (λ (w : FlatWorld). w.text) s.1;
@@ -421,11 +438,11 @@ module _ {K : Type 0} {sending : SendStep K} (start : Configuration) (entry : Ha
           let same = f.few (leb-false 1 (length h.world.text) e) in
           let told : Told start entry h asking d why = record {
             past = g.past;
-            doing = g.doing;
+            phase = g.phase;
             is_past = g.is_past;
             few = g.few;
             reads = g.reads;
-            stop_is = ap (λ (x : Ending). x.stop) g.is_end;
+            stop_is = ap (λ (x : RunEnd). x.stop) g.is_end;
             is_end = ap told_all stopped-is ∙ told-is false e;
             saves = g.saves;
             asking_is = asks-still;
@@ -441,9 +458,9 @@ module _ {K : Type 0} {sending : SendStep K} (start : Configuration) (entry : Ha
           → Early start entry h-now asking d-now halted
       cut-end halted only f =
           let was = was-due 1 halted (nat_le 1 (length h.world.text)) refl f in
-          let stop-is : (final_of start).stop ≡ why = ap (λ (x : Ending). x.stop) g.is_end in
-          let is : IsCut start in_last_send last (status_of_halt halted) asking = (sym stopped-is, due-is 1 g.past.sent h.world.text true was.0, send-status halted only, asks-still) in
-          cut-sending asking halted in_last_send g.past g.doing is g.is_past only refl refl
+          let stop-is : (final_of start).stop ≡ why = ap (λ (x : RunEnd). x.stop) g.is_end in
+          let is : IsCutShort start in_last_send last (halt_status halted) asking = (sym stopped-is, due-is 1 g.past.sent h.world.text true was.0, send-status halted only, asks-still) in
+          cut-sending asking halted in_last_send g.past g.phase is g.is_past only refl refl
           (input-left (IsLineStop (final_of start).stop) ((final_of start).stop ≡ stop.LineTooLong) (λ short. g.few (λ e. short (stop-is ∙ e)))
           (λ other. g.reads (λ is'. other (subst IsLineStop (sym stop-is) is'))) g.is_past.reads g.is_past.left)
           ([], ap (λ (x : Configuration). x.world.text) stopped-is ∙ sym (append-nil (concat g.past.sent ++ h.world.text))) g.saves was.1

@@ -21,8 +21,11 @@ use Rattle.gx_session.specs.declared.running.Waiting.{Waiting}
 use Rattle.gx_session.specs.Constants.{failed}
 use Rattle.gx_session.specs.Input.{next_line}
 use Rattle.gx_session.specs.Saving.{saving, restoring}
-use Rattle.gx_session.specs.Session.{Configuration, Doing, steps, asks, goes_on, Verdict, goes, stops, after_reply, after_restoring, after_turn, after_effect, after_step, step_from, act_by, act_of, sends_now, all_sent, move_of, next_of, run_of, moves_left, stop_of, final_of}
-use Rattle.gx_session.specs.Recording.{IsPlace, IsEnd, IsRecord, IsLast, Records}
+use Rattle.gx_session.specs.Configurations.{Configuration, Phase, steps, asks, goes_on, Verdict, goes, stops}
+use Rattle.gx_session.specs.Moves.{after_reply, after_restoring, after_turn, after_effect, after_step, step_from}
+use Rattle.gx_session.specs.Moves.{act_by, act_of, sends_now, all_sent, move_of}
+use Rattle.gx_session.specs.Session.{next_configuration, run_of, moves_left, stop_of, final_of}
+use Rattle.gx_session.specs.Recording.{BeginsEvent, IsEarlierRecord, IsRecord, IsLastRecord, RecordsRun}
 use Rattle.gx_session.proofs.Cases.{turn-cases, given-cases, line-cases, asking-cases}
 use Rattle.gx_session.proofs.Finals.{goes-nearer, reached-goes, stop-comes, stop-stays}
 use Rattle.gx_session.proofs.Rooms.{units-more, units-none}
@@ -33,7 +36,7 @@ use Rattle.rand_core.specs.Stream.{next_u32}
 -- ---- one move
 
 -- a call that waits leaves the units but for the cost of its step
-abbrev LeavesUnits : Doing → Configuration → Type 0
+abbrev LeavesUnits : Phase → Configuration → Type 0
 LeavesUnits steps m = Unit {0}
 LeavesUnits (asks t w) m = w.left + cost_of m.machine ≡ m.left
 LeavesUnits (goes_on g w) m = w.left + cost_of m.machine ≡ m.left
@@ -43,11 +46,11 @@ record Stands (m m' : Configuration) : Type 0 where
   machine : m'.machine ≡ m.machine
   log : m'.log ≡ m.log
   left : m'.left ≡ m.left
-  leaves : LeavesUnits m'.doing m'
+  leaves : LeavesUnits m'.phase m'
 
 -- one that ends an event
 record Ends (m m' : Configuration) : Type 0 where
-  doing : m'.doing ≡ steps
+  phase : m'.phase ≡ steps
   log : m'.log ≡ logged m.log m.machine
   units : m'.left + cost_of m.machine ≡ m.left
 
@@ -69,11 +72,11 @@ halted : (s : Stop) (m : Configuration) → Halts s m m
 halted s m = record { log = refl; left = λ a b. refl }
 
 replied-moves : (m : Configuration) (left : ℕ) (r : Result (Said × Reply) Fault) → left + cost_of m.machine ≡ m.left → Moves m (after_reply m left r)
-replied-moves m left (Ok r) units = inr (record { doing = refl; log = refl; units = units })
+replied-moves m left (Ok r) units = inr (record { phase = refl; log = refl; units = units })
 replied-moves m left (Err f) units = inl (halted (stop.Faulted f) m)
 
 restored-moves : (m : Configuration) (left : ℕ) (r : Result (Said × Option Copy) Fault) → left + cost_of m.machine ≡ m.left → Moves m (after_restoring m left r)
-restored-moves m left (Ok (said, Some copy)) units = inr (record { doing = refl; log = refl; units = units })
+restored-moves m left (Ok (said, Some copy)) units = inr (record { phase = refl; log = refl; units = units })
 restored-moves m left (Ok (said, None)) units = replied-moves m left (Ok (said, replies failed)) units
 restored-moves m left (Err f) units = inl (halted (stop.Faulted f) m)
 
@@ -83,9 +86,9 @@ turned-moves m w r units =
     (λ said t. inl (record { machine = refl; log = refl; left = refl; leaves = units })) (λ said t. inl (record { machine = refl; log = refl; left = refl; leaves = units }))
     (λ said. inl (record { log = refl; left = λ a b. refl })) (λ said. inl (record { log = refl; left = λ a b. absurd (a refl) })) (λ f. inl (halted (stop.Faulted f) m))
 
-effected-moves : (m : Configuration) (left : ℕ) (machine : FlatMachine) (does : Effect) → m.doing ≡ steps → left + cost_of m.machine ≡ m.left → Moves m (after_effect m left machine does)
-effected-moves m left machine effect.Went is units = inr (record { doing = is; log = refl; units = units })
-effected-moves m left machine effect.Drew is units = inr (record { doing = is; log = refl; units = units })
+effected-moves : (m : Configuration) (left : ℕ) (machine : FlatMachine) (does : Effect) → m.phase ≡ steps → left + cost_of m.machine ≡ m.left → Moves m (after_effect m left machine does)
+effected-moves m left machine effect.Went is units = inr (record { phase = is; log = refl; units = units })
+effected-moves m left machine effect.Drew is units = inr (record { phase = is; log = refl; units = units })
 effected-moves m left machine (effect.Put c) is units = replied-moves m left (putting m.world.scene m.machine.flat c) units
 effected-moves m left machine (effect.Glk selector args room) is units =
     turned-moves m (record { room = room; left = left }) (glk_call m.world.scene m.machine.flat room selector args.items) units
@@ -94,22 +97,22 @@ effected-moves m left machine (effect.Restore stream) is units = restored-moves 
 effected-moves m left machine effect.Quit is units = inr (record { log = refl; units = units })
 effected-moves m left machine effect.Spent is units = inl (record { log = refl; left = λ a b. absurd (b refl) })
 
-stepped-moves : (m : Configuration) (left : ℕ) (r : Result (FlatMachine × Effect) Fault) → m.doing ≡ steps → left + cost_of m.machine ≡ m.left → Moves m (after_step m left r)
+stepped-moves : (m : Configuration) (left : ℕ) (r : Result (FlatMachine × Effect) Fault) → m.phase ≡ steps → left + cost_of m.machine ≡ m.left → Moves m (after_step m left r)
 stepped-moves m left (Ok r) is units = effected-moves m left r.0 r.1 is units
 stepped-moves m left (Err f) is units = inl (halted (stop.Faulted f) m)
 
-tested-moves : (m : Configuration) (r : Result (FlatMachine × Effect) Fault) (b : Bool) → m.doing ≡ steps → nat_lt m.left (cost_of m.machine) ≡ b
+tested-moves : (m : Configuration) (r : Result (FlatMachine × Effect) Fault) (b : Bool) → m.phase ≡ steps → nat_lt m.left (cost_of m.machine) ≡ b
     → Moves m (if b then stops stop.Spent m else after_step m (m.left - cost_of m.machine) r)
 tested-moves m r true is less = inl (halted stop.Spent m)
 tested-moves m r false is less =
     let enough : cost_of m.machine ≤ m.left = ltb-false m.left (cost_of m.machine) less in
     stepped-moves m (m.left - cost_of m.machine) r is (omega arith)
 
-step-moves : (m : Configuration) → m.doing ≡ steps → Moves m (step_from m)
+step-moves : (m : Configuration) → m.phase ≡ steps → Moves m (step_from m)
 unfolding step_from
 step-moves m is = tested-moves m (step_of m.machine (next_u32 m.words).0) (nat_lt m.left (cost_of m.machine)) is refl
 
-act-moves : (doing : Doing) (m : Configuration) → m.doing ≡ doing → LeavesUnits doing m → Moves m (act_by doing m)
+act-moves : (phase : Phase) (m : Configuration) → m.phase ≡ phase → LeavesUnits phase m → Moves m (act_by phase m)
 act-moves steps m is leaves = step-moves m is
 act-moves (asks t w) m is leaves =
     asking-cases (Moves m) m w t
@@ -118,16 +121,16 @@ act-moves (asks t w) m is leaves =
 act-moves (goes_on g w) m is leaves =
     given-cases (Moves m) m w (glk_go_on m.world.scene m.machine.flat w.room g) (λ said reply. replied-moves m w.left (Ok (said, reply)) leaves) (inl (halted stop.Stuck m)) (λ f. inl (halted (stop.Faulted f) m))
 
-move-by : (m : Configuration) (b : Bool) → LeavesUnits m.doing m → Moves m (if b then goes (all_sent m) else act_of m)
-move-by m true leaves = inl (record { machine = refl; log = refl; left = refl; leaves = sent-leaves m.doing leaves })
+move-by : (m : Configuration) (b : Bool) → LeavesUnits m.phase m → Moves m (if b then goes (all_sent m) else act_of m)
+move-by m true leaves = inl (record { machine = refl; log = refl; left = refl; leaves = sent-leaves m.phase leaves })
   where
-    sent-leaves : (d : Doing) → LeavesUnits d m → LeavesUnits d (all_sent m)
+    sent-leaves : (d : Phase) → LeavesUnits d m → LeavesUnits d (all_sent m)
     sent-leaves steps leaves = tt
     sent-leaves (asks t w) leaves = leaves
     sent-leaves (goes_on g w) leaves = leaves
-move-by m false leaves = act-moves m.doing m refl leaves
+move-by m false leaves = act-moves m.phase m refl leaves
 
-move-moves : (m : Configuration) → LeavesUnits m.doing m → Moves m (move_of m)
+move-moves : (m : Configuration) → LeavesUnits m.phase m → Moves m (move_of m)
 unfolding move_of
 move-moves m leaves = move-by m (sends_now m) leaves
 
@@ -139,7 +142,7 @@ record Began (start : Configuration) (j : ℕ) (m : Configuration) : Type 0 wher
   by_now : moves ≤ j
   configuration : Configuration
   reached : run_of start moves ≡ Some configuration
-  begins : configuration.doing ≡ steps
+  begins : configuration.phase ≡ steps
   machine : configuration.machine ≡ m.machine
   log : configuration.log ≡ m.log
   left : configuration.left ≡ m.left
@@ -147,10 +150,10 @@ record Began (start : Configuration) (j : ℕ) (m : Configuration) : Type 0 wher
 record Recorded (start : Configuration) (j : ℕ) (m : Configuration) : Type 0 where
   is : IsRecord start j m
   began : Began start j m
-  leaves : LeavesUnits m.doing m
+  leaves : LeavesUnits m.phase m
 
 -- so it is after more moves
-place-on : (start : Configuration) (j : ℕ) (machine : FlatMachine) (before : List FlatMachine) → IsPlace start j machine before → IsPlace start (suc j) machine before
+place-on : (start : Configuration) (j : ℕ) (machine : FlatMachine) (before : List FlatMachine) → BeginsEvent start j machine before → BeginsEvent start (suc j) machine before
 place-on start j machine before p = record {
   moves = p.moves;
   earlier = let less : p.moves < j = p.earlier in omega arith;
@@ -166,11 +169,11 @@ place-on start j machine before p = record {
 last-or-before : (i j : ℕ) → i ≤ suc j → (i ≤ j) ⊎ (i ≡ suc j)
 last-or-before i j less = elim (cases_lt j i) [ inl more ↦ inr (omega arith) | inr few ↦ inl few ]
 
-whole-end : (c : Configuration) (log : Log) → c.log ≡ Some log → IsEnd c log
+whole-end : (c : Configuration) (log : Log) → c.log ≡ Some log → IsEarlierRecord c log
 whole-end c log is = record { own = log; log_is = is; newer = []; end = refl }
 
 -- the machine of an event that ends here is a place
-began-place : (start : Configuration) (j : ℕ) (m : Configuration) (log : Log) → m.log ≡ Some log → log.after ≡ [] → units_of log.before + m.left ≡ start.left → Began start j m → IsPlace start (suc j) m.machine log.before
+began-place : (start : Configuration) (j : ℕ) (m : Configuration) (log : Log) → m.log ≡ Some log → log.after ≡ [] → units_of log.before + m.left ≡ start.left → Began start j m → BeginsEvent start (suc j) m.machine log.before
 began-place start j m log is none units b = record {
   moves = b.moves;
   earlier = let less : b.moves ≤ j = b.by_now in omega arith;
@@ -199,28 +202,28 @@ module _ (start m : Configuration) (j : ℕ) (r : Recorded start j m) where
       let all = units-more m.machine here.before in
       omega arith
 
-  places-here : (newer : List FlatMachine) (machine : FlatMachine) (before : List FlatMachine) → here.before ≡ newer ++ machine ∷ before → IsPlace start (suc j) machine before
+  places-here : (newer : List FlatMachine) (machine : FlatMachine) (before : List FlatMachine) → here.before ≡ newer ++ machine ∷ before → BeginsEvent start (suc j) machine before
   places-here newer machine before e = place-on start j machine before (r.is.places newer machine before e)
 
-  places-longer : (newer : List FlatMachine) (machine : FlatMachine) (before : List FlatMachine) → m.machine ∷ here.before ≡ newer ++ machine ∷ before → IsPlace start (suc j) machine before
+  places-longer : (newer : List FlatMachine) (machine : FlatMachine) (before : List FlatMachine) → m.machine ∷ here.before ≡ newer ++ machine ∷ before → BeginsEvent start (suc j) machine before
   places-longer [] machine before e =
       let same : m.machine ≡ machine = cc in
       let rest : here.before ≡ before = cc in
-      subst (λ (x : FlatMachine). IsPlace start (suc j) x before) same
-      (subst (λ (x : List FlatMachine). IsPlace start (suc j) m.machine x) rest (began-place start j m here r.is.log_is r.is.none_after r.is.units r.began))
+      subst (λ (x : FlatMachine). BeginsEvent start (suc j) x before) same
+      (subst (λ (x : List FlatMachine). BeginsEvent start (suc j) m.machine x) rest (began-place start j m here r.is.log_is r.is.none_after r.is.units r.began))
   places-longer (x ∷ newer) machine before e =
       let rest : here.before ≡ newer ++ machine ∷ before = cc in
       places-here newer machine before rest
 
   -- the record of an earlier configuration is an end of a longer one
-  ends-before : (log : Log) (newer : List FlatMachine) → log.before ≡ newer ++ here.before → (i : ℕ) (c : Configuration) → i ≤ j → run_of start i ≡ Some c → IsEnd c log
+  ends-before : (log : Log) (newer : List FlatMachine) → log.before ≡ newer ++ here.before → (i : ℕ) (c : Configuration) → i ≤ j → run_of start i ≡ Some c → IsEarlierRecord c log
   ends-before log newer more i c few at =
       let e = r.is.ends i c few at in
       record { own = e.own; log_is = e.log_is; newer = newer ++ e.newer; end = more ∙ ap (λ (ms : List FlatMachine). newer ++ ms) e.end ∙ sym (append_assoc newer e.newer e.own.before) }
 
   -- the run goes on
   module _ (m' : Configuration) (reached : run_of start (suc j) ≡ Some m') where
-    ends-on : (log : Log) (newer : List FlatMachine) → log.before ≡ newer ++ here.before → m'.log ≡ Some log → (i : ℕ) (c : Configuration) → (i ≤ j) ⊎ (i ≡ suc j) → run_of start i ≡ Some c → IsEnd c log
+    ends-on : (log : Log) (newer : List FlatMachine) → log.before ≡ newer ++ here.before → m'.log ≡ Some log → (i : ℕ) (c : Configuration) → (i ≤ j) ⊎ (i ≡ suc j) → run_of start i ≡ Some c → IsEarlierRecord c log
     ends-on log newer more is i c (inl few) at = ends-before log newer more i c few at
     ends-on log newer more is i c (inr last) at =
         let same : c ≡ m' = some-is c m' (sym at ∙ ap (run_of start) last ∙ reached) in
@@ -257,17 +260,17 @@ module _ (start m : Configuration) (j : ℕ) (r : Recorded start j m) where
         places = places-longer;
         ends = λ i c few at. ends-on longer (m.machine ∷ []) refl (longer-is m'.log s.log) i c (last-or-before i j few) at;
       };
-      began = record { moves = suc j; by_now = omega arith; configuration = m'; reached = reached; begins = s.doing; machine = refl; log = refl; left = refl };
-      leaves = subst (λ (d : Doing). LeavesUnits d m') (sym s.doing) tt;
+      began = record { moves = suc j; by_now = omega arith; configuration = m'; reached = reached; begins = s.phase; machine = refl; log = refl; left = refl };
+      leaves = subst (λ (d : Phase). LeavesUnits d m') (sym s.phase) tt;
     }
 
   -- the run stops
   module _ (s : Stop) (m' : Configuration) (none-on : run_of start (suc j) ≡ None) where
-    ends-last : (log : Log) (newer : List FlatMachine) → log.before ≡ newer ++ here.before → (i : ℕ) (c : Configuration) → (i ≤ j) ⊎ (i ≡ suc j) → run_of start i ≡ Some c → IsEnd c log
+    ends-last : (log : Log) (newer : List FlatMachine) → log.before ≡ newer ++ here.before → (i : ℕ) (c : Configuration) → (i ≤ j) ⊎ (i ≡ suc j) → run_of start i ≡ Some c → IsEarlierRecord c log
     ends-last log newer more i c (inl few) at = ends-before log newer more i c few at
     ends-last log newer more i c (inr last) at = let none : None ≡ Some c = sym none-on ∙ ap (run_of start) (sym last) ∙ at in absurd cc
 
-    stops-so : Halts s m m' ⊎ Quits m m' → IsLast start (record { stop = s; configuration = m' })
+    stops-so : Halts s m m' ⊎ Quits m m' → IsLastRecord start (record { stop = s; configuration = m' })
     stops-so (inl h) = record {
       moves = suc j;
       left = m.left;
@@ -296,12 +299,12 @@ module _ (start m : Configuration) (j : ℕ) (r : Recorded start j m) where
     }
 
 -- the first configuration
-module _ (start : Configuration) (begins : start.doing ≡ steps) (none : start.log ≡ Some no_events) where
+module _ (start : Configuration) (begins : start.phase ≡ steps) (none : start.log ≡ Some no_events) where
   none-before : (newer : List FlatMachine) (machine : FlatMachine) (before : List FlatMachine) → [] ≡ newer ++ machine ∷ before → ⊥
   none-before [] machine before e = cc
   none-before (x ∷ newer) machine before e = cc
 
-  first-end : (i : ℕ) (c : Configuration) → i ≤ 0 → run_of start i ≡ Some c → IsEnd c no_events
+  first-end : (i : ℕ) (c : Configuration) → i ≤ 0 → run_of start i ≡ Some c → IsEarlierRecord c no_events
   first-end zero c few at = whole-end c no_events (ap (λ (x : Configuration). x.log) (sym (some-is start c at)) ∙ none)
   first-end (suc i) c few at = absurd (omega arith)
 
@@ -316,11 +319,11 @@ module _ (start : Configuration) (begins : start.doing ≡ steps) (none : start.
       ends = first-end;
     };
     began = record { moves = 0; by_now = omega arith; configuration = start; reached = refl; begins = begins; machine = refl; log = refl; left = refl };
-    leaves = subst (λ (d : Doing). LeavesUnits d start) (sym begins) tt;
+    leaves = subst (λ (d : Phase). LeavesUnits d start) (sym begins) tt;
   }
 
   recorded-next : (j : ℕ) (m' : Configuration) (o : Option Configuration) → run_of start j ≡ o → ((m : Configuration) → run_of start j ≡ Some m → Recorded start j m)
-      → option_and_then (λ m. next_of (move_of m)) o ≡ Some m' → run_of start (suc j) ≡ Some m' → Recorded start (suc j) m'
+      → option_and_then (λ m. next_configuration (move_of m)) o ≡ Some m' → run_of start (suc j) ≡ Some m' → Recorded start (suc j) m'
   recorded-next j m' None at before e reached = cc
   recorded-next j m' (Some m) at before e reached =
       let r : Recorded start j m = before m at in
@@ -331,14 +334,14 @@ module _ (start : Configuration) (begins : start.doing ≡ steps) (none : start.
   recorded (suc j) m at = recorded-next j m (run_of start j) refl (recorded j) at at
 
   -- the stop of a run that has come this far
-  stopped-by : (m : Configuration) (j : ℕ) → run_of start j ≡ Some m → Recorded start j m → stop_of m ≡ stop_of start → ((m' : Configuration) → move_of m ≡ goes m' → IsLast start (stop_of start))
-      → (v : Verdict) → move_of m ≡ v → IsLast start (stop_of start)
+  stopped-by : (m : Configuration) (j : ℕ) → run_of start j ≡ Some m → Recorded start j m → stop_of m ≡ stop_of start → ((m' : Configuration) → move_of m ≡ goes m' → IsLastRecord start (stop_of start))
+      → (v : Verdict) → move_of m ≡ v → IsLastRecord start (stop_of start)
   stopped-by m j at r same on (goes m') e = on m' e
   stopped-by m j at r same on (stops s m') e =
-      let none-on : run_of start (suc j) ≡ None = ap (λ (o : Option Configuration). option_and_then (λ x. next_of (move_of x)) o) at ∙ ap next_of e in
-      subst (IsLast start) (sym (stop-comes m m' s e) ∙ same) (stops-so start m j r s m' none-on (subst (Moves m) e (move-moves m r.leaves)))
+      let none-on : run_of start (suc j) ≡ None = ap (λ (o : Option Configuration). option_and_then (λ x. next_configuration (move_of x)) o) at ∙ ap next_configuration e in
+      subst (IsLastRecord start) (sym (stop-comes m m' s e) ∙ same) (stops-so start m j r s m' none-on (subst (Moves m) e (move-moves m r.leaves)))
 
-  stopped : (n : ℕ) (m : Configuration) (j : ℕ) → moves_left m < n → run_of start j ≡ Some m → Recorded start j m → stop_of m ≡ stop_of start → IsLast start (stop_of start)
+  stopped : (n : ℕ) (m : Configuration) (j : ℕ) → moves_left m < n → run_of start j ≡ Some m → Recorded start j m → stop_of m ≡ stop_of start → IsLastRecord start (stop_of start)
   stopped zero m j less at r same = absurd (omega arith)
   stopped (suc n) m j less at r same =
       stopped-by m j at r same
@@ -349,7 +352,7 @@ module _ (start : Configuration) (begins : start.doing ≡ steps) (none : start.
       (move_of m) refl
 
 -- the last screen is no matter of the record
-shown-last : (start : Configuration) → IsLast start (stop_of start) → IsLast start (final_of start)
+shown-last : (start : Configuration) → IsLastRecord start (stop_of start) → IsLastRecord start (final_of start)
 unfolding final_of
 shown-last start l = record {
   moves = l.moves;
@@ -359,7 +362,7 @@ shown-last start l = record {
 }
 
 -- The law.
-pub records_places : (start : Configuration) → Records start
+pub records_places : (start : Configuration) → RecordsRun start
 records_places start = record {
   at = λ begins none j m at. (recorded start begins none j m at).is;
   last = λ begins none. shown-last start (stopped start begins none (suc (moves_left start)) start 0 (omega arith) refl (first-recorded start begins none) refl);

@@ -7,7 +7,7 @@ use Rattle.gx_machine.specs.declared.askings.Asking.{Asking}
 use Rattle.gx_machine.specs.Machine.{FlatMachine, Whole}
 use Rattle.gx_machine.specs.Step.{cost_of, stepped, asking_of}
 use Rattle.gx_machine.specs.Log.{Log, logged, units_of}
-use Rattle.gx_machine.specs.Advancing.{units_left, left_by, left_after, Passes, Advances, logged_by}
+use Rattle.gx_machine.specs.Advancing.{units_left, left_once_answered, left_after, Passes, Advances, logged_by}
 use Rattle.gx_session.proofs.Passing.{passed-asks, advanced}
 use Rattle.gx_session.proofs.Steps.{step-answers, step-cost}
 
@@ -30,7 +30,7 @@ room-lower log budget left room less = omega arith
 
 -- an asking is recorded once it is answered
 room-by : (does : Effect) (log : Option Log) (m m' : FlatMachine) (left : ℕ) → (IsSome (asking_of does) → m' ≡ m) → left ≤ units_left log → (does ≢ effect.Spent → left ≤ units_left (logged log m))
-    → left ≤ left_by (asking_of does) (logged_by does log m) m'
+    → left ≤ left_once_answered (asking_of does) (logged_by does log m) m'
 room-by effect.Went log m m' left stands room after = after (λ e. cc)
 room-by effect.Drew log m m' left stands room after = after (λ e. cc)
 room-by (effect.Put c) log m m' left stands room after = subst (λ (x : FlatMachine). left ≤ units_left (logged log x)) (sym (stands refl)) (after (λ e. cc))
@@ -45,9 +45,9 @@ pub step-room : (w w' : Whole) (word budget left : ℕ) (does : Effect) (log las
     → (IsSome (asking_of does) → w'.machine ≡ w.machine) → last ≡ logged_by does log w.machine → left ≤ left_after last w'
 step-room w w' word budget left does log last none room e stands logs =
     let s = step-answers w w' word budget left does none e in
-    let by : left ≤ left_by (asking_of does) (logged_by does log w.machine) w'.machine =
+    let by : left ≤ left_once_answered (asking_of does) (logged_by does log w.machine) w'.machine =
     room-by does log w.machine w'.machine left stands (room-lower log budget left room s.no_more) (λ other. room-taken log w.machine budget left room (step-cost w w' word budget left does e other)) in
-    subst (λ (a : Option Asking). left ≤ left_by a last w'.machine) (sym s.asks) (subst (λ (l : Option Log). left ≤ left_by (asking_of does) l w'.machine) (sym logs) by)
+    subst (λ (a : Option Asking). left ≤ left_once_answered a last w'.machine) (sym s.asks) (subst (λ (l : Option Log). left ≤ left_once_answered (asking_of does) l w'.machine) (sym logs) by)
 
 -- after steps that ask nothing
 pub passed-room : (word n : ℕ) (w w' : Whole) (left left' : ℕ) (first last : Option Log) → left ≤ units_left first → Passes word n (w, left) first (w', left') last → left' ≤ units_left last

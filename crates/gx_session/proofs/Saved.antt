@@ -3,13 +3,16 @@ use Rattle.std.proofs.Common.{◌≡◌, ℕ, zero, suc, ◌≤◌, inl, inr, tr
 use Rattle.std.proofs.lemmas.Bool.{cases_lt}
 use Rattle.gx_state.specs.declared.effects.Effect.{Effect}
 use Rattle.gx_session.specs.declared.ends.Stop.{Stop}
-use Rattle.gx_session.specs.Cuts.{BeginsSave}
+use Rattle.gx_session.specs.Wants.{BeginsSave}
 use Rattle.gx_session.specs.Runs.{IsSaved, SavedAll, SavedBefore}
 use Rattle.gx_session.specs.Saving.{IsReadBack}
-use Rattle.gx_session.specs.Session.{Configuration, steps, stops, sends_now, move_of, next_of, run_of, effect_at}
+use Rattle.gx_session.specs.Configurations.{Configuration, steps, stops}
+use Rattle.gx_session.specs.Moves.{sends_now, move_of}
+use Rattle.gx_session.specs.Session.{next_configuration, run_of}
+use Rattle.gx_session.specs.Asked.{effect_at}
 
 -- a move that is no step saves nothing, nor does one that sends
-pub unsaved : (m : Configuration) → (m.doing ≡ steps → ⊥) → IsSaved m
+pub unsaved : (m : Configuration) → (m.phase ≡ steps → ⊥) → IsSaved m
 unsaved m other is quiet begins = absurd (other is)
 
 pub unsaved-send : (m : Configuration) → sends_now m ≡ true → IsSaved m
@@ -38,13 +41,13 @@ none-after start n zero low none =
 none-after start n (suc i) low none =
     elim (cases_lt i n) [
       | inl less ↦ let at : n ≡ suc i = omega arith in subst (λ (k : ℕ). run_of start k ≡ None) at none
-      | inr high ↦ ap (λ (o : Option Configuration). option_and_then (λ m. next_of (move_of m)) o) (none-after start n i high none)
+      | inr high ↦ ap (λ (o : Option Configuration). option_and_then (λ m. next_configuration (move_of m)) o) (none-after start n i high none)
     ]
 
 -- a run that stops at this move
 pub saved-all : (start : Configuration) (n : ℕ) (m m' : Configuration) (why : Stop) → run_of start n ≡ Some m → move_of m ≡ stops why m' → SavedBefore start n → SavedAll start
 saved-all start n m m' why reached stop before i m1 m2 reached1 reached2 =
-    let none : run_of start (suc n) ≡ None = ap (λ (o : Option Configuration). option_and_then (λ m. next_of (move_of m)) o) reached ∙ ap next_of stop in
+    let none : run_of start (suc n) ≡ None = ap (λ (o : Option Configuration). option_and_then (λ m. next_configuration (move_of m)) o) reached ∙ ap next_configuration stop in
     elim (cases_lt i n) [
       | inl low ↦ before i low m1 reached1
       | inr high ↦ let later : run_of start (suc i) ≡ None = none-after start (suc n) (suc i) (omega arith) none in cc

@@ -26,9 +26,11 @@ use Rattle.quetzal.specs.Saves.{save_of}
 use Rattle.quetzal.specs.Writing.{saved}
 use Rattle.quetzal.specs.declared.faults.SaveFault.{SaveFault}
 use Rattle.quetzal.specs.declared.faults.SaveFault.TheVariants as of_save
-use Rattle.gx_session.specs.Playing.{MaySave, Refuses}
+use Rattle.gx_session.specs.Outcomes.{MaySave, Refuses}
 use Rattle.gx_session.specs.Constants.{failed}
-use Rattle.gx_session.specs.Saving.{unless_failed, unless_refused, saving, restoring, may_take, may_hold, is_begun, is_read}
+use Rattle.gx_session.specs.Saving.{unless_failed, unless_refused, saving, restoring, may_take, is_save_begun}
+use Rattle.gx_session.specs.Saving.{is_restore_begun}
+use Rattle.gx_session.proofs.Parts.{may_hold}
 use Rattle.gx_session.proofs.Steps.{ok-is}
 
 -- ---- saves
@@ -92,7 +94,7 @@ not-saved w f stream true takes none is =
     ∙ ap (λ (x : FlatWorld). Ok (x, replies failed)) (nothing_said w)
 
 -- one that isn't begun
-pub saving-fails : (w : FlatWorld) (f : FlatState) (stream : ℕ) → is_begun w.scene f stream ≡ false → on_world w (saving w.scene f stream) ≡ Ok (w, replies failed)
+pub saving-fails : (w : FlatWorld) (f : FlatState) (stream : ℕ) → is_save_begun w.scene f stream ≡ false → on_world w (saving w.scene f stream) ≡ Ok (w, replies failed)
 unfolding saving
 saving-fails w f stream none = not-saved w f stream (f.iosys.0 == glk_system) (may_take w.scene stream) none refl
 
@@ -100,7 +102,7 @@ and-left : (a b : Bool) → (a && b) ≡ true → a ≡ true
 and-left true b both = refl
 and-left false b both = cc
 
-pub begun-glk : (w : Scene) (f : FlatState) (stream : ℕ) → is_begun w f stream ≡ true → (f.iosys.0 == glk_system) ≡ true
+pub begun-glk : (w : Scene) (f : FlatState) (stream : ℕ) → is_save_begun w f stream ≡ true → (f.iosys.0 == glk_system) ≡ true
 begun-glk w f stream begun = and-left (f.iosys.0 == glk_system) (may_take w stream) begun
 
 -- how a save that is begun ends, by how its put does
@@ -109,8 +111,8 @@ answer_of (Ok reply) = Ok (reply_of reply)
 answer_of (Err e) = Err e
 
 pub save-by : (w w' : FlatWorld) (f f' : FlatState) → f' ≡ f → (stream : ℕ) (bytes : List ℕ) (r : Result (Option Reply) Fault)
-    → is_begun w.scene f stream ≡ true → bytes ≡ saved f.story (saved_copy f) → MayLose (IsTrue (put_save_grows w.scene stream bytes)) (λ reply. reply) r w w' (on_world w (put_save w.scene f' stream bytes))
-    → MaySave (IsTrue (is_begun w.scene f stream)) (answer_of r) w w' (on_world w (saving w.scene f stream))
+    → is_save_begun w.scene f stream ≡ true → bytes ≡ saved f.story (saved_copy f) → MayLose (IsTrue (put_save_grows w.scene stream bytes)) (λ reply. reply) r w w' (on_world w (put_save w.scene f' stream bytes))
+    → MaySave (IsTrue (is_save_begun w.scene f stream)) (answer_of r) w w' (on_world w (saving w.scene f stream))
 save-by w w' f f' same stream bytes (Ok reply) begun is put =
     saving-is w f stream bytes (begun-glk w.scene f stream begun) is
     ∙ ap (λ (x : FlatState). with_reply (on_world w (put_save w.scene x stream bytes))) (sym same) ∙ ap with_reply put
@@ -170,7 +172,7 @@ module _ (w w' : FlatWorld) (f f' : FlatState) (same : f' ≡ f) (stream : ℕ) 
   -- the stream has a fault, or wants memory
   pub read-refused : (e : Fault)
       → (let r : Result (Option (List ℕ)) Fault = Err e in MayLose (IsTrue (take_rest_grows w.scene f' stream)) (λ bytes. bytes) r w w' (on_world w (take_rest w.scene f' stream)))
-      → (let r : Result (Option Copy) Fault = Err e in MayLose (IsTrue (is_read w.scene f stream)) (λ copy. copy) r w w' (on_world w (restoring w.scene f stream)))
+      → (let r : Result (Option Copy) Fault = Err e in MayLose (IsTrue (is_restore_begun w.scene f stream)) (λ copy. copy) r w w' (on_world w (restoring w.scene f stream)))
   read-refused e took = (
     took.0,
     (
@@ -194,7 +196,7 @@ module _ (w w' : FlatWorld) (f f' : FlatState) (same : f' ≡ f) (stream : ℕ) 
 
   module _ (bytes : List ℕ) (took : on_world w (take_rest w.scene f' stream) ≡ Ok (w', Some bytes)) where
     -- the reading wants memory
-    read-wants : (let r : Result (Option Copy) Fault = Err NoMemory in MayLose (IsTrue (is_read w.scene f stream)) (λ copy. copy) r w w' (on_world w (restoring w.scene f stream)))
+    read-wants : (let r : Result (Option Copy) Fault = Err NoMemory in MayLose (IsTrue (is_restore_begun w.scene f stream)) (λ copy. copy) r w w' (on_world w (restoring w.scene f stream)))
     read-wants = (
       (λ other. absurd (other refl)),
       (
@@ -209,8 +211,8 @@ module _ (w w' : FlatWorld) (f f' : FlatState) (same : f' ≡ f) (stream : ℕ) 
 
     -- it is none, or the reading wants memory
     pub unread : (e : SaveFault) (result : Result (Option Copy) Fault) → (e ≢ of_save.NoMemory → save_of ceiling bytes f.story ≡ Err e) → Refuses e result
-        → MayLose (IsTrue (is_read w.scene f stream)) (λ copy. copy) result w w' (on_world w (restoring w.scene f stream))
-    unread e result gave (inl memory) = subst (λ (r : Result (Option Copy) Fault). MayLose (IsTrue (is_read w.scene f stream)) (λ copy. copy) r w w' (on_world w (restoring w.scene f stream))) (sym memory.1) read-wants
+        → MayLose (IsTrue (is_restore_begun w.scene f stream)) (λ copy. copy) result w w' (on_world w (restoring w.scene f stream))
+    unread e result gave (inl memory) = subst (λ (r : Result (Option Copy) Fault). MayLose (IsTrue (is_restore_begun w.scene f stream)) (λ copy. copy) r w w' (on_world w (restoring w.scene f stream))) (sym memory.1) read-wants
     unread e result gave (inr other) =
-        subst (λ (r : Result (Option Copy) Fault). MayLose (IsTrue (is_read w.scene f stream)) (λ copy. copy) r w w' (on_world w (restoring w.scene f stream))) (sym other.1)
+        subst (λ (r : Result (Option Copy) Fault). MayLose (IsTrue (is_restore_begun w.scene f stream)) (λ copy. copy) r w w' (on_world w (restoring w.scene f stream))) (sym other.1)
         (read-is (Some bytes) None (ap unless_refused (gave other.0)) took)

@@ -1,5 +1,5 @@
 -- The last screen of a run.
-use Rattle.std.proofs.Common.{◌≡◌, true, Option, refl, ap, subst, sym, ◌∙◌, arith, map}
+use Rattle.std.proofs.Common.{◌≡◌, true, Option, refl, ap, subst, sym, ◌∙◌, map}
 use Rattle.std.specs.List.{concat}
 use Rattle.gx_machine.specs.declared.askings.Asking.{Asking}
 use Rattle.glk_world.specs.World.{FlatWorld, after, is_composed}
@@ -8,17 +8,23 @@ use Rattle.gx_session.specs.declared.ends.Stop.{Stop}
 use Rattle.gx_session.specs.declared.ends.Stop.TheVariants as stop
 use Rattle.gx_session.specs.declared.ends.Halt.TheVariants as halt
 use Rattle.gx_session.specs.Cuts.{in_last_screen, IsLineStop, asking_at_stop}
-use Rattle.gx_session.specs.Runs.{IsFront, LeavesInput}
-use Rattle.gx_session.specs.Sending.{taken}
-use Rattle.gx_session.specs.Session.{Configuration, Ending, stop_of, with_last_screen, final_of, asked_at}
-use Rattle.gx_session.specs.Playing.{SendStep, Handed, Held, configuration_of, IsPast, Done, Shown, Early}
+use Rattle.gx_session.specs.Runs.{IsFront}
+use Rattle.gx_session.specs.Reads.{LeavesInput}
+use Rattle.gx_session.specs.Sending.{whole_send}
+use Rattle.gx_session.specs.Configurations.{Configuration}
+use Rattle.gx_session.specs.Session.{RunEnd, stop_of, final_of}
+use Rattle.gx_session.specs.Asked.{asked_at}
+use Rattle.gx_session.specs.Holding.{SendStep, Handed, HeldRun, configuration_of, IsHistory}
+use Rattle.gx_session.specs.Standing.{HasStopped, Early}
+use Rattle.gx_session.specs.Finishing.{HasShown}
+use Rattle.gx_session.proofs.Parts.{with_last_screen}
 use Rattle.gx_session.proofs.Asking.{sent-before}
 use Rattle.gx_session.proofs.Playing.{cut-at, input-left, words-left}
 use Rattle.gx_session.proofs.Steps.{asked-same}
 use Rattle.gx_session.proofs.Texts.{last-grows}
 
 -- the end of a run that stops so
-abbrev with-screen : Ending → Ending
+abbrev with-screen : RunEnd → RunEnd
 with-screen e = record { stop = e.stop; configuration = with_last_screen e.configuration }
 
 end-is : (start : Configuration) → final_of start ≡ with-screen (stop_of start)
@@ -36,13 +42,13 @@ asks-same stop.InputEnded m m' machine words = asked-same m m' machine words
 asks-same stop.Stuck m m' machine words = asked-same m m' machine words
 asks-same stop.LineTooLong m m' machine words = asked-same m m' machine words
 
-module _ {K : Type 0} {sending : SendStep K} (start : Configuration) (entry : Handed sending) (h : Held) (d : Handed sending) (asking : Option Asking) (why : Stop) where
-  module _ (g : Done start entry h asking d why) where
+module _ {K : Type 0} {sending : SendStep K} (start : Configuration) (entry : Handed sending) (h : HeldRun) (d : Handed sending) (asking : Option Asking) (why : Stop) where
+  module _ (g : HasStopped start entry h asking d why) where
     abbrev at-stop : Configuration
-    at-stop = configuration_of g.past g.doing h d
+    at-stop = configuration_of g.past g.phase h d
 
     -- it ends so, at a configuration
-    abbrev ended : Configuration → Ending
+    abbrev ended : Configuration → RunEnd
     ended m = record { stop = why; configuration = m }
 
     end-here : final_of start ≡ with-screen (ended at-stop)
@@ -50,11 +56,11 @@ module _ {K : Type 0} {sending : SendStep K} (start : Configuration) (entry : Ha
 
     -- it is shown
     pub screen-shown : (world : FlatWorld) → world ≡ after h.world (end_text h.world.scene)
-        → Shown start entry (record h { world = world }) asking d why
+        → HasShown start entry (record h { world = world }) asking d why
     screen-shown world said =
-        let h' : Held = record h { world = after h.world (end_text h.world.scene) } in
+        let h' : HeldRun = record h { world = after h.world (end_text h.world.scene) } in
         let i = g.is_past in
-        let past : IsPast start entry g.past h' d = record {
+        let past : IsHistory start entry g.past h' d = record {
           taken = i.taken;
           answers = i.answers;
           answered = i.answered;
@@ -63,13 +69,13 @@ module _ {K : Type 0} {sending : SendStep K} (start : Configuration) (entry : Ha
           fewer = i.fewer;
           reads = i.reads;
         } in
-        let m : Configuration = configuration_of g.past g.doing h' d in
+        let m : Configuration = configuration_of g.past g.phase h' d in
         let same : with_last_screen at-stop ≡ m =
         ap (λ (x : FlatWorld). record at-stop { world = x })
         (sent-before (concat g.past.sent) h.world (end_text h.world.scene)) in
-        let shown : Shown start entry h' asking d why = record {
+        let shown : HasShown start entry h' asking d why = record {
           past = g.past;
-          doing = g.doing;
+          phase = g.phase;
           is_past = past;
           few = g.few;
           reads = g.reads;
@@ -77,19 +83,19 @@ module _ {K : Type 0} {sending : SendStep K} (start : Configuration) (entry : Ha
           saves = g.saves;
           asking_is = g.asking_is ∙ asks-same why at-stop m refl refl;
         } in
-        subst (λ (x : FlatWorld). Shown start entry (record h { world = x }) asking d why) (sym said) shown
+        subst (λ (x : FlatWorld). HasShown start entry (record h { world = x }) asking d why) (sym said) shown
 
     stop-is : (final_of start).stop ≡ why
-    stop-is = ap (λ (e : Ending). e.stop) end-here
+    stop-is = ap (λ (e : RunEnd). e.stop) end-here
 
     asks-end : asking ≡ asking_at_stop start
     asks-end =
         g.asking_is ∙ asks-same why at-stop (with_last_screen at-stop) refl refl
-        ∙ ap (λ (e : Ending). asked_at e.stop e.configuration) (sym end-here)
+        ∙ ap (λ (e : RunEnd). asked_at e.stop e.configuration) (sym end-here)
 
     shown-by-then : IsFront at-stop.world.text (final_of start).configuration.world.text
     shown-by-then =
-        subst (λ (e : Ending). IsFront e.configuration.world.text (final_of start).configuration.world.text) g.is_end
+        subst (λ (e : RunEnd). IsFront e.configuration.world.text (final_of start).configuration.world.text) g.is_end
         (last-grows start)
 
     abbrev awaited : Type 0
@@ -108,8 +114,8 @@ module _ {K : Type 0} {sending : SendStep K} (start : Configuration) (entry : Ha
     pub screen-wants : (world : FlatWorld) → is_composed h.world.scene ≡ true
         → Early start entry (record h { world = world }) asking d halt.NoMemory
     screen-wants world composed =
-        let here : at-stop ≡ (stop_of start).configuration = sym (ap (λ (e : Ending). e.configuration) g.is_end) in
+        let here : at-stop ≡ (stop_of start).configuration = sym (ap (λ (e : RunEnd). e.configuration) g.is_end) in
         cut-at start entry d (record h { world = world }) asking halt.NoMemory in_last_screen at-stop
-        (map taken g.past.sent) (here, composed, refl, asks-end) refl refl refl (h.world.text, refl) refl
+        (map whole_send g.past.sent) (here, composed, refl, asks-end) refl refl refl (h.world.text, refl) refl
         g.is_past.taken shown-by-then refl (λ other. input-then)
         (words-left h.word d.words g.past.words g.is_past.word) g.saves

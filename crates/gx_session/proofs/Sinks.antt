@@ -1,16 +1,17 @@
 -- What a sink that tells has taken after the sends of a session.
-use Rattle.std.proofs.Common.{◌≡◌, ℕ, ◌+◌, ◌≤◌, List, [], ◌∷◌, ◌++◌, map, length, take, true, Ok, Err, refl, ap, subst, sym, ◌∙◌, arith, append_assoc, append-nil, length-append}
+use Rattle.std.proofs.Common.{◌≡◌, ℕ, ◌+◌, List, [], ◌∷◌, ◌++◌, map, length, take, true, Err, refl, ap, subst, sym, ◌∙◌}
+use Rattle.std.proofs.Common.{arith, append_assoc, append-nil, length-append}
 use Rattle.std.proofs.Math.Seq.{take-append_seam, drop-append_seam}
 use Rattle.std.specs.List.{concat}
 use Rattle.gx_outside.specs.Chains.{Chain}
 use Rattle.gx_outside.specs.Outside.{FlatSink, send_wanted}
 use Rattle.gx_outside.specs.Sends.{Send, SinkCall}
-use Rattle.gx_outside.specs.declared.devices.SendFault.{SendFault}
-use Rattle.gx_session.specs.Constants.{status_no_memory}
-use Rattle.gx_session.specs.Cuts.{Cut, in_move, in_send, in_question, in_reading, in_last_screen, in_last_send, in_listing, in_store, WantedBy, most_taken, send_fault_at, refused_send, sends_by_cut}
+use Rattle.gx_session.specs.Cuts.{RunCut, in_move, in_send, in_question, in_reading, in_last_screen, in_last_send}
+use Rattle.gx_session.specs.Cuts.{in_listing, in_store, WantedBy, most_taken, refused_send, sends_by_cut}
 use Rattle.gx_session.specs.Runs.{IsFront, TakesText}
-use Rattle.gx_session.specs.Sending.{Sent, pending, taken}
-use Rattle.gx_session.specs.Session.{Configuration}
+use Rattle.gx_session.specs.Sending.{Sent, pending, whole_send}
+use Rattle.gx_session.specs.Configurations.{Configuration}
+use Rattle.gx_session.proofs.Parts.{send_fault_at}
 use Rattle.gx_session.proofs.Calling.{chain-split}
 
 -- texts that were taken whole
@@ -18,7 +19,7 @@ pub record TookWhole (a b : FlatSink) (texts : Sent) : Type 0 where
   pub tells : b.tells ≡ a.tells
   pub all : a.tells ≡ true → b.taken ≡ a.taken ++ concat texts
 
-pub took-whole : (a b : FlatSink) (texts : Sent) → Chain SinkCall a (map taken texts) b → TookWhole a b texts
+pub took-whole : (a b : FlatSink) (texts : Sent) → Chain SinkCall a (map whole_send texts) b → TookWhole a b texts
 took-whole a b [] same = record {
   tells = ap (λ (s : FlatSink). s.tells) same;
   all = λ t. ap (λ (s : FlatSink). s.taken) same ∙ sym (append-nil a.taken);
@@ -35,7 +36,7 @@ took-whole a b (x ∷ xs) chain =
 
 module _ (a b : FlatSink) (m : Configuration) (front : IsFront (concat m.sent) m.world.text) (status : ℕ) where
   -- no send was refused
-  none-refused : (cut : Cut) → WantedBy cut b → most_taken cut m ≡ length (concat m.sent) → Chain SinkCall a (map taken m.sent) b → TakesText a b cut m status
+  none-refused : (cut : RunCut) → WantedBy cut b → most_taken cut m ≡ length (concat m.sent) → Chain SinkCall a (map whole_send m.sent) b → TakesText a b cut m status
   none-refused cut wanted most chain = record {
     wanted = λ e. wanted;
     count = length (concat m.sent);
@@ -47,9 +48,9 @@ module _ (a b : FlatSink) (m : Configuration) (front : IsFront (concat m.sent) m
   }
 
   -- the last one was
-  one-refused : (cut : Cut) → (b.calls.wanting ≡ true → WantedBy cut b) → most_taken cut m ≡ length m.world.text → Chain SinkCall a (map taken m.sent ++ refused_send m status ∷ []) b → TakesText a b cut m status
+  one-refused : (cut : RunCut) → (b.calls.wanting ≡ true → WantedBy cut b) → most_taken cut m ≡ length m.world.text → Chain SinkCall a (map whole_send m.sent ++ refused_send m status ∷ []) b → TakesText a b cut m status
   one-refused cut wanted most chain =
-      let parts = chain-split SinkCall a b (map taken m.sent) (refused_send m status ∷ []) chain in
+      let parts = chain-split SinkCall a b (map whole_send m.sent) (refused_send m status ∷ []) chain in
       let mid : FlatSink = parts.0 in
       let before = took-whole a mid m.sent parts.1 in
       let last : FlatSink = parts.2.0 in
@@ -72,7 +73,7 @@ module _ (a b : FlatSink) (m : Configuration) (front : IsFront (concat m.sent) m
             ∙ ap (λ (xs : List ℕ). a.taken ++ xs) (sym (ap (take (length (concat m.sent ++ more))) text ∙ take-append_seam (concat m.sent ++ more) rest));
       }
 
-  by-cut : (cut : Cut) → Chain SinkCall a (sends_by_cut cut m status) b → TakesText a b cut m status
+  by-cut : (cut : RunCut) → Chain SinkCall a (sends_by_cut cut m status) b → TakesText a b cut m status
   by-cut (in_move j) chain = none-refused (in_move j) tt refl chain
   by-cut (in_send j) chain = one-refused (in_send j) (λ e. e) refl chain
   by-cut (in_question j) chain = none-refused (in_question j) tt refl chain
@@ -82,5 +83,5 @@ module _ (a b : FlatSink) (m : Configuration) (front : IsFront (concat m.sent) m
   by-cut in_listing chain = none-refused in_listing tt refl chain
   by-cut (in_store stored next) chain = none-refused (in_store stored next) tt refl chain
 
-  pub takes-front : (cut : Cut) (sends : List Send) → sends ≡ sends_by_cut cut m status → Chain SinkCall a sends b → TakesText a b cut m status
+  pub takes-front : (cut : RunCut) (sends : List Send) → sends ≡ sends_by_cut cut m status → Chain SinkCall a sends b → TakesText a b cut m status
   takes-front cut sends is chain = by-cut cut (subst (λ (t : List Send). Chain SinkCall a t b) is chain)

@@ -10,8 +10,11 @@ use Rattle.gx_machine.specs.Machine.{FlatMachine, Whole}
 use Rattle.gx_machine.specs.Step.{cost_of, step_of, stepped, asking_of}
 use Rattle.gx_machine.proofs.Costs.{cost-positive}
 use Rattle.gx_session.specs.declared.ends.Stop.TheVariants as stop
-use Rattle.gx_session.specs.Session.{Configuration, Verdict, stops, after_effect, after_step, step_from, effect_of, effect_at, asked_by, asked}
+use Rattle.gx_session.specs.Configurations.{Configuration, Verdict, stops}
+use Rattle.gx_session.specs.Moves.{after_effect, after_step, step_from}
+use Rattle.gx_session.specs.Asked.{effect_of, effect_at, asked}
 use Rattle.rand_core.specs.Stream.{Stream, next_u32}
+use Rattle.gx_session.proofs.Parts.{asked_by}
 
 -- what a step within a budget makes of a configuration
 abbrev verdict_of : Configuration → Result ((Whole × ℕ) × Effect) Fault → Verdict

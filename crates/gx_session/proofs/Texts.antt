@@ -17,7 +17,10 @@ use Rattle.gx_session.specs.declared.ends.Stop.TheVariants as stop
 use Rattle.gx_session.specs.declared.running.Waiting.{Waiting}
 use Rattle.gx_session.specs.Input.{next_line}
 use Rattle.gx_session.specs.Saving.{saving, restoring}
-use Rattle.gx_session.specs.Session.{Configuration, Doing, steps, asks, goes_on, Verdict, goes, stops, after_reply, after_restoring, after_turn, after_effect, after_step, step_from, act_by, act_of, sends_now, all_sent, move_of, moves_left, Ending, end_after, final_in, stop_of, final_of}
+use Rattle.gx_session.specs.Configurations.{Configuration, Phase, steps, asks, goes_on, Verdict, goes, stops}
+use Rattle.gx_session.specs.Moves.{after_reply, after_restoring, after_turn, after_effect, after_step, step_from}
+use Rattle.gx_session.specs.Moves.{act_by, act_of, sends_now, all_sent, move_of}
+use Rattle.gx_session.specs.Session.{moves_left, RunEnd, end_after, final_in, stop_of, final_of}
 use Rattle.gx_session.specs.Runs.{IsFront}
 use Rattle.gx_session.proofs.Cases.{turn-cases, given-cases, line-cases, asking-cases}
 use Rattle.rand_core.specs.Stream.{next_u32}
@@ -75,7 +78,7 @@ shown-grows : (m : Configuration) (chars : List ℕ) (b : Bool) → IsFront m.wo
 shown-grows m chars true = ((show_line m.world.scene chars).1, refl)
 shown-grows m chars false = front-refl m.world.text
 
-act-grows : (doing : Doing) (m : Configuration) → IsFront m.world.text (text_in (act_by doing m))
+act-grows : (phase : Phase) (m : Configuration) → IsFront m.world.text (text_in (act_by phase m))
 act-grows steps m = step-grows m
 act-grows (asks t w) m =
     asking-cases (λ v. IsFront m.world.text (text_in v)) m w t
@@ -87,13 +90,13 @@ act-grows (goes_on g w) m =
 
 moved-grows : (m : Configuration) (b : Bool) → IsFront m.world.text (text_in (if b then goes (all_sent m) else act_of m))
 moved-grows m true = front-refl m.world.text
-moved-grows m false = act-grows m.doing m
+moved-grows m false = act-grows m.phase m
 
 move-grows : (m : Configuration) → IsFront m.world.text (text_in (move_of m))
 unfolding move_of
 move-grows m = moved-grows m (sends_now m)
 
-after-grows : (v : Verdict) (on : Configuration → Ending) → ((m : Configuration) → IsFront m.world.text (on m).configuration.world.text) → IsFront (text_in v) (end_after v on).configuration.world.text
+after-grows : (v : Verdict) (on : Configuration → RunEnd) → ((m : Configuration) → IsFront m.world.text (on m).configuration.world.text) → IsFront (text_in v) (end_after v on).configuration.world.text
 after-grows (goes m) on grows = grows m
 after-grows (stops s m) on grows = front-refl m.world.text
 
@@ -119,6 +122,6 @@ pub final-grows : (m start : Configuration) → stop_of m ≡ stop_of start
     → IsFront m.world.text (final_of start).configuration.world.text
 final-grows m start same =
     let here : IsFront m.world.text (stop_of start).configuration.world.text =
-    subst (λ (e : Ending). IsFront m.world.text e.configuration.world.text) same (stop-grows m) in
+    subst (λ (e : RunEnd). IsFront m.world.text e.configuration.world.text) same (stop-grows m) in
     front-trans m.world.text (stop_of start).configuration.world.text (final_of start).configuration.world.text
     here (last-grows start)

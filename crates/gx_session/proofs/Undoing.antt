@@ -38,8 +38,12 @@ use Rattle.gx_session.specs.declared.ends.Stop.TheVariants as stop
 use Rattle.gx_session.specs.declared.running.Waiting.{Waiting}
 use Rattle.gx_session.specs.Input.{next_line}
 use Rattle.gx_session.specs.Saving.{saving, restoring}
-use Rattle.gx_session.specs.Session.{Configuration, Doing, steps, asks as asks-for, goes_on, Verdict, goes, stops, after_reply, after_restoring, after_turn, after_given, after_asking, after_effect, after_step, step_from, act_by, act_of, sends_now, all_sent, move_of, next_of, run_of}
-use Rattle.gx_session.specs.Undoing.{Undoing, saves, restores, discards, neither, undoing, undoing_next, undoing_move, undoing_row, undoing_by, undoing_in, alive, alive_by, alive_from, IsTaken, AreTaken, LastsUndo}
+use Rattle.gx_session.specs.Configurations.{Configuration, Phase, steps, asks as asks-for, goes_on, Verdict, goes}
+use Rattle.gx_session.specs.Configurations.{stops}
+use Rattle.gx_session.specs.Moves.{after_reply, after_restoring, after_turn, after_given, after_asking, after_effect}
+use Rattle.gx_session.specs.Moves.{after_step, step_from, act_by, act_of, sends_now, all_sent, move_of}
+use Rattle.gx_session.specs.Session.{next_configuration, run_of}
+use Rattle.gx_session.specs.Undoing.{Undoing, saves, restores, discards, neither, undoing, undoing_next, undoing_move, undoing_row, undoing_in, alive, alive_by, alive_from, IsTaken, AreTaken, LastsUndo}
 use Rattle.gx_session.proofs.Cases.{turn-cases, given-cases, line-cases, asking-cases}
 use Rattle.gx_session.proofs.Steps.{ok-is}
 use Rattle.rand_core.specs.Stream.{next_u32}
@@ -208,16 +212,16 @@ row-undone m word class.Game i m' e decoded h = game-undone m word i m' e decode
 row-undone m word class.Glk i m' e decoded h = copies-stay m.undo (glk m.flat i) m' e h
 
 decoded-undone : (m : FlatMachine) (word : ℕ) (r : Result Instruction Fault) (m' : FlatMachine) (e : Effect) → instruction m.flat ≡ r
-    → (let done : Result (FlatMachine × Effect) Fault = r >>= (λ i. row_effect i.row.class m word i) in done ≡ Ok (m', e)) → Undone m m'.undo e (undoing_by r)
+    → (let done : Result (FlatMachine × Effect) Fault = r >>= (λ i. row_effect i.row.class m word i) in done ≡ Ok (m', e)) → Undone m m'.undo e (undoing_in mode.Running r)
 decoded-undone m word (Ok i) m' e is h = row-undone m word i.row.class i m' e is h
 decoded-undone m word (Err fault) m' e is h = cc
 
-mode-undone : (m : FlatMachine) (word : ℕ) (d : Mode) (m' : FlatMachine) (e : Effect) → mode_step m word d ≡ Ok (m', e) → Undone m m'.undo e (undoing_in m.flat d)
+mode-undone : (m : FlatMachine) (word : ℕ) (d : Mode) (m' : FlatMachine) (e : Effect) → mode_step m word d ≡ Ok (m', e) → Undone m m'.undo e (undoing_in d (instruction m.flat))
 mode-undone m word mode.Running m' e h = decoded-undone m word (instruction m.flat) m' e refl h
 mode-undone m word (mode.Printing p) m' e h = copies-stay m.undo (item m.flat p) m' e h
 
 tested-undone : (m : FlatMachine) (word : ℕ) (m' : FlatMachine) (e : Effect) (b : Bool)
-    → (let done : Result (FlatMachine × Effect) Fault = if b then Err BadFrame else mode_step m word m.flat.mode in done ≡ Ok (m', e)) → Undone m m'.undo e (undoing_in m.flat m.flat.mode)
+    → (let done : Result (FlatMachine × Effect) Fault = if b then Err BadFrame else mode_step m word m.flat.mode in done ≡ Ok (m', e)) → Undone m m'.undo e (undoing_in m.flat.mode (instruction m.flat))
 tested-undone m word m' e true h = cc
 tested-undone m word m' e false h = mode-undone m word m.flat.mode m' e h
 
@@ -306,16 +310,16 @@ step-undid m m' e = tested-undid m (m.left - cost_of m.machine) (next_u32 m.word
 stood-undid : (m : FlatMachine) (u : FlatUndo) → m.undo ≡ u → Undid m u neither
 stood-undid m u same = record { does = effect.Went; undone = sym same }
 
-act-undid : (doing : Doing) (m m' : Configuration) → act_by doing m ≡ goes m' → Undid m.machine m'.machine.undo (undoing_next doing m.machine.flat)
+act-undid : (phase : Phase) (m m' : Configuration) → act_by phase m ≡ goes m' → Undid m.machine m'.machine.undo (undoing_next phase m.machine.flat)
 act-undid steps m m' e = step-undid m m' e
 act-undid (asks-for t w) m m' e = stood-undid m.machine m'.machine.undo (kept-undo m.machine.undo (after_asking m w t) m' (asked-undo m w t) e)
 act-undid (goes_on g w) m m' e =
     stood-undid m.machine m'.machine.undo (kept-undo m.machine.undo (after_given m w (glk_go_on m.world.scene m.machine.flat w.room g)) m' (given-undo m w (glk_go_on m.world.scene m.machine.flat w.room g)) e)
 
 moved-undid : (m m' : Configuration) (b : Bool) → (if b then goes (all_sent m) else act_of m) ≡ goes m'
-    → Undid m.machine m'.machine.undo (if b then neither else undoing_next m.doing m.machine.flat)
+    → Undid m.machine m'.machine.undo (if b then neither else undoing_next m.phase m.machine.flat)
 moved-undid m m' true e = stood-undid m.machine m'.machine.undo (kept-undo m.machine.undo (goes (all_sent m)) m' refl e)
-moved-undid m m' false e = act-undid m.doing m m' e
+moved-undid m m' false e = act-undid m.phase m m' e
 
 move-undid : (m m' : Configuration) → move_of m ≡ goes m' → Undid m.machine m'.machine.undo (undoing_move m)
 unfolding move_of
@@ -370,7 +374,7 @@ lasts-on start m m' j live does neither reached now is =
       taken = subst (λ (u : FlatUndo). AreTaken start u.copies live) (sym is) now.taken;
     }
 
-pub next-goes : (v : Verdict) (m : Configuration) → next_of v ≡ Some m → v ≡ goes m
+pub next-goes : (v : Verdict) (m : Configuration) → next_configuration v ≡ Some m → v ≡ goes m
 next-goes (goes m') m e = cc
 next-goes (stops s m') m e = cc
 
@@ -380,7 +384,7 @@ start-is start m e = cc
 -- the configuration after one more move
 module _ (start : Configuration) (j : ℕ) (m' : Configuration) where
   lasts-next : (o : Option Configuration) → run_of start j ≡ o → ((m : Configuration) → run_of start j ≡ Some m → Lasts start j m.machine.undo (alive start j))
-      → option_and_then (λ m. next_of (move_of m)) o ≡ Some m' → Lasts start (suc j) m'.machine.undo (alive_from start.machine.undo.depth j (alive start j) o)
+      → option_and_then (λ m. next_configuration (move_of m)) o ≡ Some m' → Lasts start (suc j) m'.machine.undo (alive_from start.machine.undo.depth j (alive start j) o)
   lasts-next None is before e = cc
   lasts-next (Some m) is before e =
       let did : Undid m.machine m'.machine.undo (undoing_move m) = move-undid m m' (next-goes (move_of m) m' e) in

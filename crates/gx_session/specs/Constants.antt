@@ -59,8 +59,8 @@ abbrev pub status_no_listing : ℕ
 status_no_listing = 13
 
 -- so many bytes with no line feed among them are no line
-abbrev pub longest : ℕ
-longest = 65536
+abbrev pub longest_line : ℕ
+longest_line = 65536
 
 -- so many bytes are asked of the source at a time
 abbrev pub piece : ℕ

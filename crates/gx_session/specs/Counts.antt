@@ -15,7 +15,7 @@ pub record Blames (before now : Calls) (failed : Type 0) : Type 0 where
   pub well : (failed → ⊥) → (now ≡ before) ⊎ (now.failing ≡ false)
 
 -- The failures of the three devices.
-pub record Counts (entry exit : Devices) (status : ℕ) : Type 0 where
+pub record FailureCounts (entry exit : Devices) (status : ℕ) : Type 0 where
   pub shelf : Blames entry.shelf.calls exit.shelf.calls (status ≡ status_shelf_fault)
   pub source : Blames entry.source.calls exit.source.calls (status ≡ status_input_fault)
   pub sink : Blames entry.sink.calls exit.sink.calls (status ≡ status_output_fault)

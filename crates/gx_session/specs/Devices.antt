@@ -1,7 +1,7 @@
 -- What contracts see of the four objects that a run is handed.
 use Rattle.std.specs.Prelude.{List}
 use Rattle.gx_outside.specs.Outside.{FlatSource, FlatSink, FlatShelf}
-use Rattle.gx_outside.specs.Reads.{Read}
+use Rattle.gx_outside.specs.Reads.{SourceRead}
 use Rattle.gx_outside.specs.Sends.{Send}
 use Rattle.gx_outside.specs.Shelves.{Trace}
 use Rattle.rand_core.specs.Stream.{Stream}
@@ -13,11 +13,11 @@ pub record Devices : Type 0 where
   pub shelf : FlatShelf
   pub words : Stream
   -- the calls of the source, of the sink and of the shelf since the run began
-  pub reads : List Read
+  pub reads : List SourceRead
   pub sends : List Send
   pub asked : Trace
 
-abbrev pub devices : FlatSource → FlatSink → FlatShelf → Stream → List Read → List Send → Trace → Devices
+abbrev pub devices : FlatSource → FlatSink → FlatShelf → Stream → List SourceRead → List Send → Trace → Devices
 devices source sink shelf words reads sends asked =
     record {
       source = source;

@@ -7,7 +7,7 @@ use Rattle.std.specs.Prelude.{ℕ, ◌==◌, nat_le, if◌then◌else◌, Bool, 
 use Rattle.std.specs.List.{before_first, after_first}
 use Rattle.bstr.specs.Utf8.{lossy_chars}
 use Rattle.glk_text.specs.Characters.{is_printable}
-use Rattle.gx_session.specs.Constants.{longest}
+use Rattle.gx_session.specs.Constants.{longest_line}
 
 pub data NextLine : Type 0 where
   -- so many bytes hold no line feed that they are no line
@@ -26,6 +26,6 @@ chars_of bytes = filter is_printable (lossy_chars bytes)
 
 unfoldable pub next_line : List ℕ → NextLine
 next_line bytes =
-    if nat_le longest (length (before_first is_line_feed bytes)) then too_long else
+    if nat_le longest_line (length (before_first is_line_feed bytes)) then too_long else
     if length bytes == 0 then none else
     line (chars_of (before_first is_line_feed bytes)) (after_first is_line_feed bytes)

@@ -1,6 +1,6 @@
 -- What the shelf is asked for the turn of a Glk call, and what it answers.
 use Rattle.std.specs.Prelude.{◌≡◌, [], ◌∷◌, ◌++◌, Result, Ok, Err}
-use Rattle.gx_outside.specs.Shelves.{Request, loads, stores, removes, looks, Answer, Trace, MayWant}
+use Rattle.gx_outside.specs.Shelves.{Request, loads, stores, removes, looks, Answer, Trace, AnswerMayWant}
 use Rattle.gx_outside.specs.declared.devices.ShelfFault.{ShelfFault}
 use Rattle.gx_outside.specs.declared.devices.ShelfFault.TheVariants as fault
 use Rattle.glk_replies.specs.declared.Turn.{Turn}
@@ -9,7 +9,7 @@ use Rattle.glk_replies.specs.declared.Given.{Given}
 use Rattle.gx_session.specs.declared.questions.Question.{Question}
 use Rattle.gx_session.specs.declared.questions.Question.TheVariants as asks
 use Rattle.gx_session.specs.Constants.{most_loaded}
-use Rattle.gx_session.specs.Session.{given_of}
+use Rattle.gx_session.specs.Moves.{given_of}
 
 -- the turn that asks it
 abbrev pub turn_of : Question → Turn
@@ -43,4 +43,4 @@ AreTold answers asked [] = Unit {0}
 AreTold answers asked ((r, Ok answer) ∷ trace) =
     (answers asked r ≡ answer) × AreTold answers (asked ++ (r, Ok answer) ∷ []) trace
 AreTold answers asked ((r, Err fault.Failed) ∷ trace) = Unit {0}
-AreTold answers asked ((r, Err fault.NoMemory) ∷ trace) = MayWant r (answers asked r)
+AreTold answers asked ((r, Err fault.NoMemory) ∷ trace) = AnswerMayWant r (answers asked r)

@@ -1,19 +1,19 @@
--- How lines are taken of a source: what is held of it, and what is still to come.
+-- How lines are taken of a source: what is held of it, and what is still to come. What contracts say.
 --
 -- A source that tells has so many bytes left. Of one that doesn't, what is to come is unknown: what is said here of a
 -- call is said of all bytes that may come after it, and gives the bytes that came before it.
-use Rattle.std.specs.Prelude.{◌≡◌, ℕ, ◌+◌, ◌<◌, ◌≤◌, ◌⊎◌, List, [], ◌∷◌, ◌++◌, length, Bool, true, false}
-use Rattle.std.specs.Prelude.{Result, Ok, Err}
+use Rattle.std.specs.Prelude.{◌≡◌, ℕ, ◌+◌, ◌<◌, ◌≤◌, ◌⊎◌, List, [], ◌++◌, length, Bool, true, false, Result, Ok, Err}
 use Rattle.std.specs.List.{position_or_len}
 use Rattle.gx_outside.specs.Chains.{Chain}
 use Rattle.gx_outside.specs.Outside.{FlatSource, raised_by, offered_in}
-use Rattle.gx_outside.specs.Reads.{Read}
+use Rattle.gx_outside.specs.Reads.{SourceRead}
 use Rattle.gx_outside.specs.declared.devices.Failed.{Failed}
 use Rattle.gx_session.specs.declared.lines.NoLine.{NoLine}
 use Rattle.gx_session.specs.declared.lines.NoLine.TheVariants as no
-use Rattle.gx_session.specs.Constants.{longest, piece}
+use Rattle.gx_session.specs.Constants.{piece}
 use Rattle.gx_session.specs.Input.{is_line_feed, too_long, none, line, next_line}
 use Rattle.gx_session.specs.Lines.{HeldLines}
+use Rattle.gx_session.specs.Reads.{bytes_read, HavePieces, SayEnd, IsPartial}
 
 -- These bytes may come: those that are left, where the source tells them, and none once it has ended.
 pub record IsComing (lines : HeldLines) (source : FlatSource) (coming : List ℕ) : Type 0 where
@@ -24,33 +24,15 @@ pub record IsComing (lines : HeldLines) (source : FlatSource) (coming : List ℕ
 abbrev pub IsOver : HeldLines → FlatSource → Type 0
 IsOver lines source = lines.ended ≡ true → source.tells ≡ true → source.left ≡ []
 
--- THE READS of a source
--- the bytes that they gave, one after another
-abbrev pub bytes_read : List Read → List ℕ
-bytes_read [] = []
-bytes_read ((room, Ok bytes) ∷ reads) = bytes ++ bytes_read reads
-bytes_read ((room, Err e) ∷ reads) = bytes_read reads
-
--- Each has room for a piece.
-abbrev pub HavePieces : List Read → Type 0
-HavePieces [] = Unit {0}
-HavePieces ((room, gave) ∷ reads) = (room ≡ piece) × HavePieces reads
-
--- One of them gave nothing, and so said that nothing is left.
-abbrev pub SayEnd : List Read → Type 0
-SayEnd [] = ⊥
-SayEnd ((room, Ok []) ∷ reads) = Unit {0}
-SayEnd ((room, gave) ∷ reads) = SayEnd reads
-
 -- what one read of a source leads to
 abbrev pub ReadStep : Type 0 → Type 1
-ReadStep S = S → Read → S → Type 0
+ReadStep S = S → SourceRead → S → Type 0
 
 -- The source was called so. Whatever comes after these calls, there is what came before them, so that the calls relate
 -- the two so: it begins with the bytes that they gave.
 pub record Fed {S : Type 0} (reading : ReadStep S) (seen : S → FlatSource) (old new : HeldLines) (before now : S)
     (P : List ℕ → List ℕ → Type 0) : Type 0 where
-  pub reads : List Read
+  pub reads : List SourceRead
   pub chain : Chain reading before reads now
   pub pieces : HavePieces reads
   pub said : (old.ended ≡ true) ⊎ SayEnd reads → new.ended ≡ true
@@ -60,12 +42,8 @@ pub record Fed {S : Type 0} (reading : ReadStep S) (seen : S → FlatSource) (ol
   pub given : (after : List ℕ) (is : IsComing new (seen now) after) → (comes after is).0 ≡ bytes_read reads ++ after
 
 -- a line feed is held
-abbrev pub IsWhole : List ℕ → Type 0
-IsWhole held = position_or_len is_line_feed held < length held
-
--- none is, and the bytes are not too many for a line
-abbrev pub IsPartial : List ℕ → Type 0
-IsPartial held = (position_or_len is_line_feed held ≡ length held) × (length held < longest)
+abbrev pub HoldsLineFeed : List ℕ → Type 0
+HoldsLineFeed held = position_or_len is_line_feed held < length held
 
 -- what the taking of a line makes of the input
 abbrev pub TakesLine : List ℕ → List ℕ → Result (List ℕ) NoLine → Type 0
@@ -83,7 +61,7 @@ HoldsFew held (Err no.Failed) = IsPartial held
 HoldsFew held (Err e) = Unit {0}
 
 -- One piece was read, and nothing only at the end.
-pub record GrowsBy (old new : HeldLines) (before now : FlatSource) (got : List ℕ) : Type 0 where
+pub record GainsPiece (old new : HeldLines) (before now : FlatSource) (got : List ℕ) : Type 0 where
   pub held : new.held ≡ old.held ++ got
   pub few : length got ≤ piece
   pub more : new.ended ≡ false → 0 < length got
@@ -123,7 +101,7 @@ pub record Takes (old new : HeldLines) (before now : FlatSource) (coming after :
 -- what a read that gave so does
 abbrev pub Fills : HeldLines → HeldLines → FlatSource → FlatSource → Result (Unit {0}) NoLine → Result (List ℕ) Failed
     → Type 0
-Fills old new before now (Ok u) (Ok got) = GrowsBy old new before now got
+Fills old new before now (Ok u) (Ok got) = GainsPiece old new before now got
 Fills old new before now (Err no.Failed) (Err f) = (new ≡ old) × (before.tells ≡ true → now.left ≡ before.left)
 Fills old new before now (Err no.NoMemory) (Ok got) = Loses old new before now got
 Fills old new before now result gave = ⊥

@@ -3,22 +3,24 @@ use Rattle.std.specs.Prelude.{◌≡◌, ◌≢◌, ℕ, ◌+◌, ◌<◌, ◌�
 use Rattle.gx_machine.specs.Machine.{FlatMachine}
 use Rattle.gx_machine.specs.Log.{Log, no_events, units_of}
 use Rattle.gx_session.specs.declared.ends.Stop.TheVariants as stop
-use Rattle.gx_session.specs.Session.{Configuration, steps, Ending, run_of, final_of}
+use Rattle.gx_session.specs.Configurations.{Configuration, steps}
+use Rattle.gx_session.specs.Session.{RunEnd, run_of, final_of}
 
 -- This machine is that of the run at the beginning of an event, before so many moves, when these were recorded, whose
 -- units are those that were used by then.
-pub record IsPlace (start : Configuration) (j : ℕ) (machine : FlatMachine) (before : List FlatMachine) : Type 0 where
+pub record BeginsEvent (start : Configuration) (j : ℕ) (machine : FlatMachine)
+    (before : List FlatMachine) : Type 0 where
   pub moves : ℕ
   pub earlier : moves < j
   pub configuration : Configuration
   pub reached : run_of start moves ≡ Some configuration
-  pub begins : configuration.doing ≡ steps
+  pub begins : configuration.phase ≡ steps
   pub machine_is : configuration.machine ≡ machine
   pub log_is : configuration.log ≡ Some (record { before = before; after = [] })
   pub units : units_of before + configuration.left ≡ start.left
 
 -- The record of a configuration is this one, but for the newest machines of it.
-pub record IsEnd (m : Configuration) (log : Log) : Type 0 where
+pub record IsEarlierRecord (m : Configuration) (log : Log) : Type 0 where
   pub own : Log
   pub log_is : m.log ≡ Some own
   pub newer : List FlatMachine
@@ -33,13 +35,13 @@ pub record IsRecord (start : Configuration) (j : ℕ) (m : Configuration) : Type
   pub none_after : log.after ≡ []
   pub units : units_of log.before + m.left ≡ start.left
   pub places : (newer : List FlatMachine) (machine : FlatMachine) (before : List FlatMachine)
-      → log.before ≡ newer ++ machine ∷ before → IsPlace start j machine before
-  pub ends : (i : ℕ) (c : Configuration) → i ≤ j → run_of start i ≡ Some c → IsEnd c log
+      → log.before ≡ newer ++ machine ∷ before → BeginsEvent start j machine before
+  pub ends : (i : ℕ) (c : Configuration) → i ≤ j → run_of start i ≡ Some c → IsEarlierRecord c log
 
 -- The record of the end of a run, which comes within so many moves. `left` are the units that were left before an event
 -- that isn't recorded: one in which a Glk call ended the program, or for which the budget was too small. At every other
 -- stop they are those of the end.
-pub record IsLast (start : Configuration) (e : Ending) : Type 0 where
+pub record IsLastRecord (start : Configuration) (e : RunEnd) : Type 0 where
   pub moves : ℕ
   pub left : ℕ
   pub left_is : e.stop ≢ stop.Exited → e.stop ≢ stop.Spent → left ≡ e.configuration.left
@@ -47,7 +49,7 @@ pub record IsLast (start : Configuration) (e : Ending) : Type 0 where
 
 -- Each machine of the record is that of the run at the beginning of an event, with the units that were used there. So
 -- it is in a run that is recorded from its first event on, at each of its configurations and at its end.
-pub record Records (start : Configuration) : Type 0 where
-  pub at : start.doing ≡ steps → start.log ≡ Some no_events → (j : ℕ) (m : Configuration) → run_of start j ≡ Some m
+pub record RecordsRun (start : Configuration) : Type 0 where
+  pub at : start.phase ≡ steps → start.log ≡ Some no_events → (j : ℕ) (m : Configuration) → run_of start j ≡ Some m
       → IsRecord start j m
-  pub last : start.doing ≡ steps → start.log ≡ Some no_events → IsLast start (final_of start)
+  pub last : start.phase ≡ steps → start.log ≡ Some no_events → IsLastRecord start (final_of start)

@@ -33,8 +33,8 @@ listing_line fault at = codes "gx_player: no listing (" ++ decimal fault ++ code
 
 -- The line of a status with its fault, place and steps. The end of the program has an empty one, and
 -- so has a status in no row.
-unfoldable pub line_of : ℕ → ℕ → ℕ → ℕ → List ℕ
-line_of status fault at steps =
+unfoldable pub report_line : ℕ → ℕ → ℕ → ℕ → List ℕ
+report_line status fault at steps =
     if status == status_bad_words then codes "gx_player: the command line is not understood" else
     if status == status_bad_story then codes "gx_player: no story (" ++ decimal fault ++ codes ")" else
     if status == status_fault then fault_line fault at steps else

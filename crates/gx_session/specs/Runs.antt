@@ -1,33 +1,36 @@
 -- What a run reports and leaves behind, against the definition of a session.
-use Rattle.std.specs.Prelude.{◌≡◌, ◌≢◌, ℕ, suc, ◌+◌, ◌<◌, ◌≤◌, ◌++◌, ◌⊎◌, ◌==◌, if◌then◌else◌, true, false, Option}
-use Rattle.std.specs.Prelude.{None, Some, List, [], map, length, take}
+use Rattle.std.specs.Prelude.{◌≡◌, ◌≢◌, ℕ, suc, ◌+◌, ◌<◌, ◌≤◌, ◌++◌, ◌⊎◌, true, false, Option, None, Some, List, map}
+use Rattle.std.specs.Prelude.{length, take, ◌==◌, if◌then◌else◌, IsSomeAnd}
 use Rattle.std.specs.List.{concat}
 use Rattle.gx_machine.specs.Machine.{Whole}
 use Rattle.gx_machine.specs.Log.{Log}
 use Rattle.gx_outside.specs.Chains.{Chain}
-use Rattle.gx_outside.specs.Outside.{FlatSource, FlatSink, raised_by, offered_in}
-use Rattle.gx_outside.specs.Reads.{Read, SourceCall}
+use Rattle.gx_outside.specs.Outside.{FlatSink}
+use Rattle.gx_outside.specs.Reads.{SourceCall}
 use Rattle.gx_outside.specs.Sends.{SinkCall}
 use Rattle.gx_outside.specs.Shelves.{Request, Answer, Trace, ShelfCall}
 use Rattle.gx_session.specs.declared.ended.Ended.{Ended}
-use Rattle.gx_session.specs.Constants.{status_ended, status_fault, status_shelf_fault, status_input_fault}
-use Rattle.gx_session.specs.Constants.{status_no_memory, piece}
+use Rattle.gx_session.specs.Constants.{status_ended, status_fault, status_shelf_fault, status_no_memory}
+use Rattle.gx_session.specs.Constants.{status_input_fault}
 use Rattle.gx_session.specs.declared.session.EndedOn.{EndedOn}
 use Rattle.gx_session.specs.declared.ends.Stop.TheVariants as stop
-use Rattle.gx_session.specs.Counts.{Counts}
-use Rattle.gx_session.specs.Cuts.{Cut, in_move, in_send, in_question, in_reading, IsCut, IsLineCut, BeginsSave}
-use Rattle.gx_session.specs.Cuts.{IsLineStop, AwaitedAt, LongAt, WantedBy, most_taken, sends_by_cut}
-use Rattle.gx_session.specs.Cuts.{asked_by_cut}
+use Rattle.gx_session.specs.Counts.{FailureCounts}
+use Rattle.gx_session.specs.Cuts.{RunCut, in_move, in_send, in_question, in_reading, IsCutShort, IsLineCut}
+use Rattle.gx_session.specs.Wants.{BeginsSave}
+use Rattle.gx_session.specs.Cuts.{IsLineStop, stop_before, WantedBy, most_taken, sends_by_cut, asked_by_cut}
 use Rattle.gx_session.specs.Devices.{Devices}
-use Rattle.gx_session.specs.Endings.{last_of}
-use Rattle.gx_session.specs.Reading.{IsPartial, bytes_read, HavePieces, SayEnd}
+use Rattle.gx_session.specs.Endings.{last_configuration}
 use Rattle.gx_session.specs.Saving.{IsReadBack, SavesReadBack}
-use Rattle.gx_session.specs.Sending.{taken}
-use Rattle.gx_session.specs.Session.{Configuration, steps, Ending, sends_now, run_of, final_of, effect_at, asked_at}
-use Rattle.gx_session.specs.Session.{status_of, fault_number, fault_address}
-use Rattle.gx_session.specs.Recording.{Records}
+use Rattle.gx_session.specs.Sending.{whole_send}
+use Rattle.gx_session.specs.Configurations.{Configuration, steps}
+use Rattle.gx_session.specs.Session.{RunEnd, run_of, final_of}
+use Rattle.gx_session.specs.Moves.{sends_now}
+use Rattle.gx_session.specs.Asked.{effect_at, asked_at}
+use Rattle.gx_session.specs.Session.{stop_status, fault_number, fault_address}
+use Rattle.gx_session.specs.Recording.{RecordsRun}
 use Rattle.gx_session.specs.Undoing.{LastsUndo}
 use Rattle.rand_core.specs.Stream.{Stream, next_u32}
+use Rattle.gx_session.specs.Reads.{GiveInput, LeavesInput}
 
 -- What a run reports: its status, the number and the address of a fault, the units that it used, the machine with what
 -- it asks, and what is recorded of the run.
@@ -68,26 +71,9 @@ IsFront xs ys = (more : List ℕ) × (ys ≡ xs ++ more)
 abbrev pub AreDrawn : Stream → Stream → Type 0
 AreDrawn words stream = (stream ≡ words) ⊎ (stream ≡ (next_u32 words).1)
 
--- The input that is left: what is to come of the source, after the bytes that were read ahead. These are few, unless
--- the line that was awaited is too long, or the source failed in it. Each read offered a piece and gave something, but
--- for one that said that nothing is left, and one that failed. Where no line was taken and none was awaited at the end,
--- the source wasn't asked.
-pub record LeavesInput (first input coming : List ℕ) (before now : FlatSource) (awaited long : Type 0)
-    (failures : ℕ) : Type 0 where
-  pub ahead : List ℕ
-  pub split : input ≡ ahead ++ coming
-  pub left : now.tells ≡ true → coming ≡ now.left
-  pub few : (long → ⊥) → failures ≡ 0 → length ahead < piece
-  pub partial : failures ≢ 0 → IsPartial ahead
-  pub reads : ℕ
-  pub made : now.calls.made ≡ raised_by reads before.calls.made
-  pub offered : now.offered ≡ offered_in reads piece before.offered
-  pub few_reads : reads + length coming ≤ length first + 1 + failures
-  pub unread : (awaited → ⊥) → failures ≡ 0 → (now ≡ before) ⊎ (length input < length first)
-
 -- If a save is begun from here, what it saves is read back.
 abbrev pub IsSaved : Configuration → Type 0
-IsSaved m = m.doing ≡ steps → sends_now m ≡ false → BeginsSave m (effect_at m) → IsReadBack m.machine.flat
+IsSaved m = m.phase ≡ steps → sends_now m ≡ false → BeginsSave m (effect_at m) → IsReadBack m.machine.flat
 
 -- So it is of all saves that the run makes.
 abbrev pub SavedAll : Configuration → Type 0
@@ -98,29 +84,25 @@ SavedAll start =
 abbrev pub SavedBefore : Configuration → ℕ → Type 0
 SavedBefore start j = (i : ℕ) → i < j → (m : Configuration) → run_of start i ≡ Some m → IsSaved m
 
-abbrev pub SavedBy : Configuration → Cut → Type 0
+abbrev pub SavedBy : Configuration → RunCut → Type 0
 SavedBy start (in_move j) = SavedBefore start j
 SavedBy start (in_send j) = SavedBefore start j
 SavedBy start (in_question j) = SavedBefore start j
 SavedBy start (in_reading j) = SavedBefore start j
 SavedBy start cut = SavedAll start
 
--- one read failed at this status
-abbrev pub read_failures : ℕ → ℕ
-read_failures status = if status == status_input_fault then 1 else 0
-
 -- The run came to its end: all text was sent, with the last screen, and all open files were stored.
-pub record EndsAt (start : Configuration) (e : Ending) (entry exit : Devices) (coming : List ℕ)
+pub record EndsAt (start : Configuration) (e : RunEnd) (entry exit : Devices) (coming : List ℕ)
     (r : Report) : Type 0 where
-  pub status_is : r.status ≡ status_of e.stop
+  pub status_is : r.status ≡ stop_status e.stop
   pub fault_is : r.fault ≡ fault_number e.stop
   pub at_is : r.at ≡ fault_address e.stop e.configuration.machine
   pub steps_are : r.steps + e.configuration.left ≡ start.left
   pub machine_is : r.machine ≡ record { machine = e.configuration.machine; asking = asked_at e.stop e.configuration }
   pub log_is : r.log ≡ e.configuration.log
   pub text_is : entry.sink.tells ≡ true → exit.sink.taken ≡ entry.sink.taken ++ e.configuration.world.text
-  pub sends_are : exit.sends ≡ map taken (last_of e.configuration).sent
-  pub asked_are : exit.asked ≡ (last_of e.configuration).asked
+  pub sends_are : exit.sends ≡ map whole_send (last_configuration e.configuration).sent
+  pub asked_are : exit.asked ≡ (last_configuration e.configuration).asked
   pub input_is : LeavesInput start.input e.configuration.input coming entry.source exit.source (IsLineStop e.stop)
       (e.stop ≡ stop.LineTooLong) 0
   pub words_are : AreDrawn e.configuration.words exit.words
@@ -131,9 +113,9 @@ pub record EndsAt (start : Configuration) (e : Ending) (entry exit : Devices) (c
 -- line, nothing is said of the input: more of it may have been read.
 pub record StopsEarly (start : Configuration) (entry exit : Devices) (coming : List ℕ) (status left : ℕ)
     (machine : Whole) (log : Option Log) : Type 0 where
-  pub cut : Cut
+  pub cut : RunCut
   pub configuration : Configuration
-  pub is_cut : IsCut start cut configuration status machine.asking
+  pub is_cut : IsCutShort start cut configuration status machine.asking
   pub left_is : left ≡ configuration.left
   pub machine_is : machine.machine ≡ configuration.machine
   pub log_is : log ≡ configuration.log
@@ -142,14 +124,15 @@ pub record StopsEarly (start : Configuration) (entry exit : Devices) (coming : L
   pub sends_are : exit.sends ≡ sends_by_cut cut configuration status
   pub asked_are : exit.asked ≡ asked_by_cut cut configuration status
   pub input_is : (IsLineCut cut configuration → ⊥)
-      → LeavesInput start.input configuration.input coming entry.source exit.source (AwaitedAt start cut)
-      (LongAt start cut) (read_failures status)
+      → LeavesInput start.input configuration.input coming entry.source exit.source
+      (IsSomeAnd (stop_before start cut) IsLineStop) (IsSomeAnd (stop_before start cut) (λ s. s ≡ stop.LineTooLong))
+      (if status == status_input_fault then 1 else 0)
   pub words_are : AreDrawn configuration.words exit.words
   pub saves_are : SavedBy start cut
 
 -- What a sink that tells has taken then: all that was sent before, and a front of a send that was refused. Where memory
 -- was wanted at a send, it was by the last call of the sink.
-pub record TakesText (before now : FlatSink) (cut : Cut) (m : Configuration) (status : ℕ) : Type 0 where
+pub record TakesText (before now : FlatSink) (cut : RunCut) (m : Configuration) (status : ℕ) : Type 0 where
   pub wanted : status ≡ status_no_memory → WantedBy cut now
   pub count : ℕ
   pub at_least : length (concat m.sent) ≤ count
@@ -171,13 +154,6 @@ pub record IsSession (start : Configuration) (entry exit : Devices) (coming : Li
       × (e : StopsEarly start entry exit coming r.status left r.machine r.log)
       × TakesText entry.sink exit.sink e.cut e.configuration r.status
 
--- The reads, each with room for a piece, gave the input but for what is to come, and all of it where one said that
--- nothing is left.
-pub record GiveInput (reads : List Read) (input coming : List ℕ) : Type 0 where
-  pub pieces : HavePieces reads
-  pub given : input ≡ bytes_read reads ++ coming
-  pub end : SayEnd reads → coming ≡ []
-
 -- It is that with some input and some answers of the shelf: with what the source has left, where the source tells it,
 -- and with what the shelf's files answer, where the shelf tells them. The input begins with the bytes that the reads
 -- gave. The session's calls of the shelf are those that were made (`asked_are`), so that its answers are those that the
@@ -198,7 +174,7 @@ pub record IsRun (start : Configuration) (entry exit : Devices) (r : Report) : T
   pub source_calls : Chain SourceCall entry.source exit.reads exit.source
   pub sink_calls : Chain SinkCall entry.sink exit.sends exit.sink
   pub shelf_calls : Chain ShelfCall entry.shelf exit.asked exit.shelf
-  pub counts : Counts entry exit r.status
+  pub counts : FailureCounts entry exit r.status
   pub source_tells : exit.source.tells ≡ entry.source.tells
   pub sink_tells : exit.sink.tells ≡ entry.sink.tells
   pub shelf_tells : exit.shelf.tells ≡ entry.shelf.tells
@@ -206,5 +182,5 @@ pub record IsRun (start : Configuration) (entry exit : Devices) (r : Report) : T
   pub undo : (input : List ℕ) (answers : Trace → Request → Answer)
       → LastsUndo (record start { input = input; answers = answers })
   pub records : (input : List ℕ) (answers : Trace → Request → Answer)
-      → Records (record start { input = input; answers = answers })
+      → RecordsRun (record start { input = input; answers = answers })
   pub saves : SavesReadBack start.machine.flat.story

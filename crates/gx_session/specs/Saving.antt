@@ -56,15 +56,13 @@ may_take w stream =
     streams.has w.streams stream && one.writable s && one.window_of s == 0
 
 -- So a save is begun: the copy is made and written.
-abbrev pub is_begun : Scene → FlatState → ℕ → Bool
-is_begun w f stream = f.iosys.0 == glk_system && may_take w stream
+abbrev pub is_save_begun : Scene → FlatState → ℕ → Bool
+is_save_begun w f stream = f.iosys.0 == glk_system && may_take w stream
 
--- A stream may hold a save: it is there and open for reading. So a restore is begun: the stream is read.
-abbrev pub may_hold : Scene → ℕ → Bool
-may_hold w stream = streams.has w.streams stream && one.readable (streams.stream w.streams stream)
-
-abbrev pub is_read : Scene → FlatState → ℕ → Bool
-is_read w f stream = f.iosys.0 == glk_system && may_hold w stream
+-- A stream may hold a save where it is there and open for reading. So a restore is begun: the stream is read.
+abbrev pub is_restore_begun : Scene → FlatState → ℕ → Bool
+is_restore_begun w f stream =
+    f.iosys.0 == glk_system && (streams.has w.streams stream && one.readable (streams.stream w.streams stream))
 
 -- THE ROUND TRIP: what is saved of a state is read back as it was.
 abbrev pub IsReadBack : FlatState → Type 0

@@ -1,5 +1,5 @@
 -- When the text of a session is sent, and what was sent of it: each time all that is pending, in one call of the sink.
-use Rattle.std.specs.Prelude.{ℕ, nat_le, if◌then◌else◌, Bool, List, [], ◌∷◌, ◌++◌, drop, length, Ok}
+use Rattle.std.specs.Prelude.{ℕ, nat_le, Bool, List, drop, length, Ok}
 use Rattle.std.specs.List.{concat}
 use Rattle.gx_outside.specs.Sends.{Send}
 
@@ -15,14 +15,6 @@ pending s text = drop (length (concat s)) text
 abbrev pub is_due : ℕ → Sent → List ℕ → Bool
 is_due enough s text = nat_le enough (length (pending s text))
 
--- all of the text is sent
-abbrev pub with_all : Sent → List ℕ → Sent
-with_all s text = s ++ pending s text ∷ []
-
--- the same where some of it is pending
-abbrev pub with_rest : Sent → List ℕ → Sent
-with_rest s text = if is_due 1 s text then with_all s text else s
-
 -- the call of the sink that took it whole
-abbrev pub taken : List ℕ → Send
-taken bytes = (bytes, Ok tt)
+abbrev pub whole_send : List ℕ → Send
+whole_send bytes = (bytes, Ok tt)

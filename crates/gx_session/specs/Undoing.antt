@@ -13,7 +13,9 @@ use Rattle.gx_state.specs.declared.modes.Mode.TheVariants as mode
 use Rattle.gx_state.specs.Flat.{FlatState}
 use Rattle.gx_state.specs.Copies.{Copy, copy_of}
 use Rattle.gx_operands.specs.Instructions.{Instruction, instruction}
-use Rattle.gx_session.specs.Session.{Configuration, Doing, steps, sends_now, run_of}
+use Rattle.gx_session.specs.Configurations.{Configuration, Phase, steps}
+use Rattle.gx_session.specs.Moves.{sends_now}
+use Rattle.gx_session.specs.Session.{run_of}
 
 -- What a step is to the copies.
 pub data Undoing : Type 0 where
@@ -34,25 +36,22 @@ undoing_row class.Game number =
     neither
 undoing_row c number = neither
 
-abbrev pub undoing_by : Result Instruction Fault → Undoing
-undoing_by (Ok i) = undoing_row i.row.class i.row.number
-undoing_by (Err fault) = neither
-
-abbrev pub undoing_in : FlatState → Mode → Undoing
-undoing_in f mode.Running = undoing_by (instruction f)
-undoing_in f (mode.Printing p) = neither
+abbrev pub undoing_in : Mode → Result Instruction Fault → Undoing
+undoing_in mode.Running (Ok i) = undoing_row i.row.class i.row.number
+undoing_in mode.Running (Err fault) = neither
+undoing_in (mode.Printing p) r = neither
 
 -- what the step from a state is to the copies
 unfoldable pub undoing : FlatState → Undoing
-undoing f = undoing_in f f.mode
+undoing f = undoing_in f.mode (instruction f)
 
 -- What a move is to them. Only a step is anything.
-abbrev pub undoing_next : Doing → FlatState → Undoing
+abbrev pub undoing_next : Phase → FlatState → Undoing
 undoing_next steps f = undoing f
 undoing_next d f = neither
 
 abbrev pub undoing_move : Configuration → Undoing
-undoing_move m = if sends_now m then neither else undoing_next m.doing m.machine.flat
+undoing_move m = if sends_now m then neither else undoing_next m.phase m.machine.flat
 
 -- The saveundos that are alive, each by the number of moves before it, the newest first: a saveundo comes
 -- in front, and the oldest drops out where there are as many as the depth; a restoreundo takes the newest, and so

@@ -1,6 +1,6 @@
 //! How a run ended, and the line that says so.
 ghost use Rattle.std.specs.Prelude.{◌≡◌, ◌≢◌, ◌++◌, [], OnErr, IfOk, string_bytes, codes, decimal};
-ghost use Rattle.gx_session.specs.Reports.{line_of, fault_line, text_line, listing_line};
+ghost use Rattle.gx_session.specs.Reports.{report_line, fault_line, text_line, listing_line};
 
 use crate::numerals::{push_hex, push_number};
 use crate::statuses;
@@ -25,11 +25,11 @@ pub struct Ended<A: Allocator + Clone> {
 
 impl<A: Allocator + Clone> Ended<A> {
     /// The line that says how the run ended, without a line feed; empty where nothing is to be said.
-    #[tactic(auto, unfolding(crate::specs::Reports::line_of))]
+    #[tactic(auto, unfolding(crate::specs::Reports::report_line))]
     pub fn line(&self, alloc: Global) -> Result<String, AllocError>
         ensures value { IfOk result (λ line.
-            string_bytes line ≡ line_of self.now.status self.now.fault self.now.at self.now.steps) }
-        ensures memory { OnErr result (line_of self.now.status self.now.fault self.now.at self.now.steps ≢ []) }
+            string_bytes line ≡ report_line self.now.status self.now.fault self.now.at self.now.steps) }
+        ensures memory { OnErr result (report_line self.now.status self.now.fault self.now.at self.now.steps ≢ []) }
     {
         match self.status {
             statuses::BAD_WORDS => String::from_str(

@@ -1,7 +1,7 @@
 //! How a run goes on, stops at its end, or is cut short.
 ghost use Rattle.std.specs.Prelude.{◌≡◌};
-ghost use Rattle.gx_session.specs.Session.{status_of, fault_number};
-ghost use Rattle.gx_session.specs.Playing.{status_of_halt};
+ghost use Rattle.gx_session.specs.Session.{stop_status, fault_number};
+ghost use Rattle.gx_session.specs.Standing.{halt_status};
 
 use crate::statuses;
 use gx_outside::{SendFault, ShelfFault};
@@ -50,7 +50,7 @@ pub enum Halt {
 }
 
 impl From<SendFault> for Halt {
-    ghost use Rattle.gx_session.specs.Playing.{halt_of_send};
+    ghost use Rattle.gx_session.specs.Outcomes.{halt_of_send};
 
     ghost from_gives = { λ fault halt. halt ≡ halt_of_send fault };
 
@@ -63,7 +63,7 @@ impl From<SendFault> for Halt {
 }
 
 impl From<ShelfFault> for Halt {
-    ghost use Rattle.gx_session.specs.Playing.{halt_of_shelf};
+    ghost use Rattle.gx_session.specs.Outcomes.{halt_of_shelf};
 
     ghost from_gives = { λ fault halt. halt ≡ halt_of_shelf fault };
 
@@ -88,7 +88,7 @@ impl From<AllocError> for Halt {
 impl Stop {
     /// The status of a run that stops so.
     pub fn status(self) -> u8
-        ensures { result ≡ status_of self }
+        ensures { result ≡ stop_status self }
     {
         match self {
             Stop::Ended | Stop::Exited => statuses::ENDED,
@@ -114,7 +114,7 @@ impl Stop {
 impl Halt {
     /// The status of a run that is cut short so.
     pub fn status(self) -> u8
-        ensures { result ≡ status_of_halt self }
+        ensures { result ≡ halt_status self }
     {
         match self {
             Halt::Shelf => statuses::SHELF_FAULT,

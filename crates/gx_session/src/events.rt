@@ -6,15 +6,19 @@ ghost use Rattle.gx_machine.specs.Advancing.{units_left, left_after};
 ghost use Rattle.gx_machine.specs.Step.{asking_of};
 ghost use Rattle.gx_outside.specs.Chains.{IsCalled};
 ghost use Rattle.gx_outside.specs.Shelves.{Trace};
-ghost use Rattle.gx_session.specs.Endings.{file_of};
+ghost use Rattle.glk_streams.specs.Streams.{file_of};
 ghost use Rattle.gx_session.specs.declared.ends.Stop.{Stop};
 ghost use Rattle.gx_session.specs.Devices.{Devices, devices};
 ghost use Rattle.gx_session.specs.Questions.{AreTold};
 ghost use Rattle.gx_session.specs.Reading.{Fed};
-ghost use Rattle.gx_session.specs.Session.{Configuration};
-ghost use Rattle.gx_session.specs.Playing.{held, Handed, handed, asking_in, Going, Follows, Done, EventGives};
-ghost use Rattle.gx_session.specs.Playing.{StopGives, EndingGives};
-ghost use Rattle.gx_session.specs.Playing.{RunGives, IsStop, IsNext, Leads, Keeps, Stores, StoresFiles};
+ghost use Rattle.gx_session.specs.Configurations.{Configuration};
+ghost use Rattle.gx_session.specs.Holding.{held_by, Handed, handed, asking_in};
+ghost use Rattle.gx_session.specs.Standing.{Going, Follows, HasStopped};
+ghost use Rattle.gx_session.specs.Outcomes.{EventGives};
+ghost use Rattle.gx_session.specs.Outcomes.{StopGives};
+ghost use Rattle.gx_session.specs.Finishing.{EndingGives};
+ghost use Rattle.gx_session.specs.Finishing.{RunGives, StoresAll, StoresFiles};
+ghost use Rattle.gx_session.specs.Outcomes.{IsStop, IsNext, Leads, Keeps};
 
 use crate::ends::{Halt, Next, Stop};
 use crate::running::{Running, Waiting, draw, faulted, flush};
@@ -43,9 +47,9 @@ fn follow<A: Allocator + Clone, E: Engine<A>, S: Source, K: Sink, F: Shelf>(
         (λ asked. Fed S.called S.seen run.old.lines run.new.lines input.old input.new
         (λ coming after. (start : Configuration) (entry d : Handed K.called)
         → AreTold start.answers d.asked asked
-        → Follows start entry (held E.whole E.log run.old coming)
+        → Follows start entry (held_by E.whole E.log run.old coming)
         (record d { source = S.seen input.old; sink = output.old; shelf = F.seen shelf.old }) left effect
-        → EventGives start entry (held E.whole E.log run.new after) (asking_in E.whole run.new)
+        → EventGives start entry (held_by E.whole E.log run.new after) (asking_in E.whole run.new)
         (record d {
           source = S.seen input.new;
           sink = output.new;
@@ -110,9 +114,9 @@ fn play_step<A: Allocator + Clone, E: Engine<A>, S: Source, K: Sink, F: Shelf, R
         (λ asked. Fed S.called S.seen run.old.lines run.new.lines input.old input.new
         (λ coming after. (start : Configuration) (entry : Handed K.called) (before : Trace)
         → AreTold start.answers before asked
-        → Going start entry (held E.whole E.log run.old coming)
+        → Going start entry (held_by E.whole E.log run.old coming)
         (handed (S.seen input.old) output.old (F.seen shelf.old) (R.stream dice.old) before)
-        → EventGives start entry (held E.whole E.log run.new after) (asking_in E.whole run.new)
+        → EventGives start entry (held_by E.whole E.log run.new after) (asking_in E.whole run.new)
         (handed (S.seen input.new) output.new (F.seen shelf.new) (R.stream dice.new) (before ++ asked))
         result)) }
     ensures none { result ≡ Ok Next.Goes → (E.whole run.new.engine).asking ≡ None }
@@ -120,7 +124,8 @@ fn play_step<A: Allocator + Clone, E: Engine<A>, S: Source, K: Sink, F: Shelf, R
     ensures nearer { result ≡ Ok Next.Goes → run.new.left < run.old.left }
     ensures no_more { run.new.left ≤ run.old.left }
     ensures stop { IfOk result IsNext }
-    ensures keeps { Keeps (devices (S.seen input.old) (K.seen output.old) (F.seen shelf.old) (R.stream dice.old) [] [] [])
+    ensures keeps { Keeps
+        (devices (S.seen input.old) (K.seen output.old) (F.seen shelf.old) (R.stream dice.old) [] [] [])
         (devices (S.seen input.new) (K.seen output.new) (F.seen shelf.new) (R.stream dice.new) [] [] []) result }
 {
     let word = draw(&mut run.word, dice);
@@ -145,9 +150,9 @@ fn play_event<A: Allocator + Clone, E: Engine<A>, S: Source, K: Sink, F: Shelf, 
         (λ asked. Fed S.called S.seen run.old.lines run.new.lines input.old input.new
         (λ coming after. (start : Configuration) (entry : Handed K.called) (before : Trace)
         → AreTold start.answers before asked
-        → Going start entry (held E.whole E.log run.old coming)
+        → Going start entry (held_by E.whole E.log run.old coming)
         (handed (S.seen input.old) output.old (F.seen shelf.old) (R.stream dice.old) before)
-        → EventGives start entry (held E.whole E.log run.new after) (asking_in E.whole run.new)
+        → EventGives start entry (held_by E.whole E.log run.new after) (asking_in E.whole run.new)
         (handed (S.seen input.new) output.new (F.seen shelf.new) (R.stream dice.new) (before ++ asked))
         result)) }
     ensures none { result ≡ Ok Next.Goes → (E.whole run.new.engine).asking ≡ None }
@@ -155,7 +160,8 @@ fn play_event<A: Allocator + Clone, E: Engine<A>, S: Source, K: Sink, F: Shelf, 
     ensures nearer { result ≡ Ok Next.Goes → run.new.left < run.old.left }
     ensures no_more { run.new.left ≤ run.old.left }
     ensures stop { IfOk result IsNext }
-    ensures keeps { Keeps (devices (S.seen input.old) (K.seen output.old) (F.seen shelf.old) (R.stream dice.old) [] [] [])
+    ensures keeps { Keeps
+        (devices (S.seen input.old) (K.seen output.old) (F.seen shelf.old) (R.stream dice.old) [] [] [])
         (devices (S.seen input.new) (K.seen output.new) (F.seen shelf.new) (R.stream dice.new) [] [] []) result }
 {
     match run.engine.next_put(run.left) {
@@ -182,14 +188,15 @@ fn play_events<A: Allocator + Clone, E: Engine<A>, S: Source, K: Sink, F: Shelf,
         (λ asked. Fed S.called S.seen run.old.lines run.new.lines input.old input.new
         (λ coming after. (start : Configuration) (entry : Handed K.called) (before : Trace)
         → AreTold start.answers before asked
-        → Going start entry (held E.whole E.log run.old coming)
+        → Going start entry (held_by E.whole E.log run.old coming)
         (handed (S.seen input.old) output.old (F.seen shelf.old) (R.stream dice.old) before)
-        → StopGives start entry (held E.whole E.log run.new after) (asking_in E.whole run.new)
+        → StopGives start entry (held_by E.whole E.log run.new after) (asking_in E.whole run.new)
         (handed (S.seen input.new) output.new (F.seen shelf.new) (R.stream dice.new) (before ++ asked))
         result)) }
     ensures no_more { run.new.left ≤ run.old.left }
     ensures stop { IfOk result IsStop }
-    ensures keeps { Keeps (devices (S.seen input.old) (K.seen output.old) (F.seen shelf.old) (R.stream dice.old) [] [] [])
+    ensures keeps { Keeps
+        (devices (S.seen input.old) (K.seen output.old) (F.seen shelf.old) (R.stream dice.old) [] [] [])
         (devices (S.seen input.new) (K.seen output.new) (F.seen shelf.new) (R.stream dice.new) [] [] []) result }
 {
     loop {
@@ -203,7 +210,7 @@ fn play_events<A: Allocator + Clone, E: Engine<A>, S: Source, K: Sink, F: Shelf,
 /// Stores a file stream's file, where it has one.
 fn store_file<F: Shelf>(world: &World, id: u32, shelf: &mut F) -> Result<(), Halt>
     ensures stores { IsCalled F.called shelf.old shelf.new
-        (λ asked. Stores (option_to_list (file_of world.now.scene id)) asked result) }
+        (λ asked. StoresAll (option_to_list (file_of world.now.scene.streams id)) asked result) }
     ensures keeps { (d : Devices) → Keeps (record d { shelf = F.seen shelf.old })
         (record d { shelf = F.seen shelf.new }) result }
     ensures only { IfErr result (λ halt. (halt ≡ Halt.Shelf) ⊎ (halt ≡ Halt.NoMemory)) }
@@ -240,9 +247,9 @@ fn end<A: Allocator + Clone, E: Engine<A>, K: Sink, F: Shelf>(
 ) -> Result<(), Halt>
     ensures plays { IsCalled F.called shelf.old shelf.new
         (λ asked. (coming : List ℕ) (start : Configuration) (entry d : Handed K.called) (stop : Stop)
-        → Done start entry (held E.whole E.log run.old coming) (asking_in E.whole run.old)
+        → HasStopped start entry (held_by E.whole E.log run.old coming) (asking_in E.whole run.old)
         (record d { sink = output.old; shelf = F.seen shelf.old }) stop
-        → EndingGives start entry (held E.whole E.log run.new coming) (asking_in E.whole run.new)
+        → EndingGives start entry (held_by E.whole E.log run.new coming) (asking_in E.whole run.new)
         (record d { sink = output.new; shelf = F.seen shelf.new; asked = d.asked ++ asked }) stop result) }
     ensures same { run.new ≡ record run.old { world = run.new.world } }
     ensures keeps { (d : Devices) → Keeps (record d { sink = K.seen output.old; shelf = F.seen shelf.old })
@@ -268,14 +275,15 @@ pub fn play_out<A: Allocator + Clone, E: Engine<A>, S: Source, K: Sink, F: Shelf
         (λ asked. Fed S.called S.seen run.old.lines run.new.lines input.old input.new
         (λ coming after. (start : Configuration) (entry : Handed K.called) (before : Trace)
         → AreTold start.answers before asked
-        → Going start entry (held E.whole E.log run.old coming)
+        → Going start entry (held_by E.whole E.log run.old coming)
         (handed (S.seen input.old) output.old (F.seen shelf.old) (R.stream dice.old) before)
-        → RunGives start entry (held E.whole E.log run.new after) (asking_in E.whole run.new)
+        → RunGives start entry (held_by E.whole E.log run.new after) (asking_in E.whole run.new)
         (handed (S.seen input.new) output.new (F.seen shelf.new) (R.stream dice.new) (before ++ asked))
         result)) }
     ensures no_more { run.new.left ≤ run.old.left }
     ensures stop { IfOk result IsStop }
-    ensures keeps { Keeps (devices (S.seen input.old) (K.seen output.old) (F.seen shelf.old) (R.stream dice.old) [] [] [])
+    ensures keeps { Keeps
+        (devices (S.seen input.old) (K.seen output.old) (F.seen shelf.old) (R.stream dice.old) [] [] [])
         (devices (S.seen input.new) (K.seen output.new) (F.seen shelf.new) (R.stream dice.new) [] [] []) result }
 {
     let stop = play_events(run, input, output, shelf, dice)?;

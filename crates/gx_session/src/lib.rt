@@ -2,13 +2,14 @@
 //! generator of random words, until it ends or its budget of units is spent.
 //!
 //! What a session is stands in specs/Session, move by move, to the last screen that is shown where it stops;
-//! specs/Input says what the next line of the input is, specs/Sending what sending is, specs/Saving what a save and
-//! a restore are, specs/Endings what is sent and stored at the end, specs/Cuts how a run is cut short, and
-//! specs/Runs what a run reports and leaves behind (`IsRun`). A run is the definition's, to its status, fault,
-//! place, steps, machine, record, text, files and the calls of the sink and the shelf, unless a device fails or
-//! memory runs out; then it stands at one of the definition's configurations, and its calls are those up to there.
-//! Two laws are handed out with each run: specs/Undoing says which copies are kept for undo, and specs/Recording
-//! which machines are recorded.
+//! specs/Configurations says what stands between two moves, specs/Moves what one move is, specs/Input what the next
+//! line of the input is, specs/Sending what sending is, specs/Saving what a save and a restore are, specs/Endings what
+//! is sent and stored at the end, specs/Cuts how a run is cut short, specs/Wants where memory may be wanted, and
+//! specs/Runs what a run reports and leaves behind (`IsRun`), of the input by specs/Reads. A run is the definition's,
+//! to its status, fault, place, steps, machine, record, text, files and the calls of the sink and the shelf, unless a
+//! device fails or memory runs out; then it stands at one of the definition's configurations, and its calls are those
+//! up to there. Two laws are handed out with each run: specs/Undoing says which copies are kept for undo, and
+//! specs/Recording which machines are recorded.
 //!
 //! - `lines` takes lines of a source. It reads no further than it has to.
 //! - `questions` asks the shelf what a Glk call wants of it.

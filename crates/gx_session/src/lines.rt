@@ -3,13 +3,13 @@
 //! The source is read only where no whole line is held, and no more once it has ended. So at most
 //! PIECE - 1 bytes are held beyond the lines that were taken. What was taken is let go before more is
 //! read: fewer than LONGEST + PIECE bytes are kept.
-ghost use Rattle.std.specs.Prelude.{◌≡◌, ◌+◌, ◌≤◌, ◌<◌, ◌++◌, ℕ, List, [], length, take, drop, Err, IfOk, IfErr, false};
+ghost use Rattle.std.specs.Prelude.{◌≡◌, ◌+◌, ◌≤◌, ◌<◌, ℕ, [], length, take, drop, Err, IfOk, IfErr, false};
 ghost use Rattle.std.specs.Prelude.{slice_index};
 ghost use Rattle.std.specs.List.{position_or_len};
 ghost use Rattle.gx_outside.specs.Outside.{HasCause, offered_by};
-ghost use Rattle.gx_session.specs.Constants.{longest, piece as one_piece};
+ghost use Rattle.gx_session.specs.Constants.{longest_line, piece as one_piece};
 ghost use Rattle.gx_session.specs.Input.{is_line_feed, chars_of};
-ghost use Rattle.gx_session.specs.Reading.{Fed, Takes, HoldsFew, IsWhole, FillsBy, is_failed};
+ghost use Rattle.gx_session.specs.Reading.{Fed, Takes, HoldsFew, HoldsLineFeed, FillsBy, is_failed};
 ghost use Rattle.gx_session.specs.Counts.{Blames};
 
 use bstr::ByteSlice;
@@ -71,14 +71,14 @@ pub struct Lines {
 
 impl Model for Lines {
     ghost use Rattle.std.specs.Prelude.{drop, length, ◌+◌, ◌≤◌, ◌<◌};
-    ghost use Rattle.gx_session.specs.Constants.{longest, piece};
+    ghost use Rattle.gx_session.specs.Constants.{longest_line, piece};
     ghost use Rattle.gx_session.specs.Lines.{HeldLines};
 
     ghost Value = { HeldLines };
 
     ghost view = { λ l. record { held = drop l.at l.bytes.items; ended = l.ended } };
 
-    ghost invariant = { λ l. (l.at ≤ length l.bytes.items) × (length l.bytes.items < longest + piece) };
+    ghost invariant = { λ l. (l.at ≤ length l.bytes.items) × (length l.bytes.items < longest_line + piece) };
 }
 
 /// The place of the first line feed, or the length where there is none. None stands before `from`.
@@ -142,7 +142,7 @@ impl Lines {
     /// Reads one piece of the source, and keeps no more than what is held.
     fn fill<S: Source>(&mut self, source: &mut S) -> Result<(), NoLine>
         requires going { self.old.ended ≡ false }
-        requires short { length self.old.held < longest }
+        requires short { length self.old.held < longest_line }
         ensures fills { FillsBy S.called S.seen self.old self.new source.old source.new result }
         ensures count { HasCause (S.seen source.old).calls (S.seen source.new).calls (is_failed result) false }
         ensures offered { (S.seen source.new).offered ≡ offered_by one_piece (S.seen source.old).offered }
@@ -167,7 +167,7 @@ impl Lines {
         ensures takes { Fed S.called S.seen self.old self.new source.old source.new
             (λ coming after. Takes self.old self.new (S.seen source.old) (S.seen source.new) coming after result) }
         ensures few { length self.old.held < one_piece → HoldsFew self.new.held result }
-        ensures unread { IsWhole self.old.held → S.seen source.new ≡ S.seen source.old }
+        ensures unread { HoldsLineFeed self.old.held → S.seen source.new ≡ S.seen source.old }
         ensures count { Blames (S.seen source.old).calls (S.seen source.new).calls (result ≡ Err NoLine.Failed) }
         ensures tells { (S.seen source.new).tells ≡ (S.seen source.old).tells }
     {

@@ -1,20 +1,22 @@
 //! What a run holds, and what every event of it does: text is sent, words are drawn, replies are given.
 //!
-//! Each function of a run keeps what is held a configuration of the session (`Going` and `Waits` of specs/Playing),
-//! or comes to its stop (`Done`), or is cut short (`Early`).
+//! Each function of a run keeps what is held a configuration of the session (`Going` and `IsInCall` of
+//! specs/Standing), or comes to its stop (`HasStopped`), or is cut short (`Early`).
 ghost use Rattle.std.specs.Prelude.{◌≡◌, ◌≢◌, ◌≤◌, ◌<◌, ◌⊎◌, ℕ, List, None, Some, Ok, Err, IfOk, IfErr, OnErr};
 ghost use Rattle.gx_machine.specs.declared.askings.Asking.TheVariants as asking;
-ghost use Rattle.gx_machine.specs.Answer.{answered, IsAnswer};
+ghost use Rattle.gx_machine.specs.Answer.{answered_whole, AnswersAsking};
 ghost use Rattle.gx_machine.specs.Log.{logged};
 ghost use Rattle.gx_machine.specs.Advancing.{left_after};
 ghost use Rattle.glk_replies.specs.Parts.{replies};
 ghost use Rattle.gx_session.specs.Counts.{Blames};
-ghost use Rattle.gx_session.specs.Cuts.{ReplyWants};
+ghost use Rattle.gx_session.specs.Wants.{ReplyWants};
 ghost use Rattle.gx_session.specs.Devices.{Devices};
-ghost use Rattle.gx_session.specs.Session.{Configuration, steps};
-ghost use Rattle.gx_session.specs.Playing.{held, Handed, asking_in, WordIs, Standing, Replies, EventGives, IsNext};
-ghost use Rattle.gx_session.specs.Playing.{Flushes};
-ghost use Rattle.gx_session.specs.Playing.{TakesReply, FaultGives, Leads, Keeps};
+ghost use Rattle.gx_session.specs.Configurations.{Configuration, steps};
+ghost use Rattle.gx_session.specs.Holding.{held_by, Handed, asking_in, WordIs};
+ghost use Rattle.gx_session.specs.Standing.{Standing, ResumesWithReply};
+ghost use Rattle.gx_session.specs.Outcomes.{EventGives, IsNext};
+ghost use Rattle.gx_session.specs.Outcomes.{Flushes};
+ghost use Rattle.gx_session.specs.Outcomes.{TakesReply, FaultGives, Leads, Keeps};
 ghost use Rattle.rand_core.specs.Stream.{Stream};
 
 use crate::ends::{Halt, Next, Stop};
@@ -105,7 +107,7 @@ fn give<A: Allocator + Clone, E: Engine<A>>(
     reply: &Reply,
     left: u64,
 ) -> Result<(), Halt>
-    requires { IsAnswer (E.whole run.old.engine) reply.now }
+    requires { AnswersAsking (E.whole run.old.engine) reply.now }
     ensures gives { TakesReply E.whole E.log run.old run.new reply.now left result }
     ensures memory { IfErr result (λ halt. halt ≡ Halt.NoMemory) }
     ensures wants { OnErr result (ReplyWants (E.log run.old.engine) (E.whole run.old.engine).machine reply.now) }
@@ -123,8 +125,8 @@ fn send_due<A: Allocator + Clone, E: Engine<A>, K: Sink>(
 ) -> Result<Next, Halt>
     requires { (E.whole run.old.engine).asking ≡ None }
     ensures plays { (coming : List ℕ) (start : Configuration) (entry d : Handed K.called)
-        → Standing start entry (held E.whole E.log run.old coming) (record d { sink = output.old }) steps
-        → EventGives start entry (held E.whole E.log run.new coming) (asking_in E.whole run.new)
+        → Standing start entry (held_by E.whole E.log run.old coming) (record d { sink = output.old }) steps
+        → EventGives start entry (held_by E.whole E.log run.new coming) (asking_in E.whole run.new)
         (record d { sink = output.new }) result }
     ensures same { run.new ≡ record run.old { world = run.new.world } }
     ensures goes { IfOk result (λ next. next ≡ Next.Goes) }
@@ -142,13 +144,13 @@ pub fn answer<A: Allocator + Clone, E: Engine<A>, K: Sink>(
     reply: &Reply,
     left: u64,
 ) -> Result<Next, Halt>
-    requires fits { IsAnswer (E.whole run.old.engine) reply.now }
+    requires fits { AnswersAsking (E.whole run.old.engine) reply.now }
     requires fewer { left ≤ run.old.left }
     requires room { left ≤ left_after (E.log run.old.engine) (E.whole run.old.engine) }
     ensures plays { (coming : List ℕ) (start : Configuration) (entry d : Handed K.called)
-        → Replies start entry (held E.whole E.log run.old coming) (asking_in E.whole run.old)
+        → ResumesWithReply start entry (held_by E.whole E.log run.old coming) (asking_in E.whole run.old)
         (record d { sink = output.old }) left reply.now
-        → EventGives start entry (held E.whole E.log run.new coming) (asking_in E.whole run.new)
+        → EventGives start entry (held_by E.whole E.log run.new coming) (asking_in E.whole run.new)
         (record d { sink = output.new }) result }
     ensures leads { Leads E.whole E.log run.old run.new left result }
     ensures keeps { (d : Devices) → Keeps (record d { sink = K.seen output.old })
@@ -163,7 +165,7 @@ pub fn answer<A: Allocator + Clone, E: Engine<A>, K: Sink>(
 #[inline(always)]
 fn give_put<A: Allocator + Clone, E: Engine<A>>(run: &mut Running<E>, left: u64)
     requires { (E.whole run.old.engine).asking ≡ Some asking.Put }
-    ensures engine { E.whole run.new.engine ≡ answered (E.whole run.old.engine) (replies 0) }
+    ensures engine { E.whole run.new.engine ≡ answered_whole (E.whole run.old.engine) (replies 0) }
     ensures logs { E.log run.new.engine ≡ logged (E.log run.old.engine) (E.whole run.old.engine).machine }
     ensures same { run.new ≡ record run.old { engine = run.new.engine; left = left } }
 {
@@ -182,9 +184,9 @@ pub fn answer_put<A: Allocator + Clone, E: Engine<A>, K: Sink>(
     requires fewer { left ≤ run.old.left }
     requires room { left ≤ left_after (E.log run.old.engine) (E.whole run.old.engine) }
     ensures plays { (coming : List ℕ) (start : Configuration) (entry d : Handed K.called)
-        → Replies start entry (held E.whole E.log run.old coming) (asking_in E.whole run.old)
+        → ResumesWithReply start entry (held_by E.whole E.log run.old coming) (asking_in E.whole run.old)
         (record d { sink = output.old }) left (replies 0)
-        → EventGives start entry (held E.whole E.log run.new coming) (asking_in E.whole run.new)
+        → EventGives start entry (held_by E.whole E.log run.new coming) (asking_in E.whole run.new)
         (record d { sink = output.new }) result }
     ensures leads { Leads E.whole E.log run.old run.new left result }
     ensures keeps { (d : Devices) → Keeps (record d { sink = K.seen output.old })

@@ -14,11 +14,14 @@ ghost use Rattle.glk_world.specs.World.{on_world};
 ghost use Rattle.glk_replies.specs.Parts.{replies};
 ghost use Rattle.gx_session.specs.Constants.{failed as failed_value};
 ghost use Rattle.gx_session.specs.Devices.{Devices};
-ghost use Rattle.gx_session.specs.Playing.{held, Handed, asking_in, Follows, GoesBack, Becomes, MaySave, Refuses};
-ghost use Rattle.gx_session.specs.Playing.{EventGives};
-ghost use Rattle.gx_session.specs.Playing.{Leads, Keeps};
-ghost use Rattle.gx_session.specs.Saving.{may_take, is_begun, is_read, saving, restoring, IsReadBack, SavesReadBack};
-ghost use Rattle.gx_session.specs.Session.{Configuration};
+ghost use Rattle.gx_session.specs.Holding.{held_by, Handed, asking_in};
+ghost use Rattle.gx_session.specs.Standing.{Follows, GoesBack};
+ghost use Rattle.gx_session.specs.Outcomes.{Becomes, MaySave, Refuses};
+ghost use Rattle.gx_session.specs.Outcomes.{EventGives};
+ghost use Rattle.gx_session.specs.Outcomes.{Leads, Keeps};
+ghost use Rattle.gx_session.specs.Saving.{may_take, is_save_begun, is_restore_begun, saving, restoring, IsReadBack};
+ghost use Rattle.gx_session.specs.Saving.{SavesReadBack};
+ghost use Rattle.gx_session.specs.Configurations.{Configuration};
 
 use crate::ends::{Halt, Next};
 use crate::running::{ENOUGH, Running, answer, faulted, flush};
@@ -51,7 +54,7 @@ fn may_take(world: &World, stream: u32) -> bool
 
 /// Whether a save to a stream is begun: the I/O system is Glk's, and the stream may take one.
 fn is_begun<A: Allocator + Clone>(world: &World, state: &State<A>, stream: u32) -> bool
-    ensures { result ≡ is_begun world.now.scene state.now.flat stream }
+    ensures { result ≡ is_save_begun world.now.scene state.now.flat stream }
 {
     state.iosys().0 == GLK_SYSTEM && may_take(world, stream)
 }
@@ -63,10 +66,11 @@ fn save<A: Allocator + Clone, E: Engine<A>>(
     stream: u32,
 ) -> Result<Reply, Fault>
     requires { (E.whole engine.now).asking ≡ Some asking.Save }
-    ensures value { MaySave (IsTrue (is_begun world.old.scene (E.whole engine.now).machine.flat stream)) result
+    ensures value { MaySave (IsTrue (is_save_begun world.old.scene (E.whole engine.now).machine.flat stream)) result
         world.old world.new (on_world world.old (saving world.old.scene (E.whole engine.now).machine.flat stream)) }
     ensures fits { IfOk result (IsReply (E.whole engine.now).machine.flat 0) }
-    ensures read_back { IfOk result (λ _. IsTrue (is_begun world.old.scene (E.whole engine.now).machine.flat stream)
+    ensures read_back { IfOk result (λ _.
+        IsTrue (is_save_begun world.old.scene (E.whole engine.now).machine.flat stream)
         → IsReadBack (E.whole engine.now).machine.flat) }
 {
     if !is_begun(world, engine.state(), stream) {
@@ -92,9 +96,9 @@ pub fn ask_save<A: Allocator + Clone, E: Engine<A>, K: Sink>(
     requires fewer { left ≤ run.old.left }
     requires room { left ≤ left_after (E.log run.old.engine) (E.whole run.old.engine) }
     ensures plays { (coming : List ℕ) (start : Configuration) (entry d : Handed K.called)
-        → Follows start entry (held E.whole E.log run.old coming) (record d { sink = output.old }) left
+        → Follows start entry (held_by E.whole E.log run.old coming) (record d { sink = output.old }) left
         (effect.Save stream)
-        → EventGives start entry (held E.whole E.log run.new coming) (asking_in E.whole run.new)
+        → EventGives start entry (held_by E.whole E.log run.new coming) (asking_in E.whole run.new)
         (record d { sink = output.new }) result }
     ensures leads { Leads E.whole E.log run.old run.new left result }
     ensures keeps { (d : Devices) → Keeps (record d { sink = K.seen output.old })
@@ -123,7 +127,7 @@ fn read<A: Allocator + Clone, E: Engine<A>>(
     engine: &E,
     stream: u32,
 ) -> Result<Option<FlatCopy>, Fault>
-    ensures value { MayLose (IsTrue (is_read world.old.scene (E.whole engine.now).machine.flat stream))
+    ensures value { MayLose (IsTrue (is_restore_begun world.old.scene (E.whole engine.now).machine.flat stream))
         (λ copy. copy) result world.old world.new
         (on_world world.old (restoring world.old.scene (E.whole engine.now).machine.flat stream)) }
     ensures fits { IfOk result (λ read. IfSome read (IsCopyFor (E.whole engine.now).machine.flat.story)) }
@@ -169,9 +173,9 @@ fn resume<A: Allocator + Clone, E: Engine<A>, K: Sink>(
     requires fewer { left ≤ run.old.left }
     requires room { left ≤ left_after (E.log run.old.engine) (E.whole run.old.engine) }
     ensures plays { (coming : List ℕ) (start : Configuration) (entry d : Handed K.called)
-        → GoesBack start entry (held E.whole E.log run.old coming) (asking_in E.whole run.old)
+        → GoesBack start entry (held_by E.whole E.log run.old coming) (asking_in E.whole run.old)
         (record d { sink = output.old }) left copy.now
-        → EventGives start entry (held E.whole E.log run.new coming) (asking_in E.whole run.new)
+        → EventGives start entry (held_by E.whole E.log run.new coming) (asking_in E.whole run.new)
         (record d { sink = output.new }) result }
     ensures leads { Leads E.whole E.log run.old run.new left result }
     ensures keeps { (d : Devices) → Keeps (record d { sink = K.seen output.old })
@@ -194,9 +198,9 @@ pub fn ask_restore<A: Allocator + Clone, E: Engine<A>, K: Sink>(
     requires fewer { left ≤ run.old.left }
     requires room { left ≤ left_after (E.log run.old.engine) (E.whole run.old.engine) }
     ensures plays { (coming : List ℕ) (start : Configuration) (entry d : Handed K.called)
-        → Follows start entry (held E.whole E.log run.old coming) (record d { sink = output.old }) left
+        → Follows start entry (held_by E.whole E.log run.old coming) (record d { sink = output.old }) left
         (effect.Restore stream)
-        → EventGives start entry (held E.whole E.log run.new coming) (asking_in E.whole run.new)
+        → EventGives start entry (held_by E.whole E.log run.new coming) (asking_in E.whole run.new)
         (record d { sink = output.new }) result }
     ensures leads { Leads E.whole E.log run.old run.new left result }
     ensures keeps { (d : Devices) → Keeps (record d { sink = K.seen output.old })

@@ -3,7 +3,8 @@ ghost use Rattle.std.specs.Prelude.{◌≡◌, ◌≤◌, [], None, IsSomeAnd};
 ghost use Rattle.gx_machine.specs.Advancing.{units_left};
 ghost use Rattle.gx_outside.specs.Chains.{IsCalled};
 ghost use Rattle.gx_session.specs.Devices.{devices};
-ghost use Rattle.gx_session.specs.Session.{start_of, fault_address};
+ghost use Rattle.gx_session.specs.Configurations.{start_of};
+ghost use Rattle.gx_session.specs.Session.{fault_address};
 ghost use Rattle.gx_session.specs.Runs.{IsRun, report_on, report_of};
 
 use crate::Ended;
@@ -74,7 +75,8 @@ pub fn run_on<A: Allocator + Clone, E: Engine<A>, S: Source, K: Sink, F: Shelf, 
         let entry = devices (S.seen input.old) (K.seen output.old) (F.seen shelf.old) (R.stream dice.old) [] [] [] in
         let exit = devices (S.seen input.new) (K.seen output.new) (F.seen shelf.new) (R.stream dice.new) reads sends
         asked in
-        IsRun (start_of (E.whole engine).machine world entry echo steps (E.log engine)) entry exit (report_on E.whole E.log result)))) }
+        IsRun (start_of (E.whole engine).machine world entry echo steps (E.log engine)) entry exit
+        (report_on E.whole E.log result)))) }
 {
     saves_read_back(&engine);
     let mut run = Running {
@@ -132,7 +134,8 @@ pub fn run<A: Allocator + Clone, S: Source, K: Sink, F: Shelf, R: Rng>(
         let entry = devices (S.seen input.old) (K.seen output.old) (F.seen shelf.old) (R.stream dice.old) [] [] [] in
         let exit = devices (S.seen input.new) (K.seen output.new) (F.seen shelf.new) (R.stream dice.new) reads sends
         asked in
-        IsSomeAnd result.machine (λ end. IsRun (start_of machine.machine world entry echo steps None) entry exit (report_of result end))))) }
+        IsSomeAnd result.machine (λ end.
+        IsRun (start_of machine.machine world entry echo steps None) entry exit (report_of result end))))) }
 {
     let ended = run_on(
         alloc, machine, world, echo, steps, input, output, shelf, dice,

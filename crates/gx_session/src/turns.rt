@@ -6,20 +6,21 @@ ghost use Rattle.gx_machine.specs.declared.askings.Asking.TheVariants as asking;
 ghost use Rattle.gx_machine.specs.Advancing.{left_after};
 ghost use Rattle.gx_machine.specs.Step.{asking_of};
 ghost use Rattle.glk_world.specs.World.{after};
-ghost use Rattle.glk_world.specs.Shown.{show_grids, show_line};
+ghost use Rattle.glk_world.specs.Shown.{show_line};
 ghost use Rattle.glk_replies.specs.declared.Given.{Given};
 ghost use Rattle.glk_replies.specs.declared.Given.TheVariants as given;
 ghost use Rattle.glk_replies.specs.declared.Turn.{Turn};
 ghost use Rattle.glk_replies.specs.Turns.{IsTurnFor, IsAnswered, IsGivenFor};
 ghost use Rattle.glk_dispatch.specs.Turns.{Awaits};
-ghost use Rattle.gx_session.specs.Cuts.{IsWait};
+ghost use Rattle.gx_session.specs.Wants.{IsWait};
 ghost use Rattle.gx_session.specs.Devices.{Devices};
 ghost use Rattle.gx_session.specs.Questions.{turn_of, AreTold};
 ghost use Rattle.gx_session.specs.Reading.{Fed};
-ghost use Rattle.gx_session.specs.Session.{Configuration, asks, goes_on};
-ghost use Rattle.gx_session.specs.Playing.{held, Handed, asking_in, Follows, Waits, Turns, GoesOn, TakesInput};
-ghost use Rattle.gx_session.specs.Playing.{EventGives};
-ghost use Rattle.gx_session.specs.Playing.{Leads, Keeps, without_line};
+ghost use Rattle.gx_session.specs.Configurations.{Configuration, asks, goes_on};
+ghost use Rattle.gx_session.specs.Holding.{held_by, Handed, asking_in};
+ghost use Rattle.gx_session.specs.Standing.{Follows, IsInCall, TakesTurn, GoesOn, TakesInput};
+ghost use Rattle.gx_session.specs.Outcomes.{EventGives};
+ghost use Rattle.gx_session.specs.Outcomes.{Leads, Keeps, without_line};
 
 use crate::ends::{Halt, Next, Stop};
 use crate::lines::NoLine;
@@ -44,8 +45,8 @@ pub fn ask_put<A: Allocator + Clone, E: Engine<A>, K: Sink>(
     requires fewer { left ≤ run.old.left }
     requires room { left ≤ left_after (E.log run.old.engine) (E.whole run.old.engine) }
     ensures plays { (coming : List ℕ) (start : Configuration) (entry d : Handed K.called)
-        → Follows start entry (held E.whole E.log run.old coming) (record d { sink = output.old }) left (Put c)
-        → EventGives start entry (held E.whole E.log run.new coming) (asking_in E.whole run.new)
+        → Follows start entry (held_by E.whole E.log run.old coming) (record d { sink = output.old }) left (Put c)
+        → EventGives start entry (held_by E.whole E.log run.new coming) (asking_in E.whole run.new)
         (record d { sink = output.new }) result }
     ensures leads { Leads E.whole E.log run.old run.new left result }
     ensures keeps { (d : Devices) → Keeps (record d { sink = K.seen output.old })
@@ -71,8 +72,8 @@ fn ask_any_put<A: Allocator + Clone, E: Engine<A>, K: Sink>(
     requires fewer { left ≤ run.old.left }
     requires room { left ≤ left_after (E.log run.old.engine) (E.whole run.old.engine) }
     ensures plays { (coming : List ℕ) (start : Configuration) (entry d : Handed K.called)
-        → Follows start entry (held E.whole E.log run.old coming) (record d { sink = output.old }) left (Put c)
-        → EventGives start entry (held E.whole E.log run.new coming) (asking_in E.whole run.new)
+        → Follows start entry (held_by E.whole E.log run.old coming) (record d { sink = output.old }) left (Put c)
+        → EventGives start entry (held_by E.whole E.log run.new coming) (asking_in E.whole run.new)
         (record d { sink = output.new }) result }
     ensures leads { Leads E.whole E.log run.old run.new left result }
     ensures keeps { (d : Devices) → Keeps (record d { sink = K.seen output.old })
@@ -98,9 +99,9 @@ fn take_answer<A: Allocator + Clone, E: Engine<A>, K: Sink>(
     requires fewer { wait.left ≤ run.old.left }
     requires room { wait.left ≤ left_after (E.log run.old.engine) (E.whole run.old.engine) }
     ensures plays { (coming : List ℕ) (start : Configuration) (entry d : Handed K.called)
-        → GoesOn start entry (held E.whole E.log run.old coming) (asking_in E.whole run.old)
+        → GoesOn start entry (held_by E.whole E.log run.old coming) (asking_in E.whole run.old)
         (record d { sink = output.old }) wait turn
-        → EventGives start entry (held E.whole E.log run.new coming) (asking_in E.whole run.new)
+        → EventGives start entry (held_by E.whole E.log run.new coming) (asking_in E.whole run.new)
         (record d { sink = output.new }) result }
     ensures leads { Leads E.whole E.log run.old run.new wait.left result }
     ensures keeps { (d : Devices) → Keeps (record d { sink = K.seen output.old })
@@ -125,9 +126,9 @@ fn go_on<A: Allocator + Clone, E: Engine<A>, K: Sink>(
     requires fewer { wait.left ≤ run.old.left }
     requires room { wait.left ≤ left_after (E.log run.old.engine) (E.whole run.old.engine) }
     ensures plays { (coming : List ℕ) (start : Configuration) (entry d : Handed K.called)
-        → Waits start entry (held E.whole E.log run.old coming) (asking_in E.whole run.old)
+        → IsInCall start entry (held_by E.whole E.log run.old coming) (asking_in E.whole run.old)
         (record d { sink = output.old }) (goes_on given wait)
-        → EventGives start entry (held E.whole E.log run.new coming) (asking_in E.whole run.new)
+        → EventGives start entry (held_by E.whole E.log run.new coming) (asking_in E.whole run.new)
         (record d { sink = output.new }) result }
     ensures leads { Leads E.whole E.log run.old run.new wait.left result }
     ensures keeps { (d : Devices) → Keeps (record d { sink = K.seen output.old })
@@ -155,9 +156,9 @@ fn consult<A: Allocator + Clone, E: Engine<A>, K: Sink, F: Shelf>(
     ensures plays { IsCalled F.called shelf.old shelf.new
         (λ asked. (coming : List ℕ) (start : Configuration) (entry d : Handed K.called)
         → AreTold start.answers d.asked asked
-        → Waits start entry (held E.whole E.log run.old coming) (asking_in E.whole run.old)
+        → IsInCall start entry (held_by E.whole E.log run.old coming) (asking_in E.whole run.old)
         (record d { sink = output.old; shelf = F.seen shelf.old }) (asks (turn_of question) wait)
-        → EventGives start entry (held E.whole E.log run.new coming) (asking_in E.whole run.new)
+        → EventGives start entry (held_by E.whole E.log run.new coming) (asking_in E.whole run.new)
         (record d { sink = output.new; shelf = F.seen shelf.new; asked = d.asked ++ asked }) result) }
     ensures leads { Leads E.whole E.log run.old run.new wait.left result }
     ensures keeps { (d : Devices) → Keeps (record d { sink = K.seen output.old; shelf = F.seen shelf.old })
@@ -197,9 +198,9 @@ fn take_line<A: Allocator + Clone, E: Engine<A>, K: Sink>(
     requires fewer { wait.left ≤ run.old.left }
     requires room { wait.left ≤ left_after (E.log run.old.engine) (E.whole run.old.engine) }
     ensures plays { (coming : List ℕ) (start : Configuration) (entry d : Handed K.called)
-        → TakesInput start entry (held E.whole E.log run.old coming) (asking_in E.whole run.old)
+        → TakesInput start entry (held_by E.whole E.log run.old coming) (asking_in E.whole run.old)
         (record d { sink = output.old }) line wait
-        → EventGives start entry (held E.whole E.log run.new coming) (asking_in E.whole run.new)
+        → EventGives start entry (held_by E.whole E.log run.new coming) (asking_in E.whole run.new)
         (record d { sink = output.new }) result }
     ensures leads { Leads E.whole E.log run.old run.new wait.left result }
     ensures keeps { (d : Devices) → Keeps (record d { sink = K.seen output.old })
@@ -236,9 +237,9 @@ fn await_line<A: Allocator + Clone, E: Engine<A>, S: Source, K: Sink>(
     ensures plays { Fed S.called S.seen run.old.lines run.new.lines input.old input.new
         (λ coming after. (turn : Turn) (start : Configuration) (entry d : Handed K.called)
         → IsWait turn
-        → Waits start entry (held E.whole E.log run.old coming) (asking_in E.whole run.old)
+        → IsInCall start entry (held_by E.whole E.log run.old coming) (asking_in E.whole run.old)
         (record d { source = S.seen input.old; sink = output.old }) (asks turn wait)
-        → EventGives start entry (held E.whole E.log run.new after) (asking_in E.whole run.new)
+        → EventGives start entry (held_by E.whole E.log run.new after) (asking_in E.whole run.new)
         (record d { source = S.seen input.new; sink = output.new }) result) }
     ensures leads { Leads E.whole E.log run.old run.new wait.left result }
     ensures keeps { (d : Devices) → Keeps (record d { source = S.seen input.old; sink = K.seen output.old })
@@ -265,9 +266,9 @@ fn wait_for_line<A: Allocator + Clone, E: Engine<A>, S: Source, K: Sink>(
     ensures plays { Fed S.called S.seen run.old.lines run.new.lines input.old input.new
         (λ coming after. (turn : Turn) (start : Configuration) (entry d : Handed K.called)
         → IsWait turn
-        → Turns start entry (held E.whole E.log run.old coming) (asking_in E.whole run.old)
+        → TakesTurn start entry (held_by E.whole E.log run.old coming) (asking_in E.whole run.old)
         (record d { source = S.seen input.old; sink = output.old }) wait turn
-        → EventGives start entry (held E.whole E.log run.new after) (asking_in E.whole run.new)
+        → EventGives start entry (held_by E.whole E.log run.new after) (asking_in E.whole run.new)
         (record d { source = S.seen input.new; sink = output.new }) result) }
     ensures leads { Leads E.whole E.log run.old run.new wait.left result }
     ensures keeps { (d : Devices) → Keeps (record d { source = S.seen input.old; sink = K.seen output.old })
@@ -295,9 +296,9 @@ fn take_turn<A: Allocator + Clone, E: Engine<A>, S: Source, K: Sink, F: Shelf>(
         (λ asked. Fed S.called S.seen run.old.lines run.new.lines input.old input.new
         (λ coming after. (start : Configuration) (entry d : Handed K.called)
         → AreTold start.answers d.asked asked
-        → Turns start entry (held E.whole E.log run.old coming) (asking_in E.whole run.old)
+        → TakesTurn start entry (held_by E.whole E.log run.old coming) (asking_in E.whole run.old)
         (record d { source = S.seen input.old; sink = output.old; shelf = F.seen shelf.old }) wait turn
-        → EventGives start entry (held E.whole E.log run.new after) (asking_in E.whole run.new)
+        → EventGives start entry (held_by E.whole E.log run.new after) (asking_in E.whole run.new)
         (record d {
           source = S.seen input.new;
           sink = output.new;
@@ -345,10 +346,10 @@ pub fn ask_glk<A: Allocator + Clone, E: Engine<A>, S: Source, K: Sink, F: Shelf>
         (λ asked. Fed S.called S.seen run.old.lines run.new.lines input.old input.new
         (λ coming after. (start : Configuration) (entry d : Handed K.called)
         → AreTold start.answers d.asked asked
-        → Follows start entry (held E.whole E.log run.old coming)
+        → Follows start entry (held_by E.whole E.log run.old coming)
         (record d { source = S.seen input.old; sink = output.old; shelf = F.seen shelf.old }) wait.left
         (Glk selector args.now wait.room)
-        → EventGives start entry (held E.whole E.log run.new after) (asking_in E.whole run.new)
+        → EventGives start entry (held_by E.whole E.log run.new after) (asking_in E.whole run.new)
         (record d {
           source = S.seen input.new;
           sink = output.new;

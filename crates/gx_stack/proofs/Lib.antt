@@ -5,3 +5,4 @@ pub mod Pieces
 pub mod Kept
 pub mod Lists
 pub mod Locals
+pub mod Opened

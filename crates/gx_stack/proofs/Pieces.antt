@@ -5,7 +5,7 @@ use Rattle.std.proofs.lemmas.List.{length-replicate}
 use Rattle.std.proofs.lemmas.Grind.{common_steps}
 use Rattle.gx_words.specs.Numbers.{IsWidth, word, bytes_of_word, bytes_of_number}
 use Rattle.gx_stack.specs.Stubs.{stub_below}
-use Rattle.gx_stack.specs.Formats.{pairs_of, gap, padded, padded_len, filled, locals, locals_len, locals_pos, frame_len}
+use Rattle.gx_stack.specs.Formats.{pairs_of, gap, padded, padded_len, pair_locals, locals, locals_len, locals_pos, frame_len}
 use Rattle.gx_stack.specs.Formats.{frame}
 use Rattle.gx_stack.specs.Held.{ArePairs, IsFormat}
 
@@ -29,11 +29,11 @@ word_pushed_second xs rest u v h = word_behind xs (bytes_of_word u ++ (bytes_of_
 pub length-number : (t v : ℕ) → IsWidth t → length (bytes_of_number t v) ≡ t
 length-number t v h = grind (arith, common_steps)
 
-pub length-filled : (t n : ℕ) (args : List ℕ) → IsWidth t → length (filled t n args) ≡ t * n
-unfolding filled
+pub length-filled : (t n : ℕ) (args : List ℕ) → IsWidth t → length (pair_locals t n args) ≡ t * n
+unfolding pair_locals
 length-filled t zero args h = grind arith
-length-filled t (suc n) [] h = omega (arith, length-append (bytes_of_number t 0) (filled t n []), length-number t 0 h, length-filled t n [] h)
-length-filled t (suc n) (a ∷ args) h = omega (arith, length-append (bytes_of_number t a) (filled t n args), length-number t a h, length-filled t n args h)
+length-filled t (suc n) [] h = omega (arith, length-append (bytes_of_number t 0) (pair_locals t n []), length-number t 0 h, length-filled t n [] h)
+length-filled t (suc n) (a ∷ args) h = omega (arith, length-append (bytes_of_number t a) (pair_locals t n args), length-number t a h, length-filled t n args h)
 
 pub length-locals : (at : ℕ) (pairs args : List ℕ) → ArePairs pairs → length (locals at pairs args) ≡ locals_len at pairs
 unfolding locals locals_len

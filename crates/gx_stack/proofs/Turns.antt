@@ -5,20 +5,20 @@ use Rattle.std.proofs.lemmas.Bool.{cases_lt}
 use Rattle.std.proofs.lemmas.Grind.{common_steps}
 use Rattle.gx_words.specs.Numbers.{IsWidth, bytes_of_word, bytes_of_number}
 use Rattle.gx_stack.specs.declared.stubs.Stub.{Stub}
-use Rattle.gx_stack.specs.Formats.{gap, filled, locals, locals_len}
+use Rattle.gx_stack.specs.Formats.{gap, pair_locals, locals, locals_len}
 use Rattle.gx_stack.specs.Held.{ArePairs}
 use Rattle.gx_stack.specs.Frames.{topmost_first}
 use Rattle.gx_stack.specs.Stubs.{stubs_bytes, stub_bytes}
 use Rattle.gx_stack.specs.Values.{in_order}
 
 -- locals of one size
-filled_more : (t n : ℕ) (args : List ℕ) → 0 < n → filled t n args ≡ bytes_of_number t (get_or args 0 0) ++ filled t (n - 1) (drop 1 args)
-unfolding filled
+filled_more : (t n : ℕ) (args : List ℕ) → 0 < n → pair_locals t n args ≡ bytes_of_number t (get_or args 0 0) ++ pair_locals t (n - 1) (drop 1 args)
+unfolding pair_locals
 filled_more t zero args h = absurd (omega arith)
 filled_more t (suc n) [] h = let less : suc n - 1 ≡ n = omega arith in rw less refl
 filled_more t (suc n) (a ∷ args) h = let less : suc n - 1 ≡ n = omega arith in rw less refl
 
-pub filled_pushed : (t n i : ℕ) (args out : List ℕ) → i < n → (out ++ bytes_of_number t (get_or args i 0)) ++ filled t (n - (i + 1)) (drop (i + 1) args) ≡ out ++ filled t (n - i) (drop i args)
+pub filled_pushed : (t n i : ℕ) (args out : List ℕ) → i < n → (out ++ bytes_of_number t (get_or args i 0)) ++ pair_locals t (n - (i + 1)) (drop (i + 1) args) ≡ out ++ pair_locals t (n - i) (drop i args)
 filled_pushed t n i args out h =
     let less : n - i - 1 ≡ n - (i + 1) = omega arith in
     let here : i + 0 ≡ i = omega arith in
@@ -26,7 +26,7 @@ filled_pushed t n i args out h =
     let rest : drop 1 (drop i args) ≡ drop (i + 1) args = grind (arith, common_steps) in
     rw (append_assoc, filled_more t (n - i) (drop i args) (omega (arith, h)), less, first, rest) refl
 
-pub filled_first : (t n : ℕ) (args out : List ℕ) → out ++ filled t (n - 0) (drop 0 args) ≡ out ++ filled t n args
+pub filled_first : (t n : ℕ) (args out : List ℕ) → out ++ pair_locals t (n - 0) (drop 0 args) ≡ out ++ pair_locals t n args
 filled_first t n args out = let all : n - 0 ≡ n = omega arith in rw all refl
 
 pub filled_room : (t n i : ℕ) → IsWidth t → i < n → t * i + t ≤ t * n
@@ -42,19 +42,19 @@ number_zeros t is = elim is [
   ]
 ]
 
-zeros_filled : (t n : ℕ) → IsWidth t → replicate (t * n) 0 ≡ filled t n []
-unfolding filled
+zeros_filled : (t n : ℕ) → IsWidth t → replicate (t * n) 0 ≡ pair_locals t n []
+unfolding pair_locals
 zeros_filled t zero is = let none : t * 0 ≡ 0 = grind arith in rw none refl
 zeros_filled t (suc n) is =
     let more : t * suc n ≡ t + t * n = grind arith in
     rw (more, number_zeros t is) (sym (replicate-append-replicate t (t * n) 0) ∙ ap (λ (xs : List ℕ). replicate t 0 ++ xs) (zeros_filled t n is))
 
-zeros_rest : (t n : ℕ) (args : List ℕ) → IsWidth t → length args ≡ 0 → replicate (t * n) 0 ≡ filled t n args
+zeros_rest : (t n : ℕ) (args : List ℕ) → IsWidth t → length args ≡ 0 → replicate (t * n) 0 ≡ pair_locals t n args
 zeros_rest t n [] is none = zeros_filled t n is
 zeros_rest t n (a ∷ args) is none = absurd (omega (arith, none))
 
-zeros_left : (t n i : ℕ) (args : List ℕ) → IsWidth t → (n ≤ i) ⊎ (length args ≤ i) → replicate (t * (n - i)) 0 ≡ filled t (n - i) (drop i args)
-unfolding filled
+zeros_left : (t n i : ℕ) (args : List ℕ) → IsWidth t → (n ≤ i) ⊎ (length args ≤ i) → replicate (t * (n - i)) 0 ≡ pair_locals t (n - i) (drop i args)
+unfolding pair_locals
 zeros_left t n i args is (inl full) =
     let none : n - i ≡ 0 = omega (arith, full) in
     let zero_many : t * 0 ≡ 0 = grind arith in
@@ -63,7 +63,7 @@ zeros_left t n i args is (inr past) =
     let none : length (drop i args) ≡ 0 = grind (arith, common_steps, past) in
     zeros_rest t (n - i) (drop i args) is none
 
-pub filled_done : (t n i rest : ℕ) (args out new start : List ℕ) → out ++ filled t (n - i) (drop i args) ≡ start ++ filled t n args → new ≡ out ++ replicate (t * rest) 0 → IsWidth t → rest ≡ n - i → i ≡ min (length args) n → new ≡ start ++ filled t n args
+pub filled_done : (t n i rest : ℕ) (args out new start : List ℕ) → out ++ pair_locals t (n - i) (drop i args) ≡ start ++ pair_locals t n args → new ≡ out ++ replicate (t * rest) 0 → IsWidth t → rest ≡ n - i → i ≡ min (length args) n → new ≡ start ++ pair_locals t n args
 filled_done t n i rest args out new start kept pushed is left all =
     let past : (n ≤ i) ⊎ (length args ≤ i) = elim (cases_lt (length args) n) [
       | inl few ↦ inr (omega (arith, few, all))
@@ -80,7 +80,7 @@ locals_none at [] args out h = sym (append-nil out)
 locals_none at (t ∷ []) args out h = sym (append-nil out)
 locals_none at (t ∷ n ∷ pairs) args out h = absurd (grind (arith, common_steps))
 
-pub locals_pushed : (at : ℕ) (pairs args out : List ℕ) → 2 ≤ length pairs → ((out ++ replicate (gap (get_or pairs 0 0) at) 0) ++ filled (get_or pairs 0 0) (get_or pairs 1 0) args) ++ locals (at + gap (get_or pairs 0 0) at + get_or pairs 0 0 * get_or pairs 1 0) (drop 2 pairs) (drop (get_or pairs 1 0) args) ≡ out ++ locals at pairs args
+pub locals_pushed : (at : ℕ) (pairs args out : List ℕ) → 2 ≤ length pairs → ((out ++ replicate (gap (get_or pairs 0 0) at) 0) ++ pair_locals (get_or pairs 0 0) (get_or pairs 1 0) args) ++ locals (at + gap (get_or pairs 0 0) at + get_or pairs 0 0 * get_or pairs 1 0) (drop 2 pairs) (drop (get_or pairs 1 0) args) ≡ out ++ locals at pairs args
 unfolding locals
 locals_pushed at [] args out h = absurd (grind (arith, common_steps))
 locals_pushed at (x ∷ []) args out h = absurd (grind (arith, common_steps))

@@ -2,7 +2,7 @@
 use Rattle.std.proofs.Common.{◌≡◌, ◌+◌, ◌*◌, ℕ, List, [], ◌∷◌, ◌++◌, refl, ◌∙◌, inr, arith, append_assoc, get_or}
 use Rattle.std.proofs.lemmas.List.{append-nil}
 use Rattle.gx_words.specs.Numbers.{IsWidth, bytes_of_word}
-use Rattle.gx_stack.specs.Formats.{gap, padded, filled, locals, locals_len, frame_len, frame}
+use Rattle.gx_stack.specs.Formats.{gap, padded, pair_locals, locals, locals_len, frame_len, frame}
 use Rattle.gx_stack.specs.Held.{IsOfWords}
 use Rattle.gx_stack.proofs.Pieces.{length-filled}
 
@@ -18,10 +18,10 @@ len_of n x e =
     let body : 0 + 4 * n + 0 ≡ 4 * n = omega arith in
     rw (body, no_gap n) (omega arith)
 
-padded_words : (n : ℕ) (args : List ℕ) → padded (filled 4 n args ++ []) ≡ filled 4 n args
-padded_words n args = rw (append-nil (filled 4 n args), length-filled 4 n args four, no_gap n) (append-nil (filled 4 n args))
+padded_words : (n : ℕ) (args : List ℕ) → padded (pair_locals 4 n args ++ []) ≡ pair_locals 4 n args
+padded_words n args = rw (append-nil (pair_locals 4 n args), length-filled 4 n args four, no_gap n) (append-nil (pair_locals 4 n args))
 
-frame_of : (n x e : ℕ) (args : List ℕ) → frame (4 ∷ n ∷ x ∷ e ∷ []) args ≡ bytes_of_word (12 + 4 * n) ++ bytes_of_word 12 ++ (4 ∷ n ∷ 0 ∷ 0 ∷ []) ++ filled 4 n args
+frame_of : (n x e : ℕ) (args : List ℕ) → frame (4 ∷ n ∷ x ∷ e ∷ []) args ≡ bytes_of_word (12 + 4 * n) ++ bytes_of_word 12 ++ (4 ∷ n ∷ 0 ∷ 0 ∷ []) ++ pair_locals 4 n args
 unfolding frame locals
 frame_of n x e args = rw (len_of n x e, padded_words n args) refl
 
@@ -36,7 +36,7 @@ words_len (a ∷ b ∷ c ∷ []) h = absurd (let pairs = h.pairs in omega arith)
 words_len (a ∷ b ∷ c ∷ d ∷ []) h = let words : a ≡ 4 = h.words in rw words (len_of b c d)
 words_len (a ∷ b ∷ c ∷ d ∷ e ∷ format) h = absurd (let pairs = h.pairs in omega arith)
 
-pub words_pushed : (out format args : List ℕ) (len : ℕ) → IsOfWords format → len ≡ frame_len format → (((out ++ bytes_of_word len) ++ bytes_of_word 12) ++ (4 ∷ get_or format 1 0 ∷ 0 ∷ 0 ∷ [])) ++ filled 4 (get_or format 1 0) args ≡ out ++ frame format args
+pub words_pushed : (out format args : List ℕ) (len : ℕ) → IsOfWords format → len ≡ frame_len format → (((out ++ bytes_of_word len) ++ bytes_of_word 12) ++ (4 ∷ get_or format 1 0 ∷ 0 ∷ 0 ∷ [])) ++ pair_locals 4 (get_or format 1 0) args ≡ out ++ frame format args
 words_pushed out [] args len h whole = absurd (let pairs = h.pairs in omega arith)
 words_pushed out (a ∷ []) args len h whole = absurd (let pairs = h.pairs in omega arith)
 words_pushed out (a ∷ b ∷ []) args len h whole = absurd (let pairs = h.pairs in omega arith)
@@ -44,7 +44,7 @@ words_pushed out (a ∷ b ∷ c ∷ []) args len h whole = absurd (let pairs = h
 words_pushed out (a ∷ b ∷ c ∷ d ∷ []) args len h whole =
     let words : a ≡ 4 = h.words in
     let long : len ≡ 12 + 4 * b = whole ∙ rw words (len_of b c d) in
-    rw (long, words, frame_of b c d args) (around out (bytes_of_word (12 + 4 * b)) (bytes_of_word 12) (4 ∷ b ∷ 0 ∷ 0 ∷ []) (filled 4 b args))
+    rw (long, words, frame_of b c d args) (around out (bytes_of_word (12 + 4 * b)) (bytes_of_word 12) (4 ∷ b ∷ 0 ∷ 0 ∷ []) (pair_locals 4 b args))
 words_pushed out (a ∷ b ∷ c ∷ d ∷ e ∷ format) args len h whole = absurd (let pairs = h.pairs in omega arith)
 
 pub ruleset word_frames = (words_len, words_pushed)

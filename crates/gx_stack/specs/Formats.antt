@@ -22,17 +22,17 @@ abbrev pub padded_len : ℕ → ℕ
 padded_len n = n + gap 4 n
 
 -- so many locals of t bytes: the arguments in order, each cut to its local, then zeros
-unfoldable pub filled : ℕ → ℕ → List ℕ → List ℕ
-filled t zero args = []
-filled t (suc n) [] = bytes_of_number t 0 ++ filled t n []
-filled t (suc n) (a ∷ args) = bytes_of_number t a ++ filled t n args
+unfoldable pub pair_locals : ℕ → ℕ → List ℕ → List ℕ
+pair_locals t zero args = []
+pair_locals t (suc n) [] = bytes_of_number t 0 ++ pair_locals t n []
+pair_locals t (suc n) (a ∷ args) = bytes_of_number t a ++ pair_locals t n args
 
 -- the locals of pairs from an offset on, each pair's at the least multiple of its type
 unfoldable pub locals : ℕ → List ℕ → List ℕ → List ℕ
 locals at [] args = []
 locals at (t ∷ []) args = []
 locals at (t ∷ n ∷ pairs) args =
-    replicate (gap t at) 0 ++ filled t n args ++ locals (at + gap t at + t * n) pairs (drop n args)
+    replicate (gap t at) 0 ++ pair_locals t n args ++ locals (at + gap t at + t * n) pairs (drop n args)
 
 -- how many bytes they are
 unfoldable pub locals_len : ℕ → List ℕ → ℕ

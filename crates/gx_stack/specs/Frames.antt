@@ -36,10 +36,6 @@ unfoldable pub topmost_first : List ℕ → List ℕ
 topmost_first [] = []
 topmost_first (v ∷ values) = topmost_first values ++ bytes_of_word v
 
--- the arguments of a call on the stack, the first topmost, and their count on top (type C0)
-abbrev pub with_args : List ℕ → List ℕ → List ℕ
-with_args s args = s ++ topmost_first args ++ bytes_of_word (length args)
-
 -- WHAT CONTRACTS SAY
 
 -- a good frame, with its parts

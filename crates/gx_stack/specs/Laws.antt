@@ -17,10 +17,10 @@ local_places at (t ∷ []) = []
 local_places at (t ∷ n ∷ pairs) = group (at + gap t at) t n ++ local_places (at + gap t at + t * n) pairs
 
 -- what locals hold of arguments: each its own, cut to its size, and 0 where there is none left
-unfoldable pub held : List (ℕ × ℕ) → List ℕ → List ℕ
-held [] args = []
-held (local ∷ places) [] = 0 ∷ held places []
-held (local ∷ places) (a ∷ args) = a % 256 ^ local.1 ∷ held places args
+unfoldable pub local_values : List (ℕ × ℕ) → List ℕ → List ℕ
+local_values [] args = []
+local_values (local ∷ places) [] = 0 ∷ local_values places []
+local_values (local ∷ places) (a ∷ args) = a % 256 ^ local.1 ∷ local_values places args
 
 -- the numbers that stand at these offsets behind a place
 abbrev pub numbers_at : List ℕ → ℕ → List (ℕ × ℕ) → List ℕ

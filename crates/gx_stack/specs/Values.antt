@@ -34,14 +34,14 @@ abbrev pub turned_top : List ℕ → ℕ → ℕ → List ℕ
 turned_top s n up = take (length s - 4 * n) s ++ turned (drop (length s - 4 * n) s) (4 * up)
 
 -- how many places up the top n go where they go so many up, or down where it is negative
-abbrev pub places : ℕ → ℤ → ℕ
-places n by = unsigned_abs (int_rem_euclid by (pos n))
+abbrev pub places_up : ℕ → ℤ → ℕ
+places_up n by = unsigned_abs (int_rem_euclid by (pos n))
 
 unfoldable pub rolled : FlatStack → Frame → ℕ → ℤ → Result FlatStack StackFault
 rolled s f n by =
     if nat_lt (count s.bytes f) n then Err Underflow else
     if n == 0 then Ok s else
-    Ok (record s { bytes = turned_top s.bytes n (places n by) })
+    Ok (record s { bytes = turned_top s.bytes n (places_up n by) })
 
 unfoldable pub swapped : FlatStack → Frame → Result FlatStack StackFault
 swapped s f = if nat_lt (count s.bytes f) 2 then Err Underflow else Ok (record s { bytes = turned_top s.bytes 2 1 })

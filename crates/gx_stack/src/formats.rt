@@ -2,10 +2,11 @@
 //!
 //! Each group of locals begins at the least multiple of its size at or after the end of the group
 //! before, a group of no locals too. The frame is pushed onto a Vec that has the room for it.
-ghost use Rattle.std.specs.Prelude.{◌≡◌, ◌+◌, ◌*◌, ◌%◌, ◌≤◌, ◌<◌, ◌^◌, ◌++◌, [], ◌∷◌, length, drop, replicate, vec_len};
+ghost use Rattle.std.specs.Prelude.{◌≡◌, ◌+◌, ◌*◌, ◌%◌, ◌≤◌, ◌<◌, ◌^◌, ◌++◌, [], ◌∷◌, length, drop, vec_len};
 ghost use Rattle.std.specs.Prelude.{vec_capacity, IsTrue};
 ghost use Rattle.gx_words.specs.Numbers.{IsWidth, bytes_of_word};
-ghost use Rattle.gx_stack.specs.Formats.{pairs_of, gap, filled, locals, locals_len, locals_pos, padded, padded_len};
+ghost use Rattle.gx_stack.specs.Formats.{gap, pair_locals, locals, locals_len, locals_pos, padded};
+ghost use Rattle.gx_stack.specs.Formats.{padded_len};
 ghost use Rattle.gx_stack.specs.Formats.{frame_len, frame};
 ghost use Rattle.gx_stack.specs.Held.{ArePairs, IsFormat, IsOfWords};
 
@@ -44,7 +45,7 @@ fn behind<T>(items: &[T], n: usize) -> &[T]
 fn push_filled(out: &mut Vec<u8>, width: u32, count: u8, args: &[u32])
     requires width { IsWidth width }
     requires room { vec_len out.old + width * count ≤ vec_capacity out.old }
-    ensures items { out.new.items ≡ out.old.items ++ filled width count args.now }
+    ensures items { out.new.items ≡ out.old.items ++ pair_locals width count args.now }
     ensures len { vec_len out.new ≡ vec_len out.old + width * count }
     ensures room { vec_capacity out.old ≤ vec_capacity out.new }
 {

@@ -1,11 +1,12 @@
 //! Call frames on the stack (Glulx 3.1.2, "Call Frames"): finding, entering and leaving them.
 ghost use Rattle.std.specs.Prelude.{◌≡◌, ◌+◌, ◌*◌, ◌%◌, ◌≤◌, ◌++◌, [], length, take, IfOk, OnOk};
 ghost use Rattle.gx_words.specs.Constants.{stack_limit};
+ghost use Rattle.gx_words.specs.Numbers.{bytes_of_word};
 ghost use Rattle.gx_words.specs.Results.{Alters};
 ghost use Rattle.gx_stack.specs.Formats.{pairs_of, locals_pos, frame_len, frame};
 ghost use Rattle.gx_stack.specs.Held.{IsFormat};
-ghost use Rattle.gx_stack.specs.Laws.{local_places, held, numbers_at};
-ghost use Rattle.gx_stack.specs.Frames.{IsGood, has_local, parts, frame_in, with_args, IsFrame, KeepsFrames};
+ghost use Rattle.gx_stack.specs.Laws.{local_places, local_values, numbers_at};
+ghost use Rattle.gx_stack.specs.Frames.{IsGood, has_local, parts, frame_in, topmost_first, IsFrame, KeepsFrames};
 ghost use Rattle.gx_stack.specs.Calls.{with_frame};
 
 use crate::formats::{frame_len, push_frame};
@@ -119,7 +120,7 @@ impl Stack {
 
     /// Pushes the frame of a function of type C1: the arguments stand in its locals in order, each
     /// cut to the local's size. Arguments without a local are dropped, locals without one are zero.
-    #[tactic(auto, unfolding(crate::specs::Calls::with_frame), using(crate::proofs::Kept::entered_frames, crate::proofs::Locals::locals_read))]
+    #[tactic(auto, unfolding(crate::specs::Calls::with_frame), using(crate::proofs::Opened::entering))]
     #[inline(always)]
     pub fn enter_with(&mut self, format: &[u8], args: &[u32]) -> Result<Frame, StackFault>
         requires { IsFormat format.now }
@@ -130,7 +131,7 @@ impl Stack {
         ensures size { OnOk result (length self.new.bytes ≡ length self.old.bytes + frame_len format.now) }
         ensures locals { OnOk result (let places = local_places 0 (pairs_of format.now) in
             let at = length self.old.bytes + locals_pos format.now in
-            numbers_at self.new.bytes at places ≡ held places args.now) }
+            numbers_at self.new.bytes at places ≡ local_values places args.now) }
         ensures place { IfOk result (λ frame. frame.locals ≡ length self.old.bytes + locals_pos format.now) }
     {
         let fp = self.size();
@@ -162,7 +163,9 @@ impl Stack {
     #[inline(always)]
     pub fn push_args(&mut self, args: &[u32])
         requires room { length self.old.bytes + 4 * (length args.now + 1) ≤ self.old.limit }
-        ensures value { self.new ≡ record self.old { bytes = with_args self.old.bytes args.now } }
+        ensures value { self.new ≡ record self.old {
+          bytes = self.old.bytes ++ topmost_first args.now ++ bytes_of_word (length args.now);
+        } }
         ensures keeps { KeepsFrames self.old.bytes self.new.bytes }
         ensures size { length self.new.bytes ≡ length self.old.bytes + 4 * (length args.now + 1) }
     {

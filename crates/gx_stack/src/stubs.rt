@@ -1,8 +1,8 @@
 //! Call stubs on the stack (Glulx 3.1.2, "Call Stubs").
-ghost use Rattle.std.specs.Prelude.{◌≡◌, ◌+◌, ◌*◌, ◌%◌, ◌≤◌, ◌++◌, length, take, OnOk, IfOk};
+ghost use Rattle.std.specs.Prelude.{◌≡◌, ◌+◌, ◌*◌, ◌%◌, ◌≤◌, length, take, OnOk, IfOk};
 ghost use Rattle.gx_words.specs.Results.{Alters, Turns};
 ghost use Rattle.gx_stack.specs.Frames.{KeepsFrames};
-ghost use Rattle.gx_stack.specs.Stubs.{stub_bytes, stubs_bytes, pushed_stubs, stub_below};
+ghost use Rattle.gx_stack.specs.Stubs.{stub_bytes, pushed_stubs, stub_below};
 ghost use Rattle.gx_stack.specs.Calls.{pushed_stub, top_stub, popped_stub};
 
 use crate::room::push_bytes;
@@ -55,7 +55,7 @@ impl Stub {
 
 impl Stack {
     /// Pushes a stub.
-    #[tactic(auto, unfolding(crate::specs::Calls::pushed_stub), using(crate::proofs::Kept::frame_after_push, crate::proofs::Pieces::stub_on_top))]
+    #[tactic(auto, unfolding(crate::specs::Calls::pushed_stub), using(crate::proofs::Opened::pushing_stub))]
     pub fn push_stub(&mut self, stub: &Stub) -> Result<(), StackFault>
         ensures value { Alters result self.old self.new (pushed_stub self.old stub.now) }
         ensures keeps { KeepsFrames self.old.bytes self.new.bytes }
@@ -70,7 +70,7 @@ impl Stack {
     }
 
     /// Pushes stubs, the first deepest, where all of them fit.
-    #[tactic(auto, unfolding(crate::specs::Stubs::pushed_stubs), using(crate::proofs::Turns::stub_turns, crate::proofs::Kept::frame_after_push))]
+    #[tactic(auto, unfolding(crate::specs::Stubs::pushed_stubs), using(crate::proofs::Opened::pushing_stubs))]
     #[inline(always)]
     pub fn push_stubs(&mut self, stubs: &[Stub]) -> Result<(), StackFault>
         ensures value { Alters result self.old self.new (pushed_stubs self.old stubs.now) }
@@ -103,7 +103,7 @@ impl Stack {
     }
 
     /// Takes the stub off the top.
-    #[tactic(auto, unfolding(crate::specs::Calls::popped_stub, crate::specs::Calls::top_stub), using(crate::proofs::Kept::cuts))]
+    #[tactic(auto, unfolding(crate::proofs::Opened::popping_stub), using(crate::proofs::Kept::cuts))]
     pub fn pop_stub(&mut self) -> Result<Stub, StackFault>
         ensures value { Turns (λ stub. stub) result self.old self.new (popped_stub self.old) }
         ensures size { OnOk result (length self.new.bytes + 16 ≡ length self.old.bytes) }

@@ -8,7 +8,7 @@ ghost use Rattle.gx_words.specs.Constants.{stack_limit};
 ghost use Rattle.gx_words.specs.Numbers.{IsWidth};
 ghost use Rattle.gx_words.specs.Results.{Alters};
 ghost use Rattle.gx_stack.specs.Frames.{IsFrame, KeepsFrames};
-ghost use Rattle.gx_stack.specs.Values.{count, peeked, places, rolled, swapped, copied, local_at};
+ghost use Rattle.gx_stack.specs.Values.{count, peeked, places_up, rolled, swapped, copied, local_at};
 ghost use Rattle.gx_stack.specs.Calls.{pushed, pushed_all, dropped, with_local};
 ghost use Rattle.gx_stack.specs.Laws.{values_of, last, but_last, rolled_values};
 
@@ -20,7 +20,7 @@ use gx_words::{number_at, word_at};
 fn places(n: u32, by: i32) -> u32
     requires some { 0 < n }
     requires few { n ≤ stack_limit }
-    ensures value { result ≡ places n by }
+    ensures value { result ≡ places_up n by }
     ensures fits { result < n }
 {
     by.rem_euclid(n as i32) as u32
@@ -28,7 +28,7 @@ fn places(n: u32, by: i32) -> u32
 
 impl Stack {
     /// Pushes a value.
-    #[tactic(auto, unfolding(crate::specs::Calls::pushed), using(crate::proofs::Kept::frame_after_push, crate::proofs::Lists::values_pushed))]
+    #[tactic(auto, unfolding(crate::specs::Calls::pushed), using(crate::proofs::Opened::pushing))]
     #[inline(always)]
     pub fn push(&mut self, v: u32) -> Result<(), StackFault>
         ensures value { Alters result self.old self.new (pushed self.old v) }
@@ -45,7 +45,7 @@ impl Stack {
     }
 
     /// Pushes values, the first deepest, where all of them fit.
-    #[tactic(auto, unfolding(crate::specs::Calls::pushed_all), using(crate::proofs::Turns::value_turns, crate::proofs::Kept::frame_after_push))]
+    #[tactic(auto, unfolding(crate::specs::Calls::pushed_all), using(crate::proofs::Opened::pushing_all))]
     pub fn push_all(&mut self, values: &[u32]) -> Result<(), StackFault>
         ensures value { Alters result self.old self.new (pushed_all self.old values.now) }
         ensures keeps { KeepsFrames self.old.bytes self.new.bytes }
@@ -88,7 +88,7 @@ impl Stack {
     }
 
     /// Drops the top n values.
-    #[tactic(auto, unfolding(crate::specs::Calls::dropped), using(crate::proofs::Kept::frame_after_cut, crate::proofs::Lists::values_dropped))]
+    #[tactic(auto, unfolding(crate::specs::Calls::dropped), using(crate::proofs::Opened::dropping))]
     pub fn drop_top(&mut self, frame: &Frame, n: u32) -> Result<(), StackFault>
         requires { IsFrame self.old.bytes frame.now }
         ensures value { Alters result self.old self.new (dropped self.old frame.now n) }
@@ -106,14 +106,14 @@ impl Stack {
     }
 
     /// Moves the top n values up by so many places, cyclically, or down where `by` is negative.
-    #[tactic(auto, unfolding(crate::specs::Values::rolled), using(crate::proofs::Lists::values_rolled_at, crate::proofs::Kept::frame_after_turn))]
+    #[tactic(auto, unfolding(crate::specs::Values::rolled), using(crate::proofs::Opened::turning))]
     pub fn roll(&mut self, frame: &Frame, n: u32, by: i32) -> Result<(), StackFault>
         requires { IsFrame self.old.bytes frame.now }
         ensures value { Alters result self.old self.new (rolled self.old frame.now n by) }
         ensures keeps { IsFrame self.new.bytes frame.now }
         ensures size { length self.new.bytes ≡ length self.old.bytes }
-        ensures values { 0 < n → OnOk result
-            (values_of self.new.bytes frame.now ≡ rolled_values n (places n by) (values_of self.old.bytes frame.now)) }
+        ensures values { 0 < n → OnOk result (values_of self.new.bytes frame.now
+            ≡ rolled_values n (places_up n by) (values_of self.old.bytes frame.now)) }
     {
         if n > self.count(frame) {
             return Err(StackFault::Underflow);
@@ -128,7 +128,7 @@ impl Stack {
     }
 
     /// Exchanges the top two values.
-    #[tactic(auto, unfolding(crate::specs::Values::swapped), using(crate::proofs::Lists::values_rolled_at, crate::proofs::Kept::frame_after_turn))]
+    #[tactic(auto, unfolding(crate::specs::Values::swapped), using(crate::proofs::Opened::turning))]
     pub fn swap(&mut self, frame: &Frame) -> Result<(), StackFault>
         requires { IsFrame self.old.bytes frame.now }
         ensures value { Alters result self.old self.new (swapped self.old frame.now) }
@@ -146,7 +146,7 @@ impl Stack {
     }
 
     /// Pushes the top n values again.
-    #[tactic(auto, unfolding(crate::specs::Values::copied), using(crate::proofs::Lists::values_copied_at, crate::proofs::Kept::frame_after_push))]
+    #[tactic(auto, unfolding(crate::specs::Values::copied), using(crate::proofs::Opened::copying))]
     pub fn copy_top(&mut self, frame: &Frame, n: u32) -> Result<(), StackFault>
         requires { IsFrame self.old.bytes frame.now }
         ensures value { Alters result self.old self.new (copied self.old frame.now n) }

@@ -22,7 +22,7 @@ use Rattle.gx_state.specs.Sound.{IsSound, IsHeapWithin}
 use Rattle.gx_state.specs.Stores.{stored, store_fault}
 use Rattle.gx_state.specs.Returns.{stub_of, dest_of, stub_to, back, delivered, returned}
 use Rattle.gx_state.specs.Calls.{wrote}
-use Rattle.gx_state.specs.Copies.{Copy, IsCopyFor, copy_of, stub_in, below_stub, laid, restored_to}
+use Rattle.gx_state.specs.Copies.{Copy, IsCopyFor, copy_of, stub_in, below_stub, laid_over, restored_to}
 use Rattle.gx_state.specs.Allowed.{HasPlaceFor}
 use Rattle.gx_state.proofs.Bytes.{first_length}
 use Rattle.gx_state.proofs.Kept.{rom_written, framed_good}
@@ -54,11 +54,11 @@ stub_there story c fit =
 none_empty : (story : FlatStory) (c : Copy) → IsCopyFor story c → (length c.stack == 0) ≡ false
 none_empty story c fit = grind (arith, nat_tests, fit.stub)
 
-returned_back : (f h : FlatState) (c : Copy) → IsCopyFor f.story c → delivered (back (laid f c) (length c.stack) (stub_in c)) (stub_in c) 0xFFFFFFFF ≡ Ok h → returned (laid f c) (length c.stack) 0xFFFFFFFF ≡ Ok (h, false)
+returned_back : (f h : FlatState) (c : Copy) → IsCopyFor f.story c → delivered (back (laid_over f c) (length c.stack) (stub_in c)) (stub_in c) 0xFFFFFFFF ≡ Ok h → returned (laid_over f c) (length c.stack) 0xFFFFFFFF ≡ Ok (h, false)
 unfolding returned
 returned_back f h c fit is = rw (none_empty f.story c fit, stub_there f.story c fit, is) refl
 
-pub delivered_back : (f h : FlatState) (c : Copy) → IsCopyFor f.story c → delivered (back (laid f c) (length c.stack) (stub_in c)) (stub_in c) 0xFFFFFFFF ≡ Ok h → restored_to f c ≡ h
+pub delivered_back : (f h : FlatState) (c : Copy) → IsCopyFor f.story c → delivered (back (laid_over f c) (length c.stack) (stub_in c)) (stub_in c) 0xFFFFFFFF ≡ Ok h → restored_to f c ≡ h
 unfolding restored_to
 delivered_back f h c fit is = ap (λ (r : Result (FlatState × Bool) Fault). let g : FlatState = elim r [ Ok x ↦ x.0 | Err fault ↦ f ] in g) (returned_back f h c fit is)
 
@@ -87,7 +87,7 @@ abbrev pub answered : FlatState → Copy → Stub → List ℕ
 answered f c p = wrote (put_back_of f.memory c.memory f.protected.0 f.protected.1) (if p.kind == 1 then Some (p.addr, 0xFFFFFFFF) else None)
 
 kept_one : (f : FlatState) (c : Copy) → IsCopyFor f.story c → (stub_in c).kind ≡ 1
-    → delivered (back (laid f c) (length c.stack) (stub_in c)) (stub_in c) 0xFFFFFFFF ≡ Ok (placed f c (stub_in c) (spliced (put_back_of f.memory c.memory f.protected.0 f.protected.1) (stub_in c).addr (bytes_of_word 0xFFFFFFFF)))
+    → delivered (back (laid_over f c) (length c.stack) (stub_in c)) (stub_in c) 0xFFFFFFFF ≡ Ok (placed f c (stub_in c) (spliced (put_back_of f.memory c.memory f.protected.0 f.protected.1) (stub_in c).addr (bytes_of_word 0xFFFFFFFF)))
 unfolding delivered dest_of
 kept_one f c fit one =
     let place = fit.word one in
@@ -102,7 +102,7 @@ by_kind f g h c true is fit there other memory =
     sym (delivered_back f h c fit (kept_one f c fit one ∙ ap Ok (sym (memory one ∙ there))))
 by_kind f g h c false is fit there other memory =
     let no : (stub_in c).kind ≢ 1 = grind (arith, nat_tests, is) in
-    sym (delivered_back f h c fit (sym (same_pc (back (laid f c) (length c.stack) (stub_in c)) (stub_in c) 0xFFFFFFFF fit.kind) ∙ ap (λ (x : FlatState). delivered x (stub_in c) 0xFFFFFFFF) (sym there) ∙ other no))
+    sym (delivered_back f h c fit (sym (same_pc (back (laid_over f c) (length c.stack) (stub_in c)) (stub_in c) 0xFFFFFFFF fit.kind) ∙ ap (λ (x : FlatState). delivered x (stub_in c) 0xFFFFFFFF) (sym there) ∙ other no))
 
 pub went_back : (f g h : FlatState) (c : Copy) (p : Stub) (m : List ℕ) → IsCopyFor f.story c → p ≡ stub_in c → m ≡ answered f c p → g ≡ placed f c p m
     → (p.kind ≢ 1 → delivered g p 0xFFFFFFFF ≡ Ok h) → (p.kind ≡ 1 → h ≡ g) → h ≡ restored_to f c

@@ -14,7 +14,7 @@ use Rattle.gx_stack.specs.declared.faults.StackFault.TheVariants.{Underflow}
 use Rattle.gx_stack.specs.Flat.{FlatStack}
 use Rattle.gx_stack.specs.Frames.{IsGood, parts, IsFrame, KeepsFrames}
 use Rattle.gx_stack.specs.Calls.{top_stub}
-use Rattle.gx_stack.specs.Values.{count, places, rolled, turned_top}
+use Rattle.gx_stack.specs.Values.{count, places_up, rolled, turned_top}
 use Rattle.gx_stack.proofs.Kept.{frame_after_cut, word-take}
 use Rattle.heap_blocks.specs.Heap.{FlatHeap}
 use Rattle.gx_state.specs.Replies.{AreBetween}
@@ -128,9 +128,11 @@ rom_both m rom n at later v w same first second =
 
 pub ruleset words = (size_word, rom_both, rom_written, heap_again)
 
+pub ruleset local_words = (words, below)
+
 -- a roll leaves the limit
 by_tests : (s t : FlatStack) (f : Frame) (n : ℕ) (by : ℤ) (few none : Bool)
-    → (let r : Result FlatStack StackFault = if few then Err Underflow else if none then Ok s else Ok (record s { bytes = turned_top s.bytes n (places n by) }) in r ≡ Ok t) → t.limit ≡ s.limit
+    → (let r : Result FlatStack StackFault = if few then Err Underflow else if none then Ok s else Ok (record s { bytes = turned_top s.bytes n (places_up n by) }) in r ≡ Ok t) → t.limit ≡ s.limit
 by_tests s t f n by true none is = cc
 by_tests s t f n by false true is = cc
 by_tests s t f n by false false is = cc
@@ -142,3 +144,5 @@ roll_kept s t f n by is = by_tests s t f n by (nat_lt (count s.bytes f) n) (n ==
 pub roll_limit : (s t : FlatStack) (f : Frame) (n : ℕ) (by : ℤ) (r : Result (Unit {0}) StackFault) → Alters r s t (rolled s f n by) → t.limit ≡ s.limit
 roll_limit s t f n by (Ok x) is = roll_kept s t f n by is
 roll_limit s t f n by (Err fault) is = ap (λ (u : FlatStack). u.limit) is.0
+
+pub ruleset rolling = (framed, roll_limit)

@@ -4,3 +4,4 @@ pub mod Kept
 pub mod Pairs
 pub mod Space
 pub mod FlatCopies
+pub mod Opened

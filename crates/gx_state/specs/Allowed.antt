@@ -2,7 +2,7 @@
 use Rattle.std.specs.Prelude.{◌≡◌, ℕ, ◌+◌, ◌%◌, ◌<◌, ◌≤◌, length, IsTrue, Option, IfSome}
 use Rattle.gx_state.specs.Flat.{FlatState, frame_of}
 use Rattle.gx_pages.specs.Memory.{IsSize, IsInside}
-use Rattle.heap_blocks.specs.Heap.{IsBelow, first_address}
+use Rattle.heap_blocks.specs.Heap.{IsHeapBelow, first_address}
 use Rattle.heap_blocks.specs.Relations.{IsFree}
 use Rattle.gx_stack.specs.Frames.{has_local}
 use Rattle.gx_state.specs.declared.modes.Dest.{Dest}
@@ -22,7 +22,7 @@ pub record IsShrinking (f : FlatState) (size : ℕ) : Type 0 where
   pub whole : IsSize size
   pub below : size ≤ length f.memory
   pub endmem : f.story.header.endmem ≤ size
-  pub heap : IsBelow size f.heap
+  pub heap : IsHeapBelow size f.heap
 
 -- A block may be entered: it has a byte, is free and lies in memory, at or after the heap's start or, where
 -- the heap is inactive, the end of memory at which it begins.

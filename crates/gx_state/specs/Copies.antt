@@ -40,8 +40,8 @@ below_stub c = take (length c.stack - 16) c.stack
 -- A copy laid over the state: its stack, its heap, and its memory but for the protected range. The decoding
 -- table, the iosystem, the generator and the protected range stay, which the standard leaves open of the
 -- generator.
-abbrev pub laid : FlatState → Copy → FlatState
-laid f c = record f {
+abbrev pub laid_over : FlatState → Copy → FlatState
+laid_over f c = record f {
   memory = put_back_of f.memory c.memory f.protected.0 f.protected.1;
   stack = record f.stack { bytes = c.stack };
   heap = c.heap;
@@ -52,7 +52,7 @@ laid f c = record f {
 -- story has no fault in this.
 unfoldable pub restored_to : FlatState → Copy → FlatState
 restored_to f c =
-    elim (returned (laid f c) (length c.stack) 0xFFFFFFFF) [
+    elim (returned (laid_over f c) (length c.stack) 0xFFFFFFFF) [
       | Ok r ↦ r.0
       | Err fault ↦ f
     ]
@@ -76,8 +76,8 @@ pub record IsCopyFor (story : FlatStory) (c : Copy) : Type 0 where
 
 -- the state before a restart enters the start function: that of a story which starts, but for the bytes of the
 -- protected range, the range itself and the generator
-abbrev pub cleared : FlatState → FlatState
-cleared f = record (initial f.story) {
+abbrev pub reset : FlatState → FlatState
+reset f = record (initial f.story) {
   memory = put_back_of f.memory (initial f.story).memory f.protected.0 f.protected.1;
   protected = f.protected;
   generator = f.generator;
@@ -85,4 +85,4 @@ cleared f = record (initial f.story) {
 
 -- A restart: the start function is entered without arguments.
 unfoldable pub restarted : FlatState → Result FlatState Fault
-restarted f = entered (cleared f) 0 [] f.story.header.start_function []
+restarted f = entered (reset f) 0 [] f.story.header.start_function []

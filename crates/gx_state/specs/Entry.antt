@@ -7,11 +7,12 @@ use Rattle.std.specs.Prelude.{length, take, replicate, Result, Ok, Err}
 use Rattle.gx_words.specs.declared.faults.Fault.{Fault}
 use Rattle.gx_words.specs.declared.faults.Fault.TheVariants.{BadFunction, Overflow}
 use Rattle.gx_words.specs.Constants.{stack_function, locals_function}
+use Rattle.gx_words.specs.Numbers.{bytes_of_word}
 use Rattle.gx_words.specs.Results.{◌>>=◌}
 use Rattle.gx_pages.specs.Memory.{number_in}
 use Rattle.gx_stack.specs.declared.stubs.Stub.{Stub}
 use Rattle.gx_stack.specs.Formats.{frame, frame_len}
-use Rattle.gx_stack.specs.Frames.{with_args}
+use Rattle.gx_stack.specs.Frames.{topmost_first}
 use Rattle.gx_stack.specs.Stubs.{stubs_bytes}
 use Rattle.heap_blocks.specs.Heap.{inactive}
 use Rattle.ops_calc.specs.declared.random.Generator.TheVariants.{Outside}
@@ -56,10 +57,12 @@ format_at memory at = format_from memory at 64
 -- what an entry pushes: a function of type C0 has its arguments on the stack and their count on top,
 -- one of type C1 has them in its locals
 abbrev pub entry_bytes : ℕ → List ℕ → List ℕ → List ℕ
-entry_bytes kind format args = if kind == stack_function then with_args (frame format []) args else frame format args
+entry_bytes kind format args =
+    if kind == stack_function then frame format [] ++ topmost_first args ++ bytes_of_word (length args)
+    else frame format args
 
-abbrev pub entry_len : ℕ → List ℕ → ℕ → ℕ
-entry_len kind format count = if kind == stack_function then frame_len format + 4 * (count + 1) else frame_len format
+abbrev pub entry_size : ℕ → List ℕ → ℕ → ℕ
+entry_size kind format count = if kind == stack_function then frame_len format + 4 * (count + 1) else frame_len format
 
 -- What an entry with so many arguments reads of the function at an address: its type and its locals format. Its
 -- frame, at a place on the stack, has to fit below a limit.
@@ -68,7 +71,7 @@ function_at memory at count fp limit = do
   kind ← kind_at memory at
   if nat_lt 255 count then Err BadFunction else (do
     format ← format_at memory (at + 1)
-    if nat_lt limit (fp + entry_len kind format count) then Err Overflow else Ok (kind, format))
+    if nat_lt limit (fp + entry_size kind format count) then Err Overflow else Ok (kind, format))
 
 -- The stack is cut, stubs are pushed, and the function at an address is entered with arguments.
 unfoldable pub entered : FlatState → ℕ → List Stub → ℕ → List ℕ → Result FlatState Fault

@@ -12,7 +12,7 @@ pub record IsHeapWithin (endmem size : ℕ) (heap : FlatHeap) : Type 0 where
   pub blocks : heaps.IsSound heap
   pub begins : 0 < length heap.blocks → endmem ≤ heap.start
   pub whole : heap.start % 256 ≡ 0
-  pub within : heaps.IsBelow size heap
+  pub within : heaps.IsHeapBelow size heap
 
 -- the frame at fp is good, unless the start function has returned
 pub record IsFramed (bytes : List ℕ) (fp : ℕ) : Type 0 where

@@ -1,18 +1,10 @@
--- Ranges of memory, its size, and the blocks of its heap (Glulx 3.1.2, "Block Copy and Clear", "Memory Map" and
--- "Memory Allocation Heap").
-use Rattle.std.specs.Prelude.{ℕ, if◌then◌else◌, take, drop, replicate, Option}
+-- The size of memory, and the blocks of its heap (Glulx 3.1.2, "Memory Map" and "Memory Allocation Heap").
+use Rattle.std.specs.Prelude.{ℕ, if◌then◌else◌, take, Option}
 use Rattle.std.specs.Option.{option_map}
 use Rattle.gx_pages.specs.Memory.{resized}
-use Rattle.heap_blocks.specs.Heap.{FlatHeap, is_inactive, added, freed}
-use Rattle.gx_state.specs.Flat.{FlatState, written}
-
--- zeros written
-abbrev pub zeroed : FlatState → ℕ → ℕ → FlatState
-zeroed f at count = written f at (replicate count 0)
-
--- bytes of memory written to another place, as if through a copy
-abbrev pub copied_range : FlatState → ℕ → ℕ → ℕ → FlatState
-copied_range f from to count = written f to (take count (drop from f.memory))
+use Rattle.heap_blocks.specs.Heap as heaps
+use Rattle.heap_blocks.specs.Heap.{FlatHeap, is_inactive, freed}
+use Rattle.gx_state.specs.Flat.{FlatState}
 
 -- memory of another size: cut, or with zeros at its end
 abbrev pub with_size : FlatState → ℕ → FlatState
@@ -20,7 +12,7 @@ with_size f size = record f { memory = resized f.memory size }
 
 -- malloc: one more block
 abbrev pub with_block : FlatState → ℕ → ℕ → ℕ → FlatState
-with_block f end at size = record f { heap = added f.heap end (at, size) }
+with_block f end at size = record f { heap = heaps.with_block f.heap end (at, size) }
 
 -- mfree: the heap that is left; with the last block memory goes back to the size at which the heap began
 abbrev pub left_with : FlatState → FlatHeap → FlatState

@@ -1,5 +1,5 @@
 //! Writes to memory, and changes of the present frame.
-ghost use Rattle.std.specs.Prelude.{◌≡◌, ◌⊎◌, ◌+◌, ◌*◌, ◌<◌, ◌≤◌, length, OnOk, OnErr};
+ghost use Rattle.std.specs.Prelude.{◌≡◌, ◌⊎◌, ◌+◌, ◌*◌, ◌<◌, length, OnOk, OnErr};
 ghost use Rattle.gx_words.specs.Numbers.{IsWidth};
 ghost use Rattle.gx_words.specs.Faults.{Reads};
 ghost use Rattle.gx_pages.specs.Memory.{HasBytes, all_spliced};
@@ -48,7 +48,9 @@ impl<A: Allocator + Clone> State<A> {
     pub fn write_all(&mut self, writes: &Writes) -> Result<(), AllocError>
         requires { AreInRam self.old.flat writes.now }
         ensures ok { OnOk result (self.new
-            ≡ record self.old { flat = record self.old.flat { memory = all_spliced self.old.flat.memory writes.now } }) }
+            ≡ record self.old {
+              flat = record self.old.flat { memory = all_spliced self.old.flat.memory writes.now };
+            }) }
         ensures err { OnErr result (self.new ≡ self.old) }
         ensures size { length self.new.flat.memory ≡ length self.old.flat.memory }
         ensures memory { OnErr result (HasBytes writes.now) }
@@ -79,7 +81,7 @@ impl<A: Allocator + Clone> State<A> {
     }
 
     /// Pushes values, the first deepest; `Overflow` exactly where they don't all fit.
-    #[tactic(auto, unfolding(crate::specs::Calls::pushed_all, gx_stack::specs::Calls::pushed_all), using(crate::proofs::Kept::framed))]
+    #[tactic(auto, unfolding(crate::proofs::Opened::pushing_all), using(crate::proofs::Kept::framed))]
     pub fn push_all(&mut self, values: &[u32]) -> Result<(), Fault>
         requires { 0 < sp_of self.old.flat }
         ensures value { Acts result self.old self.new (pushed_all self.old.flat values.now) }
@@ -91,7 +93,7 @@ impl<A: Allocator + Clone> State<A> {
     }
 
     /// Pushes a value; `Overflow` exactly where it doesn't fit.
-    #[tactic(auto, unfolding(crate::specs::Calls::pushed, gx_stack::specs::Calls::pushed), using(crate::proofs::Kept::framed))]
+    #[tactic(auto, unfolding(crate::proofs::Opened::pushing), using(crate::proofs::Kept::framed))]
     #[inline(always)]
     pub fn push(&mut self, v: u32) -> Result<(), Fault>
         requires { 0 < sp_of self.old.flat }
@@ -114,7 +116,7 @@ impl<A: Allocator + Clone> State<A> {
     }
 
     /// Exchanges the top two values; `Underflow` exactly where the frame has fewer.
-    #[tactic(auto, unfolding(crate::specs::Flat::swapped, gx_stack::specs::Values::swapped), using(crate::proofs::Kept::framed))]
+    #[tactic(auto, unfolding(crate::proofs::Opened::swapping), using(crate::proofs::Kept::framed))]
     pub fn swap(&mut self) -> Result<(), Fault>
         requires { 0 < sp_of self.old.flat }
         ensures value { Acts result self.old self.new (swapped self.old.flat) }
@@ -126,7 +128,7 @@ impl<A: Allocator + Clone> State<A> {
 
     /// Moves the top n values up by so many places, cyclically, or down where `by` is negative;
     /// `Underflow` exactly where the frame has fewer.
-    #[tactic(auto, unfolding(crate::specs::Flat::rolled), using(crate::proofs::Kept::framed, crate::proofs::Kept::roll_limit))]
+    #[tactic(auto, unfolding(crate::specs::Flat::rolled), using(crate::proofs::Kept::rolling))]
     pub fn roll(&mut self, n: u32, by: i32) -> Result<(), Fault>
         requires { 0 < sp_of self.old.flat }
         ensures value { Acts result self.old self.new (rolled self.old.flat n by) }
@@ -138,7 +140,7 @@ impl<A: Allocator + Clone> State<A> {
 
     /// Pushes the top n values again; `Underflow` exactly where the frame has fewer, else `Overflow`
     /// exactly where they don't fit.
-    #[tactic(auto, unfolding(crate::specs::Flat::copied, gx_stack::specs::Values::copied), using(crate::proofs::Kept::framed))]
+    #[tactic(auto, unfolding(crate::proofs::Opened::copying), using(crate::proofs::Kept::framed))]
     pub fn copy_top(&mut self, n: u32) -> Result<(), Fault>
         requires { 0 < sp_of self.old.flat }
         ensures value { Acts result self.old self.new (copied self.old.flat n) }
@@ -150,7 +152,7 @@ impl<A: Allocator + Clone> State<A> {
 
     /// Puts the low 1, 2 or 4 bytes of a number into the local at an offset; `BadLocal` exactly where
     /// the frame has no such local.
-    #[tactic(auto, unfolding(crate::specs::Calls::with_local, gx_stack::specs::Calls::with_local), using(crate::proofs::Kept::framed))]
+    #[tactic(auto, unfolding(crate::proofs::Opened::setting_local), using(crate::proofs::Kept::framed))]
     #[inline(always)]
     pub fn set_local(&mut self, at: u32, width: u32, v: u32) -> Result<(), Fault>
         requires live { 0 < sp_of self.old.flat }

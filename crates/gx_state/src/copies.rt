@@ -184,8 +184,10 @@ impl<A: Allocator + Clone> State<A> {
         requires fit { IsCopyFor self.now.flat.story (C.copy copy.now) }
         requires stub { stub.now ≡ stub_in (C.copy copy.now) }
         ensures value { IfOk result (λ all. all
-            ≡ wrote (put_back_of self.now.flat.memory (C.copy copy.now).memory self.now.flat.protected.0
-            self.now.flat.protected.1) (if stub.now.kind == to_memory then Some (stub.now.addr, 0xFFFFFFFF) else None)) }
+            ≡ wrote
+            (put_back_of self.now.flat.memory (C.copy copy.now).memory
+            self.now.flat.protected.0 self.now.flat.protected.1)
+            (if stub.now.kind == to_memory then Some (stub.now.addr, 0xFFFFFFFF) else None)) }
         ensures size { IfOk result (λ all. length all ≡ length (C.copy copy.now).memory) }
         ensures rom { IfOk result (λ all. take self.now.flat.story.header.ramstart all
             ≡ take self.now.flat.story.header.ramstart self.now.flat.story.bytes) }
@@ -222,7 +224,7 @@ impl<A: Allocator + Clone> State<A> {
     }
 
     /// Stores -1 in the local or on the stack, where the stub says so.
-    #[tactic(auto, unfolding(crate::specs::Returns::delivered, crate::specs::Returns::dest_of, crate::specs::Stores::stored, crate::specs::Stores::store_fault, crate::specs::Calls::with_local, crate::specs::Calls::pushed, gx_stack::specs::Calls::with_local, gx_stack::specs::Calls::pushed))]
+    #[tactic(auto, unfolding(crate::proofs::Opened::delivering_anywhere))]
     fn answer(&mut self, stub: &Stub)
         requires live { 0 < sp_of self.old.flat }
         requires kind { stub.now.kind ≤ to_stack }
@@ -249,7 +251,7 @@ impl<A: Allocator + Clone> State<A> {
 
     /// Starts the story again: memory as at first but for the protected range, an empty stack, no heap,
     /// and the start function entered. The protected range and the generator stay.
-    #[tactic(auto, unfolding(crate::specs::Copies::restarted, crate::specs::Entry::entered), using(crate::proofs::Backs::restarts))]
+    #[tactic(auto, unfolding(crate::proofs::Opened::restarting), using(crate::proofs::Backs::restarts))]
     pub fn restart(&mut self) -> Result<(), Fault>
         ensures value { Begins (Unit {0}) result self.old.flat self.new.flat (restarted self.old.flat) }
         ensures live { OnOk result (0 < sp_of self.new.flat) }

@@ -13,7 +13,7 @@ ghost use Rattle.gx_stack.specs.Frames.{IsGood};
 ghost use Rattle.gx_stack.specs.Stubs.{stubs_bytes};
 ghost use Rattle.gx_state.specs.Flat.{sp_of};
 ghost use Rattle.gx_state.specs.Relations.{Acts};
-ghost use Rattle.gx_state.specs.Entry.{kind_at, format_at, entry_bytes, entry_len, entered, function_at, initial};
+ghost use Rattle.gx_state.specs.Entry.{kind_at, format_at, entry_bytes, entry_size, entered, function_at, initial};
 ghost use Rattle.gx_state.specs.Entry.{started};
 
 use crate::formats::{format_at, format_end};
@@ -45,10 +45,10 @@ fn kind_at<M: Readable>(memory: &M, at: u32) -> Result<u32, Fault>
 
 /// How many bytes an entry pushes, whose frame has `len` bytes.
 #[inline(always)]
-fn entry_len(kind: u32, len: u32, count: usize) -> u32
+fn entry_size(kind: u32, len: u32, count: usize) -> u32
     requires frame { len < 2 ^ 18 }
     requires count { count ≤ 255 }
-    ensures value { (format : List ℕ) → len ≡ frame_len format → result ≡ entry_len kind format count }
+    ensures value { (format : List ℕ) → len ≡ frame_len format → result ≡ entry_size kind format count }
     ensures fits { result < 2 ^ 19 }
 {
     if kind == STACK_FUNCTION {
@@ -71,7 +71,7 @@ pub fn function_at<M: Readable>(
     ensures value { Reads (λ r. (r.0, r.1.items)) result (function_at (M.bytes memory.now) at count fp limit) }
     ensures count { OnOk result (count ≤ 255) }
     ensures format { IfOk result (λ r. IsFormat r.1.items) }
-    ensures room { IfOk result (λ r. fp + entry_len r.0 r.1.items count ≤ limit) }
+    ensures room { IfOk result (λ r. fp + entry_size r.0 r.1.items count ≤ limit) }
     ensures low { OnOk result (at < ceiling) }
 {
     let kind = kind_at(memory, at)?;
@@ -79,7 +79,7 @@ pub fn function_at<M: Readable>(
         return Err(Fault::BadFunction);
     }
     let format = format_at(memory, at + 1)?;
-    if fp + entry_len(kind, frame_len(format.as_slice()), count) > limit {
+    if fp + entry_size(kind, frame_len(format.as_slice()), count) > limit {
         return Err(Fault::Overflow);
     }
     Ok((kind, format))
@@ -92,7 +92,7 @@ fn push_entry(stack: &mut Stack, kind: u32, format: &[u8], len: u32, args: &[u32
     requires format { IsFormat format.now }
     requires frame { len ≡ frame_len format.now }
     requires count { length args.now ≤ 255 }
-    requires room { length stack.old.bytes + entry_len kind format.now (length args.now) ≤ stack.old.limit }
+    requires room { length stack.old.bytes + entry_size kind format.now (length args.now) ≤ stack.old.limit }
     ensures value { stack.new ≡ record stack.old { bytes = stack.old.bytes ++ entry_bytes kind format.now args.now } }
     ensures good { IsGood stack.new.bytes (length stack.old.bytes) }
 {
@@ -121,7 +121,7 @@ pub fn push_call(
     requires format { IsFormat format.now }
     requires frame { len ≡ frame_len format.now }
     requires count { length args.now ≤ 255 }
-    requires room { sp + 16 * length stubs.now + entry_len kind format.now (length args.now) ≤ stack.old.limit }
+    requires room { sp + 16 * length stubs.now + entry_size kind format.now (length args.now) ≤ stack.old.limit }
     ensures value { stack.new ≡ record stack.old
         { bytes = (take sp stack.old.bytes ++ stubs_bytes stubs.now) ++ entry_bytes kind format.now args.now } }
     ensures good { IsGood stack.new.bytes (sp + 16 * length stubs.now) }
@@ -267,7 +267,7 @@ impl<A: Allocator + Clone> State<A> {
 
     /// The same for a function whose locals format stands in the story's own bytes, and ends at a place.
     #[inline(always)]
-    #[tactic(auto, unfolding(crate::specs::Entry::entered, crate::specs::Entry::function_at), using(crate::proofs::Kept::framed_good))]
+    #[tactic(auto, unfolding(crate::proofs::Opened::entering), using(crate::proofs::Kept::framed_good))]
     fn enter_stored(
         &mut self,
         sp: u32,
@@ -294,7 +294,7 @@ impl<A: Allocator + Clone> State<A> {
         let format = &self.story.bytes()[at as usize + 1..end as usize];
         let len = frame_len(format);
         let fp = sp + 16 * stubs.len() as u32;
-        if fp + entry_len(kind, len, count) > self.stack.limit() {
+        if fp + entry_size(kind, len, count) > self.stack.limit() {
             return Err(Fault::Overflow);
         }
         push_call(&mut self.stack, sp, stubs, kind, format, len, args);

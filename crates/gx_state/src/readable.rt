@@ -6,7 +6,7 @@ ghost use Rattle.gx_words.specs.Constants.{ceiling};
 ghost use Rattle.gx_words.specs.Faults.{Reads};
 ghost use Rattle.gx_pages.specs.Memory.{number_in};
 ghost use Rattle.gx_state.specs.Entry.{initial};
-ghost use Rattle.gx_state.specs.Copies.{cleared};
+ghost use Rattle.gx_state.specs.Copies.{reset};
 
 use crate::State;
 use gx_pages::Pages;
@@ -70,7 +70,7 @@ impl Readable for Started<'_> {
 pub struct Restarted<'a, A: Allocator + Clone>(pub &'a State<A>);
 
 impl<A: Allocator + Clone> Readable for Restarted<'_, A> {
-    ghost bytes = { λ restarted. (cleared restarted.0.now.flat).memory };
+    ghost bytes = { λ restarted. (reset restarted.0.now.flat).memory };
 
     #[tactic(auto, using(crate::proofs::Bytes::bytes_again))]
     fn byte(&self, at: u32) -> Result<u8, Fault> {

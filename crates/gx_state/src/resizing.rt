@@ -1,7 +1,7 @@
 //! Ranges of memory, and its size.
-ghost use Rattle.std.specs.Prelude.{◌≡◌, ◌<◌, length, OnOk, OnErr};
-ghost use Rattle.gx_state.specs.Flat.{IsInRam};
-ghost use Rattle.gx_state.specs.Space.{zeroed, copied_range, with_size};
+ghost use Rattle.std.specs.Prelude.{◌≡◌, ◌<◌, length, take, drop, replicate, OnOk, OnErr};
+ghost use Rattle.gx_state.specs.Flat.{IsInRam, written};
+ghost use Rattle.gx_state.specs.Space.{with_size};
 ghost use Rattle.gx_state.specs.Allowed.{IsInMemory, IsGrowth, IsShrinking};
 
 use crate::State;
@@ -12,7 +12,7 @@ impl<A: Allocator + Clone> State<A> {
     #[tactic(auto, using(crate::proofs::Kept::rom_written, crate::proofs::Kept::heap_again))]
     pub fn fill_zero(&mut self, at: u32, count: u32) -> Result<(), AllocError>
         requires { IsInRam self.old.flat at count }
-        ensures ok { OnOk result (self.new ≡ record self.old { flat = zeroed self.old.flat at count }) }
+        ensures ok { OnOk result (self.new ≡ record self.old { flat = written self.old.flat at (replicate count 0) }) }
         ensures err { OnErr result (self.new ≡ self.old) }
         ensures size { length self.new.flat.memory ≡ length self.old.flat.memory }
         ensures memory { OnErr result (0 < count) }
@@ -26,7 +26,9 @@ impl<A: Allocator + Clone> State<A> {
     pub fn copy_within(&mut self, from: u32, to: u32, count: u32) -> Result<(), AllocError>
         requires source { IsInMemory self.old.flat from count }
         requires target { IsInRam self.old.flat to count }
-        ensures ok { OnOk result (self.new ≡ record self.old { flat = copied_range self.old.flat from to count }) }
+        ensures ok { OnOk result (self.new ≡ record self.old {
+          flat = written self.old.flat to (take count (drop from self.old.flat.memory));
+        }) }
         ensures err { OnErr result (self.new ≡ self.old) }
         ensures size { length self.new.flat.memory ≡ length self.old.flat.memory }
         ensures memory { OnErr result (0 < count) }

@@ -3,13 +3,13 @@
 //!
 //! A return looks for all its faults first, then writes memory where its stub says so, and then goes
 //! back to the stub's frame. Nothing has changed after a refusal.
-ghost use Rattle.std.specs.Prelude.{◌≡◌, ◌⊎◌, ◌+◌, ◌-◌, ◌*◌, ◌%◌, ◌<◌, ◌≤◌, ◌==◌, length, take, IfOk, OnOk, OnErr};
+ghost use Rattle.std.specs.Prelude.{◌≡◌, ◌⊎◌, ◌+◌, ◌-◌, ◌*◌, ◌%◌, ◌<◌, ◌≤◌, ◌==◌, take, IfOk, OnOk, OnErr};
 ghost use Rattle.std.specs.Prelude.{IsSome};
 ghost use Rattle.gx_words.specs.Faults.{Reads};
 ghost use Rattle.gx_stack.specs.Constants.{to_memory, to_local, to_stack};
 ghost use Rattle.gx_stack.specs.Frames.{IsGood, IsFrame};
 ghost use Rattle.gx_stack.specs.Stubs.{stub_below};
-ghost use Rattle.gx_state.specs.Flat.{cut, frame_of, sp_of};
+ghost use Rattle.gx_state.specs.Flat.{cut, sp_of};
 ghost use Rattle.gx_state.specs.Relations.{Acts, Goes, Stores, Works};
 ghost use Rattle.gx_state.specs.Returns.{IsReturnWriting, stub_of, pushed_stubs, popped_stub, stub_to, back};
 ghost use Rattle.gx_state.specs.Returns.{printing_of, printing_on, delivered, returned};
@@ -66,7 +66,7 @@ impl<A: Allocator + Clone> State<A> {
     }
 
     /// Pushes stubs, the first deepest; `Overflow` exactly where they don't all fit.
-    #[tactic(auto, unfolding(crate::specs::Returns::pushed_stubs, gx_stack::specs::Stubs::pushed_stubs), using(crate::proofs::Kept::framed))]
+    #[tactic(auto, unfolding(crate::proofs::Opened::pushing_stubs), using(crate::proofs::Kept::framed))]
     pub fn push_stubs(&mut self, stubs: &[Stub]) -> Result<(), Fault>
         requires { 0 < sp_of self.old.flat }
         ensures value { Acts result self.old self.new (pushed_stubs self.old.flat stubs.now) }
@@ -94,7 +94,7 @@ impl<A: Allocator + Clone> State<A> {
     /// empty. Memory is wanted only for the word before it, and where the stub's type is `TO_MEMORY`.
     ///
     /// PC stays where the program ends, and where a string or number goes on being printed.
-    #[tactic(auto, unfolding(crate::specs::Returns::returned, crate::specs::Returns::delivered, crate::specs::Returns::dest_of, crate::specs::Stores::stored, crate::specs::Stores::store_fault), using(crate::proofs::Kept::below))]
+    #[tactic(auto, unfolding(crate::proofs::Opened::returning), using(crate::proofs::Kept::below))]
     pub fn deliver(
         &mut self,
         sp: u32,
@@ -212,7 +212,7 @@ impl<A: Allocator + Clone> State<A> {
     }
 
     /// Delivers a value that is stored in memory.
-    #[tactic(auto, unfolding(crate::specs::Returns::delivered, crate::specs::Returns::dest_of, crate::specs::Stores::stored, crate::specs::Stores::store_fault), using(crate::proofs::Kept::words))]
+    #[tactic(auto, unfolding(crate::proofs::Opened::delivering), using(crate::proofs::Kept::words))]
     fn give_memory(
         &mut self,
         sp: u32,
@@ -236,7 +236,7 @@ impl<A: Allocator + Clone> State<A> {
     }
 
     /// Delivers a value that is stored in a local.
-    #[tactic(auto, unfolding(crate::specs::Returns::delivered, crate::specs::Returns::dest_of, crate::specs::Stores::stored, crate::specs::Stores::store_fault, crate::specs::Calls::with_local, gx_stack::specs::Calls::with_local), using(crate::proofs::Kept::words, crate::proofs::Kept::below))]
+    #[tactic(auto, unfolding(crate::proofs::Opened::delivering_local), using(crate::proofs::Kept::local_words))]
     fn give_local(
         &mut self,
         sp: u32,
@@ -267,7 +267,7 @@ impl<A: Allocator + Clone> State<A> {
     }
 
     /// Delivers a value that is pushed.
-    #[tactic(auto, unfolding(crate::specs::Returns::delivered, crate::specs::Returns::dest_of, crate::specs::Stores::stored, crate::specs::Stores::store_fault, crate::specs::Calls::pushed, gx_stack::specs::Calls::pushed), using(crate::proofs::Kept::words))]
+    #[tactic(auto, unfolding(crate::proofs::Opened::delivering_push), using(crate::proofs::Kept::words))]
     fn give_push(
         &mut self,
         sp: u32,

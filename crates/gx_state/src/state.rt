@@ -8,7 +8,7 @@ ghost use Rattle.gx_words.specs.declared.faults.Fault.TheVariants.{BadAddress};
 ghost use Rattle.gx_words.specs.Faults.{Reads};
 ghost use Rattle.gx_pages.specs.Memory.{number_in};
 ghost use Rattle.gx_stack.specs.Frames.{IsFrame};
-ghost use Rattle.heap_blocks.specs.Heap.{IsBelow};
+ghost use Rattle.heap_blocks.specs.Heap.{IsHeapBelow};
 ghost use Rattle.ops_calc.specs.Generator.{word_from, after_word};
 ghost use Rattle.gx_story.specs.Stories.{IsStory, is_checked};
 ghost use Rattle.gx_state.specs.Flat.{frame_of, sp_of};
@@ -76,7 +76,7 @@ impl<A: Allocator + Clone> State<A> {
     /// The memory allocation heap.
     pub fn heap(&self) -> &Heap
         ensures value { result.now.heap ≡ self.now.flat.heap }
-        ensures within { IsBelow (length self.now.flat.memory) self.now.flat.heap }
+        ensures within { IsHeapBelow (length self.now.flat.memory) self.now.flat.heap }
     {
         &self.heap
     }

@@ -187,7 +187,7 @@ fn compressed_char<A: Allocator + Clone>(
 /// The next character of what is printed, with the address and the bit behind it; None where what comes next is
 /// something else.
 #[inline(always)]
-#[tactic(auto, unfolding(crate::specs::Items::next_item, crate::specs::Items::byte_item, crate::specs::Items::word_item, crate::specs::Items::number_item))]
+#[tactic(auto, unfolding(crate::proofs::Opened::each_item))]
 pub fn next_char<A: Allocator + Clone>(
     rom: &[u8],
     memory: &Pages<A>,

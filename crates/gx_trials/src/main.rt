@@ -11,8 +11,8 @@
 //! - `stories` plays files of stories, run by run, whose two kinds `small` and `calls` read and compare; `commands` has
 //!   those of command lines. Each is known by its ending. `notation` has what their lines have in common, `lines` those
 //!   of a run, `story_files` the file that they make, `wanted` what is compared.
-//! - `runs` plays a command line over objects in memory, `fronts` a file that is cut at each byte, `sequel` a story that
-//!   goes on where memory ran out, and `rewinding` one that goes back.
+//! - `runs` plays a command line over objects in memory, `fronts` a file that is cut at each byte, `sequel` a story
+//!   that goes on where memory ran out, and `rewinding` one that goes back.
 //! - `parts` calls parts of the machine by themselves, for what no story shows.
 //! - `tally` counts.
 #![tactic(auto)]

@@ -9,7 +9,7 @@
 //! are fit for a story.
 #![tactic(auto)]
 
-ghost use Rattle.std.specs.Prelude.{◌≡◌, ◌≤◌, ◌==◌, [], ◌∷◌, length, drop, slice_get, IfOk, IfSome};
+ghost use Rattle.std.specs.Prelude.{◌≡◌, ◌≤◌, ◌==◌, [], length, slice_get, IfOk, IfSome};
 ghost use Rattle.gx_story.specs.Stories.{FlatStory};
 ghost use Rattle.gx_state.specs.Copies.{IsCopyFor};
 ghost use Rattle.gx_undo.specs.Undo.{AreCopiesFor, most_undo, with_newest, without_newest};

@@ -4,7 +4,7 @@ use Rattle.std.proofs.lemmas.Bool.Decides.{nat_tests}
 use Rattle.std.proofs.lemmas.List.{length-append, get_or-append-add}
 use Rattle.std.proofs.Math.ListN.{get_or-append}
 use Rattle.gx_words.specs.Numbers.{word, bytes_of_word, sum_of_words}
-use Rattle.gx_work.specs.Work.{ram, ram_word}
+use Rattle.gx_work.specs.Work.{ram, work_word}
 use Rattle.gx_work.specs.Laws.{ram_sum}
 use Rattle.gx_words.specs.Constants.{checksum_at}
 use Rattle.gx_words.proofs.Sums.{sum_more}
@@ -44,7 +44,7 @@ sum_before (suc n) xs ys within =
 pub length-ram : (n number : ℕ) → length (ram n number) ≡ 4 * n
 unfolding ram
 length-ram zero number = refl
-length-ram (suc n) number = rw (length-append (ram n number) (bytes_of_word (ram_word number n)), length-ram n number) (omega arith)
+length-ram (suc n) number = rw (length-append (ram n number) (bytes_of_word (work_word number n)), length-ram n number) (omega arith)
 
 -- RAM behind a page of 64 words
 pub sum_with_ram : (n number : ℕ) (xs : List ℕ) → length xs ≡ 256
@@ -53,14 +53,14 @@ unfolding ram ram_sum
 sum_with_ram zero number xs is = sum_before 64 xs [] (omega arith) ∙ omega arith
 sum_with_ram (suc n) number xs is =
     let front = xs ++ ram n number in
-    let new = bytes_of_word (ram_word number n) in
+    let new = bytes_of_word (work_word number n) in
     let size : length front ≡ 4 * (64 + n) =
     rw (length-append xs (ram n number), length-ram n number) (omega arith) in
     let joined : xs ++ (ram n number ++ new) ≡ front ++ new = sym (append_assoc xs (ram n number) new) in
     let next : 64 + suc n ≡ 64 + n + 1 = omega arith in
     let before = sum_before (64 + n) front new (omega (arith, size)) in
-    let here : word (front ++ new) (4 * (64 + n)) ≡ ram_word number n =
-    word_behind front new (4 * (64 + n)) (sym size) ∙ read_back (ram_word number n) (omega arith) in
+    let here : word (front ++ new) (4 * (64 + n)) ≡ work_word number n =
+    word_behind front new (4 * (64 + n)) (sym size) ∙ read_back (work_word number n) (omega arith) in
     let other : nat_eq (4 * (64 + n)) checksum_at ≡ false = grind (arith, nat_tests) in
     let rest = sum_with_ram n number xs is in
     rw (joined, next, sum_more (64 + n) (front ++ new), before, here, other, rest) (omega arith)

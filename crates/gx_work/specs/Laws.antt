@@ -3,12 +3,12 @@ use Rattle.std.specs.Prelude.{◌≡◌, ℕ, zero, suc, ◌+◌, List, length}
 use Rattle.gx_words.specs.Constants.{magic_at, version_at, ramstart_at, extstart_at, endmem_at, stack_size_at}
 use Rattle.gx_words.specs.Constants.{start_function_at, table_at, magic}
 use Rattle.gx_words.specs.Numbers.{word}
-use Rattle.gx_work.specs.Work.{ram_word}
+use Rattle.gx_work.specs.Work.{work_word}
 
 -- the sum of the first words of RAM
 unfoldable pub ram_sum : ℕ → ℕ → ℕ
 ram_sum zero number = 0
-ram_sum (suc n) number = ram_sum n number + ram_word number n
+ram_sum (suc n) number = ram_sum n number + work_word number n
 
 -- what the header says of the story
 pub record HasHeader (story : List ℕ) : Type 0 where

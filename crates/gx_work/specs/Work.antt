@@ -8,17 +8,17 @@ use Rattle.gx_words.specs.Numbers.{bytes_of_word, sum_of_words}
 abbrev pub ram_count : ℕ → ℕ
 ram_count number = 64 * (1 + number % 4096)
 
-abbrev pub ram_word : ℕ → ℕ → ℕ
-ram_word number index = (number + index) * 0x9E3779B1 % 2 ^ 32
+abbrev pub work_word : ℕ → ℕ → ℕ
+work_word number index = (number + index) * 0x9E3779B1 % 2 ^ 32
 
 -- the bytes of the first words of RAM
 unfoldable pub ram : ℕ → ℕ → List ℕ
 ram zero number = []
-ram (suc n) number = ram n number ++ bytes_of_word (ram_word number n)
+ram (suc n) number = ram n number ++ bytes_of_word (work_word number n)
 
 -- magic, version 3.1.2, RAMSTART, EXTSTART, ENDMEM, stack size, start function, no table, checksum
-abbrev pub header : ℕ → ℕ → List ℕ
-header size checksum =
+abbrev pub work_header : ℕ → ℕ → List ℕ
+work_header size checksum =
     flat_map bytes_of_word (magic ∷ 0x00030102 ∷ 0x100 ∷ size ∷ size ∷ 0x100 ∷ 0x24 ∷ 0 ∷ checksum ∷ [])
 
 -- sends output to Glk and opens a text window for it
@@ -46,12 +46,12 @@ code count =
 
 -- the bytes before RAM, for so many words of RAM
 unfoldable pub page : ℕ → ℕ → List ℕ
-page count checksum = header (0x100 + 4 * count) checksum ++ code count ++ replicate 147 0
+page count checksum = work_header (0x100 + 4 * count) checksum ++ code count ++ replicate 147 0
 
 -- the story with a checksum
-unfoldable pub story_with : ℕ → ℕ → List ℕ
-story_with number checksum = page (ram_count number) checksum ++ ram (ram_count number) number
+unfoldable pub work_story_with : ℕ → ℕ → List ℕ
+work_story_with number checksum = page (ram_count number) checksum ++ ram (ram_count number) number
 
 -- the story whose checksum is the sum modulo 2^32 of its words with that word zero
 unfoldable pub work_story : ℕ → List ℕ
-work_story number = story_with number (sum_of_words (64 + ram_count number) (story_with number 0) % 2 ^ 32)
+work_story number = work_story_with number (sum_of_words (64 + ram_count number) (work_story_with number 0) % 2 ^ 32)

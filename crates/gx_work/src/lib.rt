@@ -8,7 +8,7 @@
 ghost use Rattle.std.specs.Prelude.{◌≡◌, ◌+◌, ◌*◌, ◌/◌, ◌%◌, ◌^◌, ◌≤◌, length, IfOk};
 ghost use Rattle.gx_words.specs.Constants.{checksum_at};
 ghost use Rattle.gx_words.specs.Numbers.{word, sum_of_words};
-ghost use Rattle.gx_work.specs.Work.{page, ram_count, ram_word, work_story};
+ghost use Rattle.gx_work.specs.Work.{page, ram_count, work_word, work_story};
 ghost use Rattle.gx_work.specs.Laws.{ram_sum, HasHeader};
 
 use gx_words::{
@@ -64,7 +64,7 @@ pub fn make_story(alloc: Global, number: u32) -> Result<Bytes, AllocError>
     put_number(&mut page, CHECKSUM_AT, 4, checksum);
     let mut story = Bytes::from_slice(alloc, &page)?;
     for index in 0..count {
-        story.extend_from_slice(&word_bytes(ram_word(number, index)))?;
+        story.extend_from_slice(&word_bytes(work_word(number, index)))?;
     }
     Ok(story)
 }
@@ -84,8 +84,8 @@ fn first_page(count: u32) -> [u8; 256]
 }
 
 /// The word of RAM with this index.
-fn ram_word(number: u32, index: u32) -> u32
-    ensures { result ≡ ram_word number index }
+fn work_word(number: u32, index: u32) -> u32
+    ensures { result ≡ work_word number index }
 {
     number.wrapping_add(index).wrapping_mul(0x9E37_79B1)
 }
@@ -97,7 +97,7 @@ fn ram_sum(number: u32, count: u32) -> u32
 {
     let mut sum = 0u32;
     for index in 0..count {
-        sum = sum.wrapping_add(ram_word(number, index));
+        sum = sum.wrapping_add(work_word(number, index));
     }
     sum
 }

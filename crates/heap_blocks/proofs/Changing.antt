@@ -4,7 +4,7 @@ use Rattle.std.proofs.lemmas.Bool.{cases_lt, lt-ltb, le-ltb}
 use Rattle.std.proofs.lemmas.Bool.Decides.{nat_tests}
 use Rattle.std.specs.List.{insert, remove}
 use Rattle.std.specs.List.Sorted.{IsNonDecreasingBy}
-use Rattle.heap_blocks.specs.Heap.{Block, FlatHeap, IsRising, IsEndedBy, IsSound, end_of, inserted, without}
+use Rattle.heap_blocks.specs.Heap.{Block, FlatHeap, IsRising, IsEndedBy, IsSound, block_end, inserted, other_blocks}
 use Rattle.heap_blocks.specs.Relations.{IsFree}
 
 -- ---- a block put in
@@ -16,13 +16,13 @@ IsRising-inserted (b ∷ bs) from x some low free rises =
     elim (cases_lt b.0 x.0) [
       | inl less ↦
           let test = lt-ltb _ _ less in
-          rw test (rises.0, rises.1, IsRising-inserted bs (end_of b) x some (elim free.0 [ inl before ↦ absurd (omega arith) | inr after ↦ after ]) free.1 rises.2)
+          rw test (rises.0, rises.1, IsRising-inserted bs (block_end b) x some (elim free.0 [ inl before ↦ absurd (omega arith) | inr after ↦ after ]) free.1 rises.2)
       | inr most ↦
           let test = le-ltb _ _ most in
           rw test (low, some, (elim free.0 [ inl before ↦ before | inr after ↦ absurd (omega (arith, rises.1)) ], rises.1, rises.2))
     ]
 
-pub IsEndedBy-inserted : (bs : List Block) (limit : ℕ) (x : Block) → end_of x ≤ limit → IsEndedBy limit bs → IsEndedBy limit (inserted x bs)
+pub IsEndedBy-inserted : (bs : List Block) (limit : ℕ) (x : Block) → block_end x ≤ limit → IsEndedBy limit bs → IsEndedBy limit (inserted x bs)
 unfolding inserted
 IsEndedBy-inserted [] limit x h ends = (h, tt)
 IsEndedBy-inserted (b ∷ bs) limit x h ends =
@@ -59,8 +59,8 @@ IsRising-lower (b ∷ bs) from to le rises = (omega (arith, rises.0), rises.1, r
 pub IsRising-remove : (bs : List Block) (from i : ℕ) → IsRising from bs → IsRising from (remove bs i)
 IsRising-remove [] from zero rises = tt
 IsRising-remove [] from (suc i) rises = tt
-IsRising-remove (b ∷ bs) from zero rises = IsRising-lower bs (end_of b) from (omega (arith, rises.0)) rises.2
-IsRising-remove (b ∷ bs) from (suc i) rises = (rises.0, rises.1, IsRising-remove bs (end_of b) i rises.2)
+IsRising-remove (b ∷ bs) from zero rises = IsRising-lower bs (block_end b) from (omega (arith, rises.0)) rises.2
+IsRising-remove (b ∷ bs) from (suc i) rises = (rises.0, rises.1, IsRising-remove bs (block_end b) i rises.2)
 
 pub IsEndedBy-remove : (bs : List Block) (limit i : ℕ) → IsEndedBy limit bs → IsEndedBy limit (remove bs i)
 IsEndedBy-remove [] limit zero ends = tt
@@ -84,17 +84,17 @@ differs : (a b : ℕ) → a ≢ b → nat_eq a b ≡ false
 differs a b h = grind (arith, nat_tests)
 
 -- no block begins below all of them
-without-low : (bs : List Block) (from at : ℕ) → IsRising from bs → at < from → without at bs ≡ None
-unfolding without
+without-low : (bs : List Block) (from at : ℕ) → IsRising from bs → at < from → other_blocks at bs ≡ None
+unfolding other_blocks
 without-low [] from at rises h = refl
 without-low (b ∷ bs) from at rises h =
     let test = differs b.0 at (omega (arith, rises.0)) in
-    let rest = without-low bs (end_of b) at rises.2 (omega (arith, rises.0)) in
+    let rest = without-low bs (block_end b) at rises.2 (omega (arith, rises.0)) in
     rw (test, rest) refl
 
 -- a block found where so many begin below the address, and none found
-pub without-found : (bs : List Block) (i at : ℕ) → i < length bs → ((k : ℕ) → k < i → (get_or bs k (0, 0)).0 < at) → (get_or bs i (0, 0)).0 ≡ at → without at bs ≡ Some (remove bs i)
-unfolding without
+pub without-found : (bs : List Block) (i at : ℕ) → i < length bs → ((k : ℕ) → k < i → (get_or bs k (0, 0)).0 < at) → (get_or bs i (0, 0)).0 ≡ at → other_blocks at bs ≡ Some (remove bs i)
+unfolding other_blocks
 without-found [] i at inside below same = absurd (omega arith)
 without-found (b ∷ bs) zero at inside below same = let test = eq-eqb b.0 at same in rw test refl
 without-found (b ∷ bs) (suc i) at inside below same =
@@ -102,17 +102,17 @@ without-found (b ∷ bs) (suc i) at inside below same =
     let rest = without-found bs i at (omega arith) (λ k h. below (suc k) (omega arith)) same in
     rw (test, rest) refl
 
-pub without-missing : (bs : List Block) (from i at : ℕ) → IsRising from bs → i ≤ length bs → ((k : ℕ) → k < i → (get_or bs k (0, 0)).0 < at) → (i < length bs → at < (get_or bs i (0, 0)).0) → without at bs ≡ None
-unfolding without
+pub without-missing : (bs : List Block) (from i at : ℕ) → IsRising from bs → i ≤ length bs → ((k : ℕ) → k < i → (get_or bs k (0, 0)).0 < at) → (i < length bs → at < (get_or bs i (0, 0)).0) → other_blocks at bs ≡ None
+unfolding other_blocks
 without-missing [] from i at rises inside below above = refl
 without-missing (b ∷ bs) from zero at rises inside below above =
     let less : at < b.0 = above (omega arith) in
     let test = differs b.0 at (omega arith) in
-    let rest = without-low bs (end_of b) at rises.2 (omega arith) in
+    let rest = without-low bs (block_end b) at rises.2 (omega arith) in
     rw (test, rest) refl
 without-missing (b ∷ bs) from (suc i) at rises inside below above =
     let test = differs b.0 at (omega (arith, below 0 (omega arith))) in
-    let rest = without-missing bs (end_of b) i at rises.2 (omega arith) (λ k h. below (suc k) (omega arith)) (λ h. above (omega arith)) in
+    let rest = without-missing bs (block_end b) i at rises.2 (omega arith) (λ k h. below (suc k) (omega arith)) (λ h. above (omega arith)) in
     rw (test, rest) refl
 
 -- ---- the order of the addresses
@@ -120,14 +120,14 @@ without-missing (b ∷ bs) from (suc i) at rises inside below above =
 IsRising-get : (bs : List Block) (from k : ℕ) (d : Block) → IsRising from bs → k < length bs → from ≤ (get_or bs k d).0
 IsRising-get [] from k d rises h = absurd (omega arith)
 IsRising-get (b ∷ bs) from zero d rises h = rises.0
-IsRising-get (b ∷ bs) from (suc k) d rises h = let rest = IsRising-get bs (end_of b) k d rises.2 (omega arith) in omega (arith, rises.0, rest)
+IsRising-get (b ∷ bs) from (suc k) d rises h = let rest = IsRising-get bs (block_end b) k d rises.2 (omega arith) in omega (arith, rises.0, rest)
 
 pub IsRising-IsNonDecreasingBy : (bs : List Block) (from : ℕ) → IsRising from bs → IsNonDecreasingBy (λ b. b.0) bs
 IsRising-IsNonDecreasingBy [] from rises i j d le h = absurd (omega arith)
 IsRising-IsNonDecreasingBy (b ∷ bs) from rises zero zero d le h = omega arith
-IsRising-IsNonDecreasingBy (b ∷ bs) from rises zero (suc j) d le h = let rest = IsRising-get bs (end_of b) j d rises.2 (omega arith) in omega (arith, rest)
+IsRising-IsNonDecreasingBy (b ∷ bs) from rises zero (suc j) d le h = let rest = IsRising-get bs (block_end b) j d rises.2 (omega arith) in omega (arith, rest)
 IsRising-IsNonDecreasingBy (b ∷ bs) from rises (suc i) zero d le h = absurd (omega arith)
-IsRising-IsNonDecreasingBy (b ∷ bs) from rises (suc i) (suc j) d le h = IsRising-IsNonDecreasingBy bs (end_of b) rises.2 i j d (omega arith) (omega arith)
+IsRising-IsNonDecreasingBy (b ∷ bs) from rises (suc i) (suc j) d le h = IsRising-IsNonDecreasingBy bs (block_end b) rises.2 i j d (omega arith) (omega arith)
 
 pub ruleset add_facts = (inserted-at, IsRising-inserted, IsEndedBy-inserted, length-inserted, IsRising-none, IsRising-lower)
 

@@ -4,7 +4,7 @@ use Rattle.std.specs.List.{remove}
 use Rattle.std.proofs.lemmas.List.{drop_more, drop_all}
 use Rattle.std.proofs.lemmas.Bool.{cases_eq, lt-leb, lt-ltb}
 use Rattle.std.proofs.lemmas.Bool.Decides.{nat_tests}
-use Rattle.heap_blocks.specs.Heap.{Block, FlatHeap, IsRising, end_of, first_address, free_place, inserted}
+use Rattle.heap_blocks.specs.Heap.{Block, FlatHeap, IsRising, block_end, first_address, free_place, inserted}
 use Rattle.heap_blocks.specs.Relations.{IsFree}
 use Rattle.heap_blocks.specs.Gapless.{gapless, last_end}
 
@@ -15,20 +15,20 @@ pub gapless-fits : (bs : List Block) (from : ℕ) → gapless from bs ≤ length
 gapless-fits [] from = omega arith
 gapless-fits (b ∷ bs) from =
     elim (cases_eq b.0 from) [
-      | inl same ↦ let test = eq-eqb _ _ same in rw test (omega (arith, gapless-fits bs (end_of b)))
+      | inl same ↦ let test = eq-eqb _ _ same in rw test (omega (arith, gapless-fits bs (block_end b)))
       | inr other ↦ let test = differs _ _ other in rw test (omega arith)
     ]
 
 -- ---- the end of the last block
 
-last_end-get : (bs : List Block) (from i : ℕ) (d : Block) → length bs ≡ i + 1 → last_end from bs ≡ end_of (get_or bs i d)
+last_end-get : (bs : List Block) (from i : ℕ) (d : Block) → length bs ≡ i + 1 → last_end from bs ≡ block_end (get_or bs i d)
 last_end-get [] from i d is = absurd (omega arith)
 last_end-get (b ∷ []) from zero d is = refl
 last_end-get (b ∷ c ∷ bs) from zero d is = absurd (omega arith)
 last_end-get (b ∷ []) from (suc i) d is = absurd (omega arith)
-last_end-get (b ∷ c ∷ bs) from (suc i) d is = last_end-get (c ∷ bs) (end_of b) i d (omega arith)
+last_end-get (b ∷ c ∷ bs) from (suc i) d is = last_end-get (c ∷ bs) (block_end b) i d (omega arith)
 
-pub last_end-last : (bs : List Block) (from : ℕ) → 0 < length bs → last_end from bs ≡ end_of (get_or bs (length bs - 1) (0, 0))
+pub last_end-last : (bs : List Block) (from : ℕ) → 0 < length bs → last_end from bs ≡ block_end (get_or bs (length bs - 1) (0, 0))
 last_end-last bs from some = last_end-get bs from (length bs - 1) (0, 0) (omega arith)
 
 pub last_end-none : (bs : List Block) (from : ℕ) → length bs ≡ 0 → last_end from bs ≡ from
@@ -47,9 +47,9 @@ free_place-behind (b ∷ bs) (suc n) from size some few =
     elim (cases_eq b.0 from) [
       | inl same ↦
           let test = eq-eqb _ _ same in
-          let fewer : suc n ≤ suc (gapless (end_of b) bs) = rw test at few in
+          let fewer : suc n ≤ suc (gapless (block_end b) bs) = rw test at few in
           let past = lt-leb (from + size) b.0 (omega arith) in
-          rw past (free_place-behind bs n (end_of b) size some (omega arith))
+          rw past (free_place-behind bs n (block_end b) size some (omega arith))
       | inr other ↦
           let test = differs _ _ other in
           let none : suc n ≤ 0 = rw test at few in
@@ -64,8 +64,8 @@ gapless-behind (b ∷ bs) (suc n) from few =
     elim (cases_eq b.0 from) [
       | inl same ↦
           let test = eq-eqb _ _ same in
-          let fewer : suc n ≤ suc (gapless (end_of b) bs) = rw test at few in
-          let rest = gapless-behind bs n (end_of b) (omega arith) in
+          let fewer : suc n ≤ suc (gapless (block_end b) bs) = rw test at few in
+          let rest = gapless-behind bs n (block_end b) (omega arith) in
           rw test (omega arith)
       | inr other ↦
           let test = differs _ _ other in
@@ -74,11 +74,11 @@ gapless-behind (b ∷ bs) (suc n) from few =
     ]
 
 -- a turn of the count: over a block that leaves no gap, at one that does, or at the end
-pub count_on : (bs : List Block) (i count at total : ℕ) (b : Block) → i < length bs → b ≡ get_or bs i b → b.0 ≡ at → count + gapless at (drop i bs) ≡ total → count + 1 + gapless (end_of b) (drop (i + 1) bs) ≡ total
+pub count_on : (bs : List Block) (i count at total : ℕ) (b : Block) → i < length bs → b ≡ get_or bs i b → b.0 ≡ at → count + gapless at (drop i bs) ≡ total → count + 1 + gapless (block_end b) (drop (i + 1) bs) ≡ total
 count_on bs i count at total b inside is same h =
     let first = drop_more bs i b inside in
     let test = eq-eqb b.0 at same in
-    let turn : gapless at (drop i bs) ≡ suc (gapless (end_of b) (drop (i + 1) bs)) = rw (first, ← is, test) refl in
+    let turn : gapless at (drop i bs) ≡ suc (gapless (block_end b) (drop (i + 1) bs)) = rw (first, ← is, test) refl in
     omega arith
 
 pub count_here : (bs : List Block) (i count at total : ℕ) (b : Block) → i < length bs → b ≡ get_or bs i b → b.0 ≢ at → count + gapless at (drop i bs) ≡ total → count ≡ total
@@ -116,9 +116,9 @@ gapless-inserted (b ∷ bs) from x some low free rises =
     elim (cases_eq b.0 from) [
       | inl same ↦
           let test = eq-eqb _ _ same in
-          let after : end_of b ≤ x.0 = elim free.0 [ inl before ↦ absurd (omega arith) | inr after ↦ after ] in
+          let after : block_end b ≤ x.0 = elim free.0 [ inl before ↦ absurd (omega arith) | inr after ↦ after ] in
           let order = lt-ltb b.0 x.0 (omega (arith, rises.1)) in
-          let rest = gapless-inserted bs (end_of b) x some after free.1 rises.2 in
+          let rest = gapless-inserted bs (block_end b) x some after free.1 rises.2 in
           rw (order, test) (omega arith)
       | inr other ↦ let test = differs _ _ other in rw test (omega arith)
     ]
@@ -131,13 +131,13 @@ gapless-past (b ∷ bs) from end less rises = let test = differs b.0 from (omega
 gapless-remove : (bs : List Block) (from i : ℕ) → IsRising from bs → i < length bs → gapless from (remove bs i) ≡ min (gapless from bs) i
 gapless-remove [] from i rises inside = absurd (omega arith)
 gapless-remove (b ∷ bs) from zero rises inside =
-    let past = gapless-past bs from (end_of b) (omega (arith, rises.0, rises.1)) rises.2 in
+    let past = gapless-past bs from (block_end b) (omega (arith, rises.0, rises.1)) rises.2 in
     omega arith
 gapless-remove (b ∷ bs) from (suc i) rises inside =
     elim (cases_eq b.0 from) [
       | inl same ↦
           let test = eq-eqb _ _ same in
-          let rest = gapless-remove bs (end_of b) i rises.2 (omega arith) in
+          let rest = gapless-remove bs (block_end b) i rises.2 (omega arith) in
           rw test (omega arith)
       | inr other ↦ let test = differs _ _ other in rw test (omega arith)
     ]

@@ -8,8 +8,8 @@ use Rattle.std.specs.Option.{option_map}
 abbrev pub Block : Type 0
 Block = ℕ × ℕ
 
-abbrev pub end_of : Block → ℕ
-end_of b = b.0 + b.1
+abbrev pub block_end : Block → ℕ
+block_end b = b.0 + b.1
 
 -- where the heap begins, and its blocks in rising order
 pub record FlatHeap : Type 0 where
@@ -27,12 +27,12 @@ is_inactive h = length h.blocks == 0
 -- of the one before: so they rise, and no two of them meet
 abbrev pub IsRising : ℕ → List Block → Type 0
 IsRising from [] = Unit {0}
-IsRising from (b ∷ bs) = (from ≤ b.0) × (0 < b.1) × IsRising (end_of b) bs
+IsRising from (b ∷ bs) = (from ≤ b.0) × (0 < b.1) × IsRising (block_end b) bs
 
 -- no block goes past an address
 abbrev pub IsEndedBy : ℕ → List Block → Type 0
 IsEndedBy limit [] = Unit {0}
-IsEndedBy limit (b ∷ bs) = (end_of b ≤ limit) × IsEndedBy limit bs
+IsEndedBy limit (b ∷ bs) = (block_end b ≤ limit) × IsEndedBy limit bs
 
 -- what holds of every heap; each block ends below 2^32
 pub record IsSound (h : FlatHeap) : Type 0 where
@@ -41,7 +41,7 @@ pub record IsSound (h : FlatHeap) : Type 0 where
   pub none : length h.blocks ≡ 0 → h.start ≡ 0
 
 -- nothing of a heap lies past an address
-pub record IsBelow (limit : ℕ) (h : FlatHeap) : Type 0 where
+pub record IsHeapBelow (limit : ℕ) (h : FlatHeap) : Type 0 where
   pub start : h.start ≤ limit
   pub ends : IsEndedBy limit h.blocks
 
@@ -52,11 +52,11 @@ first_address h end = if is_inactive h then end else h.start
 -- the first free place of n bytes from an address on, among blocks in rising order
 abbrev pub free_place : ℕ → ℕ → List Block → ℕ
 free_place n at [] = at
-free_place n at (b ∷ bs) = if nat_le (at + n) b.0 then at else free_place n (end_of b) bs
+free_place n at (b ∷ bs) = if nat_le (at + n) b.0 then at else free_place n (block_end b) bs
 
 -- malloc: the address of a block of n bytes that ends at or below a ceiling
-abbrev pub place : FlatHeap → ℕ → ℕ → ℕ → Option ℕ
-place h end n ceiling =
+abbrev pub block_address : FlatHeap → ℕ → ℕ → ℕ → Option ℕ
+block_address h end n ceiling =
     if nat_le (free_place n (first_address h end) h.blocks + n) ceiling
     then Some (free_place n (first_address h end) h.blocks)
     else None
@@ -67,20 +67,20 @@ inserted x [] = x ∷ []
 inserted x (b ∷ bs) = if nat_lt b.0 x.0 then b ∷ inserted x bs else x ∷ b ∷ bs
 
 -- malloc: the heap with one more block, which begins at `end` where it was inactive
-abbrev pub added : FlatHeap → ℕ → Block → FlatHeap
-added h end x = record { start = first_address h end; blocks = inserted x h.blocks }
+abbrev pub with_block : FlatHeap → ℕ → Block → FlatHeap
+with_block h end x = record { start = first_address h end; blocks = inserted x h.blocks }
 
 -- the other blocks, where one begins at an address
-unfoldable pub without : ℕ → List Block → Option (List Block)
-without at [] = None
-without at (b ∷ bs) = if b.0 == at then Some bs else option_map (λ rest. b ∷ rest) (without at bs)
+unfoldable pub other_blocks : ℕ → List Block → Option (List Block)
+other_blocks at [] = None
+other_blocks at (b ∷ bs) = if b.0 == at then Some bs else option_map (λ rest. b ∷ rest) (other_blocks at bs)
 
 -- mfree: the heap without that block, inactive where it was the last
-abbrev pub left_by : FlatHeap → List Block → FlatHeap
-left_by h rest = record { start = if length rest == 0 then 0 else h.start; blocks = rest }
+abbrev pub with_rest : FlatHeap → List Block → FlatHeap
+with_rest h rest = record { start = if length rest == 0 then 0 else h.start; blocks = rest }
 
 abbrev pub freed : FlatHeap → ℕ → Option FlatHeap
-freed h at = option_map (left_by h) (without at h.blocks)
+freed h at = option_map (with_rest h) (other_blocks at h.blocks)
 
 -- WHAT CONTRACTS SEE
 

@@ -2,21 +2,21 @@
 -- left by a call that frees a block.
 use Rattle.std.specs.Prelude.{ℕ, ◌+◌, ◌^◌, ◌<◌, ◌≤◌, ◌⊎◌, List, [], ◌∷◌, All, AllPairs, Option, MatchOption, ◌≡◌, Bool}
 use Rattle.std.specs.Prelude.{Some, None}
-use Rattle.heap_blocks.specs.Heap.{Block, end_of, FlatHeap, first_address, is_inactive, HeldHeap}
+use Rattle.heap_blocks.specs.Heap.{Block, block_end, FlatHeap, first_address, is_inactive, HeldHeap}
 
 -- the same in plain words: each block isn't empty and lies between the start and 2^32, and of any
 -- two the one ends before the other begins
 pub record AreApart (h : FlatHeap) : Type 0 where
-  pub each : All (λ b. (h.start ≤ b.0) × (0 < b.1) × (end_of b < 2 ^ 32)) h.blocks
-  pub apart : AllPairs (λ a b. end_of a ≤ b.0) h.blocks
+  pub each : All (λ b. (h.start ≤ b.0) × (0 < b.1) × (block_end b < 2 ^ 32)) h.blocks
+  pub apart : AllPairs (λ a b. block_end a ≤ b.0) h.blocks
 
 -- no block has one of the n bytes at an address
 abbrev pub IsFree : List Block → ℕ → ℕ → Type 0
 IsFree [] at n = Unit {0}
-IsFree (b ∷ bs) at n = ((at + n ≤ b.0) ⊎ (end_of b ≤ at)) × IsFree bs at n
+IsFree (b ∷ bs) at n = ((at + n ≤ b.0) ⊎ (block_end b ≤ at)) × IsFree bs at n
 
 -- n bytes at an address are a block that the heap can get
-pub record IsPlace (h : FlatHeap) (end n ceiling at : ℕ) : Type 0 where
+pub record IsFreePlace (h : FlatHeap) (end n ceiling at : ℕ) : Type 0 where
   pub start : first_address h end ≤ at
   pub ends : at + n ≤ ceiling
   pub free : IsFree h.blocks at n
@@ -26,8 +26,8 @@ pub record IsPlace (h : FlatHeap) (end n ceiling at : ℕ) : Type 0 where
 abbrev pub IsLeast : FlatHeap → ℕ → ℕ → ℕ → Option ℕ → Type 0
 IsLeast h end n ceiling found =
     MatchOption found
-    ((at : ℕ) → IsPlace h end n ceiling at → ⊥)
-    (λ least. IsPlace h end n ceiling least × ((at : ℕ) → IsPlace h end n ceiling at → least ≤ at))
+    ((at : ℕ) → IsFreePlace h end n ceiling at → ⊥)
+    (λ least. IsFreePlace h end n ceiling least × ((at : ℕ) → IsFreePlace h end n ceiling at → least ≤ at))
 
 -- what a call that frees a block answers and leaves: nothing changes where no block begins at the
 -- address; else the answer says whether it was the last, and no room is lost

@@ -14,8 +14,9 @@
 ghost use Rattle.std.specs.Prelude.{◌≡◌, ℕ, ◌+◌, ◌<◌, ◌≤◌, ◌^◌, length, slice_index_or, IfOk, OnOk, OnErr, IfSome};
 ghost use Rattle.std.specs.List.{remove};
 ghost use Rattle.std.specs.Option.{option_map};
-ghost use Rattle.heap_blocks.specs.Heap.{IsSound, IsBelow, IsRising, inactive, first_address, free_place, place, added};
-ghost use Rattle.heap_blocks.specs.Heap.{freed, without};
+ghost use Rattle.heap_blocks.specs.Heap.{IsSound, IsHeapBelow, IsRising, inactive, first_address, free_place};
+ghost use Rattle.heap_blocks.specs.Heap.{block_address, with_block};
+ghost use Rattle.heap_blocks.specs.Heap.{freed, other_blocks};
 ghost use Rattle.heap_blocks.specs.Relations.{Frees, AreApart, IsFree, IsLeast};
 ghost use Rattle.heap_blocks.specs.Gapless.{gapless, last_end};
 
@@ -108,7 +109,7 @@ impl Heap {
     #[tactic(auto, using(crate::proofs::Gaps::additions))]
     pub fn place(&self, end: u32, size: u32, ceiling: u32) -> Option<u32>
         requires { 0 < size }
-        ensures value { result ≡ place self.now.heap end size ceiling }
+        ensures value { result ≡ block_address self.now.heap end size ceiling }
         ensures least { IsLeast self.now.heap end size ceiling result }
     {
         let at = free_place(&self.blocks, self.gapless, self.first_address(end), size);
@@ -152,10 +153,11 @@ impl Heap {
         requires ends { at + size < 2 ^ 32 }
         requires start { first_address self.old.heap end ≤ at }
         requires free { IsFree self.old.heap.blocks at size }
-        ensures heap { self.new.heap ≡ added self.old.heap end (at, size) }
+        ensures heap { self.new.heap ≡ with_block self.old.heap end (at, size) }
         ensures spare { self.old.spare ≤ self.new.spare + 1 }
         ensures sound { IsSound self.new.heap }
-        ensures within { (limit : ℕ) → IsBelow limit self.old.heap → at + size ≤ limit → IsBelow limit self.new.heap }
+        ensures within { (limit : ℕ) → IsHeapBelow limit self.old.heap → at + size ≤ limit
+            → IsHeapBelow limit self.new.heap }
     {
         self.start = self.first_address(end);
         let i = count_below(&self.blocks, at);
@@ -172,7 +174,7 @@ impl Heap {
     pub fn free(&mut self, at: u32) -> Option<bool>
         ensures change { Frees self.old self.new (freed self.old.heap at) result }
         ensures sound { IsSound self.new.heap }
-        ensures within { (limit : ℕ) → IsBelow limit self.old.heap → IsBelow limit self.new.heap }
+        ensures within { (limit : ℕ) → IsHeapBelow limit self.old.heap → IsHeapBelow limit self.new.heap }
     {
         let i = index_of(&self.blocks, at)?;
         self.blocks.remove(i);
@@ -271,7 +273,7 @@ fn count_below(blocks: &[(u32, u32)], at: u32) -> usize
 fn index_of(blocks: &[(u32, u32)], at: u32) -> Option<usize>
     requires { IsRising 0 blocks.now }
     ensures bound { IfSome result (λ i. i < length blocks.now) }
-    ensures value { without at blocks.now ≡ option_map (λ i. remove blocks.now i) result }
+    ensures value { other_blocks at blocks.now ≡ option_map (λ i. remove blocks.now i) result }
 {
     let i = count_below(blocks, at);
     if i < blocks.len() && blocks[i].0 == at {

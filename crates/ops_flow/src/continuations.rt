@@ -46,7 +46,7 @@ fn lasting(dest: &Dest, token: u32) -> Option<(u32, u32)>
 }
 
 /// Pushes the stub of a catch.
-#[tactic(auto, unfolding(crate::specs::Rows::with_stub, gx_state::specs::Returns::pushed_stubs, gx_stack::specs::Stubs::pushed_stubs), using(crate::proofs::Cuts::stubs))]
+#[tactic(auto, unfolding(crate::proofs::Opened::pushing_stub), using(crate::proofs::Cuts::stubs))]
 fn push_stub<A: Allocator + Clone>(state: &mut State<A>, plan: &Plan)
     requires height { IsHeight state.old.flat plan.now.sp }
     requires room { plan.now.sp + 16 ≤ state.old.flat.stack.limit }

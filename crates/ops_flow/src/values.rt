@@ -43,7 +43,7 @@ pub fn stkpeek<A: Allocator + Clone>(state: &mut State<A>, plan: &Plan) -> Resul
 }
 
 /// stkswap: exchanges the top two values.
-#[tactic(auto, unfolding(crate::specs::Rows::stkswap, gx_state::specs::Flat::swapped, gx_stack::specs::Values::swapped))]
+#[tactic(auto, unfolding(crate::specs::Rows::stkswap, gx_state::proofs::Opened::swapping))]
 pub fn stkswap<A: Allocator + Clone>(state: &mut State<A>, plan: &Plan) -> Result<Effect, Fault>
     requires { IsHeight state.old.flat plan.now.sp }
     ensures value { Goes result state.old.flat state.new.flat (stkswap state.old.flat (instruction_of plan.now)) }

@@ -18,7 +18,7 @@ use gx_words::Fault;
 use std::alloc::Allocator;
 
 /// saveundo
-#[tactic(auto, unfolding(crate::specs::Rows::saveundo, gx_operands::specs::Stores::settled), using(crate::proofs::Copies::copies))]
+#[tactic(auto, unfolding(crate::proofs::Opened::saving), using(crate::proofs::Copies::copies))]
 pub fn saveundo<A: Allocator + Clone>(
     state: &mut State<A>,
     plan: &Plan,

@@ -13,7 +13,7 @@ use Rattle.gx_state.specs.Flat.{FlatState}
 use Rattle.gx_operands.specs.Instructions.{Instruction}
 use Rattle.gx_operands.specs.Stores.{stores}
 use Rattle.ops_memory.specs.declared.searches.Method.{Method}
-use Rattle.ops_memory.specs.Rows.{search_by, is_indexed, searches}
+use Rattle.ops_memory.specs.Searching.{search_by, is_indexed, searches}
 use Rattle.ops_memory.specs.Charges.{lowered, charged, EndsWithin}
 
 -- ---- a row without probes

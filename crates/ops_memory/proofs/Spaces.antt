@@ -10,8 +10,8 @@ use Rattle.gx_words.specs.Constants.{ceiling}
 use Rattle.gx_words.specs.Numbers.{spliced, bytes_of_number}
 use Rattle.gx_words.specs.Results.{◌>>=◌}
 use Rattle.gx_pages.specs.Memory.{IsSize, resized}
-use Rattle.heap_blocks.specs.Heap.{Block, FlatHeap, IsSound, IsEndedBy, IsBelow}
-use Rattle.heap_blocks.specs.Relations.{IsPlace}
+use Rattle.heap_blocks.specs.Heap.{Block, FlatHeap, IsSound, IsEndedBy, IsHeapBelow}
+use Rattle.heap_blocks.specs.Relations.{IsFreePlace}
 use Rattle.gx_state.specs.declared.modes.Dest.{Dest}
 use Rattle.gx_state.specs.declared.modes.Dest.TheVariants.{Nowhere, Memory, Local, Push}
 use Rattle.gx_state.specs.Flat.{FlatState, cut}
@@ -168,7 +168,7 @@ pub ruleset shrinks = (shrink_after, settled_cut, settled_fits, settled_ok)
 pub ruleset grows = (shrink_back, size_back, settled_ok)
 
 -- a block may be entered in memory that covers it, after the store
-pub may_enter : (f g : FlatState) (sp v size end at n : ℕ) (d : Dest) → settled (with_size f size) sp 4 d v ≡ Ok g → 0 < n → IsPlace f.heap end n ceiling at → at + n ≤ size
+pub may_enter : (f g : FlatState) (sp v size end at n : ℕ) (d : Dest) → settled (with_size f size) sp 4 d v ≡ Ok g → 0 < n → IsFreePlace f.heap end n ceiling at → at + n ≤ size
     → end % 256 ≡ 0 → f.story.header.endmem ≤ end → IsNewBlock g end at n
 may_enter f g sp v size end at n d is some place there whole endmem =
     let keeps = settled_keeps (with_size f size) g sp v d is in
@@ -186,5 +186,5 @@ none_ends : (limit : ℕ) (bs : List Block) → length bs ≡ 0 → IsEndedBy li
 none_ends limit [] none = tt
 none_ends limit (b ∷ bs) none = absurd (omega arith)
 
-pub none_below : (limit : ℕ) (h : FlatHeap) → IsSound h → length h.blocks ≡ 0 → IsBelow limit h
+pub none_below : (limit : ℕ) (h : FlatHeap) → IsSound h → length h.blocks ≡ 0 → IsHeapBelow limit h
 none_below limit h sound none = record { start = omega (arith, sound.none none); ends = none_ends limit h.blocks none }

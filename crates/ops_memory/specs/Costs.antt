@@ -7,7 +7,7 @@ use Rattle.gx_rows.specs.declared.instructions.Class.TheVariants as class
 use Rattle.gx_state.specs.Flat.{FlatState}
 use Rattle.gx_operands.specs.Instructions.{Instruction}
 use Rattle.ops_memory.specs.declared.searches.Method.TheVariants.{Linear, Binary, Linked}
-use Rattle.ops_memory.specs.Rows.{search_by}
+use Rattle.ops_memory.specs.Searching.{search_by}
 
 -- how many probes a row of Memory begins
 unfoldable pub memory_probes : FlatState → Instruction → ℕ

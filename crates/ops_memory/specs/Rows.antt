@@ -1,37 +1,28 @@
--- The rows of the classes Copy and Memory (Glulx 3.1.2, "Moving Data", "Array Data", "Memory Map", "Searching",
--- "Block Copy and Clear" and "Memory Allocation Heap"), in the order of their numbers.
+-- The rows of the classes Copy and Memory (Glulx 3.1.2, "Moving Data" and "Array Data"), in the order of their numbers,
+-- and the row of an instruction of these classes. Those of "Memory Map", "Block Copy and Clear" and "Memory Allocation
+-- Heap" are in specs/Space, those of "Searching" in specs/Searching.
 --
 -- An instruction's pops are made in its `sp`, and PC becomes `next`. A fault in any line leaves the state as
 -- it is. Addresses are sums modulo 2^32.
-use Rattle.std.specs.Prelude.{ℕ, ℤ, ◌+◌, ◌-◌, ◌*◌, ◌/◌, ◌%◌, ◌^◌, ◌==◌, ◌||◌, max, Bool, false, not, nat_lt}
-use Rattle.std.specs.Prelude.{if◌then◌else◌, length, Option, Some, None, Result, Ok, Err, pos, unsigned_abs, bit_and}
+use Rattle.std.specs.Prelude.{ℕ, ℤ, ◌+◌, ◌-◌, ◌*◌, ◌/◌, ◌%◌, ◌^◌, ◌==◌}
+use Rattle.std.specs.Prelude.{if◌then◌else◌, Result, Ok, Err, pos, unsigned_abs, bit_and}
 use Rattle.std.specs.Prelude.{bit_or}
 use Rattle.std.specs.Int.{w32, cast_signed, cast_unsigned, int_div_euclid, int_rem_euclid}
-use Rattle.std.specs.Option.{ok_or}
 use Rattle.gx_words.specs.declared.faults.Fault.{Fault}
-use Rattle.gx_words.specs.declared.faults.Fault.TheVariants.{BadOpcode, BadAddress, MemSize, HeapUse}
-use Rattle.gx_words.specs.Numbers.{rounded_up}
+use Rattle.gx_words.specs.declared.faults.Fault.TheVariants.{BadOpcode}
 use Rattle.gx_words.specs.Results.{◌>>=◌}
-use Rattle.gx_words.specs.Constants.{ceiling}
 use Rattle.gx_pages.specs.Memory.{number_in}
 use Rattle.gx_rows.specs.Numbers as numbers
 use Rattle.gx_rows.specs.declared.instructions.Class.{Class}
 use Rattle.gx_rows.specs.declared.instructions.Class.TheVariants as class
-use Rattle.gx_search.specs.declared.asks.Ask.{Ask}
-use Rattle.gx_search.specs.Constants.{return_index}
-use Rattle.gx_search.specs.Keys.{has_option}
-use Rattle.gx_search.specs.Searches.{Struct, Search, linear, linked}
-use Rattle.gx_search.specs.Halving.{binary}
-use Rattle.heap_blocks.specs.Heap.{is_inactive, place}
 use Rattle.gx_state.specs.declared.effects.Effect.{Effect}
 use Rattle.gx_state.specs.declared.effects.Effect.TheVariants.{Went}
 use Rattle.gx_state.specs.declared.modes.Dest.TheVariants as dest
-use Rattle.gx_state.specs.Flat.{FlatState, write_fault}
-use Rattle.gx_state.specs.Space.{zeroed, copied_range, with_size, with_block, without_block}
-use Rattle.gx_operands.specs.Instructions.{Instruction, L1, L2, L3, L4, L5, L6, L7, going_to}
-use Rattle.gx_operands.specs.Stores.{settled, stores, goes}
-use Rattle.ops_memory.specs.declared.searches.Method.{Method}
-use Rattle.ops_memory.specs.declared.searches.Method.TheVariants.{Linear, Binary, Linked}
+use Rattle.gx_state.specs.Flat.{FlatState}
+use Rattle.gx_operands.specs.Instructions.{Instruction, L1, L2, L3, going_to}
+use Rattle.gx_operands.specs.Stores.{settled, stores}
+use Rattle.ops_memory.specs.Searching.{linearsearch, binarysearch, linkedsearch}
+use Rattle.ops_memory.specs.Space.{getmemsize, setmemsize, mzero, mcopy, malloc, mfree}
 
 -- WHAT ROWS SHARE
 
@@ -65,16 +56,6 @@ bit_in_byte i = unsigned_abs (int_rem_euclid (bit_index i) (pos 8))
 -- a byte whose bit k is 0 if v = 0, else 1
 abbrev pub with_bit : ℕ → ℕ → ℕ → ℕ
 with_bit byte k v = if v == 0 then bit_and byte (0xFFFFFFFF - 2 ^ k) else bit_or byte (2 ^ k)
-
--- The fault of a range that is read, and that of one that is written. A range without a byte touches no address.
-unfoldable pub source_fault : FlatState → ℕ → ℕ → Result (Unit {0}) Fault
-source_fault f at count =
-    if count == 0 then Ok tt else
-    if nat_lt (length f.memory) (at + count) then Err BadAddress else
-    Ok tt
-
-unfoldable pub target_fault : FlatState → ℕ → ℕ → Result (Unit {0}) Fault
-target_fault f at count = if count == 0 then Ok tt else write_fault f at count
 
 -- MOVING DATA
 
@@ -122,132 +103,6 @@ astorebit f i = do
   byte ← number_in 1 f.memory (byte_of_bit i)
   puts f i 1 (byte_of_bit i) (with_bit byte (bit_in_byte i) (L3 i))
 
--- THE SIZE OF MEMORY
-
--- 102 getmemsize (S1): S1 = the size of memory
-unfoldable pub getmemsize : FlatState → Instruction → Result (FlatState × Effect) Fault
-getmemsize f i = stores f i (length f.memory)
-
--- memory can't be so large, or its size can't be set since the heap is active
-abbrev pub is_refused : FlatState → ℕ → Bool
-is_refused f size = nat_lt ceiling size || not (is_inactive f.heap)
-
--- 103 setmemsize (L1 S1): sets the size of memory to L1; S1 = 0, or 1 where it is refused and stays. S1 is
--- stored in memory of the new size.
-unfoldable pub setmemsize : FlatState → Instruction → Result (FlatState × Effect) Fault
-setmemsize f i =
-    if nat_lt (L1 i) f.story.header.endmem || not (L1 i % 256 == 0) then Err MemSize else
-    if is_refused f (L1 i) then stores f i 1 else
-    stores (with_size f (L1 i)) i 0
-
--- SEARCHING
-
--- what is asked of a row of structs: L1 to L7 are the key, its size, the start, the size of a struct, the count,
--- the offset of keys and the options
-abbrev pub row_ask : Instruction → Ask
-row_ask i =
-    record {
-      key = L1 i;
-      key_size = L2 i;
-      start = L3 i;
-      struct_size = L4 i;
-      count = L5 i;
-      key_offset = L6 i;
-      next_offset = 0;
-      options = L7 i;
-    }
-
--- and of a list of structs: L1 to L6 are the key, its size, the start, the offset of keys, that of links, and
--- the options
-abbrev pub list_ask : Instruction → Ask
-list_ask i =
-    record {
-      key = L1 i;
-      key_size = L2 i;
-      start = L3 i;
-      struct_size = 0;
-      count = 0;
-      key_offset = L4 i;
-      next_offset = L5 i;
-      options = L6 i;
-    }
-
--- the search of each method, and whether its S1 is an index
-abbrev pub search_by : Method → FlatState → Instruction → Search
-search_by Linear f i = linear f.memory (row_ask i)
-search_by Binary f i = binary f.memory (row_ask i)
-search_by Linked f i = linked f.memory (list_ask i)
-
-abbrev pub is_indexed : Method → Instruction → Bool
-is_indexed Linear i = has_option (row_ask i) return_index
-is_indexed Binary i = has_option (row_ask i) return_index
-is_indexed Linked i = false
-
--- S1 = the address of the struct that is found, or 0; as an index, or FFFFFFFF
-abbrev pub found_word : Bool → Option Struct → ℕ
-found_word indexed None = if indexed then 0xFFFFFFFF else 0
-found_word indexed (Some s) = if indexed then s.index else s.address
-
-abbrev pub searches : Method → FlatState → Instruction → Result (FlatState × Effect) Fault
-searches m f i = do
-  found ← (search_by m f i).outcome
-  stores f i (found_word (is_indexed m i) found)
-
--- 150 linearsearch (L1 L2 L3 L4 L5 L6 L7 S1): S1 = the first struct of a row that has the key
-unfoldable pub linearsearch : FlatState → Instruction → Result (FlatState × Effect) Fault
-linearsearch f i = searches Linear f i
-
--- 151 binarysearch (L1 L2 L3 L4 L5 L6 L7 S1): S1 = a struct that has the key in a row whose keys rise
-unfoldable pub binarysearch : FlatState → Instruction → Result (FlatState × Effect) Fault
-binarysearch f i = searches Binary f i
-
--- 152 linkedsearch (L1 L2 L3 L4 L5 L6 S1): S1 = the first struct of a list that has the key, always its address
-unfoldable pub linkedsearch : FlatState → Instruction → Result (FlatState × Effect) Fault
-linkedsearch f i = searches Linked f i
-
--- BLOCK COPY AND CLEAR
-
--- 170 mzero (L1 L2): L1 zeros are written at L2
-unfoldable pub mzero : FlatState → Instruction → Result (FlatState × Effect) Fault
-mzero f i = do
-  _ ← target_fault f (L2 i) (L1 i)
-  goes (zeroed f (L2 i) (L1 i)) i
-
--- 171 mcopy (L1 L2 L3): the L1 bytes at L2 are written at L3, as if through a copy
-unfoldable pub mcopy : FlatState → Instruction → Result (FlatState × Effect) Fault
-mcopy f i = do
-  _ ← source_fault f (L2 i) (L1 i)
-  _ ← target_fault f (L3 i) (L1 i)
-  goes (copied_range f (L2 i) (L3 i) (L1 i)) i
-
--- MEMORY ALLOCATION HEAP
-
--- the size of memory that covers all below an address, the size that it has at least
-abbrev pub covering : ℕ → ℕ → ℕ
-covering size end = max size (rounded_up end)
-
--- a block of L1 bytes at an address, which memory covers; S1, its address, may be stored in it
-abbrev pub allocated : FlatState → Instruction → ℕ → Result (FlatState × Effect) Fault
-allocated f i at = do
-  r ← stores (with_size f (covering (length f.memory) (at + L1 i))) i at
-  Ok (with_block r.0 (length f.memory) at (L1 i), r.1)
-
-abbrev pub allocated_at : FlatState → Instruction → Option ℕ → Result (FlatState × Effect) Fault
-allocated_at f i None = stores f i 0
-allocated_at f i (Some at) = allocated f i at
-
--- 178 malloc (L1 S1): S1 = the address of a new block of L1 bytes, or 0 where there is no place for it
-unfoldable pub malloc : FlatState → Instruction → Result (FlatState × Effect) Fault
-malloc f i =
-    if L1 i == 0 then Err HeapUse else
-    allocated_at f i (place f.heap (length f.memory) (L1 i) ceiling)
-
--- 179 mfree (L1): frees the block at L1
-unfoldable pub mfree : FlatState → Instruction → Result (FlatState × Effect) Fault
-mfree f i = do
-  g ← ok_or (without_block f (L1 i)) HeapUse
-  goes g i
-
 -- THE ROW OF AN INSTRUCTION
 
 unfoldable pub memory : FlatState → Instruction → Result (FlatState × Effect) Fault
@@ -272,12 +127,6 @@ memory f i =
     Err BadOpcode
 
 abbrev pub row_effect : Class → FlatState → Instruction → Result (FlatState × Effect) Fault
-row_effect class.Calc f i = Err BadOpcode
-row_effect class.Branch f i = Err BadOpcode
-row_effect class.Flow f i = Err BadOpcode
 row_effect class.Copy f i = copy f i
 row_effect class.Memory f i = memory f i
-row_effect class.Stack f i = Err BadOpcode
-row_effect class.Print f i = Err BadOpcode
-row_effect class.Game f i = Err BadOpcode
-row_effect class.Glk f i = Err BadOpcode
+row_effect c f i = Err BadOpcode

@@ -4,18 +4,18 @@ use Rattle.gx_words.specs.Constants.{ceiling}
 use Rattle.gx_rows.specs.Numbers as numbers
 use Rattle.gx_rows.specs.declared.instructions.Class.{Class}
 use Rattle.gx_rows.specs.declared.instructions.Class.TheVariants as class
-use Rattle.heap_blocks.specs.Heap.{place}
+use Rattle.heap_blocks.specs.Heap.{block_address}
 use Rattle.gx_state.specs.Flat.{FlatState}
 use Rattle.gx_state.specs.Stores.{IsMemory}
 use Rattle.gx_operands.specs.Instructions.{Instruction, L1}
-use Rattle.ops_memory.specs.Rows.{is_refused}
+use Rattle.ops_memory.specs.Space.{is_size_refused}
 
 -- setmemsize does where memory becomes larger, and malloc where there is a place for its block
 abbrev pub IsSizeWriting : FlatState → Instruction → Type 0
-IsSizeWriting f i = IsMemory i.dest ⊎ (IsFalse (is_refused f (L1 i)) × (length f.memory < L1 i))
+IsSizeWriting f i = IsMemory i.dest ⊎ (IsFalse (is_size_refused f (L1 i)) × (length f.memory < L1 i))
 
 abbrev pub IsBlockWriting : FlatState → Instruction → Type 0
-IsBlockWriting f i = IsMemory i.dest ⊎ IsSome (place f.heap (length f.memory) (L1 i) ceiling)
+IsBlockWriting f i = IsMemory i.dest ⊎ IsSome (block_address f.heap (length f.memory) (L1 i) ceiling)
 
 -- astore, astores, astoreb and astorebit do; mzero and mcopy do unless their count is 0; mfree never does, and
 -- others do where their result is stored in memory
@@ -29,12 +29,6 @@ IsMemoryWriting f i =
     MatchBool (i.row.number == numbers.mfree) ⊥ (IsMemory i.dest)))))
 
 abbrev pub IsWriting : Class → FlatState → Instruction → Type 0
-IsWriting class.Calc f i = ⊥
-IsWriting class.Branch f i = ⊥
-IsWriting class.Flow f i = ⊥
 IsWriting class.Copy f i = IsMemory i.dest
 IsWriting class.Memory f i = IsMemoryWriting f i
-IsWriting class.Stack f i = ⊥
-IsWriting class.Print f i = ⊥
-IsWriting class.Game f i = ⊥
-IsWriting class.Glk f i = ⊥
+IsWriting c f i = ⊥

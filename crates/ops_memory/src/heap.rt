@@ -5,13 +5,13 @@
 ghost use Rattle.std.specs.Prelude.{◌≡◌, ◌+◌, ◌<◌, ◌≤◌, length, IfOk};
 ghost use Rattle.gx_words.specs.Constants.{ceiling};
 ghost use Rattle.gx_pages.specs.Memory.{IsSize};
-ghost use Rattle.heap_blocks.specs.Relations.{IsPlace};
+ghost use Rattle.heap_blocks.specs.Relations.{IsFreePlace};
 ghost use Rattle.gx_state.specs.Flat.{IsHeight};
 ghost use Rattle.gx_state.specs.Relations.{Goes, Works};
 ghost use Rattle.gx_state.specs.Replies.{IsDone};
 ghost use Rattle.gx_operands.specs.Instructions.{L1};
 ghost use Rattle.gx_operands.specs.Plans.{instruction_of};
-ghost use Rattle.ops_memory.specs.Rows.{allocated, covering, malloc, mfree};
+ghost use Rattle.ops_memory.specs.Space.{allocated, covering, malloc, mfree};
 ghost use Rattle.ops_memory.specs.Writes.{IsBlockWriting};
 
 use crate::sizes::{can_store_in, grow_with};
@@ -41,7 +41,7 @@ fn allocate<A: Allocator + Clone>(
 ) -> Result<Effect, Fault>
     requires sp { IsHeight state.old.flat plan.now.sp }
     requires some { 0 < L1 (instruction_of plan.now) }
-    requires place { IsPlace state.old.flat.heap (length state.old.flat.memory)
+    requires place { IsFreePlace state.old.flat.heap (length state.old.flat.memory)
         (L1 (instruction_of plan.now)) ceiling at }
     ensures value { Works (Unit {0}) result state.old.flat state.new.flat
         (allocated state.old.flat (instruction_of plan.now) at) }
@@ -59,7 +59,7 @@ fn allocate<A: Allocator + Clone>(
 }
 
 /// malloc
-#[tactic(auto, unfolding(crate::specs::Rows::malloc))]
+#[tactic(auto, unfolding(crate::specs::Space::malloc))]
 pub fn malloc<A: Allocator + Clone>(state: &mut State<A>, plan: &Plan) -> Result<Effect, Fault>
     requires { IsHeight state.old.flat plan.now.sp }
     ensures value { Works (IsBlockWriting state.old.flat (instruction_of plan.now)) result state.old.flat state.new.flat
@@ -78,7 +78,7 @@ pub fn malloc<A: Allocator + Clone>(state: &mut State<A>, plan: &Plan) -> Result
 }
 
 /// mfree
-#[tactic(auto, unfolding(crate::specs::Rows::mfree))]
+#[tactic(auto, unfolding(crate::specs::Space::mfree))]
 pub fn mfree<A: Allocator + Clone>(state: &mut State<A>, plan: &Plan) -> Result<Effect, Fault>
     requires { IsHeight state.old.flat plan.now.sp }
     ensures value { Goes result state.old.flat state.new.flat (mfree state.old.flat (instruction_of plan.now)) }

@@ -59,7 +59,7 @@ fn copy<A: Allocator + Clone>(state: &mut State<A>, plan: &Plan) -> Result<Effec
 }
 
 /// A row of Memory.
-#[tactic(auto, unfolding(crate::specs::Rows::memory, crate::specs::Costs::memory_probes, crate::specs::Rows::aload, crate::specs::Rows::aloads, crate::specs::Rows::aloadb, crate::specs::Rows::astore, crate::specs::Rows::astores, crate::specs::Rows::astoreb, crate::specs::Rows::getmemsize, crate::specs::Rows::linearsearch, crate::specs::Rows::binarysearch, crate::specs::Rows::linkedsearch), using(crate::proofs::Charges::done_within))]
+#[tactic(auto, unfolding(crate::proofs::Opened::rows), using(crate::proofs::Charges::done_within))]
 fn memory<A: Allocator + Clone>(
     state: &mut State<A>,
     plan: &Plan,

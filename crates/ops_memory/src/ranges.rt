@@ -1,5 +1,5 @@
 //! mzero and mcopy (Glulx 3.1.2, "Block Copy and Clear").
-ghost use Rattle.std.specs.Prelude.{◌≡◌, ◌<◌, IfOk, OnOk};
+ghost use Rattle.std.specs.Prelude.{◌<◌, IfOk, OnOk};
 ghost use Rattle.gx_words.specs.Faults.{Reads};
 ghost use Rattle.gx_state.specs.Flat.{IsHeight, IsInRam};
 ghost use Rattle.gx_state.specs.Relations.{Works};
@@ -7,7 +7,7 @@ ghost use Rattle.gx_state.specs.Replies.{IsDone};
 ghost use Rattle.gx_state.specs.Allowed.{IsInMemory};
 ghost use Rattle.gx_operands.specs.Instructions.{L1};
 ghost use Rattle.gx_operands.specs.Plans.{instruction_of};
-ghost use Rattle.ops_memory.specs.Rows.{source_fault, target_fault, mzero, mcopy};
+ghost use Rattle.ops_memory.specs.Space.{source_fault, target_fault, mzero, mcopy};
 
 use gx_operands::{Plan, goes};
 use gx_state::{Effect, State};
@@ -15,7 +15,7 @@ use gx_words::Fault;
 use std::alloc::Allocator;
 
 /// Looks whether a range can be read.
-#[tactic(auto, unfolding(crate::specs::Rows::source_fault))]
+#[tactic(auto, unfolding(crate::specs::Space::source_fault))]
 fn can_read<A: Allocator + Clone>(state: &State<A>, at: u32, count: u32) -> Result<(), Fault>
     ensures value { Reads (λ v. v) result (source_fault state.now.flat at count) }
     ensures there { OnOk result (IsInMemory state.now.flat at count) }
@@ -30,7 +30,7 @@ fn can_read<A: Allocator + Clone>(state: &State<A>, at: u32, count: u32) -> Resu
 }
 
 /// Looks whether a range can be written.
-#[tactic(auto, unfolding(crate::specs::Rows::target_fault))]
+#[tactic(auto, unfolding(crate::specs::Space::target_fault))]
 fn can_write<A: Allocator + Clone>(state: &State<A>, at: u32, count: u32) -> Result<(), Fault>
     ensures value { Reads (λ v. v) result (target_fault state.now.flat at count) }
     ensures there { OnOk result (IsInRam state.now.flat at count) }
@@ -42,7 +42,7 @@ fn can_write<A: Allocator + Clone>(state: &State<A>, at: u32, count: u32) -> Res
 }
 
 /// mzero
-#[tactic(auto, unfolding(crate::specs::Rows::mzero))]
+#[tactic(auto, unfolding(crate::specs::Space::mzero))]
 pub fn mzero<A: Allocator + Clone>(state: &mut State<A>, plan: &Plan) -> Result<Effect, Fault>
     requires { IsHeight state.old.flat plan.now.sp }
     ensures value { Works (0 < L1 (instruction_of plan.now)) result state.old.flat state.new.flat
@@ -57,7 +57,7 @@ pub fn mzero<A: Allocator + Clone>(state: &mut State<A>, plan: &Plan) -> Result<
 }
 
 /// mcopy
-#[tactic(auto, unfolding(crate::specs::Rows::mcopy))]
+#[tactic(auto, unfolding(crate::specs::Space::mcopy))]
 pub fn mcopy<A: Allocator + Clone>(state: &mut State<A>, plan: &Plan) -> Result<Effect, Fault>
     requires { IsHeight state.old.flat plan.now.sp }
     ensures value { Works (0 < L1 (instruction_of plan.now)) result state.old.flat state.new.flat

@@ -10,7 +10,7 @@ ghost use Rattle.gx_state.specs.Stores.{IsMemory};
 ghost use Rattle.gx_state.specs.Replies.{IsDone};
 ghost use Rattle.gx_operands.specs.Plans.{instruction_of};
 ghost use Rattle.gx_operands.specs.Stores.{stores};
-ghost use Rattle.ops_memory.specs.Rows.{row_ask, list_ask, search_by, is_indexed, searches};
+ghost use Rattle.ops_memory.specs.Searching.{row_ask, list_ask, search_by, is_indexed, searches};
 ghost use Rattle.ops_memory.specs.Charges.{lowered, charged, EndsWithin, IsAfforded};
 
 use gx_operands::{Plan, stores};
@@ -129,7 +129,8 @@ pub fn searches<A: Allocator + Clone>(
         (state.new.flat, left.new) (charged left.old
         (search_by method state.old.flat (instruction_of plan.now)).probes state.old.flat
         (searches method state.old.flat (instruction_of plan.now))) }
-    ensures done { IfOk result (EndsWithin left.old (search_by method state.old.flat (instruction_of plan.now)).probes) }
+    ensures done { IfOk result (EndsWithin left.old
+        (search_by method state.old.flat (instruction_of plan.now)).probes) }
     ensures affords { IfErr result (IsAfforded left.old
         (search_by method state.old.flat (instruction_of plan.now)).probes) }
     ensures story { state.new.flat.story ≡ state.old.flat.story }

@@ -5,7 +5,7 @@
 ghost use Rattle.std.specs.Prelude.{◌≡◌, ◌⊎◌, ◌<◌, ◌≤◌, Ok, length, IfOk};
 ghost use Rattle.gx_words.specs.Faults.{Reads};
 ghost use Rattle.gx_pages.specs.Memory.{IsSize};
-ghost use Rattle.heap_blocks.specs.Heap.{IsBelow};
+ghost use Rattle.heap_blocks.specs.Heap.{IsHeapBelow};
 ghost use Rattle.gx_state.specs.Flat.{IsHeight};
 ghost use Rattle.gx_state.specs.Relations.{Stores, Works};
 ghost use Rattle.gx_state.specs.Replies.{IsDone};
@@ -14,7 +14,7 @@ ghost use Rattle.gx_state.specs.Allowed.{IsGrowth, IsShrinking};
 ghost use Rattle.gx_state.specs.Stores.{IsMemory, store_fault};
 ghost use Rattle.gx_operands.specs.Plans.{instruction_of};
 ghost use Rattle.gx_operands.specs.Stores.{settled};
-ghost use Rattle.ops_memory.specs.Rows.{setmemsize};
+ghost use Rattle.ops_memory.specs.Space.{setmemsize};
 ghost use Rattle.ops_memory.specs.Writes.{IsSizeWriting};
 
 use gx_operands::{Plan, can_store, settle, stores};
@@ -102,7 +102,7 @@ fn resize_with<A: Allocator + Clone>(
     requires sp { IsHeight state.old.flat plan.now.sp }
     requires size { IsSize size }
     requires endmem { state.old.flat.story.header.endmem ≤ size }
-    requires heap { IsBelow size state.old.flat.heap }
+    requires heap { IsHeapBelow size state.old.flat.heap }
     ensures { Stores (IsMemory plan.now.dest ⊎ (length state.old.flat.memory < size)) result state.old state.new
         (settled (with_size state.old.flat size) plan.now.sp 4 plan.now.dest value) }
 {
@@ -115,7 +115,7 @@ fn resize_with<A: Allocator + Clone>(
 }
 
 /// setmemsize
-#[tactic(auto, unfolding(crate::specs::Rows::setmemsize), using(crate::proofs::Spaces::none_below))]
+#[tactic(auto, unfolding(crate::specs::Space::setmemsize), using(crate::proofs::Spaces::none_below))]
 pub fn setmemsize<A: Allocator + Clone>(state: &mut State<A>, plan: &Plan) -> Result<Effect, Fault>
     requires { IsHeight state.old.flat plan.now.sp }
     ensures value { Works (IsSizeWriting state.old.flat (instruction_of plan.now)) result state.old.flat state.new.flat

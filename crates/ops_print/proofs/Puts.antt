@@ -17,7 +17,7 @@ use Rattle.gx_state.specs.Entry.{entered}
 use Rattle.gx_state.specs.Returns.{pushed_stubs}
 use Rattle.ops_print.specs.Stubs.{ways_back, inner_ended}
 use Rattle.ops_print.specs.Items.{arguments_in, function_called, character_printed, string_begun, reference_called}
-use Rattle.ops_print.specs.Items.{string_ended, item_printed, is_place, item}
+use Rattle.ops_print.specs.Items.{string_ended, item_printed, is_printing_place, item}
 use Rattle.ops_print.specs.Asks.{item_by, printed, is_put}
 
 -- a step, or a fault, that puts no character
@@ -78,14 +78,14 @@ printed-is f p mode h = (subst (λ (m : Mode). Quiet (item_by f m)) (sym mode) h
 
 pub quiet_item : (f : FlatState) (p : Printing) → f.mode ≡ mode.Printing p → is_char (next_item f.memory f.table p) ≡ false → IfOk (printed f) (λ r. is_put r.1 ≡ false)
 unfolding item
-quiet_item f p mode none = printed-is f p mode (either (is_place p.kind p.bit) (step f p (next_item f.memory f.table p) (inl none)) (record { is = tt }))
+quiet_item f p mode none = printed-is f p mode (either (is_printing_place p.kind p.bit) (step f p (next_item f.memory f.table p) (inl none)) (record { is = tt }))
 
 pub quiet_system : (f : FlatState) (p : Printing) → f.mode ≡ mode.Printing p → (f.iosys.0 == glk_system) ≡ false → IfOk (printed f) (λ r. is_put r.1 ≡ false)
 unfolding item
-quiet_system f p mode system = printed-is f p mode (either (is_place p.kind p.bit) (step f p (next_item f.memory f.table p) (inr system)) (record { is = tt }))
+quiet_system f p mode system = printed-is f p mode (either (is_printing_place p.kind p.bit) (step f p (next_item f.memory f.table p) (inr system)) (record { is = tt }))
 
-pub quiet_place : (f : FlatState) (p : Printing) → f.mode ≡ mode.Printing p → is_place p.kind p.bit ≡ false → IfOk (printed f) (λ r. is_put r.1 ≡ false)
+pub quiet_place : (f : FlatState) (p : Printing) → f.mode ≡ mode.Printing p → is_printing_place p.kind p.bit ≡ false → IfOk (printed f) (λ r. is_put r.1 ≡ false)
 unfolding item
-quiet_place f p mode place = printed-is f p mode (past (is_place p.kind p.bit) _ _ place (record { is = tt }))
+quiet_place f p mode place = printed-is f p mode (past (is_printing_place p.kind p.bit) _ _ place (record { is = tt }))
 
 pub ruleset quiet = (quiet_item, quiet_system, quiet_place)

@@ -79,14 +79,14 @@ item_printed f started (Call back at args_at count) = reference_called f started
 item_printed f started End = string_ended f started
 
 -- a compressed string stands at one of the eight bits of a byte
-abbrev pub is_place : PrintKind → ℕ → Bool
-is_place E1 bit = is_bit bit
-is_place kind bit = true
+abbrev pub is_printing_place : PrintKind → ℕ → Bool
+is_printing_place E1 bit = is_bit bit
+is_printing_place kind bit = true
 
 -- One step of printing. A place that no string has is the fault of a stub with it.
 unfoldable pub item : FlatState → Printing → Result (FlatState × Effect) Fault
 item f p =
-    if is_place p.kind p.bit then (do
+    if is_printing_place p.kind p.bit then (do
       i ← next_item f.memory f.table p
       item_printed f p.started i) else
     Err BadFrame

@@ -8,7 +8,7 @@ ghost use Rattle.gx_state.specs.Flat.{sp_of};
 ghost use Rattle.gx_state.specs.Relations.{Goes};
 ghost use Rattle.ops_print.specs.Asks.{IsPutAtMost, printed, is_put};
 ghost use Rattle.ops_print.specs.Items.{function_called, character_printed, string_begun, reference_called};
-ghost use Rattle.ops_print.specs.Items.{string_ended, is_place, mode_after};
+ghost use Rattle.ops_print.specs.Items.{string_ended, mode_after, is_printing_place};
 
 use crate::arguments::arguments_in;
 use crate::stubs::{end_inner, resuming, to_code};
@@ -121,8 +121,8 @@ fn end_string<A: Allocator + Clone>(state: &mut State<A>, started: bool) -> Resu
 }
 
 /// Whether a string or number may stand at a bit.
-fn is_place(printing: &Printing) -> bool
-    ensures { result ≡ is_place printing.now.kind printing.now.bit }
+fn is_printing_place(printing: &Printing) -> bool
+    ensures { result ≡ is_printing_place printing.now.kind printing.now.bit }
 {
     match printing.kind {
         PrintKind::E1 => printing.bit < 8,
@@ -143,7 +143,7 @@ fn rom<A: Allocator + Clone>(state: &State<A>) -> &[u8]
 /// The character that the next step of a machine that prints asks to be put, with the address and the bit behind it;
 /// None where it does something else.
 #[inline(always)]
-#[tactic(auto, using(crate::proofs::Puts::quiet), unfolding(crate::specs::Items::item, crate::specs::Items::item_printed, crate::specs::Items::character_printed, crate::specs::Items::mode_after))]
+#[tactic(auto, using(crate::proofs::Puts::quiet), unfolding(crate::proofs::Opened::putting))]
 pub fn next_put<A: Allocator + Clone>(
     state: &State<A>,
     printing: &Printing,
@@ -155,7 +155,7 @@ pub fn next_put<A: Allocator + Clone>(
     ensures none { result ≡ None → IfOk (printed state.now.flat) (λ r. is_put r.1 ≡ false) }
 {
     let (system, _) = state.iosys();
-    if system != GLK_SYSTEM || !is_place(printing) {
+    if system != GLK_SYSTEM || !is_printing_place(printing) {
         return None;
     }
     next_char(rom(state), state.memory(), state.table(), printing)
@@ -164,7 +164,7 @@ pub fn next_put<A: Allocator + Clone>(
 /// The address and the bit behind the character that the next step of a machine that prints drops; None where that does
 /// something else.
 #[inline(always)]
-#[tactic(auto, unfolding(crate::specs::Items::item, crate::specs::Items::item_printed, crate::specs::Items::character_printed))]
+#[tactic(auto, unfolding(crate::proofs::Opened::dropping))]
 pub fn next_dropped<A: Allocator + Clone>(
     state: &State<A>,
     printing: &Printing,
@@ -174,7 +174,7 @@ pub fn next_dropped<A: Allocator + Clone>(
         ≡ Ok (record state.now.flat { mode = APrinting (record printing.now { at = r.0; bit = r.1 }) }, Went)) }
 {
     let (system, _) = state.iosys();
-    if system == GLK_SYSTEM || system == FILTER_SYSTEM || !is_place(printing) {
+    if system == GLK_SYSTEM || system == FILTER_SYSTEM || !is_printing_place(printing) {
         return None;
     }
     let (_, at, bit) = next_char(rom(state), state.memory(), state.table(), printing)?;
@@ -184,7 +184,7 @@ pub fn next_dropped<A: Allocator + Clone>(
 /// Makes one step of printing like `item`, and answers with it the mode behind the character, where the
 /// item is one: the state stands while a character is to be put, and this is its mode once that is done.
 /// For any other item it is the mode before the step.
-#[tactic(auto, unfolding(crate::specs::Items::item, crate::specs::Items::item_printed, crate::specs::Items::mode_after))]
+#[tactic(auto, unfolding(crate::proofs::Opened::stepping))]
 pub fn item_and_mode<A: Allocator + Clone>(state: &mut State<A>) -> Result<(Effect, Mode), Fault>
     requires { 0 < sp_of state.old.flat }
     ensures value { Turns (λ r. r.0) result state.old.flat state.new.flat (printed state.old.flat) }
@@ -197,7 +197,7 @@ pub fn item_and_mode<A: Allocator + Clone>(state: &mut State<A>) -> Result<(Effe
     let Mode::Printing(printing) = mode else {
         return Err(Fault::BadFrame);
     };
-    if !is_place(&printing) {
+    if !is_printing_place(&printing) {
         return Err(Fault::BadFrame);
     }
     let started = printing.started;

@@ -46,7 +46,7 @@ pub fn to_code<A: Allocator + Clone>(state: &State<A>) -> Stub
 /// Ends a string or number that a reference began or a stub resumed, and goes on by the stub on top, which
 /// is looked at before it is popped. `BadFrame` exactly where no stub is there, its frame is not good, or
 /// it resumes neither code nor a compressed string at one of the eight bits of a byte.
-#[tactic(auto, unfolding(crate::specs::Stubs::inner_ended, crate::specs::Stubs::after_stub, gx_state::specs::Returns::popped_stub, gx_state::specs::Returns::stub_to, gx_state::specs::Returns::printing_on, gx_stack::specs::Frames::frame_in), using(gx_state::proofs::Kept::below))]
+#[tactic(auto, unfolding(crate::proofs::Opened::ending), using(gx_state::proofs::Kept::below))]
 pub fn end_inner<A: Allocator + Clone>(state: &mut State<A>) -> Result<(), Fault>
     ensures { Acts result state.old state.new (inner_ended state.old.flat) }
 {

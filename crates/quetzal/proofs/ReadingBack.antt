@@ -19,7 +19,7 @@ use Rattle.gx_stack.specs.declared.frames.Frame.{Frame}
 use Rattle.gx_stack.specs.declared.stubs.Stub.{Stub}
 use Rattle.gx_stack.specs.Frames.{IsGood, is_good, has_local, parts}
 use Rattle.gx_stack.specs.Stubs.{stub_below}
-use Rattle.heap_blocks.specs.Heap.{Block, FlatHeap, IsRising, IsEndedBy, end_of, inactive, is_inactive, inserted}
+use Rattle.heap_blocks.specs.Heap.{Block, FlatHeap, IsRising, IsEndedBy, block_end, inactive, is_inactive, inserted}
 use Rattle.gx_story.specs.Stories.{FlatStory, IsStory}
 use Rattle.gx_state.specs.Copies.{Copy, IsCopyFor}
 use Rattle.gx_state.specs.Sound.{IsHeapWithin}
@@ -38,8 +38,8 @@ use Rattle.zero_runs.proofs.RoundTrip.{unpacked-packed, length-packed}
 use Rattle.zero_runs.proofs.UnpackingTurns.{length-xored}
 use Rattle.quetzal.specs.Faults.{of_form}
 use Rattle.quetzal.specs.Chunks.{MemoryBody, body_in, memory_in, needed, parts_in}
-use Rattle.quetzal.specs.Memory.{bytes_in, first_ram, is_memory_size, memory_bytes, memory_of, ram_of, size_in}
-use Rattle.quetzal.specs.Stacks.{has_height, is_place, is_stack, is_stub}
+use Rattle.quetzal.specs.Memory.{ram_bytes, first_ram, is_memory_size, memory_bytes, memory_of, ram_of, size_in}
+use Rattle.quetzal.specs.Stacks.{has_height, is_result_place, is_stack, is_stub}
 use Rattle.quetzal.specs.Blocks.{are_apart, are_blocks, blocks_from, blocks_in, bytes_of_block, count_in, has_count}
 use Rattle.quetzal.specs.Blocks.{has_no_heap, heap_bytes, heap_of, ordered_blocks, is_block, is_heap, is_start}
 use Rattle.quetzal.specs.Blocks.{start_in}
@@ -101,7 +101,7 @@ pub length-memory_bytes : (story : FlatStory) (memory : List ℕ) → length mem
 unfolding memory_bytes
 length-memory_bytes story memory le = omega (arith, le, length-packed (xored (drop story.header.ramstart memory) (first_ram story)), length-xored (drop story.header.ramstart memory) (first_ram story), length-drop story.header.ramstart memory)
 
-ram_by : (story : FlatStory) (chunk : MemoryBody) (bytes ram : List ℕ) (size : ℕ) → chunk.is_packed ≡ true → size_in chunk ≡ size → bytes_in chunk ≡ bytes → unpacked bytes (first_ram story) (size - story.header.ramstart) ≡ Ok ram → ram_of story chunk ≡ Ok ram
+ram_by : (story : FlatStory) (chunk : MemoryBody) (bytes ram : List ℕ) (size : ℕ) → chunk.is_packed ≡ true → size_in chunk ≡ size → ram_bytes chunk ≡ bytes → unpacked bytes (first_ram story) (size - story.header.ramstart) ≡ Ok ram → ram_of story chunk ≡ Ok ram
 unfolding ram_of
 ram_by story chunk bytes ram size a b c d = rw (a, b, c, d) refl
 
@@ -121,7 +121,7 @@ size_there story c fit = both _ _ (both _ _ (eq-eqb _ _ fit.size.whole) (le-leb 
 good_there : (s : List ℕ) (fp : ℕ) → IsGood s fp → is_good s fp ≡ true
 good_there s fp good = grind (arith, nat_tests, good.header, good.begins, good.aligned, good.locals, good.order, good.whole)
 
-place_by : (story : FlatStory) (size : ℕ) (frame : Frame) (p : Stub) (one two : Bool) → (p.kind == 1) ≡ one → (p.kind == 2) ≡ two → (p.kind ≡ 1 → (story.header.ramstart ≤ p.addr) × (p.addr + 4 ≤ size)) → (p.kind ≡ 2 → IsTrue (has_local frame p.addr 4)) → is_place story size frame p ≡ true
+place_by : (story : FlatStory) (size : ℕ) (frame : Frame) (p : Stub) (one two : Bool) → (p.kind == 1) ≡ one → (p.kind == 2) ≡ two → (p.kind ≡ 1 → (story.header.ramstart ≤ p.addr) × (p.addr + 4 ≤ size)) → (p.kind ≡ 2 → IsTrue (has_local frame p.addr 4)) → is_result_place story size frame p ≡ true
 place_by story size frame p true two a b word local =
     let at = word (eqb-true _ _ a) in
     rw a (both (nat_le story.header.ramstart p.addr) (nat_le (p.addr + 4) size) (le-leb _ _ at.0) (le-leb _ _ at.1))
@@ -136,16 +136,16 @@ stack_there story c fit =
     let height : has_height story c.stack ≡ true = both _ _ (both _ _ (eq-eqb _ _ fit.aligned) (le-leb _ _ fit.height)) (le-leb _ _ fit.stub) in
     let place = place_by story (length c.memory) (parts below p.fp) p (p.kind == 1) (p.kind == 2) refl refl fit.word fit.local in
     both (has_height story c.stack) (is_stub story (length c.memory) below p) height
-    (both (nat_le p.kind 3 && is_good below p.fp) (is_place story (length c.memory) (parts below p.fp) p) (both (nat_le p.kind 3) (is_good below p.fp) (le-leb _ _ fit.kind) (good_there below p.fp fit.framed)) place)
+    (both (nat_le p.kind 3 && is_good below p.fp) (is_result_place story (length c.memory) (parts below p.fp) p) (both (nat_le p.kind 3) (is_good below p.fp) (le-leb _ _ fit.kind) (good_there below p.fp fit.framed)) place)
 
 -- the heap
 rises_from : (bs : List Block) (at size : ℕ) → at ≤ size → IsRising at bs → IsEndedBy size bs → rises at size bs ≡ true
 rises_from [] at size le up ends = le-leb at size le
-rises_from (b ∷ bs) at size le up ends = rises_by b bs at size up.0 up.1 (rises_from bs (end_of b) size ends.0 up.2 ends.1)
+rises_from (b ∷ bs) at size le up ends = rises_by b bs at size up.0 up.1 (rises_from bs (block_end b) size ends.0 up.2 ends.1)
 
 pub rises_count : (bs : List Block) (at size : ℕ) → rises at size bs ≡ true → at + length bs ≤ size
 rises_count [] at size h = omega (arith, leb-true at size h)
-rises_count (b ∷ bs) at size h = let p = rises_parts b bs at size h in omega (arith, p.0, p.1, rises_count bs (end_of b) size p.2)
+rises_count (b ∷ bs) at size h = let p = rises_parts b bs at size h in omega (arith, p.0, p.1, rises_count bs (block_end b) size p.2)
 
 abbrev AreWords : List Block → Type 0
 AreWords bs = AllByRecursion (λ (b : Block). (b.0 < 2 ^ 32) × (b.1 < 2 ^ 32)) bs
@@ -154,8 +154,8 @@ rises_words : (bs : List Block) (at size : ℕ) → size ≤ ceiling → rises a
 rises_words [] at size small h = tt
 rises_words (b ∷ bs) at size small h =
     let p = rises_parts b bs at size h in
-    let n = rises_count bs (end_of b) size p.2 in
-    ((omega (arith, n, small), omega (arith, n, small)), rises_words bs (end_of b) size small p.2)
+    let n = rises_count bs (block_end b) size p.2 in
+    ((omega (arith, n, small), omega (arith, n, small)), rises_words bs (block_end b) size small p.2)
 
 in_order_same : (bs : List Block) (at size : ℕ) → rises at size bs ≡ true → ordered_blocks bs ≡ bs
 unfolding ordered_blocks inserted
@@ -163,8 +163,8 @@ in_order_same [] at size h = refl
 in_order_same (b ∷ []) at size h = refl
 in_order_same (b ∷ c ∷ bs) at size h =
     let p = rises_parts b (c ∷ bs) at size h in
-    let q = rises_parts c bs (end_of b) size p.2 in
-    let e = in_order_same (c ∷ bs) (end_of b) size p.2 in
+    let q = rises_parts c bs (block_end b) size p.2 in
+    let e = in_order_same (c ∷ bs) (block_end b) size p.2 in
     let t = le-ltb c.0 b.0 (omega (arith, q.0)) in
     ap (inserted b) e ∙ rw t refl
 

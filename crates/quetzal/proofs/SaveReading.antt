@@ -10,7 +10,7 @@ use Rattle.gx_words.specs.Results.{◌>>=◌}
 use Rattle.gx_stack.specs.declared.stubs.Stub.{Stub}
 use Rattle.gx_stack.specs.Frames.{IsGood, is_good, has_local, parts}
 use Rattle.gx_stack.specs.Stubs.{stub_below}
-use Rattle.heap_blocks.specs.Heap.{Block, FlatHeap, IsRising, IsEndedBy, end_of, inactive}
+use Rattle.heap_blocks.specs.Heap.{Block, FlatHeap, IsRising, IsEndedBy, block_end, inactive}
 use Rattle.heap_blocks.proofs.Changing.{length-inserted}
 use Rattle.gx_story.specs.Stories.{FlatStory, IsStory}
 use Rattle.gx_state.specs.Sound.{IsHeapWithin}
@@ -20,7 +20,7 @@ use Rattle.quetzal.specs.declared.faults.SaveFault.TheVariants as fault
 use Rattle.quetzal.specs.Faults.{allowed}
 use Rattle.quetzal.specs.Chunks.{Parts, parts_in}
 use Rattle.quetzal.specs.Memory.{is_memory_size, size_in, memory_of}
-use Rattle.quetzal.specs.Stacks.{is_stack, is_place, has_height}
+use Rattle.quetzal.specs.Stacks.{is_stack, is_result_place, has_height}
 use Rattle.quetzal.specs.Blocks.{are_apart, are_blocks, blocks_from, blocks_in, count_in, has_count, has_no_heap}
 use Rattle.quetzal.specs.Blocks.{heap_of, ordered_blocks, is_block, is_heap, is_start, start_in}
 use Rattle.quetzal.specs.Laws.{may_meet, ordered, rises, MayMeet}
@@ -51,8 +51,8 @@ in_parts : (bs : List Block) (at size : ℕ) → rises at size bs ≡ true → I
 in_parts [] at size h = (tt, tt)
 in_parts (b ∷ bs) at size h =
     let p = rises_parts b bs at size h in
-    let q = in_parts bs (end_of b) size p.2 in
-    ((p.0, p.1, q.0), (rises_size bs (end_of b) size p.2, q.1))
+    let q = in_parts bs (block_end b) size p.2 in
+    ((p.0, p.1, q.0), (rises_size bs (block_end b) size p.2, q.1))
 
 ends_higher : (bs : List Block) (low high : ℕ) → low ≤ high → IsEndedBy low bs → IsEndedBy high bs
 ends_higher [] low high le ends = tt
@@ -175,7 +175,7 @@ pub record Stacks (story : FlatStory) (size : ℕ) (stack : List ℕ) : Type 0 w
   pub stub : 16 ≤ length stack
   pub kind : (stub_below stack (length stack)).kind ≤ 3
   pub good : IsGood (take (length stack - 16) stack) (stub_below stack (length stack)).fp
-  pub place : is_place story size (parts (take (length stack - 16) stack) (stub_below stack (length stack)).fp) (stub_below stack (length stack)) ≡ true
+  pub place : is_result_place story size (parts (take (length stack - 16) stack) (stub_below stack (length stack)).fp) (stub_below stack (length stack)) ≡ true
 
 good_by : (s : List ℕ) (fp : ℕ) → is_good s fp ≡ true → IsGood s fp
 good_by s fp h =
@@ -196,13 +196,13 @@ stack_parts story size stack h =
     let e = and_parts _ _ d.0 in
     record { aligned = eqb-true _ _ c.0; height = leb-true _ _ c.1; stub = leb-true _ _ b.1; kind = leb-true _ _ e.0; good = good_by _ _ e.1; place = d.1 }
 
-word_by : (story : FlatStory) (size : ℕ) (below : List ℕ) (p : Stub) → is_place story size (parts below p.fp) p ≡ true → p.kind ≡ 1 → (story.header.ramstart ≤ p.addr) × (p.addr + 4 ≤ size)
+word_by : (story : FlatStory) (size : ℕ) (below : List ℕ) (p : Stub) → is_result_place story size (parts below p.fp) p ≡ true → p.kind ≡ 1 → (story.header.ramstart ≤ p.addr) × (p.addr + 4 ≤ size)
 word_by story size below p h one =
     let here : (nat_le story.header.ramstart p.addr && nat_le (p.addr + 4) size) ≡ true = rw one at h in
     let a = and_parts _ _ here in
     (leb-true _ _ a.0, leb-true _ _ a.1)
 
-local_by : (story : FlatStory) (size : ℕ) (below : List ℕ) (p : Stub) → is_place story size (parts below p.fp) p ≡ true → p.kind ≡ 2 → has_local (parts below p.fp) p.addr 4 ≡ true
+local_by : (story : FlatStory) (size : ℕ) (below : List ℕ) (p : Stub) → is_result_place story size (parts below p.fp) p ≡ true → p.kind ≡ 2 → has_local (parts below p.fp) p.addr 4 ≡ true
 local_by story size below p h two = rw two at h
 
 -- what is read is fit for the story

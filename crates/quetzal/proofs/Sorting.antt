@@ -7,7 +7,7 @@ use Rattle.std.proofs.lemmas.Bool.{le-ltb, lt-ltb, le-leb, leb-true, ltb-true, a
 use Rattle.std.proofs.lemmas.Bool.Decides.{nat_tests}
 use Rattle.std.proofs.lemmas.List.Sums.{sum_by-cons}
 use Rattle.std.proofs.lemmas.List.Sorted.{sum_by-IsPermutation}
-use Rattle.heap_blocks.specs.Heap.{Block, end_of, inserted}
+use Rattle.heap_blocks.specs.Heap.{Block, block_end, inserted}
 use Rattle.quetzal.specs.declared.faults.SaveFault.TheVariants as fault
 use Rattle.quetzal.specs.Blocks.{are_apart, are_blocks, ordered_blocks, is_apart, is_block}
 use Rattle.quetzal.specs.Laws.{IsSortedFrom, ordered, rises}
@@ -30,53 +30,53 @@ or_right true y h = refl
 or_right false y h = h
 
 -- what the tests say
-pub rises_parts : (b : Block) (bs : List Block) (at size : ℕ) → rises at size (b ∷ bs) ≡ true → (at ≤ b.0) × (0 < b.1) × (rises (end_of b) size bs ≡ true)
+pub rises_parts : (b : Block) (bs : List Block) (at size : ℕ) → rises at size (b ∷ bs) ≡ true → (at ≤ b.0) × (0 < b.1) × (rises (block_end b) size bs ≡ true)
 rises_parts b bs at size h =
-    let a = and_parts (nat_le at b.0 && nat_lt 0 b.1) (rises (end_of b) size bs) h in
+    let a = and_parts (nat_le at b.0 && nat_lt 0 b.1) (rises (block_end b) size bs) h in
     let c = and_parts (nat_le at b.0) (nat_lt 0 b.1) a.0 in
     (leb-true _ _ c.0, ltb-true _ _ c.1, a.1)
 
-pub rises_by : (b : Block) (bs : List Block) (at size : ℕ) → at ≤ b.0 → 0 < b.1 → rises (end_of b) size bs ≡ true → rises at size (b ∷ bs) ≡ true
-rises_by b bs at size low some rest = both (nat_le at b.0 && nat_lt 0 b.1) (rises (end_of b) size bs) (both (nat_le at b.0) (nat_lt 0 b.1) (le-leb _ _ low) (lt-ltb _ _ some)) rest
+pub rises_by : (b : Block) (bs : List Block) (at size : ℕ) → at ≤ b.0 → 0 < b.1 → rises (block_end b) size bs ≡ true → rises at size (b ∷ bs) ≡ true
+rises_by b bs at size low some rest = both (nat_le at b.0 && nat_lt 0 b.1) (rises (block_end b) size bs) (both (nat_le at b.0) (nat_lt 0 b.1) (le-leb _ _ low) (lt-ltb _ _ some)) rest
 
 pub rises_size : (bs : List Block) (at size : ℕ) → rises at size bs ≡ true → at ≤ size
 rises_size [] at size h = leb-true at size h
-rises_size (b ∷ bs) at size h = let p = rises_parts b bs at size h in omega (arith, rises_size bs (end_of b) size p.2)
+rises_size (b ∷ bs) at size h = let p = rises_parts b bs at size h in omega (arith, rises_size bs (block_end b) size p.2)
 
 rises_lower : (bs : List Block) (at low size : ℕ) → low ≤ at → rises at size bs ≡ true → rises low size bs ≡ true
 rises_lower [] at low size le h = le-leb low size (omega (arith, leb-true at size h))
 rises_lower (b ∷ bs) at low size le h = let p = rises_parts b bs at size h in rises_by b bs low size (omega (arith, p.0)) p.1 p.2
 
-apart_cases : (a b : Block) → is_apart a b ≡ true → (end_of a ≤ b.0) ⊎ (end_of b ≤ a.0)
-apart_cases a b h = elim (or_cases (nat_le (end_of a) b.0) (nat_le (end_of b) a.0) h) [ inl before ↦ inl (leb-true _ _ before) | inr behind ↦ inr (leb-true _ _ behind) ]
+apart_cases : (a b : Block) → is_apart a b ≡ true → (block_end a ≤ b.0) ⊎ (block_end b ≤ a.0)
+apart_cases a b h = elim (or_cases (nat_le (block_end a) b.0) (nat_le (block_end b) a.0) h) [ inl before ↦ inl (leb-true _ _ before) | inr behind ↦ inr (leb-true _ _ behind) ]
 
-apart_before : (a b : Block) → end_of a ≤ b.0 → is_apart a b ≡ true
-apart_before a b le = or_left (nat_le (end_of a) b.0) (nat_le (end_of b) a.0) (le-leb _ _ le)
+apart_before : (a b : Block) → block_end a ≤ b.0 → is_apart a b ≡ true
+apart_before a b le = or_left (nat_le (block_end a) b.0) (nat_le (block_end b) a.0) (le-leb _ _ le)
 
-apart_behind : (a b : Block) → end_of b ≤ a.0 → is_apart a b ≡ true
-apart_behind a b le = or_right (nat_le (end_of a) b.0) (nat_le (end_of b) a.0) (le-leb _ _ le)
+apart_behind : (a b : Block) → block_end b ≤ a.0 → is_apart a b ≡ true
+apart_behind a b le = or_right (nat_le (block_end a) b.0) (nat_le (block_end b) a.0) (le-leb _ _ le)
 
-all_apart : (x : Block) (bs : List Block) (at size : ℕ) → end_of x ≤ at → rises at size bs ≡ true → list_all (is_apart x) bs ≡ true
+all_apart : (x : Block) (bs : List Block) (at size : ℕ) → block_end x ≤ at → rises at size bs ≡ true → list_all (is_apart x) bs ≡ true
 all_apart x [] at size le h = refl
 all_apart x (b ∷ bs) at size le h =
     let p = rises_parts b bs at size h in
-    both (is_apart x b) (list_all (is_apart x) bs) (apart_before x b (omega (arith, p.0))) (all_apart x bs (end_of b) size (omega (arith, p.0)) p.2)
+    both (is_apart x b) (list_all (is_apart x) bs) (apart_before x b (omega (arith, p.0))) (all_apart x bs (block_end b) size (omega (arith, p.0)) p.2)
 
-pub block_parts : (start size : ℕ) (b : Block) → is_block start size b ≡ true → (0 < b.1) × (start ≤ b.0) × (end_of b ≤ size)
+pub block_parts : (start size : ℕ) (b : Block) → is_block start size b ≡ true → (0 < b.1) × (start ≤ b.0) × (block_end b ≤ size)
 block_parts start size b h =
-    let a = and_parts (nat_lt 0 b.1 && nat_le start b.0) (nat_le (end_of b) size) h in
+    let a = and_parts (nat_lt 0 b.1 && nat_le start b.0) (nat_le (block_end b) size) h in
     let c = and_parts (nat_lt 0 b.1) (nat_le start b.0) a.0 in
     (ltb-true _ _ c.0, leb-true _ _ c.1, leb-true _ _ a.1)
 
-block_by : (start size : ℕ) (b : Block) → 0 < b.1 → start ≤ b.0 → end_of b ≤ size → is_block start size b ≡ true
-block_by start size b some low ends = both (nat_lt 0 b.1 && nat_le start b.0) (nat_le (end_of b) size) (both (nat_lt 0 b.1) (nat_le start b.0) (lt-ltb _ _ some) (le-leb _ _ low)) (le-leb _ _ ends)
+block_by : (start size : ℕ) (b : Block) → 0 < b.1 → start ≤ b.0 → block_end b ≤ size → is_block start size b ≡ true
+block_by start size b some low ends = both (nat_lt 0 b.1 && nat_le start b.0) (nat_le (block_end b) size) (both (nat_lt 0 b.1) (nat_le start b.0) (lt-ltb _ _ some) (le-leb _ _ low)) (le-leb _ _ ends)
 
 -- a block put in order among blocks that rise
 by_address : (x b : Block) (bs : List Block) → (nat_lt b.0 x.0 ≡ true → inserted x (b ∷ bs) ≡ b ∷ inserted x bs) × (nat_lt b.0 x.0 ≡ false → inserted x (b ∷ bs) ≡ x ∷ b ∷ bs)
 unfolding inserted
 by_address x b bs = (λ below. rw below refl, λ above. rw above refl)
 
-rises_inserted : (bs : List Block) (at size : ℕ) (x : Block) → at ≤ x.0 → 0 < x.1 → end_of x ≤ size → list_all (is_apart x) bs ≡ true → rises at size bs ≡ true → rises at size (inserted x bs) ≡ true
+rises_inserted : (bs : List Block) (at size : ℕ) (x : Block) → at ≤ x.0 → 0 < x.1 → block_end x ≤ size → list_all (is_apart x) bs ≡ true → rises at size bs ≡ true → rises at size (inserted x bs) ≡ true
 unfolding inserted
 rises_inserted [] at size x low some ends apart h = rises_by x [] at size low some (le-leb _ _ ends)
 rises_inserted (b ∷ bs) at size x low some ends apart h =
@@ -84,19 +84,19 @@ rises_inserted (b ∷ bs) at size x low some ends apart h =
     let q = and_parts (is_apart x b) (list_all (is_apart x) bs) apart in
     elim (cases_lt b.0 x.0) [
       | inl below ↦
-          let behind : end_of b ≤ x.0 = elim (apart_cases x b q.0) [ inl before ↦ absurd (omega arith) | inr behind ↦ behind ] in
+          let behind : block_end b ≤ x.0 = elim (apart_cases x b q.0) [ inl before ↦ absurd (omega arith) | inr behind ↦ behind ] in
           let is = (by_address x b bs).0 (lt-ltb b.0 x.0 below) in
-          ap (rises at size) is ∙ rises_by b (inserted x bs) at size p.0 p.1 (rises_inserted bs (end_of b) size x behind some ends q.1 p.2)
+          ap (rises at size) is ∙ rises_by b (inserted x bs) at size p.0 p.1 (rises_inserted bs (block_end b) size x behind some ends q.1 p.2)
       | inr above ↦
-          let before : end_of x ≤ b.0 = elim (apart_cases x b q.0) [ inl before ↦ before | inr behind ↦ absurd (omega (arith, p.1)) ] in
+          let before : block_end x ≤ b.0 = elim (apart_cases x b q.0) [ inl before ↦ before | inr behind ↦ absurd (omega (arith, p.1)) ] in
           let is = (by_address x b bs).1 (le-ltb b.0 x.0 above) in
-          ap (rises at size) is ∙ rises_by x (b ∷ bs) at size low some (rises_by b bs (end_of x) size before p.1 p.2)
+          ap (rises at size) is ∙ rises_by x (b ∷ bs) at size low some (rises_by b bs (block_end x) size before p.1 p.2)
     ]
 
 record Inserts (at size : ℕ) (x : Block) (bs : List Block) : Type 0 where
   low : at ≤ x.0
   some : 0 < x.1
-  ends : end_of x ≤ size
+  ends : block_end x ≤ size
   apart : list_all (is_apart x) bs ≡ true
   rest : rises at size bs ≡ true
 
@@ -104,19 +104,19 @@ inserted_rises : (bs : List Block) (at size : ℕ) (x : Block) → rises at size
 unfolding inserted
 inserted_rises [] at size x h =
     let p = rises_parts x [] at size h in
-    let ends = leb-true (end_of x) size p.2 in
+    let ends = leb-true (block_end x) size p.2 in
     record { low = p.0; some = p.1; ends = ends; apart = refl; rest = le-leb at size (omega (arith, ends, p.0)) }
 inserted_rises (b ∷ bs) at size x h =
     elim (cases_lt b.0 x.0) [
       | inl below ↦
           let is = (by_address x b bs).0 (lt-ltb b.0 x.0 below) in
           let p = rises_parts b (inserted x bs) at size (sym (ap (rises at size) is) ∙ h) in
-          let q = inserted_rises bs (end_of b) size x p.2 in
+          let q = inserted_rises bs (block_end b) size x p.2 in
           record { low = omega (arith, p.0, below); some = q.some; ends = q.ends; apart = both (is_apart x b) (list_all (is_apart x) bs) (apart_behind x b q.low) q.apart; rest = rises_by b bs at size p.0 p.1 q.rest }
       | inr above ↦
           let is = (by_address x b bs).1 (le-ltb b.0 x.0 above) in
           let p = rises_parts x (b ∷ bs) at size (sym (ap (rises at size) is) ∙ h) in
-          record { low = p.0; some = p.1; ends = rises_size (b ∷ bs) (end_of x) size p.2; apart = all_apart x (b ∷ bs) (end_of x) size (omega arith) p.2; rest = rises_lower (b ∷ bs) (end_of x) at size (omega (arith, p.0)) p.2 }
+          record { low = p.0; some = p.1; ends = rises_size (b ∷ bs) (block_end x) size p.2; apart = all_apart x (b ∷ bs) (block_end x) size (omega arith) p.2; rest = rises_lower (b ∷ bs) (block_end x) at size (omega (arith, p.0)) p.2 }
     ]
 
 -- a test of all blocks doesn't ask for their order
@@ -227,10 +227,10 @@ none_there a n (b ∷ bs) lt h =
 
 low_rises : (bs : List Block) (at size : ℕ) → rises at size bs ≡ true → Low at bs
 low_rises [] at size h = tt
-low_rises (b ∷ bs) at size h = let p = rises_parts b bs at size h in (p.0, low_less (end_of b) at bs (omega (arith, p.0)) (low_rises bs (end_of b) size p.2))
+low_rises (b ∷ bs) at size h = let p = rises_parts b bs at size h in (p.0, low_less (block_end b) at bs (omega (arith, p.0)) (low_rises bs (block_end b) size p.2))
 
 -- blocks that rise, and the same blocks where addresses don't fall, are one list
-first_same : (x y : Block) (xs ys : List Block) (size : ℕ) (t : Bool) → is_same y x ≡ t → 0 < x.1 → rises (end_of x) size xs ≡ true → Low y.0 ys → ((f : Block → ℕ) → sum_by f (x ∷ xs) ≡ sum_by f (y ∷ ys)) → y ≡ x
+first_same : (x y : Block) (xs ys : List Block) (size : ℕ) (t : Bool) → is_same y x ≡ t → 0 < x.1 → rises (block_end x) size xs ≡ true → Low y.0 ys → ((f : Block → ℕ) → sum_by f (x ∷ xs) ≡ sum_by f (y ∷ ys)) → y ≡ x
 first_same x y xs ys size true is some up low sums = same_pair y x is
 first_same x y xs ys size false is some up low sums =
     elim (cases_lt x.0 y.0) [
@@ -244,7 +244,7 @@ first_same x y xs ys size false is some up low sums =
           let there : one_if y x ≡ 0 = rw is refl in
           let left = sum_by-cons (one_if y) x xs in
           let right = sum_by-cons (one_if y) y ys in
-          let rest = none_there y (end_of x) xs (omega (arith, above, some)) (low_rises xs (end_of x) size up) in
+          let rest = none_there y (block_end x) xs (omega (arith, above, some)) (low_rises xs (block_end x) size up) in
           absurd (omega (arith, here, there, left, right, rest, sums (one_if y)))
     ]
 
@@ -255,7 +255,7 @@ one_list (x ∷ xs) [] at size up low sums = absurd (omega (arith, sums (λ _. 1
 one_list (x ∷ xs) (y ∷ ys) at size up low sums =
     let p = rises_parts x xs at size up in
     let first = first_same x y xs ys size (is_same y x) refl p.1 p.2 low.0 sums in
-    let rest = one_list xs ys (end_of x) size p.2 low.1 (λ f. omega (arith, sums f, sum_by-cons f x xs, sum_by-cons f y ys, ap f first)) in
+    let rest = one_list xs ys (block_end x) size p.2 low.1 (λ f. omega (arith, sums f, sum_by-cons f x xs, sum_by-cons f y ys, ap f first)) in
     ap (λ (bs : List Block). x ∷ bs) rest ∙ ap (λ (b : Block). b ∷ ys) (sym first)
 
 sum_inserted : (f : Block → ℕ) (x : Block) (bs : List Block) → sum_by f (inserted x bs) ≡ f x + sum_by f bs

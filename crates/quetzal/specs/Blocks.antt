@@ -4,7 +4,7 @@ use Rattle.std.specs.Prelude.{ℕ, zero, suc, Bool, true, ◌+◌, ◌*◌, ◌%
 use Rattle.std.specs.Prelude.{List, [], ◌∷◌, ◌++◌, length, Result, Ok, Err}
 use Rattle.std.specs.List.{flat_map, list_all}
 use Rattle.gx_words.specs.Numbers.{word, bytes_of_word}
-use Rattle.heap_blocks.specs.Heap.{Block, FlatHeap, end_of, inactive, inserted}
+use Rattle.heap_blocks.specs.Heap.{Block, FlatHeap, block_end, inactive, inserted}
 use Rattle.gx_story.specs.Stories.{FlatStory}
 use Rattle.quetzal.specs.Constants.{heap_header_len, block_len}
 use Rattle.quetzal.specs.declared.faults.SaveFault.{SaveFault}
@@ -40,11 +40,11 @@ is_start story size start = start % 256 == 0 && nat_le story.header.endmem start
 
 -- a block that isn't empty, between the start and the size
 abbrev pub is_block : ℕ → ℕ → Block → Bool
-is_block start size b = nat_lt 0 b.1 && nat_le start b.0 && nat_le (end_of b) size
+is_block start size b = nat_lt 0 b.1 && nat_le start b.0 && nat_le (block_end b) size
 
 -- two blocks that don't meet, and blocks of which no two meet
 abbrev pub is_apart : Block → Block → Bool
-is_apart a b = nat_le (end_of a) b.0 || nat_le (end_of b) a.0
+is_apart a b = nat_le (block_end a) b.0 || nat_le (block_end b) a.0
 
 abbrev pub are_apart : List Block → Bool
 are_apart [] = true

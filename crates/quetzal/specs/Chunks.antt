@@ -39,13 +39,9 @@ memory_in save = do
   Ok (either packed plain)
 
 -- it begins with a word, the size of memory
-abbrev pub has_size : Option MemoryBody → Bool
-has_size None = true
-has_size (Some memory) = nat_le size_len (length memory.body)
-
--- the save is of this story: its chunk IFhd has the story's first 128 bytes
-abbrev pub is_of_story : FlatStory → List ℕ → Bool
-is_of_story story header = bytes_eq header (take story_start story.bytes)
+abbrev pub begins_with_size : Option MemoryBody → Bool
+begins_with_size None = true
+begins_with_size (Some memory) = nat_le size_len (length memory.body)
 
 -- what is looked at of a save; the heap's chunk is empty where there is none
 pub record Parts : Type 0 where
@@ -53,13 +49,14 @@ pub record Parts : Type 0 where
   pub memory : MemoryBody
   pub heap : List ℕ
 
+-- the save is of this story where its chunk IFhd has the story's first 128 bytes
 unfoldable pub parts_in : List ℕ → FlatStory → Result Parts SaveFault
 parts_in save story = do
   header ← needed save (codes "IFhd")
   stack ← needed save (codes "Stks")
   memory ← memory_in save
-  _ ← allowed (has_size memory) fault.Form
-  _ ← allowed (is_of_story story header) fault.OtherStory
+  _ ← allowed (begins_with_size memory) fault.Form
+  _ ← allowed (bytes_eq header (take story_start story.bytes)) fault.OtherStory
   chunk ← ok_or memory fault.NoMemoryChunk
   heap ← body_in save (codes "MAll")
   Ok (record { stack = stack; memory = chunk; heap = unwrap_or heap [] })

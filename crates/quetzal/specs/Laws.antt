@@ -4,7 +4,7 @@ use Rattle.std.specs.Prelude.{ℕ, Bool, nat_lt, nat_le, ◌&&◌, if◌then◌e
 use Rattle.std.specs.Prelude.{true, ◌+◌, ◌*◌, ◌%◌, ◌==◌}
 use Rattle.std.specs.List.{list_all}
 use Rattle.std.specs.List.Sorted.{IsPermutation, IsNonDecreasingBy}
-use Rattle.heap_blocks.specs.Heap.{Block, end_of}
+use Rattle.heap_blocks.specs.Heap.{Block, block_end}
 use Rattle.gx_story.specs.Stories.{FlatStory}
 use Rattle.quetzal.specs.declared.faults.SaveFault.{SaveFault}
 use Rattle.quetzal.specs.declared.faults.SaveFault.TheVariants as fault
@@ -29,7 +29,7 @@ may_meet story size body =
 -- blocks in rising order from an address on, none empty, none past a size, no two that meet
 abbrev pub rises : ℕ → ℕ → List Block → Bool
 rises at size [] = nat_le at size
-rises at size (b ∷ bs) = nat_le at b.0 && nat_lt 0 b.1 && rises (end_of b) size bs
+rises at size (b ∷ bs) = nat_le at b.0 && nat_lt 0 b.1 && rises (block_end b) size bs
 
 -- the same blocks, by their address
 pub record IsSortedFrom (bs sorted : List Block) : Type 0 where

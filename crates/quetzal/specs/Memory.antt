@@ -16,8 +16,8 @@ use Rattle.quetzal.specs.declared.faults.SaveFault.TheVariants as fault
 abbrev pub size_in : MemoryBody → ℕ
 size_in memory = word memory.body 0
 
-abbrev pub bytes_in : MemoryBody → List ℕ
-bytes_in memory = drop size_len memory.body
+abbrev pub ram_bytes : MemoryBody → List ℕ
+ram_bytes memory = drop size_len memory.body
 
 -- a size that memory may have under a ceiling
 abbrev pub is_memory_size : ℕ → FlatStory → ℕ → Bool
@@ -31,15 +31,12 @@ first_ram story = drop story.header.ramstart story.bytes
 unfoldable pub ram_of : FlatStory → MemoryBody → Result (List ℕ) SaveFault
 ram_of story memory =
     let count = size_in memory - story.header.ramstart in
-    if memory.is_packed then of_runs (unpacked (bytes_in memory) (first_ram story) count) else
-    if length (bytes_in memory) == count then Ok (bytes_in memory) else Err fault.Runs
+    if memory.is_packed then of_runs (unpacked (ram_bytes memory) (first_ram story) count) else
+    if length (ram_bytes memory) == count then Ok (ram_bytes memory) else Err fault.Runs
 
 -- memory whole: below RAMSTART it is the story's
-abbrev pub with_rom : FlatStory → List ℕ → List ℕ
-with_rom story ram = take story.header.ramstart story.bytes ++ ram
-
 abbrev pub memory_of : FlatStory → MemoryBody → Result (List ℕ) SaveFault
-memory_of story memory = ram_of story memory >>= λ ram. Ok (with_rom story ram)
+memory_of story memory = ram_of story memory >>= λ ram. Ok (take story.header.ramstart story.bytes ++ ram)
 
 -- the body of a packed chunk as it is written
 unfoldable pub memory_bytes : FlatStory → List ℕ → List ℕ

@@ -2,7 +2,7 @@
 //!
 //! Blocks are counted and each is looked at before memory is taken for them. Whether two of them meet is seen once they
 //! are sorted: where there is no memory for that, it isn't seen.
-ghost use Rattle.std.specs.Prelude.{◌≡◌, ◌≢◌, ◌+◌, ◌-◌, ◌*◌, ◌≤◌, ◌<◌, length, Ok, IfOk, IfErr, IsTrue, OnOk};
+ghost use Rattle.std.specs.Prelude.{◌≡◌, ◌+◌, ◌-◌, ◌*◌, ◌≤◌, ◌<◌, length, Ok, IfOk, IfErr, IsTrue};
 ghost use Rattle.std.specs.List.{list_all};
 ghost use Rattle.gx_words.specs.Numbers.{word};
 ghost use Rattle.quetzal.specs.Relations.{MaySort};

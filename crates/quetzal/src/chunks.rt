@@ -1,11 +1,12 @@
 //! The chunks of a save that are looked at, found without memory.
 //!
 //! The first chunk of each kind counts, in whatever order they come; others are passed over.
-ghost use Rattle.std.specs.Prelude.{◌≡◌, ◌≢◌, ◌≤◌, length, IfOk, IfErr};
+ghost use Rattle.std.specs.Prelude.{◌≡◌, ◌≢◌, ◌≤◌, length, take, IfOk, IfErr};
+ghost use Rattle.std.specs.Str.{bytes_eq};
 ghost use Rattle.std.specs.Option.{option_map};
 ghost use Rattle.gx_words.specs.Results.{Is};
-ghost use Rattle.quetzal.specs.Constants.{size_len};
-ghost use Rattle.quetzal.specs.Chunks.{body_in, either, has_size, is_of_story, memory_in, needed, parts_in};
+ghost use Rattle.quetzal.specs.Constants.{size_len, story_start};
+ghost use Rattle.quetzal.specs.Chunks.{body_in, either, begins_with_size, memory_in, needed, parts_in};
 ghost use Rattle.quetzal.specs.Views.{memory_body, parts_of};
 
 use crate::SaveFault;
@@ -45,7 +46,7 @@ impl<'a> Parts<'a> {
         let header = needed(save, *b"IFhd")?;
         let stack = needed(save, *b"Stks")?;
         let memory = memory_in(save)?;
-        allowed(has_size(memory), SaveFault::Form)?;
+        allowed(begins_with_size(memory), SaveFault::Form)?;
         allowed(is_of_story(story, header), SaveFault::OtherStory)?;
         let memory = memory.ok_or(SaveFault::NoMemoryChunk)?;
         let heap = body_in(save, *b"MAll")?.unwrap_or(&[]);
@@ -111,8 +112,8 @@ fn either<'a>(packed: Option<&'a [u8]>, plain: Option<&'a [u8]>) -> Option<Memor
 }
 
 /// Whether a chunk of memory has its size; true where there is no chunk.
-fn has_size(memory: Option<MemoryChunk<'_>>) -> bool
-    ensures { result ≡ has_size (option_map memory_body memory.entry) }
+fn begins_with_size(memory: Option<MemoryChunk<'_>>) -> bool
+    ensures { result ≡ begins_with_size (option_map memory_body memory.entry) }
 {
     match memory {
         Some(chunk) => SIZE_LEN <= chunk.body.len(),
@@ -122,7 +123,7 @@ fn has_size(memory: Option<MemoryChunk<'_>>) -> bool
 
 /// Whether a chunk `IFhd` is that of a story.
 fn is_of_story(story: &Story, header: &[u8]) -> bool
-    ensures { result ≡ is_of_story story.now header.now }
+    ensures { result ≡ bytes_eq header.now (take story_start story.now.bytes) }
 {
     header == &story.bytes()[..STORY_START]
 }

@@ -1,5 +1,5 @@
 //! Why a save is refused.
-ghost use Rattle.std.specs.Prelude.{◌≡◌, ◌≤◌, OnOk, true, Bool};
+ghost use Rattle.std.specs.Prelude.{◌≡◌, ◌≤◌, OnOk, true};
 ghost use Rattle.quetzal.specs.Faults.{allowed, fault_of, fault_of_run, number_of};
 ghost use Rattle.quetzal.specs.declared.faults.SaveFault.TheVariants.{NoMemory};
 

@@ -5,7 +5,7 @@ ghost use Rattle.std.specs.Prelude.{◌≡◌, ◌≢◌, ◌≤◌, length, tak
 ghost use Rattle.gx_words.specs.Results.{Gives};
 ghost use Rattle.gx_words.specs.Constants.{ceiling};
 ghost use Rattle.quetzal.specs.Constants.{size_len};
-ghost use Rattle.quetzal.specs.Memory.{bytes_in, is_memory_size, memory_of, size_in};
+ghost use Rattle.quetzal.specs.Memory.{ram_bytes, is_memory_size, memory_of, size_in};
 ghost use Rattle.quetzal.specs.Views.{memory_body};
 
 use crate::SaveFault;
@@ -27,7 +27,7 @@ impl MemoryChunk<'_> {
     /// The bytes behind it.
     fn bytes(&self) -> &[u8]
         requires { size_len ≤ length self.now.body.now }
-        ensures { result.now ≡ bytes_in (memory_body self.now) }
+        ensures { result.now ≡ ram_bytes (memory_body self.now) }
     {
         &self.body[SIZE_LEN..]
     }

@@ -1,7 +1,7 @@
 //! Reading a save.
 //!
 //! Each fault is looked for before memory is taken, but for blocks that meet, which have to be sorted first.
-ghost use Rattle.std.specs.Prelude.{◌≡◌, IfOk};
+ghost use Rattle.std.specs.Prelude.{IfOk};
 ghost use Rattle.gx_words.specs.Constants.{ceiling};
 ghost use Rattle.gx_state.specs.Copies.{IsCopyFor};
 ghost use Rattle.quetzal.specs.Relations.{MaySort};

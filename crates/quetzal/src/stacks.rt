@@ -1,6 +1,6 @@
 //! The stack of a save.
 ghost use Rattle.std.specs.Prelude.{◌≡◌};
-ghost use Rattle.quetzal.specs.Stacks.{is_place, is_stack};
+ghost use Rattle.quetzal.specs.Stacks.{is_result_place, is_stack};
 
 use gx_stack::{Frame, Stub, TO_LOCAL, TO_MEMORY, TO_STACK};
 use gx_story::Story;
@@ -19,14 +19,14 @@ pub(crate) fn is_stack(story: &Story, size: u32, stack: &[u8]) -> bool
     }
     let stub = Stub::on_top(stack);
     match Frame::of(&stack[..len - STUB_LEN], stub.fp) {
-        Ok(frame) => stub.kind <= TO_STACK && is_place(story, size, &frame, &stub),
+        Ok(frame) => stub.kind <= TO_STACK && is_result_place(story, size, &frame, &stub),
         Err(_) => false,
     }
 }
 
 /// Whether the result of a stub has a place, in RAM or in the locals of its frame.
-fn is_place(story: &Story, size: u32, frame: &Frame, stub: &Stub) -> bool
-    ensures { result ≡ is_place story.now size frame.now stub.now }
+fn is_result_place(story: &Story, size: u32, frame: &Frame, stub: &Stub) -> bool
+    ensures { result ≡ is_result_place story.now size frame.now stub.now }
 {
     match stub.kind {
         TO_MEMORY => story.ramstart() <= stub.addr && u64::from(stub.addr) + 4 <= u64::from(size),

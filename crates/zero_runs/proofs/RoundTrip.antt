@@ -5,8 +5,8 @@ use Rattle.std.proofs.lemmas.Bool.{le-ltb}
 use Rattle.std.specs.Int.Bits.{bit_xor, xor_assoc, xor_self, xor_zero_r}
 use Rattle.gx_words.specs.Results.{◌>>=◌}
 use Rattle.zero_runs.specs.declared.faults.RunFault.{RunFault}
-use Rattle.zero_runs.specs.Packing.{run, pair, full_pairs, packed_behind, packed, xored}
-use Rattle.zero_runs.specs.Unpacking.{expand, filled, unpacked}
+use Rattle.zero_runs.specs.Packing.{run, last_pair, full_pairs, packed_behind, packed, xored}
+use Rattle.zero_runs.specs.Unpacking.{expand, with_last_zeros, unpacked}
 use Rattle.zero_runs.specs.Laws.{before, without_last_zeros}
 use Rattle.zero_runs.proofs.UnpackingTurns.{length-xored}
 
@@ -33,7 +33,7 @@ expand-full_pairs (suc n) m bytes h =
     let sum : 256 + n * 256 ≡ m = omega arith in
     expand-two 255 256 (full_pairs n ++ bytes) full ∙ ap (behind_zeros 256) (expand-full_pairs n (n * 256) bytes refl) ∙ behind_zeros-behind_zeros 256 (n * 256) (expand bytes) ∙ ap (λ (k : ℕ). behind_zeros k (expand bytes)) sum
 
-expand-pair : (n : ℕ) (bytes : List ℕ) → expand (pair n ++ bytes) ≡ behind_zeros n (expand bytes)
+expand-pair : (n : ℕ) (bytes : List ℕ) → expand (last_pair n ++ bytes) ≡ behind_zeros n (expand bytes)
 expand-pair zero bytes = sym (behind_zeros-none (expand bytes))
 expand-pair (suc n) bytes = expand-two n (suc n) bytes (omega arith)
 
@@ -41,7 +41,7 @@ expand-run : (n : ℕ) (bytes : List ℕ) → expand (run n ++ bytes) ≡ behind
 unfolding run
 expand-run n bytes =
     let sum : (n / 256) * 256 + n % 256 ≡ n = omega arith in
-    ap expand (append_assoc (full_pairs (n / 256)) (pair (n % 256)) bytes)
+    ap expand (append_assoc (full_pairs (n / 256)) (last_pair (n % 256)) bytes)
     ∙ expand-full_pairs (n / 256) ((n / 256) * 256) _ refl
     ∙ ap (behind_zeros ((n / 256) * 256)) (expand-pair (n % 256) bytes)
     ∙ behind_zeros-behind_zeros ((n / 256) * 256) (n % 256) (expand bytes)
@@ -105,7 +105,7 @@ xored-xored (x ∷ xs) old = rw (bit_xor_again x (get_or old 0 0), xored-xored x
 
 -- what was packed over some bytes is unpacked over the same bytes
 pub unpacked-packed : (new old : List ℕ) → unpacked (packed (xored new old)) old (length new) ≡ Ok new
-unfolding unpacked filled
+unfolding unpacked with_last_zeros
 unpacked-packed new old =
     let few : length (without_last_zeros (xored new old)) ≤ length new = omega (arith, length-without_last_zeros (xored new old), length-xored new old) in
     let test = le-ltb _ _ few in
@@ -117,13 +117,13 @@ length-full_pairs : (n : ℕ) → length (full_pairs n) ≡ 2 * n
 length-full_pairs zero = refl
 length-full_pairs (suc n) = omega (arith, length-full_pairs n)
 
-length-pair : (n : ℕ) → length (pair n) ≤ 2 * n
+length-pair : (n : ℕ) → length (last_pair n) ≤ 2 * n
 length-pair zero = omega arith
 length-pair (suc n) = omega arith
 
 length-run : (n : ℕ) → length (run n) ≤ 2 * n
 unfolding run
-length-run n = omega (arith, length-append (full_pairs (n / 256)) (pair (n % 256)), length-full_pairs (n / 256), length-pair (n % 256))
+length-run n = omega (arith, length-append (full_pairs (n / 256)) (last_pair (n % 256)), length-full_pairs (n / 256), length-pair (n % 256))
 
 length-packed_behind : (n : ℕ) (xs : List ℕ) → length (packed_behind n xs) ≤ 2 * (n + length xs)
 unfolding packed_behind

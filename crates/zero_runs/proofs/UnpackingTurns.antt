@@ -7,7 +7,7 @@ use Rattle.gx_words.specs.Results.{◌>>=◌}
 use Rattle.zero_runs.specs.declared.faults.RunFault.{RunFault}
 use Rattle.zero_runs.specs.declared.faults.RunFault.TheVariants.{Cut}
 use Rattle.zero_runs.specs.Packing.{xored}
-use Rattle.zero_runs.specs.Unpacking.{expand, filled, unpacked}
+use Rattle.zero_runs.specs.Unpacking.{expand, with_last_zeros, unpacked}
 use Rattle.zero_runs.specs.Laws.{expanded_len, unpacked_onto}
 use Rattle.zero_runs.proofs.PackingTurns.{front_added}
 
@@ -148,10 +148,10 @@ front_chained xs ys zs first then =
 
 -- the parts of unpacking onto a list: what was expanded, and the old bytes that are left
 abbrev onto_by : Result (List ℕ) RunFault → List ℕ → List ℕ → ℕ → Result (List ℕ) RunFault
-onto_by r out old size = (r >>= (λ xs. filled size xs >>= (λ ys. Ok (xored ys (drop (length out) old))))) >>= (λ added. Ok (out ++ added))
+onto_by r out old size = (r >>= (λ xs. with_last_zeros size xs >>= (λ ys. Ok (xored ys (drop (length out) old))))) >>= (λ added. Ok (out ++ added))
 
 few_onto : (out old xs : List ℕ) (size : ℕ) → IsOk (onto_by (Ok xs) out old size) → length xs ≤ size
-unfolding filled
+unfolding with_last_zeros
 few_onto out old xs size fine =
     elim (cases_lt size (length xs)) [
       | inl more ↦ let test = lt-ltb _ _ more in let h = rw test at fine in absurd cc
@@ -159,7 +159,7 @@ few_onto out old xs size fine =
     ]
 
 filled_onto : (out old xs : List ℕ) (size : ℕ) → length xs ≤ size → onto_by (Ok xs) out old size ≡ Ok (out ++ xored (xs ++ replicate (size - length xs) 0) (drop (length out) old))
-unfolding filled
+unfolding with_last_zeros
 filled_onto out old xs size few = let test = le-ltb _ _ few in rw test refl
 
 length-behind : (out old xs mid : List ℕ) → behind out old (Ok xs) ≡ Ok mid → length mid ≡ length out + length xs
@@ -225,8 +225,8 @@ behind_none (Err e) = refl
 pub onto_nothing : (packed old : List ℕ) (size : ℕ) → unpacked_onto [] packed old size ≡ unpacked packed old size
 onto_nothing packed old size = behind_none (unpacked packed old size)
 
-accepted : (r : Result (List ℕ) RunFault) (old : List ℕ) (n size : ℕ) → (r >>= λ xs. Ok (length xs)) ≡ Ok n → n ≤ size → IsOk (r >>= λ xs. filled size xs >>= λ ys. Ok (xored ys old))
-unfolding filled
+accepted : (r : Result (List ℕ) RunFault) (old : List ℕ) (n size : ℕ) → (r >>= λ xs. Ok (length xs)) ≡ Ok n → n ≤ size → IsOk (r >>= λ xs. with_last_zeros size xs >>= λ ys. Ok (xored ys old))
+unfolding with_last_zeros
 accepted (Ok xs) old n size len few =
     let f : length xs ≡ n = cc in
     let le : length xs ≤ size = omega arith in
@@ -239,8 +239,8 @@ pub IsOk-unpacked : (bytes old : List ℕ) (n size : ℕ) → expanded_len bytes
 unfolding unpacked
 IsOk-unpacked bytes old n size len few = accepted (expand bytes) old n size len few
 
-length-unpacked-parts : (r : Result (List ℕ) RunFault) (old all : List ℕ) (size : ℕ) → (r >>= λ xs. filled size xs >>= λ ys. Ok (xored ys old)) ≡ Ok all → length all ≡ size
-unfolding filled
+length-unpacked-parts : (r : Result (List ℕ) RunFault) (old all : List ℕ) (size : ℕ) → (r >>= λ xs. with_last_zeros size xs >>= λ ys. Ok (xored ys old)) ≡ Ok all → length all ≡ size
+unfolding with_last_zeros
 length-unpacked-parts (Ok xs) old all size is =
     elim (cases_lt size (length xs)) [
       | inl more ↦ let test = lt-ltb _ _ more in let h = rw test at is in absurd cc
@@ -280,3 +280,8 @@ onto-none out packed old size fine none =
     ap (λ (r : Result (List ℕ) RunFault). r >>= λ added. Ok (out ++ added)) (unpacked-none packed (drop (length out) old) size fine none) ∙ ap (λ (xs : List ℕ). Ok xs) (append-nil out)
 
 pub ruleset unpacked_parts = (IsOk-unpacked)
+
+-- the definitions that a check of packed bytes opens
+unfoldable pub opened : Unit {0}
+unfolding unpacked with_last_zeros
+opened = tt

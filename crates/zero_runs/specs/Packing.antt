@@ -16,13 +16,13 @@ full_pairs zero = []
 full_pairs (suc n) = 0 ∷ 0xFF ∷ full_pairs n
 
 -- at most 256 zeros: 00 and one less than their number, or nothing
-abbrev pub pair : ℕ → List ℕ
-pair zero = []
-pair (suc n) = 0 ∷ n ∷ []
+abbrev pub last_pair : ℕ → List ℕ
+last_pair zero = []
+last_pair (suc n) = 0 ∷ n ∷ []
 
 -- a run of zeros
 unfoldable pub run : ℕ → List ℕ
-run n = full_pairs (n / 256) ++ pair (n % 256)
+run n = full_pairs (n / 256) ++ last_pair (n % 256)
 
 -- a list behind so many zeros: a run is written with the byte that ends it
 unfoldable pub packed_behind : ℕ → List ℕ → List ℕ

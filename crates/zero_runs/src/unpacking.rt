@@ -96,7 +96,7 @@ fn push_unpacked(packed: &[u8], old: &[u8], size: usize, out: &mut Bytes) -> Res
 
 /// Whether packed bytes stand for at most `size` bytes: the faults of `unpack`, over whatever old bytes. Takes no
 /// memory.
-#[tactic(auto, using(crate::proofs::UnpackingTurns::unpacked_parts), unfolding(crate::specs::Unpacking::unpacked, crate::specs::Unpacking::filled))]
+#[tactic(auto, using(crate::proofs::UnpackingTurns::unpacked_parts), unfolding(crate::proofs::UnpackingTurns::opened))]
 pub fn check(packed: &[u8], size: usize) -> Result<(), RunFault>
     ensures ok { OnOk result ((old : List ℕ) → IsOk (unpacked packed.now old size)) }
     ensures fault { IfErr result (λ fault. (old : List ℕ) → unpacked packed.now old size ≡ Err fault) }

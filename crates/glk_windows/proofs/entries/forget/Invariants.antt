@@ -1,5 +1,5 @@
 use Rattle.std.proofs.Common.{◌≡◌, ◌++◌, drop, take, map}
-use Rattle.glk_objects.specs.Objects.{Rises}
+use Rattle.glk_objects.specs.Objects.{AreRising}
 use Rattle.glk_windows.specs.Windows.{entry_id}
 use Rattle.glk_windows.specs.Changes.{forgetting}
 use Rattle.glk_windows.proofs.entries.forget.Given as goal
@@ -8,5 +8,5 @@ abbrev pub invariant-loop-at : goal.invariant-loop-at
 invariant-loop-at l = record {
   done : l.entries.items ≡ map (forgetting l.streams) (take l.at l.initial.entries.items)
       ++ drop l.at l.initial.entries.items;
-  rises : Rises entry_id l.entries.items;
+  rises : AreRising entry_id l.entries.items;
 }

@@ -1,7 +1,7 @@
 -- the first bad instruction decides, and else the text is whole or wants memory
 use Rattle.std.proofs.Common.{sym, ◌∙◌, arith}
 use Rattle.std.proofs.lemmas.Result.{err_from_is_err_and}
-use Rattle.gx_asm.specs.Views.{written}
+use Rattle.gx_asm.specs.Views.{seen_instruction}
 use Rattle.gx_asm.proofs.CodesRead.{bytes_some}
 use Rattle.gx_asm.proofs.CodesLoops.{cut_given, fault_given, instruction_wants, listing_bad, listing_cut, listing_last, listing_more, whole_rest}
 use Rattle.gx_asm.proofs.codes.list_from.Goals as goal
@@ -15,26 +15,26 @@ returns-in_err-instruction-clause-value c =
 pub returns-then-is_last-clause-value : goal.returns-then-is_last-clause-value
 returns-then-is_last-clause-value c =
     let read = rw (whole_rest c.args.code.now c.loop-here.here) at c.in_ok-instruction.ensures.value in
-    let w = written c.in_ok-instruction.instruction in
+    let w = seen_instruction c.in_ok-instruction.instruction in
     rw c.text_in_memory.ensures (listing_last c.args.code.now c.args.ends c.args.at c.loop-here.here c.loop-here.whole c.add_line-whole.result c.loop-here.text c.add_line-whole.new.text w
     c.loop-here.invariant c.loop-here-test.true read (sym c.is_last.ensures ∙ c.if-is_last.true) c.add_line-whole.ensures)
 
 pub overflow_add-here : goal.overflow_add-here
 overflow_add-here c =
     let read = rw (whole_rest c.args.code.now c.loop-here.here) at c.in_ok-instruction.ensures.value in
-    let next = listing_more c.args.code.now c.args.ends c.args.at c.loop-here.here c.loop-here.whole c.add_line-whole.result c.loop-here.text c.add_line-whole.new.text (written c.in_ok-instruction.instruction)
+    let next = listing_more c.args.code.now c.args.ends c.args.at c.loop-here.here c.loop-here.whole c.add_line-whole.result c.loop-here.text c.add_line-whole.new.text (seen_instruction c.in_ok-instruction.instruction)
     c.loop-here.invariant c.loop-here-test.true c.are_bytes.ensures read (sym c.is_last.ensures ∙ c.if-is_last.false) c.add_line-whole.ensures in
     omega (arith, next.so_far.within, c.requires.short, c.len-here.ensures)
 
 pub loop-here-smaller : goal.loop-here-smaller
 loop-here-smaller c =
-    let w = written c.in_ok-instruction.instruction in
+    let w = seen_instruction c.in_ok-instruction.instruction in
     omega (arith, bytes_some w, c.loop-here-test.true, c.len-here.ensures)
 
 pub loop-here-preserved : goal.loop-here-preserved
 loop-here-preserved c =
     let read = rw (whole_rest c.args.code.now c.loop-here.here) at c.in_ok-instruction.ensures.value in
-    rw c.len-here.ensures (listing_more c.args.code.now c.args.ends c.args.at c.loop-here.here c.loop-here.whole c.add_line-whole.result c.loop-here.text c.add_line-whole.new.text (written c.in_ok-instruction.instruction)
+    rw c.len-here.ensures (listing_more c.args.code.now c.args.ends c.args.at c.loop-here.here c.loop-here.whole c.add_line-whole.result c.loop-here.text c.add_line-whole.new.text (seen_instruction c.in_ok-instruction.instruction)
     c.loop-here.invariant c.loop-here-test.true c.are_bytes.ensures read (sym c.is_last.ensures ∙ c.if-is_last.false) c.add_line-whole.ensures)
 
 pub returns-then-ends-clause-value : goal.returns-then-ends-clause-value

@@ -4,7 +4,7 @@ use Rattle.gx_outside.specs.Sends.{SinkCall}
 use Rattle.gx_outside.specs.Shelves.{ShelfCall}
 use Rattle.gx_session.specs.Devices.{Devices, devices}
 use Rattle.gx_session.proofs.Calling.{chain-map, none-called, all-chained}
-use Rattle.gx_play.specs.Reading.{seen}
+use Rattle.gx_play.specs.Reading.{command_seen}
 use Rattle.gx_play.proofs.Dones.{played-done, played-none, played-unread}
 use Rattle.gx_play.proofs.entry.play.Goals as goal
 
@@ -29,7 +29,7 @@ returns g c =
     all-chained g.S.Source.called g.K.Sink.called g.F.Shelf.called c.args.input.now c.do_job.new.input c.args.output.now c.do_job.new.output c.args.shelf.now c.do_job.new.shelf _ _ c.do_job.ensures
     (λ reads sends asked read sent called done.
     let exit : Devices = devices (g.S.Source.seen c.do_job.new.input) (g.K.Sink.seen c.do_job.new.output) (g.F.Shelf.seen c.do_job.new.shelf) (g.R.Rng.stream c.do_job.new.dice) reads sends asked in
-    played-done c.do_job.result words entry (seen c.in-Ok.command) exit c.in-Ok.ensures.command
+    played-done c.do_job.result words entry (command_seen c.in-Ok.command) exit c.in-Ok.ensures.command
     (chain-map g.S.Source.seen g.S.Source.called SourceCall g.met.S.Source.called_so c.args.input.now c.do_job.new.input reads read)
     (chain-map g.K.Sink.seen g.K.Sink.called SinkCall g.met.K.Sink.called_so c.args.output.now c.do_job.new.output sends sent)
     (chain-map g.F.Shelf.seen g.F.Shelf.called ShelfCall g.met.F.Shelf.called_so c.args.shelf.now c.do_job.new.shelf asked called) done)

@@ -1,10 +1,11 @@
-use Rattle.std.proofs.Common.{[], refl, ap}
+use Rattle.std.proofs.Common.{refl, ap}
 use Rattle.gx_words.specs.Constants.{ceiling}
 use Rattle.gx_session.specs.Devices.{Devices}
 use Rattle.gx_session.proofs.Calling.{called-none, called-as}
 use Rattle.gx_play.specs.declared.command.Job.TheVariants.{List as Listing}
-use Rattle.gx_play.specs.Headline.{outcome_of_list, story_of}
-use Rattle.gx_play.specs.Reading.{seen}
+use Rattle.gx_play.specs.Outcomes.{story_in_file}
+use Rattle.gx_play.proofs.Outcomes.{outcome_of_list}
+use Rattle.gx_play.specs.Reading.{command_seen}
 use Rattle.gx_play.proofs.Dones.{refused-done, list-told}
 use Rattle.gx_play.proofs.listing.list_file.Goals as goal
 
@@ -14,7 +15,7 @@ returns-in-Err g c =
     (called-as g.F.Shelf.called c.args.shelf.now c.load_story.new.shelf _ _ c.in-Err.ensures.value
     (λ asked l d.
     let e : Devices = record d { sink = g.K.Sink.seen c.args.output.now } in
-    refused-done c.without_story.result ceiling story_of (seen c.args.command) e (g.F.Shelf.seen c.args.shelf.now) (g.F.Shelf.seen c.load_story.new.shelf) asked Listing c.in-Err.refusal l c.in-Err.ensures.count c.in-Err.ensures.fault c.without_story.ensures
+    refused-done c.without_story.result ceiling story_in_file (command_seen c.args.command) e (g.F.Shelf.seen c.args.shelf.now) (g.F.Shelf.seen c.load_story.new.shelf) asked Listing c.in-Err.refusal l c.in-Err.ensures.count c.in-Err.ensures.fault c.without_story.ensures
     (λ fault bad. ap outcome_of_list bad) (λ x. x) (refl, l.handed) (λ x. x)))
 
 pub returns-in-Ok : goal.returns-in-Ok
@@ -24,5 +25,5 @@ returns-in-Ok g c =
     (λ sends told.
     called-as g.F.Shelf.called c.args.shelf.now c.load_story.new.shelf _ _ c.in-Ok.ensures.value
     (λ asked l d.
-    list-told c.send_listing.result (seen c.args.command) d (g.F.Shelf.seen c.args.shelf.now) (g.F.Shelf.seen c.load_story.new.shelf) (g.K.Sink.seen c.args.output.now) (g.K.Sink.seen c.send_listing.new.output) sends asked
+    list-told c.send_listing.result (command_seen c.args.command) d (g.F.Shelf.seen c.args.shelf.now) (g.F.Shelf.seen c.load_story.new.shelf) (g.K.Sink.seen c.args.output.now) (g.K.Sink.seen c.send_listing.new.output) sends asked
     t.blames c.in-Ok.story l c.in-Ok.ensures.count t.number told))

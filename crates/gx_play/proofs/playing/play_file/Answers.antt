@@ -10,8 +10,11 @@ use Rattle.gx_play.specs.declared.command.Job.TheVariants.{Play}
 use Rattle.gx_play.specs.declared.loading.Refusal.{Refusal}
 use Rattle.gx_play.specs.declared.loading.Refusal.TheVariants as refusal
 use Rattle.gx_play.specs.Commands.{Command}
-use Rattle.gx_play.specs.Headline.{PlaysStory, LoadsFirst, outcome_of_story, story_of}
-use Rattle.gx_play.specs.Reading.{seen}
+use Rattle.gx_play.specs.Outcomes.{story_in_file}
+use Rattle.gx_play.proofs.Outcomes.{outcome_of_story}
+use Rattle.gx_play.specs.FirstLoad.{LoadsFirst}
+use Rattle.gx_play.specs.Unbegun.{PlaysStory}
+use Rattle.gx_play.specs.Reading.{command_seen}
 use Rattle.gx_play.proofs.Dones.{refused-done, parts-for}
 use Rattle.gx_play.proofs.Loads.{loadable}
 use Rattle.gx_play.proofs.Plays.{comes-out, counts-after, first-story, loads-story, plays-story, wants-story}
@@ -24,10 +27,10 @@ returns-in-Err g c =
     (called-as g.F.Shelf.called c.args.shelf.now c.load_story.new.shelf _ _ c.in-Err.ensures.value
     (λ asked l.
     let entry : Devices = devices (g.S.Source.seen c.args.input.now) (g.K.Sink.seen c.args.output.now) (g.F.Shelf.seen c.args.shelf.now) (g.R.Rng.stream c.args.dice.now) [] [] [] in
-    let command : Command = seen c.args.command in
+    let command : Command = command_seen c.args.command in
     let job : Job = c.args.command.job in
     let plays = c.requires.plays in
-    refused-done c.without_story.result ceiling story_of command entry entry.shelf (g.F.Shelf.seen c.load_story.new.shelf) asked job c.in-Err.refusal l c.in-Err.ensures.count c.in-Err.ensures.fault c.without_story.ensures
+    refused-done c.without_story.result ceiling story_in_file command entry entry.shelf (g.F.Shelf.seen c.load_story.new.shelf) asked job c.in-Err.refusal l c.in-Err.ensures.count c.in-Err.ensures.fault c.without_story.ensures
     (λ fault bad. plays-story job command l.file entry plays ∙ ap (outcome_of_story job command entry) bad) (wants-story job l.file plays)
     (first-story job command l.file l.answer [] plays l.handed) (loads-story job asked plays))))
 
@@ -41,7 +44,7 @@ returns-in-Ok g c =
     let entry : Devices = devices (g.S.Source.seen c.args.input.now) (g.K.Sink.seen c.args.output.now) (g.F.Shelf.seen c.args.shelf.now) (g.R.Rng.stream c.args.dice.now) [] [] [] in
     let exit : Devices = devices (g.S.Source.seen c.play_story.new.input) (g.K.Sink.seen c.play_story.new.output) (g.F.Shelf.seen c.play_story.new.shelf) (g.R.Rng.stream c.play_story.new.dice) reads sends (one ++ two) in
     let shelf : FlatShelf = g.F.Shelf.seen c.load_story.new.shelf in
-    let command : Command = seen c.args.command in
+    let command : Command = command_seen c.args.command in
     let job : Job = c.args.command.job in
     let plays = c.requires.plays in
     let asked : one ++ two ≡ (loads command.story ceiling, l.answer) ∷ two = ap (λ (t : Trace). t ++ two) l.asked_are in

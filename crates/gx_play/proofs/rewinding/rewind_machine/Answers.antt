@@ -4,8 +4,9 @@ use Rattle.gx_rewind.specs.Tape.{FlatTape}
 use Rattle.gx_session.specs.Devices.{Devices, devices}
 use Rattle.gx_session.proofs.Calling.{none-called, all-sent}
 use Rattle.gx_session.specs.Runs.{Report, report_on}
-use Rattle.gx_play.specs.Headline.{IsRunTo, start_for}
-use Rattle.gx_play.specs.Reading.{seen}
+use Rattle.gx_play.specs.Outcomes.{start_for}
+use Rattle.gx_play.specs.Answers.{IsRunTo}
+use Rattle.gx_play.specs.Reading.{command_seen}
 use Rattle.gx_play.proofs.Rewound.{rewound-counts, rewound-parts}
 use Rattle.gx_play.proofs.rewinding.rewind_machine.Goals as goal
 
@@ -35,7 +36,7 @@ returns-in-Ok-clause-rewinds g c =
       sends = ran;
       more = more;
       sends_are = refl;
-      run = subst (λ (t : FlatTape). IsRunTo command.seed (start_for (seen command) t.whole (Some t.log) entry) entry mid r) c.in-Ok.ensures run;
+      run = subst (λ (t : FlatTape). IsRunTo command.seed (start_for (command_seen command) t.whole (Some t.log) entry) entry mid r) c.in-Ok.ensures run;
       rewound = line;
     }))
 

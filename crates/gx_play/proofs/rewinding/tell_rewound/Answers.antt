@@ -27,7 +27,7 @@ pub returns-in_default-clause-rewound : goal.returns-in_default-clause-rewound
 returns-in_default-clause-rewound g c =
     let below = c.if-status-ge-SHELF_FAULT.false in
     called-none g.K.Sink.called c.args.output.now _
-    (record { told = λ _. inr (inr (c.after_run-in_default.ensures, refl, refl)); early = λ late. absurd (omega (arith, below, late)) })
+    (record { told = λ _. inr (c.after_run-in_default.ensures, refl, refl); early = λ late. absurd (omega (arith, below, late)) })
 
 pub returns-then-sent-eq-ENDED-clause-rewound : goal.returns-then-sent-eq-ENDED-clause-rewound
 returns-then-sent-eq-ENDED-clause-rewound g c =

@@ -4,7 +4,7 @@ use Rattle.clap.specs.declared.error.Error.{Error}
 use Rattle.clap.specs.declared.error.kind.ErrorKind.{ErrorKind}
 use Rattle.clap.specs.declared.error.kind.ErrorKind.TheVariants as kind
 use Rattle.clap.proofs.OnLiterals.{clap_on_literals}
-use Rattle.gx_play.specs.Commands.{player, faults_of, found_in, are_none}
+use Rattle.gx_play.specs.Commands.{player, faults_of, matched_in, are_none}
 use Rattle.gx_play.proofs.Matched.{no_command}
 use Rattle.gx_play.proofs.words.match_words.Goals as goal
 
@@ -31,7 +31,7 @@ has_some ks e n (inl h) = absurd (n h)
 has_some ks e n (inr h) = some_kind (kind_of e) ks h
 
 pub returns-in-Ok : goal.returns-in-Ok
-unfolding faults_of found_in
+unfolding faults_of matched_in
 returns-in-Ok c =
     let app = c.in_ok-command.ensures in
     let words = map (λ w. w.now) c.args.words.now in

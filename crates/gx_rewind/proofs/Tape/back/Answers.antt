@@ -1,9 +1,8 @@
 -- the place that was found is that to which the tape goes back
-use Rattle.std.proofs.Common.{◌≡◌, ap, refl, sym, ◌∙◌, arith}
+use Rattle.std.proofs.Common.{ap, refl, sym, ◌∙◌, arith}
 use Rattle.gx_rewind.specs.Tape.{FlatTape, gone_back}
 use Rattle.gx_rewind.proofs.Ended.{none-asked}
 use Rattle.gx_rewind.proofs.Ends.{goes, stays}
-use Rattle.gx_machine.specs.Log.{units_of}
 use Rattle.gx_machine.specs.Machine.{Whole}
 use Rattle.gx_rewind.proofs.Tape.back.Goals as goal
 

@@ -1,11 +1,11 @@
 use Rattle.std.proofs.Common.{Result, Ok}
 use Rattle.std.proofs.lemmas.Result.{err_from_is_err_and}
-use Rattle.gx_outside.specs.Outside.{FlatSink}
 use Rattle.glk_world.specs.World.{FlatWorld}
 use Rattle.gx_session.specs.declared.ends.Halt.{Halt}
 use Rattle.gx_session.specs.declared.ends.Halt.TheVariants as halt
 use Rattle.gx_session.specs.Devices.{Devices}
-use Rattle.gx_session.specs.Playing.{Handed, Held, held, asking_in, Early}
+use Rattle.gx_session.specs.Holding.{Handed, HeldRun, held_by, asking_in}
+use Rattle.gx_session.specs.Standing.{Early}
 use Rattle.gx_session.proofs.Calling.{called-none, called-as, asked-none}
 use Rattle.gx_session.proofs.Ending.{closes}
 use Rattle.gx_session.proofs.Keeping.{keeps-sink, stays-of, keeps-after}
@@ -20,7 +20,7 @@ returns-in_err-end_text-clause-plays g c =
     (called-none g.F.Shelf.called c.args.shelf.now _
     (λ coming start entry d why done.
     let now : Handed g.K.Sink.called = record d { sink = c.args.output.now; shelf = g.F.Shelf.seen c.args.shelf.now } in
-    let h : Held = held g.E.Engine.whole g.E.Engine.log c.args.run.now coming in
+    let h : HeldRun = held_by g.E.Engine.whole g.E.Engine.log c.args.run.now coming in
     let asking = asking_in g.E.Engine.whole c.args.run.now in
     asked-none now (λ (e : Handed g.K.Sink.called). Early start entry (record h { world = c.end_text.new.self }) asking e halt.NoMemory)
     (screen-wants start entry h now asking why done c.end_text.new.self c.in_err-end_text.ensures.memory)))
@@ -33,7 +33,7 @@ returns-in_err-flush-clause-plays g c =
     (called-none g.F.Shelf.called c.args.shelf.now _
     (λ coming start entry d why done.
     let now : Handed g.K.Sink.called = record d { sink = c.args.output.now; shelf = g.F.Shelf.seen c.args.shelf.now } in
-    let h : Held = held g.E.Engine.whole g.E.Engine.log c.args.run.now coming in
+    let h : HeldRun = held_by g.E.Engine.whole g.E.Engine.log c.args.run.now coming in
     let asking = asking_in g.E.Engine.whole c.args.run.now in
     asked-none (record now { sink = c.flush.new.output })
     (λ (e : Handed g.K.Sink.called). Early start entry (record h { world = c.flush.new.world }) asking e c.in_err-flush.field-0.0)
@@ -46,7 +46,7 @@ returns-clause-plays g c =
     called-as g.F.Shelf.called c.args.shelf.now c.store_files.new.shelf _ _ c.store_files.ensures.stores
     (λ calls stores coming start entry d why done.
     let now : Handed g.K.Sink.called = record d { sink = c.args.output.now; shelf = g.F.Shelf.seen c.args.shelf.now } in
-    let h : Held = held g.E.Engine.whole g.E.Engine.log c.args.run.now coming in
+    let h : HeldRun = held_by g.E.Engine.whole g.E.Engine.log c.args.run.now coming in
     let asking = asking_in g.E.Engine.whole c.args.run.now in
     let world : FlatWorld = c.end_text.new.self in
     let sink = c.flush.new.output in

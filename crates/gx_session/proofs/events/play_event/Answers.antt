@@ -5,7 +5,9 @@ use Rattle.gx_machine.specs.Machine.{Whole}
 use Rattle.gx_machine.specs.Log.{Log}
 use Rattle.gx_machine.specs.Advancing.{units_left}
 use Rattle.gx_session.specs.Devices.{devices}
-use Rattle.gx_session.specs.Playing.{Handed, handed, Going, EventGives, Held, held, asking_in}
+use Rattle.gx_session.specs.Holding.{Handed, handed, HeldRun, held_by, asking_in}
+use Rattle.gx_session.specs.Standing.{Going}
+use Rattle.gx_session.specs.Outcomes.{EventGives}
 use Rattle.gx_session.proofs.Asking.{step-follows}
 use Rattle.gx_session.proofs.Calling.{called-none, called-as, asked-none}
 use Rattle.gx_session.proofs.Feeding.{fed-as, fed-lines}
@@ -20,13 +22,13 @@ returns-in-Some-clause-plays g c =
     (λ x start entry before told f.
     let was : Handed g.K.Sink.called = handed (g.S.Source.seen c.args.input.now) c.args.output.now (g.F.Shelf.seen c.args.shelf.now) (g.R.Rng.stream c.args.dice.now) before in
     let now : Handed g.K.Sink.called = record was { words = g.R.Rng.stream c.draw.new.dice } in
-    let h : Held = held g.E.Engine.whole g.E.Engine.log c.args.run.now x in
-    let drawn : Held = record h { word = c.draw.new.word } in
+    let h : HeldRun = held_by g.E.Engine.whole g.E.Engine.log c.args.run.now x in
+    let drawn : HeldRun = record h { word = c.draw.new.word } in
     let going = redrawn start entry h was c.draw.new.word (g.R.Rng.stream c.draw.new.dice) f c.draw.ensures.is in
     let old : Whole = g.E.Engine.whole c.args.run.now.engine in
     let new : Whole = g.E.Engine.whole c.next_put.new.self in
     asked-none (record now { sink = c.ask_put.new.output })
-    (λ (e : Handed g.K.Sink.called). EventGives start entry (held g.E.Engine.whole g.E.Engine.log c.ask_put.new.run x) (asking_in g.E.Engine.whole c.ask_put.new.run) e c.ask_put.result)
+    (λ (e : Handed g.K.Sink.called). EventGives start entry (held_by g.E.Engine.whole g.E.Engine.log c.ask_put.new.run x) (asking_in g.E.Engine.whole c.ask_put.new.run) e c.ask_put.result)
     (c.ask_put.ensures.plays x start entry now
     (step-follows start entry drawn now old.asking c.draw.result c.draw.ensures.in_hand going new (c.args.run.now.left - 1) (Put c.in-Some.c) (c.in-Some.ensures.value c.draw.result) (λ some. c.next_put.ensures.stands)
     (g.E.Engine.log c.next_put.new.self) c.next_put.ensures.logs))))
@@ -52,5 +54,5 @@ returns-in-None-clause-plays g c =
     (λ x y plays start entry before told f.
     let d : Handed g.K.Sink.called = handed (g.S.Source.seen c.args.input.now) c.args.output.now (g.F.Shelf.seen c.args.shelf.now) (g.R.Rng.stream c.args.dice.now) before in
     plays start entry before told
-    (subst (λ (l : Option Log). Going start entry (record (held g.E.Engine.whole g.E.Engine.log c.args.run.now x) { machine = (g.E.Engine.whole c.next_put.new.self).machine; log = l }) d) (sym c.next_put.ensures.logs)
-    (subst (λ (w : Whole). Going start entry (record (held g.E.Engine.whole g.E.Engine.log c.args.run.now x) { machine = w.machine }) d) (sym (c.next_put.ensures.none c.in-None.is)) f))))
+    (subst (λ (l : Option Log). Going start entry (record (held_by g.E.Engine.whole g.E.Engine.log c.args.run.now x) { machine = (g.E.Engine.whole c.next_put.new.self).machine; log = l }) d) (sym c.next_put.ensures.logs)
+    (subst (λ (w : Whole). Going start entry (record (held_by g.E.Engine.whole g.E.Engine.log c.args.run.now x) { machine = w.machine }) d) (sym (c.next_put.ensures.none c.in-None.is)) f))))

@@ -2,7 +2,8 @@ use Rattle.std.proofs.Common.{[], ◌++◌, refl, arith}
 use Rattle.std.proofs.lemmas.Result.{err_from_is_err_and}
 use Rattle.gx_session.specs.declared.ends.Next.{Next}
 use Rattle.gx_session.specs.Devices.{Devices, devices}
-use Rattle.gx_session.specs.Playing.{Handed, handed, Held, held, asking_in, Going, Done, Early}
+use Rattle.gx_session.specs.Holding.{Handed, handed, HeldRun, held_by, asking_in}
+use Rattle.gx_session.specs.Standing.{Going, HasStopped, Early}
 use Rattle.gx_session.proofs.Calling.{called-none, called-on, asked-none, asked-on, told-front, told-next}
 use Rattle.gx_session.proofs.Feeding.{fed-same, fed-on}
 use Rattle.gx_session.proofs.Keeping.{stays-none, stays-of, stays-on, keeps-after, keeps-ok, keeps-err}
@@ -16,7 +17,7 @@ loop-stop-init g c = record {
   stays = stays-none (devices (g.S.Source.seen c.args.input.now) (g.K.Sink.seen c.args.output.now) (g.F.Shelf.seen c.args.shelf.now) (g.R.Rng.stream c.args.dice.now) [] [] []);
   going = called-none g.F.Shelf.called c.args.shelf.now _
       (fed-same g.S.Source.called g.S.Source.seen c.args.run.now.lines c.args.input.now _
-      (λ x start entry before told f. asked-none (handed (g.S.Source.seen c.args.input.now) c.args.output.now (g.F.Shelf.seen c.args.shelf.now) (g.R.Rng.stream c.args.dice.now) before) (Going start entry (held g.E.Engine.whole g.E.Engine.log c.args.run.now x)) f));
+      (λ x start entry before told f. asked-none (handed (g.S.Source.seen c.args.input.now) c.args.output.now (g.F.Shelf.seen c.args.shelf.now) (g.R.Rng.stream c.args.dice.now) before) (Going start entry (held_by g.E.Engine.whole g.E.Engine.log c.args.run.now x)) f));
 }
 
 pub returns-in_err-stop-clause-plays : goal.returns-in_err-stop-clause-plays
@@ -28,9 +29,9 @@ returns-in_err-stop-clause-plays g c =
     fed-on g.S.Source.called g.S.Source.seen c.args.run.now.lines c.loop-stop.run.lines c.play_event.new.run.lines c.args.input.now c.loop-stop.input c.play_event.new.input _ _ _ first second
     (λ x y z earlier plays start entry before told f.
     let mid : Handed g.K.Sink.called = handed (g.S.Source.seen c.loop-stop.input) c.loop-stop.output (g.F.Shelf.seen c.loop-stop.shelf) (g.R.Rng.stream c.loop-stop.dice) (before ++ one) in
-    let h : Held = held g.E.Engine.whole g.E.Engine.log c.loop-stop.run y in
+    let h : HeldRun = held_by g.E.Engine.whole g.E.Engine.log c.loop-stop.run y in
     let going = earlier start entry before (told-front start.answers before one two told) f in
-    asked-on (handed (g.S.Source.seen c.play_event.new.input) c.play_event.new.output (g.F.Shelf.seen c.play_event.new.shelf) (g.R.Rng.stream c.play_event.new.dice) before) one two (λ (e : Handed g.K.Sink.called). Early start entry (held g.E.Engine.whole g.E.Engine.log c.play_event.new.run z) (asking_in g.E.Engine.whole c.play_event.new.run) e c.in_err-stop.field-0.0)
+    asked-on (handed (g.S.Source.seen c.play_event.new.input) c.play_event.new.output (g.F.Shelf.seen c.play_event.new.shelf) (g.R.Rng.stream c.play_event.new.dice) before) one two (λ (e : Handed g.K.Sink.called). Early start entry (held_by g.E.Engine.whole g.E.Engine.log c.play_event.new.run z) (asking_in g.E.Engine.whole c.play_event.new.run) e c.in_err-stop.field-0.0)
     (plays start entry (before ++ one) (told-next start entry h mid before one two refl going told) going))))
 
 pub returns-in-Stops-clause-plays : goal.returns-in-Stops-clause-plays
@@ -40,9 +41,9 @@ returns-in-Stops-clause-plays g c =
     fed-on g.S.Source.called g.S.Source.seen c.args.run.now.lines c.loop-stop.run.lines c.play_event.new.run.lines c.args.input.now c.loop-stop.input c.play_event.new.input _ _ _ first second
     (λ x y z earlier plays start entry before told f.
     let mid : Handed g.K.Sink.called = handed (g.S.Source.seen c.loop-stop.input) c.loop-stop.output (g.F.Shelf.seen c.loop-stop.shelf) (g.R.Rng.stream c.loop-stop.dice) (before ++ one) in
-    let h : Held = held g.E.Engine.whole g.E.Engine.log c.loop-stop.run y in
+    let h : HeldRun = held_by g.E.Engine.whole g.E.Engine.log c.loop-stop.run y in
     let going = earlier start entry before (told-front start.answers before one two told) f in
-    asked-on (handed (g.S.Source.seen c.play_event.new.input) c.play_event.new.output (g.F.Shelf.seen c.play_event.new.shelf) (g.R.Rng.stream c.play_event.new.dice) before) one two (λ (e : Handed g.K.Sink.called). Done start entry (held g.E.Engine.whole g.E.Engine.log c.play_event.new.run z) (asking_in g.E.Engine.whole c.play_event.new.run) e c.in-Stops.stop)
+    asked-on (handed (g.S.Source.seen c.play_event.new.input) c.play_event.new.output (g.F.Shelf.seen c.play_event.new.shelf) (g.R.Rng.stream c.play_event.new.dice) before) one two (λ (e : Handed g.K.Sink.called). HasStopped start entry (held_by g.E.Engine.whole g.E.Engine.log c.play_event.new.run z) (asking_in g.E.Engine.whole c.play_event.new.run) e c.in-Stops.stop)
     (plays start entry (before ++ one) (told-next start entry h mid before one two refl going told) going)))
 
 pub loop-stop-preserved : goal.loop-stop-preserved
@@ -60,9 +61,9 @@ loop-stop-preserved g c =
           fed-on g.S.Source.called g.S.Source.seen c.args.run.now.lines c.loop-stop.run.lines c.play_event.new.run.lines c.args.input.now c.loop-stop.input c.play_event.new.input _ _ _ first second
           (λ x y z earlier plays start entry before told f.
           let mid : Handed g.K.Sink.called = handed (g.S.Source.seen c.loop-stop.input) c.loop-stop.output (g.F.Shelf.seen c.loop-stop.shelf) (g.R.Rng.stream c.loop-stop.dice) (before ++ one) in
-          let h : Held = held g.E.Engine.whole g.E.Engine.log c.loop-stop.run y in
+          let h : HeldRun = held_by g.E.Engine.whole g.E.Engine.log c.loop-stop.run y in
           let going = earlier start entry before (told-front start.answers before one two told) f in
-          asked-on (handed (g.S.Source.seen c.play_event.new.input) c.play_event.new.output (g.F.Shelf.seen c.play_event.new.shelf) (g.R.Rng.stream c.play_event.new.dice) before) one two (Going start entry (held g.E.Engine.whole g.E.Engine.log c.play_event.new.run z))
+          asked-on (handed (g.S.Source.seen c.play_event.new.input) c.play_event.new.output (g.F.Shelf.seen c.play_event.new.shelf) (g.R.Rng.stream c.play_event.new.dice) before) one two (Going start entry (held_by g.E.Engine.whole g.E.Engine.log c.play_event.new.run z))
           (plays start entry (before ++ one) (told-next start entry h mid before one two refl going told) going)));
     }
 

@@ -3,7 +3,9 @@ use Rattle.std.proofs.lemmas.Result.{err_from_is_err_and}
 use Rattle.gx_session.specs.declared.ends.Stop.{Stop}
 use Rattle.gx_session.specs.declared.running.Running.{Running}
 use Rattle.gx_session.specs.Devices.{Devices, devices}
-use Rattle.gx_session.specs.Playing.{Handed, handed, held, asking_in, Finished, Early}
+use Rattle.gx_session.specs.Holding.{Handed, handed, held_by, asking_in}
+use Rattle.gx_session.specs.Finishing.{Finished}
+use Rattle.gx_session.specs.Standing.{Early}
 use Rattle.gx_session.proofs.Calling.{called-on, asked-on, told-front}
 use Rattle.gx_session.proofs.Feeding.{fed-coming}
 use Rattle.gx_session.proofs.Keeping.{stays-of, keeps-after, keeps-ok, keeps-err}
@@ -24,7 +26,7 @@ returns-in_err-end-clause-plays g c =
     (λ x y is plays start entry before told f.
     let mid : Handed g.K.Sink.called = handed (g.S.Source.seen c.play_events.new.input) c.play_events.new.output (g.F.Shelf.seen c.play_events.new.shelf) (g.R.Rng.stream c.play_events.new.dice) (before ++ one) in
     let exit : Handed g.K.Sink.called = record mid { sink = c.end.new.output; shelf = g.F.Shelf.seen c.end.new.shelf; asked = before } in
-    asked-on exit one two (λ (e : Handed g.K.Sink.called). Early start entry (held g.E.Engine.whole g.E.Engine.log c.end.new.run y) (asking_in g.E.Engine.whole c.end.new.run) e c.in_err-end.field-0.0)
+    asked-on exit one two (λ (e : Handed g.K.Sink.called). Early start entry (held_by g.E.Engine.whole g.E.Engine.log c.end.new.run y) (asking_in g.E.Engine.whole c.end.new.run) e c.in_err-end.field-0.0)
     (ends y start entry mid c.in_ok-stop.stop (plays start entry before (told-front start.answers before one two told) f)))))
 
 pub returns-clause-plays : goal.returns-clause-plays
@@ -35,7 +37,7 @@ returns-clause-plays g c =
     (λ x y is plays start entry before told f.
     let mid : Handed g.K.Sink.called = handed (g.S.Source.seen c.play_events.new.input) c.play_events.new.output (g.F.Shelf.seen c.play_events.new.shelf) (g.R.Rng.stream c.play_events.new.dice) (before ++ one) in
     let exit : Handed g.K.Sink.called = record mid { sink = c.end.new.output; shelf = g.F.Shelf.seen c.end.new.shelf; asked = before } in
-    asked-on exit one two (λ (e : Handed g.K.Sink.called). Finished start entry (held g.E.Engine.whole g.E.Engine.log c.end.new.run y) (asking_in g.E.Engine.whole c.end.new.run) e c.in_ok-stop.stop)
+    asked-on exit one two (λ (e : Handed g.K.Sink.called). Finished start entry (held_by g.E.Engine.whole g.E.Engine.log c.end.new.run y) (asking_in g.E.Engine.whole c.end.new.run) e c.in_ok-stop.stop)
     (ends y start entry mid c.in_ok-stop.stop (plays start entry before (told-front start.answers before one two told) f))))
 
 pub returns-in_err-end-clause-keeps : goal.returns-in_err-end-clause-keeps

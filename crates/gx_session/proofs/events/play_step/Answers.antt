@@ -1,7 +1,8 @@
 use Rattle.std.proofs.Common.{[], ◌≡◌, None, ap, ◌∙◌, arith}
 use Rattle.gx_machine.specs.Machine.{Whole}
 use Rattle.gx_session.specs.Devices.{devices}
-use Rattle.gx_session.specs.Playing.{Handed, handed, Held, held, EventGives}
+use Rattle.gx_session.specs.Holding.{Handed, handed, HeldRun, held_by}
+use Rattle.gx_session.specs.Outcomes.{EventGives}
 use Rattle.gx_session.proofs.Asking.{step-follows, step-wants, step-stops, fault-gives}
 use Rattle.gx_session.proofs.Calling.{called-none, called-as, asked-none}
 use Rattle.gx_session.proofs.Feeding.{fed-same, fed-as}
@@ -44,17 +45,17 @@ returns-in-Err-clause-plays g c =
     (λ x start entry before told f.
     let was : Handed g.K.Sink.called = handed (g.S.Source.seen c.args.input.now) c.args.output.now (g.F.Shelf.seen c.args.shelf.now) (g.R.Rng.stream c.args.dice.now) before in
     let now : Handed g.K.Sink.called = record was { words = g.R.Rng.stream c.draw-word.new.dice } in
-    let h : Held = held g.E.Engine.whole g.E.Engine.log c.args.run.now x in
-    let drawn : Held = record h { word = c.draw-word.new.word } in
+    let h : HeldRun = held_by g.E.Engine.whole g.E.Engine.log c.args.run.now x in
+    let drawn : HeldRun = record h { word = c.draw-word.new.word } in
     let going = redrawn start entry h was c.draw-word.new.word (g.R.Rng.stream c.draw-word.new.dice) f c.draw-word.ensures.is in
     let a = c.in-Err.ensures in
-    let mid : Held = record drawn { machine = a.before.machine; left = c.advance.new.budget; log = a.log } in
+    let mid : HeldRun = record drawn { machine = a.before.machine; left = c.advance.new.budget; log = a.log } in
     let reached = passed-going start entry now drawn c.draw-word.result a.count (g.E.Engine.whole c.args.run.now.engine) a.before c.args.run.now.left c.advance.new.budget (g.E.Engine.log c.args.run.now.engine) a.log c.draw-word.ensures.in_hand c.requires.none going a.passes in
     let none = passed-asks c.draw-word.result a.count (g.E.Engine.whole c.args.run.now.engine) a.before c.args.run.now.left c.advance.new.budget (g.E.Engine.log c.args.run.now.engine) a.log c.requires.none a.passes in
     let same : g.E.Engine.whole c.advance.new.self ≡ a.before = same-whole (g.E.Engine.whole c.advance.new.self) a.before c.advance.new.left c.advance.new.budget (refused-stands _ _ _ _ _ _ _ _ _ a) in
     let machine : (g.E.Engine.whole c.advance.new.self).machine ≡ mid.machine = ap (λ (w : Whole). w.machine) same in
     let nothing : (g.E.Engine.whole c.advance.new.self).asking ≡ None = ap (λ (w : Whole). w.asking) same ∙ none in
-    let end : Held = record mid { machine = (g.E.Engine.whole c.advance.new.self).machine; log = g.E.Engine.log c.advance.new.self } in
+    let end : HeldRun = record mid { machine = (g.E.Engine.whole c.advance.new.self).machine; log = g.E.Engine.log c.advance.new.self } in
     asked-none now (λ (e : Handed g.K.Sink.called). EventGives start entry end (g.E.Engine.whole c.advance.new.self).asking e c.faulted.result)
     (fault-gives start entry (record mid { machine = (g.E.Engine.whole c.advance.new.self).machine; log = g.E.Engine.log c.advance.new.self }) (g.E.Engine.whole c.advance.new.self).asking now c.in-Err.fault _ c.faulted.ensures.gives
     (λ wants. step-wants start entry mid now a.before.asking c.draw-word.result c.draw-word.ensures.in_hand reached
@@ -70,11 +71,11 @@ returns-in-Ok-clause-plays g c =
     (λ x y plays start entry before told f.
     let was : Handed g.K.Sink.called = handed (g.S.Source.seen c.args.input.now) c.args.output.now (g.F.Shelf.seen c.args.shelf.now) (g.R.Rng.stream c.args.dice.now) before in
     let now : Handed g.K.Sink.called = record was { words = g.R.Rng.stream c.draw-word.new.dice } in
-    let h : Held = held g.E.Engine.whole g.E.Engine.log c.args.run.now x in
-    let drawn : Held = record h { word = c.draw-word.new.word } in
+    let h : HeldRun = held_by g.E.Engine.whole g.E.Engine.log c.args.run.now x in
+    let drawn : HeldRun = record h { word = c.draw-word.new.word } in
     let going = redrawn start entry h was c.draw-word.new.word (g.R.Rng.stream c.draw-word.new.dice) f c.draw-word.ensures.is in
     let a = c.in-Ok.ensures in
-    let mid : Held = record drawn { machine = a.before.machine; left = c.advance.new.budget; log = a.log } in
+    let mid : HeldRun = record drawn { machine = a.before.machine; left = c.advance.new.budget; log = a.log } in
     let reached = passed-going start entry now drawn c.draw-word.result a.count (g.E.Engine.whole c.args.run.now.engine) a.before c.args.run.now.left c.advance.new.budget (g.E.Engine.log c.args.run.now.engine) a.log c.draw-word.ensures.in_hand c.requires.none going a.passes in
     plays start entry now told
     (step-follows start entry mid now a.before.asking c.draw-word.result c.draw-word.ensures.in_hand reached (g.E.Engine.whole c.advance.new.self) c.advance.new.left c.in-Ok.effect (advanced _ _ _ _ _ _ _ _ _ a) a.stands

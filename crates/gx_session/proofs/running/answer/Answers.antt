@@ -2,7 +2,7 @@ use Rattle.std.proofs.Common.{ap}
 use Rattle.std.proofs.lemmas.Result.{err_from_is_err_and}
 use Rattle.gx_machine.specs.Answer.{answer_of}
 use Rattle.gx_machine.specs.Machine.{Whole}
-use Rattle.gx_session.specs.Cuts.{ReplyWants}
+use Rattle.gx_session.specs.Wants.{ReplyWants}
 use Rattle.gx_session.proofs.Answering.{give-early, given-standing, given-leads}
 use Rattle.gx_session.proofs.running.answer.Goals as goal
 

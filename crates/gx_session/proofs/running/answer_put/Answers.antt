@@ -2,7 +2,7 @@ use Rattle.std.proofs.Common.{ap, is_some}
 use Rattle.gx_machine.specs.Answer.{answer_of}
 use Rattle.gx_machine.specs.Machine.{Whole}
 use Rattle.glk_replies.specs.Parts.{replies}
-use Rattle.gx_session.specs.Cuts.{ReplyWants}
+use Rattle.gx_session.specs.Wants.{ReplyWants}
 use Rattle.gx_session.proofs.Answering.{given-standing, given-leads}
 use Rattle.gx_session.proofs.running.answer_put.Goals as goal
 

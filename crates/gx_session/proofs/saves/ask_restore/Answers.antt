@@ -6,17 +6,18 @@ use Rattle.gx_machine.specs.Answer.{answer_of}
 use Rattle.gx_machine.specs.Saves.{restored}
 use Rattle.glk_replies.specs.Parts.{replies}
 use Rattle.gx_session.specs.Constants.{failed}
-use Rattle.gx_session.specs.Cuts.{ReplyWants}
-use Rattle.gx_session.specs.Playing.{Handed, Held, held, asking_in, Replies}
+use Rattle.gx_session.specs.Wants.{ReplyWants}
+use Rattle.gx_session.specs.Holding.{Handed, HeldRun, held_by, asking_in}
+use Rattle.gx_session.specs.Standing.{ResumesWithReply}
 use Rattle.gx_session.specs.Saving.{restoring}
-use Rattle.gx_session.specs.Session.{steps}
+use Rattle.gx_session.specs.Configurations.{steps}
 use Rattle.gx_session.proofs.Asking.{asks-now, restoring-does, restore-reads, restore-takes, asking-early, asking-resumes, fault-stops, fault-gives, world-ok, world-err}
 use Rattle.gx_session.proofs.saves.ask_restore.Goals as goal
 
 pub returns-in-Err-clause-plays : goal.returns-in-Err-clause-plays
 returns-in-Err-clause-plays g c coming start entry d f =
     let now : Handed g.K.Sink.called = record d { sink = c.args.output.now } in
-    let h : Held = held g.E.Engine.whole g.E.Engine.log c.args.run.now coming in
+    let h : HeldRun = held_by g.E.Engine.whole g.E.Engine.log c.args.run.now coming in
     let asking = asking_in g.E.Engine.whole c.args.run.now in
     let a = asks-now start entry h now c.args.left (Restore c.args.stream) f refl in
     let value = c.in-Err.ensures.value in
@@ -30,11 +31,11 @@ returns-in-Err-clause-plays g c coming start entry d f =
 pub returns-in-Ok-None-clause-plays : goal.returns-in-Ok-None-clause-plays
 returns-in-Ok-None-clause-plays g c coming start entry d f =
     let now : Handed g.K.Sink.called = record d { sink = c.args.output.now } in
-    let h : Held = held g.E.Engine.whole g.E.Engine.log c.args.run.now coming in
+    let h : HeldRun = held_by g.E.Engine.whole g.E.Engine.log c.args.run.now coming in
     let a = asks-now start entry h now c.args.left (Restore c.args.stream) f refl in
     let w = world-ok {X = Option Copy} h.world c.read.new.world (restoring h.world.scene h.machine.flat c.args.stream) None (rw c.in-Ok-None.field-0-is at c.in-Ok-None.ensures.value) in
     c.answer.ensures.plays coming start entry d
-    (subst (λ (r : Reply). Replies start entry (record h { world = c.read.new.world }) (asking_in g.E.Engine.whole c.args.run.now) now c.args.left r) (sym c.failed-reply.ensures)
+    (subst (λ (r : Reply). ResumesWithReply start entry (record h { world = c.read.new.world }) (asking_in g.E.Engine.whole c.args.run.now) now c.args.left r) (sym c.failed-reply.ensures)
     (asking-resumes start entry h now c.args.left (Restore c.args.stream) a (asking_in g.E.Engine.whole c.args.run.now) c.read.new.world w.0 (answer_of h.machine (replies failed)) (ReplyWants h.log h.machine (replies failed)) c.requires.asks w.2
     (restoring-does start entry h now c.args.left (Restore c.args.stream) a c.args.stream (Ok (w.0, None)) refl w.1) (λ begins. absurd begins)
     (restore-takes start entry h now c.args.left (Restore c.args.stream) a c.args.stream w.0 None refl w.1)))
@@ -42,7 +43,7 @@ returns-in-Ok-None-clause-plays g c coming start entry d f =
 pub returns-in-Ok-Some-clause-plays : goal.returns-in-Ok-Some-clause-plays
 returns-in-Ok-Some-clause-plays g c coming start entry d f =
     let now : Handed g.K.Sink.called = record d { sink = c.args.output.now } in
-    let h : Held = held g.E.Engine.whole g.E.Engine.log c.args.run.now coming in
+    let h : HeldRun = held_by g.E.Engine.whole g.E.Engine.log c.args.run.now coming in
     let a = asks-now start entry h now c.args.left (Restore c.args.stream) f refl in
     let w = world-ok {X = Option Copy} h.world c.read.new.world (restoring h.world.scene h.machine.flat c.args.stream) (Some c.in-Ok-Some.copy) (rw c.in-Ok-Some.field-0-is at c.in-Ok-Some.ensures.value) in
     c.resume.ensures.plays coming start entry d

@@ -1,17 +1,17 @@
 use Rattle.std.proofs.Common.{refl, ◌∙◌, sym, Ok, Err}
 use Rattle.gx_state.specs.declared.effects.Effect.TheVariants.{Save}
 use Rattle.gx_machine.specs.Answer.{answer_of}
-use Rattle.gx_session.specs.Cuts.{ReplyWants}
-use Rattle.gx_session.specs.Playing.{Handed, Held, held, asking_in}
+use Rattle.gx_session.specs.Wants.{ReplyWants}
+use Rattle.gx_session.specs.Holding.{Handed, HeldRun, held_by, asking_in}
 use Rattle.gx_session.specs.Saving.{saving}
-use Rattle.gx_session.specs.Session.{steps}
+use Rattle.gx_session.specs.Configurations.{steps}
 use Rattle.gx_session.proofs.Asking.{asks-now, saving-does, save-begun, save-takes, asking-early, asking-resumes, fault-stops, fault-gives, world-ok, world-err}
 use Rattle.gx_session.proofs.saves.ask_save.Goals as goal
 
 pub returns-in-Err-clause-plays : goal.returns-in-Err-clause-plays
 returns-in-Err-clause-plays g c coming start entry d f =
     let now : Handed g.K.Sink.called = record d { sink = c.args.output.now } in
-    let h : Held = held g.E.Engine.whole g.E.Engine.log c.args.run.now coming in
+    let h : HeldRun = held_by g.E.Engine.whole g.E.Engine.log c.args.run.now coming in
     let asking = asking_in g.E.Engine.whole c.args.run.now in
     let a = asks-now start entry h now c.args.left (Save c.args.stream) f refl in
     let value = c.in-Err.ensures.value in
@@ -24,7 +24,7 @@ returns-in-Err-clause-plays g c coming start entry d f =
 pub returns-in-Ok-clause-plays : goal.returns-in-Ok-clause-plays
 returns-in-Ok-clause-plays g c coming start entry d f =
     let now : Handed g.K.Sink.called = record d { sink = c.args.output.now } in
-    let h : Held = held g.E.Engine.whole g.E.Engine.log c.args.run.now coming in
+    let h : HeldRun = held_by g.E.Engine.whole g.E.Engine.log c.args.run.now coming in
     let a = asks-now start entry h now c.args.left (Save c.args.stream) f refl in
     let w = world-ok h.world c.save.new.world (saving h.world.scene h.machine.flat c.args.stream) c.in-Ok.reply c.in-Ok.ensures.value in
     c.answer.ensures.plays coming start entry d

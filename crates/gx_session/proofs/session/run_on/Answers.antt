@@ -4,9 +4,10 @@ use Rattle.gx_outside.specs.Reads.{SourceCall}
 use Rattle.gx_outside.specs.Sends.{SinkCall}
 use Rattle.gx_outside.specs.Shelves.{Trace, ShelfCall}
 use Rattle.gx_session.specs.Runs.{IsRun}
-use Rattle.gx_session.specs.Session.{Configuration, start_of}
+use Rattle.gx_session.specs.Configurations.{Configuration, start_of}
 use Rattle.gx_session.specs.Lines.{HeldLines}
-use Rattle.gx_session.specs.Playing.{Handed, handed, devices_of, Held, held, asking_in, Going}
+use Rattle.gx_session.specs.Holding.{Handed, handed, devices_of, HeldRun, held_by, asking_in}
+use Rattle.gx_session.specs.Standing.{Going}
 use Rattle.gx_session.proofs.Calling.{chain-map, some-answers}
 use Rattle.gx_session.proofs.Ending.{session-of-stop, session-of-halt, report-of-stop, report-of-halt, counts-of-stop, counts-of-halt}
 use Rattle.gx_session.proofs.Feeding.{some-coming, first-over}
@@ -29,10 +30,10 @@ returns-in-Ok g c =
     let nothing = ap (λ (l : HeldLines). l.held) c.new.ensures in
     let after = some-coming c.play_out-ended.new.run.lines exit.source (fed.over (first-over c.new.result entry.source c.new.ensures)) in
     let before = fed.comes after.0 after.1 in
-    let first : Held = record { machine = (g.E.Engine.whole c.args.engine).machine; world = c.args.world; ahead = c.new.result.held; coming = before.0; over = c.new.result.ended; echo = c.args.echo; word = None; left = c.args.steps; log = g.E.Engine.log c.args.engine } in
+    let first : HeldRun = record { machine = (g.E.Engine.whole c.args.engine).machine; world = c.args.world; ahead = c.new.result.held; coming = before.0; over = c.new.result.ended; echo = c.args.echo; word = None; left = c.args.steps; log = g.E.Engine.log c.args.engine } in
     let from : Configuration = record start { input = before.0; answers = told.0 } in
     let going : Going from entry first entry = subst (λ (x : List ℕ). Going (record from { input = x ++ before.0 }) entry first entry) nothing (starts told.0 entry first refl refl nothing (ap (λ (l : HeldLines). l.ended) c.new.ensures) c.requires.no_text before.1.told) in
-    let last : Held = held g.E.Engine.whole g.E.Engine.log c.play_out-ended.new.run after.0 in
+    let last : HeldRun = held_by g.E.Engine.whole g.E.Engine.log c.play_out-ended.new.run after.0 in
     let keeps = c.in-Ok.ensures.keeps in
     let done = session-of-stop g.K.Sink.seen g.met.K.Sink.called_so fed.reads from entry last (asking_in g.E.Engine.whole c.play_out-ended.new.run) exit c.in-Ok.ensures.no_more c.in-Ok.stop (before.2 from entry [] told.2 going) in
     let counts = counts-of-stop (devices_of entry (g.K.Sink.seen entry.sink) [] []) (devices_of exit (g.K.Sink.seen exit.sink) [] []) c.in-Ok.stop (record { sink = keeps.sink; sink_tells = keeps.sink_tells; source = keeps.source; source_tells = keeps.source_tells; shelf = keeps.shelf; shelf_tells = keeps.shelf_tells }) in
@@ -74,10 +75,10 @@ returns-in-Err g c =
     let nothing = ap (λ (l : HeldLines). l.held) c.new.ensures in
     let after = some-coming c.play_out-ended.new.run.lines exit.source (fed.over (first-over c.new.result entry.source c.new.ensures)) in
     let before = fed.comes after.0 after.1 in
-    let first : Held = record { machine = (g.E.Engine.whole c.args.engine).machine; world = c.args.world; ahead = c.new.result.held; coming = before.0; over = c.new.result.ended; echo = c.args.echo; word = None; left = c.args.steps; log = g.E.Engine.log c.args.engine } in
+    let first : HeldRun = record { machine = (g.E.Engine.whole c.args.engine).machine; world = c.args.world; ahead = c.new.result.held; coming = before.0; over = c.new.result.ended; echo = c.args.echo; word = None; left = c.args.steps; log = g.E.Engine.log c.args.engine } in
     let from : Configuration = record start { input = before.0; answers = told.0 } in
     let going : Going from entry first entry = subst (λ (x : List ℕ). Going (record from { input = x ++ before.0 }) entry first entry) nothing (starts told.0 entry first refl refl nothing (ap (λ (l : HeldLines). l.ended) c.new.ensures) c.requires.no_text before.1.told) in
-    let last : Held = held g.E.Engine.whole g.E.Engine.log c.play_out-ended.new.run after.0 in
+    let last : HeldRun = held_by g.E.Engine.whole g.E.Engine.log c.play_out-ended.new.run after.0 in
     let keeps = c.in-Err.ensures.keeps in
     let done = session-of-halt g.K.Sink.seen g.met.K.Sink.called_so fed.reads from entry last (asking_in g.E.Engine.whole c.play_out-ended.new.run) exit c.in-Err.ensures.no_more c.in-Err.halt (before.2 from entry [] told.2 going) in
     let counts = counts-of-halt (devices_of entry (g.K.Sink.seen entry.sink) [] []) (devices_of exit (g.K.Sink.seen exit.sink) [] []) c.in-Err.halt (record { sink = keeps.sink; sink_tells = keeps.sink_tells; source = keeps.source; source_tells = keeps.source_tells; shelf = keeps.shelf; shelf_tells = keeps.shelf_tells }) in

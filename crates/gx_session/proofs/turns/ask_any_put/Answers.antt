@@ -2,16 +2,16 @@ use Rattle.std.proofs.Common.{refl, sym, ◌∙◌, Ok, Err}
 use Rattle.gx_state.specs.declared.effects.Effect.TheVariants.{Put}
 use Rattle.gx_machine.specs.Answer.{answer_of}
 use Rattle.glk_text_calls.specs.Output.{putting}
-use Rattle.gx_session.specs.Cuts.{ReplyWants}
-use Rattle.gx_session.specs.Playing.{Handed, Held, held, asking_in}
-use Rattle.gx_session.specs.Session.{steps}
+use Rattle.gx_session.specs.Wants.{ReplyWants}
+use Rattle.gx_session.specs.Holding.{Handed, HeldRun, held_by, asking_in}
+use Rattle.gx_session.specs.Configurations.{steps}
 use Rattle.gx_session.proofs.Asking.{asks-now, put-does, put-grows, put-takes, asking-early, asking-resumes, fault-stops, fault-gives, world-ok, world-err}
 use Rattle.gx_session.proofs.turns.ask_any_put.Goals as goal
 
 pub returns-in-Err-clause-plays : goal.returns-in-Err-clause-plays
 returns-in-Err-clause-plays g c coming start entry d f =
     let now : Handed g.K.Sink.called = record d { sink = c.args.output.now } in
-    let h : Held = held g.E.Engine.whole g.E.Engine.log c.args.run.now coming in
+    let h : HeldRun = held_by g.E.Engine.whole g.E.Engine.log c.args.run.now coming in
     let asking = asking_in g.E.Engine.whole c.args.run.now in
     let a = asks-now start entry h now c.args.left (Put c.args.c) f refl in
     let value = c.in-Err.ensures.value in
@@ -25,7 +25,7 @@ returns-in-Err-clause-plays g c coming start entry d f =
 pub returns-in-Ok-clause-plays : goal.returns-in-Ok-clause-plays
 returns-in-Ok-clause-plays g c coming start entry d f =
     let now : Handed g.K.Sink.called = record d { sink = c.args.output.now } in
-    let h : Held = held g.E.Engine.whole g.E.Engine.log c.args.run.now coming in
+    let h : HeldRun = held_by g.E.Engine.whole g.E.Engine.log c.args.run.now coming in
     let a = asks-now start entry h now c.args.left (Put c.args.c) f refl in
     let w = world-ok h.world c.put.new.world (putting h.world.scene c.state.result.now.flat c.args.c) c.in-Ok.reply c.in-Ok.ensures.value in
     c.answer.ensures.plays coming start entry d

@@ -2,8 +2,9 @@ use Rattle.std.proofs.Common.{refl, sym, ◌∙◌, Ok, Err}
 use Rattle.gx_state.specs.declared.effects.Effect.TheVariants.{Glk}
 use Rattle.glk_replies.specs.declared.Turn.{Turn}
 use Rattle.glk_dispatch.specs.Calls.{glk_call}
-use Rattle.gx_session.specs.Playing.{Handed, Held, held, asking_in, EventGives}
-use Rattle.gx_session.specs.Session.{steps}
+use Rattle.gx_session.specs.Holding.{Handed, HeldRun, held_by, asking_in}
+use Rattle.gx_session.specs.Outcomes.{EventGives}
+use Rattle.gx_session.specs.Configurations.{steps}
 use Rattle.gx_session.proofs.Asking.{asks-now, call-does, call-grows, call-takes, call-turns, asking-early, fault-stops, fault-gives, world-ok, world-err}
 use Rattle.gx_session.proofs.Calling.{called-none, called-as, asked-none}
 use Rattle.gx_session.proofs.Feeding.{fed-same, fed-as}
@@ -15,7 +16,7 @@ returns-in-Err-clause-plays g c =
     (fed-same g.S.Source.called g.S.Source.seen c.args.run.now.lines c.args.input.now _
     (λ x start entry d told f.
     let now : Handed g.K.Sink.called = record d { source = g.S.Source.seen c.args.input.now; sink = c.args.output.now; shelf = g.F.Shelf.seen c.args.shelf.now } in
-    let h : Held = held g.E.Engine.whole g.E.Engine.log c.args.run.now x in
+    let h : HeldRun = held_by g.E.Engine.whole g.E.Engine.log c.args.run.now x in
     let asking = asking_in g.E.Engine.whole c.args.run.now in
     let does = Glk c.args.selector c.args.args.now c.args.wait.room in
     let a = asks-now start entry h now c.args.wait.left does f refl in
@@ -36,7 +37,7 @@ returns-in-Ok-clause-plays g c =
     fed-as g.S.Source.called g.S.Source.seen c.args.run.now.lines c.take_turn.new.run.lines c.args.input.now c.take_turn.new.input _ _ fed
     (λ x y plays start entry d told f.
     let now : Handed g.K.Sink.called = record d { source = g.S.Source.seen c.args.input.now; sink = c.args.output.now; shelf = g.F.Shelf.seen c.args.shelf.now } in
-    let h : Held = held g.E.Engine.whole g.E.Engine.log c.args.run.now x in
+    let h : HeldRun = held_by g.E.Engine.whole g.E.Engine.log c.args.run.now x in
     let does = Glk c.args.selector c.args.args.now c.args.wait.room in
     let a = asks-now start entry h now c.args.wait.left does f refl in
     let w = world-ok {X = Turn} h.world c.call.new.world (glk_call h.world.scene c.state.result.now.flat c.args.wait.room c.args.selector c.as_slice.result.now) c.in-Ok.turn c.in-Ok.ensures.value in

@@ -5,15 +5,16 @@ use Rattle.gx_machine.specs.Answer.{answer_of}
 use Rattle.glk_world.specs.World.{FlatWorld}
 use Rattle.glk_text_calls.specs.Output.{putting}
 use Rattle.glk_replies.specs.Parts.{replies}
-use Rattle.gx_session.specs.Cuts.{ReplyWants}
-use Rattle.gx_session.specs.Playing.{Handed, Held, held, asking_in, Follows}
+use Rattle.gx_session.specs.Wants.{ReplyWants}
+use Rattle.gx_session.specs.Holding.{Handed, HeldRun, held_by, asking_in}
+use Rattle.gx_session.specs.Standing.{Follows}
 use Rattle.gx_session.proofs.Asking.{asks-now, put-does, put-grows, put-takes, asking-early, asking-resumes, world-ok}
 use Rattle.gx_session.proofs.turns.ask_put.Goals as goal
 
 pub returns-in-Err-clause-plays : goal.returns-in-Err-clause-plays
 returns-in-Err-clause-plays g c coming start entry d f =
     let now : Handed g.K.Sink.called = record d { sink = c.args.output.now } in
-    let h : Held = held g.E.Engine.whole g.E.Engine.log c.args.run.now coming in
+    let h : HeldRun = held_by g.E.Engine.whole g.E.Engine.log c.args.run.now coming in
     let asking = asking_in g.E.Engine.whole c.args.run.now in
     let a = asks-now start entry h now c.args.left (Put c.args.c) f refl in
     (asking-early start entry h now c.args.left (Put c.args.c) a c.put_text.new.world asking c.requires.asks
@@ -22,7 +23,7 @@ returns-in-Err-clause-plays g c coming start entry d f =
 pub returns-in-Ok-true-clause-plays : goal.returns-in-Ok-true-clause-plays
 returns-in-Ok-true-clause-plays g c coming start entry d f =
     let now : Handed g.K.Sink.called = record d { sink = c.args.output.now } in
-    let h : Held = held g.E.Engine.whole g.E.Engine.log c.args.run.now coming in
+    let h : HeldRun = held_by g.E.Engine.whole g.E.Engine.log c.args.run.now coming in
     let a = asks-now start entry h now c.args.left (Put c.args.c) f refl in
     let w = world-ok h.world c.put_text.new.world (putting h.world.scene h.machine.flat c.args.c) (replies 0) (c.in-Ok-true.ensures.put (rw c.in-Ok-true.field-0-test refl) h.machine.flat) in
     c.answer_put.ensures.plays coming start entry d
@@ -33,6 +34,6 @@ returns-in-Ok-true-clause-plays g c coming start entry d f =
 pub returns-in-Ok-false-clause-plays : goal.returns-in-Ok-false-clause-plays
 returns-in-Ok-false-clause-plays g c coming start entry d f =
     let now : Handed g.K.Sink.called = record d { sink = c.args.output.now } in
-    let h : Held = held g.E.Engine.whole g.E.Engine.log c.args.run.now coming in
+    let h : HeldRun = held_by g.E.Engine.whole g.E.Engine.log c.args.run.now coming in
     c.ask_any_put.ensures.plays coming start entry d
     (subst (λ (w : FlatWorld). Follows start entry (record h { world = w }) now c.args.left (Put c.args.c)) (sym (c.in-Ok-false.ensures.other (rw c.in-Ok-false.field-0-test refl))) f)

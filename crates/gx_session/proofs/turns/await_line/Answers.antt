@@ -4,7 +4,8 @@ use Rattle.gx_session.specs.declared.ends.Halt.{Halt}
 use Rattle.gx_session.specs.declared.lines.NoLine.{NoLine}
 use Rattle.gx_session.specs.declared.lines.NoLine.TheVariants as no
 use Rattle.gx_session.specs.Devices.{Devices}
-use Rattle.gx_session.specs.Playing.{Handed, held, asking_in, EventGives}
+use Rattle.gx_session.specs.Holding.{Handed, held_by, asking_in}
+use Rattle.gx_session.specs.Outcomes.{EventGives}
 use Rattle.gx_session.proofs.Consulting.{text-refused, line-came, no-line-came}
 use Rattle.gx_session.proofs.Counting.{well-of}
 use Rattle.gx_session.proofs.Feeding.{fed-same, fed-coming}
@@ -16,7 +17,7 @@ returns-in_err-flush-clause-plays g c =
     let p = err_from_is_err_and c.from_residual.result c.from_residual.ensures.1 in
     rw (p.1, p.2)
     (fed-same g.S.Source.called g.S.Source.seen c.args.run.now.lines c.args.input.now _
-    (λ x turn start entry d is waits. text-refused start entry (held g.E.Engine.whole g.E.Engine.log c.args.run.now x) (asking_in g.E.Engine.whole c.args.run.now) (record d { source = g.S.Source.seen c.args.input.now; sink = c.args.output.now }) turn c.args.wait waits
+    (λ x turn start entry d is waits. text-refused start entry (held_by g.E.Engine.whole g.E.Engine.log c.args.run.now x) (asking_in g.E.Engine.whole c.args.run.now) (record d { source = g.S.Source.seen c.args.input.now; sink = c.args.output.now }) turn c.args.wait waits
     c.flush.new.world c.flush.new.output c.in_err-flush.field-0.0 c.in_err-flush.ensures.only c.in_err-flush.ensures.sends))
 
 pub returns-in-Ok-clause-plays : goal.returns-in-Ok-clause-plays
@@ -25,7 +26,7 @@ returns-in-Ok-clause-plays g c =
     (λ x y is takes turn start entry d wait waits.
     let now : Handed g.K.Sink.called = record d { source = g.S.Source.seen c.args.input.now; sink = c.args.output.now } in
     c.take_line.ensures.plays y start entry (record d { source = g.S.Source.seen c.next.new.source })
-    (line-came start entry (held g.E.Engine.whole g.E.Engine.log c.args.run.now x) (asking_in g.E.Engine.whole c.args.run.now) now turn c.args.wait waits c.flush.new.world c.flush.new.output c.in_ok-flush.ensures.sends
+    (line-came start entry (held_by g.E.Engine.whole g.E.Engine.log c.args.run.now x) (asking_in g.E.Engine.whole c.args.run.now) now turn c.args.wait waits c.flush.new.world c.flush.new.output c.in_ok-flush.ensures.sends
     wait c.next.new.self.held y c.next.new.self.ended (g.S.Source.seen c.next.new.source) is.told c.in-Ok.line takes.line takes.reads (c.in-Ok.ensures.few waits.now.few)))
 
 pub returns-in-Err-clause-plays : goal.returns-in-Err-clause-plays
@@ -34,7 +35,7 @@ returns-in-Err-clause-plays g c =
     (λ x y is takes turn start entry d wait waits.
     let now : Handed g.K.Sink.called = record d { source = g.S.Source.seen c.args.input.now; sink = c.args.output.now } in
     subst (EventGives start entry _ _ _) (sym c.without_line.ensures)
-    (no-line-came start entry (held g.E.Engine.whole g.E.Engine.log c.args.run.now x) (asking_in g.E.Engine.whole c.args.run.now) now turn c.args.wait waits c.flush.new.world c.flush.new.output c.in_ok-flush.ensures.sends
+    (no-line-came start entry (held_by g.E.Engine.whole g.E.Engine.log c.args.run.now x) (asking_in g.E.Engine.whole c.args.run.now) now turn c.args.wait waits c.flush.new.world c.flush.new.output c.in_ok-flush.ensures.sends
     wait c.next.new.self.held y c.next.new.self.ended (g.S.Source.seen c.next.new.source) is.told c.in-Err.none takes.line takes.reads (c.in-Err.ensures.few waits.now.few)))
 
 pub returns-in-Ok-clause-keeps : goal.returns-in-Ok-clause-keeps

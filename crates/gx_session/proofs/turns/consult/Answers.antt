@@ -4,9 +4,11 @@ use Rattle.gx_outside.specs.Shelves.{Trace}
 use Rattle.glk_replies.specs.declared.Given.{Given}
 use Rattle.gx_session.specs.declared.ends.Halt.{Halt}
 use Rattle.gx_session.specs.Devices.{Devices}
-use Rattle.gx_session.specs.Playing.{Handed, Held, held, asking_in, Waits, Early, halt_of_shelf}
+use Rattle.gx_session.specs.Holding.{Handed, HeldRun, held_by, asking_in}
+use Rattle.gx_session.specs.Standing.{IsInCall, Early}
+use Rattle.gx_session.specs.Outcomes.{halt_of_shelf}
 use Rattle.gx_session.specs.Questions.{turn_of, request_for, AreTold}
-use Rattle.gx_session.specs.Session.{goes_on}
+use Rattle.gx_session.specs.Configurations.{goes_on}
 use Rattle.gx_session.proofs.Calling.{called-none, called-as, asked-none}
 use Rattle.gx_session.proofs.Consulting.{text-refused, shelf-refused, shelf-answered}
 use Rattle.gx_session.proofs.Keeping.{keeps-sink, stays-of, stays-shelf, keeps-after}
@@ -19,7 +21,7 @@ returns-in_err-flush-clause-plays g c =
     (called-none g.F.Shelf.called c.args.shelf.now _
     (λ coming start entry d told waits.
     let now : Handed g.K.Sink.called = record d { sink = c.args.output.now; shelf = g.F.Shelf.seen c.args.shelf.now } in
-    let h : Held = held g.E.Engine.whole g.E.Engine.log c.args.run.now coming in
+    let h : HeldRun = held_by g.E.Engine.whole g.E.Engine.log c.args.run.now coming in
     let asking = asking_in g.E.Engine.whole c.args.run.now in
     asked-none (record now { sink = c.flush.new.output })
     (λ (e : Handed g.K.Sink.called). Early start entry (record h { world = c.flush.new.world }) asking e c.in_err-flush.field-0.0)
@@ -33,7 +35,7 @@ returns-in_err-given-clause-plays g c =
     (called-as g.F.Shelf.called c.args.shelf.now c.ask.new.shelf _ _ c.in_err-given.ensures.asks
     (λ calls once coming start entry d told waits.
     let now : Handed g.K.Sink.called = record d { sink = c.args.output.now; shelf = g.F.Shelf.seen c.args.shelf.now } in
-    let h : Held = held g.E.Engine.whole g.E.Engine.log c.args.run.now coming in
+    let h : HeldRun = held_by g.E.Engine.whole g.E.Engine.log c.args.run.now coming in
     let asking = asking_in g.E.Engine.whole c.args.run.now in
     let shelf = g.F.Shelf.seen c.ask.new.shelf in
     let exit : Handed g.K.Sink.called = record now { sink = c.flush.new.output; shelf = shelf } in
@@ -47,8 +49,8 @@ returns-clause-plays g c =
     called-as g.F.Shelf.called c.args.shelf.now c.ask.new.shelf _ _ c.in_ok-given.ensures.asks
     (λ calls once coming start entry d told waits.
     let now : Handed g.K.Sink.called = record d { sink = c.args.output.now; shelf = g.F.Shelf.seen c.args.shelf.now } in
-    let h : Held = held g.E.Engine.whole g.E.Engine.log c.args.run.now coming in
-    let h1 : Held = record h { world = c.flush.new.world } in
+    let h : HeldRun = held_by g.E.Engine.whole g.E.Engine.log c.args.run.now coming in
+    let h1 : HeldRun = record h { world = c.flush.new.world } in
     let asking = asking_in g.E.Engine.whole c.args.run.now in
     let shelf = g.F.Shelf.seen c.ask.new.shelf in
     let mid : Handed g.K.Sink.called = record now { sink = c.flush.new.output; shelf = shelf } in
@@ -56,8 +58,8 @@ returns-clause-plays g c =
     shelf-answered start entry h asking now (turn_of c.args.question) c.args.wait waits c.flush.new.world c.flush.new.output c.in_ok-flush.ensures.sends
     shelf c.args.question refl once.0 (subst (AreTold start.answers d.asked) once.1 told) in
     c.go_on.ensures.plays coming start entry (record mid { asked = d.asked ++ calls })
-    (subst (λ (t : Trace). Waits start entry h1 asking (record mid { asked = d.asked ++ t }) (goes_on c.in_ok-given.given c.args.wait)) (sym once.1)
-    (subst (λ (x : Given). Waits start entry h1 asking (record mid { asked = d.asked ++ (request_for c.args.question, Ok once.0) ∷ [] }) (goes_on x c.args.wait)) (sym once.2) answered)))
+    (subst (λ (t : Trace). IsInCall start entry h1 asking (record mid { asked = d.asked ++ t }) (goes_on c.in_ok-given.given c.args.wait)) (sym once.1)
+    (subst (λ (x : Given). IsInCall start entry h1 asking (record mid { asked = d.asked ++ (request_for c.args.question, Ok once.0) ∷ [] }) (goes_on x c.args.wait)) (sym once.2) answered)))
 
 pub returns-clause-keeps : goal.returns-clause-keeps
 returns-clause-keeps g c d =

@@ -1,15 +1,15 @@
 use Rattle.std.proofs.Common.{Err}
 use Rattle.glk_replies.specs.declared.Turn.{Turn}
 use Rattle.glk_dispatch.specs.Going.{glk_go_on}
-use Rattle.gx_session.specs.Playing.{Handed, Held, held, asking_in}
-use Rattle.gx_session.specs.Session.{goes_on}
+use Rattle.gx_session.specs.Holding.{Handed, HeldRun, held_by, asking_in}
+use Rattle.gx_session.specs.Configurations.{goes_on}
 use Rattle.gx_session.proofs.Asking.{on-ready, given-does, given-early, given-turns, fault-stops, fault-gives, world-ok, world-err, world-fine}
 use Rattle.gx_session.proofs.turns.go_on.Goals as goal
 
 pub returns-in-Err-clause-plays : goal.returns-in-Err-clause-plays
 returns-in-Err-clause-plays g c coming start entry d waits =
     let now : Handed g.K.Sink.called = record d { sink = c.args.output.now } in
-    let h : Held = held g.E.Engine.whole g.E.Engine.log c.args.run.now coming in
+    let h : HeldRun = held_by g.E.Engine.whole g.E.Engine.log c.args.run.now coming in
     let asking = asking_in g.E.Engine.whole c.args.run.now in
     let ready = on-ready start entry h now asking c.args.given c.args.wait waits in
     let value = c.in-Err.ensures.value in
@@ -22,7 +22,7 @@ returns-in-Err-clause-plays g c coming start entry d waits =
 pub returns-in-Ok-clause-plays : goal.returns-in-Ok-clause-plays
 returns-in-Ok-clause-plays g c coming start entry d waits =
     let now : Handed g.K.Sink.called = record d { sink = c.args.output.now } in
-    let h : Held = held g.E.Engine.whole g.E.Engine.log c.args.run.now coming in
+    let h : HeldRun = held_by g.E.Engine.whole g.E.Engine.log c.args.run.now coming in
     let asking = asking_in g.E.Engine.whole c.args.run.now in
     let w = world-ok {X = Turn} h.world c.go_on.new.world (glk_go_on h.world.scene c.state.result.now.flat c.args.wait.room c.args.given) c.in-Ok.turn c.in-Ok.ensures.value in
     c.take_answer.ensures.plays coming start entry d

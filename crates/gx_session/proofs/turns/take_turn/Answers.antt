@@ -3,7 +3,9 @@ use Rattle.glk_replies.specs.declared.Turn.TheVariants as turn
 use Rattle.gx_session.specs.declared.ends.Stop.TheVariants as stop
 use Rattle.gx_session.specs.declared.questions.Question.{Question}
 use Rattle.gx_session.specs.declared.questions.Question.TheVariants as question
-use Rattle.gx_session.specs.Playing.{Handed, Held, held, asking_in, Turns, Done, EventGives}
+use Rattle.gx_session.specs.Holding.{Handed, HeldRun, held_by, asking_in}
+use Rattle.gx_session.specs.Standing.{TakesTurn, HasStopped}
+use Rattle.gx_session.specs.Outcomes.{EventGives}
 use Rattle.gx_session.specs.Questions.{turn_of}
 use Rattle.gx_session.proofs.Asking.{called, turn-answers, turn-asks, turn-stuck, turn-exits, question-turns}
 use Rattle.gx_session.proofs.Calling.{called-none, called-as, asked-none}
@@ -17,9 +19,9 @@ returns-in-Answer-clause-plays g c =
     (λ x start entry d told r.
     let now : Handed g.K.Sink.called = record d { source = g.S.Source.seen c.args.input.now; sink = c.args.output.now; shelf = g.F.Shelf.seen c.args.shelf.now } in
     asked-none (record now { sink = c.answer.new.output })
-    (λ (e : Handed g.K.Sink.called). EventGives start entry (held g.E.Engine.whole g.E.Engine.log c.answer.new.run x) (asking_in g.E.Engine.whole c.answer.new.run) e c.answer.result)
+    (λ (e : Handed g.K.Sink.called). EventGives start entry (held_by g.E.Engine.whole g.E.Engine.log c.answer.new.run x) (asking_in g.E.Engine.whole c.answer.new.run) e c.answer.result)
     (c.answer.ensures.plays x start entry now
-    (turn-answers start entry (held g.E.Engine.whole g.E.Engine.log c.args.run.now x) now (asking_in g.E.Engine.whole c.args.run.now) c.args.wait c.args.turn r c.in-Answer.reply c.in-Answer.is))))
+    (turn-answers start entry (held_by g.E.Engine.whole g.E.Engine.log c.args.run.now x) now (asking_in g.E.Engine.whole c.args.run.now) c.args.wait c.args.turn r c.in-Answer.reply c.in-Answer.is))))
 
 pub returns-in-Wait-clause-plays : goal.returns-in-Wait-clause-plays
 returns-in-Wait-clause-plays g c =
@@ -28,9 +30,9 @@ returns-in-Wait-clause-plays g c =
     (λ x y plays start entry d told r.
     let now : Handed g.K.Sink.called = record d { source = g.S.Source.seen c.args.input.now; sink = c.args.output.now; shelf = g.F.Shelf.seen c.args.shelf.now } in
     asked-none (record now { source = g.S.Source.seen c.wait_for_line.new.input; sink = c.wait_for_line.new.output })
-    (λ (e : Handed g.K.Sink.called). EventGives start entry (held g.E.Engine.whole g.E.Engine.log c.wait_for_line.new.run y) (asking_in g.E.Engine.whole c.wait_for_line.new.run) e c.wait_for_line.result)
+    (λ (e : Handed g.K.Sink.called). EventGives start entry (held_by g.E.Engine.whole g.E.Engine.log c.wait_for_line.new.run y) (asking_in g.E.Engine.whole c.wait_for_line.new.run) e c.wait_for_line.result)
     (plays turn.Wait start entry now tt
-    (subst (Turns start entry (held g.E.Engine.whole g.E.Engine.log c.args.run.now x) (asking_in g.E.Engine.whole c.args.run.now) now c.args.wait) c.in-Wait.is r))))
+    (subst (TakesTurn start entry (held_by g.E.Engine.whole g.E.Engine.log c.args.run.now x) (asking_in g.E.Engine.whole c.args.run.now) now c.args.wait) c.in-Wait.is r))))
 
 pub returns-in-Prompt-clause-plays : goal.returns-in-Prompt-clause-plays
 returns-in-Prompt-clause-plays g c =
@@ -39,9 +41,9 @@ returns-in-Prompt-clause-plays g c =
     (λ x y plays start entry d told r.
     let now : Handed g.K.Sink.called = record d { source = g.S.Source.seen c.args.input.now; sink = c.args.output.now; shelf = g.F.Shelf.seen c.args.shelf.now } in
     asked-none (record now { source = g.S.Source.seen c.wait_for_line-in-Prompt.new.input; sink = c.wait_for_line-in-Prompt.new.output })
-    (λ (e : Handed g.K.Sink.called). EventGives start entry (held g.E.Engine.whole g.E.Engine.log c.wait_for_line-in-Prompt.new.run y) (asking_in g.E.Engine.whole c.wait_for_line-in-Prompt.new.run) e c.wait_for_line-in-Prompt.result)
+    (λ (e : Handed g.K.Sink.called). EventGives start entry (held_by g.E.Engine.whole g.E.Engine.log c.wait_for_line-in-Prompt.new.run y) (asking_in g.E.Engine.whole c.wait_for_line-in-Prompt.new.run) e c.wait_for_line-in-Prompt.result)
     (plays turn.Prompt start entry now tt
-    (subst (Turns start entry (held g.E.Engine.whole g.E.Engine.log c.args.run.now x) (asking_in g.E.Engine.whole c.args.run.now) now c.args.wait) c.in-Prompt.is r))))
+    (subst (TakesTurn start entry (held_by g.E.Engine.whole g.E.Engine.log c.args.run.now x) (asking_in g.E.Engine.whole c.args.run.now) now c.args.wait) c.in-Prompt.is r))))
 
 pub returns-in-Stuck-clause-plays : goal.returns-in-Stuck-clause-plays
 returns-in-Stuck-clause-plays g c =
@@ -49,8 +51,8 @@ returns-in-Stuck-clause-plays g c =
     (fed-same g.S.Source.called g.S.Source.seen c.args.run.now.lines c.args.input.now _
     (λ x start entry d told r.
     let now : Handed g.K.Sink.called = record d { source = g.S.Source.seen c.args.input.now; sink = c.args.output.now; shelf = g.F.Shelf.seen c.args.shelf.now } in
-    let h : Held = held g.E.Engine.whole g.E.Engine.log c.args.run.now x in
-    asked-none now (λ (e : Handed g.K.Sink.called). Done start entry h (asking_in g.E.Engine.whole c.args.run.now) e stop.Stuck)
+    let h : HeldRun = held_by g.E.Engine.whole g.E.Engine.log c.args.run.now x in
+    asked-none now (λ (e : Handed g.K.Sink.called). HasStopped start entry h (asking_in g.E.Engine.whole c.args.run.now) e stop.Stuck)
     (turn-stuck start entry h now (asking_in g.E.Engine.whole c.args.run.now) c.args.wait c.args.turn r c.in-Stuck.is)))
 
 pub returns-in-Exit-clause-plays : goal.returns-in-Exit-clause-plays
@@ -59,8 +61,8 @@ returns-in-Exit-clause-plays g c =
     (fed-same g.S.Source.called g.S.Source.seen c.args.run.now.lines c.args.input.now _
     (λ x start entry d told r.
     let now : Handed g.K.Sink.called = record d { source = g.S.Source.seen c.args.input.now; sink = c.args.output.now; shelf = g.F.Shelf.seen c.args.shelf.now } in
-    let h : Held = held g.E.Engine.whole g.E.Engine.log c.args.run.now x in
-    asked-none now (λ (e : Handed g.K.Sink.called). Done start entry (record h { left = c.args.wait.left }) (asking_in g.E.Engine.whole c.args.run.now) e stop.Exited)
+    let h : HeldRun = held_by g.E.Engine.whole g.E.Engine.log c.args.run.now x in
+    asked-none now (λ (e : Handed g.K.Sink.called). HasStopped start entry (record h { left = c.args.wait.left }) (asking_in g.E.Engine.whole c.args.run.now) e stop.Exited)
     (turn-exits start entry h now (asking_in g.E.Engine.whole c.args.run.now) c.args.wait c.args.turn r c.in-Exit.is)))
 
 pub returns-in-Load-clause-plays : goal.returns-in-Load-clause-plays
@@ -71,8 +73,8 @@ returns-in-Load-clause-plays g c =
     (λ x start entry d told r.
     let now : Handed g.K.Sink.called = record d { source = g.S.Source.seen c.args.input.now; sink = c.args.output.now; shelf = g.F.Shelf.seen c.args.shelf.now } in
     let q : Question = question.Load c.in-Load.name in
-    let h : Held = held g.E.Engine.whole g.E.Engine.log c.args.run.now x in
-    let turns : Turns start entry h (asking_in g.E.Engine.whole c.args.run.now) now c.args.wait (turn_of q) = subst (Turns start entry h (asking_in g.E.Engine.whole c.args.run.now) now c.args.wait) c.in-Load.is r in
+    let h : HeldRun = held_by g.E.Engine.whole g.E.Engine.log c.args.run.now x in
+    let turns : TakesTurn start entry h (asking_in g.E.Engine.whole c.args.run.now) now c.args.wait (turn_of q) = subst (TakesTurn start entry h (asking_in g.E.Engine.whole c.args.run.now) now c.args.wait) c.in-Load.is r in
     plays x start entry now told
     (turn-asks start entry h now (asking_in g.E.Engine.whole c.args.run.now) c.args.wait (turn_of q) turns
     (question-turns (called start entry h now (asking_in g.E.Engine.whole c.args.run.now) c.args.wait (turn_of q) turns) c.args.wait turns.said q))))
@@ -85,8 +87,8 @@ returns-in-Store-clause-plays g c =
     (λ x start entry d told r.
     let now : Handed g.K.Sink.called = record d { source = g.S.Source.seen c.args.input.now; sink = c.args.output.now; shelf = g.F.Shelf.seen c.args.shelf.now } in
     let q : Question = question.Store c.in-Store.name c.in-Store.bytes in
-    let h : Held = held g.E.Engine.whole g.E.Engine.log c.args.run.now x in
-    let turns : Turns start entry h (asking_in g.E.Engine.whole c.args.run.now) now c.args.wait (turn_of q) = subst (Turns start entry h (asking_in g.E.Engine.whole c.args.run.now) now c.args.wait) c.in-Store.is r in
+    let h : HeldRun = held_by g.E.Engine.whole g.E.Engine.log c.args.run.now x in
+    let turns : TakesTurn start entry h (asking_in g.E.Engine.whole c.args.run.now) now c.args.wait (turn_of q) = subst (TakesTurn start entry h (asking_in g.E.Engine.whole c.args.run.now) now c.args.wait) c.in-Store.is r in
     plays x start entry now told
     (turn-asks start entry h now (asking_in g.E.Engine.whole c.args.run.now) c.args.wait (turn_of q) turns
     (question-turns (called start entry h now (asking_in g.E.Engine.whole c.args.run.now) c.args.wait (turn_of q) turns) c.args.wait turns.said q))))
@@ -99,8 +101,8 @@ returns-in-Remove-clause-plays g c =
     (λ x start entry d told r.
     let now : Handed g.K.Sink.called = record d { source = g.S.Source.seen c.args.input.now; sink = c.args.output.now; shelf = g.F.Shelf.seen c.args.shelf.now } in
     let q : Question = question.Remove c.in-Remove.name in
-    let h : Held = held g.E.Engine.whole g.E.Engine.log c.args.run.now x in
-    let turns : Turns start entry h (asking_in g.E.Engine.whole c.args.run.now) now c.args.wait (turn_of q) = subst (Turns start entry h (asking_in g.E.Engine.whole c.args.run.now) now c.args.wait) c.in-Remove.is r in
+    let h : HeldRun = held_by g.E.Engine.whole g.E.Engine.log c.args.run.now x in
+    let turns : TakesTurn start entry h (asking_in g.E.Engine.whole c.args.run.now) now c.args.wait (turn_of q) = subst (TakesTurn start entry h (asking_in g.E.Engine.whole c.args.run.now) now c.args.wait) c.in-Remove.is r in
     plays x start entry now told
     (turn-asks start entry h now (asking_in g.E.Engine.whole c.args.run.now) c.args.wait (turn_of q) turns
     (question-turns (called start entry h now (asking_in g.E.Engine.whole c.args.run.now) c.args.wait (turn_of q) turns) c.args.wait turns.said q))))
@@ -113,8 +115,8 @@ returns-in-Has-clause-plays g c =
     (λ x start entry d told r.
     let now : Handed g.K.Sink.called = record d { source = g.S.Source.seen c.args.input.now; sink = c.args.output.now; shelf = g.F.Shelf.seen c.args.shelf.now } in
     let q : Question = question.Has c.in-Has.name in
-    let h : Held = held g.E.Engine.whole g.E.Engine.log c.args.run.now x in
-    let turns : Turns start entry h (asking_in g.E.Engine.whole c.args.run.now) now c.args.wait (turn_of q) = subst (Turns start entry h (asking_in g.E.Engine.whole c.args.run.now) now c.args.wait) c.in-Has.is r in
+    let h : HeldRun = held_by g.E.Engine.whole g.E.Engine.log c.args.run.now x in
+    let turns : TakesTurn start entry h (asking_in g.E.Engine.whole c.args.run.now) now c.args.wait (turn_of q) = subst (TakesTurn start entry h (asking_in g.E.Engine.whole c.args.run.now) now c.args.wait) c.in-Has.is r in
     plays x start entry now told
     (turn-asks start entry h now (asking_in g.E.Engine.whole c.args.run.now) c.args.wait (turn_of q) turns
     (question-turns (called start entry h now (asking_in g.E.Engine.whole c.args.run.now) c.args.wait (turn_of q) turns) c.args.wait turns.said q))))

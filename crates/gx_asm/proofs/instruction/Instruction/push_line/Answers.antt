@@ -1,6 +1,6 @@
 use Rattle.std.proofs.Common.{◌≡◌, refl, ◌++◌}
 use Rattle.std.proofs.lemmas.Result.{on_ok_weaker}
-use Rattle.gx_asm.specs.Views.{written}
+use Rattle.gx_asm.specs.Views.{seen_instruction}
 use Rattle.gx_asm.proofs.LineTurns.{data_left, data_there, line_written, word_written}
 use Rattle.gx_asm.proofs.instruction.Instruction.push_line.Goals as goal
 
@@ -18,7 +18,7 @@ loop-mode-preserved c = record {
 
 pub returns : goal.returns
 returns c =
-    let w = written c.args.self.now in
+    let w = seen_instruction c.args.self.now in
     let named : c.extend_from_slice.new.self ≡ c.args.text.now ++ c.name_at.result.now =
     rw c.as_bytes.ensures.value at c.in_ok-extend_from_slice.ensures.ok in
     on_ok_weaker c.push.result

@@ -1,5 +1,5 @@
 use Rattle.std.proofs.Common.{[], ◌∷◌, Ok, refl, subst, sym}
-use Rattle.gx_outside.specs.Shelves.{Request, loads, stores, removes, looks, Answer, loaded, stored, was}
+use Rattle.gx_outside.specs.Shelves.{loads, stores, removes, looks, loaded, stored, was}
 use Rattle.glk_replies.specs.declared.Given.TheVariants as given
 use Rattle.gx_session.specs.declared.questions.Question.{Question}
 use Rattle.gx_session.specs.Constants.{most_loaded}

@@ -4,7 +4,7 @@ use Rattle.gx_words.specs.Faults.{Reads}
 use Rattle.gx_pages.specs.Memory.{number_in}
 use Rattle.gx_story.specs.Stories.{FlatStory}
 use Rattle.gx_state.specs.Entry.{initial}
-use Rattle.gx_state.specs.Copies.{cleared}
+use Rattle.gx_state.specs.Copies.{reset}
 use Rattle.gx_state.proofs.Bytes.{first_length, again_before, again_behind, again_past}
 use Rattle.gx_state.proofs.readable.RestartedReadable.byte.Goals as goal
 use Rattle.gx_state.proofs.readable.RestartedReadable.byte.Goals.{then-at-from-via-then-at-from, then-at-from-via-else-at-from+then-at-from-2, then-at-from-via-else-at-from+else-at-from-2+then-at-endmem}
@@ -15,7 +15,7 @@ returns-then-at-from-clause-value g c =
     let first = (initial f.story).memory in
     let from = ap (λ (p : ℕ × ℕ). p.0) c.protected-from.ensures in
     let count = ap (λ (p : ℕ × ℕ). p.1) c.protected-from.ensures in
-    let same : number_in 1 (cleared f).memory c.args.at ≡ number_in 1 first c.args.at =
+    let same : number_in 1 (reset f).memory c.args.at ≡ number_in 1 first c.args.at =
     elim c.then-at-from.branch [
       | then-at-from-via-then-at-from w ↦ again_before f.memory first f.protected.0 f.protected.1 c.args.at (omega (arith, from, w.if-at-from.true))
       | then-at-from-via-else-at-from+then-at-from-2 w ↦ again_behind f.memory first f.protected.0 f.protected.1 c.args.at (omega (arith, from, w.if-at-from.false)) (omega (arith, from, count, w.if-at-from-2.true))

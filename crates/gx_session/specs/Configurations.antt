@@ -1,0 +1,66 @@
+-- What stands between two moves of a session, and what a move comes to.
+use Rattle.std.specs.Prelude.{ℕ, Bool, List, [], Option}
+use Rattle.gx_outside.specs.Shelves.{Request, Answer, Trace, told_by}
+use Rattle.gx_machine.specs.Machine.{FlatMachine}
+use Rattle.gx_machine.specs.Log.{Log}
+use Rattle.glk_world.specs.World.{FlatWorld}
+use Rattle.glk_replies.specs.declared.Turn.{Turn}
+use Rattle.glk_replies.specs.declared.Given.{Given}
+use Rattle.gx_session.specs.Devices.{Devices}
+use Rattle.gx_session.specs.Sending.{Sent}
+use Rattle.gx_session.specs.declared.ends.Stop.{Stop}
+use Rattle.gx_session.specs.declared.running.Waiting.{Waiting}
+use Rattle.rand_core.specs.Stream.{Stream}
+
+-- What comes next.
+pub data Phase : Type 0 where
+  -- a step of the machine
+  steps : Phase
+  -- a device is asked for what the turn of a Glk call says
+  asks : Turn → Waiting → Phase
+  -- the call goes on with what it was given
+  goes_on : Given → Waiting → Phase
+
+-- What stands after some moves.
+pub record Configuration : Type 0 where
+  pub machine : FlatMachine
+  -- with all the text that was shown
+  pub world : FlatWorld
+  -- what was sent of it, call by call
+  pub sent : Sent
+  -- the bytes of input that weren't taken
+  pub input : List ℕ
+  -- each line that is taken is shown
+  pub echo : Bool
+  -- what the shelf answers to a request, after these calls
+  pub answers : Trace → Request → Answer
+  -- the calls of the shelf
+  pub asked : Trace
+  -- the random words that weren't used
+  pub words : Stream
+  -- the units of the budget that weren't used
+  pub left : ℕ
+  -- what is recorded of the run, where it is: see gx_machine
+  pub log : Option Log
+  pub phase : Phase
+
+-- What a move comes to: the next configuration, or a stop at one.
+pub data Verdict : Type 0 where
+  goes : Configuration → Verdict
+  stops : Stop → Configuration → Verdict
+
+-- The first configuration: nothing was taken of what the devices hold, and the shelf answers by its files.
+abbrev pub start_of : FlatMachine → FlatWorld → Devices → Bool → ℕ → Option Log → Configuration
+start_of machine world d echo left log = record {
+  machine = machine;
+  world = world;
+  sent = [];
+  input = d.source.left;
+  echo = echo;
+  answers = told_by d.shelf.files;
+  asked = [];
+  words = d.words;
+  left = left;
+  log = log;
+  phase = steps;
+}

@@ -1,0 +1,84 @@
+-- The ending of a run. What contracts say.
+use Rattle.std.specs.Prelude.{◌≡◌, ◌≢◌, ◌<◌, List, [], ◌∷◌, ◌++◌, map, ◌⊎◌, length, Result, Ok, Err, Option}
+use Rattle.gx_machine.specs.declared.askings.Asking.{Asking}
+use Rattle.gx_outside.specs.Outside.{FlatShelf}
+use Rattle.gx_outside.specs.Shelves.{stores, Trace}
+use Rattle.gx_outside.specs.declared.devices.ShelfFault.{ShelfFault}
+use Rattle.glk_world.specs.World.{Scene}
+use Rattle.gx_session.specs.declared.ends.Stop.{Stop}
+use Rattle.gx_session.specs.declared.ends.Stop.TheVariants as stop
+use Rattle.gx_session.specs.declared.ends.Halt.{Halt}
+use Rattle.gx_session.specs.declared.ends.Halt.TheVariants as halt
+use Rattle.gx_session.specs.declared.ends.Next.TheVariants as next
+use Rattle.gx_session.specs.Constants.{piece}
+use Rattle.gx_session.specs.Cuts.{IsLineStop, stopped, asking_at_stop}
+use Rattle.glk_streams.specs.Streams.{open_files}
+use Rattle.gx_session.specs.Endings.{Store, stores_of, store_call, told_all}
+use Rattle.gx_session.specs.Configurations.{Configuration, Phase}
+use Rattle.gx_session.specs.Session.{final_of}
+use Rattle.gx_session.specs.Runs.{SavedAll}
+use Rattle.gx_session.specs.Holding.{HeldRun, SendStep, Handed, History, configuration_of, IsHistory, IsRead}
+use Rattle.gx_session.specs.Standing.{ComesTo, Early}
+use Rattle.gx_session.specs.Outcomes.{halt_of_shelf}
+
+-- THE ENDING
+-- A stop has come, and the last screen was shown.
+abbrev pub HasShown : {K : Type 0} {sending : SendStep K} → Configuration → Handed sending → HeldRun → Option Asking
+    → Handed sending → Stop → Type 0
+HasShown start entry h asking d why = ComesTo (final_of start) start entry h asking d why
+
+-- Then all text was sent.
+pub record Told {K : Type 0} {sending : SendStep K} (start : Configuration) (entry : Handed sending) (h : HeldRun)
+    (asking : Option Asking) (d : Handed sending) (why : Stop) : Type 0 where
+  pub past : History
+  pub phase : Phase
+  pub is_past : IsHistory start entry past h d
+  pub few : why ≢ stop.LineTooLong → length h.ahead < piece
+  pub reads : (IsLineStop why → ⊥) → IsRead start.input entry h d
+  pub stop_is : (final_of start).stop ≡ why
+  pub is_end : told_all (stopped start) ≡ configuration_of past phase h d
+  pub saves : SavedAll start
+  pub asking_is : asking ≡ asking_at_stop start
+  pub none_left : h.world.text ≡ []
+
+-- Then all open files were stored, after these calls of the shelf, which was this one.
+pub record Finished {K : Type 0} {sending : SendStep K} (start : Configuration) (entry : Handed sending) (h : HeldRun)
+    (asking : Option Asking) (d : Handed sending) (why : Stop) : Type 0 where
+  pub shelf : FlatShelf
+  pub before : Trace
+  pub told : Told start entry h asking (record d { shelf = shelf; asked = before }) why
+  pub asked_are : d.asked ≡ before ++ map store_call (stores_of h.world.scene)
+
+-- what the ending comes to
+abbrev pub EndingGives : {K : Type 0} {sending : SendStep K} → Configuration → Handed sending → HeldRun → Option Asking
+    → Handed sending → Stop → Result (Unit {0}) Halt → Type 0
+EndingGives start entry h asking d stop (Ok u) = Finished start entry h asking d stop
+EndingGives start entry h asking d stop (Err why) = Early start entry h asking d why
+
+-- what a run comes to
+abbrev pub RunGives : {K : Type 0} {sending : SendStep K} → Configuration → Handed sending → HeldRun → Option Asking
+    → Handed sending → Result Stop Halt → Type 0
+RunGives start entry h asking d (Ok stop) = Finished start entry h asking d stop
+RunGives start entry h asking d (Err why) = Early start entry h asking d why
+
+-- Some files were stored, and the next one was refused.
+pub record StoredSome (files : List Store) (calls : Trace) (why : Halt) : Type 0 where
+  pub front : List Store
+  pub next : Store
+  pub rest : List Store
+  pub split : files ≡ front ++ next ∷ rest
+  pub fault : ShelfFault
+  pub calls_are : calls ≡ map store_call front ++ (stores next.0 next.1, Err fault) ∷ []
+  pub why_is : why ≡ halt_of_shelf fault
+
+-- how the stores of the ending go, each in one call
+abbrev pub StoresAll : List Store → Trace → Result (Unit {0}) Halt → Type 0
+StoresAll files calls (Ok u) = calls ≡ map store_call files
+StoresAll files calls (Err why) = StoredSome files calls why
+
+-- and how those of a scene do
+abbrev pub StoresFiles : Scene → Trace → Result (Unit {0}) Halt → Type 0
+StoresFiles scene calls (Ok u) = calls ≡ map store_call (stores_of scene)
+-- the list of the files that are open wanted memory, or a store was refused
+StoresFiles scene calls (Err why) =
+    ((why ≡ halt.NoMemory) × (calls ≡ []) × (open_files scene.streams ≢ [])) ⊎ StoredSome (stores_of scene) calls why

@@ -1,0 +1,180 @@
+-- One move of a session.
+--
+-- A step of the machine that asks nothing is one move. One that makes a Glk call is followed by the moves of the call:
+-- what it asks of a device, and the answer that it goes on to. All of them are one event, which takes the units of the
+-- step once it is answered; until then the machine stands as before the step. In between pending text is sent: before a
+-- device is asked for anything, and after an event that leaves `enough` bytes pending.
+use Rattle.std.specs.Prelude.{ℕ, ◌+◌, ◌-◌, nat_lt, if◌then◌else◌, Bool, false, List, [], ◌∷◌, ◌++◌, Option, Some, None}
+use Rattle.std.specs.Prelude.{Result, Ok, Err}
+use Rattle.gx_words.specs.declared.faults.Fault.{Fault}
+use Rattle.gx_outside.specs.Shelves.{Request, loads, stores, removes, looks, Answer, loaded, stored, was}
+use Rattle.gx_state.specs.declared.effects.Effect.{Effect}
+use Rattle.gx_state.specs.declared.effects.Effect.TheVariants as effect
+use Rattle.gx_state.specs.declared.effects.Reply.{Reply}
+use Rattle.gx_state.specs.Copies.{Copy}
+use Rattle.gx_machine.specs.Machine.{FlatMachine}
+use Rattle.gx_machine.specs.Log.{logged}
+use Rattle.gx_machine.specs.Saves.{restored}
+use Rattle.gx_machine.specs.Answer.{answer_of}
+use Rattle.gx_machine.specs.Step.{cost_of, step_of}
+use Rattle.glk_world.specs.World.{Said, after}
+use Rattle.glk_world.specs.Shown.{show_grids, show_line}
+use Rattle.glk_replies.specs.declared.Turn.{Turn}
+use Rattle.glk_replies.specs.declared.Turn.TheVariants as turn
+use Rattle.glk_replies.specs.declared.Given.{Given}
+use Rattle.glk_replies.specs.declared.Given.TheVariants as given
+use Rattle.glk_dispatch.specs.Calls.{glk_call}
+use Rattle.glk_dispatch.specs.Going.{glk_go_on}
+use Rattle.glk_text_calls.specs.Output.{putting}
+use Rattle.glk_replies.specs.Parts.{replies}
+use Rattle.gx_session.specs.Saving.{saving, restoring}
+use Rattle.gx_session.specs.Input.{NextLine, too_long, none, line, next_line}
+use Rattle.gx_session.specs.Sending.{Sent, pending, is_due}
+use Rattle.gx_session.specs.declared.ends.Stop.TheVariants as stop
+use Rattle.gx_session.specs.Constants.{enough, most_loaded, failed}
+use Rattle.gx_session.specs.declared.running.Waiting.{Waiting}
+use Rattle.rand_core.specs.Stream.{next_u32}
+use Rattle.gx_session.specs.Configurations.{Phase, Configuration, Verdict, steps, asks, goes_on, goes, stops}
+
+-- the configuration after a step that is done, with the units that it leaves: the event has ended, and is recorded
+abbrev pub event_done : Configuration → FlatMachine → ℕ → Configuration
+event_done m machine left = record m { machine = machine; left = left; log = logged m.log m.machine }
+
+-- The answer to an asking: the Glk world moves on, the machine takes the reply, the event is recorded, and the next
+-- step comes. A fault of the world stops the run before the step.
+abbrev pub after_reply : Configuration → ℕ → Result (Said × Reply) Fault → Verdict
+after_reply m left (Ok r) =
+    goes (record m {
+      machine = answer_of m.machine r.1;
+      world = after m.world r.0;
+      left = left;
+      log = logged m.log m.machine;
+      phase = steps;
+    })
+after_reply m left (Err fault) = stops (stop.Faulted fault) m
+
+-- A Glk call has said something, and then asks a device.
+abbrev pub asking_for : Configuration → Waiting → Said → Turn → Verdict
+asking_for m w said t = goes (record m { world = after m.world said; phase = asks t w })
+
+-- It waits for a line: what the view shows at a wait is shown.
+abbrev pub waiting_for : Configuration → Waiting → Said → Turn → Verdict
+waiting_for m w said t = goes (record m { world = after (after m.world said) (show_grids said.0); phase = asks t w })
+
+-- The turn of a Glk call. One that ends the program is counted and not recorded, and one that waits in vain is neither.
+abbrev pub after_turn : Configuration → Waiting → Result (Said × Turn) Fault → Verdict
+after_turn m w (Ok (said, turn.Answer reply)) = after_reply m w.left (Ok (said, reply))
+after_turn m w (Ok (said, turn.Wait)) = waiting_for m w said turn.Wait
+after_turn m w (Ok (said, turn.Stuck)) = stops stop.Stuck (record m { world = after m.world said })
+after_turn m w (Ok (said, turn.Prompt)) = waiting_for m w said turn.Prompt
+after_turn m w (Ok (said, turn.Load name)) = asking_for m w said (turn.Load name)
+after_turn m w (Ok (said, turn.Store name bytes)) = asking_for m w said (turn.Store name bytes)
+after_turn m w (Ok (said, turn.Remove name)) = asking_for m w said (turn.Remove name)
+after_turn m w (Ok (said, turn.Has name)) = asking_for m w said (turn.Has name)
+after_turn m w (Ok (said, turn.Exit)) = stops stop.Exited (record m { world = after m.world said; left = w.left })
+after_turn m w (Err fault) = stops (stop.Faulted fault) m
+
+-- A call that went on with what it was given has an answer, or a fault. (It has no further turn.)
+abbrev pub after_given : Configuration → Waiting → Result (Said × Turn) Fault → Verdict
+after_given m w (Ok (said, turn.Answer reply)) = after_reply m w.left (Ok (said, reply))
+after_given m w (Ok (said, t)) = stops stop.Stuck m
+after_given m w (Err fault) = stops (stop.Faulted fault) m
+
+-- A line is taken, and shown where lines are, if there is one.
+abbrev pub after_line : Configuration → Waiting → NextLine → Verdict
+after_line m w too_long = stops stop.LineTooLong m
+after_line m w none = stops stop.InputEnded m
+after_line m w (line chars rest) =
+    goes (record m {
+      world = if m.echo then after m.world (show_line m.world.scene chars) else m.world;
+      input = rest;
+      phase = goes_on (given.Line chars) w;
+    })
+
+-- what a call is given for an answer of the shelf
+abbrev pub given_of : Answer → Given
+given_of (loaded load) = given.Loaded load
+given_of stored = given.Stored
+given_of (was b) = given.Was b
+
+-- The shelf is asked this, and the call goes on with what it answers.
+abbrev pub shelf_gives : Configuration → Waiting → Request → Verdict
+shelf_gives m w r =
+    let answer = m.answers m.asked r in
+    goes (record m { asked = m.asked ++ (r, Ok answer) ∷ []; phase = goes_on (given_of answer) w })
+
+-- A restore: the machine goes back to the copy that was read, or takes the answer of one that fails.
+abbrev pub after_restoring : Configuration → ℕ → Result (Said × Option Copy) Fault → Verdict
+after_restoring m left (Ok (said, Some copy)) =
+    goes (record m {
+      machine = restored m.machine copy;
+      world = after m.world said;
+      left = left;
+      log = logged m.log m.machine;
+      phase = steps;
+    })
+after_restoring m left (Ok (said, None)) = after_reply m left (Ok (said, replies failed))
+after_restoring m left (Err fault) = stops (stop.Faulted fault) m
+
+-- What a device gives for a turn. (The other turns ask for nothing.)
+abbrev pub after_asking : Configuration → Waiting → Turn → Verdict
+after_asking m w turn.Wait = after_line m w (next_line m.input)
+after_asking m w turn.Prompt = after_line m w (next_line m.input)
+after_asking m w (turn.Load name) = shelf_gives m w (loads name most_loaded)
+after_asking m w (turn.Store name bytes) = shelf_gives m w (stores name bytes)
+after_asking m w (turn.Remove name) = shelf_gives m w (removes name)
+after_asking m w (turn.Has name) = shelf_gives m w (looks name)
+after_asking m w t = stops stop.Stuck m
+
+-- The effect of a step: the next configuration; the random word is used up; a character or a call goes to Glk, with the
+-- machine as before the step; so does a save or a restore; the program ends. (No step by itself is Spent.)
+abbrev pub after_effect : Configuration → ℕ → FlatMachine → Effect → Verdict
+after_effect m left machine effect.Went = goes (event_done m machine left)
+after_effect m left machine effect.Drew = goes (record (event_done m machine left) { words = (next_u32 m.words).1 })
+after_effect m left machine (effect.Put c) = after_reply m left (putting m.world.scene m.machine.flat c)
+after_effect m left machine (effect.Glk selector args room) =
+    after_turn m (record { room = room; left = left }) (glk_call m.world.scene m.machine.flat room selector args.items)
+after_effect m left machine (effect.Save stream) = after_reply m left (saving m.world.scene m.machine.flat stream)
+after_effect m left machine (effect.Restore stream) =
+    after_restoring m left (restoring m.world.scene m.machine.flat stream)
+after_effect m left machine effect.Quit = stops stop.Ended (event_done m machine left)
+after_effect m left machine effect.Spent = stops stop.Spent (record m { machine = machine; left = left })
+
+-- A step that leaves so many units: its effect, or its fault, which stops the run before it.
+abbrev pub after_step : Configuration → ℕ → Result (FlatMachine × Effect) Fault → Verdict
+after_step m left (Ok r) = after_effect m left r.0 r.1
+after_step m left (Err fault) = stops (stop.Faulted fault) m
+
+-- The step: the budget is spent where it has less left than the step costs; else the step is done with the next random
+-- word.
+unfoldable pub step_from : Configuration → Verdict
+step_from m =
+    if nat_lt m.left (cost_of m.machine) then stops stop.Spent m else
+    after_step m (m.left - cost_of m.machine) (step_of m.machine (next_u32 m.words).0)
+
+-- what comes next
+abbrev pub act_by : Phase → Configuration → Verdict
+act_by steps m = step_from m
+act_by (asks t w) m = after_asking m w t
+act_by (goes_on g w) m = after_given m w (glk_go_on m.world.scene m.machine.flat w.room g)
+
+abbrev pub act_of : Configuration → Verdict
+act_of m = act_by m.phase m
+
+-- The pending text is due: before a device is asked where there is some, and between two events where it has
+-- `enough` bytes.
+abbrev pub is_due_by : Phase → Sent → List ℕ → Bool
+is_due_by steps s text = is_due enough s text
+is_due_by (asks t w) s text = is_due 1 s text
+is_due_by (goes_on g w) s text = false
+
+abbrev pub sends_now : Configuration → Bool
+sends_now m = is_due_by m.phase m.sent m.world.text
+
+-- the configuration once all of its text is sent
+abbrev pub all_sent : Configuration → Configuration
+all_sent m = record m { sent = m.sent ++ pending m.sent m.world.text ∷ [] }
+
+-- ONE MOVE: the text is sent where it is due, and else what comes next is done.
+unfoldable pub move_of : Configuration → Verdict
+move_of m = if sends_now m then goes (all_sent m) else act_of m

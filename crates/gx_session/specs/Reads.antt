@@ -1,0 +1,54 @@
+-- The reads of the source over a run, and the input that they leave.
+use Rattle.std.specs.Prelude.{◌≡◌, ℕ, ◌+◌, ◌<◌, List, [], ◌∷◌, ◌++◌, length, Ok, Err, ◌≢◌, ◌≤◌, ◌⊎◌}
+use Rattle.std.specs.Prelude.{true}
+use Rattle.std.specs.List.{position_or_len}
+use Rattle.gx_outside.specs.Reads.{SourceRead}
+use Rattle.gx_outside.specs.Outside.{FlatSource, raised_by, offered_in}
+use Rattle.gx_session.specs.Constants.{longest_line, piece}
+use Rattle.gx_session.specs.Input.{is_line_feed}
+
+-- THE READS of a source
+-- the bytes that they gave, one after another
+abbrev pub bytes_read : List SourceRead → List ℕ
+bytes_read [] = []
+bytes_read ((room, Ok bytes) ∷ reads) = bytes ++ bytes_read reads
+bytes_read ((room, Err e) ∷ reads) = bytes_read reads
+
+-- Each has room for a piece.
+abbrev pub HavePieces : List SourceRead → Type 0
+HavePieces [] = Unit {0}
+HavePieces ((room, gave) ∷ reads) = (room ≡ piece) × HavePieces reads
+
+-- One of them gave nothing, and so said that nothing is left.
+abbrev pub SayEnd : List SourceRead → Type 0
+SayEnd [] = ⊥
+SayEnd ((room, Ok []) ∷ reads) = Unit {0}
+SayEnd ((room, gave) ∷ reads) = SayEnd reads
+
+-- No line feed is held, and the bytes are not too many for a line.
+abbrev pub IsPartial : List ℕ → Type 0
+IsPartial held = (position_or_len is_line_feed held ≡ length held) × (length held < longest_line)
+
+-- The reads, each with room for a piece, gave the input but for what is to come, and all of it where one said that
+-- nothing is left.
+pub record GiveInput (reads : List SourceRead) (input coming : List ℕ) : Type 0 where
+  pub pieces : HavePieces reads
+  pub given : input ≡ bytes_read reads ++ coming
+  pub end : SayEnd reads → coming ≡ []
+
+-- The input that is left: what is to come of the source, after the bytes that were read ahead. These are few, unless
+-- the line that was awaited is too long, or the source failed in it. Each read offered a piece and gave something, but
+-- for one that said that nothing is left, and one that failed. Where no line was taken and none was awaited at the end,
+-- the source wasn't asked.
+pub record LeavesInput (first input coming : List ℕ) (before now : FlatSource) (awaited long : Type 0)
+    (failures : ℕ) : Type 0 where
+  pub ahead : List ℕ
+  pub split : input ≡ ahead ++ coming
+  pub left : now.tells ≡ true → coming ≡ now.left
+  pub few : (long → ⊥) → failures ≡ 0 → length ahead < piece
+  pub partial : failures ≢ 0 → IsPartial ahead
+  pub reads : ℕ
+  pub made : now.calls.made ≡ raised_by reads before.calls.made
+  pub offered : now.offered ≡ offered_in reads piece before.offered
+  pub few_reads : reads + length coming ≤ length first + 1 + failures
+  pub unread : (awaited → ⊥) → failures ≡ 0 → (now ≡ before) ⊎ (length input < length first)

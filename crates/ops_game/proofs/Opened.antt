@@ -1,0 +1,7 @@
+-- The definitions that the proof of one call opens together.
+use Rattle.gx_operands.specs.Stores.{settled}
+use Rattle.ops_game.specs.Rows.{saveundo}
+
+unfoldable pub saving : Unit {0}
+unfolding saveundo settled
+saving = tt
