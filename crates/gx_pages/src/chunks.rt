@@ -205,7 +205,8 @@ pub fn clear<A: Allocator, P: Allocator + Clone, C: Writable<A, P>>(
     requires small { C.SIZE * length chunks.old ≤ ceiling }
     requires inside { at + count ≤ C.SIZE * length chunks.old }
     ensures whole { AllWhole C.IsWhole chunks.new }
-    ensures ok { OnOk result (flat C.bytes_of chunks.new ≡ spliced (flat C.bytes_of chunks.old) at (replicate count 0)) }
+    ensures ok { OnOk result
+        (flat C.bytes_of chunks.new ≡ spliced (flat C.bytes_of chunks.old) at (replicate count 0)) }
     ensures before { take at (flat C.bytes_of chunks.new) ≡ take at (flat C.bytes_of chunks.old) }
     ensures count { length chunks.new ≡ length chunks.old }
 {

@@ -1,7 +1,7 @@
 -- Saves and restores in a session (Glulx 3.1.2, "Game State"; Quetzal 1.4).
 --
 -- Both are done by Glk streams, and fail where the I/O system isn't Glk's. A failure is no fault: the story is answered
--- 1.
+-- 1. A save to a stream in memory whose places can't be written is a fault.
 use Rattle.std.specs.Prelude.{◌≡◌, ℕ, ◌≤◌, ◌==◌, ◌&&◌, if◌then◌else◌, Bool, List, Option, Some, None, option_and_then}
 use Rattle.std.specs.Prelude.{Result, Ok, Err}
 use Rattle.gx_words.specs.declared.faults.Fault.{Fault}

@@ -1,7 +1,7 @@
 -- Which copies a machine keeps for undo in the course of a run (Glulx 3.1.2, "Game State").
 --
--- No field of a configuration holds the history of the run: that its copies are those of the saveundos that are
--- alive by now is a law over the configurations of the run.
+-- No move looks at the history of the run (a log, where the run is recorded, is only added to): that the copies of a
+-- configuration are those of the saveundos that are alive by now is a law over the configurations of the run.
 use Rattle.std.specs.Prelude.{◌≡◌, ℕ, zero, suc, ◌==◌, if◌then◌else◌, List, [], ◌∷◌, take, drop, Option, Some, None}
 use Rattle.std.specs.Prelude.{Result, Ok, Err}
 use Rattle.gx_words.specs.declared.faults.Fault.{Fault}

@@ -1,6 +1,6 @@
 //! Saves and restores of a machine, which Glk streams take and give back (Glulx 3.1.2, "Game State").
 //!
-//! One that fails is answered, and is no fault.
+//! One that fails is answered, and is no fault. A save to a stream in memory whose places can't be written is one.
 ghost use Rattle.std.specs.Prelude.{◌≡◌, ◌≤◌, ℕ, List, Some, IfOk, IfErr, IfSome, IsTrue};
 ghost use Rattle.gx_words.specs.Faults.{MayLose};
 ghost use Rattle.gx_state.specs.Copies.{IsCopyFor};

@@ -1,5 +1,5 @@
 -- The rows of the classes Calc, Branch, Flow and Stack (Glulx 3.1.2, "Integer Math", "Branches", "Functions",
--- "Continuations", "The Stack"), in the order of their numbers.
+-- "Continuations", "The Stack"), class by class, each in the order of the numbers.
 --
 -- An instruction's pops are made in its `sp`, its results are words, and PC becomes `next` where nothing
 -- else is said. A fault in any line leaves the state as it is.

@@ -1,4 +1,4 @@
--- How a copy is written as a save, and that it is read back.
+-- How a copy is written as a save (Quetzal 1.4; Glulx 3.1.2, "Saved Games").
 use Rattle.std.specs.Prelude.{ℕ, List, [], ◌∷◌, take, if◌then◌else◌, codes}
 use Rattle.iff_chunks.specs.Writing.{Chunk, bytes_of_form}
 use Rattle.heap_blocks.specs.Heap.{FlatHeap, is_inactive}
