@@ -14,8 +14,10 @@ ghost use Rattle.gx_state.specs.Flat.{sp_of, IsHeight};
 ghost use Rattle.gx_operands.specs.Instructions.{opcode, datum, load_by, load, destination_by, destination};
 ghost use Rattle.gx_operands.specs.Instructions.{with_operand, nibble, operand, operands, all_operands, instruction};
 ghost use Rattle.gx_operands.specs.Plans.{HasValues, operands_of, instruction_of};
+ghost use Rattle.gx_operands.specs.Code.{IsInRom};
 
 use crate::Plan;
+use crate::code_bytes::code;
 use crate::cursor::Cursor;
 use gx_rows::modes::{
     ADDRESS_BYTE, ADDRESS_SHORT, ADDRESS_WORD, Addressing, CONSTANT_BYTE, CONSTANT_SHORT,
@@ -24,7 +26,7 @@ use gx_rows::modes::{
 };
 use gx_rows::{Row, place_of, row_at};
 use gx_state::{Dest, State};
-use gx_words::{Fault, low};
+use gx_words::{Fault, low, word_at};
 use std::alloc::Allocator;
 
 /// The nibbles that are no mode.
@@ -35,20 +37,25 @@ const UNUSED_HIGH: u32 = 0xC;
 /// The number of the instruction at PC; `modes` becomes the address of its operands' modes.
 #[inline(always)]
 #[tactic(auto, unfolding(crate::specs::Instructions::opcode, gx_pages::specs::Memory::number_in))]
-pub fn opcode<A: Allocator + Clone>(state: &State<A>, modes: &mut u32) -> Result<u32, Fault>
+pub fn opcode<A: Allocator + Clone, const ROM: bool>(
+    state: &State<A>,
+    modes: &mut u32,
+) -> Result<u32, Fault>
+    requires rom { IsInRom ROM state.now.flat (state.now.flat.pc + 4) }
     ensures value { Reads (λ number. (number, modes.new)) result (opcode state.now.flat) }
+    ensures next { OnOk result (modes.new ≤ state.now.flat.pc + 4) }
 {
     let pc = state.pc();
-    let first = state.code(1, pc)?;
+    let first = code::<A, ROM>(state, 1, pc)?;
     if first < 0x80 {
         *modes = pc + 1;
         Ok(first)
     } else if first < 0xC0 {
-        let number = state.code(2, pc)?;
+        let number = code::<A, ROM>(state, 2, pc)?;
         *modes = pc + 2;
         Ok(number - 0x8000)
     } else {
-        let number = state.code(4, pc)?;
+        let number = code::<A, ROM>(state, 4, pc)?;
         *modes = pc + 4;
         Ok(number - 0xC000_0000)
     }
@@ -71,13 +78,19 @@ fn extended(width: u32, v: u32) -> u32
 /// The number of the data at a cursor, which goes behind it.
 #[inline(always)]
 #[tactic(auto, unfolding(crate::specs::Instructions::datum))]
-fn data<A: Allocator + Clone>(state: &State<A>, cursor: &mut Cursor, n: u32) -> Result<u32, Fault>
-    requires { IsWidth n }
+fn data<A: Allocator + Clone, const ROM: bool>(
+    state: &State<A>,
+    cursor: &mut Cursor,
+    n: u32,
+) -> Result<u32, Fault>
+    requires bytes { IsWidth n }
+    requires rom { IsInRom ROM state.now.flat (cursor.old.at + 4) }
     ensures value { Reads (λ v. (v, cursor.new)) result (datum state.now.flat.memory cursor.old n) }
     ensures fits { IfOk result (λ v. v < 256 ^ n) }
     ensures popped { cursor.new.popped ≡ cursor.old.popped }
+    ensures next { OnOk result (cursor.new.at ≤ cursor.old.at + 4) }
 {
-    let v = state.code(n, cursor.at)?;
+    let v = code::<A, ROM>(state, n, cursor.at)?;
     cursor.at += n;
     Ok(v)
 }
@@ -85,7 +98,7 @@ fn data<A: Allocator + Clone>(state: &State<A>, cursor: &mut Cursor, n: u32) -> 
 /// A constant of so many bytes.
 #[inline(always)]
 #[tactic(auto, unfolding(crate::specs::Instructions::load_by))]
-fn constant<A: Allocator + Clone>(
+fn constant<A: Allocator + Clone, const ROM: bool>(
     state: &State<A>,
     width: u32,
     n: u32,
@@ -94,11 +107,13 @@ fn constant<A: Allocator + Clone>(
     requires width { IsWidth width }
     requires bytes { IsWidth n }
     requires popped { HasValues state.now.flat cursor.old.popped }
+    requires rom { IsInRom ROM state.now.flat (cursor.old.at + 4) }
     ensures value { Reads (λ v. (v, cursor.new)) result
         (load_by state.now.flat width (Addressing.Constant n) cursor.old) }
     ensures popped { OnOk result (HasValues state.now.flat cursor.new.popped) }
+    ensures next { OnOk result (cursor.new.at ≤ cursor.old.at + 4) }
 {
-    let v = data(state, cursor, n)?;
+    let v = data::<A, ROM>(state, cursor, n)?;
     Ok(low(extended(n, v), width))
 }
 
@@ -127,8 +142,11 @@ fn word<A: Allocator + Clone>(state: &State<A>, at: u32) -> Option<u32>
     ensures none { result ≡ None → number_in 4 state.now.flat.memory at ≡ Err BadAddress }
 {
     let memory = state.memory();
-    if at % 256 <= 252 && u64::from(at) + 4 <= u64::from(memory.size()) {
-        return Some(memory.word(at));
+    if u64::from(at) + 4 <= u64::from(memory.size()) {
+        let bytes = memory.bytes_in_page(at);
+        if bytes.len() >= 4 {
+            return Some(word_at(bytes, 0));
+        }
     }
     number(state, 4, at)
 }
@@ -152,7 +170,7 @@ fn stored<A: Allocator + Clone>(state: &State<A>, width: u32, at: u32) -> Result
 /// The contents of memory at an address of so many bytes.
 #[inline(always)]
 #[tactic(auto, unfolding(crate::specs::Instructions::load_by))]
-fn contents<A: Allocator + Clone>(
+fn contents<A: Allocator + Clone, const ROM: bool>(
     state: &State<A>,
     width: u32,
     n: u32,
@@ -161,18 +179,20 @@ fn contents<A: Allocator + Clone>(
     requires width { IsWidth width }
     requires bytes { IsWidth n }
     requires popped { HasValues state.now.flat cursor.old.popped }
+    requires rom { IsInRom ROM state.now.flat (cursor.old.at + 4) }
     ensures value { Reads (λ v. (v, cursor.new)) result
         (load_by state.now.flat width (Addressing.Memory n) cursor.old) }
     ensures popped { OnOk result (HasValues state.now.flat cursor.new.popped) }
+    ensures next { OnOk result (cursor.new.at ≤ cursor.old.at + 4) }
 {
-    let at = data(state, cursor, n)?;
+    let at = data::<A, ROM>(state, cursor, n)?;
     stored(state, width, at)
 }
 
 /// The contents of the RAM address of so many bytes.
 #[inline(always)]
 #[tactic(auto, unfolding(crate::specs::Instructions::load_by))]
-fn ram_contents<A: Allocator + Clone>(
+fn ram_contents<A: Allocator + Clone, const ROM: bool>(
     state: &State<A>,
     width: u32,
     n: u32,
@@ -181,10 +201,12 @@ fn ram_contents<A: Allocator + Clone>(
     requires width { IsWidth width }
     requires bytes { IsWidth n }
     requires popped { HasValues state.now.flat cursor.old.popped }
+    requires rom { IsInRom ROM state.now.flat (cursor.old.at + 4) }
     ensures value { Reads (λ v. (v, cursor.new)) result (load_by state.now.flat width (Addressing.Ram n) cursor.old) }
     ensures popped { OnOk result (HasValues state.now.flat cursor.new.popped) }
+    ensures next { OnOk result (cursor.new.at ≤ cursor.old.at + 4) }
 {
-    let offset = data(state, cursor, n)?;
+    let offset = data::<A, ROM>(state, cursor, n)?;
     let at = state.ramstart().wrapping_add(offset);
     stored(state, width, at)
 }
@@ -192,7 +214,7 @@ fn ram_contents<A: Allocator + Clone>(
 /// The local at an offset of so many bytes.
 #[inline(always)]
 #[tactic(auto, unfolding(crate::specs::Instructions::load_by))]
-fn local<A: Allocator + Clone>(
+fn local<A: Allocator + Clone, const ROM: bool>(
     state: &State<A>,
     width: u32,
     n: u32,
@@ -202,10 +224,12 @@ fn local<A: Allocator + Clone>(
     requires width { IsWidth width }
     requires bytes { IsWidth n }
     requires popped { HasValues state.now.flat cursor.old.popped }
+    requires rom { IsInRom ROM state.now.flat (cursor.old.at + 4) }
     ensures value { Reads (λ v. (v, cursor.new)) result (load_by state.now.flat width (Addressing.Local n) cursor.old) }
     ensures popped { OnOk result (HasValues state.now.flat cursor.new.popped) }
+    ensures next { OnOk result (cursor.new.at ≤ cursor.old.at + 4) }
 {
-    let at = data(state, cursor, n)?;
+    let at = data::<A, ROM>(state, cursor, n)?;
     Ok(state.stack().local(&state.frame(), at, width)?)
 }
 
@@ -214,7 +238,7 @@ fn local<A: Allocator + Clone>(
 /// It takes and gives the cursor by value, so that the caller can keep its own in registers.
 #[inline(never)]
 #[tactic(auto, unfolding(crate::specs::Instructions::load_by))]
-fn far_local<A: Allocator + Clone>(
+fn far_local<A: Allocator + Clone, const ROM: bool>(
     state: &State<A>,
     width: u32,
     n: u32,
@@ -224,17 +248,19 @@ fn far_local<A: Allocator + Clone>(
     requires width { IsWidth width }
     requires bytes { IsWidth n }
     requires popped { HasValues state.now.flat cursor.popped }
+    requires rom { IsInRom ROM state.now.flat (cursor.at + 4) }
     ensures value { Reads (λ r. (r.0, r.1)) result (load_by state.now.flat width (Addressing.Local n) cursor) }
     ensures popped { IfOk result (λ r. HasValues state.now.flat r.1.popped) }
+    ensures next { IfOk result (λ r. r.1.at ≤ cursor.at + 4) }
 {
     let mut after = cursor;
-    let v = local(state, width, n, &mut after)?;
+    let v = local::<A, ROM>(state, width, n, &mut after)?;
     Ok((v, after))
 }
 
 /// The same, where the cursor goes behind it.
 #[inline(always)]
-fn take_far_local<A: Allocator + Clone>(
+fn take_far_local<A: Allocator + Clone, const ROM: bool>(
     state: &State<A>,
     width: u32,
     n: u32,
@@ -244,10 +270,12 @@ fn take_far_local<A: Allocator + Clone>(
     requires width { IsWidth width }
     requires bytes { IsWidth n }
     requires popped { HasValues state.now.flat cursor.old.popped }
+    requires rom { IsInRom ROM state.now.flat (cursor.old.at + 4) }
     ensures value { Reads (λ v. (v, cursor.new)) result (load_by state.now.flat width (Addressing.Local n) cursor.old) }
     ensures popped { OnOk result (HasValues state.now.flat cursor.new.popped) }
+    ensures next { OnOk result (cursor.new.at ≤ cursor.old.at + 4) }
 {
-    let (v, after) = far_local(state, width, n, *cursor)?;
+    let (v, after) = far_local::<A, ROM>(state, width, n, *cursor)?;
     *cursor = after;
     Ok(v)
 }
@@ -265,6 +293,7 @@ fn top<A: Allocator + Clone>(
     requires popped { HasValues state.now.flat cursor.old.popped }
     ensures value { Reads (λ v. (v, cursor.new)) result (load_by state.now.flat width Addressing.Top cursor.old) }
     ensures popped { OnOk result (HasValues state.now.flat cursor.new.popped) }
+    ensures next { OnOk result (cursor.new.at ≤ cursor.old.at + 4) }
 {
     let v = state.stack().peek(&state.frame(), cursor.popped)?;
     cursor.popped += 1;
@@ -274,7 +303,7 @@ fn top<A: Allocator + Clone>(
 /// What a load operand gives by its mode's nibble; the cursor goes behind it.
 #[inline(always)]
 #[tactic(auto, unfolding(crate::proofs::Opened::loading))]
-pub fn load<A: Allocator + Clone>(
+pub fn load<A: Allocator + Clone, const ROM: bool>(
     state: &State<A>,
     width: u32,
     nibble: u32,
@@ -284,24 +313,26 @@ pub fn load<A: Allocator + Clone>(
     requires width { IsWidth width }
     requires nibble { nibble < 16 }
     requires popped { HasValues state.now.flat cursor.old.popped }
+    requires rom { IsInRom ROM state.now.flat (cursor.old.at + 4) }
     ensures value { Reads (λ v. (v, cursor.new)) result (load state.now.flat width nibble cursor.old) }
     ensures popped { OnOk result (HasValues state.now.flat cursor.new.popped) }
+    ensures next { OnOk result (cursor.new.at ≤ cursor.old.at + 4) }
 {
     match nibble {
         CONSTANT_ZERO => Ok(0),
-        CONSTANT_BYTE => constant(state, width, 1, cursor),
-        CONSTANT_SHORT => constant(state, width, 2, cursor),
-        CONSTANT_WORD => constant(state, width, 4, cursor),
-        ADDRESS_BYTE => contents(state, width, 1, cursor),
-        ADDRESS_SHORT => contents(state, width, 2, cursor),
-        ADDRESS_WORD => contents(state, width, 4, cursor),
+        CONSTANT_BYTE => constant::<A, ROM>(state, width, 1, cursor),
+        CONSTANT_SHORT => constant::<A, ROM>(state, width, 2, cursor),
+        CONSTANT_WORD => constant::<A, ROM>(state, width, 4, cursor),
+        ADDRESS_BYTE => contents::<A, ROM>(state, width, 1, cursor),
+        ADDRESS_SHORT => contents::<A, ROM>(state, width, 2, cursor),
+        ADDRESS_WORD => contents::<A, ROM>(state, width, 4, cursor),
         STACK_TOP => top(state, width, cursor),
-        LOCAL_BYTE => local(state, width, 1, cursor),
-        LOCAL_SHORT => take_far_local(state, width, 2, cursor),
-        LOCAL_WORD => take_far_local(state, width, 4, cursor),
-        RAM_BYTE => ram_contents(state, width, 1, cursor),
-        RAM_SHORT => ram_contents(state, width, 2, cursor),
-        RAM_WORD => ram_contents(state, width, 4, cursor),
+        LOCAL_BYTE => local::<A, ROM>(state, width, 1, cursor),
+        LOCAL_SHORT => take_far_local::<A, ROM>(state, width, 2, cursor),
+        LOCAL_WORD => take_far_local::<A, ROM>(state, width, 4, cursor),
+        RAM_BYTE => ram_contents::<A, ROM>(state, width, 1, cursor),
+        RAM_SHORT => ram_contents::<A, ROM>(state, width, 2, cursor),
+        RAM_WORD => ram_contents::<A, ROM>(state, width, 4, cursor),
         UNUSED_LOW | UNUSED_HIGH => Err(Fault::BadMode),
         _ => unreachable!(),
     }
@@ -310,76 +341,84 @@ pub fn load<A: Allocator + Clone>(
 /// A store to memory at an address of so many bytes.
 #[inline(always)]
 #[tactic(auto, unfolding(crate::specs::Instructions::destination_by))]
-fn to_memory<A: Allocator + Clone>(
+fn to_memory<A: Allocator + Clone, const ROM: bool>(
     state: &State<A>,
     n: u32,
     cursor: &mut Cursor,
 ) -> Result<Dest, Fault>
-    requires { IsWidth n }
+    requires bytes { IsWidth n }
+    requires rom { IsInRom ROM state.now.flat (cursor.old.at + 4) }
     ensures value { Reads (λ dest. (dest, cursor.new)) result
         (destination_by state.now.flat (Addressing.Memory n) cursor.old) }
     ensures popped { cursor.new.popped ≡ cursor.old.popped }
+    ensures next { OnOk result (cursor.new.at ≤ cursor.old.at + 4) }
 {
-    Ok(Dest::Memory(data(state, cursor, n)?))
+    Ok(Dest::Memory(data::<A, ROM>(state, cursor, n)?))
 }
 
 /// A store to the RAM address of so many bytes.
 #[inline(always)]
 #[tactic(auto, unfolding(crate::specs::Instructions::destination_by))]
-fn to_ram<A: Allocator + Clone>(
+fn to_ram<A: Allocator + Clone, const ROM: bool>(
     state: &State<A>,
     n: u32,
     cursor: &mut Cursor,
 ) -> Result<Dest, Fault>
-    requires { IsWidth n }
+    requires bytes { IsWidth n }
+    requires rom { IsInRom ROM state.now.flat (cursor.old.at + 4) }
     ensures value { Reads (λ dest. (dest, cursor.new)) result
         (destination_by state.now.flat (Addressing.Ram n) cursor.old) }
     ensures popped { cursor.new.popped ≡ cursor.old.popped }
+    ensures next { OnOk result (cursor.new.at ≤ cursor.old.at + 4) }
 {
-    let offset = data(state, cursor, n)?;
+    let offset = data::<A, ROM>(state, cursor, n)?;
     Ok(Dest::Memory(state.ramstart().wrapping_add(offset)))
 }
 
 /// A store to the local at an offset of so many bytes.
 #[inline(always)]
 #[tactic(auto, unfolding(crate::specs::Instructions::destination_by))]
-fn to_local<A: Allocator + Clone>(
+fn to_local<A: Allocator + Clone, const ROM: bool>(
     state: &State<A>,
     n: u32,
     cursor: &mut Cursor,
 ) -> Result<Dest, Fault>
-    requires { IsWidth n }
+    requires bytes { IsWidth n }
+    requires rom { IsInRom ROM state.now.flat (cursor.old.at + 4) }
     ensures value { Reads (λ dest. (dest, cursor.new)) result
         (destination_by state.now.flat (Addressing.Local n) cursor.old) }
     ensures popped { cursor.new.popped ≡ cursor.old.popped }
+    ensures next { OnOk result (cursor.new.at ≤ cursor.old.at + 4) }
 {
-    Ok(Dest::Local(data(state, cursor, n)?))
+    Ok(Dest::Local(data::<A, ROM>(state, cursor, n)?))
 }
 
 /// Where a store operand points by its mode's nibble; the cursor goes behind it.
 #[inline(always)]
 #[tactic(auto, unfolding(crate::proofs::Opened::pointing))]
-pub fn destination<A: Allocator + Clone>(
+pub fn destination<A: Allocator + Clone, const ROM: bool>(
     state: &State<A>,
     nibble: u32,
     cursor: &mut Cursor,
 ) -> Result<Dest, Fault>
-    requires { nibble < 16 }
+    requires nibble { nibble < 16 }
+    requires rom { IsInRom ROM state.now.flat (cursor.old.at + 4) }
     ensures value { Reads (λ dest. (dest, cursor.new)) result (destination state.now.flat nibble cursor.old) }
     ensures popped { cursor.new.popped ≡ cursor.old.popped }
+    ensures next { OnOk result (cursor.new.at ≤ cursor.old.at + 4) }
 {
     match nibble {
         CONSTANT_ZERO => Ok(Dest::Nowhere),
-        ADDRESS_BYTE => to_memory(state, 1, cursor),
-        ADDRESS_SHORT => to_memory(state, 2, cursor),
-        ADDRESS_WORD => to_memory(state, 4, cursor),
+        ADDRESS_BYTE => to_memory::<A, ROM>(state, 1, cursor),
+        ADDRESS_SHORT => to_memory::<A, ROM>(state, 2, cursor),
+        ADDRESS_WORD => to_memory::<A, ROM>(state, 4, cursor),
         STACK_TOP => Ok(Dest::Push),
-        LOCAL_BYTE => to_local(state, 1, cursor),
-        LOCAL_SHORT => to_local(state, 2, cursor),
-        LOCAL_WORD => to_local(state, 4, cursor),
-        RAM_BYTE => to_ram(state, 1, cursor),
-        RAM_SHORT => to_ram(state, 2, cursor),
-        RAM_WORD => to_ram(state, 4, cursor),
+        LOCAL_BYTE => to_local::<A, ROM>(state, 1, cursor),
+        LOCAL_SHORT => to_local::<A, ROM>(state, 2, cursor),
+        LOCAL_WORD => to_local::<A, ROM>(state, 4, cursor),
+        RAM_BYTE => to_ram::<A, ROM>(state, 1, cursor),
+        RAM_SHORT => to_ram::<A, ROM>(state, 2, cursor),
+        RAM_WORD => to_ram::<A, ROM>(state, 4, cursor),
         CONSTANT_BYTE | CONSTANT_SHORT | CONSTANT_WORD | UNUSED_LOW | UNUSED_HIGH => {
             Err(Fault::BadMode)
         }
@@ -410,11 +449,11 @@ fn take<A: Allocator + Clone>(
     let mut cursor = plan.cursor();
     match kind {
         Kind::Load => {
-            let v = load(state, width, nibble, &mut cursor)?;
+            let v = load::<A, false>(state, width, nibble, &mut cursor)?;
             plan.take_load(v, cursor);
         }
         Kind::Store => {
-            let dest = destination(state, nibble, &mut cursor)?;
+            let dest = destination::<A, false>(state, nibble, &mut cursor)?;
             plan.take_destination(dest, cursor);
         }
     }
@@ -552,7 +591,7 @@ pub fn decode_into<A: Allocator + Clone>(state: &State<A>, plan: &mut Plan) -> R
     ensures sp { OnOk result (IsHeight state.now.flat plan.new.sp) }
 {
     let mut modes = 0;
-    let number = opcode(state, &mut modes)?;
+    let number = opcode::<A, false>(state, &mut modes)?;
     plan.row = find_row(number)?;
     all_operands(state, row_at(plan.row), modes, plan)?;
     plan.sp = stack_pointer(state, plan.popped);

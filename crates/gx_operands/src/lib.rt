@@ -3,6 +3,7 @@
 //!
 //! - `decoding` reads an instruction into a `plan`, and changes nothing: the plan is `instruction` of
 //!   specs/Instructions, or its first fault.
+//! - `code_bytes` reads its bytes.
 //! - `cursor` is where that reading stands.
 //! - `popped` reads what an instruction pops beside its operands.
 //! - `storing` makes one store, or tells its fault in advance.
@@ -11,6 +12,7 @@
 //! Only a store to memory may want memory, and nothing has changed then.
 #![tactic(auto)]
 
+mod code_bytes;
 mod cursor;
 mod decoding;
 mod plan;
@@ -18,6 +20,7 @@ mod popped;
 mod rows;
 mod storing;
 
+pub use code_bytes::{code, code_pair};
 pub use cursor::Cursor;
 pub use decoding::{decode, decode_into, destination, find_row, load, opcode, stack_pointer};
 pub use plan::Plan;
