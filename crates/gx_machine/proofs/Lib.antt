@@ -3,6 +3,7 @@ pub mod Charges
 pub mod Costs
 pub mod Fetching
 pub mod Passing
+pub mod Pops
 pub mod Reading
 pub mod Steps
 pub mod Streams

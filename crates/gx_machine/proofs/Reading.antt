@@ -1,17 +1,23 @@
 -- What the operands of a short row give, read one after the other.
-use Rattle.std.proofs.Common.{◌≡◌, ◌≢◌, ◌≤◌, ◌<◌, ◌+◌, ◌/◌, ◌%◌, ℕ, Bool, true, false, nat_le, [], ◌∷◌, length, Result, Ok, Err, IsOkAnd, refl, ap, subst, sym, arith}
+use Rattle.std.proofs.Common.{◌≡◌, ◌≢◌, ◌≤◌, ◌<◌, ◌+◌, ◌/◌, ◌%◌, ℕ, Bool, true, false, nat_le, [], ◌∷◌, length, Some, None, Result, Ok, Err, IsOkAnd, refl, ap, subst, sym, ◌∙◌, arith}
 use Rattle.std.proofs.lemmas.Bool.Decides.{nat_tests}
 use Rattle.gx_words.specs.declared.faults.Fault.{Fault}
-use Rattle.gx_words.specs.declared.faults.Fault.TheVariants.{BadAddress, NoMemory}
+use Rattle.gx_words.specs.declared.faults.Fault.TheVariants.{BadAddress, NoMemory, Divide}
 use Rattle.gx_words.specs.Numbers.{byte}
 use Rattle.gx_words.specs.Results.{◌>>=◌}
+use Rattle.gx_rows.specs.declared.instructions.Class.TheVariants as class
 use Rattle.gx_rows.specs.declared.instructions.Row.{Row}
+use Rattle.ops_calc.specs.Arithmetic.{calc}
+use Rattle.ops_flow.specs.Rows.{computes}
+use Rattle.ops_memory.specs.Rows.{copy}
+use Rattle.gx_state.specs.declared.effects.Effect.{Effect}
+use Rattle.gx_state.specs.Stores.{IsMemory}
 use Rattle.gx_state.specs.declared.modes.Dest.{Dest}
 use Rattle.gx_state.specs.declared.modes.Dest.TheVariants as dest
 use Rattle.gx_state.specs.Flat.{FlatState}
 use Rattle.gx_operands.specs.declared.cursor.Cursor.{Cursor}
 use Rattle.gx_operands.specs.Instructions.{Operands, all_operands, operands, operand, with_operand, load, destination}
-use Rattle.gx_machine.specs.Quick.{Tries, IsPlain, IsRowWriting, IsQuickWriting, quick_effect, quick_row, read_as, operands_read}
+use Rattle.gx_machine.specs.Quick.{Tries, IsPlain, IsRowWriting, IsQuickWriting, quick_effect, quick_row, read_as, operands_read, read_effect, IsReadWriting, stored_on}
 
 -- a row whose operands have a fault, and one whose operands were read
 pub row_fails : (f : FlatState) (row : Row) (modes : ℕ) (e : Fault) → all_operands f row modes ≡ Err e → e ≢ NoMemory → Tries {S = FlatState} (IsRowWriting f row modes) (Err e) f f (quick_row f row modes)
@@ -274,3 +280,32 @@ store_fails_1 f row modes first e plain loads stores there is one =
     rw (loads, stores, within, plain.width, plain.in_order, first_at, rw is at one) refl
 
 pub ruleset store_reading = (no_modes, store_read, store_fails_1)
+
+-- ---- arithmetic and copies, whose class is known before the store operand is read
+
+computes_none : (f : FlatState) (row : Row) (a b : ℕ) (d : Dest) (p : Cursor) → row.class ≡ class.Calc → calc row.act a b ≡ None → read_effect f row (a ∷ b ∷ []) d p ≡ Err Divide
+unfolding computes
+computes_none f row a b d p is none = rw (is, none) refl
+
+-- a division that has no result: what its store operand gives comes first
+abbrev pub refused : Result (Dest × Cursor) Fault → Result (FlatState × Effect) Fault
+refused r = r >>= (λ (d : Dest × Cursor). Err Divide)
+
+pub no_quotient_row : (f : FlatState) (row : Row) (modes first second a b : ℕ) (p q : Cursor) (e : Fault) → row.class ≡ class.Calc → IsPlain row → row.loads ≡ 2 → row.stores ≡ 1 → modes + 2 ≤ length f.memory → first ≡ byte f.memory modes → second ≡ byte f.memory (modes + 1)
+    → load f 4 (first % 16) (record { at = modes + 2; popped = 0 }) ≡ Ok (a, p) → load f 4 (first / 16) p ≡ Ok (b, q) → calc row.act a b ≡ None
+    → (r : Result (Dest × Cursor) Fault) → destination f (second % 16) q ≡ r → refused r ≡ Err e → quick_row f row modes ≡ Err e
+no_quotient_row f row modes first second a b p q e is plain loads stores there low high one two none (Ok d) dest fails =
+    ap (λ (r : Result Operands Fault). r >>= (λ (o : Operands). quick_effect row.class f (read_as f row o))) (two_and_store_read f row modes first second a b d.0 p q d.1 plain loads stores there low high one two dest)
+    ∙ computes_none f row a b d.0 d.1 is none ∙ fails
+no_quotient_row f row modes first second a b p q e is plain loads stores there low high one two none (Err x) dest fails =
+    ap (λ (r : Result Operands Fault). r >>= (λ (o : Operands). quick_effect row.class f (read_as f row o))) (two_and_store_fails_3 f row modes first second a b p q x plain loads stores there low high one two dest) ∙ fails
+
+pub calc_done : (f g : FlatState) (row : Row) (a b v : ℕ) (d : Dest) (p : Cursor) (r : Result Bool Fault) → row.class ≡ class.Calc → calc row.act a b ≡ Some v
+    → Tries {S = FlatState} (IsMemory d) r f g (stored_on f 4 d v p) → Tries {S = FlatState} (IsReadWriting f row (a ∷ b ∷ []) d p) r f g (read_effect f row (a ∷ b ∷ []) d p)
+unfolding computes
+calc_done f g row a b v d p r is some t = rw (is, some) t
+
+pub copy_done : (f g : FlatState) (row : Row) (a : ℕ) (d : Dest) (p : Cursor) (r : Result Bool Fault) → row.class ≡ class.Copy → row.width ≡ 4
+    → Tries {S = FlatState} (IsMemory d) r f g (stored_on f 4 d a p) → Tries {S = FlatState} (IsReadWriting f row (a ∷ []) d p) r f g (read_effect f row (a ∷ []) d p)
+unfolding copy
+copy_done f g row a d p r is width t = rw (is, width) t

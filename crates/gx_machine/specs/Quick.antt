@@ -19,7 +19,7 @@ use Rattle.gx_state.specs.Entry.{entered}
 use Rattle.gx_state.specs.Returns.{stub_of}
 use Rattle.ops_calc.specs.Arithmetic.{calc}
 use Rattle.gx_operands.specs.declared.cursor.Cursor.{Cursor}
-use Rattle.gx_operands.specs.Instructions.{Operands, Instruction, all_operands, going_to, instruction}
+use Rattle.gx_operands.specs.Instructions.{Operands, Instruction, all_operands, going_to, instruction, destination}
 use Rattle.gx_operands.specs.Stores.{settled, goes_to}
 use Rattle.gx_machine.specs.Machine.{Whole}
 use Rattle.gx_machine.specs.Step.{stepped, IsStepWriting}
@@ -96,6 +96,12 @@ abbrev pub computed_on : FlatState → ℕ → ℕ → ℕ → Dest → Cursor �
 computed_on f act a b d p = do
   v ← ok_or (calc act a b) Divide
   stored_on f 4 d v p
+
+-- the fault of a division that has no result: that of its store operand comes first
+abbrev pub without_result : FlatState → ℕ → Cursor → Result (FlatState × Effect) Fault
+without_result f nibble p = do
+  d ← destination f nibble p
+  Err Divide
 
 -- the number of so many bytes at an address is stored
 abbrev pub fetched_on : FlatState → ℕ → ℕ → Dest → Cursor → Result (FlatState × Effect) Fault

@@ -3,6 +3,7 @@
 //! - `machine` has the machine, its step and the answers to what a step asks.
 //! - `rows` does the row of an instruction, class by class.
 //! - `quick` reads and does the commonest instructions in one go, by the same definitions.
+//! - `quick_acts` has what it does once the operands are read.
 //! - `engine` has the trait that a session runs on.
 //!
 //! `Machine::step` is `stepped` of specs/Step for every machine, word and budget: each fault comes exactly where the
@@ -21,6 +22,7 @@ mod askings;
 mod engine;
 mod machine;
 mod quick;
+mod quick_acts;
 mod rows;
 
 pub use askings::Asking;

@@ -278,7 +278,7 @@ impl<A: Allocator + Clone> Machine<A> {
         ensures fewer { result ≡ Ok true → budget.new < budget.old }
         ensures no_more { budget.new ≤ budget.old }
     {
-        if *budget == 0 || self.state.stack().size() == 0 {
+        if *budget == 0 || self.state.stack().bytes().is_empty() {
             return Ok(false);
         }
         match self.state.mode() {

@@ -3,7 +3,7 @@ use Rattle.std.proofs.Common.{refl}
 use Rattle.std.proofs.lemmas.Result.{err_from_is_err_and}
 use Rattle.gx_machine.specs.Views.{machine_with}
 use Rattle.gx_machine.proofs.Tries.{no_number, no_row}
-use Rattle.gx_machine.proofs.quick.quick.Goals as goal
+use Rattle.gx_machine.proofs.quick.at_pc.Goals as goal
 
 pub returns-in_err-number-clause-value : goal.returns-in_err-number-clause-value
 returns-in_err-number-clause-value g c =
