@@ -1,7 +1,7 @@
 pub mod Rows
 pub mod Lists
+pub mod Turning
 pub mod Ready
-pub mod Fitting
 pub mod Waiting
 pub mod Asking
 pub mod Awaited

@@ -1,16 +1,21 @@
--- The row of a selector stands in the list of the table that has its numbers.
-use Rattle.std.proofs.Common.{◌≡◌, ◌<◌, ◌≤◌, ◌==◌, ◌&&◌, ◌++◌, nat_lt, nat_le, ℕ, Bool, true, false, List, [], ◌∷◌}
-use Rattle.std.proofs.Common.{Option, Some, None, refl, arith, ap, ◌∙◌}
+-- The row of a selector stands in the list of the table that has its numbers, and answers at once or takes a turn.
+use Rattle.std.proofs.Common.{◌≡◌, ◌⊎◌, ◌<◌, ◌≤◌, ◌==◌, ◌&&◌, ◌||◌, ◌++◌, nat_lt, nat_le, ℕ, Bool, true, false}
+use Rattle.std.proofs.Common.{if◌then◌else◌, List, [], ◌∷◌, Option, Some, None, refl}
+use Rattle.std.proofs.Common.{inl, inr, arith, ap, ◌∙◌}
 use Rattle.std.specs.List.{list_all}
 use Rattle.std.specs.Option.{option_or}
 use Rattle.std.proofs.lemmas.Bool.Decides.{nat_tests}
 use Rattle.std.proofs.lemmas.List.Folds.{find-append}
 use Rattle.glk_replies.specs.Numbers as selectors
 use Rattle.glk_replies.specs.TextNumbers as texts
-use Rattle.glk_dispatch.specs.Rows.{Row}
+use Rattle.gx_state.specs.Flat.{FlatState}
+use Rattle.glk_world.specs.World.{Scene}
+use Rattle.glk_dispatch.specs.Rows.{Doing, answers, turns, Row}
 use Rattle.glk_dispatch.specs.ObjectCalls.{window_calls, stream_calls}
 use Rattle.glk_dispatch.specs.TextCalls.{text_calls, event_calls, unicode_calls}
-use Rattle.glk_dispatch.specs.Table.{row_in, row_for}
+use Rattle.glk_dispatch.specs.Table.{call_table, row_in, row_for}
+use Rattle.glk_dispatch.specs.Calls.{as_turn, done}
+use Rattle.glk_dispatch.specs.Ready.{takes_turn, answers_at_once, answering, answer_of, answer_by, done_by}
 
 -- rows of other selectors
 abbrev others : ℕ → List Row → Type 0
@@ -84,41 +89,105 @@ not_texts number reached =
     not_streams number (omega arith)
     ∙ behind number text_calls behind_texts (below_are_others number texts.select text_calls refl reached)
 
-pub of_windows : (number : ℕ) → number < selectors.stream_iterate → row_for number ≡ row_in window_calls number
-unfolding row_for stream_calls text_calls event_calls unicode_calls
-of_windows number until =
+-- ---- those that answer at once
+
+true_or_false : (b : Bool) → (b ≡ true) ⊎ (b ≡ false)
+true_or_false true = inl refl
+true_or_false false = inr refl
+
+-- a row that takes a turn has one of the numbers of those
+abbrev is_known : Row → Bool
+is_known row = answers_at_once row.does || takes_turn row.looks.number
+
+same_number : (a b : ℕ) → (a == b) ≡ true → takes_turn a ≡ takes_turn b
+same_number a b is = let same : a ≡ b = grind (arith, nat_tests, is) in ap (λ n. takes_turn n) same
+
+-- a row of another number
+not_the_turn : (a b : ℕ) → takes_turn a ≡ true → takes_turn b ≡ false → (a == b) ≡ false
+not_the_turn a b turn none = elim (true_or_false (a == b)) [
+  | inl is ↦ absurd (let same = same_number a b is in cc)
+  | inr other ↦ other
+]
+
+at_once_row : (at_once : Bool) (number : ℕ) (row : Row) (rest more : List Row)
+    → (at_once || takes_turn row.looks.number) ≡ true → takes_turn number ≡ false
+    → row_in rest number ≡ row_in more number
+    → row_in (row ∷ rest) number ≡ row_in (if at_once then row ∷ more else more) number
+at_once_row true number row rest more known none same =
+    ap (λ (r : Option Row). if row.looks.number == number then Some row else r) same
+at_once_row false number row rest more known none same = rw (not_the_turn row.looks.number number known none) same
+
+at_once : (number : ℕ) (rows : List Row) → list_all is_known rows ≡ true → takes_turn number ≡ false
+    → row_in rows number ≡ row_in (answering rows) number
+at_once number [] all none = refl
+at_once number (row ∷ rows) all none =
+    let b = both (is_known row) (list_all is_known rows) all in
+    at_once_row (answers_at_once row.does) number row rows (answering rows) b.0 none (at_once number rows b.1 none)
+
+row_answers : (does : Doing) (at number : ℕ) (w : Scene) (f : FlatState) (room : ℕ) (args : List ℕ)
+    → (answers_at_once does || takes_turn at) ≡ true → (at == number) ≡ true → takes_turn number ≡ false
+    → done does w f room args ≡ as_turn (answer_of does w f room args)
+row_answers (answers call) at number w f room args known here none = refl
+row_answers (turns call) at number w f room args known here none =
+    absurd (let same = same_number at number here in cc)
+
+rows_answer : (number : ℕ) (rows : List Row) (w : Scene) (f : FlatState) (room : ℕ) (args : List ℕ)
+    → list_all is_known rows ≡ true → takes_turn number ≡ false
+    → done_by (row_in rows number) w f room args ≡ as_turn (answer_by (row_in rows number) w f room args)
+rows_answer number [] w f room args all none = refl
+rows_answer number (row ∷ rows) w f room args all none =
+    let b = both (is_known row) (list_all is_known rows) all in
+    elim (true_or_false (row.looks.number == number)) [
+      | inl here ↦ rw here (row_answers row.does row.looks.number number w f room args b.0 here none)
+      | inr other ↦ rw other (rows_answer number rows w f room args b.1 none)
+    ]
+
+pub call_answers : (number : ℕ) (w : Scene) (f : FlatState) (room : ℕ) (args : List ℕ) → takes_turn number ≡ false
+    → done_by (row_for number) w f room args ≡ as_turn (answer_by (row_for number) w f room args)
+unfolding row_for window_calls stream_calls text_calls event_calls unicode_calls
+call_answers number w f room args none = rows_answer number call_table w f room args refl none
+
+pub of_windows : (number : ℕ) → takes_turn number ≡ false → number < selectors.stream_iterate
+    → row_for number ≡ row_in (answering window_calls) number
+unfolding row_for window_calls stream_calls text_calls event_calls unicode_calls
+of_windows number none until =
     before number window_calls behind_windows
     (above_are_others number selectors.stream_iterate behind_windows refl until)
+    ∙ at_once number window_calls refl none
 
-pub of_streams : (number : ℕ) → selectors.stream_iterate ≤ number → number < texts.put_char
-    → row_for number ≡ row_in stream_calls number
-unfolding text_calls event_calls unicode_calls
-of_streams number reached until =
+pub of_streams : (number : ℕ) → takes_turn number ≡ false → selectors.stream_iterate ≤ number
+    → number < texts.put_char → row_for number ≡ row_in (answering stream_calls) number
+unfolding stream_calls text_calls event_calls unicode_calls
+of_streams number none reached until =
     not_windows number reached
-    ∙ before number stream_calls behind_streams
+    ∙ (before number stream_calls behind_streams
     (above_are_others number texts.put_char behind_streams refl until)
+    ∙ at_once number stream_calls refl none)
 
-pub of_texts : (number : ℕ) → texts.put_char ≤ number → number < texts.select
-    → row_for number ≡ row_in text_calls number
-unfolding event_calls unicode_calls
-of_texts number reached until =
+pub of_texts : (number : ℕ) → takes_turn number ≡ false → texts.put_char ≤ number → number < texts.select
+    → row_for number ≡ row_in (answering text_calls) number
+unfolding text_calls event_calls unicode_calls
+of_texts number none reached until =
     not_streams number reached
-    ∙ before number text_calls behind_texts (above_are_others number texts.select behind_texts refl until)
+    ∙ (before number text_calls behind_texts (above_are_others number texts.select behind_texts refl until)
+    ∙ at_once number text_calls refl none)
 
-pub of_events : (number : ℕ) → texts.select ≤ number → number < texts.buffer_to_lower_case_uni
-    → row_for number ≡ row_in event_calls number
-unfolding unicode_calls
-of_events number reached until =
+pub of_events : (number : ℕ) → takes_turn number ≡ false → texts.select ≤ number
+    → number < texts.buffer_to_lower_case_uni → row_for number ≡ row_in (answering event_calls) number
+unfolding event_calls unicode_calls
+of_events number none reached until =
     not_texts number reached
-    ∙ before number event_calls unicode_calls
+    ∙ (before number event_calls unicode_calls
     (above_are_others number texts.buffer_to_lower_case_uni unicode_calls refl until)
+    ∙ at_once number event_calls refl none)
 
-pub of_unicode : (number : ℕ) → texts.buffer_to_lower_case_uni ≤ number
-    → row_for number ≡ row_in unicode_calls number
-unfolding event_calls
-of_unicode number reached =
+pub of_unicode : (number : ℕ) → takes_turn number ≡ false → texts.buffer_to_lower_case_uni ≤ number
+    → row_for number ≡ row_in (answering unicode_calls) number
+unfolding event_calls unicode_calls
+of_unicode number none reached =
     not_texts number (omega arith)
-    ∙ behind number event_calls unicode_calls
+    ∙ (behind number event_calls unicode_calls
     (below_are_others number texts.buffer_to_lower_case_uni event_calls refl reached)
+    ∙ at_once number unicode_calls refl none)
 
 pub ruleset lists = (of_windows, of_streams, of_texts, of_events, of_unicode)

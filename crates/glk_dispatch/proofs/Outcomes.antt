@@ -41,22 +41,26 @@ abbrev AllLaw : List Row → Type 0
 AllLaw [] = Unit {0}
 AllLaw (row ∷ rows) = Law row × AllLaw rows
 
+-- a call that never wants memory
+never : {P : Type 0} → false ≡ true → P
+never wants = absurd (cc)
+
 window_laws : AllLaw window_calls
 unfolding window_calls
 window_laws = (
-  (λ w f room args r e on wants is. absurd (cc)),
+  (λ w f room args r e on wants is. never wants),
   (
-    (λ w f room args r e on wants is. absurd (cc)),
+    (λ w f room args r e on wants is. never wants),
     (
-      (λ w f room args r e on wants is. absurd (cc)),
+      (λ w f room args r e on wants is. never wants),
       (
         (λ w f room args r e on wants is. gestalt_ext_takes w f args wants r is),
         (
           (λ w f room args r e on wants is. iterate_takes w f room args (not_so (arg args 1 == 0) wants) r is),
           (
-            (λ w f room args r e on wants is. absurd (cc)),
+            (λ w f room args r e on wants is. never wants),
             (
-              (λ w f room args r e on wants is. absurd (cc)),
+              (λ w f room args r e on wants is. never wants),
               (
                 (λ w f room args r e on wants is. open_takes w args wants r is),
                 (
@@ -68,23 +72,23 @@ window_laws = (
                       (
                         (λ w f room args r e on wants is. arrangement_takes w f room args wants r is),
                         (
-                          (λ w f room args r e on wants is. absurd (cc)),
+                          (λ w f room args r e on wants is. never wants),
                           (
-                            (λ w f room args r e on wants is. absurd (cc)),
+                            (λ w f room args r e on wants is. never wants),
                             (
-                              (λ w f room args r e on wants is. absurd (cc)),
+                              (λ w f room args r e on wants is. never wants),
                               (
-                                (λ w f room args r e on wants is. absurd (cc)),
+                                (λ w f room args r e on wants is. never wants),
                                 (
-                                  (λ w f room args r e on wants is. absurd (cc)),
+                                  (λ w f room args r e on wants is. never wants),
                                   (
-                                    (λ w f room args r e on wants is. absurd (cc)),
+                                    (λ w f room args r e on wants is. never wants),
                                     (
-                                      (λ w f room args r e on wants is. absurd (cc)),
+                                      (λ w f room args r e on wants is. never wants),
                                       (
-                                        (λ w f room args r e on wants is. absurd (cc)),
+                                        (λ w f room args r e on wants is. never wants),
                                         (
-                                          (λ w f room args r e on wants is. absurd (cc)),
+                                          (λ w f room args r e on wants is. never wants),
                                           tt,
                                         ),
                                       ),
@@ -113,7 +117,7 @@ unfolding stream_calls
 stream_laws = (
   (λ w f room args r e on wants is. stream_iterate_takes w f room args (not_so (arg args 1 == 0) wants) r is),
   (
-    (λ w f room args r e on wants is. absurd (cc)),
+    (λ w f room args r e on wants is. never wants),
     (
       (λ w f room args r e on wants is. file_takes w selectors.stream_open_file args r wants is),
       (
@@ -121,13 +125,13 @@ stream_laws = (
         (
           (λ w f room args r e on wants is. closing_takes w f room args r wants is),
           (
-            (λ w f room args r e on wants is. absurd (cc)),
+            (λ w f room args r e on wants is. never wants),
             (
-              (λ w f room args r e on wants is. absurd (cc)),
+              (λ w f room args r e on wants is. never wants),
               (
-                (λ w f room args r e on wants is. absurd (cc)),
+                (λ w f room args r e on wants is. never wants),
                 (
-                  (λ w f room args r e on wants is. absurd (cc)),
+                  (λ w f room args r e on wants is. never wants),
                   (
                     (λ w f room args r e on wants is. temp_takes w args wants r is),
                     (
@@ -135,12 +139,12 @@ stream_laws = (
                       (
                         (λ w f room args r e on wants is. prompt_takes w args r (not_so (is_composed w) wants) is),
                         (
-                          (λ w f room args r e on wants is. absurd (cc)),
+                          (λ w f room args r e on wants is. never wants),
                           (
                             (λ w f room args r e on wants is.
                                 reference_iterate_takes w f room args (not_so (arg args 1 == 0) wants) r is),
                             (
-                              (λ w f room args r e on wants is. absurd (cc)),
+                              (λ w f room args r e on wants is. never wants),
                               (
                                 (λ w f room args r e on wants is. delete_takes w args r is),
                                 (
@@ -182,27 +186,27 @@ text_laws = (
           (
             (λ w f room args r e on wants is. some_object (arg args 0 == 0) e on),
             (
-              (λ w f room args r e on wants is. absurd (cc)),
+              (λ w f room args r e on wants is. never wants),
               (
-                (λ w f room args r e on wants is. absurd (cc)),
+                (λ w f room args r e on wants is. never wants),
                 (
-                  (λ w f room args r e on wants is. absurd (cc)),
+                  (λ w f room args r e on wants is. never wants),
                   (
                     (λ w f room args r e on wants is. line_takes w f 1 args (not_so (arg args 2 == 0) wants) r is),
                     (
                       (λ w f room args r e on wants is. buffer_takes w f 1 args wants r is),
                       (
-                        (λ w f room args r e on wants is. absurd (cc)),
+                        (λ w f room args r e on wants is. never wants),
                         (
-                          (λ w f room args r e on wants is. absurd (cc)),
+                          (λ w f room args r e on wants is. never wants),
                           (
-                            (λ w f room args r e on wants is. absurd (cc)),
+                            (λ w f room args r e on wants is. never wants),
                             (
-                              (λ w f room args r e on wants is. absurd (cc)),
+                              (λ w f room args r e on wants is. never wants),
                               (
-                                (λ w f room args r e on wants is. absurd (cc)),
+                                (λ w f room args r e on wants is. never wants),
                                 (
-                                  (λ w f room args r e on wants is. absurd (cc)),
+                                  (λ w f room args r e on wants is. never wants),
                                   tt,
                                 ),
                               ),
@@ -225,7 +229,7 @@ text_laws = (
 event_laws : AllLaw event_calls
 unfolding event_calls
 event_laws = (
-  (λ w f room args r e on wants is. absurd (cc)),
+  (λ w f room args r e on wants is. never wants),
   (
     (λ w f room args r e on wants is. poll_takes w f room args (not_so (arg args 0 == 0) wants) r is),
     (
@@ -235,7 +239,7 @@ event_laws = (
         (
           (λ w f room args r e on wants is. char_event_takes w false args wants r is),
           (
-            (λ w f room args r e on wants is. absurd (cc)),
+            (λ w f room args r e on wants is. never wants),
             tt,
           ),
         ),
@@ -265,7 +269,7 @@ unicode_laws = (
                 (
                   (λ w f room args r e on wants is. some_object (arg args 0 == 0) e on),
                   (
-                    (λ w f room args r e on wants is. absurd (cc)),
+                    (λ w f room args r e on wants is. never wants),
                     (
                       (λ w f room args r e on wants is. buffer_takes w f 4 args wants r is),
                       (
@@ -280,7 +284,7 @@ unicode_laws = (
                               (
                                 (λ w f room args r e on wants is. line_event_takes w true args wants r is),
                                 (
-                                  (λ w f room args r e on wants is. absurd (cc)),
+                                  (λ w f room args r e on wants is. never wants),
                                   tt,
                                 ),
                               ),

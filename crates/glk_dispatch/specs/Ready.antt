@@ -1,14 +1,18 @@
 -- What the calls of a row rest on, once its arguments were looked at.
-use Rattle.std.specs.Prelude.{◌≡◌, ◌⊎◌, ℕ, if◌then◌else◌, Bool, true, false, List, Option, Some, None, Ok, Err}
+use Rattle.std.specs.Prelude.{◌≡◌, ◌⊎◌, ℕ, ◌==◌, ◌||◌, if◌then◌else◌, Bool, true, false, List, [], ◌∷◌, Option}
+use Rattle.std.specs.Prelude.{Some, None, Ok, Err}
 use Rattle.gx_words.specs.declared.faults.Fault.TheVariants.{BadGlk}
-use Rattle.gx_state.specs.Flat.{FlatState}
 use Rattle.gx_words.specs.Results.{◌>>=◌}
+use Rattle.gx_state.specs.Flat.{FlatState}
+use Rattle.gx_state.specs.declared.effects.Reply.{Reply}
 use Rattle.glk_world.specs.World.{Scene, silent, Outcome, arg}
+use Rattle.glk_replies.specs.Numbers as selectors
+use Rattle.glk_replies.specs.TextNumbers as texts
 use Rattle.glk_replies.specs.declared.Turn.{Turn}
 use Rattle.glk_replies.specs.declared.Turn.TheVariants.{Answer}
 use Rattle.glk_dispatch.specs.declared.table.Class.{Class}
 use Rattle.glk_dispatch.specs.declared.table.Selector.{Selector}
-use Rattle.glk_dispatch.specs.Rows.{Row}
+use Rattle.glk_dispatch.specs.Rows.{Doing, answers, turns, Row}
 use Rattle.glk_dispatch.specs.Calls.{has_object, looked_at, is_on_none, nothing, as_turn, done, dropping, gives_nothing}
 
 abbrev pub IsObject : Scene → Class → ℕ → Type 0
@@ -39,6 +43,34 @@ done_by (Some row) w f room args = done row.does w f room args
 abbrev pub wants_by : Option Row → Scene → FlatState → List ℕ → Bool
 wants_by None w f args = false
 wants_by (Some row) w f args = row.wants w f args
+
+-- ---- the rows that answer at once, and those that take a turn
+
+-- the selectors of the calls that take a turn
+abbrev pub takes_turn : ℕ → Bool
+takes_turn selector =
+    selector == selectors.exit || selector == selectors.stream_open_file || selector == selectors.stream_close
+    || selector == selectors.fileref_create_by_prompt || selector == selectors.fileref_delete_file
+    || selector == selectors.fileref_does_file_exist || selector == texts.select
+    || selector == selectors.stream_open_file_uni
+
+abbrev pub answers_at_once : Doing → Bool
+answers_at_once (answers call) = true
+answers_at_once (turns call) = false
+
+-- the rows of a list that answer at once
+abbrev pub answering : List Row → List Row
+answering [] = []
+answering (row ∷ rows) = if answers_at_once row.does then row ∷ answering rows else answering rows
+
+-- what such a row answers
+abbrev pub answer_of : Doing → Scene → FlatState → ℕ → List ℕ → Outcome Reply
+answer_of (answers call) w f room args = call w f room args
+answer_of (turns call) w f room args = Err BadGlk
+
+abbrev pub answer_by : Option Row → Scene → FlatState → ℕ → List ℕ → Outcome Reply
+answer_by None w f room args = Err BadGlk
+answer_by (Some row) w f room args = answer_of row.does w f room args
 
 -- ---- a call by the looks of its row, and by what the row does and wants
 

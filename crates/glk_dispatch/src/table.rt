@@ -11,7 +11,7 @@ use glk_replies::selectors::*;
 use gx_rows::{Keyed, find_row};
 
 /// What an argument names.
-#[derive(Clone, Copy, Debug, PartialEq, Eq)]
+#[derive(Clone, Copy)]
 pub enum Class {
     /// No object.
     Plain,
@@ -22,7 +22,6 @@ pub enum Class {
 }
 
 /// What a call needs of its arguments.
-#[derive(Clone, Copy, Debug, PartialEq, Eq)]
 pub struct Selector {
     pub number: u32,
     /// How many arguments it needs.

@@ -1,37 +1,58 @@
--- What fits any state or any room fits those of the call.
+-- What fits any state or any room fits those of the call, and what never wants memory wants none.
+use Rattle.glk_text_calls.specs.declared.characters.Case.TheVariants as case
+use Rattle.glk_text_calls.specs.Input.{get_char}
+use Rattle.glk_text_calls.specs.Characters.{char_to_case}
+use Rattle.glk_dispatch.specs.TextCalls.{text_calls}
+use Rattle.glk_dispatch.proofs.Turning.{never_wants}
 use Rattle.glk_dispatch.proofs.doing.text_call.Goals as goal
 
-pub returns-in_ok-put_char-in-128-clause-fits : goal.returns-in_ok-put_char-in-128-clause-fits
-returns-in_ok-put_char-in-128-clause-fits g c = c.in_ok-put_char-in-128.ensures.fits c.args.room
+pub returns-in-128-clause-fits : goal.returns-in-128-clause-fits
+returns-in-128-clause-fits g c = c.put_char.ensures.fits c.args.room
 
-pub returns-in_ok-put_char-in-129-clause-fits : goal.returns-in_ok-put_char-in-129-clause-fits
-returns-in_ok-put_char-in-129-clause-fits g c = c.in_ok-put_char-in-129.ensures.fits c.args.room
+pub returns-in-129-clause-fits : goal.returns-in-129-clause-fits
+returns-in-129-clause-fits g c = c.put_char-in-129.ensures.fits c.args.room
 
-pub returns-in_ok-put_string-in-130-clause-fits : goal.returns-in_ok-put_string-in-130-clause-fits
-returns-in_ok-put_string-in-130-clause-fits g c = c.in_ok-put_string-in-130.ensures.fits c.args.room
+pub returns-in-130-clause-fits : goal.returns-in-130-clause-fits
+returns-in-130-clause-fits g c = c.put_string.ensures.fits c.args.room
 
-pub returns-in_ok-put_string-in-131-clause-fits : goal.returns-in_ok-put_string-in-131-clause-fits
-returns-in_ok-put_string-in-131-clause-fits g c = c.in_ok-put_string-in-131.ensures.fits c.args.room
+pub returns-in-131-clause-fits : goal.returns-in-131-clause-fits
+returns-in-131-clause-fits g c = c.put_string-in-131.ensures.fits c.args.room
 
-pub returns-in_ok-put_buffer-in-132-clause-fits : goal.returns-in_ok-put_buffer-in-132-clause-fits
-returns-in_ok-put_buffer-in-132-clause-fits g c = c.in_ok-put_buffer-in-132.ensures.fits c.args.room
+pub returns-in-132-clause-fits : goal.returns-in-132-clause-fits
+returns-in-132-clause-fits g c = c.put_buffer.ensures.fits c.args.room
 
-pub returns-in_ok-put_buffer-in-133-clause-fits : goal.returns-in_ok-put_buffer-in-133-clause-fits
-returns-in_ok-put_buffer-in-133-clause-fits g c = c.in_ok-put_buffer-in-133.ensures.fits c.args.room
+pub returns-in-133-clause-fits : goal.returns-in-133-clause-fits
+returns-in-133-clause-fits g c = c.put_buffer-in-133.ensures.fits c.args.room
 
-pub returns-in_ok-get_char-in-144-clause-fits : goal.returns-in_ok-get_char-in-144-clause-fits
-returns-in_ok-get_char-in-144-clause-fits g c = c.in_ok-get_char-in-144.ensures.fits c.args.room
+pub returns-in-144-clause-fits : goal.returns-in-144-clause-fits
+returns-in-144-clause-fits g c = c.get_char.ensures.fits c.args.room
 
-pub returns-in_ok-get_line-in-145-clause-fits : goal.returns-in_ok-get_line-in-145-clause-fits
-returns-in_ok-get_line-in-145-clause-fits g c = c.in_ok-get_line-in-145.ensures.fits c.args.room
+pub returns-in-145-clause-fits : goal.returns-in-145-clause-fits
+returns-in-145-clause-fits g c = c.get_line.ensures.fits c.args.room
 
-pub returns-in_ok-get_buffer-in-146-clause-fits : goal.returns-in_ok-get_buffer-in-146-clause-fits
-returns-in_ok-get_buffer-in-146-clause-fits g c = c.in_ok-get_buffer-in-146.ensures.fits c.args.room
+pub returns-in-146-clause-fits : goal.returns-in-146-clause-fits
+returns-in-146-clause-fits g c = c.get_buffer.ensures.fits c.args.room
 
-pub returns-in_ok-char_to_case-in-160-clause-fits : goal.returns-in_ok-char_to_case-in-160-clause-fits
-returns-in_ok-char_to_case-in-160-clause-fits g c =
-    c.in_ok-char_to_case-in-160.ensures.fits c.args.state.now.flat c.args.room
+pub returns-in-160-clause-fits : goal.returns-in-160-clause-fits
+returns-in-160-clause-fits g c = c.char_to_case.ensures.fits c.args.state.now.flat c.args.room
 
-pub returns-in_ok-char_to_case-in-161-clause-fits : goal.returns-in_ok-char_to_case-in-161-clause-fits
-returns-in_ok-char_to_case-in-161-clause-fits g c =
-    c.in_ok-char_to_case-in-161.ensures.fits c.args.state.now.flat c.args.room
+pub returns-in-161-clause-fits : goal.returns-in-161-clause-fits
+returns-in-161-clause-fits g c = c.char_to_case-in-161.ensures.fits c.args.state.now.flat c.args.room
+
+pub returns-in-144-clause-value : goal.returns-in-144-clause-value
+unfolding text_calls
+returns-in-144-clause-value g c = rw c.in-144.is
+    (never_wants c.get_char.result c.args.world.now c.get_char.new.world (get_char c.args.world.now.scene c.args.state.now.flat 1 c.args.args.now)
+    c.get_char.ensures.value)
+
+pub returns-in-160-clause-value : goal.returns-in-160-clause-value
+unfolding text_calls
+returns-in-160-clause-value g c = rw c.in-160.is
+    (never_wants c.char_to_case.result c.args.world.now c.char_to_case.new.world (char_to_case c.args.world.now.scene case.Lower c.args.args.now)
+    c.char_to_case.ensures.value)
+
+pub returns-in-161-clause-value : goal.returns-in-161-clause-value
+unfolding text_calls
+returns-in-161-clause-value g c = rw c.in-161.is
+    (never_wants c.char_to_case-in-161.result c.args.world.now c.char_to_case-in-161.new.world (char_to_case c.args.world.now.scene case.Upper c.args.args.now)
+    c.char_to_case-in-161.ensures.value)

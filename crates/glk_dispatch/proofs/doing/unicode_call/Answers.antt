@@ -1,53 +1,56 @@
--- What fits any state or any room fits those of the call.
+-- What fits any state or any room fits those of the call, and what never wants memory wants none.
+use Rattle.glk_text_calls.specs.Input.{get_char}
+use Rattle.glk_dispatch.specs.TextCalls.{unicode_calls}
+use Rattle.glk_dispatch.proofs.Turning.{never_wants}
 use Rattle.glk_dispatch.proofs.doing.unicode_call.Goals as goal
 
-pub returns-in_ok-buffer_to_case-in-288-clause-fits : goal.returns-in_ok-buffer_to_case-in-288-clause-fits
-returns-in_ok-buffer_to_case-in-288-clause-fits g c = c.in_ok-buffer_to_case-in-288.ensures.fits c.args.room
+pub returns-in-288-clause-fits : goal.returns-in-288-clause-fits
+returns-in-288-clause-fits g c = c.buffer_to_case.ensures.fits c.args.room
 
-pub returns-in_ok-buffer_to_case-in-289-clause-fits : goal.returns-in_ok-buffer_to_case-in-289-clause-fits
-returns-in_ok-buffer_to_case-in-289-clause-fits g c = c.in_ok-buffer_to_case-in-289.ensures.fits c.args.room
+pub returns-in-289-clause-fits : goal.returns-in-289-clause-fits
+returns-in-289-clause-fits g c = c.buffer_to_case-in-289.ensures.fits c.args.room
 
-pub returns-in_ok-buffer_to_case-in-290-clause-fits : goal.returns-in_ok-buffer_to_case-in-290-clause-fits
-returns-in_ok-buffer_to_case-in-290-clause-fits g c = c.in_ok-buffer_to_case-in-290.ensures.fits c.args.room
+pub returns-in-290-clause-fits : goal.returns-in-290-clause-fits
+returns-in-290-clause-fits g c = c.buffer_to_case-in-290.ensures.fits c.args.room
 
-pub returns-in_ok-put_char-in-296-clause-fits : goal.returns-in_ok-put_char-in-296-clause-fits
-returns-in_ok-put_char-in-296-clause-fits g c = c.in_ok-put_char-in-296.ensures.fits c.args.room
+pub returns-in-296-clause-fits : goal.returns-in-296-clause-fits
+returns-in-296-clause-fits g c = c.put_char.ensures.fits c.args.room
 
-pub returns-in_ok-put_string-in-297-clause-fits : goal.returns-in_ok-put_string-in-297-clause-fits
-returns-in_ok-put_string-in-297-clause-fits g c = c.in_ok-put_string-in-297.ensures.fits c.args.room
+pub returns-in-297-clause-fits : goal.returns-in-297-clause-fits
+returns-in-297-clause-fits g c = c.put_string.ensures.fits c.args.room
 
-pub returns-in_ok-put_buffer-in-298-clause-fits : goal.returns-in_ok-put_buffer-in-298-clause-fits
-returns-in_ok-put_buffer-in-298-clause-fits g c = c.in_ok-put_buffer-in-298.ensures.fits c.args.room
+pub returns-in-298-clause-fits : goal.returns-in-298-clause-fits
+returns-in-298-clause-fits g c = c.put_buffer.ensures.fits c.args.room
 
-pub returns-in_ok-put_char-in-299-clause-fits : goal.returns-in_ok-put_char-in-299-clause-fits
-returns-in_ok-put_char-in-299-clause-fits g c = c.in_ok-put_char-in-299.ensures.fits c.args.room
+pub returns-in-299-clause-fits : goal.returns-in-299-clause-fits
+returns-in-299-clause-fits g c = c.put_char-in-299.ensures.fits c.args.room
 
-pub returns-in_ok-put_string-in-300-clause-fits : goal.returns-in_ok-put_string-in-300-clause-fits
-returns-in_ok-put_string-in-300-clause-fits g c = c.in_ok-put_string-in-300.ensures.fits c.args.room
+pub returns-in-300-clause-fits : goal.returns-in-300-clause-fits
+returns-in-300-clause-fits g c = c.put_string-in-300.ensures.fits c.args.room
 
-pub returns-in_ok-put_buffer-in-301-clause-fits : goal.returns-in_ok-put_buffer-in-301-clause-fits
-returns-in_ok-put_buffer-in-301-clause-fits g c = c.in_ok-put_buffer-in-301.ensures.fits c.args.room
+pub returns-in-301-clause-fits : goal.returns-in-301-clause-fits
+returns-in-301-clause-fits g c = c.put_buffer-in-301.ensures.fits c.args.room
 
-pub returns-in_ok-get_char-in-304-clause-fits : goal.returns-in_ok-get_char-in-304-clause-fits
-returns-in_ok-get_char-in-304-clause-fits g c = c.in_ok-get_char-in-304.ensures.fits c.args.room
+pub returns-in-304-clause-fits : goal.returns-in-304-clause-fits
+returns-in-304-clause-fits g c = c.get_char.ensures.fits c.args.room
 
-pub returns-in_ok-get_buffer-in-305-clause-fits : goal.returns-in_ok-get_buffer-in-305-clause-fits
-returns-in_ok-get_buffer-in-305-clause-fits g c = c.in_ok-get_buffer-in-305.ensures.fits c.args.room
+pub returns-in-305-clause-fits : goal.returns-in-305-clause-fits
+returns-in-305-clause-fits g c = c.get_buffer.ensures.fits c.args.room
 
-pub returns-in_ok-get_line-in-306-clause-fits : goal.returns-in_ok-get_line-in-306-clause-fits
-returns-in_ok-get_line-in-306-clause-fits g c = c.in_ok-get_line-in-306.ensures.fits c.args.room
+pub returns-in-306-clause-fits : goal.returns-in-306-clause-fits
+returns-in-306-clause-fits g c = c.get_line.ensures.fits c.args.room
 
-pub returns-in_ok-stream_open_memory-in-313-clause-fits : goal.returns-in_ok-stream_open_memory-in-313-clause-fits
-returns-in_ok-stream_open_memory-in-313-clause-fits g c =
-    c.in_ok-stream_open_memory-in-313.ensures.fits c.args.state.now.flat c.args.room
+pub returns-in-313-clause-fits : goal.returns-in-313-clause-fits
+returns-in-313-clause-fits g c = c.stream_open_memory.ensures.fits c.args.state.now.flat c.args.room
 
-pub returns-in_ok-request_char_event-in-320-clause-fits : goal.returns-in_ok-request_char_event-in-320-clause-fits
-returns-in_ok-request_char_event-in-320-clause-fits g c =
-    c.in_ok-request_char_event-in-320.ensures.fits c.args.state.now.flat c.args.room
+pub returns-in-320-clause-fits : goal.returns-in-320-clause-fits
+returns-in-320-clause-fits g c = c.request_char_event.ensures.fits c.args.state.now.flat c.args.room
 
-pub returns-in_ok-request_line_event-in-321-clause-fits : goal.returns-in_ok-request_line_event-in-321-clause-fits
-returns-in_ok-request_line_event-in-321-clause-fits g c =
-    c.in_ok-request_line_event-in-321.ensures.fits c.args.state.now.flat c.args.room
+pub returns-in-321-clause-fits : goal.returns-in-321-clause-fits
+returns-in-321-clause-fits g c = c.request_line_event.ensures.fits c.args.state.now.flat c.args.room
 
-pub returns-in-312-clause-fits : goal.returns-in-312-clause-fits
-returns-in-312-clause-fits g c = c.stream_open_file.ensures.fits c.args.state.now.flat c.args.room
+pub returns-in-304-clause-value : goal.returns-in-304-clause-value
+unfolding unicode_calls
+returns-in-304-clause-value g c = rw c.in-304.is
+    (never_wants c.get_char.result c.args.world.now c.get_char.new.world (get_char c.args.world.now.scene c.args.state.now.flat 4 c.args.args.now)
+    c.get_char.ensures.value)

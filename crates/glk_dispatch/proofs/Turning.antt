@@ -1,0 +1,85 @@
+-- The rows that take a turn, and an answer as a turn.
+use Rattle.std.proofs.Common.{◌≡◌, ◌==◌, ◌&&◌, not, ℕ, true, false, IsTrue, Some, is_some, Result, Ok, Err, refl, subst}
+use Rattle.gx_words.specs.declared.faults.Fault.{Fault}
+use Rattle.gx_state.specs.declared.effects.Reply.{Reply}
+use Rattle.glk_world.specs.World.{FlatWorld, MakesCall, Outcome, after, on_world, is_composed, arg}
+use Rattle.glk_replies.specs.Numbers as selectors
+use Rattle.glk_replies.specs.TextNumbers as texts
+use Rattle.glk_replies.specs.declared.Turn.{Turn}
+use Rattle.glk_replies.specs.declared.Turn.TheVariants.{Answer}
+use Rattle.glk_object_calls.specs.Streams.{stream_close, stored}
+use Rattle.glk_object_calls.specs.References.{fileref_create_by_prompt, fileref_delete_file, fileref_does_file_exist}
+use Rattle.glk_event_calls.specs.Events.{select}
+use Rattle.glk_dispatch.specs.declared.table.Class.TheVariants.{Stream, Reference}
+use Rattle.glk_dispatch.specs.Calls.{as_turn}
+use Rattle.glk_dispatch.specs.Rows.{row_with, on, giving, taking_turn, wants, is_given, opens_file, turns}
+use Rattle.glk_dispatch.specs.ObjectCalls.{exits, window_calls, stream_calls}
+use Rattle.glk_dispatch.specs.TextCalls.{text_calls, event_calls, unicode_calls}
+use Rattle.glk_dispatch.specs.Table.{row_for}
+
+-- ---- the rows
+
+pub exit_row : row_for selectors.exit ≡ Some (row_with selectors.exit 0 (taking_turn exits))
+unfolding row_for window_calls
+exit_row = refl
+
+pub open_row : row_for selectors.stream_open_file ≡ Some (opens_file selectors.stream_open_file)
+unfolding row_for window_calls stream_calls
+open_row = refl
+
+pub close_row : row_for selectors.stream_close
+    ≡ Some (wants (λ w f args. is_given 1 w f args && not (is_some (stored w (arg args 0))))
+    (giving 1 2 (on Stream (row_with selectors.stream_close 2 (turns stream_close)))))
+unfolding row_for window_calls stream_calls
+close_row = refl
+
+pub prompt_row : row_for selectors.fileref_create_by_prompt
+    ≡ Some (wants (λ w f args. not (is_composed w))
+    (row_with selectors.fileref_create_by_prompt 3 (taking_turn fileref_create_by_prompt)))
+unfolding row_for window_calls stream_calls
+prompt_row = refl
+
+pub delete_row : row_for selectors.fileref_delete_file ≡ Some (wants (λ w f args. true)
+    (on Reference (row_with selectors.fileref_delete_file 1 (taking_turn fileref_delete_file))))
+unfolding row_for window_calls stream_calls
+delete_row = refl
+
+pub exist_row : row_for selectors.fileref_does_file_exist ≡ Some (wants (λ w f args. true)
+    (on Reference (row_with selectors.fileref_does_file_exist 1 (taking_turn fileref_does_file_exist))))
+unfolding row_for window_calls stream_calls
+exist_row = refl
+
+pub select_row : row_for texts.select ≡ Some (row_with texts.select 1 (turns select))
+unfolding row_for window_calls stream_calls text_calls event_calls
+select_row = refl
+
+pub open_uni_row : row_for selectors.stream_open_file_uni ≡ Some (opens_file selectors.stream_open_file_uni)
+unfolding row_for window_calls stream_calls text_calls event_calls unicode_calls
+open_uni_row = refl
+
+-- ---- an answer as a turn
+
+abbrev turned : Result Reply Fault → Result Turn Fault
+turned (Ok reply) = Ok (Answer reply)
+turned (Err e) = Err e
+
+pub makes_turn : (grows : Type 0) (result : Result Reply Fault) (old new : FlatWorld) (outcome : Outcome Reply)
+    → MakesCall grows result old new outcome → MakesCall grows (turned result) old new (as_turn outcome)
+makes_turn grows (Ok reply) old new (Ok r) is =
+    let e : (after old r.0, r.1) ≡ (new, reply) = (cc) in
+    subst (λ (x : FlatWorld × Reply). on_world old (as_turn (Ok r)) ≡ Ok (x.0, Answer x.1)) e refl
+makes_turn grows (Ok reply) old new (Err e) is = absurd (cc)
+makes_turn grows (Err e) old new (Ok r) is = (is.0, ((λ other. absurd (let h = is.1.0 other in cc)), is.1.1))
+makes_turn grows (Err e) old new (Err other) is = (is.0, ((λ it. let h = is.1.0 it in cc), is.1.1))
+
+-- ---- what a call wants, by its row
+
+pub never_wants : {X : Type 0} (result : Result X Fault) (old new : FlatWorld) (outcome : Outcome X)
+    → MakesCall ⊥ result old new outcome → MakesCall (IsTrue false) result old new outcome
+never_wants (Ok x) old new outcome is = is
+never_wants (Err e) old new outcome is = (is.0, (is.1.0, (λ free. absurd (is.1.1 free).0)))
+
+pub may_want : {X : Type 0} (result : Result X Fault) (old new : FlatWorld) (outcome : Outcome X)
+    → MakesCall (Unit {0}) result old new outcome → MakesCall (IsTrue true) result old new outcome
+may_want (Ok x) old new outcome is = is
+may_want (Err e) old new outcome is = (is.0, (is.1.0, (λ free. (refl, (is.1.1 free).1))))
