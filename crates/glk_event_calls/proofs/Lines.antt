@@ -1,9 +1,12 @@
 -- What a line gives: how many characters, and where they are written.
 use Rattle.std.proofs.Common.{◌≡◌, ◌≤◌, ◌+◌, ◌++◌, ◌&&◌, ℕ, Bool, true, false, if◌then◌else◌, List, [], ◌∷◌}
-use Rattle.std.proofs.Common.{length, take, map, refl, inl, inr, arith, Ok}
+use Rattle.std.proofs.Common.{length, take, map, refl, inl, inr, arith, Result, Ok, Err}
+use Rattle.std.proofs.lemmas.Bool.Decides.{nat_tests}
 use Rattle.std.proofs.lemmas.Grind.{common_steps}
 use Rattle.std.proofs.lemmas.List.{length-append, append-nil}
 use Rattle.gx_words.specs.Constants.{line_feed}
+use Rattle.gx_words.specs.Results.{◌>>=◌}
+use Rattle.gx_words.specs.declared.faults.Fault.{Fault}
 use Rattle.gx_state.specs.Flat.{FlatState}
 use Rattle.gx_state.specs.Replies.{IsReply}
 use Rattle.glk_events.specs.declared.requests.Request.{Request}
@@ -15,10 +18,10 @@ use Rattle.glk_streams.specs.Stream as one
 use Rattle.glk_streams.specs.Streams as streams
 use Rattle.glk_world.specs.World.{Scene}
 use Rattle.glk_world.specs.Putting.{places_of, chain_end}
-use Rattle.glk_replies.specs.Parts.{IsCharWidth, pushes_for, char_writes, writes_for, can_lay, can_give}
+use Rattle.glk_replies.specs.Parts.{IsCharWidth, pushes_for, char_writes, writes_for, can_lay, can_give, can_push}
 use Rattle.glk_replies.proofs.Ram.{between_append, laid_in_ram, written_in_ram}
 use Rattle.glk_event_calls.specs.Events.{in_buffer, echo_for, echoes, echoed, event_of, line_places, echo_places}
-use Rattle.glk_event_calls.specs.Events.{line_reply}
+use Rattle.glk_event_calls.specs.Events.{line_reply, looked_at_line}
 
 -- ---- how many characters are put to the echo stream
 
@@ -74,18 +77,40 @@ echo_width w r line =
 event_length : (r : Request) (line : List ℕ) → length (event_of r line) ≡ 4
 event_length r line = grind (arith, common_steps)
 
+line_few : (r : Request) (line : List ℕ) → (line_places r line).count ≤ length line
+line_few r line = elim r.line as (λ b. (if b then line_length r line else 0) ≤ length line) [
+  | true ↦ omega arith
+  | false ↦ omega arith
+]
+
+-- each look was good
+both : (first second : Result (Unit {0}) Fault) → (first >>= λ _. second) ≡ Ok tt → (first ≡ Ok tt) × (second ≡ Ok tt)
+both (Ok _) second is = (refl, is)
+both (Err e) second is = absurd (cc)
+
+pushes_fit : (room pushes : ℕ) → can_push room pushes ≡ Ok tt → pushes ≤ room
+unfolding can_push
+pushes_fit room pushes is = grind (arith, common_steps, nat_tests)
+
 pub reply_fits : (f : FlatState) (room : ℕ) (w : Scene) (at : ℕ) (r : Request) (line : List ℕ)
-    → (line_places r line).count ≤ length line → (echo_places w r line).count ≤ length (echoed w r line)
-    → can_lay f (line_places r line) ≡ Ok tt → can_give f at 4 ≡ Ok tt → length (pushes_for at (event_of r line)) ≤ room
-    → can_lay f (echo_places w r line) ≡ Ok tt → IsReply f room (line_reply w at r line)
-reply_fits f room w at r line few less buffer there fits echo = record {
-  writes = between_append _ _ (char_writes (line_places r line) line ++ writes_for at (event_of r line))
-      (char_writes (echo_places w r line) (echoed w r line))
-      (between_append _ _ (char_writes (line_places r line) line) (writes_for at (event_of r line))
-      (laid_in_ram f (line_places r line) line (line_width r line) few buffer)
-      (written_in_ram f at (event_of r line) (rw (event_length r line) there)))
-      (laid_in_ram f (echo_places w r line) (echoed w r line) (echo_width w r line) less echo);
-  pushes = fits;
-}
+    → (echo_places w r line).count ≤ length (echoed w r line) → looked_at_line w f room at r line ≡ Ok tt
+    → IsReply f room (line_reply w at r line)
+unfolding looked_at_line
+reply_fits f room w at r line less looked =
+    let there : Result (Unit {0}) Fault = can_give f at 4 in
+    let fits : Result (Unit {0}) Fault = can_push room (length (pushes_for at (event_of r line))) in
+    let echo : Result (Unit {0}) Fault = can_lay f (echo_places w r line) in
+    let buffered = both (can_lay f (line_places r line)) (there >>= λ _. fits >>= λ _. echo) looked in
+    let given = both there (fits >>= λ _. echo) buffered.1 in
+    let pushed = both fits echo given.1 in
+    record {
+      writes = between_append _ _ (char_writes (line_places r line) line ++ writes_for at (event_of r line))
+          (char_writes (echo_places w r line) (echoed w r line))
+          (between_append _ _ (char_writes (line_places r line) line) (writes_for at (event_of r line))
+          (laid_in_ram f (line_places r line) line (line_width r line) (line_few r line) buffered.0)
+          (written_in_ram f at (event_of r line) (rw (event_length r line) given.0)))
+          (laid_in_ram f (echo_places w r line) (echoed w r line) (echo_width w r line) less pushed.1);
+      pushes = pushes_fit room (length (pushes_for at (event_of r line))) pushed.0;
+    }
 
 pub ruleset reply_rules = (reply_fits, append-nil)

@@ -7,7 +7,7 @@ ghost use Rattle.gx_words.specs.Faults.{Reads};
 ghost use Rattle.gx_state.specs.Flat.{FlatState};
 ghost use Rattle.gx_state.specs.Replies.{IsReply};
 ghost use Rattle.glk_replies.specs.Turns.{IsTurnFor};
-ghost use Rattle.glk_replies.specs.Parts.{IsCharWidth, can_lay, can_give, pushes_for};
+ghost use Rattle.glk_replies.specs.Parts.{IsCharWidth};
 ghost use Rattle.glk_world.specs.World.{arg, MakesCall};
 ghost use Rattle.glk_event_calls.specs.Events.{event, may_ask, requested, request_line_event, request_char_event};
 ghost use Rattle.glk_event_calls.specs.Events.{asks_line, asks_char, cancel_char_event, cancel_line_event, select_poll};
@@ -220,7 +220,7 @@ fn event_of(request: &Request, line: &[u32]) -> [u32; 4]
 /// The places of the characters that a line gives to a request.
 fn line_places(request: &Request, line: &[u32]) -> Places
     ensures value { result ≡ line_places request.now line.now }
-    ensures at { result.at < 2 ^ 40 }
+    ensures at { result.at < 2 ^ 32 }
     ensures width { IsCharWidth result.width }
     ensures count { result.count ≤ length line.now }
 {
@@ -267,7 +267,7 @@ fn echo_places(world: &World, request: &Request, line: &[u32], given: Places) ->
 }
 
 /// Looks at all that a line would write for a request; answers the places of the echo stream.
-#[tactic(auto, using(crate::proofs::Lines::line_rules), unfolding(crate::proofs::Opened::looking_at_line))]
+#[tactic(auto, unfolding(crate::proofs::Opened::looking_at_line))]
 fn looked_at_line<A: Allocator + Clone>(
     world: &World,
     state: &State<A>,
@@ -279,14 +279,7 @@ fn looked_at_line<A: Allocator + Clone>(
     ensures value { Reads (λ _. tt) result
         (looked_at_line world.now.scene state.now.flat room at request.now line.now) }
     ensures places { IfOk result (λ places. places ≡ echo_places world.now.scene request.now line.now) }
-    ensures buffer { OnOk result (can_lay state.now.flat (line_places request.now line.now) ≡ Ok tt) }
-    ensures there { OnOk result (can_give state.now.flat at 4 ≡ Ok tt) }
-    ensures fits { OnOk result (length (pushes_for at (event_of request.now line.now)) ≤ room) }
-    ensures echo { OnOk result (can_lay state.now.flat (echo_places world.now.scene request.now line.now) ≡ Ok tt) }
-    ensures low { OnOk result
-        (0 < (line_places request.now line.now).count → (line_places request.now line.now).at < 2 ^ 32) }
     ensures low_echo { IfOk result (λ places. 0 < places.count → places.at < 2 ^ 32) }
-    ensures few { (line_places request.now line.now).count ≤ length line.now }
     ensures few_echo { OnOk result ((echo_places world.now.scene request.now line.now).count ≤ length
         (echoed world.now.scene request.now line.now)) }
 {
@@ -341,7 +334,6 @@ fn line_reply(
     places: Places,
     chars: &[u32],
 ) -> Result<Reply, AllocError>
-    requires buffer { 0 < (line_places request.now line.now).count → (line_places request.now line.now).at < 2 ^ 32 }
     requires echo { 0 < places.count → places.at < 2 ^ 32 }
     requires places { places ≡ echo_places world.now.scene request.now line.now }
     requires chars { chars.now ≡ echoed world.now.scene request.now line.now }
