@@ -15,7 +15,10 @@ use Rattle.glk_dispatch.specs.ObjectCalls.{window_calls, stream_calls}
 use Rattle.glk_dispatch.specs.TextCalls.{text_calls, event_calls, unicode_calls}
 use Rattle.glk_dispatch.specs.Table.{call_table, row_in, row_for}
 use Rattle.glk_dispatch.specs.Calls.{as_turn, done}
-use Rattle.glk_dispatch.specs.Ready.{takes_turn, answers_at_once, answering, answer_of, answer_by, done_by}
+use Rattle.glk_dispatch.specs.Ready.{takes_turn, answers_at_once, answering, answering_below, answering_from}
+use Rattle.glk_dispatch.specs.Ready.{answer_of, answer_by, done_by, arranging_row, window_row, stream_row}
+use Rattle.glk_dispatch.specs.Ready.{reference_row, output_row, input_row, event_row, unicode_output_row}
+use Rattle.glk_dispatch.specs.Ready.{unicode_input_row}
 
 -- rows of other selectors
 abbrev others : ℕ → List Row → Type 0
@@ -109,20 +112,43 @@ not_the_turn a b turn none = elim (true_or_false (a == b)) [
   | inr other ↦ other
 ]
 
-at_once_row : (at_once : Bool) (number : ℕ) (row : Row) (rest more : List Row)
-    → (at_once || takes_turn row.looks.number) ≡ true → takes_turn number ≡ false
-    → row_in rest number ≡ row_in more number
-    → row_in (row ∷ rest) number ≡ row_in (if at_once then row ∷ more else more) number
-at_once_row true number row rest more known none same =
-    ap (λ (r : Option Row). if row.looks.number == number then Some row else r) same
-at_once_row false number row rest more known none same = rw (not_the_turn row.looks.number number known none) same
+-- a row that is left out has another number
+left_out : (within : ℕ → Bool) (number : ℕ) (row : Row) → is_known row ≡ true → takes_turn number ≡ false
+    → within number ≡ true → (within row.looks.number && answers_at_once row.does) ≡ false
+    → (row.looks.number == number) ≡ false
+left_out within number row known none inside out = elim (true_or_false (row.looks.number == number)) [
+  | inl is ↦
+      let same : row.looks.number ≡ number = grind (arith, nat_tests, is) in
+      let here : within row.looks.number ≡ true = ap within same ∙ inside in
+      let turns : answers_at_once row.does ≡ false = rw here at out in
+      not_the_turn row.looks.number number (rw turns at known) none
+  | inr other ↦ other
+]
 
-at_once : (number : ℕ) (rows : List Row) → list_all is_known rows ≡ true → takes_turn number ≡ false
-    → row_in rows number ≡ row_in (answering rows) number
-at_once number [] all none = refl
-at_once number (row ∷ rows) all none =
+at_once_row : (stays : Bool) (number : ℕ) (row : Row) (rest more : List Row)
+    → (stays ≡ false → (row.looks.number == number) ≡ false) → row_in rest number ≡ row_in more number
+    → row_in (row ∷ rest) number ≡ row_in (if stays then row ∷ more else more) number
+at_once_row true number row rest more other same =
+    ap (λ (r : Option Row). if row.looks.number == number then Some row else r) same
+at_once_row false number row rest more other same = rw (other refl) same
+
+at_once : (within : ℕ → Bool) (number : ℕ) (rows : List Row) → list_all is_known rows ≡ true
+    → takes_turn number ≡ false → within number ≡ true → row_in rows number ≡ row_in (answering within rows) number
+at_once within number [] all none inside = refl
+at_once within number (row ∷ rows) all none inside =
     let b = both (is_known row) (list_all is_known rows) all in
-    at_once_row (answers_at_once row.does) number row rows (answering rows) b.0 none (at_once number rows b.1 none)
+    at_once_row (within row.looks.number && answers_at_once row.does) number row rows (answering within rows)
+    (left_out within number row b.0 none inside) (at_once within number rows b.1 none inside)
+
+once_below : (bound number : ℕ) (rows : List Row) → list_all is_known rows ≡ true → takes_turn number ≡ false
+    → number < bound → row_in rows number ≡ row_in (answering_below bound rows) number
+once_below bound number rows all none until =
+    at_once (λ n. nat_lt n bound) number rows all none (grind (arith, nat_tests, until))
+
+once_from : (bound number : ℕ) (rows : List Row) → list_all is_known rows ≡ true → takes_turn number ≡ false
+    → bound ≤ number → row_in rows number ≡ row_in (answering_from bound rows) number
+once_from bound number rows all none reached =
+    at_once (λ n. nat_le bound n) number rows all none (grind (arith, nat_tests, reached))
 
 row_answers : (does : Doing) (at number : ℕ) (w : Scene) (f : FlatState) (room : ℕ) (args : List ℕ)
     → (answers_at_once does || takes_turn at) ≡ true → (at == number) ≡ true → takes_turn number ≡ false
@@ -147,47 +173,110 @@ pub call_answers : (number : ℕ) (w : Scene) (f : FlatState) (room : ℕ) (args
 unfolding row_for window_calls stream_calls text_calls event_calls unicode_calls
 call_answers number w f room args none = rows_answer number call_table w f room args refl none
 
-pub of_windows : (number : ℕ) → takes_turn number ≡ false → number < selectors.stream_iterate
-    → row_for number ≡ row_in (answering window_calls) number
-unfolding row_for window_calls stream_calls text_calls event_calls unicode_calls
-of_windows number none until =
+-- ---- by the lists
+
+of_windows : (number : ℕ) → number < selectors.stream_iterate → row_for number ≡ row_in window_calls number
+unfolding row_for stream_calls text_calls event_calls unicode_calls
+of_windows number until =
     before number window_calls behind_windows
     (above_are_others number selectors.stream_iterate behind_windows refl until)
-    ∙ at_once number window_calls refl none
 
-pub of_streams : (number : ℕ) → takes_turn number ≡ false → selectors.stream_iterate ≤ number
-    → number < texts.put_char → row_for number ≡ row_in (answering stream_calls) number
-unfolding stream_calls text_calls event_calls unicode_calls
-of_streams number none reached until =
-    not_windows number reached
-    ∙ (before number stream_calls behind_streams
-    (above_are_others number texts.put_char behind_streams refl until)
-    ∙ at_once number stream_calls refl none)
-
-pub of_texts : (number : ℕ) → takes_turn number ≡ false → texts.put_char ≤ number → number < texts.select
-    → row_for number ≡ row_in (answering text_calls) number
+of_streams : (number : ℕ) → selectors.stream_iterate ≤ number → number < texts.put_char
+    → row_for number ≡ row_in stream_calls number
 unfolding text_calls event_calls unicode_calls
-of_texts number none reached until =
+of_streams number reached until =
+    not_windows number reached
+    ∙ before number stream_calls behind_streams
+    (above_are_others number texts.put_char behind_streams refl until)
+
+of_texts : (number : ℕ) → texts.put_char ≤ number → number < texts.select
+    → row_for number ≡ row_in text_calls number
+unfolding event_calls unicode_calls
+of_texts number reached until =
     not_streams number reached
-    ∙ (before number text_calls behind_texts (above_are_others number texts.select behind_texts refl until)
-    ∙ at_once number text_calls refl none)
+    ∙ before number text_calls behind_texts (above_are_others number texts.select behind_texts refl until)
 
-pub of_events : (number : ℕ) → takes_turn number ≡ false → texts.select ≤ number
-    → number < texts.buffer_to_lower_case_uni → row_for number ≡ row_in (answering event_calls) number
-unfolding event_calls unicode_calls
-of_events number none reached until =
+of_events : (number : ℕ) → texts.select ≤ number → number < texts.buffer_to_lower_case_uni
+    → row_for number ≡ row_in event_calls number
+unfolding unicode_calls
+of_events number reached until =
     not_texts number reached
-    ∙ (before number event_calls unicode_calls
+    ∙ before number event_calls unicode_calls
     (above_are_others number texts.buffer_to_lower_case_uni unicode_calls refl until)
-    ∙ at_once number event_calls refl none)
 
-pub of_unicode : (number : ℕ) → takes_turn number ≡ false → texts.buffer_to_lower_case_uni ≤ number
-    → row_for number ≡ row_in (answering unicode_calls) number
-unfolding event_calls unicode_calls
-of_unicode number none reached =
+of_unicode : (number : ℕ) → texts.buffer_to_lower_case_uni ≤ number → row_for number ≡ row_in unicode_calls number
+unfolding event_calls
+of_unicode number reached =
     not_texts number (omega arith)
-    ∙ (behind number event_calls unicode_calls
+    ∙ behind number event_calls unicode_calls
     (below_are_others number texts.buffer_to_lower_case_uni event_calls refl reached)
-    ∙ at_once number unicode_calls refl none)
 
-pub ruleset lists = (of_windows, of_streams, of_texts, of_events, of_unicode)
+-- ---- by the functions that do them
+
+pub of_arranging : (number : ℕ) → takes_turn number ≡ false → number < selectors.window_get_type
+    → row_for number ≡ arranging_row number
+unfolding window_calls
+of_arranging number none until =
+    of_windows number (omega arith) ∙ once_below selectors.window_get_type number window_calls refl none until
+
+pub of_window : (number : ℕ) → takes_turn number ≡ false → selectors.window_get_type ≤ number
+    → number < selectors.stream_iterate → row_for number ≡ window_row number
+unfolding window_calls
+of_window number none reached until =
+    of_windows number until ∙ once_from selectors.window_get_type number window_calls refl none reached
+
+pub of_stream : (number : ℕ) → takes_turn number ≡ false → selectors.stream_iterate ≤ number
+    → number < selectors.fileref_create_temp → row_for number ≡ stream_row number
+unfolding stream_calls
+of_stream number none reached until =
+    of_streams number reached (omega arith)
+    ∙ once_below selectors.fileref_create_temp number stream_calls refl none until
+
+pub of_reference : (number : ℕ) → takes_turn number ≡ false → selectors.fileref_create_temp ≤ number
+    → number < texts.put_char → row_for number ≡ reference_row number
+unfolding stream_calls
+of_reference number none reached until =
+    of_streams number (omega arith) until
+    ∙ once_from selectors.fileref_create_temp number stream_calls refl none reached
+
+pub of_output : (number : ℕ) → takes_turn number ≡ false → texts.put_char ≤ number → number < texts.get_char_stream
+    → row_for number ≡ output_row number
+unfolding text_calls
+of_output number none reached until =
+    of_texts number reached (omega arith) ∙ once_below texts.get_char_stream number text_calls refl none until
+
+pub of_input : (number : ℕ) → takes_turn number ≡ false → texts.get_char_stream ≤ number → number < texts.select
+    → row_for number ≡ input_row number
+unfolding text_calls
+of_input number none reached until =
+    of_texts number (omega arith) until ∙ once_from texts.get_char_stream number text_calls refl none reached
+
+pub of_event : (number : ℕ) → takes_turn number ≡ false → texts.select ≤ number
+    → number < texts.buffer_to_lower_case_uni → row_for number ≡ event_row number
+unfolding event_calls
+of_event number none reached until =
+    of_events number reached until ∙ once_from texts.select number event_calls refl none reached
+
+pub of_unicode_output : (number : ℕ) → takes_turn number ≡ false → texts.buffer_to_lower_case_uni ≤ number
+    → number < texts.get_char_stream_uni → row_for number ≡ unicode_output_row number
+unfolding unicode_calls
+of_unicode_output number none reached until =
+    of_unicode number reached ∙ once_below texts.get_char_stream_uni number unicode_calls refl none until
+
+pub of_unicode_input : (number : ℕ) → takes_turn number ≡ false → texts.get_char_stream_uni ≤ number
+    → row_for number ≡ unicode_input_row number
+unfolding unicode_calls
+of_unicode_input number none reached =
+    of_unicode number (omega arith) ∙ once_from texts.get_char_stream_uni number unicode_calls refl none reached
+
+pub ruleset lists = (
+  of_arranging,
+  of_window,
+  of_stream,
+  of_reference,
+  of_output,
+  of_input,
+  of_event,
+  of_unicode_output,
+  of_unicode_input,
+)

@@ -1,6 +1,6 @@
 -- What the calls of a row rest on, once its arguments were looked at.
-use Rattle.std.specs.Prelude.{◌≡◌, ◌⊎◌, ℕ, ◌==◌, ◌||◌, if◌then◌else◌, Bool, true, false, List, [], ◌∷◌, Option}
-use Rattle.std.specs.Prelude.{Some, None, Ok, Err}
+use Rattle.std.specs.Prelude.{◌≡◌, ◌⊎◌, ℕ, ◌==◌, ◌||◌, ◌&&◌, nat_le, nat_lt, if◌then◌else◌, Bool, true, false}
+use Rattle.std.specs.Prelude.{List, [], ◌∷◌, Option, Some, None, Ok, Err}
 use Rattle.gx_words.specs.declared.faults.Fault.TheVariants.{BadGlk}
 use Rattle.gx_words.specs.Results.{◌>>=◌}
 use Rattle.gx_state.specs.Flat.{FlatState}
@@ -13,6 +13,9 @@ use Rattle.glk_replies.specs.declared.Turn.TheVariants.{Answer}
 use Rattle.glk_dispatch.specs.declared.table.Class.{Class}
 use Rattle.glk_dispatch.specs.declared.table.Selector.{Selector}
 use Rattle.glk_dispatch.specs.Rows.{Doing, answers, turns, Row}
+use Rattle.glk_dispatch.specs.ObjectCalls.{window_calls, stream_calls}
+use Rattle.glk_dispatch.specs.TextCalls.{text_calls, event_calls, unicode_calls}
+use Rattle.glk_dispatch.specs.Table.{row_in}
 use Rattle.glk_dispatch.specs.Calls.{has_object, looked_at, is_on_none, nothing, as_turn, done, dropping, gives_nothing}
 
 abbrev pub IsObject : Scene → Class → ℕ → Type 0
@@ -58,10 +61,46 @@ abbrev pub answers_at_once : Doing → Bool
 answers_at_once (answers call) = true
 answers_at_once (turns call) = false
 
--- the rows of a list that answer at once
-abbrev pub answering : List Row → List Row
-answering [] = []
-answering (row ∷ rows) = if answers_at_once row.does then row ∷ answering rows else answering rows
+-- the rows of a list that answer at once, of some selectors
+abbrev pub answering : (ℕ → Bool) → List Row → List Row
+answering within [] = []
+answering within (row ∷ rows) =
+    if within row.looks.number && answers_at_once row.does then row ∷ answering within rows else answering within rows
+
+-- below a selector, and from it on
+abbrev pub answering_below : ℕ → List Row → List Row
+answering_below bound rows = answering (λ number. nat_lt number bound) rows
+
+abbrev pub answering_from : ℕ → List Row → List Row
+answering_from bound rows = answering (λ number. nat_le bound number) rows
+
+-- those of a selector, in the groups in which the code does them
+abbrev pub arranging_row : ℕ → Option Row
+arranging_row selector = row_in (answering_below selectors.window_get_type window_calls) selector
+
+abbrev pub window_row : ℕ → Option Row
+window_row selector = row_in (answering_from selectors.window_get_type window_calls) selector
+
+abbrev pub stream_row : ℕ → Option Row
+stream_row selector = row_in (answering_below selectors.fileref_create_temp stream_calls) selector
+
+abbrev pub reference_row : ℕ → Option Row
+reference_row selector = row_in (answering_from selectors.fileref_create_temp stream_calls) selector
+
+abbrev pub output_row : ℕ → Option Row
+output_row selector = row_in (answering_below texts.get_char_stream text_calls) selector
+
+abbrev pub input_row : ℕ → Option Row
+input_row selector = row_in (answering_from texts.get_char_stream text_calls) selector
+
+abbrev pub event_row : ℕ → Option Row
+event_row selector = row_in (answering_from texts.select event_calls) selector
+
+abbrev pub unicode_output_row : ℕ → Option Row
+unicode_output_row selector = row_in (answering_below texts.get_char_stream_uni unicode_calls) selector
+
+abbrev pub unicode_input_row : ℕ → Option Row
+unicode_input_row selector = row_in (answering_from texts.get_char_stream_uni unicode_calls) selector
 
 -- what such a row answers
 abbrev pub answer_of : Doing → Scene → FlatState → ℕ → List ℕ → Outcome Reply

@@ -1,6 +1,6 @@
 //! The one way that every call goes (Glk 0.7.5, "The Dispatch Layer"; specs/Calls): its row, the looks at its
 //! arguments, and then what the row does.
-ghost use Rattle.std.specs.Prelude.{◌≡◌, ◌≤◌, length, replicate, false, IfOk, IfSome, IsTrue, option_map, Some};
+ghost use Rattle.std.specs.Prelude.{◌≡◌, ◌≤◌, length, replicate, false, IfOk, IfSome, IsTrue, option_map};
 ghost use Rattle.gx_words.specs.Faults.{Reads};
 ghost use Rattle.gx_state.specs.Replies.{IsReply};
 ghost use Rattle.glk_world.specs.World.{MakesCall};
@@ -12,7 +12,7 @@ ghost use Rattle.glk_dispatch.specs.Calls.{has_object, named, looked_at, is_on_n
 ghost use Rattle.glk_dispatch.specs.Calls.{glk_call, IsGrowing};
 ghost use Rattle.gx_words.specs.declared.faults.Fault.TheVariants.{NoMemory};
 ghost use Rattle.glk_dispatch.specs.Memory.{is_left_out, TakesMemory};
-ghost use Rattle.glk_dispatch.specs.Ready.{IsReadyBy, done_by, wants_by, call_on, call_looked, wants_on, wants_looked};
+ghost use Rattle.glk_dispatch.specs.Ready.{done_by, wants_by, call_looked, wants_looked};
 
 use crate::doing::do_call;
 use crate::table::{Class, Selector, dropped, row_of};
@@ -116,53 +116,6 @@ fn nothing<A: Allocator + Clone>(
     }
 }
 
-/// A call whose arguments were looked at, by what its row looks at.
-fn call_of<A: Allocator + Clone>(
-    row: &Selector,
-    world: &mut World,
-    state: &State<A>,
-    room: u32,
-    selector: u32,
-    args: &[u32],
-) -> Result<Turn, Fault>
-    requires words { row.now.words ≤ 4 }
-    requires ready { is_on_none row.now args.now ≡ false → IsReadyBy (row_for selector) world.old.scene args.now }
-    ensures value { MakesCall (IsTrue (wants_on row.now
-        (wants_by (row_for selector) world.old.scene state.now.flat args.now) args.now)) result world.old world.new
-        (call_on row.now (done_by (row_for selector) world.old.scene state.now.flat room args.now) world.old.scene
-        state.now.flat room args.now) }
-    ensures fits { IfOk result (IsTurnFor state.now.flat room) }
-{
-    if is_on_none(row, args) {
-        Ok(Turn::Answer(nothing(world, state, room, row, args)?))
-    } else {
-        do_call(selector, world, state, room, args)
-    }
-}
-
-/// A call that has a row.
-#[tactic(auto, using(crate::proofs::Ready::ready))]
-fn call_row<A: Allocator + Clone>(
-    row: &Selector,
-    world: &mut World,
-    state: &State<A>,
-    room: u32,
-    selector: u32,
-    args: &[u32],
-) -> Result<Turn, Fault>
-    requires row { option_map (λ row. row.looks) (row_for selector) ≡ Some row.now }
-    requires fits { IsTrue (selector_fits row.now) }
-    ensures value { MakesCall (IsTrue (wants_on row.now
-        (wants_by (row_for selector) world.old.scene state.now.flat args.now) args.now)) result world.old world.new
-        (call_looked (Some row.now)
-        (done_by (row_for selector) world.old.scene state.now.flat room args.now) world.old.scene state.now.flat room
-        selector args.now) }
-    ensures fits { IfOk result (IsTurnFor state.now.flat room) }
-{
-    looked(world, row, args)?;
-    call_of(row, world, state, room, selector, args)
-}
-
 /// A selector without a row.
 fn call_dropped(world: &World, selector: u32) -> Result<Reply, Fault>
     ensures value { Reads (λ reply. reply) result (dropping selector) }
@@ -175,6 +128,7 @@ fn call_dropped(world: &World, selector: u32) -> Result<Reply, Fault>
 }
 
 /// A call by what was found for its selector.
+#[tactic(auto, using(crate::proofs::Ready::ready))]
 fn call_found<A: Allocator + Clone>(
     found: Option<&Selector>,
     world: &mut World,
@@ -192,9 +146,14 @@ fn call_found<A: Allocator + Clone>(
         selector args.now) }
     ensures fits { IfOk result (IsTurnFor state.now.flat room) }
 {
-    match found {
-        Some(row) => call_row(row, world, state, room, selector, args),
-        None => Ok(Turn::Answer(call_dropped(world, selector)?)),
+    let Some(row) = found else {
+        return Ok(Turn::Answer(call_dropped(world, selector)?));
+    };
+    looked(world, row, args)?;
+    if is_on_none(row, args) {
+        Ok(Turn::Answer(nothing(world, state, room, row, args)?))
+    } else {
+        do_call(selector, world, state, room, args)
     }
 }
 

@@ -5,10 +5,10 @@ ghost use Rattle.std.specs.Prelude.{◌≡◌, false, IfOk, IsTrue};
 ghost use Rattle.gx_state.specs.Replies.{IsReply};
 ghost use Rattle.glk_world.specs.World.{MakesCall};
 ghost use Rattle.glk_replies.specs.Turns.{IsTurnFor};
-ghost use Rattle.glk_dispatch.specs.ObjectCalls.{window_calls, stream_calls};
-ghost use Rattle.glk_dispatch.specs.TextCalls.{text_calls, event_calls, unicode_calls};
-ghost use Rattle.glk_dispatch.specs.Table.{row_for, row_in};
-ghost use Rattle.glk_dispatch.specs.Ready.{IsReadyBy, takes_turn, answering, answer_by, done_by, wants_by};
+ghost use Rattle.glk_dispatch.specs.Table.{row_for};
+ghost use Rattle.glk_dispatch.specs.Ready.{IsReadyBy, takes_turn, answer_by, done_by, wants_by, arranging_row};
+ghost use Rattle.glk_dispatch.specs.Ready.{window_row, stream_row, reference_row, output_row, input_row, event_row};
+ghost use Rattle.glk_dispatch.specs.Ready.{unicode_output_row, unicode_input_row};
 
 use glk_event_calls::events::{
     cancel_char_event, cancel_line_event, request_char_event, request_line_event, select,
@@ -40,19 +40,18 @@ use gx_state::{Reply, State};
 use gx_words::Fault;
 use std::alloc::Allocator;
 
-/// The calls of the program, of what the library can do, of windows that answer at once.
+/// The calls of the program, of what the library can do, and of windows as they are made and arranged.
 #[tactic(auto, unfolding(crate::specs::ObjectCalls::window_calls))]
-fn window_call<A: Allocator + Clone>(
+fn arranging_call<A: Allocator + Clone>(
     selector: u32,
     world: &mut World,
     state: &State<A>,
     room: u32,
     args: &[u32],
 ) -> Result<Reply, Fault>
-    requires { IsReadyBy (row_in (answering window_calls) selector) world.old.scene args.now }
-    ensures value { MakesCall (IsTrue (wants_by (row_in (answering window_calls) selector) world.old.scene
-        state.now.flat args.now)) result world.old world.new
-        (answer_by (row_in (answering window_calls) selector) world.old.scene state.now.flat room args.now) }
+    requires { IsReadyBy (arranging_row selector) world.old.scene args.now }
+    ensures value { MakesCall (IsTrue (wants_by (arranging_row selector) world.old.scene state.now.flat args.now))
+        result world.old world.new (answer_by (arranging_row selector) world.old.scene state.now.flat room args.now) }
     ensures fits { IfOk result (IsReply state.now.flat room) }
 {
     match selector {
@@ -67,6 +66,25 @@ fn window_call<A: Allocator + Clone>(
         WINDOW_GET_SIZE => window_get_size(world, state, room, args),
         WINDOW_SET_ARRANGEMENT => window_set_arrangement(world, args),
         WINDOW_GET_ARRANGEMENT => window_get_arrangement(world, state, room, args),
+        _ => Err(Fault::BadGlk),
+    }
+}
+
+/// The calls of what a window has.
+#[tactic(auto, unfolding(crate::specs::ObjectCalls::window_calls))]
+fn window_call<A: Allocator + Clone>(
+    selector: u32,
+    world: &mut World,
+    state: &State<A>,
+    room: u32,
+    args: &[u32],
+) -> Result<Reply, Fault>
+    requires { IsReadyBy (window_row selector) world.old.scene args.now }
+    ensures value { MakesCall (IsTrue (wants_by (window_row selector) world.old.scene state.now.flat args.now))
+        result world.old world.new (answer_by (window_row selector) world.old.scene state.now.flat room args.now) }
+    ensures fits { IfOk result (IsReply state.now.flat room) }
+{
+    match selector {
         WINDOW_GET_TYPE => Ok(window_get_type(world, args)),
         WINDOW_GET_PARENT => Ok(window_get_parent(world, args)),
         WINDOW_CLEAR => window_clear(world, args),
@@ -80,7 +98,7 @@ fn window_call<A: Allocator + Clone>(
     }
 }
 
-/// The calls of streams and file references.
+/// The calls of streams.
 #[tactic(auto, unfolding(crate::specs::ObjectCalls::stream_calls))]
 fn stream_call<A: Allocator + Clone>(
     selector: u32,
@@ -89,10 +107,9 @@ fn stream_call<A: Allocator + Clone>(
     room: u32,
     args: &[u32],
 ) -> Result<Reply, Fault>
-    requires { IsReadyBy (row_in (answering stream_calls) selector) world.old.scene args.now }
-    ensures value { MakesCall (IsTrue (wants_by (row_in (answering stream_calls) selector) world.old.scene
-        state.now.flat args.now)) result world.old world.new
-        (answer_by (row_in (answering stream_calls) selector) world.old.scene state.now.flat room args.now) }
+    requires { IsReadyBy (stream_row selector) world.old.scene args.now }
+    ensures value { MakesCall (IsTrue (wants_by (stream_row selector) world.old.scene state.now.flat args.now))
+        result world.old world.new (answer_by (stream_row selector) world.old.scene state.now.flat room args.now) }
     ensures fits { IfOk result (IsReply state.now.flat room) }
 {
     match selector {
@@ -103,6 +120,25 @@ fn stream_call<A: Allocator + Clone>(
         STREAM_GET_POSITION => Ok(stream_get_position(world, args)),
         STREAM_SET_CURRENT => stream_set_current(world, args),
         STREAM_GET_CURRENT => Ok(stream_get_current(world)),
+        _ => Err(Fault::BadGlk),
+    }
+}
+
+/// The calls of file references.
+#[tactic(auto, unfolding(crate::specs::ObjectCalls::stream_calls))]
+fn reference_call<A: Allocator + Clone>(
+    selector: u32,
+    world: &mut World,
+    state: &State<A>,
+    room: u32,
+    args: &[u32],
+) -> Result<Reply, Fault>
+    requires { IsReadyBy (reference_row selector) world.old.scene args.now }
+    ensures value { MakesCall (IsTrue (wants_by (reference_row selector) world.old.scene state.now.flat args.now))
+        result world.old world.new (answer_by (reference_row selector) world.old.scene state.now.flat room args.now) }
+    ensures fits { IfOk result (IsReply state.now.flat room) }
+{
+    match selector {
         FILEREF_CREATE_TEMP => fileref_create_temp(world, args),
         FILEREF_CREATE_BY_NAME => fileref_create_by_name(world, state, args),
         FILEREF_DESTROY => fileref_destroy(world, args),
@@ -113,19 +149,18 @@ fn stream_call<A: Allocator + Clone>(
     }
 }
 
-/// The calls of output, input, the case of characters, styles.
+/// The calls of output.
 #[tactic(auto, unfolding(crate::specs::TextCalls::text_calls))]
-fn text_call<A: Allocator + Clone>(
+fn output_call<A: Allocator + Clone>(
     selector: u32,
     world: &mut World,
     state: &State<A>,
     room: u32,
     args: &[u32],
 ) -> Result<Reply, Fault>
-    requires { IsReadyBy (row_in (answering text_calls) selector) world.old.scene args.now }
-    ensures value { MakesCall (IsTrue (wants_by (row_in (answering text_calls) selector) world.old.scene
-        state.now.flat args.now)) result world.old world.new
-        (answer_by (row_in (answering text_calls) selector) world.old.scene state.now.flat room args.now) }
+    requires { IsReadyBy (output_row selector) world.old.scene args.now }
+    ensures value { MakesCall (IsTrue (wants_by (output_row selector) world.old.scene state.now.flat args.now))
+        result world.old world.new (answer_by (output_row selector) world.old.scene state.now.flat room args.now) }
     ensures fits { IfOk result (IsReply state.now.flat room) }
 {
     let current = world.current();
@@ -133,31 +168,30 @@ fn text_call<A: Allocator + Clone>(
         PUT_CHAR => put_char(world, state, current, 1, arg(args, 0)),
         PUT_CHAR_STREAM => put_char(world, state, arg(args, 0), 1, arg(args, 1)),
         PUT_STRING => put_string(world, state, current, 1, arg(args, 0)),
-        PUT_STRING_STREAM => put_string(
-            world,
-            state,
-            arg(args, 0),
-            1,
-            arg(args, 1),
-        ),
-        PUT_BUFFER => put_buffer(
-            world,
-            state,
-            current,
-            1,
-            arg(args, 0),
-            arg(args, 1),
-        ),
-        PUT_BUFFER_STREAM => put_buffer(
-            world,
-            state,
-            arg(args, 0),
-            1,
-            arg(args, 1),
-            arg(args, 2),
-        ),
+        PUT_STRING_STREAM => put_string(world, state, arg(args, 0), 1, arg(args, 1)),
+        PUT_BUFFER => put_buffer(world, state, current, 1, arg(args, 0), arg(args, 1)),
+        PUT_BUFFER_STREAM => put_buffer(world, state, arg(args, 0), 1, arg(args, 1), arg(args, 2)),
         SET_STYLE => Ok(reply(world.alloc(), 0)),
         SET_STYLE_STREAM => Ok(reply(world.alloc(), 0)),
+        _ => Err(Fault::BadGlk),
+    }
+}
+
+/// The calls of input, the case of characters, styles.
+#[tactic(auto, unfolding(crate::specs::TextCalls::text_calls))]
+fn input_call<A: Allocator + Clone>(
+    selector: u32,
+    world: &mut World,
+    state: &State<A>,
+    room: u32,
+    args: &[u32],
+) -> Result<Reply, Fault>
+    requires { IsReadyBy (input_row selector) world.old.scene args.now }
+    ensures value { MakesCall (IsTrue (wants_by (input_row selector) world.old.scene state.now.flat args.now))
+        result world.old world.new (answer_by (input_row selector) world.old.scene state.now.flat room args.now) }
+    ensures fits { IfOk result (IsReply state.now.flat room) }
+{
+    match selector {
         GET_CHAR_STREAM => get_char(world, state, 1, args),
         GET_LINE_STREAM => get_line(world, state, 1, args),
         GET_BUFFER_STREAM => get_buffer(world, state, 1, args),
@@ -180,10 +214,9 @@ fn event_call<A: Allocator + Clone>(
     room: u32,
     args: &[u32],
 ) -> Result<Reply, Fault>
-    requires { IsReadyBy (row_in (answering event_calls) selector) world.old.scene args.now }
-    ensures value { MakesCall (IsTrue (wants_by (row_in (answering event_calls) selector) world.old.scene
-        state.now.flat args.now)) result world.old world.new
-        (answer_by (row_in (answering event_calls) selector) world.old.scene state.now.flat room args.now) }
+    requires { IsReadyBy (event_row selector) world.old.scene args.now }
+    ensures value { MakesCall (IsTrue (wants_by (event_row selector) world.old.scene state.now.flat args.now))
+        result world.old world.new (answer_by (event_row selector) world.old.scene state.now.flat room args.now) }
     ensures fits { IfOk result (IsReply state.now.flat room) }
 {
     match selector {
@@ -196,68 +229,31 @@ fn event_call<A: Allocator + Clone>(
     }
 }
 
-/// The calls of Unicode, and of the echo of line input.
+/// The calls of Unicode of the case of characters, and of output.
 #[tactic(auto, unfolding(crate::specs::TextCalls::unicode_calls))]
-fn unicode_call<A: Allocator + Clone>(
+fn unicode_output_call<A: Allocator + Clone>(
     selector: u32,
     world: &mut World,
     state: &State<A>,
     room: u32,
     args: &[u32],
 ) -> Result<Reply, Fault>
-    requires { IsReadyBy (row_in (answering unicode_calls) selector) world.old.scene args.now }
-    ensures value { MakesCall (IsTrue (wants_by (row_in (answering unicode_calls) selector) world.old.scene
-        state.now.flat args.now)) result world.old world.new
-        (answer_by (row_in (answering unicode_calls) selector) world.old.scene state.now.flat room args.now) }
+    requires { IsReadyBy (unicode_output_row selector) world.old.scene args.now }
+    ensures value { MakesCall (IsTrue (wants_by (unicode_output_row selector) world.old.scene state.now.flat args.now))
+        result world.old world.new
+        (answer_by (unicode_output_row selector) world.old.scene state.now.flat room args.now) }
     ensures fits { IfOk result (IsReply state.now.flat room) }
 {
     let current = world.current();
     match selector {
-        BUFFER_TO_LOWER_CASE_UNI => buffer_to_case(
-            world,
-            state,
-            Case::Lower,
-            Case::Lower,
-            args,
-        ),
-        BUFFER_TO_UPPER_CASE_UNI => buffer_to_case(
-            world,
-            state,
-            Case::Upper,
-            Case::Upper,
-            args,
-        ),
-        BUFFER_TO_TITLE_CASE_UNI => buffer_to_case(
-            world,
-            state,
-            Case::Upper,
-            rest_of(args),
-            args,
-        ),
+        BUFFER_TO_LOWER_CASE_UNI => buffer_to_case(world, state, Case::Lower, Case::Lower, args),
+        BUFFER_TO_UPPER_CASE_UNI => buffer_to_case(world, state, Case::Upper, Case::Upper, args),
+        BUFFER_TO_TITLE_CASE_UNI => buffer_to_case(world, state, Case::Upper, rest_of(args), args),
         PUT_CHAR_UNI => put_char(world, state, current, 4, arg(args, 0)),
         PUT_STRING_UNI => put_string(world, state, current, 4, arg(args, 0)),
-        PUT_BUFFER_UNI => put_buffer(
-            world,
-            state,
-            current,
-            4,
-            arg(args, 0),
-            arg(args, 1),
-        ),
-        PUT_CHAR_STREAM_UNI => put_char(
-            world,
-            state,
-            arg(args, 0),
-            4,
-            arg(args, 1),
-        ),
-        PUT_STRING_STREAM_UNI => put_string(
-            world,
-            state,
-            arg(args, 0),
-            4,
-            arg(args, 1),
-        ),
+        PUT_BUFFER_UNI => put_buffer(world, state, current, 4, arg(args, 0), arg(args, 1)),
+        PUT_CHAR_STREAM_UNI => put_char(world, state, arg(args, 0), 4, arg(args, 1)),
+        PUT_STRING_STREAM_UNI => put_string(world, state, arg(args, 0), 4, arg(args, 1)),
         PUT_BUFFER_STREAM_UNI => put_buffer(
             world,
             state,
@@ -266,6 +262,26 @@ fn unicode_call<A: Allocator + Clone>(
             arg(args, 1),
             arg(args, 2),
         ),
+        _ => Err(Fault::BadGlk),
+    }
+}
+
+/// The calls of Unicode of input, streams and events, and of the echo of line input.
+#[tactic(auto, unfolding(crate::specs::TextCalls::unicode_calls))]
+fn unicode_input_call<A: Allocator + Clone>(
+    selector: u32,
+    world: &mut World,
+    state: &State<A>,
+    room: u32,
+    args: &[u32],
+) -> Result<Reply, Fault>
+    requires { IsReadyBy (unicode_input_row selector) world.old.scene args.now }
+    ensures value { MakesCall (IsTrue (wants_by (unicode_input_row selector) world.old.scene state.now.flat args.now))
+        result world.old world.new
+        (answer_by (unicode_input_row selector) world.old.scene state.now.flat room args.now) }
+    ensures fits { IfOk result (IsReply state.now.flat room) }
+{
+    match selector {
         GET_CHAR_STREAM_UNI => get_char(world, state, 4, args),
         GET_BUFFER_STREAM_UNI => get_buffer(world, state, 4, args),
         GET_LINE_STREAM_UNI => get_line(world, state, 4, args),
@@ -292,16 +308,24 @@ fn answer_call<A: Allocator + Clone>(
         world.old world.new (answer_by (row_for selector) world.old.scene state.now.flat room args.now) }
     ensures fits { IfOk result (IsReply state.now.flat room) }
 {
-    if selector < STREAM_ITERATE {
+    if selector < WINDOW_GET_TYPE {
+        arranging_call(selector, world, state, room, args)
+    } else if selector < STREAM_ITERATE {
         window_call(selector, world, state, room, args)
-    } else if selector < PUT_CHAR {
+    } else if selector < FILEREF_CREATE_TEMP {
         stream_call(selector, world, state, room, args)
+    } else if selector < PUT_CHAR {
+        reference_call(selector, world, state, room, args)
+    } else if selector < GET_CHAR_STREAM {
+        output_call(selector, world, state, room, args)
     } else if selector < SELECT {
-        text_call(selector, world, state, room, args)
+        input_call(selector, world, state, room, args)
     } else if selector < BUFFER_TO_LOWER_CASE_UNI {
         event_call(selector, world, state, room, args)
+    } else if selector < GET_CHAR_STREAM_UNI {
+        unicode_output_call(selector, world, state, room, args)
     } else {
-        unicode_call(selector, world, state, room, args)
+        unicode_input_call(selector, world, state, room, args)
     }
 }
 

@@ -48,21 +48,27 @@ pub returns-in-98-clause-fits : goal.returns-in-98-clause-fits
 returns-in-98-clause-fits g c = c.fileref_create_by_prompt.ensures.fits c.args.state.now.flat c.args.room
 
 pub returns-in-102-clause-value : goal.returns-in-102-clause-value
-returns-in-102-clause-value g c = rw (c.in-102.is, delete_row) (may_want c.fileref_delete_file.result c.args.world.now c.fileref_delete_file.new.world
+returns-in-102-clause-value g c =
+    rw (c.in-102.is, delete_row)
+    (may_want c.fileref_delete_file.result c.args.world.now c.fileref_delete_file.new.world
     (fileref_delete_file c.args.world.now.scene c.args.args.now) c.fileref_delete_file.ensures.value)
 
 pub returns-in-102-clause-fits : goal.returns-in-102-clause-fits
 returns-in-102-clause-fits g c = c.fileref_delete_file.ensures.fits c.args.state.now.flat c.args.room
 
 pub returns-in-103-clause-value : goal.returns-in-103-clause-value
-returns-in-103-clause-value g c = rw (c.in-103.is, exist_row) (may_want c.fileref_does_file_exist.result c.args.world.now c.fileref_does_file_exist.new.world
+returns-in-103-clause-value g c =
+    rw (c.in-103.is, exist_row)
+    (may_want c.fileref_does_file_exist.result c.args.world.now c.fileref_does_file_exist.new.world
     (fileref_does_file_exist c.args.world.now.scene c.args.args.now) c.fileref_does_file_exist.ensures.value)
 
 pub returns-in-103-clause-fits : goal.returns-in-103-clause-fits
 returns-in-103-clause-fits g c = c.fileref_does_file_exist.ensures.fits c.args.state.now.flat c.args.room
 
 pub returns-in-192-clause-value : goal.returns-in-192-clause-value
-returns-in-192-clause-value g c = rw (c.in-192.is, select_row) (never_wants c.select.result c.args.world.now c.select.new.world
+returns-in-192-clause-value g c =
+    rw (c.in-192.is, select_row)
+    (never_wants c.select.result c.args.world.now c.select.new.world
     (select c.args.world.now.scene c.args.state.now.flat c.args.room c.args.args.now) c.select.ensures.value)
 
 pub returns-in-312-clause-value : goal.returns-in-312-clause-value

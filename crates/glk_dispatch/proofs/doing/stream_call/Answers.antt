@@ -1,6 +1,5 @@
 -- What fits any state or any room fits those of the call, and what never wants memory wants none.
 use Rattle.glk_object_calls.specs.Streams.{stream_set_position, stream_set_current}
-use Rattle.glk_object_calls.specs.References.{fileref_destroy}
 use Rattle.glk_dispatch.specs.ObjectCalls.{stream_calls}
 use Rattle.glk_dispatch.proofs.Turning.{never_wants}
 use Rattle.glk_dispatch.proofs.doing.stream_call.Goals as goal
@@ -14,18 +13,6 @@ returns-in-69-clause-fits g c = c.stream_set_position.ensures.fits c.args.state.
 pub returns-in-71-clause-fits : goal.returns-in-71-clause-fits
 returns-in-71-clause-fits g c = c.stream_set_current.ensures.fits c.args.state.now.flat c.args.room
 
-pub returns-in-96-clause-fits : goal.returns-in-96-clause-fits
-returns-in-96-clause-fits g c = c.fileref_create_temp.ensures.fits c.args.state.now.flat c.args.room
-
-pub returns-in-97-clause-fits : goal.returns-in-97-clause-fits
-returns-in-97-clause-fits g c = c.fileref_create_by_name.ensures.fits c.args.state.now.flat c.args.room
-
-pub returns-in-99-clause-fits : goal.returns-in-99-clause-fits
-returns-in-99-clause-fits g c = c.fileref_destroy.ensures.fits c.args.state.now.flat c.args.room
-
-pub returns-in-104-clause-fits : goal.returns-in-104-clause-fits
-returns-in-104-clause-fits g c = c.fileref_create_from_fileref.ensures.fits c.args.state.now.flat c.args.room
-
 pub returns-in-65-clause-fits : goal.returns-in-65-clause-fits
 returns-in-65-clause-fits g c = c.stream_get_rock.ensures.fits c.args.state.now.flat c.args.room
 
@@ -35,23 +22,16 @@ returns-in-70-clause-fits g c = c.stream_get_position.ensures.fits c.args.state.
 pub returns-in-72-clause-fits : goal.returns-in-72-clause-fits
 returns-in-72-clause-fits g c = c.stream_get_current.ensures.fits c.args.state.now.flat c.args.room
 
-pub returns-in-101-clause-fits : goal.returns-in-101-clause-fits
-returns-in-101-clause-fits g c = c.fileref_get_rock.ensures.fits c.args.state.now.flat c.args.room
-
 pub returns-in-69-clause-value : goal.returns-in-69-clause-value
 unfolding stream_calls
 returns-in-69-clause-value g c = rw c.in-69.is
-    (never_wants c.stream_set_position.result c.args.world.now c.stream_set_position.new.world (stream_set_position c.args.world.now.scene c.args.args.now)
+    (never_wants c.stream_set_position.result c.args.world.now c.stream_set_position.new.world
+    (stream_set_position c.args.world.now.scene c.args.args.now)
     c.stream_set_position.ensures.value)
 
 pub returns-in-71-clause-value : goal.returns-in-71-clause-value
 unfolding stream_calls
 returns-in-71-clause-value g c = rw c.in-71.is
-    (never_wants c.stream_set_current.result c.args.world.now c.stream_set_current.new.world (stream_set_current c.args.world.now.scene c.args.args.now)
+    (never_wants c.stream_set_current.result c.args.world.now c.stream_set_current.new.world
+    (stream_set_current c.args.world.now.scene c.args.args.now)
     c.stream_set_current.ensures.value)
-
-pub returns-in-99-clause-value : goal.returns-in-99-clause-value
-unfolding stream_calls
-returns-in-99-clause-value g c = rw c.in-99.is
-    (never_wants c.fileref_destroy.result c.args.world.now c.fileref_destroy.new.world (fileref_destroy c.args.world.now.scene c.args.args.now)
-    c.fileref_destroy.ensures.value)

@@ -1,18 +1,9 @@
 -- What fits any state or any room fits those of the call, and what never wants memory wants none.
-use Rattle.glk_object_calls.specs.Windows.{window_close, window_clear, window_move_cursor, window_set_echo_stream}
+use Rattle.glk_object_calls.specs.Windows.{window_clear, window_move_cursor, window_set_echo_stream}
 use Rattle.glk_object_calls.specs.Windows.{set_window}
 use Rattle.glk_dispatch.specs.ObjectCalls.{window_calls}
-use Rattle.glk_dispatch.proofs.Turning.{never_wants, may_want}
+use Rattle.glk_dispatch.proofs.Turning.{never_wants}
 use Rattle.glk_dispatch.proofs.doing.window_call.Goals as goal
-
-pub returns-in-5-clause-fits : goal.returns-in-5-clause-fits
-returns-in-5-clause-fits g c = c.gestalt_ext.ensures.fits c.args.room
-
-pub returns-in-35-clause-fits : goal.returns-in-35-clause-fits
-returns-in-35-clause-fits g c = c.window_open.ensures.fits c.args.state.now.flat c.args.room
-
-pub returns-in-38-clause-fits : goal.returns-in-38-clause-fits
-returns-in-38-clause-fits g c = c.window_set_arrangement.ensures.fits c.args.state.now.flat c.args.room
 
 pub returns-in-42-clause-fits : goal.returns-in-42-clause-fits
 returns-in-42-clause-fits g c = c.window_clear.ensures.fits c.args.state.now.flat c.args.room
@@ -25,15 +16,6 @@ returns-in-45-clause-fits g c = c.window_set_echo_stream.ensures.fits c.args.sta
 
 pub returns-in-47-clause-fits : goal.returns-in-47-clause-fits
 returns-in-47-clause-fits g c = c.set_window.ensures.fits c.args.state.now.flat c.args.room
-
-pub returns-in-4-clause-fits : goal.returns-in-4-clause-fits
-returns-in-4-clause-fits g c = c.gestalt.ensures.fits c.args.state.now.flat c.args.room
-
-pub returns-in-33-clause-fits : goal.returns-in-33-clause-fits
-returns-in-33-clause-fits g c = c.window_get_rock.ensures.fits c.args.state.now.flat c.args.room
-
-pub returns-in-34-clause-fits : goal.returns-in-34-clause-fits
-returns-in-34-clause-fits g c = c.window_get_root.ensures.fits c.args.state.now.flat c.args.room
 
 pub returns-in-40-clause-fits : goal.returns-in-40-clause-fits
 returns-in-40-clause-fits g c = c.window_get_type.ensures.fits c.args.state.now.flat c.args.room
@@ -50,32 +32,30 @@ returns-in-46-clause-fits g c = c.window_get_echo_stream.ensures.fits c.args.sta
 pub returns-in-48-clause-fits : goal.returns-in-48-clause-fits
 returns-in-48-clause-fits g c = c.window_get_sibling.ensures.fits c.args.state.now.flat c.args.room
 
-pub returns-in-36-clause-value : goal.returns-in-36-clause-value
-unfolding window_calls
-returns-in-36-clause-value g c = rw c.in-36.is
-    (may_want c.window_close.result c.args.world.now c.window_close.new.world (window_close c.args.world.now.scene c.args.state.now.flat c.args.room c.args.args.now)
-    c.window_close.ensures.value)
-
 pub returns-in-42-clause-value : goal.returns-in-42-clause-value
 unfolding window_calls
 returns-in-42-clause-value g c = rw c.in-42.is
-    (never_wants c.window_clear.result c.args.world.now c.window_clear.new.world (window_clear c.args.world.now.scene c.args.args.now)
+    (never_wants c.window_clear.result c.args.world.now c.window_clear.new.world
+    (window_clear c.args.world.now.scene c.args.args.now)
     c.window_clear.ensures.value)
 
 pub returns-in-43-clause-value : goal.returns-in-43-clause-value
 unfolding window_calls
 returns-in-43-clause-value g c = rw c.in-43.is
-    (never_wants c.window_move_cursor.result c.args.world.now c.window_move_cursor.new.world (window_move_cursor c.args.world.now.scene c.args.args.now)
+    (never_wants c.window_move_cursor.result c.args.world.now c.window_move_cursor.new.world
+    (window_move_cursor c.args.world.now.scene c.args.args.now)
     c.window_move_cursor.ensures.value)
 
 pub returns-in-45-clause-value : goal.returns-in-45-clause-value
 unfolding window_calls
 returns-in-45-clause-value g c = rw c.in-45.is
-    (never_wants c.window_set_echo_stream.result c.args.world.now c.window_set_echo_stream.new.world (window_set_echo_stream c.args.world.now.scene c.args.args.now)
+    (never_wants c.window_set_echo_stream.result c.args.world.now c.window_set_echo_stream.new.world
+    (window_set_echo_stream c.args.world.now.scene c.args.args.now)
     c.window_set_echo_stream.ensures.value)
 
 pub returns-in-47-clause-value : goal.returns-in-47-clause-value
 unfolding window_calls
 returns-in-47-clause-value g c = rw c.in-47.is
-    (never_wants c.set_window.result c.args.world.now c.set_window.new.world (set_window c.args.world.now.scene c.args.args.now)
+    (never_wants c.set_window.result c.args.world.now c.set_window.new.world
+    (set_window c.args.world.now.scene c.args.args.now)
     c.set_window.ensures.value)

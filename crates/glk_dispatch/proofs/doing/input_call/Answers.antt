@@ -4,25 +4,7 @@ use Rattle.glk_text_calls.specs.Input.{get_char}
 use Rattle.glk_text_calls.specs.Characters.{char_to_case}
 use Rattle.glk_dispatch.specs.TextCalls.{text_calls}
 use Rattle.glk_dispatch.proofs.Turning.{never_wants}
-use Rattle.glk_dispatch.proofs.doing.text_call.Goals as goal
-
-pub returns-in-128-clause-fits : goal.returns-in-128-clause-fits
-returns-in-128-clause-fits g c = c.put_char.ensures.fits c.args.room
-
-pub returns-in-129-clause-fits : goal.returns-in-129-clause-fits
-returns-in-129-clause-fits g c = c.put_char-in-129.ensures.fits c.args.room
-
-pub returns-in-130-clause-fits : goal.returns-in-130-clause-fits
-returns-in-130-clause-fits g c = c.put_string.ensures.fits c.args.room
-
-pub returns-in-131-clause-fits : goal.returns-in-131-clause-fits
-returns-in-131-clause-fits g c = c.put_string-in-131.ensures.fits c.args.room
-
-pub returns-in-132-clause-fits : goal.returns-in-132-clause-fits
-returns-in-132-clause-fits g c = c.put_buffer.ensures.fits c.args.room
-
-pub returns-in-133-clause-fits : goal.returns-in-133-clause-fits
-returns-in-133-clause-fits g c = c.put_buffer-in-133.ensures.fits c.args.room
+use Rattle.glk_dispatch.proofs.doing.input_call.Goals as goal
 
 pub returns-in-144-clause-fits : goal.returns-in-144-clause-fits
 returns-in-144-clause-fits g c = c.get_char.ensures.fits c.args.room
@@ -42,17 +24,20 @@ returns-in-161-clause-fits g c = c.char_to_case-in-161.ensures.fits c.args.state
 pub returns-in-144-clause-value : goal.returns-in-144-clause-value
 unfolding text_calls
 returns-in-144-clause-value g c = rw c.in-144.is
-    (never_wants c.get_char.result c.args.world.now c.get_char.new.world (get_char c.args.world.now.scene c.args.state.now.flat 1 c.args.args.now)
+    (never_wants c.get_char.result c.args.world.now c.get_char.new.world
+    (get_char c.args.world.now.scene c.args.state.now.flat 1 c.args.args.now)
     c.get_char.ensures.value)
 
 pub returns-in-160-clause-value : goal.returns-in-160-clause-value
 unfolding text_calls
 returns-in-160-clause-value g c = rw c.in-160.is
-    (never_wants c.char_to_case.result c.args.world.now c.char_to_case.new.world (char_to_case c.args.world.now.scene case.Lower c.args.args.now)
+    (never_wants c.char_to_case.result c.args.world.now c.char_to_case.new.world
+    (char_to_case c.args.world.now.scene case.Lower c.args.args.now)
     c.char_to_case.ensures.value)
 
 pub returns-in-161-clause-value : goal.returns-in-161-clause-value
 unfolding text_calls
 returns-in-161-clause-value g c = rw c.in-161.is
-    (never_wants c.char_to_case-in-161.result c.args.world.now c.char_to_case-in-161.new.world (char_to_case c.args.world.now.scene case.Upper c.args.args.now)
+    (never_wants c.char_to_case-in-161.result c.args.world.now c.char_to_case-in-161.new.world
+    (char_to_case c.args.world.now.scene case.Upper c.args.args.now)
     c.char_to_case-in-161.ensures.value)
