@@ -1,3 +1,4 @@
 mod Constants
 pub mod Absent
+pub mod Closing
 pub mod Opened

@@ -6,7 +6,7 @@ ghost use Rattle.glk_world.specs.World.{MakesCall};
 ghost use Rattle.glk_object_calls.specs.Gestalts.{gestalt_answer, gestalt, has_glyphs, glyphs_place, gestalt_ext};
 
 use glk_events::RETURN;
-use glk_replies::{can_lay, lay, reply};
+use glk_replies::{can_lay, filled, reply};
 use glk_streams::Places;
 use glk_text::printable;
 use glk_world::{World, arg};
@@ -90,7 +90,6 @@ pub fn gestalt_ext<A: Allocator + Clone>(
 {
     let places = glyphs_place(args);
     can_lay(state, places)?;
-    let mut reply = reply(world.alloc(), gestalt_of(arg(args, 0), arg(args, 1)));
-    lay(world.alloc(), &mut reply.writes, places, &[1_u32])?;
-    Ok(reply)
+    let answer = gestalt_of(arg(args, 0), arg(args, 1));
+    Ok(filled(world.alloc(), answer, places, &[1_u32])?)
 }

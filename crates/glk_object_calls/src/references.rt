@@ -5,6 +5,7 @@ ghost use Rattle.std.specs.Prelude.{map, IfOk, OnErr, OnOk, IsTrue};
 ghost use Rattle.gx_outside.specs.Outside.{IsBounded};
 ghost use Rattle.gx_state.specs.Flat.{FlatState};
 ghost use Rattle.gx_state.specs.Replies.{IsReply};
+ghost use Rattle.glk_files.specs.Names.{base_of};
 ghost use Rattle.glk_objects.specs.Objects.{met_from};
 ghost use Rattle.glk_streams.specs.Constants.{largest};
 ghost use Rattle.glk_world.specs.World.{after, silent, waits, reference_id, is_composed, has_reference, reference_at};
@@ -69,6 +70,21 @@ pub fn fileref_create_temp(world: &mut World, args: &[u32]) -> Result<Reply, Fau
     create(world, name, arg(args, 0), arg(args, 1))
 }
 
+/// Makes a file reference of a name as the player or the story gives it; answers 0, and makes no name, where no
+/// identifier is left.
+#[tactic(auto, unfolding(glk_world::specs::Calls::with_reference))]
+fn create_named(world: &mut World, text: &[u32], usage: u32, rock: u32) -> Result<Reply, Fault>
+    ensures value { MakesCall (IsTrue (is_identifier world.old.scene.next_id)) result world.old world.new
+        (created world.old.scene (base_of text.now) usage rock) }
+    ensures fits { (f : FlatState) (room : ℕ) → IfOk result (IsReply f room) }
+{
+    if world.next_id() > LAST_IDENTIFIER {
+        return Ok(reply(world.alloc(), 0));
+    }
+    let base = base_name(world.alloc(), text)?;
+    create(world, base, usage, rock)
+}
+
 /// fileref_create_by_name: the name stands in memory.
 #[tactic(auto, unfolding(crate::specs::References::fileref_create_by_name, glk_world::specs::Calls::with_reference))]
 pub fn fileref_create_by_name<A: Allocator + Clone>(
@@ -85,9 +101,8 @@ pub fn fileref_create_by_name<A: Allocator + Clone>(
     if world.next_id() > LAST_IDENTIFIER {
         return Ok(reply(world.alloc(), 0));
     }
-    let chars = numbers_at(world.alloc(), state.memory(), 1, at + 1, count)?;
-    let base = base_name(world.alloc(), chars.as_slice())?;
-    create(world, base, arg(args, 0), arg(args, 2))
+    let text = numbers_at(world.alloc(), state.memory(), 1, at + 1, count)?;
+    create_named(world, text.as_slice(), arg(args, 0), arg(args, 2))
 }
 
 /// fileref_create_by_prompt: waits for the line that is the name.
@@ -109,19 +124,10 @@ pub fn prompt_goes_on(world: &mut World, args: &[u32], line: &[u32]) -> Result<R
         (prompt_goes_on world.old.scene args.now line.now) }
     ensures fits { (f : FlatState) (room : ℕ) → IfOk result (IsReply f room) }
 {
+    world.line_taken();
     match line {
-        [] => {
-            world.line_taken();
-            Ok(reply(world.alloc(), 0))
-        }
-        [_, ..] => {
-            world.line_taken();
-            if world.next_id() > LAST_IDENTIFIER {
-                return Ok(reply(world.alloc(), 0));
-            }
-            let base = base_name(world.alloc(), line)?;
-            create(world, base, arg(args, 0), arg(args, 2))
-        }
+        [] => Ok(reply(world.alloc(), 0)),
+        [_, ..] => create_named(world, line, arg(args, 0), arg(args, 2)),
     }
 }
 
