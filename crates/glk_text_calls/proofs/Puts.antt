@@ -1,20 +1,22 @@
 -- Characters that are put, and their places.
-use Rattle.std.proofs.Common.{◌≡◌, ◌≢◌, ◌<◌, ◌≤◌, ◌==◌, ◌&&◌, not, ℕ, Bool, true, false, if◌then◌else◌, List, [], ◌∷◌}
-use Rattle.std.proofs.Common.{length, refl, ap, inl, inr, arith, Result, Ok, IsOk}
+use Rattle.std.proofs.Common.{◌≡◌, ◌≢◌, ◌<◌, ◌≤◌, ◌==◌, ◌&&◌, not, ℕ, Bool, true, false, if◌then◌else◌, List}
+use Rattle.std.proofs.Common.{[], ◌∷◌, length, refl, ap, inl, inr, arith, Result, Ok, Err, IsOk}
 use Rattle.std.proofs.lemmas.List.{append-nil}
 use Rattle.gx_words.specs.declared.faults.Fault.{Fault}
+use Rattle.gx_words.specs.declared.faults.Fault.TheVariants.{NoMemory}
 use Rattle.gx_state.specs.Flat.{FlatState}
 use Rattle.gx_state.specs.declared.effects.Reply.{Reply}
 use Rattle.gx_state.specs.Replies.{AreInRam}
+use Rattle.glk_streams.specs.declared.kinds.Places.{Places}
 use Rattle.glk_streams.specs.declared.kinds.Stream.{Stream}
 use Rattle.glk_streams.specs.declared.kinds.StreamKind.{StreamKind}
 use Rattle.glk_streams.specs.declared.kinds.StreamKind.TheVariants as kinds
 use Rattle.glk_streams.specs.Stream as one
 use Rattle.glk_streams.specs.Streams as streams
-use Rattle.glk_world.specs.World.{Scene, FlatWorld, after, on_world}
-use Rattle.glk_world.specs.Putting.{window_of_stream, entry_of, is_text, is_plain_text, put_of, put_chars, put_grows, places_of}
-use Rattle.glk_world.specs.Putting.{chain_end}
-use Rattle.glk_replies.specs.Parts.{IsCharWidth, replies, can_lay, char_writes}
+use Rattle.glk_world.specs.World.{Scene, FlatWorld, after, on_world, MakesCall}
+use Rattle.glk_world.specs.Putting.{window_of_stream, entry_of, is_text, is_plain_text, put_of, put_chars, put_grows}
+use Rattle.glk_world.specs.Putting.{places_of, chain_end}
+use Rattle.glk_replies.specs.Parts.{IsCharWidth, replies, can_lay, char_writes, reply_filling}
 use Rattle.glk_text_calls.specs.Putting.{can_put, put_all, put_grows_one}
 use Rattle.glk_replies.proofs.Counting.{count_numbers, some_numbers}
 use Rattle.glk_replies.proofs.Ram.{laid_in_ram}
@@ -57,6 +59,44 @@ pub some_counted : (n : ℕ) (cs : List ℕ) → 0 < n → n ≤ length cs → c
 some_counted n [] some few same = absurd (omega arith)
 some_counted n (c ∷ cs) some few same = cc
 
+-- a stream that isn't there takes nothing
+pub put_nowhere : (w : FlatWorld) (f : FlatState) (stream : ℕ) (cs : List ℕ)
+    → streams.has w.scene.streams stream ≡ false → on_world w (put_all w.scene f stream cs) ≡ Ok (w, replies 0)
+unfolding put_all can_put
+put_nowhere w f stream cs gone = rw (gone, append-nil w.text) refl
+
+-- so many characters, whose places may be written
+pub put_there : (w : FlatWorld) (f : FlatState) (stream count : ℕ) (cs : List ℕ) → length cs ≡ count
+    → streams.has w.scene.streams stream ≡ true → can_lay f (places_of w.scene stream count) ≡ Ok tt
+    → on_world w (put_all w.scene f stream cs)
+    ≡ Ok (after w (put_chars w.scene stream cs), reply_filling 0 (places_of w.scene stream count) cs)
+unfolding put_all can_put
+put_there w f stream count cs len there lays = rw (there, len, lays) refl
+
+pub put_fine : (w : FlatWorld) (f : FlatState) (stream count : ℕ) (cs : List ℕ) → length cs ≡ count
+    → streams.has w.scene.streams stream ≡ true → can_lay f (places_of w.scene stream count) ≡ Ok tt
+    → IsOk (on_world w (put_all w.scene f stream cs))
+put_fine w f stream count cs len there lays = rw (put_there w f stream count cs len there lays) refl
+
+-- places that can't be written
+pub put_refused : {wants : Type 0} (w : FlatWorld) (f : FlatState) (stream count : ℕ) (cs : List ℕ) (p : Places)
+    (e : Fault) → length cs ≡ count → streams.has w.scene.streams stream ≡ true → p ≡ places_of w.scene stream count
+    → (can_lay f p ≡ Err e) × (e ≢ NoMemory) → MakesCall wants (Err e) w w (put_all w.scene f stream cs)
+unfolding put_all can_put
+put_refused w f stream count cs p e len there is lays =
+    let at_places : can_lay f (places_of w.scene stream count) ≡ Err e = rw (← is) lays.0 in
+    (λ other. refl, (λ other. rw (there, len, at_places) refl, λ none. absurd (lays.1 none)))
+
+-- want of memory behind the looks
+pub put_wanted : {wants : Type 0} (w now : FlatWorld) (f : FlatState) (stream count : ℕ) (cs : List ℕ) (p : Places)
+    → wants → length cs ≡ count → streams.has w.scene.streams stream ≡ true → p ≡ places_of w.scene stream count
+    → can_lay f p ≡ Ok tt → MakesCall wants (Err NoMemory) w now (put_all w.scene f stream cs)
+put_wanted w now f stream count cs p some len there is lays =
+    let at_places : can_lay f (places_of w.scene stream count) ≡ Ok tt = rw (← is) lays in (
+      λ other. absurd (other refl),
+      (λ other. absurd (other refl), λ none. (some, put_fine w f stream count cs len there at_places)),
+    )
+
 pub ruleset put_rules = (puts_one, put_in_ram, some_counted)
 
 and_first : (a b : Bool) → (a && b) ≡ true → a ≡ true
@@ -94,7 +134,8 @@ pub ruleset text_rules = (text_put, text_grows, text_fine)
 
 pub ruleset puts_and_text = (put_rules, text_rules)
 
-pub ruleset string_rules = (put_rules, count_numbers, some_numbers)
+pub ruleset string_rules =
+    (put_nowhere, put_there, put_fine, put_in_ram, some_counted, count_numbers, some_numbers)
 
 -- the lemmas of a buffer whose characters change case
 pub ruleset case_rules = (count_numbers, laid_in_ram)

@@ -107,7 +107,7 @@ pub fn put_buffer<A: Allocator + Clone>(
 }
 
 /// Puts numbers that are there.
-#[tactic(auto, using(crate::proofs::Puts::string_rules), unfolding(crate::proofs::Opened::putting))]
+#[tactic(auto, using(crate::proofs::Puts::string_rules))]
 fn put_numbers<A: Allocator + Clone>(
     world: &mut World,
     state: &State<A>,
