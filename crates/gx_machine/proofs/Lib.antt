@@ -5,6 +5,7 @@ pub mod Fetching
 pub mod Passing
 pub mod Pops
 pub mod Reading
+pub mod Starts
 pub mod Steps
 pub mod Streams
 pub mod Tries

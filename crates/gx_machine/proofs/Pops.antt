@@ -1,5 +1,5 @@
 -- Where no operand was popped, the stack isn't cut.
-use Rattle.std.proofs.Common.{◌≡◌, ◌-◌, ◌*◌, ℕ, Bool, true, false, if◌then◌else◌, List, Result, Ok, Err, refl, ap, arith}
+use Rattle.std.proofs.Common.{◌≡◌, ◌-◌, ◌*◌, ℕ, Bool, true, false, if◌then◌else◌, List, Ok, Err, refl, ap, arith}
 use Rattle.std.proofs.Math.Seq.{take-length}
 use Rattle.gx_words.specs.declared.faults.Fault.{Fault}
 use Rattle.gx_words.specs.declared.faults.Fault.TheVariants.{BadLocal}

@@ -29,18 +29,18 @@ use Rattle.gx_machine.proofs.Reading.{one_read}
 use Rattle.gx_machine.proofs.Tries.{instruction_is}
 
 -- the rows of the two instructions
-abbrev streaming : ℕ → Row
+abbrev pub streaming : ℕ → Row
 streaming number = record { number = number; loads = 1; stores = 0; store_first = false; width = 4; class = class.Print; act = number % 256 }
 
-char_row : row_of numbers.streamchar ≡ Some (streaming numbers.streamchar)
+pub char_row : row_of numbers.streamchar ≡ Some (streaming numbers.streamchar)
 unfolding row_of table
 char_row = refl
 
-unichar_row : row_of numbers.streamunichar ≡ Some (streaming numbers.streamunichar)
+pub unichar_row : row_of numbers.streamunichar ≡ Some (streaming numbers.streamunichar)
 unfolding row_of table
 unichar_row = refl
 
-read_row : (f : FlatState) (number modes first a : ℕ) (p : Cursor) → row_of number ≡ Some (streaming number) → opcode f ≡ Ok (number, modes)
+pub read_row : (f : FlatState) (number modes first a : ℕ) (p : Cursor) → row_of number ≡ Some (streaming number) → opcode f ≡ Ok (number, modes)
     → modes + 1 ≤ length f.memory → first ≡ byte f.memory modes → load f 4 (first % 16) (record { at = modes + 1; popped = 0 }) ≡ Ok (a, p)
     → instruction f ≡ Ok (read_as f (streaming number) (operands_read (a ∷ []) Nowhere false p))
 read_row f number modes first a p row read there is one =

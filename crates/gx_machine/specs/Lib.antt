@@ -4,6 +4,7 @@ pub mod Step
 pub mod Log
 pub mod Advancing
 pub mod Quick
+pub mod Starts
 pub mod Answer
 pub mod Start
 pub mod Saves

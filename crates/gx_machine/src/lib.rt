@@ -4,6 +4,7 @@
 //! - `rows` does the row of an instruction, class by class.
 //! - `quick` reads and does the commonest instructions in one go, by the same definitions.
 //! - `quick_acts` has what it does once the operands are read.
+//! - `printing` has the quick steps of printing.
 //! - `engine` has the trait that a session runs on.
 //!
 //! `Machine::step` is `stepped` of specs/Step for every machine, word and budget: each fault comes exactly where the
@@ -21,6 +22,7 @@
 mod askings;
 mod engine;
 mod machine;
+mod printing;
 mod quick;
 mod quick_acts;
 mod rows;

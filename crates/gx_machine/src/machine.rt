@@ -21,8 +21,9 @@ ghost use Rattle.gx_machine.specs.Start.{first_machine};
 ghost use Rattle.gx_machine.specs.Advancing.{Advances, Passes};
 ghost use Rattle.gx_machine.specs.Views.{IsPendingAnswer, result_len};
 
+use crate::printing::{is_dropping, prints_next, start};
 use crate::quick::quick;
-use crate::rows::{drop_next, next_put, print, run};
+use crate::rows::{next_put, print, quick_item, run};
 use crate::{Asking, Engine};
 use gx_operands::Plan;
 use gx_state::{Dest, Effect, FlatCopy, Mode, Reply, State};
@@ -162,6 +163,36 @@ impl<A: Allocator + Clone> Machine<A> {
         next_put(&self.state, &mut self.pending)
     }
 
+    /// What `next_put` gives, where the next step may print.
+    #[inline(always)]
+    fn put_next(&mut self, budget: u64) -> Option<u32>
+        requires { self.old.asking ≡ None }
+        ensures value { IfSome result (λ c. (word : ℕ)
+            → stepped self.old word budget ≡ Ok ((self.new, budget - 1), Put c)) }
+        ensures stands { self.new.machine ≡ self.old.machine }
+        ensures some { IfSome result (λ c. 1 ≤ budget) }
+        ensures none { result ≡ None → self.new ≡ self.old }
+    {
+        if !prints_next(&self.state) {
+            return None;
+        }
+        self.put_apart(budget)
+    }
+
+    /// The same as `next_put`. It stands apart from the steps of code, which are far more often.
+    #[cold]
+    #[inline(never)]
+    fn put_apart(&mut self, budget: u64) -> Option<u32>
+        requires { self.old.asking ≡ None }
+        ensures value { IfSome result (λ c. (word : ℕ)
+            → stepped self.old word budget ≡ Ok ((self.new, budget - 1), Put c)) }
+        ensures stands { self.new.machine ≡ self.old.machine }
+        ensures some { IfSome result (λ c. 1 ≤ budget) }
+        ensures none { result ≡ None → self.new ≡ self.old }
+    {
+        self.next_put(budget)
+    }
+
     /// Steps within the budget, all with one random word, as long as they ask nothing and the word isn't used, and then
     /// one that may. The budget is lowered by all of them but the last, and `left` is what that one leaves.
     #[tactic(auto, using(crate::proofs::Steps::steps))]
@@ -174,6 +205,13 @@ impl<A: Allocator + Clone> Machine<A> {
             let passed = self.passes(budget);
             *left = *budget;
             passed?;
+            match self.put_next(*budget) {
+                Some(c) => {
+                    *left -= 1;
+                    return Ok(Effect::Put(c));
+                }
+                None => {}
+            }
             match self.turn(&mut plan, word, left) {
                 Ok(Effect::Went) => *budget = *left,
                 done => return done,
@@ -181,39 +219,105 @@ impl<A: Allocator + Clone> Machine<A> {
         }
     }
 
-    /// Makes steps the quick way, as long as there are such: instructions, or characters that are dropped.
+    /// Makes steps the quick way, as long as there are such: instructions, and steps of printing that put nothing.
     #[inline(always)]
+    #[tactic(auto, using(crate::proofs::Steps::steps))]
     fn passes(&mut self, budget: &mut u64) -> Result<(), Fault>
         requires asks { self.old.asking ≡ None }
         ensures value { (word : ℕ) → PassesUntil word result (self.old, budget.old) (self.new, budget.new) }
         ensures asks { self.new.asking ≡ None }
         ensures no_more { budget.new ≤ budget.old }
     {
-        match self.state.mode() {
-            Mode::Running => self.passes_running(budget),
-            Mode::Printing(_) => {
-                self.passes_printing(budget);
-                Ok(())
+        loop {
+            self.passes_running(budget)?;
+            if !self.passes_printing(budget) {
+                return Ok(());
             }
         }
     }
 
-    /// The same for a machine that prints at first. Code runs far more often, and so the compiler is told that this is
-    /// rare: it then takes the steps of code into one function.
-    #[cold]
-    #[inline(never)]
-    #[tactic(auto, using(crate::proofs::Steps::steps))]
-    fn passes_printing(&mut self, budget: &mut u64)
+    /// The steps of printing that can be made, where the next step may print. It is true where there was one, and more
+    /// may follow.
+    #[inline(always)]
+    #[tactic(auto, using(crate::proofs::Starts::no_passes))]
+    fn passes_printing(&mut self, budget: &mut u64) -> bool
         requires asks { self.old.asking ≡ None }
         ensures value { (word : ℕ)
             → (n : ℕ) × Passes word n (self.old, budget.old) None (self.new, budget.new) None }
         ensures asks { self.new.asking ≡ None }
+        ensures fewer { result ≡ true → budget.new < budget.old }
         ensures no_more { budget.new ≤ budget.old }
     {
-        while self.pass_printing(budget) {}
+        if !prints_next(&self.state) {
+            return false;
+        }
+        self.prints_apart(budget)
     }
 
-    /// One step that drops a character. Nothing is done where the next one does something else.
+    /// Steps of printing: items that put nothing, and then an instruction that begins to print or drops a character. It
+    /// is true where there was one, and more may follow: under Glk a character is to be put behind such an instruction.
+    ///
+    /// Code runs far more often, and so the compiler is told that this is rare: it then takes the steps of code into
+    /// one function.
+    #[cold]
+    #[inline(never)]
+    #[tactic(auto, using(crate::proofs::Steps::steps))]
+    fn prints_apart(&mut self, budget: &mut u64) -> bool
+        requires asks { self.old.asking ≡ None }
+        ensures value { (word : ℕ)
+            → (n : ℕ) × Passes word n (self.old, budget.old) None (self.new, budget.new) None }
+        ensures asks { self.new.asking ≡ None }
+        ensures fewer { result ≡ true → budget.new < budget.old }
+        ensures no_more { budget.new ≤ budget.old }
+    {
+        let before = *budget;
+        while self.pass_printing(budget) {}
+        let started = self.pass_start(budget);
+        *budget < before && (!started || is_dropping(&self.state))
+    }
+
+    /// One instruction that begins to print or drops a character. Nothing is done where the next step is another.
+    #[inline(always)]
+    #[tactic(auto, using(crate::proofs::Steps::steps))]
+    fn pass_start(&mut self, budget: &mut u64) -> bool
+        requires asks { self.old.asking ≡ None }
+        ensures value { (word : ℕ) → Tries ⊥ (Ok result) (self.old, budget.old) (self.new, budget.new)
+            (stepped self.old word budget.old) }
+        ensures asks { self.new.asking ≡ None }
+        ensures fewer { result ≡ true → budget.new < budget.old }
+        ensures no_more { budget.new ≤ budget.old }
+    {
+        if *budget == 0 || self.state.stack().size() == 0 {
+            return false;
+        }
+        match self.state.mode() {
+            Mode::Running => self.pass_started(budget),
+            Mode::Printing(_) => false,
+        }
+    }
+
+    /// The same for a machine that runs code, with a unit at least.
+    #[inline(always)]
+    #[tactic(auto, using(crate::proofs::Steps::steps))]
+    fn pass_started(&mut self, budget: &mut u64) -> bool
+        requires asks { self.old.asking ≡ None }
+        requires some { 1 ≤ budget.old }
+        requires live { 0 < sp_of self.old.machine.flat }
+        requires running { self.old.machine.flat.mode ≡ Mode.Running }
+        ensures value { (word : ℕ) → Tries ⊥ (Ok result) (self.old, budget.old) (self.new, budget.new)
+            (stepped self.old word budget.old) }
+        ensures asks { self.new.asking ≡ None }
+        ensures fewer { result ≡ true → budget.new < budget.old }
+        ensures no_more { budget.new ≤ budget.old }
+    {
+        if start(&mut self.state) {
+            *budget -= 1;
+            return true;
+        }
+        false
+    }
+
+    /// One step of printing that puts nothing. Nothing is done where the next one does something else.
     #[inline(always)]
     #[tactic(auto, using(crate::proofs::Steps::steps))]
     fn pass_printing(&mut self, budget: &mut u64) -> bool
@@ -247,7 +351,7 @@ impl<A: Allocator + Clone> Machine<A> {
         ensures fewer { result ≡ true → budget.new < budget.old }
         ensures no_more { budget.new ≤ budget.old }
     {
-        if drop_next(&mut self.state, printing) {
+        if quick_item(&mut self.state, printing) {
             *budget -= 1;
             return true;
         }

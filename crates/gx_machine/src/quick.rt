@@ -624,8 +624,8 @@ fn is_quick(class: Class) -> bool
     )
 }
 
-/// The answer where nothing is done. The compiler is told that this is rare: it then takes the rows of the quick way into
-/// the function of their steps.
+/// The answer where nothing is done. The compiler is told that this is rare: it then takes the rows of the quick way
+/// into the function of their steps.
 #[inline(never)]
 #[cold]
 fn not_quick() -> Result<bool, Fault>
@@ -673,6 +673,14 @@ fn in_ram<A: Allocator + Clone>(state: &mut State<A>) -> Result<bool, Fault>
 /// The most bytes of an instruction that is read here: its number, two bytes of modes, and four operands.
 const MOST_BYTES: u32 = 22;
 
+/// Whether that many bytes from PC on lie in ROM.
+#[inline(always)]
+pub(crate) fn is_in_rom<A: Allocator + Clone>(state: &State<A>) -> bool
+    ensures { result ≡ true → IsInRom true state.now.flat (state.now.flat.pc + 22) }
+{
+    u64::from(state.pc()) + u64::from(MOST_BYTES) <= u64::from(state.ramstart())
+}
+
 /// Does the instruction at PC where its row is one of these.
 #[inline(always)]
 pub(crate) fn quick<A: Allocator + Clone>(state: &mut State<A>) -> Result<bool, Fault>
@@ -683,7 +691,7 @@ pub(crate) fn quick<A: Allocator + Clone>(state: &mut State<A>) -> Result<bool, 
     ensures free { result ≢ Ok false → probes_in state.old.flat Running ≡ 0 }
     ensures story { state.new.flat.story ≡ state.old.flat.story }
 {
-    if u64::from(state.pc()) + u64::from(MOST_BYTES) <= u64::from(state.ramstart()) {
+    if is_in_rom(state) {
         at_pc::<A, true>(state)
     } else {
         in_ram(state)
@@ -693,9 +701,23 @@ pub(crate) fn quick<A: Allocator + Clone>(state: &mut State<A>) -> Result<bool, 
 /// The character that the instruction at PC asks to be put under Glk, where that is streamchar or streamunichar, with
 /// the stack pointer that its pops leave and the address behind it; None of any other instruction.
 #[inline(never)]
-#[tactic(auto, using(crate::proofs::Streams::streams))]
 pub(crate) fn streamed<A: Allocator + Clone>(state: &State<A>) -> Option<(u32, u32, u32)>
     requires { 0 < sp_of state.now.flat }
+    ensures value { IfSome result (λ r. IsStreamed state.now.flat r.0 r.1 r.2) }
+    ensures height { IfSome result (λ r. IsHeight state.now.flat r.1) }
+{
+    if is_in_rom(state) {
+        streamed_at::<A, true>(state)
+    } else {
+        streamed_at::<A, false>(state)
+    }
+}
+
+/// The same, where it is known or not that the instruction lies in ROM.
+#[tactic(auto, using(crate::proofs::Streams::streams))]
+fn streamed_at<A: Allocator + Clone, const ROM: bool>(state: &State<A>) -> Option<(u32, u32, u32)>
+    requires live { 0 < sp_of state.now.flat }
+    requires rom { IsInRom ROM state.now.flat (state.now.flat.pc + 22) }
     ensures value { IfSome result (λ r. IsStreamed state.now.flat r.0 r.1 r.2) }
     ensures height { IfSome result (λ r. IsHeight state.now.flat r.1) }
 {
@@ -704,16 +726,16 @@ pub(crate) fn streamed<A: Allocator + Clone>(state: &State<A>) -> Option<(u32, u
         return None;
     }
     let mut modes = 0;
-    let number = opcode::<A, false>(state, &mut modes).ok()?;
+    let number = opcode::<A, ROM>(state, &mut modes).ok()?;
     if number != STREAMCHAR && number != STREAMUNICHAR {
         return None;
     }
-    let first = mode_pair::<A, false>(state, modes).ok()?;
+    let first = mode_pair::<A, ROM>(state, modes).ok()?;
     let mut cursor = Cursor {
         at: modes + 1,
         popped: 0,
     };
-    let a = load::<A, false>(state, 4, first % 16, &mut cursor).ok()?;
+    let a = load::<A, ROM>(state, 4, first % 16, &mut cursor).ok()?;
     let c = if number == STREAMCHAR { a % 256 } else { a };
     Some((c, stack_pointer(state, cursor.popped), cursor.at))
 }

@@ -23,6 +23,7 @@ ghost use Rattle.gx_machine.specs.Views.{IsPendingAnswer, result_len, machine_wi
 
 use crate::Asking;
 use crate::machine::Pending;
+use crate::printing::{item_on, prints_at_pc};
 use crate::quick::streamed;
 use gx_operands::{Plan, arguments, can_store, decode_into};
 use gx_rows::Class;
@@ -197,6 +198,9 @@ fn next_streamed<A: Allocator + Clone>(
     ensures none { result ≡ None → pending.new ≡ None }
 {
     let _stack = state.stack(); // a state is sound
+    if !prints_at_pc(state) {
+        return None;
+    }
     let (c, sp, next) = streamed(state)?;
     *pending = Some(put_pending(sp, next, Mode::Running));
     Some(c)
@@ -232,7 +236,7 @@ fn next_item<A: Allocator + Clone>(
 
 /// Drops the character that the next step drops. Nothing is done where that does something else.
 #[inline(always)]
-pub(crate) fn drop_next<A: Allocator + Clone>(state: &mut State<A>, printing: &Printing) -> bool
+fn drop_next<A: Allocator + Clone>(state: &mut State<A>, printing: &Printing) -> bool
     requires printing { state.old.flat.mode ≡ APrinting printing.now }
     ensures value { Tries ⊥ (Ok result) state.old.flat state.new.flat (printed state.old.flat) }
     ensures story { state.new.flat.story ≡ state.old.flat.story }
@@ -248,6 +252,20 @@ pub(crate) fn drop_next<A: Allocator + Clone>(state: &mut State<A>, printing: &P
             true
         }
     }
+}
+
+/// Makes the next step of a machine that prints where it puts no character and calls no filter with one, or drops it.
+#[inline(always)]
+pub(crate) fn quick_item<A: Allocator + Clone>(state: &mut State<A>, printing: &Printing) -> bool
+    requires live { 0 < sp_of state.old.flat }
+    requires printing { state.old.flat.mode ≡ APrinting printing.now }
+    ensures value { Tries ⊥ (Ok result) state.old.flat state.new.flat (printed state.old.flat) }
+    ensures story { state.new.flat.story ≡ state.old.flat.story }
+{
+    if drop_next(state, printing) {
+        return true;
+    }
+    item_on(state)
 }
 
 /// What is pending after a row of Game asked.

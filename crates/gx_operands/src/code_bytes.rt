@@ -14,8 +14,8 @@ use gx_state::State;
 use gx_words::{Fault, number_at};
 use std::alloc::Allocator;
 
-/// The 1, 2 or 4 bytes from `at` on, wherever they lie; None where one of them isn't in memory. It stands apart, so that
-/// `load` stays small enough to be copied to where it is called.
+/// The 1, 2 or 4 bytes from `at` on, wherever they lie; None where one of them isn't in memory. It stands apart, so
+/// that `load` stays small enough to be copied to where it is called.
 #[inline(never)]
 #[tactic(auto, unfolding(gx_pages::specs::Memory::number_in))]
 fn anywhere<A: Allocator + Clone>(state: &State<A>, width: u32, at: u32) -> Option<u32>

@@ -1,8 +1,9 @@
--- one step more, or none
+-- items, and an instruction or none
 use Rattle.std.proofs.Common.{ℕ, suc, None, refl, subst, sym, arith}
 use Rattle.gx_machine.specs.Machine.{Whole}
 use Rattle.gx_machine.specs.Advancing.{Passes}
-use Rattle.gx_machine.proofs.machine.Machine.passes_printing.Goals as goal
+use Rattle.gx_machine.proofs.Starts.{then_tried}
+use Rattle.gx_machine.proofs.machine.Machine.prints_apart.Goals as goal
 
 pub loop-preserved : goal.loop-preserved
 loop-preserved g c =
@@ -16,4 +17,8 @@ loop-preserved g c =
 pub returns-clause-value : goal.returns-clause-value
 returns-clause-value g c =
     let same = rw c.loop-test.false at c.pass_printing.ensures.value in
-    λ word. subst (λ (x : Whole × ℕ). (n : ℕ) × Passes word n (c.args.self.now, c.args.budget.now) None x None) (sym (same word)) (c.loop.invariant.passes word)
+    λ word.
+    let before = c.loop.invariant.passes word in
+    then_tried word before.0 (c.args.self.now, c.args.budget.now) _ _ c.pass_start-started.result
+    (subst (λ (x : Whole × ℕ). Passes word before.0 (c.args.self.now, c.args.budget.now) None x None) (sym (same word)) before.1)
+    (c.pass_start-started.ensures.value word)

@@ -1,0 +1,116 @@
+-- An instruction that begins to print, or drops a character.
+use Rattle.std.proofs.Common.{◌≡◌, ◌≢◌, ◌≤◌, ◌+◌, ◌%◌, ◌==◌, ℕ, suc, Bool, true, false, [], ◌∷◌, length, Some, None, Ok, Result, refl, ap, subst, sym, ◌∙◌, arith}
+use Rattle.std.proofs.lemmas.Bool.Decides.{nat_tests}
+use Rattle.gx_words.specs.declared.faults.Fault.{Fault}
+use Rattle.gx_words.specs.declared.strings.Printing.{Printing}
+use Rattle.gx_words.specs.declared.strings.PrintKind.TheVariants.{Number}
+use Rattle.gx_words.specs.Constants.{filter_system, glk_system}
+use Rattle.gx_words.specs.Results.{◌>>=◌}
+use Rattle.gx_words.specs.Numbers.{byte}
+use Rattle.gx_rows.specs.declared.instructions.Class.{Class}
+use Rattle.gx_rows.specs.declared.instructions.Class.TheVariants as class
+use Rattle.gx_rows.specs.Numbers as numbers
+use Rattle.gx_rows.specs.Table.{table, row_of}
+use Rattle.gx_strings.specs.Objects.{string_at}
+use Rattle.gx_state.specs.declared.effects.Effect.TheVariants.{Went}
+use Rattle.gx_state.specs.declared.modes.Dest.TheVariants.{Nowhere}
+use Rattle.gx_state.specs.declared.modes.Mode.TheVariants.{Running}
+use Rattle.gx_state.specs.Flat.{FlatState}
+use Rattle.gx_operands.specs.declared.cursor.Cursor.{Cursor}
+use Rattle.gx_operands.specs.Instructions.{Instruction, opcode, load}
+use Rattle.gx_undo.specs.Undo.{FlatUndo}
+use Rattle.ops_memory.specs.Costs.{probes_of}
+use Rattle.ops_print.specs.Rows.{streamchar, streamunichar, streamnum, streamstr}
+use Rattle.ops_print.specs.Rows as print
+use Rattle.gx_machine.specs.Quick.{Tries, jumped_on, read_as, operands_read}
+use Rattle.gx_machine.specs.Advancing.{Passes}
+use Rattle.gx_machine.specs.Machine.{Whole}
+use Rattle.gx_machine.specs.Starts.{IsStarted, begun_on}
+use Rattle.gx_machine.specs.Rows.{row_effect, with_copies}
+use Rattle.gx_machine.specs.Step.{mode_step, probes_by, probes_in, stepped}
+use Rattle.gx_machine.proofs.Streams.{streaming, char_row, unichar_row, read_row}
+
+number_row : row_of numbers.streamnum ≡ Some (streaming numbers.streamnum)
+unfolding row_of table
+number_row = refl
+
+string_row : row_of numbers.streamstr ≡ Some (streaming numbers.streamstr)
+unfolding row_of table
+string_row = refl
+
+pub started_number : (f g : FlatState) (modes first a : ℕ) (p : Cursor) → opcode f ≡ Ok (numbers.streamnum, modes)
+    → modes + 1 ≤ length f.memory → first ≡ byte f.memory modes → load f 4 (first % 16) (record { at = modes + 1; popped = 0 }) ≡ Ok (a, p)
+    → g ≡ begun_on f (record { kind = Number; at = a; bit = 0; started = false }) p → IsStarted f g
+unfolding streamnum
+started_number f g modes first a p read there is one begun = record {
+  i = read_as f (streaming numbers.streamnum) (operands_read (a ∷ []) Nowhere false p);
+  reads = read_row f numbers.streamnum modes first a p number_row read there is one;
+  prints = refl;
+  goes = rw begun refl;
+}
+
+pub started_string : (f g : FlatState) (modes first a : ℕ) (p : Cursor) (string : Printing) → opcode f ≡ Ok (numbers.streamstr, modes)
+    → modes + 1 ≤ length f.memory → first ≡ byte f.memory modes → load f 4 (first % 16) (record { at = modes + 1; popped = 0 }) ≡ Ok (a, p)
+    → string_at f.memory a ≡ Ok string → g ≡ begun_on f string p → IsStarted f g
+unfolding streamstr
+started_string f g modes first a p string read there is one stands begun = record {
+  i = read_as f (streaming numbers.streamstr) (operands_read (a ∷ []) Nowhere false p);
+  reads = read_row f numbers.streamstr modes first a p string_row read there is one;
+  prints = refl;
+  goes = rw (stands, begun) refl;
+}
+
+pub dropped_char : (f g : FlatState) (modes first a : ℕ) (p : Cursor) → f.iosys.0 ≢ glk_system → f.iosys.0 ≢ filter_system → opcode f ≡ Ok (numbers.streamchar, modes)
+    → modes + 1 ≤ length f.memory → first ≡ byte f.memory modes → load f 4 (first % 16) (record { at = modes + 1; popped = 0 }) ≡ Ok (a, p)
+    → jumped_on f p.at p ≡ Ok (g, Went) → IsStarted f g
+unfolding streamchar
+dropped_char f g modes first a p glk filter read there is one goes =
+    let no_glk : (f.iosys.0 == glk_system) ≡ false = grind (arith, nat_tests) in
+    let no_filter : (f.iosys.0 == filter_system) ≡ false = grind (arith, nat_tests) in
+    record {
+      i = read_as f (streaming numbers.streamchar) (operands_read (a ∷ []) Nowhere false p);
+      reads = read_row f numbers.streamchar modes first a p char_row read there is one;
+      prints = refl;
+      goes = rw (no_filter, no_glk) goes;
+    }
+
+pub dropped_unichar : (f g : FlatState) (modes first a : ℕ) (p : Cursor) → f.iosys.0 ≢ glk_system → f.iosys.0 ≢ filter_system → opcode f ≡ Ok (numbers.streamunichar, modes)
+    → modes + 1 ≤ length f.memory → first ≡ byte f.memory modes → load f 4 (first % 16) (record { at = modes + 1; popped = 0 }) ≡ Ok (a, p)
+    → jumped_on f p.at p ≡ Ok (g, Went) → IsStarted f g
+unfolding streamunichar
+dropped_unichar f g modes first a p glk filter read there is one goes =
+    let no_glk : (f.iosys.0 == glk_system) ≡ false = grind (arith, nat_tests) in
+    let no_filter : (f.iosys.0 == filter_system) ≡ false = grind (arith, nat_tests) in
+    record {
+      i = read_as f (streaming numbers.streamunichar) (operands_read (a ∷ []) Nowhere false p);
+      reads = read_row f numbers.streamunichar modes first a p unichar_row read there is one;
+      prints = refl;
+      goes = rw (no_filter, no_glk) goes;
+    }
+
+pub ruleset starts = (started_number, started_string, dropped_char, dropped_unichar)
+
+-- ---- its step
+
+effect_by : (c : Class) (u : FlatUndo) (f g : FlatState) (word : ℕ) (i : Instruction) → c ≡ class.Print → print.row_effect f i ≡ Ok (g, Went)
+    → row_effect c (record { flat = f; undo = u }) word i ≡ Ok (record { flat = g; undo = u }, Went)
+effect_by c u f g word i is goes =
+    ap (λ (d : Class). row_effect d (record { flat = f; undo = u }) word i) is ∙ ap (with_copies u) goes
+
+pub started_steps : (f g : FlatState) → IsStarted f g → (u : FlatUndo) (word : ℕ)
+    → mode_step (record { flat = f; undo = u }) word Running ≡ Ok (record { flat = g; undo = u }, Went)
+started_steps f g s u word =
+    ap (λ (r : Result Instruction Fault). r >>= (λ (i : Instruction). row_effect i.row.class (record { flat = f; undo = u }) word i)) s.reads
+    ∙ effect_by s.i.row.class u f g word s.i s.prints s.goes
+
+pub started_probes : (f g : FlatState) → IsStarted f g → probes_in f Running ≡ 0
+started_probes f g s = ap (probes_by f) s.reads ∙ ap (λ (d : Class). probes_of d f s.i) s.prints
+
+-- ---- steps after steps
+
+pub then_tried : (word n : ℕ) (a b c : Whole × ℕ) (r : Bool) → Passes word n a None b None → Tries {S = Whole × ℕ} ⊥ (Ok r) b c (stepped b.0 word b.1) → (k : ℕ) × Passes word k a None c None
+then_tried word n a b c true first then = (suc n, (b, None, first, then, refl))
+then_tried word n a b c false first same = (n, subst (λ (x : Whole × ℕ). Passes word n a None x None) (sym same) first)
+
+pub no_passes : (w : Whole) (budget : ℕ) → (word : ℕ) → (n : ℕ) × Passes word n (w, budget) None (w, budget) None
+no_passes w budget word = (0, (refl, refl))
