@@ -1,9 +1,9 @@
 -- A call of Glk (Glk 0.7.5, "The Dispatch Layer").
 --
 -- Every call is looked at in one order. BadGlk: no such selector, too few arguments, an identifier other than 0 that
--- names no object of its class. Then a call on the object 0 does nothing, where its row needs the object. Any other does
--- what its row says, which looks at addresses, the arguments from the left to the right, and then at the room for what
--- is pushed; then it changes the world. Spare arguments drop.
+-- names no object of its class. Then a call on the object 0 does nothing, where its row needs the object. Any other
+-- does what its row says, which looks at addresses, the arguments from the left to the right, and then at the room for
+-- what is pushed; then it changes the world. Spare arguments drop.
 use Rattle.std.specs.Prelude.{◌≡◌, ℕ, ◌==◌, ◌&&◌, ◌||◌, not, nat_lt, nat_le, if◌then◌else◌, Bool, true, false}
 use Rattle.std.specs.Prelude.{List, [], ◌∷◌, length, replicate, Option, Some, None, Result, Ok, Err}
 use Rattle.gx_words.specs.declared.faults.Fault.{Fault}

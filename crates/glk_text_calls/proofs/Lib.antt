@@ -1,5 +1,6 @@
 mod Constants
 pub mod Puts
+pub mod Cases
 pub mod Reading
 pub mod Saving
 pub mod Rests

@@ -1,6 +1,8 @@
 -- Characters that are put, and their places.
-use Rattle.std.proofs.Common.{◌≡◌, ◌≢◌, ◌<◌, ◌≤◌, ◌==◌, ◌&&◌, not, ℕ, Bool, true, false, if◌then◌else◌, List}
-use Rattle.std.proofs.Common.{[], ◌∷◌, length, refl, ap, inl, inr, arith, Result, Ok, Err, IsOk}
+use Rattle.std.proofs.Common.{◌≡◌, ◌≢◌, ◌<◌, ◌≤◌, ◌==◌, ◌&&◌, ◌||◌, ◌⊎◌, not, ℕ, Bool, true, false, if◌then◌else◌}
+use Rattle.std.proofs.Common.{List, [], ◌∷◌, length, refl, sym, ap, subst, ◌∙◌, inl, inr, arith, Result, Ok, Err}
+use Rattle.std.proofs.Common.{IsOk, IsTrue}
+use Rattle.std.proofs.lemmas.Bool.Decides.{nat_tests}
 use Rattle.std.proofs.lemmas.List.{append-nil}
 use Rattle.gx_words.specs.declared.faults.Fault.{Fault}
 use Rattle.gx_words.specs.declared.faults.Fault.TheVariants.{NoMemory}
@@ -20,6 +22,10 @@ use Rattle.glk_replies.specs.Parts.{IsCharWidth, replies, can_lay, char_writes, 
 use Rattle.glk_text_calls.specs.Putting.{can_put, put_all, put_grows_one}
 use Rattle.glk_replies.proofs.Counting.{count_numbers, some_numbers}
 use Rattle.glk_replies.proofs.Ram.{laid_in_ram}
+
+or_last : (b : Bool) → (b || true) ≡ true
+or_last true = refl
+or_last false = refl
 
 -- one character
 pub puts_one : (w : FlatWorld) (stream c : ℕ)
@@ -80,22 +86,61 @@ put_fine w f stream count cs len there lays = rw (put_there w f stream count cs 
 
 -- places that can't be written
 pub put_refused : {wants : Type 0} (w : FlatWorld) (f : FlatState) (stream count : ℕ) (cs : List ℕ) (p : Places)
-    (e : Fault) → length cs ≡ count → streams.has w.scene.streams stream ≡ true → p ≡ places_of w.scene stream count
+    (e : Fault) → p ≡ places_of w.scene stream count → length cs ≡ count → streams.has w.scene.streams stream ≡ true
     → (can_lay f p ≡ Err e) × (e ≢ NoMemory) → MakesCall wants (Err e) w w (put_all w.scene f stream cs)
 unfolding put_all can_put
-put_refused w f stream count cs p e len there is lays =
+put_refused w f stream count cs p e is len there lays =
     let at_places : can_lay f (places_of w.scene stream count) ≡ Err e = rw (← is) lays.0 in
     (λ other. refl, (λ other. rw (there, len, at_places) refl, λ none. absurd (lays.1 none)))
 
 -- want of memory behind the looks
 pub put_wanted : {wants : Type 0} (w now : FlatWorld) (f : FlatState) (stream count : ℕ) (cs : List ℕ) (p : Places)
-    → wants → length cs ≡ count → streams.has w.scene.streams stream ≡ true → p ≡ places_of w.scene stream count
+    → wants → p ≡ places_of w.scene stream count → length cs ≡ count → streams.has w.scene.streams stream ≡ true
     → can_lay f p ≡ Ok tt → MakesCall wants (Err NoMemory) w now (put_all w.scene f stream cs)
-put_wanted w now f stream count cs p some len there is lays =
+put_wanted w now f stream count cs p some is len there lays =
     let at_places : can_lay f (places_of w.scene stream count) ≡ Ok tt = rw (← is) lays in (
       λ other. absurd (other refl),
       (λ other. absurd (other refl), λ none. (some, put_fine w f stream count cs len there at_places)),
     )
+
+-- all that is put
+pub put_filled : (w now : FlatWorld) (f : FlatState) (stream count : ℕ) (cs : List ℕ) (p : Places) (reply : Reply)
+    → p ≡ places_of w.scene stream count → length cs ≡ count → streams.has w.scene.streams stream ≡ true
+    → can_lay f p ≡ Ok tt → now ≡ after w (put_chars w.scene stream cs) → reply ≡ reply_filling 0 p cs
+    → on_world w (put_all w.scene f stream cs) ≡ Ok (now, reply)
+put_filled w now f stream count cs p reply is len there lays made filled =
+    let at_places : can_lay f (places_of w.scene stream count) ≡ Ok tt = rw (← is) lays in
+    let at_reply : reply ≡ reply_filling 0 (places_of w.scene stream count) cs = rw (← is) filled in
+    rw (made, at_reply) (put_there w f stream count cs len there at_places)
+
+-- one character, where the world is still that before the call
+module _ (w v : FlatWorld) (f : FlatState) (stream c : ℕ) (p : Places) (same : v ≡ w)
+    (is : p ≡ places_of v.scene stream 1) (there : streams.has v.scene.streams stream ≡ true) where
+  pub one_refused : {wants : Type 0} (e : Fault) → (can_lay f p ≡ Err e) × (e ≢ NoMemory)
+      → MakesCall wants (Err e) w v (put_all w.scene f stream (c ∷ []))
+  one_refused {wants} e lays =
+      subst (λ (u : FlatWorld). MakesCall wants (Err e) u v (put_all u.scene f stream (c ∷ []))) same
+      (put_refused v f stream 1 (c ∷ []) p e is refl there lays)
+
+  grows_one : IsTrue (put_grows v.scene stream c) ⊎ (0 < p.count) → put_grows_one v.scene stream c ≡ true
+  grows_one (inl grows) = rw (there, grows) refl
+  grows_one (inr some) =
+      let placed : 0 < (places_of v.scene stream 1).count = subst (λ (q : Places). 0 < q.count) is some in
+      let counted : (places_of v.scene stream 1).count == 0 ≡ false = grind (arith, nat_tests, placed) in
+      rw (there, counted) (or_last (put_grows v.scene stream c))
+
+  pub one_wanted : (now : FlatWorld) → can_lay f p ≡ Ok tt → IsTrue (put_grows v.scene stream c) ⊎ (0 < p.count)
+      → MakesCall (IsTrue (put_grows_one w.scene stream c)) (Err NoMemory) w now (put_all w.scene f stream (c ∷ []))
+  one_wanted now lays some =
+      subst (λ (u : FlatWorld). MakesCall (IsTrue (put_grows_one u.scene stream c)) (Err NoMemory) u now
+      (put_all u.scene f stream (c ∷ []))) same
+      (put_wanted v now f stream 1 (c ∷ []) p (grows_one some) is refl there lays)
+
+  pub one_filled : (now : FlatWorld) (reply : Reply) → can_lay f p ≡ Ok tt → now ≡ after v (put_of v.scene stream c)
+      → reply ≡ reply_filling 0 p (c ∷ []) → on_world w (put_all w.scene f stream (c ∷ [])) ≡ Ok (now, reply)
+  one_filled now reply lays made filled =
+      subst (λ (u : FlatWorld). on_world u (put_all u.scene f stream (c ∷ [])) ≡ Ok (now, reply)) same
+      (put_filled v now f stream 1 (c ∷ []) p reply is refl there lays (made ∙ sym (puts_one v stream c)) filled)
 
 pub ruleset put_rules = (puts_one, put_in_ram, some_counted)
 
@@ -129,6 +174,17 @@ text_grows w stream c plain grows = rw (text_there w stream plain, grows) refl
 pub text_fine : (w : FlatWorld) (f : FlatState) (stream c : ℕ) → is_plain_text w.scene stream ≡ true
     → (places_of w.scene stream 1).count ≡ 0 → IsOk (on_world w (put_all w.scene f stream (c ∷ [])))
 text_fine w f stream c plain none = rw (text_put w f stream c plain none) refl
+
+pub text_wanted : (w now : FlatWorld) (f : FlatState) (stream c : ℕ) → is_plain_text w.scene stream ≡ true
+    → put_grows w.scene stream c ≡ true → (places_of w.scene stream 1).count ≡ 0
+    → MakesCall (IsTrue (put_grows_one w.scene stream c)) (Err NoMemory) w now (put_all w.scene f stream (c ∷ []))
+text_wanted w now f stream c plain grows none = (
+  λ other. absurd (other refl),
+  (
+    λ other. absurd (other refl),
+    λ wanted. (text_grows w.scene stream c plain grows, text_fine w f stream c plain none),
+  ),
+)
 
 pub ruleset text_rules = (text_put, text_grows, text_fine)
 
