@@ -22,9 +22,16 @@ use Rattle.gx_asm.specs.Codes.{modes_len}
 use Rattle.gx_asm.specs.Instructions.{WrittenInstruction, IsWritten, AreModes, operand_count, data_len, all_data_len, nibble_of, packed_nibbles, opcode_number, bytes_of}
 use Rattle.gx_asm.proofs.BytesOpcodes.{number_small, place_of_row, length-opcode}
 use Rattle.gx_asm.proofs.Nibbles.{addressing_of, nibble_small, length-packed}
-use Rattle.gx_play.specs.Spelling.{StandAt, mode_at, data_before, data_of, modes_at, data_at, SeesInstruction}
+use Rattle.gx_play.specs.Spelling.{mode_at, data_before, modes_at, data_at, SeesInstruction}
 
 -- ---- bytes that stand in memory
+
+abbrev StandAt : List ℕ → ℕ → List ℕ → Type 0
+StandAt memory at bytes = take (length bytes) (drop at memory) ≡ bytes
+
+-- an operand's data
+abbrev data_of : WrittenInstruction → ℕ → List ℕ
+data_of w k = take (data_len (mode_at w k)) (drop (data_before w k) w.operand_data)
 
 -- each of them, and all inside
 record Stands (memory : List ℕ) (at : ℕ) (bytes : List ℕ) : Type 0 where

@@ -1,6 +1,6 @@
 -- What a command comes to, from what its parts did.
 use Rattle.std.proofs.Common.{◌≡◌, ◌≢◌, ℕ, ◌≤◌, ◌⊎◌, inl, inr, Bool, true, false, List, [], ◌∷◌, Option, Some, None}
-use Rattle.std.proofs.Common.{IfSome, Result, Ok, Err, refl, ap, subst, sym, ◌∙◌, arith}
+use Rattle.std.proofs.Common.{IfSome, length, Result, Ok, Err, refl, ap, subst, sym, ◌∙◌, arith}
 use Rattle.gx_words.specs.Constants.{ceiling}
 use Rattle.gx_outside.specs.Chains.{Chain}
 use Rattle.gx_outside.specs.Outside.{FlatShelf, FlatSink}
@@ -25,17 +25,16 @@ use Rattle.gx_play.specs.declared.command.Job.TheVariants.{Play, Check, Work, As
 use Rattle.gx_play.specs.declared.loading.Refusal.{Refusal}
 use Rattle.gx_play.specs.Commands.{Command, command_of}
 use Rattle.gx_play.specs.Constants.{most_text}
-use Rattle.gx_play.specs.Jobs.{work_line, check_status, check_line}
-use Rattle.gx_play.specs.Outcomes.{CommandOutcome, refused, unstarted, runs, rewinds, tells, outcome_of_job}
+use Rattle.gx_play.specs.Jobs.{work_line, check_told}
+use Rattle.gx_play.specs.Outcomes.{CommandOutcome, refused, tells, outcome_of_job}
 use Rattle.gx_play.specs.Outcomes.{outcome_of_code, outcome_of_listing, story_in_file, text_in_file}
 use Rattle.gx_play.proofs.Outcomes.{outcome_of_check, outcome_of_text, outcome_of_list}
-use Rattle.gx_play.specs.Answers.{HasNoMachine, IsUnbegun, KeepsSink, IsRunBegun, SendsOutput, Plays}
-use Rattle.gx_play.specs.FirstLoad.{IsLoadable, JobMayWant, LoadsFirst}
-use Rattle.gx_play.specs.Unbegun.{IsUnrun, PlaysStory, LoadsOnce}
-use Rattle.gx_play.specs.Statuses.{HasItsParts}
+use Rattle.gx_play.specs.Answers.{HasNoMachine, IsUnrun, SendsOutput}
+use Rattle.gx_play.specs.FirstLoad.{JobMayWant, LoadsFirst}
+use Rattle.gx_play.specs.Statuses.{PlaysStory, HasItsParts}
 use Rattle.gx_play.specs.Headline.{ComesOut, IsPlayed}
-use Rattle.gx_play.specs.Loading.{refusal_status, refusal_fault, LoadGives, LoadsFile, JobTells, BlamesSink}
-use Rattle.gx_play.specs.Loading.{HasRunParts, IsIdle, IsJobDone}
+use Rattle.gx_play.specs.Loading.{refusal_status, refusal_fault, IsLoadable, LoadGives, LoadsFile, JobTells}
+use Rattle.gx_play.specs.Loading.{BlamesSink, HasRunParts, PlaysOrNot, IsJobDone}
 use Rattle.gx_play.proofs.Completeness.{complete}
 use Rattle.gx_play.proofs.Loads.{loadable, text-loadable}
 use Rattle.gx_play.proofs.Seeds.{undrawn, settled}
@@ -110,12 +109,9 @@ module _ {A : Type 0} (ended : Ended A) where
     not_run = p.not_run;
   }
 
-  unbegun-plays : (outcome : CommandOutcome) (entry exit : Devices) → IsUnbegun ended → KeepsSink entry exit → Plays outcome entry exit ended
-  unbegun-plays (refused status fault at) entry exit is unsent = (inr is, unsent)
-  unbegun-plays (unstarted fault at) entry exit is unsent = (inr is, unsent)
-  unbegun-plays (runs seed start) entry exit is unsent = inr (is, unsent)
-  unbegun-plays (rewinds seed back start) entry exit is unsent = inr (is, unsent)
-  unbegun-plays (tells status output) entry exit is unsent = inr (is, unsent)
+  -- the shelf was asked once
+  once-asked : (asked : Trace) (load : Exchange) → asked ≡ load ∷ [] → length asked ≤ 1
+  once-asked asked load is = let size : length asked ≡ 1 = ap (λ (t : Trace). length t) is in omega (arith, size)
 
   -- AN OUTPUT that was sent, or a front of it
   quiet : (status : ℕ) → HasNoMachine ended status 0 0 0 → (status ≡ 0) ⊎ (status ≡ 3) ⊎ (status ≡ 10) ⊎ (status ≡ 11) → IsTold ended
@@ -131,9 +127,9 @@ module _ {A : Type 0} (ended : Ended A) where
   }
 
   sent : (status : ℕ) (output : List ℕ) (before now : FlatSink) (sends : List Send) → (status ≡ 0) ⊎ (status ≡ 3) → SendsOutput status 0 0 0 output before now sends ended → IsTold ended
-  sent status output before now sends which (inl (absent, took)) = quiet status absent (grind (arith, which))
-  sent status output before now sends which (inr (of_send.Failed, absent, took)) = quiet status_output_fault absent (inr (inr (inl refl)))
-  sent status output before now sends which (inr (of_send.NoMemory, (absent, wanted), took)) = quiet status_no_memory absent (inr (inr (inr refl)))
+  sent status output before now sends which (Ok done, absent, took, call) = quiet status absent (grind (arith, which))
+  sent status output before now sends which (Err of_send.Failed, absent, took, call) = quiet status_output_fault absent (inr (inr (inl refl)))
+  sent status output before now sends which (Err of_send.NoMemory, absent, took, call) = quiet status_no_memory absent (inr (inr (inr refl)))
 
   -- a text's code, or its fault
   code-told : (r : Result (List ℕ) AsmFault) (before now : FlatSink) (sends : List Send) → (ended.status ≡ status_bad_text → (1 ≤ ended.fault) × (ended.fault ≤ 4)) → JobTells (outcome_of_code r) before now sends ended → IsTold ended
@@ -171,11 +167,11 @@ module _ {A : Type 0} (ended : Ended A) where
         listing_fault = λ _. (omega (arith, f, range.0), omega (arith, f, range.1));
       }
 
-  plays-told : (outcome : CommandOutcome) (entry exit : Devices) → JobTells outcome entry.sink exit.sink exit.sends ended → entry.sends ≡ [] → Plays outcome entry exit ended
-  plays-told (refused status fault at) entry exit (absent, same, unsent) first = (inl absent, record { sink = same; sends = unsent ∙ sym first })
-  plays-told (tells status output) entry exit (inl once) first = inl once
-  plays-told (tells status output) entry exit (inr (absent, same, unsent)) first = inr (inr absent, record { sink = same; sends = unsent ∙ sym first })
-  plays-told outcome entry exit none first = absurd none
+  plays-told : (outcome : CommandOutcome) (entry exit : Devices) → IsUnrun entry exit → JobTells outcome entry.sink exit.sink exit.sends ended → PlaysOrNot outcome entry exit ended
+  plays-told (refused status fault at) entry exit unrun told = inl (unrun, told)
+  plays-told (tells status output) entry exit unrun (inl once) = inl (unrun, once)
+  plays-told (tells status output) entry exit unrun (inr nothing) = inr (inr (unrun, nothing))
+  plays-told outcome entry exit unrun none = absurd none
 
   -- A JOB that hands no machine back, over the file that was loaded
   module _ (job : Job) (command : Command) (d : Devices) (before now : FlatShelf) (taken took : FlatSink) (sends : List Send) (asked : Trace) where
@@ -186,24 +182,18 @@ module _ {A : Type 0} (ended : Ended A) where
     at-exit = record d { sink = took; shelf = now; sends = sends; asked = asked }
 
     told-done : (file : Option (List ℕ)) (outcome : CommandOutcome) (failed : Type 0) → (PlaysStory job → ⊥) → (before.tells ≡ true → file ≡ before.files command.story) → outcome_of_job job command file at-entry ≡ outcome
-        → JobMayWant job file → LoadsFirst job command file asked → LoadsOnce job asked → Blames before.calls now.calls failed → (failed → ⊥) → IsTold ended → JobTells outcome taken took sends ended → BlamesSink taken took ended.status
+        → JobMayWant job file → LoadsFirst job command file asked → length asked ≤ 1 → Blames before.calls now.calls failed → (failed → ⊥) → IsTold ended → JobTells outcome taken took sends ended → BlamesSink taken took ended.status
         → IsJobDone job command at-entry at-exit ended
-    told-done file outcome failed idle holds is may first once count fine t tell blames =
+    told-done file outcome failed idle holds is may first few count fine t tell blames =
         let s = t.absent.status_is in
         let which = t.which in
         record {
           file = file;
           file_is = holds;
           loads = first;
-          plays = subst (λ (o : CommandOutcome). Plays o at-entry at-exit ended) (sym is) (plays-told outcome at-entry at-exit tell refl);
+          plays = subst (λ (o : CommandOutcome). PlaysOrNot o at-entry at-exit ended) (sym is) (plays-told outcome at-entry at-exit (record { asked = few; source = refl; reads = refl; words = refl }) tell);
           memory = λ _. may;
           began = λ e. absurd (grind (arith, s, which, e));
-          begun = inr (record {
-            machine = t.absent.machine_is;
-            loads = once;
-            untouched = record { steps = t.absent.steps_are; source = refl; reads = refl; words = refl };
-            unsent = λ plays. absurd (idle plays);
-          });
           counts = record {
             shelf = blames-same before.calls now.calls failed (ended.status ≡ status_shelf_fault) count (λ e. absurd (fine e)) (λ e. absurd (grind (arith, s, which, e)));
             source = blames-none d.source.calls d.source.calls (ended.status ≡ status_input_fault) refl (λ e. absurd (grind (arith, s, which, e)));
@@ -216,7 +206,7 @@ module _ {A : Type 0} (ended : Ended A) where
   module _ (number : ℕ) (command : Command) (d : Devices) (before now : FlatSink) (sends : List Send) where
     work-done : IsTold ended → JobTells (tells status_ended (work_line number)) before now sends ended → BlamesSink before now ended.status → IsJobDone (Work number) command (record d { sink = before; sends = []; asked = [] }) (record d { sink = now; sends = sends; asked = [] }) ended
     work-done t tell blames =
-        told-done (Work number) command d d.shelf d.shelf before now sends [] (d.shelf.files command.story) (tells status_ended (work_line number)) ⊥ (λ plays. plays) (λ _. refl) refl tt tt refl
+        told-done (Work number) command d d.shelf d.shelf before now sends [] (d.shelf.files command.story) (tells status_ended (work_line number)) ⊥ (λ plays. plays) (λ _. refl) refl tt refl (omega arith)
         (blames-none d.shelf.calls d.shelf.calls ⊥ refl (λ e. e)) (λ e. e) t tell blames
 
     pub work-told : SendsOutput status_ended 0 0 0 (work_line number) before now sends ended → BlamesSink before now ended.status → IsJobDone (Work number) command (record d { sink = before; sends = []; asked = [] }) (record d { sink = now; sends = sends; asked = [] }) ended
@@ -236,12 +226,12 @@ module _ {A : Type 0} (ended : Ended A) where
     abbrev exit : Devices
     exit = record d { shelf = now; sends = []; asked = asked }
 
-    not-loaded : (file : Option (List ℕ)) (r : Refusal) (outcome : CommandOutcome) → ((fault : ℕ) → defined file ≡ Err fault → outcome ≡ refused status_bad_story fault 0) → LoadGives most defined file (Err r) → HasNoMachine ended (refusal_status r) (refusal_fault r) 0 0
-        → Plays outcome entry exit ended
-    not-loaded file (refusal.BadStory fault) outcome bad gives absent =
-        subst (λ (o : CommandOutcome). Plays o entry exit ended) (sym (bad fault gives)) (inl absent, record { sink = refl; sends = refl })
-    not-loaded file refusal.Shelf outcome bad gives absent = unbegun-plays outcome entry exit (inl absent) (record { sink = refl; sends = refl })
-    not-loaded file refusal.NoMemory outcome bad gives absent = unbegun-plays outcome entry exit (inr absent) (record { sink = refl; sends = refl })
+    not-loaded : (file : Option (List ℕ)) (r : Refusal) (outcome : CommandOutcome) → IsUnrun entry exit → ((fault : ℕ) → defined file ≡ Err fault → outcome ≡ refused status_bad_story fault 0) → LoadGives most defined file (Err r) → HasNoMachine ended (refusal_status r) (refusal_fault r) 0 0
+        → PlaysOrNot outcome entry exit ended
+    not-loaded file (refusal.BadStory fault) outcome unrun bad gives absent =
+        subst (λ (o : CommandOutcome). PlaysOrNot o entry exit ended) (sym (bad fault gives)) (inl (unrun, (absent, refl, refl)))
+    not-loaded file refusal.Shelf outcome unrun bad gives absent = inr (inl (unrun, (absent, refl, refl)))
+    not-loaded file refusal.NoMemory outcome unrun bad gives absent = inr (inr (unrun, (absent, refl, refl)))
 
     wants : (file : Option (List ℕ)) (r : Refusal) → LoadGives most defined file (Err r) → HasNoMachine ended (refusal_status r) (refusal_fault r) 0 0 → ended.status ≡ status_no_memory → IsLoadable most file
     wants file (refusal.BadStory fault) gives absent e = let s = absent.status_is in absurd (omega (arith, s, e))
@@ -269,22 +259,16 @@ module _ {A : Type 0} (ended : Ended A) where
     pub refused-done : (job : Job) (r : Refusal) (l : LoadsFile most defined before now command.story asked (Err r)) → Blames before.calls now.calls (let e : Result X Refusal = Err r in e ≡ Err refusal.Shelf)
         → ((fault : ℕ) → (let e : Result X Refusal = Err r in e ≡ Err (refusal.BadStory fault)) → fault ≤ 7) → HasNoMachine ended (refusal_status r) (refusal_fault r) 0 0
         → ((fault : ℕ) → defined l.file ≡ Err fault → outcome_of_job job command l.file entry ≡ refused status_bad_story fault 0) → (IsLoadable most l.file → JobMayWant job l.file)
-        → LoadsFirst job command l.file ((loads command.story most, l.answer) ∷ []) → ((load : Exchange) × (asked ≡ load ∷ []) → LoadsOnce job asked) → IsJobDone job command entry exit ended
-    refused-done job r l count small absent bad may first once =
+        → LoadsFirst job command l.file ((loads command.story most, l.answer) ∷ []) → IsJobDone job command entry exit ended
+    refused-done job r l count small absent bad may first =
         let which = which-of r absent in
         record {
           file = l.file;
           file_is = l.file_is;
           loads = subst (LoadsFirst job command l.file) (sym l.asked_are) first;
-          plays = not-loaded l.file r (outcome_of_job job command l.file entry) bad l.gives absent;
+          plays = not-loaded l.file r (outcome_of_job job command l.file entry) (record { asked = once-asked asked (loads command.story most, l.answer) l.asked_are; source = refl; reads = refl; words = refl }) bad l.gives absent;
           memory = λ e. may (wants l.file r l.gives absent e);
           began = λ e. absurd (grind (arith, which, e));
-          begun = inr (record {
-            machine = absent.machine_is;
-            loads = once ((loads command.story most, l.answer), l.asked_are);
-            untouched = record { steps = absent.steps_are; source = refl; reads = refl; words = refl };
-            unsent = λ _. record { sink = refl; sends = refl };
-          });
           counts = record {
             shelf = refusal-blames r absent count;
             source = blames-none d.source.calls d.source.calls (ended.status ≡ status_input_fault) refl (λ e. absurd (grind (arith, which, e)));
@@ -294,37 +278,31 @@ module _ {A : Type 0} (ended : Ended A) where
         }
 
   -- THE JOBS check, asm and list of what was loaded
-  either : (right : Bool) → (check_status right ≡ 0) ⊎ (check_status right ≡ 3)
+  either : (right : Bool) → ((check_told right).0 ≡ 0) ⊎ ((check_told right).0 ≡ 3)
   either true = inl refl
   either false = inr refl
 
   module _ (command : Command) (d : Devices) (before now : FlatShelf) (taken took : FlatSink) (sends : List Send) (asked : Trace) (blames : BlamesSink taken took ended.status) where
     pub check-told : (story : FlatStory) (l : LoadsFile ceiling story_in_file before now command.story asked (Ok story)) → Blames before.calls now.calls (let e : Result FlatStory Refusal = Ok story in e ≡ Err refusal.Shelf)
-        → SendsOutput (check_status (is_checked story)) 0 0 0 (check_line (is_checked story)) taken took sends ended → IsJobDone Check command (record d { sink = taken; shelf = before; sends = []; asked = [] }) (record d { sink = took; shelf = now; sends = sends; asked = asked }) ended
+        → SendsOutput (check_told (is_checked story)).0 0 0 0 (check_told (is_checked story)).1 taken took sends ended → IsJobDone Check command (record d { sink = taken; shelf = before; sends = []; asked = [] }) (record d { sink = took; shelf = now; sends = sends; asked = asked }) ended
     check-told story l count once =
-        told-done Check command d before now taken took sends asked l.file (tells (check_status (is_checked story)) (check_line (is_checked story))) _ (λ plays. plays) l.file_is (ap outcome_of_check l.gives) (loadable l.file story l.gives)
-        (subst (LoadsFirst Check command l.file) (sym l.asked_are) (refl, l.handed)) ((loads command.story ceiling, l.answer), l.asked_are) count (λ e. absurd cc)
-        (sent (check_status (is_checked story)) (check_line (is_checked story)) taken took sends (either (is_checked story)) once) (inl once) blames
+        told-done Check command d before now taken took sends asked l.file (tells (check_told (is_checked story)).0 (check_told (is_checked story)).1) _ (λ plays. plays) l.file_is (ap outcome_of_check l.gives) (loadable l.file story l.gives)
+        (subst (LoadsFirst Check command l.file) (sym l.asked_are) (refl, l.handed)) (once-asked asked (loads command.story ceiling, l.answer) l.asked_are) count (λ e. absurd cc)
+        (sent (check_told (is_checked story)).0 (check_told (is_checked story)).1 taken took sends (either (is_checked story)) once) (inl once) blames
 
     pub asm-told : (text : List ℕ) (l : LoadsFile most_text text_in_file before now command.story asked (Ok text)) → Blames before.calls now.calls (let e : Result (List ℕ) Refusal = Ok text in e ≡ Err refusal.Shelf) → (ended.status ≡ status_bad_text → (1 ≤ ended.fault) × (ended.fault ≤ 4))
         → JobTells (outcome_of_code (assembled text)) taken took sends ended → IsJobDone Asm command (record d { sink = taken; shelf = before; sends = []; asked = [] }) (record d { sink = took; shelf = now; sends = sends; asked = asked }) ended
     asm-told text l count number tell =
         told-done Asm command d before now taken took sends asked l.file (outcome_of_code (assembled text)) _ (λ plays. plays) l.file_is (ap outcome_of_text l.gives) (text-loadable l.file text l.gives)
-        (subst (LoadsFirst Asm command l.file) (sym l.asked_are) (refl, l.handed)) ((loads command.story most_text, l.answer), l.asked_are) count (λ e. absurd cc)
+        (subst (LoadsFirst Asm command l.file) (sym l.asked_are) (refl, l.handed)) (once-asked asked (loads command.story most_text, l.answer) l.asked_are) count (λ e. absurd cc)
         (code-told (assembled text) taken took sends number tell) tell blames
 
     pub list-told : (story : FlatStory) (l : LoadsFile ceiling story_in_file before now command.story asked (Ok story)) → Blames before.calls now.calls (let e : Result FlatStory Refusal = Ok story in e ≡ Err refusal.Shelf) → (ended.status ≡ status_no_listing → (1 ≤ ended.fault) × (ended.fault ≤ 5))
         → JobTells (outcome_of_listing (listed_story story)) taken took sends ended → IsJobDone Listing command (record d { sink = taken; shelf = before; sends = []; asked = [] }) (record d { sink = took; shelf = now; sends = sends; asked = asked }) ended
     list-told story l count number tell =
         told-done Listing command d before now taken took sends asked l.file (outcome_of_listing (listed_story story)) _ (λ plays. plays) l.file_is (ap outcome_of_list l.gives) (loadable l.file story l.gives)
-        (subst (LoadsFirst Listing command l.file) (sym l.asked_are) (refl, l.handed)) ((loads command.story ceiling, l.answer), l.asked_are) count (λ e. absurd cc)
+        (subst (LoadsFirst Listing command l.file) (sym l.asked_are) (refl, l.handed)) (once-asked asked (loads command.story ceiling, l.answer) l.asked_are) count (λ e. absurd cc)
         (listing-told (listed_story story) taken took sends number tell) tell blames
-
-  -- no run was begun by a command with this job
-  unrun : (command : Command) (d e : Devices) (outcome : CommandOutcome) → IsRunBegun outcome d e ended ⊎ IsIdle command.job d e ended
-      → IsRunBegun outcome d e ended ⊎ IsUnrun (Some command) d e ended
-  unrun command d e outcome (inl begun) = inl begun
-  unrun command d e outcome (inr idle) = inr (record { machine = idle.machine; loads = inl idle.loads; untouched = idle.untouched; unsent = idle.unsent })
 
   -- THE WHOLE CALL
   module _ (words : List (List ℕ)) (entry : Devices) where
@@ -336,9 +314,8 @@ module _ {A : Type 0} (ended : Ended A) where
         subst (λ (o : Option Command). ComesOut o entry exit ended) (sym is) (record {
           file = done.file;
           file_is = done.file_is;
-          loads = done.loads;
+          loads = inl done.loads;
           plays = done.plays;
-          begun = unrun command entry exit (outcome_of_job command.job command done.file entry) done.begun;
           memory = λ e. inr (done.memory e);
         }) in
         record {
@@ -368,13 +345,8 @@ module _ {A : Type 0} (ended : Ended A) where
       sink = blames-none entry.sink.calls entry.sink.calls (ended.status ≡ status_output_fault) refl (λ e. absurd (grind (arith, s, which, e)));
     }
 
-    untouched-by : (o : Option Command) → ended.machine ≡ None → ended.steps ≡ 0 → IfSome o (λ (c : Command). LoadsOnce c.job entry.asked ⊎ ((ended.status ≡ status_no_memory) × (entry ≡ entry))) → IsUnrun o entry entry ended
-    untouched-by o machine steps once = record {
-      machine = machine;
-      loads = once;
-      untouched = record { steps = steps; source = refl; reads = refl; words = refl };
-      unsent = λ _. record { sink = refl; sends = refl };
-    }
+    entry-unrun : entry.asked ≡ [] → IsUnrun entry entry
+    entry-unrun first = let size : length entry.asked ≡ 0 = ap (λ (t : Trace). length t) first in record { asked = omega (arith, size); source = refl; reads = refl; words = refl }
 
     -- it has none
     pub played-none : entry.reads ≡ [] → entry.sends ≡ [] → entry.asked ≡ [] → command_of words ≡ None → HasNoMachine ended status_bad_words 0 0 0 → IsPlayed (command_of words) entry entry ended
@@ -385,8 +357,7 @@ module _ {A : Type 0} (ended : Ended A) where
           file = None;
           file_is = tt;
           loads = tt;
-          plays = (inl absent, record { sink = refl; sends = refl });
-          begun = inr (untouched-by None absent.machine_is absent.steps_are tt);
+          plays = inl (entry-unrun first, (absent, refl, unsent));
           memory = λ e. absurd (omega (arith, s, e));
         }) in
         record {
@@ -405,21 +376,19 @@ module _ {A : Type 0} (ended : Ended A) where
           spelling = spelling;
         }
 
-    unread-comes : (o : Option Command) → entry.asked ≡ [] → HasNoMachine ended status_no_memory 0 0 0 → ComesOut o entry entry ended
-    unread-comes None first absent = record {
+    unread-comes : (o : Option Command) → entry.sends ≡ [] → entry.asked ≡ [] → HasNoMachine ended status_no_memory 0 0 0 → ComesOut o entry entry ended
+    unread-comes None unsent first absent = record {
       file = None;
       file_is = tt;
       loads = tt;
-      plays = (inr (inr absent), record { sink = refl; sends = refl });
-      begun = inr (untouched-by None absent.machine_is absent.steps_are tt);
+      plays = inr (inr (entry-unrun first, (absent, refl, unsent)));
       memory = λ _. inl refl;
     }
-    unread-comes (Some command) first absent = record {
+    unread-comes (Some command) unsent first absent = record {
       file = entry.shelf.files command.story;
       file_is = λ _. refl;
-      loads = subst (LoadsFirst command.job command (entry.shelf.files command.story)) (sym first) tt;
-      plays = unbegun-plays (outcome_of_job command.job command (entry.shelf.files command.story) entry) entry entry (inr absent) (record { sink = refl; sends = refl });
-      begun = inr (untouched-by (Some command) absent.machine_is absent.steps_are (inr (absent.status_is, refl)));
+      loads = inr (absent.status_is, refl);
+      plays = inr (inr (entry-unrun first, (absent, refl, unsent)));
       memory = λ _. inl refl;
     }
 
@@ -428,7 +397,7 @@ module _ {A : Type 0} (ended : Ended A) where
     played-unread unread unsent first absent =
         let s = absent.status_is in
         record {
-          headline = unread-comes (command_of words) first absent;
+          headline = unread-comes (command_of words) unsent first absent;
           source_calls = no-calls SourceCall entry.source entry.reads unread;
           sink_calls = no-calls SinkCall entry.sink entry.sends unsent;
           shelf_calls = no-calls ShelfCall entry.shelf entry.asked first;

@@ -10,7 +10,7 @@ use Rattle.gx_machine.specs.Start.{first_machine}
 use Rattle.gx_session.specs.Devices.{Devices}
 use Rattle.gx_play.specs.declared.command.Job.{Job}
 use Rattle.gx_play.specs.Commands.{Command}
-use Rattle.gx_play.specs.Jobs.{check_status, check_line}
+use Rattle.gx_play.specs.Jobs.{check_told}
 use Rattle.gx_play.specs.Outcomes.{CommandOutcome, tells, outcome_with, outcome_of_start, outcome_of_code, outcome_of_listing}
 
 -- the story, or the number of its fault
@@ -22,7 +22,7 @@ outcome_of_story job command entry r =
     outcome_with r (λ (story : FlatStory). outcome_of_start job command story entry (first_machine story command.undo))
 
 abbrev pub outcome_of_check : Result FlatStory ℕ → CommandOutcome
-outcome_of_check r = outcome_with r (λ (story : FlatStory). tells (check_status (is_checked story)) (check_line (is_checked story)))
+outcome_of_check r = outcome_with r (λ (story : FlatStory). tells (check_told (is_checked story)).0 (check_told (is_checked story)).1)
 
 abbrev pub outcome_of_text : Result (List ℕ) ℕ → CommandOutcome
 outcome_of_text r = outcome_with r (λ (text : List ℕ). outcome_of_code (assembled text))

@@ -1,13 +1,13 @@
 -- What a story that was loaded comes to.
 use Rattle.std.proofs.Common.{◌≡◌, ◌≢◌, ℕ, ◌⊎◌, inl, inr, true, List, [], ◌∷◌, Option, Some, None, IsSomeAnd, Result}
-use Rattle.std.proofs.Common.{Ok, Err, refl, ap, subst, sym, ◌∙◌}
+use Rattle.std.proofs.Common.{Ok, Err, IfOk, length, refl, ap, subst, sym, ◌∙◌, arith}
 use Rattle.gx_words.specs.declared.faults.Fault.{Fault}
 use Rattle.gx_words.specs.declared.faults.Fault.TheVariants.{NoMemory}
 use Rattle.gx_words.specs.Constants.{ceiling}
 use Rattle.gx_words.specs.Faults.{number_of}
 use Rattle.gx_outside.specs.Files.{Files}
 use Rattle.gx_outside.specs.Outside.{FlatShelf}
-use Rattle.gx_outside.specs.Shelves.{Request, loads, Answer, Exchange, Trace, FilesCall, ShelfCall, told_by}
+use Rattle.gx_outside.specs.Shelves.{Request, loads, loaded, load_of, Answer, Trace, FilesCall, ShelfCall, told_by}
 use Rattle.gx_outside.specs.declared.devices.ShelfFault.{ShelfFault}
 use Rattle.gx_story.specs.Stories.{FlatStory}
 use Rattle.gx_machine.specs.Log.{no_events}
@@ -21,16 +21,15 @@ use Rattle.gx_session.specs.Runs.{IsRun, Report, report_of}
 use Rattle.gx_play.specs.declared.command.Job.{Job}
 use Rattle.gx_play.specs.declared.command.Job.TheVariants.{Play, Rewind}
 use Rattle.gx_play.specs.Commands.{Command}
-use Rattle.gx_play.specs.Outcomes.{CommandOutcome, unstarted, runs, rewinds, outcome_of_start, outcome_of_job}
+use Rattle.gx_play.specs.Outcomes.{CommandOutcome, refused, tells, runs, rewinds, outcome_of_start, outcome_of_job}
 use Rattle.gx_play.specs.Outcomes.{story_in_file, start_for}
 use Rattle.gx_play.proofs.Outcomes.{outcome_of_story}
-use Rattle.gx_play.specs.Answers.{HasNoMachine, KeepsSink, IsRunOf, IsRewindOf, BeginsAfter, IsRunBegun, Plays}
-use Rattle.gx_play.specs.FirstLoad.{IsHanded, LoadsFirst, IsLoadable, JobMayWant}
-use Rattle.gx_play.specs.Unbegun.{LoadsOnce, PlaysStory}
-use Rattle.gx_play.specs.Loading.{IsIdle, IsStill, StoryPlays}
-use Rattle.gx_play.specs.Seeds.{devices_for, words_for}
+use Rattle.gx_play.specs.Answers.{HasNoMachine, IsUnrun, IsUnbegun, IsRunTo, IsRunOf, IsRewindOf, BeginsAfter}
+use Rattle.gx_play.specs.FirstLoad.{LoadsFirst, JobMayWant}
+use Rattle.gx_play.specs.Statuses.{PlaysStory}
+use Rattle.gx_play.specs.Loading.{IsLoadable, IsStill, StoryPlays, PlaysOrNot}
+use Rattle.gx_play.specs.Seeds.{devices_for}
 use Rattle.gx_session.proofs.Counting.{well-of, blames-on}
-use Rattle.rand_core.specs.Stream.{Stream}
 use Rattle.gx_session.specs.Configurations.{Configuration}
 use Rattle.gx_outside.specs.declared.devices.ShelfFault.TheVariants as of_shelf
 
@@ -40,14 +39,8 @@ plays-story Play command file entry plays = refl
 plays-story Rewind command file entry plays = refl
 plays-story job command file entry plays = absurd plays
 
--- they ask the shelf once
-pub loads-story : (job : Job) (asked : Trace) → PlaysStory job → (load : Exchange) × (asked ≡ load ∷ []) → LoadsOnce job asked
-loads-story Play asked plays once = once
-loads-story Rewind asked plays once = once
-loads-story job asked plays once = absurd plays
-
--- for the file
-pub first-story : (job : Job) (command : Command) (file : Option (List ℕ)) (answer : Result Answer ShelfFault) (rest : Trace) → PlaysStory job → IsHanded ceiling file answer
+-- they ask the shelf for the file
+pub first-story : (job : Job) (command : Command) (file : Option (List ℕ)) (answer : Result Answer ShelfFault) (rest : Trace) → PlaysStory job → IfOk answer (λ (a : Answer). a ≡ loaded (load_of ceiling file))
     → LoadsFirst job command file ((loads command.story ceiling, answer) ∷ rest)
 first-story Play command file answer rest plays handed = (refl, handed)
 first-story Rewind command file answer rest plays handed = (refl, handed)
@@ -101,7 +94,7 @@ module _ {A : Type 0} (ended : Ended A) where
   -- the start function can't be entered, or memory ran out
   pub plays-unstarted : (job : Job) (command : Command) (story : FlatStory) (entry : Devices) (r : Result Whole Fault) (f : Fault) → (f ≢ NoMemory → r ≡ Err f)
       → (f ≡ NoMemory → HasNoMachine ended status_no_memory 0 0 0) → (f ≢ NoMemory → HasNoMachine ended status_fault (number_of f) story.header.start_function 0) → StoryPlays (outcome_of_start job command story entry r) entry entry ended
-  plays-unstarted job command story entry r NoMemory is memory stands = still job command story entry entry r (inr (memory refl), refl)
+  plays-unstarted job command story entry r NoMemory is memory stands = still job command story entry entry r (memory refl, refl)
   plays-unstarted job command story entry r f is memory stands =
       subst (λ (x : Result Whole Fault). StoryPlays (outcome_of_start job command story entry x) entry entry ended) (sym (is (λ e. cc))) (inl (stands (λ e. cc), refl))
 
@@ -123,7 +116,7 @@ module _ {A : Type 0} (ended : Ended A) where
       subst (λ (x : Result Whole Fault). StoryPlays (outcome_of_start job command story entry x) entry exit ended) (sym good) (run-by job command story entry exit whole other run)
 
   -- the shelf of a run is that after the story was loaded
-  module _ (entry exit : Devices) (most : ℕ) (name : List ℕ) (answer : Result Answer ShelfFault) (shelf : FlatShelf) (asked : Trace) (none-before : entry.asked ≡ [])
+  module _ (entry exit : Devices) (most : ℕ) (name : List ℕ) (answer : Result Answer ShelfFault) (shelf : FlatShelf) (asked : Trace) (none-before : entry.asked ≡ []) (none-sent : entry.sends ≡ [])
       (asked-are : exit.asked ≡ (loads name most, answer) ∷ asked) (does : ShelfCall entry.shelf (loads name most, answer) shelf) where
     abbrev before : Devices
     before = record entry { shelf = shelf }
@@ -133,17 +126,18 @@ module _ {A : Type 0} (ended : Ended A) where
 
     -- its files are those at entry
     same-answers : shelf.tells ≡ true → told_by shelf.files ≡ told_by entry.shelf.files
-    same-answers tells = ap told_by (load-keeps entry.shelf.files shelf.files name most answer (does.files (sym does.tells ∙ tells)))
+    same-answers told = ap told_by (load-keeps entry.shelf.files shelf.files name most answer (does.files (sym does.tells ∙ told)))
 
-    some-moved : (start : Configuration) (answers : Trace → Request → Answer) (words : Stream) (left : Devices) (m : Option Whole) → (shelf.tells ≡ true → start.answers ≡ answers)
-        → IsSomeAnd m (λ end. IsRun start (record before { words = words }) left (report_of ended end)) → IsSomeAnd m (λ end. IsRun (record start { answers = answers }) (record before { words = words }) left (report_of ended end))
-    some-moved start answers words left None same run = absurd run
-    some-moved start answers words left (Some end) same run = answers-moved start answers (record before { words = words }) left (report_of ended end) same run
+    some-moved : (seed : Option ℕ) (start : Configuration) (answers : Trace → Request → Answer) (m : Option Whole) → (shelf.tells ≡ true → start.answers ≡ answers)
+        → IsSomeAnd m (λ end. IsRunTo seed start before after (report_of ended end)) → IsSomeAnd m (λ end. IsRunTo seed (record start { answers = answers }) before after (report_of ended end))
+    some-moved seed start answers None same run = absurd run
+    some-moved seed start answers (Some end) same run =
+        (run.0, run.1, answers-moved start answers (devices_for seed before) (record after { words = run.0 }) (report_of ended end) same run.2)
 
     run-moved : (command : Command) (whole : Whole) → IsRunOf command.seed (start_for command whole None before) before after ended ⊎ IsStill before after ended
         → IsRunOf command.seed (start_for command whole None entry) before after ended ⊎ IsStill before after ended
     run-moved command whole (inl run) =
-        inl (run.0, run.1, some-moved (start_for command whole None before) (told_by entry.shelf.files) (words_for command.seed entry.words) (record after { words = run.0 }) ended.machine same-answers run.2)
+        inl (some-moved command.seed (start_for command whole None before) (told_by entry.shelf.files) ended.machine same-answers run)
     run-moved command whole (inr is) = inr is
 
     rewind-moved : (command : Command) (whole : Whole) → IsRewindOf command.seed command.back (start_for command whole (Some no_events) before) before after ended ⊎ IsStill before after ended
@@ -170,40 +164,33 @@ module _ {A : Type 0} (ended : Ended A) where
     moved job command story (Err f) played = played
 
     module _ (job : Job) (plays : PlaysStory job) where
-      -- what is done and what is said of it
       abbrev Comes : CommandOutcome → Type 0
-      Comes outcome = Plays outcome entry exit ended × (IsRunBegun outcome entry exit ended ⊎ IsIdle job entry exit ended)
+      Comes outcome = PlaysOrNot outcome entry exit ended
 
-      kept : after ≡ before → KeepsSink entry exit
-      kept same = record { sink = ap (λ (d : Devices). d.sink) same; sends = ap (λ (d : Devices). d.sends) same }
+      unrun : after ≡ before → IsUnrun entry exit
+      unrun same =
+          let is : exit.asked ≡ (loads name most, answer) ∷ [] =
+          asked-are ∙ ap (λ (t : Trace). (loads name most, answer) ∷ t) (ap (λ (d : Devices). d.asked) same ∙ none-before) in
+          let size : length exit.asked ≡ 1 = ap (λ (t : Trace). length t) is in
+          record { asked = omega (arith, size); source = ap (λ (d : Devices). d.source) same; reads = ap (λ (d : Devices). d.reads) same; words = ap (λ (d : Devices). d.words) same }
 
-      idle : ended.machine ≡ None → ended.steps ≡ 0 → after ≡ before → IsIdle job entry exit ended
-      idle machine steps same = record {
-        machine = machine;
-        loads = loads-story job exit.asked plays ((loads name most, answer), asked-are ∙ ap (λ (t : Trace). (loads name most, answer) ∷ t) (ap (λ (d : Devices). d.asked) same ∙ none-before));
-        untouched = record { steps = steps; source = ap (λ (d : Devices). d.source) same; reads = ap (λ (d : Devices). d.reads) same; words = ap (λ (d : Devices). d.words) same };
-        unsent = λ _. kept same;
-      }
+      unbegun : (status fault at : ℕ) → HasNoMachine ended status fault at 0 → after ≡ before → IsUnbegun status fault at entry exit ended
+      unbegun status fault at absent same = (unrun same, (absent, ap (λ (d : Devices). d.sink) same, ap (λ (d : Devices). d.sends) same ∙ none-sent))
 
-      unbegun : IsStill before after ended → IsIdle job entry exit ended
-      unbegun (inl absent, same) = idle absent.machine_is absent.steps_are same
-      unbegun (inr absent, same) = idle absent.machine_is absent.steps_are same
+      wanted : IsStill before after ended → IsUnbegun status_no_memory 0 0 entry exit ended
+      wanted (absent, same) = unbegun status_no_memory 0 0 absent same
 
       begins : (Run : Devices → Devices → Type 0) → Run before after → BeginsAfter entry exit Run
       begins Run run = record { load = (loads name most, answer); shelf = shelf; asked = asked; asked_are = asked-are; does = does; run = run }
 
       found : (outcome : CommandOutcome) → StoryPlays outcome before after ended → Comes outcome
-      found (unstarted fault at) (inl (absent, same)) = ((inl absent, kept same), inr (idle absent.machine_is absent.steps_are same))
-      found (unstarted fault at) (inr (is, same)) = ((inr is, kept same), inr (unbegun (is, same)))
-      found (runs seed start) (inl run) =
-          let begun = begins (λ first last. IsRunOf seed start first last ended) run in
-          (inl begun, inl begun)
-      found (runs seed start) (inr (is, same)) = (inr (is, kept same), inr (unbegun (is, same)))
-      found (rewinds seed back start) (inl run) =
-          let begun = begins (λ first last. IsRewindOf seed back start first last ended) run in
-          (inl begun, inl begun)
-      found (rewinds seed back start) (inr (is, same)) = (inr (is, kept same), inr (unbegun (is, same)))
-      found outcome none = absurd none
+      found (refused status fault at) (inl (absent, same)) = inl (unbegun status fault at absent same)
+      found (refused status fault at) (inr still) = inr (inr (wanted still))
+      found (tells status output) none = absurd none
+      found (runs seed start) (inl run) = inl (begins (λ first last. IsRunOf seed start first last ended) run)
+      found (runs seed start) (inr still) = inr (inr (wanted still))
+      found (rewinds seed back start) (inl run) = inl (begins (λ first last. IsRewindOf seed back start first last ended) run)
+      found (rewinds seed back start) (inr still) = inr (inr (wanted still))
 
       -- the story that was loaded is played
       pub comes-out : (command : Command) (file : Option (List ℕ)) (story : FlatStory) → story_in_file file ≡ Ok story

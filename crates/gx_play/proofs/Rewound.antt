@@ -1,5 +1,5 @@
 -- What job rewind comes to, from its run and the line after it.
-use Rattle.std.proofs.Common.{◌≡◌, ◌≢◌, ℕ, ◌<◌, ◌≤◌, ◌⊎◌, inl, inr, List, refl, subst, sym, arith}
+use Rattle.std.proofs.Common.{◌≡◌, ◌≢◌, ℕ, ◌<◌, ◌≤◌, ◌⊎◌, inl, inr, List, Ok, Err, refl, subst, sym, arith}
 use Rattle.gx_outside.specs.Sends.{Send}
 use Rattle.gx_outside.specs.Outside.{FlatSink}
 use Rattle.gx_session.specs.declared.ended.Ended.{Ended}
@@ -9,9 +9,8 @@ use Rattle.gx_session.specs.Devices.{Devices}
 use Rattle.gx_session.specs.Runs.{IsReport, Report}
 use Rattle.gx_session.proofs.Counting.{blames-on, blames-same, well-of}
 use Rattle.gx_play.specs.Answers.{HasNoMachine, IsRewound, SendsOutput}
-use Rattle.gx_play.proofs.Outputs.{SendsLine}
+use Rattle.gx_play.proofs.Outputs.{SendsLine, line_of}
 use Rattle.gx_play.specs.Loading.{BlamesSink, HasRunParts}
-use Rattle.gx_play.specs.Rewinding.{rewind_line}
 use Rattle.gx_play.proofs.RunParts.{report-parts}
 use Rattle.gx_session.specs.Counts.{FailureCounts}
 use Rattle.gx_outside.specs.declared.devices.SendFault.TheVariants as of_send
@@ -20,18 +19,18 @@ module _ {A : Type 0} (ended : Ended A) where
   -- THE ANSWER where the line wasn't sent whole
   module _ (sent : Ended A) (line : List ℕ) (r : Report) (before now : FlatSink) (sends : List Send) where
     pub line-whole : SendsOutput status_ended 0 0 0 line before now sends sent → sent.status ≡ status_ended → HasNoMachine ended r.status r.fault r.at r.steps → SendsLine line r before now sends ended
-    line-whole (inl (absent, once)) is has = inl (inl (has, once))
-    line-whole (inr (of_send.Failed, absent, front)) is has = let s = absent.status_is in absurd (omega (arith, s, is))
-    line-whole (inr (of_send.NoMemory, (absent, wanted), front)) is has = let s = absent.status_is in absurd (omega (arith, s, is))
+    line-whole (Ok done, absent, once, call) is has = inl (Ok done, has, once, call)
+    line-whole (Err of_send.Failed, absent, front, call) is has = let s = absent.status_is in absurd (omega (arith, s, is))
+    line-whole (Err of_send.NoMemory, absent, front, call) is has = let s = absent.status_is in absurd (omega (arith, s, is))
 
     pub line-unsent : SendsOutput status_ended 0 0 0 line before now sends sent → sent.status ≢ status_ended → HasNoMachine ended sent.status 0 0 r.steps → SendsLine line r before now sends ended
-    line-unsent (inl (absent, took)) not has = absurd (not absent.status_is)
-    line-unsent (inr (of_send.Failed, absent, front)) not has = inl (inr (of_send.Failed, subst (λ (s : ℕ). HasNoMachine ended s 0 0 r.steps) absent.status_is has, front))
-    line-unsent (inr (of_send.NoMemory, (absent, wanted), front)) not has = inl (inr (of_send.NoMemory, (subst (λ (s : ℕ). HasNoMachine ended s 0 0 r.steps) absent.status_is has, wanted), front))
+    line-unsent (Ok done, absent, took, call) not has = absurd (not absent.status_is)
+    line-unsent (Err of_send.Failed, absent, front, call) not has = inl (Err of_send.Failed, subst (λ (s : ℕ). HasNoMachine ended s 0 0 r.steps) absent.status_is has, front, call)
+    line-unsent (Err of_send.NoMemory, absent, front, call) not has = inl (Err of_send.NoMemory, subst (λ (s : ℕ). HasNoMachine ended s 0 0 r.steps) absent.status_is has, front, call)
 
   module _ (back : ℕ) (r : Report) (before now : FlatSink) (sends : List Send) where
     -- after a run that came to its end
-    pub rewound-told : r.status < status_shelf_fault → SendsLine (rewind_line back r) r before now sends ended → IsRewound back r before now sends ended
+    pub rewound-told : r.status < status_shelf_fault → SendsLine (line_of back r) r before now sends ended → IsRewound back r before now sends ended
     rewound-told early line = record { told = λ _. line; early = λ late. absurd (omega (arith, early, late)) }
 
     below : (status : ℕ) → (status < status_shelf_fault) ⊎ (status_shelf_fault ≤ status)
@@ -48,10 +47,10 @@ module _ {A : Type 0} (ended : Ended A) where
     as-run : (status fault at : ℕ) → HasNoMachine ended status fault at r.steps → IsReport status fault at → IsReport ended.status ended.fault ended.at
     as-run status fault at has report = rw (has.status_is, has.fault_is, has.at_is) report
 
-    line-report : SendsLine (rewind_line back r) r before now sends ended → IsReport r.status r.fault r.at → IsReport ended.status ended.fault ended.at
-    line-report (inl (inl (has, took))) report = as-run r.status r.fault r.at has report
-    line-report (inl (inr (of_send.Failed, has, front))) report = as-run status_output_fault 0 0 has (quiet status_output_fault (inl refl))
-    line-report (inl (inr (of_send.NoMemory, (has, wanted), front))) report = as-run status_no_memory 0 0 has (quiet status_no_memory (inr refl))
+    line-report : SendsLine (line_of back r) r before now sends ended → IsReport r.status r.fault r.at → IsReport ended.status ended.fault ended.at
+    line-report (inl (Ok done, has, took, call)) report = as-run r.status r.fault r.at has report
+    line-report (inl (Err of_send.Failed, has, front, call)) report = as-run status_output_fault 0 0 has (quiet status_output_fault (inl refl))
+    line-report (inl (Err of_send.NoMemory, has, front, call)) report = as-run status_no_memory 0 0 has (quiet status_no_memory (inr refl))
     line-report (inr (has, same, none)) report = as-run status_no_memory 0 0 has (quiet status_no_memory (inr refl))
 
     rewound-report : IsRewound back r before now sends ended → IsReport r.status r.fault r.at → IsReport ended.status ended.fault ended.at
@@ -66,10 +65,10 @@ module _ {A : Type 0} (ended : Ended A) where
 
   -- THE COUNTS over the run and the line
   module _ (back : ℕ) (r : Report) (entry mid exit : Devices) (counts : FailureCounts entry mid r.status) where
-    line-status : (before now : FlatSink) (sends : List Send) → SendsLine (rewind_line back r) r before now sends ended → (ended.status ≡ r.status) ⊎ (ended.status ≡ 10) ⊎ (ended.status ≡ 11)
-    line-status before now sends (inl (inl (has, took))) = inl has.status_is
-    line-status before now sends (inl (inr (of_send.Failed, has, front))) = inr (inl has.status_is)
-    line-status before now sends (inl (inr (of_send.NoMemory, (has, wanted), front))) = inr (inr has.status_is)
+    line-status : (before now : FlatSink) (sends : List Send) → SendsLine (line_of back r) r before now sends ended → (ended.status ≡ r.status) ⊎ (ended.status ≡ 10) ⊎ (ended.status ≡ 11)
+    line-status before now sends (inl (Ok done, has, took, call)) = inl has.status_is
+    line-status before now sends (inl (Err of_send.Failed, has, front, call)) = inr (inl has.status_is)
+    line-status before now sends (inl (Err of_send.NoMemory, has, front, call)) = inr (inr has.status_is)
     line-status before now sends (inr (has, same, none)) = inr (inr has.status_is)
 
     told-counts : r.status < status_shelf_fault → (ended.status ≡ r.status) ⊎ (ended.status ≡ 10) ⊎ (ended.status ≡ 11) → BlamesSink mid.sink exit.sink ended.status

@@ -1,7 +1,10 @@
 -- With a seed the device's words are neither drawn nor looked at.
 use Rattle.std.proofs.Common.{◌≡◌, ℕ, inl, inr, List, Option, Some, None, Result, Ok, Err, IsSome, IsSomeAnd, refl, ap}
 use Rattle.std.proofs.Common.{subst, sym}
+use Rattle.std.specs.Option.{option_map_or}
 use Rattle.gx_words.specs.declared.faults.Fault.{Fault}
+use Rattle.gx_outside.specs.Outside.{FlatShelf}
+use Rattle.gx_outside.specs.Shelves.{Trace}
 use Rattle.gx_story.specs.Stories.{FlatStory}
 use Rattle.gx_machine.specs.Log.{Log, no_events}
 use Rattle.gx_machine.specs.Machine.{Whole}
@@ -9,17 +12,17 @@ use Rattle.gx_machine.specs.Start.{first_machine}
 use Rattle.glk_world.specs.World.{empty_world}
 use Rattle.gx_session.specs.declared.ended.Ended.{Ended}
 use Rattle.gx_session.specs.Devices.{Devices}
-use Rattle.gx_session.specs.Runs.{IsRun, Report}
+use Rattle.gx_session.specs.Runs.{IsRun, Report, report_of}
 use Rattle.gx_play.specs.declared.command.Job.{Job}
 use Rattle.gx_play.specs.declared.command.Job.TheVariants.{Play, Rewind, Check, Work, Asm, List as Listing}
 use Rattle.gx_play.specs.Commands.{Command}
-use Rattle.gx_play.specs.Seeds.{seeded_words, words_for, devices_for, AreLeft}
+use Rattle.gx_play.specs.Seeds.{seeded_words, devices_for}
 use Rattle.gx_play.specs.Outcomes.{runs, rewinds, outcome_of_job, outcome_of_start, start_for, story_in_file}
 use Rattle.gx_play.specs.Outcomes.{outcome_of}
 use Rattle.gx_play.proofs.Outcomes.{outcome_of_story}
-use Rattle.gx_play.specs.Answers.{IsRunBegun, IsRunTo}
+use Rattle.gx_play.specs.Answers.{IsRunTo}
 use Rattle.gx_play.specs.Headline.{ComesOut}
-use Rattle.gx_play.proofs.Begun.{begins-none}
+use Rattle.gx_play.proofs.Begun.{IsRunBegun, begins-none, begun-or-not}
 use Rattle.rand_core.specs.Stream.{Stream}
 use Rattle.gx_session.specs.Configurations.{Configuration, start_of}
 
@@ -44,14 +47,19 @@ module _ (entry exit : Devices) (command : Command) (whole : Whole) (log : Optio
       (left, stays, subst (λ (w : Stream). RunsWith w left) same run)
 
 module _ {A : Type 0} (ended : Ended A) (entry exit : Devices) where
-  left-alone : (seed : Option ℕ) → IsSome seed → (left : Stream) → AreLeft seed left entry.words exit.words → exit.words ≡ entry.words
+  left-alone : (seed : Option ℕ) → IsSome seed → (left : Stream) → exit.words ≡ option_map_or (λ (number : ℕ). entry.words) seed left → exit.words ≡ entry.words
   left-alone None is left are = absurd cc
   left-alone (Some seed) is left are = are
+
+  some-alone : (seed : Option ℕ) (start : Configuration) (shelf : FlatShelf) (asked : Trace) (m : Option Whole) → IsSome seed
+      → IsSomeAnd m (λ end. IsRunTo seed start (record entry { shelf = shelf }) (record exit { asked = asked }) (report_of ended end)) → exit.words ≡ entry.words
+  some-alone seed start shelf asked None is run = absurd run
+  some-alone seed start shelf asked (Some end) is run = left-alone seed is run.0 run.1
 
   -- A RUN THAT WAS BEGUN has the command's seed
   start-undrawn : (job : Job) (command : Command) (story : FlatStory) (r : Result Whole Fault) → IsSome command.seed → IsRunBegun (outcome_of_start job command story entry r) entry exit ended → exit.words ≡ entry.words
   start-undrawn Rewind command story (Ok whole) is begun = left-alone command.seed is begun.run.run.0 begun.run.run.1
-  start-undrawn job command story (Ok whole) is begun = left-alone command.seed is begun.run.0 begun.run.1
+  start-undrawn job command story (Ok whole) is begun = some-alone command.seed (start_for command whole None entry) begun.shelf begun.asked ended.machine is begun.run
   start-undrawn job command story (Err fault) is none = absurd none
 
   story-undrawn : (job : Job) (command : Command) (r : Result FlatStory ℕ) → IsSome command.seed → IsRunBegun (outcome_of_story job command entry r) entry exit ended → exit.words ≡ entry.words
@@ -67,10 +75,10 @@ module _ {A : Type 0} (ended : Ended A) (entry exit : Devices) where
   pub undrawn : (command : Option Command) → ComesOut command entry exit ended → IsSomeAnd command (λ (c : Command). IsSome c.seed) → exit.words ≡ entry.words
   undrawn None comes is = absurd is
   undrawn (Some command) comes is =
-      elim comes.begun [ inl begun ↦ job-undrawn command.job command comes.file is begun | inr unrun ↦ unrun.untouched.words ]
+      elim (begun-or-not ended entry exit (Some command) comes) [ inl begun ↦ job-undrawn command.job command comes.file is begun | inr unrun ↦ unrun.words ]
 
 -- THE OUTCOME is the same over other words
-same-words : (seed : Option ℕ) → IsSome seed → (a b : Stream) → words_for seed a ≡ words_for seed b
+same-words : (seed : Option ℕ) → IsSome seed → (a b : Stream) → option_map_or seeded_words seed a ≡ option_map_or seeded_words seed b
 same-words None is a b = absurd cc
 same-words (Some seed) is a b = refl
 

@@ -10,7 +10,8 @@ use Rattle.gx_session.specs.Constants.{status_shelf_fault, status_no_memory}
 use Rattle.gx_session.specs.Devices.{Devices, devices}
 use Rattle.gx_session.specs.Session.{final_of}
 use Rattle.gx_session.specs.Runs.{IsRun, IsSession, Report, EndsAt}
-use Rattle.gx_play.specs.Jobs.{gathered, no_shelf, no_source, zeros, work_machine, work_start, work_line, ram_sum_of}
+use Rattle.gx_play.specs.Jobs.{zeros, work_machine, work_start, work_line, ram_sum_of}
+use Rattle.gx_play.specs.Silent.{gathered, no_shelf, no_source}
 use Rattle.gx_session.specs.Configurations.{Configuration}
 
 -- devices that hold nothing but this text, and never failed, after so many calls; how many bytes were offered in all,

@@ -1,21 +1,22 @@
 -- WHAT IS ANSWERED AND LEFT BEHIND (`Plays`), by the outcome: without a machine, with an output that is sent, or with
 -- the run of a session.
-use Rattle.std.specs.Prelude.{◌≡◌, ℕ, ◌<◌, ◌≤◌, List, [], ◌∷◌, ◌++◌, ◌⊎◌, true, Option, None, IsSomeAnd, Result, Ok}
-use Rattle.std.specs.Prelude.{Err}
-use Rattle.gx_words.specs.Faults.{number_of}
+use Rattle.std.specs.Prelude.{◌≡◌, ℕ, ◌<◌, ◌≤◌, length, List, [], ◌∷◌, ◌++◌, ◌⊎◌, Option, None, IsSomeAnd, unwrap_or}
+use Rattle.std.specs.Prelude.{Result, Ok, Err}
+use Rattle.std.specs.Option.{option_map_or}
+use Rattle.gx_machine.specs.Log.{no_events}
 use Rattle.gx_outside.specs.Outside.{FlatShelf, FlatSink}
 use Rattle.gx_outside.specs.Sends.{Send, SinkCall}
 use Rattle.gx_outside.specs.Shelves.{Exchange, Trace, ShelfCall}
 use Rattle.gx_outside.specs.declared.devices.SendFault.{SendFault}
 use Rattle.gx_outside.specs.declared.devices.SendFault.TheVariants as of_send
 use Rattle.gx_session.specs.declared.ended.Ended.{Ended}
-use Rattle.gx_session.specs.Constants.{status_fault, status_shelf_fault, status_output_fault, status_no_memory}
+use Rattle.gx_session.specs.Constants.{status_shelf_fault, status_output_fault, status_no_memory}
 use Rattle.gx_session.specs.Devices.{Devices}
 use Rattle.gx_session.specs.Configurations.{Configuration}
 use Rattle.gx_session.specs.Runs.{IsRun, Report, report_of}
 use Rattle.gx_play.specs.Rewinding.{rewind_line}
-use Rattle.gx_play.specs.Seeds.{devices_for, AreLeft}
-use Rattle.gx_play.specs.Outcomes.{CommandOutcome, refused, unstarted, runs, rewinds, tells}
+use Rattle.gx_play.specs.Seeds.{devices_for}
+use Rattle.gx_play.specs.Outcomes.{CommandOutcome, refused, tells, runs, rewinds}
 use Rattle.rand_core.specs.Stream.{Stream}
 
 -- THE ANSWER without a machine, after so many steps: where none was started, or where a job hands none back.
@@ -26,56 +27,59 @@ pub record HasNoMachine {A : Type 0} (ended : Ended A) (status fault at steps : 
   pub steps_are : ended.steps ≡ steps
   pub machine_is : ended.machine ≡ None
 
--- the run was never begun: the shelf failed, or memory ran out
-abbrev pub IsUnbegun : {A : Type 0} → Ended A → Type 0
-IsUnbegun ended = HasNoMachine ended status_shelf_fault 0 0 0 ⊎ HasNoMachine ended status_no_memory 0 0 0
+-- This is answered, and the sink wasn't called.
+abbrev pub SendsNothing : {A : Type 0} → ℕ → ℕ → ℕ → ℕ → FlatSink → FlatSink → List Send → Ended A → Type 0
+SendsNothing status fault at steps before now sends ended =
+    HasNoMachine ended status fault at steps × (now ≡ before) × (sends ≡ [])
 
--- The sink wasn't called.
-pub record KeepsSink (entry exit : Devices) : Type 0 where
-  pub sink : exit.sink ≡ entry.sink
-  pub sends : exit.sends ≡ entry.sends
+-- what is answered by the sink's answer to an output: this, or that it failed, or that memory was wanted
+abbrev pub AnswersSend : {A : Type 0} → Result (Unit {0}) SendFault → ℕ → ℕ → ℕ → ℕ → Ended A → Type 0
+AnswersSend (Ok whole) status fault at steps ended = HasNoMachine ended status fault at steps
+AnswersSend (Err of_send.Failed) status fault at steps ended = HasNoMachine ended status_output_fault 0 0 steps
+AnswersSend (Err of_send.NoMemory) status fault at steps ended = HasNoMachine ended status_no_memory 0 0 steps
 
--- an output wasn't sent whole: the sink failed, or it says that it wanted memory
-abbrev pub IsUnsent : {A : Type 0} → SendFault → FlatSink → Ended A → ℕ → Type 0
-IsUnsent of_send.Failed sink ended steps = HasNoMachine ended status_output_fault 0 0 steps
-IsUnsent of_send.NoMemory sink ended steps =
-    HasNoMachine ended status_no_memory 0 0 steps × (sink.calls.wanting ≡ true)
-
--- The sink was called once, with these bytes and this answer. Where it was refused it took a front of them.
-pub record SendsOnce (bytes : List ℕ) (answer : Result (Unit {0}) SendFault) (before now : FlatSink) (sends : List Send)
-    : Type 0 where
-  pub sends_are : sends ≡ (bytes, answer) ∷ []
-  pub does : SinkCall before (bytes, answer) now
-
--- An output was sent, and this is answered; or a front of it.
+-- The sink was called once, with this output. It took it whole, and this is answered; or it took a front of it.
 abbrev pub SendsOutput : {A : Type 0} → ℕ → ℕ → ℕ → ℕ → List ℕ → FlatSink → FlatSink → List Send → Ended A → Type 0
 SendsOutput status fault at steps output before now sends ended =
-    (HasNoMachine ended status fault at steps × SendsOnce output (Ok tt) before now sends)
-    ⊎ ((refusal : SendFault) × IsUnsent refusal now ended steps × SendsOnce output (Err refusal) before now sends)
+    (answer : Result (Unit {0}) SendFault) × AnswersSend answer status fault at steps ended
+    × (sends ≡ (output, answer) ∷ []) × SinkCall before (output, answer) now
 
--- The session from a start was run over these devices, with the words of the seed or the device's, up to this report.
+-- NO RUN WAS BEGUN: nothing was done but to ask for the file, at most once, and to send an output. No input was read
+-- and no random word was drawn.
+pub record IsUnrun (entry exit : Devices) : Type 0 where
+  pub asked : length exit.asked ≤ 1
+  pub source : exit.source ≡ entry.source
+  pub reads : exit.reads ≡ entry.reads
+  pub words : exit.words ≡ entry.words
+
+-- Nothing was begun, neither a run nor an output, and this is answered.
+abbrev pub IsUnbegun : {A : Type 0} → ℕ → ℕ → ℕ → Devices → Devices → Ended A → Type 0
+IsUnbegun status fault at entry exit ended =
+    IsUnrun entry exit × SendsNothing status fault at 0 entry.sink exit.sink exit.sends ended
+
+-- The session from a start was run over these devices up to this report, with the words of the seed or the device's.
+-- Without a seed the device has the words that the run left; with one it wasn't drawn from, and has what it had.
 abbrev pub IsRunTo : Option ℕ → Configuration → Devices → Devices → Report → Type 0
 IsRunTo seed start entry exit r =
-    (left : Stream) × AreLeft seed left entry.words exit.words
+    (left : Stream) × (exit.words ≡ option_map_or (λ number. entry.words) seed left)
     × IsRun start (devices_for seed entry) (record exit { words = left }) r
 
 -- It was so, and its machine is handed back.
 abbrev pub IsRunOf : {A : Type 0} → Option ℕ → Configuration → Devices → Devices → Ended A → Type 0
 IsRunOf seed start entry exit ended =
-    (left : Stream) × AreLeft seed left entry.words exit.words
-    × IsSomeAnd ended.machine (λ end. IsRun start (devices_for seed entry) (record exit { words = left })
-    (report_of ended end))
+    IsSomeAnd ended.machine (λ end. IsRunTo seed start entry exit (report_of ended end))
 
 -- After a run that came to its end the line is sent, or memory ran out before; after one that was cut short nothing.
 pub record IsRewound {A : Type 0} (back : ℕ) (r : Report) (before now : FlatSink) (sends : List Send)
     (ended : Ended A) : Type 0 where
   pub told : r.status < status_shelf_fault
-      → SendsOutput r.status r.fault r.at r.steps (rewind_line back r) before now sends ended
-      ⊎ (HasNoMachine ended status_no_memory 0 0 r.steps × (now ≡ before) × (sends ≡ []))
-  pub early : status_shelf_fault ≤ r.status
-      → HasNoMachine ended r.status r.fault r.at r.steps × (now ≡ before) × (sends ≡ [])
+      → (let line = rewind_line back (record { whole = r.machine; log = unwrap_or r.log no_events }) in
+      SendsOutput r.status r.fault r.at r.steps line before now sends ended
+      ⊎ SendsNothing status_no_memory 0 0 r.steps before now sends ended)
+  pub early : status_shelf_fault ≤ r.status → SendsNothing r.status r.fault r.at r.steps before now sends ended
 
--- The session was run so, and left this sink after these sends; and then came the line.
+-- The session was run so, and left this sink after these sends; and then came the line, of a tape with the machine that
+-- the run reports and what is recorded of it.
 pub record IsRewindOf {A : Type 0} (seed : Option ℕ) (back : ℕ) (start : Configuration) (entry exit : Devices)
     (ended : Ended A) : Type 0 where
   pub report : Report
@@ -95,22 +99,12 @@ pub record BeginsAfter (entry exit : Devices) (Run : Devices → Devices → Typ
   pub does : ShelfCall entry.shelf load shelf
   pub run : Run (record entry { shelf = shelf }) (record exit { asked = asked })
 
-abbrev pub IsRunBegun : {A : Type 0} → CommandOutcome → Devices → Devices → Ended A → Type 0
-IsRunBegun (runs seed start) entry exit ended =
-    BeginsAfter entry exit (λ before after. IsRunOf seed start before after ended)
-IsRunBegun (rewinds seed back start) entry exit ended =
-    BeginsAfter entry exit (λ before after. IsRewindOf seed back start before after ended)
-IsRunBegun outcome entry exit ended = ⊥
-
 -- What is answered and left behind is the outcome's.
 abbrev pub Plays : {A : Type 0} → CommandOutcome → Devices → Devices → Ended A → Type 0
-Plays (refused status fault at) entry exit ended =
-    (HasNoMachine ended status fault at 0 ⊎ IsUnbegun ended) × KeepsSink entry exit
-Plays (unstarted fault at) entry exit ended =
-    (HasNoMachine ended status_fault (number_of fault) at 0 ⊎ IsUnbegun ended) × KeepsSink entry exit
-Plays (runs seed start) entry exit ended =
-    IsRunBegun (runs seed start) entry exit ended ⊎ (IsUnbegun ended × KeepsSink entry exit)
-Plays (rewinds seed back start) entry exit ended =
-    IsRunBegun (rewinds seed back start) entry exit ended ⊎ (IsUnbegun ended × KeepsSink entry exit)
+Plays (refused status fault at) entry exit ended = IsUnbegun status fault at entry exit ended
 Plays (tells status output) entry exit ended =
-    SendsOutput status 0 0 0 output entry.sink exit.sink exit.sends ended ⊎ (IsUnbegun ended × KeepsSink entry exit)
+    IsUnrun entry exit × SendsOutput status 0 0 0 output entry.sink exit.sink exit.sends ended
+Plays (runs seed start) entry exit ended =
+    BeginsAfter entry exit (λ before after. IsRunOf seed start before after ended)
+Plays (rewinds seed back start) entry exit ended =
+    BeginsAfter entry exit (λ before after. IsRewindOf seed back start before after ended)

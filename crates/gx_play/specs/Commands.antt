@@ -5,53 +5,45 @@
 -- alike, options stand before or after STORY, and after `--` every word is STORY. A question for help is no command. N
 -- is one decimal digit or more. All options are looked at in every job, also where it uses them for nothing.
 use Rattle.std.specs.Prelude.{ℕ, ◌-◌, ◌^◌, ◌&&◌, Bool, true, false, List, [], ◌∷◌, Option, Some, None, codes, length}
-use Rattle.std.specs.Prelude.{nat_le, nat_lt, if◌then◌else◌, option_map, option_and_then}
+use Rattle.std.specs.Prelude.{nat_le, nat_lt, if◌then◌else◌, fold, option_map, option_and_then}
 use Rattle.std.specs.Char.{is_ascii_digit}
 use Rattle.std.specs.List.{list_all}
 use Rattle.std.specs.Str.{bytes_eq}
 use Rattle.std.specs.Str.Parse.{digits_value}
 use Rattle.clap.specs.Words.{App, Kinds, Row, Rule, Text, first_of, fault_of, matches_of, new_app, new_rule, with_rule}
+use Rattle.clap.specs.Walk.{is_empty}
 use Rattle.clap.specs.declared.builder.ArgAction.TheVariants.{SetTrue}
 use Rattle.gx_play.specs.declared.command.Job.{Job}
 use Rattle.gx_play.specs.declared.command.Job.TheVariants.{Play, Rewind, Check, Work, Asm, List as Listing}
 use Rattle.glk_world.specs.declared.views.View.{View}
 use Rattle.glk_world.specs.declared.views.View.TheVariants as view
 use Rattle.gx_undo.specs.Undo.{most_undo}
-use Rattle.gx_play.specs.Constants.{usual_depth}
 
 -- THE RULES of the words
--- STORY, which has to be there
-abbrev pub story_rule : Rule
-story_rule = record (new_rule (codes "STORY")) { required = true }
-
--- `--NAME TEXT`, and the text that stands for it where it isn't there
-abbrev pub text_rule : Text → Text → Rule
-text_rule name usual = record (new_rule name) { long = Some name; defaults = usual ∷ [] }
-
--- `--NAME TEXT`, for which nothing stands where it isn't there
-abbrev pub free_rule : Text → Rule
-free_rule name = record (new_rule name) { long = Some name }
+-- `--NAME TEXT`, with the text that stands for it where it isn't there, if there is one
+abbrev pub text_rule : Text → List Text → Rule
+text_rule name usual = record (new_rule name) { long = Some name; defaults = usual }
 
 -- `--NAME`, which is set or not
 abbrev pub flag_rule : Text → Rule
 flag_rule name = record (new_rule name) { long = Some name; action = Some SetTrue }
 
+-- STORY, which has to be there, and the options
 unfoldable pub player : App
 player =
-    with_rule (with_rule (with_rule (with_rule
-    (with_rule (with_rule (with_rule (with_rule (with_rule (with_rule (with_rule
-    (new_app (codes "gx_player"))
-    story_rule)
-    (text_rule (codes "steps") (codes "1000000000000000")))
-    (text_rule (codes "columns") (codes "80")))
-    (text_rule (codes "rows") (codes "24")))
-    (free_rule (codes "undo")))
-    (free_rule (codes "seed")))
-    (text_rule (codes "back") (codes "0")))
-    (flag_rule (codes "echo")))
-    (flag_rule (codes "screen")))
-    (flag_rule (codes "plain")))
-    (text_rule (codes "job") (codes "play"))
+    fold with_rule (new_app (codes "gx_player"))
+    (record (new_rule (codes "STORY")) { required = true }
+    ∷ text_rule (codes "steps") (codes "1000000000000000" ∷ [])
+    ∷ text_rule (codes "columns") (codes "80" ∷ [])
+    ∷ text_rule (codes "rows") (codes "24" ∷ [])
+    ∷ text_rule (codes "undo") (codes "16" ∷ [])
+    ∷ text_rule (codes "seed") []
+    ∷ text_rule (codes "back") (codes "0" ∷ [])
+    ∷ flag_rule (codes "echo")
+    ∷ flag_rule (codes "screen")
+    ∷ flag_rule (codes "plain")
+    ∷ text_rule (codes "job") (codes "play" ∷ [])
+    ∷ [])
 
 -- WHAT A COMMAND LINE ASKS FOR: the name of the file, the budget of the run, the size of the screen, how many copies
 -- are kept for undo, the seed of the random words, if there is one, how many units job rewind goes back, whether each
@@ -74,11 +66,6 @@ number_spelled least most text =
     if nat_lt 0 (length text) && (list_all is_ascii_digit text
     && (nat_le least (digits_value 10 text) && nat_le (digits_value 10 text) most))
     then Some (digits_value 10 text) else None
-
--- the depth of undo
-abbrev pub depth_of : Option Text → Option ℕ
-depth_of None = Some usual_depth
-depth_of (Some text) = number_spelled 1 most_undo text
 
 -- the seed, if there is one
 abbrev pub seed_of : Option Text → Option (Option ℕ)
@@ -123,7 +110,7 @@ command_in under = do
   steps ← under (codes "steps") >>= number_spelled 0 (2 ^ 64 - 1)
   columns ← under (codes "columns") >>= number_spelled 1 255
   rows ← under (codes "rows") >>= number_spelled 1 255
-  undo ← depth_of (under (codes "undo"))
+  undo ← under (codes "undo") >>= number_spelled 1 most_undo
   seed ← seed_of (under (codes "seed"))
   back ← under (codes "back") >>= number_spelled 0 (2 ^ 64 - 1)
   job ← under (codes "job") >>= job_of story
@@ -149,11 +136,7 @@ faults_of words = fault_of player words
 unfoldable pub matched_in : List Text → List Row
 matched_in words = matches_of player words
 
-abbrev pub are_none : {X : Type 0} → List X → Bool
-are_none [] = true
-are_none (x ∷ xs) = false
-
 -- THE COMMAND of the words, and none where they have no matches or a text isn't as it has to be.
 unfoldable pub command_of : List Text → Option Command
 command_of words =
-    if are_none (faults_of words) then command_in (λ name. first_of name (matched_in words)) else None
+    if is_empty (faults_of words) then command_in (λ name. first_of name (matched_in words)) else None

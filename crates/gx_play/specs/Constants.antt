@@ -1,7 +1,7 @@
 -- The numbers that stand in the definitions by name. The constants of the same names in code are tied to these.
 use Rattle.std.specs.Prelude.{ℕ}
 
--- how many copies are kept for undo where the words say nothing of it, and in job work
+-- how many copies are kept for undo in job work, as in the others where the words say nothing of it
 abbrev pub usual_depth : ℕ
 usual_depth = 16
 

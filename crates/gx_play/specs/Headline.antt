@@ -1,7 +1,8 @@
 -- THE HEADLINE: what `play` does (crates/gx_play/src/entry.rt), the call that the program makes.
 --
 -- Give it a command line, and an input, an output, a shelf of files and random words of any kind. It comes to the
--- outcome that `outcome_of` has for the command line and for the file under the name there, and to nothing else:
+-- outcome that `outcome_of` of specs/Outcomes has for the command line and for the file under the name there, and to
+-- nothing else. (A name of which no file is said is one of the contract at the end of this file, or of its fields.)
 --
 -- - The words are not understood, which is so exactly where specs/Commands has no command for them: nothing at all is
 --   done. Or there is no story: the status and the number of the fault say so. No input is read, no text sent, no word
@@ -9,22 +10,21 @@
 -- - The story's start function can't be entered: status 3, with the fault and the function's address. Nothing is read,
 --   sent or drawn then either.
 -- - Else the story runs. The run is the session of gx_session/specs/Session, from the story's first machine, with the
---   command's depth of undo, to the session's end (`IsRun`): its status, fault, address and steps, the machine and what
---   it asks, the text, the input and the random words that are left (one more of these may be drawn, since a step is
---   handed the word that it may use); the calls of the sink, one by one: which bytes of the text each was handed, and
---   that it took them whole (`sends_are`); and the calls of the shelf, one by one: what was loaded, stored, removed and
---   looked for, under which names and in which order, and what the shelf answered (`asked_are`). Or it was cut short,
---   because a device failed or memory ran out: then the machine stands at one of the session's configurations, and the
---   calls of the sink and of the shelf are those up to there, with the one that was refused where it was one of these
---   two that refused.
+--   command's depth of undo, to the session's end (`IsRun` of gx_session/specs/Runs, and there `EndsAt`): its status,
+--   fault, address and steps, the machine and what it asks, the text, the input and the random words that are left (one
+--   more of these may be drawn, since a step is handed the word that it may use); the calls of the sink, one by one:
+--   which bytes of the text each was handed, and that it took them whole (`sends_are` of `EndsAt`); and the calls of
+--   the shelf, one by one: what was loaded, stored, removed and looked for, under which names and in which order, and
+--   what the shelf answered (`asked_are` of `EndsAt`). Or it was cut short, because a device failed or memory ran out
+--   (`StopsEarly` of Runs): then the machine stands at one of the session's configurations, and the calls of the sink
+--   and of the shelf are those up to there, with the one that was refused where it was one of these two that refused.
 -- - In job rewind the story runs just so, and its run is recorded. Where it came to its end, with a status below 8, one
 --   line of specs/Rewinding follows the text as it stands, also in mid-line. It tells of the machine at the newest
 --   beginning of a step since when at least so many units were used as the command says; at the first one, where fewer
 --   were used; at the end, where the command says 0. That machine is one of the run's, with the units that were used up
---   to it (`records` of `IsRun`). A step whose Glk call ended the program isn't recorded, so
---   that the end is then where it began. Text, files, status, fault, address and steps are those of the run. But the
---   sink may fail at the line (status 10), or memory may run out (11): then some front of the line was sent. No machine
---   is handed back.
+--   to it (`records` of `IsRun`). A step whose Glk call ended the program isn't recorded, so that the end is then where
+--   it began. Text, files, status, fault, address and steps are those of the run. But the sink may fail at the line
+--   (status 10), or memory may run out (11): then some front of the line was sent. No machine is handed back.
 -- - In the jobs check and work one line of specs/Jobs is sent, with its status, or a front of it where the output fails
 --   or wants memory. No machine is handed back. Every number has a story that can be started (`works`).
 -- - In job asm the story of the code that the file's text spells is sent, in job list the text of the story's start
@@ -34,7 +34,8 @@
 -- - Or nothing was begun, because the shelf failed or memory ran out before.
 --
 -- Where no run was begun no machine is handed back, no step is done, no input is read, no random word is drawn, and in
--- the jobs that play a story no text is sent (`IsUnrun`).
+-- the jobs that play a story no text is sent (`IsUnrun` and `HasNoMachine` in `Plays` of specs/Answers, whose outcome
+-- in these jobs is then `refused`).
 --
 -- The text of a session is that of the view that the command line chooses (`view_for` in specs/Commands; what each view
 -- shows is said in glk_world/specs/Shown), and all of this holds with each of the three:
@@ -45,7 +46,7 @@
 -- - With `--plain` it is the same without the rows of grids: text alone.
 -- - With `--screen` it is the whole screen, composed of all windows (`composed` in glk_screen/specs/Screen): at each
 --   wait for a line, with the prompt behind it where a name is asked for, and at the end once more, where it differs
---   from the screen that was shown last (`final_of`). Nothing else is text then.
+--   from the screen that was shown last (`final_of` of gx_session/specs/Session). Nothing else is text then.
 --
 -- The random words are the device's, or with `--seed` those of specs/Seeds. Then the device isn't drawn from at all, in
 -- any job and whatever the end (`undrawn`), and the outcome is the same over any other words that it might hold
@@ -63,38 +64,46 @@
 -- source and a sink that tell hold in the end follows likewise (`source_calls`, `sink_calls`). Text is sent before the
 -- shelf or the source is asked for anything. Each read of the source has room for 4,096 bytes; fewer are read ahead of
 -- the lines that were taken, but for a line that was awaited and is too long, one in which the source failed (then
--- fewer than 65,536; `LeavesInput`), and one in which memory was wanted, of which nothing is said. None is read where
--- no line is awaited. The status blames a device exactly where a call of it failed in this run, which was then its last
--- one. Each restoreundo of the session goes back to the newest saveundo that was neither used, nor discarded, nor
--- dropped as the oldest (`LastsUndo`), whatever was restored from files in between; the protected range keeps its
--- bytes. The bytes that each save of the session puts to its stream are read as the very copy that was saved
--- (`SavedAll`, `SavedBy`). So are those of every copy that fits the story; and each save that was one while memory had
--- a lower ceiling, such as 0x04000000, is restored as the same copy (`SavesReadBack`). And where no count of failures
--- rose the status is the outcome's, or memory ran out (`complete`).
+-- fewer than 65,536; `LeavesInput` of gx_session/specs/Reads), and one in which memory was wanted, of which nothing is
+-- said. None is read where no line is awaited. The status blames a device exactly where a call of it failed in this
+-- run, which was then its last one (`counts`). Each restoreundo of the session goes back to the newest saveundo that
+-- was neither used, nor discarded, nor dropped as the oldest (`LastsUndo` of gx_session/specs/Undoing), whatever was
+-- restored from files in between; the protected range keeps its bytes. The bytes that each save of the session puts to
+-- its stream are read as the very copy that was saved (`SavedAll` and `SavedBy` of gx_session/specs/Runs). So are those
+-- of every copy that fits the story; and each save that was one while memory had a lower ceiling, such as 0x04000000,
+-- is restored as the same copy (`SavesReadBack` of gx_session/specs/Saving). And where no count of failures rose the
+-- status is the outcome's, or memory ran out (`complete`).
 --
 -- Premises: that the story's file is the one that the shelf holds is said of a shelf that tells what it holds, as one
 -- in memory does. A real one doesn't, and there the run is that of the bytes that it handed out (`loads`), and the
--- session's answers are those that it gave (`answers` in `IsSomeSession`): whatever a shelf does, the session's calls
--- are those that were made, with the answers that came. Likewise the input is what a source that tells has left; for a
--- real one it is the bytes that its reads gave, one after another, and some that may be still to come (`GiveInput`).
--- Which bytes a sink was handed, call by call, is said of every one; which of them it took, of one that tells. What a
--- call of a device is to it, `called`, may be no more than how it is counted, as with the program's own: that the calls
--- here are those that were made rests on `play` being proved for every source, sink and shelf.
+-- session's answers are those that it gave (`answers` in `IsSomeSession` of gx_session/specs/Runs): whatever a shelf
+-- does, the session's calls are those that were made, with the answers that came. Likewise the input is what a source
+-- that tells has left; for a real one it is the bytes that its reads gave, one after another, and some that may be
+-- still to come (`GiveInput` of gx_session/specs/Reads). Which bytes a sink was handed, call by call, is said of every
+-- one; which of them it took, of one that tells. What a call of a device is to it, `called`, may be no more than how it
+-- is counted, as with the program's own: that the calls here are those that were made rests on `play` being proved for
+-- every source, sink and shelf.
 --
 -- Limits: nothing is said of time, nor of how much memory a run takes; that ample memory suffices is only tested.
 -- Nothing is said of what a terminal makes of the text: the composed screen counts columns by the crate unicode_width.
--- Three definitions have a last case that no run comes to, and no clause here says so: `final_in` without moves (that
--- there are always enough is proved in gx_session/proofs/Finals), a turn that is no answer where a call has gone on (a
--- clause of glk_dispatch's `go_on`), and a fault on the way back to a copy (gx_state/proofs/Backs).
+-- Some definitions are total where no run comes to one of their cases, and no clause here says that none does; these
+-- are the ones that a reader meets: `final_in` without moves (gx_session/specs/Session; gx_session/proofs/Finals proves
+-- that there are always enough); in gx_session/specs/Moves a turn that is no answer where a call has gone on
+-- (`after_given`; a clause of glk_dispatch's `go_on`), one that asks for nothing (`after_asking`; `after_turn` there
+-- lets only the other six ask), and a step that is Spent by itself (`after_effect`; no row has this effect, and that
+-- isn't proved apart); a call that goes on where none waits (`go_by` of glk_dispatch/specs/Going; a `requires` of
+-- `go_on`); an answer or a copy where the instruction at PC is none that asks (`answered_row` and `answered_by` of
+-- gx_machine/specs/Answer, `copy_by` of its Saves; `IsPendingAnswer` of its Views, which holds of every machine that
+-- has asked); and a fault on the way back to a copy (`restored_to` of gx_state/specs/Copies; gx_state/proofs/Backs).
 -- Status 11 (`status_no_memory`) is a free answer wherever memory may be wanted: before anything is done, whatever the
 -- words are, so that a body that does nothing and answers so meets the contract; once the file was asked for, only
--- where there is something that may want it (`ComesOut.memory`, `StopsEarly`, `IsRewound`, `IsUnsent`). docs/PROVED.md
--- names each place, under "Where memory may be wanted".
+-- where there is something that may want it (`ComesOut.memory`; `StopsEarly` of gx_session/specs/Runs; `IsRewound` and
+-- `AnswersSend` of specs/Answers). docs/PROVED.md names each place, under "Where memory may be wanted".
 --
 -- The definitions on which the contract stands, in the order of reading: Outcomes (what a command line comes to),
--- Answers (what is answered and left behind then), FirstLoad (the one load of the file), Unbegun (where no run was
--- begun), Statuses (what goes with each status); Commands, Jobs, Rewinding, Seeds, Spelling and Constants, which these
--- name. Loading and Reading are no part of it: they are what the contracts of the parts of `play` need.
+-- Answers (what is answered and left behind then, with a run or without one), FirstLoad (the one load of the file),
+-- Statuses (what goes with each status); Commands, Jobs, Rewinding, Seeds, Spelling and Constants, which these name.
+-- Loading, Reading and Silent are no part of it: they are what the contracts of the parts of `play` need.
 use Rattle.std.specs.Prelude.{◌≡◌, ◌≢◌, ℕ, List, ◌⊎◌, ◌↔◌, true, Option, None, IsSome, IfSome, IsSomeAnd}
 use Rattle.std.specs.Option.{option_and_then}
 use Rattle.gx_outside.specs.Chains.{Chain}
@@ -103,29 +112,28 @@ use Rattle.gx_outside.specs.Reads.{SourceCall}
 use Rattle.gx_outside.specs.Sends.{SinkCall}
 use Rattle.gx_outside.specs.Shelves.{ShelfCall}
 use Rattle.gx_session.specs.declared.ended.Ended.{Ended}
-use Rattle.gx_session.specs.Constants.{status_bad_words, status_no_memory}
+use Rattle.gx_session.specs.Constants.{status_bad_words, status_shelf_fault, status_no_memory}
 use Rattle.gx_session.specs.Devices.{Devices}
 use Rattle.gx_play.specs.declared.command.Job.TheVariants.{Play}
 use Rattle.gx_play.specs.Commands.{Command}
 use Rattle.gx_play.specs.Jobs.{work_machine}
 use Rattle.gx_play.specs.Spelling.{IsSpelling}
 use Rattle.gx_play.specs.Outcomes.{outcome_of, status_of_outcome}
-use Rattle.gx_play.specs.Answers.{IsRunBegun, Plays}
+use Rattle.gx_play.specs.Answers.{IsUnbegun, Plays}
 use Rattle.gx_play.specs.FirstLoad.{LoadsFirst, JobMayWant}
-use Rattle.gx_play.specs.Unbegun.{PlaysStory, IsUnrun}
-use Rattle.gx_play.specs.Statuses.{HasItsParts}
+use Rattle.gx_play.specs.Statuses.{PlaysStory, HasItsParts}
 use Rattle.rand_core.specs.Stream.{Stream}
-use Rattle.gx_session.specs.Configurations.{Configuration, start_of}
-use Rattle.gx_session.specs.Session.{stop_status}
 use Rattle.gx_session.specs.Counts.{FailureCounts}
 
--- A COMMAND LINE COMES TO ITS OUTCOME, and a run was begun or not.
+-- A COMMAND LINE COMES TO ITS OUTCOME, or nothing was begun, because the shelf failed or memory ran out. The file is
+-- loaded first, unless memory ran out before anything was done.
 pub record ComesOut {A : Type 0} (command : Option Command) (entry exit : Devices) (ended : Ended A) : Type 0 where
   pub file : Option (List ℕ)
   pub file_is : IfSome command (λ c. entry.shelf.tells ≡ true → file ≡ entry.shelf.files c.story)
-  pub loads : IfSome command (λ c. LoadsFirst c.job c file exit.asked)
+  pub loads : IfSome command
+      (λ c. LoadsFirst c.job c file exit.asked ⊎ ((ended.status ≡ status_no_memory) × (exit ≡ entry)))
   pub plays : Plays (outcome_of command file entry) entry exit ended
-  pub begun : IsRunBegun (outcome_of command file entry) entry exit ended ⊎ IsUnrun command entry exit ended
+      ⊎ IsUnbegun status_shelf_fault 0 0 entry exit ended ⊎ IsUnbegun status_no_memory 0 0 entry exit ended
   pub memory : ended.status ≡ status_no_memory → (exit ≡ entry) ⊎ IsSomeAnd command (λ c. JobMayWant c.job file)
 
 -- No count of failures rose. (One that stands at 2^64 - 1 counts as one that rose.)

@@ -5,14 +5,14 @@ use Rattle.std.specs.Option.{option_and_then, option_map_or}
 use Rattle.std.specs.Result.{result_ok}
 use Rattle.gx_words.specs.Numbers.{word}
 use Rattle.gx_outside.specs.Files.{no_files}
-use Rattle.gx_outside.specs.Outside.{FlatSource, FlatSink, FlatShelf}
+use Rattle.gx_outside.specs.Outside.{no_call}
 use Rattle.gx_story.specs.Stories.{FlatStory, accepted}
 use Rattle.gx_state.specs.Flat.{FlatState}
 use Rattle.gx_machine.specs.Machine.{Whole}
 use Rattle.gx_machine.specs.Start.{first_machine}
 use Rattle.glk_world.specs.World.{empty_world}
 use Rattle.gx_session.specs.Constants.{status_ended, status_fault}
-use Rattle.gx_session.specs.Devices.{Devices, devices}
+use Rattle.gx_session.specs.Devices.{devices}
 use Rattle.gx_session.specs.Session.{final_of}
 use Rattle.gx_work.specs.Work.{work_story}
 use Rattle.gx_play.specs.Constants.{usual_depth}
@@ -24,54 +24,15 @@ use Rattle.glk_world.specs.declared.views.View.TheVariants as view
 abbrev pub with_line_feed : List ℕ → List ℕ
 with_line_feed text = text ++ 10 ∷ []
 
--- JOB CHECK: whether a story has the checksum that its header states. A wrong one is a fault without a number.
-abbrev pub check_status : Bool → ℕ
-check_status true = status_ended
-check_status false = status_fault
-
-abbrev pub check_line : Bool → List ℕ
-check_line true = with_line_feed (codes "checksum ok")
-check_line false = with_line_feed (codes "checksum differs")
+-- JOB CHECK: the status and the line, by whether a story has the checksum that its header states. A wrong one is a
+-- fault without a number.
+abbrev pub check_told : Bool → ℕ × List ℕ
+check_told true = (status_ended, with_line_feed (codes "checksum ok"))
+check_told false = (status_fault, with_line_feed (codes "checksum differs"))
 
 -- JOB WORK: the story of a number is played to its end over devices that hold nothing, in the usual view, on a screen
 -- of 80 columns and 24 rows, with the usual depth of undo and within the largest budget, whatever the options say; what
 -- it comes to is told in three numbers.
-
--- every random word is 0
-abbrev pub zeros : Stream
-zeros = record { u32_after = λ calls. 0; u64_after = λ calls. 0; bytes_after = λ calls n. replicate n 0 }
-
--- a source in which nothing is left, after so many reads, which had room for so many bytes in all
-abbrev pub no_source : ℕ → ℕ → FlatSource
-no_source reads offered =
-    record {
-      calls = record { made = reads; faults = 0; failing = false; wanting = false };
-      offered = offered;
-      tells = true;
-      left = [];
-    }
-
--- a sink with this text, after so many sends, the last of which wanted memory or didn't
-abbrev pub gathered : ℕ → Bool → List ℕ → FlatSink
-gathered sends wanting text =
-    record {
-      calls = record { made = sends; faults = 0; failing = false; wanting = wanting };
-      tells = true;
-      taken = text;
-    }
-
--- a shelf without files, after so many calls, the last of which wanted memory or didn't
-abbrev pub no_shelf : ℕ → Bool → FlatShelf
-no_shelf calls wanting =
-    record {
-      calls = record { made = calls; faults = 0; failing = false; wanting = wanting };
-      tells = true;
-      files = no_files;
-    }
-
--- no input, no text, no files
-abbrev pub empty_devices : Devices
-empty_devices = devices (no_source 0 0) (gathered 0 false []) (no_shelf 0 false) zeros [] [] []
 
 -- the machine that starts the story of a number, where the story is accepted and can be started (every one is and can:
 -- `works` in Headline)
@@ -80,8 +41,17 @@ work_machine number =
     option_and_then (λ (story : FlatStory). result_ok (first_machine story usual_depth))
     (result_ok (accepted (work_story number)))
 
+-- every random word is 0
+abbrev pub zeros : Stream
+zeros = record { u32_after = λ calls. 0; u64_after = λ calls. 0; bytes_after = λ calls n. replicate n 0 }
+
+-- the start of its run: no input, no text, no files
 abbrev pub work_start : Whole → Configuration
-work_start whole = start_of whole.machine (empty_world view.Rows 80 24) empty_devices false (2 ^ 64 - 1) None
+work_start whole =
+    start_of whole.machine (empty_world view.Rows 80 24)
+    (devices (record { calls = no_call; offered = 0; tells = true; left = [] })
+    (record { calls = no_call; tells = true; taken = [] }) (record { calls = no_call; tells = true; files = no_files })
+    zeros [] [] []) false (2 ^ 64 - 1) None
 
 -- the sum of so many words from an address on
 unfoldable pub sum_from : ℕ → List ℕ → ℕ → ℕ
@@ -92,13 +62,11 @@ sum_from (suc n) memory at = sum_from n memory at + word memory (at + 4 * n)
 abbrev pub ram_sum_of : FlatState → ℕ
 ram_sum_of f = sum_from ((length f.memory - f.story.header.ramstart) / 4) f.memory f.story.header.ramstart % 2 ^ 32
 
--- the units that were used up to the end of a run, the length of its text, and the sum of its RAM
-abbrev pub end_line : Whole → List ℕ
-end_line whole =
+-- THE LINE: the units that were used up to the end of the run, the length of its text, and the sum of its RAM.
+unfoldable pub work_line : ℕ → List ℕ
+work_line number =
+    option_map_or (λ (whole : Whole).
     let start = work_start whole in
     let end = (final_of start).configuration in
     with_line_feed (decimal (start.left - end.left) ++ 32 ∷ decimal (length end.world.text)
-    ++ 32 ∷ decimal (ram_sum_of end.machine.flat))
-
-unfoldable pub work_line : ℕ → List ℕ
-work_line number = option_map_or end_line (work_machine number) []
+    ++ 32 ∷ decimal (ram_sum_of end.machine.flat))) (work_machine number) []

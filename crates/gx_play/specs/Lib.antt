@@ -2,7 +2,6 @@ pub mod Headline
 pub mod Outcomes
 pub mod Answers
 pub mod FirstLoad
-pub mod Unbegun
 pub mod Statuses
 pub mod Commands
 pub mod Jobs
@@ -12,3 +11,4 @@ pub mod Spelling
 pub mod Constants
 pub mod Loading
 pub mod Reading
+pub mod Silent

@@ -4,6 +4,7 @@ use Rattle.std.specs.Prelude.{ℕ, nat_lt, if◌then◌else◌, length, List, Op
 use Rattle.std.specs.Result.{result_map_both}
 use Rattle.gx_words.specs.declared.faults.Fault.{Fault}
 use Rattle.gx_words.specs.Constants.{ceiling}
+use Rattle.gx_words.specs.Faults.{number_of}
 use Rattle.gx_story.specs.declared.faults.StoryFault.TheVariants.{TooLarge}
 use Rattle.gx_story.specs.Faults.{number_of as story_number_of}
 use Rattle.gx_story.specs.Stories.{FlatStory, accepted, is_checked}
@@ -22,24 +23,23 @@ use Rattle.gx_session.specs.Devices.{Devices}
 use Rattle.gx_session.specs.Configurations.{Configuration, start_of}
 use Rattle.gx_session.specs.Session.{final_of, stop_status}
 use Rattle.gx_play.specs.declared.command.Job.{Job}
-use Rattle.gx_play.specs.declared.command.Job.TheVariants.{Play, Rewind, Check, Work, Asm, List as Listing}
+use Rattle.gx_play.specs.declared.command.Job.TheVariants.{Rewind, Check, Work, Asm, List as Listing}
 use Rattle.gx_play.specs.Commands.{Command}
 use Rattle.gx_play.specs.Constants.{no_file, most_text}
-use Rattle.gx_play.specs.Jobs.{check_status, check_line, work_line}
+use Rattle.gx_play.specs.Jobs.{check_told, work_line}
 use Rattle.gx_play.specs.Seeds.{devices_for}
 
 -- THE OUTCOME of a command line.
 pub data CommandOutcome : Type 0 where
-  -- no command, no story, a text without a code, or a story without a listing: a status, a fault and its place
+  -- no command, no story or one that can't be started, a text without a code, or a story without a listing: a status,
+  -- a fault and its place
   refused : ℕ → ℕ → ℕ → CommandOutcome
-  -- a story whose start function can't be entered: the fault, and the function's address
-  unstarted : Fault → ℕ → CommandOutcome
+  -- an output is sent, with this status: a line, a story or a listing
+  tells : ℕ → List ℕ → CommandOutcome
   -- the session from this configuration to its end, with the words of a seed or of the device
   runs : Option ℕ → Configuration → CommandOutcome
   -- the same, recorded, and then the line of so many units before the end
   rewinds : Option ℕ → ℕ → Configuration → CommandOutcome
-  -- an output is sent, with this status: a line, a story or a listing
-  tells : ℕ → List ℕ → CommandOutcome
 
 -- the story in a file, or the number of why there is none
 abbrev pub story_in_file : Option (List ℕ) → Result FlatStory ℕ
@@ -60,14 +60,13 @@ start_for command whole log entry =
     start_of whole.machine (empty_world command.view command.columns command.rows) (devices_for command.seed entry)
     command.echo command.steps log
 
-abbrev pub outcome_of_run : Job → Command → Devices → Whole → CommandOutcome
-outcome_of_run Rewind command entry whole =
-    rewinds command.seed command.back (start_for command whole (Some no_events) entry)
-outcome_of_run job command entry whole = runs command.seed (start_for command whole None entry)
-
+-- A start function that can't be entered is a fault at its address.
 abbrev pub outcome_of_start : Job → Command → FlatStory → Devices → Result Whole Fault → CommandOutcome
-outcome_of_start job command story entry (Ok whole) = outcome_of_run job command entry whole
-outcome_of_start job command story entry (Err fault) = unstarted fault story.header.start_function
+outcome_of_start job command story entry (Err fault) =
+    refused status_fault (number_of fault) story.header.start_function
+outcome_of_start Rewind command story entry (Ok whole) =
+    rewinds command.seed command.back (start_for command whole (Some no_events) entry)
+outcome_of_start job command story entry (Ok whole) = runs command.seed (start_for command whole None entry)
 
 -- JOB ASM: the story of a text's code. A text isn't understood exactly where no code is spelled by it.
 abbrev pub outcome_of_code : Result (List ℕ) AsmFault → CommandOutcome
@@ -86,19 +85,16 @@ outcome_with (Ok held) made = made held
 outcome_with (Err fault) made = refused status_bad_story fault 0
 
 abbrev pub outcome_of_job : Job → Command → Option (List ℕ) → Devices → CommandOutcome
-outcome_of_job Play command file entry =
-    outcome_with (story_in_file file)
-    (λ story. outcome_of_start Play command story entry (first_machine story command.undo))
-outcome_of_job Rewind command file entry =
-    outcome_with (story_in_file file)
-    (λ story. outcome_of_start Rewind command story entry (first_machine story command.undo))
-outcome_of_job Check command file entry =
-    outcome_with (story_in_file file)
-    (λ story. tells (check_status (is_checked story)) (check_line (is_checked story)))
 outcome_of_job (Work number) command file entry = tells status_ended (work_line number)
 outcome_of_job Asm command file entry = outcome_with (text_in_file file) (λ text. outcome_of_code (assembled text))
+outcome_of_job Check command file entry =
+    outcome_with (story_in_file file) (λ story. let told = check_told (is_checked story) in tells told.0 told.1)
 outcome_of_job Listing command file entry =
     outcome_with (story_in_file file) (λ story. outcome_of_listing (listed_story story))
+-- play and rewind
+outcome_of_job job command file entry =
+    outcome_with (story_in_file file)
+    (λ story. outcome_of_start job command story entry (first_machine story command.undo))
 
 -- The outcome of a command over what the devices hold, where this file stands under the name.
 abbrev pub outcome_of : Option Command → Option (List ℕ) → Devices → CommandOutcome
@@ -109,7 +105,6 @@ outcome_of (Some command) file entry = outcome_of_job command.job command file e
 -- the status of an outcome, where nothing cuts it short
 abbrev pub status_of_outcome : CommandOutcome → ℕ
 status_of_outcome (refused status fault at) = status
-status_of_outcome (unstarted fault at) = status_fault
+status_of_outcome (tells status output) = status
 status_of_outcome (runs seed start) = stop_status (final_of start).stop
 status_of_outcome (rewinds seed back start) = stop_status (final_of start).stop
-status_of_outcome (tells status output) = status

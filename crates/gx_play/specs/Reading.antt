@@ -1,13 +1,14 @@
 -- WHAT CONTRACTS NEED, and no reader of the theorem. How the reading of a command line is done: in two steps, each
 -- exact but for want of memory.
 use Rattle.std.specs.Prelude.{◌≡◌, ◌<◌, ◌≤◌, ◌^◌, true, None, List}
+use Rattle.clap.specs.Walk.{is_empty}
 use Rattle.clap.specs.Words.{Text, found_of, rows_of}
 use Rattle.clap.specs.declared.parser.matches.ArgMatches.{ArgMatches}
 use Rattle.gx_undo.specs.Undo.{most_undo}
 use Rattle.gx_play.specs.declared.command.Command as declared
 use Rattle.gx_play.specs.declared.command.CommandFault.{CommandFault}
 use Rattle.gx_play.specs.declared.command.CommandFault.TheVariants.{BadWords, NoMemory}
-use Rattle.gx_play.specs.Commands.{Command, are_none, faults_of, matched_in, command_of}
+use Rattle.gx_play.specs.Commands.{Command, faults_of, matched_in, command_of}
 
 -- what a command asks for
 abbrev pub command_seen : declared.Command → Command
@@ -34,7 +35,7 @@ pub record IsInRange (c : declared.Command) : Type 0 where
 
 -- the words are matched so
 abbrev pub HasMatches : List Text → ArgMatches → Type 0
-HasMatches words matches = (are_none (faults_of words) ≡ true) × (rows_of (found_of matches) ≡ matched_in words)
+HasMatches words matches = (is_empty (faults_of words) ≡ true) × (rows_of (found_of matches) ≡ matched_in words)
 
 -- they are no command, or memory ran out
 abbrev pub IsUnread : List Text → CommandFault → Type 0

@@ -18,10 +18,6 @@ use Rattle.gx_asm.specs.Texts.{assembled}
 use Rattle.gx_story.specs.Stories.{accepted, is_checked}
 use Rattle.gx_play.specs.Constants.{most_text}
 
--- these bytes stand in memory from an address on
-abbrev pub StandAt : List ℕ → ℕ → List ℕ → Type 0
-StandAt memory at bytes = take (length bytes) (drop at memory) ≡ bytes
-
 -- ---- an instruction and its operands, by their index
 
 abbrev pub mode_at : WrittenInstruction → ℕ → Addressing
@@ -30,10 +26,6 @@ mode_at w k = get_or w.modes k Zero
 -- how many bytes of data stand before an operand's
 abbrev pub data_before : WrittenInstruction → ℕ → ℕ
 data_before w k = all_data_len (take k w.modes)
-
--- an operand's data
-abbrev pub data_of : WrittenInstruction → ℕ → List ℕ
-data_of w k = take (data_len (mode_at w k)) (drop (data_before w k) w.operand_data)
 
 -- where its modes stand, and where the data of an operand does
 abbrev pub modes_at : FlatState → WrittenInstruction → ℕ
@@ -46,8 +38,8 @@ data_at f w k = modes_at f w + modes_len (operand_count (row_at w.place)) + data
 pub record SeesOperand (f : FlatState) (w : WrittenInstruction) (k : ℕ) : Type 0 where
   pub mode : addressing (nibble f.memory (modes_at f w) k) ≡ Some (mode_at w k)
   pub operand_data : 0 < data_len (mode_at w k) → (p : Cursor) → p.at ≡ data_at f w k
-      → datum f.memory p (data_len (mode_at w k))
-      ≡ Ok (number (data_len (mode_at w k)) (data_of w k) 0, past p (data_len (mode_at w k)))
+      → (let n = data_len (mode_at w k) in
+      datum f.memory p n ≡ Ok (number n (take n (drop (data_before w k) w.operand_data)) 0, past p n))
 
 -- The instruction: its number, its row, its operands, and no byte of memory more.
 pub record SeesInstruction (f : FlatState) (w : WrittenInstruction) : Type 0 where
@@ -58,12 +50,12 @@ pub record SeesInstruction (f : FlatState) (w : WrittenInstruction) : Type 0 whe
 
 -- A text is assembled to a code, and the bytes of a code are listed as a text, exactly where the text spells the code.
 -- The story of a code is accepted with its right checksum, and listed as its instructions up to the first quit or
--- return. A machine at an instruction's bytes sees that instruction.
+-- return. A machine at which an instruction's bytes stand in memory sees that instruction.
 pub record IsSpelling : Type 0 where
   pub assembles : (text code : List ℕ) → (assembled text ≡ Ok code) ↔ Spells text code
   pub lists : (code text : List ℕ) → All (λ b. b < 256) code → (listed code ≡ Ok text) ↔ Spells text code
   pub wraps : (code : List ℕ) → length code ≤ most_text
       → (accepted (wrapped_code code) ≡ Ok (wrapped_story code)) × (is_checked (wrapped_story code) ≡ true)
   pub lists_back : (code : List ℕ) → IsListedBack code
-  pub decodes : (f : FlatState) (w : WrittenInstruction) → IsWritten w → StandAt f.memory f.pc (bytes_of w)
-      → SeesInstruction f w
+  pub decodes : (f : FlatState) (w : WrittenInstruction) → IsWritten w
+      → take (length (bytes_of w)) (drop f.pc f.memory) ≡ bytes_of w → SeesInstruction f w

@@ -4,6 +4,14 @@ use Rattle.gx_session.specs.declared.ended.Ended.{Ended}
 use Rattle.gx_session.specs.Constants.{status_ended, status_bad_words, status_bad_story, status_fault, status_spent}
 use Rattle.gx_session.specs.Constants.{status_shelf_fault, status_output_fault, status_no_memory, status_bad_text}
 use Rattle.gx_session.specs.Constants.{status_no_listing}
+use Rattle.gx_play.specs.declared.command.Job.{Job}
+use Rattle.gx_play.specs.declared.command.Job.TheVariants.{Play, Rewind}
+
+-- the jobs that play a story
+abbrev pub PlaysStory : Job → Type 0
+PlaysStory Play = Unit {0}
+PlaysStory Rewind = Unit {0}
+PlaysStory job = ⊥
 
 -- What goes with each status: the fault's number, its place, and in job play the machine.
 pub record HasItsParts {A : Type 0} (playing handing : Type 0) (ended : Ended A) : Type 0 where

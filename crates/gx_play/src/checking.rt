@@ -4,7 +4,7 @@ ghost use Rattle.gx_outside.specs.Chains.{IsCalled};
 ghost use Rattle.gx_session.specs.Devices.{Devices};
 ghost use Rattle.gx_play.specs.declared.command.Job.TheVariants.{Check};
 ghost use Rattle.gx_play.specs.Answers.{SendsOutput};
-ghost use Rattle.gx_play.specs.Jobs.{check_status, check_line};
+ghost use Rattle.gx_play.specs.Jobs.{check_told};
 ghost use Rattle.gx_play.specs.Loading.{IsJobDone, BlamesSink};
 ghost use Rattle.gx_play.specs.Reading.{command_seen};
 
@@ -36,7 +36,7 @@ pub fn check_file<A: Allocator + Clone, K: Sink, F: Shelf>(
 /// Tells that a checksum is right, or that it isn't.
 fn tell_checksum<A: Allocator + Clone, K: Sink>(is_right: bool, output: &mut K) -> Ended<A>
     ensures sends { IsCalled K.called output.old output.new (λ sends.
-        SendsOutput (check_status is_right) 0 0 0 (check_line is_right) (K.seen output.old) (K.seen output.new) sends
+        SendsOutput (check_told is_right).0 0 0 0 (check_told is_right).1 (K.seen output.old) (K.seen output.new) sends
         result) }
     ensures blames { BlamesSink (K.seen output.old) (K.seen output.new) result.status }
 {

@@ -8,9 +8,8 @@ ghost use Rattle.std.specs.Prelude.{◌≡◌, ◌≤◌, Some, map, MatchResult
 ghost use Rattle.std.specs.Char.{is_ascii_digit};
 ghost use Rattle.std.specs.List.{list_all};
 ghost use Rattle.clap.specs.Words.{first_value, found_of};
-ghost use Rattle.gx_undo.specs.Undo.{most_undo};
 ghost use Rattle.glk_world.specs.World.{empty_world};
-ghost use Rattle.gx_play.specs.Commands.{command_of, command_in, number_spelled, depth_of, seed_of, job_of, view_for};
+ghost use Rattle.gx_play.specs.Commands.{command_of, command_in, number_spelled, seed_of, job_of, view_for};
 ghost use Rattle.gx_play.specs.Commands.{is_set};
 ghost use Rattle.gx_play.specs.Reading.{command_seen, IsUnread, IsInRange};
 
@@ -20,7 +19,7 @@ use glk_world::{View, World};
 use gx_undo::MOST_UNDO;
 use std::alloc::{AllocError, Global};
 
-/// How many copies are kept for undo where the words say nothing of it, and in job work.
+/// How many copies are kept for undo in job work, as in the others where the words say nothing of it.
 pub const USUAL_DEPTH: usize = 16;
 
 /// What the program is to do.
@@ -118,7 +117,7 @@ fn read_matches<'a>(matches: &ArgMatches<'a>) -> Option<Command<'a>>
     let steps = read_number(matches.get_str("steps")?, 0, u64::MAX)?;
     let columns = read_number(matches.get_str("columns")?, 1, 255)?;
     let rows = read_number(matches.get_str("rows")?, 1, 255)?;
-    let undo = read_depth(matches.get_str("undo"))?;
+    let undo = read_number(matches.get_str("undo")?, 1, MOST_UNDO as u64)?;
     let seed = read_seed(matches.get_str("seed"))?;
     let back = read_number(matches.get_str("back")?, 0, u64::MAX)?;
     let job = read_job(story, matches.get_str("job")?)?;
@@ -134,7 +133,7 @@ fn read_matches<'a>(matches: &ArgMatches<'a>) -> Option<Command<'a>>
         steps,
         columns: columns as u32,
         rows: rows as u32,
-        undo,
+        undo: undo as usize,
         seed,
         back,
         echo,
@@ -150,17 +149,6 @@ fn is_set(matches: &ArgMatches, name: &str) -> bool
     match matches.get_str(name) {
         Some(text) => text == "true",
         None => false,
-    }
-}
-
-/// The depth of undo.
-fn read_depth(text: Option<&str>) -> Option<usize>
-    ensures value { result ≡ depth_of (option_map (λ text. text.now) text.entry) }
-    ensures range { IfSome result (λ depth. (1 ≤ depth) × (depth ≤ most_undo)) }
-{
-    match text {
-        Some(text) => Some(read_number(text, 1, MOST_UNDO as u64)? as usize),
-        None => Some(USUAL_DEPTH),
     }
 }
 

@@ -10,7 +10,7 @@ ghost use Rattle.gx_session.specs.Constants.{status_bad_words, status_fault, sta
 ghost use Rattle.gx_play.specs.declared.command.Job.TheVariants.{Play};
 ghost use Rattle.gx_play.specs.Outcomes.{outcome_of_start, start_for};
 ghost use Rattle.gx_play.specs.Answers.{HasNoMachine, IsRunOf};
-ghost use Rattle.gx_play.specs.Unbegun.{PlaysStory};
+ghost use Rattle.gx_play.specs.Statuses.{PlaysStory};
 ghost use Rattle.gx_play.specs.Loading.{StoryPlays, HasRunParts, IsJobDone};
 ghost use Rattle.gx_play.specs.Reading.{command_seen, IsInRange};
 ghost use Rattle.gx_session.specs.Counts.{FailureCounts};

@@ -2,7 +2,6 @@
 ghost use Rattle.std.specs.Prelude.{◌≡◌, ◌≢◌, ◌<◌, ◌⊎◌, ◌++◌, ◌∷◌, [], None, Some, IfOk, decimal, string_bytes};
 ghost use Rattle.gx_state.specs.Flat.{sp_of};
 ghost use Rattle.gx_machine.specs.Log.{no_events};
-ghost use Rattle.gx_rewind.specs.Tape.{gone_back};
 ghost use Rattle.gx_session.specs.Constants.{status_bad_words, status_shelf_fault};
 ghost use Rattle.gx_outside.specs.Chains.{IsCalled};
 ghost use Rattle.gx_session.specs.Devices.{devices};
@@ -13,7 +12,7 @@ ghost use Rattle.gx_play.specs.Answers.{HasNoMachine, IsRewindOf, IsRewound};
 ghost use Rattle.gx_play.specs.Jobs.{ram_sum_of};
 ghost use Rattle.gx_play.specs.Loading.{BlamesSink, HasRunParts, IsStill};
 ghost use Rattle.gx_play.specs.Reading.{command_seen, IsInRange};
-ghost use Rattle.gx_play.specs.Rewinding.{line_at};
+ghost use Rattle.gx_play.specs.Rewinding.{rewind_line};
 ghost use Rattle.gx_session.specs.Counts.{FailureCounts};
 
 use crate::command::Command;
@@ -124,7 +123,7 @@ fn rewound_line<A: Allocator + Clone>(
     mut tape: Tape<A>,
     back: u64,
 ) -> Result<String, AllocError>
-    ensures { IfOk result (λ line. string_bytes line ≡ line_at (gone_back tape back)) }
+    ensures { IfOk result (λ line. string_bytes line ≡ rewind_line back tape) }
 {
     let units = tape.back(back)?;
     tell_machine(alloc, units, tape.machine().state())

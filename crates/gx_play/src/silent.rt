@@ -4,7 +4,8 @@ ghost use Rattle.gx_outside.specs.Outside.{raised};
 ghost use Rattle.gx_outside.specs.Reads.{SourceCall};
 ghost use Rattle.gx_outside.specs.Sends.{SinkCall};
 ghost use Rattle.gx_outside.specs.Shelves.{ShelfCall};
-ghost use Rattle.gx_play.specs.Jobs.{gathered, no_shelf, no_source, zeros};
+ghost use Rattle.gx_play.specs.Jobs.{zeros};
+ghost use Rattle.gx_play.specs.Silent.{gathered, no_shelf, no_source};
 
 use gx_outside::{Failed, Load, SendFault, Shelf, ShelfFault, Sink, Source};
 use gx_words::Bytes;

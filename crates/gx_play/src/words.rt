@@ -3,9 +3,9 @@
 //!
 //! Why the words have no matches isn't told: a question for help is a faulty command line like any
 //! other.
-ghost use Rattle.std.specs.Prelude.{◌≡◌, IfOk, MatchResult, false, map};
-ghost use Rattle.clap.specs.Words.{app_of, rule_of};
-ghost use Rattle.gx_play.specs.Commands.{player, story_rule, text_rule, free_rule, flag_rule};
+ghost use Rattle.std.specs.Prelude.{◌≡◌, IfOk, MatchResult, false, true, map, [], ◌∷◌, codes};
+ghost use Rattle.clap.specs.Words.{app_of, new_rule, rule_of};
+ghost use Rattle.gx_play.specs.Commands.{player, text_rule, flag_rule};
 ghost use Rattle.gx_play.specs.Reading.{HasMatches, IsUnread};
 
 use crate::command::CommandFault;
@@ -36,7 +36,7 @@ fn player<'a>(alloc: Global) -> Result<Command<'a>, AllocError>
     let steps = text_arg(alloc, "steps", "1000000000000000");
     let columns = text_arg(alloc, "columns", "80");
     let rows = text_arg(alloc, "rows", "24");
-    let undo = free_arg(alloc, "undo");
+    let undo = text_arg(alloc, "undo", "16");
     let seed = free_arg(alloc, "seed");
     let back = text_arg(alloc, "back", "0");
     let echo = flag_arg(alloc, "echo");
@@ -58,7 +58,7 @@ fn player<'a>(alloc: Global) -> Result<Command<'a>, AllocError>
 
 /// STORY, which has to be there.
 fn story_arg<'a>(alloc: Global) -> Arg<'a>
-    ensures rule { rule_of result ≡ story_rule }
+    ensures rule { rule_of result ≡ record (new_rule (codes "STORY")) { required = true } }
     ensures global { result.global ≡ false }
 {
     Arg::new(alloc, "STORY").required(true)
@@ -66,7 +66,7 @@ fn story_arg<'a>(alloc: Global) -> Arg<'a>
 
 /// `--NAME TEXT`, with the text that stands for it where it isn't there.
 fn text_arg<'a>(alloc: Global, name: &'a str, usual: &'a str) -> Arg<'a>
-    ensures rule { rule_of result ≡ text_rule name.entry.now usual.entry.now }
+    ensures rule { rule_of result ≡ text_rule name.entry.now (usual.entry.now ∷ []) }
     ensures global { result.global ≡ false }
 {
     Arg::new(alloc, name).long(name).default_value(usual)
@@ -74,7 +74,7 @@ fn text_arg<'a>(alloc: Global, name: &'a str, usual: &'a str) -> Arg<'a>
 
 /// `--NAME TEXT`, for which nothing stands where it isn't there.
 fn free_arg<'a>(alloc: Global, name: &'a str) -> Arg<'a>
-    ensures rule { rule_of result ≡ free_rule name.entry.now }
+    ensures rule { rule_of result ≡ text_rule name.entry.now [] }
     ensures global { result.global ≡ false }
 {
     Arg::new(alloc, name).long(name)

@@ -16,7 +16,7 @@ returns-in-Err g c =
     (λ asked l d.
     let e : Devices = record d { sink = g.K.Sink.seen c.args.output.now } in
     refused-done c.without_story.result ceiling story_in_file (command_seen c.args.command) e (g.F.Shelf.seen c.args.shelf.now) (g.F.Shelf.seen c.load_story.new.shelf) asked Check c.in-Err.refusal l c.in-Err.ensures.count c.in-Err.ensures.fault c.without_story.ensures
-    (λ fault bad. ap outcome_of_check bad) (λ x. x) (refl, l.handed) (λ x. x)))
+    (λ fault bad. ap outcome_of_check bad) (λ x. x) (refl, l.handed)))
 
 pub returns-in-Ok : goal.returns-in-Ok
 returns-in-Ok g c =

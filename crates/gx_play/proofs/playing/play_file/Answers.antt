@@ -13,11 +13,11 @@ use Rattle.gx_play.specs.Commands.{Command}
 use Rattle.gx_play.specs.Outcomes.{story_in_file}
 use Rattle.gx_play.proofs.Outcomes.{outcome_of_story}
 use Rattle.gx_play.specs.FirstLoad.{LoadsFirst}
-use Rattle.gx_play.specs.Unbegun.{PlaysStory}
+use Rattle.gx_play.specs.Statuses.{PlaysStory}
 use Rattle.gx_play.specs.Reading.{command_seen}
 use Rattle.gx_play.proofs.Dones.{refused-done, parts-for}
 use Rattle.gx_play.proofs.Loads.{loadable}
-use Rattle.gx_play.proofs.Plays.{comes-out, counts-after, first-story, loads-story, plays-story, wants-story}
+use Rattle.gx_play.proofs.Plays.{comes-out, counts-after, first-story, plays-story, wants-story}
 use Rattle.gx_play.proofs.playing.play_file.Goals as goal
 
 pub returns-in-Err : goal.returns-in-Err
@@ -32,7 +32,7 @@ returns-in-Err g c =
     let plays = c.requires.plays in
     refused-done c.without_story.result ceiling story_in_file command entry entry.shelf (g.F.Shelf.seen c.load_story.new.shelf) asked job c.in-Err.refusal l c.in-Err.ensures.count c.in-Err.ensures.fault c.without_story.ensures
     (λ fault bad. plays-story job command l.file entry plays ∙ ap (outcome_of_story job command entry) bad) (wants-story job l.file plays)
-    (first-story job command l.file l.answer [] plays l.handed) (loads-story job asked plays))))
+    (first-story job command l.file l.answer [] plays l.handed))))
 
 pub returns-in-Ok : goal.returns-in-Ok
 returns-in-Ok g c =
@@ -48,15 +48,14 @@ returns-in-Ok g c =
     let job : Job = c.args.command.job in
     let plays = c.requires.plays in
     let asked : one ++ two ≡ (loads command.story ceiling, l.answer) ∷ two = ap (λ (t : Trace). t ++ two) l.asked_are in
-    let comes = comes-out c.play_story.result entry exit ceiling command.story l.answer shelf two refl asked l.does job plays command l.file c.in-Ok.story l.gives played in
+    let comes = comes-out c.play_story.result entry exit ceiling command.story l.answer shelf two refl refl asked l.does job plays command l.file c.in-Ok.story l.gives played in
     record {
       file = l.file;
       file_is = l.file_is;
       loads = subst (LoadsFirst job command l.file) (sym asked) (first-story job command l.file l.answer two plays l.handed);
-      plays = comes.0;
+      plays = comes;
       memory = λ _. wants-story job l.file plays (loadable l.file c.in-Ok.story l.gives);
       began = p.began;
-      begun = comes.1;
       counts = counts-after entry exit shelf _ (let r : Result FlatStory Refusal = Ok c.in-Ok.story in r ≡ Err refusal.Shelf) (record { shelf = p.counts.shelf; source = p.counts.source; sink = p.counts.sink }) c.in-Ok.ensures.count (λ e. absurd cc);
       parts = parts-for c.play_story.result (PlaysStory job) (job ≡ Play) (job ≡ Play) (λ is. is) p.parts;
     }))

@@ -19,7 +19,7 @@ run_command-ended-requires-clause-room g c = let fits = c.requires.range.steps i
 
 pub returns-in-Err-clause-rewinds : goal.returns-in-Err-clause-rewinds
 returns-in-Err-clause-rewinds g c =
-    none-called g.S.Source.called g.K.Sink.called g.F.Shelf.called c.args.input.now c.args.output.now c.args.shelf.now _ (inr (inr c.without_machine.ensures, refl))
+    none-called g.S.Source.called g.K.Sink.called g.F.Shelf.called c.args.input.now c.args.output.now c.args.shelf.now _ (inr (c.without_machine.ensures, refl))
 
 pub returns-in-Ok-clause-rewinds : goal.returns-in-Ok-clause-rewinds
 returns-in-Ok-clause-rewinds g c =

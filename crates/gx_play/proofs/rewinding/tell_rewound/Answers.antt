@@ -1,7 +1,7 @@
 use Rattle.std.proofs.Common.{Some, inr, refl, arith}
 use Rattle.gx_session.specs.Runs.{Report, report_on}
 use Rattle.gx_session.proofs.Calling.{called-none, called-as}
-use Rattle.gx_play.specs.Rewinding.{rewind_line}
+use Rattle.gx_play.proofs.Outputs.{line_of}
 use Rattle.gx_play.proofs.Rewound.{line-unsent, line-whole, rewound-told}
 use Rattle.gx_play.proofs.rewinding.tell_rewound.Goals as goal
 
@@ -14,7 +14,7 @@ returns-clause-rewound g c =
     called-as g.K.Sink.called c.args.output.now c.send_output-sent.new.output _ _ c.send_output-sent.ensures.sends
     (λ sends told.
     rewound-told c.after_run-else-sent-eq-ENDED.result c.args.back r before now sends (omega (arith, early))
-    (line-unsent c.after_run-else-sent-eq-ENDED.result c.send_output-sent.result (rewind_line c.args.back r) r before now sends
+    (line-unsent c.after_run-else-sent-eq-ENDED.result c.send_output-sent.result (line_of c.args.back r) r before now sends
     (rw (c.as_bytes.ensures.value, c.in-Ok.ensures) at told) c.if-sent-eq-ENDED.false c.after_run-else-sent-eq-ENDED.ensures))
 
 pub returns-then-status-ge-SHELF_FAULT-clause-rewound : goal.returns-then-status-ge-SHELF_FAULT-clause-rewound
@@ -38,5 +38,5 @@ returns-then-sent-eq-ENDED-clause-rewound g c =
     called-as g.K.Sink.called c.args.output.now c.send_output-sent.new.output _ _ c.send_output-sent.ensures.sends
     (λ sends told.
     rewound-told c.after_run-then-sent-eq-ENDED.result c.args.back r before now sends (omega (arith, early))
-    (line-whole c.after_run-then-sent-eq-ENDED.result c.send_output-sent.result (rewind_line c.args.back r) r before now sends
+    (line-whole c.after_run-then-sent-eq-ENDED.result c.send_output-sent.result (line_of c.args.back r) r before now sends
     (rw (c.as_bytes.ensures.value, c.in-Ok.ensures) at told) c.if-sent-eq-ENDED.true c.after_run-then-sent-eq-ENDED.ensures))

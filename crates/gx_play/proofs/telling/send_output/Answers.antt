@@ -22,4 +22,4 @@ returns-in-Err-NoMemory-clause-sends g c =
     let call = rw c.in-Err-NoMemory.field-0-is at c.in-Err-NoMemory.ensures in
     let so = g.met.K.Sink.called_so _ _ _ call in
     called-one g.K.Sink.called c.args.output.now c.send.new.self (c.args.bytes.now, Err of_send.NoMemory) _ call
-    (sends-front c.without_machine-in-Err-NoMemory.result c.args.status c.args.bytes.now (g.K.Sink.seen c.args.output.now) (g.K.Sink.seen c.send.new.self) of_send.NoMemory (c.without_machine-in-Err-NoMemory.ensures, so.cause.want) so)
+    (sends-front c.without_machine-in-Err-NoMemory.result c.args.status c.args.bytes.now (g.K.Sink.seen c.args.output.now) (g.K.Sink.seen c.send.new.self) of_send.NoMemory c.without_machine-in-Err-NoMemory.ensures so)
