@@ -1,10 +1,8 @@
--- An instruction that begins to print, or drops a character.
+-- An instruction that begins to print, drops a character, or calls the filter with one.
 use Rattle.std.proofs.Common.{◌≡◌, ◌≢◌, ◌≤◌, ◌+◌, ◌%◌, ◌==◌, ℕ, suc, Bool, true, false, [], ◌∷◌, length, Some, None, Ok, Result, refl, ap, subst, sym, ◌∙◌, arith}
-use Rattle.std.proofs.lemmas.Bool.Decides.{nat_tests}
 use Rattle.gx_words.specs.declared.faults.Fault.{Fault}
 use Rattle.gx_words.specs.declared.strings.Printing.{Printing}
 use Rattle.gx_words.specs.declared.strings.PrintKind.TheVariants.{Number}
-use Rattle.gx_words.specs.Constants.{filter_system, glk_system}
 use Rattle.gx_words.specs.Results.{◌>>=◌}
 use Rattle.gx_words.specs.Numbers.{byte}
 use Rattle.gx_rows.specs.declared.instructions.Class.{Class}
@@ -22,10 +20,10 @@ use Rattle.gx_undo.specs.Undo.{FlatUndo}
 use Rattle.ops_memory.specs.Costs.{probes_of}
 use Rattle.ops_print.specs.Rows.{streamchar, streamunichar, streamnum, streamstr}
 use Rattle.ops_print.specs.Rows as print
-use Rattle.gx_machine.specs.Quick.{Tries, jumped_on, read_as, operands_read}
+use Rattle.gx_machine.specs.Quick.{Tries, read_as, operands_read}
 use Rattle.gx_machine.specs.Advancing.{Passes}
 use Rattle.gx_machine.specs.Machine.{Whole}
-use Rattle.gx_machine.specs.Starts.{IsStarted, begun_on}
+use Rattle.gx_machine.specs.Starts.{IsStarted, begun_on, streamed_on}
 use Rattle.gx_machine.specs.Rows.{row_effect, with_copies}
 use Rattle.gx_machine.specs.Step.{mode_step, probes_by, probes_in, stepped}
 use Rattle.gx_machine.proofs.Streams.{streaming, char_row, unichar_row, read_row}
@@ -60,35 +58,29 @@ started_string f g modes first a p string read there is one stands begun = recor
   goes = rw (stands, begun) refl;
 }
 
-pub dropped_char : (f g : FlatState) (modes first a : ℕ) (p : Cursor) → f.iosys.0 ≢ glk_system → f.iosys.0 ≢ filter_system → opcode f ≡ Ok (numbers.streamchar, modes)
+pub streamed_char : (f g : FlatState) (modes first a : ℕ) (p : Cursor) → opcode f ≡ Ok (numbers.streamchar, modes)
     → modes + 1 ≤ length f.memory → first ≡ byte f.memory modes → load f 4 (first % 16) (record { at = modes + 1; popped = 0 }) ≡ Ok (a, p)
-    → jumped_on f p.at p ≡ Ok (g, Went) → IsStarted f g
+    → streamed_on f (a % 256) p ≡ Ok (g, Went) → IsStarted f g
 unfolding streamchar
-dropped_char f g modes first a p glk filter read there is one goes =
-    let no_glk : (f.iosys.0 == glk_system) ≡ false = grind (arith, nat_tests) in
-    let no_filter : (f.iosys.0 == filter_system) ≡ false = grind (arith, nat_tests) in
-    record {
-      i = read_as f (streaming numbers.streamchar) (operands_read (a ∷ []) Nowhere false p);
-      reads = read_row f numbers.streamchar modes first a p char_row read there is one;
-      prints = refl;
-      goes = rw (no_filter, no_glk) goes;
-    }
+streamed_char f g modes first a p read there is one goes = record {
+  i = read_as f (streaming numbers.streamchar) (operands_read (a ∷ []) Nowhere false p);
+  reads = read_row f numbers.streamchar modes first a p char_row read there is one;
+  prints = refl;
+  goes = goes;
+}
 
-pub dropped_unichar : (f g : FlatState) (modes first a : ℕ) (p : Cursor) → f.iosys.0 ≢ glk_system → f.iosys.0 ≢ filter_system → opcode f ≡ Ok (numbers.streamunichar, modes)
+pub streamed_unichar : (f g : FlatState) (modes first a : ℕ) (p : Cursor) → opcode f ≡ Ok (numbers.streamunichar, modes)
     → modes + 1 ≤ length f.memory → first ≡ byte f.memory modes → load f 4 (first % 16) (record { at = modes + 1; popped = 0 }) ≡ Ok (a, p)
-    → jumped_on f p.at p ≡ Ok (g, Went) → IsStarted f g
+    → streamed_on f a p ≡ Ok (g, Went) → IsStarted f g
 unfolding streamunichar
-dropped_unichar f g modes first a p glk filter read there is one goes =
-    let no_glk : (f.iosys.0 == glk_system) ≡ false = grind (arith, nat_tests) in
-    let no_filter : (f.iosys.0 == filter_system) ≡ false = grind (arith, nat_tests) in
-    record {
-      i = read_as f (streaming numbers.streamunichar) (operands_read (a ∷ []) Nowhere false p);
-      reads = read_row f numbers.streamunichar modes first a p unichar_row read there is one;
-      prints = refl;
-      goes = rw (no_filter, no_glk) goes;
-    }
+streamed_unichar f g modes first a p read there is one goes = record {
+  i = read_as f (streaming numbers.streamunichar) (operands_read (a ∷ []) Nowhere false p);
+  reads = read_row f numbers.streamunichar modes first a p unichar_row read there is one;
+  prints = refl;
+  goes = goes;
+}
 
-pub ruleset starts = (started_number, started_string, dropped_char, dropped_unichar)
+pub ruleset starts = (started_number, started_string, streamed_char, streamed_unichar)
 
 -- ---- its step
 

@@ -21,7 +21,7 @@ ghost use Rattle.gx_machine.specs.Start.{first_machine};
 ghost use Rattle.gx_machine.specs.Advancing.{Advances, Passes};
 ghost use Rattle.gx_machine.specs.Views.{IsPendingAnswer, result_len};
 
-use crate::printing::{is_dropping, prints_next, start};
+use crate::printing::{is_silent, prints_at_pc, prints_next, start};
 use crate::quick::quick;
 use crate::rows::{next_put, print, quick_item, run};
 use crate::{Asking, Engine};
@@ -273,7 +273,7 @@ impl<A: Allocator + Clone> Machine<A> {
         let before = *budget;
         while self.pass_printing(budget) {}
         let started = self.pass_start(budget);
-        *budget < before && (!started || is_dropping(&self.state))
+        *budget < before && (!started || is_silent(&self.state))
     }
 
     /// One instruction that begins to print or drops a character. Nothing is done where the next step is another.
@@ -310,6 +310,9 @@ impl<A: Allocator + Clone> Machine<A> {
         ensures fewer { result ≡ true → budget.new < budget.old }
         ensures no_more { budget.new ≤ budget.old }
     {
+        if !prints_at_pc(&self.state) {
+            return false;
+        }
         if start(&mut self.state) {
             *budget -= 1;
             return true;

@@ -2,21 +2,22 @@
 //!
 //! What is done here goes on and asks nothing. Where the next step isn't one of these, nothing has changed, and it is
 //! to be made by `rows`: a character to be put, one that the filter is called with, and every fault.
-ghost use Rattle.std.specs.Prelude.{◌≡◌, ◌≢◌, ◌<◌, ◌+◌, true, false, Ok};
-ghost use Rattle.gx_words.specs.Constants.{filter_system, glk_system};
+ghost use Rattle.std.specs.Prelude.{◌≡◌, ◌≢◌, ◌↔◌, ◌<◌, ◌+◌, true, false, Ok};
+ghost use Rattle.gx_words.specs.Constants.{glk_system};
+ghost use Rattle.gx_state.specs.declared.effects.Effect.TheVariants.{Went};
 ghost use Rattle.gx_pages.specs.Memory.{number_in};
 ghost use Rattle.gx_state.specs.Flat.{sp_of};
 ghost use Rattle.gx_operands.specs.Plans.{HasValues};
 ghost use Rattle.ops_print.specs.Asks.{printed};
 ghost use Rattle.gx_operands.specs.Code.{IsInRom};
 ghost use Rattle.gx_machine.specs.Quick.{Tries};
-ghost use Rattle.gx_machine.specs.Starts.{IsStarted, begun_on, prints_at, prints_next};
+ghost use Rattle.gx_machine.specs.Starts.{IsStarted, begun_on, prints_at, prints_next, streamed_on};
 
 use crate::quick::is_in_rom;
-use crate::quick_acts::go_on;
+use crate::quick_acts::{call, go_on};
 use gx_operands::{Cursor, code, load, opcode, stack_pointer};
 use gx_rows::{STREAMCHAR, STREAMNUM, STREAMSTR, STREAMUNICHAR};
-use gx_state::{Effect, Mode, State};
+use gx_state::{Dest, Effect, Mode, State};
 use gx_strings::begin;
 use gx_words::{FILTER_SYSTEM, GLK_SYSTEM, PrintKind, Printing};
 use std::alloc::Allocator;
@@ -43,14 +44,13 @@ pub(crate) fn prints_next<A: Allocator + Clone>(state: &State<A>) -> bool
     }
 }
 
-/// Whether a character is dropped.
+/// Whether no character is put to Glk.
 #[inline(always)]
-pub(crate) fn is_dropping<A: Allocator + Clone>(state: &State<A>) -> bool
-    ensures drops { result ≡ true → state.now.flat.iosys.0 ≢ glk_system }
-    ensures calls_none { result ≡ true → state.now.flat.iosys.0 ≢ filter_system }
+pub(crate) fn is_silent<A: Allocator + Clone>(state: &State<A>) -> bool
+    ensures { (result ≡ true) ↔ (state.now.flat.iosys.0 ≢ glk_system) }
 {
     let (system, _) = state.iosys();
-    system != GLK_SYSTEM && system != FILTER_SYSTEM
+    system != GLK_SYSTEM
 }
 
 /// Goes on with printing a string or number, once the pops are made.
@@ -80,7 +80,28 @@ fn number_from_start(value: u32) -> Printing
     }
 }
 
-/// Does the instruction at PC where it begins to print a string or number, or drops a character.
+/// Prints a character, by the I/O system; nothing is done under Glk, nor where the filter can't be called.
+#[inline(always)]
+fn stream<A: Allocator + Clone>(state: &mut State<A>, value: u32, cursor: &Cursor) -> bool
+    requires live { 0 < sp_of state.old.flat }
+    requires popped { HasValues state.old.flat cursor.now.popped }
+    ensures value { result ≡ true → streamed_on state.old.flat value cursor.now ≡ Ok (state.new.flat, Went) }
+    ensures none { result ≡ false → state.new.flat ≡ state.old.flat }
+    ensures story { state.new.flat.story ≡ state.old.flat.story }
+{
+    let (system, rock) = state.iosys();
+    match system {
+        FILTER_SYSTEM => matches!(call(state, rock, &[value], Dest::Nowhere, cursor), Ok(true)),
+        GLK_SYSTEM => false,
+        _ => {
+            go_on(state, cursor.at, cursor);
+            true
+        }
+    }
+}
+
+/// Does the instruction at PC where it begins to print a string or number, drops a character, or calls the filter with
+/// one.
 pub(crate) fn start<A: Allocator + Clone>(state: &mut State<A>) -> bool
     requires { 0 < sp_of state.old.flat }
     ensures value { result ≡ true → IsStarted state.old.flat state.new.flat }
@@ -107,7 +128,7 @@ fn start_at<A: Allocator + Clone, const ROM: bool>(state: &mut State<A>) -> bool
     let Ok(number) = opcode::<A, ROM>(state, &mut modes) else {
         return false;
     };
-    if number != STREAMNUM && number != STREAMSTR && !is_dropping(state) {
+    if number != STREAMNUM && number != STREAMSTR && !is_silent(state) {
         return false;
     }
     let Ok(first) = code::<A, ROM>(state, 1, modes) else {
@@ -121,15 +142,21 @@ fn start_at<A: Allocator + Clone, const ROM: bool>(state: &mut State<A>) -> bool
         return false;
     };
     match number {
-        STREAMNUM => begin_on(state, number_from_start(a), &cursor),
+        STREAMCHAR => stream(state, a % 256, &cursor),
+        STREAMNUM => {
+            begin_on(state, number_from_start(a), &cursor);
+            true
+        }
         STREAMSTR => match begin(state.memory(), a) {
-            Ok(string) => begin_on(state, string, &cursor),
-            Err(_) => return false,
+            Ok(string) => {
+                begin_on(state, string, &cursor);
+                true
+            }
+            Err(_) => false,
         },
-        STREAMCHAR | STREAMUNICHAR if is_dropping(state) => go_on(state, cursor.at, &cursor),
-        _ => return false,
+        STREAMUNICHAR => stream(state, a, &cursor),
+        _ => false,
     }
-    true
 }
 
 /// Makes the next step of printing where it puts no character.

@@ -234,27 +234,7 @@ fn next_item<A: Allocator + Clone>(
     Some(c)
 }
 
-/// Drops the character that the next step drops. Nothing is done where that does something else.
-#[inline(always)]
-fn drop_next<A: Allocator + Clone>(state: &mut State<A>, printing: &Printing) -> bool
-    requires printing { state.old.flat.mode ≡ APrinting printing.now }
-    ensures value { Tries ⊥ (Ok result) state.old.flat state.new.flat (printed state.old.flat) }
-    ensures story { state.new.flat.story ≡ state.old.flat.story }
-{
-    match ops_print::next_dropped(state, printing) {
-        None => false,
-        Some((at, bit)) => {
-            state.set_mode(Mode::Printing(Printing {
-                at,
-                bit,
-                ..*printing
-            }));
-            true
-        }
-    }
-}
-
-/// Makes the next step of a machine that prints where it puts no character and calls no filter with one, or drops it.
+/// Makes the next step of a machine that prints where it puts no character.
 #[inline(always)]
 pub(crate) fn quick_item<A: Allocator + Clone>(state: &mut State<A>, printing: &Printing) -> bool
     requires live { 0 < sp_of state.old.flat }
@@ -262,7 +242,7 @@ pub(crate) fn quick_item<A: Allocator + Clone>(state: &mut State<A>, printing: &
     ensures value { Tries ⊥ (Ok result) state.old.flat state.new.flat (printed state.old.flat) }
     ensures story { state.new.flat.story ≡ state.old.flat.story }
 {
-    if drop_next(state, printing) {
+    if ops_print::pass_item(state, printing) {
         return true;
     }
     item_on(state)

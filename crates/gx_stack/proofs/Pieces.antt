@@ -1,10 +1,11 @@
 -- The bytes of a frame: how many they are, and that its two header words are read back.
 use Rattle.std.proofs.Common.{◌-◌, ◌≡◌, ◌<◌, ◌≤◌, ◌+◌, ◌*◌, ◌/◌, ◌%◌, ◌^◌, ℕ, zero, suc, List, [], ◌∷◌, ◌++◌, length}
-use Rattle.std.proofs.Common.{drop, replicate, refl, ◌∙◌, arith, length-append, append_assoc}
-use Rattle.std.proofs.lemmas.List.{length-replicate}
+use Rattle.std.proofs.Common.{drop, get_or, replicate, refl, ◌∙◌, arith, length-append, append_assoc}
+use Rattle.std.proofs.lemmas.List.{length-replicate, append-nil}
 use Rattle.std.proofs.lemmas.Grind.{common_steps}
 use Rattle.gx_words.specs.Numbers.{IsWidth, word, bytes_of_word, bytes_of_number}
-use Rattle.gx_stack.specs.Stubs.{stub_below}
+use Rattle.gx_stack.specs.declared.stubs.Stub.{Stub}
+use Rattle.gx_stack.specs.Stubs.{stub_below, stub_bytes, stubs_bytes}
 use Rattle.gx_stack.specs.Formats.{pairs_of, gap, padded, padded_len, pair_locals, locals, locals_len, locals_pos, frame_len}
 use Rattle.gx_stack.specs.Formats.{frame}
 use Rattle.gx_stack.specs.Held.{ArePairs, IsFormat}
@@ -99,3 +100,10 @@ stub_on_top xs bytes top is =
     let pc : top - 8 ≡ length xs + 8 = omega arith in
     let fp : top - 4 ≡ length xs + 12 = omega arith in
     rw (kind, addr, pc, fp, word_behind xs bytes 0, word_behind xs bytes 4, word_behind xs bytes 8, word_behind xs bytes 12) refl
+
+-- ---- a list of one stub
+pub one_stub : (stubs : List Stub) (d : Stub) → length stubs ≡ 1 → stub_bytes (get_or stubs 0 d) ≡ stubs_bytes stubs
+unfolding stubs_bytes
+one_stub [] d one = absurd (omega arith)
+one_stub (p ∷ []) d one = rw (append-nil (stub_bytes p)) refl
+one_stub (p ∷ q ∷ stubs) d one = absurd (omega arith)

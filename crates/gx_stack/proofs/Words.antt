@@ -25,7 +25,7 @@ frame_of : (n x e : ℕ) (args : List ℕ) → frame (4 ∷ n ∷ x ∷ e ∷ []
 unfolding frame locals
 frame_of n x e args = rw (len_of n x e, padded_words n args) refl
 
-around : (out a b c d : List ℕ) → (((out ++ a) ++ b) ++ c) ++ d ≡ out ++ (a ++ b ++ c ++ d)
+around : (out a b c d : List ℕ) → (out ++ (a ++ (b ++ c))) ++ d ≡ out ++ (a ++ b ++ c ++ d)
 around out a b c d = simp append_assoc
 
 pub words_len : (format : List ℕ) → IsOfWords format → frame_len format ≡ 12 + 4 * get_or format 1 0
@@ -36,7 +36,7 @@ words_len (a ∷ b ∷ c ∷ []) h = absurd (let pairs = h.pairs in omega arith)
 words_len (a ∷ b ∷ c ∷ d ∷ []) h = let words : a ≡ 4 = h.words in rw words (len_of b c d)
 words_len (a ∷ b ∷ c ∷ d ∷ e ∷ format) h = absurd (let pairs = h.pairs in omega arith)
 
-pub words_pushed : (out format args : List ℕ) (len : ℕ) → IsOfWords format → len ≡ frame_len format → (((out ++ bytes_of_word len) ++ bytes_of_word 12) ++ (4 ∷ get_or format 1 0 ∷ 0 ∷ 0 ∷ [])) ++ pair_locals 4 (get_or format 1 0) args ≡ out ++ frame format args
+pub words_pushed : (out format args : List ℕ) (len : ℕ) → IsOfWords format → len ≡ frame_len format → (out ++ (bytes_of_word len ++ (0 ∷ 0 ∷ 0 ∷ 12 ∷ 4 ∷ get_or format 1 0 ∷ 0 ∷ 0 ∷ []))) ++ pair_locals 4 (get_or format 1 0) args ≡ out ++ frame format args
 words_pushed out [] args len h whole = absurd (let pairs = h.pairs in omega arith)
 words_pushed out (a ∷ []) args len h whole = absurd (let pairs = h.pairs in omega arith)
 words_pushed out (a ∷ b ∷ []) args len h whole = absurd (let pairs = h.pairs in omega arith)

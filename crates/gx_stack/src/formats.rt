@@ -11,6 +11,7 @@ ghost use Rattle.gx_stack.specs.Formats.{frame_len, frame};
 ghost use Rattle.gx_stack.specs.Held.{ArePairs, IsFormat, IsOfWords};
 
 use crate::room::{push_bytes, push_number, push_word, push_zeros};
+use gx_words::word_bytes;
 
 /// How far it is to the least multiple of 1, 2 or 4 at or after an offset.
 #[inline(always)]
@@ -153,6 +154,15 @@ fn push_header(out: &mut Vec<u8>, pairs: &[u8], len: u32, begin: u32)
     push_zeros(out, gap(4, pairs.len() as u32 + 2));
 }
 
+/// What stands in front of the locals of a format of words: its two lengths, its pair, and the ending one.
+#[inline(always)]
+fn header_of_words(len: u32, count: u8) -> [u8; 12]
+    ensures { result ≡ bytes_of_word len ++ (0 ∷ 0 ∷ 0 ∷ 12 ∷ 4 ∷ count ∷ 0 ∷ 0 ∷ []) }
+{
+    let [a, b, c, d] = word_bytes(len);
+    [a, b, c, d, 0, 0, 0, 12, 4, count, 0, 0]
+}
+
 /// Pushes the frame of a format of words, with arguments in its locals; `len` is FrameLen.
 #[inline(always)]
 #[tactic(auto, using(crate::proofs::Words::word_frames))]
@@ -165,9 +175,7 @@ fn push_words(out: &mut Vec<u8>, format: &[u8], len: u32, args: &[u32])
     ensures room { vec_capacity out.old ≤ vec_capacity out.new }
 {
     let count = format[1];
-    push_word(out, len);
-    push_word(out, 12);
-    push_bytes(out, &[4, count, 0, 0]);
+    push_bytes(out, &header_of_words(len, count));
     push_filled(out, 4, count, args);
 }
 

@@ -56,6 +56,7 @@ impl Stub {
 impl Stack {
     /// Pushes a stub.
     #[tactic(auto, unfolding(crate::specs::Calls::pushed_stub), using(crate::proofs::Opened::pushing_stub))]
+    #[inline(always)]
     pub fn push_stub(&mut self, stub: &Stub) -> Result<(), StackFault>
         ensures value { Alters result self.old self.new (pushed_stub self.old stub.now) }
         ensures keeps { KeepsFrames self.old.bytes self.new.bytes }

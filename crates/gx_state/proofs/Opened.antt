@@ -22,6 +22,11 @@ unfoldable pub pushing_stubs : Unit {0}
 unfolding pushed_stubs stubs.pushed_stubs
 pushing_stubs = tt
 
+-- stubs that fit, one or several
+unfoldable pub fitting_stubs : Unit {0}
+unfolding stubs.pushed_stubs calls.pushed_stub
+fitting_stubs = tt
+
 unfoldable pub swapping : Unit {0}
 unfolding swapped values.swapped
 swapping = tt

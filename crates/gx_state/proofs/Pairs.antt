@@ -188,6 +188,26 @@ end_cut m at here left t fault is type past = sym is.format ∙ format_is_cut (s
 
 pub ruleset end_turns = (none_read, one_read, end_read, end_format, end_many, end_bad, end_past, end_cut)
 
+-- one pair of locals of four bytes, and the ending one
+word_pair : (m : List ℕ) (at t n : ℕ) → number_in 1 m at ≡ Ok t → number_in 1 m (at + 1) ≡ Ok n → t ≡ 4 → at + 4 ≤ length m → AreRead m at (at + 2) 63
+word_pair m at t n type count four there = one_read m at at 64 t n (none_read m at) type count (rw four refl) (omega arith) (omega (arith, there))
+
+pub words_read : (m : List ℕ) (at t n u x : ℕ) → number_in 1 m at ≡ Ok t → number_in 1 m (at + 1) ≡ Ok n → number_in 1 m (at + 2) ≡ Ok u → number_in 1 m (at + 3) ≡ Ok x → t ≡ 4 → u ≡ 0 → at + 4 ≤ length m
+    → format_at m at ≡ Ok (slice_range m at (at + 4))
+words_read m at t n u x type count ending last four none there =
+    let behind_it : at + 3 ≡ at + 2 + 1 = omega arith in
+    let end : at + 4 ≡ at + 2 + 2 = omega arith in
+    rw end (end_read m at (at + 2) 63 u x (word_pair m at t n type count four there) ending (rw behind_it at last) none (omega (arith, there)))
+
+pub words_format : (m : List ℕ) (at t n u x : ℕ) → number_in 1 m at ≡ Ok t → number_in 1 m (at + 1) ≡ Ok n → number_in 1 m (at + 2) ≡ Ok u → number_in 1 m (at + 3) ≡ Ok x → t ≡ 4 → u ≡ 0 → at + 4 ≤ length m
+    → IsFormat (slice_range m at (at + 4))
+words_format m at t n u x type count ending last four none there =
+    let behind_it : at + 3 ≡ at + 2 + 1 = omega arith in
+    let end : at + 4 ≡ at + 2 + 2 = omega arith in
+    rw end (end_format m at (at + 2) 63 u x (word_pair m at t n type count four there) ending (rw behind_it at last) none (omega (arith, there)))
+
+pub ruleset words = (words_read, words_format)
+
 -- a format below RAMSTART stands in the story's bytes too
 pub stored_format : (m stored : List ℕ) (ramstart at end : ℕ) → take ramstart m ≡ take ramstart stored → at ≤ end → end ≤ ramstart → slice_range m at end ≡ slice_range stored at end
 stored_format m stored ramstart at end same first below = shared_slice m stored ramstart at end same first below

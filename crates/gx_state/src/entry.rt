@@ -104,8 +104,28 @@ fn push_entry(stack: &mut Stack, kind: u32, format: &[u8], len: u32, args: &[u32
     }
 }
 
+/// Pushes stubs that fit. Most often there is one.
+#[inline(always)]
+#[tactic(auto, unfolding(crate::proofs::Opened::fitting_stubs), using(gx_stack::proofs::Pieces::one_stub))]
+fn push_within(stack: &mut Stack, stubs: &[Stub])
+    requires room { length stack.old.bytes + 16 * length stubs.now ≤ stack.old.limit }
+    ensures value { stack.new ≡ record stack.old { bytes = stack.old.bytes ++ stubs_bytes stubs.now } }
+    ensures size { length stack.new.bytes ≡ length stack.old.bytes + 16 * length stubs.now }
+{
+    match stubs {
+        [stub] => match stack.push_stub(stub) {
+            Ok(()) => {}
+            Err(_) => unreachable!(),
+        },
+        _ => match stack.push_stubs(stubs) {
+            Ok(()) => {}
+            Err(_) => unreachable!(),
+        },
+    }
+}
+
 /// Cuts a stack, pushes stubs, and pushes what an entry pushes.
-#[tactic(auto, unfolding(gx_stack::specs::Stubs::pushed_stubs), using(crate::proofs::Kept::good_at))]
+#[tactic(auto, using(crate::proofs::Kept::good_at))]
 #[inline(always)]
 pub fn push_call(
     stack: &mut Stack,
@@ -129,10 +149,7 @@ pub fn push_call(
     ensures aligned { length stack.new.bytes % 4 ≡ 0 }
 {
     stack.leave_frame(sp);
-    match stack.push_stubs(stubs) {
-        Ok(()) => {}
-        Err(_) => unreachable!(),
-    }
+    push_within(stack, stubs);
     push_entry(stack, kind, format, len, args);
     let _size = stack.size(); // what holds of every stack
 }

@@ -1,4 +1,4 @@
--- Items that are no characters.
+-- Items that are neither a character nor the end.
 use Rattle.std.proofs.Common.{◌≡◌, ◌+◌, ◌==◌, ◌||◌, ◌&&◌, nat_le, if◌then◌else◌, ℕ, Bool, true, false, List, refl, sym, subst, Option, Some, None, Result, Ok, Err}
 use Rattle.gx_words.specs.declared.faults.Fault.{Fault}
 use Rattle.gx_words.specs.declared.strings.Printing.{Printing}
@@ -9,11 +9,11 @@ use Rattle.gx_strings.specs.Constants.{string_terminator, single_character, c_st
 use Rattle.gx_strings.specs.declared.items.Item.{Item}
 use Rattle.gx_strings.specs.Objects.{string_of, call_of, reference_by_type, reference}
 use Rattle.gx_strings.specs.Nodes.{direct, indirect, node_item}
-use Rattle.gx_strings.specs.Held.{is_char}
+use Rattle.gx_strings.specs.Held.{is_char_or_end}
 
--- an item, or a fault, that is no character
+-- an item that is neither, or a fault
 record Other (r : Result Item Fault) : Type 0 where
-  is : is_char r ≡ false
+  is : is_char_or_end r ≡ false
 
 either : (b : Bool) {x y : Result Item Fault} → Other x → Other y → Other (if b then x else y)
 either true h k = h
@@ -47,13 +47,13 @@ reference-other : (memory : List ℕ) (back : Printing) (object : ℕ) (count_at
 unfolding reference
 reference-other memory back object count_at = each (number_in 1 memory object) (λ t. typed-other memory back object count_at t (string_of t object))
 
--- ---- the nodes of other types than the two of one character
+-- ---- the nodes of other types than the two of one character and the one of the end
 
-node-other : (memory : List ℕ) (node t : ℕ) (next : Printing) → (t == single_character) ≡ false → (t == single_unicode_character) ≡ false → number_in 1 memory node ≡ Ok t → Other (node_item memory node next)
+node-other : (memory : List ℕ) (node t : ℕ) (next : Printing) → (t == string_terminator) ≡ false → (t == single_character) ≡ false → (t == single_unicode_character) ≡ false → number_in 1 memory node ≡ Ok t → Other (node_item memory node next)
 unfolding node_item
-node-other memory node t next byte word is =
+node-other memory node t next end byte word is =
     at (number_in 1 memory node) _ t is
-    (either (t == string_terminator) (record { is = refl })
+    (past (t == string_terminator) _ _ end
     (past (t == single_character) _ _ byte
     (either (t == c_style_string) (record { is = refl })
     (past (t == single_unicode_character) _ _ word
@@ -63,6 +63,6 @@ node-other memory node t next byte word is =
     (either (t == indirect_reference_with_arguments) (each (direct memory node) (λ object. reference-other memory next object (Some (node + 5))))
     (either (t == double_indirect_reference_with_arguments) (each (indirect memory node) (λ object. reference-other memory next object (Some (node + 5)))) (record { is = refl }))))))))))
 
-pub other_node : (memory : List ℕ) (node t : ℕ) (next : Printing) → number_in 1 memory node ≡ Ok t → (t == single_character) ≡ false → (t == single_unicode_character) ≡ false
-    → is_char (node_item memory node next) ≡ false
-other_node memory node t next is byte word = (node-other memory node t next byte word is).is
+pub other_node : (memory : List ℕ) (node t : ℕ) (next : Printing) → number_in 1 memory node ≡ Ok t → (t == string_terminator) ≡ false → (t == single_character) ≡ false → (t == single_unicode_character) ≡ false
+    → is_char_or_end (node_item memory node next) ≡ false
+other_node memory node t next is end byte word = (node-other memory node t next end byte word is).is

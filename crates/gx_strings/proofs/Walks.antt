@@ -1,5 +1,5 @@
 -- One bit of a walk.
-use Rattle.std.proofs.Common.{◌≡◌, ◌≤◌, ◌<◌, ◌+◌, ◌/◌, ◌%◌, ◌==◌, nat_lt, if◌then◌else◌, ℕ, zero, suc, Bool, true, false, List, [], ◌∷◌, length, drop, refl, sym, ◌∙◌, arith, Result, Ok, Err}
+use Rattle.std.proofs.Common.{◌≡◌, ◌≤◌, ◌<◌, ◌+◌, ◌-◌, ◌/◌, ◌%◌, ◌^◌, ◌==◌, nat_lt, if◌then◌else◌, ℕ, zero, suc, Bool, true, false, List, [], ◌∷◌, length, drop, refl, sym, ◌∙◌, arith, Result, Ok, Err}
 use Rattle.std.proofs.lemmas.Bool.Decides.{nat_tests}
 use Rattle.gx_words.specs.declared.faults.Fault.{Fault}
 use Rattle.gx_words.specs.declared.faults.Fault.TheVariants.{BadAddress}
@@ -43,6 +43,18 @@ one_bit (b ∷ m) (suc (suc (suc (suc (suc (suc (suc (suc n)))))))) h =
     let next : suc (suc (suc (suc (suc (suc (suc (suc n))))))) + 1 ≡ suc (suc (suc (suc (suc (suc (suc (suc (n + 1)))))))) = omega arith in
     rw (here, in_byte, next) (one_bit m n (omega (arith, h)))
 
+-- ---- a byte shifted by one bit more
+
+by_bit : (b k l : ℕ) → k < 7 → l ≡ k + 1 → b / 2 ^ k / 2 ≡ b / 2 ^ l
+by_bit b zero l h is = rw is (omega arith)
+by_bit b (suc zero) l h is = rw is (omega arith)
+by_bit b (suc (suc zero)) l h is = rw is (omega arith)
+by_bit b (suc (suc (suc zero))) l h is = rw is (omega arith)
+by_bit b (suc (suc (suc (suc zero)))) l h is = rw is (omega arith)
+by_bit b (suc (suc (suc (suc (suc zero))))) l h is = rw is (omega arith)
+by_bit b (suc (suc (suc (suc (suc (suc zero)))))) l h is = rw is (omega arith)
+by_bit b (suc (suc (suc (suc (suc (suc (suc k))))))) l h is = absurd (omega (arith, h))
+
 -- ---- the walk from an index on, by its node's type and whether a bit is left
 
 abbrev walk_by : List ℕ → ℕ → ℕ → ℕ → Bool → Result (ℕ × ℕ) Fault
@@ -66,5 +78,9 @@ pub further : (m : List ℕ) (node used n t next : ℕ) (one : Bool) → number_
 further m node used n t next one read is there bit_is found =
     let within : nat_lt (n / 8) (length m) ≡ true = grind (arith, nat_tests) in
     sym (turn m node used n ∙ rw (within, rw is at read, ← bit_is, found) refl)
+
+-- the byte of the next bit, where that is no new one
+pub shifted : (b n : ℕ) → 0 < n → (n % 8 ≡ 0 → ⊥) → b / 2 ^ ((n - 1) % 8) / 2 ≡ b / 2 ^ (n % 8)
+shifted b n some inside = by_bit b ((n - 1) % 8) (n % 8) (omega arith) (omega arith)
 
 pub ruleset turns = (turn, nat_tests)

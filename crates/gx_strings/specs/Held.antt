@@ -6,11 +6,20 @@ use Rattle.gx_words.specs.declared.strings.Printing.{Printing}
 use Rattle.gx_words.specs.declared.strings.PrintKind.TheVariants.{E1}
 use Rattle.gx_strings.specs.declared.items.Item.{Item}
 use Rattle.gx_strings.specs.declared.items.Item.TheVariants.{Char, Sub, Call, End}
+use Rattle.gx_strings.specs.declared.items.CharOrEnd.{CharOrEnd}
+use Rattle.gx_strings.specs.declared.items.CharOrEnd.TheVariants as told
 
--- whether it is a character
-abbrev pub is_char : Result Item Fault → Bool
-is_char (Ok (Char value next)) = true
-is_char _ = false
+-- whether it is a character, or the end
+abbrev pub is_char_or_end : Result Item Fault → Bool
+is_char_or_end (Ok (Char value next)) = true
+is_char_or_end (Ok End) = true
+is_char_or_end _ = false
+
+-- what is told of an item of what is printed
+abbrev pub Tells : CharOrEnd → Printing → Result Item Fault → Type 0
+Tells (told.Char value at bit) p item = item ≡ Ok (Char value (record p { at = at; bit = bit }))
+Tells told.End p item = item ≡ Ok End
+Tells told.Neither p item = is_char_or_end item ≡ false
 
 -- a place in a compressed string is at one of the eight bits of a byte
 abbrev pub HasBit : Printing → Type 0

@@ -26,3 +26,14 @@ pub enum Item {
     /// The end of the string or number.
     End,
 }
+
+/// What comes next, told without a look at what a reference leads to.
+#[derive(Clone, Copy, Debug, PartialEq, Eq)]
+pub enum CharOrEnd {
+    /// A character, with the address and the bit behind it.
+    Char { value: u32, at: u32, bit: u32 },
+    /// The end of the string or number.
+    End,
+    /// A reference, or a fault.
+    Neither,
+}

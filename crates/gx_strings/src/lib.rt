@@ -6,7 +6,7 @@
 //! - `nodes` walks the bits of a compressed string over its decoding table, whose nodes have the types of
 //!   `node_types`.
 //! - `rom` reads the nodes and numbers that lie in ROM.
-//! - `printing` gives the next item of a string or number, and the next character alone.
+//! - `printing` gives the next item of a string or number, and the next character or end alone.
 //!
 //! The files of specs/ define the items over the list of all bits of memory; the code has no such
 //! list, and each walk ends, since each branch takes a bit. Each call is its definition for all
@@ -21,6 +21,6 @@ mod objects;
 mod printing;
 mod rom;
 
-pub use items::Item;
+pub use items::{CharOrEnd, Item};
 pub use objects::begin;
 pub use printing::{next_char, next_item};

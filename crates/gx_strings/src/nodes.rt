@@ -1,15 +1,14 @@
 //! The nodes of a decoding table.
-ghost use Rattle.std.specs.Prelude.{◌≡◌, ◌⊎◌, ◌+◌, ◌-◌, ◌*◌, ◌%◌, ◌<◌, ◌≤◌, ◌^◌, take, drop, length, slice_index, None};
-ghost use Rattle.std.specs.Prelude.{Ok, false, IsTrue, IfOk, IfSome, OnOk};
+ghost use Rattle.std.specs.Prelude.{◌≡◌, ◌⊎◌, ◌+◌, ◌-◌, ◌*◌, ◌%◌, ◌<◌, ◌≤◌, ◌^◌, take, drop, length, slice_index};
+ghost use Rattle.std.specs.Prelude.{Ok, IsTrue, IfOk, OnOk};
 ghost use Rattle.gx_pages.specs.Memory.{number_in};
 ghost use Rattle.gx_words.specs.Numbers.{is_bit};
 ghost use Rattle.gx_words.specs.Faults.{Reads};
 ghost use Rattle.gx_words.specs.Constants.{ceiling};
 ghost use Rattle.gx_words.specs.declared.strings.Printing.{Printing as APrinting};
-ghost use Rattle.gx_strings.specs.declared.items.Item.TheVariants.{Char};
-ghost use Rattle.gx_strings.specs.Bits.{bit, bits};
+ghost use Rattle.gx_strings.specs.Bits.{bit, bits, with_index};
 ghost use Rattle.gx_strings.specs.Nodes.{child, walk, direct, indirect, node_item};
-ghost use Rattle.gx_strings.specs.Held.{is_char, HasBit, HasBits};
+ghost use Rattle.gx_strings.specs.Held.{HasBit, HasBits, Tells};
 
 use crate::node_types::{
     BRANCH, C_STYLE_STRING, C_STYLE_UNICODE_STRING, DOUBLE_INDIRECT_REFERENCE,
@@ -18,7 +17,7 @@ use crate::node_types::{
     STRING_TERMINATOR,
 };
 use crate::objects::{as_inner, from_start, reference};
-use crate::{Item, rom};
+use crate::{CharOrEnd, Item, rom};
 use gx_pages::Pages;
 use gx_words::{Fault, PrintKind, Printing, word_at};
 use std::alloc::Allocator;
@@ -197,21 +196,34 @@ pub fn node_item<A: Allocator + Clone>(
     }
 }
 
-/// The character that a node holds; None of any other node.
+/// What a node that is no branch gives, where it is a character or the end. The bits that led there end at a place.
 #[inline(always)]
 #[tactic(auto, using(crate::proofs::Chars::other_node), unfolding(crate::specs::Nodes::node_item))]
-pub fn node_char<A: Allocator + Clone>(rom: &[u8], memory: &Pages<A>, node: u32) -> Option<u32>
-    requires { rom.now ≡ take (length rom.now) memory.now }
-    ensures value { IfSome result (λ c. (next : APrinting) → node_item memory.now node next ≡ Ok (Char c next)) }
-    ensures none { result ≡ None → (next : APrinting) → is_char (node_item memory.now node next) ≡ false }
+pub fn node_char<A: Allocator + Clone>(
+    rom: &[u8],
+    memory: &Pages<A>,
+    node: u32,
+    place: u64,
+) -> CharOrEnd
+    requires rom { rom.now ≡ take (length rom.now) memory.now }
+    requires place { place < 2 ^ 35 }
+    ensures { (p : APrinting) → Tells result p (node_item memory.now node (with_index p place)) }
 {
     let Ok(type_byte) = rom::number(rom, memory, 1, node) else {
-        return None;
+        return CharOrEnd::Neither;
     };
     let value = match type_byte {
+        STRING_TERMINATOR => return CharOrEnd::End,
         SINGLE_CHARACTER => rom::number(rom, memory, 1, node + 1),
         SINGLE_UNICODE_CHARACTER => rom::number(rom, memory, 4, node + 1),
-        _ => return None,
+        _ => return CharOrEnd::Neither,
     };
-    value.ok()
+    match value {
+        Ok(value) => CharOrEnd::Char {
+            value,
+            at: (place / 8) as u32,
+            bit: (place % 8) as u32,
+        },
+        Err(_) => CharOrEnd::Neither,
+    }
 }

@@ -1,17 +1,16 @@
 //! The next item of a string or number.
-ghost use Rattle.std.specs.Prelude.{◌≡◌, ◌+◌, ◌<◌, ◌^◌, take, length, slice_get, None, Ok, false, IsTrue, IfOk};
+ghost use Rattle.std.specs.Prelude.{◌≡◌, ◌+◌, ◌<◌, ◌^◌, take, length, slice_get, IsTrue, IfOk};
 ghost use Rattle.std.specs.Prelude.{IfSome};
 ghost use Rattle.std.specs.Int.{w32, cast_signed};
 ghost use Rattle.std.specs.Fmt.{signed_decimal};
 ghost use Rattle.gx_words.specs.Numbers.{is_bit};
 ghost use Rattle.gx_words.specs.Faults.{Reads};
 ghost use Rattle.gx_words.specs.declared.strings.PrintKind.TheVariants.{Number};
-ghost use Rattle.gx_strings.specs.declared.items.Item.TheVariants.{Char};
 ghost use Rattle.gx_strings.specs.Items.{byte_item, compressed_item, word_item, number_item, next_item};
-ghost use Rattle.gx_strings.specs.Held.{is_char, HasBit, HasBits};
+ghost use Rattle.gx_strings.specs.Held.{HasBit, HasBits, Tells};
 
 use crate::nodes::{node_char, node_item, walk};
-use crate::{Item, rom};
+use crate::{CharOrEnd, Item, rom};
 use gx_pages::Pages;
 use gx_words::{Fault, PrintKind, Printing};
 use itoa::Buffer;
@@ -154,7 +153,7 @@ pub fn next_item<A: Allocator + Clone>(
     }
 }
 
-/// The character that a compressed string has next.
+/// The character that a compressed string has next, or its end.
 #[inline(always)]
 #[tactic(auto, unfolding(crate::specs::Items::compressed_item))]
 fn compressed_char<A: Allocator + Clone>(
@@ -162,30 +161,25 @@ fn compressed_char<A: Allocator + Clone>(
     memory: &Pages<A>,
     table: u32,
     printing: &Printing,
-) -> Option<(u32, u32, u32)>
+) -> CharOrEnd
     requires rom { rom.now ≡ take (length rom.now) memory.now }
     requires bit { IsTrue (is_bit printing.now.bit) }
-    ensures value { IfSome result (λ r. compressed_item memory.now table printing.now
-        ≡ Ok (Char r.0 (record printing.now { at = r.1; bit = r.2 }))) }
-    ensures none { result ≡ None → is_char (compressed_item memory.now table printing.now) ≡ false }
+    ensures { Tells result printing.now (compressed_item memory.now table printing.now) }
 {
     if table == 0 {
-        return None;
+        return CharOrEnd::Neither;
     }
     let Ok(root) = rom::number(rom, memory, 4, table.wrapping_add(8)) else {
-        return None;
+        return CharOrEnd::Neither;
     };
     let from = 8 * u64::from(printing.at) + u64::from(printing.bit);
-    let Ok(end) = walk(rom, memory, root, from) else {
-        return None;
-    };
-    let place = from + end.used;
-    let value = node_char(rom, memory, end.node)?;
-    Some((value, (place / 8) as u32, (place % 8) as u32))
+    match walk(rom, memory, root, from) {
+        Ok(end) => node_char(rom, memory, end.node, from + end.used),
+        Err(_) => CharOrEnd::Neither,
+    }
 }
 
-/// The next character of what is printed, with the address and the bit behind it; None where what comes next is
-/// something else.
+/// The next character of what is printed, or its end.
 #[inline(always)]
 #[tactic(auto, unfolding(crate::proofs::Opened::each_item))]
 pub fn next_char<A: Allocator + Clone>(
@@ -193,23 +187,38 @@ pub fn next_char<A: Allocator + Clone>(
     memory: &Pages<A>,
     table: u32,
     printing: &Printing,
-) -> Option<(u32, u32, u32)>
+) -> CharOrEnd
     requires rom { rom.now ≡ take (length rom.now) memory.now }
     requires bit { HasBit printing.now }
-    ensures value { IfSome result (λ r. next_item memory.now table printing.now
-        ≡ Ok (Char r.0 (record printing.now { at = r.1; bit = r.2 }))) }
-    ensures none { result ≡ None → is_char (next_item memory.now table printing.now) ≡ false }
+    ensures { Tells result printing.now (next_item memory.now table printing.now) }
 {
     match printing.kind {
         PrintKind::E0 => match rom::number(rom, memory, 1, printing.at) {
-            Ok(value) if value != 0 => Some((value, printing.at + 1, printing.bit)),
-            _ => None,
+            Ok(0) => CharOrEnd::End,
+            Ok(value) => CharOrEnd::Char {
+                value,
+                at: printing.at + 1,
+                bit: printing.bit,
+            },
+            Err(_) => CharOrEnd::Neither,
         },
         PrintKind::E1 => compressed_char(rom, memory, table, printing),
         PrintKind::E2 => match rom::number(rom, memory, 4, printing.at) {
-            Ok(value) if value != 0 => Some((value, printing.at + 4, printing.bit)),
-            _ => None,
+            Ok(0) => CharOrEnd::End,
+            Ok(value) => CharOrEnd::Char {
+                value,
+                at: printing.at + 4,
+                bit: printing.bit,
+            },
+            Err(_) => CharOrEnd::Neither,
         },
-        PrintKind::Number => Some((digit(printing)?, printing.at, printing.bit + 1)),
+        PrintKind::Number => match digit(printing) {
+            Some(value) => CharOrEnd::Char {
+                value,
+                at: printing.at,
+                bit: printing.bit + 1,
+            },
+            None => CharOrEnd::End,
+        },
     }
 }

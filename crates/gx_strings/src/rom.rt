@@ -2,10 +2,10 @@
 //!
 //! Decoding tables and strings nearly always lie there. `number` reads memory where a number doesn't lie in ROM; `walk`
 //! takes ROM for the whole of memory, and answers None where something that it reads isn't there.
-ghost use Rattle.std.specs.Prelude.{◌≡◌, ◌⊎◌, ◌+◌, ◌*◌, ◌<◌, ◌≤◌, ◌^◌, take, drop, length, Ok, Err, None, true};
-ghost use Rattle.std.specs.Prelude.{IfSome, OnOk};
+ghost use Rattle.std.specs.Prelude.{◌≡◌, ◌↔◌, ◌⊎◌, ◌+◌, ◌-◌, ◌*◌, ◌/◌, ◌%◌, ◌<◌, ◌≤◌, ◌^◌, take, drop, length, Ok};
+ghost use Rattle.std.specs.Prelude.{Err, None, true, IfSome, IsSome, OnOk};
 ghost use Rattle.gx_pages.specs.Memory.{number_in};
-ghost use Rattle.gx_words.specs.Numbers.{IsWidth};
+ghost use Rattle.gx_words.specs.Numbers.{IsWidth, byte};
 ghost use Rattle.gx_words.specs.Constants.{ceiling};
 ghost use Rattle.gx_words.specs.Faults.{Reads};
 ghost use Rattle.gx_words.specs.declared.faults.Fault.TheVariants.{BadAddress};
@@ -13,7 +13,7 @@ ghost use Rattle.gx_strings.specs.Bits.{bits};
 ghost use Rattle.gx_strings.specs.Nodes.{child, walk};
 
 use crate::node_types::BRANCH;
-use crate::nodes::{Ending, bit};
+use crate::nodes::Ending;
 use gx_pages::Pages;
 use gx_words::{Fault, number_at, word_at};
 use std::alloc::Allocator;
@@ -50,6 +50,36 @@ fn child(rom: &[u8], node: u32, one: bool) -> u32
     word_at(rom, if one { at + 5 } else { at + 1 })
 }
 
+/// The byte of a bit by its index, shifted so that the bit is its lowest; None where it isn't in ROM.
+#[inline(always)]
+fn bits_from(rom: &[u8], place: u64) -> Option<u32>
+    ensures value { IfSome result (λ v. v ≡ byte rom.now (place / 8) / 2 ^ (place % 8)) }
+    ensures there { IsSome result ↔ (place / 8 < length rom.now) }
+{
+    let at = place / 8;
+    if at >= rom.len() as u64 {
+        return None;
+    }
+    Some(u32::from(rom[at as usize]) >> (place % 8) as u32)
+}
+
+/// The same for the next bit, where the byte of the one before is this.
+#[inline(always)]
+#[tactic(auto, using(crate::proofs::Walks::shifted))]
+fn next_bits(rom: &[u8], bits: u32, place: u64) -> Option<u32>
+    requires place { (0 < place) × (place < 2 ^ 36) }
+    requires bits { bits ≡ byte rom.now ((place - 1) / 8) / 2 ^ ((place - 1) % 8) }
+    requires there { (place - 1) / 8 < length rom.now }
+    ensures value { IfSome result (λ v. v ≡ byte rom.now (place / 8) / 2 ^ (place % 8)) }
+    ensures there { IsSome result ↔ (place / 8 < length rom.now) }
+{
+    if place % 8 == 0 {
+        bits_from(rom, place)
+    } else {
+        Some(bits / 2)
+    }
+}
+
 /// Walks from the root, a bit at each branch, to the first node that is no branch.
 ///
 /// `from` is the index of the first bit among those of memory.
@@ -63,22 +93,21 @@ pub fn walk(rom: &[u8], root: u32, from: u64) -> Option<Ending>
     ensures used { IfSome result (λ e. (e.used ≡ 0) ⊎ (from + e.used ≤ 8 * ceiling)) }
 {
     let mut node = root;
-    let mut used = 0;
+    let mut place = from;
+    let mut left = bits_from(rom, from)?;
     'bits: loop {
         if !has_node(rom, node) {
             return None;
         }
         if type_of(rom, node) != BRANCH {
-            return Some(Ending { node, used });
+            return Some(Ending {
+                node,
+                used: place - from,
+            });
         }
-        let place = from + used;
-        let at = (place / 8) as usize;
-        if at >= rom.len() {
-            return None;
-        }
-        let one = bit(u32::from(rom[at]), (place % 8) as u32);
-        node = child(rom, node, one);
-        used += 1;
+        node = child(rom, node, left % 2 == 1);
+        place += 1;
+        left = next_bits(rom, left, place)?;
     }
 }
 

@@ -8,7 +8,7 @@ use Rattle.gx_words.specs.Results.{◌>>=◌}
 use Rattle.gx_strings.specs.declared.items.Item.{Item}
 use Rattle.gx_strings.specs.declared.items.Item.TheVariants.{Char, Sub, Call, End}
 use Rattle.gx_strings.specs.Items.{next_item}
-use Rattle.gx_strings.specs.Held.{is_char}
+use Rattle.gx_strings.specs.Held.{is_char_or_end}
 use Rattle.gx_state.specs.declared.effects.Effect.{Effect}
 use Rattle.gx_state.specs.declared.modes.Mode.{Mode}
 use Rattle.gx_state.specs.declared.modes.Mode.TheVariants as mode
@@ -58,25 +58,30 @@ dropped f started c next other =
 true_is_not_false : true ≡ false → ⊥
 true_is_not_false same = cc
 
--- an item that is no character, or that is printed under another system than Glk
-other : (f : FlatState) (started : Bool) (i : Item) → is_char (Ok i) ≡ false ⊎ ((f.iosys.0 == glk_system) ≡ false) → Quiet (item_printed f started i)
+-- an item that is neither a character nor the end, or that is printed under another system than Glk
+other : (f : FlatState) (started : Bool) (i : Item) → is_char_or_end (Ok i) ≡ false ⊎ ((f.iosys.0 == glk_system) ≡ false) → Quiet (item_printed f started i)
 unfolding item_printed reference_called
 other f started (Char c next) (inl plain) = absurd (true_is_not_false plain)
 other f started (Char c next) (inr system) = dropped f started c next system
 other f started (Sub back inner) h = begun f started back inner
 other f started (Call back at args_at count) h = each (arguments_in f.memory args_at count) (λ args. called f started back at args)
-other f started End h = ended f started
+other f started End (inl plain) = absurd (true_is_not_false plain)
+other f started End (inr system) = ended f started
+
+the_end : (f : FlatState) (started : Bool) → Quiet (item_printed f started End)
+unfolding item_printed
+the_end f started = ended f started
 
 -- ---- a step of printing
 
-step : (f : FlatState) (p : Printing) (r : Result Item Fault) → is_char r ≡ false ⊎ ((f.iosys.0 == glk_system) ≡ false) → Quiet (r >>= item_printed f p.started)
+step : (f : FlatState) (p : Printing) (r : Result Item Fault) → is_char_or_end r ≡ false ⊎ ((f.iosys.0 == glk_system) ≡ false) → Quiet (r >>= item_printed f p.started)
 step f p (Ok i) h = other f p.started i h
 step f p (Err fault) h = record { is = tt }
 
 printed-is : (f : FlatState) (p : Printing) → f.mode ≡ mode.Printing p → Quiet (item f p) → IfOk (printed f) (λ r. is_put r.1 ≡ false)
 printed-is f p mode h = (subst (λ (m : Mode). Quiet (item_by f m)) (sym mode) h).is
 
-pub quiet_item : (f : FlatState) (p : Printing) → f.mode ≡ mode.Printing p → is_char (next_item f.memory f.table p) ≡ false → IfOk (printed f) (λ r. is_put r.1 ≡ false)
+pub quiet_item : (f : FlatState) (p : Printing) → f.mode ≡ mode.Printing p → is_char_or_end (next_item f.memory f.table p) ≡ false → IfOk (printed f) (λ r. is_put r.1 ≡ false)
 unfolding item
 quiet_item f p mode none = printed-is f p mode (either (is_printing_place p.kind p.bit) (step f p (next_item f.memory f.table p) (inl none)) (record { is = tt }))
 
@@ -88,4 +93,8 @@ pub quiet_place : (f : FlatState) (p : Printing) → f.mode ≡ mode.Printing p 
 unfolding item
 quiet_place f p mode place = printed-is f p mode (past (is_printing_place p.kind p.bit) _ _ place (record { is = tt }))
 
-pub ruleset quiet = (quiet_item, quiet_system, quiet_place)
+pub quiet_end : (f : FlatState) (p : Printing) → f.mode ≡ mode.Printing p → next_item f.memory f.table p ≡ Ok End → IfOk (printed f) (λ r. is_put r.1 ≡ false)
+unfolding item
+quiet_end f p mode is = printed-is f p mode (either (is_printing_place p.kind p.bit) (subst (λ (r : Result Item Fault). Quiet (r >>= item_printed f p.started)) (sym is) (the_end f p.started)) (record { is = tt }))
+
+pub ruleset quiet = (quiet_item, quiet_system, quiet_place, quiet_end)

@@ -4,7 +4,6 @@ use Rattle.gx_state.specs.declared.effects.Effect.TheVariants.{Went, Put}
 use Rattle.std.specs.Prelude.{Bool, true, false, Result, Err}
 use Rattle.gx_words.specs.declared.faults.Fault.{Fault}
 use Rattle.gx_words.specs.declared.faults.Fault.TheVariants.{BadFrame}
-use Rattle.gx_words.specs.declared.strings.Printing.{Printing}
 use Rattle.gx_state.specs.declared.modes.Mode.{Mode}
 use Rattle.gx_state.specs.declared.modes.Mode.TheVariants as mode
 use Rattle.gx_state.specs.Flat.{FlatState}

@@ -1,5 +1,5 @@
 //! One step of printing: the next item of a string or number, by the I/O system.
-ghost use Rattle.std.specs.Prelude.{◌≡◌, ◌<◌, take, length, None, Ok, false, IfOk, IfSome};
+ghost use Rattle.std.specs.Prelude.{◌≡◌, ◌<◌, take, length, None, Ok, true, false, IfOk, IfSome};
 ghost use Rattle.gx_words.specs.Faults.{TakesNone};
 ghost use Rattle.gx_words.specs.Results.{Turns};
 ghost use Rattle.gx_state.specs.declared.effects.Effect.TheVariants.{Put, Went};
@@ -13,7 +13,7 @@ ghost use Rattle.ops_print.specs.Items.{string_ended, mode_after, is_printing_pl
 use crate::arguments::arguments_in;
 use crate::stubs::{end_inner, resuming, to_code};
 use gx_state::{Effect, Mode, State};
-use gx_strings::{Item, next_char, next_item};
+use gx_strings::{CharOrEnd, Item, next_char, next_item};
 use gx_words::{FILTER_SYSTEM, Fault, GLK_SYSTEM, PrintKind, Printing};
 use std::alloc::Allocator;
 
@@ -158,27 +158,41 @@ pub fn next_put<A: Allocator + Clone>(
     if system != GLK_SYSTEM || !is_printing_place(printing) {
         return None;
     }
-    next_char(rom(state), state.memory(), state.table(), printing)
+    match next_char(rom(state), state.memory(), state.table(), printing) {
+        CharOrEnd::Char { value, at, bit } => Some((value, at, bit)),
+        CharOrEnd::End | CharOrEnd::Neither => None,
+    }
 }
 
-/// The address and the bit behind the character that the next step of a machine that prints drops; None where that does
-/// something else.
+/// Makes the next step of a machine that prints where it is a character that isn't put to Glk, or the end. Nothing is
+/// done where it is something else, or has a fault.
 #[inline(always)]
 #[tactic(auto, unfolding(crate::proofs::Opened::dropping))]
-pub fn next_dropped<A: Allocator + Clone>(
-    state: &State<A>,
-    printing: &Printing,
-) -> Option<(u32, u32)>
-    requires { state.now.flat.mode ≡ APrinting printing.now }
-    ensures { IfSome result (λ r. printed state.now.flat
-        ≡ Ok (record state.now.flat { mode = APrinting (record printing.now { at = r.0; bit = r.1 }) }, Went)) }
+pub fn pass_item<A: Allocator + Clone>(state: &mut State<A>, printing: &Printing) -> bool
+    requires { state.old.flat.mode ≡ APrinting printing.now }
+    ensures value { result ≡ true → printed state.old.flat ≡ Ok (state.new.flat, Went) }
+    ensures none { result ≡ false → state.new.flat ≡ state.old.flat }
+    ensures story { state.new.flat.story ≡ state.old.flat.story }
 {
-    let (system, _) = state.iosys();
-    if system == GLK_SYSTEM || system == FILTER_SYSTEM || !is_printing_place(printing) {
-        return None;
+    if !is_printing_place(printing) {
+        return false;
     }
-    let (_, at, bit) = next_char(rom(state), state.memory(), state.table(), printing)?;
-    Some((at, bit))
+    let started = printing.started;
+    match next_char(rom(state), state.memory(), state.table(), printing) {
+        CharOrEnd::Char { value, at, bit } => {
+            let next = Printing {
+                at,
+                bit,
+                ..*printing
+            };
+            matches!(
+                print_character(state, started, value, &next),
+                Ok(Effect::Went)
+            )
+        }
+        CharOrEnd::End => matches!(end_string(state, started), Ok(Effect::Went)),
+        CharOrEnd::Neither => false,
+    }
 }
 
 /// Makes one step of printing like `item`, and answers with it the mode behind the character, where the

@@ -26,7 +26,7 @@ use gx_operands::Plan;
 use gx_rows::{STREAMCHAR, STREAMNUM, STREAMSTR, STREAMUNICHAR};
 use gx_state::{Effect, State};
 use gx_words::Fault;
-pub use items::{item, item_and_mode, next_dropped, next_put};
+pub use items::{item, item_and_mode, next_put, pass_item};
 use rows::{streamchar, streamnum, streamstr, streamunichar};
 use std::alloc::Allocator;
 

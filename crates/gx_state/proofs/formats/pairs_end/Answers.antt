@@ -1,7 +1,7 @@
 use Rattle.std.proofs.Common.{◌≡◌, ◌+◌, ◌≤◌, true, length, arith}
 use Rattle.gx_state.specs.Entry.{is_type}
 use Rattle.gx_state.proofs.Pairs.{end_past, end_cut, end_format, one_read, reads_fault}
-use Rattle.gx_state.proofs.formats.format_end.Goals as goal
+use Rattle.gx_state.proofs.formats.pairs_end.Goals as goal
 
 pub returns-in_err-width-clause-value : goal.returns-in_err-width-clause-value
 returns-in_err-width-clause-value g c =
