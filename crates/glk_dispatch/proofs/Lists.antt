@@ -268,15 +268,3 @@ pub of_unicode_input : (number : ℕ) → takes_turn number ≡ false → texts.
 unfolding unicode_calls
 of_unicode_input number none reached =
     of_unicode number (omega arith) ∙ once_from texts.get_char_stream_uni number unicode_calls refl none reached
-
-pub ruleset lists = (
-  of_arranging,
-  of_window,
-  of_stream,
-  of_reference,
-  of_output,
-  of_input,
-  of_event,
-  of_unicode_output,
-  of_unicode_input,
-)

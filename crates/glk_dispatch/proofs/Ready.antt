@@ -37,8 +37,6 @@ pub glk_grows_is : (w : Scene) (f : FlatState) (selector : ℕ) (args : List ℕ
 unfolding grows
 glk_grows_is w f selector args = grows_is (row_for selector) w f args
 
-pub ruleset by_looks = (glk_call_is, glk_grows_is)
-
 -- ---- the objects
 
 -- an identifier that was looked at is 0 or there
@@ -100,5 +98,3 @@ both false b h = absurd (cc)
 
 pub words_few : (row : Selector) → selector_fits row ≡ true → row.words ≤ 4
 words_few row fits = let b = both (nat_le row.references 3) (nat_le row.words 4) fits in grind (arith, nat_tests, b.1)
-
-pub ruleset ready = (ready_row, words_few)

@@ -1,17 +1,24 @@
 -- The rows that take a turn, and an answer as a turn.
-use Rattle.std.proofs.Common.{◌≡◌, ◌==◌, ◌&&◌, not, ℕ, true, false, IsTrue, Some, is_some, Result, Ok, Err, refl, subst}
+use Rattle.std.proofs.Common.{◌≡◌, ◌≢◌, ◌&&◌, not, ℕ, true, false, IsTrue, Some, is_some, Result, Ok, Err, refl, subst}
+use Rattle.std.proofs.lemmas.List.{append-nil}
+use Rattle.std.specs.Prelude.{IfOk}
+use Rattle.gx_words.specs.declared.faults.Fault.TheVariants.{NoMemory}
+use Rattle.gx_words.specs.Faults.{Reads}
+use Rattle.gx_words.specs.Results.{◌>>=◌}
+use Rattle.gx_state.specs.Flat.{FlatState}
+use Rattle.gx_state.specs.Replies.{IsReply}
+use Rattle.glk_replies.specs.Turns.{IsTurnFor}
 use Rattle.gx_words.specs.declared.faults.Fault.{Fault}
 use Rattle.gx_state.specs.declared.effects.Reply.{Reply}
-use Rattle.glk_world.specs.World.{FlatWorld, MakesCall, Outcome, after, on_world, is_composed, arg}
+use Rattle.glk_world.specs.World.{FlatWorld, MakesCall, Outcome, silent, after, on_world, is_composed, arg}
 use Rattle.glk_replies.specs.Numbers as selectors
 use Rattle.glk_replies.specs.TextNumbers as texts
-use Rattle.glk_replies.specs.declared.Turn.{Turn}
 use Rattle.glk_replies.specs.declared.Turn.TheVariants.{Answer}
 use Rattle.glk_object_calls.specs.Streams.{stream_close, stored}
 use Rattle.glk_object_calls.specs.References.{fileref_create_by_prompt, fileref_delete_file, fileref_does_file_exist}
 use Rattle.glk_event_calls.specs.Events.{select}
 use Rattle.glk_dispatch.specs.declared.table.Class.TheVariants.{Stream, Reference}
-use Rattle.glk_dispatch.specs.Calls.{as_turn}
+use Rattle.glk_dispatch.specs.Calls.{as_turn, answer_turn}
 use Rattle.glk_dispatch.specs.Rows.{row_with, on, giving, taking_turn, wants, is_given, opens_file, turns}
 use Rattle.glk_dispatch.specs.ObjectCalls.{exits, window_calls, stream_calls}
 use Rattle.glk_dispatch.specs.TextCalls.{text_calls, event_calls, unicode_calls}
@@ -59,18 +66,32 @@ open_uni_row = refl
 
 -- ---- an answer as a turn
 
-abbrev turned : Result Reply Fault → Result Turn Fault
-turned (Ok reply) = Ok (Answer reply)
-turned (Err e) = Err e
-
 pub makes_turn : (grows : Type 0) (result : Result Reply Fault) (old new : FlatWorld) (outcome : Outcome Reply)
-    → MakesCall grows result old new outcome → MakesCall grows (turned result) old new (as_turn outcome)
+    → MakesCall grows result old new outcome → MakesCall grows (answer_turn result) old new (as_turn outcome)
 makes_turn grows (Ok reply) old new (Ok r) is =
     let e : (after old r.0, r.1) ≡ (new, reply) = (cc) in
     subst (λ (x : FlatWorld × Reply). on_world old (as_turn (Ok r)) ≡ Ok (x.0, Answer x.1)) e refl
 makes_turn grows (Ok reply) old new (Err e) is = absurd (cc)
 makes_turn grows (Err e) old new (Ok r) is = (is.0, ((λ other. absurd (let h = is.1.0 other in cc)), is.1.1))
 makes_turn grows (Err e) old new (Err other) is = (is.0, ((λ it. let h = is.1.0 it in cc), is.1.1))
+
+pub turn_fits : (f : FlatState) (room : ℕ) (result : Result Reply Fault) → IfOk result (IsReply f room)
+    → IfOk (answer_turn result) (IsTurnFor f room)
+turn_fits f room (Ok reply) fits = fits
+turn_fits f room (Err e) fits = tt
+
+-- so is that of a selector without a row
+pub dropped_turns : (wants : Type 0) (result : Result Reply Fault) (w : FlatWorld) (defined : Result Reply Fault)
+    → Reads (λ reply. reply) result defined
+    → MakesCall wants (answer_turn result) w w (defined >>= λ reply. Ok (silent w.scene, Answer reply))
+dropped_turns wants (Ok reply) w defined is = rw (is, append-nil) refl
+dropped_turns wants (Err e) w defined is =
+    rw is.0 ((λ _. refl), ((λ _. refl), (λ same. absurd (is.1 same))))
+
+-- what stands behind a look that is refused isn't done
+pub look_refused : {X : Type 0} (wants : Type 0) (e : Fault) (w : FlatWorld) (look : Result (Unit {0}) Fault)
+    (made : Outcome X) → (look ≡ Err e) × (e ≢ NoMemory) → MakesCall wants (Err e) w w (look >>= λ _. made)
+look_refused wants e w look made is = rw is.0 ((λ _. refl), ((λ _. refl), (λ same. absurd (is.1 same))))
 
 -- ---- what a call wants, by its row
 

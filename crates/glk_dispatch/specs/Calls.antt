@@ -62,6 +62,10 @@ abbrev pub as_turn : Outcome Reply → Outcome Turn
 as_turn (Ok r) = Ok (r.0, Answer r.1)
 as_turn (Err e) = Err e
 
+abbrev pub answer_turn : Result Reply Fault → Result Turn Fault
+answer_turn (Ok reply) = Ok (Answer reply)
+answer_turn (Err e) = Err e
+
 abbrev pub done : Doing → Scene → FlatState → ℕ → List ℕ → Outcome Turn
 done (answers call) w f room args = as_turn (call w f room args)
 done (turns call) w f room args = call w f room args

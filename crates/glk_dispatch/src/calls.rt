@@ -1,7 +1,8 @@
 //! The one way that every call goes (Glk 0.7.5, "The Dispatch Layer"; specs/Calls): its row, the looks at its
 //! arguments, and then what the row does.
-ghost use Rattle.std.specs.Prelude.{◌≡◌, ◌≤◌, length, replicate, false, IfOk, IfSome, IsTrue, option_map};
+ghost use Rattle.std.specs.Prelude.{◌≡◌, ◌≤◌, ℕ, length, replicate, false, IfOk, IfSome, IsTrue, option_map};
 ghost use Rattle.gx_words.specs.Faults.{Reads};
+ghost use Rattle.gx_state.specs.Flat.{FlatState};
 ghost use Rattle.gx_state.specs.Replies.{IsReply};
 ghost use Rattle.glk_world.specs.World.{MakesCall};
 ghost use Rattle.glk_replies.specs.Turns.{IsTurnFor, IsGivenFor};
@@ -14,7 +15,7 @@ ghost use Rattle.gx_words.specs.declared.faults.Fault.TheVariants.{NoMemory};
 ghost use Rattle.glk_dispatch.specs.Memory.{is_left_out, TakesMemory};
 ghost use Rattle.glk_dispatch.specs.Ready.{done_by, wants_by, call_looked, wants_looked};
 
-use crate::doing::do_call;
+use crate::doing::{answer_turn, do_call};
 use crate::table::{Class, Selector, dropped, row_of};
 use glk_replies::{Turn, give, give_each, reply};
 use glk_world::{World, arg};
@@ -119,6 +120,7 @@ fn nothing<A: Allocator + Clone>(
 /// A selector without a row.
 fn call_dropped(world: &World, selector: u32) -> Result<Reply, Fault>
     ensures value { Reads (λ reply. reply) result (dropping selector) }
+    ensures fits { (f : FlatState) (room : ℕ) → IfOk result (IsReply f room) }
 {
     if dropped(selector) {
         Ok(reply(world.alloc(), 0))
@@ -128,7 +130,6 @@ fn call_dropped(world: &World, selector: u32) -> Result<Reply, Fault>
 }
 
 /// A call by what was found for its selector.
-#[tactic(auto, using(crate::proofs::Ready::ready))]
 fn call_found<A: Allocator + Clone>(
     found: Option<&Selector>,
     world: &mut World,
@@ -147,18 +148,17 @@ fn call_found<A: Allocator + Clone>(
     ensures fits { IfOk result (IsTurnFor state.now.flat room) }
 {
     let Some(row) = found else {
-        return Ok(Turn::Answer(call_dropped(world, selector)?));
+        return answer_turn(call_dropped(world, selector));
     };
     looked(world, row, args)?;
     if is_on_none(row, args) {
-        Ok(Turn::Answer(nothing(world, state, room, row, args)?))
+        answer_turn(nothing(world, state, room, row, args))
     } else {
         do_call(selector, world, state, room, args)
     }
 }
 
 /// The call of a selector, by its row.
-#[tactic(auto, using(crate::proofs::Ready::by_looks))]
 fn call_selector<A: Allocator + Clone>(
     world: &mut World,
     state: &State<A>,

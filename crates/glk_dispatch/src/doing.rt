@@ -6,6 +6,7 @@ ghost use Rattle.gx_state.specs.Replies.{IsReply};
 ghost use Rattle.glk_world.specs.World.{MakesCall};
 ghost use Rattle.glk_replies.specs.Turns.{IsTurnFor};
 ghost use Rattle.glk_dispatch.specs.Table.{row_for};
+ghost use Rattle.glk_dispatch.specs.Calls.{answer_turn};
 ghost use Rattle.glk_dispatch.specs.Ready.{IsReadyBy, takes_turn, answer_by, done_by, wants_by, arranging_row};
 ghost use Rattle.glk_dispatch.specs.Ready.{window_row, stream_row, reference_row, output_row, input_row, event_row};
 ghost use Rattle.glk_dispatch.specs.Ready.{unicode_output_row, unicode_input_row};
@@ -294,7 +295,6 @@ fn unicode_input_call<A: Allocator + Clone>(
 }
 
 /// The call of a selector that answers at once.
-#[tactic(auto, using(crate::proofs::Lists::lists))]
 fn answer_call<A: Allocator + Clone>(
     selector: u32,
     world: &mut World,
@@ -329,6 +329,13 @@ fn answer_call<A: Allocator + Clone>(
     }
 }
 
+/// An answer as a turn.
+pub fn answer_turn(answer: Result<Reply, Fault>) -> Result<Turn, Fault>
+    ensures { result ≡ answer_turn answer }
+{
+    Ok(Turn::Answer(answer?))
+}
+
 /// Does what the row of a selector says: it takes a turn, or answers at once.
 pub fn do_call<A: Allocator + Clone>(
     selector: u32,
@@ -351,6 +358,6 @@ pub fn do_call<A: Allocator + Clone>(
         FILEREF_DOES_FILE_EXIST => fileref_does_file_exist(world, args),
         SELECT => select(world, state, room, args),
         STREAM_OPEN_FILE_UNI => stream_open_file(world, STREAM_OPEN_FILE_UNI, args),
-        _ => Ok(Turn::Answer(answer_call(selector, world, state, room, args)?)),
+        _ => answer_turn(answer_call(selector, world, state, room, args)),
     }
 }

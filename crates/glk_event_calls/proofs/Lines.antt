@@ -1,12 +1,13 @@
 -- What a line gives: how many characters, and where they are written.
-use Rattle.std.proofs.Common.{◌≡◌, ◌≤◌, ◌+◌, ◌++◌, ◌&&◌, ℕ, Bool, true, false, if◌then◌else◌, List, [], ◌∷◌}
-use Rattle.std.proofs.Common.{length, take, map, refl, inl, inr, arith, Result, Ok, Err}
+use Rattle.std.proofs.Common.{◌≡◌, ◌≢◌, ◌≤◌, ◌+◌, ◌++◌, ◌==◌, ◌&&◌, ◌||◌, not, ℕ, Bool, true, false, if◌then◌else◌, List, [], ◌∷◌}
+use Rattle.std.proofs.Common.{length, take, map, refl, inl, inr, arith, IsTrue, Result, Ok, Err}
 use Rattle.std.proofs.lemmas.Bool.Decides.{nat_tests}
 use Rattle.std.proofs.lemmas.Grind.{common_steps}
 use Rattle.std.proofs.lemmas.List.{length-append, append-nil}
 use Rattle.gx_words.specs.Constants.{line_feed}
 use Rattle.gx_words.specs.Results.{◌>>=◌}
 use Rattle.gx_words.specs.declared.faults.Fault.{Fault}
+use Rattle.gx_words.specs.declared.faults.Fault.TheVariants.{NoMemory}
 use Rattle.gx_state.specs.Flat.{FlatState}
 use Rattle.gx_state.specs.Replies.{IsReply}
 use Rattle.glk_events.specs.declared.requests.Request.{Request}
@@ -16,12 +17,12 @@ use Rattle.glk_streams.specs.declared.kinds.StreamKind.{StreamKind}
 use Rattle.glk_streams.specs.declared.kinds.StreamKind.TheVariants as kinds
 use Rattle.glk_streams.specs.Stream as one
 use Rattle.glk_streams.specs.Streams as streams
-use Rattle.glk_world.specs.World.{Scene}
+use Rattle.glk_world.specs.World.{Scene, FlatWorld, MakesCall}
 use Rattle.glk_world.specs.Putting.{places_of, chain_end}
 use Rattle.glk_replies.specs.Parts.{IsCharWidth, pushes_for, char_writes, writes_for, can_lay, can_give, can_push}
 use Rattle.glk_replies.proofs.Ram.{between_append, laid_in_ram, written_in_ram}
 use Rattle.glk_event_calls.specs.Events.{in_buffer, echo_for, echoes, echoed, event_of, line_places, echo_places}
-use Rattle.glk_event_calls.specs.Events.{line_reply, looked_at_line}
+use Rattle.glk_event_calls.specs.Events.{line_reply, looked_at_line, met, met_grows}
 
 -- ---- how many characters are put to the echo stream
 
@@ -114,3 +115,26 @@ reply_fits f room w at r line less looked =
     }
 
 pub ruleset reply_rules = (reply_fits, append-nil)
+
+-- ---- a line that is refused, and one for which there is no memory
+
+pub met_refused : (wants : Type 0) (w : FlatWorld) (f : FlatState) (room at : ℕ) (r : Request) (line : List ℕ) (e : Fault)
+    → (looked_at_line w.scene f room at r line ≡ Err e) × (e ≢ NoMemory)
+    → MakesCall wants (Err e) w w (met w.scene f room at r line)
+unfolding met
+met_refused wants w f room at r line e is = rw is.0 ((λ _. refl), ((λ _. refl), (λ same. absurd (is.1 same))))
+
+pub met_wanted : (w now : FlatWorld) (f : FlatState) (room at : ℕ) (r : Request) (line : List ℕ)
+    → looked_at_line w.scene f room at r line ≡ Ok tt → met_grows w.scene at r line ≡ true
+    → MakesCall (IsTrue (met_grows w.scene at r line)) (Err NoMemory) w now (met w.scene f room at r line)
+unfolding met
+met_wanted w now f room at r line good some =
+    rw good ((λ other. absurd (other refl)), ((λ other. absurd (other refl)), (λ _. (some, refl))))
+
+or_last : (a : Bool) → (a || true) ≡ true
+or_last true = refl
+or_last false = refl
+
+pub echo_grows : (w : Scene) (at : ℕ) (r : Request) (line : List ℕ) → echoes w r ≡ true → met_grows w at r line ≡ true
+unfolding met_grows
+echo_grows w at r line is = rw is (or_last (not (at == 0) || not ((line_places r line).count == 0)))

@@ -20,6 +20,12 @@ pub case_some : (width at count : ℕ) (memory chars : List ℕ) → chars ≡ n
 case_some width at count memory chars is some =
     subst (λ n. 0 < n) (ap (λ (cs : List ℕ). length cs) is ∙ count_numbers width at count memory) some
 
+-- each becomes one
+pub case_length : (width at count : ℕ) (memory chars text : List ℕ) → chars ≡ numbers_in width memory at count
+    → length text ≡ length chars → length text ≡ count
+case_length width at count memory chars text is same =
+    same ∙ ap (λ (cs : List ℕ). length cs) is ∙ count_numbers width at count memory
+
 module _ (w : FlatWorld) (f : FlatState) (first others : Case) (args : List ℕ) (p : Places) (is : p ≡ buffer_of args)
   where
     abbrev made : Outcome Reply

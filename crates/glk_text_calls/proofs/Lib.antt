@@ -2,6 +2,7 @@ mod Constants
 pub mod Puts
 pub mod Cases
 pub mod Reading
+pub mod Gets
 pub mod Saving
 pub mod Rests
 pub mod Opened

@@ -8,7 +8,7 @@ use Rattle.gx_words.specs.declared.faults.Fault.{Fault}
 use Rattle.gx_words.specs.declared.faults.Fault.TheVariants.{NoMemory}
 use Rattle.gx_state.specs.Flat.{FlatState}
 use Rattle.gx_state.specs.declared.effects.Reply.{Reply}
-use Rattle.gx_state.specs.Replies.{AreInRam}
+use Rattle.gx_state.specs.Replies.{AreInRam, IsReply}
 use Rattle.glk_streams.specs.declared.kinds.Places.{Places}
 use Rattle.glk_streams.specs.declared.kinds.Stream.{Stream}
 use Rattle.glk_streams.specs.declared.kinds.StreamKind.{StreamKind}
@@ -18,7 +18,7 @@ use Rattle.glk_streams.specs.Streams as streams
 use Rattle.glk_world.specs.World.{Scene, FlatWorld, after, on_world, MakesCall}
 use Rattle.glk_world.specs.Putting.{window_of_stream, entry_of, is_text, is_plain_text, put_of, put_chars, put_grows}
 use Rattle.glk_world.specs.Putting.{places_of, chain_end}
-use Rattle.glk_replies.specs.Parts.{IsCharWidth, replies, can_lay, char_writes, reply_filling}
+use Rattle.glk_replies.specs.Parts.{IsCharWidth, replies, can_lay, char_writes, numbers_in, reply_filling}
 use Rattle.glk_text_calls.specs.Putting.{can_put, put_all, put_grows_one}
 use Rattle.glk_replies.proofs.Counting.{count_numbers, some_numbers}
 use Rattle.glk_replies.proofs.Ram.{laid_in_ram}
@@ -60,6 +60,28 @@ pub put_in_ram : (f : FlatState) (w : Scene) (stream count : ℕ) (cs : List ℕ
     → (places_of w stream count).count ≤ length cs → can_lay f (places_of w stream count) ≡ Ok tt
     → AreInRam f (char_writes (places_of w stream count) cs)
 put_in_ram f w stream count cs few ok = laid_in_ram f (places_of w stream count) cs (places_width w stream count) few ok
+
+-- the reply that fills places which were looked at
+pub fits_filling : (f : FlatState) (value : ℕ) (p : Places) (cs : List ℕ) (reply : Reply) → IsCharWidth p.width
+    → p.count ≤ length cs → can_lay f p ≡ Ok tt → reply ≡ reply_filling value p cs → (room : ℕ)
+    → IsReply f room reply
+fits_filling f value p cs reply width few lays filled room =
+    subst (λ (r : Reply). IsReply f room r) (sym filled) (record {
+      writes = laid_in_ram f p cs width few lays;
+      pushes = omega arith;
+    })
+
+pub put_fits : (f : FlatState) (w : Scene) (stream count value : ℕ) (cs : List ℕ) (p : Places) (reply : Reply)
+    → p ≡ places_of w stream count → p.count ≤ length cs → can_lay f p ≡ Ok tt → reply ≡ reply_filling value p cs
+    → (room : ℕ) → IsReply f room reply
+put_fits f w stream count value cs p reply is few lays filled room =
+    fits_filling f value p cs reply (subst (λ (q : Places). IsCharWidth q.width) (sym is) (places_width w stream count))
+    few lays filled room
+
+-- some of them are put
+pub some_put : (w : Scene) (stream count : ℕ) → streams.has w.streams stream ≡ true → 0 < count
+    → (streams.has w.streams stream && not (count == 0)) ≡ true
+some_put w stream count there some = rw there (grind (arith, nat_tests))
 
 pub some_counted : (n : ℕ) (cs : List ℕ) → 0 < n → n ≤ length cs → cs ≢ []
 some_counted n [] some few same = absurd (omega arith)
@@ -113,36 +135,52 @@ put_filled w now f stream count cs p reply is len there lays made filled =
     let at_reply : reply ≡ reply_filling 0 (places_of w.scene stream count) cs = rw (← is) filled in
     rw (made, at_reply) (put_there w f stream count cs len there at_places)
 
--- one character, where the world is still that before the call
-module _ (w v : FlatWorld) (f : FlatState) (stream c : ℕ) (p : Places) (same : v ≡ w)
-    (is : p ≡ places_of v.scene stream 1) (there : streams.has v.scene.streams stream ≡ true) where
-  pub one_refused : {wants : Type 0} (e : Fault) → (can_lay f p ≡ Err e) × (e ≢ NoMemory)
-      → MakesCall wants (Err e) w v (put_all w.scene f stream (c ∷ []))
-  one_refused {wants} e lays =
-      subst (λ (u : FlatWorld). MakesCall wants (Err e) u v (put_all u.scene f stream (c ∷ []))) same
-      (put_refused v f stream 1 (c ∷ []) p e is refl there lays)
+-- numbers that were read
+module _ (f : FlatState) (width at count : ℕ) (memory cs : List ℕ) (same : memory ≡ f.memory)
+    (read : cs ≡ numbers_in width memory at count) where
+  read_there : cs ≡ numbers_in width f.memory at count
+  read_there = read ∙ ap (λ (m : List ℕ). numbers_in width m at count) same
 
-  grows_one : IsTrue (put_grows v.scene stream c) ⊎ (0 < p.count) → put_grows_one v.scene stream c ≡ true
+  pub count_read_there : length cs ≡ count
+  count_read_there = ap (λ (xs : List ℕ). length xs) read ∙ count_numbers width at count memory
+
+  pub few_read : (n : ℕ) → n ≤ count → n ≤ length cs
+  few_read n few = omega (arith, count_read_there)
+
+  pub some_read : (w : Scene) (stream : ℕ) → streams.has w.streams stream ≡ true → cs ≢ []
+      → (streams.has w.streams stream && not (count == 0)) ≡ true
+  some_read w stream there some = some_put w stream count there
+      (omega (arith, some_numbers width at count memory (λ none. some (read ∙ none))))
+
+  pub numbers_filled : (w now : FlatWorld) (stream : ℕ) (p : Places) (reply : Reply)
+      → p ≡ places_of w.scene stream count
+      → streams.has w.scene.streams stream ≡ true → can_lay f p ≡ Ok tt → now ≡ after w (put_chars w.scene stream cs)
+      → reply ≡ reply_filling 0 p cs
+      → on_world w (put_all w.scene f stream (numbers_in width f.memory at count)) ≡ Ok (now, reply)
+  numbers_filled w now stream p reply is there lays made filled =
+      subst (λ (xs : List ℕ). on_world w (put_all w.scene f stream xs) ≡ Ok (now, reply)) read_there
+      (put_filled w now f stream count cs p reply is count_read_there there lays made filled)
+
+-- one character
+module _ (w : FlatWorld) (f : FlatState) (stream c : ℕ) (p : Places) (is : p ≡ places_of w.scene stream 1)
+    (there : streams.has w.scene.streams stream ≡ true) where
+  grows_one : IsTrue (put_grows w.scene stream c) ⊎ (0 < p.count) → put_grows_one w.scene stream c ≡ true
   grows_one (inl grows) = rw (there, grows) refl
   grows_one (inr some) =
-      let placed : 0 < (places_of v.scene stream 1).count = subst (λ (q : Places). 0 < q.count) is some in
-      let counted : (places_of v.scene stream 1).count == 0 ≡ false = grind (arith, nat_tests, placed) in
-      rw (there, counted) (or_last (put_grows v.scene stream c))
+      let placed : 0 < (places_of w.scene stream 1).count = subst (λ (q : Places). 0 < q.count) is some in
+      let counted : (places_of w.scene stream 1).count == 0 ≡ false = grind (arith, nat_tests, placed) in
+      rw (there, counted) (or_last (put_grows w.scene stream c))
 
-  pub one_wanted : (now : FlatWorld) → can_lay f p ≡ Ok tt → IsTrue (put_grows v.scene stream c) ⊎ (0 < p.count)
+  pub one_wanted : (now : FlatWorld) → can_lay f p ≡ Ok tt → IsTrue (put_grows w.scene stream c) ⊎ (0 < p.count)
       → MakesCall (IsTrue (put_grows_one w.scene stream c)) (Err NoMemory) w now (put_all w.scene f stream (c ∷ []))
-  one_wanted now lays some =
-      subst (λ (u : FlatWorld). MakesCall (IsTrue (put_grows_one u.scene stream c)) (Err NoMemory) u now
-      (put_all u.scene f stream (c ∷ []))) same
-      (put_wanted v now f stream 1 (c ∷ []) p (grows_one some) is refl there lays)
+  one_wanted now lays some = put_wanted w now f stream 1 (c ∷ []) p (grows_one some) is refl there lays
 
-  pub one_filled : (now : FlatWorld) (reply : Reply) → can_lay f p ≡ Ok tt → now ≡ after v (put_of v.scene stream c)
+  pub one_filled : (now : FlatWorld) (reply : Reply) → can_lay f p ≡ Ok tt → now ≡ after w (put_of w.scene stream c)
       → reply ≡ reply_filling 0 p (c ∷ []) → on_world w (put_all w.scene f stream (c ∷ [])) ≡ Ok (now, reply)
   one_filled now reply lays made filled =
-      subst (λ (u : FlatWorld). on_world u (put_all u.scene f stream (c ∷ [])) ≡ Ok (now, reply)) same
-      (put_filled v now f stream 1 (c ∷ []) p reply is refl there lays (made ∙ sym (puts_one v stream c)) filled)
+      put_filled w now f stream 1 (c ∷ []) p reply is refl there lays (made ∙ sym (puts_one w stream c)) filled
 
-pub ruleset put_rules = (puts_one, put_in_ram, some_counted)
+pub ruleset put_rules = (put_in_ram, some_counted)
 
 and_first : (a b : Bool) → (a && b) ≡ true → a ≡ true
 and_first true b h = refl
@@ -163,7 +201,8 @@ unfolding put_all can_put can_lay
 text_put w f stream c plain none =
     let there : streams.has w.scene.streams stream ≡ true = text_there w.scene stream plain in
     let nowhere : (places_of w.scene stream 1).count == 0 ≡ true = rw none refl in
-    rw (there, nowhere) (ap (λ (v : FlatWorld). let both : Result (FlatWorld × Reply) Fault = Ok (v, replies 0) in both)
+    rw (there, nowhere) (ap (λ (v : FlatWorld). let both : Result (FlatWorld × Reply) Fault = Ok (v, replies 0) in
+    both)
     (puts_one w stream c))
 
 pub text_grows : (w : Scene) (stream c : ℕ) → is_plain_text w stream ≡ true → put_grows w stream c ≡ true
@@ -187,11 +226,3 @@ text_wanted w now f stream c plain grows none = (
 )
 
 pub ruleset text_rules = (text_put, text_grows, text_fine)
-
-pub ruleset puts_and_text = (put_rules, text_rules)
-
-pub ruleset string_rules =
-    (put_nowhere, put_there, put_fine, put_in_ram, some_counted, count_numbers, some_numbers)
-
--- the lemmas of a buffer whose characters change case
-pub ruleset case_rules = (count_numbers, laid_in_ram)

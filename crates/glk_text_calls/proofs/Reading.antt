@@ -232,4 +232,6 @@ all_length cs stops = length-append cs (ending stops) ∙ ap (λ n. length cs + 
 -- what is written lies in RAM
 pub ruleset reply_rules = (laid_in_ram)
 
-pub ruleset reading_rules = (read_width, all_length, read_fails, same_count, read_some)
+pub ruleset reading_rules = (read_width, all_length, same_count)
+
+pub ruleset read_width_rules = (read_width)

@@ -81,7 +81,6 @@ fn buffer_of(args: &[u32]) -> Places
 
 /// buffer_to_lower_case_uni, buffer_to_upper_case_uni and buffer_to_title_case_uni: the first character of a buffer
 /// gets one case, and all others another.
-#[tactic(auto, using(crate::proofs::Puts::case_rules), unfolding(crate::specs::Characters::buffer_to_case))]
 pub fn buffer_to_case<A: Allocator + Clone>(
     world: &mut World,
     state: &State<A>,

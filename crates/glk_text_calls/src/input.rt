@@ -175,7 +175,7 @@ fn reply_with<A: Allocator + Clone>(
 }
 
 /// Reads characters into a buffer, and ends a line by a zero.
-#[tactic(auto, using(crate::proofs::Reading::reading_rules), unfolding(crate::specs::Input::get_chars))]
+#[tactic(auto, using(crate::proofs::Reading::reading_rules))]
 fn get_chars<A: Allocator + Clone>(
     world: &mut World,
     state: &State<A>,
@@ -297,7 +297,7 @@ pub fn get_char<A: Allocator + Clone>(
 }
 
 /// Takes one character of a stream.
-#[tactic(auto, using(crate::proofs::Reading::reading_rules), unfolding(crate::specs::Input::take_char))]
+#[tactic(auto, using(crate::proofs::Reading::read_width_rules), unfolding(crate::specs::Input::take_char))]
 fn take_char<A: Allocator + Clone>(
     world: &mut World,
     state: &State<A>,

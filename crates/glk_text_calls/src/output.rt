@@ -45,7 +45,6 @@ pub fn put_char<A: Allocator + Clone>(
 }
 
 /// Puts one character to a stream, which mostly is the stream of a text buffer window.
-#[tactic(auto, using(crate::proofs::Puts::puts_and_text), unfolding(crate::proofs::Opened::putting))]
 fn put_one<A: Allocator + Clone>(
     world: &mut World,
     state: &State<A>,
@@ -59,6 +58,20 @@ fn put_one<A: Allocator + Clone>(
     if world.put_text(stream, c)? {
         return Ok(reply(world.alloc(), 0));
     }
+    put_placed(world, state, stream, c)
+}
+
+/// Puts one character to any stream: its place in memory is looked at first.
+fn put_placed<A: Allocator + Clone>(
+    world: &mut World,
+    state: &State<A>,
+    stream: u32,
+    c: u32,
+) -> Result<Reply, Fault>
+    ensures value { MakesCall (IsTrue (put_grows_one world.old.scene stream c)) result world.old world.new
+        (put_all world.old.scene state.now.flat stream (c ∷ [])) }
+    ensures fits { (room : ℕ) → IfOk result (IsReply state.now.flat room) }
+{
     if !world.streams().has(stream) {
         return Ok(reply(world.alloc(), 0));
     }
@@ -107,7 +120,6 @@ pub fn put_buffer<A: Allocator + Clone>(
 }
 
 /// Puts numbers that are there.
-#[tactic(auto, using(crate::proofs::Puts::string_rules))]
 fn put_numbers<A: Allocator + Clone>(
     world: &mut World,
     state: &State<A>,
@@ -129,9 +141,10 @@ fn put_numbers<A: Allocator + Clone>(
     }
     let places = world.places(stream, count);
     can_lay(state, places)?;
-    let chars = numbers_at(world.alloc(), state.memory(), width, at, count)?;
-    world.puts(stream, chars.as_slice())?;
-    Ok(filled(world.alloc(), 0, places, chars.as_slice())?)
+    let numbers = numbers_at(world.alloc(), state.memory(), width, at, count)?;
+    let chars = numbers.as_slice();
+    world.puts(stream, chars)?;
+    Ok(filled(world.alloc(), 0, places, chars)?)
 }
 
 /// Puts a character that the program prints to the current stream.

@@ -193,7 +193,7 @@ fn bytes_left<A: Allocator + Clone>(
 /// the stream isn't open for reading.
 ///
 /// The world stands where the stream isn't open for reading, and after a fault but for want of memory.
-#[tactic(auto, using(crate::proofs::Reading::reading_rules), unfolding(crate::specs::Saves::take_rest))]
+#[tactic(auto, using(crate::proofs::Reading::read_width_rules), unfolding(crate::specs::Saves::take_rest))]
 pub fn take_rest<A: Allocator + Clone>(
     world: &mut World,
     state: &State<A>,

@@ -1,4 +1,4 @@
--- What fits any state or any room fits those of the call, and what never wants memory wants none.
+-- Each call does what its row says; what fits any state or any room fits those of the call.
 use Rattle.glk_object_calls.specs.Windows.{window_close}
 use Rattle.glk_dispatch.specs.ObjectCalls.{window_calls}
 use Rattle.glk_dispatch.proofs.Turning.{may_want}
@@ -28,3 +28,39 @@ returns-in-36-clause-value g c = rw c.in-36.is
     (may_want c.window_close.result c.args.world.now c.window_close.new.world
     (window_close c.args.world.now.scene c.args.state.now.flat c.args.room c.args.args.now)
     c.window_close.ensures.value)
+
+pub returns-in-4-clause-value : goal.returns-in-4-clause-value
+unfolding window_calls
+returns-in-4-clause-value g c = rw c.in-4.is c.gestalt.ensures.value
+
+pub returns-in-5-clause-value : goal.returns-in-5-clause-value
+unfolding window_calls
+returns-in-5-clause-value g c = rw c.in-5.is c.gestalt_ext.ensures.value
+
+pub returns-in-32-clause-value : goal.returns-in-32-clause-value
+unfolding window_calls
+returns-in-32-clause-value g c = rw c.in-32.is c.window_iterate.ensures.value
+
+pub returns-in-33-clause-value : goal.returns-in-33-clause-value
+unfolding window_calls
+returns-in-33-clause-value g c = rw c.in-33.is c.window_get_rock.ensures.value
+
+pub returns-in-34-clause-value : goal.returns-in-34-clause-value
+unfolding window_calls
+returns-in-34-clause-value g c = rw c.in-34.is c.window_get_root.ensures.value
+
+pub returns-in-35-clause-value : goal.returns-in-35-clause-value
+unfolding window_calls
+returns-in-35-clause-value g c = rw c.in-35.is c.window_open.ensures.value
+
+pub returns-in-37-clause-value : goal.returns-in-37-clause-value
+unfolding window_calls
+returns-in-37-clause-value g c = rw c.in-37.is c.window_get_size.ensures.value
+
+pub returns-in-38-clause-value : goal.returns-in-38-clause-value
+unfolding window_calls
+returns-in-38-clause-value g c = rw c.in-38.is c.window_set_arrangement.ensures.value
+
+pub returns-in-39-clause-value : goal.returns-in-39-clause-value
+unfolding window_calls
+returns-in-39-clause-value g c = rw c.in-39.is c.window_get_arrangement.ensures.value

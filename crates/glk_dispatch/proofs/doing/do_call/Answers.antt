@@ -1,17 +1,17 @@
 -- The rows that take a turn, one by one, and an answer as a turn.
-use Rattle.std.proofs.Common.{◌≡◌, false, IsTrue, Err, arith, sym, subst}
+use Rattle.std.proofs.Common.{◌≡◌, false, IsTrue, arith, sym, subst}
 use Rattle.std.proofs.lemmas.Bool.Decides.{nat_tests}
 use Rattle.std.proofs.lemmas.Grind.{common_steps}
-use Rattle.std.proofs.lemmas.Result.{err_from_is_err_and}
 use Rattle.glk_world.specs.World.{MakesCall, Outcome}
 use Rattle.glk_replies.specs.declared.Turn.{Turn}
 use Rattle.glk_object_calls.specs.References.{fileref_delete_file, fileref_does_file_exist}
 use Rattle.glk_event_calls.specs.Events.{select}
+use Rattle.glk_dispatch.specs.Calls.{answer_turn}
 use Rattle.glk_dispatch.specs.Ready.{takes_turn, answer_by, wants_by}
 use Rattle.glk_dispatch.specs.Table.{row_for}
 use Rattle.glk_dispatch.proofs.Lists.{call_answers}
 use Rattle.glk_dispatch.proofs.Turning.{exit_row, open_row, close_row, prompt_row, delete_row, exist_row, select_row}
-use Rattle.glk_dispatch.proofs.Turning.{open_uni_row, makes_turn, never_wants, may_want}
+use Rattle.glk_dispatch.proofs.Turning.{open_uni_row, makes_turn, turn_fits, never_wants, may_want}
 use Rattle.glk_dispatch.proofs.doing.do_call.Goals as goal
 
 pub stream_open_file-requires : goal.stream_open_file-requires
@@ -77,16 +77,18 @@ returns-in-312-clause-value g c = rw (c.in-312.is, open_uni_row) c.stream_open_f
 pub returns-in-312-clause-fits : goal.returns-in-312-clause-fits
 returns-in-312-clause-fits g c = c.stream_open_file-in-312.ensures.fits c.args.state.now.flat c.args.room
 
-pub returns-in_err-answer_call-in_default-clause-value : goal.returns-in_err-answer_call-in_default-clause-value
-returns-in_err-answer_call-in_default-clause-value g c =
+pub returns-in_default-clause-value : goal.returns-in_default-clause-value
+returns-in_default-clause-value g c =
     let old = c.args.world.now in
     let new = c.answer_call.new.world in
     let f = c.args.state.now.flat in
     let none : takes_turn c.args.selector ≡ false = grind (arith, common_steps, nat_tests) in
-    let p = err_from_is_err_and c.from_residual.result c.from_residual.ensures.1 in
     let wants = IsTrue (wants_by (row_for c.args.selector) old.scene f c.args.args.now) in
-    let fault = c.in_err-answer_call-in_default.field-0.0 in
     let answered = answer_by (row_for c.args.selector) old.scene f c.args.room c.args.args.now in
-    rw (p.1, p.2) (subst (λ (o : Outcome Turn). MakesCall wants (Err fault) old new o)
+    rw c.answer_turn.ensures (subst (λ (o : Outcome Turn). MakesCall wants (answer_turn c.answer_call.result) old new o)
     (sym (call_answers c.args.selector old.scene f c.args.room c.args.args.now none))
-    (makes_turn wants (Err fault) old new answered c.in_err-answer_call-in_default.ensures.value))
+    (makes_turn wants c.answer_call.result old new answered c.answer_call.ensures.value))
+
+pub returns-in_default-clause-fits : goal.returns-in_default-clause-fits
+returns-in_default-clause-fits g c = rw c.answer_turn.ensures
+    (turn_fits c.args.state.now.flat c.args.room c.answer_call.result c.answer_call.ensures.fits)

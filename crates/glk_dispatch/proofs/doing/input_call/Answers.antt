@@ -1,4 +1,4 @@
--- What fits any state or any room fits those of the call, and what never wants memory wants none.
+-- Each call does what its row says; what fits any state or any room fits those of the call.
 use Rattle.glk_text_calls.specs.declared.characters.Case.TheVariants as case
 use Rattle.glk_text_calls.specs.Input.{get_char}
 use Rattle.glk_text_calls.specs.Characters.{char_to_case}
@@ -41,3 +41,11 @@ returns-in-161-clause-value g c = rw c.in-161.is
     (never_wants c.char_to_case-in-161.result c.args.world.now c.char_to_case-in-161.new.world
     (char_to_case c.args.world.now.scene case.Upper c.args.args.now)
     c.char_to_case-in-161.ensures.value)
+
+pub returns-in-145-clause-value : goal.returns-in-145-clause-value
+unfolding text_calls
+returns-in-145-clause-value g c = rw c.in-145.is c.get_line.ensures.value
+
+pub returns-in-146-clause-value : goal.returns-in-146-clause-value
+unfolding text_calls
+returns-in-146-clause-value g c = rw c.in-146.is c.get_buffer.ensures.value

@@ -1,4 +1,4 @@
--- What fits any state or any room fits those of the call, and what never wants memory wants none.
+-- Each call does what its row says; what fits any state or any room fits those of the call.
 use Rattle.glk_object_calls.specs.References.{fileref_destroy}
 use Rattle.glk_dispatch.specs.ObjectCalls.{stream_calls}
 use Rattle.glk_dispatch.proofs.Turning.{never_wants}
@@ -25,3 +25,23 @@ returns-in-99-clause-value g c = rw c.in-99.is
     (never_wants c.fileref_destroy.result c.args.world.now c.fileref_destroy.new.world
     (fileref_destroy c.args.world.now.scene c.args.args.now)
     c.fileref_destroy.ensures.value)
+
+pub returns-in-96-clause-value : goal.returns-in-96-clause-value
+unfolding stream_calls
+returns-in-96-clause-value g c = rw c.in-96.is c.fileref_create_temp.ensures.value
+
+pub returns-in-97-clause-value : goal.returns-in-97-clause-value
+unfolding stream_calls
+returns-in-97-clause-value g c = rw c.in-97.is c.fileref_create_by_name.ensures.value
+
+pub returns-in-100-clause-value : goal.returns-in-100-clause-value
+unfolding stream_calls
+returns-in-100-clause-value g c = rw c.in-100.is c.fileref_iterate.ensures.value
+
+pub returns-in-101-clause-value : goal.returns-in-101-clause-value
+unfolding stream_calls
+returns-in-101-clause-value g c = rw c.in-101.is c.fileref_get_rock.ensures.value
+
+pub returns-in-104-clause-value : goal.returns-in-104-clause-value
+unfolding stream_calls
+returns-in-104-clause-value g c = rw c.in-104.is c.fileref_create_from_fileref.ensures.value

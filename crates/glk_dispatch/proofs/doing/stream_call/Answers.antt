@@ -1,4 +1,4 @@
--- What fits any state or any room fits those of the call, and what never wants memory wants none.
+-- Each call does what its row says; what fits any state or any room fits those of the call.
 use Rattle.glk_object_calls.specs.Streams.{stream_set_position, stream_set_current}
 use Rattle.glk_dispatch.specs.ObjectCalls.{stream_calls}
 use Rattle.glk_dispatch.proofs.Turning.{never_wants}
@@ -35,3 +35,23 @@ returns-in-71-clause-value g c = rw c.in-71.is
     (never_wants c.stream_set_current.result c.args.world.now c.stream_set_current.new.world
     (stream_set_current c.args.world.now.scene c.args.args.now)
     c.stream_set_current.ensures.value)
+
+pub returns-in-64-clause-value : goal.returns-in-64-clause-value
+unfolding stream_calls
+returns-in-64-clause-value g c = rw c.in-64.is c.stream_iterate.ensures.value
+
+pub returns-in-65-clause-value : goal.returns-in-65-clause-value
+unfolding stream_calls
+returns-in-65-clause-value g c = rw c.in-65.is c.stream_get_rock.ensures.value
+
+pub returns-in-67-clause-value : goal.returns-in-67-clause-value
+unfolding stream_calls
+returns-in-67-clause-value g c = rw c.in-67.is c.stream_open_memory.ensures.value
+
+pub returns-in-70-clause-value : goal.returns-in-70-clause-value
+unfolding stream_calls
+returns-in-70-clause-value g c = rw c.in-70.is c.stream_get_position.ensures.value
+
+pub returns-in-72-clause-value : goal.returns-in-72-clause-value
+unfolding stream_calls
+returns-in-72-clause-value g c = rw c.in-72.is c.stream_get_current.ensures.value

@@ -1,4 +1,4 @@
--- What fits any state or any room fits those of the call, and what never wants memory wants none.
+-- Each call does what its row says; what fits any state or any room fits those of the call.
 use Rattle.glk_text_calls.specs.Input.{get_char}
 use Rattle.glk_dispatch.specs.TextCalls.{unicode_calls}
 use Rattle.glk_dispatch.proofs.Turning.{never_wants}
@@ -28,3 +28,23 @@ returns-in-304-clause-value g c = rw c.in-304.is
     (never_wants c.get_char.result c.args.world.now c.get_char.new.world
     (get_char c.args.world.now.scene c.args.state.now.flat 4 c.args.args.now)
     c.get_char.ensures.value)
+
+pub returns-in-305-clause-value : goal.returns-in-305-clause-value
+unfolding unicode_calls
+returns-in-305-clause-value g c = rw c.in-305.is c.get_buffer.ensures.value
+
+pub returns-in-306-clause-value : goal.returns-in-306-clause-value
+unfolding unicode_calls
+returns-in-306-clause-value g c = rw c.in-306.is c.get_line.ensures.value
+
+pub returns-in-313-clause-value : goal.returns-in-313-clause-value
+unfolding unicode_calls
+returns-in-313-clause-value g c = rw c.in-313.is c.stream_open_memory.ensures.value
+
+pub returns-in-320-clause-value : goal.returns-in-320-clause-value
+unfolding unicode_calls
+returns-in-320-clause-value g c = rw c.in-320.is c.request_char_event.ensures.value
+
+pub returns-in-321-clause-value : goal.returns-in-321-clause-value
+unfolding unicode_calls
+returns-in-321-clause-value g c = rw c.in-321.is c.request_line_event.ensures.value

@@ -1,4 +1,5 @@
--- What fits any state or any room fits those of the call, and what never wants memory wants none.
+-- Each call does what its row says; what fits any state or any room fits those of the call.
+use Rattle.glk_dispatch.specs.TextCalls.{unicode_calls}
 use Rattle.glk_dispatch.proofs.doing.unicode_output_call.Goals as goal
 
 pub returns-in-288-clause-fits : goal.returns-in-288-clause-fits
@@ -27,3 +28,45 @@ returns-in-300-clause-fits g c = c.put_string-in-300.ensures.fits c.args.room
 
 pub returns-in-301-clause-fits : goal.returns-in-301-clause-fits
 returns-in-301-clause-fits g c = c.put_buffer-in-301.ensures.fits c.args.room
+
+pub returns-in-288-clause-value : goal.returns-in-288-clause-value
+unfolding unicode_calls
+returns-in-288-clause-value g c = rw c.in-288.is c.buffer_to_case.ensures.value
+
+pub returns-in-289-clause-value : goal.returns-in-289-clause-value
+unfolding unicode_calls
+returns-in-289-clause-value g c = rw c.in-289.is c.buffer_to_case-in-289.ensures.value
+
+pub returns-in-290-clause-value : goal.returns-in-290-clause-value
+unfolding unicode_calls
+returns-in-290-clause-value g c = rw c.in-290.is (rw c.rest_of.ensures at c.buffer_to_case-in-290.ensures.value)
+
+pub returns-in-296-clause-value : goal.returns-in-296-clause-value
+unfolding unicode_calls
+returns-in-296-clause-value g c =
+    rw c.in-296.is (rw (c.current-current.ensures, c.arg.ensures) at c.put_char.ensures.value)
+
+pub returns-in-297-clause-value : goal.returns-in-297-clause-value
+unfolding unicode_calls
+returns-in-297-clause-value g c =
+    rw c.in-297.is (rw (c.current-current.ensures, c.arg-in-297.ensures) at c.put_string.ensures.value)
+
+pub returns-in-298-clause-value : goal.returns-in-298-clause-value
+unfolding unicode_calls
+returns-in-298-clause-value g c =
+    rw c.in-298.is (rw (c.current-current.ensures, c.arg-in-298.ensures, c.arg-in-298-2.ensures) at c.put_buffer.ensures.value)
+
+pub returns-in-299-clause-value : goal.returns-in-299-clause-value
+unfolding unicode_calls
+returns-in-299-clause-value g c =
+    rw c.in-299.is (rw (c.arg-in-299.ensures, c.arg-in-299-2.ensures) at c.put_char-in-299.ensures.value)
+
+pub returns-in-300-clause-value : goal.returns-in-300-clause-value
+unfolding unicode_calls
+returns-in-300-clause-value g c =
+    rw c.in-300.is (rw (c.arg-in-300.ensures, c.arg-in-300-2.ensures) at c.put_string-in-300.ensures.value)
+
+pub returns-in-301-clause-value : goal.returns-in-301-clause-value
+unfolding unicode_calls
+returns-in-301-clause-value g c =
+    rw c.in-301.is (rw (c.arg-in-301.ensures, c.arg-in-301-2.ensures, c.arg-in-301-3.ensures) at c.put_buffer-in-301.ensures.value)

@@ -1,4 +1,4 @@
--- What fits any state or any room fits those of the call, and what never wants memory wants none.
+-- Each call does what its row says; what fits any state or any room fits those of the call.
 use Rattle.glk_object_calls.specs.Windows.{window_clear, window_move_cursor, window_set_echo_stream}
 use Rattle.glk_object_calls.specs.Windows.{set_window}
 use Rattle.glk_dispatch.specs.ObjectCalls.{window_calls}
@@ -59,3 +59,23 @@ returns-in-47-clause-value g c = rw c.in-47.is
     (never_wants c.set_window.result c.args.world.now c.set_window.new.world
     (set_window c.args.world.now.scene c.args.args.now)
     c.set_window.ensures.value)
+
+pub returns-in-40-clause-value : goal.returns-in-40-clause-value
+unfolding window_calls
+returns-in-40-clause-value g c = rw c.in-40.is c.window_get_type.ensures.value
+
+pub returns-in-41-clause-value : goal.returns-in-41-clause-value
+unfolding window_calls
+returns-in-41-clause-value g c = rw c.in-41.is c.window_get_parent.ensures.value
+
+pub returns-in-44-clause-value : goal.returns-in-44-clause-value
+unfolding window_calls
+returns-in-44-clause-value g c = rw c.in-44.is c.window_get_stream.ensures.value
+
+pub returns-in-46-clause-value : goal.returns-in-46-clause-value
+unfolding window_calls
+returns-in-46-clause-value g c = rw c.in-46.is c.window_get_echo_stream.ensures.value
+
+pub returns-in-48-clause-value : goal.returns-in-48-clause-value
+unfolding window_calls
+returns-in-48-clause-value g c = rw c.in-48.is c.window_get_sibling.ensures.value

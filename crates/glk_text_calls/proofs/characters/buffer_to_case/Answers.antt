@@ -1,6 +1,7 @@
-use Rattle.std.proofs.Common.{◌≡◌, ◌∙◌, rules}
+use Rattle.std.proofs.Common.{◌≡◌, ◌∙◌, ℕ, List, length, ap, inr, arith, rules}
 use Rattle.std.proofs.lemmas.Result.{err_from_is_err_and}
-use Rattle.glk_text_calls.proofs.Cases.{case_some, case_unread, case_refused, case_wanted, case_filled}
+use Rattle.glk_text_calls.proofs.Cases.{case_some, case_length, case_unread, case_refused, case_wanted, case_filled}
+use Rattle.glk_text_calls.proofs.Puts.{fits_filling}
 use Rattle.glk_text_calls.proofs.characters.buffer_to_case.Goals as goal
 
 pub returns-in_err-can_read-clause-value : goal.returns-in_err-can_read-clause-value
@@ -43,3 +44,20 @@ returns-clause-value g c =
     c.from.ensures c.in_ok-can_read.ensures.value c.in_ok-can_lay.ensures.value _ _ _ _ _ _ c.memory.ensures.value
     (shown ∙ c.in_ok-chars.ensures.value) (recased ∙ c.in_ok-changed.ensures.value) c.in_ok-filled.ensures.value
     (search rules) (search rules)
+
+pub returns-clause-fits : goal.returns-clause-fits
+returns-clause-fits g c =
+    let shown : c.as_slice.result.now ≡ c.in_ok-chars.chars = search rules in
+    let recased : c.as_slice-2.result.now ≡ c.in_ok-changed.changed = search rules in
+    let all = case_length _ _ _ _ c.as_slice.result.now c.as_slice-2.result.now (shown ∙ c.in_ok-chars.ensures.value)
+    (ap (λ (cs : List ℕ). length cs) recased ∙ c.in_ok-changed.ensures.len) in
+    fits_filling _ _ _ _ _ (inr c.buffer_of-places.ensures.width) (omega (arith, all)) c.in_ok-can_lay.ensures.value
+    c.in_ok-filled.ensures.value
+
+pub filled-requires-clause-count : goal.filled-requires-clause-count
+filled-requires-clause-count g c =
+    let shown : c.as_slice.result.now ≡ c.in_ok-chars.chars = search rules in
+    let recased : c.as_slice-2.result.now ≡ c.in_ok-changed.changed = search rules in
+    let all = case_length _ _ _ _ c.as_slice.result.now c.as_slice-2.result.now (shown ∙ c.in_ok-chars.ensures.value)
+    (ap (λ (cs : List ℕ). length cs) recased ∙ c.in_ok-changed.ensures.len) in
+    omega (arith, all)

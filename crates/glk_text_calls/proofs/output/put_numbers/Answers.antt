@@ -1,34 +1,73 @@
-use Rattle.std.proofs.Common.{◌≡◌, ◌==◌, ◌&&◌, not, true, arith, rules, IsTrue, Ok}
-use Rattle.std.proofs.lemmas.Bool.Decides.{nat_tests}
+use Rattle.std.proofs.Common.{◌≡◌, ◌<◌, false, true, arith, rules}
 use Rattle.std.proofs.lemmas.Result.{err_from_is_err_and}
 use Rattle.glk_streams.specs.Streams as streams
+use Rattle.glk_replies.specs.Parts.{numbers_in}
 use Rattle.glk_replies.proofs.Counting.{count_numbers}
-use Rattle.glk_replies.specs.Parts.{can_lay}
-use Rattle.glk_text_calls.proofs.Puts.{put_refused, put_wanted}
+use Rattle.glk_text_calls.proofs.Puts.{some_put, put_nowhere, put_refused, put_wanted, few_read, some_read}
+use Rattle.glk_text_calls.proofs.Puts.{numbers_filled, put_fits}
 use Rattle.glk_text_calls.proofs.output.put_numbers.Goals as goal
+
+pub returns-then-not-has-clause-value : goal.returns-then-not-has-clause-value
+returns-then-not-has-clause-value g c =
+    let gone : streams.has c.args.world.now.scene.streams c.args.stream ≡ false = search rules in
+    rw c.reply.ensures (put_nowhere _ _ _ _ gone)
 
 pub returns-in_err-can_lay-clause-value : goal.returns-in_err-can_lay-clause-value
 returns-in_err-can_lay-clause-value g c =
     let p = err_from_is_err_and c.from_residual.result c.from_residual.ensures.1 in
     let there : streams.has c.args.world.now.scene.streams c.args.stream ≡ true = search rules in
     rw (p.1, p.2) (
-    put_refused _ _ _ _ _ _ _ c.places-places.ensures.value (count_numbers _ _ _ _) there c.in_err-can_lay.ensures.value
+    put_refused _ _ _ _ _ _ _ c.places-places.ensures.value (count_numbers _ _ _ _) there
+    c.in_err-can_lay.ensures.value
     )
 
-pub returns-in_err-chars-clause-value : goal.returns-in_err-chars-clause-value
-returns-in_err-chars-clause-value g c =
-    let p = err_from_is_err_and c.from_residual-in_err-chars.result c.from_residual-in_err-chars.ensures.1 in
+pub returns-in_err-numbers-clause-value : goal.returns-in_err-numbers-clause-value
+returns-in_err-numbers-clause-value g c =
+    let p = err_from_is_err_and c.from_residual-in_err-numbers.result c.from_residual-in_err-numbers.ensures.1 in
     let there : streams.has c.args.world.now.scene.streams c.args.stream ≡ true = search rules in
-    let lays : can_lay c.args.state.now.flat c.places-places.result ≡ Ok tt = search rules in
-    let some : IsTrue (streams.has c.args.world.now.scene.streams c.args.stream && not (c.args.count == 0)) =
-    rw there (grind (arith, nat_tests, c.in_err-chars.ensures.memory)) in
-    rw (p.1, p.2) (put_wanted _ _ _ _ _ _ _ some c.places-places.ensures.value (count_numbers _ _ _ _) there lays)
+    rw (p.1, p.2) (put_wanted _ _ _ _ _ _ _
+    (some_put c.args.world.now.scene c.args.stream c.args.count there c.in_err-numbers.ensures.memory)
+    c.places-places.ensures.value (count_numbers _ _ _ _) there c.in_ok-can_lay.ensures.value)
+
+pub returns-in_err-puts-clause-value : goal.returns-in_err-puts-clause-value
+returns-in_err-puts-clause-value g c =
+    let p = err_from_is_err_and c.from_residual-in_err-puts.result c.from_residual-in_err-puts.ensures.1 in
+    let there : streams.has c.args.world.now.scene.streams c.args.stream ≡ true = search rules in
+    let read : c.as_slice-chars.result.now ≡ numbers_in c.args.width c.memory.result.now c.args.at c.args.count =
+    search rules in
+    rw (p.1, p.2) (put_wanted _ _ _ _ _ _ _
+    (some_read c.args.state.now.flat c.args.width c.args.at c.args.count c.memory.result.now
+    c.as_slice-chars.result.now c.memory.ensures.value read c.args.world.now.scene c.args.stream there
+    c.in_err-puts.ensures.memory)
+    c.places-places.ensures.value (count_numbers _ _ _ _) there c.in_ok-can_lay.ensures.value)
 
 pub returns-in_err-filled-clause-value : goal.returns-in_err-filled-clause-value
 returns-in_err-filled-clause-value g c =
     let p = err_from_is_err_and c.from_residual-in_err-filled.result c.from_residual-in_err-filled.ensures.1 in
     let there : streams.has c.args.world.now.scene.streams c.args.stream ≡ true = search rules in
-    let lays : can_lay c.args.state.now.flat c.places-places.result ≡ Ok tt = search rules in
-    let some : IsTrue (streams.has c.args.world.now.scene.streams c.args.stream && not (c.args.count == 0)) =
-    rw there (grind (arith, nat_tests, c.in_err-filled.ensures.memory, c.places-places.ensures.count)) in
-    rw (p.1, p.2) (put_wanted _ _ _ _ _ _ _ some c.places-places.ensures.value (count_numbers _ _ _ _) there lays)
+    let some : 0 < c.args.count = omega (arith, c.in_err-filled.ensures.memory, c.places-places.ensures.count) in
+    rw (p.1, p.2) (put_wanted _ _ _ _ _ _ _
+    (some_put c.args.world.now.scene c.args.stream c.args.count there some) c.places-places.ensures.value
+    (count_numbers _ _ _ _) there c.in_ok-can_lay.ensures.value)
+
+pub returns-clause-value : goal.returns-clause-value
+returns-clause-value g c =
+    let there : streams.has c.args.world.now.scene.streams c.args.stream ≡ true = search rules in
+    let read : c.as_slice-chars.result.now ≡ numbers_in c.args.width c.memory.result.now c.args.at c.args.count =
+    search rules in
+    numbers_filled _ _ _ _ _ _ c.memory.ensures.value read _ _ _ _ _ c.places-places.ensures.value there
+    c.in_ok-can_lay.ensures.value c.in_ok-puts.ensures.ok c.in_ok-filled.ensures.value
+
+pub returns-clause-fits : goal.returns-clause-fits
+returns-clause-fits g c =
+    let read : c.as_slice-chars.result.now ≡ numbers_in c.args.width c.memory.result.now c.args.at c.args.count =
+    search rules in
+    put_fits _ _ _ _ _ _ _ _ c.places-places.ensures.value
+    (few_read c.args.state.now.flat c.args.width _ _ _ _ c.memory.ensures.value read _ c.places-places.ensures.count)
+    c.in_ok-can_lay.ensures.value c.in_ok-filled.ensures.value
+
+pub filled-requires-clause-count : goal.filled-requires-clause-count
+filled-requires-clause-count g c =
+    let read : c.as_slice-chars.result.now ≡ numbers_in c.args.width c.memory.result.now c.args.at c.args.count =
+    search rules in
+    few_read c.args.state.now.flat c.args.width _ _ _ _ c.memory.ensures.value read _ c.places-places.ensures.count
