@@ -46,10 +46,9 @@ module _ {A : Type 0} (ended : Ended A) (entry exit : Devices) where
       run-ends : shelf.tells ≡ entry.shelf.tells → IsRun start loaded leaving r → r.status ≡ ended.status → entry.source.tells ≡ true → entry.shelf.tells ≡ true
           → (r.status ≡ stop_status (final_of start).stop) ⊎ (r.status ≡ status_no_memory)
       run-ends kept run same source-tells shelf-tells =
-          let s = run.session in
           elim (either r.status run.report.status_is (λ e. fine.shelf (counts.shelf.rose (sym same ∙ e)))
           (λ e. fine.source (counts.source.rose (sym same ∙ e))) (λ e. fine.sink (counts.sink.rose (sym same ∙ e)))) [
-            | inl early ↦ inl (at-end s.input s.coming s.answers (s.input_is source-tells) (s.answers_are (kept ∙ shelf-tells)) s.session early)
+            | inl early ↦ inl (at-end run.input run.coming run.answers (run.input_is source-tells) (run.answers_are (kept ∙ shelf-tells)) run.session early)
             | inr memory ↦ inr memory
           ]
 

@@ -61,17 +61,14 @@ load-keeps before now name most (Err of_shelf.NoMemory) does = does.0
 -- The answers of a shelf that doesn't tell are no matter to a run.
 answers-moved : (start : Configuration) (answers : Trace → Request → Answer) (entry exit : Devices) (r : Report) → (entry.shelf.tells ≡ true → start.answers ≡ answers) → IsRun start entry exit r → IsRun (record start { answers = answers }) entry exit r
 answers-moved start answers entry exit r same run =
-    let s = run.session in
     record {
-      session = record {
-        input = s.input;
-        input_is = s.input_is;
-        coming = s.coming;
-        read = s.read;
-        answers = s.answers;
-        answers_are = λ tells. s.answers_are tells ∙ same tells;
-        session = s.session;
-      };
+      input = run.input;
+      input_is = run.input_is;
+      coming = run.coming;
+      read = run.read;
+      answers = run.answers;
+      answers_are = λ tells. run.answers_are tells ∙ same tells;
+      session = run.session;
       source_calls = run.source_calls;
       sink_calls = run.sink_calls;
       shelf_calls = run.shelf_calls;

@@ -63,8 +63,7 @@ module _ (w : Whole) (reads offered sends asks reads' offered' sends' asks' : �
       (λ e. let rose : 0 ≡ 1 = run.counts.source.rose e in absurd (omega (arith, rose)))
       (λ e. let rose : 0 ≡ 1 = run.counts.sink.rose e in absurd (omega (arith, rose)))
       memory in
-      let s = run.session in
-      told s.input s.coming s.answers (s.input_is refl) (s.answers_are refl) s.session early
+      told run.input run.coming run.answers (run.input_is refl) (run.answers_are refl) run.session early
 
   pub tells-of : (before : List ℕ) → before ≡ [] → IsRun (work_start w) (quiet reads offered sends before asks send shelf [] [] []) exit r → (r.status ≡ status_no_memory → ⊥) → Tells (work_start w) text r
   tells-of before is run memory = came (subst (λ (b : List ℕ). IsRun (work_start w) (quiet reads offered sends b asks send shelf [] [] []) exit r) is run) memory

@@ -69,14 +69,14 @@
 -- run, which was then its last one (`counts`). Each restoreundo of the session goes back to the newest saveundo that
 -- was neither used, nor discarded, nor dropped as the oldest (`LastsUndo` of gx_session/specs/Undoing), whatever was
 -- restored from files in between; the protected range keeps its bytes. The bytes that each save of the session puts to
--- its stream are read as the very copy that was saved (`SavedAll` and `SavedBy` of gx_session/specs/Runs). So are those
+-- its stream are read as the very copy that was saved (`SavedBefore` of gx_session/specs/Runs). So are those
 -- of every copy that fits the story; and each save that was one while memory had a lower ceiling, such as 0x04000000,
 -- is restored as the same copy (`SavesReadBack` of gx_session/specs/Saving). And where no count of failures rose the
 -- status is the outcome's, or memory ran out (`complete`).
 --
 -- Premises: that the story's file is the one that the shelf holds is said of a shelf that tells what it holds, as one
 -- in memory does. A real one doesn't, and there the run is that of the bytes that it handed out (`loads`), and the
--- session's answers are those that it gave (`answers` in `IsSomeSession` of gx_session/specs/Runs): whatever a shelf
+-- session's answers are those that it gave (`answers` in `IsRun` of gx_session/specs/Runs): whatever a shelf
 -- does, the session's calls are those that were made, with the answers that came. Likewise the input is what a source
 -- that tells has left; for a real one it is the bytes that its reads gave, one after another, and some that may be
 -- still to come (`GiveInput` of gx_session/specs/Reads). Which bytes a sink was handed, call by call, is said of every
@@ -89,7 +89,7 @@
 -- Some definitions are total where no run comes to one of their cases, and no clause here says that none does; these
 -- are the ones that a reader meets: `final_in` without moves (gx_session/specs/Session; gx_session/proofs/Finals proves
 -- that there are always enough); in gx_session/specs/Moves a turn that is no answer where a call has gone on
--- (`after_given`; a clause of glk_dispatch's `go_on`), one that asks for nothing (`after_asking`; `after_turn` there
+-- (`after_given`; a clause of glk_dispatch's `go_on`), one that asks for nothing (`shelf_gives`; `after_turn` there
 -- lets only the other six ask), and a step that is Spent by itself (`after_effect`; no row has this effect, and that
 -- isn't proved apart); a call that goes on where none waits (`go_by` of glk_dispatch/specs/Going; a `requires` of
 -- `go_on`); an answer or a copy where the instruction at PC is none that asks (`answered_row` and `answered_by` of

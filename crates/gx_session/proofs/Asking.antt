@@ -36,22 +36,25 @@ use Rattle.gx_session.specs.Constants.{piece}
 use Rattle.gx_session.specs.declared.questions.Question.{Question}
 use Rattle.gx_session.specs.declared.questions.Question.TheVariants as asks-for
 use Rattle.gx_session.specs.declared.running.Waiting.{Waiting}
-use Rattle.gx_session.specs.Cuts.{IsLineStop, request_in}
-use Rattle.gx_session.specs.Wants.{IsWait, BeginsSave, ReplyWants, TurnWants, RestoreWants, AskingWants}
+use Rattle.gx_session.specs.Cuts.{IsLineStop}
+use Rattle.gx_session.specs.Wants.{IsWait, ReplyWants, TurnWants, AskingWants}
 use Rattle.gx_session.specs.Wants.{WantsMemory}
 use Rattle.gx_session.specs.Input.{NextLine, line, next_line}
 use Rattle.gx_session.specs.Questions.{turn_of, request_for}
 use Rattle.gx_session.specs.Reading.{ReadsFew}
+use Rattle.glk_replies.specs.Parts.{replies}
+use Rattle.gx_session.specs.Constants.{failed}
 use Rattle.gx_session.specs.Saving.{is_save_begun, is_restore_begun, saving, restoring, IsReadBack}
 use Rattle.gx_session.specs.Configurations.{Configuration, Phase, steps, asks, goes_on, goes, stops}
-use Rattle.gx_session.specs.Moves.{after_reply, after_restoring, waiting_for, asking_for, after_turn, after_given}
-use Rattle.gx_session.specs.Moves.{after_line, after_asking, given_of, shelf_gives, after_effect, act_of}
+use Rattle.gx_session.specs.Moves.{after_reply, after_restoring, asking_for, after_turn, after_given}
+use Rattle.gx_session.specs.Moves.{request_of, after_line, after_asking, given_of, shelf_gives, after_effect}
 use Rattle.gx_session.specs.Asked.{effect_at, asked, asked_at}
 use Rattle.gx_session.specs.Holding.{SendStep, Handed, HeldRun, WordIs, History, configuration_of, IsHistory}
-use Rattle.gx_session.specs.Standing.{Standing, Ready, Going, IsInCall, HasStopped, Early, Follows, Resumes}
+use Rattle.gx_session.specs.Standing.{act_of, Standing, Ready, Going, IsInCall, HasStopped, Early, Follows, Resumes}
 use Rattle.gx_session.specs.Standing.{ResumesWithReply, TakesTurn, GoesOn, TakesInput}
 use Rattle.gx_session.specs.Outcomes.{EventGives, FaultGives}
-use Rattle.gx_session.proofs.Parts.{AnswerWants}
+use Rattle.gx_session.proofs.Parts.{AnswerWants, BeginsSave, RestoreWants}
+use Rattle.std.specs.Prelude.{IsOkAnd}
 use Rattle.gx_session.proofs.Calling.{answered-and}
 use Rattle.gx_session.proofs.Steps.{step-does, step-faults, step-asks, step-effect, step-asks-nothing, ok-is, asked-same}
 use Rattle.gx_session.proofs.NextLines.{some-input, shorter-input}
@@ -88,7 +91,7 @@ fault-gives start entry h asking d f result (inl e) early stopped = subst (Event
 fault-gives start entry h asking d f result (inr e) early stopped = subst (EventGives start entry h asking d) (sym e.1) (stopped e.0)
 
 -- a turn that waits may want memory where what is shown then may
-wait-wants : (log : Option Log) (machine : FlatMachine) (said : Said) (t : Turn) → IsWait t → ShowWants said.0 → TurnWants log machine (Ok (said, t))
+wait-wants : (log : Option Log) (machine : FlatMachine) (said : Said) (t : Turn) → IsWait t → ShowWants said.0 → TurnWants log machine (said, t)
 wait-wants log machine said turn.Wait is some = some
 wait-wants log machine said turn.Prompt is some = some
 wait-wants log machine said (turn.Answer reply) is some = absurd is
@@ -115,23 +118,38 @@ asking-unlogged effect.Quit log m some = cc
 asking-unlogged effect.Spent log m some = cc
 
 -- what a turn says of a question
-pub request-is : (q : Question) (w : Waiting) → request_in (asks (turn_of q) w) ≡ Some (request_for q)
-request-is (asks-for.Load name) w = refl
-request-is (asks-for.Store name bytes) w = refl
-request-is (asks-for.Remove name) w = refl
-request-is (asks-for.Has name) w = refl
+pub request-is : (q : Question) → request_of (turn_of q) ≡ Some (request_for q)
+request-is (asks-for.Load name) = refl
+request-is (asks-for.Store name bytes) = refl
+request-is (asks-for.Remove name) = refl
+request-is (asks-for.Has name) = refl
 
-pub question-gives : (m : Configuration) (w : Waiting) (q : Question) → after_asking m w (turn_of q) ≡ shelf_gives m w (request_for q)
+pub question-gives : (m : Configuration) (w : Waiting) (q : Question) → after_asking m w (turn_of q) ≡ shelf_gives m w (Some (request_for q))
 question-gives m w (asks-for.Load name) = refl
 question-gives m w (asks-for.Store name bytes) = refl
 question-gives m w (asks-for.Remove name) = refl
 question-gives m w (asks-for.Has name) = refl
 
-pub question-turns : (m : Configuration) (w : Waiting) (said : Said) (q : Question) → after_turn m w (Ok (said, turn_of q)) ≡ asking_for m w said (turn_of q)
+pub question-turns : (m : Configuration) (w : Waiting) (said : Said) (q : Question) → after_turn m w (Ok (said, turn_of q)) ≡ asking_for m w (after m.world said) (turn_of q)
 question-turns m w said (asks-for.Load name) = refl
 question-turns m w said (asks-for.Store name bytes) = refl
 question-turns m w said (asks-for.Remove name) = refl
 question-turns m w said (asks-for.Has name) = refl
+
+-- a restore that wants memory
+restore-wants : (log : Option Log) (machine : FlatMachine) (r : Result (Said × Option Copy) Fault) → RestoreWants log machine r
+    → (G : Type 0) → IsOkAnd r (λ p. G ⊎ IsSome p.1 ⊎ ReplyWants log machine (replies failed))
+restore-wants log machine (Ok (said, Some copy)) is G = inr (inl refl)
+restore-wants log machine (Ok (said, None)) is G = inr (inr is)
+restore-wants log machine (Err fault) is G = absurd is
+
+-- what an answer may want memory for: what it makes grow, or what it is
+grows-fine : {X : Type 0} (G : Type 0) (P : X → Type 0) (r : Result X Fault) → IsOk r → G → IsOkAnd r (λ x. G ⊎ P x)
+grows-fine G P (Ok x) fine grows = inl grows
+grows-fine G P (Err f) fine grows = cc
+
+takes-fine : {X : Type 0} (G : Type 0) (P : X → Type 0) (r : Result X Fault) (x : X) → r ≡ Ok x → P x → IsOkAnd r (λ x. G ⊎ P x)
+takes-fine {X} G P r x e takes = subst (λ (y : Result X Fault). IsOkAnd y (λ x. G ⊎ P x)) (sym e) (inr takes)
 
 -- a turn that waits
 pub wait-asks : (m : Configuration) (w : Waiting) (t : Turn) → IsWait t → after_asking m w t ≡ after_line m w (next_line m.input)
@@ -145,7 +163,7 @@ wait-asks m w (turn.Remove name) is = absurd is
 wait-asks m w (turn.Has name) is = absurd is
 wait-asks m w turn.Exit is = absurd is
 
-pub wait-turns : (m : Configuration) (w : Waiting) (said : Said) (t : Turn) → IsWait t → after_turn m w (Ok (said, t)) ≡ waiting_for m w said t
+pub wait-turns : (m : Configuration) (w : Waiting) (said : Said) (t : Turn) → IsWait t → after_turn m w (Ok (said, t)) ≡ asking_for m w (after (after m.world said) (show_grids said.0)) t
 wait-turns m w said turn.Wait is = refl
 wait-turns m w said turn.Prompt is = refl
 wait-turns m w said (turn.Answer reply) is = absurd is
@@ -347,7 +365,7 @@ module _ {K : Type 0} {sending : SendStep K} (start : Configuration) (entry : Ha
     turned-world = sent-before (concat r.going.now.past.sent) r.world r.said ∙ ap (λ (x : FlatWorld). let y : FlatWorld = record { scene = x.scene; text = concat r.going.now.past.sent ++ x.text } in y) (sym r.moved)
 
     -- it asks the shelf
-    pub turn-asks : after_turn called w (Ok (r.said, t)) ≡ asking_for called w r.said t → IsInCall start entry h asking d (asks t w)
+    pub turn-asks : after_turn called w (Ok (r.said, t)) ≡ asking_for called w (after called.world r.said) t → IsInCall start entry h asking d (asks t w)
     turn-asks e =
         let act : act_of called ≡ goes (configuration_of r.going.now.past (asks t w) h d) =
         r.event ∙ e ∙ ap (λ (x : FlatWorld). goes (record called { world = x; phase = asks t w })) turned-world in
@@ -357,7 +375,7 @@ module _ {K : Type 0} {sending : SendStep K} (start : Configuration) (entry : Ha
         }
 
     -- it waits for a line: what the view shows is shown
-    pub turn-waits : (world : FlatWorld) → world ≡ after h.world (show_grids h.world.scene) → after_turn called w (Ok (r.said, t)) ≡ waiting_for called w r.said t
+    pub turn-waits : (world : FlatWorld) → world ≡ after h.world (show_grids h.world.scene) → after_turn called w (Ok (r.said, t)) ≡ asking_for called w (after (after called.world r.said) (show_grids r.said.0)) t
         → IsInCall start entry (record h { world = world }) asking d (asks t w)
     turn-waits world shown e =
         let h' : HeldRun = record h { world = after h.world (show_grids h.world.scene) } in
@@ -399,7 +417,7 @@ module _ {K : Type 0} {sending : SendStep K} (start : Configuration) (entry : Ha
       event = r.event ∙ ap (λ (x : Turn). after_turn called w (Ok (r.said, x))) e;
       saved = r.saved;
       asks = r.asks;
-      memory = λ takes. r.memory (subst (λ (x : Turn). TurnWants h.log h.machine (Ok (r.said, x))) (sym e) takes);
+      memory = λ takes. r.memory (subst (λ (x : Turn). TurnWants h.log h.machine (r.said, x)) (sym e) takes);
     }
 
     -- that wants memory
@@ -551,55 +569,58 @@ module _ {K : Type 0} {sending : SendStep K} (start : Configuration) (entry : Ha
 
     -- What Glk does for it may want memory, and so may the reply.
     abbrev AsksMemory : Type 0
-    AsksMemory = AskingWants asking-here (Some does)
+    AsksMemory = AskingWants h.log h.machine h.world.scene (Some does)
 
     pub put-grows : (c : ℕ) (flat : FlatState) → does ≡ effect.Put c → flat ≡ h.machine.flat → IsTrue (put_grows_one h.world.scene h.world.scene.current c)
         → IsOk (on_world h.world (putting h.world.scene flat c)) → AsksMemory
     put-grows c flat is same grows fine =
-        subst (λ (e : Effect). AskingWants asking-here (Some e)) (sym is)
-        (inl (grows, subst (λ (x : FlatState). IsOk (putting h.world.scene x c)) same (world-fine h.world (putting h.world.scene flat c) fine)))
+        subst (λ (e : Effect). AskingWants h.log h.machine h.world.scene (Some e)) (sym is)
+        (grows-fine {X = Said × Reply} (IsTrue (put_grows_one h.world.scene h.world.scene.current c)) (λ r. ReplyWants h.log h.machine r.1) (putting h.world.scene h.machine.flat c)
+        (subst (λ (x : FlatState). IsOk (putting h.world.scene x c)) same (world-fine h.world (putting h.world.scene flat c) fine)) grows)
 
     pub put-takes : (c : ℕ) (flat : FlatState) (said : Said) (reply : Reply) → does ≡ effect.Put c → flat ≡ h.machine.flat → putting h.world.scene flat c ≡ Ok (said, reply) → ReplyWants h.log h.machine reply → AsksMemory
     put-takes c flat said reply is same e takes =
-        subst (λ (x : Effect). AskingWants asking-here (Some x)) (sym is)
-        (inr (subst (AnswerWants h.log h.machine) (sym (subst (λ (x : FlatState). putting h.world.scene x c ≡ Ok (said, reply)) same e)) takes))
+        subst (λ (x : Effect). AskingWants h.log h.machine h.world.scene (Some x)) (sym is)
+        (takes-fine {X = Said × Reply} (IsTrue (put_grows_one h.world.scene h.world.scene.current c)) (λ r. ReplyWants h.log h.machine r.1) (putting h.world.scene h.machine.flat c) (said, reply)
+        (subst (λ (x : FlatState). putting h.world.scene x c ≡ Ok (said, reply)) same e) takes)
 
     pub call-grows : (selector : ℕ) (args : ArrayVec ℕ) (xs : List ℕ) (w : Waiting) (flat : FlatState) → does ≡ effect.Glk selector args w.room → flat ≡ h.machine.flat → xs ≡ args.items
         → IsGrowing h.world.scene flat selector xs → IsOk (on_world h.world (glk_call h.world.scene flat w.room selector xs)) → AsksMemory
     call-grows selector args xs w flat is same listed grows fine =
         let ok : IsOk (glk_call h.world.scene flat w.room selector xs) = world-fine {X = Turn} h.world (glk_call h.world.scene flat w.room selector xs) fine in
-        subst (λ (e : Effect). AskingWants asking-here (Some e)) (sym is)
-        (inl (
-          subst (λ (ys : List ℕ). IsGrowing h.world.scene h.machine.flat selector ys) listed (subst (λ (x : FlatState). IsGrowing h.world.scene x selector xs) same grows),
-          subst (λ (ys : List ℕ). IsOk (glk_call h.world.scene h.machine.flat w.room selector ys)) listed (subst (λ (x : FlatState). IsOk (glk_call h.world.scene x w.room selector xs)) same ok),
-        ))
+        subst (λ (e : Effect). AskingWants h.log h.machine h.world.scene (Some e)) (sym is)
+        (grows-fine {X = Said × Turn} (IsGrowing h.world.scene h.machine.flat selector args.items) (TurnWants h.log h.machine) (glk_call h.world.scene h.machine.flat w.room selector args.items)
+        (subst (λ (ys : List ℕ). IsOk (glk_call h.world.scene h.machine.flat w.room selector ys)) listed (subst (λ (x : FlatState). IsOk (glk_call h.world.scene x w.room selector xs)) same ok))
+        (subst (λ (ys : List ℕ). IsGrowing h.world.scene h.machine.flat selector ys) listed (subst (λ (x : FlatState). IsGrowing h.world.scene x selector xs) same grows)))
 
     pub call-takes : (selector : ℕ) (args : ArrayVec ℕ) (xs : List ℕ) (w : Waiting) (flat : FlatState) (said : Said) (t : Turn) → does ≡ effect.Glk selector args w.room → flat ≡ h.machine.flat → xs ≡ args.items
-        → glk_call h.world.scene flat w.room selector xs ≡ Ok (said, t) → TurnWants h.log h.machine (Ok (said, t)) → AsksMemory
+        → glk_call h.world.scene flat w.room selector xs ≡ Ok (said, t) → TurnWants h.log h.machine (said, t) → AsksMemory
     call-takes selector args xs w flat said t is same listed e takes =
         let call : glk_call h.world.scene h.machine.flat w.room selector args.items ≡ Ok (said, t) =
         subst (λ (ys : List ℕ). glk_call h.world.scene h.machine.flat w.room selector ys ≡ Ok (said, t)) listed
         (subst (λ (x : FlatState). glk_call h.world.scene x w.room selector xs ≡ Ok (said, t)) same e) in
-        subst (λ (x : Effect). AskingWants asking-here (Some x)) (sym is) (inr (subst (TurnWants h.log h.machine) (sym call) takes))
+        subst (λ (x : Effect). AskingWants h.log h.machine h.world.scene (Some x)) (sym is)
+        (takes-fine {X = Said × Turn} (IsGrowing h.world.scene h.machine.flat selector args.items) (TurnWants h.log h.machine) (glk_call h.world.scene h.machine.flat w.room selector args.items) (said, t) call takes)
 
     pub save-begun : (stream : ℕ) → does ≡ effect.Save stream → IsTrue (is_save_begun h.world.scene h.machine.flat stream) → AsksMemory
-    save-begun stream is begun = subst (λ (e : Effect). AskingWants asking-here (Some e)) (sym is) (inl begun)
+    save-begun stream is begun = subst (λ (e : Effect). AskingWants h.log h.machine h.world.scene (Some e)) (sym is) (inl begun)
 
     pub save-takes : (stream : ℕ) (said : Said) (reply : Reply) → does ≡ effect.Save stream → saving h.world.scene h.machine.flat stream ≡ Ok (said, reply) → ReplyWants h.log h.machine reply → AsksMemory
     save-takes stream said reply is e takes =
-        subst (λ (x : Effect). AskingWants asking-here (Some x)) (sym is) (inr (subst (AnswerWants h.log h.machine) (sym e) takes))
+        subst (λ (x : Effect). AskingWants h.log h.machine h.world.scene (Some x)) (sym is) (inr (subst (AnswerWants h.log h.machine) (sym e) takes))
 
     pub restore-reads : (stream : ℕ) → does ≡ effect.Restore stream → IsTrue (is_restore_begun h.world.scene h.machine.flat stream) → IsOk (on_world h.world (restoring h.world.scene h.machine.flat stream)) → AsksMemory
     restore-reads stream is reads fine =
-        subst (λ (e : Effect). AskingWants asking-here (Some e)) (sym is)
-        (inl (reads, world-fine {X = Option Copy} h.world (restoring h.world.scene h.machine.flat stream) fine))
+        subst (λ (e : Effect). AskingWants h.log h.machine h.world.scene (Some e)) (sym is)
+        (grows-fine {X = Said × Option Copy} (IsTrue (is_restore_begun h.world.scene h.machine.flat stream)) (λ r. IsSome r.1 ⊎ ReplyWants h.log h.machine (replies failed))
+        (restoring h.world.scene h.machine.flat stream) (world-fine {X = Option Copy} h.world (restoring h.world.scene h.machine.flat stream) fine) reads)
 
     pub restore-takes : (stream : ℕ) (said : Said) (r : Option Copy) → does ≡ effect.Restore stream → restoring h.world.scene h.machine.flat stream ≡ Ok (said, r) → RestoreWants h.log h.machine (Ok (said, r)) → AsksMemory
     restore-takes stream said r is e takes =
-        subst (λ (x : Effect). AskingWants asking-here (Some x)) (sym is) (inr (subst (RestoreWants h.log h.machine) (sym e) takes))
+        subst (λ (x : Effect). AskingWants h.log h.machine h.world.scene (Some x)) (sym is) (restore-wants h.log h.machine (restoring h.world.scene h.machine.flat stream) (subst (RestoreWants h.log h.machine) (sym e) takes) (IsTrue (is_restore_begun h.world.scene h.machine.flat stream)))
 
     asking-wants : (asking : Option Asking) → asking ≡ asking_of does → AsksMemory → WantsMemory steps asking-here asking
-    asking-wants asking asks-is takes = inr (asks-is ∙ sym a.asking_is, subst (AskingWants asking-here) (sym a.effect_is) takes)
+    asking-wants asking asks-is takes = inr (asks-is ∙ sym a.asking_is, subst (AskingWants h.log h.machine h.world.scene) (sym a.effect_is) takes)
 
     pub asking-early : (world : FlatWorld) (asking : Option Asking) → asking ≡ asking_of does → AsksMemory → Early start entry (record h { world = world }) asking d halt.NoMemory
     asking-early world asking asks-is takes = wants start entry h d steps a.going (record h { world = world }) asking (asking-wants asking asks-is takes) refl refl refl refl
@@ -621,7 +642,7 @@ module _ {K : Type 0} {sending : SendStep K} (start : Configuration) (entry : Ha
     }
 
     pub call-turns : (asking : Option Asking) (world : FlatWorld) (said : Said) (w : Waiting) (t : Turn) → asking ≡ asking_of does → world ≡ after h.world said → act_of asking-here ≡ after_turn asking-here w (Ok (said, t))
-        → (BeginsSave asking-here (Some does) → ⊥) → (TurnWants h.log h.machine (Ok (said, t)) → AsksMemory) → TakesTurn start entry (record h { world = world }) asking d w t
+        → (BeginsSave asking-here (Some does) → ⊥) → (TurnWants h.log h.machine (said, t) → AsksMemory) → TakesTurn start entry (record h { world = world }) asking d w t
     call-turns asking world said w t asks-is moved e unsaving takes = record {
       world = h.world;
       said = said;
@@ -644,8 +665,11 @@ module _ {K : Type 0} {sending : SendStep K} (start : Configuration) (entry : Ha
     pub given-early : (world : FlatWorld) (flat : FlatState) → flat ≡ h.machine.flat → IsTrue (go_grows h.world.scene flat g) → IsOk (glk_go_on h.world.scene flat w.room g)
         → Early start entry (record h { world = world }) asking d halt.NoMemory
     given-early world flat same grows fine =
-        wants start entry h d (goes_on g w) (on-ready asking g w waits) (record h { world = world }) asking
-        (waits.asking_is, inl (subst (λ (x : FlatState). IsTrue (go_grows h.world.scene x g)) same grows, subst (λ (x : FlatState). IsOk (glk_go_on h.world.scene x w.room g)) same fine)) refl refl refl refl
+        wants start entry h d (goes_on g w) (on-ready asking g w waits) (record h { world = world }) asking (
+          waits.asking_is,
+          grows-fine {X = Said × Turn} (IsTrue (go_grows h.world.scene h.machine.flat g)) (TurnWants h.log h.machine) (glk_go_on h.world.scene h.machine.flat w.room g)
+              (subst (λ (x : FlatState). IsOk (glk_go_on h.world.scene x w.room g)) same fine) (subst (λ (x : FlatState). IsTrue (go_grows h.world.scene x g)) same grows),
+        ) refl refl refl refl
 
     pub given-turns : (world : FlatWorld) (said : Said) (t : Turn) (flat : FlatState) → world ≡ after h.world said → flat ≡ h.machine.flat → glk_go_on h.world.scene flat w.room g ≡ Ok (said, t)
         → GoesOn start entry (record h { world = world }) asking d w t
@@ -657,7 +681,11 @@ module _ {K : Type 0} {sending : SendStep K} (start : Configuration) (entry : Ha
       going = on-ready asking g w waits;
       event = given-does flat (Ok (said, t)) same e;
       asks = waits.asking_is;
-      memory = λ takes. (waits.asking_is, inr (subst (TurnWants h.log h.machine) (sym (subst (λ (x : FlatState). glk_go_on h.world.scene x w.room g ≡ Ok (said, t)) same e)) takes));
+      memory = λ takes. (
+        waits.asking_is,
+        takes-fine {X = Said × Turn} (IsTrue (go_grows h.world.scene h.machine.flat g)) (TurnWants h.log h.machine) (glk_go_on h.world.scene h.machine.flat w.room g) (said, t)
+            (subst (λ (x : FlatState). glk_go_on h.world.scene x w.room g ≡ Ok (said, t)) same e) takes,
+      );
     }
 
   -- it is answered
@@ -671,5 +699,5 @@ module _ {K : Type 0} {sending : SendStep K} (start : Configuration) (entry : Ha
     event = r.event ∙ ap (λ (x : Turn). after_given (here start entry (record h { world = r.world }) d (goes_on r.given w) r.going.now) w (Ok (r.said, x))) is;
     saved = unsaved (here start entry (record h { world = r.world }) d (goes_on r.given w) r.going.now) (λ e. cc);
     asks = r.asks;
-    memory = λ takes. r.memory (subst (λ (x : Turn). TurnWants h.log h.machine (Ok (r.said, x))) (sym is) takes);
+    memory = λ takes. r.memory (subst (λ (x : Turn). TurnWants h.log h.machine (r.said, x)) (sym is) takes);
   }

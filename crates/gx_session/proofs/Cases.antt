@@ -1,23 +1,25 @@
 -- What the parts of a move come to, case by case: a fact that holds of each case holds of the whole.
-use Rattle.std.proofs.Common.{ℕ, List, Result, Ok, Err}
+use Rattle.std.proofs.Common.{ℕ, List, Some, Result, Ok, Err}
 use Rattle.gx_words.specs.declared.faults.Fault.{Fault}
 use Rattle.gx_outside.specs.Shelves.{Request}
 use Rattle.gx_state.specs.declared.effects.Reply.{Reply}
 use Rattle.glk_world.specs.World.{Said, after}
+use Rattle.glk_world.specs.Shown.{show_grids}
 use Rattle.glk_replies.specs.declared.Turn.{Turn}
 use Rattle.glk_replies.specs.declared.Turn.TheVariants as turn
 use Rattle.gx_session.specs.declared.ends.Stop.TheVariants as stop
 use Rattle.gx_session.specs.declared.running.Waiting.{Waiting}
 use Rattle.gx_session.specs.Input.{NextLine, too_long, none, line, next_line}
 use Rattle.gx_session.specs.Configurations.{Configuration, Verdict, stops}
-use Rattle.gx_session.specs.Moves.{after_reply, asking_for, waiting_for, after_turn, after_given, after_line}
+use Rattle.gx_session.specs.Moves.{after_reply, asking_for, after_turn, after_given, after_line}
 use Rattle.gx_session.specs.Moves.{shelf_gives, after_asking}
 
 module _ (P : Verdict → Type 0) (m : Configuration) where
   -- a turn
   pub turn-cases : (w : Waiting) (r : Result (Said × Turn) Fault)
       → ((said : Said) (reply : Reply) → P (after_reply m w.left (Ok (said, reply))))
-      → ((said : Said) (t : Turn) → P (asking_for m w said t)) → ((said : Said) (t : Turn) → P (waiting_for m w said t))
+      → ((said : Said) (t : Turn) → P (asking_for m w (after m.world said) t))
+      → ((said : Said) (t : Turn) → P (asking_for m w (after (after m.world said) (show_grids said.0)) t))
       → ((said : Said) → P (stops stop.Stuck (record m { world = after m.world said })))
       → ((said : Said) → P (stops stop.Exited (record m { world = after m.world said; left = w.left })))
       → ((f : Fault) → P (stops (stop.Faulted f) m)) → P (after_turn m w r)
@@ -54,7 +56,7 @@ module _ (P : Verdict → Type 0) (m : Configuration) where
   line-cases w (line chars rest) long ended taken = taken chars rest
 
   -- what a device gives
-  pub asking-cases : (w : Waiting) (t : Turn) → P (after_line m w (next_line m.input)) → ((r : Request) → P (shelf_gives m w r)) → P (stops stop.Stuck m) → P (after_asking m w t)
+  pub asking-cases : (w : Waiting) (t : Turn) → P (after_line m w (next_line m.input)) → ((r : Request) → P (shelf_gives m w (Some r))) → P (stops stop.Stuck m) → P (after_asking m w t)
   asking-cases w (turn.Answer reply) lines gives stuck = stuck
   asking-cases w turn.Wait lines gives stuck = lines
   asking-cases w turn.Stuck lines gives stuck = stuck

@@ -14,7 +14,7 @@ use Rattle.gx_session.specs.declared.lines.NoLine.TheVariants as no
 use Rattle.gx_session.specs.declared.questions.Question.{Question}
 use Rattle.gx_session.specs.declared.running.Waiting.{Waiting}
 use Rattle.gx_session.specs.Wants.{IsWait}
-use Rattle.gx_session.specs.Cuts.{request_in}
+use Rattle.gx_session.specs.Moves.{request_of}
 use Rattle.gx_session.specs.Input.{none, too_long}
 use Rattle.gx_session.specs.Questions.{turn_of, request_for, AreTold}
 use Rattle.gx_session.specs.Reading.{TakesLine, HoldsFew, ReadsFew, failures}
@@ -61,7 +61,7 @@ module _ {K : Type 0} {sending : SendStep K} (start : Configuration) (entry : Ha
       -- it refused
       pub shelf-refused : (fault : ShelfFault) → AreTold start.answers d.asked ((request_for q, Err fault) ∷ [])
           → Early start entry h1 asking (record d1 { shelf = shelf; asked = d.asked ++ (request_for q, Err fault) ∷ [] }) (halt_of_shelf fault)
-      shelf-refused fault told = refused start entry h1 d1 w t ready shelf (request_for q) fault asking (ap (λ (x : Turn). request_in (asks x w)) is ∙ request-is q w) told asks-is
+      shelf-refused fault told = refused start entry h1 d1 w t ready shelf (request_for q) fault asking (ap request_of is ∙ request-is q) told asks-is
 
       -- it answered
       pub shelf-answered : (answer : Answer) → AreTold start.answers d.asked ((request_for q, Ok answer) ∷ [])

@@ -1,6 +1,6 @@
 -- What a whole run reports, and its ending.
 use Rattle.std.proofs.Common.{◌≡◌, ◌≢◌, ℕ, ◌+◌, ◌-◌, ◌<◌, ◌≤◌, ◌==◌, if◌then◌else◌, ◌⊎◌, inl, inr, List, [], ◌∷◌, ◌++◌}
-use Rattle.std.proofs.Common.{map, Option, Result, Ok, Err, refl, ap, subst, sym, ◌∙◌, arith, append_assoc, append-nil}
+use Rattle.std.proofs.Common.{map, Option, None, Result, Ok, Err, refl, ap, subst, sym, ◌∙◌, arith, append_assoc, append-nil}
 use Rattle.gx_words.specs.declared.faults.Fault.{Fault}
 use Rattle.gx_words.specs.declared.faults.Fault.TheVariants.{NoMemory}
 use Rattle.gx_words.specs.Faults.{number_of}
@@ -11,7 +11,7 @@ use Rattle.gx_outside.specs.Chains.{Chain}
 use Rattle.gx_outside.specs.Outside.{FlatSink, FlatShelf}
 use Rattle.gx_outside.specs.Reads.{SourceRead}
 use Rattle.gx_outside.specs.Sends.{Send, SinkCall}
-use Rattle.gx_outside.specs.Shelves.{stores, Trace}
+use Rattle.gx_outside.specs.Shelves.{Request, stores, Trace}
 use Rattle.gx_outside.specs.declared.devices.ShelfFault.{ShelfFault}
 use Rattle.gx_outside.specs.declared.devices.ShelfFault.TheVariants as of_shelf
 use Rattle.glk_world.specs.World.{Scene}
@@ -21,22 +21,22 @@ use Rattle.gx_session.specs.declared.ends.Halt.{Halt}
 use Rattle.gx_session.specs.declared.ends.Halt.TheVariants as halt
 use Rattle.gx_session.specs.Constants.{status_shelf_fault, status_input_fault, status_output_fault}
 use Rattle.gx_session.specs.Counts.{FailureCounts}
-use Rattle.gx_session.specs.Cuts.{in_listing, in_store, IsLineStop, stopped}
+use Rattle.gx_session.specs.Cuts.{by_memory, by_shelf, cut_status, IsLineStop}
 use Rattle.gx_session.specs.Devices.{Devices}
-use Rattle.gx_session.specs.Endings.{Store, stores_of, store_call, told_all, after_stores}
+use Rattle.gx_session.specs.Endings.{Store, stores_of, store_call, told_all}
 use Rattle.gx_session.specs.Sending.{whole_send}
 use Rattle.gx_session.specs.Configurations.{Configuration}
 use Rattle.gx_session.specs.Session.{RunEnd, final_of, stop_status, fault_number, fault_address}
-use Rattle.gx_session.specs.Runs.{IsFront, AreDrawn, Report, EndsAt, IsReport, IsSession}
+use Rattle.gx_session.specs.Runs.{Report, EndsAt, IsReport, IsSession}
 use Rattle.gx_session.specs.Reads.{LeavesInput}
 use Rattle.gx_session.specs.Holding.{SendStep, Handed, devices_of, HeldRun, configuration_of}
 use Rattle.gx_session.specs.Finishing.{Told, Finished, EndingGives, RunGives, StoredSome, StoresFiles}
 use Rattle.gx_session.specs.Standing.{Early, halt_status}
 use Rattle.gx_session.specs.Outcomes.{IsStop, halt_of_shelf, Keeps}
-use Rattle.gx_session.proofs.Parts.{IsShelfStatus, fault_at, open_files_of, read_failures}
+use Rattle.gx_session.proofs.Parts.{IsFront, AreDrawn, AwaitedAt, LongAt, open_files_of, read_failures}
 use Rattle.gx_session.proofs.Calling.{chain-map}
 use Rattle.gx_session.proofs.Counting.{blames-same}
-use Rattle.gx_session.proofs.Playing.{cut-at, input-left, words-left}
+use Rattle.gx_session.proofs.Playing.{cut-at, none-sent, none-asked, input-left, words-left}
 use Rattle.gx_session.proofs.Sinks.{took-whole, takes-front}
 
 pub status-low : (why : Stop) → stop_status why < status_shelf_fault
@@ -56,41 +56,51 @@ status-high halt.NoMemory = omega arith
 
 -- THE STORES OF THE ENDING
 module _ {K : Type 0} {sending : SendStep K} (start : Configuration) (entry : Handed sending) (h : HeldRun) (asking : Option Asking) (d : Handed sending) (why : Stop) (t : Told start entry h asking d why) where
+  abbrev stopped : Configuration
+  stopped = (final_of start).configuration
+
   abbrev told-now : Configuration
   told-now = configuration_of t.past t.phase h d
 
   -- the text is whole
-  whole-text : (stopped start).world.text ≡ concat t.past.sent
+  whole-text : stopped.world.text ≡ concat t.past.sent
   whole-text = ap (λ (m : Configuration). m.world.text) t.is_end ∙ ap (λ (x : List ℕ). concat t.past.sent ++ x) t.none_left ∙ append-nil (concat t.past.sent)
 
-  whole-front : IsFront (stopped start).world.text (final_of start).configuration.world.text
-  whole-front = ([], sym (append-nil (stopped start).world.text))
+  whole-front : IsFront stopped.world.text (final_of start).configuration.world.text
+  whole-front = ([], sym (append-nil stopped.world.text))
 
-  scene-is : (stopped start).world.scene ≡ h.world.scene
+  scene-is : stopped.world.scene ≡ h.world.scene
   scene-is = ap (λ (m : Configuration). m.world.scene) t.is_end
 
   -- what was sent is all of it
-  sent-front : IsFront (concat (told_all (stopped start)).sent) (stopped start).world.text
+  sent-front : IsFront (concat (told_all stopped).sent) stopped.world.text
   sent-front = subst (λ (m : Configuration). IsFront (concat m.sent) m.world.text) (sym t.is_end) (h.world.text, refl)
 
-  sends-then : map whole_send t.past.sent ≡ map whole_send (told_all (stopped start)).sent
+  sends-then : map whole_send t.past.sent ≡ map whole_send (told_all stopped).sent
   sends-then = ap (λ (m : Configuration). map whole_send m.sent) (sym t.is_end)
 
-  words-are : AreDrawn (stopped start).words d.words
+  words-are : AreDrawn stopped.words d.words
   words-are = subst (λ (m : Configuration). AreDrawn m.words d.words) (sym t.is_end) (words-left h.word d.words t.past.words t.is_past.word)
 
-  input-are : LeavesInput start.input (stopped start).input h.coming entry.source d.source (IsLineStop (final_of start).stop) ((final_of start).stop ≡ stop.LineTooLong) 0
+  input-are : LeavesInput start.input stopped.input h.coming entry.source d.source (IsLineStop (final_of start).stop) ((final_of start).stop ≡ stop.LineTooLong) 0
   input-are =
       subst (λ (m : Configuration). LeavesInput start.input m.input h.coming entry.source d.source (IsLineStop (final_of start).stop) ((final_of start).stop ≡ stop.LineTooLong) 0) (sym t.is_end)
       (input-left start entry h d (IsLineStop (final_of start).stop) ((final_of start).stop ≡ stop.LineTooLong) (λ short. t.few (λ e. short (t.stop_is ∙ e)))
       (λ other. t.reads (λ is. other (subst IsLineStop (sym t.stop_is) is))) t.is_past.reads t.is_past.left)
 
+  -- where the run is cut short in its ending
+  input-then : LeavesInput start.input stopped.input h.coming entry.source d.source (AwaitedAt start None) (LongAt start None) 0
+  input-then =
+      subst (λ (m : Configuration). LeavesInput start.input m.input h.coming entry.source d.source (AwaitedAt start None) (LongAt start None) 0) (sym t.is_end)
+      (input-left start entry h d (AwaitedAt start None) (LongAt start None) (λ short. t.few (λ e. short (refl, t.stop_is ∙ e)))
+      (λ other. t.reads (λ is. other (refl, subst IsLineStop (sym t.stop_is) is))) t.is_past.reads t.is_past.left)
+
   -- a file is open at the end where it is here
-  open-still : open_files_of h.world.scene ≢ [] → open_files_of (stopped start).world.scene ≢ []
+  open-still : open_files_of h.world.scene ≢ [] → open_files_of stopped.world.scene ≢ []
   open-still some = subst (λ (x : Scene). open_files_of x ≢ []) (sym scene-is) some
 
   -- what the shelf was asked before
-  asked-then : (told_all (stopped start)).asked ≡ d.asked
+  asked-then : (told_all stopped).asked ≡ d.asked
   asked-then = ap (λ (m : Configuration). m.asked) t.is_end
 
   module _ (shelf : FlatShelf) (asked : Trace) where
@@ -100,36 +110,31 @@ module _ {K : Type 0} {sending : SendStep K} (start : Configuration) (entry : Ha
     -- memory ran out before them
     listing-wants : asked ≡ [] → open_files_of h.world.scene ≢ [] → Early start entry h asking d-now halt.NoMemory
     listing-wants none some =
-        cut-at start entry d-now h asking halt.NoMemory in_listing (told_all (stopped start)) (map whole_send t.past.sent) (refl, open-still some, refl, t.asking_is) (sym (ap (λ (m : Configuration). m.machine) t.is_end)) (sym (ap (λ (m : Configuration). m.left) t.is_end)) (sym (ap (λ (m : Configuration). m.log) t.is_end))
-        sent-front sends-then t.is_past.taken whole-front
-        (ap (λ (x : Trace). d.asked ++ x) none ∙ append-nil d.asked ∙ sym asked-then) (λ other. input-are) words-are t.saves
+        cut-at start entry d-now h asking halt.NoMemory None by_memory (told_all stopped) (map whole_send t.past.sent) (inr (refl, open-still some), t.asking_is) refl (sym (ap (λ (m : Configuration). m.machine) t.is_end)) (sym (ap (λ (m : Configuration). m.left) t.is_end)) (sym (ap (λ (m : Configuration). m.log) t.is_end))
+        sent-front (sends-then ∙ none-sent (told_all stopped).sent) t.is_past.taken whole-front
+        (ap (λ (x : Trace). d.asked ++ x) none ∙ append-nil d.asked ∙ sym asked-then ∙ none-asked (told_all stopped).asked) (λ other. input-then) words-are t.saves
 
-    shelf-status : (fault : ShelfFault) → IsShelfStatus (halt_status (halt_of_shelf fault))
-    shelf-status of_shelf.Failed = inl refl
-    shelf-status of_shelf.NoMemory = inr refl
+    shelf-status : (r : Request) (fault : ShelfFault) → halt_status (halt_of_shelf fault) ≡ cut_status (by_shelf r fault)
+    shelf-status r of_shelf.Failed = refl
+    shelf-status r of_shelf.NoMemory = refl
 
     no-failures : (fault : ShelfFault) → read_failures (halt_status (halt_of_shelf fault)) ≡ 0
     no-failures of_shelf.Failed = refl
     no-failures of_shelf.NoMemory = refl
 
-    fault-is : (fault : ShelfFault) → fault_at (halt_status (halt_of_shelf fault)) ≡ fault
-    fault-is of_shelf.Failed = refl
-    fault-is of_shelf.NoMemory = refl
-
     -- one of them was refused
     some-refused : (fault : ShelfFault) (front rest : List Store) (next : Store) → stores_of h.world.scene ≡ front ++ next ∷ rest → asked ≡ map store_call front ++ (stores next.0 next.1, Err fault) ∷ []
         → Early start entry h asking d-now (halt_of_shelf fault)
     some-refused fault front rest next files asked-are =
-        let m : Configuration = after_stores (told_all (stopped start)) front in
-        let split : stores_of (stopped start).world.scene ≡ front ++ next ∷ rest = ap stores_of scene-is ∙ files in
+        let m : Configuration = record (told_all stopped) { asked = stopped.asked ++ map store_call front } in
+        let split : stores_of stopped.world.scene ≡ front ++ next ∷ rest = ap stores_of scene-is ∙ files in
         let call : Trace = (stores next.0 next.1, Err fault) ∷ [] in
-        cut-at start entry d-now h asking (halt_of_shelf fault) (in_store front next) m (map whole_send t.past.sent)
-        (refl, shelf-status fault, t.asking_is, (rest, split)) (sym (ap (λ (m : Configuration). m.machine) t.is_end)) (sym (ap (λ (m : Configuration). m.left) t.is_end)) (sym (ap (λ (m : Configuration). m.log) t.is_end))
-        sent-front sends-then t.is_past.taken whole-front
-        (ap (λ (x : Trace). d.asked ++ x) asked-are ∙ sym (append_assoc d.asked (map store_call front) call) ∙ ap (λ (x : Trace). (x ++ map store_call front) ++ call) (sym asked-then)
-        ∙ ap (λ (f : ShelfFault). m.asked ++ (stores next.0 next.1, Err f) ∷ []) (sym (fault-is fault)))
+        cut-at start entry d-now h asking (halt_of_shelf fault) None (by_shelf (stores next.0 next.1) fault) m (map whole_send t.past.sent)
+        ((front, next, rest, split, refl, refl), t.asking_is) (shelf-status (stores next.0 next.1) fault) (sym (ap (λ (m : Configuration). m.machine) t.is_end)) (sym (ap (λ (m : Configuration). m.left) t.is_end)) (sym (ap (λ (m : Configuration). m.log) t.is_end))
+        sent-front (sends-then ∙ none-sent (told_all stopped).sent) t.is_past.taken whole-front
+        (ap (λ (x : Trace). d.asked ++ x) asked-are ∙ sym (append_assoc d.asked (map store_call front) call) ∙ ap (λ (x : Trace). (x ++ map store_call front) ++ call) (sym asked-then))
         (λ other.
-        subst (LeavesInput start.input m.input h.coming entry.source d.source (IsLineStop (final_of start).stop) ((final_of start).stop ≡ stop.LineTooLong)) (sym (no-failures fault)) input-are) words-are t.saves
+        subst (LeavesInput start.input m.input h.coming entry.source d.source (AwaitedAt start None) (LongAt start None)) (sym (no-failures fault)) input-then) words-are t.saves
 
     closes-by : (halted : Halt) → ((halted ≡ halt.NoMemory) × (asked ≡ []) × (open_files_of h.world.scene ≢ [])) ⊎ StoredSome (stores_of h.world.scene) asked halted → Early start entry h asking d-now halted
     closes-by halted (inl none) = subst (Early start entry h asking d-now) (sym none.0) (listing-wants none.1 none.2)
@@ -259,10 +264,9 @@ module _ {K : Type 0} {sending : SendStep K} (seen : K → FlatSink) (law : (x :
       → (sends : List Send) × Chain sending entry.sink sends d.sink × IsSessionOver sends (report-at (halt_status why) 0 0)
   session-of-halt why early =
       let high : status_shelf_fault ≤ halt_status why = status-high why in
-      let e = early.stops (seen entry.sink) (seen d.sink) reads in
-      let units : start.left - h.left + h.left ≡ start.left = omega arith in
-      let front = takes-front (seen entry.sink) (seen d.sink) e.configuration e.sent_of (halt_status why) e.cut early.sends e.sends_are (seen-so early.sends early.chain) in (
+      let e = early.stops fewer (seen entry.sink) (seen d.sink) reads in
+      let front = takes-front (seen entry.sink) (seen d.sink) e.configuration e.sent_of e.cut early.sends e.sends_are (seen-so early.sends early.chain) in (
         early.sends,
         early.chain,
-        record { ended = λ low. absurd (omega arith); early = λ _. (h.left, units, e, front) },
+        record { ended = λ low. absurd (omega arith); early = λ _. (e, front) },
       )

@@ -1,6 +1,7 @@
 -- What comes of a source over parts of a run that follow one another.
 use Rattle.std.proofs.Common.{◌≡◌, ℕ, zero, suc, ◌+◌, ◌<◌, ◌≤◌, ◌-◌, ◌⊎◌, inl, inr, List, [], ◌∷◌, ◌++◌, length, take, drop, Bool, true, false, Result, Ok, Err, IfOk, IfErr, refl, ap, subst, sym, ◌∙◌, arith, append_assoc, append-nil, length-append, length-drop}
 use Rattle.std.proofs.lemmas.Bool.{cases_lt}
+use Rattle.std.specs.List.{AllByRecursion}
 use Rattle.gx_outside.specs.Outside.{FlatSource, raised, raised_by, offered_by, offered_in}
 use Rattle.gx_outside.specs.Reads.{SourceRead}
 use Rattle.gx_outside.specs.declared.devices.Failed.{Failed}
@@ -10,13 +11,17 @@ use Rattle.gx_session.specs.Constants.{longest_line, piece}
 use Rattle.gx_session.specs.Input.{line, chars_of, next_line}
 use Rattle.gx_session.specs.Lines.{HeldLines}
 use Rattle.gx_session.specs.Reading.{IsComing, IsOver, ReadStep, Fed, FillsBy, spare, ReadsFew, Takes, GainsPiece}
-use Rattle.gx_session.specs.Reading.{Fills, HoldsFew}
-use Rattle.gx_session.specs.Reads.{bytes_read, HavePieces, SayEnd, IsPartial}
+use Rattle.gx_session.specs.Reading.{SayEnd, Fills, HoldsFew}
+use Rattle.gx_session.specs.Reads.{bytes_read, IsPartial}
 use Rattle.gx_session.proofs.Calling.{chain-append}
 use Rattle.gx_session.proofs.Storing.{raised-more}
 use Rattle.gx_session.proofs.NextLines.{pos, next-long, next-held, next-last, next-none}
 
 -- THE READS
+-- each has room for a piece
+abbrev HavePieces : List SourceRead → Type 0
+HavePieces reads = AllByRecursion (λ (r : SourceRead). r.0 ≡ piece) reads
+
 pieces-and : (one two : List SourceRead) → HavePieces one → HavePieces two → HavePieces (one ++ two)
 pieces-and [] two all more = more
 pieces-and ((room, gave) ∷ one) two all more = (all.0, pieces-and one two all.1 more)
@@ -31,6 +36,15 @@ says-split [] two s = inr s
 says-split ((room, Ok []) ∷ one) two s = inl tt
 says-split ((room, Ok (x ∷ xs)) ∷ one) two s = says-split one two s
 says-split ((room, Err e) ∷ one) two s = says-split one two s
+
+pub says-there : (reads : List SourceRead) (room : ℕ) (front rest : List SourceRead) → reads ≡ front ++ (room, Ok []) ∷ rest → SayEnd reads
+says-there reads room front rest is = subst SayEnd (sym is) (there front)
+  where
+    there : (front : List SourceRead) → SayEnd (front ++ (room, Ok []) ∷ rest)
+    there [] = tt
+    there ((r, Ok []) ∷ front) = tt
+    there ((r, Ok (x ∷ xs)) ∷ front) = there front
+    there ((r, Err e) ∷ front) = there front
 
 either : {A B C : Type 0} → (A → C) → (B → C) → A ⊎ B → C
 either f g (inl x) = f x

@@ -25,11 +25,12 @@ use Rattle.gx_session.specs.Input.{next_line}
 use Rattle.gx_session.specs.Saving.{saving, restoring}
 use Rattle.gx_session.specs.Sending.{Sent, pending, is_due}
 use Rattle.gx_session.specs.Configurations.{Configuration, Phase, steps, asks, goes_on, Verdict, goes, stops}
-use Rattle.gx_session.specs.Moves.{after_reply, after_restoring, after_turn, after_effect, after_step, step_from}
-use Rattle.gx_session.specs.Moves.{act_by, act_of, is_due_by, sends_now, all_sent, move_of}
-use Rattle.gx_session.specs.Session.{RunEnd, end_after, final_in, moves_by, moves_left, stop_of, next_configuration}
+use Rattle.gx_session.specs.Moves.{after_reply, after_restoring, after_turn, after_effect, after_step}
+use Rattle.gx_session.specs.Moves.{act_by, is_due_by, sends_now, all_sent, move_of}
+use Rattle.gx_session.specs.Session.{RunEnd, end_after, final_in, moves_by, stop_of, next_configuration}
 use Rattle.gx_session.specs.Session.{run_of}
-use Rattle.gx_session.proofs.Parts.{with_all}
+use Rattle.gx_session.proofs.Parts.{with_all, step_from, moves_left}
+use Rattle.gx_session.specs.Standing.{act_of}
 use Rattle.gx_session.proofs.Cases.{turn-cases, given-cases, line-cases, asking-cases}
 use Rattle.rand_core.specs.Stream.{next_u32}
 
@@ -119,7 +120,6 @@ tested-near m cost r false phase is positive =
     stepped-near (5 * m.left) m (m.left - cost) r phase (omega arith)
 
 step-near : (m : Configuration) → m.phase ≡ steps → Near (5 * m.left) (step_from m)
-unfolding step_from
 step-near m is =
     tested-near m (cost_of m.machine) (step_of m.machine (next_u32 m.words).0) (nat_lt m.left (cost_of m.machine)) is refl (cost-positive m.machine)
 

@@ -24,10 +24,8 @@ use Rattle.gx_session.specs.declared.ends.Halt.{Halt}
 use Rattle.gx_session.specs.declared.ends.Halt.TheVariants as halt
 use Rattle.gx_session.specs.Constants.{piece, enough as enough_text}
 use Rattle.gx_session.specs.declared.running.Waiting.{Waiting}
-use Rattle.gx_session.specs.Cuts.{RunCut, in_move, in_send, in_question, in_reading, in_last_send, IsCutShort}
-use Rattle.gx_session.specs.Cuts.{IsLineCut, IsWaiting, request_in, IsLineStop}
-use Rattle.gx_session.specs.Cuts.{asking_between, stopped, asking_at_stop}
-use Rattle.gx_session.specs.Cuts.{refused_send, sends_by_cut, refused_call, asked_by_cut}
+use Rattle.gx_session.specs.Cuts.{RunCut, by_memory, by_sink, by_shelf, by_source, cut_status, IsCutShort, AsksFor}
+use Rattle.gx_session.specs.Cuts.{IsLineStop, asking_between, refused_sends, refused_requests}
 use Rattle.gx_session.specs.Wants.{IsWait, WantsMemory}
 use Rattle.gx_session.specs.Endings.{told_all}
 use Rattle.gx_session.specs.Questions.{AreAnswered, AreTold}
@@ -35,18 +33,17 @@ use Rattle.gx_session.specs.Reads.{IsPartial}
 use Rattle.gx_session.specs.Reading.{spare, ReadsFew}
 use Rattle.gx_session.specs.Sending.{Sent, pending, is_due, whole_send}
 use Rattle.gx_session.specs.Configurations.{Configuration, Phase, steps, asks, goes, stops}
-use Rattle.gx_session.specs.Moves.{act_of, move_of, is_due_by, sends_now, all_sent}
+use Rattle.gx_session.specs.Moves.{request_of, move_of, is_due_by, sends_now, all_sent}
 use Rattle.gx_session.specs.Session.{RunEnd, final_of}
 use Rattle.gx_session.specs.Asked.{asked, asked_at}
-use Rattle.gx_session.specs.Runs.{IsFront, AreDrawn, IsSaved, SavedBy}
+use Rattle.gx_session.specs.Runs.{IsSaved, SavedBefore}
 use Rattle.gx_session.specs.Reads.{LeavesInput}
 use Rattle.gx_session.specs.Holding.{SendStep, Handed, HeldRun, WordIs, History, configuration_of, HasTaken, IsHistory}
 use Rattle.gx_session.specs.Holding.{IsRead}
-use Rattle.gx_session.specs.Standing.{Standing, Ready, Going, HasStopped, Early, halt_status}
+use Rattle.gx_session.specs.Standing.{act_of, Standing, Ready, Going, HasStopped, Early, halt_status}
 use Rattle.gx_session.specs.Finishing.{HasShown, Told}
 use Rattle.gx_session.specs.Outcomes.{halt_of_send, halt_of_shelf, SendsAll, Flushes}
-use Rattle.gx_session.proofs.Parts.{IsSendStatus, IsRequestRefused, AwaitedAt, LongAt, send_fault_at, fault_at}
-use Rattle.gx_session.proofs.Parts.{with_all, read_failures}
+use Rattle.gx_session.proofs.Parts.{IsFront, AreDrawn, AwaitedAt, LongAt, IsLineCut, with_all, read_failures}
 use Rattle.gx_session.proofs.Calling.{chain-append}
 use Rattle.gx_session.proofs.Saved.{unsaved-send, saved-more, saved-all}
 use Rattle.gx_session.proofs.Texts.{final-grows}
@@ -104,20 +101,25 @@ has-taken sending entry now now' sent text before call =
 due-is : (enough : ℕ) (sent : Sent) (text : List ℕ) (b : Bool) → nat_le enough (length text) ≡ b → is_due enough sent (concat sent ++ text) ≡ b
 due-is enough sent text b e = ap (λ (x : List ℕ). nat_le enough (length x)) (pending-is sent text) ∙ e
 
+units-used : (first left units : ℕ) → left ≤ first → left ≡ units → first - left + units ≡ first
+units-used first left units fewer same = omega arith
+
 -- A run is cut short at a configuration, after these calls of the sink.
-pub cut-at : {K : Type 0} {sending : SendStep K} → (start : Configuration) (entry exit : Handed sending) (h : HeldRun) (asking : Option Asking) (why : Halt) (cut : RunCut) (m : Configuration) (sends : List Send)
-    → IsCutShort start cut m (halt_status why) asking → h.machine ≡ m.machine → h.left ≡ m.left → h.log ≡ m.log → IsFront (concat m.sent) m.world.text → sends ≡ sends_by_cut cut m (halt_status why)
-    → Chain sending entry.sink sends exit.sink → IsFront m.world.text (final_of start).configuration.world.text → exit.asked ≡ asked_by_cut cut m (halt_status why)
-    → ((IsLineCut cut m → ⊥) → LeavesInput start.input m.input h.coming entry.source exit.source (AwaitedAt start cut) (LongAt start cut) (read_failures (halt_status why)))
-    → AreDrawn m.words exit.words → SavedBy start cut → Early start entry h asking exit why
-cut-at start entry exit h asking why cut m sends is machine left log front calls chain shown questions input words saves = record {
+pub cut-at : {K : Type 0} {sending : SendStep K} → (start : Configuration) (entry exit : Handed sending) (h : HeldRun) (asking : Option Asking) (why : Halt) (moves : Option ℕ) (cut : RunCut) (m : Configuration) (sends : List Send)
+    → IsCutShort start moves cut m asking → halt_status why ≡ cut_status cut → h.machine ≡ m.machine → h.left ≡ m.left → h.log ≡ m.log → IsFront (concat m.sent) m.world.text → sends ≡ map whole_send m.sent ++ refused_sends cut m
+    → Chain sending entry.sink sends exit.sink → IsFront m.world.text (final_of start).configuration.world.text → exit.asked ≡ m.asked ++ refused_requests cut
+    → ((IsLineCut moves cut m → ⊥) → LeavesInput start.input m.input h.coming entry.source exit.source (AwaitedAt start moves) (LongAt start moves) (read_failures (halt_status why)))
+    → AreDrawn m.words exit.words → SavedBefore start moves → Early start entry h asking exit why
+cut-at start entry exit h asking why moves cut m sends is status machine left log front calls chain shown questions input words saves = record {
   sends = sends;
   chain = chain;
-  stops = λ before now reads. record {
+  stops = λ fewer before now reads. record {
     cut = cut;
+    status_is = status;
+    moves = moves;
     configuration = m;
     is_cut = is;
-    left_is = left;
+    steps_are = units-used start.left h.left m.left fewer left;
     machine_is = machine;
     log_is = log;
     shown = shown;
@@ -129,6 +131,13 @@ cut-at start entry exit h asking why cut m sends is machine left log front calls
     saves_are = saves;
   };
 }
+
+-- no call was refused
+pub none-sent : (sent : Sent) → map whole_send sent ≡ map whole_send sent ++ []
+none-sent sent = sym (append-nil (map whole_send sent))
+
+pub none-asked : (asked : Trace) → asked ≡ asked ++ []
+none-asked asked = sym (append-nil asked)
 
 module _ {K : Type 0} {sending : SendStep K} (start : Configuration) (entry : Handed sending) (h : HeldRun) (d : Handed sending) where
   -- the input that is left
@@ -192,12 +201,12 @@ module _ {K : Type 0} {sending : SendStep K} (start : Configuration) (entry : Ha
 
     -- memory ran out, with this input left
     wants-by : (g : Ready start entry h d phase) (h' : HeldRun) (source : FlatSource) (asking : Option Asking)
-        → ((IsWaiting phase → ⊥) → LeavesInput start.input (here g.now).input h'.coming entry.source source ⊥ ⊥ 0) → WantsMemory phase (here g.now) asking
+        → ((AsksFor phase IsWait → ⊥) → LeavesInput start.input (here g.now).input h'.coming entry.source source (AwaitedAt start (Some g.now.moves)) (LongAt start (Some g.now.moves)) 0) → WantsMemory phase (here g.now) asking
         → h'.machine ≡ h.machine → h'.left ≡ h.left → h'.log ≡ h.log → Early start entry h' asking (record d { source = source }) halt.NoMemory
     wants-by g h' source asking input is machine left log =
         let s = g.now in
-        cut-at start entry (record d { source = source }) h' asking halt.NoMemory (in_move s.moves) (here s) (map whole_send s.past.sent)
-        (s.reached, g.quiet, refl, is) machine left log (h.world.text, refl) refl s.is_past.taken (shown-is s) refl input
+        cut-at start entry (record d { source = source }) h' asking halt.NoMemory (Some s.moves) by_memory (here s) (map whole_send s.past.sent)
+        (s.reached, (g.quiet, is)) refl machine left log (h.world.text, refl) (none-sent s.past.sent) s.is_past.taken (shown-is s) (none-asked d.asked) (λ other. input (λ waits. other (refl, refl, waits)))
         (words-left h.word d.words s.past.words s.is_past.word) s.saves
 
     -- the source wasn't asked since then
@@ -205,37 +214,34 @@ module _ {K : Type 0} {sending : SendStep K} (start : Configuration) (entry : Ha
         → h'.machine ≡ h.machine → h'.left ≡ h.left → h'.log ≡ h.log → h'.coming ≡ h.coming → Early start entry h' asking d halt.NoMemory
     wants g h' asking is machine left log coming =
         let s = g.now in
-        wants-by g h' d.source asking (λ other. subst (λ (c : List ℕ). LeavesInput start.input (here g.now).input c entry.source d.source ⊥ ⊥ 0) (sym coming) (input-left ⊥ ⊥ (λ short. s.few) (λ short. s.reads) s.is_past.reads s.is_past.left)) is machine left log
+        wants-by g h' d.source asking (λ other. subst (λ (c : List ℕ). LeavesInput start.input (here g.now).input c entry.source d.source (AwaitedAt start (Some s.moves)) (LongAt start (Some s.moves)) 0) (sym coming) (input-left (AwaitedAt start (Some s.moves)) (LongAt start (Some s.moves)) (λ short. s.few) (λ short. s.reads) s.is_past.reads s.is_past.left)) is machine left log
 
     -- at a wait for a line
-    pub wants-line : (g : Ready start entry h d phase) (h' : HeldRun) (source : FlatSource) (asking : Option Asking) → IsWaiting phase → WantsMemory phase (here g.now) asking
+    pub wants-line : (g : Ready start entry h d phase) (h' : HeldRun) (source : FlatSource) (asking : Option Asking) → AsksFor phase IsWait → WantsMemory phase (here g.now) asking
         → h'.machine ≡ h.machine → h'.left ≡ h.left → h'.log ≡ h.log → Early start entry h' asking (record d { source = source }) halt.NoMemory
     wants-line g h' source asking waiting is machine left log = wants-by g h' source asking (λ other. absurd (other waiting)) is machine left log
 
   module _ (w : Waiting) (turn : Turn) where
     -- the shelf refused
-    refused-by : (g : Ready start entry h d (asks turn w)) (shelf : FlatShelf) (r : Request) (fault : ShelfFault) (asking : Option Asking) → request_in (asks turn w) ≡ Some r
-        → IsRequestRefused (here (asks turn w) g.now) (Some r) (halt_status (halt_of_shelf fault)) → fault_at (halt_status (halt_of_shelf fault)) ≡ fault → read_failures (halt_status (halt_of_shelf fault)) ≡ 0
+    refused-by : (g : Ready start entry h d (asks turn w)) (shelf : FlatShelf) (r : Request) (fault : ShelfFault) (asking : Option Asking) → request_of turn ≡ Some r
+        → (let m = here (asks turn w) g.now in fault ≡ of_shelf.NoMemory → AnswerMayWant r (m.answers m.asked r)) → halt_status (halt_of_shelf fault) ≡ cut_status (by_shelf r fault) → read_failures (halt_status (halt_of_shelf fault)) ≡ 0
         → asking ≡ asked (here (asks turn w) g.now) → Early start entry h asking (record d { shelf = shelf; asked = d.asked ++ (r, Err fault) ∷ [] }) (halt_of_shelf fault)
-    refused-by g shelf r fault asking is cut at failures asking-is =
+    refused-by g shelf r fault asking is may status failures asking-is =
         let s = g.now in
         let m : Configuration = here (asks turn w) s in
-        let status : ℕ = halt_status (halt_of_shelf fault) in
-        let call : (r, Err fault) ∷ [] ≡ refused_call (request_in (asks turn w)) status =
-        ap (λ (f : ShelfFault). let c : Trace = (r, Err f) ∷ [] in c) (sym at) ∙ ap (λ (o : Option Request). refused_call o status) (sym is) in
-        cut-at start entry (record d { shelf = shelf; asked = d.asked ++ (r, Err fault) ∷ [] }) h asking (halt_of_shelf fault) (in_question s.moves) m (map whole_send s.past.sent)
-        (s.reached, g.quiet, subst (λ (o : Option Request). IsRequestRefused m o status) (sym is) cut, asking-is) refl refl refl (h.world.text, refl) refl s.is_past.taken (shown-is (asks turn w) s)
-        (ap (λ (t : Trace). d.asked ++ t) call)
-        (λ other. subst (LeavesInput start.input m.input h.coming entry.source d.source ⊥ ⊥) (sym failures) (input-left ⊥ ⊥ (λ short. s.few) (λ short. s.reads) s.is_past.reads s.is_past.left))
+        cut-at start entry (record d { shelf = shelf; asked = d.asked ++ (r, Err fault) ∷ [] }) h asking (halt_of_shelf fault) (Some s.moves) (by_shelf r fault) m (map whole_send s.past.sent)
+        (s.reached, (g.quiet, is, may, asking-is)) status refl refl refl (h.world.text, refl) (none-sent s.past.sent) s.is_past.taken (shown-is (asks turn w) s)
+        refl
+        (λ other. subst (LeavesInput start.input m.input h.coming entry.source d.source (AwaitedAt start (Some s.moves)) (LongAt start (Some s.moves))) (sym failures) (input-left (AwaitedAt start (Some s.moves)) (LongAt start (Some s.moves)) (λ short. s.few) (λ short. s.reads) s.is_past.reads s.is_past.left))
         (words-left h.word d.words s.past.words s.is_past.word) s.saves
 
-    pub refused : (g : Ready start entry h d (asks turn w)) (shelf : FlatShelf) (r : Request) (fault : ShelfFault) (asking : Option Asking) → request_in (asks turn w) ≡ Some r
+    pub refused : (g : Ready start entry h d (asks turn w)) (shelf : FlatShelf) (r : Request) (fault : ShelfFault) (asking : Option Asking) → request_of turn ≡ Some r
         → AreTold start.answers d.asked ((r, Err fault) ∷ []) → asking ≡ asked (here (asks turn w) g.now)
         → Early start entry h asking (record d { shelf = shelf; asked = d.asked ++ (r, Err fault) ∷ [] }) (halt_of_shelf fault)
-    refused g shelf r of_shelf.Failed asking is told asking-is = refused-by g shelf r of_shelf.Failed asking is (inl refl) refl refl asking-is
+    refused g shelf r of_shelf.Failed asking is told asking-is = refused-by g shelf r of_shelf.Failed asking is (λ e. cc) refl refl asking-is
     refused g shelf r of_shelf.NoMemory asking is told asking-is =
         refused-by g shelf r of_shelf.NoMemory asking is
-        (inr (refl, subst (λ (f : Trace → Request → Answer). AnswerMayWant r (f d.asked r)) (sym g.now.is_past.answers) told)) refl refl asking-is
+        (λ e. subst (λ (f : Trace → Request → Answer). AnswerMayWant r (f d.asked r)) (sym g.now.is_past.answers) told) refl refl asking-is
 
     -- the source failed
     pub unread : (g : Ready start entry h d (asks turn w)) (h' : HeldRun) (source : FlatSource) (asking : Option Asking) → IsWait turn → (source.tells ≡ true → h'.coming ≡ source.left) → ReadsFew false h'.over entry.source source start.input h'.coming 1 → IsPartial h'.ahead
@@ -244,7 +250,7 @@ module _ {K : Type 0} {sending : SendStep K} (start : Configuration) (entry : Ha
     unread g h' source asking is input reads partial same machine left log asking-is =
         let s = g.now in
         let less : reads.reads + length h'.coming + spare h'.over ≤ length start.input + 1 + 1 = reads.few in
-        let leaves : LeavesInput start.input (h.ahead ++ h.coming) h'.coming entry.source source ⊥ ⊥ 1 = record {
+        let leaves : LeavesInput start.input (h.ahead ++ h.coming) h'.coming entry.source source (AwaitedAt start (Some s.moves)) (LongAt start (Some s.moves)) 1 = record {
           ahead = h'.ahead;
           split = sym same;
           left = input;
@@ -256,8 +262,8 @@ module _ {K : Type 0} {sending : SendStep K} (start : Configuration) (entry : Ha
           few_reads = omega arith;
           unread = λ short none. absurd cc;
         } in
-        cut-at start entry (record d { source = source }) h' asking halt.Input (in_reading s.moves) (here (asks turn w) s) (map whole_send s.past.sent)
-        (s.reached, g.quiet, refl, is, asking-is) machine left log (h.world.text, refl) refl s.is_past.taken (shown-is (asks turn w) s) refl (λ other. leaves)
+        cut-at start entry (record d { source = source }) h' asking halt.Input (Some s.moves) by_source (here (asks turn w) s) (map whole_send s.past.sent)
+        (s.reached, (g.quiet, is, asking-is)) refl machine left log (h.world.text, refl) (none-sent s.past.sent) s.is_past.taken (shown-is (asks turn w) s) (none-asked d.asked) (λ other. leaves)
         (words-left h.word d.words s.past.words s.is_past.word) s.saves
 
   -- a word was drawn
@@ -360,36 +366,27 @@ module _ {K : Type 0} {sending : SendStep K} (start : Configuration) (entry : Ha
     was-due enough why true e f = (e, f.many (leb-true enough (length h.world.text) e))
     was-due enough why false e f = let ok = (f.few (leb-false enough (length h.world.text) e)).2 in cc
 
-    send-status : (why : Halt) → (why ≡ halt.Output) ⊎ (why ≡ halt.NoMemory) → IsSendStatus (halt_status why)
-    send-status why (inl e) = inl (ap halt_status e)
-    send-status why (inr e) = inr (ap halt_status e)
-
     no-failures : (why : Halt) → (why ≡ halt.Output) ⊎ (why ≡ halt.NoMemory) → read_failures (halt_status why) ≡ 0
     no-failures why (inl e) = ap (λ (x : Halt). read_failures (halt_status x)) e
     no-failures why (inr e) = ap (λ (x : Halt). read_failures (halt_status x)) e
 
-    fault-is : (fault : SendFault) → send_fault_at (halt_status (halt_of_send fault)) ≡ fault
-    fault-is of_send.Failed = refl
-    fault-is of_send.NoMemory = refl
+    send-status : (fault : SendFault) → halt_status (halt_of_send fault) ≡ cut_status (by_sink fault)
+    send-status of_send.Failed = refl
+    send-status of_send.NoMemory = refl
 
     -- A send is refused that is due.
-    cut-sending : (asking : Option Asking) (why : Halt) (cut : RunCut) (p : History) (phase : Phase) → IsCutShort start cut (configuration_of p phase h d) (halt_status why) asking
+    cut-sending : (asking : Option Asking) (why : Halt) (moves : Option ℕ) (p : History) (phase : Phase) (s : SendsAll sending d.sink sink h.world world (Err why))
+        → IsCutShort start moves (by_sink s.0) (configuration_of p phase h d) asking
         → IsHistory start entry p h d → (why ≡ halt.Output) ⊎ (why ≡ halt.NoMemory)
-        → sends_by_cut cut (configuration_of p phase h d) (halt_status why) ≡ map whole_send p.sent ++ refused_send (configuration_of p phase h d) (halt_status why) ∷ []
-        → d.asked ≡ asked_by_cut cut (configuration_of p phase h d) (halt_status why)
-        → LeavesInput start.input (h.ahead ++ h.coming) h.coming entry.source d.source (AwaitedAt start cut) (LongAt start cut) 0
-        → IsFront (concat p.sent ++ h.world.text) (final_of start).configuration.world.text → SavedBy start cut
-        → SendsAll sending d.sink sink h.world world (Err why) → Early start entry h-now asking d-now why
-    cut-sending asking why cut p phase is past only calls questions input shown saves s =
+        → LeavesInput start.input (h.ahead ++ h.coming) h.coming entry.source d.source (AwaitedAt start moves) (LongAt start moves) 0
+        → IsFront (concat p.sent ++ h.world.text) (final_of start).configuration.world.text → SavedBefore start moves
+        → Early start entry h-now asking d-now why
+    cut-sending asking why moves p phase s is past only input shown saves =
         let refused : Send = (h.world.text, Err s.0) in
-        let fault : s.0 ≡ send_fault_at (halt_status why) = sym (ap (λ (x : Halt). send_fault_at (halt_status x)) s.2 ∙ fault-is s.0) in
-        let call : refused ≡ refused_send (configuration_of p phase h d) (halt_status why) =
-        ap (λ (x : List ℕ). let c : Send = (x, Err s.0) in c) (sym (pending-is p.sent h.world.text))
-        ∙ ap (λ (f : SendFault). let c : Send = (pending p.sent (concat p.sent ++ h.world.text), Err f) in c) fault in
-        cut-at start entry d-now h-now asking why cut (configuration_of p phase h d) (map whole_send p.sent ++ refused ∷ []) is refl refl refl (h.world.text, refl)
-        (ap (λ (c : Send). map whole_send p.sent ++ c ∷ []) call ∙ sym calls)
-        (chain-append sending entry.sink d.sink sink (map whole_send p.sent) (refused ∷ []) past.taken (sink, s.1, refl)) shown questions
-        (λ other. subst (LeavesInput start.input (h.ahead ++ h.coming) h.coming entry.source d.source (AwaitedAt start cut) (LongAt start cut)) (sym (no-failures why only)) input)
+        cut-at start entry d-now h-now asking why moves (by_sink s.0) (configuration_of p phase h d) (map whole_send p.sent ++ refused ∷ []) is (ap halt_status s.2 ∙ send-status s.0) refl refl refl (h.world.text, refl)
+        (ap (λ (x : List ℕ). let c : Send = (x, Err s.0) in map whole_send p.sent ++ c ∷ []) (sym (pending-is p.sent h.world.text)))
+        (chain-append sending entry.sink d.sink sink (map whole_send p.sent) (refused ∷ []) past.taken (sink, s.1, refl)) shown (none-asked d.asked)
+        (λ other. subst (LeavesInput start.input (h.ahead ++ h.coming) h.coming entry.source d.source (AwaitedAt start moves) (LongAt start moves)) (sym (no-failures why only)) input)
         (words-left h.word d.words p.words past.word) saves
 
     -- The text that is due between two moves was refused.
@@ -397,18 +394,18 @@ module _ {K : Type 0} {sending : SendStep K} (start : Configuration) (entry : Ha
         → asking ≡ asking_between phase (here phase g) → (why ≡ halt.Output) ⊎ (why ≡ halt.NoMemory) → Flushes sending enough d.sink sink h.world world (Err why) → Early start entry h-now asking d-now why
     cut-send phase enough due asking why g asking-is only f =
         let was = was-due enough why (nat_le enough (length h.world.text)) refl f in
-        let is : IsCutShort start (in_send g.moves) (here phase g) (halt_status why) asking = (g.reached, due-now phase enough due g true was.0, send-status why only, asking-is) in
-        cut-sending asking why (in_send g.moves) g.past phase is g.is_past only refl refl (input-left ⊥ ⊥ (λ short. g.few) (λ short. g.reads) g.is_past.reads g.is_past.left) (shown-is phase g) g.saves was.1
+        cut-sending asking why (Some g.moves) g.past phase was.1 (g.reached, (due-now phase enough due g true was.0, asking-is)) g.is_past only
+        (input-left (AwaitedAt start (Some g.moves)) (LongAt start (Some g.moves)) (λ short. g.few) (λ short. g.reads) g.is_past.reads g.is_past.left) (shown-is phase g) g.saves
 
     -- THE TEXT THAT IS DUE AT THE END
     module _ (asking : Option Asking) (why : Stop) (g : HasShown start entry h asking d why) where
       abbrev last : Configuration
       last = configuration_of g.past g.phase h d
 
-      stopped-is : stopped start ≡ last
+      stopped-is : (final_of start).configuration ≡ last
       stopped-is = ap (λ (e : RunEnd). e.configuration) g.is_end
 
-      asks-still : asking ≡ asking_at_stop start
+      asks-still : asking ≡ asked_at (final_of start).stop (final_of start).configuration
       asks-still = g.asking_is ∙ ap (λ (e : RunEnd). asked_at e.stop e.configuration) (sym g.is_end)
 
       told-is : (b : Bool) → nat_le 1 (length h.world.text) ≡ b → told_all last ≡ (if b then all_sent last else last)
@@ -459,8 +456,7 @@ module _ {K : Type 0} {sending : SendStep K} (start : Configuration) (entry : Ha
       cut-end halted only f =
           let was = was-due 1 halted (nat_le 1 (length h.world.text)) refl f in
           let stop-is : (final_of start).stop ≡ why = ap (λ (x : RunEnd). x.stop) g.is_end in
-          let is : IsCutShort start in_last_send last (halt_status halted) asking = (sym stopped-is, due-is 1 g.past.sent h.world.text true was.0, send-status halted only, asks-still) in
-          cut-sending asking halted in_last_send g.past g.phase is g.is_past only refl refl
-          (input-left (IsLineStop (final_of start).stop) ((final_of start).stop ≡ stop.LineTooLong) (λ short. g.few (λ e. short (stop-is ∙ e)))
-          (λ other. g.reads (λ is'. other (subst IsLineStop (sym stop-is) is'))) g.is_past.reads g.is_past.left)
-          ([], ap (λ (x : Configuration). x.world.text) stopped-is ∙ sym (append-nil (concat g.past.sent ++ h.world.text))) g.saves was.1
+          cut-sending asking halted None g.past g.phase was.1 ((sym stopped-is, due-is 1 g.past.sent h.world.text true was.0), asks-still) g.is_past only
+          (input-left (AwaitedAt start None) (LongAt start None) (λ short. g.few (λ e. short (refl, stop-is ∙ e)))
+          (λ other. g.reads (λ is. other (refl, subst IsLineStop (sym stop-is) is))) g.is_past.reads g.is_past.left)
+          ([], ap (λ (x : Configuration). x.world.text) stopped-is ∙ sym (append-nil (concat g.past.sent ++ h.world.text))) g.saves

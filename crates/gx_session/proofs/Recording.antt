@@ -22,10 +22,12 @@ use Rattle.gx_session.specs.Constants.{failed}
 use Rattle.gx_session.specs.Input.{next_line}
 use Rattle.gx_session.specs.Saving.{saving, restoring}
 use Rattle.gx_session.specs.Configurations.{Configuration, Phase, steps, asks, goes_on, Verdict, goes, stops}
-use Rattle.gx_session.specs.Moves.{after_reply, after_restoring, after_turn, after_effect, after_step, step_from}
-use Rattle.gx_session.specs.Moves.{act_by, act_of, sends_now, all_sent, move_of}
-use Rattle.gx_session.specs.Session.{next_configuration, run_of, moves_left, stop_of, final_of}
-use Rattle.gx_session.specs.Recording.{BeginsEvent, IsEarlierRecord, IsRecord, IsLastRecord, RecordsRun}
+use Rattle.gx_session.specs.Moves.{after_reply, after_restoring, after_turn, after_effect, after_step}
+use Rattle.gx_session.specs.Moves.{act_by, sends_now, all_sent, move_of}
+use Rattle.gx_session.specs.Standing.{act_of}
+use Rattle.gx_session.proofs.Parts.{step_from, moves_left}
+use Rattle.gx_session.specs.Session.{next_configuration, run_of, stop_of, final_of}
+use Rattle.gx_session.specs.Recording.{BeginsEvent, IsRecord, IsLastRecord, RecordsRun}
 use Rattle.gx_session.proofs.Cases.{turn-cases, given-cases, line-cases, asking-cases}
 use Rattle.gx_session.proofs.Finals.{goes-nearer, reached-goes, stop-comes, stop-stays}
 use Rattle.gx_session.proofs.Rooms.{units-more, units-none}
@@ -109,7 +111,6 @@ tested-moves m r false is less =
     stepped-moves m (m.left - cost_of m.machine) r is (omega arith)
 
 step-moves : (m : Configuration) → m.phase ≡ steps → Moves m (step_from m)
-unfolding step_from
 step-moves m is = tested-moves m (step_of m.machine (next_u32 m.words).0) (nat_lt m.left (cost_of m.machine)) is refl
 
 act-moves : (phase : Phase) (m : Configuration) → m.phase ≡ phase → LeavesUnits phase m → Moves m (act_by phase m)
@@ -169,8 +170,12 @@ place-on start j machine before p = record {
 last-or-before : (i j : ℕ) → i ≤ suc j → (i ≤ j) ⊎ (i ≡ suc j)
 last-or-before i j less = elim (cases_lt j i) [ inl more ↦ inr (omega arith) | inr few ↦ inl few ]
 
+-- the record of a configuration is this one, but for the newest machines of it
+abbrev IsEarlierRecord : Configuration → Log → Type 0
+IsEarlierRecord c log = (own : Log) × (c.log ≡ Some own) × (newer : List FlatMachine) × (log.before ≡ newer ++ own.before)
+
 whole-end : (c : Configuration) (log : Log) → c.log ≡ Some log → IsEarlierRecord c log
-whole-end c log is = record { own = log; log_is = is; newer = []; end = refl }
+whole-end c log is = (log, is, [], refl)
 
 -- the machine of an event that ends here is a place
 began-place : (start : Configuration) (j : ℕ) (m : Configuration) (log : Log) → m.log ≡ Some log → log.after ≡ [] → units_of log.before + m.left ≡ start.left → Began start j m → BeginsEvent start (suc j) m.machine log.before
@@ -219,7 +224,7 @@ module _ (start m : Configuration) (j : ℕ) (r : Recorded start j m) where
   ends-before : (log : Log) (newer : List FlatMachine) → log.before ≡ newer ++ here.before → (i : ℕ) (c : Configuration) → i ≤ j → run_of start i ≡ Some c → IsEarlierRecord c log
   ends-before log newer more i c few at =
       let e = r.is.ends i c few at in
-      record { own = e.own; log_is = e.log_is; newer = newer ++ e.newer; end = more ∙ ap (λ (ms : List FlatMachine). newer ++ ms) e.end ∙ sym (append_assoc newer e.newer e.own.before) }
+      (e.0, e.1, newer ++ e.2, more ∙ ap (λ (ms : List FlatMachine). newer ++ ms) e.3 ∙ sym (append_assoc newer e.2 e.0.before))
 
   -- the run goes on
   module _ (m' : Configuration) (reached : run_of start (suc j) ≡ Some m') where

@@ -3,8 +3,9 @@ use Rattle.std.proofs.Common.{◌≡◌, ℕ, zero, suc, ◌≤◌, inl, inr, tr
 use Rattle.std.proofs.lemmas.Bool.{cases_lt}
 use Rattle.gx_state.specs.declared.effects.Effect.{Effect}
 use Rattle.gx_session.specs.declared.ends.Stop.{Stop}
-use Rattle.gx_session.specs.Wants.{BeginsSave}
-use Rattle.gx_session.specs.Runs.{IsSaved, SavedAll, SavedBefore}
+use Rattle.gx_session.proofs.Parts.{BeginsSave}
+use Rattle.gx_state.specs.declared.effects.Effect.TheVariants as effect
+use Rattle.gx_session.specs.Runs.{IsSaved, SavedBefore}
 use Rattle.gx_session.specs.Saving.{IsReadBack}
 use Rattle.gx_session.specs.Configurations.{Configuration, steps, stops}
 use Rattle.gx_session.specs.Moves.{sends_now, move_of}
@@ -16,17 +17,19 @@ pub unsaved : (m : Configuration) → (m.phase ≡ steps → ⊥) → IsSaved m
 unsaved m other is quiet begins = absurd (other is)
 
 pub unsaved-send : (m : Configuration) → sends_now m ≡ true → IsSaved m
-unsaved-send m due is quiet begins = cc
+unsaved-send m due is quiet stream does begins = cc
 
 -- a step with this effect
 pub saved-of : (m : Configuration) (does : Effect) → effect_at m ≡ Some does → (BeginsSave m (Some does) → IsReadBack m.machine.flat) → IsSaved m
-saved-of m does effect saved is quiet begins = saved (subst (BeginsSave m) effect begins)
+saved-of m does at saved is quiet stream e begins =
+    let same : Some (effect.Save stream) ≡ Some does = sym e ∙ at in
+    saved (subst (BeginsSave m) same begins)
 
 pub some-is : (m m' : Configuration) → Some m ≡ Some m' → m ≡ m'
 some-is m m' e = cc
 
 -- one more move
-pub saved-more : (start : Configuration) (n : ℕ) (m : Configuration) → run_of start n ≡ Some m → IsSaved m → SavedBefore start n → SavedBefore start (suc n)
+pub saved-more : (start : Configuration) (n : ℕ) (m : Configuration) → run_of start n ≡ Some m → IsSaved m → SavedBefore start (Some n) → SavedBefore start (Some (suc n))
 saved-more start n m reached saved before i less m' reached' =
     elim (cases_lt i n) [
       | inl low ↦ before i low m' reached'
@@ -45,7 +48,7 @@ none-after start n (suc i) low none =
     ]
 
 -- a run that stops at this move
-pub saved-all : (start : Configuration) (n : ℕ) (m m' : Configuration) (why : Stop) → run_of start n ≡ Some m → move_of m ≡ stops why m' → SavedBefore start n → SavedAll start
+pub saved-all : (start : Configuration) (n : ℕ) (m m' : Configuration) (why : Stop) → run_of start n ≡ Some m → move_of m ≡ stops why m' → SavedBefore start (Some n) → SavedBefore start None
 saved-all start n m m' why reached stop before i m1 m2 reached1 reached2 =
     let none : run_of start (suc n) ≡ None = ap (λ (o : Option Configuration). option_and_then (λ m. next_configuration (move_of m)) o) reached ∙ ap next_configuration stop in
     elim (cases_lt i n) [

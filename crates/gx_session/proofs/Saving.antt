@@ -1,6 +1,7 @@
 -- What the parts of a save and of a restore make of it.
-use Rattle.std.proofs.Common.{◌≡◌, ◌≢◌, inl, inr, ℕ, ◌==◌, ◌&&◌, if◌then◌else◌, Bool, true, false, List, Option, Some, None, option_and_then, Result, Ok, Err, is_ok, IsOk, IsTrue, refl, ap, subst, sym, ◌∙◌}
+use Rattle.std.proofs.Common.{◌≡◌, ◌≢◌, inl, inr, ℕ, ◌==◌, ◌&&◌, if◌then◌else◌, Bool, true, false, List, Option, Some, None, option_and_then, unwrap_or, Result, Ok, Err, is_ok, IsOk, IsTrue, refl, ap, subst, sym, ◌∙◌}
 use Rattle.std.specs.Cmp.Derive.{both_true}
+use Rattle.std.specs.Result.{result_ok}
 use Rattle.gx_words.specs.Faults.{MayLose}
 use Rattle.gx_words.specs.declared.faults.Fault.{Fault}
 use Rattle.gx_words.specs.declared.faults.Fault.TheVariants.{NoMemory}
@@ -28,7 +29,7 @@ use Rattle.quetzal.specs.declared.faults.SaveFault.{SaveFault}
 use Rattle.quetzal.specs.declared.faults.SaveFault.TheVariants as of_save
 use Rattle.gx_session.specs.Outcomes.{MaySave, Refuses}
 use Rattle.gx_session.specs.Constants.{failed}
-use Rattle.gx_session.specs.Saving.{unless_failed, unless_refused, saving, restoring, may_take, is_save_begun}
+use Rattle.gx_session.specs.Saving.{saving, restoring, may_take, is_save_begun}
 use Rattle.gx_session.specs.Saving.{is_restore_begun}
 use Rattle.gx_session.proofs.Parts.{may_hold}
 use Rattle.gx_session.proofs.Steps.{ok-is}
@@ -44,13 +45,13 @@ abbrev pub with_reply : Result (FlatWorld × Option Reply) Fault → Result (Fla
 with_reply (Ok r) = Ok (r.0, reply_of r.1)
 with_reply (Err fault) = Err fault
 
-replied-on : (w : FlatWorld) (r : Result (Said × Option Reply) Fault) → on_world w (r >>= (λ x. Ok (unless_failed x))) ≡ with_reply (on_world w r)
+replied-on : (w : FlatWorld) (r : Result (Said × Option Reply) Fault) → on_world w (r >>= (λ x. Ok (x.0, unwrap_or x.1 (replies failed)))) ≡ with_reply (on_world w r)
 replied-on w (Ok (said, Some reply)) = refl
 replied-on w (Ok (said, None)) = refl
 replied-on w (Err fault) = refl
 
 saved-by : (w : FlatWorld) (r : Result (Said × Option Reply) Fault) (b : Bool) → b ≡ true
-    → on_world w (if b then (r >>= (λ x. Ok (unless_failed x))) else Ok (silent w.scene, replies failed)) ≡ with_reply (on_world w r)
+    → on_world w (if b then (r >>= (λ x. Ok (x.0, unwrap_or x.1 (replies failed)))) else Ok (silent w.scene, replies failed)) ≡ with_reply (on_world w r)
 saved-by w r true is = replied-on w r
 saved-by w r false is = cc
 
@@ -86,7 +87,7 @@ not-put w f stream bytes none =
     ap (λ (b : Bool). if b then (put_all w f stream bytes >>= (λ r. Ok (r.0, Some r.1))) else Ok (silent w, None)) takes
 
 not-saved : (w : FlatWorld) (f : FlatState) (stream : ℕ) (glk takes : Bool) → (glk && takes) ≡ false → may_take w.scene stream ≡ takes
-    → on_world w (if glk then (put_save w.scene f stream (saved f.story (saved_copy f)) >>= (λ x. Ok (unless_failed x))) else Ok (silent w.scene, replies failed)) ≡ Ok (w, replies failed)
+    → on_world w (if glk then (put_save w.scene f stream (saved f.story (saved_copy f)) >>= (λ x. Ok (x.0, unwrap_or x.1 (replies failed)))) else Ok (silent w.scene, replies failed)) ≡ Ok (w, replies failed)
 not-saved w f stream false takes none is = ap (λ (x : FlatWorld). Ok (x, replies failed)) (nothing_said w)
 not-saved w f stream true takes none is =
     replied-on w (put_save w.scene f stream (saved f.story (saved_copy f)))
@@ -129,7 +130,7 @@ save-by w w' f f' same stream bytes (Err e) begun is put = (
 
 -- the copy that was read, if any
 abbrev pub copy_in : FlatStory → Option (List ℕ) → Option Copy
-copy_in story read = option_and_then (λ bytes. unless_refused (save_of ceiling bytes story)) read
+copy_in story read = option_and_then (λ bytes. result_ok (save_of ceiling bytes story)) read
 
 abbrev pub with_copy : FlatStory → Result (FlatWorld × Option (List ℕ)) Fault → Result (FlatWorld × Option Copy) Fault
 with_copy story (Ok r) = Ok (r.0, copy_in story r.1)
@@ -207,7 +208,7 @@ module _ (w w' : FlatWorld) (f f' : FlatState) (same : f' ≡ f) (stream : ℕ) 
 
     -- it is the save of a copy
     pub read-found : (copy : Copy) → save_of ceiling bytes f.story ≡ Ok copy → on_world w (restoring w.scene f stream) ≡ Ok (w', Some copy)
-    read-found copy is = read-is (Some bytes) (Some copy) (ap unless_refused is) took
+    read-found copy is = read-is (Some bytes) (Some copy) (ap result_ok is) took
 
     -- it is none, or the reading wants memory
     pub unread : (e : SaveFault) (result : Result (Option Copy) Fault) → (e ≢ of_save.NoMemory → save_of ceiling bytes f.story ≡ Err e) → Refuses e result
@@ -215,4 +216,4 @@ module _ (w w' : FlatWorld) (f f' : FlatState) (same : f' ≡ f) (stream : ℕ) 
     unread e result gave (inl memory) = subst (λ (r : Result (Option Copy) Fault). MayLose (IsTrue (is_restore_begun w.scene f stream)) (λ copy. copy) r w w' (on_world w (restoring w.scene f stream))) (sym memory.1) read-wants
     unread e result gave (inr other) =
         subst (λ (r : Result (Option Copy) Fault). MayLose (IsTrue (is_restore_begun w.scene f stream)) (λ copy. copy) r w w' (on_world w (restoring w.scene f stream))) (sym other.1)
-        (read-is (Some bytes) None (ap unless_refused (gave other.0)) took)
+        (read-is (Some bytes) None (ap result_ok (gave other.0)) took)

@@ -1,5 +1,5 @@
 -- The last screen of a run.
-use Rattle.std.proofs.Common.{◌≡◌, true, Option, refl, ap, subst, sym, ◌∙◌, map}
+use Rattle.std.proofs.Common.{◌≡◌, true, None, inl, Option, refl, ap, subst, sym, ◌∙◌, map}
 use Rattle.std.specs.List.{concat}
 use Rattle.gx_machine.specs.declared.askings.Asking.{Asking}
 use Rattle.glk_world.specs.World.{FlatWorld, after, is_composed}
@@ -7,8 +7,7 @@ use Rattle.glk_world.specs.Shown.{end_text}
 use Rattle.gx_session.specs.declared.ends.Stop.{Stop}
 use Rattle.gx_session.specs.declared.ends.Stop.TheVariants as stop
 use Rattle.gx_session.specs.declared.ends.Halt.TheVariants as halt
-use Rattle.gx_session.specs.Cuts.{in_last_screen, IsLineStop, asking_at_stop}
-use Rattle.gx_session.specs.Runs.{IsFront}
+use Rattle.gx_session.specs.Cuts.{by_memory, IsLineStop}
 use Rattle.gx_session.specs.Reads.{LeavesInput}
 use Rattle.gx_session.specs.Sending.{whole_send}
 use Rattle.gx_session.specs.Configurations.{Configuration}
@@ -17,9 +16,9 @@ use Rattle.gx_session.specs.Asked.{asked_at}
 use Rattle.gx_session.specs.Holding.{SendStep, Handed, HeldRun, configuration_of, IsHistory}
 use Rattle.gx_session.specs.Standing.{HasStopped, Early}
 use Rattle.gx_session.specs.Finishing.{HasShown}
-use Rattle.gx_session.proofs.Parts.{with_last_screen}
+use Rattle.gx_session.proofs.Parts.{IsFront, AwaitedAt, LongAt, with_last_screen}
 use Rattle.gx_session.proofs.Asking.{sent-before}
-use Rattle.gx_session.proofs.Playing.{cut-at, input-left, words-left}
+use Rattle.gx_session.proofs.Playing.{cut-at, none-sent, none-asked, input-left, words-left}
 use Rattle.gx_session.proofs.Steps.{asked-same}
 use Rattle.gx_session.proofs.Texts.{last-grows}
 
@@ -88,7 +87,7 @@ module _ {K : Type 0} {sending : SendStep K} (start : Configuration) (entry : Ha
     stop-is : (final_of start).stop ≡ why
     stop-is = ap (λ (e : RunEnd). e.stop) end-here
 
-    asks-end : asking ≡ asking_at_stop start
+    asks-end : asking ≡ asked_at (final_of start).stop (final_of start).configuration
     asks-end =
         g.asking_is ∙ asks-same why at-stop (with_last_screen at-stop) refl refl
         ∙ ap (λ (e : RunEnd). asked_at e.stop e.configuration) (sym end-here)
@@ -98,16 +97,11 @@ module _ {K : Type 0} {sending : SendStep K} (start : Configuration) (entry : Ha
         subst (λ (e : RunEnd). IsFront e.configuration.world.text (final_of start).configuration.world.text) g.is_end
         (last-grows start)
 
-    abbrev awaited : Type 0
-    awaited = IsLineStop (final_of start).stop
-
-    abbrev long : Type 0
-    long = (final_of start).stop ≡ stop.LineTooLong
-
-    input-then : LeavesInput start.input at-stop.input h.coming entry.source d.source awaited long 0
+    input-then : LeavesInput start.input at-stop.input h.coming entry.source d.source (AwaitedAt start None) (LongAt start None) 0
     input-then =
-        input-left start entry h d awaited long
-        (λ short. g.few (λ e. short (stop-is ∙ e))) (λ other. g.reads (λ is. other (subst IsLineStop (sym stop-is) is)))
+        input-left start entry h d (AwaitedAt start None) (LongAt start None)
+        (λ short. g.few (λ e. short (refl, stop-is ∙ e)))
+        (λ other. g.reads (λ is. other (refl, subst IsLineStop (sym stop-is) is)))
         g.is_past.reads g.is_past.left
 
     -- it wants memory
@@ -115,7 +109,7 @@ module _ {K : Type 0} {sending : SendStep K} (start : Configuration) (entry : Ha
         → Early start entry (record h { world = world }) asking d halt.NoMemory
     screen-wants world composed =
         let here : at-stop ≡ (stop_of start).configuration = sym (ap (λ (e : RunEnd). e.configuration) g.is_end) in
-        cut-at start entry d (record h { world = world }) asking halt.NoMemory in_last_screen at-stop
-        (map whole_send g.past.sent) (here, composed, refl, asks-end) refl refl refl (h.world.text, refl) refl
-        g.is_past.taken shown-by-then refl (λ other. input-then)
+        cut-at start entry d (record h { world = world }) asking halt.NoMemory None by_memory at-stop
+        (map whole_send g.past.sent) (inl (here, composed), asks-end) refl refl refl refl (h.world.text, refl) (none-sent g.past.sent)
+        g.is_past.taken shown-by-then (none-asked d.asked) (λ other. input-then)
         (words-left h.word d.words g.past.words g.is_past.word) g.saves

@@ -6,12 +6,13 @@ use Rattle.std.specs.List.{concat}
 use Rattle.gx_outside.specs.Chains.{Chain}
 use Rattle.gx_outside.specs.Outside.{FlatSink, send_wanted}
 use Rattle.gx_outside.specs.Sends.{Send, SinkCall}
-use Rattle.gx_session.specs.Cuts.{RunCut, in_move, in_send, in_question, in_reading, in_last_screen, in_last_send}
-use Rattle.gx_session.specs.Cuts.{in_listing, in_store, WantedBy, most_taken, refused_send, sends_by_cut}
-use Rattle.gx_session.specs.Runs.{IsFront, TakesText}
+use Rattle.gx_outside.specs.declared.devices.SendFault.{SendFault}
+use Rattle.gx_outside.specs.declared.devices.SendFault.TheVariants as of_send
+use Rattle.gx_session.specs.Cuts.{RunCut, by_memory, by_sink, by_shelf, by_source, refused_sends}
+use Rattle.gx_session.specs.Runs.{TakesText}
 use Rattle.gx_session.specs.Sending.{Sent, pending, whole_send}
 use Rattle.gx_session.specs.Configurations.{Configuration}
-use Rattle.gx_session.proofs.Parts.{send_fault_at}
+use Rattle.gx_session.proofs.Parts.{IsFront}
 use Rattle.gx_session.proofs.Calling.{chain-split}
 
 -- texts that were taken whole
@@ -34,27 +35,32 @@ took-whole a b (x ∷ xs) chain =
           ∙ append_assoc a.taken x (concat xs);
     }
 
-module _ (a b : FlatSink) (m : Configuration) (front : IsFront (concat m.sent) m.world.text) (status : ℕ) where
+fault-same : (f g : SendFault) → by_sink f ≡ by_sink g → f ≡ g
+fault-same f g e = cc
+
+module _ (a b : FlatSink) (m : Configuration) (front : IsFront (concat m.sent) m.world.text) where
   -- no send was refused
-  none-refused : (cut : RunCut) → WantedBy cut b → most_taken cut m ≡ length (concat m.sent) → Chain SinkCall a (map whole_send m.sent) b → TakesText a b cut m status
-  none-refused cut wanted most chain = record {
-    wanted = λ e. wanted;
+  none-refused : (cut : RunCut) → (cut ≡ by_sink of_send.NoMemory → ⊥) → refused_sends cut m ≡ [] → Chain SinkCall a (map whole_send m.sent ++ refused_sends cut m) b → TakesText a b cut m
+  none-refused cut other none chain = record {
+    wanted = λ e. absurd (other e);
     count = length (concat m.sent);
     at_least = omega arith;
-    at_most = omega arith;
+    at_most = let size = ap length front.1 ∙ length-append (concat m.sent) front.0 in omega arith;
+    whole = λ e. refl;
     text_is = λ t.
-        (took-whole a b m.sent chain).all t
+        (took-whole a b m.sent (subst (λ (sends : List Send). Chain SinkCall a sends b) (ap (λ (sends : List Send). map whole_send m.sent ++ sends) none ∙ append-nil (map whole_send m.sent)) chain)).all t
         ∙ ap (λ (xs : List ℕ). a.taken ++ xs) (sym (ap (take (length (concat m.sent))) front.1 ∙ take-append_seam (concat m.sent) front.0));
   }
 
   -- the last one was
-  one-refused : (cut : RunCut) → (b.calls.wanting ≡ true → WantedBy cut b) → most_taken cut m ≡ length m.world.text → Chain SinkCall a (map whole_send m.sent ++ refused_send m status ∷ []) b → TakesText a b cut m status
-  one-refused cut wanted most chain =
-      let parts = chain-split SinkCall a b (map whole_send m.sent) (refused_send m status ∷ []) chain in
+  one-refused : (fault : SendFault) → Chain SinkCall a (map whole_send m.sent ++ refused_sends (by_sink fault) m) b → TakesText a b (by_sink fault) m
+  one-refused fault chain =
+      let refused : Send = (pending m.sent m.world.text, Err fault) in
+      let parts = chain-split SinkCall a b (map whole_send m.sent) (refused ∷ []) chain in
       let mid : FlatSink = parts.0 in
       let before = took-whole a mid m.sent parts.1 in
       let last : FlatSink = parts.2.0 in
-      let call : SinkCall mid (refused_send m status) last = parts.2.1 in
+      let call : SinkCall mid refused last = parts.2.1 in
       let same : b ≡ last = parts.2.2 in
       let more : List ℕ = call.bytes.more in
       let rest : List ℕ = call.bytes.rest in
@@ -64,24 +70,21 @@ module _ (a b : FlatSink) (m : Configuration) (front : IsFront (concat m.sent) m
       let size : length (concat m.sent ++ more) ≡ length (concat m.sent) + length more = length-append (concat m.sent) more in
       let whole : length m.world.text ≡ length (concat m.sent ++ more) + length rest = ap length text ∙ length-append (concat m.sent ++ more) rest in
       record {
-        wanted = λ e. wanted (ap (λ (s : FlatSink). s.calls.wanting) same ∙ call.cause.want ∙ ap (λ (n : ℕ). send_wanted {T = Unit {0}} (Err (send_fault_at n))) e);
+        wanted = λ e. ap (λ (s : FlatSink). s.calls.wanting) same ∙ call.cause.want ∙ ap (λ (f : SendFault). send_wanted {T = Unit {0}} (Err f)) (fault-same fault of_send.NoMemory e);
         count = length (concat m.sent ++ more);
         at_least = omega arith;
         at_most = omega arith;
+        whole = λ e. absurd cc;
         text_is = λ t.
             ap (λ (s : FlatSink). s.taken) same ∙ call.bytes.taken (before.tells ∙ t) ∙ ap (λ (xs : List ℕ). xs ++ more) (before.all t) ∙ append_assoc a.taken (concat m.sent) more
             ∙ ap (λ (xs : List ℕ). a.taken ++ xs) (sym (ap (take (length (concat m.sent ++ more))) text ∙ take-append_seam (concat m.sent ++ more) rest));
       }
 
-  by-cut : (cut : RunCut) → Chain SinkCall a (sends_by_cut cut m status) b → TakesText a b cut m status
-  by-cut (in_move j) chain = none-refused (in_move j) tt refl chain
-  by-cut (in_send j) chain = one-refused (in_send j) (λ e. e) refl chain
-  by-cut (in_question j) chain = none-refused (in_question j) tt refl chain
-  by-cut (in_reading j) chain = none-refused (in_reading j) tt refl chain
-  by-cut in_last_screen chain = none-refused in_last_screen tt refl chain
-  by-cut in_last_send chain = one-refused in_last_send (λ e. e) refl chain
-  by-cut in_listing chain = none-refused in_listing tt refl chain
-  by-cut (in_store stored next) chain = none-refused (in_store stored next) tt refl chain
+  by-cut : (cut : RunCut) → Chain SinkCall a (map whole_send m.sent ++ refused_sends cut m) b → TakesText a b cut m
+  by-cut by_memory chain = none-refused by_memory (λ e. cc) refl chain
+  by-cut (by_sink fault) chain = one-refused fault chain
+  by-cut (by_shelf r fault) chain = none-refused (by_shelf r fault) (λ e. cc) refl chain
+  by-cut by_source chain = none-refused by_source (λ e. cc) refl chain
 
-  pub takes-front : (cut : RunCut) (sends : List Send) → sends ≡ sends_by_cut cut m status → Chain SinkCall a sends b → TakesText a b cut m status
+  pub takes-front : (cut : RunCut) (sends : List Send) → sends ≡ map whole_send m.sent ++ refused_sends cut m → Chain SinkCall a sends b → TakesText a b cut m
   takes-front cut sends is chain = by-cut cut (subst (λ (t : List Send). Chain SinkCall a t b) is chain)

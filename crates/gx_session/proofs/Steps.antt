@@ -11,10 +11,10 @@ use Rattle.gx_machine.specs.Step.{cost_of, step_of, stepped, asking_of}
 use Rattle.gx_machine.proofs.Costs.{cost-positive}
 use Rattle.gx_session.specs.declared.ends.Stop.TheVariants as stop
 use Rattle.gx_session.specs.Configurations.{Configuration, Verdict, stops}
-use Rattle.gx_session.specs.Moves.{after_effect, after_step, step_from}
-use Rattle.gx_session.specs.Asked.{effect_of, effect_at, asked}
+use Rattle.gx_session.specs.Moves.{after_effect, after_step}
+use Rattle.gx_session.specs.Asked.{effect_at, asked}
 use Rattle.rand_core.specs.Stream.{Stream, next_u32}
-use Rattle.gx_session.proofs.Parts.{asked_by}
+use Rattle.gx_session.proofs.Parts.{step_from, effect_of, asked_by}
 
 -- what a step within a budget makes of a configuration
 abbrev verdict_of : Configuration → Result ((Whole × ℕ) × Effect) Fault → Verdict
@@ -42,7 +42,7 @@ tested m asking cost (Err f) false = refl
 
 step-goes : (m : Configuration) (asking : Option Asking) (word : ℕ) → (next_u32 m.words).0 ≡ word
     → step_from m ≡ verdict_of m (stepped (record { machine = m.machine; asking = asking }) word m.left)
-unfolding step_from stepped
+unfolding stepped
 step-goes m asking word drawn =
     subst (λ (w : ℕ). step_from m ≡ verdict_of m (stepped (record { machine = m.machine; asking = asking }) w m.left)) drawn
     (tested m asking (cost_of m.machine) (step_of m.machine (next_u32 m.words).0) (nat_lt m.left (cost_of m.machine)))

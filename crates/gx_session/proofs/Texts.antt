@@ -18,10 +18,11 @@ use Rattle.gx_session.specs.declared.running.Waiting.{Waiting}
 use Rattle.gx_session.specs.Input.{next_line}
 use Rattle.gx_session.specs.Saving.{saving, restoring}
 use Rattle.gx_session.specs.Configurations.{Configuration, Phase, steps, asks, goes_on, Verdict, goes, stops}
-use Rattle.gx_session.specs.Moves.{after_reply, after_restoring, after_turn, after_effect, after_step, step_from}
-use Rattle.gx_session.specs.Moves.{act_by, act_of, sends_now, all_sent, move_of}
-use Rattle.gx_session.specs.Session.{moves_left, RunEnd, end_after, final_in, stop_of, final_of}
-use Rattle.gx_session.specs.Runs.{IsFront}
+use Rattle.gx_session.specs.Moves.{after_reply, after_restoring, after_turn, after_effect, after_step}
+use Rattle.gx_session.specs.Moves.{act_by, sends_now, all_sent, move_of}
+use Rattle.gx_session.specs.Standing.{act_of}
+use Rattle.gx_session.specs.Session.{RunEnd, end_after, final_in, stop_of, final_of}
+use Rattle.gx_session.proofs.Parts.{IsFront, step_from, moves_left}
 use Rattle.gx_session.proofs.Cases.{turn-cases, given-cases, line-cases, asking-cases}
 use Rattle.rand_core.specs.Stream.{next_u32}
 
@@ -70,7 +71,6 @@ tested-grows m left r true = front-refl m.world.text
 tested-grows m left r false = stepped-grows m left r
 
 step-grows : (m : Configuration) → IsFront m.world.text (text_in (step_from m))
-unfolding step_from
 step-grows m = tested-grows m (m.left - cost_of m.machine) (step_of m.machine (next_u32 m.words).0) (nat_lt m.left (cost_of m.machine))
 
 -- a line that is shown

@@ -1,6 +1,7 @@
 -- The copies of each configuration of a run are those of the saveundos that are alive there.
-use Rattle.std.proofs.Common.{◌≡◌, ℕ, suc, zero, ◌+◌, ◌-◌, ◌==◌, nat_lt, if◌then◌else◌, List, [], ◌∷◌, take, drop, Bool, true, false, Option, Some, None, option_and_then, Result, Ok, Err, refl, ap, subst, sym, ◌∙◌}
+use Rattle.std.proofs.Common.{◌≡◌, ℕ, suc, zero, ◌+◌, ◌-◌, ◌==◌, ◌||◌, nat_lt, if◌then◌else◌, List, [], ◌∷◌, take, drop, Bool, true, false, Option, Some, None, option_and_then, Result, Ok, Err, refl, ap, subst, sym, ◌∙◌}
 use Rattle.std.proofs.lemmas.Bool.{eqb-true}
+use Rattle.std.specs.Option.{option_map_or}
 use Rattle.gx_words.specs.declared.faults.Fault.{Fault}
 use Rattle.gx_words.specs.declared.faults.Fault.TheVariants.{BadOpcode, BadFrame, Overflow, DebugTrap}
 use Rattle.gx_words.specs.Results.{◌>>=◌}
@@ -41,18 +42,33 @@ use Rattle.gx_session.specs.Saving.{saving, restoring}
 use Rattle.gx_session.specs.Configurations.{Configuration, Phase, steps, asks as asks-for, goes_on, Verdict, goes}
 use Rattle.gx_session.specs.Configurations.{stops}
 use Rattle.gx_session.specs.Moves.{after_reply, after_restoring, after_turn, after_given, after_asking, after_effect}
-use Rattle.gx_session.specs.Moves.{after_step, step_from, act_by, act_of, sends_now, all_sent, move_of}
+use Rattle.gx_session.specs.Moves.{after_step, act_by, sends_now, all_sent, move_of}
+use Rattle.gx_session.proofs.Parts.{step_from}
+use Rattle.gx_session.specs.Standing.{act_of}
 use Rattle.gx_session.specs.Session.{next_configuration, run_of}
-use Rattle.gx_session.specs.Undoing.{Undoing, saves, restores, discards, neither, undoing, undoing_next, undoing_move, undoing_row, undoing_in, alive, alive_by, alive_from, IsTaken, AreTaken, LastsUndo}
+use Rattle.gx_session.specs.Undoing.{Undoing, saves, takes_newest, neither, undoing_next, undoing_row, alive, alive_by, IsTaken, AreTaken, LastsUndo}
 use Rattle.gx_session.proofs.Cases.{turn-cases, given-cases, line-cases, asking-cases}
 use Rattle.gx_session.proofs.Steps.{ok-is}
 use Rattle.rand_core.specs.Stream.{next_u32}
 
+-- what a step is to the copies, and a move
+abbrev undoing_in : Mode → Result Instruction Fault → Undoing
+undoing_in d r = undoing_next steps d r
+
+abbrev undoing : FlatState → Undoing
+undoing f = undoing_in f.mode (instruction f)
+
+abbrev undoing_move : Configuration → Undoing
+undoing_move m = if sends_now m then neither else undoing_next m.phase m.machine.flat.mode (instruction m.machine.flat)
+
+-- the saveundos that are alive after a move
+abbrev alive_from : ℕ → ℕ → List ℕ → Option Configuration → List ℕ
+alive_from depth j live o = option_map_or (λ (m : Configuration). alive_by depth j live (undoing_move m)) o live
+
 -- what a step makes of the copies, by what it is to them
 abbrev Undone : FlatMachine → FlatUndo → Effect → Undoing → Type 0
 Undone m u e saves = (i : Instruction) × (instruction m.flat ≡ Ok i) × (u ≡ with_newest m.undo (copy_of m.flat i.dest i.next)) × (e ≡ effect.Went)
-Undone m u e restores = (u ≡ without_newest m.undo) × (e ≡ effect.Went)
-Undone m u e discards = (u ≡ without_newest m.undo) × (e ≡ effect.Went)
+Undone m u e takes_newest = (u ≡ without_newest m.undo) × (e ≡ effect.Went)
 Undone m u e neither = u ≡ m.undo
 
 -- THE ROWS OF GAME
@@ -166,7 +182,7 @@ discarded f u i p h =
 
 -- each row of Game, by its number
 abbrev kind-by : Bool → Bool → Bool → Undoing
-kind-by saving restoring discarding = if saving then saves else if restoring then restores else if discarding then discards else neither
+kind-by saving restoring discarding = if saving then saves else if restoring || discarding then takes_newest else neither
 
 game-rows : (m : FlatMachine) (word : ℕ) (i : Instruction) (p : (FlatState × FlatUndo) × Effect) (saving restoring discarding : Bool)
     → (i.row.number == numbers.saveundo) ≡ saving → (i.row.number == numbers.restoreundo) ≡ restoring → (i.row.number == numbers.discardundo) ≡ discarding
@@ -226,14 +242,13 @@ tested-undone m word m' e true h = cc
 tested-undone m word m' e false h = mode-undone m word m.flat.mode m' e h
 
 step-undone : (m : FlatMachine) (word : ℕ) (m' : FlatMachine) (e : Effect) → step_of m word ≡ Ok (m', e) → Undone m m'.undo e (undoing m.flat)
-unfolding step_of undoing
+unfolding step_of
 step-undone m word m' e h = tested-undone m word m' e (sp_of m.flat == 0) h
 
 -- an asking leaves the copies
 asks-neither : (m : FlatMachine) (u : FlatUndo) (e : Effect) (kind : Undoing) → (e ≡ effect.Went → ⊥) → Undone m u e kind → Undone m m.undo e kind
 asks-neither m u e saves asks is = absurd (asks is.3)
-asks-neither m u e restores asks is = absurd (asks is.1)
-asks-neither m u e discards asks is = absurd (asks is.1)
+asks-neither m u e takes_newest asks is = absurd (asks is.1)
 asks-neither m u e neither asks is = refl
 
 -- what a verdict makes of the copies of an asking, or of a move that is no step
@@ -304,20 +319,19 @@ tested-undid m left word m' true e = cc
 tested-undid m left word m' false e = stepped-undid m left word (step_of m.machine word) m' refl e
 
 step-undid : (m m' : Configuration) → step_from m ≡ goes m' → Undid m.machine m'.machine.undo (undoing m.machine.flat)
-unfolding step_from
 step-undid m m' e = tested-undid m (m.left - cost_of m.machine) (next_u32 m.words).0 m' (nat_lt m.left (cost_of m.machine)) e
 
 stood-undid : (m : FlatMachine) (u : FlatUndo) → m.undo ≡ u → Undid m u neither
 stood-undid m u same = record { does = effect.Went; undone = sym same }
 
-act-undid : (phase : Phase) (m m' : Configuration) → act_by phase m ≡ goes m' → Undid m.machine m'.machine.undo (undoing_next phase m.machine.flat)
+act-undid : (phase : Phase) (m m' : Configuration) → act_by phase m ≡ goes m' → Undid m.machine m'.machine.undo (undoing_next phase m.machine.flat.mode (instruction m.machine.flat))
 act-undid steps m m' e = step-undid m m' e
 act-undid (asks-for t w) m m' e = stood-undid m.machine m'.machine.undo (kept-undo m.machine.undo (after_asking m w t) m' (asked-undo m w t) e)
 act-undid (goes_on g w) m m' e =
     stood-undid m.machine m'.machine.undo (kept-undo m.machine.undo (after_given m w (glk_go_on m.world.scene m.machine.flat w.room g)) m' (given-undo m w (glk_go_on m.world.scene m.machine.flat w.room g)) e)
 
 moved-undid : (m m' : Configuration) (b : Bool) → (if b then goes (all_sent m) else act_of m) ≡ goes m'
-    → Undid m.machine m'.machine.undo (if b then neither else undoing_next m.phase m.machine.flat)
+    → Undid m.machine m'.machine.undo (if b then neither else undoing_next m.phase m.machine.flat.mode (instruction m.machine.flat))
 moved-undid m m' true e = stood-undid m.machine m'.machine.undo (kept-undo m.machine.undo (goes (all_sent m)) m' refl e)
 moved-undid m m' false e = act-undid m.phase m m' e
 
@@ -358,12 +372,7 @@ lasts-on start m m' j live does saves reached now is =
       depth = ap (λ (u : FlatUndo). u.depth) is.2 ∙ now.depth;
       taken = subst (λ (u : FlatUndo). AreTaken start u.copies (take start.machine.undo.depth (j ∷ live))) (sym is.2) deep;
     }
-lasts-on start m m' j live does restores reached now is =
-    record {
-      depth = ap (λ (u : FlatUndo). u.depth) is.0 ∙ now.depth;
-      taken = subst (λ (u : FlatUndo). AreTaken start u.copies (drop 1 live)) (sym is.0) (taken-drop start m.machine.undo.copies live now.taken);
-    }
-lasts-on start m m' j live does discards reached now is =
+lasts-on start m m' j live does takes_newest reached now is =
     record {
       depth = ap (λ (u : FlatUndo). u.depth) is.0 ∙ now.depth;
       taken = subst (λ (u : FlatUndo). AreTaken start u.copies (drop 1 live)) (sym is.0) (taken-drop start m.machine.undo.copies live now.taken);

@@ -14,34 +14,22 @@ use Rattle.rand_core.specs.Stream.{Stream}
 
 -- What comes next.
 pub data Phase : Type 0 where
-  -- a step of the machine
-  steps : Phase
-  -- a device is asked for what the turn of a Glk call says
-  asks : Turn → Waiting → Phase
-  -- the call goes on with what it was given
-  goes_on : Given → Waiting → Phase
+  steps : Phase  -- a step of the machine
+  asks : Turn → Waiting → Phase  -- a device is asked for what the turn of a Glk call says
+  goes_on : Given → Waiting → Phase  -- the call goes on with what it was given
 
 -- What stands after some moves.
 pub record Configuration : Type 0 where
   pub machine : FlatMachine
-  -- with all the text that was shown
-  pub world : FlatWorld
-  -- what was sent of it, call by call
-  pub sent : Sent
-  -- the bytes of input that weren't taken
-  pub input : List ℕ
-  -- each line that is taken is shown
-  pub echo : Bool
-  -- what the shelf answers to a request, after these calls
-  pub answers : Trace → Request → Answer
-  -- the calls of the shelf
-  pub asked : Trace
-  -- the random words that weren't used
-  pub words : Stream
-  -- the units of the budget that weren't used
-  pub left : ℕ
-  -- what is recorded of the run, where it is: see gx_machine
-  pub log : Option Log
+  pub world : FlatWorld  -- with all the text that was shown
+  pub sent : Sent  -- what was sent of it, call by call
+  pub input : List ℕ  -- the bytes of input that weren't taken
+  pub echo : Bool  -- each line that is taken is shown
+  pub answers : Trace → Request → Answer  -- what the shelf answers to a request, after these calls
+  pub asked : Trace  -- the calls of the shelf
+  pub words : Stream  -- the random words that weren't used
+  pub left : ℕ  -- the units of the budget that weren't used
+  pub log : Option Log  -- what is recorded of the run, where it is: see gx_machine
   pub phase : Phase
 
 -- What a move comes to: the next configuration, or a stop at one.

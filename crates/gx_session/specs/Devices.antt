@@ -12,19 +12,10 @@ pub record Devices : Type 0 where
   pub sink : FlatSink
   pub shelf : FlatShelf
   pub words : Stream
-  -- the calls of the source, of the sink and of the shelf since the run began
-  pub reads : List SourceRead
+  pub reads : List SourceRead  -- the calls of the source, of the sink and of the shelf since the run began
   pub sends : List Send
   pub asked : Trace
 
 abbrev pub devices : FlatSource → FlatSink → FlatShelf → Stream → List SourceRead → List Send → Trace → Devices
 devices source sink shelf words reads sends asked =
-    record {
-      source = source;
-      sink = sink;
-      shelf = shelf;
-      words = words;
-      reads = reads;
-      sends = sends;
-      asked = asked;
-    }
+    record { source = source; sink = sink; shelf = shelf; words = words; reads = reads; sends = sends; asked = asked }

@@ -1,6 +1,6 @@
 -- THE ENDING: after a stop the last screen is shown, where the screen is composed. Then the pending text is sent, and
 -- each file stream that is open for writing is stored, in order of creation.
-use Rattle.std.specs.Prelude.{ℕ, if◌then◌else◌, List, ◌++◌, map, Ok}
+use Rattle.std.specs.Prelude.{ℕ, if◌then◌else◌, List, Ok}
 use Rattle.std.specs.List.{filter_map}
 use Rattle.glk_streams.specs.Streams.{file_of, open_files}
 use Rattle.glk_world.specs.World.{Scene}
@@ -21,13 +21,6 @@ stores_of scene = filter_map (file_of scene.streams) (open_files scene.streams)
 abbrev pub store_call : Store → Exchange
 store_call s = (stores s.0 s.1, Ok stored)
 
--- The configuration at the end once its text is sent, and after these stores.
+-- The configuration at the end, once its text is sent.
 abbrev pub told_all : Configuration → Configuration
 told_all m = record m { sent = if is_due 1 m.sent m.world.text then (all_sent m).sent else m.sent }
-
-abbrev pub after_stores : Configuration → List Store → Configuration
-after_stores m files = record m { asked = m.asked ++ map store_call files }
-
--- THE LAST CONFIGURATION of a run that came to its end at this one.
-abbrev pub last_configuration : Configuration → Configuration
-last_configuration m = after_stores (told_all m) (stores_of m.world.scene)

@@ -1,5 +1,5 @@
 -- The ending of a run. What contracts say.
-use Rattle.std.specs.Prelude.{◌≡◌, ◌≢◌, ◌<◌, List, [], ◌∷◌, ◌++◌, map, ◌⊎◌, length, Result, Ok, Err, Option}
+use Rattle.std.specs.Prelude.{◌≡◌, ◌≢◌, ◌<◌, List, [], ◌∷◌, ◌++◌, map, ◌⊎◌, length, Result, Ok, Err, Option, None}
 use Rattle.gx_machine.specs.declared.askings.Asking.{Asking}
 use Rattle.gx_outside.specs.Outside.{FlatShelf}
 use Rattle.gx_outside.specs.Shelves.{stores, Trace}
@@ -11,12 +11,13 @@ use Rattle.gx_session.specs.declared.ends.Halt.{Halt}
 use Rattle.gx_session.specs.declared.ends.Halt.TheVariants as halt
 use Rattle.gx_session.specs.declared.ends.Next.TheVariants as next
 use Rattle.gx_session.specs.Constants.{piece}
-use Rattle.gx_session.specs.Cuts.{IsLineStop, stopped, asking_at_stop}
+use Rattle.gx_session.specs.Cuts.{IsLineStop}
 use Rattle.glk_streams.specs.Streams.{open_files}
 use Rattle.gx_session.specs.Endings.{Store, stores_of, store_call, told_all}
 use Rattle.gx_session.specs.Configurations.{Configuration, Phase}
 use Rattle.gx_session.specs.Session.{final_of}
-use Rattle.gx_session.specs.Runs.{SavedAll}
+use Rattle.gx_session.specs.Asked.{asked_at}
+use Rattle.gx_session.specs.Runs.{SavedBefore}
 use Rattle.gx_session.specs.Holding.{HeldRun, SendStep, Handed, History, configuration_of, IsHistory, IsRead}
 use Rattle.gx_session.specs.Standing.{ComesTo, Early}
 use Rattle.gx_session.specs.Outcomes.{halt_of_shelf}
@@ -36,9 +37,9 @@ pub record Told {K : Type 0} {sending : SendStep K} (start : Configuration) (ent
   pub few : why ≢ stop.LineTooLong → length h.ahead < piece
   pub reads : (IsLineStop why → ⊥) → IsRead start.input entry h d
   pub stop_is : (final_of start).stop ≡ why
-  pub is_end : told_all (stopped start) ≡ configuration_of past phase h d
-  pub saves : SavedAll start
-  pub asking_is : asking ≡ asking_at_stop start
+  pub is_end : told_all (final_of start).configuration ≡ configuration_of past phase h d
+  pub saves : SavedBefore start None
+  pub asking_is : asking ≡ asked_at (final_of start).stop (final_of start).configuration
   pub none_left : h.world.text ≡ []
 
 -- Then all open files were stored, after these calls of the shelf, which was this one.

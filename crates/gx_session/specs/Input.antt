@@ -10,12 +10,9 @@ use Rattle.glk_text.specs.Characters.{is_printable}
 use Rattle.gx_session.specs.Constants.{longest_line}
 
 pub data NextLine : Type 0 where
-  -- so many bytes hold no line feed that they are no line
-  too_long : NextLine
-  -- nothing is left
-  none : NextLine
-  -- the characters of a line, and the bytes after it
-  line : List ℕ → List ℕ → NextLine
+  too_long : NextLine  -- so many bytes hold no line feed that they are no line
+  none : NextLine  -- nothing is left
+  line : List ℕ → List ℕ → NextLine  -- the characters of a line, and the bytes after it
 
 abbrev pub is_line_feed : ℕ → Bool
 is_line_feed b = b == 0x0A

@@ -17,7 +17,7 @@ use Rattle.gx_machine.specs.Log.{logged}
 use Rattle.gx_machine.specs.Saves.{restored}
 use Rattle.gx_machine.specs.Answer.{answer_of}
 use Rattle.gx_machine.specs.Step.{cost_of, step_of}
-use Rattle.glk_world.specs.World.{Said, after}
+use Rattle.glk_world.specs.World.{FlatWorld, Said, after}
 use Rattle.glk_world.specs.Shown.{show_grids, show_line}
 use Rattle.glk_replies.specs.declared.Turn.{Turn}
 use Rattle.glk_replies.specs.declared.Turn.TheVariants as turn
@@ -44,34 +44,22 @@ event_done m machine left = record m { machine = machine; left = left; log = log
 -- step comes. A fault of the world stops the run before the step.
 abbrev pub after_reply : Configuration → ℕ → Result (Said × Reply) Fault → Verdict
 after_reply m left (Ok r) =
-    goes (record m {
-      machine = answer_of m.machine r.1;
-      world = after m.world r.0;
-      left = left;
-      log = logged m.log m.machine;
-      phase = steps;
-    })
+    goes (record (event_done m (answer_of m.machine r.1) left) { world = after m.world r.0; phase = steps })
 after_reply m left (Err fault) = stops (stop.Faulted fault) m
 
--- A Glk call has said something, and then asks a device.
-abbrev pub asking_for : Configuration → Waiting → Said → Turn → Verdict
-asking_for m w said t = goes (record m { world = after m.world said; phase = asks t w })
+-- A Glk call has moved the world on, and then asks a device.
+abbrev pub asking_for : Configuration → Waiting → FlatWorld → Turn → Verdict
+asking_for m w world t = goes (record m { world = world; phase = asks t w })
 
--- It waits for a line: what the view shows at a wait is shown.
-abbrev pub waiting_for : Configuration → Waiting → Said → Turn → Verdict
-waiting_for m w said t = goes (record m { world = after (after m.world said) (show_grids said.0); phase = asks t w })
-
--- The turn of a Glk call. One that ends the program is counted and not recorded, and one that waits in vain is neither.
+-- The turn of a Glk call. At a wait for a line what the view shows then is shown. A call that waits in vain isn't
+-- counted, and one that ends the program is counted and not recorded. Every other turn asks the shelf.
 abbrev pub after_turn : Configuration → Waiting → Result (Said × Turn) Fault → Verdict
 after_turn m w (Ok (said, turn.Answer reply)) = after_reply m w.left (Ok (said, reply))
-after_turn m w (Ok (said, turn.Wait)) = waiting_for m w said turn.Wait
+after_turn m w (Ok (said, turn.Wait)) = asking_for m w (after (after m.world said) (show_grids said.0)) turn.Wait
 after_turn m w (Ok (said, turn.Stuck)) = stops stop.Stuck (record m { world = after m.world said })
-after_turn m w (Ok (said, turn.Prompt)) = waiting_for m w said turn.Prompt
-after_turn m w (Ok (said, turn.Load name)) = asking_for m w said (turn.Load name)
-after_turn m w (Ok (said, turn.Store name bytes)) = asking_for m w said (turn.Store name bytes)
-after_turn m w (Ok (said, turn.Remove name)) = asking_for m w said (turn.Remove name)
-after_turn m w (Ok (said, turn.Has name)) = asking_for m w said (turn.Has name)
+after_turn m w (Ok (said, turn.Prompt)) = asking_for m w (after (after m.world said) (show_grids said.0)) turn.Prompt
 after_turn m w (Ok (said, turn.Exit)) = stops stop.Exited (record m { world = after m.world said; left = w.left })
+after_turn m w (Ok (said, t)) = asking_for m w (after m.world said) t
 after_turn m w (Err fault) = stops (stop.Faulted fault) m
 
 -- A call that went on with what it was given has an answer, or a fault. (It has no further turn.)
@@ -85,11 +73,8 @@ abbrev pub after_line : Configuration → Waiting → NextLine → Verdict
 after_line m w too_long = stops stop.LineTooLong m
 after_line m w none = stops stop.InputEnded m
 after_line m w (line chars rest) =
-    goes (record m {
-      world = if m.echo then after m.world (show_line m.world.scene chars) else m.world;
-      input = rest;
-      phase = goes_on (given.Line chars) w;
-    })
+    let world = if m.echo then after m.world (show_line m.world.scene chars) else m.world in
+    goes (record m { world = world; input = rest; phase = goes_on (given.Line chars) w })
 
 -- what a call is given for an answer of the shelf
 abbrev pub given_of : Answer → Given
@@ -97,34 +82,33 @@ given_of (loaded load) = given.Loaded load
 given_of stored = given.Stored
 given_of (was b) = given.Was b
 
--- The shelf is asked this, and the call goes on with what it answers.
-abbrev pub shelf_gives : Configuration → Waiting → Request → Verdict
-shelf_gives m w r =
+-- what the shelf is asked for a turn, if it is asked
+abbrev pub request_of : Turn → Option Request
+request_of (turn.Load name) = Some (loads name most_loaded)
+request_of (turn.Store name bytes) = Some (stores name bytes)
+request_of (turn.Remove name) = Some (removes name)
+request_of (turn.Has name) = Some (looks name)
+request_of t = None
+
+-- The shelf is asked this, and the call goes on with what it answers. (No run comes here with nothing to ask.)
+abbrev pub shelf_gives : Configuration → Waiting → Option Request → Verdict
+shelf_gives m w None = stops stop.Stuck m
+shelf_gives m w (Some r) =
     let answer = m.answers m.asked r in
     goes (record m { asked = m.asked ++ (r, Ok answer) ∷ []; phase = goes_on (given_of answer) w })
 
 -- A restore: the machine goes back to the copy that was read, or takes the answer of one that fails.
 abbrev pub after_restoring : Configuration → ℕ → Result (Said × Option Copy) Fault → Verdict
 after_restoring m left (Ok (said, Some copy)) =
-    goes (record m {
-      machine = restored m.machine copy;
-      world = after m.world said;
-      left = left;
-      log = logged m.log m.machine;
-      phase = steps;
-    })
+    goes (record (event_done m (restored m.machine copy) left) { world = after m.world said; phase = steps })
 after_restoring m left (Ok (said, None)) = after_reply m left (Ok (said, replies failed))
 after_restoring m left (Err fault) = stops (stop.Faulted fault) m
 
--- What a device gives for a turn. (The other turns ask for nothing.)
+-- What a device gives for a turn: the source a line, and else the shelf an answer.
 abbrev pub after_asking : Configuration → Waiting → Turn → Verdict
 after_asking m w turn.Wait = after_line m w (next_line m.input)
 after_asking m w turn.Prompt = after_line m w (next_line m.input)
-after_asking m w (turn.Load name) = shelf_gives m w (loads name most_loaded)
-after_asking m w (turn.Store name bytes) = shelf_gives m w (stores name bytes)
-after_asking m w (turn.Remove name) = shelf_gives m w (removes name)
-after_asking m w (turn.Has name) = shelf_gives m w (looks name)
-after_asking m w t = stops stop.Stuck m
+after_asking m w t = shelf_gives m w (request_of t)
 
 -- The effect of a step: the next configuration; the random word is used up; a character or a call goes to Glk, with the
 -- machine as before the step; so does a save or a restore; the program ends. (No step by itself is Spent.)
@@ -145,21 +129,14 @@ abbrev pub after_step : Configuration → ℕ → Result (FlatMachine × Effect)
 after_step m left (Ok r) = after_effect m left r.0 r.1
 after_step m left (Err fault) = stops (stop.Faulted fault) m
 
--- The step: the budget is spent where it has less left than the step costs; else the step is done with the next random
--- word.
-unfoldable pub step_from : Configuration → Verdict
-step_from m =
+-- What comes next. A step: the budget is spent where it has less left than the step costs; else the step is done with
+-- the next random word.
+abbrev pub act_by : Phase → Configuration → Verdict
+act_by steps m =
     if nat_lt m.left (cost_of m.machine) then stops stop.Spent m else
     after_step m (m.left - cost_of m.machine) (step_of m.machine (next_u32 m.words).0)
-
--- what comes next
-abbrev pub act_by : Phase → Configuration → Verdict
-act_by steps m = step_from m
 act_by (asks t w) m = after_asking m w t
 act_by (goes_on g w) m = after_given m w (glk_go_on m.world.scene m.machine.flat w.room g)
-
-abbrev pub act_of : Configuration → Verdict
-act_of m = act_by m.phase m
 
 -- The pending text is due: before a device is asked where there is some, and between two events where it has
 -- `enough` bytes.
@@ -177,4 +154,4 @@ all_sent m = record m { sent = m.sent ++ pending m.sent m.world.text ∷ [] }
 
 -- ONE MOVE: the text is sent where it is due, and else what comes next is done.
 unfoldable pub move_of : Configuration → Verdict
-move_of m = if sends_now m then goes (all_sent m) else act_of m
+move_of m = if sends_now m then goes (all_sent m) else act_by m.phase m

@@ -2,8 +2,9 @@
 --
 -- A source that tells has so many bytes left. Of one that doesn't, what is to come is unknown: what is said here of a
 -- call is said of all bytes that may come after it, and gives the bytes that came before it.
-use Rattle.std.specs.Prelude.{◌≡◌, ℕ, ◌+◌, ◌<◌, ◌≤◌, ◌⊎◌, List, [], ◌++◌, length, Bool, true, false, Result, Ok, Err}
-use Rattle.std.specs.List.{position_or_len}
+use Rattle.std.specs.Prelude.{◌≡◌, ℕ, ◌+◌, ◌<◌, ◌≤◌, ◌⊎◌, List, [], ◌∷◌, ◌++◌, length, Bool, true, false}
+use Rattle.std.specs.Prelude.{Result, Ok, Err}
+use Rattle.std.specs.List.{position_or_len, AllByRecursion}
 use Rattle.gx_outside.specs.Chains.{Chain}
 use Rattle.gx_outside.specs.Outside.{FlatSource, raised_by, offered_in}
 use Rattle.gx_outside.specs.Reads.{SourceRead}
@@ -13,12 +14,18 @@ use Rattle.gx_session.specs.declared.lines.NoLine.TheVariants as no
 use Rattle.gx_session.specs.Constants.{piece}
 use Rattle.gx_session.specs.Input.{is_line_feed, too_long, none, line, next_line}
 use Rattle.gx_session.specs.Lines.{HeldLines}
-use Rattle.gx_session.specs.Reads.{bytes_read, HavePieces, SayEnd, IsPartial}
+use Rattle.gx_session.specs.Reads.{bytes_read, IsPartial}
 
 -- These bytes may come: those that are left, where the source tells them, and none once it has ended.
 pub record IsComing (lines : HeldLines) (source : FlatSource) (coming : List ℕ) : Type 0 where
   pub told : source.tells ≡ true → coming ≡ source.left
   pub over : lines.ended ≡ true → coming ≡ []
+
+-- One of these reads gave nothing, and so said that nothing is left.
+abbrev pub SayEnd : List SourceRead → Type 0
+SayEnd [] = ⊥
+SayEnd ((room, Ok []) ∷ reads) = Unit {0}
+SayEnd ((room, gave) ∷ reads) = SayEnd reads
 
 -- A source that has ended has nothing left.
 abbrev pub IsOver : HeldLines → FlatSource → Type 0
@@ -34,7 +41,7 @@ pub record Fed {S : Type 0} (reading : ReadStep S) (seen : S → FlatSource) (ol
     (P : List ℕ → List ℕ → Type 0) : Type 0 where
   pub reads : List SourceRead
   pub chain : Chain reading before reads now
-  pub pieces : HavePieces reads
+  pub pieces : AllByRecursion (λ (r : SourceRead). r.0 ≡ piece) reads
   pub said : (old.ended ≡ true) ⊎ SayEnd reads → new.ended ≡ true
   pub over : IsOver old (seen before) → IsOver new (seen now)
   pub comes : (after : List ℕ) → IsComing new (seen now) after

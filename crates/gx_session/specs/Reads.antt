@@ -1,7 +1,8 @@
 -- The reads of the source over a run, and the input that they leave.
-use Rattle.std.specs.Prelude.{◌≡◌, ℕ, ◌+◌, ◌<◌, List, [], ◌∷◌, ◌++◌, length, Ok, Err, ◌≢◌, ◌≤◌, ◌⊎◌}
+use Rattle.std.specs.Prelude.{◌≡◌, ℕ, ◌+◌, ◌<◌, List, [], ◌∷◌, ◌++◌, map, length, unwrap_or, Ok, ◌≢◌, ◌≤◌, ◌⊎◌}
 use Rattle.std.specs.Prelude.{true}
-use Rattle.std.specs.List.{position_or_len}
+use Rattle.std.specs.List.{position_or_len, concat, AllByRecursion}
+use Rattle.std.specs.Result.{result_ok}
 use Rattle.gx_outside.specs.Reads.{SourceRead}
 use Rattle.gx_outside.specs.Outside.{FlatSource, raised_by, offered_in}
 use Rattle.gx_session.specs.Constants.{longest_line, piece}
@@ -10,31 +11,18 @@ use Rattle.gx_session.specs.Input.{is_line_feed}
 -- THE READS of a source
 -- the bytes that they gave, one after another
 abbrev pub bytes_read : List SourceRead → List ℕ
-bytes_read [] = []
-bytes_read ((room, Ok bytes) ∷ reads) = bytes ++ bytes_read reads
-bytes_read ((room, Err e) ∷ reads) = bytes_read reads
-
--- Each has room for a piece.
-abbrev pub HavePieces : List SourceRead → Type 0
-HavePieces [] = Unit {0}
-HavePieces ((room, gave) ∷ reads) = (room ≡ piece) × HavePieces reads
-
--- One of them gave nothing, and so said that nothing is left.
-abbrev pub SayEnd : List SourceRead → Type 0
-SayEnd [] = ⊥
-SayEnd ((room, Ok []) ∷ reads) = Unit {0}
-SayEnd ((room, gave) ∷ reads) = SayEnd reads
+bytes_read reads = concat (map (λ (r : SourceRead). unwrap_or (result_ok r.1) []) reads)
 
 -- No line feed is held, and the bytes are not too many for a line.
 abbrev pub IsPartial : List ℕ → Type 0
 IsPartial held = (position_or_len is_line_feed held ≡ length held) × (length held < longest_line)
 
--- The reads, each with room for a piece, gave the input but for what is to come, and all of it where one said that
--- nothing is left.
+-- The reads, each with room for a piece, gave the input but for what is to come, and all of it where one gave nothing,
+-- and so said that nothing is left.
 pub record GiveInput (reads : List SourceRead) (input coming : List ℕ) : Type 0 where
-  pub pieces : HavePieces reads
+  pub pieces : AllByRecursion (λ (r : SourceRead). r.0 ≡ piece) reads
   pub given : input ≡ bytes_read reads ++ coming
-  pub end : SayEnd reads → coming ≡ []
+  pub end : (room : ℕ) (front rest : List SourceRead) → reads ≡ front ++ (room, Ok []) ∷ rest → coming ≡ []
 
 -- The input that is left: what is to come of the source, after the bytes that were read ahead. These are few, unless
 -- the line that was awaited is too long, or the source failed in it. Each read offered a piece and gave something, but

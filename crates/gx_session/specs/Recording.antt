@@ -19,13 +19,6 @@ pub record BeginsEvent (start : Configuration) (j : ℕ) (machine : FlatMachine)
   pub log_is : configuration.log ≡ Some (record { before = before; after = [] })
   pub units : units_of before + configuration.left ≡ start.left
 
--- The record of a configuration is this one, but for the newest machines of it.
-pub record IsEarlierRecord (m : Configuration) (log : Log) : Type 0 where
-  pub own : Log
-  pub log_is : m.log ≡ Some own
-  pub newer : List FlatMachine
-  pub end : log.before ≡ newer ++ own.before
-
 -- The record of a configuration that the run comes to after so many moves: the run has gone back nowhere, the units of
 -- the record are those that the run has used, each machine of it is a place of the run, and the record of each
 -- configuration so far is an end of it.
@@ -36,7 +29,8 @@ pub record IsRecord (start : Configuration) (j : ℕ) (m : Configuration) : Type
   pub units : units_of log.before + m.left ≡ start.left
   pub places : (newer : List FlatMachine) (machine : FlatMachine) (before : List FlatMachine)
       → log.before ≡ newer ++ machine ∷ before → BeginsEvent start j machine before
-  pub ends : (i : ℕ) (c : Configuration) → i ≤ j → run_of start i ≡ Some c → IsEarlierRecord c log
+  pub ends : (i : ℕ) (c : Configuration) → i ≤ j → run_of start i ≡ Some c
+      → (own : Log) × (c.log ≡ Some own) × (newer : List FlatMachine) × (log.before ≡ newer ++ own.before)
 
 -- The record of the end of a run, which comes within so many moves. `left` are the units that were left before an event
 -- that isn't recorded: one in which a Glk call ended the program, or for which the budget was too small. At every other

@@ -2,8 +2,9 @@
 --
 -- Both are done by Glk streams, and fail where the I/O system isn't Glk's. A failure is no fault: the story is answered
 -- 1. A save to a stream in memory whose places can't be written is a fault.
-use Rattle.std.specs.Prelude.{◌≡◌, ℕ, ◌≤◌, ◌==◌, ◌&&◌, if◌then◌else◌, Bool, List, Option, Some, None, option_and_then}
-use Rattle.std.specs.Prelude.{Result, Ok, Err}
+use Rattle.std.specs.Prelude.{◌≡◌, ℕ, ◌≤◌, ◌==◌, ◌&&◌, if◌then◌else◌, Bool, List, Option, None, option_and_then}
+use Rattle.std.specs.Prelude.{unwrap_or, Result, Ok}
+use Rattle.std.specs.Result.{result_ok}
 use Rattle.gx_words.specs.declared.faults.Fault.{Fault}
 use Rattle.gx_words.specs.Constants.{ceiling, glk_system}
 use Rattle.gx_words.specs.Results.{◌>>=◌}
@@ -19,33 +20,23 @@ use Rattle.glk_replies.specs.Parts.{replies}
 use Rattle.glk_text_calls.specs.Saves.{put_save, take_rest}
 use Rattle.quetzal.specs.Saves.{save_of}
 use Rattle.quetzal.specs.Writing.{saved}
-use Rattle.quetzal.specs.declared.faults.SaveFault.{SaveFault}
 use Rattle.gx_session.specs.Constants.{failed}
 
-abbrev pub unless_failed : Said × Option Reply → Said × Reply
-unless_failed (said, Some reply) = (said, reply)
-unless_failed (said, None) = (said, replies failed)
-
 -- A save: the copy of the state is written as a save to the stream; nothing is written where the stream doesn't take
--- it.
+-- it, and the save has failed.
 unfoldable pub saving : Scene → FlatState → ℕ → Result (Said × Reply) Fault
 saving w f stream =
     if f.iosys.0 == glk_system then (do
       r ← put_save w f stream (saved f.story (saved_copy f))
-      Ok (unless_failed r))
+      Ok (r.0, unwrap_or r.1 (replies failed)))
     else Ok (silent w, replies failed)
-
--- the copy that a save of the story holds, if it is one
-abbrev pub unless_refused : Result Copy SaveFault → Option Copy
-unless_refused (Ok copy) = Some copy
-unless_refused (Err fault) = None
 
 -- A restore: the rest of the stream is taken, and is the copy of a save of the story, or isn't.
 unfoldable pub restoring : Scene → FlatState → ℕ → Result (Said × Option Copy) Fault
 restoring w f stream =
     if f.iosys.0 == glk_system then (do
       r ← take_rest w f stream
-      Ok (r.0, option_and_then (λ bytes. unless_refused (save_of ceiling bytes f.story)) r.1))
+      Ok (r.0, option_and_then (λ bytes. result_ok (save_of ceiling bytes f.story)) r.1))
     else Ok (silent w, None)
 
 -- A stream may take a save: it is there, open for writing and no window's. Whether it has room, and whether its places

@@ -27,18 +27,16 @@ abbrev pub final_in : ℕ → Configuration → RunEnd
 final_in zero m = record { stop = stop.Spent; configuration = m }
 final_in (suc n) m = end_after (move_of m) (final_in n)
 
--- No more moves than these are to come: each event uses at least one unit, and has at most five moves.
+-- No more moves than these are to come in a phase, but for one that sends: each event uses at least one unit, and has
+-- at most five moves.
 abbrev pub moves_by : Phase → ℕ → ℕ
 moves_by steps left = 5 * left
 moves_by (asks t w) left = 5 * w.left + 3
 moves_by (goes_on g w) left = 5 * w.left + 2
 
-abbrev pub moves_left : Configuration → ℕ
-moves_left m = moves_by m.phase m.left + (if sends_now m then 1 else 0)
-
 -- where the run stops
 unfoldable pub stop_of : Configuration → RunEnd
-stop_of m = final_in (suc (moves_left m)) m
+stop_of m = final_in (suc (moves_by m.phase m.left + (if sends_now m then 1 else 0))) m
 
 -- THE END OF THE RUN: where it stops, once the last screen is shown, where the screen is composed.
 unfoldable pub final_of : Configuration → RunEnd

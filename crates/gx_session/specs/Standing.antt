@@ -1,6 +1,7 @@
 -- How what is held stands to the run: before a step, in the middle of a Glk call, at its end, or where it is cut
 -- short. What contracts say.
-use Rattle.std.specs.Prelude.{◌≡◌, ◌≢◌, ℕ, ◌<◌, List, [], ◌++◌, length, IsSome, Bool, true, false, Ok, Option, Some}
+use Rattle.std.specs.Prelude.{◌≡◌, ◌≢◌, ℕ, ◌-◌, ◌<◌, ◌≤◌, List, [], ◌++◌, length, IsSome, Bool, true, false}
+use Rattle.std.specs.Prelude.{Ok, Option, None, Some}
 use Rattle.gx_state.specs.declared.effects.Effect.{Effect}
 use Rattle.gx_state.specs.declared.effects.Effect.TheVariants.{Spent}
 use Rattle.gx_state.specs.declared.effects.Reply.{Reply}
@@ -29,15 +30,19 @@ use Rattle.gx_session.specs.declared.running.Waiting.{Waiting}
 use Rattle.gx_session.specs.Wants.{IsWait, ReplyWants, TurnWants, WantsMemory}
 use Rattle.gx_session.specs.Cuts.{IsLineStop}
 use Rattle.gx_session.specs.Input.{line, next_line}
-use Rattle.gx_session.specs.Configurations.{Configuration, Phase, steps, asks, goes_on, goes}
-use Rattle.gx_session.specs.Moves.{act_of, after_effect, after_turn}
+use Rattle.gx_session.specs.Configurations.{Configuration, Phase, steps, asks, goes_on, Verdict, goes}
+use Rattle.gx_session.specs.Moves.{act_by, after_effect, after_turn}
 use Rattle.gx_session.specs.Moves.{after_given, sends_now}
 use Rattle.gx_session.specs.Session.{RunEnd, stop_of, run_of}
 use Rattle.gx_session.specs.Asked.{effect_at, asked, asked_at}
 use Rattle.gx_session.specs.Reading.{ReadsFew}
-use Rattle.gx_session.specs.Runs.{IsSaved, SavedAll, SavedBefore, StopsEarly}
+use Rattle.gx_session.specs.Runs.{IsSaved, SavedBefore, StopsEarly}
 use Rattle.gx_session.specs.Holding.{HeldRun, SendStep, Handed, devices_of, History, configuration_of, IsHistory}
 use Rattle.gx_session.specs.Holding.{IsRead}
+
+-- what comes next, where no text is sent
+abbrev pub act_of : Configuration → Verdict
+act_of m = act_by m.phase m
 
 -- What is held stands after so many moves of the run from the start.
 pub record Standing {K : Type 0} {sending : SendStep K} (start : Configuration) (entry : Handed sending) (h : HeldRun)
@@ -48,7 +53,7 @@ pub record Standing {K : Type 0} {sending : SendStep K} (start : Configuration) 
   pub few : length h.ahead < piece
   pub reads : IsRead start.input entry h d
   pub reached : run_of start moves ≡ Some (configuration_of past phase h d)
-  pub saves : SavedBefore start moves
+  pub saves : SavedBefore start (Some moves)
   pub same_end : stop_of (configuration_of past phase h d) ≡ stop_of start
 
 -- So it stands, and no text is due.
@@ -96,7 +101,7 @@ pub record ComesTo {K : Type 0} {sending : SendStep K} (end : RunEnd) (start : C
   pub few : why ≢ stop.LineTooLong → length h.ahead < piece
   pub reads : (IsLineStop why → ⊥) → IsRead start.input entry h d
   pub is_end : end ≡ record { stop = why; configuration = configuration_of past phase h d }
-  pub saves : SavedAll start
+  pub saves : SavedBefore start None
   pub asking_is : asking ≡ asked_at why (configuration_of past phase h d)
 
 -- A stop has come.
@@ -116,9 +121,15 @@ pub record Early {K : Type 0} {sending : SendStep K} (start : Configuration) (en
     (asking : Option Asking) (d : Handed sending) (why : Halt) : Type 0 where
   pub sends : List Send
   pub chain : Chain sending entry.sink sends d.sink
-  pub stops : (before now : FlatSink) (reads : List SourceRead)
-      → StopsEarly start (devices_of entry before [] []) (devices_of d now reads sends)
-      h.coming (halt_status why) h.left (record { machine = h.machine; asking = asking }) h.log
+  pub stops : h.left ≤ start.left → (before now : FlatSink) (reads : List SourceRead)
+      → StopsEarly start (devices_of entry before [] []) (devices_of d now reads sends) h.coming (record {
+        status = halt_status why;
+        fault = 0;
+        at = 0;
+        steps = start.left - h.left;
+        machine = record { machine = h.machine; asking = asking };
+        log = h.log;
+      })
 
 -- The machine has made a step from a configuration of the run, with this effect and these units left.
 pub record Follows {K : Type 0} {sending : SendStep K} (start : Configuration) (entry : Handed sending) (h : HeldRun)
@@ -184,7 +195,7 @@ pub record TakesTurn {K : Type 0} {sending : SendStep K} (start : Configuration)
   pub saved : IsSaved (configuration_of going.now.past steps (record h { world = world }) d)
   pub asks : let m = configuration_of going.now.past steps (record h { world = world }) d in asking ≡ asked m
   pub memory : let m = configuration_of going.now.past steps (record h { world = world }) d in
-      TurnWants h.log h.machine (Ok (said, turn)) → WantsMemory steps m asking
+      TurnWants h.log h.machine (said, turn) → WantsMemory steps m asking
 
 -- A Glk call that went on has come to a turn from a configuration of the run.
 pub record GoesOn {K : Type 0} {sending : SendStep K} (start : Configuration) (entry : Handed sending) (h : HeldRun)
@@ -199,4 +210,4 @@ pub record GoesOn {K : Type 0} {sending : SendStep K} (start : Configuration) (e
   pub asks : let m = configuration_of going.now.past (goes_on given w) (record h { world = world }) d in
       asking ≡ asked m
   pub memory : let m = configuration_of going.now.past (goes_on given w) (record h { world = world }) d in
-      TurnWants h.log h.machine (Ok (said, turn)) → WantsMemory (goes_on given w) m asking
+      TurnWants h.log h.machine (said, turn) → WantsMemory (goes_on given w) m asking

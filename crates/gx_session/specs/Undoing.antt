@@ -2,15 +2,15 @@
 --
 -- No move looks at the history of the run (a log, where the run is recorded, is only added to): that the copies of a
 -- configuration are those of the saveundos that are alive by now is a law over the configurations of the run.
-use Rattle.std.specs.Prelude.{◌≡◌, ℕ, zero, suc, ◌==◌, if◌then◌else◌, List, [], ◌∷◌, take, drop, Option, Some, None}
-use Rattle.std.specs.Prelude.{Result, Ok, Err}
+use Rattle.std.specs.Prelude.{◌≡◌, ℕ, zero, suc, ◌==◌, ◌||◌, if◌then◌else◌, List, [], ◌∷◌, take, drop}
+use Rattle.std.specs.Prelude.{Some, Result, Ok}
+use Rattle.std.specs.Option.{option_map_or}
 use Rattle.gx_words.specs.declared.faults.Fault.{Fault}
 use Rattle.gx_rows.specs.Numbers as numbers
 use Rattle.gx_rows.specs.declared.instructions.Class.{Class}
 use Rattle.gx_rows.specs.declared.instructions.Class.TheVariants as class
 use Rattle.gx_state.specs.declared.modes.Mode.{Mode}
 use Rattle.gx_state.specs.declared.modes.Mode.TheVariants as mode
-use Rattle.gx_state.specs.Flat.{FlatState}
 use Rattle.gx_state.specs.Copies.{Copy, copy_of}
 use Rattle.gx_operands.specs.Instructions.{Instruction, instruction}
 use Rattle.gx_session.specs.Configurations.{Configuration, Phase, steps}
@@ -19,57 +19,37 @@ use Rattle.gx_session.specs.Session.{run_of}
 
 -- What a step is to the copies.
 pub data Undoing : Type 0 where
-  -- saveundo
-  saves : Undoing
-  -- restoreundo
-  restores : Undoing
-  -- discardundo
-  discards : Undoing
-  -- every other instruction, save, restore and hasundo among them, and what is printed
-  neither : Undoing
+  saves : Undoing  -- saveundo
+  takes_newest : Undoing  -- restoreundo and discardundo
+  neither : Undoing  -- every other instruction, save, restore and hasundo among them, and what is printed
 
 abbrev pub undoing_row : Class → ℕ → Undoing
 undoing_row class.Game number =
     if number == numbers.saveundo then saves else
-    if number == numbers.restoreundo then restores else
-    if number == numbers.discardundo then discards else
-    neither
+    if number == numbers.restoreundo || number == numbers.discardundo then takes_newest else neither
 undoing_row c number = neither
 
-abbrev pub undoing_in : Mode → Result Instruction Fault → Undoing
-undoing_in mode.Running (Ok i) = undoing_row i.row.class i.row.number
-undoing_in mode.Running (Err fault) = neither
-undoing_in (mode.Printing p) r = neither
-
--- what the step from a state is to the copies
-unfoldable pub undoing : FlatState → Undoing
-undoing f = undoing_in f.mode (instruction f)
-
--- What a move is to them. Only a step is anything.
-abbrev pub undoing_next : Phase → FlatState → Undoing
-undoing_next steps f = undoing f
-undoing_next d f = neither
-
-abbrev pub undoing_move : Configuration → Undoing
-undoing_move m = if sends_now m then neither else undoing_next m.phase m.machine.flat
+-- What comes next is to them: only the step of an instruction is anything.
+abbrev pub undoing_next : Phase → Mode → Result Instruction Fault → Undoing
+undoing_next steps mode.Running (Ok i) = undoing_row i.row.class i.row.number
+undoing_next d m r = neither
 
 -- The saveundos that are alive, each by the number of moves before it, the newest first: a saveundo comes
 -- in front, and the oldest drops out where there are as many as the depth; a restoreundo takes the newest, and so
--- does a discardundo.
+-- does a discardundo. A move that sends is nothing to them.
 abbrev pub alive_by : ℕ → ℕ → List ℕ → Undoing → List ℕ
 alive_by depth j live saves = take depth (j ∷ live)
-alive_by depth j live restores = drop 1 live
-alive_by depth j live discards = drop 1 live
+alive_by depth j live takes_newest = drop 1 live
 alive_by depth j live neither = live
-
-abbrev pub alive_from : ℕ → ℕ → List ℕ → Option Configuration → List ℕ
-alive_from depth j live None = live
-alive_from depth j live (Some m) = alive_by depth j live (undoing_move m)
 
 -- the saveundos that are alive after so many moves
 unfoldable pub alive : Configuration → ℕ → List ℕ
 alive start zero = []
-alive start (suc j) = alive_from start.machine.undo.depth j (alive start j) (run_of start j)
+alive start (suc j) =
+    option_map_or (λ (m : Configuration).
+    alive_by start.machine.undo.depth j (alive start j)
+    (if sends_now m then neither else undoing_next m.phase m.machine.flat.mode (instruction m.machine.flat)))
+    (run_of start j) (alive start j)
 
 -- the copy that the saveundo after so many moves takes: of the whole state that it meets
 pub record IsTaken (start : Configuration) (j : ℕ) (c : Copy) : Type 0 where
@@ -83,8 +63,7 @@ pub record IsTaken (start : Configuration) (j : ℕ) (c : Copy) : Type 0 where
 abbrev pub AreTaken : Configuration → List Copy → List ℕ → Type 0
 AreTaken start [] [] = Unit {0}
 AreTaken start (c ∷ cs) (j ∷ js) = IsTaken start j c × AreTaken start cs js
-AreTaken start [] (j ∷ js) = ⊥
-AreTaken start (c ∷ cs) [] = ⊥
+AreTaken start cs js = ⊥
 
 -- In a run that begins without copies, those of each configuration are, in order, the copies that the saveundos took
 -- which are alive there. So a restoreundo goes back to the whole copy of the newest saveundo that was neither

@@ -10,7 +10,7 @@ use Rattle.gx_session.specs.Holding.{Handed, handed, devices_of, HeldRun, held_b
 use Rattle.gx_session.specs.Standing.{Going}
 use Rattle.gx_session.proofs.Calling.{chain-map, some-answers}
 use Rattle.gx_session.proofs.Ending.{session-of-stop, session-of-halt, report-of-stop, report-of-halt, counts-of-stop, counts-of-halt}
-use Rattle.gx_session.proofs.Feeding.{some-coming, first-over}
+use Rattle.gx_session.proofs.Feeding.{some-coming, first-over, says-there}
 use Rattle.gx_session.proofs.Playing.{starts}
 use Rattle.gx_session.proofs.Recording.{records_places}
 use Rattle.gx_session.proofs.Undoing.{lasts_undo}
@@ -38,15 +38,13 @@ returns-in-Ok g c =
     let done = session-of-stop g.K.Sink.seen g.met.K.Sink.called_so fed.reads from entry last (asking_in g.E.Engine.whole c.play_out-ended.new.run) exit c.in-Ok.ensures.no_more c.in-Ok.stop (before.2 from entry [] told.2 going) in
     let counts = counts-of-stop (devices_of entry (g.K.Sink.seen entry.sink) [] []) (devices_of exit (g.K.Sink.seen exit.sink) [] []) c.in-Ok.stop (record { sink = keeps.sink; sink_tells = keeps.sink_tells; source = keeps.source; source_tells = keeps.source_tells; shelf = keeps.shelf; shelf_tells = keeps.shelf_tells }) in
     let run : IsRun start (devices_of entry (g.K.Sink.seen entry.sink) [] []) (devices_of exit (g.K.Sink.seen exit.sink) fed.reads done.0) _ = record {
-      session = record {
-        input = before.0;
-        input_is = before.1.told;
-        coming = after.0;
-        read = record { pieces = fed.pieces; given = fed.given after.0 after.1; end = λ s. after.1.over (fed.said (inr s)) };
-        answers = told.0;
-        answers_are = told.1;
-        session = done.2;
-      };
+      input = before.0;
+      input_is = before.1.told;
+      coming = after.0;
+      read = record { pieces = fed.pieces; given = fed.given after.0 after.1; end = λ room front rest e. after.1.over (fed.said (inr (says-there fed.reads room front rest e))) };
+      answers = told.0;
+      answers_are = told.1;
+      session = done.2;
       source_calls = chain-map g.S.Source.seen g.S.Source.called SourceCall g.met.S.Source.called_so c.args.input.now c.play_out-ended.new.input fed.reads fed.chain;
       sink_calls = chain-map g.K.Sink.seen g.K.Sink.called SinkCall g.met.K.Sink.called_so entry.sink exit.sink done.0 done.1;
       shelf_calls = chain;
@@ -83,15 +81,13 @@ returns-in-Err g c =
     let done = session-of-halt g.K.Sink.seen g.met.K.Sink.called_so fed.reads from entry last (asking_in g.E.Engine.whole c.play_out-ended.new.run) exit c.in-Err.ensures.no_more c.in-Err.halt (before.2 from entry [] told.2 going) in
     let counts = counts-of-halt (devices_of entry (g.K.Sink.seen entry.sink) [] []) (devices_of exit (g.K.Sink.seen exit.sink) [] []) c.in-Err.halt (record { sink = keeps.sink; sink_tells = keeps.sink_tells; source = keeps.source; source_tells = keeps.source_tells; shelf = keeps.shelf; shelf_tells = keeps.shelf_tells }) in
     let run : IsRun start (devices_of entry (g.K.Sink.seen entry.sink) [] []) (devices_of exit (g.K.Sink.seen exit.sink) fed.reads done.0) _ = record {
-      session = record {
-        input = before.0;
-        input_is = before.1.told;
-        coming = after.0;
-        read = record { pieces = fed.pieces; given = fed.given after.0 after.1; end = λ s. after.1.over (fed.said (inr s)) };
-        answers = told.0;
-        answers_are = told.1;
-        session = done.2;
-      };
+      input = before.0;
+      input_is = before.1.told;
+      coming = after.0;
+      read = record { pieces = fed.pieces; given = fed.given after.0 after.1; end = λ room front rest e. after.1.over (fed.said (inr (says-there fed.reads room front rest e))) };
+      answers = told.0;
+      answers_are = told.1;
+      session = done.2;
       source_calls = chain-map g.S.Source.seen g.S.Source.called SourceCall g.met.S.Source.called_so c.args.input.now c.play_out-ended.new.input fed.reads fed.chain;
       sink_calls = chain-map g.K.Sink.seen g.K.Sink.called SinkCall g.met.K.Sink.called_so entry.sink exit.sink done.0 done.1;
       shelf_calls = chain;
