@@ -1,6 +1,6 @@
 -- What a call asks, it goes on with: proved once over the rows that take turns.
-use Rattle.std.proofs.Common.{◌≡◌, ◌⊎◌, ◌==◌, ℕ, Bool, true, false, if◌then◌else◌, List, [], ◌∷◌, length}
-use Rattle.std.proofs.Common.{Option, Some, None, Result, Ok, Err, refl, subst, inl, inr}
+use Rattle.std.proofs.Common.{◌≡◌, ◌⊎◌, ◌==◌, ℕ, Bool, true, false, if◌then◌else◌, List, [], ◌∷◌}
+use Rattle.std.proofs.Common.{Option, Some, None, is_none, Result, Ok, Err, refl, subst, inl, inr}
 use Rattle.std.specs.Prelude.{IfOk}
 use Rattle.gx_words.specs.Results.{◌>>=◌}
 use Rattle.gx_state.specs.Flat.{FlatState}
@@ -9,32 +9,34 @@ use Rattle.glk_streams.specs.Streams as streams
 use Rattle.glk_events.specs.declared.requests.Request.{Request}
 use Rattle.glk_events.specs.Requests.{oldest}
 use Rattle.gx_words.specs.declared.faults.Fault.{Fault}
+use Rattle.gx_words.specs.declared.faults.Fault.TheVariants.{BadGlk}
 use Rattle.glk_world.specs.Shown.{show_prompt}
 use Rattle.glk_world.specs.World.{Scene, Said, FlatWorld, MakesCall, silent, after, on_world, Outcome, has_reference, waits}
 use Rattle.glk_world.specs.World.{arg}
 use Rattle.glk_world.specs.Calls.{without_file}
 use Rattle.glk_replies.specs.Numbers as selectors
 use Rattle.glk_replies.specs.TextNumbers as texts
-use Rattle.glk_replies.specs.Parts.{replies, pushes_for, can_give, can_give_pair, can_push}
+use Rattle.glk_replies.specs.Parts.{replies, give, can_give_pair}
 use Rattle.glk_replies.specs.declared.Turn.{Turn}
 use Rattle.glk_replies.specs.declared.Turn.TheVariants as turn
 use Rattle.glk_replies.specs.declared.Given.{Given}
 use Rattle.glk_replies.specs.declared.Given.TheVariants as given
 use Rattle.glk_replies.specs.Turns.{IsGivenFor}
 use Rattle.glk_streams.specs.Constants.{write_mode}
-use Rattle.glk_object_calls.specs.Streams.{stream_close, closing_by, stored, close}
+use Rattle.glk_object_calls.specs.Streams.{stream_close, closing_by, stored_file, close}
 use Rattle.glk_object_calls.specs.References.{stream_open_file, open_with, mode_loads, file_name, fileref_create_by_prompt}
 use Rattle.glk_object_calls.specs.References.{fileref_delete_file, fileref_does_file_exist}
-use Rattle.glk_event_calls.specs.Events.{select, waits_for, no_event}
+use Rattle.glk_event_calls.specs.Events.{select, no_event}
 use Rattle.glk_dispatch.specs.declared.table.Selector.{Selector}
 use Rattle.glk_dispatch.specs.Rows.{Doing, answers, turns, Row}
 use Rattle.glk_dispatch.specs.ObjectCalls.{exits, window_calls, stream_calls}
 use Rattle.glk_dispatch.specs.TextCalls.{text_calls, event_calls, unicode_calls}
-use Rattle.glk_dispatch.specs.Table.{call_table, row_in, row_for}
-use Rattle.glk_dispatch.specs.Calls.{looked_at, is_on_none, nothing, as_turn, done, dropping, call_by, glk_call}
+use Rattle.glk_dispatch.specs.Table.{call_table, row_in, row_for, is_dropped}
+use Rattle.glk_object_calls.specs.Answers.{tells, as_turn}
+use Rattle.glk_dispatch.specs.Calls.{looked_at, is_on_none, nothing, done, glk_call}
 use Rattle.glk_dispatch.specs.Ready.{IsReady}
 use Rattle.glk_dispatch.specs.Turns.{HasRequest, Awaits, Looked}
-use Rattle.glk_dispatch.proofs.Ready.{ready_looks}
+use Rattle.glk_dispatch.proofs.Ready.{call_by, ready_looks}
 use Rattle.glk_dispatch.proofs.Waiting.{taken_there, taken_windowless}
 
 -- of a state of the machine, and room for what is pushed
@@ -75,16 +77,9 @@ module _ (f : FlatState) (room : ℕ) where
   load_asked w selector args name opens there mode given.Stored for = absurd for
   load_asked w selector args name opens there mode (given.Was was) for = absurd for
 
-  -- an answer that may be refused
-  then_answers : (outcome : Outcome Reply) (r : Said × Turn)
-      → (outcome >>= λ done. Ok (done.0, turn.Answer done.1)) ≡ Ok r → IsAsked r
-  then_answers (Ok done) r is =
-      let same : (done.0, turn.Answer done.1) ≡ r = (cc) in subst IsAsked same (answer_asks done.0 done.1)
-  then_answers (Err e) r is = absurd (cc)
-
   -- an asking behind a look
-  then_asks : (look : Result (Unit {0}) Fault) (asked r : Said × Turn) → IsAsked asked → (look >>= λ _. Ok asked) ≡ Ok r
-      → IsAsked r
+  then_asks : {X : Type 0} (look : Result X Fault) (asked r : Said × Turn) → IsAsked asked
+      → (look >>= λ _. Ok asked) ≡ Ok r → IsAsked r
   then_asks (Ok _) asked r asks is = let same : asked ≡ r = (cc) in subst IsAsked same asks
   then_asks (Err e) asked r asks is = absurd (cc)
 
@@ -96,16 +91,16 @@ module _ (f : FlatState) (room : ℕ) where
 
   by_mode : (writes loading : Bool) (opened : Outcome Reply) (asked : Said × Turn) (w : Scene) (reply : Reply)
       (r : Said × Turn) → (loading ≡ true → IsAsked asked)
-      → (if writes then (opened >>= λ done. Ok (done.0, turn.Answer done.1)) else if loading then Ok asked
+      → (if writes then as_turn opened else if loading then Ok asked
       else Ok (silent w, turn.Answer reply)) ≡ Ok r → IsAsked r
-  by_mode true loading opened asked w reply r asks is = then_answers opened r is
+  by_mode true loading opened asked w reply r asks is = answered_asks opened r is
   by_mode false true opened asked w reply r asks is = let same : asked ≡ r = (cc) in subst IsAsked same (asks refl)
   by_mode false false opened asked w reply r asks is =
       let same : (silent w, turn.Answer reply) ≡ r = (cc) in subst IsAsked same (answer_asks (silent w) reply)
 
   open_asks : (w : Scene) (selector : ℕ) (args : List ℕ) (r : Said × Turn)
       → (selector ≡ selectors.stream_open_file) ⊎ (selector ≡ selectors.stream_open_file_uni)
-      → has_reference w (arg args 0) ≡ true → stream_open_file w selector args ≡ Ok r → IsAsked r
+      → has_reference w (arg args 0) ≡ true → stream_open_file selector w args ≡ Ok r → IsAsked r
   unfolding stream_open_file
   open_asks w selector args r opens there is =
       by_mode (arg args 1 == write_mode) (mode_loads (arg args 1)) (open_with w selector args [])
@@ -124,7 +119,7 @@ module _ (f : FlatState) (room : ℕ) where
 
   closing_asks : (file : Option (List ℕ × List ℕ)) (w : Scene) (args : List ℕ) (r : Said × Turn)
       → streams.has w.streams (arg args 0) ≡ true → closing_by file w f room args ≡ Ok r → IsAsked r
-  closing_asks None w args r there is = then_answers (close w f room args) r is
+  closing_asks None w args r there is = answered_asks (close w f room args) r is
   closing_asks (Some file) w args r there is = looked_asks (can_give_pair f room (arg args 1))
       (silent (waits (without_file w (arg args 0)) selectors.stream_close args), turn.Store file.0 file.1) r
       (λ looks. store_asked w args file looks there) is
@@ -132,7 +127,7 @@ module _ (f : FlatState) (room : ℕ) where
   close_asks : (w : Scene) (args : List ℕ) (r : Said × Turn) → streams.has w.streams (arg args 0) ≡ true
       → stream_close w f room args ≡ Ok r → IsAsked r
   unfolding stream_close
-  close_asks w args r there is = closing_asks (stored w (arg args 0)) w args r there is
+  close_asks w args r there is = closing_asks (stored_file w (arg args 0)) w args r there is
 
   prompt_asked : (w : Scene) (args text : List ℕ)
       → IsAsked ((waits w selectors.fileref_create_by_prompt args, text), turn.Prompt)
@@ -179,9 +174,9 @@ module _ (f : FlatState) (room : ℕ) where
       let same : (silent (waits w selectors.fileref_does_file_exist args), turn.Has name) ≡ r = (cc) in
       subst IsAsked same (has_asked w args name)
 
-  has_request : (all : List Request) (r : Request) → oldest all ≡ Some r → HasRequest all
-  has_request [] r is = absurd (cc)
-  has_request (first ∷ all) r is = tt
+  has_request : (all : List Request) → is_none (oldest all) ≡ false → HasRequest all
+  has_request [] is = absurd (cc)
+  has_request (first ∷ all) is = tt
 
   event_asked : (w : Scene) (args : List ℕ) → HasRequest w.requests
       → IsAsked (silent (waits w texts.select args), turn.Wait)
@@ -191,21 +186,19 @@ module _ (f : FlatState) (room : ℕ) where
   event_asked w args has given.Stored for = absurd for
   event_asked w args has (given.Was was) for = absurd for
 
-  wait_asked : (w : Scene) (args : List ℕ) (found : Option Request) → oldest w.requests ≡ found
-      → IsAsked (waits_for w args found)
-  wait_asked w args None is = λ g for. absurd for
-  wait_asked w args (Some r) is = event_asked w args (has_request w.requests r is)
+  abbrev waits_if : Scene → List ℕ → Bool → Said × Turn
+  waits_if w args none = if none then (silent w, turn.Stuck) else (silent (waits w texts.select args), turn.Wait)
 
-  looks_asks : (first second : Result (Unit {0}) Fault) (asked r : Said × Turn) → IsAsked asked
-      → (first >>= λ _. (second >>= λ _. Ok asked)) ≡ Ok r → IsAsked r
-  looks_asks (Ok _) second asked r asks is = then_asks second asked r asks is
-  looks_asks (Err e) second asked r asks is = absurd (cc)
+  wait_asked : (w : Scene) (args : List ℕ) (none : Bool) → is_none (oldest w.requests) ≡ none
+      → IsAsked (waits_if w args none)
+  wait_asked w args true is = λ g for. absurd for
+  wait_asked w args false is = event_asked w args (has_request w.requests is)
 
   select_asks : (w : Scene) (args : List ℕ) (r : Said × Turn) → select w f room args ≡ Ok r → IsAsked r
   unfolding select
   select_asks w args r is =
-      looks_asks (can_give f (arg args 0) 4) (can_push room (length (pushes_for (arg args 0) no_event)))
-      (waits_for w args (oldest w.requests)) r (wait_asked w args (oldest w.requests) refl) is
+      let none : Bool = is_none (oldest w.requests) in
+      then_asks (give f room 0 (arg args 0) no_event) (waits_if w args none) r (wait_asked w args none refl) is
 
   -- ---- over the table
 
@@ -276,15 +269,14 @@ module _ (f : FlatState) (room : ℕ) where
   on_looks (Ok _) w row args r same asks is = on_none (is_on_none row.looks args) w row args r refl same asks is
   on_looks (Err e) w row args r same asks is = absurd (cc)
 
-  then_dropped : (dropped : Result Reply Fault) (w : Scene) (r : Said × Turn)
-      → (dropped >>= λ reply. Ok (silent w, turn.Answer reply)) ≡ Ok r → IsAsked r
-  then_dropped (Ok reply) w r is =
-      let same : (silent w, turn.Answer reply) ≡ r = (cc) in subst IsAsked same (answer_asks (silent w) reply)
-  then_dropped (Err e) w r is = absurd (cc)
+  then_dropped : (drops : Bool) (w : Scene) (r : Said × Turn)
+      → (if drops then as_turn (tells w 0) else Err BadGlk) ≡ Ok r → IsAsked r
+  then_dropped true w r is = answered_asks (tells w 0) r is
+  then_dropped false w r is = absurd (cc)
 
   found_asks : (found : Option Row) (w : Scene) (selector : ℕ) (args : List ℕ) (r : Said × Turn)
       → row_in call_table selector ≡ found → call_by found w f room selector args ≡ Ok r → IsAsked r
-  found_asks None w selector args r same is = then_dropped (dropping selector) w r is
+  found_asks None w selector args r same is = then_dropped (is_dropped selector) w r is
   found_asks (Some row) w selector args r same is =
       on_looks (looked_at w row.looks args) w row args r refl (row_asks selector call_table row table_asks same) is
 

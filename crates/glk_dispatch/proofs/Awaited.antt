@@ -7,9 +7,9 @@ use Rattle.gx_words.specs.Constants.{line_feed}
 use Rattle.glk_text.specs.Characters.{shown}
 use Rattle.glk_world.specs.declared.views.View.{View}
 use Rattle.glk_world.specs.declared.views.View.TheVariants as view
-use Rattle.glk_world.specs.World.{Scene, Said, silent, is_composed}
-use Rattle.glk_world.specs.Shown.{said_row, said_rows, said_grid, said_grids, show_rows, screen_of, show_screen}
-use Rattle.glk_world.specs.Shown.{shown_in, show_grids, show_line, same_rows, last_rows, shown_grid, on_a_new_line}
+use Rattle.glk_world.specs.World.{Scene, Said, silent, said_each, is_composed}
+use Rattle.glk_world.specs.Shown.{said_row, said_grid, show_rows, screen_of, show_screen}
+use Rattle.glk_world.specs.Shown.{show_grids, show_line, same_rows, last_rows, shown_grid}
 use Rattle.glk_world.specs.declared.grids.ShownGrid.{ShownGrid}
 use Rattle.glk_replies.specs.declared.Given.{Given}
 use Rattle.glk_replies.specs.declared.Given.TheVariants as given
@@ -29,7 +29,7 @@ row_shown w row =
     (λ none. let v : Said = if none then silent w
     else (
       record w { fresh = true },
-      on_a_new_line w ++ (codes "| " ++ (encode_utf8_all (map shown row) ++ line_feed ∷ [])),
+      (if w.fresh then [] else line_feed ∷ []) ++ (codes "| " ++ (encode_utf8_all (map shown row) ++ line_feed ∷ [])),
     ) in IsShown w v.0) [
       | true ↦ refl
       | false ↦ refl
@@ -39,27 +39,27 @@ row_shown w row =
 both_shown : (w v u : Scene) → IsShown w v → IsShown v u → IsShown w u
 both_shown w v u first more = more ∙ ap (λ (x : Scene). with_mark x u.fresh) first
 
-rows_shown : (w : Scene) (rows : List (List ℕ)) → IsShown w (said_rows w rows).0
-unfolding said_rows
+rows_shown : (w : Scene) (rows : List (List ℕ)) → IsShown w (said_each said_row w rows).0
+unfolding said_each
 rows_shown w [] = refl
 rows_shown w (row ∷ rows) =
-    both_shown w (said_row w row).0 (said_rows (said_row w row).0 rows).0 (row_shown w row)
+    both_shown w (said_row w row).0 (said_each said_row (said_row w row).0 rows).0 (row_shown w row)
     (rows_shown (said_row w row).0 rows)
 
 grid_shown : (w : Scene) (grid : ShownGrid) → IsShown w (said_grid w grid).0
 unfolding said_grid
 grid_shown w grid =
-    elim (same_rows grid.rows (last_rows w grid.id)) as
-    (λ same. let v : Said = if same then silent w else said_rows w grid.rows in IsShown w v.0) [
+    elim (same_rows grid.rows (last_rows w.shown grid.id)) as
+    (λ same. let v : Said = if same then silent w else said_each said_row w grid.rows in IsShown w v.0) [
       | true ↦ refl
       | false ↦ rows_shown w grid.rows
     ]
 
-grids_shown : (w : Scene) (grids : List ShownGrid) → IsShown w (said_grids w grids).0
-unfolding said_grids
+grids_shown : (w : Scene) (grids : List ShownGrid) → IsShown w (said_each said_grid w grids).0
+unfolding said_each
 grids_shown w [] = refl
 grids_shown w (grid ∷ grids) =
-    both_shown w (said_grid w grid).0 (said_grids (said_grid w grid).0 grids).0 (grid_shown w grid)
+    both_shown w (said_grid w grid).0 (said_each said_grid (said_grid w grid).0 grids).0 (grid_shown w grid)
     (grids_shown (said_grid w grid).0 grids)
 
 -- what is shown isn't looked at
@@ -86,11 +86,14 @@ unfolding show_rows
 awaits_rows w g is =
     let grids : List ShownGrid = map shown_grid w.windows.grids in
     subst (λ (x : Scene). Awaits (record x { shown = grids }) g) (sym (grids_shown w grids))
-    (awaits_still w grids w.last_screen (said_grids w grids).0.fresh g is)
+    (awaits_still w grids w.last_screen (said_each said_grid w grids).0.fresh g is)
 
 awaits_screen : (w : Scene) (g : Given) → Awaits w g → Awaits (show_screen w).0 g
 unfolding show_screen
 awaits_screen w g is = awaits_still w w.shown (Some (screen_of w)) w.fresh g is
+
+abbrev shown_in : View → Scene → Said
+shown_in v w = elim v [ view.Rows ↦ show_rows w | view.Plain ↦ silent w | view.Screen ↦ show_screen w ]
 
 awaits_view : (v : View) (w : Scene) (g : Given) → Awaits w g → Awaits (shown_in v w).0 g
 awaits_view view.Rows w g is = awaits_rows w g is

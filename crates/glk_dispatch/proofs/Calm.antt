@@ -18,7 +18,7 @@ use Rattle.glk_replies.specs.declared.Given.{Given}
 use Rattle.glk_replies.specs.declared.Given.TheVariants as given
 use Rattle.glk_object_calls.specs.Answers.{tells}
 use Rattle.glk_object_calls.specs.References.{open_with, open_goes_on}
-use Rattle.glk_object_calls.specs.Streams.{counts, closed, close}
+use Rattle.glk_object_calls.specs.Streams.{counts, close}
 use Rattle.glk_dispatch.specs.Going.{resumed, go_by, glk_go_on}
 use Rattle.glk_dispatch.specs.Turns.{IsLookedBy, LookedIn, Looked, IsOfFile, MeetsNoFault}
 
@@ -48,7 +48,7 @@ closes : (w : Scene) (f : FlatState) (room : ℕ) (args : List ℕ) → can_give
     → IsOk (close w f room args)
 unfolding close
 closes w f room args looks =
-    then_done (closed w (arg args 0)) (give f room 0 (arg args 1) (counts w (arg args 0)))
+    then_done _ (give f room 0 (arg args 1) (counts w (arg args 0)))
     (gives f room (arg args 1) _ _ looks)
 
 opens : (w : Scene) (selector : ℕ) (args : List ℕ) (load : Load) → IsOk (open_goes_on w selector args load)

@@ -14,9 +14,10 @@ use Rattle.glk_dispatch.specs.Rows.{Doing, answers, turns, Row}
 use Rattle.glk_dispatch.specs.ObjectCalls.{window_calls, stream_calls}
 use Rattle.glk_dispatch.specs.TextCalls.{text_calls, event_calls, unicode_calls}
 use Rattle.glk_dispatch.specs.Table.{call_table, row_in, row_for}
-use Rattle.glk_dispatch.specs.Calls.{as_turn, done}
+use Rattle.glk_object_calls.specs.Answers.{as_turn}
+use Rattle.glk_dispatch.specs.Calls.{done}
 use Rattle.glk_dispatch.specs.Ready.{takes_turn, answers_at_once, answering, answering_below, answering_from}
-use Rattle.glk_dispatch.specs.Ready.{answer_of, answer_by, done_by, arranging_row, window_row, stream_row}
+use Rattle.glk_dispatch.specs.Ready.{row_answer, answer_by, done_by, arranging_row, window_call_row, stream_row}
 use Rattle.glk_dispatch.specs.Ready.{reference_row, output_row, input_row, event_row, unicode_output_row}
 use Rattle.glk_dispatch.specs.Ready.{unicode_input_row}
 
@@ -152,7 +153,7 @@ once_from bound number rows all none reached =
 
 row_answers : (does : Doing) (at number : ℕ) (w : Scene) (f : FlatState) (room : ℕ) (args : List ℕ)
     → (answers_at_once does || takes_turn at) ≡ true → (at == number) ≡ true → takes_turn number ≡ false
-    → done does w f room args ≡ as_turn (answer_of does w f room args)
+    → done does w f room args ≡ as_turn (row_answer does w f room args)
 row_answers (answers call) at number w f room args known here none = refl
 row_answers (turns call) at number w f room args known here none =
     absurd (let same = same_number at number here in cc)
@@ -220,7 +221,7 @@ of_arranging number none until =
     of_windows number (omega arith) ∙ once_below selectors.window_get_type number window_calls refl none until
 
 pub of_window : (number : ℕ) → takes_turn number ≡ false → selectors.window_get_type ≤ number
-    → number < selectors.stream_iterate → row_for number ≡ window_row number
+    → number < selectors.stream_iterate → row_for number ≡ window_call_row number
 unfolding window_calls
 of_window number none reached until =
     of_windows number until ∙ once_from selectors.window_get_type number window_calls refl none reached

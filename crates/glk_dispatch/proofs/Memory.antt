@@ -3,7 +3,7 @@ use Rattle.std.proofs.Common.{◌≡◌, ◌≤◌, ◌+◌, ◌-◌, ◌*◌, �
 use Rattle.std.proofs.Common.{Bool, true}
 use Rattle.std.proofs.Common.{false}
 use Rattle.std.proofs.Common.{if◌then◌else◌, List, [], ◌∷◌, ◌++◌, length, Option, Some, None}
-use Rattle.std.proofs.Common.{is_some, Result, Ok, Err, refl, sym, subst, ◌∙◌, ◌⊎◌, inl, inr, arith}
+use Rattle.std.proofs.Common.{is_some, Result, Ok, Err, refl, subst, ◌⊎◌, inl, inr, arith}
 use Rattle.std.proofs.lemmas.Bool.Decides.{nat_tests}
 use Rattle.std.proofs.lemmas.List.{length-append}
 use Rattle.gx_words.specs.Results.{◌>>=◌}
@@ -13,7 +13,9 @@ use Rattle.gx_state.specs.declared.effects.Reply.{Reply}
 use Rattle.glk_streams.specs.Constants.{write_mode}
 use Rattle.glk_streams.specs.declared.kinds.Places.{Places}
 use Rattle.glk_streams.specs.declared.kinds.Stream.{Stream}
+use Rattle.glk_streams.specs.declared.kinds.FileForm.{FileForm}
 use Rattle.glk_streams.specs.declared.kinds.StreamKind.{StreamKind}
+use Rattle.glk_streams.specs.declared.kinds.StreamKind.TheVariants as kinds
 use Rattle.glk_streams.specs.Stream as one
 use Rattle.glk_windows.specs.Changes as windows
 use Rattle.glk_windows.specs.Changes.{some_grow, arranging_grows}
@@ -21,9 +23,9 @@ use Rattle.glk_events.specs.declared.requests.Request.{Request}
 use Rattle.glk_events.specs.Requests as requests
 use Rattle.glk_world.specs.World.{Scene, Said, silent, Outcome, answered}
 use Rattle.glk_world.specs.World.{is_composed}
-use Rattle.glk_world.specs.World.{has_reference, arg, waits}
+use Rattle.glk_world.specs.World.{has_reference, reference_at, arg, waits}
 use Rattle.glk_world.specs.Calls.{is_identifier, new_id, with_reference, with_new_stream, with_window, with_streams}
-use Rattle.glk_world.specs.Calls.{can_open}
+use Rattle.glk_world.specs.Calls.{can_open, without_stream}
 use Rattle.glk_world.specs.Calls.{chars_got, window_stream, with_arrangement}
 use Rattle.glk_world.specs.Shown.{show_prompt}
 use Rattle.glk_world.specs.declared.references.FileReference.{FileReference}
@@ -38,16 +40,19 @@ use Rattle.glk_replies.specs.Parts.{pushes_for}
 use Rattle.glk_replies.specs.Parts.{writes_for, give, give_each, pushes_for_each, writes_for_each, some_given}
 use Rattle.glk_replies.specs.declared.Turn.{Turn}
 use Rattle.glk_replies.specs.declared.Turn.TheVariants as turn
-use Rattle.glk_dispatch.specs.Calls.{as_turn, done, is_on_none}
+use Rattle.glk_object_calls.specs.Answers.{as_turn}
+use Rattle.glk_dispatch.specs.Calls.{done, is_on_none}
 use Rattle.glk_dispatch.specs.Rows.{Row}
 use Rattle.glk_dispatch.specs.Memory.{has_some, gives_some, turn_takes, is_more, takes_some, is_left_out}
-use Rattle.glk_object_calls.specs.Gestalts.{gestalt_ext, has_glyphs, glyphs_place}
+use Rattle.glk_object_calls.specs.Gestalts.{gestalt_ext, has_glyphs}
 use Rattle.glk_object_calls.specs.Windows as window
 use Rattle.glk_object_calls.specs.Streams as stream
 use Rattle.glk_object_calls.specs.References as reference
 use Rattle.glk_text_calls.specs.declared.characters.Case.{Case}
 use Rattle.glk_text_calls.specs.Characters as characters
 use Rattle.glk_text_calls.specs.Input as input
+use Rattle.glk_text_calls.proofs.Reading.{ending, ending_len}
+use Rattle.glk_text_calls.proofs.Gets.{buffer_for}
 use Rattle.glk_event_calls.specs.Constants.{line_event_type}
 use Rattle.glk_event_calls.specs.Events as events
 
@@ -259,7 +264,8 @@ reference_more w base usage rock may =
     rw may (or_second (nat_lt (length w.streams) (length w.streams))
     (nat_lt (length w.references) (length (w.references ++ new ∷ []))) _ _ (longer w.references new))
 
-request_more : (w : Scene) (r : Request) → events.may_ask w r.win ≡ true → is_more w (events.asking w r) ≡ true
+request_more : (w : Scene) (r : Request) → events.may_ask w r.win ≡ true
+    → is_more w (if events.may_ask w r.win then record w { requests = requests.with_request w.requests r } else w) ≡ true
 request_more w r may =
     rw may (or_third (nat_lt (length w.streams) (length w.streams)) (nat_lt (length w.references) (length w.references))
     (nat_lt (length w.requests) (length (w.requests ++ r ∷ [])))
@@ -279,7 +285,7 @@ arranged_more w win method size key some =
     ]
 
 some_chars : (got : List ℕ × ℕ) (stops : Bool) (read : Result (List ℕ × ℕ) Fault) → read ≡ Ok got
-    → (stops ≡ true) ⊎ (input.has_read read ≡ true) → ((length got.0 + input.ending_len stops) == 0) ≡ false
+    → (stops ≡ true) ⊎ (input.has_read read ≡ true) → ((length got.0 + ending_len stops) == 0) ≡ false
 some_chars got stops read is (inl on) = rw on (grind (arith, nat_tests))
 some_chars got stops read is (inr some) =
     let has : not (length got.0 == 0) ≡ true = rw is at some in
@@ -354,14 +360,14 @@ pub gestalt_ext_takes : (w : Scene) (f : FlatState) (args : List ℕ) → has_gl
     → Takes w (gestalt_ext w f args)
 unfolding gestalt_ext
 gestalt_ext_takes w f args some =
+    let place : Places = record { at = arg args 2; width = 4; count = if has_glyphs args then 1 else 0 } in
     let reply : Reply = record {
       value = gestalt_answer (arg args 0) (arg args 1);
       pushes = [];
-      writes = char_writes (glyphs_place args) (1 ∷ []);
+      writes = char_writes place (1 ∷ []);
     } in
-    behind w (can_lay f (glyphs_place args)) (λ _. answered w reply)
-    (λ _ _. gives w (silent w) reply
-    (first_of_two (has_some (char_writes (glyphs_place args) (1 ∷ []))) false (rw some refl)))
+    behind w (can_lay f place) (λ _. answered w reply)
+    (λ _ _. gives w (silent w) reply (first_of_two (has_some (char_writes place (1 ∷ []))) false (rw some refl)))
 
 pub iterate_takes : (w : Scene) (f : FlatState) (room : ℕ) (args : List ℕ) → (arg args 1 == 0) ≡ false
     → Takes w (window.window_iterate w f room args)
@@ -404,9 +410,10 @@ pub memory_takes : (w : Scene) (args : List ℕ) (wide : Bool)
 unfolding stream.stream_open_memory
 memory_takes w args wide may =
     let so = both (one.allows_mode (stream.memory_kind args wide) (arg args 2)) (is_identifier w.next_id) may in
-    by_test w (one.allows_mode (stream.memory_kind args wide) (arg args 2)) _ _
+    by_test w (not (one.allows_mode (stream.memory_kind args wide) (arg args 2))) _ _
+    (λ no. absurd (let e = so.0 in
+    let none = not_so (one.allows_mode (stream.memory_kind args wide) (arg args 2)) no in cc))
     (λ _. leaves w _ _ (stream_more w (stream.memory_kind args wide) (arg args 2) (arg args 3) so.1))
-    (λ no. absurd (let e = so.0 in cc))
 
 pub temp_takes : (w : Scene) (args : List ℕ) → is_identifier w.next_id ≡ true
     → Takes w (reference.fileref_create_temp w args)
@@ -440,9 +447,9 @@ chars_take : (w : Scene) (f : FlatState) (from : ℕ) (stops : Bool) (most width
     → Takes w (input.get_chars w f from stops most width at)
 unfolding input.get_chars
 chars_take w f from stops most width at some =
-    let buffer : List ℕ × ℕ → Places = λ got. input.buffer_for at width (length got.0 + input.ending_len stops) in
+    let buffer : List ℕ × ℕ → Places = λ got. buffer_for at width (length got.0 + ending_len stops) in
     let said : List ℕ × ℕ → Said = λ got. silent (chars_got w from got.1 (length got.0)) in
-    let cs : List ℕ × ℕ → List ℕ = λ got. got.0 ++ input.ending stops in
+    let cs : List ℕ × ℕ → List ℕ = λ got. got.0 ++ ending stops in
     behind w (input.reading w f from stops most)
     (λ got. can_lay f (buffer got) >>= λ _. Ok (said got, reply_filling (length got.0) (buffer got) (cs got)))
     (λ got is. behind w (can_lay f (buffer got)) (λ _. Ok (said got, reply_filling (length got.0) (buffer got) (cs got)))
@@ -450,13 +457,13 @@ chars_take w f from stops most width at some =
     (some_chars got stops (input.reading w f from stops most) is some)))
 
 pub line_takes : (w : Scene) (f : FlatState) (width : ℕ) (args : List ℕ) → (arg args 2 == 0) ≡ false
-    → Takes w (input.get_line w f width args)
+    → Takes w (input.get_line width w f args)
 line_takes w f width args some =
     by_test w (arg args 2 == 0) _ _ (λ none. absurd (let e = some in cc))
     (λ _. chars_take w f (arg args 0) true (arg args 2 - 1) width (arg args 1) (inl refl))
 
 pub buffer_takes : (w : Scene) (f : FlatState) (width : ℕ) (args : List ℕ) → input.get_buffer_grows w f args ≡ true
-    → Takes w (input.get_buffer w f width args)
+    → Takes w (input.get_buffer width w f args)
 buffer_takes w f width args some = chars_take w f (arg args 0) false (arg args 2) width (arg args 1) (inr some)
 
 pub case_takes : (w : Scene) (f : FlatState) (first others : Case) (args : List ℕ)
@@ -491,7 +498,7 @@ char_event_takes w wide args may = asks_takes w _ may
 pub cancel_takes : (w : Scene) (f : FlatState) (room : ℕ) (args : List ℕ) → (arg args 1 == 0) ≡ false
     → Takes w (events.cancel_line_event w f room args)
 unfolding events.cancel_line_event
-cancel_takes w f room args some = elim (events.asks_line (requests.of w.requests (arg args 0))) as (λ b. Takes w
+cancel_takes w f room args some = elim (events.asks true (requests.of w.requests (arg args 0))) as (λ b. Takes w
     (give f room 0 (arg args 1) (if b then events.event line_event_type (arg args 0) 0 else events.no_event)
     >>= λ reply. answered (if b then events.without_request w (arg args 0) else w) reply)) [
       | true ↦ gives_one w (events.without_request w (arg args 0)) f room 0 (arg args 1) _ _ some
@@ -500,20 +507,17 @@ cancel_takes w f room args some = elim (events.asks_line (requests.of w.requests
 
 -- ---- those that take turns
 
--- an answer as a turn
-as_answer : (outcome : Outcome Reply) → (outcome >>= λ done. Ok (done.0, turn.Answer done.1)) ≡ as_turn outcome
-as_answer (Ok done) = refl
-as_answer (Err e) = refl
-
 pub file_takes : (w : Scene) (selector : ℕ) (args : List ℕ) (r : Said × Turn) → reference.opening_grows w args ≡ true
-    → reference.stream_open_file w selector args ≡ Ok r → takes_some w r ≡ true
+    → reference.stream_open_file selector w args ≡ Ok r → takes_some w r ≡ true
 unfolding reference.stream_open_file reference.open_with
 file_takes w selector args r some is =
     elim (there_or_not (arg args 1 == write_mode)) [
       | inl writes ↦
           let mode : arg args 1 ≡ write_mode = grind (arith, nat_tests, writes) in
           let may : is_identifier w.next_id ≡ true = opening_may (arg args 1) (is_identifier w.next_id) mode some in
-          leaves w _ _ (stream_more w (reference.file_kind w selector args []) (arg args 1) (arg args 2) may) r
+          let form : FileForm = reference.form_for selector (reference_at w (arg args 0)).usage in
+          let kind : StreamKind = kinds.File (reference.file_name w (arg args 0)) [] form in
+          leaves w _ _ (stream_more w kind (arg args 1) (arg args 2) may) r
           (rw writes at is)
       | inr other ↦ loading_takes w selector args r (reference.mode_loads (arg args 1)) other some (rw other at is)
     ]
@@ -524,12 +528,13 @@ close_takes : (w : Scene) (f : FlatState) (room : ℕ) (args : List ℕ) (r : Sa
 unfolding stream.close
 close_takes w f room args r None some is =
     let given : (arg args 1 == 0) ≡ false = grind (arith, some) in
-    gives_one w (stream.closed w (arg args 0)) f room 0 (arg args 1) _ _ given r
-    (sym (as_answer (stream.close w f room args)) ∙ is)
+    let closed : Scene =
+    if one.window_of (stream.stream_of w (arg args 0)) == 0 then without_stream w (arg args 0) else w in
+    gives_one w closed f room 0 (arg args 1) _ _ given r is
 close_takes w f room args r (Some file) some is = absurd (grind (arith, some))
 
 pub closing_takes : (w : Scene) (f : FlatState) (room : ℕ) (args : List ℕ) (r : Said × Turn)
-    → (not (arg args 1 == 0) && not (is_some (stream.stored w (arg args 0)))) ≡ true
+    → (not (arg args 1 == 0) && not (is_some (stream.stored_file w (arg args 0)))) ≡ true
     → stream.stream_close w f room args ≡ Ok r → takes_some w r ≡ true
 unfolding stream.stream_close
-closing_takes w f room args r some is = close_takes w f room args r (stream.stored w (arg args 0)) some is
+closing_takes w f room args r some is = close_takes w f room args r (stream.stored_file w (arg args 0)) some is

@@ -18,8 +18,9 @@ use Rattle.glk_replies.specs.Numbers as selectors
 use Rattle.glk_replies.specs.Parts.{give, give_each, some_given}
 use Rattle.glk_replies.specs.declared.Turn.{Turn}
 use Rattle.glk_dispatch.specs.declared.table.Selector.{Selector}
-use Rattle.glk_dispatch.specs.Calls.{as_turn, done, looked_at, is_on_none, nothing, gives_nothing, call_by}
-use Rattle.glk_dispatch.specs.Calls.{glk_call, grows_by, grows, IsGrowing}
+use Rattle.glk_object_calls.specs.Answers.{as_turn}
+use Rattle.glk_dispatch.specs.Calls.{done, looked_at, is_on_none, nothing, gives_nothing, glk_call, grows, IsGrowing}
+use Rattle.glk_dispatch.proofs.Ready.{call_by, grows_by}
 use Rattle.glk_dispatch.specs.Rows.{Row}
 use Rattle.glk_dispatch.specs.ObjectCalls.{window_calls, stream_calls}
 use Rattle.glk_dispatch.specs.TextCalls.{text_calls, event_calls, unicode_calls}

@@ -1,19 +1,40 @@
 -- A call goes by the looks of its row, and the objects that a row names are there once its arguments were looked at.
 use Rattle.std.proofs.Common.{◌≡◌, ◌⊎◌, ◌≤◌, ◌==◌, ◌||◌, ◌&&◌, nat_le, ℕ, Bool, true, false, List}
-use Rattle.std.proofs.Common.{Option, Some, None, refl, subst, inl, inr, arith, Ok}
+use Rattle.std.proofs.Common.{if◌then◌else◌, Option, Some, None, refl, subst, inl, inr, arith, Ok, Err}
 use Rattle.std.specs.Option.{option_map}
 use Rattle.std.proofs.lemmas.Grind.{common_steps}
 use Rattle.std.proofs.lemmas.Bool.Decides.{nat_tests}
+use Rattle.gx_words.specs.declared.faults.Fault.TheVariants.{BadGlk}
+use Rattle.gx_words.specs.Results.{◌>>=◌}
 use Rattle.gx_state.specs.Flat.{FlatState}
-use Rattle.glk_world.specs.World.{Scene, arg}
+use Rattle.glk_replies.specs.declared.Turn.{Turn}
+use Rattle.glk_world.specs.World.{Scene, Outcome, arg}
 use Rattle.glk_dispatch.specs.declared.table.Class.{Class}
 use Rattle.glk_dispatch.specs.declared.table.Selector.{Selector}
 use Rattle.glk_dispatch.specs.Rows.{Row}
-use Rattle.glk_dispatch.specs.Table.{row_for, selector_fits}
-use Rattle.glk_dispatch.specs.Calls.{has_object, named, looked_at, is_on_none, call_by, grows_by, glk_call, grows}
+use Rattle.glk_dispatch.specs.Table.{row_for, is_dropped, selector_fits}
+use Rattle.glk_object_calls.specs.Answers.{tells, as_turn}
+use Rattle.glk_dispatch.specs.Calls.{has_object, named, looked_at, is_on_none, nothing, done, gives_nothing, glk_call, grows}
 use Rattle.glk_dispatch.specs.Ready.{IsNamed, IsFirst, IsReady, IsReadyBy, done_by, wants_by, call_looked, wants_looked}
 
 -- ---- by the looks
+
+-- a call by its row, and where it may want memory
+abbrev pub call_by : Option Row → Scene → FlatState → ℕ → ℕ → List ℕ → Outcome Turn
+call_by found w f room selector args =
+    elim found [
+      | None ↦ if is_dropped selector then as_turn (tells w 0) else Err BadGlk
+      | Some row ↦ do
+        there ← looked_at w row.looks args
+        if is_on_none row.looks args then as_turn (nothing w f room row.looks args) else done row.does w f room args
+    ]
+
+abbrev pub grows_by : Option Row → Scene → FlatState → List ℕ → Bool
+grows_by found w f args =
+    elim found [
+      | None ↦ false
+      | Some row ↦ if is_on_none row.looks args then gives_nothing row.looks args else row.wants w f args
+    ]
 
 call_is : (found : Option Row) (w : Scene) (f : FlatState) (room selector : ℕ) (args : List ℕ)
     → call_by found w f room selector args

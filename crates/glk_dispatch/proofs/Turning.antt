@@ -1,24 +1,27 @@
 -- The rows that take a turn, and an answer as a turn.
-use Rattle.std.proofs.Common.{◌≡◌, ◌≢◌, ◌&&◌, not, ℕ, true, false, IsTrue, Some, is_some, Result, Ok, Err, refl, subst}
+use Rattle.std.proofs.Common.{◌≡◌, ◌≢◌, ◌&&◌, not, ℕ, Bool, true, false, if◌then◌else◌, IsTrue, Some, is_some, Result, Ok, Err, refl, subst}
 use Rattle.std.proofs.lemmas.List.{append-nil}
 use Rattle.std.specs.Prelude.{IfOk}
-use Rattle.gx_words.specs.declared.faults.Fault.TheVariants.{NoMemory}
+use Rattle.gx_words.specs.declared.faults.Fault.TheVariants.{BadGlk, NoMemory}
 use Rattle.gx_words.specs.Faults.{Reads}
 use Rattle.gx_words.specs.Results.{◌>>=◌}
 use Rattle.gx_state.specs.Flat.{FlatState}
 use Rattle.gx_state.specs.Replies.{IsReply}
+use Rattle.glk_replies.specs.Parts.{replies}
 use Rattle.glk_replies.specs.Turns.{IsTurnFor}
+use Rattle.glk_replies.specs.declared.Turn.{Turn}
 use Rattle.gx_words.specs.declared.faults.Fault.{Fault}
 use Rattle.gx_state.specs.declared.effects.Reply.{Reply}
-use Rattle.glk_world.specs.World.{FlatWorld, MakesCall, Outcome, silent, after, on_world, is_composed, arg}
+use Rattle.glk_world.specs.World.{FlatWorld, MakesCall, Outcome, after, on_world, is_composed, arg}
 use Rattle.glk_replies.specs.Numbers as selectors
 use Rattle.glk_replies.specs.TextNumbers as texts
 use Rattle.glk_replies.specs.declared.Turn.TheVariants.{Answer}
-use Rattle.glk_object_calls.specs.Streams.{stream_close, stored}
+use Rattle.glk_object_calls.specs.Streams.{stream_close, stored_file}
 use Rattle.glk_object_calls.specs.References.{fileref_create_by_prompt, fileref_delete_file, fileref_does_file_exist}
 use Rattle.glk_event_calls.specs.Events.{select}
 use Rattle.glk_dispatch.specs.declared.table.Class.TheVariants.{Stream, Reference}
-use Rattle.glk_dispatch.specs.Calls.{as_turn, answer_turn}
+use Rattle.glk_object_calls.specs.Answers.{tells, as_turn}
+use Rattle.glk_dispatch.specs.Calls.{answer_turn}
 use Rattle.glk_dispatch.specs.Rows.{row_with, on, giving, taking_turn, wants, is_given, opens_file, turns}
 use Rattle.glk_dispatch.specs.ObjectCalls.{exits, window_calls, stream_calls}
 use Rattle.glk_dispatch.specs.TextCalls.{text_calls, event_calls, unicode_calls}
@@ -35,7 +38,7 @@ unfolding row_for window_calls stream_calls
 open_row = refl
 
 pub close_row : row_for selectors.stream_close
-    ≡ Some (wants (λ w f args. is_given 1 w f args && not (is_some (stored w (arg args 0))))
+    ≡ Some (wants (λ w f args. is_given 1 w f args && not (is_some (stored_file w (arg args 0))))
     (giving 1 2 (on Stream (row_with selectors.stream_close 2 (turns stream_close)))))
 unfolding row_for window_calls stream_calls
 close_row = refl
@@ -81,12 +84,18 @@ turn_fits f room (Ok reply) fits = fits
 turn_fits f room (Err e) fits = tt
 
 -- so is that of a selector without a row
-pub dropped_turns : (wants : Type 0) (result : Result Reply Fault) (w : FlatWorld) (defined : Result Reply Fault)
-    → Reads (λ reply. reply) result defined
-    → MakesCall wants (answer_turn result) w w (defined >>= λ reply. Ok (silent w.scene, Answer reply))
-dropped_turns wants (Ok reply) w defined is = rw (is, append-nil) refl
-dropped_turns wants (Err e) w defined is =
-    rw is.0 ((λ _. refl), ((λ _. refl), (λ same. absurd (is.1 same))))
+pub dropped_turns : (wants : Type 0) (result : Result Reply Fault) (w : FlatWorld) (drops : Bool)
+    → Reads (λ reply. reply) result (if drops then Ok (replies 0) else Err BadGlk)
+    → MakesCall wants (answer_turn result) w w (if drops then as_turn (tells w.scene 0) else Err BadGlk)
+dropped_turns wants (Ok reply) w true is =
+    let same : replies 0 ≡ reply = (cc) in
+    subst (λ (x : Reply). on_world w (as_turn (tells w.scene 0)) ≡ Ok (w, Answer x)) same (rw (append-nil w.text) refl)
+dropped_turns wants (Ok reply) w false is = absurd (cc)
+dropped_turns wants (Err e) w true is = absurd (let h = is.0 in cc)
+dropped_turns wants (Err e) w false is =
+    let same : BadGlk ≡ e = (let h = is.0 in cc) in
+    subst (λ (x : Fault). MakesCall {X = Turn} wants (Err x) w w (Err BadGlk)) same
+    ((λ _. refl), ((λ _. refl), (λ none. absurd (cc))))
 
 -- what stands behind a look that is refused isn't done
 pub look_refused : {X : Type 0} (wants : Type 0) (e : Fault) (w : FlatWorld) (look : Result (Unit {0}) Fault)

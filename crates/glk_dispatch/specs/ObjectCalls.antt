@@ -15,7 +15,7 @@ use Rattle.glk_object_calls.specs.Windows.{window_get_echo_stream, window_iterat
 use Rattle.glk_object_calls.specs.Windows.{window_get_parent, window_get_sibling, window_get_root, window_clear}
 use Rattle.glk_object_calls.specs.Windows.{window_get_stream, set_window}
 use Rattle.glk_object_calls.specs.Streams.{stream_iterate, stream_get_rock}
-use Rattle.glk_object_calls.specs.Streams.{stream_close, stored, stream_set_position, stream_get_position}
+use Rattle.glk_object_calls.specs.Streams.{stream_close, stored_file, stream_set_position, stream_get_position}
 use Rattle.glk_object_calls.specs.Streams.{stream_set_current, stream_get_current}
 use Rattle.glk_object_calls.specs.References.{fileref_create_temp, fileref_create_by_name, fileref_create_by_prompt}
 use Rattle.glk_object_calls.specs.References.{fileref_create_from_fileref, fileref_destroy, fileref_iterate}
@@ -38,13 +38,10 @@ makes w f args = is_identifier w.next_id
 -- the program, what the library can do, windows
 unfoldable pub window_calls : List Row
 window_calls =
-    -- The program
     row_with selectors.exit 0 (taking_turn exits) ∷
     row_with selectors.tick 0 (plain idles) ∷
-    -- What the library can do
     row_with selectors.gestalt 2 (plain gestalt) ∷
     wants (λ w f args. has_glyphs args) (row_with selectors.gestalt_ext 4 (looking gestalt_ext)) ∷
-    -- Windows
     wants (is_given 1) (maybe_on Window (row_with selectors.window_iterate 2 (answers window_iterate))) ∷
     on Window (row_with selectors.window_get_rock 1 (plain window_get_rock)) ∷
     row_with selectors.window_get_root 0 (plain (λ w args. window_get_root w)) ∷
@@ -65,24 +62,21 @@ window_calls =
     naming Stream 1 (on Window (row_with selectors.window_set_echo_stream 2 (plain window_set_echo_stream))) ∷
     on Window (row_with selectors.window_get_echo_stream 1 (plain window_get_echo_stream)) ∷
     maybe_on Window (row_with selectors.set_window 1 (plain set_window)) ∷
-    on Window (row_with selectors.window_get_sibling 1 (plain window_get_sibling)) ∷
-    []
+    on Window (row_with selectors.window_get_sibling 1 (plain window_get_sibling)) ∷ []
 
 -- streams and file references
 unfoldable pub stream_calls : List Row
 stream_calls =
-    -- Streams
     wants (is_given 1) (maybe_on Stream (row_with selectors.stream_iterate 2 (answers stream_iterate))) ∷
     on Stream (row_with selectors.stream_get_rock 1 (plain stream_get_rock)) ∷
     opens_file selectors.stream_open_file ∷
     opens_memory selectors.stream_open_memory false ∷
-    wants (λ w f args. is_given 1 w f args && not (is_some (stored w (arg args 0))))
+    wants (λ w f args. is_given 1 w f args && not (is_some (stored_file w (arg args 0))))
     (giving 1 2 (on Stream (row_with selectors.stream_close 2 (turns stream_close)))) ∷
     on Stream (row_with selectors.stream_set_position 3 (plain stream_set_position)) ∷
     on Stream (row_with selectors.stream_get_position 1 (plain stream_get_position)) ∷
     maybe_on Stream (row_with selectors.stream_set_current 1 (plain stream_set_current)) ∷
     row_with selectors.stream_get_current 0 (plain (λ w args. stream_get_current w)) ∷
-    -- File references
     wants makes (row_with selectors.fileref_create_temp 2 (plain fileref_create_temp)) ∷
     wants makes (row_with selectors.fileref_create_by_name 3 (looking fileref_create_by_name)) ∷
     wants (λ w f args. not (is_composed w))
@@ -93,5 +87,4 @@ stream_calls =
     wants always (on Reference (row_with selectors.fileref_delete_file 1 (taking_turn fileref_delete_file))) ∷
     wants always (on Reference (row_with selectors.fileref_does_file_exist 1 (taking_turn fileref_does_file_exist))) ∷
     wants (λ w f args. has_reference w (arg args 1) && is_identifier w.next_id)
-    (naming Reference 1 (row_with selectors.fileref_create_from_fileref 3 (plain fileref_create_from_fileref))) ∷
-    []
+    (naming Reference 1 (row_with selectors.fileref_create_from_fileref 3 (plain fileref_create_from_fileref))) ∷ []

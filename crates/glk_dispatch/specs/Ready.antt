@@ -1,22 +1,22 @@
 -- What the calls of a row rest on, once its arguments were looked at.
 use Rattle.std.specs.Prelude.{◌≡◌, ◌⊎◌, ℕ, ◌==◌, ◌||◌, ◌&&◌, nat_le, nat_lt, if◌then◌else◌, Bool, true, false}
-use Rattle.std.specs.Prelude.{List, [], ◌∷◌, Option, Some, None, Ok, Err}
+use Rattle.std.specs.Prelude.{List, [], ◌∷◌, Option, Some, None, Err}
 use Rattle.gx_words.specs.declared.faults.Fault.TheVariants.{BadGlk}
 use Rattle.gx_words.specs.Results.{◌>>=◌}
 use Rattle.gx_state.specs.Flat.{FlatState}
 use Rattle.gx_state.specs.declared.effects.Reply.{Reply}
-use Rattle.glk_world.specs.World.{Scene, silent, Outcome, arg}
+use Rattle.glk_world.specs.World.{Scene, Outcome, arg}
 use Rattle.glk_replies.specs.Numbers as selectors
 use Rattle.glk_replies.specs.TextNumbers as texts
 use Rattle.glk_replies.specs.declared.Turn.{Turn}
-use Rattle.glk_replies.specs.declared.Turn.TheVariants.{Answer}
+use Rattle.glk_object_calls.specs.Answers.{tells, as_turn}
 use Rattle.glk_dispatch.specs.declared.table.Class.{Class}
 use Rattle.glk_dispatch.specs.declared.table.Selector.{Selector}
 use Rattle.glk_dispatch.specs.Rows.{Doing, answers, turns, Row}
 use Rattle.glk_dispatch.specs.ObjectCalls.{window_calls, stream_calls}
 use Rattle.glk_dispatch.specs.TextCalls.{text_calls, event_calls, unicode_calls}
-use Rattle.glk_dispatch.specs.Table.{row_in}
-use Rattle.glk_dispatch.specs.Calls.{has_object, looked_at, is_on_none, nothing, as_turn, done, dropping, gives_nothing}
+use Rattle.glk_dispatch.specs.Table.{row_in, is_dropped}
+use Rattle.glk_dispatch.specs.Calls.{has_object, looked_at, is_on_none, nothing, done, gives_nothing}
 
 abbrev pub IsObject : Scene → Class → ℕ → Type 0
 IsObject w class id = has_object w class id ≡ true
@@ -78,8 +78,8 @@ answering_from bound rows = answering (λ number. nat_le bound number) rows
 abbrev pub arranging_row : ℕ → Option Row
 arranging_row selector = row_in (answering_below selectors.window_get_type window_calls) selector
 
-abbrev pub window_row : ℕ → Option Row
-window_row selector = row_in (answering_from selectors.window_get_type window_calls) selector
+abbrev pub window_call_row : ℕ → Option Row
+window_call_row selector = row_in (answering_from selectors.window_get_type window_calls) selector
 
 abbrev pub stream_row : ℕ → Option Row
 stream_row selector = row_in (answering_below selectors.fileref_create_temp stream_calls) selector
@@ -103,13 +103,13 @@ abbrev pub unicode_input_row : ℕ → Option Row
 unicode_input_row selector = row_in (answering_from texts.get_char_stream_uni unicode_calls) selector
 
 -- what such a row answers
-abbrev pub answer_of : Doing → Scene → FlatState → ℕ → List ℕ → Outcome Reply
-answer_of (answers call) w f room args = call w f room args
-answer_of (turns call) w f room args = Err BadGlk
+abbrev pub row_answer : Doing → Scene → FlatState → ℕ → List ℕ → Outcome Reply
+row_answer (answers call) w f room args = call w f room args
+row_answer (turns call) w f room args = Err BadGlk
 
 abbrev pub answer_by : Option Row → Scene → FlatState → ℕ → List ℕ → Outcome Reply
 answer_by None w f room args = Err BadGlk
-answer_by (Some row) w f room args = answer_of row.does w f room args
+answer_by (Some row) w f room args = row_answer row.does w f room args
 
 -- ---- a call by the looks of its row, and by what the row does and wants
 
@@ -117,9 +117,7 @@ abbrev pub call_on : Selector → Outcome Turn → Scene → FlatState → ℕ �
 call_on looks does w f room args = if is_on_none looks args then as_turn (nothing w f room looks args) else does
 
 abbrev pub call_looked : Option Selector → Outcome Turn → Scene → FlatState → ℕ → ℕ → List ℕ → Outcome Turn
-call_looked None does w f room selector args = do
-  reply ← dropping selector
-  Ok (silent w, Answer reply)
+call_looked None does w f room selector args = if is_dropped selector then as_turn (tells w 0) else Err BadGlk
 call_looked (Some looks) does w f room selector args = do
   there ← looked_at w looks args
   call_on looks does w f room args

@@ -8,10 +8,10 @@ use Rattle.std.specs.Prelude.{◌==◌, ◌&&◌, not, ℕ, Bool, true, false, L
 use Rattle.gx_state.specs.Flat.{FlatState}
 use Rattle.gx_state.specs.declared.effects.Reply.{Reply}
 use Rattle.glk_streams.specs.Stream as one
-use Rattle.glk_world.specs.World.{Scene, Outcome, answered, arg}
+use Rattle.glk_world.specs.World.{Scene, Outcome, arg}
 use Rattle.glk_world.specs.Calls.{is_identifier}
-use Rattle.glk_replies.specs.Parts.{replies}
 use Rattle.glk_replies.specs.declared.Turn.{Turn}
+use Rattle.glk_object_calls.specs.Answers.{tells}
 use Rattle.glk_object_calls.specs.Streams.{stream_open_memory, memory_kind}
 use Rattle.glk_object_calls.specs.References.{stream_open_file, opening_grows}
 use Rattle.glk_dispatch.specs.declared.table.Class.{Class}
@@ -77,7 +77,7 @@ taking_turn call = turns (λ w f room args. call w args)
 
 -- nothing is done
 abbrev pub idles : Scene → List ℕ → Outcome Reply
-idles w args = answered w (replies 0)
+idles w args = tells w 0
 
 -- ---- where it may want memory
 
@@ -94,7 +94,7 @@ is_given place w f args = not (arg args place == 0)
 abbrev pub opens_file : ℕ → Row
 opens_file selector =
     wants (λ w f args. opening_grows w args)
-    (on Reference (row_with selector 3 (taking_turn (λ w args. stream_open_file w selector args))))
+    (on Reference (row_with selector 3 (taking_turn (stream_open_file selector))))
 
 -- stream_open_memory and its Unicode form
 abbrev pub opens_memory : ℕ → Bool → Row

@@ -1,6 +1,6 @@
 -- The calls of Glk of output, input, the case of characters, styles and events (Glk 0.7.5, "How To Print", "How To
 -- Read", "Events"), and those of Unicode, in rising order of selector.
-use Rattle.std.specs.Prelude.{◌==◌, ◌&&◌, not, nat_lt, ℕ, Bool, true, false, List, [], ◌∷◌}
+use Rattle.std.specs.Prelude.{◌==◌, ◌&&◌, not, nat_lt, ℕ, if◌then◌else◌, Bool, true, false, List, [], ◌∷◌}
 use Rattle.gx_state.specs.Flat.{FlatState}
 use Rattle.glk_streams.specs.Streams as streams
 use Rattle.glk_world.specs.World.{Scene, arg}
@@ -12,7 +12,7 @@ use Rattle.glk_text_calls.specs.declared.characters.Case.TheVariants as case
 use Rattle.glk_text_calls.specs.Putting.{put_grows_one}
 use Rattle.glk_text_calls.specs.Output.{char_given, put_char, put_string, put_buffer, has_length}
 use Rattle.glk_text_calls.specs.Input.{get_char, get_line, get_buffer, get_buffer_grows}
-use Rattle.glk_text_calls.specs.Characters.{char_to_case, buffer_to_case, buffer_of, rest_of}
+use Rattle.glk_text_calls.specs.Characters.{char_to_case, buffer_to_case, buffer_of}
 use Rattle.glk_event_calls.specs.Events.{may_ask, request_line_event, request_char_event, cancel_line_event}
 use Rattle.glk_event_calls.specs.Events.{cancel_char_event, select_poll, select}
 use Rattle.glk_dispatch.specs.declared.table.Class.TheVariants.{Window, Stream}
@@ -59,7 +59,6 @@ puts_buffer number arguments stream width at count =
 -- output, input, the case of characters, styles
 unfoldable pub text_calls : List Row
 text_calls =
-    -- Output
     puts_char texts.put_char 1 current 1 0 ∷
     on Stream (puts_char texts.put_char_stream 2 first 1 1) ∷
     puts_string texts.put_string 1 current 1 0 ∷
@@ -68,20 +67,15 @@ text_calls =
     on Stream (puts_buffer texts.put_buffer_stream 3 first 1 1 2) ∷
     row_with texts.set_style 1 (plain idles) ∷
     on Stream (row_with texts.set_style_stream 2 (plain idles)) ∷
-    -- Input
-    on Stream (row_with texts.get_char_stream 1 (looking (λ w f args. get_char w f 1 args))) ∷
-    wants (is_given 2) (on Stream (row_with texts.get_line_stream 3 (looking (λ w f args. get_line w f 1 args)))) ∷
-    wants get_buffer_grows
-    (on Stream (row_with texts.get_buffer_stream 3 (looking (λ w f args. get_buffer w f 1 args)))) ∷
-    -- The case of characters
+    on Stream (row_with texts.get_char_stream 1 (looking (get_char 1))) ∷
+    wants (is_given 2) (on Stream (row_with texts.get_line_stream 3 (looking (get_line 1)))) ∷
+    wants get_buffer_grows (on Stream (row_with texts.get_buffer_stream 3 (looking (get_buffer 1)))) ∷
     row_with texts.char_to_lower 1 (plain (λ w args. char_to_case w case.Lower args)) ∷
     row_with texts.char_to_upper 1 (plain (λ w args. char_to_case w case.Upper args)) ∷
-    -- Styles
     row_with texts.stylehint_set 4 (plain idles) ∷
     row_with texts.stylehint_clear 3 (plain idles) ∷
     on Window (row_with texts.style_distinguish 3 (plain idles)) ∷
-    on Window (row_with texts.style_measure 4 (plain idles)) ∷
-    []
+    on Window (row_with texts.style_measure 4 (plain idles)) ∷ []
 
 -- events
 unfoldable pub event_calls : List Row
@@ -91,34 +85,26 @@ event_calls =
     wants requests (on Window (row_with texts.request_line_event 4 (plain (request_line_event false)))) ∷
     wants (is_given 1) (giving 1 4 (on Window (row_with texts.cancel_line_event 2 (answers cancel_line_event)))) ∷
     wants requests (on Window (row_with texts.request_char_event 1 (plain (request_char_event false)))) ∷
-    on Window (row_with texts.cancel_char_event 1 (plain cancel_char_event)) ∷
-    []
+    on Window (row_with texts.cancel_char_event 1 (plain cancel_char_event)) ∷ []
 
 -- the calls of Unicode, and the echo of line input
 unfoldable pub unicode_calls : List Row
 unicode_calls =
-    -- The case of characters
     changes_case texts.buffer_to_lower_case_uni 3 case.Lower (λ args. case.Lower) ∷
     changes_case texts.buffer_to_upper_case_uni 3 case.Upper (λ args. case.Upper) ∷
-    changes_case texts.buffer_to_title_case_uni 4 case.Upper rest_of ∷
-    -- Output
+    changes_case texts.buffer_to_title_case_uni 4 case.Upper
+    (λ args. if arg args 3 == 0 then case.Same else case.Lower) ∷
     puts_char texts.put_char_uni 1 current 4 0 ∷
     puts_string texts.put_string_uni 1 current 4 0 ∷
     puts_buffer texts.put_buffer_uni 2 current 4 0 1 ∷
     on Stream (puts_char texts.put_char_stream_uni 2 first 4 1) ∷
     on Stream (puts_string texts.put_string_stream_uni 2 first 4 1) ∷
     on Stream (puts_buffer texts.put_buffer_stream_uni 3 first 4 1 2) ∷
-    -- Input
-    on Stream (row_with texts.get_char_stream_uni 1 (looking (λ w f args. get_char w f 4 args))) ∷
-    wants get_buffer_grows
-    (on Stream (row_with texts.get_buffer_stream_uni 3 (looking (λ w f args. get_buffer w f 4 args)))) ∷
-    wants (is_given 2) (on Stream (row_with texts.get_line_stream_uni 3 (looking (λ w f args. get_line w f 4 args)))) ∷
-    -- Streams
+    on Stream (row_with texts.get_char_stream_uni 1 (looking (get_char 4))) ∷
+    wants get_buffer_grows (on Stream (row_with texts.get_buffer_stream_uni 3 (looking (get_buffer 4)))) ∷
+    wants (is_given 2) (on Stream (row_with texts.get_line_stream_uni 3 (looking (get_line 4)))) ∷
     opens_file selectors.stream_open_file_uni ∷
     opens_memory selectors.stream_open_memory_uni true ∷
-    -- Events
     wants requests (on Window (row_with texts.request_char_event_uni 1 (plain (request_char_event true)))) ∷
     wants requests (on Window (row_with texts.request_line_event_uni 4 (plain (request_line_event true)))) ∷
-    -- Echo of line input
-    on Window (row_with texts.set_echo_line_event 2 (plain idles)) ∷
-    []
+    on Window (row_with texts.set_echo_line_event 2 (plain idles)) ∷ []

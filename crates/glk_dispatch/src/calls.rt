@@ -1,6 +1,7 @@
 //! The one way that every call goes (Glk 0.7.5, "The Dispatch Layer"; specs/Calls): its row, the looks at its
 //! arguments, and then what the row does.
-ghost use Rattle.std.specs.Prelude.{◌≡◌, ◌≤◌, ℕ, length, replicate, false, IfOk, IfSome, IsTrue, option_map};
+ghost use Rattle.std.specs.Prelude.{◌≡◌, ◌≤◌, ℕ, if◌then◌else◌, length, replicate, false, Ok, Err, IfOk, IfSome};
+ghost use Rattle.std.specs.Prelude.{IsTrue, option_map};
 ghost use Rattle.gx_words.specs.Faults.{Reads};
 ghost use Rattle.gx_state.specs.Flat.{FlatState};
 ghost use Rattle.gx_state.specs.Replies.{IsReply};
@@ -8,10 +9,11 @@ ghost use Rattle.glk_world.specs.World.{MakesCall};
 ghost use Rattle.glk_replies.specs.Turns.{IsTurnFor, IsGivenFor};
 ghost use Rattle.glk_replies.specs.declared.Given.{Given};
 ghost use Rattle.glk_dispatch.specs.Turns.{Awaits, Looked};
-ghost use Rattle.glk_dispatch.specs.Table.{row_for, selector_fits};
-ghost use Rattle.glk_dispatch.specs.Calls.{has_object, named, looked_at, is_on_none, nothing, gives_nothing, dropping};
+ghost use Rattle.glk_dispatch.specs.Table.{row_for, selector_fits, is_dropped};
+ghost use Rattle.glk_replies.specs.Parts.{replies};
+ghost use Rattle.glk_dispatch.specs.Calls.{has_object, named, looked_at, is_on_none, nothing, gives_nothing};
 ghost use Rattle.glk_dispatch.specs.Calls.{glk_call, IsGrowing};
-ghost use Rattle.gx_words.specs.declared.faults.Fault.TheVariants.{NoMemory};
+ghost use Rattle.gx_words.specs.declared.faults.Fault.TheVariants.{BadGlk, NoMemory};
 ghost use Rattle.glk_dispatch.specs.Memory.{is_left_out, TakesMemory};
 ghost use Rattle.glk_dispatch.specs.Ready.{done_by, wants_by, call_looked, wants_looked};
 
@@ -119,7 +121,7 @@ fn nothing<A: Allocator + Clone>(
 
 /// A selector without a row.
 fn call_dropped(world: &World, selector: u32) -> Result<Reply, Fault>
-    ensures value { Reads (λ reply. reply) result (dropping selector) }
+    ensures value { Reads (λ reply. reply) result (if is_dropped selector then Ok (replies 0) else Err BadGlk) }
     ensures fits { (f : FlatState) (room : ℕ) → IfOk result (IsReply f room) }
 {
     if dropped(selector) {

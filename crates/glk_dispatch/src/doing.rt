@@ -8,7 +8,8 @@ ghost use Rattle.glk_replies.specs.Turns.{IsTurnFor};
 ghost use Rattle.glk_dispatch.specs.Table.{row_for};
 ghost use Rattle.glk_dispatch.specs.Calls.{answer_turn};
 ghost use Rattle.glk_dispatch.specs.Ready.{IsReadyBy, takes_turn, answer_by, done_by, wants_by, arranging_row};
-ghost use Rattle.glk_dispatch.specs.Ready.{window_row, stream_row, reference_row, output_row, input_row, event_row};
+ghost use Rattle.glk_dispatch.specs.Ready.{window_call_row, stream_row, reference_row, output_row, input_row};
+ghost use Rattle.glk_dispatch.specs.Ready.{event_row};
 ghost use Rattle.glk_dispatch.specs.Ready.{unicode_output_row, unicode_input_row};
 
 use glk_event_calls::events::{
@@ -80,9 +81,9 @@ fn window_call<A: Allocator + Clone>(
     room: u32,
     args: &[u32],
 ) -> Result<Reply, Fault>
-    requires { IsReadyBy (window_row selector) world.old.scene args.now }
-    ensures value { MakesCall (IsTrue (wants_by (window_row selector) world.old.scene state.now.flat args.now))
-        result world.old world.new (answer_by (window_row selector) world.old.scene state.now.flat room args.now) }
+    requires { IsReadyBy (window_call_row selector) world.old.scene args.now }
+    ensures value { MakesCall (IsTrue (wants_by (window_call_row selector) world.old.scene state.now.flat args.now))
+        result world.old world.new (answer_by (window_call_row selector) world.old.scene state.now.flat room args.now) }
     ensures fits { IfOk result (IsReply state.now.flat room) }
 {
     match selector {

@@ -1,12 +1,12 @@
 //! A call that waited goes on with what it was given (specs/Going): always to an answer.
-ghost use Rattle.std.specs.Prelude.{◌≡◌, IfOk, IsTrue};
+ghost use Rattle.std.specs.Prelude.{◌≡◌, ◌==◌, ◌&&◌, if◌then◌else◌, IfOk, IsTrue};
 ghost use Rattle.gx_state.specs.Replies.{IsReply};
 ghost use Rattle.glk_world.specs.Kept.{flat_call};
 ghost use Rattle.glk_world.specs.World.{MakesCall};
 ghost use Rattle.glk_replies.specs.Turns.{IsTurnFor, IsAnswered};
 ghost use Rattle.glk_dispatch.specs.Turns.{IsAwaited, Awaits, IsOfFile, Looked, MeetsNoFault};
-ghost use Rattle.glk_dispatch.specs.Going.{with_line, with_line_grow, was_of, resumed, resumed_grow, glk_go_on};
-ghost use Rattle.glk_dispatch.specs.Going.{go_grows};
+ghost use Rattle.glk_dispatch.specs.Going.{resumed, resumed_grow, glk_go_on, go_grows};
+ghost use Rattle.glk_replies.specs.Numbers as selectors;
 ghost use Rattle.glk_replies.specs.declared.Given.TheVariants as given;
 
 use glk_event_calls::events::select_goes_on;
@@ -28,8 +28,9 @@ fn with_line<A: Allocator + Clone>(
     line: &[u32],
 ) -> Result<Reply, Fault>
     requires { IsAwaited world.old.scene (flat_call call.now) (given.Line line.now) }
-    ensures value { MakesCall (IsTrue (with_line_grow world.old.scene state.now.flat (flat_call call.now) line.now))
-        result world.old world.new (with_line world.old.scene state.now.flat room (flat_call call.now) line.now) }
+    ensures value { MakesCall
+        (IsTrue (resumed_grow world.old.scene state.now.flat (flat_call call.now) (given.Line line.now))) result
+        world.old world.new (resumed world.old.scene state.now.flat room (flat_call call.now) (given.Line line.now)) }
     ensures fits { IfOk result (IsReply state.now.flat room) }
 {
     if call.selector == SELECT {
@@ -41,7 +42,7 @@ fn with_line<A: Allocator + Clone>(
 
 /// The answer where a file was removed, or looked for.
 fn was_of(selector: u32, was: bool) -> u32
-    ensures { result ≡ was_of selector was }
+    ensures { result ≡ (if selector == selectors.fileref_does_file_exist && was then 1 else 0) }
 {
     u32::from(selector == FILEREF_DOES_FILE_EXIST && was)
 }

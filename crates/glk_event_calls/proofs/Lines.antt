@@ -21,14 +21,15 @@ use Rattle.glk_world.specs.World.{Scene, FlatWorld, MakesCall}
 use Rattle.glk_world.specs.Putting.{places_of, chain_end}
 use Rattle.glk_replies.specs.Parts.{IsCharWidth, pushes_for, char_writes, writes_for, can_lay, can_give, can_push}
 use Rattle.glk_replies.proofs.Ram.{between_append, laid_in_ram, written_in_ram}
-use Rattle.glk_event_calls.specs.Events.{in_buffer, echo_for, echoes, echoed, event_of, line_places, echo_places}
+use Rattle.glk_text.specs.Characters.{latin_of}
+use Rattle.glk_event_calls.specs.Events.{echo_for, echoes, echoed, event_of, line_places, echo_places}
 use Rattle.glk_event_calls.specs.Events.{line_reply, looked_at_line, met, met_grows}
 
 -- ---- how many characters are put to the echo stream
 
 echoed_with : (line there : Bool) (r : Request) (chars : List ℕ) → (line && there) ≡ true
     → (if line then line_length r chars else 0) + 1
-    ≡ length (if line && there then map (in_buffer r.wide) (take (line_length r chars) chars) ++ line_feed ∷ [] else [])
+    ≡ length (if line && there then map (λ c. if r.wide then c else latin_of c) (take (line_length r chars) chars) ++ line_feed ∷ [] else [])
 echoed_with true true r chars is = grind (arith, common_steps, length-append)
 echoed_with true false r chars is = absurd (cc)
 echoed_with false there r chars is = absurd (cc)

@@ -14,7 +14,7 @@ use Rattle.glk_windows.specs.Windows.{window_entry, has_text}
 use Rattle.glk_events.specs.declared.requests.Request.{Request}
 use Rattle.glk_events.specs.Requests as requests
 use Rattle.glk_events.specs.Requests.{line_length, char_value}
-use Rattle.glk_world.specs.World.{Scene, Said, silent, Outcome, waits, answered, arg}
+use Rattle.glk_world.specs.World.{Scene, silent, Outcome, waits, answered, arg}
 use Rattle.glk_world.specs.Putting.{places_of, no_places, put_chars}
 use Rattle.glk_world.specs.Shown.{line_taken}
 use Rattle.glk_replies.specs.declared.Turn.{Turn}
@@ -37,11 +37,9 @@ abbrev pub may_ask : Scene → ℕ → Bool
 may_ask w win = has_text (window_entry w.windows.entries win).kind && is_none (requests.of w.requests win)
 
 -- a window asks, if it may
-abbrev pub asking : Scene → Request → Scene
-asking w r = if may_ask w r.win then record w { requests = requests.with_request w.requests r } else w
-
 abbrev pub requested : Scene → Request → Outcome Reply
-requested w r = answered (asking w r) (replies 0)
+requested w r =
+    answered (if may_ask w r.win then record w { requests = requests.with_request w.requests r } else w) (replies 0)
 
 -- request_line_event and its Unicode form; the initial text isn't looked at
 unfoldable pub request_line_event : Bool → Scene → List ℕ → Outcome Reply
@@ -52,14 +50,10 @@ request_line_event wide w args =
 unfoldable pub request_char_event : Bool → Scene → List ℕ → Outcome Reply
 request_char_event wide w args = requested w (record { win = arg args 0; line = false; wide = wide; buf = 0; max = 0 })
 
--- a window waits for a line, or for a character
-abbrev pub asks_line : Option Request → Bool
-asks_line None = false
-asks_line (Some r) = r.line
-
-abbrev pub asks_char : Option Request → Bool
-asks_char None = false
-asks_char (Some r) = not r.line
+-- a window waits for a line, or else for a character
+abbrev pub asks : Bool → Option Request → Bool
+asks line None = false
+asks line (Some r) = if line then r.line else not r.line
 
 -- the request of a window is dropped
 abbrev pub without_request : Scene → ℕ → Scene
@@ -68,12 +62,13 @@ without_request w win = record w { requests = requests.removed w.requests win }
 -- cancel_char_event
 unfoldable pub cancel_char_event : Scene → List ℕ → Outcome Reply
 cancel_char_event w args =
-    answered (if asks_char (requests.of w.requests (arg args 0)) then without_request w (arg args 0) else w) (replies 0)
+    let cancels = asks false (requests.of w.requests (arg args 0)) in
+    answered (if cancels then without_request w (arg args 0) else w) (replies 0)
 
 -- cancel_line_event: gives the event of a line of no characters where one was waited for
 unfoldable pub cancel_line_event : Scene → FlatState → ℕ → List ℕ → Outcome Reply
 cancel_line_event w f room args = do
-  let cancels = asks_line (requests.of w.requests (arg args 0))
+  let cancels = asks true (requests.of w.requests (arg args 0))
   reply ← give f room 0 (arg args 1) (if cancels then event line_event_type (arg args 0) 0 else no_event)
   answered (if cancels then without_request w (arg args 0) else w) reply
 
@@ -85,17 +80,11 @@ select_poll w f room args = do
   reply ← give f room 0 (arg args 0) no_event
   answered w reply
 
--- with no request nothing could come; else the call waits
-abbrev pub waits_for : Scene → List ℕ → Option Request → Said × Turn
-waits_for w args None = (silent w, Stuck)
-waits_for w args (Some r) = (silent (waits w texts.select args), Wait)
-
--- select: the place of the event is looked at before the wait
+-- select: the place of the event is looked at; with no request nothing could come, else the call waits
 unfoldable pub select : Scene → FlatState → ℕ → List ℕ → Outcome Turn
 select w f room args = do
-  there ← can_give f (arg args 0) 4
-  fits ← can_push room (length (pushes_for (arg args 0) no_event))
-  Ok (waits_for w args (requests.oldest w.requests))
+  looked ← give f room 0 (arg args 0) no_event
+  Ok (if is_none (requests.oldest w.requests) then (silent w, Stuck) else (silent (waits w texts.select args), Wait))
 
 -- ---- what a line gives to the request that it meets
 
@@ -109,10 +98,6 @@ abbrev pub line_places : Request → List ℕ → Places
 line_places r line =
     record { at = r.buf; width = if r.wide then 4 else 1; count = if r.line then line_length r line else 0 }
 
--- a character of a line in its buffer: one above FF has no place among bytes
-abbrev pub in_buffer : Bool → ℕ → ℕ
-in_buffer wide c = if wide then c else latin_of c
-
 -- the echo stream of a request's window, 0 for none
 abbrev pub echo_for : Scene → Request → ℕ
 echo_for w r = (window_entry w.windows.entries r.win).echo
@@ -121,14 +106,16 @@ echo_for w r = (window_entry w.windows.entries r.win).echo
 abbrev pub echoes : Scene → Request → Bool
 echoes w r = r.line && streams.has w.streams (echo_for w r)
 
--- what is put to it: the characters in the buffer, and a line feed
+-- what is put to it: the characters as they are in the buffer, where one above FF has no place among bytes, and a
+-- line feed
 abbrev pub echoed : Scene → Request → List ℕ → List ℕ
-echoed w r line = if echoes w r then map (in_buffer r.wide) (take (line_length r line) line) ++ line_feed ∷ [] else []
+echoed w r line =
+    let chars = map (λ c. if r.wide then c else latin_of c) (take (line_length r line) line) in
+    if echoes w r then chars ++ line_feed ∷ [] else []
 
 -- the places of memory that they use
 abbrev pub echo_places : Scene → Request → List ℕ → Places
-echo_places w r line =
-    if echoes w r then places_of w (echo_for w r) (length (echoed w r line)) else no_places
+echo_places w r line = if echoes w r then places_of w (echo_for w r) (length (echoed w r line)) else no_places
 
 -- the looks: at the buffer, at the place of the event and the room for it, at the places of the echo stream
 unfoldable pub looked_at_line : Scene → FlatState → ℕ → ℕ → Request → List ℕ → Result (Unit {0}) Fault
@@ -140,13 +127,10 @@ looked_at_line w f room at r line = do
 
 -- what is given: the characters in the buffer, the event, and the characters in memory where the echo stream ends
 abbrev pub line_reply : Scene → ℕ → Request → List ℕ → Reply
-line_reply w at r line = record {
-  value = 0;
-  pushes = pushes_for at (event_of r line);
-  writes =
-      char_writes (line_places r line) line ++ writes_for at (event_of r line)
-      ++ char_writes (echo_places w r line) (echoed w r line);
-}
+line_reply w at r line =
+    let echo = char_writes (echo_places w r line) (echoed w r line) in
+    let writes = char_writes (line_places r line) line ++ writes_for at (event_of r line) ++ echo in
+    record { value = 0; pushes = pushes_for at (event_of r line); writes = writes }
 
 -- a line meets a request, which ends
 unfoldable pub met : Scene → FlatState → ℕ → ℕ → Request → List ℕ → Outcome Reply
@@ -162,14 +146,8 @@ met_grows w at r line = not (at == 0) || not ((line_places r line).count == 0) |
 -- select goes on with a line, which meets the oldest request, whatever its window.
 unfoldable pub select_goes_on : Scene → FlatState → ℕ → List ℕ → List ℕ → Outcome Reply
 select_goes_on w f room args line =
-    elim (requests.oldest w.requests) [
-      | None ↦ Err BadGlk
-      | Some r ↦ met w f room (arg args 0) r line
-    ]
+    elim (requests.oldest w.requests) [ None ↦ Err BadGlk | Some r ↦ met w f room (arg args 0) r line ]
 
 unfoldable pub select_goes_on_grow : Scene → FlatState → List ℕ → List ℕ → Bool
 select_goes_on_grow w f args line =
-    elim (requests.oldest w.requests) [
-      | None ↦ false
-      | Some r ↦ met_grows w (arg args 0) r line
-    ]
+    elim (requests.oldest w.requests) [ None ↦ false | Some r ↦ met_grows w (arg args 0) r line ]

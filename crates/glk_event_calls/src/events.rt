@@ -1,7 +1,7 @@
 //! The calls of events (Glk 0.7.5, "Events"): requests, polling, waiting, and what a line gives to the request that it
 //! meets.
-ghost use Rattle.std.specs.Prelude.{◌≡◌, ℕ, ◌==◌, not, ◌<◌, ◌≤◌, ◌^◌, ◌+◌, ◌*◌, ◌++◌, length, map};
-ghost use Rattle.std.specs.Prelude.{OnOk, OnErr, IfOk, IsTrue};
+ghost use Rattle.std.specs.Prelude.{◌≡◌, ℕ, ◌==◌, not, ◌<◌, ◌≤◌, ◌^◌, ◌+◌, ◌*◌, ◌++◌, if◌then◌else◌, true, false};
+ghost use Rattle.std.specs.Prelude.{length, map, OnOk, OnErr, IfOk, IsTrue};
 ghost use Rattle.gx_words.specs.Constants.{ceiling};
 ghost use Rattle.gx_words.specs.Faults.{Reads};
 ghost use Rattle.gx_state.specs.Flat.{FlatState};
@@ -10,10 +10,11 @@ ghost use Rattle.glk_replies.specs.Turns.{IsTurnFor};
 ghost use Rattle.glk_replies.specs.Parts.{IsCharWidth};
 ghost use Rattle.glk_world.specs.World.{arg, MakesCall};
 ghost use Rattle.glk_event_calls.specs.Events.{event, may_ask, requested, request_line_event, request_char_event};
-ghost use Rattle.glk_event_calls.specs.Events.{asks_line, asks_char, cancel_char_event, cancel_line_event, select_poll};
-ghost use Rattle.glk_event_calls.specs.Events.{select, event_of, line_places, in_buffer, echo_for, echoes, echoed};
-ghost use Rattle.glk_event_calls.specs.Events.{echo_places, looked_at_line, line_reply, met_grows, met, select_goes_on};
+ghost use Rattle.glk_event_calls.specs.Events.{asks, cancel_char_event, cancel_line_event, select_poll, select};
+ghost use Rattle.glk_event_calls.specs.Events.{event_of, line_places, echo_for, echoes, echoed, echo_places};
+ghost use Rattle.glk_event_calls.specs.Events.{looked_at_line, line_reply, met_grows, met, select_goes_on};
 ghost use Rattle.glk_event_calls.specs.Events.{select_goes_on_grow};
+ghost use Rattle.glk_text.specs.Characters.{latin_of};
 
 use glk_events::{Request, char_value, line_length};
 use glk_replies::selectors::SELECT;
@@ -96,7 +97,7 @@ pub fn request_char_event(world: &mut World, wide: bool, args: &[u32]) -> Result
 
 /// Whether it is a request for a line.
 fn is_line(request: Option<Request>) -> bool
-    ensures { result ≡ asks_line request }
+    ensures { result ≡ asks true request }
 {
     match request {
         None => false,
@@ -106,7 +107,7 @@ fn is_line(request: Option<Request>) -> bool
 
 /// Whether it is a request for a character.
 fn is_char(request: Option<Request>) -> bool
-    ensures { result ≡ asks_char request }
+    ensures { result ≡ asks false request }
 {
     match request {
         None => false,
@@ -186,7 +187,7 @@ pub fn select_poll<A: Allocator + Clone>(
 }
 
 /// select: waits for an event, whose place is looked at before.
-#[tactic(auto, unfolding(crate::specs::Events::select))]
+#[tactic(auto, unfolding(crate::proofs::Opened::selecting))]
 pub fn select<A: Allocator + Clone>(
     world: &mut World,
     state: &State<A>,
@@ -294,14 +295,14 @@ fn looked_at_line<A: Allocator + Clone>(
 
 /// A character of a line in its buffer, as a word or as a byte.
 fn in_buffer(wide: bool, c: u32) -> u32
-    ensures { result ≡ in_buffer wide c }
+    ensures { result ≡ (if wide then c else latin_of c) }
 {
     if wide { c } else { u32::from(latin(c)) }
 }
 
 /// Adds characters as they are in a buffer.
 fn push_in_buffer(out: &mut Numbers, wide: bool, chars: &[u32]) -> Result<(), AllocError>
-    ensures { OnOk result (out.new ≡ out.old ++ map (in_buffer wide) chars.now) }
+    ensures { OnOk result (out.new ≡ out.old ++ map (λ c. if wide then c else latin_of c) chars.now) }
 {
     for c in chars {
         out.push(in_buffer(wide, *c))?;

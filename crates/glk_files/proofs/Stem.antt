@@ -1,5 +1,5 @@
 -- A stem, character by character.
-use Rattle.std.proofs.Common.{◌≡◌, ◌≢◌, ℕ, zero, suc, ◌+◌, ◌-◌, ◌<◌, Bool, true, false, cond, not, List, [], ◌∷◌, ◌++◌}
+use Rattle.std.proofs.Common.{◌≡◌, ◌≢◌, ℕ, zero, suc, ◌+◌, ◌-◌, ◌<◌, ◌==◌, Bool, true, false, cond, not, List, [], ◌∷◌, ◌++◌}
 use Rattle.std.proofs.Common.{length, take, drop, get_or, filter, Some, None, if◌then◌else◌, refl, sym, ap, ◌∙◌, arith}
 use Rattle.std.proofs.Common.{append_assoc}
 use Rattle.std.proofs.Math.Seq.{take-nil}
@@ -9,7 +9,14 @@ use Rattle.std.proofs.lemmas.List.Sums.{take_while-cons}
 use Rattle.std.specs.Char.{encode_utf8}
 use Rattle.std.specs.List.{take_while}
 use Rattle.std.specs.Str.{encode_utf8_all}
-use Rattle.glk_files.specs.Names.{is_allowed, allowed_of, is_period, stem_within}
+use Rattle.glk_files.specs.Names.{is_allowed, allowed_of}
+
+abbrev pub is_period : ℕ → Bool
+is_period v = v == 0x2E
+
+-- so many allowed characters at most, up to the first period
+abbrev pub stem_within : ℕ → List ℕ → List ℕ
+stem_within room chars = take room (take_while (λ v. not (is_period v)) (filter is_allowed chars))
 
 -- a character that isn't allowed is passed over
 pub stem-skip : (v room : ℕ) (rest : List ℕ) → is_allowed v ≡ false

@@ -32,12 +32,9 @@ gestalt w args = tells w (gestalt_answer (arg args 0) (arg args 1))
 abbrev pub has_glyphs : List ℕ → Bool
 has_glyphs args = arg args 0 == gestalt_char_output && not (arg args 2 == 0) && not (arg args 3 == 0)
 
--- that place
-abbrev pub glyphs_place : List ℕ → Places
-glyphs_place args = record { at = arg args 2; width = 4; count = if has_glyphs args then 1 else 0 }
-
 -- gestalt_ext: a character has one glyph, printable or not
 unfoldable pub gestalt_ext : Scene → FlatState → List ℕ → Outcome Reply
 gestalt_ext w f args = do
-  writable ← can_lay f (glyphs_place args)
-  answered w (reply_filling (gestalt_answer (arg args 0) (arg args 1)) (glyphs_place args) (1 ∷ []))
+  let place : Places = record { at = arg args 2; width = 4; count = if has_glyphs args then 1 else 0 }
+  writable ← can_lay f place
+  answered w (reply_filling (gestalt_answer (arg args 0) (arg args 1)) place (1 ∷ []))

@@ -10,7 +10,6 @@ use Rattle.glk_files.specs.Names.{base_of, suffix_of}
 use Rattle.glk_streams.specs.Constants.{write_mode, read_mode, read_write_mode, write_append_mode}
 use Rattle.glk_streams.specs.declared.kinds.FileForm.{FileForm}
 use Rattle.glk_streams.specs.declared.kinds.FileForm.TheVariants as forms
-use Rattle.glk_streams.specs.declared.kinds.StreamKind.{StreamKind}
 use Rattle.glk_streams.specs.declared.kinds.StreamKind.TheVariants as kinds
 use Rattle.glk_world.specs.World.{Scene, silent, has_reference, reference_at, next_reference, Outcome, answered, waits}
 use Rattle.glk_world.specs.World.{arg}
@@ -22,7 +21,7 @@ use Rattle.glk_replies.specs.Numbers as selectors
 use Rattle.glk_replies.specs.Parts.{replies, give}
 use Rattle.glk_replies.specs.Strings.{string_length, string_chars}
 use Rattle.glk_object_calls.specs.Constants.{text_mode}
-use Rattle.glk_object_calls.specs.Answers.{tells}
+use Rattle.glk_object_calls.specs.Answers.{tells, replying, as_turn}
 
 -- ---- file references
 
@@ -31,11 +30,8 @@ abbrev pub created : Scene → List ℕ → ℕ → ℕ → Outcome Reply
 created w base usage rock = answered (with_reference w base usage rock) (replies (new_id w))
 
 -- fileref_create_temp: a name that no other has, by the identifier
-abbrev pub temporary_name : ℕ → List ℕ
-temporary_name id = codes "gxtemp" ++ decimal id
-
 unfoldable pub fileref_create_temp : Scene → List ℕ → Outcome Reply
-fileref_create_temp w args = created w (temporary_name w.next_id) (arg args 0) (arg args 1)
+fileref_create_temp w args = created w (codes "gxtemp" ++ decimal w.next_id) (arg args 0) (arg args 1)
 
 -- fileref_create_by_name: the name is a string of bytes
 unfoldable pub fileref_create_by_name : Scene → FlatState → List ℕ → Outcome Reply
@@ -46,18 +42,12 @@ fileref_create_by_name w f args = do
 -- fileref_create_by_prompt: a line is the name
 unfoldable pub fileref_create_by_prompt : Scene → List ℕ → Outcome Turn
 fileref_create_by_prompt w args =
-    let shown = show_prompt w in
-    Ok ((waits shown.0 selectors.fileref_create_by_prompt args, shown.1), turn.Prompt)
+    let shown = show_prompt w in Ok ((waits shown.0 selectors.fileref_create_by_prompt args, shown.1), turn.Prompt)
 
 -- the line; an empty one answers 0
 unfoldable pub prompt_goes_on : Scene → List ℕ → List ℕ → Outcome Reply
 prompt_goes_on w args [] = tells (line_taken w) 0
 prompt_goes_on w args (c ∷ cs) = created (line_taken w) (base_of (c ∷ cs)) (arg args 0) (arg args 2)
-
--- where that may want memory
-unfoldable pub prompt_goes_on_grow : Scene → List ℕ → Bool
-prompt_goes_on_grow w [] = false
-prompt_goes_on_grow w (c ∷ cs) = is_identifier w.next_id
 
 -- fileref_create_from_fileref: the same name for another usage; 0 for none
 unfoldable pub fileref_create_from_fileref : Scene → List ℕ → Outcome Reply
@@ -70,10 +60,9 @@ fileref_destroy w args = answered (without_reference w (arg args 0)) (replies 0)
 
 -- fileref_iterate ("Opaque Objects"): the next file reference and its rock, zeros at the end
 unfoldable pub fileref_iterate : Scene → FlatState → ℕ → List ℕ → Outcome Reply
-fileref_iterate w f room args = do
-  let next = next_reference w (arg args 0)
-  reply ← give f room next (arg args 1) ((reference_at w next).rock ∷ [])
-  answered w reply
+fileref_iterate w f room args =
+    let next = next_reference w (arg args 0) in
+    replying w (give f room next (arg args 1) ((reference_at w next).rock ∷ []))
 
 unfoldable pub fileref_get_rock : Scene → List ℕ → Outcome Reply
 fileref_get_rock w args = tells w (reference_at w (arg args 0)).rock
@@ -100,25 +89,20 @@ form_for selector usage =
     if selector == selectors.stream_open_file_uni then (if usage / text_mode % 2 == 1 then forms.Utf8 else forms.Wide)
     else forms.Latin
 
-abbrev pub file_kind : Scene → ℕ → List ℕ → List ℕ → StreamKind
-file_kind w selector args content =
-    kinds.File (file_name w (arg args 0)) content (form_for selector (reference_at w (arg args 0)).usage)
-
 -- a stream of a file with this content
 unfoldable pub open_with : Scene → ℕ → List ℕ → List ℕ → Outcome Reply
 open_with w selector args content =
-    answered (with_new_stream w (file_kind w selector args content) (arg args 1) (arg args 2)) (replies (new_id w))
+    let kind = kinds.File (file_name w (arg args 0)) content (form_for selector (reference_at w (arg args 0)).usage) in
+    answered (with_new_stream w kind (arg args 1) (arg args 2)) (replies (new_id w))
 
 -- a mode in which a file is loaded
 abbrev pub mode_loads : ℕ → Bool
 mode_loads mode = mode == read_mode || mode == read_write_mode || mode == write_append_mode
 
 -- stream_open_file: for writing alone the file begins empty, else it is loaded; another mode is refused
-unfoldable pub stream_open_file : Scene → ℕ → List ℕ → Outcome Turn
-stream_open_file w selector args =
-    if arg args 1 == write_mode then (do
-      done ← open_with w selector args []
-      Ok (done.0, turn.Answer done.1)) else
+unfoldable pub stream_open_file : ℕ → Scene → List ℕ → Outcome Turn
+stream_open_file selector w args =
+    if arg args 1 == write_mode then as_turn (open_with w selector args []) else
     if mode_loads (arg args 1) then Ok (silent (waits w selector args), turn.Load (file_name w (arg args 0))) else
     Ok (silent w, turn.Answer (replies 0))
 

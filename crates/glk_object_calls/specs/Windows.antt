@@ -2,7 +2,6 @@
 --
 -- A first argument names a window but in window_iterate, window_open and set_window, where it may be 0.
 use Rattle.std.specs.Prelude.{ℕ, ◌==◌, if◌then◌else◌, List, [], ◌∷◌, unwrap_or}
-use Rattle.gx_words.specs.Results.{◌>>=◌}
 use Rattle.gx_state.specs.Flat.{FlatState}
 use Rattle.gx_state.specs.declared.effects.Reply.{Reply}
 use Rattle.glk_windows.specs.declared.tree.Pair.{Pair}
@@ -10,11 +9,11 @@ use Rattle.glk_windows.specs.declared.entries.Entry.{Entry}
 use Rattle.glk_windows.specs.Windows as all
 use Rattle.glk_windows.specs.Windows.{FlatWindows, window_entry}
 use Rattle.glk_world.specs.World.{Scene, Outcome, answered, arg}
-use Rattle.glk_world.specs.Calls.{opened_id, with_window, window_counts, without_window, with_arrangement}
-use Rattle.glk_world.specs.Calls.{window_cleared, cursor_moved}
-use Rattle.glk_world.specs.Calls.{with_echo}
+use Rattle.glk_world.specs.Calls.{opened_id, with_window, without_window, with_arrangement, window_cleared}
+use Rattle.glk_world.specs.Calls.{cursor_moved, with_echo}
 use Rattle.glk_replies.specs.Parts.{replies, give, give_each}
-use Rattle.glk_object_calls.specs.Answers.{tells}
+use Rattle.glk_object_calls.specs.Answers.{tells, replying}
+use Rattle.glk_object_calls.specs.Streams.{counts}
 
 -- the window of the first argument; that of 0 has neither rock nor stream
 abbrev pub first_window : Scene → List ℕ → Entry
@@ -22,8 +21,7 @@ first_window w args = window_entry w.windows.entries (arg args 0)
 
 -- a pair window; other windows are none, with zeros
 abbrev pub pair_at : FlatWindows → ℕ → Pair
-pair_at f win =
-    unwrap_or (all.window_pair f win) (record { first = 0; second = 0; method = 0; size = 0; key = 0 })
+pair_at f win = unwrap_or (all.window_pair f win) (record { first = 0; second = 0; method = 0; size = 0; key = 0 })
 
 -- ---- "Window Opening, Closing, and Constraints"
 
@@ -35,19 +33,16 @@ window_open w args =
 
 -- window_close: gives the counts of its stream
 unfoldable pub window_close : Scene → FlatState → ℕ → List ℕ → Outcome Reply
-window_close w f room args = do
-  let counts = window_counts w (arg args 0)
-  reply ← give f room 0 (arg args 1) (counts.0 ∷ counts.1 ∷ [])
-  answered (without_window w (arg args 0)) reply
+window_close w f room args =
+    replying (without_window w (arg args 0)) (give f room 0 (arg args 1) (counts w (first_window w args).stream))
 
 -- ---- "Window Sizes", "Changing Window Constraints"
 
 -- window_get_size: columns and rows
 unfoldable pub window_get_size : Scene → FlatState → ℕ → List ℕ → Outcome Reply
-window_get_size w f room args = do
-  let size = all.text_size w.windows (arg args 0)
-  reply ← give_each f room 0 (arg args 1 ∷ arg args 2 ∷ []) (size.0 ∷ size.1 ∷ [])
-  answered w reply
+window_get_size w f room args =
+    let size = all.text_size w.windows (arg args 0) in
+    replying w (give_each f room 0 (arg args 1 ∷ arg args 2 ∷ []) (size.0 ∷ size.1 ∷ []))
 
 -- window_set_arrangement: the key 0 leaves the key as it is
 unfoldable pub window_set_arrangement : Scene → List ℕ → Outcome Reply
@@ -56,10 +51,9 @@ window_set_arrangement w args =
 
 -- window_get_arrangement: method, size and key of a pair window, zeros for other windows
 unfoldable pub window_get_arrangement : Scene → FlatState → ℕ → List ℕ → Outcome Reply
-window_get_arrangement w f room args = do
-  let pair = pair_at w.windows (arg args 0)
-  reply ← give_each f room 0 (arg args 1 ∷ arg args 2 ∷ arg args 3 ∷ []) (pair.method ∷ pair.size ∷ pair.key ∷ [])
-  answered w reply
+window_get_arrangement w f room args =
+    let p = pair_at w.windows (arg args 0) in
+    replying w (give_each f room 0 (arg args 1 ∷ arg args 2 ∷ arg args 3 ∷ []) (p.method ∷ p.size ∷ p.key ∷ []))
 
 -- ---- "The Types of Windows"
 
@@ -78,10 +72,9 @@ window_get_echo_stream w args = tells w (first_window w args).echo
 
 -- window_iterate: the next window and its rock, at the end 0 and 0
 unfoldable pub window_iterate : Scene → FlatState → ℕ → List ℕ → Outcome Reply
-window_iterate w f room args = do
-  let win = all.next w.windows (arg args 0)
-  reply ← give f room win (arg args 1) ((window_entry w.windows.entries win).rock ∷ [])
-  answered w reply
+window_iterate w f room args =
+    let win = all.next w.windows (arg args 0) in
+    replying w (give f room win (arg args 1) ((window_entry w.windows.entries win).rock ∷ []))
 
 unfoldable pub window_get_rock : Scene → List ℕ → Outcome Reply
 window_get_rock w args = tells w (first_window w args).rock
@@ -93,13 +86,11 @@ window_get_type w args = tells w (first_window w args).kind
 unfoldable pub window_get_parent : Scene → List ℕ → Outcome Reply
 window_get_parent w args = tells w (all.parent w.windows (arg args 0))
 
--- the other child of the pair above a window, 0 for none
-abbrev pub sibling : FlatWindows → ℕ → ℕ
-sibling f win =
-    let above = pair_at f (all.parent f win) in if above.first == win then above.second else above.first
-
+-- window_get_sibling: the other child of the pair above a window, 0 for none
 unfoldable pub window_get_sibling : Scene → List ℕ → Outcome Reply
-window_get_sibling w args = tells w (sibling w.windows (arg args 0))
+window_get_sibling w args =
+    let above = pair_at w.windows (all.parent w.windows (arg args 0)) in
+    tells w (if above.first == arg args 0 then above.second else above.first)
 
 unfoldable pub window_get_root : Scene → Outcome Reply
 window_get_root w = tells w (all.root w.windows)

@@ -1,9 +1,9 @@
 //! What the library can do (Glk 0.7.5, "The Gestalt System"): gestalt and gestalt_ext.
-ghost use Rattle.std.specs.Prelude.{◌≡◌, ℕ, ◌≤◌, ◌<◌, ◌^◌, Ok, IfOk, IsTrue};
+ghost use Rattle.std.specs.Prelude.{◌≡◌, ℕ, ◌≤◌, ◌<◌, ◌^◌, if◌then◌else◌, Ok, IfOk, IsTrue};
 ghost use Rattle.gx_state.specs.Flat.{FlatState};
 ghost use Rattle.gx_state.specs.Replies.{IsReply};
-ghost use Rattle.glk_world.specs.World.{MakesCall};
-ghost use Rattle.glk_object_calls.specs.Gestalts.{gestalt_answer, gestalt, has_glyphs, glyphs_place, gestalt_ext};
+ghost use Rattle.glk_world.specs.World.{arg, MakesCall};
+ghost use Rattle.glk_object_calls.specs.Gestalts.{gestalt_answer, gestalt, has_glyphs, gestalt_ext};
 
 use glk_events::RETURN;
 use glk_replies::{can_lay, filled, reply};
@@ -65,7 +65,7 @@ fn has_glyphs(args: &[u32]) -> bool
 
 /// That place.
 fn glyphs_place(args: &[u32]) -> Places
-    ensures value { result ≡ glyphs_place args.now }
+    ensures value { result ≡ record { at = arg args.now 2; width = 4; count = if has_glyphs args.now then 1 else 0 } }
     ensures at { result.at < 2 ^ 32 }
     ensures width { result.width ≡ 4 }
     ensures count { result.count ≤ 1 }

@@ -1,7 +1,7 @@
 //! The calls of file references, and the opening of files (Glk 0.7.5, "File References" and "File Streams";
 //! specs/References).
 ghost use Rattle.std.specs.Prelude.{ℕ, ◌≡◌, ◌≤◌, ◌+◌, ◌==◌, ◌&&◌, ◌||◌, not, Ok, Some, None, if◌then◌else◌, length};
-ghost use Rattle.std.specs.Prelude.{map, IfOk, OnErr, OnOk, IsTrue};
+ghost use Rattle.std.specs.Prelude.{map, codes, decimal, ◌++◌, IfOk, OnErr, OnOk, IsTrue};
 ghost use Rattle.gx_outside.specs.Outside.{IsBounded};
 ghost use Rattle.gx_state.specs.Flat.{FlatState};
 ghost use Rattle.gx_state.specs.Replies.{IsReply};
@@ -12,9 +12,9 @@ ghost use Rattle.glk_world.specs.World.{after, silent, waits, reference_id, is_c
 ghost use Rattle.glk_world.specs.World.{arg, MakesCall};
 ghost use Rattle.glk_world.specs.Calls.{is_identifier};
 ghost use Rattle.glk_replies.specs.Turns.{IsTurnFor};
-ghost use Rattle.glk_object_calls.specs.References.{created, temporary_name, fileref_create_temp};
+ghost use Rattle.glk_object_calls.specs.References.{created, fileref_create_temp};
 ghost use Rattle.glk_object_calls.specs.References.{fileref_create_by_name, fileref_create_by_prompt, prompt_goes_on};
-ghost use Rattle.glk_object_calls.specs.References.{prompt_goes_on_grow, fileref_create_from_fileref, fileref_destroy};
+ghost use Rattle.glk_object_calls.specs.References.{fileref_create_from_fileref, fileref_destroy};
 ghost use Rattle.glk_object_calls.specs.References.{fileref_iterate, fileref_get_rock, file_name, fileref_delete_file};
 ghost use Rattle.glk_object_calls.specs.References.{fileref_does_file_exist, form_for, open_with, mode_loads};
 ghost use Rattle.glk_object_calls.specs.References.{stream_open_file, opening_grows, open_goes_on, open_goes_on_grow};
@@ -48,7 +48,7 @@ fn create(world: &mut World, base: Name, usage: u32, rock: u32) -> Result<Reply,
 
 /// The name of a file for a time.
 fn temporary_name(alloc: Global, id: u32) -> Result<Name, AllocError>
-    ensures { IfOk result (λ name. name ≡ temporary_name id) }
+    ensures { IfOk result (λ name. name ≡ codes "gxtemp" ++ decimal id) }
 {
     let mut buffer = Buffer::new();
     let mut name = String::from_str(alloc, "gxtemp")?;
@@ -118,10 +118,10 @@ pub fn fileref_create_by_prompt(world: &mut World, args: &[u32]) -> Result<Turn,
 }
 
 /// The line of a prompt was taken.
-#[tactic(auto, unfolding(crate::proofs::Opened::going_on_from_prompt))]
+#[tactic(auto, unfolding(crate::specs::References::prompt_goes_on))]
 pub fn prompt_goes_on(world: &mut World, args: &[u32], line: &[u32]) -> Result<Reply, Fault>
-    ensures value { MakesCall (IsTrue (prompt_goes_on_grow world.old.scene line.now)) result world.old world.new
-        (prompt_goes_on world.old.scene args.now line.now) }
+    ensures value { MakesCall (IsTrue (not (length line.now == 0) && is_identifier world.old.scene.next_id)) result
+        world.old world.new (prompt_goes_on world.old.scene args.now line.now) }
     ensures fits { (f : FlatState) (room : ℕ) → IfOk result (IsReply f room) }
 {
     world.line_taken();
@@ -313,7 +313,7 @@ fn open_with(world: &mut World, selector: u32, args: &[u32], content: Bytes) -> 
 pub fn stream_open_file(world: &mut World, selector: u32, args: &[u32]) -> Result<Turn, Fault>
     requires { IsTrue (has_reference world.old.scene (arg args.now 0)) }
     ensures value { MakesCall (IsTrue (opening_grows world.old.scene args.now)) result world.old world.new
-        (stream_open_file world.old.scene selector args.now) }
+        (stream_open_file selector world.old.scene args.now) }
     ensures fits { (f : FlatState) (room : ℕ) → IfOk result (IsTurnFor f room) }
 {
     match arg(args, 1) {

@@ -1,5 +1,5 @@
 //! The calls of streams (Glk 0.7.5, "Streams"; specs/Streams).
-ghost use Rattle.std.specs.Prelude.{◌≡◌, ℕ, ◌+◌, ◌==◌, ◌&&◌, not, Ok, is_some, length, map};
+ghost use Rattle.std.specs.Prelude.{◌≡◌, ℕ, ◌+◌, ◌==◌, ◌&&◌, not, if◌then◌else◌, Ok, is_some, length, map};
 ghost use Rattle.std.specs.Prelude.{IfOk, IsTrue};
 ghost use Rattle.gx_state.specs.Flat.{FlatState};
 ghost use Rattle.gx_state.specs.Replies.{IsReply};
@@ -7,10 +7,10 @@ ghost use Rattle.glk_objects.specs.Objects.{met_from};
 ghost use Rattle.glk_streams.specs.Stream as one;
 ghost use Rattle.glk_streams.specs.Streams as streams;
 ghost use Rattle.glk_world.specs.World.{after, silent, arg, MakesCall};
-ghost use Rattle.glk_world.specs.Calls.{is_identifier};
+ghost use Rattle.glk_world.specs.Calls.{is_identifier, without_stream};
 ghost use Rattle.glk_replies.specs.Turns.{IsTurnFor};
 ghost use Rattle.glk_object_calls.specs.Streams.{stream_of, stream_iterate, stream_get_rock, memory_kind};
-ghost use Rattle.glk_object_calls.specs.Streams.{stream_open_memory, closed, close, stored, stream_close};
+ghost use Rattle.glk_object_calls.specs.Streams.{stream_open_memory, close, stored_file, stream_close};
 ghost use Rattle.glk_object_calls.specs.Streams.{stream_set_position, stream_get_position, stream_set_current};
 ghost use Rattle.glk_object_calls.specs.Streams.{stream_get_current};
 
@@ -88,7 +88,8 @@ pub fn stream_open_memory(world: &mut World, args: &[u32], wide: bool) -> Result
 /// Closes a stream, unless it is a window's.
 fn drop_stream(world: &mut World, id: u32)
     requires { IsTrue (streams.has world.old.scene.streams id) }
-    ensures { world.new ≡ after world.old (silent (closed world.old.scene id)) }
+    ensures { world.new ≡ after world.old (silent (if one.window_of (stream_of world.old.scene id) == 0
+        then without_stream world.old.scene id else world.old.scene)) }
 {
     if world.streams().window(id) == 0 {
         world.remove_stream(id);
@@ -125,7 +126,7 @@ pub fn close<A: Allocator + Clone>(
 /// Whether a stream is a file that has to be stored.
 fn is_stored(world: &World, id: u32) -> bool
     requires { IsTrue (streams.has world.now.scene.streams id) }
-    ensures { result ≡ is_some (stored world.now.scene id) }
+    ensures { result ≡ is_some (stored_file world.now.scene id) }
 {
     world.streams().writable(id) && world.streams().file(id).is_some()
 }
@@ -140,7 +141,7 @@ pub fn stream_close<A: Allocator + Clone>(
 ) -> Result<Turn, Fault>
     requires { IsTrue (streams.has world.old.scene.streams (arg args.now 0)) }
     ensures value { MakesCall
-        (IsTrue (not (arg args.now 1 == 0) && not (is_some (stored world.old.scene (arg args.now 0))))) result
+        (IsTrue (not (arg args.now 1 == 0) && not (is_some (stored_file world.old.scene (arg args.now 0))))) result
         world.old world.new (stream_close world.old.scene state.now.flat room args.now) }
     ensures fits { IfOk result (IsTurnFor state.now.flat room) }
 {

@@ -1,5 +1,5 @@
 //! The calls of windows (Glk 0.7.5, "Windows"; specs/Windows).
-ghost use Rattle.std.specs.Prelude.{◌≡◌, ℕ, ◌+◌, ◌==◌, ◌⊎◌, ◌||◌, not, length, map, Ok, IfOk, IsTrue};
+ghost use Rattle.std.specs.Prelude.{◌≡◌, ℕ, ◌+◌, ◌==◌, ◌⊎◌, ◌||◌, not, if◌then◌else◌, length, map, Ok, IfOk, IsTrue};
 ghost use Rattle.gx_state.specs.Flat.{FlatState};
 ghost use Rattle.gx_state.specs.Replies.{IsReply};
 ghost use Rattle.glk_objects.specs.Objects.{met_from};
@@ -8,7 +8,7 @@ ghost use Rattle.glk_windows.specs.Windows.{entry_id, is_window, parent};
 ghost use Rattle.glk_windows.specs.Changes.{arranging_grows};
 ghost use Rattle.glk_world.specs.Calls.{can_open};
 ghost use Rattle.glk_world.specs.World.{arg, MakesCall};
-ghost use Rattle.glk_object_calls.specs.Windows.{first_window, pair_at, sibling, window_open, window_close};
+ghost use Rattle.glk_object_calls.specs.Windows.{first_window, pair_at, window_open, window_close};
 ghost use Rattle.glk_object_calls.specs.Windows.{window_get_size, window_set_arrangement, window_get_arrangement};
 ghost use Rattle.glk_object_calls.specs.Windows.{window_move_cursor, window_set_echo_stream, window_get_echo_stream};
 ghost use Rattle.glk_object_calls.specs.Windows.{window_iterate, window_get_rock, window_get_type, window_get_parent};
@@ -245,7 +245,9 @@ pub fn window_get_parent(world: &World, args: &[u32]) -> Reply
 /// The other child of the pair above a window, 0 for none.
 fn sibling(windows: &Windows, win: u32) -> u32
     requires { IsTrue (is_window windows.now win) }
-    ensures { result ≡ sibling windows.now win }
+    ensures { result ≡ (if (pair_at windows.now (parent windows.now win)).first == win
+        then (pair_at windows.now (parent windows.now win)).second
+        else (pair_at windows.now (parent windows.now win)).first) }
 {
     let above = pair_at(windows, parent(windows, win));
     if above.first == win {

@@ -1,13 +1,18 @@
 -- One turn of the loops over numbers and characters.
-use Rattle.std.proofs.Common.{zero, suc, ap, sym, subst, inl, inr, ◌≡◌, ◌<◌, ◌≤◌, ◌+◌, ◌*◌, ℕ, List, [], ◌∷◌, ◌++◌}
+use Rattle.std.proofs.Common.{zero, suc, ap, sym, subst, inl, inr, ◌≡◌, ◌<◌, ◌≤◌, ◌+◌, ◌*◌, ◌==◌, ℕ, List, [], ◌∷◌, ◌++◌}
 use Rattle.std.proofs.Common.{append_assoc, length, get_or, drop, drop-cons, refl, ◌∙◌, arith, nat_lt, true, Result, Ok}
-use Rattle.std.proofs.Common.{Err, IfOk}
+use Rattle.std.proofs.Common.{Err, IfOk, if◌then◌else◌}
 use Rattle.std.proofs.lemmas.Grind.{common_steps}
 use Rattle.std.proofs.lemmas.Bool.Decides.{nat_tests}
 use Rattle.std.proofs.lemmas.List.{append-nil}
 use Rattle.std.proofs.Math.Nat.{mul-suc}
-use Rattle.gx_words.specs.Numbers.{number}
-use Rattle.glk_replies.specs.Parts.{chars_bytes, char_bytes, numbers_in, IsCharWidth}
+use Rattle.gx_words.specs.Numbers.{number, bytes_of_word}
+use Rattle.glk_text.specs.Characters.{latin_of}
+use Rattle.glk_replies.specs.Parts.{chars_bytes, numbers_in, IsCharWidth}
+
+-- the bytes of one character
+abbrev pub char_bytes : ℕ → ℕ → List ℕ
+char_bytes width c = if width == 1 then latin_of c ∷ [] else bytes_of_word c
 
 pub bytes_none : (width : ℕ) (cs : List ℕ) (n : ℕ) (out : List ℕ) → length cs ≤ n
     → out ++ chars_bytes width (drop n cs) ≡ out

@@ -9,8 +9,9 @@ use Rattle.gx_state.specs.Flat.{FlatState, write_fault}
 use Rattle.gx_state.specs.Replies.{AreBetween, AreInRam}
 use Rattle.glk_streams.specs.declared.kinds.Places.{Places}
 use Rattle.glk_replies.specs.Constants.{on_stack}
-use Rattle.glk_replies.specs.Parts.{IsCharWidth, char_bytes, chars_bytes, can_lay, char_writes, can_give, writes_for}
-use Rattle.glk_replies.specs.Parts.{can_give_each, writes_for_each}
+use Rattle.glk_replies.specs.Parts.{IsCharWidth, chars_bytes, can_lay, char_writes, can_give, writes_for, can_give_each}
+use Rattle.glk_replies.specs.Parts.{writes_for_each}
+use Rattle.glk_replies.proofs.Laying.{char_bytes}
 
 pub between_append : (low high : ℕ) (ws vs : List (ℕ × List ℕ)) → AreBetween low high ws → AreBetween low high vs
     → AreBetween low high (ws ++ vs)

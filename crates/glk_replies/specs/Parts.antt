@@ -1,8 +1,8 @@
 -- What replies are made of: what is read from memory and written to it, and words that are given to references.
 --
 -- A call looks at all of its addresses before it changes anything; what it writes stands in its reply.
-use Rattle.std.specs.Prelude.{◌≡◌, ◌⊎◌, ℕ, zero, suc, ◌+◌, ◌*◌, ◌==◌, ◌||◌, nat_lt, not, if◌then◌else◌, Bool, false}
-use Rattle.std.specs.Prelude.{List, [], ◌∷◌, ◌++◌, length, take, Result, Ok, Err}
+use Rattle.std.specs.Prelude.{◌≡◌, ◌⊎◌, ℕ, zero, suc, ◌+◌, ◌*◌, ◌==◌, ◌&&◌, ◌||◌, nat_lt, not, if◌then◌else◌, Bool}
+use Rattle.std.specs.Prelude.{false, List, [], ◌∷◌, ◌++◌, length, take, Result, Ok, Err}
 use Rattle.gx_words.specs.declared.faults.Fault.{Fault}
 use Rattle.gx_words.specs.declared.faults.Fault.TheVariants.{BadAddress, Overflow}
 use Rattle.gx_words.specs.Numbers.{number, bytes_of_word}
@@ -31,22 +31,17 @@ IsCharWidth width = (width ≡ 1) ⊎ (width ≡ 4)
 
 -- so many bytes from an address on are there; none may be anywhere
 unfoldable pub can_read : FlatState → ℕ → ℕ → Result (Unit {0}) Fault
-can_read f at count =
-    if count == 0 then Ok tt else
-    if nat_lt (length f.memory) (at + count) then Err BadAddress else Ok tt
+can_read f at count = if not (count == 0) && nat_lt (length f.memory) (at + count) then Err BadAddress else Ok tt
 
 -- so many numbers of a width, one behind the other
 unfoldable pub numbers_in : ℕ → List ℕ → ℕ → ℕ → List ℕ
 numbers_in width memory at zero = []
 numbers_in width memory at (suc n) = number width memory at ∷ numbers_in width memory (at + width) n
 
--- the bytes of a character in memory: of one byte in Latin-1, else a word
-abbrev pub char_bytes : ℕ → ℕ → List ℕ
-char_bytes width c = if width == 1 then latin_of c ∷ [] else bytes_of_word c
-
+-- the bytes of characters in memory: of one byte each in Latin-1, else words
 unfoldable pub chars_bytes : ℕ → List ℕ → List ℕ
 chars_bytes width [] = []
-chars_bytes width (c ∷ cs) = char_bytes width c ++ chars_bytes width cs
+chars_bytes width (c ∷ cs) = (if width == 1 then latin_of c ∷ [] else bytes_of_word c) ++ chars_bytes width cs
 
 -- places may be written; none may be anywhere
 unfoldable pub can_lay : FlatState → Places → Result (Unit {0}) Fault
@@ -87,9 +82,7 @@ give f room value at words = do
 -- the same for some references, a word for each, from the left to the right
 unfoldable pub can_give_each : FlatState → List ℕ → Result (Unit {0}) Fault
 can_give_each f [] = Ok tt
-can_give_each f (at ∷ ats) = do
-  there ← can_give f at 1
-  can_give_each f ats
+can_give_each f (at ∷ ats) = can_give f at 1 >>= λ there. can_give_each f ats
 
 unfoldable pub pushes_for_each : List ℕ → List ℕ → List ℕ
 pushes_for_each [] words = []
@@ -114,6 +107,4 @@ give_each f room value ats words = do
 
 -- two words may be given to a reference
 unfoldable pub can_give_pair : FlatState → ℕ → ℕ → Result (Unit {0}) Fault
-can_give_pair f room at = do
-  there ← can_give f at 2
-  can_push room (if at == on_stack then 2 else 0)
+can_give_pair f room at = can_give f at 2 >>= λ there. can_push room (if at == on_stack then 2 else 0)

@@ -13,18 +13,14 @@ unfoldable pub count_to_zero : ℕ → ℕ → List ℕ → ℕ → Result ℕ F
 count_to_zero zero width memory at = Err BadAddress
 count_to_zero (suc most) width memory at = do
   c ← number_in width memory at
-  if c == 0 then Ok 0 else (do
-    count ← count_to_zero most width memory (at + width)
-    Ok (count + 1))
+  if c == 0 then Ok 0 else (count_to_zero most width memory (at + width) >>= λ count. Ok (count + 1))
 
 -- a string of characters of a width: its first character stands one character behind the address
-abbrev pub string_type : ℕ → ℕ
-string_type width = if width == 1 then c_string else unicode_string
-
 unfoldable pub string_length : FlatState → ℕ → ℕ → Result ℕ Fault
 string_length f width at = do
   kind ← number_in 1 f.memory at
-  if kind == string_type width then count_to_zero (length f.memory) width f.memory (at + width) else Err BadString
+  if kind == (if width == 1 then c_string else unicode_string)
+      then count_to_zero (length f.memory) width f.memory (at + width) else Err BadString
 
 abbrev pub string_chars : FlatState → ℕ → ℕ → ℕ → List ℕ
 string_chars f width at count = numbers_in width f.memory (at + width) count

@@ -2,11 +2,14 @@
 //!
 //! The looks (`can_read`, `can_lay`, `can_give`, `fitting`) take no memory, and a call makes all of them before it
 //! takes any.
-ghost use Rattle.std.specs.Prelude.{◌≡◌, ◌≢◌, ◌+◌, ◌*◌, ◌≤◌, ◌<◌, ◌^◌, ◌++◌, length, OnOk, OnErr, IfOk};
+ghost use Rattle.std.specs.Prelude.{◌≡◌, ◌≢◌, ◌+◌, ◌*◌, ◌==◌, ◌≤◌, ◌<◌, ◌^◌, [], ◌∷◌, ◌++◌, if◌then◌else◌, length};
+ghost use Rattle.std.specs.Prelude.{OnOk, OnErr, IfOk};
 ghost use Rattle.gx_words.specs.Constants.{ceiling};
 ghost use Rattle.gx_words.specs.Faults.{Reads};
+ghost use Rattle.gx_words.specs.Numbers.{bytes_of_word};
 ghost use Rattle.gx_state.specs.Flat.{write_fault};
-ghost use Rattle.glk_replies.specs.Parts.{replies, IsCharWidth, can_read, numbers_in, char_bytes, chars_bytes, can_lay};
+ghost use Rattle.glk_text.specs.Characters.{latin_of};
+ghost use Rattle.glk_replies.specs.Parts.{replies, IsCharWidth, can_read, numbers_in, chars_bytes, can_lay};
 ghost use Rattle.glk_replies.specs.Parts.{char_writes, reply_filling, can_give, pushes_for, writes_for, can_push};
 
 use glk_streams::Places;
@@ -129,7 +132,7 @@ pub fn numbers_at<A: Allocator>(
 
 /// Adds the bytes of a character, one at least; after a refusal the bytes are as they were.
 pub fn push_char(out: &mut Bytes, width: u32, c: u32) -> Result<(), AllocError>
-    ensures ok { OnOk result (out.new ≡ out.old ++ char_bytes width c) }
+    ensures ok { OnOk result (out.new ≡ out.old ++ (if width == 1 then latin_of c ∷ [] else bytes_of_word c)) }
     ensures err { OnErr result (out.new ≡ out.old) }
 {
     if width == 1 {

@@ -1,8 +1,9 @@
 //! Strings in memory (Glulx 3.1.2, "Strings"; specs/Strings).
-ghost use Rattle.std.specs.Prelude.{◌≡◌, ◌+◌, ◌*◌, ◌≤◌, ◌<◌, ◌^◌, IfOk, length};
+ghost use Rattle.std.specs.Prelude.{◌≡◌, ◌+◌, ◌*◌, ◌==◌, ◌≤◌, ◌<◌, ◌^◌, if◌then◌else◌, IfOk, length};
+ghost use Rattle.gx_words.specs.Constants.{c_string, unicode_string};
 ghost use Rattle.gx_words.specs.Faults.{Reads};
 ghost use Rattle.glk_replies.specs.Parts.{IsCharWidth};
-ghost use Rattle.glk_replies.specs.Strings.{count_to_zero, string_type, string_length};
+ghost use Rattle.glk_replies.specs.Strings.{count_to_zero, string_length};
 
 use gx_pages::Pages;
 use gx_state::State;
@@ -28,7 +29,7 @@ fn count_to_zero<A: Allocator>(memory: &Pages<A>, width: u32, at: u32) -> Result
 
 /// The type of strings whose characters have a width.
 fn string_type(width: u32) -> u32
-    ensures { result ≡ string_type width }
+    ensures { result ≡ (if width == 1 then c_string else unicode_string) }
 {
     if width == 1 { C_STRING } else { UNICODE_STRING }
 }

@@ -1,5 +1,5 @@
 -- What is put to a file is read back.
-use Rattle.std.proofs.Common.{◌≡◌, ◌<◌, ◌≤◌, ◌+◌, ◌-◌, ◌*◌, ◌/◌, ◌%◌, ◌^◌, nat_lt, nat_le, ℕ}
+use Rattle.std.proofs.Common.{◌≡◌, ◌<◌, ◌≤◌, ◌+◌, ◌*◌, ◌/◌, ◌%◌, ◌^◌, nat_lt, nat_le, ℕ}
 use Rattle.std.proofs.Common.{true, Some, List, [], ◌∷◌, ◌++◌, append_assoc, length}
 use Rattle.std.proofs.Common.{length-append, take, drop, get_or, map, refl, sym, ap, subst, ◌∙◌, arith}
 use Rattle.std.proofs.lemmas.Bool.Decides.{nat_tests}
@@ -9,8 +9,8 @@ use Rattle.std.proofs.lemmas.Slice.{drop-append-drop}
 use Rattle.std.proofs.Math.Seq.{take-append_seam, get_or-append_seam}
 use Rattle.gx_words.specs.Numbers.{word, bytes_of_word, spliced}
 use Rattle.glk_text.specs.Characters.{latin_of}
-use Rattle.glk_text.specs.Utf8.{as_scalar, utf8_bytes, read}
-use Rattle.glk_text.proofs.Reading.{read-written}
+use Rattle.glk_text.specs.Utf8.{as_scalar, read}
+use Rattle.glk_text.proofs.Reading.{utf8_bytes, read-written}
 use Rattle.glk_streams.specs.declared.kinds.FileForm.{FileForm}
 use Rattle.glk_streams.specs.declared.kinds.FileForm.TheVariants as forms
 use Rattle.glk_streams.specs.declared.kinds.StreamKind.{StreamKind}

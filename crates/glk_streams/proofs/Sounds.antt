@@ -9,7 +9,7 @@ use Rattle.glk_streams.specs.declared.kinds.StreamKind.TheVariants as kinds
 use Rattle.glk_streams.specs.declared.kinds.Stream.{Stream}
 use Rattle.glk_streams.specs.Constants.{write_mode, largest}
 use Rattle.glk_streams.specs.Files.{bytes_of_char, byte_at, positions_in, with_bytes, bytes_put}
-use Rattle.glk_streams.specs.Stream.{writable, place_count, put_in, after_put, end_in, end_position, window_in}
+use Rattle.glk_streams.specs.Stream.{writable, place_count, put_in, after_put, end_position, window_in}
 use Rattle.glk_streams.specs.Sound.{IsSoundKind, IsSoundStream}
 use Rattle.glk_streams.proofs.Contents.{length_spliced}
 
@@ -35,7 +35,7 @@ memory_end : (position highest places mode : ℕ) → position < places
     → position + 1 ≤ (if mode == write_mode then max highest (position + 1) else places)
 memory_end position highest places mode less = grind (arith, nat_tests)
 
-put_kind : (k : StreamKind) (s : Stream) (c : ℕ) → IsSoundKind k → s.position ≤ end_in k s.mode s.highest
+put_kind : (k : StreamKind) (s : Stream) (c : ℕ) → IsSoundKind k → s.position ≤ end_position (record s { kind = k })
     → IsSoundStream (put_in k (record s { kind = k; written = (s.written + 1) % 2 ^ 32 }) c)
 put_kind (kinds.Window win) s c kind position = record { kind = kind; position = position }
 put_kind (kinds.Memory at len wide) s c kind position =

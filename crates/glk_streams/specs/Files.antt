@@ -3,7 +3,8 @@ use Rattle.std.specs.Prelude.{ℕ, ◌+◌, ◌*◌, ◌/◌, nat_le, nat_lt, if
 use Rattle.std.specs.Prelude.{Option, Some, None}
 use Rattle.gx_words.specs.Numbers.{byte, word, bytes_of_word, spliced}
 use Rattle.glk_text.specs.Characters.{latin_of}
-use Rattle.glk_text.specs.Utf8.{utf8_bytes, read}
+use Rattle.std.specs.Char.{encode_utf8}
+use Rattle.glk_text.specs.Utf8.{as_scalar, read}
 use Rattle.glk_streams.specs.declared.kinds.FileForm.{FileForm}
 use Rattle.glk_streams.specs.declared.kinds.FileForm.TheVariants as forms
 use Rattle.glk_streams.specs.Constants.{largest}
@@ -12,19 +13,17 @@ use Rattle.glk_streams.specs.Constants.{largest}
 abbrev pub bytes_of_char : FileForm → ℕ → List ℕ
 bytes_of_char forms.Latin c = latin_of c ∷ []
 bytes_of_char forms.Wide c = bytes_of_word c
-bytes_of_char forms.Utf8 c = utf8_bytes c
+bytes_of_char forms.Utf8 c = encode_utf8 (as_scalar c)
 
 -- the byte where a position stands: positions count characters, in UTF-8 bytes
 abbrev pub byte_at : FileForm → ℕ → ℕ
-byte_at forms.Latin position = position
 byte_at forms.Wide position = 4 * position
-byte_at forms.Utf8 position = position
+byte_at _ position = position
 
 -- the positions that so many bytes take; a rest of under four bytes isn't read
 abbrev pub positions_in : FileForm → ℕ → ℕ
-positions_in forms.Latin bytes = bytes
 positions_in forms.Wide bytes = bytes / 4
-positions_in forms.Utf8 bytes = bytes
+positions_in _ bytes = bytes
 
 -- bytes from a place on end within the most that a file holds
 abbrev pub has_room : ℕ → List ℕ → Bool

@@ -11,16 +11,8 @@ id_of s = s.id
 
 -- what stands for a stream that isn't there
 abbrev pub no_stream : Stream
-no_stream = record {
-  id = 0;
-  kind = kinds.Window 0;
-  mode = 0;
-  rock = 0;
-  position = 0;
-  highest = 0;
-  read = 0;
-  written = 0;
-}
+no_stream =
+    record { id = 0; kind = kinds.Window 0; mode = 0; rock = 0; position = 0; highest = 0; read = 0; written = 0 }
 
 abbrev pub has : List Stream → ℕ → Bool
 has streams id = objects.has id_of streams id

@@ -9,6 +9,8 @@ use Rattle.std.proofs.lemmas.Grind.{common_steps}
 use Rattle.std.proofs.lemmas.List.{drop-drop}
 use Rattle.std.proofs.lemmas.Str.{length-encode}
 use Rattle.std.specs.Char.{encode_utf8, len_utf8}
+use Rattle.std.specs.Prelude.{unwrap_or}
+use Rattle.std.specs.Option.{option_map}
 use Rattle.std.specs.Str.{StartsWithNoChar}
 use Rattle.bstr.specs.Utf8.{Decoded, decoded, good}
 use Rattle.bstr.proofs.lemmas.EncodeLemmas.{decoded-encode}
@@ -16,7 +18,15 @@ use Rattle.bstr.proofs.lemmas.PieceLemmas.{size-within}
 use Rattle.bstr.proofs.lemmas.SoundLemmas.{SpellsChar-decoded}
 use Rattle.glk_text.specs.Characters.{question_mark}
 use Rattle.glk_text.specs.Constants.{replacement}
-use Rattle.glk_text.specs.Utf8.{as_scalar, utf8_bytes, taken_at, read, IsWellFormed, IsReading}
+use Rattle.glk_text.specs.Utf8.{as_scalar, read, IsWellFormed, IsReading}
+
+-- the bytes that are written for a character
+abbrev pub utf8_bytes : ℕ → List ℕ
+utf8_bytes v = encode_utf8 (as_scalar v)
+
+-- what is read at a place, by what decodes there
+abbrev taken_at : ℕ → Option ℕ → ℕ → ℕ × ℕ
+taken_at at char size = unwrap_or (option_map (λ c. (c, at + size)) char) (replacement, at + 1)
 
 -- where nothing decodes, no character begins
 no_char : (bytes : List ℕ) → (decoded bytes).char ≡ None → StartsWithNoChar bytes

@@ -19,17 +19,10 @@ shown v = if v == line_feed || is_printable v then v else question_mark
 abbrev pub latin_of : ℕ → ℕ
 latin_of v = if nat_lt v 0x100 then v else question_mark
 
--- the capital letters of Latin-1, which leave out the multiplication sign
-abbrev pub is_capital : ℕ → Bool
-is_capital v = is_in_range 0x41 0x5A v || is_in_range 0xC0 0xD6 v || is_in_range 0xD8 0xDE v
-
--- the small letters of Latin-1 whose capitals stand there too, which leave out the division sign
-abbrev pub is_small : ℕ → Bool
-is_small v = is_in_range 0x61 0x7A v || is_in_range 0xE0 0xF6 v || is_in_range 0xF8 0xFE v
-
--- the change of case
+-- the change of case: of the capital letters of Latin-1, which leave out the multiplication sign
 abbrev pub lower_of : ℕ → ℕ
-lower_of v = if is_capital v then v + 0x20 else v
+lower_of v = if is_in_range 0x41 0x5A v || is_in_range 0xC0 0xD6 v || is_in_range 0xD8 0xDE v then v + 0x20 else v
 
+-- and of the small letters of Latin-1 whose capitals stand there too, which leave out the division sign
 abbrev pub upper_of : ℕ → ℕ
-upper_of v = if is_small v then v - 0x20 else v
+upper_of v = if is_in_range 0x61 0x7A v || is_in_range 0xE0 0xF6 v || is_in_range 0xF8 0xFE v then v - 0x20 else v

@@ -1,6 +1,8 @@
 -- Characters as UTF-8, where bytes need not be well-formed.
 use lib.Utf8.{scalar}
 use Rattle.std.specs.Prelude.{◌≡◌, ◌⊎◌, ℕ, ◌+◌, nat_le, List, ◌++◌, length, drop, Option, Some, None, if◌then◌else◌}
+use Rattle.std.specs.Prelude.{unwrap_or}
+use Rattle.std.specs.Option.{option_map}
 use Rattle.std.specs.Char.{IsScalar, encode_utf8}
 use Rattle.std.specs.Str.{StartsWithNoChar}
 use Rattle.bstr.specs.Utf8.{decoded}
@@ -11,20 +13,12 @@ use Rattle.glk_text.specs.Constants.{replacement}
 abbrev pub as_scalar : ℕ → ℕ
 as_scalar v = if scalar v then v else question_mark
 
--- the bytes that are written for it
-abbrev pub utf8_bytes : ℕ → List ℕ
-utf8_bytes v = encode_utf8 (as_scalar v)
-
--- what stands at a place: the character there and the place behind it, or U+FFFD for one byte
-abbrev pub taken_at : ℕ → Option ℕ → ℕ → ℕ × ℕ
-taken_at at (Some c) size = (c, at + size)
-taken_at at None size = (replacement, at + 1)
-
--- the character at a place of some bytes, and the place behind it
+-- the character at a place of some bytes, and the place behind it; U+FFFD for one byte where none begins
 abbrev pub read : List ℕ → ℕ → Option (ℕ × ℕ)
 read bytes at =
+    let found = decoded (drop at bytes) in
     if nat_le (length bytes) at then None else
-    Some (taken_at at (decoded (drop at bytes)).char (decoded (drop at bytes)).size)
+    Some (unwrap_or (option_map (λ c. (c, at + found.size)) found.char) (replacement, at + 1))
 
 -- a well-formed character stands at a place, and ends at the other
 pub record IsWellFormed (bytes : List ℕ) (at v next : ℕ) : Type 0 where

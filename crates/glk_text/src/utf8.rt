@@ -3,7 +3,8 @@
 //! A number that is no Unicode scalar value is written as `?`. Where no well-formed character
 //! begins, one byte is taken and read as U+FFFD. Both are choices: Glk says nothing of them.
 ghost use Rattle.std.specs.Prelude.{◌≡◌, ◌++◌, ◌≤◌, ◌↔◌, List, ℕ, length, IsNone, IfSome, OnOk, OnErr};
-ghost use Rattle.glk_text.specs.Utf8.{utf8_bytes, as_scalar, read, IsReading};
+ghost use Rattle.std.specs.Char.{encode_utf8};
+ghost use Rattle.glk_text.specs.Utf8.{as_scalar, read, IsReading};
 
 use bstr::decode_utf8;
 use gx_words::Bytes;
@@ -16,7 +17,7 @@ pub const REPLACEMENT: u32 = 0xFFFD;
 ///
 /// Whatever is added after it, it is read back from where it was added.
 pub fn push_utf8(out: &mut Bytes, v: u32) -> Result<(), AllocError>
-    ensures ok { OnOk result (out.new ≡ out.old ++ utf8_bytes v) }
+    ensures ok { OnOk result (out.new ≡ out.old ++ encode_utf8 (as_scalar v)) }
     ensures read_back { OnOk result ((rest : List ℕ) → read (out.new ++ rest) (length out.old)
         ≡ Some (as_scalar v, length out.new)) }
     ensures err { OnErr result (out.new ≡ out.old) }

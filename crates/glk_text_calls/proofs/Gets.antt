@@ -14,9 +14,9 @@ use Rattle.glk_world.specs.World.{FlatWorld, Outcome, silent, after, on_world, M
 use Rattle.glk_world.specs.Putting.{places_read}
 use Rattle.glk_world.specs.Calls.{chars_got}
 use Rattle.glk_replies.specs.Parts.{can_lay, reply_filling}
-use Rattle.glk_text_calls.specs.Input.{read_on, reading, count_read, has_read, ending, ending_len, buffer_for, get_chars}
+use Rattle.glk_text_calls.specs.Input.{read_on, reading, count_read, has_read, get_chars}
 use Rattle.glk_text_calls.specs.Saves.{as_bytes, rest_len, take_rest, take_rest_grows}
-use Rattle.glk_text_calls.proofs.Reading.{read_as, read_fails, read_some}
+use Rattle.glk_text_calls.proofs.Reading.{read_as, read_fails, read_some, ending, ending_len}
 
 abbrev position_of : Result (ℕ × ℕ) Fault → ℕ
 position_of (Ok got) = got.1
@@ -44,6 +44,9 @@ abbrev pub read_at : List Stream → FlatState → ℕ → Bool → ℕ → Plac
 read_at all f stream stops most p = let s = streams.stream all stream in read_on most stops f p s 0 s.position
 
 -- ---- into a buffer
+
+abbrev pub buffer_for : ℕ → ℕ → ℕ → Places
+buffer_for at width count = record { at = at; width = width; count = count }
 
 pub same_buffer : (from at width n end : ℕ) (stops : Bool) → from ≡ at → end ≡ ending_len stops
     → buffer_for from width (n + end) ≡ buffer_for at width (n + ending_len stops)

@@ -19,7 +19,7 @@ use Rattle.glk_world.specs.World.{Scene, FlatWorld, after, on_world, MakesCall}
 use Rattle.glk_world.specs.Putting.{window_of_stream, entry_of, is_text, is_plain_text, put_of, put_chars, put_grows}
 use Rattle.glk_world.specs.Putting.{places_of, chain_end}
 use Rattle.glk_replies.specs.Parts.{IsCharWidth, replies, can_lay, char_writes, numbers_in, reply_filling}
-use Rattle.glk_text_calls.specs.Putting.{can_put, put_all, put_grows_one}
+use Rattle.glk_text_calls.specs.Putting.{put_all, put_grows_one}
 use Rattle.glk_replies.proofs.Counting.{count_numbers, some_numbers}
 use Rattle.glk_replies.proofs.Ram.{laid_in_ram}
 
@@ -90,7 +90,7 @@ some_counted n (c ∷ cs) some few same = cc
 -- a stream that isn't there takes nothing
 pub put_nowhere : (w : FlatWorld) (f : FlatState) (stream : ℕ) (cs : List ℕ)
     → streams.has w.scene.streams stream ≡ false → on_world w (put_all w.scene f stream cs) ≡ Ok (w, replies 0)
-unfolding put_all can_put
+unfolding put_all
 put_nowhere w f stream cs gone = rw (gone, append-nil w.text) refl
 
 -- so many characters, whose places may be written
@@ -98,7 +98,7 @@ pub put_there : (w : FlatWorld) (f : FlatState) (stream count : ℕ) (cs : List 
     → streams.has w.scene.streams stream ≡ true → can_lay f (places_of w.scene stream count) ≡ Ok tt
     → on_world w (put_all w.scene f stream cs)
     ≡ Ok (after w (put_chars w.scene stream cs), reply_filling 0 (places_of w.scene stream count) cs)
-unfolding put_all can_put
+unfolding put_all
 put_there w f stream count cs len there lays = rw (there, len, lays) refl
 
 pub put_fine : (w : FlatWorld) (f : FlatState) (stream count : ℕ) (cs : List ℕ) → length cs ≡ count
@@ -110,7 +110,7 @@ put_fine w f stream count cs len there lays = rw (put_there w f stream count cs 
 pub put_refused : {wants : Type 0} (w : FlatWorld) (f : FlatState) (stream count : ℕ) (cs : List ℕ) (p : Places)
     (e : Fault) → p ≡ places_of w.scene stream count → length cs ≡ count → streams.has w.scene.streams stream ≡ true
     → (can_lay f p ≡ Err e) × (e ≢ NoMemory) → MakesCall wants (Err e) w w (put_all w.scene f stream cs)
-unfolding put_all can_put
+unfolding put_all
 put_refused w f stream count cs p e is len there lays =
     let at_places : can_lay f (places_of w.scene stream count) ≡ Err e = rw (← is) lays.0 in
     (λ other. refl, (λ other. rw (there, len, at_places) refl, λ none. absurd (lays.1 none)))
@@ -197,7 +197,7 @@ text_there w stream plain =
 pub text_put : (w : FlatWorld) (f : FlatState) (stream c : ℕ) → is_plain_text w.scene stream ≡ true
     → (places_of w.scene stream 1).count ≡ 0
     → on_world w (put_all w.scene f stream (c ∷ [])) ≡ Ok (after w (put_of w.scene stream c), replies 0)
-unfolding put_all can_put can_lay
+unfolding put_all can_lay
 text_put w f stream c plain none =
     let there : streams.has w.scene.streams stream ≡ true = text_there w.scene stream plain in
     let nowhere : (places_of w.scene stream 1).count == 0 ≡ true = rw none refl in

@@ -1,10 +1,12 @@
 -- Characters that are read, one after another.
-use Rattle.std.proofs.Common.{suc, ◌≡◌, ◌<◌, ◌≤◌, ◌+◌, ◌-◌, ◌*◌, ℕ, Bool, true, false, if◌then◌else◌, List, [], ◌∷◌}
+use Rattle.std.proofs.Common.{suc, ◌≡◌, ◌<◌, ◌≤◌, ◌+◌, ◌-◌, ◌*◌, ◌==◌, ◌&&◌, ℕ, Bool, true, false, if◌then◌else◌, List, [], ◌∷◌}
 use Rattle.std.proofs.Common.{◌++◌, append_assoc, length, refl, sym, ap, subst, ◌∙◌, inl, inr, arith, Option, Some}
 use Rattle.std.proofs.Common.{None, Result, Ok, Err, IfSome, MatchOption}
 use Rattle.std.proofs.lemmas.Bool.Decides.{nat_tests}
 use Rattle.std.proofs.lemmas.List.{append-nil, length-append}
+use Rattle.gx_words.specs.Constants.{line_feed}
 use Rattle.gx_words.specs.declared.faults.Fault.{Fault}
+use Rattle.gx_words.specs.Results.{◌>>=◌}
 use Rattle.gx_state.specs.Flat.{FlatState}
 use Rattle.glk_streams.specs.declared.kinds.Places.{Places}
 use Rattle.glk_streams.specs.declared.kinds.Stream.{Stream}
@@ -13,8 +15,7 @@ use Rattle.glk_streams.specs.Streams as streams
 use Rattle.glk_world.specs.World.{Scene}
 use Rattle.glk_world.specs.Putting.{places_read, no_places}
 use Rattle.glk_replies.specs.Parts.{IsCharWidth}
-use Rattle.glk_text_calls.specs.Input.{next_char, ends_line, read_behind, read_on, count_read, has_read, ending}
-use Rattle.glk_text_calls.specs.Input.{ending_len}
+use Rattle.glk_text_calls.specs.Input.{found_in, read_behind, read_with, read_on, count_read, has_read}
 use Rattle.glk_text_calls.proofs.Puts.{width_of}
 use Rattle.glk_replies.proofs.Ram.{laid_in_ram}
 
@@ -40,6 +41,10 @@ read_width w stream count =
 
 -- ---- one turn
 
+-- a line ends behind a line feed
+abbrev pub ends_line : Bool → ℕ → Bool
+ends_line stops c = stops && c == line_feed
+
 fewer : (most i : ℕ) → i < most → most - i ≡ suc (most - (i + 1))
 fewer most i less = omega arith
 
@@ -49,27 +54,40 @@ read_as cs position = Ok (cs, position)
 abbrev count_as : ℕ → ℕ → Result (ℕ × ℕ) Fault
 count_as n position = Ok (n, position)
 
+-- the next character, and the position behind it
+abbrev pub next_char : FlatState → Places → Stream → ℕ → ℕ → Result (Option (ℕ × ℕ)) Fault
+next_char f p s i position = found_in f p i >>= λ found. Ok (one.next_from s position found)
+
+by_found : (found : Result ℕ Fault) (next : ℕ → Option (ℕ × ℕ)) (read : Option (ℕ × ℕ) → Result (List ℕ × ℕ) Fault)
+    → (found >>= λ c. read (next c)) ≡ ((found >>= λ c. Ok (next c)) >>= read)
+by_found (Ok c) next read = refl
+by_found (Err e) next read = refl
+
+one_step : (more : ℕ) (stops : Bool) (f : FlatState) (p : Places) (s : Stream) (i position : ℕ)
+    → read_on (suc more) stops f p s i position
+    ≡ (next_char f p s i position >>= λ next. read_with stops position next (read_on more stops f p s (i + 1)))
+unfolding read_on
+one_step more stops f p s i position =
+    by_found (found_in f p i) (one.next_from s position)
+    (λ next. read_with stops position next (read_on more stops f p s (i + 1)))
+
 fails_step : (more : ℕ) (stops : Bool) (f : FlatState) (p : Places) (s : Stream) (i position : ℕ) (e : Fault)
     → next_char f p s i position ≡ Err e → read_on (suc more) stops f p s i position ≡ Err e
-unfolding read_on
-fails_step more stops f p s i position e is = rw is refl
+fails_step more stops f p s i position e is = one_step more stops f p s i position ∙ rw is refl
 
 none_step : (more : ℕ) (stops : Bool) (f : FlatState) (p : Places) (s : Stream) (i position : ℕ)
     → next_char f p s i position ≡ Ok None → read_on (suc more) stops f p s i position ≡ read_as [] position
-unfolding read_on
-none_step more stops f p s i position is = rw is refl
+none_step more stops f p s i position is = one_step more stops f p s i position ∙ rw is refl
 
 stop_step : (more : ℕ) (stops : Bool) (f : FlatState) (p : Places) (s : Stream) (i position c next : ℕ)
     → next_char f p s i position ≡ Ok (Some (c, next)) → ends_line stops c ≡ true
     → read_on (suc more) stops f p s i position ≡ read_as (c ∷ []) next
-unfolding read_on
-stop_step more stops f p s i position c next is ends = rw (is, ends) refl
+stop_step more stops f p s i position c next is ends = one_step more stops f p s i position ∙ rw (is, ends) refl
 
 pub go_step : (more : ℕ) (stops : Bool) (f : FlatState) (p : Places) (s : Stream) (i position c next : ℕ)
     → next_char f p s i position ≡ Ok (Some (c, next)) → ends_line stops c ≡ false
     → read_on (suc more) stops f p s i position ≡ read_behind (c ∷ []) (read_on more stops f p s (i + 1) next)
-unfolding read_on
-go_step more stops f p s i position c next is on = rw (is, on) refl
+go_step more stops f p s i position c next is on = one_step more stops f p s i position ∙ rw (is, on) refl
 
 last_step : (stops : Bool) (f : FlatState) (p : Places) (s : Stream) (i position : ℕ)
     → read_on 0 stops f p s i position ≡ read_as [] position
@@ -221,6 +239,13 @@ same_count r cs n q position is many = ap first_of (ap count_read (sym is) ∙ m
 pub read_some : (r : Result (List ℕ × ℕ) Fault) (n q : ℕ) → count_read r ≡ Ok (n, q) → 0 < n → has_read r ≡ true
 read_some (Ok got) n q is some = let same : length got.0 ≡ n = ap first_of is in grind (arith, nat_tests)
 read_some (Err e) n q is some = absurd (cc)
+
+-- what ends a line in its buffer
+abbrev pub ending : Bool → List ℕ
+ending stops = if stops then 0 ∷ [] else []
+
+abbrev pub ending_len : Bool → ℕ
+ending_len stops = if stops then 1 else 0
 
 ending_length : (stops : Bool) → length (ending stops) ≡ ending_len stops
 ending_length true = refl

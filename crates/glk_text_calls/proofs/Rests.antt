@@ -1,11 +1,12 @@
 -- The rest of a file in Latin-1 or of bytes in memory: the bytes are the characters.
-use Rattle.std.proofs.Common.{zero, suc, ◌≡◌, ◌<◌, ◌≤◌, ◌+◌, ◌-◌, ◌*◌, nat_lt, ℕ, Bool, true, false, if◌then◌else◌}
+use Rattle.std.proofs.Common.{zero, suc, ◌≡◌, ◌<◌, ◌≤◌, ◌+◌, ◌-◌, ◌*◌, nat_lt, nat_le, ℕ, Bool, true, false, if◌then◌else◌}
 use Rattle.std.proofs.Common.{List, [], ◌∷◌, length, get_or, take, drop, drop-cons, length-drop, refl, sym, ap, subst}
 use Rattle.std.proofs.Common.{◌∙◌, arith, Some, None, Ok}
 use Rattle.std.specs.List.{list_all}
 use Rattle.std.proofs.lemmas.Bool.Decides.{nat_tests}
 use Rattle.std.proofs.lemmas.Grind.{common_steps}
 use Rattle.gx_words.specs.Numbers.{byte}
+use Rattle.gx_pages.specs.Memory.{number_in}
 use Rattle.gx_state.specs.Flat.{FlatState}
 use Rattle.glk_streams.specs.declared.kinds.FileForm.TheVariants as forms
 use Rattle.glk_streams.specs.declared.kinds.StreamKind.{StreamKind}
@@ -17,10 +18,9 @@ use Rattle.glk_streams.specs.Streams as streams
 use Rattle.glk_world.specs.World.{Scene, silent}
 use Rattle.glk_world.specs.Putting.{places_read, no_places}
 use Rattle.glk_world.specs.Calls.{chars_got}
-use Rattle.glk_replies.specs.Parts.{can_read}
-use Rattle.glk_text_calls.specs.Input.{next_char, read_behind, read_on, reading}
+use Rattle.glk_text_calls.specs.Input.{read_behind, read_on, reading}
 use Rattle.glk_text_calls.specs.Saves.{as_bytes, rest_len, take_rest, take_rest_grows}
-use Rattle.glk_text_calls.proofs.Reading.{read_as, go_step}
+use Rattle.glk_text_calls.proofs.Reading.{read_as, next_char, go_step}
 use Rattle.glk_text_calls.proofs.Saving.{is_byte}
 
 -- a file in Latin-1 that is open for reading, and what is left of it
@@ -58,7 +58,7 @@ module _ (f : FlatState) (p : Places) (s : Stream) (name content : List ℕ)
     (is : s.kind ≡ kinds.File name content forms.Latin) (reads : one.readable s ≡ true) (none : p.count ≡ 0) where
   next_latin : (i position : ℕ) → position < length content
       → next_char f p s i position ≡ Ok (Some (byte content position, position + 1))
-  unfolding next_char one.read_next
+  unfolding one.read_next
   next_latin i position less =
       let past : nat_lt i p.count ≡ false = grind (arith, nat_tests, none) in
       let within : nat_lt position (length content) ≡ true = grind (arith, nat_tests) in
@@ -169,11 +169,11 @@ module _ (f : FlatState) (p : Places) (s : Stream) (at len : ℕ) (wide : Bool) 
     (reads : one.readable s ≡ true) (width : p.width ≡ 1) where
   next_byte : (i position : ℕ) → i < p.count → p.at + i < length f.memory → position < one.place_count at len
       → next_char f p s i position ≡ Ok (Some (byte f.memory (p.at + i), position + 1))
-  unfolding next_char one.read_next can_read
+  unfolding one.read_next number_in
   next_byte i position less inner within =
       let placed : nat_lt i p.count ≡ true = grind (arith, nat_tests) in
       let one_by : p.at + 1 * i ≡ p.at + i = omega arith in
-      let inside : nat_lt (length f.memory) (p.at + i + 1) ≡ false = grind (arith, nat_tests) in
+      let inside : nat_le (p.at + i + 1) (length f.memory) ≡ true = grind (arith, nat_tests) in
       let left : nat_lt position (one.place_count at len) ≡ true = grind (arith, nat_tests) in
       rw (placed, width, one_by, inside, reads, is, left) refl
 

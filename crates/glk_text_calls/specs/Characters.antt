@@ -1,5 +1,5 @@
 -- The case of characters (Glk 0.7.5, "Upper and Lower Case"): that of Latin-1 alone is changed.
-use Rattle.std.specs.Prelude.{ℕ, ◌%◌, ◌*◌, ◌==◌, min, if◌then◌else◌, List, [], ◌∷◌, map}
+use Rattle.std.specs.Prelude.{ℕ, ◌%◌, ◌*◌, min, List, [], ◌∷◌, map}
 use Rattle.gx_words.specs.Results.{◌>>=◌}
 use Rattle.gx_state.specs.Flat.{FlatState}
 use Rattle.gx_state.specs.declared.effects.Reply.{Reply}
@@ -37,7 +37,3 @@ buffer_to_case w f first others args = do
   writable ← can_lay f (buffer_of args)
   let chars = numbers_in 4 f.memory (arg args 0) (buffer_of args).count
   answered w (reply_filling (arg args 2) (buffer_of args) (recased first others chars))
-
--- the case of the others in a title
-abbrev pub rest_of : List ℕ → Case
-rest_of args = if arg args 3 == 0 then Same else Lower

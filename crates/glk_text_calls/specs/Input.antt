@@ -4,8 +4,8 @@
 use Rattle.std.specs.Prelude.{ℕ, zero, suc, ◌+◌, ◌-◌, ◌*◌, ◌==◌, ◌&&◌, not, nat_lt, if◌then◌else◌, Bool, true, false}
 use Rattle.std.specs.Prelude.{List, [], ◌∷◌, ◌++◌, length, Option, Some, None, Result, Ok, Err}
 use Rattle.gx_words.specs.declared.faults.Fault.{Fault}
-use Rattle.gx_words.specs.Numbers.{number}
 use Rattle.gx_words.specs.Results.{◌>>=◌}
+use Rattle.gx_pages.specs.Memory.{number_in}
 use Rattle.gx_state.specs.Flat.{FlatState}
 use Rattle.gx_state.specs.declared.effects.Reply.{Reply}
 use Rattle.gx_words.specs.Constants.{line_feed}
@@ -18,75 +18,52 @@ use Rattle.glk_world.specs.World.{Scene, silent, Outcome, answered, arg}
 use Rattle.glk_world.specs.Putting.{places_read}
 use Rattle.glk_world.specs.Calls.{got_from, char_got, chars_got}
 use Rattle.glk_text_calls.specs.Constants.{no_character}
-use Rattle.glk_replies.specs.Parts.{replies, can_read, can_lay, reply_filling}
+use Rattle.glk_replies.specs.Parts.{replies, can_lay, reply_filling}
 
 -- the number at one of the places of a memory stream; other streams have none
 abbrev pub found_in : FlatState → Places → ℕ → Result ℕ Fault
-found_in f p i =
-    if nat_lt i p.count then (do
-      there ← can_read f (p.at + p.width * i) p.width
-      Ok (number p.width f.memory (p.at + p.width * i)))
-    else Ok 0
-
--- the character after so many, which stands at a position, and the position behind it; none at the end
-unfoldable pub next_char : FlatState → Places → Stream → ℕ → ℕ → Result (Option (ℕ × ℕ)) Fault
-next_char f p s i position = do
-  found ← found_in f p i
-  Ok (one.next_from s position found)
-
--- a line ends behind a line feed
-abbrev pub ends_line : Bool → ℕ → Bool
-ends_line stops c = stops && c == line_feed
+found_in f p i = if nat_lt i p.count then number_in p.width f.memory (p.at + p.width * i) else Ok 0
 
 -- characters before those that are read after them
 abbrev pub read_behind : List ℕ → Result (List ℕ × ℕ) Fault → Result (List ℕ × ℕ) Fault
 read_behind cs (Ok got) = Ok (cs ++ got.0, got.1)
 read_behind cs (Err e) = Err e
 
--- the next character, the last of its line or with those that are read behind it; none at the end
+-- the next character, the last of its line or with those that are read behind it; none at the end; a line ends behind
+-- a line feed
 abbrev pub read_with : Bool → ℕ → Option (ℕ × ℕ) → (ℕ → Result (List ℕ × ℕ) Fault) → Result (List ℕ × ℕ) Fault
 read_with stops position None behind = Ok ([], position)
 read_with stops position (Some got) behind =
-    if ends_line stops got.0 then Ok (got.0 ∷ [], got.1) else read_behind (got.0 ∷ []) (behind got.1)
+    if stops && got.0 == line_feed then Ok (got.0 ∷ [], got.1) else read_behind (got.0 ∷ []) (behind got.1)
 
 -- the characters that are read where so many more may be, and the position behind them
 unfoldable pub read_on : ℕ → Bool → FlatState → Places → Stream → ℕ → ℕ → Result (List ℕ × ℕ) Fault
 read_on zero stops f p s i position = Ok ([], position)
 read_on (suc more) stops f p s i position = do
-  next ← next_char f p s i position
-  read_with stops position next (read_on more stops f p s (i + 1))
+  found ← found_in f p i
+  read_with stops position (one.next_from s position found) (read_on more stops f p s (i + 1))
 
 -- so many characters at most, of a line up to its end
 abbrev pub reading : Scene → FlatState → ℕ → Bool → ℕ → Result (List ℕ × ℕ) Fault
 reading w f stream stops most =
     let s = streams.stream w.streams stream in read_on most stops f (places_read w stream most) s 0 s.position
 
--- what ends a line in its buffer
-abbrev pub ending : Bool → List ℕ
-ending stops = if stops then 0 ∷ [] else []
-
-abbrev pub ending_len : Bool → ℕ
-ending_len stops = if stops then 1 else 0
-
-abbrev pub buffer_for : ℕ → ℕ → ℕ → Places
-buffer_for at width count = record { at = at; width = width; count = count }
-
 -- Characters are read into a buffer, and a line is ended by a zero.
 unfoldable pub get_chars : Scene → FlatState → ℕ → Bool → ℕ → ℕ → ℕ → Outcome Reply
 get_chars w f stream stops most width at = do
   got ← reading w f stream stops most
   let count = length got.0
-  let buffer = buffer_for at width (count + ending_len stops)
+  let buffer : Places = record { at = at; width = width; count = count + (if stops then 1 else 0) }
   writable ← can_lay f buffer
-  Ok (silent (chars_got w stream got.1 count), reply_filling count buffer (got.0 ++ ending stops))
+  Ok (silent (chars_got w stream got.1 count), reply_filling count buffer (got.0 ++ (if stops then 0 ∷ [] else [])))
 
 -- get_buffer_stream
-abbrev pub get_buffer : Scene → FlatState → ℕ → List ℕ → Outcome Reply
-get_buffer w f width args = get_chars w f (arg args 0) false (arg args 2) width (arg args 1)
+abbrev pub get_buffer : ℕ → Scene → FlatState → List ℕ → Outcome Reply
+get_buffer width w f args = get_chars w f (arg args 0) false (arg args 2) width (arg args 1)
 
 -- get_line_stream: nothing is done for a buffer of no places
-abbrev pub get_line : Scene → FlatState → ℕ → List ℕ → Outcome Reply
-get_line w f width args =
+abbrev pub get_line : ℕ → Scene → FlatState → List ℕ → Outcome Reply
+get_line width w f args =
     if arg args 2 == 0 then answered w (replies 0) else
     get_chars w f (arg args 0) true (arg args 2 - 1) width (arg args 1)
 
@@ -95,15 +72,12 @@ abbrev pub char_answer : ℕ → Option ℕ → ℕ
 char_answer width None = no_character
 char_answer width (Some c) = if width == 1 then latin_of c else c
 
--- a character is taken of a stream
-unfoldable pub take_char : Scene → FlatState → ℕ → ℕ → Outcome Reply
-take_char w f stream width = do
-  found ← found_in f (places_read w stream 1) 0
-  Ok (silent (char_got w stream found), replies (char_answer width (one.char_of (got_from w stream found))))
-
 -- get_char_stream
-abbrev pub get_char : Scene → FlatState → ℕ → List ℕ → Outcome Reply
-get_char w f width args = take_char w f (arg args 0) width
+unfoldable pub get_char : ℕ → Scene → FlatState → List ℕ → Outcome Reply
+get_char width w f args = do
+  found ← found_in f (places_read w (arg args 0) 1) 0
+  let char = one.char_of (got_from w (arg args 0) found)
+  Ok (silent (char_got w (arg args 0) found), replies (char_answer width char))
 
 -- how many characters were read, and the position behind them
 abbrev pub count_read : Result (List ℕ × ℕ) Fault → Result (ℕ × ℕ) Fault

@@ -1,6 +1,5 @@
 -- Characters are put to a stream (Glk 0.7.5, "How To Print"): the places in memory where they end are looked at first.
-use Rattle.std.specs.Prelude.{ℕ, ◌==◌, ◌&&◌, ◌||◌, not, if◌then◌else◌, Bool, List, length, Result, Ok}
-use Rattle.gx_words.specs.declared.faults.Fault.{Fault}
+use Rattle.std.specs.Prelude.{ℕ, ◌==◌, ◌&&◌, ◌||◌, not, if◌then◌else◌, Bool, List, length, Ok}
 use Rattle.gx_words.specs.Results.{◌>>=◌}
 use Rattle.gx_state.specs.Flat.{FlatState}
 use Rattle.gx_state.specs.declared.effects.Reply.{Reply}
@@ -9,17 +8,13 @@ use Rattle.glk_world.specs.World.{Scene, Outcome, answered}
 use Rattle.glk_world.specs.Putting.{put_chars, put_grows, places_of}
 use Rattle.glk_replies.specs.Parts.{replies, can_lay, reply_filling}
 
--- The places where so many characters end in memory may be written; a stream that isn't there is none.
-unfoldable pub can_put : Scene → FlatState → ℕ → ℕ → Result (Unit {0}) Fault
-can_put w f stream count = if streams.has w.streams stream then can_lay f (places_of w stream count) else Ok tt
-
--- Characters are put to a stream, and written where it ends in memory.
+-- Characters are put to a stream, and written where it ends in memory, if they may be; a stream that isn't there takes
+-- none.
 unfoldable pub put_all : Scene → FlatState → ℕ → List ℕ → Outcome Reply
-put_all w f stream cs = do
-  there ← can_put w f stream (length cs)
-  if streams.has w.streams stream
-      then Ok (put_chars w stream cs, reply_filling 0 (places_of w stream (length cs)) cs)
-      else answered w (replies 0)
+put_all w f stream cs =
+    if not (streams.has w.streams stream) then answered w (replies 0) else (do
+      there ← can_lay f (places_of w stream (length cs))
+      Ok (put_chars w stream cs, reply_filling 0 (places_of w stream (length cs)) cs))
 
 -- putting one character wants memory where it adds text, makes a file longer or has a place in memory
 abbrev pub put_grows_one : Scene → ℕ → ℕ → Bool

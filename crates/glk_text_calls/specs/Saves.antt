@@ -20,16 +20,12 @@ use Rattle.glk_text_calls.specs.Putting.{put_all}
 -- a stream that takes these bytes: it is there, open for writing and no window's, and has room for all of them
 abbrev pub takes_save : Scene → ℕ → List ℕ → Bool
 takes_save w id bytes =
-    let s = streams.stream w.streams id in
-    streams.has w.streams id && one.writable s && one.fits s bytes
+    let s = streams.stream w.streams id in streams.has w.streams id && one.writable s && one.fits s bytes
 
 -- The bytes of a save are put to a stream that takes them; the reply answers 0.
 unfoldable pub put_save : Scene → FlatState → ℕ → List ℕ → Result (Said × Option Reply) Fault
 put_save w f id bytes =
-    if takes_save w id bytes then (do
-      r ← put_all w f id bytes
-      Ok (r.0, Some r.1))
-    else Ok (silent w, None)
+    if takes_save w id bytes then (put_all w f id bytes >>= λ r. Ok (r.0, Some r.1)) else Ok (silent w, None)
 
 -- how many positions are left before a stream's end
 abbrev pub rest_len : Stream → ℕ

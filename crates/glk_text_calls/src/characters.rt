@@ -1,9 +1,11 @@
 //! The case of characters (Glk 0.7.5, "Upper and Lower Case").
-ghost use Rattle.std.specs.Prelude.{◌≡◌, ℕ, ◌++◌, ◌<◌, ◌^◌, nat_lt, map, length, OnOk, OnErr, IfOk, IsTrue};
+ghost use Rattle.std.specs.Prelude.{◌≡◌, ℕ, ◌++◌, ◌<◌, ◌==◌, ◌^◌, nat_lt, if◌then◌else◌, map, length};
+ghost use Rattle.std.specs.Prelude.{OnOk, OnErr, IfOk, IsTrue};
 ghost use Rattle.gx_state.specs.Flat.{FlatState};
 ghost use Rattle.gx_state.specs.Replies.{IsReply};
-ghost use Rattle.glk_world.specs.World.{MakesCall};
-ghost use Rattle.glk_text_calls.specs.Characters.{changed, recased, char_to_case, buffer_of, buffer_to_case, rest_of};
+ghost use Rattle.glk_world.specs.World.{arg, MakesCall};
+ghost use Rattle.glk_text_calls.specs.Characters.{changed, recased, char_to_case, buffer_of, buffer_to_case};
+ghost use Rattle.glk_text_calls.specs.declared.characters.Case.TheVariants.{Lower, Same};
 
 use glk_replies::{can_lay, can_read, filled, numbers_at, reply};
 use glk_streams::Places;
@@ -103,7 +105,7 @@ pub fn buffer_to_case<A: Allocator + Clone>(
 
 /// The case of the characters of a title behind the first one.
 pub fn rest_of(args: &[u32]) -> Case
-    ensures { result ≡ rest_of args.now }
+    ensures { result ≡ (if arg args.now 3 == 0 then Same else Lower) }
 {
     if arg(args, 3) == 0 {
         Case::Same

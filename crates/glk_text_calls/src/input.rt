@@ -2,17 +2,18 @@
 //!
 //! Each character is read once, and gathered as it is read. Where memory is wanted for it, it is still read and
 //! counted, so that each fault comes before want of memory.
-ghost use Rattle.std.specs.Prelude.{ℕ, ◌≡◌, ◌⊎◌, ◌+◌, ◌≤◌, ◌<◌, ◌^◌, ◌∷◌, [], ◌++◌, length, not, ◌==◌, IfOk, IfSome};
-ghost use Rattle.std.specs.Prelude.{MatchOption, OnErr, IsTrue, true, Ok, None};
+ghost use Rattle.std.specs.Prelude.{ℕ, ◌≡◌, ◌⊎◌, ◌+◌, ◌≤◌, ◌<◌, ◌^◌, ◌∷◌, [], ◌++◌, length, not, ◌==◌, ◌&&◌};
+ghost use Rattle.std.specs.Prelude.{if◌then◌else◌, IfOk, IfSome, MatchOption, OnErr, IsTrue, true, Ok, None};
 ghost use Rattle.gx_words.specs.Faults.{Reads};
+ghost use Rattle.gx_words.specs.Results.{◌>>=◌ as and_then};
 ghost use Rattle.gx_state.specs.Replies.{IsReply};
 ghost use Rattle.glk_streams.specs.Stream as one;
 ghost use Rattle.glk_streams.specs.Streams as streams;
 ghost use Rattle.glk_replies.specs.Parts.{IsCharWidth, can_lay, reply_filling};
 ghost use Rattle.glk_world.specs.World.{arg, MakesCall};
-ghost use Rattle.glk_text_calls.specs.Input.{found_in, next_char, ends_line, read_on, count_read, has_read, reading};
-ghost use Rattle.glk_text_calls.specs.Input.{ending, get_chars, get_buffer, get_line, get_buffer_grows, char_answer};
-ghost use Rattle.glk_text_calls.specs.Input.{get_char, take_char};
+ghost use Rattle.glk_text_calls.specs.Input.{found_in, read_on, count_read, has_read, reading, get_chars};
+ghost use Rattle.glk_text_calls.specs.Input.{get_buffer, get_line, get_buffer_grows, char_answer, get_char};
+ghost use Rattle.gx_words.specs.Constants.{line_feed};
 
 use glk_replies::{can_lay, can_read, filled, reply};
 use glk_streams::{Places, Streams};
@@ -26,7 +27,7 @@ use std::alloc::{AllocError, Allocator, Global};
 pub const NO_CHARACTER: u32 = 0xFFFF_FFFF;
 
 /// The number at one of the places of a memory stream, which is looked at.
-#[tactic(auto, using(crate::proofs::Reading::places_rules))]
+#[tactic(auto, using(crate::proofs::Reading::places_rules), unfolding(crate::proofs::Opened::finding))]
 fn found_in<A: Allocator + Clone>(state: &State<A>, places: Places, i: u32) -> Result<u32, Fault>
     requires width { IsCharWidth places.width }
     requires at { places.at < 2 ^ 40 }
@@ -41,7 +42,6 @@ fn found_in<A: Allocator + Clone>(state: &State<A>, places: Places, i: u32) -> R
 }
 
 /// The next character, and the position behind it.
-#[tactic(auto, unfolding(crate::specs::Input::next_char))]
 fn next_char<A: Allocator + Clone>(
     all: &Streams,
     state: &State<A>,
@@ -54,7 +54,8 @@ fn next_char<A: Allocator + Clone>(
     requires width { IsCharWidth places.width }
     requires at { places.at < 2 ^ 40 }
     ensures value { Reads (λ next. next) result
-        (next_char state.now.flat places (streams.stream all.now stream) i position) }
+        (and_then (found_in state.now.flat places i)
+        (λ found. Ok (one.next_from (streams.stream all.now stream) position found))) }
     ensures behind { IfOk result (λ next. IfSome next
         (λ got. got.1 ≤ one.end_position (streams.stream all.now stream))) }
 {
@@ -64,7 +65,7 @@ fn next_char<A: Allocator + Clone>(
 
 /// Whether a character ends what is read.
 fn ends_line(stops: bool, c: u32) -> bool
-    ensures { result ≡ ends_line stops c }
+    ensures { result ≡ (stops && c == line_feed) }
 {
     stops && c == LINE_FEED
 }
@@ -144,7 +145,7 @@ pub(crate) fn read_on<A: Allocator + Clone>(
 
 /// The characters that were read, with what ends a line.
 fn with_ending(chars: Option<Numbers>, stops: bool) -> Result<Numbers, AllocError>
-    ensures value { IfOk result (λ all. MatchOption chars ⊥ (λ cs. all ≡ cs ++ ending stops)) }
+    ensures value { IfOk result (λ all. MatchOption chars ⊥ (λ cs. all ≡ cs ++ (if stops then 0 ∷ [] else []))) }
     ensures memory { OnErr result ((chars ≡ None) ⊎ (stops ≡ true)) }
 {
     let mut chars = chars.ok_or(AllocError)?;
@@ -229,7 +230,7 @@ pub fn get_buffer<A: Allocator + Clone>(
     requires there { IsTrue (streams.has world.old.scene.streams (arg args.now 0)) }
     requires width { IsCharWidth width }
     ensures value { MakesCall (IsTrue (get_buffer_grows world.old.scene state.now.flat args.now)) result
-        world.old world.new (get_buffer world.old.scene state.now.flat width args.now) }
+        world.old world.new (get_buffer width world.old.scene state.now.flat args.now) }
     ensures fits { (room : ℕ) → IfOk result (IsReply state.now.flat room) }
 {
     get_chars(
@@ -253,7 +254,7 @@ pub fn get_line<A: Allocator + Clone>(
     requires there { IsTrue (streams.has world.old.scene.streams (arg args.now 0)) }
     requires width { IsCharWidth width }
     ensures value { MakesCall (IsTrue (not (arg args.now 2 == 0))) result world.old world.new
-        (get_line world.old.scene state.now.flat width args.now) }
+        (get_line width world.old.scene state.now.flat args.now) }
     ensures fits { (room : ℕ) → IfOk result (IsReply state.now.flat room) }
 {
     let len = arg(args, 2);
@@ -283,6 +284,7 @@ fn char_value(width: u32, c: Option<u32>) -> u32
 }
 
 /// get_char_stream: one character.
+#[tactic(auto, using(crate::proofs::Reading::read_width_rules), unfolding(crate::specs::Input::get_char))]
 pub fn get_char<A: Allocator + Clone>(
     world: &mut World,
     state: &State<A>,
@@ -290,24 +292,10 @@ pub fn get_char<A: Allocator + Clone>(
     args: &[u32],
 ) -> Result<Reply, Fault>
     requires { IsTrue (streams.has world.old.scene.streams (arg args.now 0)) }
-    ensures value { MakesCall ⊥ result world.old world.new (get_char world.old.scene state.now.flat width args.now) }
+    ensures value { MakesCall ⊥ result world.old world.new (get_char width world.old.scene state.now.flat args.now) }
     ensures fits { (room : ℕ) → IfOk result (IsReply state.now.flat room) }
 {
-    take_char(world, state, arg(args, 0), width)
-}
-
-/// Takes one character of a stream.
-#[tactic(auto, using(crate::proofs::Reading::read_width_rules), unfolding(crate::specs::Input::take_char))]
-fn take_char<A: Allocator + Clone>(
-    world: &mut World,
-    state: &State<A>,
-    stream: u32,
-    width: u32,
-) -> Result<Reply, Fault>
-    requires { IsTrue (streams.has world.old.scene.streams stream) }
-    ensures value { MakesCall ⊥ result world.old world.new (take_char world.old.scene state.now.flat stream width) }
-    ensures fits { (room : ℕ) → IfOk result (IsReply state.now.flat room) }
-{
+    let stream = arg(args, 0);
     let found = found_in(state, world.places_read(stream, 1), 0)?;
     let c = world.get(stream, found);
     Ok(reply(world.alloc(), char_value(width, c)))

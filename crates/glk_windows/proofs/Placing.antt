@@ -1,7 +1,7 @@
 -- Each window keeps one place in the tree.
 use Rattle.std.proofs.Common.{◌≡◌, ◌+◌, ◌≤◌, ◌==◌, ◌||◌, ◌&&◌, not, ℕ, Bool, true, false, if◌then◌else◌}
 use Rattle.std.proofs.Common.{Option, Some, None, unwrap_or, List, [], ◌∷◌, ◌++◌, map, ◌⊎◌, inl, inr, refl, sym, ap}
-use Rattle.std.proofs.Common.{◌∙◌, arith}
+use Rattle.std.proofs.Common.{◌∙◌, ◌%◌, arith}
 use Rattle.std.proofs.Common.{Result, Ok, Err, OnErr}
 use Rattle.std.specs.List.{filter}
 use Rattle.std.specs.Option.{option_map}
@@ -12,12 +12,12 @@ use Rattle.glk_objects.proofs.Found as found
 use Rattle.glk_objects.proofs.Places.{id_at}
 use Rattle.glk_windows.specs.declared.tree.Arrangement.{Arrangement}
 use Rattle.glk_windows.specs.declared.entries.Entry.{Entry}
-use Rattle.glk_windows.specs.Constants.{pair_window}
+use Rattle.glk_windows.specs.Constants.{pair_window, blank_window}
 use Rattle.glk_windows.specs.Methods.{direction}
 use Rattle.glk_windows.specs.Tree.{Shape, One, Two, shape_id, ids_in, is_among, or_else, part_from, parent_in, split_in}
 use Rattle.glk_windows.specs.Tree.{closed_in, unkeyed, rearranged, arranged_in}
-use Rattle.glk_windows.specs.Windows.{FlatWindows, entry_id, no_entry, window_entry, is_openable, stream_id}
-use Rattle.glk_windows.specs.Changes.{new_entry, new_pair, leaving_of, leaving, forgetting, left_of, closed_tree}
+use Rattle.glk_windows.specs.Windows.{FlatWindows, entry_id, no_entry, window_entry, is_openable}
+use Rattle.glk_windows.specs.Changes.{new_entry, leaving, forgetting, left_of, closed_tree}
 use Rattle.glk_windows.specs.Changes.{chosen}
 use Rattle.glk_windows.specs.Laws.{AreDistinct, ids_of, is_pair, HaveTypes, ArePlaced, AreWhole, Tile}
 use Rattle.glk_windows.proofs.Tiling.{there_or_not, among_append, AreApart, apart_of, leaves_fill}
@@ -423,6 +423,11 @@ placed_first es id kind rock above may placed =
       types = new_kind es e (not_yet es id id above (omega arith)) ∙ openable_leaf kind may;
     }
 
+-- the pair of a new window, which is its key
+abbrev new_pair : ℕ → ℕ → ℕ → ℕ → Arrangement
+new_pair method size kind id =
+    record { id = id + 2; method = method % 256; size = size; key = id; key_is_blank = kind == blank_window }
+
 pub placed_beside : (es : List Entry) (tree : Option Shape) (split method size kind rock id : ℕ)
     → objects.has entry_id es split ≡ true → IsAboveAll entry_id es id → is_openable kind ≡ true → ArePlaced es tree
     → ArePlaced ((es ++ new_entry id kind rock ∷ []) ++ new_entry (id + 2) pair_window 0 ∷ [])
@@ -647,7 +652,7 @@ closed_second a first second after gone distinct closed =
 
 -- a window below the topmost one is closed
 closed_below : (t : Shape) (win : ℕ) → AreDistinct (ids_in t) → is_among (ids_in t) win ≡ true
-    → (shape_id t == win) ≡ false → IsClosed t (closed_in t win) (leaving_of t win)
+    → (shape_id t == win) ≡ false → IsClosed t (closed_in t win) (leaving (Some t) win)
 closed_below (One id) win distinct there below = absurd (let e = there in grind (arith, e, below))
 closed_below (Two a first second) win distinct there below =
     let xs = ids_in first in
@@ -661,7 +666,7 @@ closed_below (Two a first second) win distinct there below =
             (second_leaves a first second distinct)
         | inr not_second ↦ elim (in_first_or_second a first second win there below) [
           | inl is ↦ let gone = parts.apart win is in
-              let same : leaving_of (Two a first second) win ≡ leaving_of first win =
+              let same : leaving (Some (Two a first second)) win ≡ leaving (Some first) win =
               rw (
                 not_first,
                 not_second,
@@ -672,13 +677,13 @@ closed_below (Two a first second) win distinct there below =
               ) (same_parent (parent_in first win)
               (unwrap_or (option_map ids_in (part_from first win)) [])) in
               rw (same, not_first, not_second, closed_absent second win gone)
-              (closed_first a first (closed_in first win) second (leaving_of first win) distinct
+              (closed_first a first (closed_in first win) second (leaving (Some first) win) distinct
               (closed_below first win parts.first is not_first))
           | inr is ↦ let gone = (swapped xs ys parts).apart win is in
-              let same : leaving_of (Two a first second) win ≡ leaving_of second win =
+              let same : leaving (Some (Two a first second)) win ≡ leaving (Some second) win =
               rw (not_first, not_second, below, part_absent first win gone, parent_absent first win gone) refl in
               rw (same, not_first, not_second, closed_absent first win gone)
-              (closed_second a first second (closed_in second win) (leaving_of second win) distinct
+              (closed_second a first second (closed_in second win) (leaving (Some second) win) distinct
               (closed_below second win parts.second is not_second))
         ]
       ]
@@ -731,7 +736,7 @@ some_left true false there now kept is left same = cc
 some_left false true there now kept is left same = cc
 some_left false false there now kept is left same = cc
 
-all_gone : (t : Shape) (win : ℕ) → (shape_id t == win) ≡ true → leaving_of t win ≡ parent_in t win ∷ ids_in t
+all_gone : (t : Shape) (win : ℕ) → (shape_id t == win) ≡ true → leaving (Some t) win ≡ parent_in t win ∷ ids_in t
 all_gone t win top = rw (part_top t win top) refl
 
 pub placed_closed : (es : List Entry) (tree : Option Shape) (win : ℕ) → objects.has entry_id es win ≡ true
@@ -739,12 +744,12 @@ pub placed_closed : (es : List Entry) (tree : Option Shape) (win : ℕ) → obje
 placed_closed es None win there placed =
     absurd (let gone : objects.has entry_id es win ≡ false = sym (placed.same win) in let e = sym gone ∙ there in cc)
 placed_closed es (Some t) win there placed =
-    let ids = leaving_of t win in
+    let ids = leaving (Some t) win in
     let fs = filter (λ e. not (is_among ids e.id)) es in
     let was = λ (id : ℕ). placed.same id in
     let fewer_there : (id : ℕ) → objects.has entry_id fs id ≡ (not (is_among ids id) && objects.has entry_id es id) =
     λ id. found.has_chosen entry_id no_entry (λ (other : ℕ). not (is_among ids other)) es id in
-    placed_forgotten (map stream_id (chosen ids es)) fs (closed_tree ids (Some t) win)
+    placed_forgotten (map (λ (e : Entry). e.stream) (chosen ids es)) fs (closed_tree ids (Some t) win)
     (elim (there_or_not (shape_id t == win)) [
       | inl top ↦ let same = all_gone t win top in
           rw top (record {

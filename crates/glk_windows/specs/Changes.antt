@@ -11,15 +11,12 @@ use Rattle.glk_windows.specs.declared.entries.Entry.{Entry}
 use Rattle.glk_windows.specs.declared.grid.Grid.{Grid}
 use Rattle.glk_windows.specs.Tree.{Shape, One, shape_id, part_from, ids_in, parent_in, split_in, closed_in, is_among}
 use Rattle.glk_windows.specs.Tree.{unkeyed, can_arrange, arranged_in}
-use Rattle.glk_windows.specs.Grids.{grid_id, empty_grid, sized_to, grid_grows, put, blanked, with_cursor}
-use Rattle.glk_windows.specs.Windows.{FlatWindows, entry_id, stream_id, window_entry, sizes_in, has_grid, grid_at}
+use Rattle.glk_windows.specs.Grids.{grid_id, empty_grid, sized_to, grid_grows, put, blanked}
+use Rattle.glk_windows.specs.Windows.{FlatWindows, entry_id, window_entry, sizes_in, sizes, grid_at}
 
 -- each grid gets its window's size
-abbrev pub fitted_to : Option Shape → ℕ × ℕ → Grid → Grid
-fitted_to tree screen g = sized_to (sizes_in tree screen g.id) g
-
 abbrev pub fitted : FlatWindows → FlatWindows
-fitted f = record f { grids = map (fitted_to f.tree (f.columns, f.rows)) f.grids }
+fitted f = record f { grids = map (λ g. sized_to (sizes f g.id) g) f.grids }
 
 -- a grid gets a row or a cell more then
 abbrev pub some_grow : Option Shape → ℕ × ℕ → List Grid → Bool
@@ -31,30 +28,21 @@ some_grow tree screen grids = list_any (λ g. grid_grows (sizes_in tree screen g
 abbrev pub new_entry : ℕ → ℕ → ℕ → Entry
 new_entry id kind rock = record { id = id; kind = kind; rock = rock; stream = id + 1; echo = 0 }
 
--- a grid window has a grid
-abbrev pub with_grid : List Grid → ℕ → ℕ → List Grid
-with_grid grids kind id = if kind == text_grid then grids ++ empty_grid id ∷ [] else grids
-
--- the pair of a new window, which is its key
-abbrev pub new_pair : ℕ → ℕ → ℕ → ℕ → Arrangement
-new_pair method size kind id =
-    record { id = id + 2; method = method % 256; size = size; key = id; key_is_blank = kind == blank_window }
-
--- the first window, which is the root
+-- the first window, which is the root; a grid window has a grid
 abbrev pub rooted : FlatWindows → ℕ → ℕ → ℕ → FlatWindows
-rooted f kind rock id = record f {
-  entries = f.entries ++ new_entry id kind rock ∷ [];
-  tree = Some (One id);
-  grids = with_grid f.grids kind id;
-}
+rooted f kind rock id =
+    let entries = f.entries ++ new_entry id kind rock ∷ [] in
+    let grids = if kind == text_grid then f.grids ++ empty_grid id ∷ [] else f.grids in
+    record f { entries = entries; tree = Some (One id); grids = grids }
 
--- a window beside one that is split
+-- a window beside one that is split, and the pair of both, of which the new window is the key
 abbrev pub split_by : FlatWindows → ℕ → ℕ → ℕ → ℕ → ℕ → ℕ → FlatWindows
-split_by f split method size kind rock id = record f {
-  entries = (f.entries ++ new_entry id kind rock ∷ []) ++ new_entry (id + 2) pair_window 0 ∷ [];
-  tree = option_map (λ t. split_in t split (new_pair method size kind id) id) f.tree;
-  grids = with_grid f.grids kind id;
-}
+split_by f split method size kind rock id =
+    let alone = rooted f kind rock id in
+    let pair : Arrangement =
+    record { id = id + 2; method = method % 256; size = size; key = id; key_is_blank = kind == blank_window } in
+    let tree = option_map (λ t. split_in t split pair id) f.tree in
+    record alone { entries = alone.entries ++ new_entry (id + 2) pair_window 0 ∷ []; tree = tree }
 
 -- A window is opened. The identifiers from `id` on are those of the window, its stream, the pair, the pair's stream.
 unfoldable pub with_new_window : FlatWindows → ℕ → ℕ → ℕ → ℕ → ℕ → ℕ → FlatWindows
@@ -64,11 +52,9 @@ with_new_window f split method size kind rock id =
 -- ---- closing
 
 -- what goes with a window: the pair above it, or 0, and the window with all windows below it
-abbrev pub leaving_of : Shape → ℕ → List ℕ
-leaving_of t win = parent_in t win ∷ unwrap_or (option_map ids_in (part_from t win)) []
-
 abbrev pub leaving : Option Shape → ℕ → List ℕ
-leaving tree win = unwrap_or (option_map (λ t. leaving_of t win) tree) []
+leaving None win = []
+leaving (Some t) win = parent_in t win ∷ unwrap_or (option_map ids_in (part_from t win)) []
 
 -- of these identifiers the windows, in order of creation
 abbrev pub chosen : List ℕ → List Entry → List Entry
@@ -90,17 +76,14 @@ closed_tree ids (Some t) win = if shape_id t == win then None else Some (unkeyed
 -- the windows but for those of these identifiers, whose streams are gone too
 abbrev pub left_of : List Entry → List ℕ → List Entry
 left_of entries ids =
-    map (forgetting (map stream_id (chosen ids entries))) (filter (λ e. not (is_among ids e.id)) entries)
-
--- and the grids
-unfoldable pub without_ids : FlatWindows → List ℕ → FlatWindows
-without_ids f ids =
-    record f { entries = left_of f.entries ids; grids = filter (λ g. not (is_among ids g.id)) f.grids }
+    map (forgetting (map (λ e. e.stream) (chosen ids entries))) (filter (λ e. not (is_among ids e.id)) entries)
 
 -- a window is closed, with all windows below it, their pair and their streams
 unfoldable pub window_closed : FlatWindows → ℕ → FlatWindows
 window_closed f win =
-    fitted (record (without_ids f (leaving f.tree win)) { tree = closed_tree (leaving f.tree win) f.tree win })
+    let ids = leaving f.tree win in
+    let grids = filter (λ g. not (is_among ids g.id)) f.grids in
+    fitted (record f { entries = left_of f.entries ids; tree = closed_tree ids f.tree win; grids = grids })
 
 -- ---- arranging
 
@@ -123,14 +106,14 @@ arranged f win method size key =
 unfoldable pub arranging_grows : FlatWindows → ℕ → ℕ → ℕ → ℕ → Bool
 arranging_grows f win method size key =
     if allows_arrangement f win method key
-    then some_grow (arranged_tree f win method size key) (f.columns, f.rows) f.grids
-    else false
+    then some_grow (arranged_tree f win method size key) (f.columns, f.rows) f.grids else false
 
 -- ---- text, cursor, echo
 
 -- a window's grid becomes another; other windows have none
 abbrev pub with_grid_of : FlatWindows → ℕ → Grid → FlatWindows
-with_grid_of f win new = if has_grid f win then record f { grids = objects.with grid_id f.grids new } else f
+with_grid_of f win new =
+    if objects.has grid_id f.grids win then record f { grids = objects.with grid_id f.grids new } else f
 
 unfoldable pub put_to : FlatWindows → ℕ → ℕ → FlatWindows
 put_to f win c = with_grid_of f win (put (grid_at f.grids win) c)
@@ -139,7 +122,7 @@ unfoldable pub cleared_in : FlatWindows → ℕ → FlatWindows
 cleared_in f win = with_grid_of f win (blanked (grid_at f.grids win))
 
 unfoldable pub moved_in : FlatWindows → ℕ → ℕ → ℕ → FlatWindows
-moved_in f win x y = with_grid_of f win (with_cursor (grid_at f.grids win) x y)
+moved_in f win x y = with_grid_of f win (record (grid_at f.grids win) { x = x; y = y })
 
 -- a window's echo stream, 0 for none
 unfoldable pub with_echo_stream : FlatWindows → ℕ → ℕ → FlatWindows

@@ -25,36 +25,21 @@ sized_to area g = record g { columns = area.0; rows = map (fit area.0 blank_cell
 abbrev pub grid_grows : ℕ × ℕ → Grid → Bool
 grid_grows area g = nat_lt (length g.rows) area.1 || list_any (λ row. nat_lt (length row) area.0) g.rows
 
--- a row of the grid, a cell of a row; empty and blank where there is none
-abbrev pub grid_row_at : Grid → ℕ → List ℕ
-grid_row_at g y = slice_index_or g.rows y []
-
-abbrev pub grid_cell_at : Grid → ℕ → ℕ → ℕ
-grid_cell_at g x y = slice_index_or (grid_row_at g y) x blank_cell
-
 -- the row below; the last number of a row stays
 abbrev pub row_below : ℕ → ℕ
 row_below y = if y == 0xFFFFFFFF then y else y + 1
-
--- the cursor before a character: past the end of a row it goes to the next one
-abbrev pub cursor_wrapped : Grid → Grid
-cursor_wrapped g = if nat_lt g.x g.columns then g else record g { x = 0; y = row_below g.y }
 
 -- a character at the cursor; below the last row it is dropped
 unfoldable pub put_at : Grid → ℕ → Grid
 put_at g c =
     if nat_le (length g.rows) g.y || g.columns == 0 then g else
     if c == line_feed then record g { x = 0; y = row_below g.y } else
-    record g { rows = slice_set g.rows g.y (slice_set (grid_row_at g g.y) g.x c); x = g.x + 1 }
+    record g { rows = slice_set g.rows g.y (slice_set (slice_index_or g.rows g.y []) g.x c); x = g.x + 1 }
 
--- a character is put
+-- a character is put; before it a cursor past the end of a row goes to the next one
 abbrev pub put : Grid → ℕ → Grid
-put g c = put_at (cursor_wrapped g) c
+put g c = put_at (if nat_lt g.x g.columns then g else record g { x = 0; y = row_below g.y }) c
 
 -- all cells become blank, and the cursor goes to the first
 abbrev pub blanked : Grid → Grid
 blanked g = record g { rows = map (λ row. replicate (length row) blank_cell) g.rows; x = 0; y = 0 }
-
--- the cursor is moved; it may be anywhere
-abbrev pub with_cursor : Grid → ℕ → ℕ → Grid
-with_cursor g x y = record g { x = x; y = y }

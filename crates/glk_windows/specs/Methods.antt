@@ -18,7 +18,3 @@ is_method method = nat_le (direction method) below && (division method == fixed 
 -- the columns are divided, else the rows
 abbrev pub is_across : ℕ → Bool
 is_across method = nat_le (direction method) right
-
--- two directions lie on one axis: left and right, or above and below
-abbrev pub is_on_axis : ℕ → ℕ → Bool
-is_on_axis method other = direction method / 2 == direction other / 2

@@ -7,7 +7,7 @@ use Rattle.glk_windows.specs.declared.tree.Arrangement.{Arrangement}
 use Rattle.glk_windows.specs.declared.tree.Pair.{Pair}
 use Rattle.glk_windows.specs.declared.tree.Tree.{Tree}
 use Rattle.glk_windows.specs.declared.tree.Tree.TheVariants as tree
-use Rattle.glk_windows.specs.Methods.{direction, division, is_method, is_across, is_on_axis}
+use Rattle.glk_windows.specs.Methods.{direction, division, is_method, is_across}
 
 -- a window that isn't a pair, or a pair with its first and its second child
 pub data Shape : Type 0 where
@@ -31,8 +31,7 @@ or_else None other = other
 -- what a pair's second child gets of so many columns or rows
 abbrev pub share : Arrangement → ℕ → ℕ
 share a total =
-    if division a.method == fixed
-    then (if a.key == 0 || a.key_is_blank then 0 else min total a.size)
+    if division a.method == fixed then (if a.key == 0 || a.key_is_blank then 0 else min total a.size)
     else min total (total * a.size / 100)
 
 -- the columns and rows of the second child, and of the first, which has the rest
@@ -55,8 +54,7 @@ area_in (Two a first second) area win =
 abbrev pub part_from : Shape → ℕ → Option Shape
 part_from (One id) win = if id == win then Some (One id) else None
 part_from (Two a first second) win =
-    if a.id == win then Some (Two a first second) else
-    or_else (part_from first win) (part_from second win)
+    if a.id == win then Some (Two a first second) else or_else (part_from first win) (part_from second win)
 
 -- the windows of a part of the tree
 abbrev pub ids_in : Shape → List ℕ
@@ -73,8 +71,7 @@ abbrev pub parent_in : Shape → ℕ → ℕ
 parent_in (One id) win = 0
 parent_in (Two a first second) win =
     if shape_id first == win || shape_id second == win then a.id else
-    if parent_in first win == 0 then parent_in second win else
-    parent_in first win
+    if parent_in first win == 0 then parent_in second win else parent_in first win
 
 -- a pair window as the story sees it
 abbrev pub pair_of : Shape → Option Pair
@@ -95,8 +92,7 @@ split_in (Two b first second) split a new =
 abbrev pub closed_in : Shape → ℕ → Shape
 closed_in (One id) win = One id
 closed_in (Two a first second) win =
-    if shape_id first == win then second else
-    if shape_id second == win then first else
+    if shape_id first == win then second else if shape_id second == win then first else
     Two a (closed_in first win) (closed_in second win)
 
 abbrev pub is_among : List ℕ → ℕ → Bool
@@ -108,30 +104,25 @@ unkeyed gone (One id) = One id
 unkeyed gone (Two a first second) =
     Two (record a { key = if is_among gone a.key then 0 else a.key }) (unkeyed gone first) (unkeyed gone second)
 
--- a pair may get this method and this key: the direction stays on its axis, and the key is none or a window
--- below it that isn't a pair
+-- a pair may get this method and this key: the direction stays on its axis, left and right or above and below, and the
+-- key is none or a window below it that isn't a pair
 abbrev pub can_arrange : Shape → ℕ → ℕ → Bool
 can_arrange (One id) method key = false
 can_arrange (Two a first second) method key =
-    is_method method && is_on_axis method a.method && (key == 0 || has_leaf first key || has_leaf second key)
+    is_method method && direction method / 2 == direction a.method / 2
+    && (key == 0 || has_leaf first key || has_leaf second key)
 
 -- the pair's arrangement after that; the key 0 leaves the key as it is
 abbrev pub rearranged : Arrangement → ℕ → ℕ → ℕ → Bool → Arrangement
-rearranged a method size key key_is_blank = record a {
-  method = method % 256;
-  size = size;
-  key = if key == 0 then a.key else key;
-  key_is_blank = if key == 0 then a.key_is_blank else key_is_blank;
-}
+rearranged a method size key blank =
+    let blank' = if key == 0 then a.key_is_blank else blank in
+    record a { method = method % 256; size = size; key = if key == 0 then a.key else key; key_is_blank = blank' }
 
 -- The pair of that identifier gets it. Where the direction changes, its children are exchanged, so that each keeps
 -- its side of the screen, and the other one becomes that of which the size speaks.
 abbrev pub arranged_in : Shape → ℕ → ℕ → ℕ → ℕ → Bool → Shape
-arranged_in (One id) win method size key key_is_blank = One id
-arranged_in (Two a first second) win method size key key_is_blank =
-    if a.id == win
-    then (if direction method == direction a.method
-    then Two (rearranged a method size key key_is_blank) first second
-    else Two (rearranged a method size key key_is_blank) second first)
-    else Two a (arranged_in first win method size key key_is_blank)
-    (arranged_in second win method size key key_is_blank)
+arranged_in (One id) win method size key blank = One id
+arranged_in (Two a first second) win method size key blank =
+    let new = rearranged a method size key blank in
+    if a.id == win then (if direction method == direction a.method then Two new first second else Two new second first)
+    else Two a (arranged_in first win method size key blank) (arranged_in second win method size key blank)

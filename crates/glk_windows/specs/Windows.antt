@@ -1,9 +1,9 @@
 -- All windows (Glk 0.7.5, "Windows"): a list in order of creation, the tree, the grids, the size of the screen.
 use Rattle.std.specs.Prelude.{ℕ, ◌+◌, ◌==◌, ◌||◌, ◌&&◌, nat_lt, not, Bool, if◌then◌else◌, List, [], Option, Some, None}
-use Rattle.std.specs.Prelude.{is_some, unwrap_or, option_and_then, count_by}
+use Rattle.std.specs.Prelude.{is_some, unwrap_or, option_and_then, count_by, slice_index_or}
 use Rattle.std.specs.Option.{option_map}
 use Rattle.glk_objects.specs.Objects as objects
-use Rattle.glk_windows.specs.Constants.{pair_window, blank_window, text_buffer, text_grid, most_windows}
+use Rattle.glk_windows.specs.Constants.{pair_window, blank_window, text_buffer, text_grid, most_windows, blank_cell}
 use Rattle.glk_windows.specs.declared.tree.Pair.{Pair}
 use Rattle.glk_windows.specs.declared.tree.Tree.{Tree}
 use Rattle.glk_windows.specs.declared.entries.Entry.{Entry}
@@ -11,7 +11,7 @@ use Rattle.glk_windows.specs.declared.entries.Window.{Window}
 use Rattle.glk_windows.specs.declared.grid.Grid.{Grid}
 use Rattle.glk_windows.specs.Methods.{is_method}
 use Rattle.glk_windows.specs.Tree.{Shape, shape_of, shape_id, area_in, part_from, parent_in, pair_of}
-use Rattle.glk_windows.specs.Grids.{grid_id, empty_grid, grid_cell_at, grid_row_at}
+use Rattle.glk_windows.specs.Grids.{grid_id, empty_grid}
 
 pub record FlatWindows : Type 0 where
   pub entries : List Entry
@@ -33,9 +33,6 @@ no_windows columns rows = record { entries = []; tree = None; grids = []; column
 
 abbrev pub entry_id : Entry → ℕ
 entry_id e = e.id
-
-abbrev pub stream_id : Entry → ℕ
-stream_id e = e.stream
 
 abbrev pub no_entry : Entry
 no_entry = record { id = 0; kind = 0; rock = 0; stream = 0; echo = 0 }
@@ -89,18 +86,15 @@ text_size f win = if has_text (window_entry f.entries win).kind then sizes f win
 
 -- ---- the grids
 
-abbrev pub has_grid : FlatWindows → ℕ → Bool
-has_grid f win = objects.has grid_id f.grids win
-
 abbrev pub grid_at : List Grid → ℕ → Grid
 grid_at grids win = objects.at grid_id (empty_grid 0) grids win
 
 -- a cell and a row of a window's grid; blank and empty where there is none
 abbrev pub window_cell : FlatWindows → ℕ → ℕ → ℕ → ℕ
-window_cell f win x y = grid_cell_at (grid_at f.grids win) x y
+window_cell f win x y = slice_index_or (slice_index_or (grid_at f.grids win).rows y []) x blank_cell
 
 abbrev pub window_row : FlatWindows → ℕ → ℕ → List ℕ
-window_row f win y = grid_row_at (grid_at f.grids win) y
+window_row f win y = slice_index_or (grid_at f.grids win).rows y []
 
 -- ---- what may be opened
 
@@ -113,15 +107,12 @@ pub record IsNewId (f : FlatWindows) (id : ℕ) : Type 0 where
 abbrev pub is_openable : ℕ → Bool
 is_openable kind = kind == blank_window || kind == text_buffer || kind == text_grid
 
--- how many windows aren't pairs
-abbrev pub leaf_count : List Entry → ℕ
-leaf_count entries = count_by (λ e. not (e.kind == pair_window)) entries
-
--- a window may be opened: the first one with split 0, every other one by a split with a method
+-- a window may be opened: the first one with split 0, every other one by a split with a method, and so many at most
+-- that aren't pairs
 abbrev pub can_add : FlatWindows → ℕ → ℕ → ℕ → Bool
 can_add f split method kind =
     not (split == 0 && is_some f.tree) && is_openable kind
-    && nat_lt (leaf_count f.entries) most_windows && (split == 0 || is_method method)
+    && nat_lt (count_by (λ e. not (e.kind == pair_window)) f.entries) most_windows && (split == 0 || is_method method)
 
 -- the last identifier that opening a window gives: that of its stream, or of the pair's stream
 abbrev pub last_given : ℕ → ℕ → ℕ

@@ -1,8 +1,8 @@
 //! What is known of a window beside its place in the tree.
-ghost use Rattle.std.specs.Prelude.{◌≡◌, ◌+◌, ◌<◌, ◌^◌, map, filter, not, IsTrue, IfOk};
+ghost use Rattle.std.specs.Prelude.{◌≡◌, ◌+◌, ◌<◌, ◌^◌, map, filter, count_by, not, ◌==◌, IsTrue, IfOk};
 ghost use Rattle.glk_objects.specs.Objects as objects;
 ghost use Rattle.glk_windows.specs.Tree.{is_among};
-ghost use Rattle.glk_windows.specs.Windows.{entry_id, stream_id, window_entry, leaf_count};
+ghost use Rattle.glk_windows.specs.Windows.{entry_id, window_entry};
 ghost use Rattle.glk_windows.specs.Changes.{new_entry, chosen, forgetting};
 
 use crate::methods::PAIR;
@@ -83,7 +83,7 @@ pub(crate) fn entry_at(entries: &[Entry], win: u32) -> Entry
 
 /// How many windows aren't pairs.
 pub(crate) fn leaf_count(entries: &[Entry]) -> usize
-    ensures { result ≡ leaf_count entries.now }
+    ensures { result ≡ count_by (λ e. not (e.kind == PAIR)) entries.now }
 {
     entries.iter().filter(|entry| entry.kind != PAIR).count()
 }
@@ -113,7 +113,7 @@ pub(crate) fn chosen_streams(
     ids: &[u32],
     entries: &[Entry],
 ) -> Result<Numbers, AllocError>
-    ensures { IfOk result (λ found. found ≡ map stream_id (chosen ids.now entries.now)) }
+    ensures { IfOk result (λ found. found ≡ map (λ e. e.stream) (chosen ids.now entries.now)) }
 {
     let mut found = Numbers::new(alloc);
     for entry in entries {

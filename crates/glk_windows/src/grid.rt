@@ -2,11 +2,10 @@
 //!
 //! Only `resize` may want memory, and only where a row or a cell is new.
 ghost use Rattle.std.specs.Prelude.{◌≡◌, ◌-◌, ◌<◌, ◌^◌, ◌⊎◌, [], length, map, replicate, slice_set, slice_index_or};
-ghost use Rattle.std.specs.Prelude.{OnOk, OnErr, IsTrue, nat_lt};
+ghost use Rattle.std.specs.Prelude.{OnOk, OnErr, IsTrue, nat_lt, if◌then◌else◌};
 ghost use Rattle.std.specs.List.{list_any};
-ghost use Rattle.glk_windows.specs.Grids.{empty_grid, fit, sized_to, grid_grows, row_below, cursor_wrapped, put_at};
+ghost use Rattle.glk_windows.specs.Grids.{empty_grid, fit, sized_to, grid_grows, row_below, put_at};
 ghost use Rattle.glk_windows.specs.Grids.{put, blanked};
-ghost use Rattle.glk_windows.specs.Grids.{with_cursor};
 
 use glk_objects::Object;
 use gx_words::LINE_FEED;
@@ -219,7 +218,8 @@ fn row_below(y: u32) -> u32
 
 /// Past the end of a row the cursor goes to the next one.
 fn wrap(grid: &mut Grid)
-    ensures new { grid.new ≡ cursor_wrapped grid.old }
+    ensures new { grid.new ≡ (if nat_lt grid.old.x grid.old.columns then grid.old
+        else record grid.old { x = 0; y = row_below grid.old.y }) }
     ensures id { grid.new.id ≡ grid.old.id }
     ensures room { grid.new.x < 2 ^ 32 - 1 }
 {
@@ -266,7 +266,7 @@ pub(crate) fn clear(grid: &mut Grid)
 }
 
 pub(crate) fn move_cursor(grid: &mut Grid, x: u32, y: u32)
-    ensures { grid.new ≡ with_cursor grid.old x y }
+    ensures { grid.new ≡ record grid.old { x = x; y = y } }
 {
     grid.x = x;
     grid.y = y;

@@ -1,8 +1,8 @@
 //! Types of windows, and methods of pair windows (Glk 0.7.5, "Window Arrangement").
 //!
 //! A method holds a direction in its low four bits and a division in the next four.
-ghost use Rattle.std.specs.Prelude.{◌≡◌};
-ghost use Rattle.glk_windows.specs.Methods.{direction, division, is_method, is_across, is_on_axis};
+ghost use Rattle.std.specs.Prelude.{◌≡◌, ◌/◌, ◌==◌};
+ghost use Rattle.glk_windows.specs.Methods.{direction, division, is_method, is_across};
 
 /// The type of a pair window.
 pub const PAIR: u32 = 1;
@@ -58,7 +58,7 @@ pub(crate) fn is_across(method: u32) -> bool
 
 /// Whether both directions lie on one axis.
 pub(crate) fn is_on_axis(method: u32, other: u32) -> bool
-    ensures { result ≡ is_on_axis method other }
+    ensures { result ≡ (direction method / 2 == direction other / 2) }
 {
     direction(method) / 2 == direction(other) / 2
 }

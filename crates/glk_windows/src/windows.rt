@@ -1,16 +1,17 @@
 //! All windows of a screen (Glk 0.7.5, "Windows").
 ghost use Rattle.std.specs.Prelude.{ℕ, ◌≡◌, ◌+◌, ◌<◌, ◌≤◌, ◌^◌, ◌⊎◌, ◌∷◌, [], ◌++◌, length, map, filter, not, IsTrue};
 ghost use Rattle.std.specs.Prelude.{vec_len, vec_capacity, OnOk, OnErr, IfOk, MatchOption, Some, None};
+ghost use Rattle.std.specs.Prelude.{◌==◌, if◌then◌else◌};
 ghost use Rattle.std.specs.Option.{option_map};
 ghost use Rattle.std.specs.List.Sorted.{IsStrictlyIncreasing};
 ghost use Rattle.glk_objects.specs.Objects as objects;
 ghost use Rattle.glk_windows.specs.Tree.{shape_of, is_among, split_in, arranged_in};
-ghost use Rattle.glk_windows.specs.Grids.{grid_id};
+ghost use Rattle.glk_windows.specs.Grids.{grid_id, empty_grid, sized_to};
 ghost use Rattle.glk_windows.specs.Windows.{tree_of, no_windows, entry_id, is_window, window_entry, entry, next, root};
 ghost use Rattle.glk_windows.specs.Windows.{parent, window, window_pair, sizes_in, sizes, text_size, window_cell};
 ghost use Rattle.glk_windows.specs.Windows.{window_row, is_openable};
 ghost use Rattle.glk_windows.specs.Windows.{can_add, last_given, IsNewId};
-ghost use Rattle.glk_windows.specs.Changes.{fitted_to, fitted, some_grow, with_grid, rooted, split_by, with_new_window};
+ghost use Rattle.glk_windows.specs.Changes.{fitted, some_grow, rooted, split_by, with_new_window};
 ghost use Rattle.glk_windows.specs.Changes.{leaving};
 ghost use Rattle.glk_windows.specs.Changes.{chosen, left_of, gone, closed_tree, window_closed, allows_arrangement};
 ghost use Rattle.glk_windows.specs.Changes.{arranged};
@@ -308,7 +309,7 @@ impl Windows {
     }
 
     /// Closes a window, with all windows below it and their pair; answers their identifiers, which rise.
-    #[tactic(auto, unfolding(crate::specs::Changes::window_closed, crate::specs::Changes::without_ids))]
+    #[tactic(auto, unfolding(crate::specs::Changes::window_closed))]
     pub fn remove(&mut self, win: u32) -> Result<Numbers, AllocError>
         requires { IsTrue (is_window self.old win) }
         ensures gone { IfOk result (λ ids. ids ≡ gone self.old win) }
@@ -448,7 +449,8 @@ fn push_grid(alloc: Global, grids: &mut Vec<Grid>, kind: u32, id: u32)
     requires room { vec_len grids.old < vec_capacity grids.old }
     requires rises { objects.AreRising grid_id grids.old.items }
     requires above { objects.IsAboveAll grid_id grids.old.items id }
-    ensures value { grids.new.items ≡ with_grid grids.old.items kind id }
+    ensures value { grids.new.items
+        ≡ (if kind == TEXT_GRID then grids.old.items ++ empty_grid id ∷ [] else grids.old.items) }
     ensures rises { objects.AreRising grid_id grids.new.items }
 {
     if kind == TEXT_GRID {
@@ -484,7 +486,8 @@ fn fit_grids(
     grids: &mut Vec<Grid>,
 ) -> Result<(), AllocError>
     requires { objects.AreRising grid_id grids.old.items }
-    ensures ok { OnOk result (grids.new.items ≡ map (fitted_to (tree_of tree.now) screen) grids.old.items) }
+    ensures ok { OnOk result (grids.new.items ≡ map (λ g. sized_to (sizes_in (tree_of tree.now) screen g.id) g)
+        grids.old.items) }
     ensures rises { objects.AreRising grid_id grids.new.items }
     ensures memory { OnErr result (IsTrue (some_grow (tree_of tree.now) screen grids.old.items)) }
 {

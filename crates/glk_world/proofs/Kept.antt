@@ -14,16 +14,17 @@ use Rattle.glk_streams.specs.declared.kinds.Stream.{Stream}
 use Rattle.glk_streams.specs.declared.kinds.StreamKind.{StreamKind}
 use Rattle.glk_streams.specs.Stream as one
 use Rattle.glk_streams.specs.Streams as streams
+use Rattle.glk_windows.specs.declared.entries.Entry.{Entry}
 use Rattle.glk_windows.specs.declared.grid.Grid.{Grid}
 use Rattle.glk_windows.specs.Tree.{is_among}
-use Rattle.glk_windows.specs.Grids.{grid_id, empty_grid, put, blanked, with_cursor}
-use Rattle.glk_windows.specs.Windows.{FlatWindows, entry_id, stream_id, no_windows, window_entry, has_grid, grid_at}
+use Rattle.glk_windows.specs.Grids.{grid_id, empty_grid, sized_to, put, blanked}
+use Rattle.glk_windows.specs.Windows.{FlatWindows, entry_id, no_windows, window_entry, grid_at, sizes}
 use Rattle.glk_windows.specs.Windows.{last_given, IsNewId}
 use Rattle.glk_windows.proofs.Placing.{forgetting_id}
 use Rattle.glk_world.proofs.Turns.{windowless}
-use Rattle.glk_windows.specs.Changes.{fitted_to, fitted, new_entry, with_grid, rooted, split_by, with_new_window, leaving, chosen}
-use Rattle.glk_windows.specs.Changes.{forgetting, closed_tree, with_grid_of, put_to, cleared_in, moved_in, with_echo_stream}
-use Rattle.glk_windows.specs.Changes.{without_echoes, allows_arrangement, arranged_tree, arranged, without_ids, window_closed}
+use Rattle.glk_windows.specs.Changes.{fitted, new_entry, rooted, split_by, with_new_window, leaving, chosen}
+use Rattle.glk_windows.specs.Changes.{forgetting, left_of, closed_tree, with_grid_of, put_to, cleared_in, moved_in, with_echo_stream}
+use Rattle.glk_windows.specs.Changes.{without_echoes, allows_arrangement, arranged_tree, arranged, window_closed}
 
 pub streams_with : (ss : List Stream) (new : Stream) (n : ℕ) → IsAboveAll streams.id_of ss n
     → IsAboveAll streams.id_of (streams.with_stream ss new) n
@@ -32,12 +33,12 @@ streams_with ss new n above = above_with streams.id_of ss new n above
 fitted_new : (f : FlatWindows) (n : ℕ) → IsNewId f n → IsNewId (fitted f) n
 fitted_new f n new = record {
   entries = new.entries;
-  grids = above_map grid_id (fitted_to f.tree (f.columns, f.rows)) (λ g. refl) f.grids n new.grids;
+  grids = above_map grid_id (λ g. sized_to (sizes f g.id) g) (λ g. refl) f.grids n new.grids;
 }
 
 grid_new : (f : FlatWindows) (win n : ℕ) (g : Grid) → IsNewId f n → IsNewId (with_grid_of f win g) n
 grid_new f win n g new =
-    elim (has_grid f win) as (λ b. IsNewId (if b then record f { grids = objects.with grid_id f.grids g } else f) n) [
+    elim (objects.has grid_id f.grids win) as (λ b. IsNewId (if b then record f { grids = objects.with grid_id f.grids g } else f) n) [
       | true ↦ record { entries = new.entries; grids = above_with grid_id f.grids g n new.grids }
       | false ↦ new
     ]
@@ -52,7 +53,7 @@ cleared_new f win n new = grid_new f win n (blanked (grid_at f.grids win)) new
 
 pub moved_new : (f : FlatWindows) (win x y n : ℕ) → IsNewId f n → IsNewId (moved_in f win x y) n
 unfolding moved_in
-moved_new f win x y n new = grid_new f win n (with_cursor (grid_at f.grids win) x y) new
+moved_new f win x y n new = grid_new f win n (record (grid_at f.grids win) { x = x; y = y }) new
 
 pub echoed_new : (f : FlatWindows) (win stream n : ℕ) → IsNewId f n → IsNewId (with_echo_stream f win stream) n
 unfolding with_echo_stream
@@ -79,7 +80,7 @@ arranged_new f win method size key n new =
     ]
 
 with_grid_new : (grids : List Grid) (kind id n : ℕ) → IsAboveAll grid_id grids n → id < n
-    → IsAboveAll grid_id (with_grid grids kind id) n
+    → IsAboveAll grid_id (if kind == text_grid then grids ++ empty_grid id ∷ [] else grids) n
 with_grid_new grids kind id n above less =
     elim (kind == text_grid) as (λ b. IsAboveAll grid_id (if b then grids ++ empty_grid id ∷ [] else grids) n) [
       | true ↦ above_end grid_id grids (empty_grid id) n above less
@@ -110,11 +111,15 @@ added_new f split method size kind rock id new =
     ]
 
 pub closed_new : (f : FlatWindows) (win n : ℕ) → IsNewId f n → IsNewId (window_closed f win) n
-unfolding window_closed without_ids
+unfolding window_closed
 closed_new f win n new =
     let ids = leaving f.tree win in
-    let gone = map stream_id (chosen ids f.entries) in
-    fitted_new (record (without_ids f ids) { tree = closed_tree ids f.tree win }) n (record {
+    let gone = map (λ (e : Entry). e.stream) (chosen ids f.entries) in
+    fitted_new (record f {
+      entries = left_of f.entries ids;
+      tree = closed_tree ids f.tree win;
+      grids = filter (λ g. not (is_among ids g.id)) f.grids;
+    }) n (record {
       entries = above_map entry_id (forgetting gone) (forgetting_id gone)
           (filter (λ e. not (is_among ids e.id)) f.entries) n
           (above_filter entry_id (λ e. not (is_among ids e.id)) f.entries n new.entries);

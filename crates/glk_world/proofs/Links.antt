@@ -18,12 +18,12 @@ use Rattle.glk_streams.specs.Streams as streams
 use Rattle.glk_windows.specs.declared.entries.Entry.{Entry}
 use Rattle.glk_windows.specs.Tree.{is_among}
 use Rattle.glk_windows.specs.Constants.{pair_window}
-use Rattle.glk_windows.specs.Windows.{FlatWindows, entry_id, stream_id, no_entry, window_entry, has_grid}
+use Rattle.glk_windows.specs.Windows.{FlatWindows, entry_id, no_entry, window_entry}
 use Rattle.glk_windows.specs.Windows.{grid_at, last_given, IsNewId}
 use Rattle.glk_windows.specs.declared.grid.Grid.{Grid}
 use Rattle.glk_windows.specs.Grids as grids
 use Rattle.glk_windows.specs.Changes.{fitted, new_entry, rooted, split_by, with_new_window, leaving, chosen, forgetting}
-use Rattle.glk_windows.specs.Changes.{without_ids, window_closed, with_grid_of, cleared_in, moved_in, allows_arrangement, arranged_tree}
+use Rattle.glk_windows.specs.Changes.{window_closed, with_grid_of, cleared_in, moved_in, allows_arrangement, arranged_tree}
 use Rattle.glk_windows.specs.Changes.{arranged}
 use Rattle.glk_windows.proofs.Placing.{forgetting_id, forgetting_none}
 use Rattle.glk_world.specs.Calls.{window_stream, with_streams}
@@ -385,9 +385,9 @@ linked_opened f xs split method size kind rock n new above linked = elim (split 
 
 pub linked_left : (f : FlatWindows) (xs : List Stream) (win n : ℕ) (wins : List ℕ) → AreLinked f.entries xs n
     → AreLinked (window_closed f win).entries (streams.without_windows xs wins) n
-unfolding window_closed without_ids
+unfolding window_closed
 linked_left f xs win n wins linked =
-    linked_closed f.entries xs (map stream_id (chosen (leaving f.tree win) f.entries))
+    linked_closed f.entries xs (map (λ (e : Entry). e.stream) (chosen (leaving f.tree win) f.entries))
     (leaving f.tree win) wins n linked
 
 pub linked_none : (n : ℕ) → 0 < n → AreLinked [] [] n
@@ -456,7 +456,7 @@ linked_changed es xs s n new there same linked =
 -- what changes grids alone keeps the list of windows
 entries_with : (f : FlatWindows) (win : ℕ) (g : Grid) → (with_grid_of f win g).entries ≡ f.entries
 entries_with f win g =
-    elim (has_grid f win) as
+    elim (objects.has grids.grid_id f.grids win) as
     (λ b. (if b then record f { grids = objects.with grids.grid_id f.grids g } else f).entries ≡ f.entries) [
       | true ↦ refl
       | false ↦ refl
@@ -468,7 +468,7 @@ entries_cleared f win = entries_with f win (grids.blanked (grid_at f.grids win))
 
 pub entries_moved : (f : FlatWindows) (win x y : ℕ) → (moved_in f win x y).entries ≡ f.entries
 unfolding moved_in
-entries_moved f win x y = entries_with f win (grids.with_cursor (grid_at f.grids win) x y)
+entries_moved f win x y = entries_with f win (record (grid_at f.grids win) { x = x; y = y })
 
 pub entries_arranged : (f : FlatWindows) (win method size key : ℕ)
     → (arranged f win method size key).entries ≡ f.entries

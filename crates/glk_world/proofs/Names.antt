@@ -15,9 +15,9 @@ use Rattle.glk_streams.specs.Streams as streams
 use Rattle.glk_windows.specs.declared.entries.Entry.{Entry}
 use Rattle.glk_windows.specs.Constants.{pair_window}
 use Rattle.glk_windows.specs.Tree.{is_among}
-use Rattle.glk_windows.specs.Windows.{FlatWindows, entry_id, stream_id, no_entry, window_entry, no_windows, IsNewId}
+use Rattle.glk_windows.specs.Windows.{FlatWindows, entry_id, no_entry, window_entry, no_windows, IsNewId}
 use Rattle.glk_windows.specs.Changes.{fitted, new_entry, rooted, split_by, with_new_window, leaving, chosen, forgetting}
-use Rattle.glk_windows.specs.Changes.{without_ids, window_closed, with_echo_stream, arranged, gone}
+use Rattle.glk_windows.specs.Changes.{window_closed, with_echo_stream, arranged, gone}
 use Rattle.glk_windows.proofs.Placing.{forgetting_id, forgetting_none}
 use Rattle.glk_world.specs.Calls.{window_stream, with_streams}
 use Rattle.glk_world.specs.Chains.{AreLinked}
@@ -347,10 +347,10 @@ named_left es xs ids n linked named =
 pub named_closed : (f : FlatWindows) (xs : List Stream) (win n : ℕ) (wins : List ℕ) → wins ≡ gone f win
     → AreLinked f.entries xs n → AreNamed f.entries xs
     → AreNamed (window_closed f win).entries (streams.without_windows xs wins)
-unfolding window_closed without_ids
+unfolding window_closed
 named_closed f xs win n wins is linked named =
     let ids = leaving f.tree win in
-    rw is (named_forgotten (map stream_id (chosen ids f.entries)) (filter (λ e. not (is_among ids e.id)) f.entries)
+    rw is (named_forgotten (map (λ (e : Entry). e.stream) (chosen ids f.entries)) (filter (λ e. not (is_among ids e.id)) f.entries)
     (streams.without_windows xs (map entry_id (chosen ids f.entries))) (named_left f.entries xs ids n linked named))
 
 -- ---- windows and streams after a change, or after want of memory

@@ -7,9 +7,9 @@ use Rattle.std.specs.Char.{encode_utf8}
 use Rattle.std.specs.Str.{encode_utf8_all}
 use Rattle.glk_text.specs.Characters.{shown}
 use Rattle.glk_world.specs.declared.grids.ShownGrid.{ShownGrid}
-use Rattle.glk_world.specs.World.{FlatWorld, after, silent}
+use Rattle.glk_world.specs.World.{FlatWorld, after, silent, said_each}
 use Rattle.glk_world.specs.Putting.{put_of, put_chars}
-use Rattle.glk_world.specs.Shown.{said_row, said_rows, said_grid, said_grids}
+use Rattle.glk_world.specs.Shown.{said_row, said_grid}
 
 -- what says nothing changes nothing
 pub nothing_said : (w : FlatWorld) → after w (silent w.scene) ≡ w
@@ -18,28 +18,28 @@ nothing_said w = grind (arith, common_steps, append-nil)
 pub ruleset silences = (nothing_said)
 
 pub rows_none : (w : FlatWorld) (rows : List (List ℕ)) (n : ℕ) → length rows ≤ n
-    → after w (said_rows w.scene (drop n rows)) ≡ w
-unfolding said_rows
+    → after w (said_each said_row w.scene (drop n rows)) ≡ w
+unfolding said_each
 rows_none w rows n past = let none : drop n rows ≡ [] = grind (arith, common_steps) in rw none (nothing_said w)
 
 pub rows_more : (w : FlatWorld) (rows : List (List ℕ)) (i : ℕ) (d : List ℕ) → i < length rows
     → after (after w (said_row w.scene (get_or rows i d)))
-    (said_rows (said_row w.scene (get_or rows i d)).0 (drop (i + 1) rows)) ≡ after w (said_rows w.scene (drop i rows))
-unfolding said_rows
+    (said_each said_row (said_row w.scene (get_or rows i d)).0 (drop (i + 1) rows)) ≡ after w (said_each said_row w.scene (drop i rows))
+unfolding said_each
 rows_more w rows i d within = let e : i + 1 ≡ suc i = omega arith in rw (e, drop-cons rows i d, append_assoc) refl
 
 pub ruleset row_turns = (rows_none, rows_more)
 
 pub grids_none : (w : FlatWorld) (grids : List ShownGrid) (n : ℕ) → length grids ≤ n
-    → after w (said_grids w.scene (drop n grids)) ≡ w
-unfolding said_grids
+    → after w (said_each said_grid w.scene (drop n grids)) ≡ w
+unfolding said_each
 grids_none w grids n past = let none : drop n grids ≡ [] = grind (arith, common_steps) in rw none (nothing_said w)
 
 pub grids_more : (w : FlatWorld) (grids : List ShownGrid) (i : ℕ) (d : ShownGrid) → i < length grids
     → after (after w (said_grid w.scene (get_or grids i d)))
-    (said_grids (said_grid w.scene (get_or grids i d)).0 (drop (i + 1) grids))
-    ≡ after w (said_grids w.scene (drop i grids))
-unfolding said_grids
+    (said_each said_grid (said_grid w.scene (get_or grids i d)).0 (drop (i + 1) grids))
+    ≡ after w (said_each said_grid w.scene (drop i grids))
+unfolding said_each
 grids_more w grids i d within = let e : i + 1 ≡ suc i = omega arith in rw (e, drop-cons grids i d, append_assoc) refl
 
 pub some_within : {A : Type 0} (xs : List A) (i : ℕ) → i < length xs → xs ≢ []

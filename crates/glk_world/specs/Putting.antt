@@ -4,6 +4,8 @@ use Rattle.std.specs.Prelude.{encode_utf8}
 use Rattle.gx_words.specs.Constants.{line_feed}
 use Rattle.glk_text.specs.Characters.{shown}
 use Rattle.glk_streams.specs.declared.kinds.Places.{Places}
+use Rattle.glk_streams.specs.declared.kinds.Stream.{Stream}
+pub use Rattle.glk_streams.specs.Stream.{no_places}
 use Rattle.glk_streams.specs.Stream as one
 use Rattle.glk_streams.specs.Streams as streams
 use Rattle.glk_windows.specs.Constants.{text_buffer}
@@ -12,10 +14,6 @@ use Rattle.glk_windows.specs.Windows.{window_entry}
 use Rattle.glk_windows.specs.Changes.{put_to}
 use Rattle.glk_screen.specs.Texts.{screen_put}
 use Rattle.glk_world.specs.World.{Scene, Said, silent, then_said, is_composed}
-
--- a character of the text, in UTF-8
-abbrev pub said_char : Scene → ℕ → Said
-said_char w c = (record w { fresh = c == line_feed }, encode_utf8 c)
 
 -- the window of a stream, 0 for none
 abbrev pub window_of_stream : Scene → ℕ → ℕ
@@ -28,10 +26,11 @@ entry_of w stream = window_entry w.windows.entries (window_of_stream w stream)
 abbrev pub is_text : Scene → ℕ → Bool
 is_text w stream = (entry_of w stream).kind == text_buffer
 
--- A character comes to a text buffer: it is text, or has its place on the composed screen.
+-- A character comes to a text buffer: it is text, in UTF-8, or has its place on the composed screen.
 unfoldable pub buffer_put : Scene → ℕ → ℕ → Said
 buffer_put w win c =
-    if is_composed w then silent (record w { screen = screen_put w.screen win c }) else said_char w c
+    if is_composed w then silent (record w { screen = screen_put w.screen win c })
+    else (record w { fresh = c == line_feed }, encode_utf8 c)
 
 -- A character comes to a window as it is shown: a text buffer shows it, a grid has a place for it, and other
 -- windows drop it.
@@ -40,10 +39,13 @@ window_put w entry win c =
     if entry.kind == text_buffer then buffer_put w win (shown c) else
     silent (record w { windows = put_to w.windows win (shown c) })
 
+-- the stream of this one's identifier becomes this one
+abbrev pub with_stream : Scene → Stream → Scene
+with_stream w new = record w { streams = streams.with_stream w.streams new }
+
 -- a stream counts a character, and puts it where it belongs
 abbrev pub counted : Scene → ℕ → ℕ → Scene
-counted w stream c =
-    record w { streams = streams.with_stream w.streams (one.after_put (streams.stream w.streams stream) c) }
+counted w stream c = with_stream w (one.after_put (streams.stream w.streams stream) c)
 
 -- a character comes to one stream, and to its window if it has one
 unfoldable pub stream_put : Scene → ℕ → ℕ → Said
@@ -60,8 +62,7 @@ unfoldable pub put_along : ℕ → Scene → ℕ → ℕ → Said
 put_along zero w stream c = silent w
 put_along (suc n) w stream c =
     if streams.has w.streams stream
-    then then_said (stream_put w stream c) (λ more. put_along n more (echo_of w stream) c)
-    else silent w
+    then then_said (stream_put w stream c) (λ more. put_along n more (echo_of w stream) c) else silent w
 
 -- A character is put to a stream, then to its echo stream, and so on. No chain has more streams than there are,
 -- since none comes back to where it was (specs/Chains).
@@ -82,9 +83,8 @@ is_plain_text w stream =
 -- putting to one stream adds text, or makes a file longer
 abbrev pub stream_grows : Scene → ℕ → ℕ → Bool
 stream_grows w stream c =
-    if window_of_stream w stream == 0
-    then one.lengthens (streams.stream w.streams stream).kind (streams.stream w.streams stream) c else
-    is_text w stream
+    let s = streams.stream w.streams stream in
+    if window_of_stream w stream == 0 then one.lengthens s.kind s c else is_text w stream
 
 unfoldable pub grows_along : ℕ → Scene → ℕ → ℕ → Bool
 grows_along zero w stream c = false
@@ -105,9 +105,6 @@ end_along (suc n) w stream =
 abbrev pub chain_end : Scene → ℕ → ℕ
 chain_end w stream = end_along (length w.streams) w stream
 
-abbrev pub no_places : Places
-no_places = record { at = 0; width = 1; count = 0 }
-
 -- the places of memory that so many characters put to a stream use; one that isn't open for writing uses none
 abbrev pub places_of : Scene → ℕ → ℕ → Places
 places_of w stream count =
@@ -117,8 +114,7 @@ places_of w stream count =
 -- the places of memory that so many characters got from a stream use; one that isn't open for reading uses none
 abbrev pub places_read : Scene → ℕ → ℕ → Places
 places_read w stream count =
-    let from = streams.stream w.streams stream in
-    if one.readable from then one.next_places from count else no_places
+    let from = streams.stream w.streams stream in if one.readable from then one.next_places from count else no_places
 
 -- a stream's chain of echo streams comes to a window
 unfoldable pub leads_along : ℕ → Scene → ℕ → ℕ → Bool

@@ -10,10 +10,9 @@ use Rattle.glk_windows.specs.declared.grid.Grid.{Grid}
 use Rattle.glk_screen.specs.Rows.{trimmed}
 use Rattle.glk_screen.specs.Screen.{composed}
 use Rattle.glk_world.specs.declared.grids.ShownGrid.{ShownGrid}
-use Rattle.glk_world.specs.declared.views.View.{View}
 use Rattle.glk_world.specs.declared.views.View.TheVariants as view
 use Rattle.glk_world.specs.Constants.{prompt_selector}
-use Rattle.glk_world.specs.World.{WaitingCall, Scene, Said, silent, then_said, is_composed}
+use Rattle.glk_world.specs.World.{WaitingCall, Scene, Said, silent, then_said, said_each, is_composed}
 
 -- ---- grids: rows without trailing blanks, without trailing empty rows
 
@@ -22,53 +21,36 @@ unfoldable pub kept_rows : List (List ℕ) → ℕ
 kept_rows [] = 0
 kept_rows (row ∷ rows) = if kept_rows rows == 0 && length row == 0 then 0 else kept_rows rows + 1
 
-abbrev pub shown_rows : List (List ℕ) → List (List ℕ)
-shown_rows rows = take (kept_rows (map trimmed rows)) (map trimmed rows)
-
 abbrev pub shown_grid : Grid → ShownGrid
-shown_grid grid = record { id = grid.id; rows = shown_rows grid.rows }
+shown_grid grid =
+    let rows = map trimmed grid.rows in record { id = grid.id; rows = take (kept_rows rows) rows }
 
-abbrev pub shown_id : ShownGrid → ℕ
-shown_id grid = grid.id
-
--- what stands for a grid that wasn't there
-abbrev pub no_grid : ShownGrid
-no_grid = record { id = 0; rows = [] }
-
--- the rows of a grid as they were shown last, none at first
-abbrev pub last_rows : Scene → ℕ → List (List ℕ)
-last_rows w id = (objects.at shown_id no_grid w.shown id).rows
+-- the rows of a grid among those that were shown last, none at first
+abbrev pub last_rows : List ShownGrid → ℕ → List (List ℕ)
+last_rows grids id =
+    let none : ShownGrid = record { id = 0; rows = [] } in (objects.at (λ (g : ShownGrid). g.id) none grids id).rows
 
 abbrev pub same_rows : List (List ℕ) → List (List ℕ) → Bool
 same_rows rows others = pointwise (pointwise (λ c d. c == d)) rows others
 
--- a line feed where something stands on the last line
-abbrev pub on_a_new_line : Scene → List ℕ
-on_a_new_line w = if w.fresh then [] else line_feed ∷ []
-
--- a row that isn't blank is shown behind a bar, on a line of its own
+-- a row that isn't blank is shown behind a bar, on a line of its own: behind a line feed where something stands on the
+-- last line
 unfoldable pub said_row : Scene → List ℕ → Said
 said_row w row =
+    let start = if w.fresh then [] else line_feed ∷ [] in
     if length row == 0 then silent w else
-    (record w { fresh = true }, on_a_new_line w ++ (codes "| " ++ (encode_utf8_all (map shown row) ++ line_feed ∷ [])))
-
-unfoldable pub said_rows : Scene → List (List ℕ) → Said
-said_rows w [] = silent w
-said_rows w (row ∷ rows) = then_said (said_row w row) (λ more. said_rows more rows)
+    (record w { fresh = true }, start ++ (codes "| " ++ (encode_utf8_all (map shown row) ++ line_feed ∷ [])))
 
 -- a grid is shown where it differs from what was shown last
 unfoldable pub said_grid : Scene → ShownGrid → Said
-said_grid w grid = if same_rows grid.rows (last_rows w grid.id) then silent w else said_rows w grid.rows
-
-unfoldable pub said_grids : Scene → List ShownGrid → Said
-said_grids w [] = silent w
-said_grids w (grid ∷ grids) = then_said (said_grid w grid) (λ more. said_grids more grids)
+said_grid w grid =
+    if same_rows grid.rows (last_rows w.shown grid.id) then silent w else said_each said_row w grid.rows
 
 -- the grids at a wait, in order of identifiers
 unfoldable pub show_rows : Scene → Said
 show_rows w =
     let grids = map shown_grid w.windows.grids in
-    then_said (said_grids w grids) (λ more. silent (record more { shown = grids }))
+    then_said (said_each said_grid w grids) (λ more. silent (record more { shown = grids }))
 
 -- ---- the composed screen
 
@@ -85,10 +67,9 @@ is_prompting (Some call) = call.selector == prompt_selector
 
 -- the screen at a wait, and behind it the words of a prompt that waits
 unfoldable pub show_screen : Scene → Said
-show_screen w = (
-  record w { last_screen = Some (screen_of w) },
-  screen_of w ++ (if is_prompting w.waiting then prompt_words else []),
-)
+show_screen w =
+    let prompt = if is_prompting w.waiting then prompt_words else [] in
+    (record w { last_screen = Some (screen_of w) }, screen_of w ++ prompt)
 
 -- a screen is the one that was shown last
 abbrev pub is_last : Option (List ℕ) → List ℕ → Bool
@@ -99,29 +80,17 @@ is_last (Some last) screen = pointwise (λ c d. c == d) last screen
 unfoldable pub end_text : Scene → Said
 end_text w =
     if is_composed w && not (is_last w.last_screen (screen_of w))
-    then (record w { last_screen = Some (screen_of w) }, screen_of w)
-    else silent w
+    then (record w { last_screen = Some (screen_of w) }, screen_of w) else silent w
 
 -- ---- at a wait
 
--- what is shown in each view
-abbrev pub shown_in : View → Scene → Said
-shown_in view.Rows w = show_rows w
-shown_in view.Plain w = silent w
-shown_in view.Screen w = show_screen w
-
--- What is shown at a wait.
+-- What is shown at a wait, in each view.
 unfoldable pub show_grids : Scene → Said
-show_grids w = shown_in w.view w
+show_grids w = elim w.view [ view.Rows ↦ show_rows w | view.Plain ↦ silent w | view.Screen ↦ show_screen w ]
 
 -- where that may want memory
-abbrev pub WantsIn : View → List Grid → Type 0
-WantsIn view.Rows grids = grids ≢ []
-WantsIn view.Plain grids = ⊥
-WantsIn view.Screen grids = Unit {0}
-
 abbrev pub ShowWants : Scene → Type 0
-ShowWants w = WantsIn w.view w.windows.grids
+ShowWants w = elim w.view [ view.Rows ↦ w.windows.grids ≢ [] | view.Plain ↦ ⊥ | view.Screen ↦ Unit {0} ]
 
 -- ---- prompts and lines: nothing stands beside the composed screen
 

@@ -72,14 +72,14 @@ MakesCall wants result old new outcome = MayLose wants (λ x. x) result old new 
 abbrev pub then_said : Said → (Scene → Said) → Said
 then_said first more = ((more first.0).0, first.1 ++ (more first.0).1)
 
+-- each of a list said after the one before it
+unfoldable pub said_each : {A : Type 0} → (Scene → A → Said) → Scene → List A → Said
+said_each say w [] = silent w
+said_each say w (x ∷ xs) = then_said (say w x) (λ more. said_each say more xs)
+
 -- the screen is composed, and no text stands beside it
 abbrev pub is_composed : Scene → Bool
-is_composed w =
-    elim w.view [
-      | view.Rows ↦ false
-      | view.Plain ↦ false
-      | view.Screen ↦ true
-    ]
+is_composed w = elim w.view [ view.Rows ↦ false | view.Plain ↦ false | view.Screen ↦ true ]
 
 -- the world before any call, on a screen of so many columns and rows
 abbrev pub empty_world : View → ℕ → ℕ → FlatWorld

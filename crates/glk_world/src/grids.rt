@@ -1,8 +1,7 @@
 //! Grids as they are shown: rows without trailing blanks, without trailing empty rows.
-ghost use Rattle.std.specs.Prelude.{◌≡◌, ◌≢◌, ◌≤◌, [], length, map, IfOk, OnErr};
-ghost use Rattle.glk_objects.specs.Objects as objects;
+ghost use Rattle.std.specs.Prelude.{◌≡◌, ◌≢◌, ◌≤◌, [], length, map, take, IfOk, OnErr};
 ghost use Rattle.glk_screen.specs.Rows.{trimmed};
-ghost use Rattle.glk_world.specs.Shown.{kept_rows, shown_rows, shown_grid, shown_id, no_grid, same_rows};
+ghost use Rattle.glk_world.specs.Shown.{kept_rows, shown_grid, last_rows, same_rows};
 
 use glk_objects::{Object, first_place};
 use glk_screen::kept;
@@ -58,7 +57,7 @@ fn kept_rows(rows: &[Numbers]) -> usize
 
 /// The rows of a grid as they are shown.
 fn shown_rows(alloc: Global, rows: &Rows) -> Result<Items<Numbers>, AllocError>
-    ensures { IfOk result (λ shown. shown ≡ shown_rows rows.now) }
+    ensures { IfOk result (λ shown. shown ≡ take (kept_rows (map trimmed rows.now)) (map trimmed rows.now)) }
 {
     let mut shown = Items::new(alloc);
     for y in 0..rows.len() {
@@ -101,7 +100,7 @@ fn same_rows(rows: &[Numbers], others: &[Numbers]) -> bool
 /// Whether a grid was shown with these rows, of which there are none at first.
 #[tactic(auto, using(glk_objects::proofs::Places::places))]
 pub(crate) fn was_shown(shown: &[ShownGrid], grid: &ShownGrid) -> bool
-    ensures { result ≡ same_rows grid.now.rows (objects.at shown_id no_grid shown.now grid.now.id).rows }
+    ensures { result ≡ same_rows grid.now.rows (last_rows shown.now grid.now.id) }
 {
     let at = first_place(shown, grid.id);
     if at < shown.len() {

@@ -1,6 +1,6 @@
 //! Windows, streams, file references and requests are made, changed and taken away.
 ghost use Rattle.std.specs.Prelude.{◌≡◌, [], ◌+◌, ◌≤◌, ◌<◌, ◌^◌, ◌⊎◌, None, Some, is_some, OnOk, OnErr, IfOk, IsTrue};
-ghost use Rattle.std.specs.Prelude.{length};
+ghost use Rattle.std.specs.Prelude.{length, if◌then◌else◌};
 ghost use Rattle.glk_objects.specs.Objects as objects;
 ghost use Rattle.glk_streams.specs.Constants.{largest};
 ghost use Rattle.glk_streams.specs.Stream as one;
@@ -10,11 +10,12 @@ ghost use Rattle.glk_windows.specs.Windows as windows;
 ghost use Rattle.glk_windows.specs.Windows.{no_windows, last_given};
 ghost use Rattle.glk_windows.specs.Changes.{arranging_grows};
 ghost use Rattle.glk_events.specs.Requests as requests;
+ghost use Rattle.glk_screen.specs.Texts.{screen_gone};
 ghost use Rattle.glk_world.specs.World.{after, silent, has_reference, reference_id};
 ghost use Rattle.glk_world.specs.Shown.{line_taken};
 ghost use Rattle.glk_world.specs.Calls.{is_identifier, new_id, with_reference, without_reference, can_open, opened_id};
-ghost use Rattle.glk_world.specs.Calls.{with_streams, with_window, unless_gone, without_requests};
-ghost use Rattle.glk_world.specs.Calls.{without_texts, window_counts, without_window, with_arrangement, window_cleared};
+ghost use Rattle.glk_world.specs.Calls.{with_streams, with_window, without_each};
+ghost use Rattle.glk_world.specs.Calls.{window_counts, without_window, with_arrangement, window_cleared};
 ghost use Rattle.glk_world.specs.Calls.{cursor_moved};
 ghost use Rattle.glk_world.specs.Calls.{with_new_stream, without_stream, without_file, repositioned};
 
@@ -262,18 +263,18 @@ fn add_streams(all: &mut Streams, split: u32, id: u32) -> Result<(), AllocError>
 
 /// Drops the requests of windows that are gone.
 #[tactic(auto, using(crate::proofs::Requests::turns))]
-fn drop_requests(requests: &mut Requests, gone: &[u32])
-    ensures { requests.new ≡ without_requests requests.old gone.now }
+fn drop_requests(asked: &mut Requests, gone: &[u32])
+    ensures { asked.new ≡ without_each requests.removed asked.old gone.now }
 {
     for win in gone {
-        requests.remove(*win);
+        asked.remove(*win);
     }
 }
 
 /// Forgets the texts of windows that are gone.
 #[tactic(auto, using(crate::proofs::Requests::turns))]
 fn drop_texts(screen: &mut Screen, gone: &[u32])
-    ensures { screen.new ≡ without_texts screen.old gone.now }
+    ensures { screen.new ≡ without_each screen_gone screen.old gone.now }
 {
     for win in gone {
         screen.gone(*win);
@@ -281,8 +282,8 @@ fn drop_texts(screen: &mut Screen, gone: &[u32])
 }
 
 /// The current stream, none where it is gone.
-fn unless_gone(streams: &Streams, current: u32) -> u32
-    ensures { result ≡ unless_gone streams.now current }
+fn unless_gone(left: &Streams, current: u32) -> u32
+    ensures { result ≡ (if streams.has left.now current then current else 0) }
 {
-    if streams.has(current) { current } else { 0 }
+    if left.has(current) { current } else { 0 }
 }

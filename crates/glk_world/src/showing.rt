@@ -3,9 +3,9 @@ ghost use Rattle.std.specs.Prelude.{◌≡◌, ◌≢◌, ◌++◌, ◌∷◌, [
 ghost use Rattle.std.specs.Option.{option_map};
 ghost use Rattle.std.specs.Str.{encode_utf8_all};
 ghost use Rattle.glk_text.specs.Characters.{shown};
-ghost use Rattle.glk_world.specs.World.{after, is_composed};
+ghost use Rattle.glk_world.specs.World.{after, said_each, is_composed};
 ghost use Rattle.glk_world.specs.Naming.{IsWholeScene};
-ghost use Rattle.glk_world.specs.Shown.{said_row, said_rows, said_grid, said_grids, show_rows, screen_of, is_prompting};
+ghost use Rattle.glk_world.specs.Shown.{said_row, said_grid, show_rows, screen_of, is_prompting};
 ghost use Rattle.glk_world.specs.Shown.{show_screen, is_last, end_text, show_grids, ShowWants, show_prompt, show_line};
 
 use crate::grids::{shown_grids, was_shown};
@@ -105,7 +105,7 @@ impl World {
     /// Shows what differs of these grids.
     #[tactic(auto, using(crate::proofs::Texts::grid_turns))]
     fn say_grids(&mut self, grids: &[ShownGrid]) -> Result<(), AllocError>
-        ensures ok { OnOk result (self.new ≡ after self.old (said_grids self.old.scene grids.now)) }
+        ensures ok { OnOk result (self.new ≡ after self.old (said_each said_grid self.old.scene grids.now)) }
         ensures memory { OnErr result (grids.now ≢ []) }
     {
         for grid in grids {
@@ -128,7 +128,7 @@ impl World {
     /// Shows rows.
     #[tactic(auto, using(crate::proofs::Texts::row_turns))]
     fn say_rows(&mut self, rows: &[Numbers]) -> Result<(), AllocError>
-        ensures { OnOk result (self.new ≡ after self.old (said_rows self.old.scene rows.now)) }
+        ensures { OnOk result (self.new ≡ after self.old (said_each said_row self.old.scene rows.now)) }
     {
         for row in rows {
             self.say_row(row.as_slice())?;

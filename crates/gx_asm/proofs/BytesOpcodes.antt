@@ -8,7 +8,7 @@ use Rattle.gx_words.specs.Numbers.{word, bytes_of_word}
 use Rattle.gx_rows.specs.declared.instructions.Row.{Row}
 use Rattle.gx_rows.specs.declared.instructions.Class.TheVariants.{Flow}
 use Rattle.gx_rows.specs.Opcodes.{opcode_of, shortest, spelled}
-use Rattle.gx_rows.specs.Table.{table, row_count, row_at, place_of, place_within}
+use Rattle.gx_rows.specs.Table.{table, row_count, row_at, place_of}
 
 -- ---- places
 
@@ -27,10 +27,10 @@ both : (a b : Bool) → (a && b) ≡ true → (a ≡ true) × (b ≡ true)
 both true b h = (refl, h)
 both false b h = absurd (cc)
 
-within_ok : (p place : ℕ) → place_within p ≡ Some place → (p ≡ place) × (place < row_count)
+within_ok : (p place : ℕ) → (if nat_lt p row_count then Some p else None) ≡ Some place → (p ≡ place) × (place < row_count)
 within_ok p place h = grind (arith, nat_tests)
 
-within_is : (p place : ℕ) → p ≡ place → place < row_count → place_within p ≡ Some place
+within_is : (p place : ℕ) → p ≡ place → place < row_count → (if nat_lt p row_count then Some p else None) ≡ Some place
 within_is p place is within = grind (arith, nat_tests)
 
 -- the row at the place of a number has that number

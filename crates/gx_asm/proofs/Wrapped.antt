@@ -10,8 +10,7 @@ use Rattle.std.specs.List.{flat_map}
 use Rattle.gx_words.specs.Constants.{magic, header_len, locals_function, checksum_at, ceiling}
 use Rattle.gx_words.specs.Numbers.{bytes_of_word, spliced, sum_of_words, word}
 use Rattle.gx_story.specs.Stories.{FlatStory, accepted, bare, has_sizes, header, header_at_start, is_checked, is_whole}
-use Rattle.gx_story.specs.Stories.{stored_story}
-use Rattle.gx_story.proofs.HeaderTests.{has_header, has_magic, has_version, is_within_limits, has_stored_part}
+use Rattle.gx_story.proofs.HeaderTests.{stored_story, has_header, has_magic, has_version, is_within_limits, has_stored_part}
 use Rattle.gx_story.specs.declared.faults.StoryFault.{StoryFault}
 use Rattle.gx_story.specs.declared.headers.Header.{Header}
 use Rattle.gx_asm.specs.Codes.{text_from}

@@ -1,10 +1,15 @@
 -- What answers the instruction that asked.
 use Rattle.std.proofs.Common.{◌≡◌, ◌≤◌, ◌+◌, ◌-◌, ◌*◌, ◌%◌, ◌<◌, ℕ, Bool, true, false, nat_le, if◌then◌else◌, refl, ap}
 use Rattle.std.proofs.Common.{subst, sym, ◌∙◌, arith, List, [], take, Result, Ok, Err, IsOkAnd, Some, None}
+use Rattle.std.specs.Option.{option_map_or}
+use Rattle.std.specs.Result.{result_ok}
 use Rattle.std.proofs.lemmas.Bool.{leb-true}
 use Rattle.std.proofs.lemmas.List.{append-nil}
 use Rattle.gx_words.specs.declared.faults.Fault.{Fault}
 use Rattle.gx_words.specs.declared.faults.Fault.TheVariants.{Overflow}
+use Rattle.gx_words.specs.declared.strings.Printing as printings
+use Rattle.gx_strings.specs.Items.{next_item}
+use Rattle.gx_state.specs.Copies.{Copy, copy_of}
 use Rattle.gx_rows.specs.declared.instructions.Class.{Class}
 use Rattle.gx_rows.specs.declared.instructions.Class.TheVariants as class
 use Rattle.gx_state.specs.declared.effects.Effect.{Effect}
@@ -14,24 +19,30 @@ use Rattle.gx_state.specs.declared.modes.Dest.{Dest}
 use Rattle.gx_state.specs.declared.modes.Dest.TheVariants.{Nowhere, Memory, Local, Push}
 use Rattle.gx_state.specs.declared.modes.Mode.{Mode}
 use Rattle.gx_state.specs.declared.modes.Mode.TheVariants.{Running, Printing}
-use Rattle.gx_stack.specs.Values.{in_order}
 use Rattle.gx_state.specs.Flat.{FlatState, frame_of, sp_of, cut, IsHeight}
 use Rattle.gx_state.specs.Replies.{IsDone}
 use Rattle.gx_operands.specs.Instructions.{Instruction, instruction, L2, going_to}
-use Rattle.gx_machine.specs.Answer.{answered_state, answered_in, answered_by, answered_row, replied, IsStoredAnswer}
-use Rattle.gx_machine.specs.Answer.{IsStoredIn, IsStoredBy}
+use Rattle.gx_machine.specs.Answer.{answered_state, answered_in, answered_row, replied, IsStoredAnswer, IsStoredBy}
 use Rattle.ops_game.specs.Asks.{IsAsking, IsSaveAtMost}
 use Rattle.ops_memory.specs.Charges.{EndsWithin}
-use Rattle.ops_print.specs.Items.{mode_after}
-use Rattle.ops_print.specs.Asks.{item_by, IsPutAtMost}
+use Rattle.ops_print.specs.Asks.{item_by, mode_after, IsPutAtMost}
+use Rattle.ops_print.specs.Items.{mode_behind}
 use Rattle.gx_state.specs.Stores.{store_fault}
 use Rattle.gx_undo.specs.Undo.{FlatUndo}
 use Rattle.gx_machine.specs.declared.askings.Asking.{Asking}
 use Rattle.gx_machine.specs.declared.machine.Pending.{Pending}
 use Rattle.gx_machine.specs.declared.askings.Asking.TheVariants as asking
-use Rattle.gx_machine.specs.Saves.{copy_by, saved_copy}
+use Rattle.gx_machine.specs.Saves.{saved_copy}
 use Rattle.gx_machine.specs.Step.{asking_of, room_of}
 use Rattle.gx_machine.specs.Views.{IsPendingAnswer, result_len, resumed_at}
+
+-- what an instruction makes of an answer, and the copy that it takes, where one was read
+abbrev answered_by : FlatState → Reply → Result Instruction Fault → FlatState
+answered_by f reply r = option_map_or (λ i. answered_row i.row.class f i reply) (result_ok r) f
+
+abbrev copy_by : FlatState → Result Instruction Fault → Copy
+copy_by f r =
+    option_map_or (λ i. copy_of (cut f i.sp) i.dest i.next) (result_ok r) (record { memory = f.memory; stack = f.stack.bytes; heap = f.heap })
 
 by_class : (f : FlatState) (i : Instruction) (c : Class) → f.mode ≡ Running → instruction f ≡ Ok i → i.row.class ≡ c → (reply : Reply) → answered_state f reply ≡ answered_row c f i reply
 unfolding answered_state
@@ -58,9 +69,13 @@ pub game_answers : (f : FlatState) (i : Instruction) (reply : Reply) → f.mode 
 game_answers f i reply running decoded is = by_class f i class.Game running decoded is reply ∙ on_with f i.sp i.dest i.next reply running
 
 -- the answer to a character of what is printed
+after_by : (f : FlatState) (p : printings.Printing) → f.mode ≡ Printing p → mode_after f ≡ mode_behind (Printing p) (next_item f.memory f.table p)
+unfolding mode_after
+after_by f p is = rw is refl
+
 item_answered : (f : FlatState) (reply : Reply) (m : Mode) → f.mode ≡ m → (m ≡ Running → ⊥) → answered_in f reply m ≡ resumed_at (replied f (sp_of f) Nowhere reply) f.pc (mode_after f)
 item_answered f reply Running is printing = absurd (printing refl)
-item_answered f reply (Printing p) is printing = refl
+item_answered f reply (Printing p) is printing = ap (resumed_at (replied f (sp_of f) Nowhere reply) f.pc) (sym (after_by f p is))
 
 pub item_answers : (f : FlatState) (reply : Reply) → (f.mode ≡ Running → ⊥) → answered_state f reply ≡ resumed_at (replied f (sp_of f) Nowhere reply) f.pc (mode_after f)
 unfolding answered_state
@@ -75,8 +90,7 @@ printing_of f (Printing p) x h same = cc
 stored_by : (f : FlatState) (i : Instruction) (c : Class) → f.mode ≡ Running → instruction f ≡ Ok i → i.row.class ≡ c → IsStoredBy c i → IsStoredAnswer f
 unfolding IsStoredAnswer
 stored_by f i c running decoded is stored =
-    subst (IsStoredIn f) (sym running)
-    (subst (λ (r : Result Instruction Fault). IsOkAnd r (λ x. IsStoredBy x.row.class x)) (sym decoded) (subst (λ (x : Class). IsStoredBy x i) (sym is) stored))
+    (running, subst (λ (r : Result Instruction Fault). IsOkAnd r (λ x. IsStoredBy x.row.class x)) (sym decoded) (subst (λ (x : Class). IsStoredBy x i) (sym is) stored))
 
 pub done_asks : (e : Effect) → IsDone e → asking_of e ≡ None
 done_asks Went h = refl
@@ -206,7 +220,6 @@ restore_pends f g u v i asks running decoded is height =
 -- a character that was put is answered with nothing to push or to write
 pub put_answered : (f : FlatState) (p : Pending) → IsPendingAnswer f p → p.asking ≡ asking.Put
     → answered_state f (record { value = 0; pushes = []; writes = [] }) ≡ resumed_at (cut f p.sp) p.next p.mode
-unfolding in_order
 put_answered f p is asks =
     let none : Reply = record { value = 0; pushes = []; writes = [] } in
     is.answers none

@@ -10,3 +10,4 @@ pub mod Steps
 pub mod Streams
 pub mod Tries
 pub mod Opened
+pub mod Games

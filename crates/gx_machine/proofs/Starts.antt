@@ -1,5 +1,5 @@
 -- An instruction that begins to print, drops a character, or calls the filter with one.
-use Rattle.std.proofs.Common.{◌≡◌, ◌≢◌, ◌≤◌, ◌+◌, ◌%◌, ◌==◌, ℕ, suc, Bool, true, false, [], ◌∷◌, length, Some, None, Ok, Result, refl, ap, subst, sym, ◌∙◌, arith}
+use Rattle.std.proofs.Common.{◌≡◌, ◌≤◌, ◌+◌, ◌%◌, ℕ, suc, Bool, true, false, [], ◌∷◌, length, Some, None, Ok, Result, refl, ap, subst, sym, ◌∙◌}
 use Rattle.gx_words.specs.declared.faults.Fault.{Fault}
 use Rattle.gx_words.specs.declared.strings.Printing.{Printing}
 use Rattle.gx_words.specs.declared.strings.PrintKind.TheVariants.{Number}
@@ -25,7 +25,9 @@ use Rattle.gx_machine.specs.Advancing.{Passes}
 use Rattle.gx_machine.specs.Machine.{Whole}
 use Rattle.gx_machine.specs.Starts.{IsStarted, begun_on, streamed_on}
 use Rattle.gx_machine.specs.Rows.{row_effect, with_copies}
-use Rattle.gx_machine.specs.Step.{mode_step, probes_by, probes_in, stepped}
+use Rattle.gx_machine.specs.Step.{mode_step, probes_in, stepped}
+use Rattle.gx_machine.proofs.Costs.{probes_by}
+use Rattle.gx_machine.proofs.Passing.{joined}
 use Rattle.gx_machine.proofs.Streams.{streaming, char_row, unichar_row, read_row}
 
 number_row : row_of numbers.streamnum ≡ Some (streaming numbers.streamnum)
@@ -100,9 +102,21 @@ started_probes f g s = ap (probes_by f) s.reads ∙ ap (λ (d : Class). probes_o
 
 -- ---- steps after steps
 
-pub then_tried : (word n : ℕ) (a b c : Whole × ℕ) (r : Bool) → Passes word n a None b None → Tries {S = Whole × ℕ} ⊥ (Ok r) b c (stepped b.0 word b.1) → (k : ℕ) × Passes word k a None c None
+then_tried : (word n : ℕ) (a b c : Whole × ℕ) (r : Bool) → Passes word n a None b None → Tries {S = Whole × ℕ} ⊥ (Ok r) b c (stepped b.0 word b.1) → (k : ℕ) × Passes word k a None c None
 then_tried word n a b c true first then = (suc n, (b, None, first, then, refl))
 then_tried word n a b c false first same = (n, subst (λ (x : Whole × ℕ). Passes word n a None x None) (sym same) first)
 
 pub no_passes : (w : Whole) (budget : ℕ) → (word : ℕ) → (n : ℕ) × Passes word n (w, budget) None (w, budget) None
 no_passes w budget word = (0, (refl, refl))
+
+pub tried_alone : (a b : Whole × ℕ) (r : Bool) → ((word : ℕ) → Tries {S = Whole × ℕ} ⊥ (Ok r) a b (stepped a.0 word a.1)) → (word : ℕ) → (n : ℕ) × Passes word n a None b None
+tried_alone a b r tries word = then_tried word 0 a a b r (refl, refl) (tries word)
+
+pub tried_then : (a b c : Whole × ℕ) (r : Bool) → ((word : ℕ) → Tries {S = Whole × ℕ} ⊥ (Ok r) a b (stepped a.0 word a.1)) → ((word : ℕ) → (n : ℕ) × Passes word n b None c None)
+    → (word : ℕ) → (n : ℕ) × Passes word n a None c None
+tried_then a b c r tries passes word =
+    let one = tried_alone a b r tries word in
+    let more = passes word in
+    joined word one.0 more.0 a b c None None None one.1 more.1
+
+pub ruleset printed = (tried_then, tried_alone)

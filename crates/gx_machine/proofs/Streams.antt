@@ -22,7 +22,8 @@ use Rattle.ops_print.specs.Rows as print
 use Rattle.gx_machine.specs.declared.askings.Asking.TheVariants as asking
 use Rattle.gx_machine.specs.Quick.{IsStreamed, read_as, operands_read}
 use Rattle.gx_machine.specs.Rows.{row_effect, with_copies}
-use Rattle.gx_machine.specs.Step.{mode_step, probes_by, probes_in}
+use Rattle.gx_machine.specs.Step.{mode_step, probes_in}
+use Rattle.gx_machine.proofs.Costs.{probes_by}
 use Rattle.gx_machine.specs.Views.{IsPendingAnswer}
 use Rattle.gx_machine.proofs.Answers.{print_pends}
 use Rattle.gx_machine.proofs.Reading.{one_read}

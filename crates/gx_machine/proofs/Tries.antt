@@ -18,12 +18,13 @@ use Rattle.gx_state.specs.declared.modes.Mode.TheVariants.{Running}
 use Rattle.gx_state.specs.Flat.{FlatState}
 use Rattle.gx_operands.specs.Instructions.{Operands, Instruction, opcode, all_operands, instruction}
 use Rattle.gx_undo.specs.Undo.{FlatUndo}
-use Rattle.ops_memory.specs.Costs.{memory_probes, probes_of}
+use Rattle.ops_memory.specs.Costs.{probes_of}
 use Rattle.ops_flow.proofs.Acts.{calc_act, branch_act}
 use Rattle.gx_machine.specs.Machine.{FlatMachine}
 use Rattle.gx_machine.specs.Quick.{Tries, IsPlain, IsQuick, quick_effect, IsQuickWriting, quick_row, IsRowWriting, read_as}
 use Rattle.gx_machine.specs.Rows.{row_effect, with_copies, IsWriting}
-use Rattle.gx_machine.specs.Step.{mode_step, probes_by, probes_in, IsModeWriting}
+use Rattle.gx_machine.specs.Step.{mode_step, probes_in, IsModeWriting}
+use Rattle.gx_machine.proofs.Costs.{probes_by}
 
 -- ---- the shapes of the table's rows
 
@@ -83,8 +84,7 @@ copy_in_order place within copy = ordered_by (row_at place).class (row_at place)
 
 -- ---- a short row begins no probes
 
-no_search : (place : ℕ) → place < row_count → (row_at place).loads ≤ 3 → (f : FlatState) (i : Instruction) → i.row ≡ row_at place → memory_probes f i ≡ 0
-unfolding memory_probes
+no_search : (place : ℕ) → place < row_count → (row_at place).loads ≤ 3 → (f : FlatState) (i : Instruction) → i.row ≡ row_at place → probes_of class.Memory f i ≡ 0
 no_search place within few f i is =
     let all = short place within in
     let linear : ((row_at place).number == numbers.linearsearch) ≡ false = grind (arith, nat_tests) in
@@ -92,7 +92,7 @@ no_search place within few f i is =
     let linked : ((row_at place).number == numbers.linkedsearch) ≡ false = grind (arith, nat_tests) in
     rw (is, linear, binary, linked) refl
 
-by_class : (c : Class) (f : FlatState) (i : Instruction) → memory_probes f i ≡ 0 → probes_of c f i ≡ 0
+by_class : (c : Class) (f : FlatState) (i : Instruction) → probes_of class.Memory f i ≡ 0 → probes_of c f i ≡ 0
 by_class class.Calc f i none = refl
 by_class class.Branch f i none = refl
 by_class class.Flow f i none = refl

@@ -1,8 +1,10 @@
 -- The machine after what it asked is answered.
-use Rattle.std.specs.Prelude.{ℕ, ◌-◌, ◌*◌, ◌++◌, Result, Ok, Err, IsOkAnd, None, IsSome}
-use Rattle.gx_words.specs.declared.faults.Fault.{Fault}
+use Rattle.std.specs.Prelude.{◌≡◌, ℕ, ◌-◌, ◌*◌, ◌++◌, IsOkAnd, None, IsSome}
+use Rattle.std.specs.Option.{option_map_or}
+use Rattle.std.specs.Result.{result_ok}
 use Rattle.gx_pages.specs.Memory.{all_spliced}
-use Rattle.gx_stack.specs.Values.{in_order}
+use Rattle.std.specs.List.{flat_map}
+use Rattle.gx_words.specs.Numbers.{bytes_of_word}
 use Rattle.gx_rows.specs.declared.instructions.Class.{Class}
 use Rattle.gx_rows.specs.declared.instructions.Class.TheVariants as class
 use Rattle.gx_state.specs.declared.effects.Reply.{Reply}
@@ -13,7 +15,8 @@ use Rattle.gx_state.specs.declared.modes.Mode.TheVariants as mode
 use Rattle.gx_state.specs.Flat.{FlatState, sp_of, cut}
 use Rattle.gx_state.specs.Stores.{with_value, IsMemory}
 use Rattle.gx_operands.specs.Instructions.{Instruction, instruction, L2, going_to}
-use Rattle.ops_print.specs.Items.{mode_after}
+use Rattle.gx_strings.specs.Items.{next_item}
+use Rattle.ops_print.specs.Items.{mode_behind}
 use Rattle.gx_machine.specs.Machine.{FlatMachine, Whole}
 use Rattle.gx_state.specs.Replies.{IsReply}
 use Rattle.gx_machine.specs.Step.{room_of}
@@ -26,8 +29,9 @@ with_writes f dest r = with_value (record f { memory = all_spliced f.memory r.wr
 -- the values that a reply pushes, in order, and then its value where that is pushed
 abbrev pub with_pushes : FlatState → Dest → Reply → FlatState
 with_pushes f Push r =
-    with_value (record f { stack = record f.stack { bytes = f.stack.bytes ++ in_order r.pushes } }) 4 Push r.value
-with_pushes f dest r = record f { stack = record f.stack { bytes = f.stack.bytes ++ in_order r.pushes } }
+    let bytes = f.stack.bytes ++ flat_map bytes_of_word r.pushes in
+    with_value (record f { stack = record f.stack { bytes = bytes } }) 4 Push r.value
+with_pushes f dest r = record f { stack = record f.stack { bytes = f.stack.bytes ++ flat_map bytes_of_word r.pushes } }
 
 -- A reply: the writes are made, the stack is cut, the values are pushed, and the answer is stored.
 -- (What is popped and pushed lies apart from memory and locals.)
@@ -42,14 +46,11 @@ answered_row class.Print f i r = going_to (replied f i.sp Nowhere r) i.next
 answered_row class.Game f i r = going_to (replied f i.sp i.dest r) i.next
 answered_row c f i r = f
 
-abbrev pub answered_by : FlatState → Reply → Result Instruction Fault → FlatState
-answered_by f r (Ok i) = answered_row i.row.class f i r
-answered_by f r (Err fault) = f
-
--- A character of what is printed that was put: the next item follows.
+-- The instruction at PC, or a character of what is printed that was put: the next item follows.
 abbrev pub answered_in : FlatState → Reply → Mode → FlatState
-answered_in f r mode.Running = answered_by f r (instruction f)
-answered_in f r (mode.Printing p) = record (replied f (sp_of f) Nowhere r) { mode = mode_after f }
+answered_in f r mode.Running = option_map_or (λ i. answered_row i.row.class f i r) (result_ok (instruction f)) f
+answered_in f r (mode.Printing p) =
+    record (replied f (sp_of f) Nowhere r) { mode = mode_behind (mode.Printing p) (next_item f.memory f.table p) }
 
 -- The state after an asking is answered.
 unfoldable pub answered_state : FlatState → Reply → FlatState
@@ -64,12 +65,8 @@ IsStoredBy class.Glk i = IsMemory i.dest
 IsStoredBy class.Game i = IsMemory i.dest
 IsStoredBy c i = ⊥
 
-abbrev pub IsStoredIn : FlatState → Mode → Type 0
-IsStoredIn f mode.Running = IsOkAnd (instruction f) (λ i. IsStoredBy i.row.class i)
-IsStoredIn f (mode.Printing p) = ⊥
-
 unfoldable pub IsStoredAnswer : FlatState → Type 0
-IsStoredAnswer f = IsStoredIn f f.mode
+IsStoredAnswer f = (f.mode ≡ mode.Running) × IsOkAnd (instruction f) (λ i. IsStoredBy i.row.class i)
 
 -- WHAT CONTRACTS SAY
 

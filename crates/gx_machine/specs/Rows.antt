@@ -1,5 +1,5 @@
 -- What the row of an instruction does: each class by its own definitions, and the row of Glk.
-use Rattle.std.specs.Prelude.{ℕ, ◌-◌, ◌*◌, ◌/◌, Result, Ok, Err}
+use Rattle.std.specs.Prelude.{ℕ, ◌-◌, ◌*◌, ◌/◌, Result, Ok}
 use Rattle.gx_words.specs.declared.faults.Fault.{Fault}
 use Rattle.gx_words.specs.Results.{◌>>=◌}
 use Rattle.gx_rows.specs.declared.instructions.Class.{Class}
@@ -37,28 +37,23 @@ glk f i = do
 
 -- what a row makes of a machine, whose copies stay
 abbrev pub with_copies : FlatUndo → Result (FlatState × Effect) Fault → Result (FlatMachine × Effect) Fault
-with_copies u (Ok r) = Ok (record { flat = r.0; undo = u }, r.1)
-with_copies u (Err fault) = Err fault
+with_copies u r = r >>= λ x. Ok (record { flat = x.0; undo = u }, x.1)
 
--- the same for a row that may change them
-abbrev pub with_both : Result ((FlatState × FlatUndo) × Effect) Fault → Result (FlatMachine × Effect) Fault
-with_both (Ok r) = Ok (record { flat = r.0.0; undo = r.0.1 }, r.1)
-with_both (Err fault) = Err fault
-
--- the row of a class, with a random word that it may use; the classes that aren't named are ops_flow's
+-- The row of a class, with a random word that it may use. Only those of Game may change the copies; the classes that
+-- aren't named are ops_flow's.
 abbrev pub row_effect : Class → FlatMachine → ℕ → Instruction → Result (FlatMachine × Effect) Fault
 row_effect class.Copy m word i = with_copies m.undo (memory.row_effect class.Copy m.flat i)
 row_effect class.Memory m word i = with_copies m.undo (memory.row_effect class.Memory m.flat i)
 row_effect class.Print m word i = with_copies m.undo (print.row_effect m.flat i)
-row_effect class.Game m word i = with_both (game.row_effect m.flat m.undo word i)
+row_effect class.Game m word i =
+    game.row_effect m.flat m.undo word i >>= λ r. Ok (record { flat = r.0.0; undo = r.0.1 }, r.1)
 row_effect class.Glk m word i = with_copies m.undo (glk m.flat i)
 row_effect c m word i = with_copies m.undo (flow.row_effect c m.flat i)
 
--- the rows whose step writes memory, resizes it or copies it, and so may want some
+-- The rows whose step writes memory, resizes it or copies it, and so may want some. No row of Print or Glk does: the
+-- last line answers so for all classes that aren't ops_flow's.
 abbrev pub IsWriting : Class → FlatMachine → Instruction → Type 0
 IsWriting class.Copy m i = memory_writes.IsWriting class.Copy m.flat i
 IsWriting class.Memory m i = memory_writes.IsWriting class.Memory m.flat i
-IsWriting class.Print m i = ⊥
 IsWriting class.Game m i = game_writes.IsWriting m.undo i
-IsWriting class.Glk m i = ⊥
 IsWriting c m i = flow_writes.IsWriting c m.flat i

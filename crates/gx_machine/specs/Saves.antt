@@ -1,18 +1,17 @@
 -- The copy that a save asks to be written, and the machine after a restore (Glulx 3.1.2, "Game State").
-use Rattle.std.specs.Prelude.{Result, Ok, Err, None}
-use Rattle.gx_words.specs.declared.faults.Fault.{Fault}
+use Rattle.std.specs.Prelude.{None}
+use Rattle.std.specs.Option.{option_map_or}
+use Rattle.std.specs.Result.{result_ok}
 use Rattle.gx_state.specs.Flat.{FlatState, cut}
 use Rattle.gx_state.specs.Copies.{Copy, copy_of, restored_to}
-use Rattle.gx_operands.specs.Instructions.{Instruction, instruction}
+use Rattle.gx_operands.specs.Instructions.{instruction}
 use Rattle.gx_machine.specs.Machine.{FlatMachine, Whole}
 
 -- the copy that the instruction at PC takes once its operands are popped, with the stub of its store operand on top
-abbrev pub copy_by : FlatState → Result Instruction Fault → Copy
-copy_by f (Ok i) = copy_of (cut f i.sp) i.dest i.next
-copy_by f (Err fault) = record { memory = f.memory; stack = f.stack.bytes; heap = f.heap }
-
 unfoldable pub saved_copy : FlatState → Copy
-saved_copy f = copy_by f (instruction f)
+saved_copy f =
+    option_map_or (λ i. copy_of (cut f i.sp) i.dest i.next) (result_ok (instruction f))
+    (record { memory = f.memory; stack = f.stack.bytes; heap = f.heap })
 
 -- A restore: the machine goes back to a copy. Its copies for undo stay.
 unfoldable pub restored : FlatMachine → Copy → FlatMachine

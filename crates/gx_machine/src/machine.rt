@@ -254,14 +254,14 @@ impl<A: Allocator + Clone> Machine<A> {
         self.prints_apart(budget)
     }
 
-    /// Steps of printing: items that put nothing, and then an instruction that begins to print or drops a character. It
-    /// is true where there was one, and more may follow: under Glk a character is to be put behind such an instruction.
+    /// Steps of printing: an instruction that begins to print or drops a character, and items that put nothing. It is
+    /// true where there was one, and more may follow: under Glk a character is to be put behind such an instruction.
     ///
     /// Code runs far more often, and so the compiler is told that this is rare: it then takes the steps of code into
     /// one function.
     #[cold]
     #[inline(never)]
-    #[tactic(auto, using(crate::proofs::Steps::steps))]
+    #[tactic(auto, using(crate::proofs::Starts::printed))]
     fn prints_apart(&mut self, budget: &mut u64) -> bool
         requires asks { self.old.asking ≡ None }
         ensures value { (word : ℕ)
@@ -271,9 +271,23 @@ impl<A: Allocator + Clone> Machine<A> {
         ensures no_more { budget.new ≤ budget.old }
     {
         let before = *budget;
+        if self.pass_start(budget) && !is_silent(&self.state) {
+            return false;
+        }
+        self.prints_items(budget);
+        *budget < before
+    }
+
+    /// Items that put nothing, as many as come next.
+    #[inline(always)]
+    fn prints_items(&mut self, budget: &mut u64)
+        requires asks { self.old.asking ≡ None }
+        ensures value { (word : ℕ)
+            → (n : ℕ) × Passes word n (self.old, budget.old) None (self.new, budget.new) None }
+        ensures asks { self.new.asking ≡ None }
+        ensures no_more { budget.new ≤ budget.old }
+    {
         while self.pass_printing(budget) {}
-        let started = self.pass_start(budget);
-        *budget < before && (!started || is_silent(&self.state))
     }
 
     /// One instruction that begins to print or drops a character. Nothing is done where the next step is another.

@@ -24,43 +24,31 @@ use Rattle.gx_operands.specs.declared.cursor.Cursor.{Cursor}
 
 -- the number at PC in one, two or four bytes, and the address after them
 unfoldable pub opcode : FlatState → Result (ℕ × ℕ) Fault
-opcode f = do
-  first ← number_in 1 f.memory f.pc
-  if nat_lt first 0x80 then Ok (first, f.pc + 1) else
-      if nat_lt first 0xC0 then (do
-        number ← number_in 2 f.memory f.pc
-        Ok (number - 0x8000, f.pc + 2)) else (do
-          number ← number_in 4 f.memory f.pc
-          Ok (number - 0xC0000000, f.pc + 4))
+opcode f =
+    number_in 1 f.memory f.pc >>= λ first.
+    if nat_lt first 0x80 then Ok (first, f.pc + 1) else
+    if nat_lt first 0xC0 then (number_in 2 f.memory f.pc >>= λ number. Ok (number - 0x8000, f.pc + 2)) else
+    number_in 4 f.memory f.pc >>= λ number. Ok (number - 0xC0000000, f.pc + 4)
 
 -- the address in RAM that an offset means
 abbrev pub ram_address : FlatState → ℕ → ℕ
 ram_address f offset = (f.story.header.ramstart + offset) % 2 ^ 32
 
--- a cursor behind so many bytes of data
-abbrev pub past : Cursor → ℕ → Cursor
-past p n = record p { at = p.at + n }
-
 -- the number of so many bytes of data at a cursor, and the cursor after it
 unfoldable pub datum : List ℕ → Cursor → ℕ → Result (ℕ × Cursor) Fault
-datum memory p n = do
-  v ← number_in n memory p.at
-  Ok (v, past p n)
+datum memory p n = number_in n memory p.at >>= λ v. Ok (v, record p { at = p.at + n })
 
 -- What a load operand gives, and the cursor after it. Constants and popped values keep the low bytes
 -- of the operand's width.
 unfoldable pub load_by : FlatState → ℕ → Addressing → Cursor → Result (ℕ × Cursor) Fault
 load_by f width Zero p = Ok (0, p)
-load_by f width (Constant n) p = do
-  d ← datum f.memory p n
-  Ok (low width (extended n d.0), d.1)
+load_by f width (Constant n) p = datum f.memory p n >>= λ d. Ok (low width (extended n d.0), d.1)
 load_by f width (Memory n) p = do
   d ← datum f.memory p n
   v ← number_in width f.memory d.0
   Ok (v, d.1)
-load_by f width Top p = do
-  v ← lifted (peeked f.stack.bytes (frame_of f) p.popped)
-  Ok (low width v, record p { popped = p.popped + 1 })
+load_by f width Top p =
+    lifted (peeked f.stack.bytes (frame_of f) p.popped) >>= λ v. Ok (low width v, record p { popped = p.popped + 1 })
 load_by f width (Local n) p = do
   d ← datum f.memory p n
   v ← lifted (local_at f.stack.bytes (frame_of f) d.0 width)
@@ -71,29 +59,19 @@ load_by f width (Ram n) p = do
   Ok (v, d.1)
 
 unfoldable pub load : FlatState → ℕ → ℕ → Cursor → Result (ℕ × Cursor) Fault
-load f width nibble p = do
-  mode ← ok_or (addressing nibble) BadMode
-  load_by f width mode p
+load f width nibble p = ok_or (addressing nibble) BadMode >>= λ mode. load_by f width mode p
 
 -- Where a store operand points, and the cursor after it.
 unfoldable pub destination_by : FlatState → Addressing → Cursor → Result (Dest × Cursor) Fault
 destination_by f Zero p = Ok (dest.Nowhere, p)
 destination_by f (Constant n) p = Err BadMode
-destination_by f (Memory n) p = do
-  d ← datum f.memory p n
-  Ok (dest.Memory d.0, d.1)
+destination_by f (Memory n) p = datum f.memory p n >>= λ d. Ok (dest.Memory d.0, d.1)
 destination_by f Top p = Ok (dest.Push, p)
-destination_by f (Local n) p = do
-  d ← datum f.memory p n
-  Ok (dest.Local d.0, d.1)
-destination_by f (Ram n) p = do
-  d ← datum f.memory p n
-  Ok (dest.Memory (ram_address f d.0), d.1)
+destination_by f (Local n) p = datum f.memory p n >>= λ d. Ok (dest.Local d.0, d.1)
+destination_by f (Ram n) p = datum f.memory p n >>= λ d. Ok (dest.Memory (ram_address f d.0), d.1)
 
 unfoldable pub destination : FlatState → ℕ → Cursor → Result (Dest × Cursor) Fault
-destination f nibble p = do
-  mode ← ok_or (addressing nibble) BadMode
-  destination_by f mode p
+destination f nibble p = ok_or (addressing nibble) BadMode >>= λ mode. destination_by f mode p
 
 -- What the operands so far gave.
 pub record Operands : Type 0 where
@@ -103,21 +81,14 @@ pub record Operands : Type 0 where
   pub stored : Bool
   pub cursor : Cursor
 
-abbrev pub no_operands : Cursor → Operands
-no_operands p = record { loads = []; dest = dest.Nowhere; second = dest.Nowhere; stored = false; cursor = p }
-
-abbrev pub with_destination : Operands → Dest → Cursor → Operands
-with_destination o d p =
-    if o.stored then record o { second = d; cursor = p } else record o { dest = d; stored = true; cursor = p }
-
--- one operand more
+-- One operand more. The first store operand is `dest`, another one `second`.
 unfoldable pub with_operand : FlatState → ℕ → Kind → ℕ → Operands → Result Operands Fault
-with_operand f width Load nibble o = do
-  v ← load f width nibble o.cursor
-  Ok (record o { loads = o.loads ++ v.0 ∷ []; cursor = v.1 })
-with_operand f width Store nibble o = do
-  d ← destination f nibble o.cursor
-  Ok (with_destination o d.0 d.1)
+with_operand f width Load nibble o =
+    load f width nibble o.cursor >>= λ v. Ok (record o { loads = o.loads ++ v.0 ∷ []; cursor = v.1 })
+with_operand f width Store nibble o =
+    destination f nibble o.cursor >>= λ d.
+    let next : Operands = record o { cursor = d.1 } in
+    Ok (if o.stored then record next { second = d.0 } else record next { dest = d.0; stored = true })
 
 -- the nibble of an operand's mode: two in a byte, the low one first
 abbrev pub nibble : List ℕ → ℕ → ℕ → ℕ
@@ -130,17 +101,15 @@ operand f row modes i o = with_operand f row.width (kind_of row i) (nibble f.mem
 -- so many operands, from an index on
 unfoldable pub operands : FlatState → Row → ℕ → ℕ → ℕ → Operands → Result Operands Fault
 operands f row modes zero i o = Ok o
-operands f row modes (suc n) i o = do
-  o ← operand f row modes i o
-  operands f row modes n (i + 1) o
+operands f row modes (suc n) i o = operand f row modes i o >>= λ o. operands f row modes n (i + 1) o
 
 -- all operands of a row whose modes stand at an address
 unfoldable pub all_operands : FlatState → Row → ℕ → Result Operands Fault
 all_operands f row modes =
     let count = row.loads + row.stores in
-    let data_at = modes + (count + 1) / 2 in
-    if nat_le data_at (length f.memory)
-    then operands f row modes count 0 (no_operands (record { at = data_at; popped = 0 })) else Err BadAddress
+    let p : Cursor = record { at = modes + (count + 1) / 2; popped = 0 } in
+    let o : Operands = record { loads = []; dest = dest.Nowhere; second = dest.Nowhere; stored = false; cursor = p } in
+    if nat_le p.at (length f.memory) then operands f row modes count 0 o else Err BadAddress
 
 -- An instruction: its row, the values that it loads, where its results go, the address after it, and
 -- the stack pointer that its pops leave.
@@ -154,18 +123,12 @@ pub record Instruction : Type 0 where
 
 -- The instruction at PC.
 unfoldable pub instruction : FlatState → Result Instruction Fault
-instruction f = do
-  number ← opcode f
-  row ← ok_or (row_of number.0) BadOpcode
-  o ← all_operands f row number.1
-  Ok (record {
-    row = row;
-    loads = o.loads;
-    dest = o.dest;
-    second = o.second;
-    next = o.cursor.at;
-    sp = sp_of f - 4 * o.cursor.popped;
-  })
+instruction f =
+    opcode f >>= λ number.
+    ok_or (row_of number.0) BadOpcode >>= λ row.
+    all_operands f row number.1 >>= λ o.
+    let sp = sp_of f - 4 * o.cursor.popped in
+    Ok (record { row = row; loads = o.loads; dest = o.dest; second = o.second; next = o.cursor.at; sp = sp })
 
 -- the load operands by their names in the standard, 0 where an instruction loads fewer
 abbrev pub L1 : Instruction → ℕ

@@ -8,31 +8,25 @@ use Rattle.gx_words.specs.Results.{◌>>=◌}
 use Rattle.gx_state.specs.declared.effects.Effect.{Effect}
 use Rattle.gx_state.specs.declared.effects.Effect.TheVariants.{Went}
 use Rattle.gx_state.specs.declared.modes.Dest.{Dest}
-use Rattle.gx_state.specs.declared.modes.Dest.TheVariants.{Nowhere, Memory, Local, Push}
+use Rattle.gx_state.specs.declared.modes.Dest.TheVariants.{Push}
 use Rattle.gx_state.specs.Flat.{FlatState, cut}
 use Rattle.gx_state.specs.Stores.{store_fault, with_value}
 use Rattle.gx_operands.specs.Instructions.{Instruction, going_to}
 
 -- the state whose stack is cut, with a number's low bytes stored
 abbrev pub with_settled : FlatState → ℕ → ℕ → Dest → ℕ → FlatState
-with_settled f sp width Nowhere v = cut f sp
-with_settled f sp width (Memory at) v = cut (with_value f width (Memory at) v) sp
-with_settled f sp width (Local at) v = cut (with_value f width (Local at) v) sp
 with_settled f sp width Push v = with_value (cut f sp) width Push v
+with_settled f sp width dest v = cut (with_value f width dest v) sp
 
 -- A row's result, once its pops are made.
 unfoldable pub settled : FlatState → ℕ → ℕ → Dest → ℕ → Result FlatState Fault
-settled f sp width d v = do
-  _ ← store_fault f width d sp
-  Ok (with_settled f sp width d v)
+settled f sp width d v = store_fault f width d sp >>= λ _. Ok (with_settled f sp width d v)
 
 -- WHAT THE ROWS OF ALL CLASSES SHARE
 
 -- S1 = a value, and the next instruction follows
 abbrev pub stores : FlatState → Instruction → ℕ → Result (FlatState × Effect) Fault
-stores f i v = do
-  g ← settled f i.sp 4 i.dest v
-  Ok (going_to g i.next, Went)
+stores f i v = settled f i.sp 4 i.dest v >>= λ g. Ok (going_to g i.next, Went)
 
 -- on at an address
 abbrev pub goes_to : FlatState → ℕ → Result (FlatState × Effect) Fault

@@ -1,5 +1,5 @@
 //! An instruction that was read.
-ghost use Rattle.std.specs.Prelude.{◌≡◌, ◌+◌, ◌<◌, [], ◌∷◌, ◌++◌, slice_index};
+ghost use Rattle.std.specs.Prelude.{◌≡◌, ◌+◌, ◌<◌, [], ◌∷◌, ◌++◌, slice_index, true, false, if◌then◌else◌};
 ghost use Rattle.arrayvec.specs.ArrayVec.{array_vec_len};
 ghost use Rattle.gx_rows.specs.Table.{row_count};
 
@@ -29,7 +29,6 @@ pub struct Plan {
 
 impl Plan {
     ghost use Rattle.gx_rows.specs.Table.{RowFits};
-    ghost use Rattle.gx_operands.specs.Instructions.{no_operands, with_destination};
     ghost use Rattle.gx_operands.specs.Plans.{instruction_of, operands_of};
 
     /// A plan that `decode_into` fills. It stands for no instruction yet.
@@ -62,7 +61,13 @@ impl Plan {
     /// Begins the reading of its operands, whose data stand from an address on.
     #[inline(always)]
     pub(crate) fn begin(&mut self, at: u32)
-        ensures value { operands_of self.new ≡ no_operands (record { at = at; popped = 0 }) }
+        ensures value { operands_of self.new ≡ record {
+          loads = [];
+          dest = Dest.Nowhere;
+          second = Dest.Nowhere;
+          stored = false;
+          cursor = record { at = at; popped = 0 };
+        } }
         ensures none { self.new.loads.items ≡ [] }
         ensures row { self.new.row ≡ self.old.row }
     {
@@ -100,7 +105,9 @@ impl Plan {
     /// Takes the destination of a store.
     #[inline(always)]
     pub(crate) fn take_destination(&mut self, dest: Dest, cursor: Cursor)
-        ensures value { operands_of self.new ≡ with_destination (operands_of self.old) dest cursor }
+        ensures value { operands_of self.new ≡ (let o = operands_of self.old in
+            if o.stored then record o { second = dest; cursor = cursor }
+            else record o { dest = dest; stored = true; cursor = cursor }) }
         ensures room { array_vec_len self.new.loads ≡ array_vec_len self.old.loads }
         ensures row { self.new.row ≡ self.old.row }
     {

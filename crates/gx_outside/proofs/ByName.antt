@@ -9,9 +9,10 @@ use Rattle.std.specs.FinMap.{get, insert, remove, find, get-insert, get-remove, 
 use Rattle.std.specs.Map.{lookup}
 use Rattle.std.specs.Ordering.{nat_cmp, eq_by_cmp}
 use Rattle.std.specs.Prelude.{String}
+use Rattle.std.specs.Str.{bytes_eq}
 use Rattle.std.specs.String.{string_bytes, string_cmp}
 use Rattle.std.specs.declared.alloc.Global.{Global}
-use Rattle.gx_outside.specs.Files.{Files, same_name, with_file, no_files}
+use Rattle.gx_outside.specs.Files.{Files, with_file, no_files}
 use Rattle.gx_outside.specs.Fakes.{FilesByName, files_of, by_name}
 
 abbrev Texts : Type 0
@@ -62,12 +63,12 @@ files_of-remove m name = λ i other.
     (get-remove nat_list_cmp_total m name other ∙ ap (λ b. cond b None (get m other)) (is_eq-slice_cmp other name)) i
 
 -- other names stand
-pub get-insert_other : (m : FilesByName) (name v other : List ℕ) → same_name other name ≡ false → get (insert m name v) other ≡ get m other
+pub get-insert_other : (m : FilesByName) (name v other : List ℕ) → bytes_eq other name ≡ false → get (insert m name v) other ≡ get m other
 get-insert_other m name v other e =
-    ap (λ (f : Files). f other) (files_of-insert m name v) ∙ cond-false (same_name other name) (Some v) (get m other) e
+    ap (λ (f : Files). f other) (files_of-insert m name v) ∙ cond-false (bytes_eq other name) (Some v) (get m other) e
 
-pub get-remove_other : (m : FilesByName) (name other : List ℕ) → same_name other name ≡ false → get (remove m name) other ≡ get m other
+pub get-remove_other : (m : FilesByName) (name other : List ℕ) → bytes_eq other name ≡ false → get (remove m name) other ≡ get m other
 get-remove_other m name other e =
-    ap (λ (f : Files). f other) (files_of-remove m name) ∙ cond-false (same_name other name) None (get m other) e
+    ap (λ (f : Files). f other) (files_of-remove m name) ∙ cond-false (bytes_eq other name) None (get m other) e
 
 pub ruleset changes = (files_of-insert, files_of-remove, get-insert_other, get-remove_other)

@@ -1,6 +1,7 @@
 -- What the calls of a source, a sink and a shelf do to what they hold, and to their counts.
 use Rattle.std.specs.Prelude.{◌≡◌, ℕ, zero, suc, ◌+◌, ◌-◌, ◌^◌, ◌≤◌, min, if◌then◌else◌, List, ◌++◌, length}
 use Rattle.std.specs.Prelude.{Bool, true, false, Result, Ok, Err, OnOk}
+use Rattle.std.specs.Str.{bytes_eq}
 use Rattle.gx_outside.specs.declared.calls.Calls.{Calls}
 use Rattle.gx_outside.specs.declared.devices.SendFault.{SendFault}
 use Rattle.gx_outside.specs.declared.devices.SendFault.TheVariants as of_send
@@ -8,7 +9,7 @@ use Rattle.gx_outside.specs.declared.devices.ShelfFault.{ShelfFault}
 use Rattle.gx_outside.specs.declared.devices.ShelfFault.TheVariants as of_shelf
 use Rattle.gx_outside.specs.declared.devices.Load.{Load}
 use Rattle.gx_outside.specs.declared.devices.Load.TheVariants as of_load
-use Rattle.gx_outside.specs.Files.{Files, same_name}
+use Rattle.gx_outside.specs.Files.{Files}
 
 -- What contracts see of a source: its counts, for how many bytes its reads had room in all, whether it tells what is
 -- left, and the bytes that are left.
@@ -57,8 +58,7 @@ abbrev pub counted_call : Calls → Bool → Bool → Calls
 counted_call c failed wanted =
     record {
       made = raised c.made;
-      faults = if failed
-          then raised c.faults else c.faults;
+      faults = if failed then raised c.faults else c.faults;
       failing = failed;
       wanting = wanted;
     }
@@ -73,27 +73,16 @@ pub record HasCause (before now : Calls) (failed wanted : Bool) : Type 0 where
   pub last : now.failing ≡ failed
   pub want : now.wanting ≡ wanted
 
--- whether a call of a sink or a shelf failed; want of memory is no failure of the device
-abbrev pub send_failed : {T : Type 0} → Result T SendFault → Bool
-send_failed (Ok x) = false
-send_failed (Err of_send.Failed) = true
-send_failed (Err of_send.NoMemory) = false
+-- whether a call of a sink or a shelf failed, and whether memory ran out in it, which is no failure of the device
+abbrev pub send_cause : {T : Type 0} → Result T SendFault → Bool × Bool
+send_cause (Ok x) = (false, false)
+send_cause (Err of_send.Failed) = (true, false)
+send_cause (Err of_send.NoMemory) = (false, true)
 
-abbrev pub shelf_failed : {T : Type 0} → Result T ShelfFault → Bool
-shelf_failed (Ok x) = false
-shelf_failed (Err of_shelf.Failed) = true
-shelf_failed (Err of_shelf.NoMemory) = false
-
--- whether memory ran out in a call of a sink or a shelf
-abbrev pub send_wanted : {T : Type 0} → Result T SendFault → Bool
-send_wanted (Ok x) = false
-send_wanted (Err of_send.Failed) = false
-send_wanted (Err of_send.NoMemory) = true
-
-abbrev pub shelf_wanted : {T : Type 0} → Result T ShelfFault → Bool
-shelf_wanted (Ok x) = false
-shelf_wanted (Err of_shelf.Failed) = false
-shelf_wanted (Err of_shelf.NoMemory) = true
+abbrev pub shelf_cause : {T : Type 0} → Result T ShelfFault → Bool × Bool
+shelf_cause (Ok x) = (false, false)
+shelf_cause (Err of_shelf.Failed) = (true, false)
+shelf_cause (Err of_shelf.NoMemory) = (false, true)
 
 -- A front of the bytes was taken, and all of them at Ok.
 pub record Sends {T E : Type 0} (tells : Bool) (before after bytes : List ℕ) (result : Result T E) : Type 0 where
@@ -111,4 +100,4 @@ IsBounded most (of_load.Found bytes) = length bytes ≤ most
 
 -- the files of other names stand
 abbrev pub KeepsOthers : Files → Files → List ℕ → Type 0
-KeepsOthers before after name = (other : List ℕ) → same_name other name ≡ false → after other ≡ before other
+KeepsOthers before after name = (other : List ℕ) → bytes_eq other name ≡ false → after other ≡ before other

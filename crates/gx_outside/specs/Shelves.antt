@@ -6,17 +6,14 @@ use Rattle.gx_outside.specs.declared.devices.Load.TheVariants.{Missing, TooLong,
 use Rattle.gx_outside.specs.declared.devices.ShelfFault.{ShelfFault}
 use Rattle.gx_outside.specs.declared.devices.ShelfFault.TheVariants as fault
 use Rattle.gx_outside.specs.Files.{Files, with_file}
-use Rattle.gx_outside.specs.Outside.{FlatShelf, HasCause, IsBounded, KeepsOthers, shelf_failed, shelf_wanted}
+use Rattle.gx_outside.specs.Outside.{FlatShelf, HasCause, IsBounded, KeepsOthers, shelf_cause}
 
--- What is asked.
+-- What is asked: the file of a name, if it has at most so many bytes; that a name hold these bytes; that the file of a
+-- name be removed; whether a name has a file.
 pub data Request : Type 0 where
-  -- the file of a name, if it has at most so many bytes
   loads : List ℕ → ℕ → Request
-  -- that a name hold these bytes
   stores : List ℕ → List ℕ → Request
-  -- that the file of a name be removed
   removes : List ℕ → Request
-  -- whether a name has a file
   looks : List ℕ → Request
 
 -- What is answered, where the call isn't refused.
@@ -52,18 +49,16 @@ answer_for files (looks name) = was (is_some (files name))
 
 -- the files after it
 abbrev pub files_after : Files → Request → Files
-files_after files (loads name most) = files
 files_after files (stores name bytes) = with_file files name (Some bytes)
 files_after files (removes name) = with_file files name None
-files_after files (looks name) = files
+files_after files _ = files
 
 -- After a refusal the file of a name that was to be stored or removed is open: it may be the old one, the new one, a
 -- part of the new one, or gone. The others stand, and so do all after every other refusal.
 abbrev pub LeavesFiles : Files → Request → Files → Type 0
-LeavesFiles before (loads name most) now = now ≡ before
 LeavesFiles before (stores name bytes) now = KeepsOthers before now name
 LeavesFiles before (removes name) now = KeepsOthers before now name
-LeavesFiles before (looks name) now = now ≡ before
+LeavesFiles before _ now = now ≡ before
 
 -- Memory may run out in place of this answer: at a load only where there are bytes to be handed out.
 abbrev pub AnswerMayWant : Request → Answer → Type 0
@@ -88,17 +83,12 @@ IsAnswerTo r (Err e) = Unit {0}
 
 -- ONE CALL of a shelf.
 pub record ShelfCall (before : FlatShelf) (c : Exchange) (now : FlatShelf) : Type 0 where
-  pub cause : HasCause before.calls now.calls (shelf_failed c.1) (shelf_wanted c.1)
+  pub cause : HasCause before.calls now.calls (shelf_cause c.1).0 (shelf_cause c.1).1
   pub tells : now.tells ≡ before.tells
   pub answer : IsAnswerTo c.0 c.1
   pub files : before.tells ≡ true → FilesCall before.files c.0 c.1 now.files
 
--- A SHELF THAT TELLS
--- the files after some calls that weren't refused
-abbrev pub files_left : Files → Trace → Files
-files_left files [] = files
-files_left files (c ∷ trace) = files_left (files_after files c.0) trace
-
--- what a shelf of these files answers after such calls
+-- what a shelf of these files, which tells, answers after some calls that weren't refused
 abbrev pub told_by : Files → Trace → Request → Answer
-told_by files trace r = answer_for (files_left files trace) r
+told_by files [] r = answer_for files r
+told_by files (c ∷ trace) r = told_by (files_after files c.0) trace r

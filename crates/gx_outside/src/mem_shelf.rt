@@ -4,7 +4,7 @@ ghost use Rattle.std.specs.Option.{option_copied};
 ghost use Rattle.std.specs.FinMap.{empty, insert, remove};
 ghost use Rattle.gx_outside.specs.Files.{with_file, no_files};
 ghost use Rattle.gx_outside.specs.Fakes.{no_calls, fails_next, after_call, seen_shelf, files_of};
-ghost use Rattle.gx_outside.specs.Outside.{shelf_failed, shelf_wanted};
+ghost use Rattle.gx_outside.specs.Outside.{shelf_cause};
 ghost use Rattle.gx_outside.specs.Shelves.{ShelfCall, AnswerMayWant, load_of, answer_for, loads, stores, removes};
 ghost use Rattle.gx_outside.specs.Shelves.{looks, answer_as, loaded, stored, was};
 
@@ -102,8 +102,8 @@ impl Shelf for MemShelf {
     ghost called_so = { λ before c now does. does };
 
     fn load(&mut self, name: &str, most: usize) -> Result<Load, ShelfFault>
-        ensures fails { shelf_failed result ≡ fails_next self.old.calls }
-        ensures calls { self.new ≡ record self.old { calls = after_call self.old.calls (shelf_wanted result) } }
+        ensures fails { (shelf_cause result).0 ≡ fails_next self.old.calls }
+        ensures calls { self.new ≡ record self.old { calls = after_call self.old.calls (shelf_cause result).1 } }
         ensures does { ShelfCall (seen_shelf self.old) (loads name.now most, answer_as loaded result)
             (seen_shelf self.new) }
     {
@@ -117,8 +117,8 @@ impl Shelf for MemShelf {
 
     #[tactic(auto, using(crate::proofs::ByName::changes))]
     fn store(&mut self, name: &str, bytes: &[u8]) -> Result<(), ShelfFault>
-        ensures fails { shelf_failed result ≡ fails_next self.old.calls }
-        ensures calls { self.new.calls ≡ after_call self.old.calls (shelf_wanted result) }
+        ensures fails { (shelf_cause result).0 ≡ fails_next self.old.calls }
+        ensures calls { self.new.calls ≡ after_call self.old.calls (shelf_cause result).1 }
         ensures ok { OnOk result (self.new.files ≡ insert self.old.files name.now bytes.now) }
         ensures err { OnErr result (self.new.files ≡ self.old.files) }
         ensures does { ShelfCall (seen_shelf self.old) (stores name.now bytes.now, answer_as (λ _. stored) result)

@@ -1,7 +1,7 @@
 //! A sink in memory.
 ghost use Rattle.std.specs.Prelude.{◌≡◌, [], ◌++◌, IfOk, OnOk, OnErr};
 ghost use Rattle.gx_outside.specs.Fakes.{no_calls, fails_next, after_call, seen_sink};
-ghost use Rattle.gx_outside.specs.Outside.{send_failed, send_wanted};
+ghost use Rattle.gx_outside.specs.Outside.{send_cause};
 ghost use Rattle.gx_outside.specs.Sends.{SinkCall};
 
 use crate::numbered::NumberedCalls;
@@ -53,8 +53,8 @@ impl Sink for MemSink {
     ghost called_so = { λ before s now does. does };
 
     fn send(&mut self, bytes: &[u8]) -> Result<(), SendFault>
-        ensures fails { send_failed result ≡ fails_next self.old.calls }
-        ensures calls { self.new.calls ≡ after_call self.old.calls (send_wanted result) }
+        ensures fails { (send_cause result).0 ≡ fails_next self.old.calls }
+        ensures calls { self.new.calls ≡ after_call self.old.calls (send_cause result).1 }
         ensures ok { OnOk result (self.new.taken ≡ self.old.taken ++ bytes.now) }
         ensures err { OnErr result (self.new.taken ≡ self.old.taken) }
         ensures does { SinkCall (seen_sink self.old) (bytes.now, result) (seen_sink self.new) }

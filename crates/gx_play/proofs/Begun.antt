@@ -14,8 +14,8 @@ use Rattle.gx_play.specs.declared.command.Job.{Job}
 use Rattle.gx_play.specs.declared.command.Job.TheVariants.{Play, Rewind, Check, Work, Asm, List as Listing}
 use Rattle.gx_play.specs.Commands.{Command}
 use Rattle.gx_play.specs.Outcomes.{CommandOutcome, refused, tells, runs, rewinds, outcome_of}
-use Rattle.gx_play.specs.Outcomes.{outcome_of_job, outcome_of_code, outcome_of_listing, text_in_file, outcome_of_start, story_in_file}
-use Rattle.gx_play.proofs.Outcomes.{outcome_of_check, outcome_of_text, outcome_of_list, outcome_of_story}
+use Rattle.gx_play.specs.Outcomes.{outcome_of_job, outcome_of_code, outcome_of_listing, outcome_of_start}
+use Rattle.gx_play.proofs.Outcomes.{story_in_file, text_in_file, outcome_of_check, outcome_of_text, outcome_of_list, outcome_of_story}
 use Rattle.gx_play.specs.Answers.{BeginsAfter, IsRewindOf, IsRunOf, IsUnrun, Plays}
 use Rattle.gx_play.specs.Statuses.{PlaysStory}
 use Rattle.gx_play.specs.Headline.{ComesOut, IsPlayed}

@@ -1,7 +1,7 @@
 -- That the status is the outcome's where no device failed.
 use Rattle.std.proofs.Common.{◌≡◌, ℕ, ◌<◌, ◌≤◌, ◌⊎◌, inl, inr, true, List, Option, Some, None, IsSomeAnd, Ok, Err, refl, ap}
 use Rattle.std.proofs.Common.{subst, sym, ◌∙◌, arith}
-use Rattle.std.specs.Option.{option_and_then, option_map_or}
+use Rattle.std.specs.Option.{option_and_then}
 use Rattle.gx_outside.specs.Sends.{Send}
 use Rattle.gx_outside.specs.Outside.{FlatShelf, FlatSink}
 use Rattle.gx_outside.specs.Shelves.{Request, Answer, Trace}
@@ -12,12 +12,12 @@ use Rattle.gx_session.specs.Devices.{Devices}
 use Rattle.gx_session.specs.Runs.{IsRun, IsSession, Report, report_of}
 use Rattle.gx_session.specs.Session.{final_of, stop_status}
 use Rattle.gx_play.specs.Commands.{Command}
-use Rattle.gx_play.specs.Seeds.{seeded_words}
 use Rattle.gx_play.specs.Outcomes.{CommandOutcome, refused, tells, runs, rewinds, outcome_of}
 use Rattle.gx_play.specs.Outcomes.{status_of_outcome}
 use Rattle.gx_play.specs.Answers.{IsRunTo, IsRewindOf, SendsOutput, Plays}
 use Rattle.gx_play.specs.Loading.{PlaysOrNot}
 use Rattle.gx_play.proofs.Outputs.{SendsLine, line_of}
+use Rattle.gx_play.proofs.Seeds.{words_for}
 use Rattle.gx_play.specs.Headline.{ComesOut, HasNoFailure}
 use Rattle.rand_core.specs.Stream.{Stream}
 use Rattle.gx_session.specs.Counts.{FailureCounts}
@@ -57,7 +57,7 @@ module _ {A : Type 0} (ended : Ended A) (entry exit : Devices) where
         → entry.source.tells ≡ true → entry.shelf.tells ≡ true → (ended.status ≡ stop_status (final_of start).stop) ⊎ (ended.status ≡ status_no_memory)
     some-ends seed start shelf asked None kept run source-tells shelf-tells = absurd run
     some-ends seed start shelf asked (Some whole) kept run source-tells shelf-tells =
-        run-ends start shelf (option_map_or seeded_words seed entry.words) (record exit { asked = asked; words = run.0 }) (report_of ended whole) kept run.2 refl source-tells shelf-tells
+        run-ends start shelf (words_for seed entry.words) (record exit { asked = asked; words = run.0 }) (report_of ended whole) kept run.2 refl source-tells shelf-tells
 
     -- so does one on a tape, but for want of memory at the line
     line-sent : (line : List ℕ) (r : Report) (before now : FlatSink) (sends : List Send) → SendsLine line r before now sends ended → (r.status ≡ ended.status) ⊎ (ended.status ≡ status_no_memory)
@@ -82,7 +82,7 @@ module _ {A : Type 0} (ended : Ended A) (entry exit : Devices) where
         elim same [
           | inr memory ↦ inr memory
           | inl is ↦
-              elim (run-ends start shelf (option_map_or seeded_words seed entry.words) mid r kept run.run.2 is source-tells shelf-tells) [
+              elim (run-ends start shelf (words_for seed entry.words) mid r kept run.run.2 is source-tells shelf-tells) [
                 | inl ends ↦ inl (sym is ∙ ends)
                 | inr memory ↦ inr (sym is ∙ memory)
               ]

@@ -1,4 +1,5 @@
 -- An instruction whose bytes stand at PC is seen as the one that was written.
+use Rattle.std.proofs.Common.{nat_lt, None}
 use Rattle.std.proofs.Common.{◌≡◌, ℕ, zero, suc, ◌+◌, ◌-◌, ◌*◌, ◌/◌, ◌%◌, ◌<◌, ◌≤◌, ◌==◌, nat_le, if◌then◌else◌, true, List, [], ◌∷◌, ◌++◌, length, get_or, map, take, drop, inl, inr, Some, Ok, refl, ap, sym, subst, ◌∙◌, arith, length-append, length-drop}
 use Rattle.std.specs.List.{position_or_len, slice_get}
 use Rattle.std.proofs.lemmas.Bool.{cases_lt, le-leb, le-ltb, lt-ltb}
@@ -13,23 +14,29 @@ use Rattle.gx_rows.specs.declared.modes.Addressing.{Addressing}
 use Rattle.gx_rows.specs.declared.modes.Addressing.TheVariants.{Zero, Constant, Memory, Top, Local, Ram}
 use Rattle.gx_rows.specs.Modes.{HasWidth, addressing}
 use Rattle.gx_rows.specs.Opcodes.{shortest, spelled}
-use Rattle.gx_rows.specs.Table.{table, row_count, row_of, row_at, place_of, place_within}
+use Rattle.gx_rows.specs.Table.{table, row_count, row_of, row_at, place_of}
 use Rattle.gx_rows.proofs.Places.{rows_counted}
 use Rattle.gx_state.specs.Flat.{FlatState}
 use Rattle.gx_operands.specs.declared.cursor.Cursor.{Cursor}
-use Rattle.gx_operands.specs.Instructions.{opcode, nibble, datum, past}
+use Rattle.gx_operands.specs.Instructions.{opcode, nibble, datum}
 use Rattle.gx_asm.specs.Codes.{modes_len}
 use Rattle.gx_asm.specs.Instructions.{WrittenInstruction, IsWritten, AreModes, operand_count, data_len, all_data_len, nibble_of, packed_nibbles, opcode_number, bytes_of}
 use Rattle.gx_asm.proofs.BytesOpcodes.{number_small, place_of_row, length-opcode}
 use Rattle.gx_asm.proofs.Nibbles.{addressing_of, nibble_small, length-packed}
-use Rattle.gx_play.specs.Spelling.{mode_at, data_before, modes_at, data_at, SeesInstruction}
+use Rattle.gx_play.specs.Spelling.{modes_at, data_at, SeesInstruction}
 
 -- ---- bytes that stand in memory
 
 abbrev StandAt : List ℕ → ℕ → List ℕ → Type 0
 StandAt memory at bytes = take (length bytes) (drop at memory) ≡ bytes
 
--- an operand's data
+-- an operand's mode, how many bytes of data stand before its own, and these
+abbrev mode_at : WrittenInstruction → ℕ → Addressing
+mode_at w k = get_or w.modes k Zero
+
+abbrev data_before : WrittenInstruction → ℕ → ℕ
+data_before w k = all_data_len (take k w.modes)
+
 abbrev data_of : WrittenInstruction → ℕ → List ℕ
 data_of w k = take (data_len (mode_at w k)) (drop (data_before w k) w.operand_data)
 
@@ -108,7 +115,7 @@ module _ (memory : List ℕ) (at : ℕ) (bytes : List ℕ) (s : Stands memory at
 
 -- ---- the row
 
-same-place : (p place : ℕ) → place_within p ≡ Some place → p ≡ place
+same-place : (p place : ℕ) → (if nat_lt p row_count then Some p else None) ≡ Some place → p ≡ place
 same-place p place h = grind (arith, nat_tests)
 
 row-found : (place : ℕ) → place < row_count → row_of (row_at place).number ≡ Some (row_at place)
@@ -234,7 +241,7 @@ module _ (f : FlatState) (w : WrittenInstruction) (is : IsWritten w) where
         ap addressing seen ∙ addressing_of (mode_at w k) (has-width row 0 w.modes k is.modes)
 
     data-seen : (k : ℕ) → k < length w.modes → 0 < data_len (mode_at w k) → (p : Cursor) → p.at ≡ data_at f w k
-        → datum f.memory p (data_len (mode_at w k)) ≡ Ok (number (data_len (mode_at w k)) (data_of w k) 0, past p (data_len (mode_at w k)))
+        → datum f.memory p (data_len (mode_at w k)) ≡ Ok (number (data_len (mode_at w k)) (data_of w k) 0, record p { at = p.at + data_len (mode_at w k) })
     unfolding datum
     data-seen k there some p place =
         let n = data_len (mode_at w k) in

@@ -27,8 +27,8 @@ use Rattle.gx_play.specs.Commands.{Command, command_of}
 use Rattle.gx_play.specs.Constants.{most_text}
 use Rattle.gx_play.specs.Jobs.{work_line, check_told}
 use Rattle.gx_play.specs.Outcomes.{CommandOutcome, refused, tells, outcome_of_job}
-use Rattle.gx_play.specs.Outcomes.{outcome_of_code, outcome_of_listing, story_in_file, text_in_file}
-use Rattle.gx_play.proofs.Outcomes.{outcome_of_check, outcome_of_text, outcome_of_list}
+use Rattle.gx_play.specs.Outcomes.{outcome_of_code, outcome_of_listing}
+use Rattle.gx_play.proofs.Outcomes.{story_in_file, text_in_file, outcome_of_check, outcome_of_text, outcome_of_list}
 use Rattle.gx_play.specs.Answers.{HasNoMachine, IsUnrun, SendsOutput}
 use Rattle.gx_play.specs.FirstLoad.{JobMayWant, LoadsFirst}
 use Rattle.gx_play.specs.Statuses.{PlaysStory, HasItsParts}

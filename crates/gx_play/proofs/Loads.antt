@@ -16,8 +16,7 @@ use Rattle.gx_story.specs.Stories.{FlatStory, accepted}
 use Rattle.gx_play.specs.declared.loading.Refusal.{Refusal}
 use Rattle.gx_play.specs.declared.loading.Refusal.TheVariants as refusal
 use Rattle.gx_play.specs.Constants.{no_file, most_text}
-use Rattle.gx_play.specs.Outcomes.{story_in_file, text_in_file}
-use Rattle.gx_play.proofs.Outcomes.{story_or_number}
+use Rattle.gx_play.proofs.Outcomes.{text_in_file, story_in_file, story_or_number}
 use Rattle.gx_play.specs.Loading.{refusal_of_shelf, refusal_of_story, IsLoadable, LoadGives, LoadsFile}
 
 -- some bytes that are more than the most

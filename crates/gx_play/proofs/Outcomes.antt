@@ -1,17 +1,26 @@
 -- The outcomes of jobs by what was loaded.
-use Rattle.std.proofs.Common.{ℕ, List, Result}
+use Rattle.std.proofs.Common.{ℕ, List, Option, Result, Ok}
 use Rattle.std.specs.Result.{result_map_both}
 use Rattle.gx_story.specs.declared.faults.StoryFault.{StoryFault}
 use Rattle.gx_story.specs.Faults.{number_of}
-use Rattle.gx_story.specs.Stories.{FlatStory, is_checked}
+use Rattle.gx_story.specs.Stories.{FlatStory, accepted, is_checked}
 use Rattle.gx_asm.specs.Texts.{assembled}
 use Rattle.gx_asm.specs.Stories.{listed_story}
 use Rattle.gx_machine.specs.Start.{first_machine}
 use Rattle.gx_session.specs.Devices.{Devices}
 use Rattle.gx_play.specs.declared.command.Job.{Job}
 use Rattle.gx_play.specs.Commands.{Command}
+use Rattle.gx_words.specs.Constants.{ceiling}
+use Rattle.gx_play.specs.Constants.{most_text}
 use Rattle.gx_play.specs.Jobs.{check_told}
-use Rattle.gx_play.specs.Outcomes.{CommandOutcome, tells, outcome_with, outcome_of_start, outcome_of_code, outcome_of_listing}
+use Rattle.gx_play.specs.Outcomes.{CommandOutcome, tells, in_file, outcome_with, outcome_of_start, outcome_of_code, outcome_of_listing}
+
+-- the story in a file, and the text, or the number of why there is none
+abbrev pub story_in_file : Option (List ℕ) → Result FlatStory ℕ
+story_in_file = in_file ceiling accepted
+
+abbrev pub text_in_file : Option (List ℕ) → Result (List ℕ) ℕ
+text_in_file = in_file most_text (λ bytes. Ok bytes)
 
 -- the story, or the number of its fault
 abbrev pub story_or_number : Result FlatStory StoryFault → Result FlatStory ℕ

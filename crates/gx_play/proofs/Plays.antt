@@ -22,8 +22,8 @@ use Rattle.gx_play.specs.declared.command.Job.{Job}
 use Rattle.gx_play.specs.declared.command.Job.TheVariants.{Play, Rewind}
 use Rattle.gx_play.specs.Commands.{Command}
 use Rattle.gx_play.specs.Outcomes.{CommandOutcome, refused, tells, runs, rewinds, outcome_of_start, outcome_of_job}
-use Rattle.gx_play.specs.Outcomes.{story_in_file, start_for}
-use Rattle.gx_play.proofs.Outcomes.{outcome_of_story}
+use Rattle.gx_play.specs.Outcomes.{start_for}
+use Rattle.gx_play.proofs.Outcomes.{story_in_file, outcome_of_story}
 use Rattle.gx_play.specs.Answers.{HasNoMachine, IsUnrun, IsUnbegun, IsRunTo, IsRunOf, IsRewindOf, BeginsAfter}
 use Rattle.gx_play.specs.FirstLoad.{LoadsFirst, JobMayWant}
 use Rattle.gx_play.specs.Statuses.{PlaysStory}

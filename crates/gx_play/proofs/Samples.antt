@@ -3,9 +3,10 @@ use Rattle.std.proofs.Common.{◌≡◌, ℕ, List, [], ◌∷◌, ◌++◌, rep
 use Rattle.gx_story.specs.Stories.{accepted, bare, header}
 use Rattle.gx_session.specs.Constants.{status_bad_words, status_bad_story}
 use Rattle.gx_session.specs.Devices.{Devices}
+use Rattle.gx_play.proofs.Outcomes.{story_in_file}
 use Rattle.gx_play.specs.declared.command.Job.TheVariants.{Play, Rewind, Check, Asm, List as Listing}
 use Rattle.gx_play.specs.Commands.{Command}
-use Rattle.gx_play.specs.Outcomes.{outcome_of, refused, story_in_file}
+use Rattle.gx_play.specs.Outcomes.{outcome_of, refused}
 
 bad-words : (file : Option (List ℕ)) (d : Devices) → outcome_of None file d ≡ refused status_bad_words 0 0
 bad-words file d = refl

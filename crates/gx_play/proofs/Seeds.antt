@@ -16,15 +16,25 @@ use Rattle.gx_session.specs.Runs.{IsRun, Report, report_of}
 use Rattle.gx_play.specs.declared.command.Job.{Job}
 use Rattle.gx_play.specs.declared.command.Job.TheVariants.{Play, Rewind, Check, Work, Asm, List as Listing}
 use Rattle.gx_play.specs.Commands.{Command}
-use Rattle.gx_play.specs.Seeds.{seeded_words, devices_for}
-use Rattle.gx_play.specs.Outcomes.{runs, rewinds, outcome_of_job, outcome_of_start, start_for, story_in_file}
+use Rattle.gx_play.specs.Seeds.{devices_for}
+use Rattle.gx_play.specs.Outcomes.{runs, rewinds, outcome_of_job, outcome_of_start, start_for}
 use Rattle.gx_play.specs.Outcomes.{outcome_of}
-use Rattle.gx_play.proofs.Outcomes.{outcome_of_story}
+use Rattle.gx_play.proofs.Outcomes.{story_in_file, outcome_of_story}
 use Rattle.gx_play.specs.Answers.{IsRunTo}
 use Rattle.gx_play.specs.Headline.{ComesOut}
 use Rattle.gx_play.proofs.Begun.{IsRunBegun, begins-none, begun-or-not}
+use Rattle.rand_core.specs.Steps.{stream_of, steps_u32}
 use Rattle.rand_core.specs.Stream.{Stream}
+use Rattle.rand_pcg.specs.Pcg.{pcg32}
+use Rattle.ops_calc.specs.Generator.{pcg32_of}
 use Rattle.gx_session.specs.Configurations.{Configuration, start_of}
+
+-- the words of a seed, and those of a run
+abbrev pub seeded_words : ℕ → Stream
+seeded_words seed = stream_of (steps_u32 pcg32) (pcg32_of seed)
+
+abbrev pub words_for : Option ℕ → Stream → Stream
+words_for seed words = option_map_or (λ number. stream_of (steps_u32 pcg32) (pcg32_of number)) seed words
 
 module _ (entry exit : Devices) (command : Command) (whole : Whole) (log : Option Log) (r : Report) where
   abbrev start_with : Devices → Configuration
@@ -78,7 +88,7 @@ module _ {A : Type 0} (ended : Ended A) (entry exit : Devices) where
       elim (begun-or-not ended entry exit (Some command) comes) [ inl begun ↦ job-undrawn command.job command comes.file is begun | inr unrun ↦ unrun.words ]
 
 -- THE OUTCOME is the same over other words
-same-words : (seed : Option ℕ) → IsSome seed → (a b : Stream) → option_map_or seeded_words seed a ≡ option_map_or seeded_words seed b
+same-words : (seed : Option ℕ) → IsSome seed → (a b : Stream) → words_for seed a ≡ words_for seed b
 same-words None is a b = absurd cc
 same-words (Some seed) is a b = refl
 

@@ -12,9 +12,9 @@ use Rattle.gx_words.specs.Numbers.{byte, word, sum_of_words}
 use Rattle.iff_chunks.specs.Chunks.{begins_form}
 use Rattle.gx_words.specs.declared.faults.Fault.{Fault}
 use Rattle.gx_story.specs.declared.faults.StoryFault.{StoryFault}
-use Rattle.gx_story.specs.Stories.{FlatStory, accepted, bare, header, header_at_start, stored_story, has_sizes}
+use Rattle.gx_story.specs.Stories.{FlatStory, accepted, bare, header, header_at_start, has_sizes}
 use Rattle.gx_story.specs.Stories.{is_whole}
-use Rattle.gx_story.proofs.HeaderTests.{has_header, has_magic, has_version, is_within_limits, has_stored_part}
+use Rattle.gx_story.proofs.HeaderTests.{stored_story, has_header, has_magic, has_version, is_within_limits, has_stored_part}
 use Rattle.gx_pages.specs.Memory.{number_in}
 use Rattle.gx_stack.specs.Formats.{locals_len}
 use Rattle.gx_state.specs.Entry.{kind_at, format_from, function_at, entered, started, initial}

@@ -39,11 +39,8 @@ player =
     ∷ text_rule (codes "undo") (codes "16" ∷ [])
     ∷ text_rule (codes "seed") []
     ∷ text_rule (codes "back") (codes "0" ∷ [])
-    ∷ flag_rule (codes "echo")
-    ∷ flag_rule (codes "screen")
-    ∷ flag_rule (codes "plain")
-    ∷ text_rule (codes "job") (codes "play" ∷ [])
-    ∷ [])
+    ∷ flag_rule (codes "echo") ∷ flag_rule (codes "screen") ∷ flag_rule (codes "plain")
+    ∷ text_rule (codes "job") (codes "play" ∷ []) ∷ [])
 
 -- WHAT A COMMAND LINE ASKS FOR: the name of the file, the budget of the run, the size of the screen, how many copies
 -- are kept for undo, the seed of the random words, if there is one, how many units job rewind goes back, whether each
@@ -80,8 +77,7 @@ job_of story name =
     if bytes_eq name (codes "check") then Some Check else
     if bytes_eq name (codes "work") then option_map (λ number. Work number) (number_spelled 0 (2 ^ 32 - 1) story) else
     if bytes_eq name (codes "asm") then Some Asm else
-    if bytes_eq name (codes "list") then Some Listing else
-    None
+    if bytes_eq name (codes "list") then Some Listing else None
 
 -- HOW THE TEXT IS PUT TOGETHER, by the flags screen, plain and echo, and the job. With `--screen` the screen is
 -- composed; that isn't understood with `--plain` or `--echo`, nor in a job other than play and rewind. With `--plain`

@@ -20,15 +20,11 @@ use Rattle.rand_core.specs.Stream.{Stream}
 use Rattle.gx_session.specs.Configurations.{Configuration, start_of}
 use Rattle.glk_world.specs.declared.views.View.TheVariants as view
 
--- a text and a line feed
-abbrev pub with_line_feed : List ℕ → List ℕ
-with_line_feed text = text ++ 10 ∷ []
-
 -- JOB CHECK: the status and the line, by whether a story has the checksum that its header states. A wrong one is a
 -- fault without a number.
 abbrev pub check_told : Bool → ℕ × List ℕ
-check_told true = (status_ended, with_line_feed (codes "checksum ok"))
-check_told false = (status_fault, with_line_feed (codes "checksum differs"))
+check_told true = (status_ended, codes "checksum ok" ++ 10 ∷ [])
+check_told false = (status_fault, codes "checksum differs" ++ 10 ∷ [])
 
 -- JOB WORK: the story of a number is played to its end over devices that hold nothing, in the usual view, on a screen
 -- of 80 columns and 24 rows, with the usual depth of undo and within the largest budget, whatever the options say; what
@@ -68,5 +64,5 @@ work_line number =
     option_map_or (λ (whole : Whole).
     let start = work_start whole in
     let end = (final_of start).configuration in
-    with_line_feed (decimal (start.left - end.left) ++ 32 ∷ decimal (length end.world.text)
-    ++ 32 ∷ decimal (ram_sum_of end.machine.flat))) (work_machine number) []
+    (decimal (start.left - end.left) ++ 32 ∷ decimal (length end.world.text)
+    ++ 32 ∷ decimal (ram_sum_of end.machine.flat)) ++ 10 ∷ []) (work_machine number) []

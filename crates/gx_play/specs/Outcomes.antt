@@ -5,6 +5,7 @@ use Rattle.std.specs.Result.{result_map_both}
 use Rattle.gx_words.specs.declared.faults.Fault.{Fault}
 use Rattle.gx_words.specs.Constants.{ceiling}
 use Rattle.gx_words.specs.Faults.{number_of}
+use Rattle.gx_story.specs.declared.faults.StoryFault.{StoryFault}
 use Rattle.gx_story.specs.declared.faults.StoryFault.TheVariants.{TooLarge}
 use Rattle.gx_story.specs.Faults.{number_of as story_number_of}
 use Rattle.gx_story.specs.Stories.{FlatStory, accepted, is_checked}
@@ -41,17 +42,12 @@ pub data CommandOutcome : Type 0 where
   -- the same, recorded, and then the line of so many units before the end
   rewinds : Option ℕ → ℕ → Configuration → CommandOutcome
 
--- the story in a file, or the number of why there is none
-abbrev pub story_in_file : Option (List ℕ) → Result FlatStory ℕ
-story_in_file None = Err no_file
-story_in_file (Some bytes) =
-    if nat_lt ceiling (length bytes) then Err (story_number_of TooLarge)
-    else result_map_both (λ (story : FlatStory). story) story_number_of (accepted bytes)
-
--- the text in a file, or the number of why there is none
-abbrev pub text_in_file : Option (List ℕ) → Result (List ℕ) ℕ
-text_in_file None = Err no_file
-text_in_file (Some bytes) = if nat_lt most_text (length bytes) then Err (story_number_of TooLarge) else Ok bytes
+-- what is read in a file of at most so many bytes, or the number of why there is nothing
+abbrev pub in_file : {X : Type 0} → ℕ → (List ℕ → Result X StoryFault) → Option (List ℕ) → Result X ℕ
+in_file most read None = Err no_file
+in_file most read (Some bytes) =
+    if nat_lt most (length bytes) then Err (story_number_of TooLarge)
+    else result_map_both (λ x. x) story_number_of (read bytes)
 
 -- THE JOBS PLAY AND REWIND: the machine of a story runs from its start, with the command's random words, in its view
 -- and on its screen, within its budget. In job rewind the run is recorded.
@@ -86,14 +82,16 @@ outcome_with (Err fault) made = refused status_bad_story fault 0
 
 abbrev pub outcome_of_job : Job → Command → Option (List ℕ) → Devices → CommandOutcome
 outcome_of_job (Work number) command file entry = tells status_ended (work_line number)
-outcome_of_job Asm command file entry = outcome_with (text_in_file file) (λ text. outcome_of_code (assembled text))
+outcome_of_job Asm command file entry =
+    outcome_with (in_file most_text (λ bytes. Ok bytes) file) (λ text. outcome_of_code (assembled text))
 outcome_of_job Check command file entry =
-    outcome_with (story_in_file file) (λ story. let told = check_told (is_checked story) in tells told.0 told.1)
+    outcome_with (in_file ceiling accepted file)
+    (λ story. let told = check_told (is_checked story) in tells told.0 told.1)
 outcome_of_job Listing command file entry =
-    outcome_with (story_in_file file) (λ story. outcome_of_listing (listed_story story))
+    outcome_with (in_file ceiling accepted file) (λ story. outcome_of_listing (listed_story story))
 -- play and rewind
 outcome_of_job job command file entry =
-    outcome_with (story_in_file file)
+    outcome_with (in_file ceiling accepted file)
     (λ story. outcome_of_start job command story entry (first_machine story command.undo))
 
 -- The outcome of a command over what the devices hold, where this file stands under the name.

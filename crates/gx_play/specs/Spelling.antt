@@ -1,14 +1,13 @@
 -- THE LAWS OF SPELLING: text, code and what a machine sees of it (Glulx 3.1.2, "Instruction Format").
 use Rattle.std.specs.Prelude.{◌≡◌, ◌↔◌, ℕ, ◌+◌, ◌<◌, ◌≤◌, true, List, length, get_or, take, drop, All, Some, Ok}
 use Rattle.gx_words.specs.Numbers.{number}
-use Rattle.gx_rows.specs.declared.modes.Addressing.{Addressing}
 use Rattle.gx_rows.specs.declared.modes.Addressing.TheVariants.{Zero}
 use Rattle.gx_rows.specs.Modes.{addressing}
 use Rattle.gx_rows.specs.Opcodes.{shortest}
 use Rattle.gx_rows.specs.Table.{row_of, row_at}
 use Rattle.gx_state.specs.Flat.{FlatState}
 use Rattle.gx_operands.specs.declared.cursor.Cursor.{Cursor}
-use Rattle.gx_operands.specs.Instructions.{opcode, nibble, datum, past}
+use Rattle.gx_operands.specs.Instructions.{opcode, nibble, datum}
 use Rattle.gx_asm.specs.Codes.{listed, modes_len}
 use Rattle.gx_asm.specs.Instructions.{WrittenInstruction, IsWritten, Spells, operand_count, data_len, all_data_len}
 use Rattle.gx_asm.specs.Instructions.{opcode_number}
@@ -20,26 +19,20 @@ use Rattle.gx_play.specs.Constants.{most_text}
 
 -- ---- an instruction and its operands, by their index
 
-abbrev pub mode_at : WrittenInstruction → ℕ → Addressing
-mode_at w k = get_or w.modes k Zero
-
--- how many bytes of data stand before an operand's
-abbrev pub data_before : WrittenInstruction → ℕ → ℕ
-data_before w k = all_data_len (take k w.modes)
-
 -- where its modes stand, and where the data of an operand does
 abbrev pub modes_at : FlatState → WrittenInstruction → ℕ
 modes_at f w = f.pc + shortest (opcode_number w)
 
 abbrev pub data_at : FlatState → WrittenInstruction → ℕ → ℕ
-data_at f w k = modes_at f w + modes_len (operand_count (row_at w.place)) + data_before w k
+data_at f w k = modes_at f w + modes_len (operand_count (row_at w.place)) + all_data_len (take k w.modes)
 
 -- WHAT A MACHINE SEES at PC: an operand by its index, which has this mode and, where the mode has data, these.
 pub record SeesOperand (f : FlatState) (w : WrittenInstruction) (k : ℕ) : Type 0 where
-  pub mode : addressing (nibble f.memory (modes_at f w) k) ≡ Some (mode_at w k)
-  pub operand_data : 0 < data_len (mode_at w k) → (p : Cursor) → p.at ≡ data_at f w k
-      → (let n = data_len (mode_at w k) in
-      datum f.memory p n ≡ Ok (number n (take n (drop (data_before w k) w.operand_data)) 0, past p n))
+  pub mode : addressing (nibble f.memory (modes_at f w) k) ≡ Some (get_or w.modes k Zero)
+  pub operand_data : 0 < data_len (get_or w.modes k Zero) → (p : Cursor) → p.at ≡ data_at f w k
+      → (let n = data_len (get_or w.modes k Zero) in
+      let bytes = take n (drop (all_data_len (take k w.modes)) w.operand_data) in
+      datum f.memory p n ≡ Ok (number n bytes 0, record p { at = p.at + n }))
 
 -- The instruction: its number, its row, its operands, and no byte of memory more.
 pub record SeesInstruction (f : FlatState) (w : WrittenInstruction) : Type 0 where

@@ -2,12 +2,13 @@
 //!
 //! The shelf is asked once. There is none where the file isn't there or is too long, and no story where
 //! it is none that gx_story accepts; the numbers of these faults are the program's.
-ghost use Rattle.std.specs.Prelude.{◌≡◌, ◌≤◌, ℕ, Err, IfOk, length};
+ghost use Rattle.std.specs.Prelude.{◌≡◌, ◌≤◌, ℕ, Ok, Err, IfOk, length};
 ghost use Rattle.gx_words.specs.Constants.{ceiling};
 ghost use Rattle.gx_outside.specs.Chains.{IsCalled};
 ghost use Rattle.gx_session.specs.Counts.{Blames};
 ghost use Rattle.gx_play.specs.Constants.{most_text};
-ghost use Rattle.gx_play.specs.Outcomes.{story_in_file, text_in_file};
+ghost use Rattle.gx_play.specs.Outcomes.{in_file};
+ghost use Rattle.gx_story.specs.Stories.{accepted};
 ghost use Rattle.gx_play.specs.Answers.{HasNoMachine};
 ghost use Rattle.gx_play.specs.Loading.{LoadsFile, refusal_status, refusal_fault};
 
@@ -63,7 +64,8 @@ impl From<StoryFault> for Refusal {
 /// The story under a name.
 pub fn load_story<F: Shelf>(alloc: Global, shelf: &mut F, name: &str) -> Result<Story, Refusal>
     ensures value { IsCalled F.called shelf.old shelf.new
-        (λ asked. LoadsFile ceiling story_in_file (F.seen shelf.old) (F.seen shelf.new) name.now asked result) }
+        (λ asked. LoadsFile ceiling (in_file ceiling accepted) (F.seen shelf.old) (F.seen shelf.new) name.now asked
+        result) }
     ensures count { Blames (F.seen shelf.old).calls (F.seen shelf.new).calls (result ≡ Err Refusal.Shelf) }
     ensures fault { (fault : ℕ) → result ≡ Err (Refusal.BadStory fault) → fault ≤ 7 }
 {
@@ -77,7 +79,8 @@ pub fn load_story<F: Shelf>(alloc: Global, shelf: &mut F, name: &str) -> Result<
 /// The text under a name.
 pub fn load_text<F: Shelf>(shelf: &mut F, name: &str) -> Result<Bytes, Refusal>
     ensures value { IsCalled F.called shelf.old shelf.new
-        (λ asked. LoadsFile most_text text_in_file (F.seen shelf.old) (F.seen shelf.new) name.now asked result) }
+        (λ asked. LoadsFile most_text (in_file most_text (λ bytes. Ok bytes)) (F.seen shelf.old) (F.seen shelf.new)
+        name.now asked result) }
     ensures count { Blames (F.seen shelf.old).calls (F.seen shelf.new).calls (result ≡ Err Refusal.Shelf) }
     ensures fault { (fault : ℕ) → result ≡ Err (Refusal.BadStory fault) → fault ≤ 7 }
     ensures bound { IfOk result (λ text. length text ≤ most_text) }

@@ -1,7 +1,9 @@
 -- A step that is done is never said to be spent.
 use Rattle.std.proofs.Common.{◌≡◌, ◌==◌, ◌+◌, ℕ, if◌then◌else◌, Bool, true, false, List, [], ◌∷◌, length, Option, Some, None, Result, Ok, Err, subst}
+use Rattle.std.specs.Prelude.{max}
 use Rattle.gx_words.specs.declared.faults.Fault.{Fault}
 use Rattle.gx_words.specs.declared.faults.Fault.TheVariants.{BadFrame}
+use Rattle.gx_words.specs.Numbers.{rounded_up}
 use Rattle.gx_words.specs.Results.{◌>>=◌}
 use Rattle.gx_rows.specs.declared.instructions.Class.{Class}
 use Rattle.gx_rows.specs.declared.instructions.Class.TheVariants as class
@@ -21,6 +23,7 @@ use Rattle.gx_strings.specs.declared.items.Item.{Item}
 use Rattle.gx_strings.specs.declared.items.Item.TheVariants.{Char, Sub, Call, End}
 use Rattle.ops_calc.specs.declared.random.Generator.{Generator}
 use Rattle.ops_calc.specs.declared.random.Generator.TheVariants.{Outside, Seeded}
+use Rattle.ops_calc.specs.Generator.{is_outside}
 use Rattle.ops_flow.specs.Rows as flow
 use Rattle.ops_memory.specs.Rows as memory
 use Rattle.ops_memory.specs.Searching as searching
@@ -29,7 +32,8 @@ use Rattle.ops_print.specs.Items as items
 use Rattle.ops_print.specs.Rows as print
 use Rattle.ops_game.specs.Rows as game
 use Rattle.gx_machine.specs.Machine.{FlatMachine}
-use Rattle.gx_machine.specs.Rows.{glk, row_effect, with_copies, with_both}
+use Rattle.gx_machine.specs.Rows.{glk, row_effect, with_copies}
+use Rattle.gx_machine.proofs.Games.{with_both}
 use Rattle.gx_machine.specs.Step.{mode_step, step_of}
 
 abbrev IsCalm : Effect → Type 0
@@ -54,12 +58,12 @@ choose : {X : Type 0} (b : Bool) (x y : Result (X × Effect) Fault) → Calm x �
 choose true x y p q = p
 choose false x y p q = q
 
-ended-calm : (b : Bool) → IsCalm (flow.after_return b)
+ended-calm : (b : Bool) → IsCalm (if b then Quit else Went)
 ended-calm true = tt
 ended-calm false = tt
 
 returns-calm : (f : FlatState) (next v : ℕ) → Calm (flow.returns f next v)
-returns-calm f next v = bind (returned (going_to f next) f.fp v) (λ r. Ok (r.0, flow.after_return r.1)) (λ r. ended-calm r.1)
+returns-calm f next v = bind (returned (going_to f next) f.fp v) (λ r. Ok (r.0, if r.1 then Quit else Went)) (λ r. ended-calm r.1)
 
 flow-calm : (f : FlatState) (i : Instruction) → Calm (flow.flow f i)
 unfolding flow.flow flow.call flow.catch flow.throw flow.tailcall flow.callf
@@ -99,11 +103,11 @@ kept (Err f) g h = tt
 stores-calm : (f : FlatState) (i : Instruction) (v : ℕ) → Calm (stores f i v)
 stores-calm f i v = search bind
 
-found-calm : (f : FlatState) (i : Instruction) (o : Option ℕ) → Calm (space.allocated_at f i o)
+found-calm : (f : FlatState) (i : Instruction) (o : Option ℕ) → Calm (space.allocated f i o)
 found-calm f i None = stores-calm f i 0
 found-calm f i (Some at) =
-    kept (stores (with_size f (space.covering (length f.memory) (at + L1 i))) i at) (λ (g : FlatState). with_block g (length f.memory) at (L1 i))
-    (stores-calm (with_size f (space.covering (length f.memory) (at + L1 i))) i at)
+    kept (stores (with_size f (max (length f.memory) (rounded_up (at + L1 i)))) i at) (λ (g : FlatState). with_block g (length f.memory) at (L1 i))
+    (stores-calm (with_size f (max (length f.memory) (rounded_up (at + L1 i)))) i at)
 
 memory-calm : (f : FlatState) (i : Instruction) → Calm (memory.memory f i)
 unfolding memory.memory memory.aload memory.aloads memory.aloadb memory.aloadbit memory.astore memory.astores memory.astoreb memory.astorebit space.getmemsize space.setmemsize searching.linearsearch searching.binarysearch searching.linkedsearch space.mzero space.mcopy space.malloc space.mfree
@@ -118,7 +122,7 @@ unfolding items.function_called
 called-calm f started p at args = search bind
 
 printed-calm : (f : FlatState) (started : Bool) (i : Item) → Calm (items.item_printed f started i)
-unfolding items.item_printed items.character_printed items.string_begun items.reference_called items.string_ended
+unfolding items.item_printed items.character_printed
 printed-calm f started (Char value next) = search (choose, called-calm) depth 20
 printed-calm f started (Sub back inner) = search bind
 printed-calm f started (Call back at args_at count) = search (bind, called-calm) depth 20
@@ -132,13 +136,13 @@ leaving : (u : FlatUndo) (r : Result (FlatState × Effect) Fault) → Calm r →
 leaving u (Ok r) h = h
 leaving u (Err f) h = tt
 
-drawing-calm : (g : Generator) → IsCalm (game.drawing g)
+drawing-calm : (g : Generator) → IsCalm (if is_outside g then Drew else Went)
 drawing-calm Outside = tt
 drawing-calm (Seeded pcg) = tt
 
 random-calm : (f : FlatState) (word : ℕ) (i : Instruction) → Calm (game.random f word i)
 unfolding game.random
-random-calm f word i = bind (game.drawn f word i) (λ g. Ok (going_to g i.next, game.drawing f.generator)) (λ g. drawing-calm f.generator)
+random-calm f word i = bind (game.drawn f word i) (λ g. Ok (going_to g i.next, if is_outside f.generator then Drew else Went)) (λ g. drawing-calm f.generator)
 
 from-calm : (f : FlatState) (u : FlatUndo) (i : Instruction) (copies : List Copy) → Calm (game.restored_from f u i copies)
 from-calm f u i [] = search (bind, leaving) depth 20

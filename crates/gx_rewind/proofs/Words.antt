@@ -7,7 +7,7 @@ use Rattle.gx_rows.specs.Numbers as numbers
 use Rattle.gx_rows.specs.declared.instructions.Class.{Class}
 use Rattle.gx_rows.specs.declared.instructions.Class.TheVariants as class
 use Rattle.gx_state.specs.declared.effects.Effect.{Effect}
-use Rattle.gx_state.specs.declared.effects.Effect.TheVariants.{Drew}
+use Rattle.gx_state.specs.declared.effects.Effect.TheVariants.{Went, Drew}
 use Rattle.gx_state.specs.declared.modes.Mode.{Mode}
 use Rattle.gx_state.specs.declared.modes.Mode.TheVariants as mode
 use Rattle.gx_state.specs.Flat.{FlatState, sp_of}
@@ -16,10 +16,11 @@ use Rattle.gx_operands.specs.Stores.{settled}
 use Rattle.gx_undo.specs.Undo.{FlatUndo}
 use Rattle.ops_calc.specs.declared.random.Generator.{Generator}
 use Rattle.ops_calc.specs.declared.random.Generator.TheVariants.{Outside, Seeded}
-use Rattle.ops_calc.specs.Generator.{pick, word_from, after_word}
+use Rattle.ops_calc.specs.Generator.{pick, word_from, after_word, is_outside}
 use Rattle.ops_game.specs.Rows as game
 use Rattle.gx_machine.specs.Machine.{FlatMachine}
-use Rattle.gx_machine.specs.Rows.{row_effect, with_both}
+use Rattle.gx_machine.specs.Rows.{row_effect}
+use Rattle.gx_machine.proofs.Games.{with_both}
 use Rattle.gx_machine.specs.Step.{mode_step, step_of}
 
 -- the step draws or has a fault, or it ends the same
@@ -59,7 +60,7 @@ abbrev drawn-by : FlatState → Generator → ℕ → Instruction → Result Fla
 drawn-by f g word i = settled f i.sp 4 i.dest (pick (L1 i) (word_from g word)) >>= (λ (h : FlatState). Ok (record h { generator = after_word g }))
 
 abbrev random-by : FlatState → Generator → ℕ → Instruction → Result (FlatState × Effect) Fault
-random-by f g word i = drawn-by f g word i >>= (λ (h : FlatState). Ok (going_to h i.next, game.drawing g))
+random-by f g word i = drawn-by f g word i >>= (λ (h : FlatState). Ok (going_to h i.next, if is_outside g then Drew else Went))
 
 draws-by : (r : Result FlatState Fault) (next : ℕ) → HasDrawn (r >>= (λ (h : FlatState). Ok (going_to h next, Drew)))
 draws-by (Ok h) next = refl

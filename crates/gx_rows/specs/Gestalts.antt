@@ -42,12 +42,8 @@ unfoldable pub gestalt_of : ℕ → ℕ → ℕ → ℕ
 gestalt_of selector argument heap_start =
     if selector == glulx_version then 0x00030103 else  -- 3.1.2, and hasundo and discardundo
     if selector == terp_version then 0x00010000 else  -- 1.0.0
-    if selector == resize_mem then 1 else
-    if selector == undo then 1 else
     if selector == io_system then (if is_iosystem argument then 1 else 0) else
-    if selector == unicode then 1 else
-    if selector == mem_copy then 1 else
-    if selector == m_alloc then 1 else
     if selector == m_alloc_heap then heap_start else
-    if selector == extended_undo then 1 else
+    if selector == resize_mem || selector == undo || selector == unicode then 1 else
+    if selector == mem_copy || selector == m_alloc || selector == extended_undo then 1 else
     0  -- acceleration, floats, others

@@ -1,6 +1,6 @@
 -- What a search of one struct after another finds, and that this is its definition.
-use Rattle.std.proofs.Common.{◌≡◌, inl, inr, ◌≤◌, ◌<◌, ◌+◌, ◌-◌, ◌%◌, ◌^◌, ℕ, zero, suc, true, false, List, Option}
-use Rattle.std.proofs.Common.{Some, None, Result, Ok, Err, refl, subst, arith, below_more}
+use Rattle.std.proofs.Common.{◌≡◌, inl, inr, ◌≤◌, ◌<◌, ◌+◌, ◌-◌, ◌%◌, ◌^◌, ℕ, zero, suc, Bool, true, false, List, Option}
+use Rattle.std.proofs.Common.{Some, None, Result, Ok, Err, refl, subst, arith, below_more, if◌then◌else◌, ◌∙◌}
 use Rattle.gx_words.specs.declared.faults.Fault.{Fault}
 use Rattle.gx_words.specs.Faults.{Reads, TakesNone}
 use Rattle.gx_words.specs.Results.{◌>>=◌}
@@ -10,9 +10,8 @@ use Rattle.gx_search.specs.declared.asks.Found.TheVariants.{At, Nothing, More}
 use Rattle.gx_search.specs.declared.keys.Seen.TheVariants.{Match, Zero, Other}
 use Rattle.gx_search.specs.declared.turns.Layout.{Layout}
 use Rattle.gx_search.specs.Keys.{has_size, probe}
-use Rattle.gx_search.specs.Searches.{Struct, Search, with_probe, next_address, address_of, is_past, struct_of_index, at_struct}
-use Rattle.gx_search.specs.Searches.{search_from, search_of, linear, linked}
-use Rattle.gx_search.specs.Finding.{found_by, found_within, ArePassed, IsFound}
+use Rattle.gx_search.specs.Searches.{Struct, Search, no_probe, with_probe, next_address, is_past, after_probe, search_from, search_of}
+use Rattle.gx_search.specs.Finding.{found_by, found_within, address_of, struct_of_index, ArePassed, IsFound}
 use Rattle.gx_search.proofs.Within.{IsAfter, after_none, after_one, ended_within, spent_within}
 
 -- ---- the struct of an index
@@ -74,34 +73,58 @@ pub ruleset finding = (address_first, address_next, passed_none, passed_more, fo
 
 -- ---- what is found is the definition's
 
-passed_is : (l : Layout) (m : List ℕ) (q : Ask) (i left n : ℕ) → ArePassed l m q i → n ≡ i + left → IsAfter i (search_from l m q n 0) (search_from l m q left i)
-unfolding ArePassed search_from
+-- the search through so many structs from an index on, whose address is that of its index
+abbrev searched : Layout → List ℕ → Ask → ℕ → ℕ → Search
+searched l m q left i = search_from l m q left i (address_of l m q i)
+
+-- what the struct of an index makes of the search
+abbrev at_struct : List ℕ → Ask → ℕ → Search → Result (Option ℕ) Fault → Search
+at_struct m q i rest (Ok None) = no_probe (Ok None)
+at_struct m q i rest (Ok (Some at)) = with_probe (after_probe i at rest (probe m q at))
+at_struct m q i rest (Err e) = no_probe (Err e)
+
+turn_past : (l : Layout) (m : List ℕ) (q : Ask) (left i at : ℕ) (b : Bool) → is_past l q i at ≡ b
+    → search_from l m q (suc left) i (Ok at) ≡ at_struct m q i (search_from l m q left (i + 1) (next_address l m q at)) (Ok (if b then None else Some at))
+unfolding search_from
+turn_past l m q left i at true is = rw is refl
+turn_past l m q left i at false is = rw is refl
+
+turn_by : (l : Layout) (m : List ℕ) (q : Ask) (left i : ℕ) (r : Result ℕ Fault) → address_of l m q i ≡ r
+    → searched l m q (suc left) i ≡ at_struct m q i (searched l m q left (i + 1)) (struct_of_index l m q i)
+unfolding search_from struct_of_index
+turn_by l m q left i (Ok at) is = rw (address_after l m q i at is, is) (turn_past l m q left i at (is_past l q i at) refl)
+turn_by l m q left i (Err e) is = rw is refl
+
+turn : (l : Layout) (m : List ℕ) (q : Ask) (left i : ℕ) → searched l m q (suc left) i ≡ at_struct m q i (searched l m q left (i + 1)) (struct_of_index l m q i)
+turn l m q left i = turn_by l m q left i (address_of l m q i) refl
+
+passed_is : (l : Layout) (m : List ℕ) (q : Ask) (i left n : ℕ) → ArePassed l m q i → n ≡ i + left → IsAfter i (searched l m q n 0) (searched l m q left i)
+unfolding ArePassed
 passed_is l m q zero left n below is =
     let same : n ≡ left = omega arith in
-    rw same (after_none (search_from l m q left 0))
+    rw same (after_none (searched l m q left 0))
 passed_is l m q (suc i) left n below is =
     let sees = below i (omega arith) in
-    let turn : search_from l m q (suc left) i ≡ with_probe (search_from l m q left (i + 1)) = rw (sees.1.0, sees.1.1) refl in
+    let one : searched l m q (suc left) i ≡ with_probe (searched l m q left (i + 1)) = turn l m q left i ∙ rw (sees.1.0, sees.1.1) refl in
     let before = passed_is l m q i (suc left) n (λ k h. below k (omega arith)) (omega arith) in
     let next : i + 1 ≡ suc i = omega arith in
-    subst (λ (k : ℕ). IsAfter k (search_from l m q n 0) (search_from l m q left k)) next
-    (after_one i (search_from l m q n 0) (search_from l m q left (i + 1)) (subst (IsAfter i (search_from l m q n 0)) turn before))
+    subst (λ (k : ℕ). IsAfter k (searched l m q n 0) (searched l m q left k)) next
+    (after_one i (searched l m q n 0) (searched l m q left (i + 1)) (subst (IsAfter i (searched l m q n 0)) one before))
 
 -- the whole search, from an index that it comes to
-comes_to : (l : Layout) (m : List ℕ) (q : Ask) (i n : ℕ) → i < n → ArePassed l m q i → (rest : Search) × IsAfter i (search_from l m q n 0) (at_struct m q i rest (struct_of_index l m q i))
-unfolding search_from
+comes_to : (l : Layout) (m : List ℕ) (q : Ask) (i n : ℕ) → i < n → ArePassed l m q i → (rest : Search) × IsAfter i (searched l m q n 0) (at_struct m q i rest (struct_of_index l m q i))
 comes_to l m q i n h below =
-    (search_from l m q (n - (i + 1)) (i + 1), passed_is l m q i (suc (n - (i + 1))) n below (omega arith))
+    (searched l m q (n - (i + 1)) (i + 1), subst (IsAfter i (searched l m q n 0)) (turn l m q (n - (i + 1)) i) (passed_is l m q i (suc (n - (i + 1))) n below (omega arith)))
 
 ends_at : (l : Layout) (m : List ℕ) (q : Ask) (bound i n last : ℕ) (r : Result (Option Struct) Fault) → i < n → ArePassed l m q i
     → ((rest : Search) → ((at_struct m q i rest (struct_of_index l m q i)).outcome ≡ r) × (i + (at_struct m q i rest (struct_of_index l m q i)).probes ≡ last)) → last ≤ bound
-    → found_within bound (search_from l m q n 0) ≡ (r >>= (λ (s : Option Struct). Ok (found_by last s)))
+    → found_within bound (searched l m q n 0) ≡ (r >>= (λ (s : Option Struct). Ok (found_by last s)))
 ends_at l m q bound i n last r h below ends within =
     let to = comes_to l m q i n h below in
     let here = ends to.0 in
-    ended_within bound (search_from l m q n 0) last r (cc (to.1.outcome, here.0)) (omega (arith, to.1.probes, here.1)) within
+    ended_within bound (searched l m q n 0) last r (cc (to.1.outcome, here.0)) (omega (arith, to.1.probes, here.1)) within
 
-search_is : (l : Layout) (m : List ℕ) (q : Ask) (bound n : ℕ) (r : Result Found Fault) → bound < n → IsFound l m q bound r → found_within bound (search_from l m q n 0) ≡ r
+search_is : (l : Layout) (m : List ℕ) (q : Ask) (bound n : ℕ) (r : Result Found Fault) → bound < n → IsFound l m q bound r → found_within bound (searched l m q n 0) ≡ r
 unfolding IsFound
 search_is l m q bound n (Ok (At address index probes)) h (i, below, sees, is, count, within) =
     rw (is, count) (ends_at l m q bound i n (i + 1) (Ok (Some (record { address = address; index = i % 2 ^ 32 }))) (omega arith) below (λ rest. rw (sees.0, sees.1) (refl, refl)) (omega arith))
@@ -112,7 +135,7 @@ search_is l m q bound n (Ok (Nothing probes)) h (inr (i, at, below, sees, count,
 search_is l m q bound n (Ok More) h (at, below, some) =
     let to = comes_to l m q bound n h below in
     let after = rw some at to.1 in
-    spent_within bound (search_from l m q n 0) (omega (arith, after.probes))
+    spent_within bound (searched l m q n 0) (omega (arith, after.probes))
 search_is l m q bound n (Err e) h (i, below, inl (fault, within)) =
     ends_at l m q bound i n i (Err e) (omega arith) below (λ rest. rw fault (refl, omega arith)) within
 search_is l m q bound n (Err e) h (i, below, inr (at, some, fault, within)) =
@@ -124,13 +147,10 @@ reads_by (Err e) defined takes is = (is, takes)
 
 pub searched_is : (l : Layout) (m : List ℕ) (q : Ask) (bound : ℕ) (r : Result Found Fault) → has_size q ≡ true → bound < 2 ^ 64 → IsFound l m q bound r → TakesNone r
     → Reads (λ (found : Found). found) r (found_within bound (search_of l m q))
+unfolding search_of address_of
 searched_is l m q bound r sized h found takes = reads_by r _ takes (rw sized (search_is l m q bound (2 ^ 64) r h found))
 
 -- what the proof of a whole search opens
-unfoldable pub searching_row : Unit {0}
-unfolding linear found_within
-searching_row = tt
-
-unfoldable pub searching_list : Unit {0}
-unfolding linked found_within
-searching_list = tt
+unfoldable pub searching : Unit {0}
+unfolding search_of found_within
+searching = tt

@@ -1,6 +1,6 @@
 -- What a call that searches answers, and what it means that something was found (Glulx 3.1.2, "Searching").
-use Rattle.std.specs.Prelude.{◌≡◌, ◌⊎◌, ℕ, ◌+◌, ◌%◌, ◌^◌, ◌<◌, ◌≤◌, nat_lt, if◌then◌else◌, List, Option, Some, None}
-use Rattle.std.specs.Prelude.{Result, Ok, Err, ◌≢◌}
+use Rattle.std.specs.Prelude.{◌≡◌, ◌⊎◌, ℕ, zero, suc, ◌+◌, ◌%◌, ◌^◌, ◌<◌, ◌≤◌, nat_lt, if◌then◌else◌, List, Option}
+use Rattle.std.specs.Prelude.{Some, None, Result, Ok, Err, ◌≢◌}
 use Rattle.gx_words.specs.declared.faults.Fault.{Fault}
 use Rattle.gx_search.specs.declared.asks.Ask.{Ask}
 use Rattle.gx_search.specs.declared.asks.Found.{Found}
@@ -9,7 +9,7 @@ use Rattle.gx_search.specs.declared.keys.Seen.{Seen}
 use Rattle.gx_search.specs.declared.keys.Seen.TheVariants.{Match, Zero, Other}
 use Rattle.gx_search.specs.declared.turns.Layout.{Layout}
 use Rattle.gx_search.specs.Keys.{probe, sought_key, key_at}
-use Rattle.gx_search.specs.Searches.{Struct, Search, struct_of_index}
+use Rattle.gx_search.specs.Searches.{Struct, Search, next_address, is_past}
 use Rattle.std.specs.Ordering.{nat_cmp}
 use Rattle.std.specs.declared.cmp.Ordering.TheVariants.{Less}
 use Rattle.std.specs.Cmp.Lexicographic.{slice_cmp}
@@ -26,6 +26,16 @@ found_within bound whole =
     if nat_lt bound whole.probes then Ok More else (do
       found ← whole.outcome
       Ok (found_by whole.probes found))
+
+-- the address of an index, to which so many steps lead from the start
+unfoldable pub address_of : Layout → List ℕ → Ask → ℕ → Result ℕ Fault
+address_of l memory ask zero = Ok ask.start
+address_of l memory ask (suc i) = address_of l memory ask i >>= λ at. next_address l memory ask at
+
+-- the address of the struct of an index; None past the last
+unfoldable pub struct_of_index : Layout → List ℕ → Ask → ℕ → Result (Option ℕ) Fault
+struct_of_index l memory ask i =
+    address_of l memory ask i >>= λ at. Ok (if is_past l ask i at then None else Some at)
 
 -- the struct of an index is at an address, and its probe sees this
 abbrev pub IsSeen : Layout → List ℕ → Ask → ℕ → ℕ → Seen → Type 0

@@ -1,5 +1,5 @@
 -- The search that halves a row of rising keys: binarysearch (Glulx 3.1.2, "Searching").
-use Rattle.std.specs.Prelude.{ℕ, zero, suc, ◌+◌, ◌-◌, ◌*◌, ◌/◌, ◌%◌, ◌^◌, Bool, ◌==◌, ◌||◌, nat_lt, nat_le}
+use Rattle.std.specs.Prelude.{ℕ, zero, suc, ◌+◌, ◌-◌, ◌*◌, ◌/◌, ◌%◌, ◌^◌, Bool, not, ◌==◌, ◌||◌, nat_lt, nat_le}
 use Rattle.std.specs.Prelude.{if◌then◌else◌, List, length, Some, None, Result, Ok, Err}
 use Rattle.std.specs.declared.cmp.Ordering.{Ordering}
 use Rattle.std.specs.declared.cmp.Ordering.TheVariants.{Less, Equal, Greater}
@@ -33,14 +33,12 @@ halving memory ask zero low high = no_probe (Ok None)
 halving memory ask (suc left) low high =
     let index = (low + high) / 2 in
     let at = struct_at ask index in
-    if nat_lt low high
-    then with_probe
-    (after_order (record { address = at; index = index }) (halving memory ask left low index)
-    (halving memory ask left (index + 1) high) (compared memory ask at))
-    else no_probe (Ok None)
+    let below = halving memory ask left low index in
+    let above = halving memory ask left (index + 1) high in
+    let rest = after_order (record { address = at; index = index }) below above (compared memory ask at) in
+    if nat_lt low high then with_probe rest else no_probe (Ok None)
 
 unfoldable pub binary : List ℕ → Ask → Search
 binary memory ask =
-    if has_size ask
-    then (if has_all_keys memory ask then halving memory ask ask.count 0 ask.count else no_probe (Err BadAddress))
-    else no_probe (Err BadMode)
+    if not (has_size ask) then no_probe (Err BadMode) else
+    if has_all_keys memory ask then halving memory ask ask.count 0 ask.count else no_probe (Err BadAddress)

@@ -45,17 +45,14 @@ can_probe memory ask at =
     (not (has_option ask key_indirect) || is_inside memory ask.key ask.key_size)
     && is_inside memory (key_address ask at) ask.key_size
 
--- what a probe sees of a key: a match counts first, and ZeroKeyTerminates: a key of zeros ends the search
-abbrev pub seen : Ask → List ℕ → List ℕ → Seen
-seen ask key there =
-    if bytes_eq key there then Match else
-    if has_option ask zero_key_terminates && list_all (λ b. b == 0) there then Zero else
-    Other
-
--- the probe of the struct at an address
+-- what the probe of the struct at an address sees: a match counts first, and ZeroKeyTerminates: a key of zeros ends
+-- the search
 unfoldable pub probe : List ℕ → Ask → ℕ → Result Seen Fault
 probe memory ask at =
-    if can_probe memory ask at then Ok (seen ask (sought_key memory ask) (key_at memory ask at)) else Err BadAddress
+    let there = key_at memory ask at in
+    if not (can_probe memory ask at) then Err BadAddress else
+    if bytes_eq (sought_key memory ask) there then Ok Match else
+    if has_option ask zero_key_terminates && list_all (λ b. b == 0) there then Ok Zero else Ok Other
 
 -- the same for an order of keys, which is that of their first bytes that differ, read as unsigned
 unfoldable pub compared : List ℕ → Ask → ℕ → Result Ordering Fault

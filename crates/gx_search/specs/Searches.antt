@@ -2,7 +2,6 @@
 -- (Glulx 3.1.2, "Searching").
 use Rattle.std.specs.Prelude.{ℕ, zero, suc, ◌+◌, ◌%◌, ◌^◌, Bool, not, ◌==◌, ◌&&◌, nat_le, if◌then◌else◌, List, Option}
 use Rattle.std.specs.Prelude.{Some, None, Result, Ok, Err}
-use Rattle.gx_words.specs.Results.{◌>>=◌}
 use Rattle.gx_words.specs.declared.faults.Fault.{Fault}
 use Rattle.gx_words.specs.declared.faults.Fault.TheVariants.{BadMode}
 use Rattle.gx_pages.specs.Memory.{number_in}
@@ -39,23 +38,10 @@ unfoldable pub next_address : Layout → List ℕ → Ask → ℕ → Result ℕ
 next_address layout.Row memory ask at = Ok ((at + ask.struct_size) % 2 ^ 32)
 next_address layout.List memory ask at = number_in 4 memory ((at + ask.next_offset) % 2 ^ 32)
 
--- the address of an index, to which so many steps lead from the start
-unfoldable pub address_of : Layout → List ℕ → Ask → ℕ → Result ℕ Fault
-address_of l memory ask zero = Ok ask.start
-address_of l memory ask (suc i) = do
-  at ← address_of l memory ask i
-  next_address l memory ask at
-
 -- a row has `count` structs, and no end where that is FFFFFFFF; address 0 ends a list
 unfoldable pub is_past : Layout → Ask → ℕ → ℕ → Bool
 is_past layout.Row ask i at = not (ask.count == 0xFFFFFFFF) && nat_le ask.count i
 is_past layout.List ask i at = at == 0
-
--- the address of the struct of an index; None past the last
-unfoldable pub struct_of_index : Layout → List ℕ → Ask → ℕ → Result (Option ℕ) Fault
-struct_of_index l memory ask i = do
-  at ← address_of l memory ask i
-  Ok (if is_past l ask i at then None else Some at)
 
 -- what the probe of an index makes of the search; `rest` is the search of the structs after it
 abbrev pub after_probe : ℕ → ℕ → Search → Result Seen Fault → Search
@@ -64,26 +50,15 @@ after_probe i at rest (Ok Zero) = no_probe (Ok None)
 after_probe i at rest (Ok Other) = rest
 after_probe i at rest (Err e) = no_probe (Err e)
 
--- the same for the struct of the index, which has to be there to be probed
-abbrev pub at_struct : List ℕ → Ask → ℕ → Search → Result (Option ℕ) Fault → Search
-at_struct memory ask i rest (Ok None) = no_probe (Ok None)
-at_struct memory ask i rest (Ok (Some at)) = with_probe (after_probe i at rest (probe memory ask at))
-at_struct memory ask i rest (Err e) = no_probe (Err e)
+-- the search through so many structs, from an index and its address on
+unfoldable pub search_from : Layout → List ℕ → Ask → ℕ → ℕ → Result ℕ Fault → Search
+search_from l memory ask zero i at = no_probe (Ok None)
+search_from l memory ask (suc left) i (Err e) = no_probe (Err e)
+search_from l memory ask (suc left) i (Ok at) =
+    let rest = search_from l memory ask left (i + 1) (next_address l memory ask at) in
+    if is_past l ask i at then no_probe (Ok None) else with_probe (after_probe i at rest (probe memory ask at))
 
--- the search through so many structs, from an index on
-unfoldable pub search_from : Layout → List ℕ → Ask → ℕ → ℕ → Search
-search_from l memory ask zero i = no_probe (Ok None)
-search_from l memory ask (suc left) i =
-    at_struct memory ask i (search_from l memory ask left (i + 1)) (struct_of_index l memory ask i)
-
--- A search without an end begins 2^64 probes, more than any call may.
-abbrev pub search_of : Layout → List ℕ → Ask → Search
-search_of l memory ask = if has_size ask then search_from l memory ask (2 ^ 64) 0 else no_probe (Err BadMode)
-
-unfoldable pub linear : List ℕ → Ask → Search
-linear memory ask = search_of layout.Row memory ask
-
-unfoldable pub linked : List ℕ → Ask → Search
-linked memory ask = search_of layout.List memory ask
-
--- WHAT WAS FOUND
+-- linearsearch in a row, linkedsearch in a list. Without an end it begins 2^64 probes, more than any call may.
+unfoldable pub search_of : Layout → List ℕ → Ask → Search
+search_of l memory ask =
+    if has_size ask then search_from l memory ask (2 ^ 64) 0 (Ok ask.start) else no_probe (Err BadMode)

@@ -2,7 +2,7 @@
 ghost use Rattle.std.specs.Prelude.{◌≡◌, IsTrue};
 ghost use Rattle.gx_words.specs.Faults.{Reads, TakesNone};
 ghost use Rattle.gx_search.specs.Keys.{has_size};
-ghost use Rattle.gx_search.specs.Searches.{next_address, is_past, linear, linked};
+ghost use Rattle.gx_search.specs.Searches.{next_address, is_past, search_of};
 ghost use Rattle.gx_search.specs.Finding.{found_within, IsFound};
 
 use crate::keys::{Seen, has_size, probe};
@@ -87,13 +87,13 @@ fn search<A: Allocator + Clone>(
 /// size that isn't allowed, and `BadAddress` where a probe looks at a byte that isn't in memory.
 ///
 /// It is `More` exactly where more than `bound` probes would begin.
-#[tactic(auto, unfolding(crate::proofs::Finding::searching_row), using(crate::proofs::Finding::searched_is))]
+#[tactic(auto, unfolding(crate::proofs::Finding::searching), using(crate::proofs::Finding::searched_is))]
 pub fn linear<A: Allocator + Clone>(
     memory: &Pages<A>,
     ask: &Ask,
     bound: u64,
 ) -> Result<Found, Fault>
-    ensures value { Reads (λ found. found) result (found_within bound (linear memory.now ask.now)) }
+    ensures value { Reads (λ found. found) result (found_within bound (search_of Layout.Row memory.now ask.now)) }
     ensures found { IsTrue (has_size ask.now) → IsFound Layout.Row memory.now ask.now bound result }
 {
     if has_size(ask) {
@@ -108,13 +108,13 @@ pub fn linear<A: Allocator + Clone>(
 /// isn't in memory.
 ///
 /// It is `More` exactly where more than `bound` probes would begin.
-#[tactic(auto, unfolding(crate::proofs::Finding::searching_list), using(crate::proofs::Finding::searched_is))]
+#[tactic(auto, unfolding(crate::proofs::Finding::searching), using(crate::proofs::Finding::searched_is))]
 pub fn linked<A: Allocator + Clone>(
     memory: &Pages<A>,
     ask: &Ask,
     bound: u64,
 ) -> Result<Found, Fault>
-    ensures value { Reads (λ found. found) result (found_within bound (linked memory.now ask.now)) }
+    ensures value { Reads (λ found. found) result (found_within bound (search_of Layout.List memory.now ask.now)) }
     ensures found { IsTrue (has_size ask.now) → IsFound Layout.List memory.now ask.now bound result }
 {
     if has_size(ask) {

@@ -44,15 +44,15 @@ use Rattle.gx_session.specs.Questions.{turn_of, request_for}
 use Rattle.gx_session.specs.Reading.{ReadsFew}
 use Rattle.glk_replies.specs.Parts.{replies}
 use Rattle.gx_session.specs.Constants.{failed}
-use Rattle.gx_session.specs.Saving.{is_save_begun, is_restore_begun, saving, restoring, IsReadBack}
+use Rattle.gx_session.specs.Saving.{is_save_begun, is_restore_begun, saving, restoring}
 use Rattle.gx_session.specs.Configurations.{Configuration, Phase, steps, asks, goes_on, goes, stops}
 use Rattle.gx_session.specs.Moves.{after_reply, after_restoring, asking_for, after_turn, after_given}
-use Rattle.gx_session.specs.Moves.{request_of, after_line, after_asking, given_of, shelf_gives, after_effect}
+use Rattle.gx_session.specs.Moves.{request_of, after_line, given_of, shelf_gives, act_by, after_effect}
 use Rattle.gx_session.specs.Asked.{effect_at, asked, asked_at}
 use Rattle.gx_session.specs.Holding.{SendStep, Handed, HeldRun, WordIs, History, configuration_of, IsHistory}
 use Rattle.gx_session.specs.Standing.{act_of, Standing, Ready, Going, IsInCall, HasStopped, Early, Follows, Resumes}
 use Rattle.gx_session.specs.Standing.{ResumesWithReply, TakesTurn, GoesOn, TakesInput}
-use Rattle.gx_session.specs.Outcomes.{EventGives, FaultGives}
+use Rattle.gx_session.specs.Outcomes.{IsReadBack, EventGives, FaultGives}
 use Rattle.gx_session.proofs.Parts.{AnswerWants, BeginsSave, RestoreWants}
 use Rattle.std.specs.Prelude.{IsOkAnd}
 use Rattle.gx_session.proofs.Calling.{answered-and}
@@ -124,7 +124,7 @@ request-is (asks-for.Store name bytes) = refl
 request-is (asks-for.Remove name) = refl
 request-is (asks-for.Has name) = refl
 
-pub question-gives : (m : Configuration) (w : Waiting) (q : Question) → after_asking m w (turn_of q) ≡ shelf_gives m w (Some (request_for q))
+pub question-gives : (m : Configuration) (w : Waiting) (q : Question) → act_by (asks (turn_of q) w) m ≡ shelf_gives m w (Some (request_for q))
 question-gives m w (asks-for.Load name) = refl
 question-gives m w (asks-for.Store name bytes) = refl
 question-gives m w (asks-for.Remove name) = refl
@@ -152,7 +152,7 @@ takes-fine : {X : Type 0} (G : Type 0) (P : X → Type 0) (r : Result X Fault) (
 takes-fine {X} G P r x e takes = subst (λ (y : Result X Fault). IsOkAnd y (λ x. G ⊎ P x)) (sym e) (inr takes)
 
 -- a turn that waits
-pub wait-asks : (m : Configuration) (w : Waiting) (t : Turn) → IsWait t → after_asking m w t ≡ after_line m w (next_line m.input)
+pub wait-asks : (m : Configuration) (w : Waiting) (t : Turn) → IsWait t → act_by (asks t w) m ≡ after_line m w (next_line m.input)
 wait-asks m w turn.Wait is = refl
 wait-asks m w turn.Prompt is = refl
 wait-asks m w (turn.Answer reply) is = absurd is
@@ -291,7 +291,7 @@ module _ {K : Type 0} {sending : SendStep K} (start : Configuration) (entry : Ha
     -- An asking: the machine stands as before the step, and nothing more is recorded.
     pub record Asks (machine : FlatMachine) (recorded : Option Log) (does : Effect) : Type 0 where
       pub going : Going start entry (record h { machine = machine; log = recorded }) d
-      pub event : let m = configuration_of going.now.past steps (record h { machine = machine; log = recorded }) d in act_of m ≡ after_effect m left h.machine does
+      pub event : let m = configuration_of going.now.past steps (record h { machine = machine; log = recorded }) d in act_of m ≡ after_effect m left (Ok (h.machine, does))
       pub asking_is : let m = configuration_of going.now.past steps (record h { machine = machine; log = recorded }) d in asked m ≡ asking_of does
       pub effect_is : let m = configuration_of going.now.past steps (record h { machine = machine; log = recorded }) d in effect_at m ≡ Some does
 
@@ -550,22 +550,22 @@ module _ {K : Type 0} {sending : SendStep K} (start : Configuration) (entry : Ha
 
     pub put-does : (c : ℕ) (flat : FlatState) (r : Result (Said × Reply) Fault) → does ≡ effect.Put c → flat ≡ h.machine.flat → putting h.world.scene flat c ≡ r → act_of asking-here ≡ after_reply asking-here left r
     put-does c flat r is same e =
-        a.event ∙ ap (after_effect asking-here left h.machine) is ∙ ap (after_reply asking-here left) (subst (λ (x : FlatState). putting h.world.scene x c ≡ r) same e)
+        a.event ∙ ap (λ (e : Effect). after_effect asking-here left (Ok (h.machine, e))) is ∙ ap (after_reply asking-here left) (subst (λ (x : FlatState). putting h.world.scene x c ≡ r) same e)
 
     pub call-does : (selector : ℕ) (args : ArrayVec ℕ) (xs : List ℕ) (w : Waiting) (flat : FlatState) (r : Result (Said × Turn) Fault) → does ≡ effect.Glk selector args w.room → left ≡ w.left
         → flat ≡ h.machine.flat → xs ≡ args.items → glk_call h.world.scene flat w.room selector xs ≡ r → act_of asking-here ≡ after_turn asking-here w r
     call-does selector args xs w flat r is units same listed e =
-        a.event ∙ ap (after_effect asking-here left h.machine) is
+        a.event ∙ ap (λ (e : Effect). after_effect asking-here left (Ok (h.machine, e))) is
         ∙ ap (λ (n : ℕ). after_turn asking-here (record { room = w.room; left = n }) (glk_call h.world.scene h.machine.flat w.room selector args.items)) units
         ∙ ap (after_turn asking-here w)
         (subst (λ (ys : List ℕ). glk_call h.world.scene h.machine.flat w.room selector ys ≡ r) listed (subst (λ (x : FlatState). glk_call h.world.scene x w.room selector xs ≡ r) same e))
 
     pub saving-does : (stream : ℕ) (r : Result (Said × Reply) Fault) → does ≡ effect.Save stream → saving h.world.scene h.machine.flat stream ≡ r → act_of asking-here ≡ after_reply asking-here left r
-    saving-does stream r is e = a.event ∙ ap (after_effect asking-here left h.machine) is ∙ ap (after_reply asking-here left) e
+    saving-does stream r is e = a.event ∙ ap (λ (e : Effect). after_effect asking-here left (Ok (h.machine, e))) is ∙ ap (after_reply asking-here left) e
 
     pub restoring-does : (stream : ℕ) (r : Result (Said × Option Copy) Fault) → does ≡ effect.Restore stream → restoring h.world.scene h.machine.flat stream ≡ r
         → act_of asking-here ≡ after_restoring asking-here left r
-    restoring-does stream r is e = a.event ∙ ap (after_effect asking-here left h.machine) is ∙ ap (after_restoring asking-here left) e
+    restoring-does stream r is e = a.event ∙ ap (λ (e : Effect). after_effect asking-here left (Ok (h.machine, e))) is ∙ ap (after_restoring asking-here left) e
 
     -- What Glk does for it may want memory, and so may the reply.
     abbrev AsksMemory : Type 0

@@ -4,7 +4,7 @@ use Rattle.std.proofs.Common.{append_assoc, append-nil, arith}
 use Rattle.gx_outside.specs.Chains.{Chain, IsCalled}
 use Rattle.gx_outside.specs.Files.{Files}
 use Rattle.gx_outside.specs.Outside.{FlatShelf}
-use Rattle.gx_outside.specs.Shelves.{Request, loads, stores, removes, looks, Answer, loaded, stored, Exchange, Trace, AnswerMayWant, answer_for, files_after, files_left, told_by, ShelfCall}
+use Rattle.gx_outside.specs.Shelves.{Request, loads, stores, removes, looks, Answer, loaded, stored, Exchange, Trace, AnswerMayWant, answer_for, files_after, told_by, ShelfCall}
 use Rattle.gx_outside.specs.declared.devices.Load.TheVariants.{Found}
 use Rattle.gx_outside.specs.declared.devices.ShelfFault.{ShelfFault}
 use Rattle.gx_outside.specs.declared.devices.ShelfFault.TheVariants as fault
@@ -152,7 +152,15 @@ replayed-told whole asked ((r, Err fault.Failed) ∷ trace) is = tt
 replayed-told whole asked ((r, Err fault.NoMemory) ∷ trace) is =
     subst (AnswerMayWant r) (sym (ap (λ (t : Trace). replayed t asked r) is ∙ replayed-at asked trace (r, Err fault.NoMemory) r)) (may-want r)
 
--- the answers of a shelf that tells
+-- the answers of a shelf that tells: those of the files after some calls
+abbrev files_left : Files → Trace → Files
+files_left files [] = files
+files_left files (c ∷ trace) = files_left (files_after files c.0) trace
+
+told-left : (files : Files) (trace : Trace) (r : Request) → told_by files trace r ≡ answer_for (files_left files trace) r
+told-left files [] r = refl
+told-left files (c ∷ trace) r = told-left (files_after files c.0) trace r
+
 left-more : (files : Files) (asked : Trace) (c : Exchange) → files_left files (asked ++ c ∷ []) ≡ files_after (files_left files asked) c.0
 left-more files [] c = refl
 left-more files (e ∷ asked) c = left-more (files_after files e.0) asked c
@@ -161,12 +169,12 @@ files-told : (s t : FlatShelf) (files : Files) (asked trace : Trace) → Chain S
 files-told s t files asked [] chain tells same = tt
 files-told s t files asked ((r, Ok answer) ∷ trace) chain tells same =
     let does = chain.1.files tells in (
-      ap (λ (f : Files). answer_for f r) (sym same) ∙ sym does.0,
+      told-left files asked r ∙ ap (λ (f : Files). answer_for f r) (sym same) ∙ sym does.0,
       files-told chain.0 t files (asked ++ (r, Ok answer) ∷ []) trace chain.2 (chain.1.tells ∙ tells)
           (does.1 ∙ ap (λ (f : Files). files_after f r) same ∙ sym (left-more files asked (r, Ok answer))),
     )
 files-told s t files asked ((r, Err fault.Failed) ∷ trace) chain tells same = tt
-files-told s t files asked ((r, Err fault.NoMemory) ∷ trace) chain tells same = subst (λ (f : Files). AnswerMayWant r (answer_for f r)) same (chain.1.files tells).1
+files-told s t files asked ((r, Err fault.NoMemory) ∷ trace) chain tells same = subst (AnswerMayWant r) (ap (λ (f : Files). answer_for f r) same ∙ sym (told-left files asked r)) (chain.1.files tells).1
 
 answers-by : (s t : FlatShelf) (trace : Trace) (b : Bool) → s.tells ≡ b → Chain ShelfCall s trace t
     → (answers : Trace → Request → Answer) × (s.tells ≡ true → answers ≡ told_by s.files) × AreTold answers [] trace

@@ -10,9 +10,9 @@ use Rattle.glk_replies.specs.declared.Turn.TheVariants as turn
 use Rattle.gx_session.specs.declared.ends.Stop.TheVariants as stop
 use Rattle.gx_session.specs.declared.running.Waiting.{Waiting}
 use Rattle.gx_session.specs.Input.{NextLine, too_long, none, line, next_line}
-use Rattle.gx_session.specs.Configurations.{Configuration, Verdict, stops}
+use Rattle.gx_session.specs.Configurations.{Configuration, Verdict, asks as asks-for, stops}
 use Rattle.gx_session.specs.Moves.{after_reply, asking_for, after_turn, after_given, after_line}
-use Rattle.gx_session.specs.Moves.{shelf_gives, after_asking}
+use Rattle.gx_session.specs.Moves.{shelf_gives, act_by}
 
 module _ (P : Verdict → Type 0) (m : Configuration) where
   -- a turn
@@ -56,7 +56,7 @@ module _ (P : Verdict → Type 0) (m : Configuration) where
   line-cases w (line chars rest) long ended taken = taken chars rest
 
   -- what a device gives
-  pub asking-cases : (w : Waiting) (t : Turn) → P (after_line m w (next_line m.input)) → ((r : Request) → P (shelf_gives m w (Some r))) → P (stops stop.Stuck m) → P (after_asking m w t)
+  pub asking-cases : (w : Waiting) (t : Turn) → P (after_line m w (next_line m.input)) → ((r : Request) → P (shelf_gives m w (Some r))) → P (stops stop.Stuck m) → P (act_by (asks-for t w) m)
   asking-cases w (turn.Answer reply) lines gives stuck = stuck
   asking-cases w turn.Wait lines gives stuck = lines
   asking-cases w turn.Stuck lines gives stuck = stuck

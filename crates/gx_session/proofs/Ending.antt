@@ -23,7 +23,7 @@ use Rattle.gx_session.specs.Constants.{status_shelf_fault, status_input_fault, s
 use Rattle.gx_session.specs.Counts.{FailureCounts}
 use Rattle.gx_session.specs.Cuts.{by_memory, by_shelf, cut_status, IsLineStop}
 use Rattle.gx_session.specs.Devices.{Devices}
-use Rattle.gx_session.specs.Endings.{Store, stores_of, store_call, told_all}
+use Rattle.gx_session.specs.Endings.{stores_of, store_call, told_all}
 use Rattle.gx_session.specs.Sending.{whole_send}
 use Rattle.gx_session.specs.Configurations.{Configuration}
 use Rattle.gx_session.specs.Session.{RunEnd, final_of, stop_status, fault_number, fault_address}
@@ -123,7 +123,7 @@ module _ {K : Type 0} {sending : SendStep K} (start : Configuration) (entry : Ha
     no-failures of_shelf.NoMemory = refl
 
     -- one of them was refused
-    some-refused : (fault : ShelfFault) (front rest : List Store) (next : Store) → stores_of h.world.scene ≡ front ++ next ∷ rest → asked ≡ map store_call front ++ (stores next.0 next.1, Err fault) ∷ []
+    some-refused : (fault : ShelfFault) (front rest : List (List ℕ × List ℕ)) (next : List ℕ × List ℕ) → stores_of h.world.scene ≡ front ++ next ∷ rest → asked ≡ map store_call front ++ (stores next.0 next.1, Err fault) ∷ []
         → Early start entry h asking d-now (halt_of_shelf fault)
     some-refused fault front rest next files asked-are =
         let m : Configuration = record (told_all stopped) { asked = stopped.asked ++ map store_call front } in

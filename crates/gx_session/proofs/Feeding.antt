@@ -8,11 +8,11 @@ use Rattle.gx_outside.specs.declared.devices.Failed.{Failed}
 use Rattle.gx_session.specs.declared.lines.NoLine.{NoLine}
 use Rattle.gx_session.specs.declared.lines.NoLine.TheVariants as no
 use Rattle.gx_session.specs.Constants.{longest_line, piece}
-use Rattle.gx_session.specs.Input.{line, chars_of, next_line}
-use Rattle.gx_session.specs.Lines.{HeldLines}
+use Rattle.gx_session.specs.Input.{line, next_line}
+use Rattle.gx_session.specs.Lines.{HeldLines, chars_of}
 use Rattle.gx_session.specs.Reading.{IsComing, IsOver, ReadStep, Fed, FillsBy, spare, ReadsFew, Takes, GainsPiece}
-use Rattle.gx_session.specs.Reading.{SayEnd, Fills, HoldsFew}
-use Rattle.gx_session.specs.Reads.{bytes_read, IsPartial}
+use Rattle.gx_session.specs.Reading.{SayEnd, Fills, HoldsFew, IsPartial}
+use Rattle.gx_session.specs.Reads.{bytes_read}
 use Rattle.gx_session.proofs.Calling.{chain-append}
 use Rattle.gx_session.proofs.Storing.{raised-more}
 use Rattle.gx_session.proofs.NextLines.{pos, next-long, next-held, next-last, next-none}

@@ -23,9 +23,9 @@ use Rattle.gx_session.specs.Constants.{enough as enough_text}
 use Rattle.gx_session.specs.declared.running.Waiting.{Waiting}
 use Rattle.gx_session.specs.Input.{next_line}
 use Rattle.gx_session.specs.Saving.{saving, restoring}
-use Rattle.gx_session.specs.Sending.{Sent, pending, is_due}
+use Rattle.gx_session.specs.Sending.{pending, is_due}
 use Rattle.gx_session.specs.Configurations.{Configuration, Phase, steps, asks, goes_on, Verdict, goes, stops}
-use Rattle.gx_session.specs.Moves.{after_reply, after_restoring, after_turn, after_effect, after_step}
+use Rattle.gx_session.specs.Moves.{after_reply, after_restoring, after_turn, after_effect}
 use Rattle.gx_session.specs.Moves.{act_by, is_due_by, sends_now, all_sent, move_of}
 use Rattle.gx_session.specs.Session.{RunEnd, end_after, final_in, moves_by, stop_of, next_configuration}
 use Rattle.gx_session.specs.Session.{run_of}
@@ -39,7 +39,7 @@ at-most-one true = omega arith
 at-most-one false = omega arith
 
 -- Once all text is sent none is due.
-none-due : (enough : ℕ) (s : Sent) (text : List ℕ) → 0 < enough → is_due enough (with_all s text) text ≡ false
+none-due : (enough : ℕ) (s : List (List ℕ)) (text : List ℕ) → 0 < enough → is_due enough (with_all s text) text ≡ false
 none-due enough s text some =
     let size : length (concat (with_all s text)) ≡ length (concat s) + (length (pending s text) + 0) =
     ap length (concat-append s (pending s text ∷ [])) ∙ length-append (concat s) (pending s text ++ []) ∙ ap (λ (n : ℕ). length (concat s) + n) (length-append (pending s text) []) in
@@ -47,7 +47,7 @@ none-due enough s text some =
     let none : length (pending (with_all s text) text) ≡ length text - length (concat (with_all s text)) = length-drop (length (concat (with_all s text))) text in
     lt-leb enough (length (pending (with_all s text) text)) (omega arith)
 
-pub quiet-sent : (phase : Phase) (s : Sent) (text : List ℕ) → is_due_by phase (with_all s text) text ≡ false
+pub quiet-sent : (phase : Phase) (s : List (List ℕ)) (text : List ℕ) → is_due_by phase (with_all s text) text ≡ false
 quiet-sent steps s text = none-due enough_text s text (omega arith)
 quiet-sent (asks t w) s text = none-due 1 s text (omega arith)
 quiet-sent (goes_on g w) s text = refl
@@ -95,7 +95,7 @@ went-near n left b less =
     omega arith
 
 -- a step that leaves so many units
-effected-near : (n : ℕ) (m : Configuration) (left : ℕ) (machine : FlatMachine) (does : Effect) → m.phase ≡ steps → 5 * left + 4 < n → Near n (after_effect m left machine does)
+effected-near : (n : ℕ) (m : Configuration) (left : ℕ) (machine : FlatMachine) (does : Effect) → m.phase ≡ steps → 5 * left + 4 < n → Near n (after_effect m left (Ok (machine, does)))
 effected-near n m left machine effect.Went is less =
     subst (λ (d : Phase). moves_by d left + (if is_due_by d m.sent m.world.text then 1 else 0) < n) (sym is) (went-near n left (is_due enough_text m.sent m.world.text) less)
 effected-near n m left machine effect.Drew is less =
@@ -108,12 +108,12 @@ effected-near n m left machine (effect.Restore stream) is less = restored-near n
 effected-near n m left machine effect.Quit is less = tt
 effected-near n m left machine effect.Spent is less = tt
 
-stepped-near : (n : ℕ) (m : Configuration) (left : ℕ) (r : Result (FlatMachine × Effect) Fault) → m.phase ≡ steps → 5 * left + 4 < n → Near n (after_step m left r)
+stepped-near : (n : ℕ) (m : Configuration) (left : ℕ) (r : Result (FlatMachine × Effect) Fault) → m.phase ≡ steps → 5 * left + 4 < n → Near n (after_effect m left r)
 stepped-near n m left (Ok r) is less = effected-near n m left r.0 r.1 is less
 stepped-near n m left (Err f) is less = tt
 
 tested-near : (m : Configuration) (cost : ℕ) (r : Result (FlatMachine × Effect) Fault) (b : Bool) → m.phase ≡ steps → nat_lt m.left cost ≡ b → 1 ≤ cost
-    → Near (5 * m.left) (if b then stops stop.Spent m else after_step m (m.left - cost) r)
+    → Near (5 * m.left) (if b then stops stop.Spent m else after_effect m (m.left - cost) r)
 tested-near m cost r true phase is positive = tt
 tested-near m cost r false phase is positive =
     let enough : cost ≤ m.left = ltb-false m.left cost is in

@@ -4,7 +4,8 @@ use Rattle.std.specs.List.{position_or_len, before_first, after_first}
 use Rattle.std.proofs.lemmas.Bool.{le-leb, lt-leb, ne_eqb, cases_lt}
 use Rattle.std.proofs.lemmas.List.{take-append-le, drop-append-le, length-take, take_all, length-drop}
 use Rattle.gx_session.specs.Constants.{longest_line}
-use Rattle.gx_session.specs.Input.{too_long, none, line, is_line_feed, chars_of, next_line}
+use Rattle.gx_session.specs.Input.{too_long, none, line, is_line_feed, next_line}
+use Rattle.gx_session.specs.Lines.{chars_of}
 
 -- where the first line feed stands
 abbrev pub pos : List ℕ → ℕ

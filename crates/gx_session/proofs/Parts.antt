@@ -24,12 +24,12 @@ use Rattle.gx_session.specs.Cuts.{RunCut, by_memory, AsksFor, IsLineStop}
 use Rattle.gx_session.specs.Moves.{act_by, sends_now}
 use Rattle.gx_session.specs.Session.{moves_by, final_of}
 use Rattle.gx_session.specs.Saving.{is_save_begun}
-use Rattle.gx_session.specs.Sending.{Sent, pending}
+use Rattle.gx_session.specs.Sending.{pending}
 use Rattle.gx_session.specs.Wants.{IsWait, ReplyWants}
 use Rattle.rand_core.specs.Stream.{Stream, next_u32}
 
 -- all of the text is sent
-abbrev pub with_all : Sent → List ℕ → Sent
+abbrev pub with_all : List (List ℕ) → List ℕ → List (List ℕ)
 with_all s text = s ++ pending s text ∷ []
 
 -- the configuration once the last screen is shown, where the screen is composed

@@ -29,9 +29,9 @@ use Rattle.gx_session.specs.Cuts.{IsLineStop, asking_between, refused_sends, ref
 use Rattle.gx_session.specs.Wants.{IsWait, WantsMemory}
 use Rattle.gx_session.specs.Endings.{told_all}
 use Rattle.gx_session.specs.Questions.{AreAnswered, AreTold}
-use Rattle.gx_session.specs.Reads.{IsPartial}
+use Rattle.gx_session.specs.Reading.{IsPartial}
 use Rattle.gx_session.specs.Reading.{spare, ReadsFew}
-use Rattle.gx_session.specs.Sending.{Sent, pending, is_due, whole_send}
+use Rattle.gx_session.specs.Sending.{pending, is_due, whole_send}
 use Rattle.gx_session.specs.Configurations.{Configuration, Phase, steps, asks, goes, stops}
 use Rattle.gx_session.specs.Moves.{request_of, move_of, is_due_by, sends_now, all_sent}
 use Rattle.gx_session.specs.Session.{RunEnd, final_of}
@@ -90,15 +90,15 @@ words-left None stream words is = inl (sym is)
 words-left (Some w) stream words is = inr (sym (ap (λ (p : ℕ × Stream). p.1) is))
 
 -- what is pending of a text of which this was sent
-pub pending-is : (sent : Sent) (text : List ℕ) → pending sent (concat sent ++ text) ≡ text
+pub pending-is : (sent : List (List ℕ)) (text : List ℕ) → pending sent (concat sent ++ text) ≡ text
 pending-is sent text = drop-append_seam (concat sent) text
 
-has-taken : {K : Type 0} (sending : SendStep K) (entry now now' : K) (sent : Sent) (text : List ℕ) → HasTaken sending entry now sent → sending now (whole_send text) now' → HasTaken sending entry now' (sent ++ text ∷ [])
+has-taken : {K : Type 0} (sending : SendStep K) (entry now now' : K) (sent : List (List ℕ)) (text : List ℕ) → HasTaken sending entry now sent → sending now (whole_send text) now' → HasTaken sending entry now' (sent ++ text ∷ [])
 has-taken sending entry now now' sent text before call =
     subst (λ (t : List Send). Chain sending entry t now') (sym (map-append whole_send sent (text ∷ []))) (chain-append sending entry now now' (map whole_send sent) (whole_send text ∷ []) before (now', call, refl))
 
 -- what is due of it
-due-is : (enough : ℕ) (sent : Sent) (text : List ℕ) (b : Bool) → nat_le enough (length text) ≡ b → is_due enough sent (concat sent ++ text) ≡ b
+due-is : (enough : ℕ) (sent : List (List ℕ)) (text : List ℕ) (b : Bool) → nat_le enough (length text) ≡ b → is_due enough sent (concat sent ++ text) ≡ b
 due-is enough sent text b e = ap (λ (x : List ℕ). nat_le enough (length x)) (pending-is sent text) ∙ e
 
 units-used : (first left units : ℕ) → left ≤ first → left ≡ units → first - left + units ≡ first
@@ -133,7 +133,7 @@ cut-at start entry exit h asking why moves cut m sends is status machine left lo
 }
 
 -- no call was refused
-pub none-sent : (sent : Sent) → map whole_send sent ≡ map whole_send sent ++ []
+pub none-sent : (sent : List (List ℕ)) → map whole_send sent ≡ map whole_send sent ++ []
 none-sent sent = sym (append-nil (map whole_send sent))
 
 pub none-asked : (asked : Trace) → asked ≡ asked ++ []
@@ -331,7 +331,7 @@ module _ {K : Type 0} {sending : SendStep K} (start : Configuration) (entry : Ha
         subst (λ (x : FlatWorld). Ready start entry (record h { world = x }) (record d { sink = sink }) phase) (sym same-world)
         (subst (λ (k : K). Ready start entry h (record d { sink = k }) phase) (sym same-sink) g)
 
-    module _ (phase : Phase) (enough : ℕ) (due : (s : Sent) (text : List ℕ) → is_due_by phase s text ≡ is_due enough s text) where
+    module _ (phase : Phase) (enough : ℕ) (due : (s : List (List ℕ)) (text : List ℕ) → is_due_by phase s text ≡ is_due enough s text) where
       due-now : (s : Standing start entry h d phase) (b : Bool) → nat_le enough (length h.world.text) ≡ b → sends_now (here phase s) ≡ b
       due-now s b e = due (here phase s).sent (here phase s).world.text ∙ due-is enough s.past.sent h.world.text b e
 
@@ -390,7 +390,7 @@ module _ {K : Type 0} {sending : SendStep K} (start : Configuration) (entry : Ha
         (words-left h.word d.words p.words past.word) saves
 
     -- The text that is due between two moves was refused.
-    pub cut-send : (phase : Phase) (enough : ℕ) → ((s : Sent) (text : List ℕ) → is_due_by phase s text ≡ is_due enough s text) → (asking : Option Asking) (why : Halt) (g : Standing start entry h d phase)
+    pub cut-send : (phase : Phase) (enough : ℕ) → ((s : List (List ℕ)) (text : List ℕ) → is_due_by phase s text ≡ is_due enough s text) → (asking : Option Asking) (why : Halt) (g : Standing start entry h d phase)
         → asking ≡ asking_between phase (here phase g) → (why ≡ halt.Output) ⊎ (why ≡ halt.NoMemory) → Flushes sending enough d.sink sink h.world world (Err why) → Early start entry h-now asking d-now why
     cut-send phase enough due asking why g asking-is only f =
         let was = was-due enough why (nat_le enough (length h.world.text)) refl f in

@@ -22,7 +22,7 @@ use Rattle.gx_session.specs.Constants.{failed}
 use Rattle.gx_session.specs.Input.{next_line}
 use Rattle.gx_session.specs.Saving.{saving, restoring}
 use Rattle.gx_session.specs.Configurations.{Configuration, Phase, steps, asks, goes_on, Verdict, goes, stops}
-use Rattle.gx_session.specs.Moves.{after_reply, after_restoring, after_turn, after_effect, after_step}
+use Rattle.gx_session.specs.Moves.{after_reply, after_restoring, after_turn, after_effect}
 use Rattle.gx_session.specs.Moves.{act_by, sends_now, all_sent, move_of}
 use Rattle.gx_session.specs.Standing.{act_of}
 use Rattle.gx_session.proofs.Parts.{step_from, moves_left}
@@ -88,7 +88,7 @@ turned-moves m w r units =
     (λ said t. inl (record { machine = refl; log = refl; left = refl; leaves = units })) (λ said t. inl (record { machine = refl; log = refl; left = refl; leaves = units }))
     (λ said. inl (record { log = refl; left = λ a b. refl })) (λ said. inl (record { log = refl; left = λ a b. absurd (a refl) })) (λ f. inl (halted (stop.Faulted f) m))
 
-effected-moves : (m : Configuration) (left : ℕ) (machine : FlatMachine) (does : Effect) → m.phase ≡ steps → left + cost_of m.machine ≡ m.left → Moves m (after_effect m left machine does)
+effected-moves : (m : Configuration) (left : ℕ) (machine : FlatMachine) (does : Effect) → m.phase ≡ steps → left + cost_of m.machine ≡ m.left → Moves m (after_effect m left (Ok (machine, does)))
 effected-moves m left machine effect.Went is units = inr (record { phase = is; log = refl; units = units })
 effected-moves m left machine effect.Drew is units = inr (record { phase = is; log = refl; units = units })
 effected-moves m left machine (effect.Put c) is units = replied-moves m left (putting m.world.scene m.machine.flat c) units
@@ -99,12 +99,12 @@ effected-moves m left machine (effect.Restore stream) is units = restored-moves 
 effected-moves m left machine effect.Quit is units = inr (record { log = refl; units = units })
 effected-moves m left machine effect.Spent is units = inl (record { log = refl; left = λ a b. absurd (b refl) })
 
-stepped-moves : (m : Configuration) (left : ℕ) (r : Result (FlatMachine × Effect) Fault) → m.phase ≡ steps → left + cost_of m.machine ≡ m.left → Moves m (after_step m left r)
+stepped-moves : (m : Configuration) (left : ℕ) (r : Result (FlatMachine × Effect) Fault) → m.phase ≡ steps → left + cost_of m.machine ≡ m.left → Moves m (after_effect m left r)
 stepped-moves m left (Ok r) is units = effected-moves m left r.0 r.1 is units
 stepped-moves m left (Err f) is units = inl (halted (stop.Faulted f) m)
 
 tested-moves : (m : Configuration) (r : Result (FlatMachine × Effect) Fault) (b : Bool) → m.phase ≡ steps → nat_lt m.left (cost_of m.machine) ≡ b
-    → Moves m (if b then stops stop.Spent m else after_step m (m.left - cost_of m.machine) r)
+    → Moves m (if b then stops stop.Spent m else after_effect m (m.left - cost_of m.machine) r)
 tested-moves m r true is less = inl (halted stop.Spent m)
 tested-moves m r false is less =
     let enough : cost_of m.machine ≤ m.left = ltb-false m.left (cost_of m.machine) less in

@@ -6,7 +6,7 @@ use Rattle.gx_session.specs.declared.ends.Stop.{Stop}
 use Rattle.gx_session.proofs.Parts.{BeginsSave}
 use Rattle.gx_state.specs.declared.effects.Effect.TheVariants as effect
 use Rattle.gx_session.specs.Runs.{IsSaved, SavedBefore}
-use Rattle.gx_session.specs.Saving.{IsReadBack}
+use Rattle.gx_session.specs.Outcomes.{IsReadBack}
 use Rattle.gx_session.specs.Configurations.{Configuration, steps, stops}
 use Rattle.gx_session.specs.Moves.{sends_now, move_of}
 use Rattle.gx_session.specs.Session.{next_configuration, run_of}

@@ -29,7 +29,7 @@ use Rattle.quetzal.specs.declared.faults.SaveFault.{SaveFault}
 use Rattle.quetzal.specs.declared.faults.SaveFault.TheVariants as of_save
 use Rattle.gx_session.specs.Outcomes.{MaySave, Refuses}
 use Rattle.gx_session.specs.Constants.{failed}
-use Rattle.gx_session.specs.Saving.{saving, restoring, may_take, is_save_begun}
+use Rattle.gx_session.specs.Saving.{saving, restoring, is_save_begun}
 use Rattle.gx_session.specs.Saving.{is_restore_begun}
 use Rattle.gx_session.proofs.Parts.{may_hold}
 use Rattle.gx_session.proofs.Steps.{ok-is}
@@ -77,6 +77,12 @@ none-taken : (has writable none fits : Bool) → (has && writable && none) ≡ f
 none-taken false writable none fits e only = refl
 none-taken true false none fits e only = refl
 none-taken true true none fits e only = only e
+
+-- a stream may take a save, whatever its length
+abbrev may_take : Scene → ℕ → Bool
+may_take w stream =
+    let s = streams.stream w.streams stream in
+    streams.has w.streams stream && one.writable s && one.window_of s == 0
 
 not-put : (w : Scene) (f : FlatState) (stream : ℕ) (bytes : List ℕ) → may_take w stream ≡ false → put_save w f stream bytes ≡ Ok (silent w, None)
 unfolding put_save

@@ -4,23 +4,23 @@ use Rattle.std.proofs.Common.{arith, append_assoc, append-nil, length-append}
 use Rattle.std.proofs.Math.Seq.{take-append_seam, drop-append_seam}
 use Rattle.std.specs.List.{concat}
 use Rattle.gx_outside.specs.Chains.{Chain}
-use Rattle.gx_outside.specs.Outside.{FlatSink, send_wanted}
+use Rattle.gx_outside.specs.Outside.{FlatSink, send_cause}
 use Rattle.gx_outside.specs.Sends.{Send, SinkCall}
 use Rattle.gx_outside.specs.declared.devices.SendFault.{SendFault}
 use Rattle.gx_outside.specs.declared.devices.SendFault.TheVariants as of_send
 use Rattle.gx_session.specs.Cuts.{RunCut, by_memory, by_sink, by_shelf, by_source, refused_sends}
 use Rattle.gx_session.specs.Runs.{TakesText}
-use Rattle.gx_session.specs.Sending.{Sent, pending, whole_send}
+use Rattle.gx_session.specs.Sending.{pending, whole_send}
 use Rattle.gx_session.specs.Configurations.{Configuration}
 use Rattle.gx_session.proofs.Parts.{IsFront}
 use Rattle.gx_session.proofs.Calling.{chain-split}
 
 -- texts that were taken whole
-pub record TookWhole (a b : FlatSink) (texts : Sent) : Type 0 where
+pub record TookWhole (a b : FlatSink) (texts : List (List ℕ)) : Type 0 where
   pub tells : b.tells ≡ a.tells
   pub all : a.tells ≡ true → b.taken ≡ a.taken ++ concat texts
 
-pub took-whole : (a b : FlatSink) (texts : Sent) → Chain SinkCall a (map whole_send texts) b → TookWhole a b texts
+pub took-whole : (a b : FlatSink) (texts : List (List ℕ)) → Chain SinkCall a (map whole_send texts) b → TookWhole a b texts
 took-whole a b [] same = record {
   tells = ap (λ (s : FlatSink). s.tells) same;
   all = λ t. ap (λ (s : FlatSink). s.taken) same ∙ sym (append-nil a.taken);
@@ -70,7 +70,7 @@ module _ (a b : FlatSink) (m : Configuration) (front : IsFront (concat m.sent) m
       let size : length (concat m.sent ++ more) ≡ length (concat m.sent) + length more = length-append (concat m.sent) more in
       let whole : length m.world.text ≡ length (concat m.sent ++ more) + length rest = ap length text ∙ length-append (concat m.sent ++ more) rest in
       record {
-        wanted = λ e. ap (λ (s : FlatSink). s.calls.wanting) same ∙ call.cause.want ∙ ap (λ (f : SendFault). send_wanted {T = Unit {0}} (Err f)) (fault-same fault of_send.NoMemory e);
+        wanted = λ e. ap (λ (s : FlatSink). s.calls.wanting) same ∙ call.cause.want ∙ ap (λ (f : SendFault). (send_cause {T = Unit {0}} (Err f)).1) (fault-same fault of_send.NoMemory e);
         count = length (concat m.sent ++ more);
         at_least = omega arith;
         at_most = omega arith;

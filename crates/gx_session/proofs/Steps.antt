@@ -11,14 +11,14 @@ use Rattle.gx_machine.specs.Step.{cost_of, step_of, stepped, asking_of}
 use Rattle.gx_machine.proofs.Costs.{cost-positive}
 use Rattle.gx_session.specs.declared.ends.Stop.TheVariants as stop
 use Rattle.gx_session.specs.Configurations.{Configuration, Verdict, stops}
-use Rattle.gx_session.specs.Moves.{after_effect, after_step}
+use Rattle.gx_session.specs.Moves.{after_effect}
 use Rattle.gx_session.specs.Asked.{effect_at, asked}
 use Rattle.rand_core.specs.Stream.{Stream, next_u32}
 use Rattle.gx_session.proofs.Parts.{step_from, effect_of, asked_by}
 
 -- what a step within a budget makes of a configuration
 abbrev verdict_of : Configuration → Result ((Whole × ℕ) × Effect) Fault → Verdict
-verdict_of m (Ok p) = after_effect m p.0.1 p.0.0.machine p.1
+verdict_of m (Ok p) = after_effect m p.0.1 (Ok (p.0.0.machine, p.1))
 verdict_of m (Err f) = stops (stop.Faulted f) m
 
 -- a step that is done, with the units that it leaves
@@ -34,7 +34,7 @@ pub ok-is : {A : Type 0} (x y : A) → (let a : Result A Fault = Ok x in a ≡ O
 ok-is x y e = ap (value_or x) e
 
 tested : (m : Configuration) (asking : Option Asking) (cost : ℕ) (r : Result (FlatMachine × Effect) Fault) (b : Bool)
-    → (if b then stops stop.Spent m else after_step m (m.left - cost) r)
+    → (if b then stops stop.Spent m else after_effect m (m.left - cost) r)
     ≡ verdict_of m (if b then Ok ((record { machine = m.machine; asking = asking }, m.left), effect.Spent) else step-done (m.left - cost) r)
 tested m asking cost r true = refl
 tested m asking cost (Ok p) false = refl
@@ -50,7 +50,7 @@ step-goes m asking word drawn =
 module _ (m : Configuration) (asking : Option Asking) (word : ℕ) (drawn : (next_u32 m.words).0 ≡ word) where
   -- a step that is answered with an effect
   pub step-does : (w : Whole) (left : ℕ) (does : Effect) → stepped (record { machine = m.machine; asking = asking }) word m.left ≡ Ok ((w, left), does)
-      → step_from m ≡ after_effect m left w.machine does
+      → step_from m ≡ after_effect m left (Ok (w.machine, does))
   step-does w left does e = step-goes m asking word drawn ∙ ap (verdict_of m) e
 
   -- a step that is refused

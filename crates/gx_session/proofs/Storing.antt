@@ -10,7 +10,7 @@ use Rattle.gx_outside.specs.Shelves.{stores, Trace}
 use Rattle.gx_outside.specs.declared.devices.ShelfFault.{ShelfFault}
 use Rattle.glk_world.specs.World.{Scene}
 use Rattle.gx_session.specs.declared.ends.Halt.{Halt}
-use Rattle.gx_session.specs.Endings.{Store, store_call}
+use Rattle.gx_session.specs.Endings.{store_call}
 use Rattle.gx_session.specs.Outcomes.{halt_of_shelf}
 use Rattle.gx_session.specs.Finishing.{StoredSome}
 use Rattle.gx_session.proofs.Parts.{named_bytes}
@@ -23,14 +23,14 @@ raised-more (suc n) k count =
     ap raised (raised-more n k count) ∙ ap (λ (x : ℕ). raised_by x count) more
 
 -- more stores, the last of which is refused
-pub stopped-more : (one other : List Store) (before asked : Trace) (why : Halt) → before ≡ map store_call one → StoredSome other asked why → (rest : List Store) → StoredSome (one ++ other ++ rest) (before ++ asked) why
+pub stopped-more : (one other : List (List ℕ × List ℕ)) (before asked : Trace) (why : Halt) → before ≡ map store_call one → StoredSome other asked why → (rest : List (List ℕ × List ℕ)) → StoredSome (one ++ other ++ rest) (before ++ asked) why
 stopped-more one other before asked why first second rest =
     let refused : Trace = (stores second.next.0 second.next.1, Err second.fault) ∷ [] in
     record {
       front = one ++ second.front;
       next = second.next;
       rest = second.rest ++ rest;
-      split = ap (λ (x : List Store). one ++ x ++ rest) second.split ∙ split second.front (second.next ∷ second.rest);
+      split = ap (λ (x : List (List ℕ × List ℕ)). one ++ x ++ rest) second.split ∙ split second.front (second.next ∷ second.rest);
       fault = second.fault;
       calls_are =
           ap (λ (t : Trace). t ++ asked) first ∙ ap (λ (t : Trace). map store_call one ++ t) second.calls_are
@@ -39,8 +39,8 @@ stopped-more one other before asked why first second rest =
       why_is = second.why_is;
     }
   where
-    split : (front back : List Store) → one ++ (front ++ back) ++ rest ≡ (one ++ front) ++ (back ++ rest)
-    split front back = ap (λ (x : List Store). x ++ rest) (sym (append_assoc one front back)) ∙ append_assoc (one ++ front) back rest
+    split : (front back : List (List ℕ × List ℕ)) → one ++ (front ++ back) ++ rest ≡ (one ++ front) ++ (back ++ rest)
+    split front back = ap (λ (x : List (List ℕ × List ℕ)). x ++ rest) (sym (append_assoc one front back)) ∙ append_assoc (one ++ front) back rest
 
 -- what stands at an identifier, of those of a list
 module _ (scene : Scene) (ids : List ℕ) (i : ℕ) (here : i < length ids) where
@@ -48,17 +48,17 @@ module _ (scene : Scene) (ids : List ℕ) (i : ℕ) (here : i < length ids) wher
   front-more = grind (arith, common_steps)
 
   pub stores-front : filter_map (named_bytes scene) (take (i + 1) ids) ≡ filter_map (named_bytes scene) (take i ids) ++ option_to_list (named_bytes scene (get_or ids i 0))
-  stores-front = ap (filter_map (named_bytes scene)) front-more ∙ filter_map-append (named_bytes scene) (take i ids) (get_or ids i 0 ∷ []) ∙ ap (λ (x : List Store). filter_map (named_bytes scene) (take i ids) ++ x) (one (named_bytes scene (get_or ids i 0)))
+  stores-front = ap (filter_map (named_bytes scene)) front-more ∙ filter_map-append (named_bytes scene) (take i ids) (get_or ids i 0 ∷ []) ∙ ap (λ (x : List (List ℕ × List ℕ)). filter_map (named_bytes scene) (take i ids) ++ x) (one (named_bytes scene (get_or ids i 0)))
     where
-      one : (o : Option Store) → filter_map (λ (x : ℕ). o) (0 ∷ []) ≡ option_to_list o
+      one : (o : Option (List ℕ × List ℕ)) → filter_map (λ (x : ℕ). o) (0 ∷ []) ≡ option_to_list o
       one None = refl
       one (Some s) = refl
 
   pub stores-all : filter_map (named_bytes scene) ids ≡ filter_map (named_bytes scene) (take i ids) ++ option_to_list (named_bytes scene (get_or ids i 0)) ++ filter_map (named_bytes scene) (drop (i + 1) ids)
-  stores-all = ap (filter_map (named_bytes scene)) (sym (take-append-drop (i + 1) ids)) ∙ filter_map-append (named_bytes scene) (take (i + 1) ids) (drop (i + 1) ids) ∙ ap (λ (x : List Store). x ++ filter_map (named_bytes scene) (drop (i + 1) ids)) stores-front
+  stores-all = ap (filter_map (named_bytes scene)) (sym (take-append-drop (i + 1) ids)) ∙ filter_map-append (named_bytes scene) (take (i + 1) ids) (drop (i + 1) ids) ∙ ap (λ (x : List (List ℕ × List ℕ)). x ++ filter_map (named_bytes scene) (drop (i + 1) ids)) stores-front
 
 -- one store is refused
-pub store-refused : (o : Option Store) (s : Store) (fault : ShelfFault) → o ≡ Some s → StoredSome (option_to_list o) ((stores s.0 s.1, Err fault) ∷ []) (halt_of_shelf fault)
+pub store-refused : (o : Option (List ℕ × List ℕ)) (s : List ℕ × List ℕ) (fault : ShelfFault) → o ≡ Some s → StoredSome (option_to_list o) ((stores s.0 s.1, Err fault) ∷ []) (halt_of_shelf fault)
 store-refused o s fault is = record {
   front = [];
   next = s;
@@ -70,8 +70,8 @@ store-refused o s fault is = record {
 }
 
 -- none is there, or one is stored
-pub stores-none : (o : Option Store) → o ≡ None → [] ≡ map store_call (option_to_list o)
-stores-none o is = ap (λ (x : Option Store). map store_call (option_to_list x)) (sym is)
+pub stores-none : (o : Option (List ℕ × List ℕ)) → o ≡ None → [] ≡ map store_call (option_to_list o)
+stores-none o is = ap (λ (x : Option (List ℕ × List ℕ)). map store_call (option_to_list x)) (sym is)
 
-pub stores-one : (o : Option Store) (s : Store) → o ≡ Some s → store_call s ∷ [] ≡ map store_call (option_to_list o)
-stores-one o s is = ap (λ (x : Option Store). map store_call (option_to_list x)) (sym is)
+pub stores-one : (o : Option (List ℕ × List ℕ)) (s : List ℕ × List ℕ) → o ≡ Some s → store_call s ∷ [] ≡ map store_call (option_to_list o)
+stores-one o s is = ap (λ (x : Option (List ℕ × List ℕ)). map store_call (option_to_list x)) (sym is)

@@ -18,7 +18,7 @@ use Rattle.gx_session.specs.declared.running.Waiting.{Waiting}
 use Rattle.gx_session.specs.Input.{next_line}
 use Rattle.gx_session.specs.Saving.{saving, restoring}
 use Rattle.gx_session.specs.Configurations.{Configuration, Phase, steps, asks, goes_on, Verdict, goes, stops}
-use Rattle.gx_session.specs.Moves.{after_reply, after_restoring, after_turn, after_effect, after_step}
+use Rattle.gx_session.specs.Moves.{after_reply, after_restoring, after_turn, after_effect}
 use Rattle.gx_session.specs.Moves.{act_by, sends_now, all_sent, move_of}
 use Rattle.gx_session.specs.Standing.{act_of}
 use Rattle.gx_session.specs.Session.{RunEnd, end_after, final_in, stop_of, final_of}
@@ -52,7 +52,7 @@ turned-grows m w r =
     (λ said t. (said.1 ++ (show_grids said.0).1, append_assoc m.world.text said.1 (show_grids said.0).1))
     (λ said. (said.1, refl)) (λ said. (said.1, refl)) (λ f. front-refl m.world.text)
 
-effected-grows : (m : Configuration) (left : ℕ) (machine : FlatMachine) (does : Effect) → IsFront m.world.text (text_in (after_effect m left machine does))
+effected-grows : (m : Configuration) (left : ℕ) (machine : FlatMachine) (does : Effect) → IsFront m.world.text (text_in (after_effect m left (Ok (machine, does))))
 effected-grows m left machine effect.Went = front-refl m.world.text
 effected-grows m left machine effect.Drew = front-refl m.world.text
 effected-grows m left machine (effect.Put c) = replied-grows m left (putting m.world.scene m.machine.flat c)
@@ -62,11 +62,11 @@ effected-grows m left machine (effect.Restore stream) = restored-grows m left (r
 effected-grows m left machine effect.Quit = front-refl m.world.text
 effected-grows m left machine effect.Spent = front-refl m.world.text
 
-stepped-grows : (m : Configuration) (left : ℕ) (r : Result (FlatMachine × Effect) Fault) → IsFront m.world.text (text_in (after_step m left r))
+stepped-grows : (m : Configuration) (left : ℕ) (r : Result (FlatMachine × Effect) Fault) → IsFront m.world.text (text_in (after_effect m left r))
 stepped-grows m left (Ok r) = effected-grows m left r.0 r.1
 stepped-grows m left (Err f) = front-refl m.world.text
 
-tested-grows : (m : Configuration) (left : ℕ) (r : Result (FlatMachine × Effect) Fault) (b : Bool) → IsFront m.world.text (text_in (if b then stops stop.Spent m else after_step m left r))
+tested-grows : (m : Configuration) (left : ℕ) (r : Result (FlatMachine × Effect) Fault) (b : Bool) → IsFront m.world.text (text_in (if b then stops stop.Spent m else after_effect m left r))
 tested-grows m left r true = front-refl m.world.text
 tested-grows m left r false = stepped-grows m left r
 

@@ -25,7 +25,8 @@ use Rattle.ops_print.specs.Rows as print
 use Rattle.gx_machine.specs.Machine.{FlatMachine}
 use Rattle.gx_machine.specs.Answer.{answer_of}
 use Rattle.gx_machine.specs.Saves as whole
-use Rattle.gx_machine.specs.Rows.{row_effect, glk, with_copies, with_both}
+use Rattle.gx_machine.specs.Rows.{row_effect, glk, with_copies}
+use Rattle.gx_machine.proofs.Games.{with_both}
 use Rattle.gx_machine.specs.Step.{cost_of, step_of, mode_step}
 use Rattle.ops_game.specs.Rows as game
 use Rattle.glk_world.specs.World.{Said}
@@ -41,15 +42,55 @@ use Rattle.gx_session.specs.Input.{next_line}
 use Rattle.gx_session.specs.Saving.{saving, restoring}
 use Rattle.gx_session.specs.Configurations.{Configuration, Phase, steps, asks as asks-for, goes_on, Verdict, goes}
 use Rattle.gx_session.specs.Configurations.{stops}
-use Rattle.gx_session.specs.Moves.{after_reply, after_restoring, after_turn, after_given, after_asking, after_effect}
-use Rattle.gx_session.specs.Moves.{after_step, act_by, sends_now, all_sent, move_of}
+use Rattle.gx_session.specs.Moves.{after_reply, after_restoring, after_turn, after_given, after_effect}
+use Rattle.gx_session.specs.Moves.{act_by, sends_now, all_sent, move_of}
 use Rattle.gx_session.proofs.Parts.{step_from}
 use Rattle.gx_session.specs.Standing.{act_of}
 use Rattle.gx_session.specs.Session.{next_configuration, run_of}
-use Rattle.gx_session.specs.Undoing.{Undoing, saves, takes_newest, neither, undoing_next, undoing_row, alive, alive_by, IsTaken, AreTaken, LastsUndo}
+use Rattle.gx_session.specs.Undoing.{alive, alive_by, alive_next, IsTaken, AreTaken, LastsUndo}
 use Rattle.gx_session.proofs.Cases.{turn-cases, given-cases, line-cases, asking-cases}
 use Rattle.gx_session.proofs.Steps.{ok-is}
 use Rattle.rand_core.specs.Stream.{next_u32}
+
+-- what a step is to the copies: a saveundo, a restoreundo or a discardundo, or neither
+data Undoing : Type 0 where
+  saves : Undoing
+  takes_newest : Undoing
+  neither : Undoing
+
+abbrev undoing_row : Class → ℕ → Undoing
+undoing_row class.Game number =
+    if number == numbers.saveundo then saves else
+    if number == numbers.restoreundo || number == numbers.discardundo then takes_newest else neither
+undoing_row c number = neither
+
+abbrev undoing_next : Phase → Mode → Result Instruction Fault → Undoing
+undoing_next steps mode.Running (Ok i) = undoing_row i.row.class i.row.number
+undoing_next d m r = neither
+
+-- and to the saveundos that are alive
+module _ (depth j : ℕ) (live : List ℕ) where
+  abbrev alive_to : Undoing → List ℕ
+  alive_to saves = take depth (j ∷ live)
+  alive_to takes_newest = drop 1 live
+  alive_to neither = live
+
+  kind-alive : (saving taking : Bool) → alive_to (if saving then saves else if taking then takes_newest else neither) ≡ (if saving then take depth (j ∷ live) else if taking then drop 1 live else live)
+  kind-alive true taking = refl
+  kind-alive false true = refl
+  kind-alive false false = refl
+
+  row-alive : (c : Class) (number : ℕ) → alive_to (undoing_row c number) ≡ alive_by depth j live c number
+  row-alive class.Game number = kind-alive (number == numbers.saveundo) (number == numbers.restoreundo || number == numbers.discardundo)
+  row-alive c number = refl
+
+  next-alive : (d : Phase) (m : Mode) (r : Result Instruction Fault) → alive_to (undoing_next d m r) ≡ alive_next depth j live d m r
+  next-alive steps mode.Running (Ok i) = row-alive i.row.class i.row.number
+  next-alive d m r = refl
+
+  moved-alive : (d : Phase) (m : Mode) (r : Result Instruction Fault) (b : Bool) → alive_to (if b then neither else undoing_next d m r) ≡ (if b then live else alive_next depth j live d m r)
+  moved-alive d m r true = refl
+  moved-alive d m r false = next-alive d m r
 
 -- what a step is to the copies, and a move
 abbrev undoing_in : Mode → Result Instruction Fault → Undoing
@@ -63,7 +104,8 @@ undoing_move m = if sends_now m then neither else undoing_next m.phase m.machine
 
 -- the saveundos that are alive after a move
 abbrev alive_from : ℕ → ℕ → List ℕ → Option Configuration → List ℕ
-alive_from depth j live o = option_map_or (λ (m : Configuration). alive_by depth j live (undoing_move m)) o live
+alive_from depth j live o =
+    option_map_or (λ (m : Configuration). if sends_now m then live else alive_next depth j live m.phase m.machine.flat.mode (instruction m.machine.flat)) o live
 
 -- what a step makes of the copies, by what it is to them
 abbrev Undone : FlatMachine → FlatUndo → Effect → Undoing → Type 0
@@ -119,8 +161,7 @@ others-stay f u word i not-saves not-restores not-discards =
     stays-if u _ _ _ (stays-lifted u (game.getiosys f i)) (
     stays-if u _ _ _ (stays-lifted u (game.setiosys f i)) (
     stays-if u _ _ _ (stays-lifted u (row-goes f i)) (
-    stays-if u _ _ _ (stays-lifted u (row-goes f i)) (
-    stays-faulted u BadOpcode))))))))))))))))))))
+    stays-faulted u BadOpcode)))))))))))))))))))
 
 saves-row : (f : FlatState) (u : FlatUndo) (word : ℕ) (i : Instruction) → i.row.number ≡ numbers.saveundo → game.row_effect f u word i ≡ game.saveundo f u i
 unfolding game.row_effect
@@ -272,7 +313,7 @@ turned-undo : (m : Configuration) (w : Waiting) (r : Result (Said × Turn) Fault
 turned-undo m w r =
     turn-cases (KeepsUndo m.machine.undo) m w r (λ said reply. replied-undo m w.left (Ok (said, reply))) (λ said t. refl) (λ said t. refl) (λ said. tt) (λ said. tt) (λ f. tt)
 
-asked-undo : (m : Configuration) (w : Waiting) (t : Turn) → KeepsUndo m.machine.undo (after_asking m w t)
+asked-undo : (m : Configuration) (w : Waiting) (t : Turn) → KeepsUndo m.machine.undo (act_by (asks-for t w) m)
 asked-undo m w t =
     asking-cases (KeepsUndo m.machine.undo) m w t (line-cases (KeepsUndo m.machine.undo) m w (next_line m.input) tt tt (λ chars rest. refl)) (λ r. refl) tt
 
@@ -282,7 +323,7 @@ given-undo m w r = given-cases (KeepsUndo m.machine.undo) m w r (λ said reply. 
 kept-undo : (u : FlatUndo) (v : Verdict) (m' : Configuration) → KeepsUndo u v → v ≡ goes m' → u ≡ m'.machine.undo
 kept-undo u v m' keeps e = subst (KeepsUndo u) e keeps
 
-effected-undone : (m : Configuration) (left : ℕ) (machine : FlatMachine) (does : Effect) (m' : Configuration) → after_effect m left machine does ≡ goes m'
+effected-undone : (m : Configuration) (left : ℕ) (machine : FlatMachine) (does : Effect) (m' : Configuration) → after_effect m left (Ok (machine, does)) ≡ goes m'
     → Undone m.machine machine.undo does (undoing m.machine.flat) → Undone m.machine m'.machine.undo does (undoing m.machine.flat)
 effected-undone m left machine effect.Went m' e is =
     let same : machine.undo ≡ m'.machine.undo = cc in
@@ -310,11 +351,11 @@ record Undid (m : FlatMachine) (u : FlatUndo) (kind : Undoing) : Type 0 where
   does : Effect
   undone : Undone m u does kind
 
-stepped-undid : (m : Configuration) (left word : ℕ) (r : Result (FlatMachine × Effect) Fault) (m' : Configuration) → step_of m.machine word ≡ r → after_step m left r ≡ goes m' → Undid m.machine m'.machine.undo (undoing m.machine.flat)
+stepped-undid : (m : Configuration) (left word : ℕ) (r : Result (FlatMachine × Effect) Fault) (m' : Configuration) → step_of m.machine word ≡ r → after_effect m left r ≡ goes m' → Undid m.machine m'.machine.undo (undoing m.machine.flat)
 stepped-undid m left word (Ok r) m' is e = record { does = r.1; undone = effected-undone m left r.0 r.1 m' e (step-undone m.machine word r.0 r.1 is) }
 stepped-undid m left word (Err f) m' is e = cc
 
-tested-undid : (m : Configuration) (left word : ℕ) (m' : Configuration) (b : Bool) → (if b then stops stop.Spent m else after_step m left (step_of m.machine word)) ≡ goes m' → Undid m.machine m'.machine.undo (undoing m.machine.flat)
+tested-undid : (m : Configuration) (left word : ℕ) (m' : Configuration) (b : Bool) → (if b then stops stop.Spent m else after_effect m left (step_of m.machine word)) ≡ goes m' → Undid m.machine m'.machine.undo (undoing m.machine.flat)
 tested-undid m left word m' true e = cc
 tested-undid m left word m' false e = stepped-undid m left word (step_of m.machine word) m' refl e
 
@@ -326,7 +367,7 @@ stood-undid m u same = record { does = effect.Went; undone = sym same }
 
 act-undid : (phase : Phase) (m m' : Configuration) → act_by phase m ≡ goes m' → Undid m.machine m'.machine.undo (undoing_next phase m.machine.flat.mode (instruction m.machine.flat))
 act-undid steps m m' e = step-undid m m' e
-act-undid (asks-for t w) m m' e = stood-undid m.machine m'.machine.undo (kept-undo m.machine.undo (after_asking m w t) m' (asked-undo m w t) e)
+act-undid (asks-for t w) m m' e = stood-undid m.machine m'.machine.undo (kept-undo m.machine.undo (act_by (asks-for t w) m) m' (asked-undo m w t) e)
 act-undid (goes_on g w) m m' e =
     stood-undid m.machine m'.machine.undo (kept-undo m.machine.undo (after_given m w (glk_go_on m.world.scene m.machine.flat w.room g)) m' (given-undo m w (glk_go_on m.world.scene m.machine.flat w.room g)) e)
 
@@ -360,7 +401,7 @@ record Lasts (start : Configuration) (j : ℕ) (u : FlatUndo) (live : List ℕ) 
 
 -- one more move
 lasts-on : (start m m' : Configuration) (j : ℕ) (live : List ℕ) (does : Effect) (kind : Undoing) → run_of start j ≡ Some m → Lasts start j m.machine.undo live → Undone m.machine m'.machine.undo does kind
-    → Lasts start (suc j) m'.machine.undo (alive_by start.machine.undo.depth j live kind)
+    → Lasts start (suc j) m'.machine.undo (alive_to start.machine.undo.depth j live kind)
 lasts-on start m m' j live does saves reached now is =
     let c : Copy = copy_of m.machine.flat is.0.dest is.0.next in
     let first : IsTaken start j c = record { configuration = m; i = is.0; reached = reached; decoded = is.1; copy = refl } in
@@ -397,7 +438,8 @@ module _ (start : Configuration) (j : ℕ) (m' : Configuration) where
   lasts-next None is before e = cc
   lasts-next (Some m) is before e =
       let did : Undid m.machine m'.machine.undo (undoing_move m) = move-undid m m' (next-goes (move_of m) m' e) in
-      lasts-on start m m' j (alive start j) did.does (undoing_move m) is (before m is) did.undone
+      subst (λ (live : List ℕ). Lasts start (suc j) m'.machine.undo live) (moved-alive start.machine.undo.depth j (alive start j) m.phase m.machine.flat.mode (instruction m.machine.flat) (sends_now m))
+      (lasts-on start m m' j (alive start j) did.does (undoing_move m) is (before m is) did.undone)
 
 lasts : (start : Configuration) → start.machine.undo.copies ≡ [] → (j : ℕ) (m : Configuration) → run_of start j ≡ Some m → Lasts start j m.machine.undo (alive start j)
 unfolding alive

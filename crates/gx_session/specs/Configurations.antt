@@ -7,7 +7,6 @@ use Rattle.glk_world.specs.World.{FlatWorld}
 use Rattle.glk_replies.specs.declared.Turn.{Turn}
 use Rattle.glk_replies.specs.declared.Given.{Given}
 use Rattle.gx_session.specs.Devices.{Devices}
-use Rattle.gx_session.specs.Sending.{Sent}
 use Rattle.gx_session.specs.declared.ends.Stop.{Stop}
 use Rattle.gx_session.specs.declared.running.Waiting.{Waiting}
 use Rattle.rand_core.specs.Stream.{Stream}
@@ -22,7 +21,7 @@ pub data Phase : Type 0 where
 pub record Configuration : Type 0 where
   pub machine : FlatMachine
   pub world : FlatWorld  -- with all the text that was shown
-  pub sent : Sent  -- what was sent of it, call by call
+  pub sent : List (List ℕ)  -- what was sent of it, call by call
   pub input : List ℕ  -- the bytes of input that weren't taken
   pub echo : Bool  -- each line that is taken is shown
   pub answers : Trace → Request → Answer  -- what the shelf answers to a request, after these calls

@@ -18,7 +18,7 @@ use Rattle.gx_session.specs.Session.{run_of, stop_of, final_of}
 use Rattle.gx_session.specs.Asked.{asked, asked_at}
 use Rattle.gx_session.specs.Sending.{pending, is_due}
 use Rattle.glk_streams.specs.Streams.{open_files}
-use Rattle.gx_session.specs.Endings.{Store, stores_of, store_call, told_all}
+use Rattle.gx_session.specs.Endings.{stores_of, store_call, told_all}
 use Rattle.gx_session.specs.Wants.{IsWait, WantsMemory}
 
 -- What cuts a run short.
@@ -76,8 +76,9 @@ IsCutAtEnd stopped ended by_memory m =
     ⊎ ((m ≡ told_all ended) × (open_files m.world.scene.streams ≢ []))
 IsCutAtEnd stopped ended (by_sink fault) m = (m ≡ ended) × (is_due 1 m.sent m.world.text ≡ true)
 IsCutAtEnd stopped ended (by_shelf r fault) m =
-    (front : List Store) × (next : Store) × (rest : List Store) × (stores_of m.world.scene ≡ front ++ next ∷ rest)
-    × (r ≡ stores next.0 next.1) × (m ≡ record (told_all ended) { asked = ended.asked ++ map store_call front })
+    (front : List (List ℕ × List ℕ)) × (next : List ℕ × List ℕ) × (rest : List (List ℕ × List ℕ))
+    × (stores_of m.world.scene ≡ front ++ next ∷ rest) × (r ≡ stores next.0 next.1)
+    × (m ≡ record (told_all ended) { asked = ended.asked ++ map store_call front })
 IsCutAtEnd stopped ended by_source m = ⊥
 
 -- The run is cut short so after so many moves, or else in its ending.

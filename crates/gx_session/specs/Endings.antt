@@ -9,16 +9,12 @@ use Rattle.gx_session.specs.Configurations.{Configuration}
 use Rattle.gx_session.specs.Moves.{all_sent}
 use Rattle.gx_session.specs.Sending.{is_due}
 
--- a name, and the bytes that are stored under it
-abbrev pub Store : Type 0
-Store = List ℕ × List ℕ
-
--- what is stored at the end
-abbrev pub stores_of : Scene → List Store
+-- what is stored at the end: names, each with the bytes that are stored under it
+abbrev pub stores_of : Scene → List (List ℕ × List ℕ)
 stores_of scene = filter_map (file_of scene.streams) (open_files scene.streams)
 
 -- the call that stores it
-abbrev pub store_call : Store → Exchange
+abbrev pub store_call : List ℕ × List ℕ → Exchange
 store_call s = (stores s.0 s.1, Ok stored)
 
 -- The configuration at the end, once its text is sent.

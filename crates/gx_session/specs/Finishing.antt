@@ -1,5 +1,5 @@
 -- The ending of a run. What contracts say.
-use Rattle.std.specs.Prelude.{◌≡◌, ◌≢◌, ◌<◌, List, [], ◌∷◌, ◌++◌, map, ◌⊎◌, length, Result, Ok, Err, Option, None}
+use Rattle.std.specs.Prelude.{ℕ, ◌≡◌, ◌≢◌, ◌<◌, List, [], ◌∷◌, ◌++◌, map, ◌⊎◌, length, Result, Ok, Err, Option, None}
 use Rattle.gx_machine.specs.declared.askings.Asking.{Asking}
 use Rattle.gx_outside.specs.Outside.{FlatShelf}
 use Rattle.gx_outside.specs.Shelves.{stores, Trace}
@@ -13,7 +13,7 @@ use Rattle.gx_session.specs.declared.ends.Next.TheVariants as next
 use Rattle.gx_session.specs.Constants.{piece}
 use Rattle.gx_session.specs.Cuts.{IsLineStop}
 use Rattle.glk_streams.specs.Streams.{open_files}
-use Rattle.gx_session.specs.Endings.{Store, stores_of, store_call, told_all}
+use Rattle.gx_session.specs.Endings.{stores_of, store_call, told_all}
 use Rattle.gx_session.specs.Configurations.{Configuration, Phase}
 use Rattle.gx_session.specs.Session.{final_of}
 use Rattle.gx_session.specs.Asked.{asked_at}
@@ -63,17 +63,17 @@ RunGives start entry h asking d (Ok stop) = Finished start entry h asking d stop
 RunGives start entry h asking d (Err why) = Early start entry h asking d why
 
 -- Some files were stored, and the next one was refused.
-pub record StoredSome (files : List Store) (calls : Trace) (why : Halt) : Type 0 where
-  pub front : List Store
-  pub next : Store
-  pub rest : List Store
+pub record StoredSome (files : List (List ℕ × List ℕ)) (calls : Trace) (why : Halt) : Type 0 where
+  pub front : List (List ℕ × List ℕ)
+  pub next : List ℕ × List ℕ
+  pub rest : List (List ℕ × List ℕ)
   pub split : files ≡ front ++ next ∷ rest
   pub fault : ShelfFault
   pub calls_are : calls ≡ map store_call front ++ (stores next.0 next.1, Err fault) ∷ []
   pub why_is : why ≡ halt_of_shelf fault
 
 -- how the stores of the ending go, each in one call
-abbrev pub StoresAll : List Store → Trace → Result (Unit {0}) Halt → Type 0
+abbrev pub StoresAll : List (List ℕ × List ℕ) → Trace → Result (Unit {0}) Halt → Type 0
 StoresAll files calls (Ok u) = calls ≡ map store_call files
 StoresAll files calls (Err why) = StoredSome files calls why
 

@@ -12,7 +12,7 @@ use Rattle.gx_outside.specs.Shelves.{Request, Answer, Trace}
 use Rattle.glk_world.specs.World.{FlatWorld}
 use Rattle.gx_session.specs.declared.running.Running.{Running}
 use Rattle.gx_session.specs.Devices.{Devices, devices}
-use Rattle.gx_session.specs.Sending.{Sent, whole_send}
+use Rattle.gx_session.specs.Sending.{whole_send}
 use Rattle.gx_session.specs.Configurations.{Configuration, Phase}
 use Rattle.gx_session.specs.Asked.{asked}
 use Rattle.gx_session.specs.Questions.{AreAnswered}
@@ -79,7 +79,7 @@ devices_of d sink reads sends = devices d.source sink d.shelf d.words reads send
 -- What was done so far, and what is to come: the text that was sent, call by call; the answers of the shelf; the
 -- random words.
 pub record History : Type 0 where
-  pub sent : Sent
+  pub sent : List (List ℕ)
   pub answers : Trace → Request → Answer
   pub words : Stream
 
@@ -101,7 +101,7 @@ configuration_of p phase h d = record {
 }
 
 -- The sink was called so since entry, and took each text whole.
-abbrev pub HasTaken : {K : Type 0} → SendStep K → K → K → Sent → Type 0
+abbrev pub HasTaken : {K : Type 0} → SendStep K → K → K → List (List ℕ) → Type 0
 HasTaken sending entry now sent = Chain sending entry (map whole_send sent) now
 
 -- The devices are those at entry after what was done so far.

@@ -17,12 +17,8 @@ pub data NextLine : Type 0 where
 abbrev pub is_line_feed : ℕ → Bool
 is_line_feed b = b == 0x0A
 
--- the characters of the bytes of a line
-abbrev pub chars_of : List ℕ → List ℕ
-chars_of bytes = filter is_printable (lossy_chars bytes)
-
 unfoldable pub next_line : List ℕ → NextLine
 next_line bytes =
     if nat_le longest_line (length (before_first is_line_feed bytes)) then too_long else
     if length bytes == 0 then none else
-    line (chars_of (before_first is_line_feed bytes)) (after_first is_line_feed bytes)
+    line (filter is_printable (lossy_chars (before_first is_line_feed bytes))) (after_first is_line_feed bytes)

@@ -4,7 +4,7 @@
 -- what it asks of a device, and the answer that it goes on to. All of them are one event, which takes the units of the
 -- step once it is answered; until then the machine stands as before the step. In between pending text is sent: before a
 -- device is asked for anything, and after an event that leaves `enough` bytes pending.
-use Rattle.std.specs.Prelude.{ℕ, ◌+◌, ◌-◌, nat_lt, if◌then◌else◌, Bool, false, List, [], ◌∷◌, ◌++◌, Option, Some, None}
+use Rattle.std.specs.Prelude.{ℕ, ◌-◌, nat_lt, if◌then◌else◌, Bool, false, List, [], ◌∷◌, ◌++◌, Option, Some, None}
 use Rattle.std.specs.Prelude.{Result, Ok, Err}
 use Rattle.gx_words.specs.declared.faults.Fault.{Fault}
 use Rattle.gx_outside.specs.Shelves.{Request, loads, stores, removes, looks, Answer, loaded, stored, was}
@@ -29,7 +29,7 @@ use Rattle.glk_text_calls.specs.Output.{putting}
 use Rattle.glk_replies.specs.Parts.{replies}
 use Rattle.gx_session.specs.Saving.{saving, restoring}
 use Rattle.gx_session.specs.Input.{NextLine, too_long, none, line, next_line}
-use Rattle.gx_session.specs.Sending.{Sent, pending, is_due}
+use Rattle.gx_session.specs.Sending.{pending, is_due}
 use Rattle.gx_session.specs.declared.ends.Stop.TheVariants as stop
 use Rattle.gx_session.specs.Constants.{enough, most_loaded, failed}
 use Rattle.gx_session.specs.declared.running.Waiting.{Waiting}
@@ -104,43 +104,37 @@ after_restoring m left (Ok (said, Some copy)) =
 after_restoring m left (Ok (said, None)) = after_reply m left (Ok (said, replies failed))
 after_restoring m left (Err fault) = stops (stop.Faulted fault) m
 
--- What a device gives for a turn: the source a line, and else the shelf an answer.
-abbrev pub after_asking : Configuration → Waiting → Turn → Verdict
-after_asking m w turn.Wait = after_line m w (next_line m.input)
-after_asking m w turn.Prompt = after_line m w (next_line m.input)
-after_asking m w t = shelf_gives m w (request_of t)
-
--- The effect of a step: the next configuration; the random word is used up; a character or a call goes to Glk, with the
--- machine as before the step; so does a save or a restore; the program ends. (No step by itself is Spent.)
-abbrev pub after_effect : Configuration → ℕ → FlatMachine → Effect → Verdict
-after_effect m left machine effect.Went = goes (event_done m machine left)
-after_effect m left machine effect.Drew = goes (record (event_done m machine left) { words = (next_u32 m.words).1 })
-after_effect m left machine (effect.Put c) = after_reply m left (putting m.world.scene m.machine.flat c)
-after_effect m left machine (effect.Glk selector args room) =
+-- A step that leaves so many units, by its effect: the next configuration; the random word is used up; a character or a
+-- call goes to Glk, with the machine as before the step; so does a save or a restore; the program ends. (No step by
+-- itself is Spent.) A fault stops the run before the step.
+abbrev pub after_effect : Configuration → ℕ → Result (FlatMachine × Effect) Fault → Verdict
+after_effect m left (Ok (machine, effect.Went)) = goes (event_done m machine left)
+after_effect m left (Ok (machine, effect.Drew)) =
+    goes (record (event_done m machine left) { words = (next_u32 m.words).1 })
+after_effect m left (Ok (machine, effect.Put c)) = after_reply m left (putting m.world.scene m.machine.flat c)
+after_effect m left (Ok (machine, effect.Glk selector args room)) =
     after_turn m (record { room = room; left = left }) (glk_call m.world.scene m.machine.flat room selector args.items)
-after_effect m left machine (effect.Save stream) = after_reply m left (saving m.world.scene m.machine.flat stream)
-after_effect m left machine (effect.Restore stream) =
+after_effect m left (Ok (machine, effect.Save stream)) = after_reply m left (saving m.world.scene m.machine.flat stream)
+after_effect m left (Ok (machine, effect.Restore stream)) =
     after_restoring m left (restoring m.world.scene m.machine.flat stream)
-after_effect m left machine effect.Quit = stops stop.Ended (event_done m machine left)
-after_effect m left machine effect.Spent = stops stop.Spent (record m { machine = machine; left = left })
-
--- A step that leaves so many units: its effect, or its fault, which stops the run before it.
-abbrev pub after_step : Configuration → ℕ → Result (FlatMachine × Effect) Fault → Verdict
-after_step m left (Ok r) = after_effect m left r.0 r.1
-after_step m left (Err fault) = stops (stop.Faulted fault) m
+after_effect m left (Ok (machine, effect.Quit)) = stops stop.Ended (event_done m machine left)
+after_effect m left (Ok (machine, effect.Spent)) = stops stop.Spent (record m { machine = machine; left = left })
+after_effect m left (Err fault) = stops (stop.Faulted fault) m
 
 -- What comes next. A step: the budget is spent where it has less left than the step costs; else the step is done with
--- the next random word.
+-- the next random word. What a device gives for a turn: the source a line, and else the shelf an answer.
 abbrev pub act_by : Phase → Configuration → Verdict
 act_by steps m =
     if nat_lt m.left (cost_of m.machine) then stops stop.Spent m else
-    after_step m (m.left - cost_of m.machine) (step_of m.machine (next_u32 m.words).0)
-act_by (asks t w) m = after_asking m w t
+    after_effect m (m.left - cost_of m.machine) (step_of m.machine (next_u32 m.words).0)
+act_by (asks turn.Wait w) m = after_line m w (next_line m.input)
+act_by (asks turn.Prompt w) m = after_line m w (next_line m.input)
+act_by (asks t w) m = shelf_gives m w (request_of t)
 act_by (goes_on g w) m = after_given m w (glk_go_on m.world.scene m.machine.flat w.room g)
 
 -- The pending text is due: before a device is asked where there is some, and between two events where it has
 -- `enough` bytes.
-abbrev pub is_due_by : Phase → Sent → List ℕ → Bool
+abbrev pub is_due_by : Phase → List (List ℕ) → List ℕ → Bool
 is_due_by steps s text = is_due enough s text
 is_due_by (asks t w) s text = is_due 1 s text
 is_due_by (goes_on g w) s text = false

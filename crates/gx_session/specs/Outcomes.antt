@@ -5,6 +5,11 @@ use Rattle.gx_words.specs.declared.faults.Fault.{Fault}
 use Rattle.gx_words.specs.declared.faults.Fault.TheVariants.{NoMemory}
 use Rattle.gx_state.specs.declared.effects.Reply.{Reply}
 use Rattle.gx_state.specs.Copies.{Copy}
+use Rattle.gx_state.specs.Flat.{FlatState}
+use Rattle.gx_words.specs.Constants.{ceiling}
+use Rattle.gx_machine.specs.Saves.{saved_copy}
+use Rattle.quetzal.specs.Saves.{save_of}
+use Rattle.quetzal.specs.Writing.{saved}
 use Rattle.gx_machine.specs.declared.askings.Asking.{Asking}
 use Rattle.gx_machine.specs.Machine.{FlatMachine, Whole}
 use Rattle.gx_machine.specs.Answer.{answer_of}
@@ -120,6 +125,10 @@ TakesReply whole log old new reply left result =
 abbrev pub MaySave : Type 0 → Result Reply Fault → FlatWorld → FlatWorld → Result (FlatWorld × Reply) Fault → Type 0
 MaySave begun (Ok reply) old new defined = defined ≡ Ok (new, reply)
 MaySave begun (Err e) old new defined = (e ≢ NoMemory → (new ≡ old) × (defined ≡ Err e)) × (e ≡ NoMemory → begun)
+
+-- What is saved of a state is read back as it was.
+abbrev pub IsReadBack : FlatState → Type 0
+IsReadBack f = save_of ceiling (saved f.story (saved_copy f)) f.story ≡ Ok (saved_copy f)
 
 -- What it is to a restore that a save is refused: there is no copy, unless memory ran out.
 abbrev pub Refuses : SaveFault → Result (Option Copy) Fault → Type 0

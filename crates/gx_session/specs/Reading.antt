@@ -11,10 +11,10 @@ use Rattle.gx_outside.specs.Reads.{SourceRead}
 use Rattle.gx_outside.specs.declared.devices.Failed.{Failed}
 use Rattle.gx_session.specs.declared.lines.NoLine.{NoLine}
 use Rattle.gx_session.specs.declared.lines.NoLine.TheVariants as no
-use Rattle.gx_session.specs.Constants.{piece}
+use Rattle.gx_session.specs.Constants.{longest_line, piece}
 use Rattle.gx_session.specs.Input.{is_line_feed, too_long, none, line, next_line}
 use Rattle.gx_session.specs.Lines.{HeldLines}
-use Rattle.gx_session.specs.Reads.{bytes_read, IsPartial}
+use Rattle.gx_session.specs.Reads.{bytes_read}
 
 -- These bytes may come: those that are left, where the source tells them, and none once it has ended.
 pub record IsComing (lines : HeldLines) (source : FlatSource) (coming : List ℕ) : Type 0 where
@@ -59,6 +59,10 @@ TakesLine old new (Err no.Ended) = (next_line old ≡ none) × (new ≡ old)
 TakesLine old new (Err no.TooLong) = (next_line old ≡ too_long) × (new ≡ old)
 TakesLine old new (Err no.Failed) = new ≡ old
 TakesLine old new (Err no.NoMemory) = 0 < length old
+
+-- No line feed is held, and the bytes are not too many for a line.
+abbrev pub IsPartial : List ℕ → Type 0
+IsPartial held = (position_or_len is_line_feed held ≡ length held) × (length held < longest_line)
 
 -- how much is held once a line was taken, or not
 abbrev pub HoldsFew : List ℕ → Result (List ℕ) NoLine → Type 0

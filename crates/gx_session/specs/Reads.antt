@@ -13,10 +13,6 @@ use Rattle.gx_session.specs.Input.{is_line_feed}
 abbrev pub bytes_read : List SourceRead → List ℕ
 bytes_read reads = concat (map (λ (r : SourceRead). unwrap_or (result_ok r.1) []) reads)
 
--- No line feed is held, and the bytes are not too many for a line.
-abbrev pub IsPartial : List ℕ → Type 0
-IsPartial held = (position_or_len is_line_feed held ≡ length held) × (length held < longest_line)
-
 -- The reads, each with room for a piece, gave the input but for what is to come, and all of it where one gave nothing,
 -- and so said that nothing is left.
 pub record GiveInput (reads : List SourceRead) (input coming : List ℕ) : Type 0 where
@@ -34,7 +30,7 @@ pub record LeavesInput (first input coming : List ℕ) (before now : FlatSource)
   pub split : input ≡ ahead ++ coming
   pub left : now.tells ≡ true → coming ≡ now.left
   pub few : (long → ⊥) → failures ≡ 0 → length ahead < piece
-  pub partial : failures ≢ 0 → IsPartial ahead
+  pub partial : failures ≢ 0 → (position_or_len is_line_feed ahead ≡ length ahead) × (length ahead < longest_line)
   pub reads : ℕ
   pub made : now.calls.made ≡ raised_by reads before.calls.made
   pub offered : now.offered ≡ offered_in reads piece before.offered

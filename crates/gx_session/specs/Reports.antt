@@ -6,14 +6,10 @@ use Rattle.gx_session.specs.Constants.{status_input_ended, status_stuck, status_
 use Rattle.gx_session.specs.Constants.{status_input_fault, status_output_fault, status_no_memory, status_bad_text}
 use Rattle.gx_session.specs.Constants.{status_no_listing}
 
--- a hexadecimal digit in lower case
-abbrev pub hex_digit : ℕ → ℕ
-hex_digit d = if nat_lt d 10 then 48 + d else 87 + d
-
--- the low digits of a number, the highest of them first
+-- the low hexadecimal digits of a number, the highest of them first, in lower case
 abbrev pub hex_of : ℕ → ℕ → List ℕ
 hex_of zero v = []
-hex_of (suc n) v = hex_digit (v / 16 ^ n % 16) ∷ hex_of n v
+hex_of (suc n) v = let d = v / 16 ^ n % 16 in (if nat_lt d 10 then 48 + d else 87 + d) ∷ hex_of n v
 
 -- the line of a fault; a checksum that differs is a fault with no number
 abbrev pub fault_line : ℕ → ℕ → ℕ → List ℕ
@@ -47,5 +43,4 @@ report_line status fault at steps =
     if status == status_output_fault then codes "gx_player: output fault" else
     if status == status_no_memory then codes "gx_player: out of memory" else
     if status == status_bad_text then text_line fault at else
-    if status == status_no_listing then listing_line fault at else
-    []
+    if status == status_no_listing then listing_line fault at else []

@@ -1,9 +1,11 @@
 -- What a run reports and leaves behind, against the definition of a session.
-use Rattle.std.specs.Prelude.{◌≡◌, ◌≢◌, ℕ, suc, ◌+◌, ◌<◌, ◌≤◌, ◌++◌, ◌⊎◌, true, false, Option, None, Some, List, map}
-use Rattle.std.specs.Prelude.{[], length, take, ◌==◌, if◌then◌else◌, IsSome, IsTrue}
+use Rattle.std.specs.Prelude.{◌≡◌, ◌≢◌, ℕ, suc, ◌+◌, ◌<◌, ◌≤◌, ◌++◌, ◌⊎◌, true, false, Option, None, Some, Ok, List}
+use Rattle.std.specs.Prelude.{[], map, length, take, ◌==◌, if◌then◌else◌, IsSome, IsTrue}
 use Rattle.std.specs.List.{concat}
+use Rattle.gx_words.specs.Constants.{ceiling}
 use Rattle.gx_machine.specs.Machine.{Whole}
 use Rattle.gx_machine.specs.Log.{Log}
+use Rattle.gx_machine.specs.Saves.{saved_copy}
 use Rattle.gx_outside.specs.Chains.{Chain}
 use Rattle.gx_outside.specs.Outside.{FlatSink}
 use Rattle.gx_outside.specs.Reads.{SourceCall}
@@ -11,6 +13,8 @@ use Rattle.gx_outside.specs.Sends.{SinkCall}
 use Rattle.gx_outside.specs.Shelves.{Request, Answer, Trace, ShelfCall}
 use Rattle.gx_outside.specs.declared.devices.SendFault.TheVariants as of_send
 use Rattle.gx_state.specs.declared.effects.Effect.TheVariants as effect
+use Rattle.quetzal.specs.Saves.{save_of}
+use Rattle.quetzal.specs.Writing.{saved}
 use Rattle.gx_session.specs.declared.ended.Ended.{Ended}
 use Rattle.gx_session.specs.Constants.{status_ended, status_fault, status_shelf_fault, status_no_memory}
 use Rattle.gx_session.specs.Constants.{status_input_fault}
@@ -22,7 +26,7 @@ use Rattle.gx_session.specs.Cuts.{IsCutShort, IsLineStop}
 use Rattle.gx_session.specs.Wants.{IsWait}
 use Rattle.gx_session.specs.Devices.{Devices}
 use Rattle.gx_session.specs.Endings.{stores_of, store_call, told_all}
-use Rattle.gx_session.specs.Saving.{is_save_begun, IsReadBack, SavesReadBack}
+use Rattle.gx_session.specs.Saving.{is_save_begun, SavesReadBack}
 use Rattle.gx_session.specs.Sending.{whole_send}
 use Rattle.gx_session.specs.Configurations.{Configuration, steps}
 use Rattle.gx_session.specs.Session.{RunEnd, run_of, final_of}
@@ -58,13 +62,15 @@ abbrev pub report_of : {A : Type 0} → Ended A → Whole → Report
 report_of end machine =
     record { status = end.status; fault = end.fault; at = end.at; steps = end.steps; machine = machine; log = None }
 
--- If a save is begun from here, what it saves is read back.
+-- If a save is begun from here, what it saves of the state is read back as it was.
 abbrev pub IsSaved : Configuration → Type 0
 IsSaved m =
+    let f = m.machine.flat in
     m.phase ≡ steps → sends_now m ≡ false → (stream : ℕ) → effect_at m ≡ Some (effect.Save stream)
-    → IsTrue (is_save_begun m.world.scene m.machine.flat stream) → IsReadBack m.machine.flat
+    → IsTrue (is_save_begun m.world.scene f stream)
+    → save_of ceiling (saved f.story (saved_copy f)) f.story ≡ Ok (saved_copy f)
 
--- So it is of all saves that the run makes within so many moves, or else at all.
+-- So it is of all saves within so many moves, or else of all after which the run goes on.
 abbrev pub SavedBefore : Configuration → Option ℕ → Type 0
 SavedBefore start (Some moves) = (i : ℕ) → i < moves → (m : Configuration) → run_of start i ≡ Some m → IsSaved m
 SavedBefore start None =

@@ -39,28 +39,21 @@ restoring w f stream =
       Ok (r.0, option_and_then (λ bytes. result_ok (save_of ceiling bytes f.story)) r.1))
     else Ok (silent w, None)
 
--- A stream may take a save: it is there, open for writing and no window's. Whether it has room, and whether its places
--- may be written where it ends in memory, depends on the length of the save.
-abbrev pub may_take : Scene → ℕ → Bool
-may_take w stream =
-    let s = streams.stream w.streams stream in
-    streams.has w.streams stream && one.writable s && one.window_of s == 0
-
--- So a save is begun: the copy is made and written.
+-- A save is begun, so that the copy is made, where the stream may take one: it is there, open for writing and no
+-- window's. Whether it has room, and whether its places may be written where it ends in memory, depends on the length
+-- of the save.
 abbrev pub is_save_begun : Scene → FlatState → ℕ → Bool
-is_save_begun w f stream = f.iosys.0 == glk_system && may_take w stream
+is_save_begun w f stream =
+    let s = streams.stream w.streams stream in
+    f.iosys.0 == glk_system && (streams.has w.streams stream && one.writable s && one.window_of s == 0)
 
 -- A stream may hold a save where it is there and open for reading. So a restore is begun: the stream is read.
 abbrev pub is_restore_begun : Scene → FlatState → ℕ → Bool
 is_restore_begun w f stream =
     f.iosys.0 == glk_system && (streams.has w.streams stream && one.readable (streams.stream w.streams stream))
 
--- THE ROUND TRIP: what is saved of a state is read back as it was.
-abbrev pub IsReadBack : FlatState → Type 0
-IsReadBack f = save_of ceiling (saved f.story (saved_copy f)) f.story ≡ Ok (saved_copy f)
-
--- So is each copy that is fit for the story. And each save that was a copy while memory had a lower ceiling, such as
--- 0x04000000, is restored as the same copy.
+-- THE ROUND TRIP: each copy that is fit for the story is read back as it was saved. And each save that was a copy while
+-- memory had a lower ceiling, such as 0x04000000, is restored as the same copy.
 pub record SavesReadBack (story : FlatStory) : Type 0 where
   pub round_trip : (copy : Copy) → IsCopyFor story copy → save_of ceiling (saved story copy) story ≡ Ok copy
   pub old_saves : (old : ℕ) (save : List ℕ) (copy : Copy) → old ≤ ceiling → save_of old save story ≡ Ok copy

@@ -3,16 +3,12 @@ use Rattle.std.specs.Prelude.{ℕ, nat_le, Bool, List, drop, length, Ok}
 use Rattle.std.specs.List.{concat}
 use Rattle.gx_outside.specs.Sends.{Send}
 
--- What was sent of a text, call by call.
-abbrev pub Sent : Type 0
-Sent = List (List ℕ)
-
--- the rest of the text is pending
-abbrev pub pending : Sent → List ℕ → List ℕ
+-- where this was sent of a text, call by call, the rest of it is pending
+abbrev pub pending : List (List ℕ) → List ℕ → List ℕ
 pending s text = drop (length (concat s)) text
 
 -- so many bytes of it, or more
-abbrev pub is_due : ℕ → Sent → List ℕ → Bool
+abbrev pub is_due : ℕ → List (List ℕ) → List ℕ → Bool
 is_due enough s text = nat_le enough (length (pending s text))
 
 -- the call of the sink that took it whole

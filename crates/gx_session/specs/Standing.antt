@@ -141,7 +141,7 @@ pub record Follows {K : Type 0} {sending : SendStep K} (start : Configuration) (
   pub drawn : h.word ≡ Some word
   pub going : Going start entry (record h { machine = before; log = recorded }) d
   pub event : let m = configuration_of going.now.past steps (record h { machine = before; log = recorded }) d in
-      act_of m ≡ after_effect m left h.machine does
+      act_of m ≡ after_effect m left (Ok (h.machine, does))
   pub asks : let m = configuration_of going.now.past steps (record h { machine = before; log = recorded }) d in
       IsSome (asking_of does) → asked m ≡ asking_of does
   pub effect : let m = configuration_of going.now.past steps (record h { machine = before; log = recorded }) d in

@@ -17,38 +17,28 @@ use Rattle.gx_session.specs.Configurations.{Configuration, Phase, steps}
 use Rattle.gx_session.specs.Moves.{sends_now}
 use Rattle.gx_session.specs.Session.{run_of}
 
--- What a step is to the copies.
-pub data Undoing : Type 0 where
-  saves : Undoing  -- saveundo
-  takes_newest : Undoing  -- restoreundo and discardundo
-  neither : Undoing  -- every other instruction, save, restore and hasundo among them, and what is printed
+-- The saveundos that are alive, each by the number of moves before it, the newest first, after an instruction with j
+-- moves before it, by its class and its number. A saveundo comes in front, and the oldest drops out where there are as
+-- many as the depth; a restoreundo takes the newest, and so does a discardundo. Every other instruction leaves them,
+-- save, restore and hasundo among them.
+abbrev pub alive_by : ℕ → ℕ → List ℕ → Class → ℕ → List ℕ
+alive_by depth j live class.Game number =
+    if number == numbers.saveundo then take depth (j ∷ live) else
+    if number == numbers.restoreundo || number == numbers.discardundo then drop 1 live else live
+alive_by depth j live c number = live
 
-abbrev pub undoing_row : Class → ℕ → Undoing
-undoing_row class.Game number =
-    if number == numbers.saveundo then saves else
-    if number == numbers.restoreundo || number == numbers.discardundo then takes_newest else neither
-undoing_row c number = neither
+-- the same after what comes next: only the step of an instruction is anything to them
+abbrev pub alive_next : ℕ → ℕ → List ℕ → Phase → Mode → Result Instruction Fault → List ℕ
+alive_next depth j live steps mode.Running (Ok i) = alive_by depth j live i.row.class i.row.number
+alive_next depth j live d m r = live
 
--- What comes next is to them: only the step of an instruction is anything.
-abbrev pub undoing_next : Phase → Mode → Result Instruction Fault → Undoing
-undoing_next steps mode.Running (Ok i) = undoing_row i.row.class i.row.number
-undoing_next d m r = neither
-
--- The saveundos that are alive, each by the number of moves before it, the newest first: a saveundo comes
--- in front, and the oldest drops out where there are as many as the depth; a restoreundo takes the newest, and so
--- does a discardundo. A move that sends is nothing to them.
-abbrev pub alive_by : ℕ → ℕ → List ℕ → Undoing → List ℕ
-alive_by depth j live saves = take depth (j ∷ live)
-alive_by depth j live takes_newest = drop 1 live
-alive_by depth j live neither = live
-
--- the saveundos that are alive after so many moves
+-- The saveundos that are alive after so many moves. A move that sends is nothing to them.
 unfoldable pub alive : Configuration → ℕ → List ℕ
 alive start zero = []
 alive start (suc j) =
     option_map_or (λ (m : Configuration).
-    alive_by start.machine.undo.depth j (alive start j)
-    (if sends_now m then neither else undoing_next m.phase m.machine.flat.mode (instruction m.machine.flat)))
+    if sends_now m then alive start j else
+    alive_next start.machine.undo.depth j (alive start j) m.phase m.machine.flat.mode (instruction m.machine.flat))
     (run_of start j) (alive start j)
 
 -- the copy that the saveundo after so many moves takes: of the whole state that it meets

@@ -8,7 +8,8 @@ ghost use Rattle.std.specs.Prelude.{slice_index};
 ghost use Rattle.std.specs.List.{position_or_len};
 ghost use Rattle.gx_outside.specs.Outside.{HasCause, offered_by};
 ghost use Rattle.gx_session.specs.Constants.{longest_line, piece as one_piece};
-ghost use Rattle.gx_session.specs.Input.{is_line_feed, chars_of};
+ghost use Rattle.gx_session.specs.Input.{is_line_feed};
+ghost use Rattle.gx_session.specs.Lines.{chars_of};
 ghost use Rattle.gx_session.specs.Reading.{Fed, Takes, HoldsFew, HoldsLineFeed, FillsBy, is_failed};
 ghost use Rattle.gx_session.specs.Counts.{Blames};
 

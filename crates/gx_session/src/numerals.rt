@@ -1,6 +1,6 @@
 //! Numbers in the lines that a run and a job tell: in decimal and in hexadecimal. After a refusal a part may stand.
-ghost use Rattle.std.specs.Prelude.{◌≡◌, ◌<◌, ◌++◌, ◌∷◌, [], OnOk, string_bytes, decimal};
-ghost use Rattle.gx_session.specs.Reports.{hex_digit, hex_of};
+ghost use Rattle.std.specs.Prelude.{◌≡◌, ◌<◌, ◌+◌, ◌++◌, ◌∷◌, nat_lt, if◌then◌else◌, [], OnOk, string_bytes, decimal};
+ghost use Rattle.gx_session.specs.Reports.{hex_of};
 
 use itoa::Buffer;
 use std::alloc::AllocError;
@@ -30,7 +30,8 @@ pub fn push_hex(line: &mut String, number: u32) -> Result<(), AllocError>
 /// Adds one hexadecimal digit.
 fn push_digit(line: &mut String, digit: u32) -> Result<(), AllocError>
     requires { digit < 16 }
-    ensures { OnOk result (string_bytes line.new ≡ string_bytes line.old ++ hex_digit digit ∷ []) }
+    ensures { OnOk result (string_bytes line.new
+        ≡ string_bytes line.old ++ (if nat_lt digit 10 then 48 + digit else 87 + digit) ∷ []) }
 {
     let code = if digit < 10 { 48 + digit } else { 87 + digit };
     line.push(code as u8 as char)

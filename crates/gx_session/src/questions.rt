@@ -1,7 +1,7 @@
 //! What the shelf is asked for the turn of a Glk call.
 ghost use Rattle.std.specs.Prelude.{◌≡◌, IfOk};
 ghost use Rattle.gx_outside.specs.Chains.{IsCalled};
-ghost use Rattle.gx_outside.specs.Outside.{HasCause, shelf_failed, shelf_wanted};
+ghost use Rattle.gx_outside.specs.Outside.{HasCause, shelf_cause};
 ghost use Rattle.glk_replies.specs.Turns.{IsGivenFor};
 ghost use Rattle.gx_session.specs.Questions.{turn_of, AsksOnce};
 
@@ -28,8 +28,8 @@ impl Question {
     pub fn ask<F: Shelf>(&self, shelf: &mut F) -> Result<Given, ShelfFault>
         ensures asks { IsCalled F.called shelf.old shelf.new (λ asked. AsksOnce self.now asked result) }
         ensures given { IfOk result (IsGivenFor (turn_of self.now)) }
-        ensures cause { HasCause (F.seen shelf.old).calls (F.seen shelf.new).calls (shelf_failed result)
-            (shelf_wanted result) }
+        ensures cause { HasCause (F.seen shelf.old).calls (F.seen shelf.new).calls (shelf_cause result).0
+            (shelf_cause result).1 }
         ensures tells { (F.seen shelf.new).tells ≡ (F.seen shelf.old).tells }
     {
         match self {

@@ -1,7 +1,7 @@
 //! Saves and restores of a machine, which Glk streams take and give back (Glulx 3.1.2, "Game State").
 //!
 //! One that fails is answered, and is no fault. A save to a stream in memory whose places can't be written is one.
-ghost use Rattle.std.specs.Prelude.{◌≡◌, ◌≤◌, ℕ, List, Some, IfOk, IfErr, IfSome, IsTrue};
+ghost use Rattle.std.specs.Prelude.{◌≡◌, ◌≤◌, ◌==◌, ◌&&◌, ℕ, List, Some, IfOk, IfErr, IfSome, IsTrue};
 ghost use Rattle.gx_words.specs.Faults.{MayLose};
 ghost use Rattle.gx_state.specs.Copies.{IsCopyFor};
 ghost use Rattle.gx_state.specs.Replies.{IsReply};
@@ -10,16 +10,18 @@ ghost use Rattle.gx_machine.specs.declared.askings.Asking.TheVariants as asking;
 ghost use Rattle.gx_machine.specs.Advancing.{left_after};
 ghost use Rattle.gx_machine.specs.Saves.{restored};
 ghost use Rattle.gx_machine.specs.Step.{asking_of};
+ghost use Rattle.glk_streams.specs.Stream as one;
+ghost use Rattle.glk_streams.specs.Streams as all;
 ghost use Rattle.glk_world.specs.World.{on_world};
 ghost use Rattle.glk_replies.specs.Parts.{replies};
 ghost use Rattle.gx_session.specs.Constants.{failed as failed_value};
 ghost use Rattle.gx_session.specs.Devices.{Devices};
 ghost use Rattle.gx_session.specs.Holding.{held_by, Handed, asking_in};
 ghost use Rattle.gx_session.specs.Standing.{Follows, GoesBack};
-ghost use Rattle.gx_session.specs.Outcomes.{Becomes, MaySave, Refuses};
+ghost use Rattle.gx_session.specs.Outcomes.{Becomes, IsReadBack, MaySave, Refuses};
 ghost use Rattle.gx_session.specs.Outcomes.{EventGives};
 ghost use Rattle.gx_session.specs.Outcomes.{Leads, Keeps};
-ghost use Rattle.gx_session.specs.Saving.{may_take, is_save_begun, is_restore_begun, saving, restoring, IsReadBack};
+ghost use Rattle.gx_session.specs.Saving.{is_save_begun, is_restore_begun, saving, restoring};
 ghost use Rattle.gx_session.specs.Saving.{SavesReadBack};
 ghost use Rattle.gx_session.specs.Configurations.{Configuration};
 
@@ -46,7 +48,8 @@ fn failed(world: &World) -> Reply
 
 /// Whether a stream may take a save, whatever its length: it is there, open for writing and no window's.
 fn may_take(world: &World, stream: u32) -> bool
-    ensures { result ≡ may_take world.now.scene stream }
+    ensures { let s = all.stream world.now.scene.streams stream in
+        result ≡ (all.has world.now.scene.streams stream && one.writable s && one.window_of s == 0) }
 {
     let streams = world.streams();
     streams.has(stream) && streams.writable(stream) && streams.window(stream) == 0

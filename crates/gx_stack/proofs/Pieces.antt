@@ -3,9 +3,10 @@ use Rattle.std.proofs.Common.{◌-◌, ◌≡◌, ◌<◌, ◌≤◌, ◌+◌, �
 use Rattle.std.proofs.Common.{drop, get_or, replicate, refl, ◌∙◌, arith, length-append, append_assoc}
 use Rattle.std.proofs.lemmas.List.{length-replicate, append-nil}
 use Rattle.std.proofs.lemmas.Grind.{common_steps}
+use Rattle.std.specs.List.{flat_map}
 use Rattle.gx_words.specs.Numbers.{IsWidth, word, bytes_of_word, bytes_of_number}
 use Rattle.gx_stack.specs.declared.stubs.Stub.{Stub}
-use Rattle.gx_stack.specs.Stubs.{stub_below, stub_bytes, stubs_bytes}
+use Rattle.gx_stack.specs.Stubs.{stub_below, stub_bytes}
 use Rattle.gx_stack.specs.Formats.{pairs_of, gap, padded, padded_len, pair_locals, locals, locals_len, locals_pos, frame_len}
 use Rattle.gx_stack.specs.Formats.{frame}
 use Rattle.gx_stack.specs.Held.{ArePairs, IsFormat}
@@ -102,8 +103,7 @@ stub_on_top xs bytes top is =
     rw (kind, addr, pc, fp, word_behind xs bytes 0, word_behind xs bytes 4, word_behind xs bytes 8, word_behind xs bytes 12) refl
 
 -- ---- a list of one stub
-pub one_stub : (stubs : List Stub) (d : Stub) → length stubs ≡ 1 → stub_bytes (get_or stubs 0 d) ≡ stubs_bytes stubs
-unfolding stubs_bytes
+pub one_stub : (stubs : List Stub) (d : Stub) → length stubs ≡ 1 → stub_bytes (get_or stubs 0 d) ≡ flat_map stub_bytes stubs
 one_stub [] d one = absurd (omega arith)
 one_stub (p ∷ []) d one = rw (append-nil (stub_bytes p)) refl
 one_stub (p ∷ q ∷ stubs) d one = absurd (omega arith)

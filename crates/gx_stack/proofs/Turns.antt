@@ -1,15 +1,15 @@
 -- One turn of each recursion and loop, by a number that is not 0.
-use Rattle.std.proofs.Common.{◌≡◌, ◌<◌, ◌≤◌, ◌+◌, ◌-◌, ◌*◌, ◌⊎◌, min, replicate, ℕ, zero, suc, List, [], ◌∷◌, ◌++◌, append_assoc, length, drop, get_or, refl, sym, ap, ◌∙◌, inl, inr, arith, drop-cons, length-append}
-use Rattle.std.proofs.lemmas.List.{append-nil, replicate-append-replicate, get_or-drop}
+use Rattle.std.proofs.Common.{◌≡◌, ◌<◌, ◌≤◌, ◌+◌, ◌-◌, ◌*◌, ◌⊎◌, min, replicate, ℕ, zero, suc, List, [], ◌∷◌, ◌++◌, append_assoc, length, drop, get_or, refl, sym, ap, ◌∙◌, inl, inr, arith, drop-cons}
+use Rattle.std.specs.Prelude.{reverse}
+use Rattle.std.specs.List.{flat_map}
+use Rattle.std.proofs.lemmas.List.{append-nil, replicate-append-replicate, get_or-drop, reverse-append, length-reverse}
 use Rattle.std.proofs.lemmas.Bool.{cases_lt}
-use Rattle.std.proofs.lemmas.Grind.{common_steps}
+use Rattle.std.proofs.lemmas.Grind.{common_steps, flat_map-append}
 use Rattle.gx_words.specs.Numbers.{IsWidth, bytes_of_word, bytes_of_number}
 use Rattle.gx_stack.specs.declared.stubs.Stub.{Stub}
 use Rattle.gx_stack.specs.Formats.{gap, pair_locals, locals, locals_len}
 use Rattle.gx_stack.specs.Held.{ArePairs}
-use Rattle.gx_stack.specs.Frames.{topmost_first}
-use Rattle.gx_stack.specs.Stubs.{stubs_bytes, stub_bytes}
-use Rattle.gx_stack.specs.Values.{in_order}
+use Rattle.gx_stack.specs.Stubs.{stub_bytes}
 
 -- locals of one size
 filled_more : (t n : ℕ) (args : List ℕ) → 0 < n → pair_locals t n args ≡ bytes_of_number t (get_or args 0 0) ++ pair_locals t (n - 1) (drop 1 args)
@@ -105,34 +105,57 @@ pairs_head (t ∷ n ∷ pairs) f h = f
 
 pub ruleset locals_turns = (locals_none, locals_pushed, locals_len_none, locals_len_more, pairs_head)
 
--- stubs
-no_stubs : (stubs : List Stub) (n : ℕ) → length stubs ≤ n → stubs_bytes (drop n stubs) ≡ []
-unfolding stubs_bytes
-no_stubs [] zero h = refl
-no_stubs [] (suc n) h = refl
-no_stubs (p ∷ stubs) zero h = absurd (grind (arith, common_steps))
-no_stubs (p ∷ stubs) (suc n) h = no_stubs stubs n (omega (arith, h))
+-- what is left of a list that is pushed one by one
+none_left : {X : Type 0} (f : X → List ℕ) (xs : List X) (n : ℕ) → length xs ≤ n → flat_map f (drop n xs) ≡ []
+none_left f [] zero h = refl
+none_left f [] (suc n) h = refl
+none_left f (x ∷ xs) zero h = absurd (grind (arith, common_steps))
+none_left f (x ∷ xs) (suc n) h = none_left f xs n (omega (arith, h))
 
-one_stub : (stubs : List Stub) (n : ℕ) (d : Stub) → n < length stubs → stubs_bytes (drop n stubs) ≡ stub_bytes (get_or stubs n d) ++ stubs_bytes (drop (n + 1) stubs)
-unfolding stubs_bytes
-one_stub stubs n d within =
+one_left : {X : Type 0} (f : X → List ℕ) (xs : List X) (n : ℕ) (d : X) → n < length xs → flat_map f (drop n xs) ≡ f (get_or xs n d) ++ flat_map f (drop (n + 1) xs)
+one_left f xs n d within =
     let next : n + 1 ≡ suc n = omega arith in
-    rw (next, drop-cons stubs n d) refl
+    rw (next, drop-cons xs n d) refl
 
-pub stub_pushed : (out : List ℕ) (stubs : List Stub) (n : ℕ) (d : Stub) → n < length stubs → (out ++ stub_bytes (get_or stubs n d)) ++ stubs_bytes (drop (n + 1) stubs) ≡ out ++ stubs_bytes (drop n stubs)
-stub_pushed out stubs n d within = rw (one_stub stubs n d within, append_assoc) refl
+-- stubs
+pub stub_pushed : (out : List ℕ) (stubs : List Stub) (n : ℕ) (d : Stub) → n < length stubs → (out ++ stub_bytes (get_or stubs n d)) ++ flat_map stub_bytes (drop (n + 1) stubs) ≡ out ++ flat_map stub_bytes (drop n stubs)
+stub_pushed out stubs n d within = rw (one_left stub_bytes stubs n d within, append_assoc) refl
 
-pub stubs_pushed : (out : List ℕ) (stubs : List Stub) (n : ℕ) → length stubs ≤ n → out ++ stubs_bytes (drop n stubs) ≡ out
-stubs_pushed out stubs n h = rw (no_stubs stubs n h) (append-nil out)
+pub stubs_pushed : (out : List ℕ) (stubs : List Stub) (n : ℕ) → length stubs ≤ n → out ++ flat_map stub_bytes (drop n stubs) ≡ out
+stubs_pushed out stubs n h = rw (none_left stub_bytes stubs n h) (append-nil out)
 
-pub length-stubs : (stubs : List Stub) → length (stubs_bytes stubs) ≡ 16 * length stubs
-unfolding stubs_bytes stub_bytes
+pub length-stubs : (stubs : List Stub) → length (flat_map stub_bytes stubs) ≡ 16 * length stubs
+unfolding stub_bytes
 length-stubs [] = refl
 length-stubs (p ∷ stubs) = omega (arith, length-stubs stubs)
 
 pub ruleset stub_turns = (stub_pushed, stubs_pushed, length-stubs)
 
--- arguments
+-- values in order
+pub value_pushed : (out : List ℕ) (values : List ℕ) (n : ℕ) → n < length values → (out ++ bytes_of_word (get_or values n 0)) ++ flat_map bytes_of_word (drop (n + 1) values) ≡ out ++ flat_map bytes_of_word (drop n values)
+value_pushed out values n within = rw (one_left bytes_of_word values n 0 within, append_assoc) refl
+
+pub values_pushed : (out : List ℕ) (values : List ℕ) (n : ℕ) → length values ≤ n → out ++ flat_map bytes_of_word (drop n values) ≡ out
+values_pushed out values n h = rw (none_left bytes_of_word values n h) (append-nil out)
+
+pub length-values : (values : List ℕ) → length (flat_map bytes_of_word values) ≡ 4 * length values
+length-values [] = refl
+length-values (v ∷ values) = omega (arith, length-values values)
+
+pub ruleset value_turns = (value_pushed, values_pushed, length-values)
+
+-- arguments, the first topmost
+unfoldable pub topmost_first : List ℕ → List ℕ
+topmost_first [] = []
+topmost_first (v ∷ values) = topmost_first values ++ bytes_of_word v
+
+pub topmost_reversed : (args : List ℕ) → topmost_first args ≡ flat_map bytes_of_word (reverse args)
+unfolding topmost_first
+topmost_reversed [] = refl
+topmost_reversed (a ∷ args) =
+    ap (λ (xs : List ℕ). xs ++ bytes_of_word a) (topmost_reversed args)
+    ∙ sym (ap (λ (xs : List ℕ). flat_map bytes_of_word xs) (reverse-append (a ∷ []) args) ∙ flat_map-append bytes_of_word (reverse args) (a ∷ []))
+
 no_args : (args : List ℕ) (n : ℕ) → length args ≤ n → topmost_first (drop n args) ≡ []
 unfolding topmost_first
 no_args [] zero h = refl
@@ -154,8 +177,8 @@ arg_before args i within =
     let there : length args - 1 - i < length args = omega arith in
     rw (here, next) (one_arg args (length args - 1 - i) there)
 
-pub all_args : (args : List ℕ) → topmost_first (drop (length args - length args) args) ≡ topmost_first args
-all_args args = let none : length args - length args ≡ 0 = omega arith in rw none refl
+pub all_args : (args : List ℕ) (i : ℕ) → length args ≤ i → topmost_first (drop (length args - i) args) ≡ flat_map bytes_of_word (reverse args)
+all_args args i all = let none : length args - i ≡ 0 = omega (arith, all) in rw none (topmost_reversed args)
 
 pub arg_pushed : (out args : List ℕ) (i : ℕ) → i < length args → (out ++ topmost_first (drop (length args - i) args)) ++ bytes_of_word (get_or args (length args - 1 - i) 0) ≡ out ++ topmost_first (drop (length args - (i + 1)) args)
 arg_pushed out args i h = rw (arg_before args i h, append_assoc) refl
@@ -163,36 +186,7 @@ arg_pushed out args i h = rw (arg_before args i h, append_assoc) refl
 pub no_arg_yet : (out args : List ℕ) (n : ℕ) → length args ≤ n → out ≡ out ++ topmost_first (drop n args)
 no_arg_yet out args n h = rw (no_args args n h) (sym (append-nil out))
 
-pub length-args : (args : List ℕ) → length (topmost_first args) ≡ 4 * length args
-unfolding topmost_first
-length-args [] = refl
-length-args (a ∷ args) = omega (arith, length-append (topmost_first args) (bytes_of_word a), length-args args)
+pub length-args : (args : List ℕ) → length (flat_map bytes_of_word (reverse args)) ≡ 4 * length args
+length-args args = omega (arith, length-values (reverse args), length-reverse args)
 
 pub ruleset arg_turns = (arg_pushed, no_arg_yet, all_args, length-args)
-
--- values in order
-no_values : (values : List ℕ) (n : ℕ) → length values ≤ n → in_order (drop n values) ≡ []
-unfolding in_order
-no_values [] zero h = refl
-no_values [] (suc n) h = refl
-no_values (v ∷ values) zero h = absurd (grind (arith, common_steps))
-no_values (v ∷ values) (suc n) h = no_values values n (omega (arith, h))
-
-one_value : (values : List ℕ) (n : ℕ) → n < length values → in_order (drop n values) ≡ bytes_of_word (get_or values n 0) ++ in_order (drop (n + 1) values)
-unfolding in_order
-one_value values n within =
-    let next : n + 1 ≡ suc n = omega arith in
-    rw (next, drop-cons values n 0) refl
-
-pub value_pushed : (out : List ℕ) (values : List ℕ) (n : ℕ) → n < length values → (out ++ bytes_of_word (get_or values n 0)) ++ in_order (drop (n + 1) values) ≡ out ++ in_order (drop n values)
-value_pushed out values n within = rw (one_value values n within, append_assoc) refl
-
-pub values_pushed : (out : List ℕ) (values : List ℕ) (n : ℕ) → length values ≤ n → out ++ in_order (drop n values) ≡ out
-values_pushed out values n h = rw (no_values values n h) (append-nil out)
-
-pub length-values : (values : List ℕ) → length (in_order values) ≡ 4 * length values
-unfolding in_order
-length-values [] = refl
-length-values (v ∷ values) = omega (arith, length-values values)
-
-pub ruleset value_turns = (value_pushed, values_pushed, length-values)

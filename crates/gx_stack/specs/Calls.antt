@@ -1,6 +1,7 @@
 -- What calls of a stack make of it that no step of the machine is said by.
 use Rattle.std.specs.Prelude.{ℕ, ◌+◌, nat_le, if◌then◌else◌, List, ◌++◌, length, Result, Ok, Err, ◌-◌, nat_lt, take}
 use Rattle.std.specs.Prelude.{◌*◌}
+use Rattle.std.specs.List.{flat_map}
 use Rattle.gx_stack.specs.declared.faults.StackFault.{StackFault}
 use Rattle.gx_stack.specs.declared.faults.StackFault.TheVariants.{Overflow, Underflow, BadLocal}
 use Rattle.gx_stack.specs.Flat.{FlatStack}
@@ -10,7 +11,7 @@ use Rattle.gx_stack.specs.Stubs.{stub_bytes, stub_below}
 use Rattle.gx_words.specs.Numbers.{bytes_of_word, bytes_of_number, spliced}
 use Rattle.gx_stack.specs.declared.frames.Frame.{Frame}
 use Rattle.gx_stack.specs.Frames.{has_local}
-use Rattle.gx_stack.specs.Values.{in_order, count}
+use Rattle.gx_stack.specs.Values.{count}
 
 -- the frame of a format pushed, with arguments in its locals
 unfoldable pub with_frame : FlatStack → List ℕ → List ℕ → Result FlatStack StackFault
@@ -38,7 +39,7 @@ pushed s v =
 unfoldable pub pushed_all : FlatStack → List ℕ → Result FlatStack StackFault
 pushed_all s values =
     if nat_le (length s.bytes + 4 * length values) s.limit
-    then Ok (record s { bytes = s.bytes ++ in_order values }) else Err Overflow
+    then Ok (record s { bytes = s.bytes ++ flat_map bytes_of_word values }) else Err Overflow
 
 unfoldable pub dropped : FlatStack → Frame → ℕ → Result FlatStack StackFault
 dropped s f n =

@@ -1,7 +1,7 @@
 -- Frames on a stack (Glulx 3.1.2, "Call Frames"): which are good, and where their parts stand.
-use Rattle.std.specs.Prelude.{◌≡◌, ℕ, ◌+◌, ◌-◌, ◌%◌, ◌≤◌, Bool, ◌&&◌, ◌==◌, nat_le, if◌then◌else◌, List, [], ◌∷◌, ◌++◌}
+use Rattle.std.specs.Prelude.{◌≡◌, ℕ, ◌+◌, ◌-◌, ◌%◌, ◌≤◌, Bool, ◌&&◌, ◌==◌, nat_le, if◌then◌else◌, List}
 use Rattle.std.specs.Prelude.{length, Result, Ok, Err}
-use Rattle.gx_words.specs.Numbers.{word, bytes_of_word}
+use Rattle.gx_words.specs.Numbers.{word}
 use Rattle.gx_stack.specs.declared.faults.StackFault.{StackFault}
 use Rattle.gx_stack.specs.declared.faults.StackFault.TheVariants.{BadFrame}
 use Rattle.gx_stack.specs.declared.frames.Frame.{Frame}
@@ -30,11 +30,6 @@ has_local f at width = nat_le (at + width) (f.values - f.locals)
 
 unfoldable pub frame_in : List ℕ → ℕ → Result Frame StackFault
 frame_in s fp = if is_good s fp then Ok (parts s fp) else Err BadFrame
-
--- words on the stack, the first topmost
-unfoldable pub topmost_first : List ℕ → List ℕ
-topmost_first [] = []
-topmost_first (v ∷ values) = topmost_first values ++ bytes_of_word v
 
 -- WHAT CONTRACTS SAY
 

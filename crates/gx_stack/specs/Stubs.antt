@@ -1,5 +1,6 @@
 -- Call stubs (Glulx 3.1.2, "Call Stubs"): DestType, DestAddr, PC and FramePtr, FramePtr topmost.
-use Rattle.std.specs.Prelude.{ℕ, ◌+◌, ◌-◌, ◌*◌, nat_le, if◌then◌else◌, List, [], ◌∷◌, ◌++◌, length, Result, Ok, Err}
+use Rattle.std.specs.Prelude.{ℕ, ◌+◌, ◌-◌, ◌*◌, nat_le, if◌then◌else◌, List, ◌++◌, length, Result, Ok, Err}
+use Rattle.std.specs.List.{flat_map}
 use Rattle.gx_words.specs.Numbers.{word, bytes_of_word}
 use Rattle.gx_stack.specs.declared.faults.StackFault.{StackFault}
 use Rattle.gx_stack.specs.declared.faults.StackFault.TheVariants.{Overflow}
@@ -9,15 +10,11 @@ use Rattle.gx_stack.specs.Flat.{FlatStack}
 unfoldable pub stub_bytes : Stub → List ℕ
 stub_bytes p = bytes_of_word p.kind ++ bytes_of_word p.addr ++ bytes_of_word p.pc ++ bytes_of_word p.fp
 
--- the bytes of stubs, the first deepest
-unfoldable pub stubs_bytes : List Stub → List ℕ
-stubs_bytes [] = []
-stubs_bytes (p ∷ stubs) = stub_bytes p ++ stubs_bytes stubs
-
+-- stubs pushed, the first deepest
 unfoldable pub pushed_stubs : FlatStack → List Stub → Result FlatStack StackFault
 pushed_stubs s stubs =
     if nat_le (length s.bytes + 16 * length stubs) s.limit
-    then Ok (record s { bytes = s.bytes ++ stubs_bytes stubs }) else Err Overflow
+    then Ok (record s { bytes = s.bytes ++ flat_map stub_bytes stubs }) else Err Overflow
 
 -- the stub below a place
 abbrev pub stub_below : List ℕ → ℕ → Stub

@@ -2,20 +2,15 @@
 --
 -- Each call is what it makes of the stack's bytes. specs/Laws says the same of the list of the frame's values, the
 -- deepest first.
-use Rattle.std.specs.Prelude.{ℕ, ℤ, pos, ◌+◌, ◌-◌, ◌*◌, ◌/◌, ◌==◌, nat_lt, if◌then◌else◌, List, [], ◌∷◌, ◌++◌, length}
+use Rattle.std.specs.Prelude.{ℕ, ℤ, pos, ◌+◌, ◌-◌, ◌*◌, ◌/◌, ◌==◌, nat_lt, if◌then◌else◌, List, ◌++◌, length}
 use Rattle.std.specs.Prelude.{take, drop, unsigned_abs, Result, Ok, Err}
 use Rattle.std.specs.Int.{int_rem_euclid}
-use Rattle.gx_words.specs.Numbers.{word, number, bytes_of_word}
+use Rattle.gx_words.specs.Numbers.{word, number}
 use Rattle.gx_stack.specs.declared.faults.StackFault.{StackFault}
 use Rattle.gx_stack.specs.declared.faults.StackFault.TheVariants.{Overflow, Underflow, BadLocal}
 use Rattle.gx_stack.specs.declared.frames.Frame.{Frame}
 use Rattle.gx_stack.specs.Flat.{FlatStack}
 use Rattle.gx_stack.specs.Frames.{has_local}
-
--- values as bytes, the first deepest
-unfoldable pub in_order : List ℕ → List ℕ
-in_order [] = []
-in_order (v ∷ values) = bytes_of_word v ++ in_order values
 
 -- how many values a frame has
 abbrev pub count : List ℕ → Frame → ℕ
@@ -33,18 +28,11 @@ turned xs up = drop (length xs - up) xs ++ take (length xs - up) xs
 abbrev pub turned_top : List ℕ → ℕ → ℕ → List ℕ
 turned_top s n up = take (length s - 4 * n) s ++ turned (drop (length s - 4 * n) s) (4 * up)
 
--- how many places up the top n go where they go so many up, or down where it is negative
-abbrev pub places_up : ℕ → ℤ → ℕ
-places_up n by = unsigned_abs (int_rem_euclid by (pos n))
-
+-- the top n values moved so many places up, cyclically, or down where `by` is negative
 unfoldable pub rolled : FlatStack → Frame → ℕ → ℤ → Result FlatStack StackFault
 rolled s f n by =
     if nat_lt (count s.bytes f) n then Err Underflow else
-    if n == 0 then Ok s else
-    Ok (record s { bytes = turned_top s.bytes n (places_up n by) })
-
-unfoldable pub swapped : FlatStack → Frame → Result FlatStack StackFault
-swapped s f = if nat_lt (count s.bytes f) 2 then Err Underflow else Ok (record s { bytes = turned_top s.bytes 2 1 })
+    if n == 0 then Ok s else Ok (record s { bytes = turned_top s.bytes n (unsigned_abs (int_rem_euclid by (pos n))) })
 
 -- the top n values pushed again
 unfoldable pub copied : FlatStack → Frame → ℕ → Result FlatStack StackFault

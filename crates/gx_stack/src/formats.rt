@@ -180,6 +180,7 @@ fn push_words(out: &mut Vec<u8>, format: &[u8], len: u32, args: &[u32])
 }
 
 /// Pushes the frame of a format, with arguments in its locals; `len` is FrameLen.
+#[inline(always)]
 pub fn push_frame(out: &mut Vec<u8>, format: &[u8], len: u32, args: &[u32])
     requires format { IsFormat format.now }
     requires len { len ≡ frame_len format.now }

@@ -1,12 +1,13 @@
 //! Call frames on the stack (Glulx 3.1.2, "Call Frames"): finding, entering and leaving them.
-ghost use Rattle.std.specs.Prelude.{◌≡◌, ◌+◌, ◌*◌, ◌%◌, ◌≤◌, ◌++◌, [], length, take, IfOk, OnOk};
+ghost use Rattle.std.specs.Prelude.{◌≡◌, ◌+◌, ◌*◌, ◌%◌, ◌≤◌, ◌++◌, [], length, take, reverse, IfOk, OnOk};
+ghost use Rattle.std.specs.List.{flat_map};
 ghost use Rattle.gx_words.specs.Constants.{stack_limit};
 ghost use Rattle.gx_words.specs.Numbers.{bytes_of_word};
 ghost use Rattle.gx_words.specs.Results.{Alters};
 ghost use Rattle.gx_stack.specs.Formats.{pairs_of, locals_pos, frame_len, frame};
 ghost use Rattle.gx_stack.specs.Held.{IsFormat};
 ghost use Rattle.gx_stack.specs.Laws.{local_places, local_values, numbers_at};
-ghost use Rattle.gx_stack.specs.Frames.{IsGood, has_local, parts, frame_in, topmost_first, IsFrame, KeepsFrames};
+ghost use Rattle.gx_stack.specs.Frames.{IsGood, has_local, parts, frame_in, IsFrame, KeepsFrames};
 ghost use Rattle.gx_stack.specs.Calls.{with_frame};
 
 use crate::formats::{frame_len, push_frame};
@@ -164,7 +165,7 @@ impl Stack {
     pub fn push_args(&mut self, args: &[u32])
         requires room { length self.old.bytes + 4 * (length args.now + 1) ≤ self.old.limit }
         ensures value { self.new ≡ record self.old {
-          bytes = self.old.bytes ++ topmost_first args.now ++ bytes_of_word (length args.now);
+          bytes = self.old.bytes ++ flat_map bytes_of_word (reverse args.now) ++ bytes_of_word (length args.now);
         } }
         ensures keeps { KeepsFrames self.old.bytes self.new.bytes }
         ensures size { length self.new.bytes ≡ length self.old.bytes + 4 * (length args.now + 1) }

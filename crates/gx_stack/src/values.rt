@@ -3,12 +3,13 @@
 //! Each call that is given a frame keeps it good. Beside what it makes of the bytes, a clause
 //! `values` says what it makes of the list of the frame's values, the deepest first.
 ghost use Rattle.std.specs.Prelude.{◌≡◌, ◌+◌, ◌-◌, ◌*◌, ◌≤◌, ◌<◌, ◌++◌, ◌%◌, ◌^◌, [], ◌∷◌, length, slice_index, IfOk};
-ghost use Rattle.std.specs.Prelude.{OnOk};
+ghost use Rattle.std.specs.Prelude.{OnOk, pos, unsigned_abs};
+ghost use Rattle.std.specs.Int.{int_rem_euclid};
 ghost use Rattle.gx_words.specs.Constants.{stack_limit};
 ghost use Rattle.gx_words.specs.Numbers.{IsWidth};
 ghost use Rattle.gx_words.specs.Results.{Alters};
 ghost use Rattle.gx_stack.specs.Frames.{IsFrame, KeepsFrames};
-ghost use Rattle.gx_stack.specs.Values.{count, peeked, places_up, rolled, swapped, copied, local_at};
+ghost use Rattle.gx_stack.specs.Values.{count, peeked, rolled, copied, local_at};
 ghost use Rattle.gx_stack.specs.Calls.{pushed, pushed_all, dropped, with_local};
 ghost use Rattle.gx_stack.specs.Laws.{values_of, last, but_last, rolled_values};
 
@@ -20,7 +21,7 @@ use gx_words::{number_at, word_at};
 fn places(n: u32, by: i32) -> u32
     requires some { 0 < n }
     requires few { n ≤ stack_limit }
-    ensures value { result ≡ places_up n by }
+    ensures value { result ≡ unsigned_abs (int_rem_euclid by (pos n)) }
     ensures fits { result < n }
 {
     by.rem_euclid(n as i32) as u32
@@ -113,7 +114,7 @@ impl Stack {
         ensures keeps { IsFrame self.new.bytes frame.now }
         ensures size { length self.new.bytes ≡ length self.old.bytes }
         ensures values { 0 < n → OnOk result (values_of self.new.bytes frame.now
-            ≡ rolled_values n (places_up n by) (values_of self.old.bytes frame.now)) }
+            ≡ rolled_values n (unsigned_abs (int_rem_euclid by (pos n))) (values_of self.old.bytes frame.now)) }
     {
         if n > self.count(frame) {
             return Err(StackFault::Underflow);
@@ -128,10 +129,10 @@ impl Stack {
     }
 
     /// Exchanges the top two values.
-    #[tactic(auto, unfolding(crate::specs::Values::swapped), using(crate::proofs::Opened::turning))]
+    #[tactic(auto, unfolding(crate::specs::Values::rolled), using(crate::proofs::Opened::turning))]
     pub fn swap(&mut self, frame: &Frame) -> Result<(), StackFault>
         requires { IsFrame self.old.bytes frame.now }
-        ensures value { Alters result self.old self.new (swapped self.old frame.now) }
+        ensures value { Alters result self.old self.new (rolled self.old frame.now 2 (pos 1)) }
         ensures keeps { IsFrame self.new.bytes frame.now }
         ensures size { length self.new.bytes ≡ length self.old.bytes }
         ensures values { OnOk result (values_of self.new.bytes frame.now

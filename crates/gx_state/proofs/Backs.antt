@@ -10,7 +10,7 @@ use Rattle.gx_words.specs.declared.faults.Fault.{Fault}
 use Rattle.gx_words.specs.Numbers.{spliced, bytes_of_word}
 use Rattle.gx_pages.specs.Memory.{put_back_of}
 use Rattle.gx_stack.specs.declared.stubs.Stub.{Stub}
-use Rattle.gx_stack.specs.Frames.{IsGood, has_local, is_good, frame_in, parts}
+use Rattle.gx_stack.specs.Frames.{IsGood, has_local, is_good, parts}
 use Rattle.gx_stack.specs.Stubs.{stub_bytes}
 use Rattle.heap_blocks.specs.Heap.{inactive}
 use Rattle.gx_story.specs.Stories.{FlatStory}
@@ -20,9 +20,9 @@ use Rattle.gx_state.specs.declared.modes.Mode.TheVariants.{Running}
 use Rattle.gx_state.specs.Flat.{FlatState, frame_of, sp_of, written}
 use Rattle.gx_state.specs.Sound.{IsSound, IsHeapWithin}
 use Rattle.gx_state.specs.Stores.{stored, store_fault}
-use Rattle.gx_state.specs.Returns.{stub_of, dest_of, stub_to, back, delivered, returned}
+use Rattle.gx_state.specs.Returns.{stub_of, stub_to, back, delivered, returned}
 use Rattle.gx_state.specs.Calls.{wrote}
-use Rattle.gx_state.specs.Copies.{Copy, IsCopyFor, copy_of, stub_in, below_stub, laid_over, restored_to}
+use Rattle.gx_state.specs.Copies.{Copy, IsCopyFor, copy_of, stub_in, restored_to}
 use Rattle.gx_state.specs.Allowed.{HasPlaceFor}
 use Rattle.gx_state.proofs.Bytes.{first_length}
 use Rattle.gx_state.proofs.Kept.{rom_written, framed_good}
@@ -41,15 +41,23 @@ rom_back present kept rom n from count now then_ below =
     ∙ sym (fill_by_all _ (take n kept) n 0 (grind (arith, common_steps)) (λ a h. get_or-take n kept a 0 h ∙ sym (same_cond _ _ _ (same_byte present kept n a (now ∙ sym then_) h))))
     ∙ then_
 
+-- a copy laid over a state
+abbrev laid_over : FlatState → Copy → FlatState
+laid_over f c = record f { memory = put_back_of f.memory c.memory f.protected.0 f.protected.1; stack = record f.stack { bytes = c.stack }; heap = c.heap; mode = Running }
+
+-- what lies below the stub of a copy
+abbrev pub below_stub : Copy → List ℕ
+below_stub c = take (length c.stack - 16) c.stack
+
 -- the stub of a copy that is fit, and its frame
 good_frame : (s : List ℕ) (fp : ℕ) → IsGood s fp → is_good s fp ≡ true
 good_frame s fp good = grind (arith, nat_tests, good.header, good.begins, good.aligned, good.locals, good.order, good.whole)
 
 stub_there : (story : FlatStory) (c : Copy) → IsCopyFor story c → stub_to c.stack (length c.stack) ≡ Ok (stub_in c)
-unfolding stub_to frame_in
+unfolding stub_to
 stub_there story c fit =
     let some : nat_lt (length c.stack) 16 ≡ false = grind (arith, nat_tests, fit.stub) in
-    rw (some, good_frame (below_stub c) (stub_in c).fp fit.framed) refl
+    rw (some, fit.framed) refl
 
 none_empty : (story : FlatStory) (c : Copy) → IsCopyFor story c → (length c.stack == 0) ≡ false
 none_empty story c fit = grind (arith, nat_tests, fit.stub)
@@ -64,7 +72,7 @@ delivered_back f h c fit is = ap (λ (r : Result (FlatState × Bool) Fault). let
 
 -- PC is taken from a stub of the types 0 to 3, whatever it was
 pub same_pc : (f : FlatState) (p : Stub) (v : ℕ) → p.kind ≤ 3 → delivered (record f { pc = p.pc }) p v ≡ delivered f p v
-unfolding delivered dest_of
+unfolding delivered
 same_pc f p v few = grind (arith, nat_tests, few)
 
 pub length_back : (present kept : List ℕ) (from count : ℕ) → length (put_back_of present kept from count) ≡ length kept
@@ -88,7 +96,7 @@ answered f c p = wrote (put_back_of f.memory c.memory f.protected.0 f.protected.
 
 kept_one : (f : FlatState) (c : Copy) → IsCopyFor f.story c → (stub_in c).kind ≡ 1
     → delivered (back (laid_over f c) (length c.stack) (stub_in c)) (stub_in c) 0xFFFFFFFF ≡ Ok (placed f c (stub_in c) (spliced (put_back_of f.memory c.memory f.protected.0 f.protected.1) (stub_in c).addr (bytes_of_word 0xFFFFFFFF)))
-unfolding delivered dest_of
+unfolding delivered
 kept_one f c fit one =
     let place = fit.word one in
     let size = length_back f.memory c.memory f.protected.0 f.protected.1 in
@@ -149,7 +157,7 @@ copy_fits f d next c sound live room on_top takes is =
     let top : stub_in (copy_of f d next) ≡ p = subst (λ (copy : Copy). stub_in copy ≡ p) is on_top in
     let under : below_stub (copy_of f d next) ≡ f.stack.bytes = rw long (grind (arith, common_steps)) in
     let same = stub_frame f d next in
-    let good : IsGood f.stack.bytes p.fp = subst (IsGood f.stack.bytes) (sym same) (sound.framed.good live) in
+    let good : is_good f.stack.bytes p.fp ≡ true = good_frame f.stack.bytes p.fp (subst (IsGood f.stack.bytes) (sym same) (sound.framed.good live)) in
     let local : p.kind ≡ 2 → IsTrue (has_local (parts f.stack.bytes p.fp) p.addr 4) = subst (λ (n : ℕ). p.kind ≡ 2 → IsTrue (has_local (parts f.stack.bytes n) p.addr 4)) (sym same) (stub_local f d next takes) in
     subst (IsCopyFor f.story) (sym is) (record {
       size = sound.size;
@@ -159,7 +167,7 @@ copy_fits f d next c sound live room on_top takes is =
       height = omega (arith, long, room, sound.limit);
       stub = omega (arith, long);
       kind = subst (λ (q : Stub). q.kind ≤ 3) (sym top) (stub_kind f d next);
-      framed = subst (λ (q : Stub). IsGood (below_stub (copy_of f d next)) q.fp) (sym top) (subst (λ (xs : List ℕ). IsGood xs p.fp) (sym under) good);
+      framed = subst (λ (q : Stub). is_good (below_stub (copy_of f d next)) q.fp ≡ true) (sym top) (subst (λ (xs : List ℕ). is_good xs p.fp ≡ true) (sym under) good);
       word = subst (λ (q : Stub). q.kind ≡ 1 → (f.story.header.ramstart ≤ q.addr) × (q.addr + 4 ≤ length f.memory)) (sym top) (stub_word f d next takes);
       local = subst (λ (q : Stub). q.kind ≡ 2 → IsTrue (has_local (parts (below_stub (copy_of f d next)) q.fp) q.addr 4)) (sym top) (subst (λ (xs : List ℕ). p.kind ≡ 2 → IsTrue (has_local (parts xs p.fp) p.addr 4)) (sym under) local);
       heap = sound.heap;

@@ -19,7 +19,7 @@ unfolding number_in
 is_past m at past = let without : nat_le (at + 1) (length m) ≡ false = grind (arith, nat_tests) in rw without refl
 
 -- a number whose bytes two lists share
-shared_byte : (m n : List ℕ) (shared a : ℕ) → take shared m ≡ take shared n → a < shared → get_or m a 0 ≡ get_or n a 0
+pub shared_byte : (m n : List ℕ) (shared a : ℕ) → take shared m ≡ take shared n → a < shared → get_or m a 0 ≡ get_or n a 0
 shared_byte m n shared a same below = sym (get_or-take shared m a 0 below) ∙ ap (λ (xs : List ℕ). get_or xs a 0) same ∙ get_or-take shared n a 0 below
 
 -- bytes that two lists share

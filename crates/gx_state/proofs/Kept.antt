@@ -5,6 +5,8 @@ use Rattle.std.proofs.Common.{arith}
 use Rattle.std.proofs.lemmas.Grind.{common_steps}
 use Rattle.std.proofs.lemmas.List.{take-take}
 use Rattle.std.proofs.lemmas.Bool.Decides.{nat_tests}
+use Rattle.std.specs.Prelude.{pos, unsigned_abs}
+use Rattle.std.specs.Int.{int_rem_euclid}
 use Rattle.gx_words.specs.Numbers.{word, spliced, bytes_of_word}
 use Rattle.gx_words.specs.Results.{Alters}
 use Rattle.gx_pages.specs.Memory.{all_spliced, AreInside}
@@ -12,9 +14,9 @@ use Rattle.gx_stack.specs.declared.frames.Frame.{Frame}
 use Rattle.gx_stack.specs.declared.faults.StackFault.{StackFault}
 use Rattle.gx_stack.specs.declared.faults.StackFault.TheVariants.{Underflow}
 use Rattle.gx_stack.specs.Flat.{FlatStack}
-use Rattle.gx_stack.specs.Frames.{IsGood, parts, IsFrame, KeepsFrames}
+use Rattle.gx_stack.specs.Frames.{IsGood, is_good, parts, IsFrame, KeepsFrames}
 use Rattle.gx_stack.specs.Calls.{top_stub}
-use Rattle.gx_stack.specs.Values.{count, places_up, rolled, turned_top}
+use Rattle.gx_stack.specs.Values.{count, rolled, turned_top}
 use Rattle.gx_stack.proofs.Kept.{frame_after_cut, word-take}
 use Rattle.heap_blocks.specs.Heap.{FlatHeap}
 use Rattle.gx_state.specs.Replies.{AreBetween}
@@ -99,6 +101,17 @@ pub ruleset framed = (framed_kept, framed_cut, framed_again, framed_none, values
 pub good_at : (bytes : List ℕ) (at fp : ℕ) → IsGood bytes at → at ≡ fp → IsGood bytes fp
 good_at bytes at fp good same = subst (IsGood bytes) same good
 
+-- what the test of a good frame says
+pub good_by : (bytes : List ℕ) (fp : ℕ) → is_good bytes fp ≡ true → IsGood bytes fp
+good_by bytes fp good = record {
+  header = grind (arith, nat_tests, good);
+  begins = grind (arith, nat_tests, good);
+  aligned = grind (arith, nat_tests, good);
+  locals = grind (arith, nat_tests, good);
+  order = grind (arith, nat_tests, good);
+  whole = grind (arith, nat_tests, good);
+}
+
 pub framed_good : (bytes : List ℕ) (fp : ℕ) → IsGood bytes fp → IsFramed bytes fp
 framed_good bytes fp good = record { good = λ _. good }
 
@@ -128,11 +141,13 @@ rom_both m rom n at later v w same first second =
 
 pub ruleset words = (size_word, rom_both, rom_written, heap_again)
 
+pub ruleset goods = (good_by, framed_good)
+
 pub ruleset local_words = (words, below)
 
 -- a roll leaves the limit
 by_tests : (s t : FlatStack) (f : Frame) (n : ℕ) (by : ℤ) (few none : Bool)
-    → (let r : Result FlatStack StackFault = if few then Err Underflow else if none then Ok s else Ok (record s { bytes = turned_top s.bytes n (places_up n by) }) in r ≡ Ok t) → t.limit ≡ s.limit
+    → (let r : Result FlatStack StackFault = if few then Err Underflow else if none then Ok s else Ok (record s { bytes = turned_top s.bytes n (unsigned_abs (int_rem_euclid by (pos n))) }) in r ≡ Ok t) → t.limit ≡ s.limit
 by_tests s t f n by true none is = cc
 by_tests s t f n by false true is = cc
 by_tests s t f n by false false is = cc

@@ -1,13 +1,14 @@
 -- The definitions that the proofs of one call open together: most of them on both levels, that of the state and that of
 -- its stack.
 use Rattle.gx_stack.specs.Calls as calls
+use Rattle.gx_stack.specs.Frames.{frame_in}
 use Rattle.gx_stack.specs.Stubs as stubs
 use Rattle.gx_stack.specs.Values as values
 use Rattle.gx_state.specs.Calls.{pushed, pushed_all, with_local}
 use Rattle.gx_state.specs.Copies.{restarted}
 use Rattle.gx_state.specs.Entry.{entered, function_at}
-use Rattle.gx_state.specs.Flat.{swapped, copied}
-use Rattle.gx_state.specs.Returns.{pushed_stubs, dest_of, delivered, returned}
+use Rattle.gx_state.specs.Flat.{swapped, rolled, copied}
+use Rattle.gx_state.specs.Returns.{pushed_stubs, stub_to, delivered, returned}
 use Rattle.gx_state.specs.Stores.{stored, store_fault}
 
 unfoldable pub pushing : Unit {0}
@@ -28,7 +29,7 @@ unfolding stubs.pushed_stubs calls.pushed_stub
 fitting_stubs = tt
 
 unfoldable pub swapping : Unit {0}
-unfolding swapped values.swapped
+unfolding swapped rolled values.rolled
 swapping = tt
 
 unfoldable pub copying : Unit {0}
@@ -50,7 +51,7 @@ storing_anywhere = tt
 
 -- a value that is delivered to a stub: in memory, and to any place
 unfoldable pub delivering : Unit {0}
-unfolding delivered dest_of storing
+unfolding delivered storing
 delivering = tt
 
 unfoldable pub delivering_local : Unit {0}
@@ -64,6 +65,11 @@ delivering_push = tt
 unfoldable pub delivering_anywhere : Unit {0}
 unfolding delivering setting_local pushing
 delivering_anywhere = tt
+
+-- the stub that a return finds, and its frame
+unfoldable pub resuming : Unit {0}
+unfolding stub_to frame_in
+resuming = tt
 
 unfoldable pub returning : Unit {0}
 unfolding returned delivering

@@ -13,8 +13,8 @@ use Rattle.gx_words.specs.Results.{◌>>=◌}
 use Rattle.gx_pages.specs.Memory.{number_in}
 use Rattle.gx_stack.specs.Formats.{pairs_of}
 use Rattle.gx_stack.specs.Held.{ArePairs, IsFormat}
-use Rattle.gx_state.specs.Entry.{format_from, format_at, behind, is_type}
-use Rattle.gx_state.proofs.Bytes.{is_there, shared_slice}
+use Rattle.gx_state.specs.Entry.{format_from, behind}
+use Rattle.gx_state.proofs.Bytes.{is_there, shared_byte, shared_slice}
 
 -- the ending pair
 ends : (m : List ℕ) (at left t n : ℕ) → number_in 1 m at ≡ Ok t → number_in 1 m (at + 1) ≡ Ok n → t ≡ 0 → format_from m at left ≡ Ok (0 ∷ n ∷ [])
@@ -128,7 +128,7 @@ slice_none m at = let none : at - at ≡ 0 = omega arith in rw none refl
 
 -- what the loop over pairs keeps: the pairs that were read are those of the format
 pub record AreRead (m : List ℕ) (at here left : ℕ) : Type 0 where
-  pub format : behind (slice_range m at here) (format_from m here left) ≡ format_at m at
+  pub format : behind (slice_range m at here) (format_from m here left) ≡ format_from m at 64
   pub pairs : ArePairs (slice_range m at here)
   pub long : length (slice_range m at here) + 2 * left ≤ 128
   pub behind_it : at ≤ here
@@ -144,7 +144,7 @@ none_read m at = record {
 length_more : (pairs : List ℕ) (t n : ℕ) → length ((pairs ++ t ∷ []) ++ n ∷ []) ≡ length pairs + 2
 length_more pairs t n = grind (arith, common_steps)
 
-is_width : (t : ℕ) → is_type t ≡ true → IsWidth t
+is_width : (t : ℕ) → (t == 1 || t == 2 || t == 4) ≡ true → IsWidth t
 is_width t is = elim (or_cases (t == 1 || t == 2) (t == 4) is) [
   | inl two ↦ elim (or_cases (t == 1) (t == 2) two) [
     | inl one ↦ inl (grind (arith, nat_tests, one))
@@ -153,7 +153,7 @@ is_width t is = elim (or_cases (t == 1 || t == 2) (t == 4) is) [
   | inr four ↦ inr (inr (grind (arith, nat_tests, four)))
 ]
 
-pub one_read : (m : List ℕ) (at here left t n : ℕ) → AreRead m at here left → number_in 1 m here ≡ Ok t → number_in 1 m (here + 1) ≡ Ok n → is_type t ≡ true → 0 < left → here + 2 ≤ length m → AreRead m at (here + 2) (left - 1)
+pub one_read : (m : List ℕ) (at here left t n : ℕ) → AreRead m at here left → number_in 1 m here ≡ Ok t → number_in 1 m (here + 1) ≡ Ok n → (t == 1 || t == 2 || t == 4) ≡ true → 0 < left → here + 2 ≤ length m → AreRead m at (here + 2) (left - 1)
 one_read m at here left t n is type count known more there =
     let width = is_width t known in
     let next = slice_more m at here t n type count is.behind_it there in
@@ -165,7 +165,7 @@ one_read m at here left t n is type count known more there =
       behind_it = omega (arith, is.behind_it);
     }
 
-pub end_read : (m : List ℕ) (at here left t n : ℕ) → AreRead m at here left → number_in 1 m here ≡ Ok t → number_in 1 m (here + 1) ≡ Ok n → t ≡ 0 → here + 2 ≤ length m → format_at m at ≡ Ok (slice_range m at (here + 2))
+pub end_read : (m : List ℕ) (at here left t n : ℕ) → AreRead m at here left → number_in 1 m here ≡ Ok t → number_in 1 m (here + 1) ≡ Ok n → t ≡ 0 → here + 2 ≤ length m → format_from m at 64 ≡ Ok (slice_range m at (here + 2))
 end_read m at here left t n is type count none there =
     sym is.format ∙ format_ends (slice_range m at here) m here left t n type count none ∙ ap Ok (sym (slice_more m at here t n type count is.behind_it there ∙ rw none refl))
 
@@ -174,16 +174,16 @@ end_format m at here left t n is type count none there =
     let few = is.long in
     subst IsFormat (sym (slice_more m at here t n type count is.behind_it there ∙ rw none refl)) (is_format (slice_range m at here) n is.pairs (omega (arith, few)))
 
-pub end_many : (m : List ℕ) (at here left t n : ℕ) → AreRead m at here left → number_in 1 m here ≡ Ok t → number_in 1 m (here + 1) ≡ Ok n → t ≢ 0 → left ≡ 0 → format_at m at ≡ Err BadFunction
+pub end_many : (m : List ℕ) (at here left t n : ℕ) → AreRead m at here left → number_in 1 m here ≡ Ok t → number_in 1 m (here + 1) ≡ Ok n → t ≢ 0 → left ≡ 0 → format_from m at 64 ≡ Err BadFunction
 end_many m at here left t n is type count some none = sym is.format ∙ format_is_bad (slice_range m at here) m here left t n type count some (λ width. none)
 
-pub end_bad : (m : List ℕ) (at here left t n : ℕ) → AreRead m at here left → number_in 1 m here ≡ Ok t → number_in 1 m (here + 1) ≡ Ok n → t ≢ 0 → is_type t ≡ false → format_at m at ≡ Err BadFunction
+pub end_bad : (m : List ℕ) (at here left t n : ℕ) → AreRead m at here left → number_in 1 m here ≡ Ok t → number_in 1 m (here + 1) ≡ Ok n → t ≢ 0 → (t == 1 || t == 2 || t == 4) ≡ false → format_from m at 64 ≡ Err BadFunction
 end_bad m at here left t n is type count some other = sym is.format ∙ format_is_bad (slice_range m at here) m here left t n type count some (λ width. grind (arith, nat_tests, width, other))
 
-pub end_past : (m : List ℕ) (at here left : ℕ) (fault : Fault) → AreRead m at here left → number_in 1 m here ≡ Err fault → format_at m at ≡ Err fault
+pub end_past : (m : List ℕ) (at here left : ℕ) (fault : Fault) → AreRead m at here left → number_in 1 m here ≡ Err fault → format_from m at 64 ≡ Err fault
 end_past m at here left fault is past = sym is.format ∙ format_is_past (slice_range m at here) m here left fault past
 
-pub end_cut : (m : List ℕ) (at here left t : ℕ) (fault : Fault) → AreRead m at here left → number_in 1 m here ≡ Ok t → number_in 1 m (here + 1) ≡ Err fault → format_at m at ≡ Err fault
+pub end_cut : (m : List ℕ) (at here left t : ℕ) (fault : Fault) → AreRead m at here left → number_in 1 m here ≡ Ok t → number_in 1 m (here + 1) ≡ Err fault → format_from m at 64 ≡ Err fault
 end_cut m at here left t fault is type past = sym is.format ∙ format_is_cut (slice_range m at here) m here left t fault type past
 
 pub ruleset end_turns = (none_read, one_read, end_read, end_format, end_many, end_bad, end_past, end_cut)
@@ -192,24 +192,50 @@ pub ruleset end_turns = (none_read, one_read, end_read, end_format, end_many, en
 word_pair : (m : List ℕ) (at t n : ℕ) → number_in 1 m at ≡ Ok t → number_in 1 m (at + 1) ≡ Ok n → t ≡ 4 → at + 4 ≤ length m → AreRead m at (at + 2) 63
 word_pair m at t n type count four there = one_read m at at 64 t n (none_read m at) type count (rw four refl) (omega arith) (omega (arith, there))
 
-pub words_read : (m : List ℕ) (at t n u x : ℕ) → number_in 1 m at ≡ Ok t → number_in 1 m (at + 1) ≡ Ok n → number_in 1 m (at + 2) ≡ Ok u → number_in 1 m (at + 3) ≡ Ok x → t ≡ 4 → u ≡ 0 → at + 4 ≤ length m
-    → format_at m at ≡ Ok (slice_range m at (at + 4))
+words_read : (m : List ℕ) (at t n u x : ℕ) → number_in 1 m at ≡ Ok t → number_in 1 m (at + 1) ≡ Ok n → number_in 1 m (at + 2) ≡ Ok u → number_in 1 m (at + 3) ≡ Ok x → t ≡ 4 → u ≡ 0 → at + 4 ≤ length m
+    → format_from m at 64 ≡ Ok (slice_range m at (at + 4))
 words_read m at t n u x type count ending last four none there =
     let behind_it : at + 3 ≡ at + 2 + 1 = omega arith in
     let end : at + 4 ≡ at + 2 + 2 = omega arith in
     rw end (end_read m at (at + 2) 63 u x (word_pair m at t n type count four there) ending (rw behind_it at last) none (omega (arith, there)))
 
-pub words_format : (m : List ℕ) (at t n u x : ℕ) → number_in 1 m at ≡ Ok t → number_in 1 m (at + 1) ≡ Ok n → number_in 1 m (at + 2) ≡ Ok u → number_in 1 m (at + 3) ≡ Ok x → t ≡ 4 → u ≡ 0 → at + 4 ≤ length m
+words_format : (m : List ℕ) (at t n u x : ℕ) → number_in 1 m at ≡ Ok t → number_in 1 m (at + 1) ≡ Ok n → number_in 1 m (at + 2) ≡ Ok u → number_in 1 m (at + 3) ≡ Ok x → t ≡ 4 → u ≡ 0 → at + 4 ≤ length m
     → IsFormat (slice_range m at (at + 4))
 words_format m at t n u x type count ending last four none there =
     let behind_it : at + 3 ≡ at + 2 + 1 = omega arith in
     let end : at + 4 ≡ at + 2 + 2 = omega arith in
     rw end (end_format m at (at + 2) 63 u x (word_pair m at t n type count four there) ending (rw behind_it at last) none (omega (arith, there)))
 
-pub ruleset words = (words_read, words_format)
-
 -- a format below RAMSTART stands in the story's bytes too
 pub stored_format : (m stored : List ℕ) (ramstart at end : ℕ) → take ramstart m ≡ take ramstart stored → at ≤ end → end ≤ ramstart → slice_range m at end ≡ slice_range stored at end
 stored_format m stored ramstart at end same first below = shared_slice m stored ramstart at end same first below
 
 pub ruleset stored = (stored_format)
+
+-- where it has locals of four bytes alone
+byte_there : (m : List ℕ) (at : ℕ) → at < length m → number_in 1 m at ≡ Ok (get_or m at 0)
+byte_there m at there = is_there m at (get_or m at 0) there refl
+
+pub words_stored : (m stored : List ℕ) (ramstart at : ℕ) → take ramstart m ≡ take ramstart stored → ramstart ≤ length m → at + 5 ≤ ramstart → get_or stored (at + 1) 0 ≡ 4 → get_or stored (at + 3) 0 ≡ 0
+    → format_from m (at + 1) 64 ≡ Ok (slice_range stored (at + 1) (at + 5))
+words_stored m stored ramstart at same inside below four none =
+    let type : get_or m (at + 1) 0 ≡ 4 = shared_byte m stored ramstart (at + 1) same (omega (arith, below)) ∙ four in
+    let ending : get_or m (at + 3) 0 ≡ 0 = shared_byte m stored ramstart (at + 3) same (omega (arith, below)) ∙ none in
+    let third : at + 3 ≡ at + 1 + 2 = omega arith in
+    let end : at + 5 ≡ at + 1 + 4 = omega arith in
+    rw end (words_read m (at + 1) _ _ _ _ (byte_there m (at + 1) (omega (arith, below, inside))) (byte_there m (at + 1 + 1) (omega (arith, below, inside)))
+    (byte_there m (at + 1 + 2) (omega (arith, below, inside))) (byte_there m (at + 1 + 3) (omega (arith, below, inside))) type (rw third at ending) (omega (arith, below, inside))
+    ∙ ap Ok (stored_format m stored ramstart (at + 1) (at + 1 + 4) same (omega arith) (omega (arith, below))))
+
+pub format_stored : (m stored : List ℕ) (ramstart at : ℕ) → take ramstart m ≡ take ramstart stored → ramstart ≤ length m → at + 5 ≤ ramstart → get_or stored (at + 1) 0 ≡ 4 → get_or stored (at + 3) 0 ≡ 0
+    → IsFormat (slice_range stored (at + 1) (at + 5))
+format_stored m stored ramstart at same inside below four none =
+    let type : get_or m (at + 1) 0 ≡ 4 = shared_byte m stored ramstart (at + 1) same (omega (arith, below)) ∙ four in
+    let ending : get_or m (at + 3) 0 ≡ 0 = shared_byte m stored ramstart (at + 3) same (omega (arith, below)) ∙ none in
+    let third : at + 3 ≡ at + 1 + 2 = omega arith in
+    let end : at + 5 ≡ at + 1 + 4 = omega arith in
+    rw end (subst IsFormat (stored_format m stored ramstart (at + 1) (at + 1 + 4) same (omega arith) (omega (arith, below)))
+    (words_format m (at + 1) _ _ _ _ (byte_there m (at + 1) (omega (arith, below, inside))) (byte_there m (at + 1 + 1) (omega (arith, below, inside)))
+    (byte_there m (at + 1 + 2) (omega (arith, below, inside))) (byte_there m (at + 1 + 3) (omega (arith, below, inside))) type (rw third at ending) (omega (arith, below, inside))))
+
+pub ruleset stored_words = (words_stored, format_stored)

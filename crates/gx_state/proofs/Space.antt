@@ -1,13 +1,13 @@
 -- Memory of another size, and the blocks of its heap.
 use Rattle.std.proofs.Common.{◌≡◌, ◌≤◌, ◌<◌, ◌%◌, ℕ, suc, ◌==◌, Bool, true, false, List, [], ◌∷◌, length, take, Option}
-use Rattle.std.proofs.Common.{Some, None, refl, ap, subst, sym, ◌∙◌, arith}
+use Rattle.std.proofs.Common.{Some, None, refl, ap, subst, sym, ◌∙◌, arith, if◌then◌else◌}
 use Rattle.std.specs.Option.{option_map}
 use Rattle.std.proofs.lemmas.Grind.{common_steps}
 use Rattle.std.proofs.lemmas.List.{take-take}
 use Rattle.std.proofs.lemmas.Bool.Decides.{nat_tests}
 use Rattle.gx_pages.specs.Memory.{IsSize, resized}
 use Rattle.heap_blocks.specs.Heap as heaps
-use Rattle.heap_blocks.specs.Heap.{Block, FlatHeap, IsEndedBy, IsHeapBelow, is_inactive, other_blocks, with_block, freed, with_rest}
+use Rattle.heap_blocks.specs.Heap.{Block, FlatHeap, IsEndedBy, IsHeapBelow, is_inactive, other_blocks, with_block, freed}
 use Rattle.heap_blocks.specs.Heap.{first_address, HeldHeap}
 use Rattle.heap_blocks.specs.Relations.{Frees}
 use Rattle.gx_state.specs.Sound.{IsHeapWithin}
@@ -82,6 +82,10 @@ some_block : (bs rest : List Block) (at : ℕ) → other_blocks at bs ≡ Some r
 unfolding other_blocks
 some_block [] rest at is = absurd cc
 some_block (b ∷ bs) rest at is = omega arith
+
+-- the heap with these blocks left
+abbrev with_rest : FlatHeap → List Block → FlatHeap
+with_rest h rest = record { start = if length rest == 0 then 0 else h.start; blocks = rest }
 
 -- what is left, and whether it is none
 pub record Leaves (h : FlatHeap) (new : FlatHeap) (last : Bool) : Type 0 where

@@ -4,7 +4,7 @@ use Rattle.gx_words.specs.declared.faults.Fault.{Fault}
 use Rattle.gx_pages.specs.Memory.{IsSize, put_back_of}
 use Rattle.gx_stack.specs.Constants.{to_memory, to_local, to_stack}
 use Rattle.gx_stack.specs.declared.stubs.Stub.{Stub}
-use Rattle.gx_stack.specs.Frames.{IsGood, has_local, parts}
+use Rattle.gx_stack.specs.Frames.{is_good, has_local, parts}
 use Rattle.gx_stack.specs.Stubs.{stub_bytes, stub_below}
 use Rattle.heap_blocks.specs.Heap.{FlatHeap}
 use Rattle.gx_story.specs.Stories.{FlatStory}
@@ -23,39 +23,22 @@ pub record Copy : Type 0 where
 
 -- A copy of the state, with the stub of a store operand on top of its stack.
 abbrev pub copy_of : FlatState → Dest → ℕ → Copy
-copy_of f dest next = record {
-  memory = f.memory;
-  stack = f.stack.bytes ++ stub_bytes (stub_of f dest next);
-  heap = f.heap;
-}
+copy_of f dest next =
+    record { memory = f.memory; stack = f.stack.bytes ++ stub_bytes (stub_of f dest next); heap = f.heap }
 
 -- the stub on top of a copy's stack
 abbrev pub stub_in : Copy → Stub
 stub_in c = stub_below c.stack (length c.stack)
 
--- what lies below it
-abbrev pub below_stub : Copy → List ℕ
-below_stub c = take (length c.stack - 16) c.stack
-
--- A copy laid over the state: its stack, its heap, and its memory but for the protected range. The decoding
--- table, the iosystem, the generator and the protected range stay, which the standard leaves open of the
--- generator.
-abbrev pub laid_over : FlatState → Copy → FlatState
-laid_over f c = record f {
-  memory = put_back_of f.memory c.memory f.protected.0 f.protected.1;
-  stack = record f.stack { bytes = c.stack };
-  heap = c.heap;
-  mode = Running;
-}
-
--- Back at a copy: it is laid over the state, its stub is popped, and -1 is delivered. A copy that is fit for the
--- story has no fault in this.
+-- Back at a copy: its stack, its heap, and its memory but for the protected range are laid over the state, its stub is
+-- popped, and -1 is delivered. A copy that is fit for the story has no fault in this. The decoding table, the iosystem,
+-- the generator and the protected range stay, which the standard leaves open of the generator.
 unfoldable pub restored_to : FlatState → Copy → FlatState
 restored_to f c =
-    elim (returned (laid_over f c) (length c.stack) 0xFFFFFFFF) [
-      | Ok r ↦ r.0
-      | Err fault ↦ f
-    ]
+    let memory = put_back_of f.memory c.memory f.protected.0 f.protected.1 in
+    let stack = record f.stack { bytes = c.stack } in
+    let laid = record f { memory = memory; stack = stack; heap = c.heap; mode = Running } in
+    elim (returned laid (length c.stack) 0xFFFFFFFF) [ Ok r ↦ r.0 | Err fault ↦ f ]
 
 -- A copy is fit for a story: its memory is one of the story's, with the same bytes below RAMSTART; its stack is
 -- within the story's limit and has on top a stub that stores, with a good frame below it, and with its word in RAM or
@@ -68,20 +51,19 @@ pub record IsCopyFor (story : FlatStory) (c : Copy) : Type 0 where
   pub height : length c.stack ≤ story.header.stack_size
   pub stub : 16 ≤ length c.stack
   pub kind : (stub_in c).kind ≤ to_stack
-  pub framed : IsGood (below_stub c) (stub_in c).fp
+  pub framed : IsTrue (is_good (take (length c.stack - 16) c.stack) (stub_in c).fp)
   pub word : (stub_in c).kind ≡ to_memory
       → (story.header.ramstart ≤ (stub_in c).addr) × ((stub_in c).addr + 4 ≤ length c.memory)
-  pub local : (stub_in c).kind ≡ to_local → IsTrue (has_local (parts (below_stub c) (stub_in c).fp) (stub_in c).addr 4)
+  pub local : (stub_in c).kind ≡ to_local
+      → IsTrue (has_local (parts (take (length c.stack - 16) c.stack) (stub_in c).fp) (stub_in c).addr 4)
   pub heap : IsHeapWithin story.header.endmem (length c.memory) c.heap
 
 -- the state before a restart enters the start function: that of a story which starts, but for the bytes of the
 -- protected range, the range itself and the generator
 abbrev pub reset : FlatState → FlatState
-reset f = record (initial f.story) {
-  memory = put_back_of f.memory (initial f.story).memory f.protected.0 f.protected.1;
-  protected = f.protected;
-  generator = f.generator;
-}
+reset f =
+    let memory = put_back_of f.memory (initial f.story).memory f.protected.0 f.protected.1 in
+    record (initial f.story) { memory = memory; protected = f.protected; generator = f.generator }
 
 -- A restart: the start function is entered without arguments.
 unfoldable pub restarted : FlatState → Result FlatState Fault

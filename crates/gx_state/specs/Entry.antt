@@ -2,8 +2,9 @@
 --
 -- The faults of an entry are looked for in this order: room for the stubs, the function's type, the
 -- count of arguments, its locals format, room for the frame.
-use Rattle.std.specs.Prelude.{ℕ, zero, suc, Bool, ◌+◌, ◌-◌, ◌*◌, ◌==◌, ◌||◌, nat_lt, if◌then◌else◌, List, [], ◌∷◌, ◌++◌}
-use Rattle.std.specs.Prelude.{length, take, replicate, Result, Ok, Err}
+use Rattle.std.specs.Prelude.{ℕ, zero, suc, ◌+◌, ◌-◌, ◌*◌, ◌==◌, ◌||◌, nat_lt, if◌then◌else◌, List, [], ◌∷◌, ◌++◌}
+use Rattle.std.specs.Prelude.{length, take, replicate, reverse, Result, Ok, Err}
+use Rattle.std.specs.List.{flat_map}
 use Rattle.gx_words.specs.declared.faults.Fault.{Fault}
 use Rattle.gx_words.specs.declared.faults.Fault.TheVariants.{BadFunction, Overflow}
 use Rattle.gx_words.specs.Constants.{stack_function, locals_function}
@@ -12,8 +13,7 @@ use Rattle.gx_words.specs.Results.{◌>>=◌}
 use Rattle.gx_pages.specs.Memory.{number_in}
 use Rattle.gx_stack.specs.declared.stubs.Stub.{Stub}
 use Rattle.gx_stack.specs.Formats.{frame, frame_len}
-use Rattle.gx_stack.specs.Frames.{topmost_first}
-use Rattle.gx_stack.specs.Stubs.{stubs_bytes}
+use Rattle.gx_stack.specs.Stubs.{stub_bytes}
 use Rattle.heap_blocks.specs.Heap.{inactive}
 use Rattle.ops_calc.specs.declared.random.Generator.TheVariants.{Outside}
 use Rattle.gx_story.specs.Stories.{FlatStory}
@@ -26,10 +26,6 @@ kind_at memory at = do
   kind ← number_in 1 memory at
   if kind == stack_function || kind == locals_function then Ok kind else Err BadFunction
 
--- the types of locals
-abbrev pub is_type : ℕ → Bool
-is_type t = t == 1 || t == 2 || t == 4
-
 -- The locals format from an address on, with at most so many pairs of a type and a count before its ending pair,
 -- whose type is 0. Of each pair in turn its bytes have to be in memory, then its type has to be right.
 unfoldable pub format_from : List ℕ → ℕ → ℕ → Result (List ℕ) Fault
@@ -41,52 +37,42 @@ format_from memory at (suc left) = do
   t ← number_in 1 memory at
   n ← number_in 1 memory (at + 1)
   if t == 0 then Ok (0 ∷ n ∷ []) else
-      if is_type t then (do
-        rest ← format_from memory (at + 2) left
-        Ok (t ∷ n ∷ rest)) else Err BadFunction
+      if t == 1 || t == 2 || t == 4
+      then (format_from memory (at + 2) left >>= λ rest. Ok (t ∷ n ∷ rest)) else Err BadFunction
 
 -- a format behind pairs that were read of it
 abbrev pub behind : List ℕ → Result (List ℕ) Fault → Result (List ℕ) Fault
 behind pairs (Ok rest) = Ok (pairs ++ rest)
 behind pairs (Err fault) = Err fault
 
--- the locals format of a function has at most 64 pairs, which the standard leaves open
-abbrev pub format_at : List ℕ → ℕ → Result (List ℕ) Fault
-format_at memory at = format_from memory at 64
-
 -- what an entry pushes: a function of type C0 has its arguments on the stack and their count on top,
 -- one of type C1 has them in its locals
 abbrev pub entry_bytes : ℕ → List ℕ → List ℕ → List ℕ
 entry_bytes kind format args =
-    if kind == stack_function then frame format [] ++ topmost_first args ++ bytes_of_word (length args)
-    else frame format args
+    if kind == stack_function
+    then frame format [] ++ flat_map bytes_of_word (reverse args) ++ bytes_of_word (length args) else frame format args
 
 abbrev pub entry_size : ℕ → List ℕ → ℕ → ℕ
 entry_size kind format count = if kind == stack_function then frame_len format + 4 * (count + 1) else frame_len format
 
 -- What an entry with so many arguments reads of the function at an address: its type and its locals format. Its
--- frame, at a place on the stack, has to fit below a limit.
+-- frame, at a place on the stack, has to fit below a limit. A format has at most 64 pairs, which the standard leaves
+-- open.
 unfoldable pub function_at : List ℕ → ℕ → ℕ → ℕ → ℕ → Result (ℕ × List ℕ) Fault
 function_at memory at count fp limit = do
   kind ← kind_at memory at
   if nat_lt 255 count then Err BadFunction else (do
-    format ← format_at memory (at + 1)
+    format ← format_from memory (at + 1) 64
     if nat_lt limit (fp + entry_size kind format count) then Err Overflow else Ok (kind, format))
 
 -- The stack is cut, stubs are pushed, and the function at an address is entered with arguments.
 unfoldable pub entered : FlatState → ℕ → List Stub → ℕ → List ℕ → Result FlatState Fault
 entered f sp stubs at args =
     let fp = sp + 16 * length stubs in
-    if nat_lt f.stack.limit fp then Err Overflow else (do
-      function ← function_at f.memory at (length args) fp f.stack.limit
-      Ok (record f {
-        stack = record f.stack {
-          bytes = (take sp f.stack.bytes ++ stubs_bytes stubs)
-              ++ entry_bytes function.0 function.1 args;
-        };
-        fp = fp;
-        pc = at + 1 + length function.1;
-      }))
+    if nat_lt f.stack.limit fp then Err Overflow else
+    function_at f.memory at (length args) fp f.stack.limit >>= λ function.
+    let bytes = (take sp f.stack.bytes ++ flat_map stub_bytes stubs) ++ entry_bytes function.0 function.1 args in
+    Ok (record f { stack = record f.stack { bytes = bytes }; fp = fp; pc = at + 1 + length function.1 })
 
 -- the state before the start function is entered: the stored part and zeros up to ENDMEM
 abbrev pub initial : FlatStory → FlatState

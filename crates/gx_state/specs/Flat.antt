@@ -1,5 +1,6 @@
 -- The state of the machine as numbers and lists (Glulx 3.1.2, "The Machine").
-use Rattle.std.specs.Prelude.{ℕ, ℤ, ◌+◌, nat_lt, if◌then◌else◌, List, length, take, Result, Ok, Err, ◌≡◌, ◌%◌, ◌<◌, ◌≤◌}
+use Rattle.std.specs.Prelude.{ℕ, ℤ, pos, ◌+◌, nat_lt, if◌then◌else◌, List, length, take, Result, Ok, Err, ◌≡◌, ◌%◌, ◌<◌}
+use Rattle.std.specs.Prelude.{◌≤◌}
 use Rattle.gx_words.specs.declared.faults.Fault.{Fault}
 use Rattle.gx_words.specs.declared.faults.Fault.TheVariants.{BadAddress, ReadOnly}
 use Rattle.gx_words.specs.Numbers.{spliced}
@@ -41,8 +42,7 @@ frame_of f = parts f.stack.bytes f.fp
 abbrev pub write_fault : FlatState → ℕ → ℕ → Result (Unit {0}) Fault
 write_fault f at count =
     if nat_lt (length f.memory) (at + count) then Err BadAddress else
-    if nat_lt at f.story.header.ramstart then Err ReadOnly else
-    Ok tt
+    if nat_lt at f.story.header.ramstart then Err ReadOnly else Ok tt
 
 -- the stack cut to a stack pointer
 abbrev pub cut : FlatState → ℕ → FlatState
@@ -52,23 +52,17 @@ cut f sp = record f { stack = record f.stack { bytes = take sp f.stack.bytes } }
 abbrev pub written : FlatState → ℕ → List ℕ → FlatState
 written f at bytes = record f { memory = spliced f.memory at bytes }
 
+-- the top n values moved so many places up, cyclically, or down where `by` is negative
+unfoldable pub rolled : FlatState → ℕ → ℤ → Result FlatState Fault
+rolled f n by = lifted (values.rolled f.stack (frame_of f) n by) >>= λ s. Ok (record f { stack = s })
+
 -- the top two values exchanged
 unfoldable pub swapped : FlatState → Result FlatState Fault
-swapped f = do
-  s ← lifted (values.swapped f.stack (frame_of f))
-  Ok (record f { stack = s })
-
--- the top n values moved up by so many places, cyclically
-unfoldable pub rolled : FlatState → ℕ → ℤ → Result FlatState Fault
-rolled f n by = do
-  s ← lifted (values.rolled f.stack (frame_of f) n by)
-  Ok (record f { stack = s })
+swapped f = rolled f 2 (pos 1)
 
 -- the top n values pushed again
 unfoldable pub copied : FlatState → ℕ → Result FlatState Fault
-copied f n = do
-  s ← lifted (values.copied f.stack (frame_of f) n)
-  Ok (record f { stack = s })
+copied f n = lifted (values.copied f.stack (frame_of f) n) >>= λ s. Ok (record f { stack = s })
 
 -- WHAT CONTRACTS SAY
 

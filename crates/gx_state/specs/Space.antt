@@ -14,12 +14,8 @@ with_size f size = record f { memory = resized f.memory size }
 abbrev pub with_block : FlatState → ℕ → ℕ → ℕ → FlatState
 with_block f end at size = record f { heap = heaps.with_block f.heap end (at, size) }
 
--- mfree: the heap that is left; with the last block memory goes back to the size at which the heap began
-abbrev pub left_with : FlatState → FlatHeap → FlatState
-left_with f heap =
-    if is_inactive heap then record f { memory = take f.heap.start f.memory; heap = heap }
-    else record f { heap = heap }
-
--- mfree, where a block begins at the address
+-- mfree, where a block begins at the address; with the last block memory goes back to the size at which the heap began
 abbrev pub without_block : FlatState → ℕ → Option FlatState
-without_block f at = option_map (left_with f) (freed f.heap at)
+without_block f at =
+    let memory = λ (heap : FlatHeap). if is_inactive heap then take f.heap.start f.memory else f.memory in
+    option_map (λ heap. record f { memory = memory heap; heap = heap }) (freed f.heap at)

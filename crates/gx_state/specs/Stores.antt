@@ -21,23 +21,15 @@ abbrev pub with_value : FlatState → ℕ → Dest → ℕ → FlatState
 with_value f width Nowhere v = f
 with_value f width (Memory at) v = written f at (bytes_of_number width v)
 with_value f width (Local at) v =
-    record f {
-      stack = record f.stack {
-        bytes = spliced f.stack.bytes ((frame_of f).locals + at)
-            (bytes_of_number width v);
-      };
-    }
+    let bytes = spliced f.stack.bytes ((frame_of f).locals + at) (bytes_of_number width v) in
+    record f { stack = record f.stack { bytes = bytes } }
 with_value f width Push v = record f { stack = record f.stack { bytes = f.stack.bytes ++ bytes_of_word (low width v) } }
 
 -- a store: its fault, or the state with the value
 unfoldable pub stored : FlatState → ℕ → Dest → ℕ → Result FlatState Fault
-stored f width d v = do
-  _ ← store_fault f width d (sp_of f)
-  Ok (with_value f width d v)
+stored f width d v = store_fault f width d (sp_of f) >>= λ _. Ok (with_value f width d v)
 
 -- only a store to memory may want memory
 abbrev pub IsMemory : Dest → Type 0
-IsMemory Nowhere = ⊥
 IsMemory (Memory at) = Unit {0}
-IsMemory (Local at) = ⊥
-IsMemory Push = ⊥
+IsMemory dest = ⊥

@@ -201,6 +201,7 @@ impl<A: Allocator + Clone> State<A> {
     }
 
     /// Lays a memory, a heap and the stack of a copy over the state, and goes back to the frame of its stub.
+    #[tactic(auto, using(crate::proofs::Kept::goods))]
     fn lay(&mut self, memory: Pages<A>, heap: Heap, stack: &[u8], stub: &Stub)
         requires fit { IsCopyFor self.old.flat.story (record { memory = memory; stack = stack.now; heap = heap.heap }) }
         requires stub { stub.now ≡ stub_below stack.now (length stack.now) }

@@ -3,17 +3,18 @@
 //! The faults of an entry are looked for before anything changes, and before a start or a restart asks
 //! for memory.
 ghost use Rattle.std.specs.Prelude.{ℕ, List, ◌≡◌, ◌≢◌, ◌+◌, ◌*◌, ◌%◌, ◌≤◌, ◌<◌, ◌^◌, ◌++◌, length, take, slice_range};
-ghost use Rattle.std.specs.Prelude.{Ok, Err, IfSome, IfOk, IfErr, IsOk, OnOk};
-ghost use Rattle.gx_words.specs.Constants.{ceiling};
+ghost use Rattle.std.specs.Prelude.{get_or, true, Ok, Err, IfSome, IfOk, IfErr, IsOk, OnOk};
+ghost use Rattle.std.specs.List.{flat_map};
+ghost use Rattle.gx_words.specs.Constants.{ceiling, stack_function};
 ghost use Rattle.gx_words.specs.declared.faults.Fault.TheVariants.{NoMemory};
 ghost use Rattle.gx_words.specs.Faults.{Makes, Reads};
 ghost use Rattle.gx_stack.specs.Formats.{frame_len};
 ghost use Rattle.gx_stack.specs.Held.{IsFormat};
 ghost use Rattle.gx_stack.specs.Frames.{IsGood};
-ghost use Rattle.gx_stack.specs.Stubs.{stubs_bytes};
+ghost use Rattle.gx_stack.specs.Stubs.{stub_bytes};
 ghost use Rattle.gx_state.specs.Flat.{sp_of};
 ghost use Rattle.gx_state.specs.Relations.{Acts};
-ghost use Rattle.gx_state.specs.Entry.{kind_at, format_at, entry_bytes, entry_size, entered, function_at, initial};
+ghost use Rattle.gx_state.specs.Entry.{kind_at, format_from, entry_bytes, entry_size, entered, function_at, initial};
 ghost use Rattle.gx_state.specs.Entry.{started};
 
 use crate::formats::{format_at, format_end};
@@ -85,6 +86,22 @@ pub fn function_at<M: Readable>(
     Ok((kind, format))
 }
 
+/// Pushes what an entry pushes into a function of type C0.
+#[inline(never)]
+#[tactic(auto, unfolding(gx_stack::specs::Calls::with_frame))]
+fn push_stack_entry(stack: &mut Stack, format: &[u8], len: u32, args: &[u32])
+    requires format { IsFormat format.now }
+    requires frame { len ≡ frame_len format.now }
+    requires count { length args.now ≤ 255 }
+    requires room { length stack.old.bytes + (len + 4 * (length args.now + 1)) ≤ stack.old.limit }
+    ensures value { stack.new ≡ record stack.old
+        { bytes = stack.old.bytes ++ entry_bytes stack_function format.now args.now } }
+    ensures good { IsGood stack.new.bytes (length stack.old.bytes) }
+{
+    stack.push_frame(format, len, &[]);
+    stack.push_args(args);
+}
+
 /// Pushes what an entry pushes.
 #[tactic(auto, unfolding(gx_stack::specs::Calls::with_frame))]
 #[inline(always)]
@@ -97,19 +114,32 @@ fn push_entry(stack: &mut Stack, kind: u32, format: &[u8], len: u32, args: &[u32
     ensures good { IsGood stack.new.bytes (length stack.old.bytes) }
 {
     if kind == STACK_FUNCTION {
-        stack.push_frame(format, len, &[]);
-        stack.push_args(args);
+        push_stack_entry(stack, format, len, args);
     } else {
         stack.push_frame(format, len, args);
     }
 }
 
-/// Pushes stubs that fit. Most often there is one.
+/// Pushes stubs that fit.
+#[inline(never)]
+#[tactic(auto, unfolding(crate::proofs::Opened::fitting_stubs))]
+fn push_several(stack: &mut Stack, stubs: &[Stub])
+    requires room { length stack.old.bytes + 16 * length stubs.now ≤ stack.old.limit }
+    ensures value { stack.new ≡ record stack.old { bytes = stack.old.bytes ++ flat_map stub_bytes stubs.now } }
+    ensures size { length stack.new.bytes ≡ length stack.old.bytes + 16 * length stubs.now }
+{
+    match stack.push_stubs(stubs) {
+        Ok(()) => {}
+        Err(_) => unreachable!(),
+    }
+}
+
+/// The same, where there is most often one.
 #[inline(always)]
 #[tactic(auto, unfolding(crate::proofs::Opened::fitting_stubs), using(gx_stack::proofs::Pieces::one_stub))]
 fn push_within(stack: &mut Stack, stubs: &[Stub])
     requires room { length stack.old.bytes + 16 * length stubs.now ≤ stack.old.limit }
-    ensures value { stack.new ≡ record stack.old { bytes = stack.old.bytes ++ stubs_bytes stubs.now } }
+    ensures value { stack.new ≡ record stack.old { bytes = stack.old.bytes ++ flat_map stub_bytes stubs.now } }
     ensures size { length stack.new.bytes ≡ length stack.old.bytes + 16 * length stubs.now }
 {
     match stubs {
@@ -117,10 +147,7 @@ fn push_within(stack: &mut Stack, stubs: &[Stub])
             Ok(()) => {}
             Err(_) => unreachable!(),
         },
-        _ => match stack.push_stubs(stubs) {
-            Ok(()) => {}
-            Err(_) => unreachable!(),
-        },
+        _ => push_several(stack, stubs),
     }
 }
 
@@ -143,7 +170,7 @@ pub fn push_call(
     requires count { length args.now ≤ 255 }
     requires room { sp + 16 * length stubs.now + entry_size kind format.now (length args.now) ≤ stack.old.limit }
     ensures value { stack.new ≡ record stack.old
-        { bytes = (take sp stack.old.bytes ++ stubs_bytes stubs.now) ++ entry_bytes kind format.now args.now } }
+        { bytes = (take sp stack.old.bytes ++ flat_map stub_bytes stubs.now) ++ entry_bytes kind format.now args.now } }
     ensures good { IsGood stack.new.bytes (sp + 16 * length stubs.now) }
     ensures height { length stack.new.bytes ≤ stack.new.limit }
     ensures aligned { length stack.new.bytes % 4 ≡ 0 }
@@ -262,11 +289,27 @@ impl<A: Allocator + Clone> State<A> {
         Ok(())
     }
 
+    /// Whether the function at an address has locals of four bytes alone, and its format stands below RAMSTART: one
+    /// pair, and the ending one.
+    #[inline(always)]
+    fn has_words(&self, at: usize) -> bool
+        ensures { result ≡ true → (at + 5 ≤ self.now.flat.story.header.ramstart)
+            × (get_or self.now.flat.story.bytes (at + 1) 0 ≡ 4)
+            × (get_or self.now.flat.story.bytes (at + 3) 0 ≡ 0) }
+    {
+        let ramstart = self.story.ramstart() as usize;
+        if at >= ramstart || ramstart - at < 5 {
+            return false;
+        }
+        let code = self.story.bytes();
+        code[at + 1] == 4 && code[at + 3] == 0
+    }
+
     /// Where the locals format of the function at an address ends, where all of it stands below RAMSTART.
     #[inline(always)]
-    #[tactic(auto, using(crate::proofs::Pairs::stored))]
+    #[tactic(auto, using(crate::proofs::Pairs::stored, crate::proofs::Pairs::stored_words))]
     fn stored_format(&self, at: u32) -> Option<u32>
-        ensures value { IfSome result (λ end. format_at self.now.flat.memory (at + 1)
+        ensures value { IfSome result (λ end. format_from self.now.flat.memory (at + 1) 64
             ≡ Ok (slice_range self.now.flat.story.bytes (at + 1) end)) }
         ensures format { IfSome result (λ end. IsFormat (slice_range self.now.flat.story.bytes (at + 1) end)) }
         ensures behind { IfSome result (λ end. at + 3 ≤ end) }
@@ -275,6 +318,9 @@ impl<A: Allocator + Clone> State<A> {
         let ramstart = self.story.ramstart();
         if at >= ramstart {
             return None;
+        }
+        if self.has_words(at as usize) {
+            return Some(at + 5);
         }
         match format_end(&Code(self), at + 1) {
             Ok(end) if end <= ramstart => Some(end),
@@ -298,7 +344,7 @@ impl<A: Allocator + Clone> State<A> {
         requires room { sp + 16 * length stubs.now ≤ self.old.flat.stack.limit }
         requires behind { at + 3 ≤ end }
         requires stored { end ≤ length self.old.flat.story.bytes }
-        requires value { format_at self.old.flat.memory (at + 1)
+        requires value { format_from self.old.flat.memory (at + 1) 64
             ≡ Ok (slice_range self.old.flat.story.bytes (at + 1) end) }
         requires format { IsFormat (slice_range self.old.flat.story.bytes (at + 1) end) }
         ensures { Acts result self.old self.new (entered self.old.flat sp stubs.now at args.now) }

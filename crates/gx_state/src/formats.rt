@@ -2,12 +2,12 @@
 //!
 //! A format is pairs of a type and a count, and an ending pair of type 0. The type is the size of each
 //! of the pair's locals in bytes. At most 64 pairs may stand before the ending one.
-ghost use Rattle.std.specs.Prelude.{◌≡◌, ◌+◌, ◌*◌, ◌≤◌, length, slice_range, Ok, IfOk, IfSome, OnOk};
+ghost use Rattle.std.specs.Prelude.{◌≡◌, ◌==◌, ◌||◌, ◌+◌, ◌*◌, ◌≤◌, length, slice_range, Ok, IfOk, OnOk};
 ghost use Rattle.arrayvec.specs.ArrayVec.{array_vec_len};
 ghost use Rattle.gx_words.specs.Constants.{ceiling};
 ghost use Rattle.gx_words.specs.Faults.{Reads};
 ghost use Rattle.gx_stack.specs.Held.{ArePairs, IsFormat};
-ghost use Rattle.gx_state.specs.Entry.{format_from, format_at, behind, is_type};
+ghost use Rattle.gx_state.specs.Entry.{format_from, behind};
 
 use crate::readable::Readable;
 use arrayvec::ArrayVec;
@@ -47,7 +47,7 @@ fn push_pairs<M: Readable>(
 /// The locals format at an address.
 #[tactic(auto, using(crate::proofs::Pairs::whole))]
 pub fn format_at<M: Readable>(memory: &M, at: u32) -> Result<ArrayVec<u8, 130>, Fault>
-    ensures value { Reads (λ format. format.items) result (format_at (M.bytes memory.now) at) }
+    ensures value { Reads (λ format. format.items) result (format_from (M.bytes memory.now) at 64) }
     ensures format { IfOk result (λ format. IsFormat format.items) }
 {
     let mut format = ArrayVec::new();
@@ -58,60 +58,17 @@ pub fn format_at<M: Readable>(memory: &M, at: u32) -> Result<ArrayVec<u8, 130>, 
 /// Whether locals have this type.
 #[inline(always)]
 fn is_type(width: u8) -> bool
-    ensures { result ≡ is_type width }
+    ensures { result ≡ (width == 1 || width == 2 || width == 4) }
 {
     width == 1 || width == 2 || width == 4
 }
 
-/// Where the locals format at an address ends, if it has locals of four bytes alone: one pair, and the ending one.
-#[inline(always)]
-#[tactic(auto, using(crate::proofs::Pairs::words))]
-fn words_end<M: Readable>(memory: &M, at: u32) -> Option<u32>
-    ensures value { IfSome result (λ end. format_at (M.bytes memory.now) at
-        ≡ Ok (slice_range (M.bytes memory.now) at end)) }
-    ensures format { IfSome result (λ end. IsFormat (slice_range (M.bytes memory.now) at end)) }
-    ensures behind { IfSome result (λ end. at + 2 ≤ end) }
-    ensures there { IfSome result (λ end. end ≤ length (M.bytes memory.now)) }
-    ensures low { IfSome result (λ end. end ≤ ceiling) }
-{
-    let Ok(width) = memory.byte(at) else {
-        return None;
-    };
-    let Ok(_count) = memory.byte(at + 1) else {
-        return None;
-    };
-    let Ok(ending) = memory.byte(at + 2) else {
-        return None;
-    };
-    let Ok(_zero) = memory.byte(at + 3) else {
-        return None;
-    };
-    if width != 4 || ending != 0 {
-        return None;
-    }
-    Some(at + 4)
-}
-
 /// Where the locals format at an address ends.
-#[inline(always)]
-pub fn format_end<M: Readable>(memory: &M, at: u32) -> Result<u32, Fault>
-    ensures value { Reads (λ end. slice_range (M.bytes memory.now) at end) result (format_at (M.bytes memory.now) at) }
-    ensures format { IfOk result (λ end. IsFormat (slice_range (M.bytes memory.now) at end)) }
-    ensures behind { IfOk result (λ end. at + 2 ≤ end) }
-    ensures there { IfOk result (λ end. end ≤ length (M.bytes memory.now)) }
-    ensures low { IfOk result (λ end. end ≤ ceiling) }
-{
-    match words_end(memory, at) {
-        Some(end) => Ok(end),
-        None => pairs_end(memory, at),
-    }
-}
-
-/// The same, pair by pair.
 #[inline(never)]
 #[tactic(auto, using(crate::proofs::Pairs::end_turns))]
-fn pairs_end<M: Readable>(memory: &M, at: u32) -> Result<u32, Fault>
-    ensures value { Reads (λ end. slice_range (M.bytes memory.now) at end) result (format_at (M.bytes memory.now) at) }
+pub fn format_end<M: Readable>(memory: &M, at: u32) -> Result<u32, Fault>
+    ensures value { Reads (λ end. slice_range (M.bytes memory.now) at end) result
+        (format_from (M.bytes memory.now) at 64) }
     ensures format { IfOk result (λ end. IsFormat (slice_range (M.bytes memory.now) at end)) }
     ensures behind { IfOk result (λ end. at + 2 ≤ end) }
     ensures there { IfOk result (λ end. end ≤ length (M.bytes memory.now)) }

@@ -154,7 +154,7 @@ impl<A: Allocator + Clone> State<A> {
     }
 
     /// The stub that ends at `sp`, and its frame.
-    #[tactic(auto, unfolding(crate::specs::Returns::stub_to), using(crate::proofs::Kept::below))]
+    #[tactic(auto, unfolding(crate::proofs::Opened::resuming), using(crate::proofs::Kept::below))]
     #[inline(always)]
     fn resumed(&self, sp: u32) -> Result<(Stub, Frame), Fault>
         requires there { sp ≤ sp_of self.now.flat }

@@ -2,7 +2,13 @@
 use Rattle.std.proofs.Common.{◌≡◌, ◌<◌, ◌≤◌, ◌+◌, ◌-◌, ◌*◌, ℕ, suc, true, false, List, ◌∷◌, Option, Some, None, refl, sym, ap, ◌∙◌, arith}
 use Rattle.std.specs.List.{find}
 use Rattle.gx_story.specs.declared.blorbs.Entry.{Entry}
-use Rattle.gx_story.specs.Blorbs.{entries_from, entry_at, is_story}
+use Rattle.gx_story.specs.Blorbs.{entries_from, is_story}
+use Rattle.iff_chunks.specs.Chunks.{id_at}
+use Rattle.gx_words.specs.Numbers.{word}
+
+-- the entry at a place of an index
+abbrev pub entry_at : List ℕ → ℕ → Entry
+entry_at index at = record { usage = id_at index at; number = word index (at + 4); start = word index (at + 8) }
 
 one_entry : (index : List ℕ) (count i : ℕ) → i < count → entries_from (count - i) index (4 + 12 * i) ≡ entry_at index (4 + 12 * i) ∷ entries_from (count - (i + 1)) index (4 + 12 * (i + 1))
 unfolding entries_from

@@ -1,12 +1,16 @@
 -- What the tests of a header say.
-use Rattle.std.proofs.Common.{◌≡◌, ◌≤◌, ◌==◌, ◌&&◌, nat_le, ℕ, Bool, true, List, length}
+use Rattle.std.proofs.Common.{◌≡◌, ◌≤◌, ◌==◌, ◌&&◌, nat_le, ℕ, Bool, true, List, length, take}
 use Rattle.std.proofs.lemmas.Bool.{leb-true, and_parts, eqb-true}
 use Rattle.std.proofs.lemmas.List.{length-take-le}
 use Rattle.gx_story.specs.declared.headers.Header.{Header}
 use Rattle.gx_words.specs.Constants.{magic_at, ceiling, stack_limit, magic, header_len}
 use Rattle.gx_story.specs.Constants.{first_version, last_version}
 use Rattle.gx_words.specs.Numbers.{word}
-use Rattle.gx_story.specs.Stories.{has_sizes, stored_story, IsStory}
+use Rattle.gx_story.specs.Stories.{has_sizes, FlatStory, IsStory}
+
+-- the story with this header whose stored part is at the start of the bytes
+abbrev pub stored_story : Header → List ℕ → FlatStory
+stored_story header bytes = record { header = header; bytes = take header.extstart bytes }
 
 -- the tests that a header has to pass, by their names
 abbrev pub has_header : List ℕ → Bool

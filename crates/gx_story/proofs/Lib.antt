@@ -1,3 +1,4 @@
 pub mod Constants
 pub mod Entries
 pub mod HeaderTests
+pub mod Forms

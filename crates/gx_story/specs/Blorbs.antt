@@ -3,6 +3,7 @@ use Rattle.std.specs.Prelude.{ℕ, zero, suc, ◌+◌, ◌*◌, ◌==◌, nat_le
 use Rattle.std.specs.Prelude.{Option, None, codes, Result, Ok, Err}
 use Rattle.std.specs.List.{find}
 use Rattle.std.specs.Option.{ok_or}
+use Rattle.std.specs.Result.{result_or}
 use Rattle.std.specs.Str.{bytes_eq}
 use Rattle.gx_words.specs.Numbers.{word}
 use Rattle.gx_words.specs.Results.{◌>>=◌}
@@ -11,19 +12,16 @@ use Rattle.iff_chunks.specs.declared.parts.Part.{Part}
 use Rattle.iff_chunks.specs.declared.parts.Sought.{Sought}
 use Rattle.iff_chunks.specs.declared.parts.Sought.TheVariants.{Letters, Place}
 use Rattle.gx_story.specs.Constants.{count_len, entry_len}
-use Rattle.gx_story.specs.Faults.{of_form}
 use Rattle.gx_story.specs.declared.blorbs.Entry.{Entry}
 use Rattle.gx_story.specs.declared.faults.StoryFault.{StoryFault}
 use Rattle.gx_story.specs.declared.faults.StoryFault.TheVariants as fault
 
--- the entry at a place of an index
-abbrev pub entry_at : List ℕ → ℕ → Entry
-entry_at index at = record { usage = id_at index at; number = word index (at + 4); start = word index (at + 8) }
-
--- so many entries from a place on
+-- so many entries of an index from a place on
 unfoldable pub entries_from : ℕ → List ℕ → ℕ → List Entry
 entries_from zero index at = []
-entries_from (suc count) index at = entry_at index at ∷ entries_from count index (at + entry_len)
+entries_from (suc count) index at =
+    record { usage = id_at index at; number = word index (at + 4); start = word index (at + 8) } ∷
+    entries_from count index (at + entry_len)
 
 -- the entry names the story
 abbrev pub is_story : Entry → Bool
@@ -33,12 +31,12 @@ is_story entry = bytes_eq entry.usage (codes "Exec") && entry.number == 0
 unfoldable pub story_entry : List ℕ → Option Entry
 story_entry index =
     if nat_le count_len (length index) && nat_le (count_len + entry_len * word index 0) (length index)
-    then find is_story (entries_from (word index 0) index count_len)
-    else None
+    then find is_story (entries_from (word index 0) index count_len) else None
 
--- the first chunk of a Blorb that is sought
+-- the first chunk of a Blorb that is sought; whatever is wrong with the form is the fault of a Blorb
 abbrev pub blorb_part : List ℕ → Sought → Result Part StoryFault
-blorb_part file sought = of_form (part_found sought (chunks file (codes "IFRS"))) >>= λ part. ok_or part fault.Blorb
+blorb_part file sought =
+    result_or (part_found sought (chunks file (codes "IFRS"))) (Err fault.Blorb) >>= λ part. ok_or part fault.Blorb
 
 -- the bare story: the body of the chunk `GLUL` whose header is where the first index says
 unfoldable pub story_in : List ℕ → Result (List ℕ) StoryFault

@@ -1,5 +1,5 @@
 -- The faults of a story file: their numbers, and what the faults of a form become.
-use Rattle.std.specs.Prelude.{ℕ, Result, Ok, Err}
+use Rattle.std.specs.Prelude.{ℕ}
 use Rattle.iff_chunks.specs.declared.faults.IffFault.{IffFault}
 use Rattle.iff_chunks.specs.declared.faults.IffFault.TheVariants as iff
 use Rattle.gx_story.specs.declared.faults.StoryFault.{StoryFault}
@@ -17,11 +17,5 @@ number_of fault.NoMemory = 8
 
 -- whatever is wrong with the form
 abbrev pub fault_of : IffFault → StoryFault
-fault_of iff.Cut = fault.Blorb
-fault_of iff.NotForm = fault.Blorb
-fault_of iff.WrongKind = fault.Blorb
 fault_of iff.NoMemory = fault.NoMemory
-
-abbrev pub of_form : {A : Type 0} → Result A IffFault → Result A StoryFault
-of_form (Ok x) = Ok x
-of_form (Err e) = Err (fault_of e)
+fault_of e = fault.Blorb

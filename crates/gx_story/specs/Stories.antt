@@ -37,10 +37,8 @@ is_whole size = size % 256 == 0
 
 abbrev pub has_sizes : Header → Bool
 has_sizes header =
-    is_whole header.ramstart && is_whole header.extstart &&
-    is_whole header.endmem && is_whole header.stack_size &&
-    nat_le 256 header.ramstart && nat_le header.ramstart header.extstart &&
-    nat_le header.extstart header.endmem
+    is_whole header.ramstart && is_whole header.extstart && is_whole header.endmem && is_whole header.stack_size &&
+    nat_le 256 header.ramstart && nat_le header.ramstart header.extstart && nat_le header.extstart header.endmem
 
 -- the header of a bare story, or its first fault
 unfoldable pub header : List ℕ → Result Header StoryFault
@@ -51,16 +49,11 @@ header bytes =
     if not (nat_le first_version h.version && nat_le h.version last_version) then Err fault.Version else
     if not (has_sizes h) then Err fault.Sizes else
     if not (nat_le h.endmem ceiling && nat_le h.stack_size stack_limit) then Err fault.TooLarge else
-    if not (nat_le h.extstart (length bytes)) then Err fault.Cut else
-    Ok h
-
--- the story with this header whose stored part is at the start of the bytes
-abbrev pub stored_story : Header → List ℕ → FlatStory
-stored_story header bytes = record { header = header; bytes = take header.extstart bytes }
+    if not (nat_le h.extstart (length bytes)) then Err fault.Cut else Ok h
 
 -- a bare story: its header, and then as many bytes as EXTSTART says
 unfoldable pub bare : List ℕ → Result FlatStory StoryFault
-bare bytes = header bytes >>= λ header. Ok (stored_story header bytes)
+bare bytes = header bytes >>= λ header. Ok (record { header = header; bytes = take header.extstart bytes })
 
 -- the story of a file: a Blorb where it begins with FORM, else bare
 unfoldable pub accepted : List ℕ → Result FlatStory StoryFault

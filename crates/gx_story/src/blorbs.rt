@@ -7,9 +7,11 @@
 //! `story_in` is the definition of that name in specs/Blorbs for every list of bytes.
 ghost use Rattle.std.specs.Prelude.{◌≡◌, ◌≢◌, ◌+◌, ◌*◌, ◌≤◌, length, IfErr};
 ghost use Rattle.std.specs.List.{find};
+ghost use Rattle.gx_words.specs.Numbers.{word};
 ghost use Rattle.gx_words.specs.Results.{Is};
+ghost use Rattle.iff_chunks.specs.Chunks.{id_at};
 ghost use Rattle.gx_story.specs.Constants.{count_len, entry_len};
-ghost use Rattle.gx_story.specs.Blorbs.{blorb_part, entries_from, entry_at, is_story, story_entry, story_in};
+ghost use Rattle.gx_story.specs.Blorbs.{blorb_part, entries_from, is_story, story_entry, story_in};
 
 use crate::StoryFault;
 use gx_words::word_at;
@@ -33,7 +35,8 @@ impl Entry {
     /// The entry at a place of an index.
     fn read(index: &[u8], at: usize) -> Entry
         requires { at + entry_len ≤ length index.now }
-        ensures { result ≡ entry_at index.now at }
+        ensures { result ≡ record
+            { usage = id_at index.now at; number = word index.now (at + 4); start = word index.now (at + 8) } }
     {
         Entry {
             usage: [index[at], index[at + 1], index[at + 2], index[at + 3]],
@@ -66,6 +69,7 @@ pub(crate) fn story_in(file: &[u8]) -> Result<&[u8], StoryFault>
 }
 
 /// The first chunk of a Blorb that is sought.
+#[tactic(auto, using(crate::proofs::Forms::form_faults))]
 fn blorb_part(file: &[u8], sought: Sought) -> Result<Part, StoryFault>
     ensures value { Is (λ part. part) result (blorb_part file.now sought) }
     ensures memory { IfErr result (λ fault. fault ≢ StoryFault.NoMemory) }

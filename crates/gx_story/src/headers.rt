@@ -1,8 +1,8 @@
 //! The header of a story (Glulx 3.1.2, "The Header"): nine words, of which the first is the magic.
-ghost use Rattle.std.specs.Prelude.{◌≡◌, ◌≢◌, ◌≤◌, length, IfOk, IfErr};
+ghost use Rattle.std.specs.Prelude.{◌≡◌, ◌≢◌, ◌≤◌, length, take, IfOk, IfErr};
 ghost use Rattle.gx_words.specs.Results.{Is};
 ghost use Rattle.gx_words.specs.Constants.{header_len};
-ghost use Rattle.gx_story.specs.Stories.{IsStory, header, header_at_start, has_sizes, stored_story};
+ghost use Rattle.gx_story.specs.Stories.{IsStory, header, header_at_start, has_sizes};
 
 use crate::StoryFault;
 use gx_words::{
@@ -34,7 +34,8 @@ impl Header {
     pub fn read(bytes: &[u8]) -> Result<Header, StoryFault>
         ensures value { Is (λ header. header) result (header bytes.now) }
         ensures memory { IfErr result (λ fault. fault ≢ StoryFault.NoMemory) }
-        ensures sound { IfOk result (λ header. IsStory (stored_story header bytes.now)) }
+        ensures sound { IfOk result (λ header.
+            IsStory (record { header = header; bytes = take header.extstart bytes.now })) }
     {
         if bytes.len() < HEADER_LEN {
             return Err(StoryFault::Short);

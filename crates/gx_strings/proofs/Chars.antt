@@ -1,13 +1,15 @@
 -- Items that are neither a character nor the end.
 use Rattle.std.proofs.Common.{◌≡◌, ◌+◌, ◌==◌, ◌||◌, ◌&&◌, nat_le, if◌then◌else◌, ℕ, Bool, true, false, List, refl, sym, subst, Option, Some, None, Result, Ok, Err}
 use Rattle.gx_words.specs.declared.faults.Fault.{Fault}
+use Rattle.gx_words.specs.declared.faults.Fault.TheVariants.{BadFunction, BadString}
 use Rattle.gx_words.specs.declared.strings.Printing.{Printing}
 use Rattle.gx_words.specs.Constants.{stack_function, locals_function}
 use Rattle.gx_words.specs.Results.{◌>>=◌}
 use Rattle.gx_pages.specs.Memory.{number_in}
 use Rattle.gx_strings.specs.Constants.{string_terminator, single_character, c_style_string, single_unicode_character, c_style_unicode_string, indirect_reference, double_indirect_reference, indirect_reference_with_arguments, double_indirect_reference_with_arguments, last_function}
 use Rattle.gx_strings.specs.declared.items.Item.{Item}
-use Rattle.gx_strings.specs.Objects.{string_of, call_of, reference_by_type, reference}
+use Rattle.gx_strings.specs.declared.items.Item.TheVariants.{Sub}
+use Rattle.gx_strings.specs.Objects.{string_of, as_inner, call_of, reference}
 use Rattle.gx_strings.specs.Nodes.{direct, indirect, node_item}
 use Rattle.gx_strings.specs.Held.{is_char_or_end}
 
@@ -36,8 +38,14 @@ unfolding call_of
 call-other memory back object None = record { is = refl }
 call-other memory back object (Some count_at) = each (number_in 4 memory count_at) (λ count. record { is = refl })
 
+-- what the reference to an object of a type gives
+abbrev reference_by_type : List ℕ → Printing → ℕ → Option ℕ → ℕ → Option Printing → Result Item Fault
+reference_by_type memory back object count_at t (Some string) = Ok (Sub back (as_inner string))
+reference_by_type memory back object count_at t None =
+    if t == stack_function || t == locals_function then call_of memory back object count_at else
+    if nat_le stack_function t && nat_le t last_function then Err BadFunction else Err BadString
+
 typed-other : (memory : List ℕ) (back : Printing) (object : ℕ) (count_at : Option ℕ) (t : ℕ) (string : Option Printing) → Other (reference_by_type memory back object count_at t string)
-unfolding reference_by_type
 typed-other memory back object count_at t (Some string) = record { is = refl }
 typed-other memory back object count_at t None =
     either (t == stack_function || t == locals_function) (call-other memory back object count_at)

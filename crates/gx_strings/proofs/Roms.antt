@@ -9,7 +9,7 @@ use Rattle.gx_words.specs.Results.{◌>>=◌}
 use Rattle.gx_pages.specs.Memory.{number_in}
 use Rattle.gx_strings.specs.Constants.{branch}
 use Rattle.gx_strings.specs.Bits.{bit, bits}
-use Rattle.gx_strings.specs.Nodes.{child, walk}
+use Rattle.gx_strings.specs.Nodes.{walk}
 
 -- what has a value has the same one in another place
 record Keeps (A : Type 0) (r s : Result A Fault) : Type 0 where
@@ -67,8 +67,11 @@ word-kept rom rest at = number-kept rom rest 4 at (inr (inr refl))
 
 -- ---- a walk
 
+-- the node to which a bit leads
+abbrev child : List ℕ → ℕ → Bool → Result ℕ Fault
+child m node one = number_in 4 m (if one then node + 5 else node + 1)
+
 child-kept : (rom rest : List ℕ) (node : ℕ) (one : Bool) → Keeps ℕ (child rom node one) (child (rom ++ rest) node one)
-unfolding child
 child-kept rom rest node one = word-kept rom rest (if one then node + 5 else node + 1)
 
 walk-kept : (rom rest : List ℕ) (node used : ℕ) (bs more : List Bool) → Keeps (ℕ × ℕ) (walk rom node used bs) (walk (rom ++ rest) node used (bs ++ more))

@@ -8,7 +8,7 @@ use Rattle.gx_words.specs.Results.{◌>>=◌}
 use Rattle.gx_pages.specs.Memory.{number_in}
 use Rattle.gx_strings.specs.Constants.{branch}
 use Rattle.gx_strings.specs.Bits.{bit, bits}
-use Rattle.gx_strings.specs.Nodes.{child, walk}
+use Rattle.gx_strings.specs.Nodes.{walk}
 
 -- ---- the bits from an index on
 
@@ -56,6 +56,10 @@ by_bit b (suc (suc (suc (suc (suc (suc zero)))))) l h is = rw is (omega arith)
 by_bit b (suc (suc (suc (suc (suc (suc (suc k))))))) l h is = absurd (omega (arith, h))
 
 -- ---- the walk from an index on, by its node's type and whether a bit is left
+
+-- the node to which a bit leads
+abbrev child : List ℕ → ℕ → Bool → Result ℕ Fault
+child m node one = number_in 4 m (if one then node + 5 else node + 1)
 
 abbrev walk_by : List ℕ → ℕ → ℕ → ℕ → Bool → Result (ℕ × ℕ) Fault
 walk_by m node used n more = do

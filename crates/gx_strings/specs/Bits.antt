@@ -1,5 +1,5 @@
 -- The bits of a compressed string (Glulx 3.1.2, "Strings").
-use Rattle.std.specs.Prelude.{ℕ, ◌+◌, ◌*◌, ◌/◌, ◌%◌, ◌^◌, Bool, ◌==◌, List, [], ◌∷◌}
+use Rattle.std.specs.Prelude.{ℕ, ◌/◌, ◌%◌, ◌^◌, Bool, ◌==◌, List, [], ◌∷◌}
 use Rattle.gx_words.specs.declared.strings.Printing.{Printing}
 
 abbrev pub bit : ℕ → ℕ → Bool
@@ -11,9 +11,6 @@ bits [] = []
 bits (b ∷ bytes) =
     bit b 0 ∷ bit b 1 ∷ bit b 2 ∷ bit b 3 ∷ bit b 4 ∷ bit b 5 ∷ bit b 6 ∷ bit b 7 ∷ bits bytes
 
--- the index of a place among the bits of memory, and the place that has an index
-abbrev pub index_of : Printing → ℕ
-index_of p = 8 * p.at + p.bit
-
+-- the place that has an index among the bits of memory
 abbrev pub with_index : Printing → ℕ → Printing
 with_index p i = record p { at = i / 8; bit = i % 8 }

@@ -1,6 +1,7 @@
 -- The items of what is printed: strings of the three types, and numbers (Glulx 3.1.2, "Strings" and
 -- "Calling and Returning Within Strings").
-use Rattle.std.specs.Prelude.{ℕ, ◌+◌, ◌%◌, ◌^◌, ◌==◌, if◌then◌else◌, List, drop, slice_get, Some, None, Result, Ok, Err}
+use Rattle.std.specs.Prelude.{ℕ, ◌+◌, ◌*◌, ◌%◌, ◌^◌, ◌==◌, if◌then◌else◌, List, drop, slice_get, Some, None, Result}
+use Rattle.std.specs.Prelude.{Ok, Err}
 use Rattle.std.specs.Int.{w32, cast_signed}
 use Rattle.std.specs.Fmt.{signed_decimal}
 use Rattle.gx_words.specs.Results.{◌>>=◌}
@@ -11,28 +12,23 @@ use Rattle.gx_words.specs.declared.strings.PrintKind.TheVariants.{E0, E1, E2, Nu
 use Rattle.gx_pages.specs.Memory.{number_in}
 use Rattle.gx_strings.specs.declared.items.Item.{Item}
 use Rattle.gx_strings.specs.declared.items.Item.TheVariants.{Char, End}
-use Rattle.gx_strings.specs.Bits.{bits, index_of, with_index}
+use Rattle.gx_strings.specs.Bits.{bits, with_index}
 use Rattle.gx_strings.specs.Nodes.{walk, node_item}
 
--- E0: bytes up to a zero byte
-unfoldable pub byte_item : List ℕ → Printing → Result Item Fault
-byte_item memory p = do
-  value ← number_in 1 memory p.at
-  Ok (if value == 0 then End else Char value (record p { at = p.at + 1 }))
+-- E0: bytes up to a zero byte; E2: words up to a zero word
+unfoldable pub plain_item : ℕ → List ℕ → Printing → Result Item Fault
+plain_item width memory p = do
+  value ← number_in width memory p.at
+  Ok (if value == 0 then End else Char value (record p { at = p.at + width }))
 
 -- E1: the node to which the bits lead from the root of the table
 unfoldable pub compressed_item : List ℕ → ℕ → Printing → Result Item Fault
 compressed_item memory table p =
+    let index = 8 * p.at + p.bit in
     if table == 0 then Err BadString else (do
       root ← number_in 4 memory ((table + 8) % 2 ^ 32)
-      end ← walk memory root 0 (drop (index_of p) (bits memory))
-      node_item memory end.0 (with_index p (index_of p + end.1)))
-
--- E2: words up to a zero word
-unfoldable pub word_item : List ℕ → Printing → Result Item Fault
-word_item memory p = do
-  value ← number_in 4 memory p.at
-  Ok (if value == 0 then End else Char value (record p { at = p.at + 4 }))
+      end ← walk memory root 0 (drop index (bits memory))
+      node_item memory end.0 (with_index p (index + end.1)))
 
 -- a number: the characters of its decimal text
 unfoldable pub number_item : Printing → Item
@@ -46,8 +42,8 @@ number_item p =
 unfoldable pub next_item : List ℕ → ℕ → Printing → Result Item Fault
 next_item memory table p =
     elim p.kind [
-      | E0 ↦ byte_item memory p
+      | E0 ↦ plain_item 1 memory p
       | E1 ↦ compressed_item memory table p
-      | E2 ↦ word_item memory p
+      | E2 ↦ plain_item 4 memory p
       | Number ↦ Ok (number_item p)
     ]

@@ -44,16 +44,14 @@ call_of memory back object (Some count_at) = do
   count ← number_in 4 memory count_at
   Ok (Call back object (count_at + 4) count)
 
--- The reference to an object of a type. The count of a string's arguments isn't looked at.
-unfoldable pub reference_by_type : List ℕ → Printing → ℕ → Option ℕ → ℕ → Option Printing → Result Item Fault
-reference_by_type memory back object count_at type_byte (Some string) = Ok (Sub back (as_inner string))
-reference_by_type memory back object count_at type_byte None =
-    if type_byte == stack_function || type_byte == locals_function then call_of memory back object count_at else
-    if nat_le stack_function type_byte && nat_le type_byte last_function then Err BadFunction else
-    Err BadString
-
--- the reference to the object at an address; `back` is the place after it
+-- The reference to the object at an address; `back` is the place after it. The count of a string's arguments isn't
+-- looked at.
 unfoldable pub reference : List ℕ → Printing → ℕ → Option ℕ → Result Item Fault
 reference memory back object count_at = do
   type_byte ← number_in 1 memory object
-  reference_by_type memory back object count_at type_byte (string_of type_byte object)
+  elim (string_of type_byte object) [
+    | Some string ↦ Ok (Sub back (as_inner string))
+    | None ↦
+        if type_byte == stack_function || type_byte == locals_function then call_of memory back object count_at else
+        if nat_le stack_function type_byte && nat_le type_byte last_function then Err BadFunction else Err BadString
+  ]

@@ -1,13 +1,13 @@
 //! The nodes of a decoding table.
 ghost use Rattle.std.specs.Prelude.{◌≡◌, ◌⊎◌, ◌+◌, ◌-◌, ◌*◌, ◌%◌, ◌<◌, ◌≤◌, ◌^◌, take, drop, length, slice_index};
-ghost use Rattle.std.specs.Prelude.{Ok, IsTrue, IfOk, OnOk};
+ghost use Rattle.std.specs.Prelude.{if◌then◌else◌, Ok, IsTrue, IfOk, OnOk};
 ghost use Rattle.gx_pages.specs.Memory.{number_in};
 ghost use Rattle.gx_words.specs.Numbers.{is_bit};
 ghost use Rattle.gx_words.specs.Faults.{Reads};
 ghost use Rattle.gx_words.specs.Constants.{ceiling};
 ghost use Rattle.gx_words.specs.declared.strings.Printing.{Printing as APrinting};
 ghost use Rattle.gx_strings.specs.Bits.{bit, bits, with_index};
-ghost use Rattle.gx_strings.specs.Nodes.{child, walk, direct, indirect, node_item};
+ghost use Rattle.gx_strings.specs.Nodes.{walk, direct, indirect, node_item};
 ghost use Rattle.gx_strings.specs.Held.{HasBit, HasBits, Tells};
 
 use crate::node_types::{
@@ -48,7 +48,7 @@ fn node_bytes<A: Allocator + Clone>(memory: &Pages<A>, node: u32) -> Result<&[u8
 
 /// The node to which a bit leads from a branch.
 #[inline(always)]
-#[tactic(auto, unfolding(crate::specs::Nodes::child, gx_pages::specs::Memory::number_in))]
+#[tactic(auto, unfolding(gx_pages::specs::Memory::number_in))]
 fn child<A: Allocator + Clone>(
     memory: &Pages<A>,
     node: u32,
@@ -57,7 +57,7 @@ fn child<A: Allocator + Clone>(
 ) -> Result<u32, Fault>
     requires bytes { bytes.now ≡ take (256 - node % 256) (drop node memory.now) }
     requires low { node < ceiling }
-    ensures { Reads (λ v. v) result (child memory.now node one) }
+    ensures { Reads (λ v. v) result (number_in 4 memory.now (if one then node + 5 else node + 1)) }
 {
     let at = if one { 5 } else { 1 };
     if at + 4 <= bytes.len() {

@@ -96,7 +96,7 @@ fn call_of<A: Allocator + Clone>(
 }
 
 /// The reference to the object at an address; `back` is the place after it.
-#[tactic(auto, unfolding(crate::specs::Objects::reference, crate::specs::Objects::reference_by_type))]
+#[tactic(auto, unfolding(crate::specs::Objects::reference))]
 pub fn reference<A: Allocator + Clone>(
     memory: &Pages<A>,
     back: Printing,

@@ -6,7 +6,7 @@ ghost use Rattle.std.specs.Fmt.{signed_decimal};
 ghost use Rattle.gx_words.specs.Numbers.{is_bit};
 ghost use Rattle.gx_words.specs.Faults.{Reads};
 ghost use Rattle.gx_words.specs.declared.strings.PrintKind.TheVariants.{Number};
-ghost use Rattle.gx_strings.specs.Items.{byte_item, compressed_item, word_item, number_item, next_item};
+ghost use Rattle.gx_strings.specs.Items.{plain_item, compressed_item, number_item, next_item};
 ghost use Rattle.gx_strings.specs.Held.{HasBit, HasBits, Tells};
 
 use crate::nodes::{node_char, node_item, walk};
@@ -18,7 +18,7 @@ use std::alloc::Allocator;
 
 /// The byte at the place, where a zero byte is the end.
 #[inline(always)]
-#[tactic(auto, unfolding(crate::specs::Items::byte_item))]
+#[tactic(auto, unfolding(crate::specs::Items::plain_item))]
 fn byte_item<A: Allocator + Clone>(
     rom: &[u8],
     memory: &Pages<A>,
@@ -26,7 +26,7 @@ fn byte_item<A: Allocator + Clone>(
 ) -> Result<Item, Fault>
     requires rom { rom.now ≡ take (length rom.now) memory.now }
     requires bit { HasBit printing.now }
-    ensures value { Reads (λ item. item) result (byte_item memory.now printing.now) }
+    ensures value { Reads (λ item. item) result (plain_item 1 memory.now printing.now) }
     ensures bits { IfOk result HasBits }
 {
     let value = rom::number(rom, memory, 1, printing.at)?;
@@ -71,7 +71,7 @@ fn compressed_item<A: Allocator + Clone>(
 
 /// The word at the place, where a zero word is the end.
 #[inline(always)]
-#[tactic(auto, unfolding(crate::specs::Items::word_item))]
+#[tactic(auto, unfolding(crate::specs::Items::plain_item))]
 fn word_item<A: Allocator + Clone>(
     rom: &[u8],
     memory: &Pages<A>,
@@ -79,7 +79,7 @@ fn word_item<A: Allocator + Clone>(
 ) -> Result<Item, Fault>
     requires rom { rom.now ≡ take (length rom.now) memory.now }
     requires bit { HasBit printing.now }
-    ensures value { Reads (λ item. item) result (word_item memory.now printing.now) }
+    ensures value { Reads (λ item. item) result (plain_item 4 memory.now printing.now) }
     ensures bits { IfOk result HasBits }
 {
     let value = rom::number(rom, memory, 4, printing.at)?;

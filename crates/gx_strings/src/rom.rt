@@ -3,14 +3,14 @@
 //! Decoding tables and strings nearly always lie there. `number` reads memory where a number doesn't lie in ROM; `walk`
 //! takes ROM for the whole of memory, and answers None where something that it reads isn't there.
 ghost use Rattle.std.specs.Prelude.{◌≡◌, ◌↔◌, ◌⊎◌, ◌+◌, ◌-◌, ◌*◌, ◌/◌, ◌%◌, ◌<◌, ◌≤◌, ◌^◌, take, drop, length, Ok};
-ghost use Rattle.std.specs.Prelude.{Err, None, true, IfSome, IsSome, OnOk};
+ghost use Rattle.std.specs.Prelude.{if◌then◌else◌, Err, None, true, IfSome, IsSome, OnOk};
 ghost use Rattle.gx_pages.specs.Memory.{number_in};
 ghost use Rattle.gx_words.specs.Numbers.{IsWidth, byte};
 ghost use Rattle.gx_words.specs.Constants.{ceiling};
 ghost use Rattle.gx_words.specs.Faults.{Reads};
 ghost use Rattle.gx_words.specs.declared.faults.Fault.TheVariants.{BadAddress};
 ghost use Rattle.gx_strings.specs.Bits.{bits};
-ghost use Rattle.gx_strings.specs.Nodes.{child, walk};
+ghost use Rattle.gx_strings.specs.Nodes.{walk};
 
 use crate::node_types::BRANCH;
 use crate::nodes::Ending;
@@ -41,10 +41,10 @@ fn type_of(rom: &[u8], node: u32) -> u32
 
 /// The node to which a bit leads from a branch.
 #[inline(always)]
-#[tactic(auto, unfolding(crate::specs::Nodes::child, gx_pages::specs::Memory::number_in))]
+#[tactic(auto, unfolding(gx_pages::specs::Memory::number_in))]
 fn child(rom: &[u8], node: u32, one: bool) -> u32
     requires { node + 9 ≤ length rom.now }
-    ensures { child rom.now node one ≡ Ok result }
+    ensures { number_in 4 rom.now (if one then node + 5 else node + 1) ≡ Ok result }
 {
     let at = node as usize;
     word_at(rom, if one { at + 5 } else { at + 1 })

@@ -16,25 +16,15 @@ unfoldable pub ram : ℕ → ℕ → List ℕ
 ram zero number = []
 ram (suc n) number = ram n number ++ bytes_of_word (work_word number n)
 
--- magic, version 3.1.2, RAMSTART, EXTSTART, ENDMEM, stack size, start function, no table, checksum
-abbrev pub work_header : ℕ → ℕ → List ℕ
-work_header size checksum =
-    flat_map bytes_of_word (magic ∷ 0x00030102 ∷ 0x100 ∷ size ∷ size ∷ 0x100 ∷ 0x24 ∷ 0 ∷ checksum ∷ [])
-
--- sends output to Glk and opens a text window for it
-abbrev pub opening : List ℕ
-opening =
-    (0x81 ∷ 0x49 ∷ 0x01 ∷ 0x02 ∷ []) ++  -- setiosys 2 0
-    (0x40 ∷ 0x80 ∷ 0x40 ∷ 0x81 ∷ 0x03 ∷ []) ++  -- copy 0 sp, copy 3 sp
-    (0x40 ∷ 0x80 ∷ 0x40 ∷ 0x80 ∷ 0x40 ∷ 0x80 ∷ []) ++  -- copy 0 sp, three times
-    (0x81 ∷ 0x30 ∷ 0x11 ∷ 0x08 ∷ 0x23 ∷ 0x05 ∷ []) ++  -- glk window_open 5 sp
-    (0x81 ∷ 0x30 ∷ 0x11 ∷ 0x00 ∷ 0x2F ∷ 0x01 ∷ [])  -- glk set_window 1
-
--- a function that sums up so many words of RAM in place and prints the last sum
+-- a function that opens a text window for output, sums up so many words of RAM in place and prints the last sum
 abbrev pub code : ℕ → List ℕ
 code count =
     (0xC1 ∷ 0x04 ∷ 0x02 ∷ 0x00 ∷ 0x00 ∷ []) ++  -- two locals: the index of a word, the sum
-    opening ++
+    (0x81 ∷ 0x49 ∷ 0x01 ∷ 0x02 ∷ []) ++  -- setiosys 2 0: output goes to Glk
+    (0x40 ∷ 0x80 ∷ 0x40 ∷ 0x81 ∷ 0x03 ∷ []) ++  -- copy 0 sp, copy 3 sp
+    (0x40 ∷ 0x80 ∷ 0x40 ∷ 0x80 ∷ 0x40 ∷ 0x80 ∷ []) ++  -- copy 0 sp, three times
+    (0x81 ∷ 0x30 ∷ 0x11 ∷ 0x08 ∷ 0x23 ∷ 0x05 ∷ []) ++  -- glk window_open 5 sp
+    (0x81 ∷ 0x30 ∷ 0x11 ∷ 0x00 ∷ 0x2F ∷ 0x01 ∷ []) ++  -- glk set_window 1
     (0x48 ∷ 0x92 ∷ 0x08 ∷ 0x01 ∷ 0x00 ∷ 0x00 ∷ []) ++  -- aload 0x100 index sp
     (0x10 ∷ 0x98 ∷ 0x09 ∷ 0x04 ∷ 0x04 ∷ []) ++  -- add sp sum sum
     (0x4C ∷ 0x92 ∷ 0x09 ∷ 0x01 ∷ 0x00 ∷ 0x00 ∷ 0x04 ∷ []) ++  -- astore 0x100 index sum
@@ -44,9 +34,13 @@ code count =
     (0x70 ∷ 0x01 ∷ 0x0A ∷ []) ++  -- streamchar 10
     (0x81 ∷ 0x20 ∷ [])  -- quit
 
--- the bytes before RAM, for so many words of RAM
+-- The bytes before RAM, for so many words of RAM: magic, version 3.1.2, RAMSTART, EXTSTART, ENDMEM, stack size, start
+-- function, no table and checksum; then the code.
 unfoldable pub page : ℕ → ℕ → List ℕ
-page count checksum = work_header (0x100 + 4 * count) checksum ++ code count ++ replicate 147 0
+page count checksum =
+    let size = 0x100 + 4 * count in
+    flat_map bytes_of_word (magic ∷ 0x00030102 ∷ 0x100 ∷ size ∷ size ∷ 0x100 ∷ 0x24 ∷ 0 ∷ checksum ∷ [])
+    ++ code count ++ replicate 147 0
 
 -- the story with a checksum
 unfoldable pub work_story_with : ℕ → ℕ → List ℕ

@@ -57,9 +57,8 @@ free_place n at (b ∷ bs) = if nat_le (at + n) b.0 then at else free_place n (b
 -- malloc: the address of a block of n bytes that ends at or below a ceiling
 abbrev pub block_address : FlatHeap → ℕ → ℕ → ℕ → Option ℕ
 block_address h end n ceiling =
-    if nat_le (free_place n (first_address h end) h.blocks + n) ceiling
-    then Some (free_place n (first_address h end) h.blocks)
-    else None
+    let at = free_place n (first_address h end) h.blocks in
+    if nat_le (at + n) ceiling then Some at else None
 
 -- a block put in order among the others
 unfoldable pub inserted : Block → List Block → List Block
@@ -76,11 +75,10 @@ other_blocks at [] = None
 other_blocks at (b ∷ bs) = if b.0 == at then Some bs else option_map (λ rest. b ∷ rest) (other_blocks at bs)
 
 -- mfree: the heap without that block, inactive where it was the last
-abbrev pub with_rest : FlatHeap → List Block → FlatHeap
-with_rest h rest = record { start = if length rest == 0 then 0 else h.start; blocks = rest }
-
 abbrev pub freed : FlatHeap → ℕ → Option FlatHeap
-freed h at = option_map (with_rest h) (other_blocks at h.blocks)
+freed h at =
+    option_map (λ rest. record { start = if length rest == 0 then 0 else h.start; blocks = rest })
+    (other_blocks at h.blocks)
 
 -- WHAT CONTRACTS SEE
 

@@ -1,5 +1,5 @@
 -- One turn of the loops over the chunks of a form.
-use Rattle.std.proofs.Common.{◌≡◌, ◌<◌, ◌≤◌, ◌+◌, ℕ, zero, suc, Bool, true, false, List, [], ◌∷◌, ◌++◌, append_assoc, length, Result, Ok, Err, refl, sym, ap, ◌∙◌, arith, inl, inr, cond, leb}
+use Rattle.std.proofs.Common.{◌≡◌, ◌<◌, ◌≤◌, ◌+◌, ℕ, zero, suc, Bool, true, false, List, [], ◌∷◌, ◌++◌, append_assoc, length, Result, Ok, Err, refl, sym, ap, ◌∙◌, arith, inl, inr, cond, leb, ◌%◌}
 use Rattle.std.specs.Prelude.{not, Option, Some, None, IsOk}
 use Rattle.std.specs.List.{find}
 use Rattle.std.proofs.lemmas.List.{append-nil}
@@ -9,8 +9,12 @@ use Rattle.iff_chunks.specs.declared.faults.IffFault.TheVariants.{Cut}
 use Rattle.iff_chunks.specs.declared.parts.Part.{Part}
 use Rattle.iff_chunks.specs.declared.parts.Sought.{Sought}
 use Rattle.iff_chunks.specs.Faults.{◌>>=◌}
-use Rattle.iff_chunks.specs.Chunks.{length_at, id_at, part_at, next_place, parts_from, is_sought, part_found}
+use Rattle.iff_chunks.specs.Chunks.{length_at, id_at, part_at, parts_from, is_sought, part_found}
 use Rattle.iff_chunks.specs.Laws.{found_first}
+
+-- the place of the next header
+abbrev pub next_place : Part → ℕ
+next_place part = part.at + part.len + part.len % 2
 
 pub parts_done : (most : ℕ) (form : List ℕ) (place : ℕ) → length form ≤ place → parts_from most form place ≡ Ok []
 unfolding parts_from
@@ -29,7 +33,7 @@ part_starts : (form : List ℕ) (place : ℕ) (part : Part) → part_at form pla
 unfolding part_at
 part_starts form place part h =
     let made : Result Part IffFault = Ok (record { id = id_at form place; at = place + 8; len = length_at form (place + 4) }) in
-    let e : made ≡ Ok part = guard_ok (not (leb (place + 8 + length_at form (place + 4)) (length form))) Cut made part (guard_ok (not (leb (place + 8) (length form))) Cut (cond (not (leb (place + 8 + length_at form (place + 4)) (length form))) (Err Cut) made) part h) in
+    let e : made ≡ Ok part = guard_ok (not (leb (place + 8 + length_at form (place + 4)) (length form))) Cut made part h in
     sym (ap (λ (r : Result Part IffFault). start r 0) e)
 
 bind_same : (r : Result Part IffFault) (f g : Part → Result (List Part) IffFault) → ((part : Part) → r ≡ Ok part → f part ≡ g part) → (r >>= f) ≡ (r >>= g)

@@ -9,10 +9,10 @@ use Rattle.std.specs.Str.{bytes_eq}
 use Rattle.iff_chunks.specs.declared.faults.IffFault.{IffFault}
 use Rattle.iff_chunks.specs.declared.parts.Part.{Part}
 use Rattle.iff_chunks.specs.Faults.{◌>>=◌}
-use Rattle.iff_chunks.specs.Chunks.{length_at, id_at, part_at, next_place, parts_from, form_in, chunks, body}
+use Rattle.iff_chunks.specs.Chunks.{length_at, id_at, part_at, parts_from, form_in, chunks, body}
 use Rattle.iff_chunks.specs.Writing.{Chunk, bytes_of_length, bytes_of_chunk, bytes_of_form}
 use Rattle.iff_chunks.specs.Laws.{chunk_of, chunks_in, IsChunk, ReadsBack}
-use Rattle.iff_chunks.proofs.Reading.{parts_done}
+use Rattle.iff_chunks.proofs.Reading.{next_place, parts_done}
 
 digits : (v : ℕ) → v < 2 ^ 32 → ((v / 2 ^ 24 % 256) * 256 + v / 2 ^ 16 % 256) * 65536 + ((v / 2 ^ 8 % 256) * 256 + v % 256) ≡ v
 digits v h = omega arith
@@ -37,10 +37,9 @@ read_four front a b c d content rest small =
     let w = front ++ four a b c d content rest in
     let size : length w ≡ length front + (8 + (length content + length (replicate (length content % 2) 0 ++ rest))) = omega (arith, length-append front (four a b c d content rest), length-append content (replicate (length content % 2) 0 ++ rest)) in
     let number : length_at w (length front + 4) ≡ length content = length_behind front (four a b c d content rest) 4 ∙ digits (length content) small in
-    let one : leb (length front + 8) (length w) ≡ true = le-leb _ _ (omega arith) in
     let two : leb (length front + 8 + length content) (length w) ≡ true = le-leb _ _ (omega arith) in
     let name : id_at w (length front) ≡ a ∷ b ∷ c ∷ d ∷ [] = id_behind front (four a b c d content rest) in
-    rw (number, one, two, name) refl
+    rw (number, two, name) refl
 
 body_four : (front : List ℕ) (a b c d : ℕ) (content rest : List ℕ) → take (length content) (drop (length front + 8) (front ++ four a b c d content rest)) ≡ content
 body_four front a b c d content rest = ap (take (length content)) (drop_behind front (four a b c d content rest) 8) ∙ take_at content (replicate (length content % 2) 0 ++ rest) (length content) refl

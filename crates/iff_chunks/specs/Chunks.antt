@@ -25,20 +25,18 @@ id_at bytes place =
 -- the chunk whose header is at a place of a form
 unfoldable pub part_at : List ℕ → ℕ → Result Part IffFault
 part_at form place =
-    if not (nat_le (place + 8) (length form)) then Err fault.Cut else
-    if not (nat_le (place + 8 + length_at form (place + 4)) (length form)) then Err fault.Cut else
-    Ok (record { id = id_at form place; at = place + 8; len = length_at form (place + 4) })
+    let size = length_at form (place + 4) in
+    if not (nat_le (place + 8 + size) (length form)) then Err fault.Cut else
+    Ok (record { id = id_at form place; at = place + 8; len = size })
 
--- the place of the next header: a body of odd length is filled up
-abbrev pub next_place : Part → ℕ
-next_place part = part.at + part.len + part.len % 2
-
--- the chunks from a place on, at most so many: a form has fewer of them than bytes
+-- The chunks from a place on, at most so many: a form has fewer of them than bytes. A body of odd length is filled up,
+-- and then comes the next header.
 unfoldable pub parts_from : ℕ → List ℕ → ℕ → Result (List Part) IffFault
 parts_from zero form place = Ok []
 parts_from (suc most) form place =
     if nat_le (length form) place then Ok [] else
-    part_at form place >>= λ part. parts_from most form (next_place part) >>= λ parts. Ok (part ∷ parts)
+    part_at form place >>= λ part.
+    parts_from most form (part.at + part.len + part.len % 2) >>= λ parts. Ok (part ∷ parts)
 
 abbrev pub begins_form : List ℕ → Bool
 begins_form bytes = starts_with nat_eq bytes (codes "FORM")

@@ -1,7 +1,7 @@
 //! One chunk of a form: its letters, and where its body lies.
-ghost use Rattle.std.specs.Prelude.{◌≡◌, ◌+◌, ◌≤◌, ◌<◌, ◌^◌, length, IfOk};
+ghost use Rattle.std.specs.Prelude.{◌≡◌, ◌+◌, ◌%◌, ◌≤◌, ◌<◌, ◌^◌, length, IfOk};
 ghost use Rattle.iff_chunks.specs.Faults.{Reads};
-ghost use Rattle.iff_chunks.specs.Chunks.{body, id_at, is_sought, length_at, next_place, part_at};
+ghost use Rattle.iff_chunks.specs.Chunks.{body, id_at, is_sought, length_at, part_at};
 ghost use Rattle.iff_chunks.specs.Laws.{found_first};
 
 use crate::IffFault;
@@ -46,7 +46,7 @@ impl Part {
     /// The place of the next header: a body of odd length is filled up.
     pub(crate) fn next_place(self) -> usize
         requires { self.at + self.len + 1 < 2 ^ 64 }
-        ensures { result ≡ next_place self }
+        ensures { result ≡ self.at + self.len + self.len % 2 }
     {
         self.at + self.len + self.len % 2
     }

@@ -6,9 +6,9 @@ use Rattle.std.proofs.lemmas.Bool.{cases_lt, lt-ltb, le-ltb}
 use Rattle.std.proofs.lemmas.Bool.Decides.{nat_tests}
 use Rattle.std.proofs.lemmas.Int.{ints, to_z-of_z, quot-rem, rem_below}
 use Rattle.std.specs.Prelude.{ℤ, pos, negsuc, ◌≤ℤ◌, int_div, int_rem, unsigned_abs, FitsSigned, neg_ℤ}
-use Rattle.std.specs.Int.{w32}
+use Rattle.std.specs.Int.{w32, cast_unsigned}
 use Rattle.std.specs.Int.Signed.{mag_rem}
-use Rattle.ops_calc.specs.Arithmetic.{has_no_quotient, signed, word_of}
+use Rattle.ops_calc.specs.Arithmetic.{has_no_quotient, signed}
 use Rattle.ops_calc.specs.Laws.{IsDivision, IsQuotient, IsRemainder}
 
 rem_positive : (a b : ℤ) → pos 0 ≤ℤ a → pos 0 ≤ℤ int_rem a b
@@ -70,7 +70,7 @@ divisor_some b q other =
       | inr y ↦ let is_b = y.0 in rw is_b (omega arith)
     ]
 
-pub quotient_law : (a b found : ℕ) → a < 2 ^ 32 → b < 2 ^ 32 → has_no_quotient a b ≡ false → found ≡ word_of (int_div (signed a) (signed b)) → IsQuotient a b found
+pub quotient_law : (a b found : ℕ) → a < 2 ^ 32 → b < 2 ^ 32 → has_no_quotient a b ≡ false → found ≡ cast_unsigned w32 (int_div (signed a) (signed b)) → IsQuotient a b found
 quotient_law a b found p q test is =
     let back = to_z-of_z w32 (int_div (signed a) (signed b)) (quotient_fits a b p q test) in
     let law = division (signed a) (signed b) (divisor_some b q (divides a b test).0) in
@@ -86,7 +86,7 @@ word_fits v small =
       | inr x ↦ let is = x.0 in rw is (record { sfits = omega (arith, x.1) })
     ]
 
-pub remainder_law : (a b found : ℕ) → a < 2 ^ 32 → b < 2 ^ 32 → has_no_quotient a b ≡ false → found ≡ word_of (int_rem (signed a) (signed b)) → IsRemainder a b found
+pub remainder_law : (a b found : ℕ) → a < 2 ^ 32 → b < 2 ^ 32 → has_no_quotient a b ≡ false → found ≡ cast_unsigned w32 (int_rem (signed a) (signed b)) → IsRemainder a b found
 remainder_law a b found p q test is =
     let back = to_z-of_z w32 (int_rem (signed a) (signed b)) (remainder_fits (signed a) (signed b) (word_fits a p)) in
     let law = division (signed a) (signed b) (divisor_some b q (divides a b test).0) in

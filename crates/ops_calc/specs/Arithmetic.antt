@@ -6,12 +6,9 @@ use Rattle.std.specs.Prelude.{Some, None, bit_and, bit_or, bit_xor, int_div, int
 use Rattle.std.specs.Int.{w32, cast_signed, cast_unsigned, int_shr}
 use Rattle.gx_words.specs.Numbers.{extended}
 
--- a word read as two's complement, and the word of such a number
+-- a word read as two's complement; `cast_unsigned w32` is the word of such a number
 abbrev pub signed : ℕ → ℤ
 signed v = cast_signed w32 v
-
-abbrev pub word_of : ℤ → ℕ
-word_of z = cast_unsigned w32 z
 
 -- There is no quotient by 0. The standard is silent on -2^31 by -1, whose quotient has no place in
 -- a word: it has none either, and no remainder, so that each answer is a division as below.
@@ -20,11 +17,11 @@ has_no_quotient a b = b == 0 || (a == 0x80000000 && b == 0xFFFFFFFF)
 
 -- 13 div: signed, toward zero
 unfoldable pub div : ℕ → ℕ → Option ℕ
-div a b = if has_no_quotient a b then None else Some (word_of (int_div (signed a) (signed b)))
+div a b = if has_no_quotient a b then None else Some (cast_unsigned w32 (int_div (signed a) (signed b)))
 
 -- 14 mod: signed, with the sign of the dividend
 unfoldable pub mod_ : ℕ → ℕ → Option ℕ
-mod_ a b = if has_no_quotient a b then None else Some (word_of (int_rem (signed a) (signed b)))
+mod_ a b = if has_no_quotient a b then None else Some (cast_unsigned w32 (int_rem (signed a) (signed b)))
 
 -- 15 neg
 abbrev pub neg : ℕ → ℕ
@@ -36,7 +33,7 @@ shiftl a b = if nat_lt b 32 then a * 2 ^ b % 2 ^ 32 else 0
 
 -- 1D sshiftr: copies of the sign come in, and are all that is left after 32 places
 abbrev pub sshiftr : ℕ → ℕ → ℕ
-sshiftr a b = word_of (int_shr (signed a) (if nat_lt b 32 then b else 31))
+sshiftr a b = cast_unsigned w32 (int_shr (signed a) (if nat_lt b 32 then b else 31))
 
 -- 1E ushiftr
 abbrev pub ushiftr : ℕ → ℕ → ℕ

@@ -12,10 +12,6 @@ use Rattle.ops_calc.specs.declared.random.Generator.TheVariants.{Outside, Seeded
 abbrev pub pcg32_of : ℕ → Lcg
 pcg32_of v = pcg32_of_seed (pcg32_seed 16 v)
 
--- setrandom: 0 goes back to the words from outside
-abbrev pub seeded_by : ℕ → Generator
-seeded_by v = if v == 0 then Outside else Seeded (pcg32_of v)
-
 abbrev pub is_outside : Generator → Bool
 is_outside Outside = true
 is_outside (Seeded pcg) = false
@@ -34,6 +30,4 @@ after_word (Seeded pcg) = Seeded (pcg32 pcg).1
 -- one
 unfoldable pub pick : ℕ → ℕ → ℕ
 pick limit word =
-    if limit == 0 then word else
-    if nat_lt limit 0x80000000 then word % limit else
-    neg (word % neg limit)
+    if limit == 0 then word else if nat_lt limit 0x80000000 then word % limit else neg (word % neg limit)

@@ -2,8 +2,8 @@
 //!
 //! The words come from outside, each handed in, until the story seeds its own generator; from then
 //! on they are those of a Pcg32, the same in every run.
-ghost use Rattle.std.specs.Prelude.{◌≡◌, Ok};
-ghost use Rattle.ops_calc.specs.Generator.{seeded_by, is_outside, word_from, after_word, pick};
+ghost use Rattle.std.specs.Prelude.{◌≡◌, ◌==◌, if◌then◌else◌, Ok};
+ghost use Rattle.ops_calc.specs.Generator.{pcg32_of, is_outside, word_from, after_word, pick};
 ghost use Rattle.ops_calc.specs.Laws.{IsPicked};
 
 use rand_core::SeedableRng;
@@ -30,7 +30,7 @@ impl Generator {
 
     /// Starts the words of the seed `v`; 0 goes back to those from outside.
     pub fn seed(&mut self, v: u32)
-        ensures { self.new ≡ seeded_by v }
+        ensures { self.new ≡ (if v == 0 then Generator.Outside else Generator.Seeded (pcg32_of v)) }
     {
         *self = if v == 0 {
             Generator::Outside

@@ -1,28 +1,32 @@
 -- A return looks only at what lies below its stack pointer.
-use Rattle.std.proofs.Common.{◌≡◌, ◌≤◌, ◌<◌, ◌+◌, ◌-◌, ℕ, Bool, true, false, nat_lt, if◌then◌else◌, List, [], ◌∷◌, ◌++◌}
+use Rattle.std.proofs.Common.{◌≡◌, ◌≤◌, ◌<◌, ◌+◌, ◌-◌, ℕ, Bool, true, false, nat_lt, nat_le, if◌then◌else◌, List, [], ◌∷◌, ◌++◌}
 use Rattle.std.proofs.Common.{length, take, Some, Result, Ok, Err, refl, arith, ap, sym, ◌∙◌}
-use Rattle.std.proofs.lemmas.List.{take-take, take-append-le, append-nil}
+use Rattle.std.proofs.lemmas.List.{take-take, take-append-le, append-nil, length-take-le}
 use Rattle.std.proofs.lemmas.Grind.{common_steps}
 use Rattle.std.proofs.lemmas.Bool.Decides.{nat_tests}
 use Rattle.gx_words.specs.declared.faults.Fault.{Fault}
-use Rattle.gx_words.specs.declared.faults.Fault.TheVariants.{BadLocal}
+use Rattle.gx_words.specs.declared.faults.Fault.TheVariants.{BadLocal, Overflow}
 use Rattle.gx_words.specs.Results.{◌>>=◌}
 use Rattle.gx_words.specs.Numbers.{word, spliced, bytes_of_word, bytes_of_number}
 use Rattle.gx_stack.specs.declared.stubs.Stub.{Stub}
 use Rattle.gx_stack.specs.declared.frames.Frame.{Frame}
 use Rattle.gx_stack.specs.Frames.{has_local, IsFrame}
-use Rattle.gx_stack.specs.Stubs.{stub_bytes, stubs_bytes}
+use Rattle.std.specs.List.{flat_map}
+use Rattle.gx_stack.specs.Stubs.{stub_bytes}
 use Rattle.gx_stack.proofs.Kept.{word-take}
+use Rattle.gx_state.specs.declared.effects.Effect.{Effect}
+use Rattle.gx_state.specs.declared.effects.Effect.TheVariants.{Went, Quit}
 use Rattle.gx_state.specs.declared.modes.Dest.{Dest}
 use Rattle.gx_state.specs.declared.modes.Dest.TheVariants.{Nowhere, Memory, Local, Push}
 use Rattle.gx_state.specs.Flat.{FlatState, cut, written, frame_of, sp_of, IsHeight}
 use Rattle.gx_state.specs.Allowed.{IsWordInRam}
-use Rattle.gx_state.specs.Returns.{stub_of, returned, stub_to}
+use Rattle.gx_state.specs.Returns.{stub_of, pushed_stubs, returned, stub_to}
 use Rattle.gx_state.specs.Calls.{with_word}
 use Rattle.gx_state.specs.Stores.{store_fault, with_value, stored}
 use Rattle.gx_operands.specs.Instructions.{Instruction, going_to, L1}
-use Rattle.ops_flow.specs.Rows.{with_stub, after_return, catch}
-use Rattle.ops_flow.specs.Catches.{lasting}
+use Rattle.ops_flow.specs.Rows.{branches, catch}
+use Rattle.ops_flow.specs.Catches.{with_stub, lasting}
+use Rattle.ops_flow.proofs.Opened.{pushing_stub}
 
 with_bytes : FlatState → List ℕ → FlatState
 with_bytes f xs = record f { stack = record f.stack { bytes = xs } }
@@ -89,8 +93,7 @@ stub_length : (p : Stub) → length (stub_bytes p) ≡ 16
 unfolding stub_bytes
 stub_length p = refl
 
-pub one_stub : (p : Stub) → stubs_bytes (p ∷ []) ≡ stub_bytes p
-unfolding stubs_bytes
+pub one_stub : (p : Stub) → flat_map stub_bytes (p ∷ []) ≡ stub_bytes p
 one_stub p = append-nil (stub_bytes p)
 
 pub top_length : (xs : List ℕ) (p : Stub) (n : ℕ) → n ≤ length xs → length (take n xs ++ stub_bytes p) ≡ n + 16
@@ -141,14 +144,48 @@ lasting_place f (Memory at) n token is = in_ram f at n is
 lasting_place f (Local at) n token is = (tt, tt)
 lasting_place f Push n token is = (tt, tt)
 
-pub ruleset catches = (caught, stub_stored)
+-- a catch, by the room for its stub
+pushed_by : (f : FlatState) (i : Instruction) (full : Bool) → i.sp ≤ sp_of f → nat_lt f.stack.limit (i.sp + 16) ≡ full
+    → pushed_stubs (cut f i.sp) (stub_of f i.dest i.next ∷ []) ≡ (let r : Result FlatState Fault = if full then Err Overflow else Ok (with_stub f i) in r)
+unfolding pushing_stub
+pushed_by f i true there is =
+    let long : length (take i.sp f.stack.bytes) ≡ i.sp = length-take-le i.sp f.stack.bytes there in
+    let fits : nat_le (i.sp + 16) f.stack.limit ≡ false = grind (arith, nat_tests) in
+    rw (long, fits) refl
+pushed_by f i false there is =
+    let long : length (take i.sp f.stack.bytes) ≡ i.sp = length-take-le i.sp f.stack.bytes there in
+    let fits : nat_le (i.sp + 16) f.stack.limit ≡ true = grind (arith, nat_tests) in
+    rw (long, fits, one_stub (stub_of f i.dest i.next)) refl
+
+abbrev caught_by : FlatState → Instruction → Bool → Result (FlatState × Effect) Fault
+caught_by f i full =
+    if full then Err Overflow else stored (with_stub f i) 4 i.dest (i.sp + 16) >>= λ (g : FlatState). branches g i.next (L1 i)
+
+catch_by : (f : FlatState) (i : Instruction) (full : Bool) → i.sp ≤ sp_of f → nat_lt f.stack.limit (i.sp + 16) ≡ full → catch f i ≡ caught_by f i full
+unfolding catch
+catch_by f i true there is = rw (pushed_by f i true there is) refl
+catch_by f i false there is = rw (pushed_by f i false there is) refl
+
+pub catch_is : (f : FlatState) (i : Instruction) → IsHeight f i.sp → catch f i ≡ caught_by f i (nat_lt f.stack.limit (i.sp + 16))
+catch_is f i height = catch_by f i (nat_lt f.stack.limit (i.sp + 16)) height.there refl
+
+-- a catch whose token can't be stored
+pub catch_fails : (f : FlatState) (i : Instruction) (e : Fault) → IsFrame f.stack.bytes (frame_of f) → IsHeight f i.sp → i.sp + 16 ≤ f.stack.limit → store_fault f 4 i.dest (i.sp + 16) ≡ Err e → catch f i ≡ Err e
+catch_fails f i e frame height room fails =
+    let inside : nat_lt f.stack.limit (i.sp + 16) ≡ false = grind (arith, nat_tests) in
+    rw (catch_is f i height, inside, stub_stored f i i.dest (i.sp + 16) frame height, fails) refl
+
+pub ruleset catches = (caught, stub_stored, catch_is)
+
+-- what follows a return
+abbrev after_return : Bool → Effect
+after_return ended = if ended then Quit else Went
 
 -- a catch whose branch returns
 pub catch_returns : (f : FlatState) (i : Instruction) → IsFrame f.stack.bytes (frame_of f) → IsHeight f i.sp → i.sp + 16 ≤ f.stack.limit → store_fault f 4 i.dest (i.sp + 16) ≡ Ok tt → f.fp ≤ i.sp → L1 i < 2
     → catch f i ≡ (returned (with_word (going_to f i.next) (lasting i.dest (i.sp + 16))) f.fp (L1 i) >>= (λ (r : FlatState × Bool). Ok (r.0, after_return r.1)))
-unfolding catch
 catch_returns f i frame height room fits below few =
     let inside : nat_lt f.stack.limit (i.sp + 16) ≡ false = grind (arith, nat_tests) in
     let left : nat_lt (L1 i) 2 ≡ true = grind (arith, nat_tests) in
-    rw (inside, token_stored f i i.dest (i.sp + 16) frame height fits, left)
+    rw (catch_is f i height, inside, token_stored f i i.dest (i.sp + 16) frame height fits, left)
     (ap (λ (r : Result (FlatState × Bool) Fault). r >>= (λ (r : FlatState × Bool). Ok (r.0, after_return r.1))) (caught f i i.dest (i.sp + 16) (L1 i) below height.there))

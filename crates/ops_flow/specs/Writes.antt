@@ -14,20 +14,13 @@ use Rattle.gx_operands.specs.Instructions.{Instruction, L1, L2, last_load}
 abbrev pub IsBranchWriting : FlatState → ℕ → Type 0
 IsBranchWriting f offset = MatchBool (nat_lt offset 2) (IsReturnWriting f f.fp) ⊥
 
-abbrev pub IsJumpWriting : FlatState → Instruction → Type 0
-IsJumpWriting f i = MatchBool (test i.row.act (L1 i) (L2 i)) (IsBranchWriting f (last_load i)) ⊥
-
 -- return and throw do where the return does; catch stores its token, and branches
-abbrev pub IsFlowWriting : FlatState → Instruction → Type 0
-IsFlowWriting f i =
-    MatchBool (i.row.number == numbers.return) (IsReturnWriting f f.fp) (
-    MatchBool (i.row.number == numbers.catch) (IsMemory i.dest ⊎ IsBranchWriting f (L1 i)) (
-    MatchBool (i.row.number == numbers.throw) (IsReturnWriting f (L2 i))
-    ⊥))
-
 abbrev pub IsWriting : Class → FlatState → Instruction → Type 0
 IsWriting class.Calc f i = IsMemory i.dest
-IsWriting class.Branch f i = IsJumpWriting f i
-IsWriting class.Flow f i = IsFlowWriting f i
+IsWriting class.Branch f i = MatchBool (test i.row.act (L1 i) (L2 i)) (IsBranchWriting f (last_load i)) ⊥
+IsWriting class.Flow f i =
+    MatchBool (i.row.number == numbers.return) (IsReturnWriting f f.fp) (
+    MatchBool (i.row.number == numbers.catch) (IsMemory i.dest ⊎ IsBranchWriting f (L1 i)) (
+    MatchBool (i.row.number == numbers.throw) (IsReturnWriting f (L2 i)) ⊥))
 IsWriting class.Stack f i = IsMemory i.dest
 IsWriting c f i = ⊥

@@ -1,5 +1,5 @@
 //! The rows of Branch, and the return from a function (Glulx 3.1.2, "Branches").
-ghost use Rattle.std.specs.Prelude.{◌≡◌, ◌⊎◌, ◌%◌, ◌<◌, ◌≤◌, ◌==◌, IfOk, IsSome};
+ghost use Rattle.std.specs.Prelude.{◌≡◌, ◌⊎◌, ◌%◌, ◌<◌, ◌≤◌, ◌==◌, if◌then◌else◌, IfOk, IsSome};
 ghost use Rattle.gx_state.specs.Flat.{cut, sp_of, IsHeight};
 ghost use Rattle.gx_state.specs.Relations.{Works};
 ghost use Rattle.gx_state.specs.Replies.{IsDone};
@@ -8,8 +8,8 @@ ghost use Rattle.gx_state.specs.Calls.{with_word};
 ghost use Rattle.gx_state.specs.Allowed.{IsWordInRam};
 ghost use Rattle.gx_operands.specs.Instructions.{going_to};
 ghost use Rattle.gx_operands.specs.Plans.{instruction_of};
-ghost use Rattle.ops_flow.specs.Rows.{after_return, returns, branches, jumps};
-ghost use Rattle.ops_flow.specs.Writes.{IsBranchWriting, IsJumpWriting};
+ghost use Rattle.ops_flow.specs.Rows.{returns, branches, jumps};
+ghost use Rattle.ops_flow.specs.Writes.{IsBranchWriting, IsWriting};
 
 use crate::goes_to;
 use gx_operands::{Plan, goes};
@@ -21,7 +21,7 @@ use std::alloc::Allocator;
 
 /// What follows a return: that of the start function ends the program.
 pub fn after_return(ended: bool) -> Effect
-    ensures value { result ≡ after_return ended }
+    ensures value { result ≡ (if ended then Effect.Quit else Effect.Went) }
     ensures done { IsDone result }
 {
     if ended { Effect::Quit } else { Effect::Went }
@@ -93,8 +93,8 @@ fn branch<A: Allocator + Clone>(
 pub fn jumps<A: Allocator + Clone>(state: &mut State<A>, plan: &Plan) -> Result<Effect, Fault>
     requires sp { IsHeight state.old.flat plan.now.sp }
     requires class { (instruction_of plan.now).row.class ≡ Class.Branch }
-    ensures value { Works (IsJumpWriting state.old.flat (instruction_of plan.now)) result state.old.flat state.new.flat
-        (jumps state.old.flat (instruction_of plan.now)) }
+    ensures value { Works (IsWriting Class.Branch state.old.flat (instruction_of plan.now)) result state.old.flat
+        state.new.flat (jumps state.old.flat (instruction_of plan.now)) }
     ensures done { IfOk result IsDone }
 {
     let row = plan.row();

@@ -8,8 +8,8 @@ ghost use Rattle.gx_state.specs.Returns.{IsReturnWriting};
 ghost use Rattle.gx_state.specs.Stores.{IsMemory, store_fault, with_value};
 ghost use Rattle.gx_operands.specs.Instructions.{L1, L2};
 ghost use Rattle.gx_operands.specs.Plans.{instruction_of};
-ghost use Rattle.ops_flow.specs.Rows.{with_stub, catch, throw};
-ghost use Rattle.ops_flow.specs.Catches.{lasting};
+ghost use Rattle.ops_flow.specs.Rows.{catch, throw};
+ghost use Rattle.ops_flow.specs.Catches.{with_stub, lasting};
 ghost use Rattle.ops_flow.specs.Writes.{IsBranchWriting};
 
 use crate::branches::{after_return, deliver};
@@ -94,7 +94,7 @@ fn store_token<A: Allocator + Clone>(
 
 /// catch: all faults come first, then the stub and the token, then the branch. A return by the offset
 /// 0 or 1 forgets all of it but a token in memory.
-#[tactic(auto, unfolding(crate::specs::Rows::catch), using(crate::proofs::Cuts::catches))]
+#[tactic(auto, using(crate::proofs::Cuts::catches))]
 pub fn catch<A: Allocator + Clone>(state: &mut State<A>, plan: &Plan) -> Result<Effect, Fault>
     requires { IsHeight state.old.flat plan.now.sp }
     ensures value { Works (IsMemory plan.now.dest ⊎ IsBranchWriting state.old.flat (L1 (instruction_of plan.now)))

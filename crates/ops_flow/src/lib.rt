@@ -17,7 +17,7 @@ ghost use Rattle.gx_state.specs.Stores.{IsMemory};
 ghost use Rattle.gx_operands.specs.Plans.{instruction_of};
 ghost use Rattle.gx_operands.specs.Stores.{goes_to};
 ghost use Rattle.ops_flow.specs.Rows.{flow, stack, row_effect};
-ghost use Rattle.ops_flow.specs.Writes.{IsFlowWriting, IsWriting};
+ghost use Rattle.ops_flow.specs.Writes.{IsWriting};
 
 mod branches;
 mod calls;
@@ -56,8 +56,8 @@ fn goes_to<A: Allocator + Clone>(state: &mut State<A>, sp: u32, pc: u32) -> Effe
 #[tactic(auto, unfolding(crate::specs::Rows::flow), using(crate::proofs::Relations::relations))]
 fn flow<A: Allocator + Clone>(state: &mut State<A>, plan: &Plan) -> Result<Effect, Fault>
     requires { IsHeight state.old.flat plan.now.sp }
-    ensures value { Works (IsFlowWriting state.old.flat (instruction_of plan.now)) result state.old.flat state.new.flat
-        (flow state.old.flat (instruction_of plan.now)) }
+    ensures value { Works (IsWriting Class.Flow state.old.flat (instruction_of plan.now)) result state.old.flat
+        state.new.flat (flow state.old.flat (instruction_of plan.now)) }
     ensures done { IfOk result IsDone }
 {
     match plan.row().number {

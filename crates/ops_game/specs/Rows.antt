@@ -3,7 +3,7 @@
 --
 -- An instruction's pops are made in its `sp`, and PC becomes `next` where nothing else is said. A fault in any
 -- line leaves the state and the copies as they are. `word` is the random word from outside that a step may use.
-use Rattle.std.specs.Prelude.{ℕ, ◌+◌, ◌==◌, nat_lt, if◌then◌else◌, List, [], ◌∷◌, length, Result, Ok, Err}
+use Rattle.std.specs.Prelude.{ℕ, ◌+◌, ◌==◌, ◌||◌, nat_lt, if◌then◌else◌, List, [], ◌∷◌, length, Result, Ok, Err}
 use Rattle.gx_words.specs.declared.faults.Fault.{Fault}
 use Rattle.gx_words.specs.declared.faults.Fault.TheVariants.{BadOpcode, Overflow, DebugTrap}
 use Rattle.gx_words.specs.Constants.{null_system}
@@ -11,8 +11,8 @@ use Rattle.gx_words.specs.Results.{◌>>=◌}
 use Rattle.gx_rows.specs.Numbers as numbers
 use Rattle.gx_rows.specs.Gestalts.{gestalt_of, is_iosystem}
 use Rattle.gx_story.specs.Stories.{is_checked}
-use Rattle.ops_calc.specs.declared.random.Generator.{Generator}
-use Rattle.ops_calc.specs.Generator.{pick, word_from, after_word, seeded_by, is_outside}
+use Rattle.ops_calc.specs.declared.random.Generator.TheVariants.{Outside, Seeded}
+use Rattle.ops_calc.specs.Generator.{pcg32_of, pick, word_from, after_word, is_outside}
 use Rattle.gx_state.specs.declared.effects.Effect.{Effect}
 use Rattle.gx_state.specs.declared.effects.Effect.TheVariants.{Went, Drew, Save, Restore, Quit}
 use Rattle.gx_state.specs.Flat.{FlatState, sp_of, cut}
@@ -27,8 +27,7 @@ use Rattle.gx_operands.specs.Stores.{settled, stores, goes}
 -- a row of the state alone, with the copies that it leaves
 abbrev pub leaving_copies : FlatUndo → Result (FlatState × Effect) Fault
     → Result ((FlatState × FlatUndo) × Effect) Fault
-leaving_copies u (Ok r) = Ok ((r.0, u), r.1)
-leaving_copies u (Err fault) = Err fault
+leaving_copies u r = r >>= λ x. Ok ((x.0, u), x.1)
 
 -- MISCELLANEOUS
 
@@ -38,26 +37,20 @@ gestalt f i = stores f i (gestalt_of (L1 i) (L2 i) f.heap.start)
 
 -- RANDOM NUMBER GENERATOR
 
--- what a step says that draws a word
-abbrev pub drawing : Generator → Effect
-drawing generator = if is_outside generator then Drew else Went
-
 -- the state once what L1 makes of the next word is stored
 abbrev pub drawn : FlatState → ℕ → Instruction → Result FlatState Fault
-drawn f word i = do
-  g ← settled f i.sp 4 i.dest (pick (L1 i) (word_from f.generator word))
-  Ok (record g { generator = after_word f.generator })
+drawn f word i =
+    settled f i.sp 4 i.dest (pick (L1 i) (word_from f.generator word)) >>= λ g.
+    Ok (record g { generator = after_word f.generator })
 
 -- 110 random (L1 S1): draws a word; S1 = any word for L1 = 0, one from 0 to L1 - 1 for a positive L1, one from
 -- L1 + 1 to 0 for a negative L1. The step says whether the word from outside was drawn.
 unfoldable pub random : FlatState → ℕ → Instruction → Result (FlatState × Effect) Fault
-random f word i = do
-  g ← drawn f word i
-  Ok (going_to g i.next, drawing f.generator)
+random f word i = drawn f word i >>= λ g. Ok (going_to g i.next, if is_outside f.generator then Drew else Went)
 
 -- 111 setrandom (L1): seeds the generator with L1; 0 goes back to the words from outside
 unfoldable pub setrandom : FlatState → Instruction → Result (FlatState × Effect) Fault
-setrandom f i = goes (record f { generator = seeded_by (L1 i) }) i
+setrandom f i = goes (record f { generator = if L1 i == 0 then Outside else Seeded (pcg32_of (L1 i)) }) i
 
 -- GAME STATE
 
@@ -71,31 +64,25 @@ verify f i = stores f i (if is_checked f.story then 0 else 1)
 
 -- 122 restart: begins the story anew; the copies stay
 unfoldable pub restart : FlatState → Result (FlatState × Effect) Fault
-restart f = do
-  g ← restarted f
-  Ok (g, Went)
+restart f = restarted f >>= λ g. Ok (g, Went)
 
 -- 123 save (L1 S1): asks that the game be saved to the Glk stream L1, with the state standing; the stub of S1, which
 -- the save has on top of its stack, needs room; S1 is the answer
 unfoldable pub save : FlatState → Instruction → Result (FlatState × Effect) Fault
 save f i =
-    if nat_lt f.stack.limit (i.sp + 16) then Err Overflow else (do
-      _ ← store_fault f 4 i.dest i.sp
-      Ok (f, Save (L1 i)))
+    if nat_lt f.stack.limit (i.sp + 16) then Err Overflow else
+    store_fault f 4 i.dest i.sp >>= λ _. Ok (f, Save (L1 i))
 
 -- 124 restore (L1 S1): asks that the game be restored from the Glk stream L1, with the state standing; S1 is the answer
 -- of one that fails
 unfoldable pub restore : FlatState → Instruction → Result (FlatState × Effect) Fault
-restore f i = do
-  _ ← store_fault f 4 i.dest i.sp
-  Ok (f, Restore (L1 i))
+restore f i = store_fault f 4 i.dest i.sp >>= λ _. Ok (f, Restore (L1 i))
 
 -- 125 saveundo (S1): keeps a copy of the state with the stub of S1, which needs room; S1 = 0
 unfoldable pub saveundo : FlatState → FlatUndo → Instruction → Result ((FlatState × FlatUndo) × Effect) Fault
 saveundo f u i =
-    if nat_lt f.stack.limit (sp_of f + 16) then Err Overflow else (do
-      g ← settled f i.sp 4 i.dest 0
-      Ok ((going_to g i.next, with_newest u (copy_of f i.dest i.next)), Went))
+    if nat_lt f.stack.limit (sp_of f + 16) then Err Overflow else
+    settled f i.sp 4 i.dest 0 >>= λ g. Ok ((going_to g i.next, with_newest u (copy_of f i.dest i.next)), Went)
 
 abbrev pub restored_from : FlatState → FlatUndo → Instruction → List Copy
     → Result ((FlatState × FlatUndo) × Effect) Fault
@@ -131,15 +118,11 @@ setstringtbl f i = goes (record f { table = L1 i }) i
 
 -- the state once both results are stored
 abbrev pub both_stored : FlatState → Instruction → Result FlatState Fault
-both_stored f i = do
-  g ← settled f i.sp 4 i.dest f.iosys.0
-  stored g 4 i.second f.iosys.1
+both_stored f i = settled f i.sp 4 i.dest f.iosys.0 >>= λ g. stored g 4 i.second f.iosys.1
 
 -- 148 getiosys (S1 S2): S1 = the I/O system, S2 = its rock
 unfoldable pub getiosys : FlatState → Instruction → Result (FlatState × Effect) Fault
-getiosys f i = do
-  g ← both_stored f i
-  Ok (going_to g i.next, Went)
+getiosys f i = both_stored f i >>= λ g. Ok (going_to g i.next, Went)
 
 -- 149 setiosys (L1 L2): the I/O system is L1 with rock L2; one that isn't there is the null system with rock 0
 unfoldable pub setiosys : FlatState → Instruction → Result (FlatState × Effect) Fault
@@ -169,6 +152,5 @@ row_effect f u word i =
     if i.row.number == numbers.setstringtbl then leaving_copies u (setstringtbl f i) else
     if i.row.number == numbers.getiosys then leaving_copies u (getiosys f i) else
     if i.row.number == numbers.setiosys then leaving_copies u (setiosys f i) else
-    if i.row.number == numbers.accelfunc then leaving_copies u (goes f i) else
-    if i.row.number == numbers.accelparam then leaving_copies u (goes f i) else
+    if i.row.number == numbers.accelfunc || i.row.number == numbers.accelparam then leaving_copies u (goes f i) else
     Err BadOpcode

@@ -2,13 +2,14 @@
 //!
 //! The generator moves on only where the word was stored: a result in memory is drawn from a copy of a
 //! seeded generator, and any other store is looked at before.
-ghost use Rattle.std.specs.Prelude.{◌≡◌, Ok, IfOk};
+ghost use Rattle.std.specs.Prelude.{◌≡◌, if◌then◌else◌, Ok, IfOk};
 ghost use Rattle.gx_state.specs.Flat.{IsHeight};
 ghost use Rattle.gx_state.specs.Relations.{Acts, Stores, Works};
 ghost use Rattle.gx_state.specs.Replies.{IsDone};
 ghost use Rattle.gx_state.specs.Stores.{IsMemory};
 ghost use Rattle.gx_operands.specs.Plans.{instruction_of};
-ghost use Rattle.ops_game.specs.Rows.{drawing, drawn, random, setrandom};
+ghost use Rattle.ops_calc.specs.Generator.{is_outside};
+ghost use Rattle.ops_game.specs.Rows.{drawn, random, setrandom};
 
 use gx_operands::{Plan, can_store, goes, settle};
 use gx_state::{Dest, Effect, State};
@@ -18,7 +19,7 @@ use std::alloc::Allocator;
 
 /// What a step says that draws a word: whether it is the one handed in.
 fn effect_of(generator: &Generator) -> Effect
-    ensures value { result ≡ drawing generator.now }
+    ensures value { result ≡ (if is_outside generator.now then Effect.Drew else Effect.Went) }
     ensures done { IsDone result }
 {
     if generator.is_outside() {

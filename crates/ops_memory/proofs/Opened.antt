@@ -1,9 +1,8 @@
 -- The definitions that the proof of a row of Memory opens.
-use Rattle.ops_memory.specs.Costs.{memory_probes}
 use Rattle.ops_memory.specs.Rows.{memory, aload, aloads, aloadb, astore, astores, astoreb}
 use Rattle.ops_memory.specs.Searching.{linearsearch, binarysearch, linkedsearch}
 use Rattle.ops_memory.specs.Space.{getmemsize}
 
 unfoldable pub rows : Unit {0}
-unfolding memory memory_probes aload aloads aloadb astore astores astoreb getmemsize linearsearch binarysearch linkedsearch
+unfolding memory aload aloads aloadb astore astores astoreb getmemsize linearsearch binarysearch linkedsearch
 rows = tt

@@ -9,14 +9,10 @@ use Rattle.gx_operands.specs.Instructions.{Instruction}
 use Rattle.ops_memory.specs.declared.searches.Method.TheVariants.{Linear, Binary, Linked}
 use Rattle.ops_memory.specs.Searching.{search_by}
 
--- how many probes a row of Memory begins
-unfoldable pub memory_probes : FlatState → Instruction → ℕ
-memory_probes f i =
+-- how many probes a row begins
+abbrev pub probes_of : Class → FlatState → Instruction → ℕ
+probes_of class.Memory f i =
     if i.row.number == numbers.linearsearch then (search_by Linear f i).probes else
     if i.row.number == numbers.binarysearch then (search_by Binary f i).probes else
-    if i.row.number == numbers.linkedsearch then (search_by Linked f i).probes else
-    0
-
-abbrev pub probes_of : Class → FlatState → Instruction → ℕ
-probes_of class.Memory f i = memory_probes f i
+    if i.row.number == numbers.linkedsearch then (search_by Linked f i).probes else 0
 probes_of c f i = 0

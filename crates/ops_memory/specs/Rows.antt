@@ -4,7 +4,7 @@
 --
 -- An instruction's pops are made in its `sp`, and PC becomes `next`. A fault in any line leaves the state as
 -- it is. Addresses are sums modulo 2^32.
-use Rattle.std.specs.Prelude.{ℕ, ℤ, ◌+◌, ◌-◌, ◌*◌, ◌/◌, ◌%◌, ◌^◌, ◌==◌}
+use Rattle.std.specs.Prelude.{ℕ, ◌+◌, ◌-◌, ◌*◌, ◌/◌, ◌%◌, ◌^◌, ◌==◌}
 use Rattle.std.specs.Prelude.{if◌then◌else◌, Result, Ok, Err, pos, unsigned_abs, bit_and}
 use Rattle.std.specs.Prelude.{bit_or}
 use Rattle.std.specs.Int.{w32, cast_signed, cast_unsigned, int_div_euclid, int_rem_euclid}
@@ -28,15 +28,11 @@ use Rattle.ops_memory.specs.Space.{getmemsize, setmemsize, mzero, mcopy, malloc,
 
 -- S1 = the number of so many bytes at an address
 abbrev pub loads : FlatState → Instruction → ℕ → ℕ → Result (FlatState × Effect) Fault
-loads f i width at = do
-  v ← number_in width f.memory at
-  stores f i v
+loads f i width at = number_in width f.memory at >>= λ v. stores f i v
 
 -- the low bytes of a number are written at an address
 abbrev pub puts : FlatState → Instruction → ℕ → ℕ → ℕ → Result (FlatState × Effect) Fault
-puts f i width at v = do
-  g ← settled f i.sp width (dest.Memory at) v
-  Ok (going_to g i.next, Went)
+puts f i width at v = settled f i.sp width (dest.Memory at) v >>= λ g. Ok (going_to g i.next, Went)
 
 -- the address of the element L2 of an array at L1, whose elements have so many bytes
 abbrev pub element : Instruction → ℕ → ℕ
@@ -44,26 +40,17 @@ element i width = (L1 i + width * L2 i) % 2 ^ 32
 
 -- The bit L2 of an array of bits at L1, eight to a byte, from the lowest on; L2 is signed. The address of its
 -- byte, and its number there.
-abbrev pub bit_index : Instruction → ℤ
-bit_index i = cast_signed w32 (L2 i)
-
 abbrev pub byte_of_bit : Instruction → ℕ
-byte_of_bit i = (L1 i + cast_unsigned w32 (int_div_euclid (bit_index i) (pos 8))) % 2 ^ 32
+byte_of_bit i = (L1 i + cast_unsigned w32 (int_div_euclid (cast_signed w32 (L2 i)) (pos 8))) % 2 ^ 32
 
 abbrev pub bit_in_byte : Instruction → ℕ
-bit_in_byte i = unsigned_abs (int_rem_euclid (bit_index i) (pos 8))
-
--- a byte whose bit k is 0 if v = 0, else 1
-abbrev pub with_bit : ℕ → ℕ → ℕ → ℕ
-with_bit byte k v = if v == 0 then bit_and byte (0xFFFFFFFF - 2 ^ k) else bit_or byte (2 ^ k)
+bit_in_byte i = unsigned_abs (int_rem_euclid (cast_signed w32 (L2 i)) (pos 8))
 
 -- MOVING DATA
 
 -- 40 copy, 41 copys, 42 copyb (L1 S1): S1 = L1, in the width of the row
 unfoldable pub copy : FlatState → Instruction → Result (FlatState × Effect) Fault
-copy f i = do
-  g ← settled f i.sp i.row.width i.dest (L1 i)
-  Ok (going_to g i.next, Went)
+copy f i = settled f i.sp i.row.width i.dest (L1 i) >>= λ g. Ok (going_to g i.next, Went)
 
 -- ARRAY DATA
 
@@ -81,9 +68,7 @@ aloadb f i = loads f i 1 (element i 1)
 
 -- 4B aloadbit (L1 L2 S1): S1 = the bit L2 of the array at L1
 unfoldable pub aloadbit : FlatState → Instruction → Result (FlatState × Effect) Fault
-aloadbit f i = do
-  byte ← number_in 1 f.memory (byte_of_bit i)
-  stores f i (byte / 2 ^ bit_in_byte i % 2)
+aloadbit f i = number_in 1 f.memory (byte_of_bit i) >>= λ byte. stores f i (byte / 2 ^ bit_in_byte i % 2)
 
 -- 4C astore (L1 L2 L3): the word L2 of the array at L1 = L3
 unfoldable pub astore : FlatState → Instruction → Result (FlatState × Effect) Fault
@@ -99,9 +84,10 @@ astoreb f i = puts f i 1 (element i 1) (L3 i)
 
 -- 4F astorebit (L1 L2 L3): the bit L2 of the array at L1 = 0 if L3 = 0, else 1
 unfoldable pub astorebit : FlatState → Instruction → Result (FlatState × Effect) Fault
-astorebit f i = do
-  byte ← number_in 1 f.memory (byte_of_bit i)
-  puts f i 1 (byte_of_bit i) (with_bit byte (bit_in_byte i) (L3 i))
+astorebit f i =
+    let bit = 2 ^ bit_in_byte i in
+    number_in 1 f.memory (byte_of_bit i) >>= λ byte.
+    puts f i 1 (byte_of_bit i) (if L3 i == 0 then bit_and byte (0xFFFFFFFF - bit) else bit_or byte bit)
 
 -- THE ROW OF AN INSTRUCTION
 
@@ -123,8 +109,7 @@ memory f i =
     if i.row.number == numbers.mzero then mzero f i else
     if i.row.number == numbers.mcopy then mcopy f i else
     if i.row.number == numbers.malloc then malloc f i else
-    if i.row.number == numbers.mfree then mfree f i else
-    Err BadOpcode
+    if i.row.number == numbers.mfree then mfree f i else Err BadOpcode
 
 abbrev pub row_effect : Class → FlatState → Instruction → Result (FlatState × Effect) Fault
 row_effect class.Copy f i = copy f i

@@ -8,7 +8,8 @@ use Rattle.gx_words.specs.Results.{◌>>=◌}
 use Rattle.gx_search.specs.declared.asks.Ask.{Ask}
 use Rattle.gx_search.specs.Constants.{return_index}
 use Rattle.gx_search.specs.Keys.{has_option}
-use Rattle.gx_search.specs.Searches.{Struct, Search, linear, linked}
+use Rattle.gx_search.specs.Searches.{Struct, Search, search_of}
+use Rattle.gx_search.specs.declared.turns.Layout.TheVariants as layout
 use Rattle.gx_search.specs.Halving.{binary}
 use Rattle.gx_state.specs.declared.effects.Effect.{Effect}
 use Rattle.gx_state.specs.Flat.{FlatState}
@@ -35,28 +36,17 @@ row_ask i =
 -- and of a list of structs: L1 to L6 are the key, its size, the start, the offset of keys, that of links, and
 -- the options
 abbrev pub list_ask : Instruction → Ask
-list_ask i =
-    record {
-      key = L1 i;
-      key_size = L2 i;
-      start = L3 i;
-      struct_size = 0;
-      count = 0;
-      key_offset = L4 i;
-      next_offset = L5 i;
-      options = L6 i;
-    }
+list_ask i = record (row_ask i) { struct_size = 0; count = 0; key_offset = L4 i; next_offset = L5 i; options = L6 i }
 
 -- the search of each method, and whether its S1 is an index
 abbrev pub search_by : Method → FlatState → Instruction → Search
-search_by Linear f i = linear f.memory (row_ask i)
+search_by Linear f i = search_of layout.Row f.memory (row_ask i)
 search_by Binary f i = binary f.memory (row_ask i)
-search_by Linked f i = linked f.memory (list_ask i)
+search_by Linked f i = search_of layout.List f.memory (list_ask i)
 
 abbrev pub is_indexed : Method → Instruction → Bool
-is_indexed Linear i = has_option (row_ask i) return_index
-is_indexed Binary i = has_option (row_ask i) return_index
 is_indexed Linked i = false
+is_indexed m i = has_option (row_ask i) return_index
 
 -- S1 = the address of the struct that is found, or 0; as an index, or FFFFFFFF
 abbrev pub found_word : Bool → Option Struct → ℕ
@@ -64,9 +54,7 @@ found_word indexed None = if indexed then 0xFFFFFFFF else 0
 found_word indexed (Some s) = if indexed then s.index else s.address
 
 abbrev pub searches : Method → FlatState → Instruction → Result (FlatState × Effect) Fault
-searches m f i = do
-  found ← (search_by m f i).outcome
-  stores f i (found_word (is_indexed m i) found)
+searches m f i = (search_by m f i).outcome >>= λ found. stores f i (found_word (is_indexed m i) found)
 
 -- 150 linearsearch (L1 L2 L3 L4 L5 L6 L7 S1): S1 = the first struct of a row that has the key
 unfoldable pub linearsearch : FlatState → Instruction → Result (FlatState × Effect) Fault

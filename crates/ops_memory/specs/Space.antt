@@ -32,26 +32,21 @@ is_size_refused f size = nat_lt ceiling size || not (is_inactive f.heap)
 unfoldable pub setmemsize : FlatState → Instruction → Result (FlatState × Effect) Fault
 setmemsize f i =
     if nat_lt (L1 i) f.story.header.endmem || not (L1 i % 256 == 0) then Err MemSize else
-    if is_size_refused f (L1 i) then stores f i 1 else
-    stores (with_size f (L1 i)) i 0
+    if is_size_refused f (L1 i) then stores f i 1 else stores (with_size f (L1 i)) i 0
 
 -- BLOCK COPY AND CLEAR
 
 -- The fault of a range that is read, and that of one that is written. A range without a byte touches no address.
 unfoldable pub source_fault : FlatState → ℕ → ℕ → Result (Unit {0}) Fault
 source_fault f at count =
-    if count == 0 then Ok tt else
-    if nat_lt (length f.memory) (at + count) then Err BadAddress else
-    Ok tt
+    if count == 0 then Ok tt else if nat_lt (length f.memory) (at + count) then Err BadAddress else Ok tt
 
 unfoldable pub target_fault : FlatState → ℕ → ℕ → Result (Unit {0}) Fault
 target_fault f at count = if count == 0 then Ok tt else write_fault f at count
 
 -- 170 mzero (L1 L2): L1 zeros are written at L2
 unfoldable pub mzero : FlatState → Instruction → Result (FlatState × Effect) Fault
-mzero f i = do
-  _ ← target_fault f (L2 i) (L1 i)
-  goes (written f (L2 i) (replicate (L1 i) 0)) i
+mzero f i = target_fault f (L2 i) (L1 i) >>= λ _. goes (written f (L2 i) (replicate (L1 i) 0)) i
 
 -- 171 mcopy (L1 L2 L3): the L1 bytes at L2 are written at L3, as if through a copy
 unfoldable pub mcopy : FlatState → Instruction → Result (FlatState × Effect) Fault
@@ -62,28 +57,18 @@ mcopy f i = do
 
 -- MEMORY ALLOCATION HEAP
 
--- the size of memory that covers all below an address, the size that it has at least
-abbrev pub covering : ℕ → ℕ → ℕ
-covering size end = max size (rounded_up end)
-
--- a block of L1 bytes at an address, which memory covers; S1, its address, may be stored in it
-abbrev pub allocated : FlatState → Instruction → ℕ → Result (FlatState × Effect) Fault
-allocated f i at = do
-  r ← stores (with_size f (covering (length f.memory) (at + L1 i))) i at
+-- a block of L1 bytes at its place, if there is one, which memory covers; S1, its address, may be stored in it
+abbrev pub allocated : FlatState → Instruction → Option ℕ → Result (FlatState × Effect) Fault
+allocated f i None = stores f i 0
+allocated f i (Some at) = do
+  r ← stores (with_size f (max (length f.memory) (rounded_up (at + L1 i)))) i at
   Ok (with_block r.0 (length f.memory) at (L1 i), r.1)
-
-abbrev pub allocated_at : FlatState → Instruction → Option ℕ → Result (FlatState × Effect) Fault
-allocated_at f i None = stores f i 0
-allocated_at f i (Some at) = allocated f i at
 
 -- 178 malloc (L1 S1): S1 = the address of a new block of L1 bytes, or 0 where there is no place for it
 unfoldable pub malloc : FlatState → Instruction → Result (FlatState × Effect) Fault
 malloc f i =
-    if L1 i == 0 then Err HeapUse else
-    allocated_at f i (block_address f.heap (length f.memory) (L1 i) ceiling)
+    if L1 i == 0 then Err HeapUse else allocated f i (block_address f.heap (length f.memory) (L1 i) ceiling)
 
 -- 179 mfree (L1): frees the block at L1
 unfoldable pub mfree : FlatState → Instruction → Result (FlatState × Effect) Fault
-mfree f i = do
-  g ← ok_or (without_block f (L1 i)) HeapUse
-  goes g i
+mfree f i = ok_or (without_block f (L1 i)) HeapUse >>= λ g. goes g i

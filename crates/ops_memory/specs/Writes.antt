@@ -10,25 +10,18 @@ use Rattle.gx_state.specs.Stores.{IsMemory}
 use Rattle.gx_operands.specs.Instructions.{Instruction, L1}
 use Rattle.ops_memory.specs.Space.{is_size_refused}
 
--- setmemsize does where memory becomes larger, and malloc where there is a place for its block
-abbrev pub IsSizeWriting : FlatState → Instruction → Type 0
-IsSizeWriting f i = IsMemory i.dest ⊎ (IsFalse (is_size_refused f (L1 i)) × (length f.memory < L1 i))
-
-abbrev pub IsBlockWriting : FlatState → Instruction → Type 0
-IsBlockWriting f i = IsMemory i.dest ⊎ IsSome (block_address f.heap (length f.memory) (L1 i) ceiling)
-
--- astore, astores, astoreb and astorebit do; mzero and mcopy do unless their count is 0; mfree never does, and
--- others do where their result is stored in memory
-abbrev pub IsMemoryWriting : FlatState → Instruction → Type 0
-IsMemoryWriting f i =
-    MatchBool (i.row.number == numbers.astore || i.row.number == numbers.astores || i.row.number == numbers.astoreb ||
-    i.row.number == numbers.astorebit) (Unit {0}) (
-    MatchBool (i.row.number == numbers.setmemsize) (IsSizeWriting f i) (
-    MatchBool (i.row.number == numbers.mzero || i.row.number == numbers.mcopy) (0 < L1 i) (
-    MatchBool (i.row.number == numbers.malloc) (IsBlockWriting f i) (
-    MatchBool (i.row.number == numbers.mfree) ⊥ (IsMemory i.dest)))))
-
+-- astore, astores, astoreb and astorebit do; mzero and mcopy do unless their count is 0; mfree never does. The others
+-- do where their result is stored in memory, setmemsize also where memory becomes larger, and malloc where there is a
+-- place for its block.
 abbrev pub IsWriting : Class → FlatState → Instruction → Type 0
 IsWriting class.Copy f i = IsMemory i.dest
-IsWriting class.Memory f i = IsMemoryWriting f i
+IsWriting class.Memory f i =
+    MatchBool (i.row.number == numbers.astore || i.row.number == numbers.astores || i.row.number == numbers.astoreb ||
+    i.row.number == numbers.astorebit) (Unit {0}) (
+    MatchBool (i.row.number == numbers.setmemsize)
+    (IsMemory i.dest ⊎ (IsFalse (is_size_refused f (L1 i)) × (length f.memory < L1 i))) (
+    MatchBool (i.row.number == numbers.mzero || i.row.number == numbers.mcopy) (0 < L1 i) (
+    MatchBool (i.row.number == numbers.malloc)
+    (IsMemory i.dest ⊎ IsSome (block_address f.heap (length f.memory) (L1 i) ceiling)) (
+    MatchBool (i.row.number == numbers.mfree) ⊥ (IsMemory i.dest)))))
 IsWriting c f i = ⊥

@@ -1,11 +1,11 @@
 //! The rows of arrays of bits (Glulx 3.1.2, "Array Data").
-ghost use Rattle.std.specs.Prelude.{◌≡◌, ◌<◌, ◌/◌, ◌%◌, ◌^◌, IfOk};
+ghost use Rattle.std.specs.Prelude.{◌≡◌, ◌<◌, ◌-◌, ◌/◌, ◌%◌, ◌^◌, ◌==◌, if◌then◌else◌, bit_and, bit_or, IfOk};
 ghost use Rattle.gx_state.specs.Flat.{IsHeight};
 ghost use Rattle.gx_state.specs.Relations.{Works};
 ghost use Rattle.gx_state.specs.Replies.{IsDone};
 ghost use Rattle.gx_state.specs.Stores.{IsMemory};
 ghost use Rattle.gx_operands.specs.Plans.{instruction_of};
-ghost use Rattle.ops_memory.specs.Rows.{aloadbit, astorebit, byte_of_bit, bit_in_byte, with_bit};
+ghost use Rattle.ops_memory.specs.Rows.{aloadbit, astorebit, byte_of_bit, bit_in_byte};
 
 use crate::arrays::puts;
 use gx_operands::{Plan, stores};
@@ -40,7 +40,7 @@ fn bit_of(byte: u32, k: u32) -> u32
 /// A byte with one of its bits set or, for a value of 0, cleared.
 fn with_bit(byte: u32, k: u32, value: u32) -> u32
     requires { k < 8 }
-    ensures { result ≡ with_bit byte k value }
+    ensures { result ≡ (if value == 0 then bit_and byte (0xFFFFFFFF - 2 ^ k) else bit_or byte (2 ^ k)) }
 {
     let mask = 1u32 << k;
     if value == 0 {

@@ -2,17 +2,19 @@
 //!
 //! malloc looks for faults first, and then asks for room in the list of blocks, for memory, and for the page of
 //! its result.
-ghost use Rattle.std.specs.Prelude.{◌≡◌, ◌+◌, ◌<◌, ◌≤◌, length, IfOk};
+ghost use Rattle.std.specs.Prelude.{◌≡◌, ◌⊎◌, ◌+◌, ◌<◌, ◌≤◌, length, max, Some, IsSome, IfOk};
 ghost use Rattle.gx_words.specs.Constants.{ceiling};
+ghost use Rattle.gx_words.specs.Numbers.{rounded_up};
 ghost use Rattle.gx_pages.specs.Memory.{IsSize};
+ghost use Rattle.heap_blocks.specs.Heap.{block_address};
 ghost use Rattle.heap_blocks.specs.Relations.{IsFreePlace};
 ghost use Rattle.gx_state.specs.Flat.{IsHeight};
 ghost use Rattle.gx_state.specs.Relations.{Goes, Works};
 ghost use Rattle.gx_state.specs.Replies.{IsDone};
+ghost use Rattle.gx_state.specs.Stores.{IsMemory};
 ghost use Rattle.gx_operands.specs.Instructions.{L1};
 ghost use Rattle.gx_operands.specs.Plans.{instruction_of};
-ghost use Rattle.ops_memory.specs.Space.{allocated, covering, malloc, mfree};
-ghost use Rattle.ops_memory.specs.Writes.{IsBlockWriting};
+ghost use Rattle.ops_memory.specs.Space.{allocated, malloc, mfree};
 
 use crate::sizes::{can_store_in, grow_with};
 use gx_operands::{Plan, goes, stores};
@@ -24,7 +26,7 @@ use std::alloc::Allocator;
 fn covering(size: u32, end: u32) -> u32
     requires size { IsSize size }
     requires end { end ≤ ceiling }
-    ensures value { result ≡ covering size end }
+    ensures value { result ≡ max size (rounded_up end) }
     ensures whole { IsSize result }
     ensures above { size ≤ result }
     ensures covers { end ≤ result }
@@ -44,7 +46,7 @@ fn allocate<A: Allocator + Clone>(
     requires place { IsFreePlace state.old.flat.heap (length state.old.flat.memory)
         (L1 (instruction_of plan.now)) ceiling at }
     ensures value { Works (Unit {0}) result state.old.flat state.new.flat
-        (allocated state.old.flat (instruction_of plan.now) at) }
+        (allocated state.old.flat (instruction_of plan.now) (Some at)) }
     ensures done { IfOk result IsDone }
 {
     let count = plan.load(0);
@@ -62,7 +64,8 @@ fn allocate<A: Allocator + Clone>(
 #[tactic(auto, unfolding(crate::specs::Space::malloc))]
 pub fn malloc<A: Allocator + Clone>(state: &mut State<A>, plan: &Plan) -> Result<Effect, Fault>
     requires { IsHeight state.old.flat plan.now.sp }
-    ensures value { Works (IsBlockWriting state.old.flat (instruction_of plan.now)) result state.old.flat state.new.flat
+    ensures value { Works (IsMemory plan.now.dest ⊎ IsSome (block_address state.old.flat.heap
+        (length state.old.flat.memory) (L1 (instruction_of plan.now)) ceiling)) result state.old.flat state.new.flat
         (malloc state.old.flat (instruction_of plan.now)) }
     ensures done { IfOk result IsDone }
 {

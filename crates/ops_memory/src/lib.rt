@@ -18,9 +18,9 @@ ghost use Rattle.gx_state.specs.Replies.{IsDone};
 ghost use Rattle.gx_state.specs.Stores.{IsMemory};
 ghost use Rattle.gx_operands.specs.Plans.{instruction_of};
 ghost use Rattle.ops_memory.specs.Rows.{copy, memory};
-ghost use Rattle.ops_memory.specs.Costs.{memory_probes, probes_of};
+ghost use Rattle.ops_memory.specs.Costs.{probes_of};
 ghost use Rattle.ops_memory.specs.Charges.{charged, acted, EndsWithin, IsAfforded};
-ghost use Rattle.ops_memory.specs.Writes.{IsMemoryWriting, IsWriting};
+ghost use Rattle.ops_memory.specs.Writes.{IsWriting};
 
 mod arrays;
 mod bits;
@@ -66,12 +66,14 @@ fn memory<A: Allocator + Clone>(
     left: &mut u64,
 ) -> Result<Effect, Fault>
     requires { IsHeight state.old.flat plan.now.sp }
-    ensures value { Does (IsMemoryWriting state.old.flat (instruction_of plan.now)) (λ effect. effect) result
+    ensures value { Does (IsWriting Class.Memory state.old.flat (instruction_of plan.now)) (λ effect. effect) result
         (state.old.flat, left.old) (state.new.flat, left.new)
-        (charged left.old (memory_probes state.old.flat (instruction_of plan.now)) state.old.flat
+        (charged left.old (probes_of Class.Memory state.old.flat (instruction_of plan.now)) state.old.flat
         (memory state.old.flat (instruction_of plan.now))) }
-    ensures done { IfOk result (EndsWithin left.old (memory_probes state.old.flat (instruction_of plan.now))) }
-    ensures affords { IfErr result (IsAfforded left.old (memory_probes state.old.flat (instruction_of plan.now))) }
+    ensures done { IfOk result (EndsWithin left.old
+        (probes_of Class.Memory state.old.flat (instruction_of plan.now))) }
+    ensures affords { IfErr result (IsAfforded left.old
+        (probes_of Class.Memory state.old.flat (instruction_of plan.now))) }
     ensures story { state.new.flat.story ≡ state.old.flat.story }
 {
     match plan.row().number {

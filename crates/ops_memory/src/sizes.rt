@@ -2,7 +2,7 @@
 //!
 //! A result is stored in memory of the new size, and after a refusal memory has its size before. Faults are
 //! looked for first.
-ghost use Rattle.std.specs.Prelude.{◌≡◌, ◌⊎◌, ◌<◌, ◌≤◌, Ok, length, IfOk};
+ghost use Rattle.std.specs.Prelude.{◌≡◌, ◌⊎◌, ◌<◌, ◌≤◌, Ok, length, IfOk, IsFalse};
 ghost use Rattle.gx_words.specs.Faults.{Reads};
 ghost use Rattle.gx_pages.specs.Memory.{IsSize};
 ghost use Rattle.heap_blocks.specs.Heap.{IsHeapBelow};
@@ -12,10 +12,10 @@ ghost use Rattle.gx_state.specs.Replies.{IsDone};
 ghost use Rattle.gx_state.specs.Space.{with_size};
 ghost use Rattle.gx_state.specs.Allowed.{IsGrowth, IsShrinking};
 ghost use Rattle.gx_state.specs.Stores.{IsMemory, store_fault};
+ghost use Rattle.gx_operands.specs.Instructions.{L1};
 ghost use Rattle.gx_operands.specs.Plans.{instruction_of};
 ghost use Rattle.gx_operands.specs.Stores.{settled};
-ghost use Rattle.ops_memory.specs.Space.{setmemsize};
-ghost use Rattle.ops_memory.specs.Writes.{IsSizeWriting};
+ghost use Rattle.ops_memory.specs.Space.{is_size_refused, setmemsize};
 
 use gx_operands::{Plan, can_store, settle, stores};
 use gx_state::{Dest, Effect, State};
@@ -118,7 +118,9 @@ fn resize_with<A: Allocator + Clone>(
 #[tactic(auto, unfolding(crate::specs::Space::setmemsize), using(crate::proofs::Spaces::none_below))]
 pub fn setmemsize<A: Allocator + Clone>(state: &mut State<A>, plan: &Plan) -> Result<Effect, Fault>
     requires { IsHeight state.old.flat plan.now.sp }
-    ensures value { Works (IsSizeWriting state.old.flat (instruction_of plan.now)) result state.old.flat state.new.flat
+    ensures value { Works (IsMemory plan.now.dest
+        ⊎ (IsFalse (is_size_refused state.old.flat (L1 (instruction_of plan.now)))
+        × (length state.old.flat.memory < L1 (instruction_of plan.now)))) result state.old.flat state.new.flat
         (setmemsize state.old.flat (instruction_of plan.now)) }
     ensures done { IfOk result IsDone }
 {

@@ -1,8 +1,8 @@
 -- The definitions that the proof of one call opens together.
-use Rattle.gx_stack.specs.Frames.{frame_in}
 use Rattle.gx_state.specs.Returns.{popped_stub, stub_to, printing_on}
-use Rattle.ops_print.specs.Items.{item, item_printed, character_printed, mode_after}
-use Rattle.ops_print.specs.Stubs.{inner_ended, after_stub}
+use Rattle.ops_print.specs.Asks.{mode_after}
+use Rattle.ops_print.specs.Items.{item, item_printed, character_printed}
+use Rattle.ops_print.specs.Stubs.{inner_ended}
 
 -- a character of a string or number that is dropped, and one that is put
 unfoldable pub dropping : Unit {0}
@@ -20,5 +20,5 @@ stepping = tt
 
 -- the end of a string or number
 unfoldable pub ending : Unit {0}
-unfolding inner_ended after_stub popped_stub stub_to printing_on frame_in
+unfolding inner_ended popped_stub stub_to printing_on
 ending = tt

@@ -1,6 +1,6 @@
 -- Steps of printing that put no character.
 use Rattle.std.proofs.Common.{◌≡◌, ◌==◌, if◌then◌else◌, ℕ, Bool, true, false, List, refl, sym, subst, ◌⊎◌, inl, inr}
-use Rattle.std.proofs.Common.{Result, Ok, Err, IfOk}
+use Rattle.std.proofs.Common.{Result, Ok, Err, IfOk, min}
 use Rattle.gx_words.specs.declared.faults.Fault.{Fault}
 use Rattle.gx_words.specs.Constants.{filter_system, glk_system}
 use Rattle.gx_words.specs.declared.strings.Printing.{Printing}
@@ -16,8 +16,7 @@ use Rattle.gx_state.specs.Flat.{FlatState, sp_of}
 use Rattle.gx_state.specs.Entry.{entered}
 use Rattle.gx_state.specs.Returns.{pushed_stubs}
 use Rattle.ops_print.specs.Stubs.{ways_back, inner_ended}
-use Rattle.ops_print.specs.Items.{arguments_in, function_called, character_printed, string_begun, reference_called}
-use Rattle.ops_print.specs.Items.{string_ended, item_printed, is_printing_place, item}
+use Rattle.ops_print.specs.Items.{words_in, function_called, character_printed, item_printed, is_printing_place, item}
 use Rattle.ops_print.specs.Asks.{item_by, printed, is_put}
 
 -- a step, or a fault, that puts no character
@@ -41,12 +40,8 @@ called : (f : FlatState) (started : Bool) (back : Printing) (at : ℕ) (args : L
 unfolding function_called
 called f started back at args = each (entered f (sp_of f) (ways_back f started back) at args) (λ g. record { is = refl })
 
-begun : (f : FlatState) (started : Bool) (back inner : Printing) → Quiet (string_begun f started back inner)
-unfolding string_begun
-begun f started back inner = each (pushed_stubs f (ways_back f started back)) (λ g. record { is = refl })
-
-ended : (f : FlatState) (started : Bool) → Quiet (string_ended f started)
-unfolding string_ended
+ended : (f : FlatState) (started : Bool) → Quiet (item_printed f started End)
+unfolding item_printed
 ended f started = either started (each (inner_ended f) (λ g. record { is = refl })) (record { is = refl })
 
 -- a character under another system than Glk
@@ -60,17 +55,13 @@ true_is_not_false same = cc
 
 -- an item that is neither a character nor the end, or that is printed under another system than Glk
 other : (f : FlatState) (started : Bool) (i : Item) → is_char_or_end (Ok i) ≡ false ⊎ ((f.iosys.0 == glk_system) ≡ false) → Quiet (item_printed f started i)
-unfolding item_printed reference_called
+unfolding item_printed
 other f started (Char c next) (inl plain) = absurd (true_is_not_false plain)
 other f started (Char c next) (inr system) = dropped f started c next system
-other f started (Sub back inner) h = begun f started back inner
-other f started (Call back at args_at count) h = each (arguments_in f.memory args_at count) (λ args. called f started back at args)
+other f started (Sub back inner) h = each (pushed_stubs f (ways_back f started back)) (λ g. record { is = refl })
+other f started (Call back at args_at count) h = each (words_in f.memory args_at (min count 256)) (λ args. called f started back at args)
 other f started End (inl plain) = absurd (true_is_not_false plain)
 other f started End (inr system) = ended f started
-
-the_end : (f : FlatState) (started : Bool) → Quiet (item_printed f started End)
-unfolding item_printed
-the_end f started = ended f started
 
 -- ---- a step of printing
 
@@ -95,6 +86,6 @@ quiet_place f p mode place = printed-is f p mode (past (is_printing_place p.kind
 
 pub quiet_end : (f : FlatState) (p : Printing) → f.mode ≡ mode.Printing p → next_item f.memory f.table p ≡ Ok End → IfOk (printed f) (λ r. is_put r.1 ≡ false)
 unfolding item
-quiet_end f p mode is = printed-is f p mode (either (is_printing_place p.kind p.bit) (subst (λ (r : Result Item Fault). Quiet (r >>= item_printed f p.started)) (sym is) (the_end f p.started)) (record { is = tt }))
+quiet_end f p mode is = printed-is f p mode (either (is_printing_place p.kind p.bit) (subst (λ (r : Result Item Fault). Quiet (r >>= item_printed f p.started)) (sym is) (ended f p.started)) (record { is = tt }))
 
 pub ruleset quiet = (quiet_item, quiet_system, quiet_place, quiet_end)

@@ -27,56 +27,31 @@ use Rattle.ops_print.specs.Stubs.{ways_back, inner_ended}
 -- so many words of memory from an address on
 unfoldable pub words_in : List ℕ → ℕ → ℕ → Result (List ℕ) Fault
 words_in memory at zero = Ok []
-words_in memory at (suc count) = do
-  first ← number_in 4 memory at
-  rest ← words_in memory (at + 4) count
-  Ok (first ∷ rest)
-
--- The arguments of a reference to a function. No more than 256 are read, since more than 255 are a fault of the
--- entry.
-abbrev pub arguments_in : List ℕ → ℕ → ℕ → Result (List ℕ) Fault
-arguments_in memory at count = words_in memory at (min count 256)
+words_in memory at (suc n) = number_in 4 memory at >>= λ w. words_in memory (at + 4) n >>= λ ws. Ok (w ∷ ws)
 
 -- a function is called in the midst of printing, whose result is dropped
 unfoldable pub function_called : FlatState → Bool → Printing → ℕ → List ℕ → Result (FlatState × Effect) Fault
-function_called f started back at args = do
-  g ← entered f (sp_of f) (ways_back f started back) at args
-  Ok (record g { mode = mode.Running }, Went)
+function_called f started back at args =
+    entered f (sp_of f) (ways_back f started back) at args >>= λ g. Ok (record g { mode = mode.Running }, Went)
 
 -- A character under each I/O system: the filter is the function at the rock, which is called with it; under Glk it is
 -- asked to be put to the current stream, with the state standing; the null system drops it.
 unfoldable pub character_printed : FlatState → Bool → ℕ → Printing → Result (FlatState × Effect) Fault
 character_printed f started c next =
     if f.iosys.0 == filter_system then function_called f started next f.iosys.1 (c ∷ []) else
-    if f.iosys.0 == glk_system then Ok (f, Put c) else
-    Ok (record f { mode = mode.Printing next }, Went)
+    if f.iosys.0 == glk_system then Ok (f, Put c) else Ok (record f { mode = mode.Printing next }, Went)
 
--- an inner string is begun
-unfoldable pub string_begun : FlatState → Bool → Printing → Printing → Result (FlatState × Effect) Fault
-string_begun f started back inner = do
-  g ← pushed_stubs f (ways_back f started back)
-  Ok (record g { mode = mode.Printing inner }, Went)
-
--- a function is called with the arguments of a reference
-unfoldable pub reference_called : FlatState → Bool → Printing → ℕ → ℕ → ℕ → Result (FlatState × Effect) Fault
-reference_called f started back at args_at count = do
-  args ← arguments_in f.memory args_at count
-  function_called f started back at args
-
--- the end of a string or number
-unfoldable pub string_ended : FlatState → Bool → Result (FlatState × Effect) Fault
-string_ended f started =
-    if started then (do
-      g ← inner_ended f
-      Ok (g, Went)) else
-    Ok (record f { mode = mode.Running }, Went)
-
--- what an item of a string or number does; `started` is the mark of the present one
+-- What an item of a string or number does; `started` is the mark of the present one. A character is printed, an inner
+-- string is begun, a function is called with the arguments of a reference, or all ends. No more than 256 arguments are
+-- read, since more than 255 are a fault of the entry.
 unfoldable pub item_printed : FlatState → Bool → Item → Result (FlatState × Effect) Fault
 item_printed f started (Char value next) = character_printed f started value next
-item_printed f started (Sub back inner) = string_begun f started back inner
-item_printed f started (Call back at args_at count) = reference_called f started back at args_at count
-item_printed f started End = string_ended f started
+item_printed f started (Sub back inner) =
+    pushed_stubs f (ways_back f started back) >>= λ g. Ok (record g { mode = mode.Printing inner }, Went)
+item_printed f started (Call back at args_at count) =
+    words_in f.memory args_at (min count 256) >>= λ args. function_called f started back at args
+item_printed f started End =
+    if started then (inner_ended f >>= λ g. Ok (g, Went)) else Ok (record f { mode = mode.Running }, Went)
 
 -- a compressed string stands at one of the eight bits of a byte
 abbrev pub is_printing_place : PrintKind → ℕ → Bool
@@ -86,19 +61,10 @@ is_printing_place kind bit = true
 -- One step of printing. A place that no string has is the fault of a stub with it.
 unfoldable pub item : FlatState → Printing → Result (FlatState × Effect) Fault
 item f p =
-    if is_printing_place p.kind p.bit then (do
-      i ← next_item f.memory f.table p
-      item_printed f p.started i) else
-    Err BadFrame
+    if is_printing_place p.kind p.bit
+    then (next_item f.memory f.table p >>= λ i. item_printed f p.started i) else Err BadFrame
 
 -- The mode after a character that was put: on behind it.
 abbrev pub mode_behind : Mode → Result Item Fault → Mode
 mode_behind m (Ok (Char value next)) = mode.Printing next
 mode_behind m item = m
-
-unfoldable pub mode_after : FlatState → Mode
-mode_after f =
-    elim f.mode [
-      | mode.Running ↦ mode.Running
-      | mode.Printing p ↦ mode_behind f.mode (next_item f.memory f.table p)
-    ]

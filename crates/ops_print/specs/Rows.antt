@@ -29,11 +29,9 @@ use Rattle.gx_rows.specs.Numbers as numbers
 -- the null system drops it.
 abbrev pub character_streamed : FlatState → Instruction → ℕ → Result (FlatState × Effect) Fault
 character_streamed f i c =
-    if f.iosys.0 == filter_system then (do
-      g ← entered f i.sp (stub_of f Nowhere i.next ∷ []) f.iosys.1 (c ∷ [])
-      Ok (g, Went)) else
-    if f.iosys.0 == glk_system then Ok (f, Put c) else
-    goes f i
+    if f.iosys.0 == filter_system
+    then (entered f i.sp (stub_of f Nowhere i.next ∷ []) f.iosys.1 (c ∷ []) >>= λ g. Ok (g, Went)) else
+    if f.iosys.0 == glk_system then Ok (f, Put c) else goes f i
 
 -- a string or number is printed from now on, and then the next instruction follows
 abbrev pub printing_begun : FlatState → Instruction → Printing → FlatState × Effect
@@ -51,9 +49,7 @@ streamnum f i = Ok (printing_begun f i (record { kind = Number; at = L1 i; bit =
 
 -- 72 streamstr (L1): prints the string at L1, whose type is looked at
 unfoldable pub streamstr : FlatState → Instruction → Result (FlatState × Effect) Fault
-streamstr f i = do
-  p ← string_at f.memory (L1 i)
-  Ok (printing_begun f i p)
+streamstr f i = string_at f.memory (L1 i) >>= λ p. Ok (printing_begun f i p)
 
 -- 73 streamunichar (L1): prints L1 as a character
 unfoldable pub streamunichar : FlatState → Instruction → Result (FlatState × Effect) Fault
@@ -66,5 +62,4 @@ row_effect f i =
     if i.row.number == numbers.streamchar then streamchar f i else
     if i.row.number == numbers.streamnum then streamnum f i else
     if i.row.number == numbers.streamstr then streamstr f i else
-    if i.row.number == numbers.streamunichar then streamunichar f i else
-    Err BadOpcode
+    if i.row.number == numbers.streamunichar then streamunichar f i else Err BadOpcode

@@ -24,24 +24,17 @@ resuming f p =
       | Number ↦ record { kind = resume_number; addr = p.bit; pc = p.at; fp = f.fp }
     ]
 
--- the stub that goes back to the code once a string or number has ended
-unfoldable pub to_code : FlatState → Stub
-to_code f = record { kind = resume_code; addr = 0; pc = f.pc; fp = f.fp }
-
--- The stubs that are pushed, the first deepest, before an inner string is begun or a function is called: that
--- of the code where it was not pushed before, and that of the place to go on at.
+-- The stubs that are pushed, the first deepest, before an inner string is begun or a function is called: that which
+-- goes back to the code, where it was not pushed before, and that of the place to go on at.
 abbrev pub ways_back : FlatState → Bool → Printing → List Stub
-ways_back f started back = if started then resuming f back ∷ [] else to_code f ∷ resuming f back ∷ []
+ways_back f started back =
+    let code : Stub = record { kind = resume_code; addr = 0; pc = f.pc; fp = f.fp } in
+    if started then resuming f back ∷ [] else code ∷ resuming f back ∷ []
 
--- The stub was popped at the end of a string or number: code goes on, or the compressed string around it.
-unfoldable pub after_stub : FlatState → Stub → Result FlatState Fault
-after_stub f p =
-    if p.kind == resume_compressed then printing_on f p else
-    if p.kind == resume_code then Ok (record f { pc = p.pc; mode = mode.Running }) else
-    Err BadFrame
-
--- The end of a string or number that another string's reference began or a stub resumed.
+-- The end of a string or number that another string's reference began or a stub resumed: the stub on top is popped, and
+-- the compressed string around it or the code goes on.
 unfoldable pub inner_ended : FlatState → Result FlatState Fault
 inner_ended f = do
   r ← popped_stub f
-  after_stub r.0 r.1
+  if r.1.kind == resume_compressed then printing_on r.0 r.1 else
+      if r.1.kind == resume_code then Ok (record r.0 { pc = r.1.pc; mode = mode.Running }) else Err BadFrame

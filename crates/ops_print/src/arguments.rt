@@ -1,7 +1,7 @@
 //! The arguments of a reference to a function (Glulx 3.1.2, "The String-Decoding Table").
-ghost use Rattle.std.specs.Prelude.{◌≤◌};
+ghost use Rattle.std.specs.Prelude.{◌≤◌, min};
 ghost use Rattle.gx_words.specs.Faults.{Reads};
-ghost use Rattle.ops_print.specs.Items.{words_in, arguments_in};
+ghost use Rattle.ops_print.specs.Items.{words_in};
 
 use arrayvec::ArrayVec;
 use gx_pages::Pages;
@@ -32,7 +32,7 @@ pub fn arguments_in<A: Allocator + Clone>(
     at: u32,
     count: u32,
 ) -> Result<ArrayVec<u32, 256>, Fault>
-    ensures { Reads (λ args. args.items) result (arguments_in memory.now at count) }
+    ensures { Reads (λ args. args.items) result (words_in memory.now at (min count 256)) }
 {
     words_in(memory, at, count.min(256))
 }

@@ -2,13 +2,14 @@
 ghost use Rattle.std.specs.Prelude.{◌≡◌, ◌<◌, take, length, None, Ok, true, false, IfOk, IfSome};
 ghost use Rattle.gx_words.specs.Faults.{TakesNone};
 ghost use Rattle.gx_words.specs.Results.{Turns};
+ghost use Rattle.gx_strings.specs.Items.{next_item};
+ghost use Rattle.gx_strings.specs.Held.{is_char_or_end};
 ghost use Rattle.gx_state.specs.declared.effects.Effect.TheVariants.{Put, Went};
 ghost use Rattle.gx_state.specs.declared.modes.Mode.TheVariants.{Printing as APrinting};
 ghost use Rattle.gx_state.specs.Flat.{sp_of};
 ghost use Rattle.gx_state.specs.Relations.{Goes};
-ghost use Rattle.ops_print.specs.Asks.{IsPutAtMost, printed, is_put};
-ghost use Rattle.ops_print.specs.Items.{function_called, character_printed, string_begun, reference_called};
-ghost use Rattle.ops_print.specs.Items.{string_ended, mode_after, is_printing_place};
+ghost use Rattle.ops_print.specs.Asks.{IsPutAtMost, printed, mode_after, is_put};
+ghost use Rattle.ops_print.specs.Items.{function_called, character_printed, item_printed, is_printing_place};
 
 use crate::arguments::arguments_in;
 use crate::stubs::{end_inner, resuming, to_code};
@@ -66,7 +67,7 @@ fn print_character<A: Allocator + Clone>(
 }
 
 /// Begins the string that a reference names.
-#[tactic(auto, unfolding(crate::specs::Items::string_begun))]
+#[tactic(auto, unfolding(crate::specs::Items::item_printed))]
 fn begin_string<A: Allocator + Clone>(
     state: &mut State<A>,
     started: bool,
@@ -74,7 +75,8 @@ fn begin_string<A: Allocator + Clone>(
     inner: &Printing,
 ) -> Result<Effect, Fault>
     requires { 0 < sp_of state.old.flat }
-    ensures value { Goes result state.old.flat state.new.flat (string_begun state.old.flat started back.now inner.now) }
+    ensures value { Goes result state.old.flat state.new.flat
+        (item_printed state.old.flat started (Item.Sub back.now inner.now)) }
     ensures asks { IfOk result (λ effect. IsPutAtMost effect (state.new.flat ≡ state.old.flat)) }
 {
     let stub = resuming(state, back);
@@ -89,7 +91,7 @@ fn begin_string<A: Allocator + Clone>(
 }
 
 /// Calls the function that a reference names.
-#[tactic(auto, unfolding(crate::specs::Items::reference_called))]
+#[tactic(auto, unfolding(crate::specs::Items::item_printed))]
 fn call_reference<A: Allocator + Clone>(
     state: &mut State<A>,
     started: bool,
@@ -99,7 +101,7 @@ fn call_reference<A: Allocator + Clone>(
     count: u32,
 ) -> Result<Effect, Fault>
     ensures value { Goes result state.old.flat state.new.flat
-        (reference_called state.old.flat started back.now at args_at count) }
+        (item_printed state.old.flat started (Item.Call back.now at args_at count)) }
     ensures asks { IfOk result (λ effect. IsPutAtMost effect (state.new.flat ≡ state.old.flat)) }
 {
     let args = arguments_in(state.memory(), args_at, count)?;
@@ -107,9 +109,9 @@ fn call_reference<A: Allocator + Clone>(
 }
 
 /// Ends a string or number.
-#[tactic(auto, unfolding(crate::specs::Items::string_ended))]
+#[tactic(auto, unfolding(crate::specs::Items::item_printed))]
 fn end_string<A: Allocator + Clone>(state: &mut State<A>, started: bool) -> Result<Effect, Fault>
-    ensures value { Goes result state.old.flat state.new.flat (string_ended state.old.flat started) }
+    ensures value { Goes result state.old.flat state.new.flat (item_printed state.old.flat started Item.End) }
     ensures asks { IfOk result (λ effect. IsPutAtMost effect (state.new.flat ≡ state.old.flat)) }
 {
     if started {
@@ -172,6 +174,8 @@ pub fn pass_item<A: Allocator + Clone>(state: &mut State<A>, printing: &Printing
     requires { state.old.flat.mode ≡ APrinting printing.now }
     ensures value { result ≡ true → printed state.old.flat ≡ Ok (state.new.flat, Went) }
     ensures none { result ≡ false → state.new.flat ≡ state.old.flat }
+    ensures rest { result ≡ false → IfOk (printed state.old.flat) (λ r. r.1 ≡ Went
+        → is_char_or_end (next_item state.old.flat.memory state.old.flat.table printing.now) ≡ false) }
     ensures story { state.new.flat.story ≡ state.old.flat.story }
 {
     if !is_printing_place(printing) {

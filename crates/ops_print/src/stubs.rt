@@ -2,7 +2,8 @@
 //! Output Filtering").
 ghost use Rattle.std.specs.Prelude.{◌≡◌};
 ghost use Rattle.gx_state.specs.Relations.{Acts};
-ghost use Rattle.ops_print.specs.Stubs.{resuming, to_code, inner_ended};
+ghost use Rattle.gx_stack.specs.Constants.{resume_code};
+ghost use Rattle.ops_print.specs.Stubs.{resuming, inner_ended};
 
 use gx_stack::{
     RESUME_C_STRING, RESUME_CODE, RESUME_COMPRESSED, RESUME_NUMBER, RESUME_UNICODE, Stub,
@@ -31,9 +32,8 @@ pub fn resuming<A: Allocator + Clone>(state: &State<A>, printing: &Printing) -> 
 }
 
 /// The stub that goes back to the code.
-#[tactic(auto, unfolding(crate::specs::Stubs::to_code))]
 pub fn to_code<A: Allocator + Clone>(state: &State<A>) -> Stub
-    ensures { result ≡ to_code state.now.flat }
+    ensures { result ≡ record { kind = resume_code; addr = 0; pc = state.now.flat.pc; fp = state.now.flat.fp } }
 {
     Stub {
         kind: RESUME_CODE,

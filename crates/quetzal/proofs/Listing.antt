@@ -1,13 +1,20 @@
 -- One turn of each loop over the blocks of a save.
-use Rattle.std.proofs.Common.{◌≡◌, ◌≢◌, ◌<◌, ◌≤◌, ◌+◌, ◌-◌, ◌*◌, ℕ, suc, Bool, true, false, List, [], ◌∷◌, ◌++◌, append_assoc, length, drop, get_or, refl, sym, ap, ◌∙◌, arith, ltb as nat_lt, leb as nat_le}
+use Rattle.std.proofs.Common.{◌≡◌, ◌≢◌, ◌<◌, ◌≤◌, ◌+◌, ◌-◌, ◌*◌, ℕ, suc, Bool, true, false, List, [], ◌∷◌, ◌++◌, append_assoc, length, drop, get_or, refl, sym, ap, ◌∙◌, arith, ltb as nat_lt, leb as nat_le, eqb as nat_eq}
 use Rattle.std.specs.Prelude.{◌&&◌}
 use Rattle.std.specs.List.{list_all}
 use Rattle.std.proofs.lemmas.Bool.{le-ltb, lt-ltb, le-leb, lt-leb}
+use Rattle.std.proofs.lemmas.Bool.Decides.{nat_tests}
 use Rattle.std.proofs.lemmas.List.{append-nil, drop_more, drop_all}
 use Rattle.gx_words.specs.Numbers.{word}
 use Rattle.heap_blocks.specs.Heap.{Block}
-use Rattle.quetzal.specs.Blocks.{blocks_from, is_block}
-use Rattle.quetzal.specs.Laws.{rises}
+use Rattle.quetzal.specs.Blocks.{blocks_from, has_count, rises}
+use Rattle.quetzal.specs.Laws.{is_block}
+
+-- a chunk that is too short for its header has no count
+pub uncounted : (body : List ℕ) (len : ℕ) → len ≡ length body → len < 8 → false ≡ has_count body
+uncounted body len is short =
+    let no : nat_eq (length body) (8 + 8 * word body 4) ≡ false = grind (arith, nat_tests, is, short) in
+    rw no refl
 
 -- the block at an index, and those behind it
 abbrev at_index : List ℕ → ℕ → Block

@@ -1,11 +1,12 @@
 -- A copy that is fit for its story and is written as a save is read back.
 use Rattle.std.proofs.Common.{◌≡◌, inl, inr, ◌≤◌, ◌<◌, ◌+◌, ◌-◌, ◌*◌, ◌/◌, ◌%◌, ◌^◌, ◌==◌, ℕ, Bool, true, false, cond}
 use Rattle.std.proofs.Common.{List, [], ◌∷◌, ◌++◌, append_assoc, length, take, drop, map, Option, Some, None, Result}
-use Rattle.std.proofs.Common.{Ok, Err, IsTrue, if◌then◌else◌, refl, sym, ap, subst, ◌∙◌, arith, ltb as nat_lt}
+use Rattle.std.proofs.Common.{Ok, Err, IsTrue, if◌then◌else◌, refl, sym, ap, ◌∙◌, arith, ltb as nat_lt}
 use Rattle.std.proofs.Common.{leb as nat_le, eqb as nat_eq, length-append}
 use Rattle.std.specs.Prelude.{codes, ◌&&◌}
-use Rattle.std.specs.List.{AllByRecursion, find, flat_map, list_all}
+use Rattle.std.specs.List.{AllByRecursion, find, flat_map}
 use Rattle.std.specs.Option.{option_map}
+use Rattle.std.specs.Result.{result_map_both}
 use Rattle.std.specs.Str.{bytes_eq}
 use Rattle.std.proofs.lemmas.Bool.{le-ltb, lt-ltb, le-leb, leb-true, eqb-true, eq-eqb, cases_lt}
 use Rattle.std.proofs.lemmas.Bool.Decides.{nat_tests}
@@ -14,10 +15,9 @@ use Rattle.std.proofs.lemmas.Grind.{common_steps}
 use Rattle.std.proofs.lemmas.List.{append-nil, take-append-drop, length-take, length-drop}
 use Rattle.gx_words.specs.Constants.{ceiling}
 use Rattle.gx_words.specs.Numbers.{word, bytes_of_word}
-use Rattle.gx_words.specs.Results.{◌>>=◌}
 use Rattle.gx_stack.specs.declared.frames.Frame.{Frame}
 use Rattle.gx_stack.specs.declared.stubs.Stub.{Stub}
-use Rattle.gx_stack.specs.Frames.{IsGood, is_good, has_local, parts}
+use Rattle.gx_stack.specs.Frames.{is_good, has_local, parts}
 use Rattle.gx_stack.specs.Stubs.{stub_below}
 use Rattle.heap_blocks.specs.Heap.{Block, FlatHeap, IsRising, IsEndedBy, block_end, inactive, is_inactive, inserted}
 use Rattle.gx_story.specs.Stories.{FlatStory, IsStory}
@@ -36,16 +36,15 @@ use Rattle.zero_runs.specs.Packing.{packed, xored}
 use Rattle.zero_runs.specs.Unpacking.{unpacked}
 use Rattle.zero_runs.proofs.RoundTrip.{unpacked-packed, length-packed}
 use Rattle.zero_runs.proofs.UnpackingTurns.{length-xored}
-use Rattle.quetzal.specs.Faults.{of_form}
+use Rattle.quetzal.specs.declared.faults.SaveFault.TheVariants as fault
 use Rattle.quetzal.specs.Chunks.{MemoryBody, body_in, memory_in, needed, parts_in}
-use Rattle.quetzal.specs.Memory.{ram_bytes, first_ram, is_memory_size, memory_bytes, memory_of, ram_of, size_in}
-use Rattle.quetzal.specs.Stacks.{has_height, is_result_place, is_stack, is_stub}
-use Rattle.quetzal.specs.Blocks.{are_apart, are_blocks, blocks_from, blocks_in, bytes_of_block, count_in, has_count}
-use Rattle.quetzal.specs.Blocks.{has_no_heap, heap_bytes, heap_of, ordered_blocks, is_block, is_heap, is_start}
-use Rattle.quetzal.specs.Blocks.{start_in}
-use Rattle.quetzal.specs.Laws.{rises, ReadsBack, chunk_len, form_len}
-use Rattle.quetzal.specs.Writing.{heap_chunks, saved, saved_chunks}
-use Rattle.quetzal.proofs.Sorting.{both, rises_by, rises_parts, rising_blocks}
+use Rattle.quetzal.specs.Memory.{first_ram, is_memory_size, memory_bytes, memory_of, size_in}
+use Rattle.quetzal.specs.Stacks.{is_result_place, is_stack}
+use Rattle.quetzal.specs.Blocks.{blocks_from, blocks_in, count_in, has_count}
+use Rattle.quetzal.specs.Blocks.{has_no_heap, heap_bytes, heap_of, ordered_blocks, is_start, rises, start_in}
+use Rattle.quetzal.specs.Laws.{ReadsBack, chunk_len, form_len}
+use Rattle.quetzal.specs.Writing.{heap_chunks, saved}
+use Rattle.quetzal.proofs.Sorting.{both, rises_by, rises_parts}
 use Rattle.quetzal.proofs.SaveReading.{save_taken}
 
 pub digits : (v : ℕ) → v < 2 ^ 32 → ((v / 2 ^ 24 % 256) * 256 + v / 2 ^ 16 % 256) * 65536 + ((v / 2 ^ 8 % 256) * 256 + v % 256) ≡ v
@@ -68,7 +67,7 @@ body_found save id [] = refl
 body_found save id (p ∷ ps) = by_test (bytes_eq p.id id) save p (find (is_sought (Letters id)) ps) (find (λ (c : Chunk). bytes_eq c.id id) (map (chunk_of save) ps)) (body_found save id ps)
 
 found_by : (save id : List ℕ) (r : Result (List Part) IffFault) (cs : List Chunk) → (r iff>>= λ ps. Ok (map (chunk_of save) ps)) ≡ Ok cs
-    → (of_form (part_found (Letters id) r) >>= λ part. Ok (option_map (body save) part)) ≡ Ok (first_body id cs)
+    → result_map_both (option_map (body save)) (λ e. fault.Form) (part_found (Letters id) r) ≡ Ok (first_body id cs)
 found_by save id (Ok ps) cs h = let e : map (chunk_of save) ps ≡ cs = cc in ap (λ (b : Option (List ℕ)). Ok b) (body_found save id ps ∙ ap (first_body id) e)
 found_by save id (Err e) cs h = absurd cc
 
@@ -101,8 +100,9 @@ pub length-memory_bytes : (story : FlatStory) (memory : List ℕ) → length mem
 unfolding memory_bytes
 length-memory_bytes story memory le = omega (arith, le, length-packed (xored (drop story.header.ramstart memory) (first_ram story)), length-xored (drop story.header.ramstart memory) (first_ram story), length-drop story.header.ramstart memory)
 
-ram_by : (story : FlatStory) (chunk : MemoryBody) (bytes ram : List ℕ) (size : ℕ) → chunk.is_packed ≡ true → size_in chunk ≡ size → ram_bytes chunk ≡ bytes → unpacked bytes (first_ram story) (size - story.header.ramstart) ≡ Ok ram → ram_of story chunk ≡ Ok ram
-unfolding ram_of
+ram_by : (story : FlatStory) (chunk : MemoryBody) (bytes ram : List ℕ) (size : ℕ) → chunk.is_packed ≡ true → size_in chunk ≡ size → drop 4 chunk.body ≡ bytes → unpacked bytes (first_ram story) (size - story.header.ramstart) ≡ Ok ram
+    → memory_of story chunk ≡ Ok (take story.header.ramstart story.bytes ++ ram)
+unfolding memory_of
 ram_by story chunk bytes ram size a b c d = rw (a, b, c, d) refl
 
 memory_again : (story : FlatStory) (memory : List ℕ) → length memory ≤ ceiling → story.header.ramstart ≤ length memory → take story.header.ramstart memory ≡ take story.header.ramstart story.bytes
@@ -112,14 +112,11 @@ memory_again story memory small low rom =
     let bytes = packed (xored (drop story.header.ramstart memory) (first_ram story)) in
     let over : unpacked bytes (first_ram story) (length memory - story.header.ramstart) ≡ Ok (drop story.header.ramstart memory) = rw len (unpacked-packed (drop story.header.ramstart memory) (first_ram story)) in
     let ram = ram_by story (record { is_packed = true; body = memory_bytes story memory }) bytes (drop story.header.ramstart memory) (length memory) refl (memory_word story memory small) (memory_rest story memory) over in
-    rw ram (ap (λ (xs : List ℕ). Ok xs) (ap (λ (front : List ℕ). front ++ drop story.header.ramstart memory) (sym rom) ∙ take-append-drop story.header.ramstart memory))
+    ram ∙ ap (λ (xs : List ℕ). Ok xs) (ap (λ (front : List ℕ). front ++ drop story.header.ramstart memory) (sym rom) ∙ take-append-drop story.header.ramstart memory)
 
 -- the tests of a copy that is fit
 size_there : (story : FlatStory) (c : Copy) → IsCopyFor story c → is_memory_size ceiling story (length c.memory) ≡ true
 size_there story c fit = both _ _ (both _ _ (eq-eqb _ _ fit.size.whole) (le-leb _ _ fit.endmem)) (le-leb _ _ fit.size.capped)
-
-good_there : (s : List ℕ) (fp : ℕ) → IsGood s fp → is_good s fp ≡ true
-good_there s fp good = grind (arith, nat_tests, good.header, good.begins, good.aligned, good.locals, good.order, good.whole)
 
 place_by : (story : FlatStory) (size : ℕ) (frame : Frame) (p : Stub) (one two : Bool) → (p.kind == 1) ≡ one → (p.kind == 2) ≡ two → (p.kind ≡ 1 → (story.header.ramstart ≤ p.addr) × (p.addr + 4 ≤ size)) → (p.kind ≡ 2 → IsTrue (has_local frame p.addr 4)) → is_result_place story size frame p ≡ true
 place_by story size frame p true two a b word local =
@@ -133,10 +130,10 @@ unfolding is_stack
 stack_there story c fit =
     let p = stub_below c.stack (length c.stack) in
     let below = take (length c.stack - 16) c.stack in
-    let height : has_height story c.stack ≡ true = both _ _ (both _ _ (eq-eqb _ _ fit.aligned) (le-leb _ _ fit.height)) (le-leb _ _ fit.stub) in
+    let height : (length c.stack % 4 == 0 && nat_le (length c.stack) story.header.stack_size && nat_le 16 (length c.stack)) ≡ true = both _ _ (both _ _ (eq-eqb _ _ fit.aligned) (le-leb _ _ fit.height)) (le-leb _ _ fit.stub) in
     let place = place_by story (length c.memory) (parts below p.fp) p (p.kind == 1) (p.kind == 2) refl refl fit.word fit.local in
-    both (has_height story c.stack) (is_stub story (length c.memory) below p) height
-    (both (nat_le p.kind 3 && is_good below p.fp) (is_result_place story (length c.memory) (parts below p.fp) p) (both (nat_le p.kind 3) (is_good below p.fp) (le-leb _ _ fit.kind) (good_there below p.fp fit.framed)) place)
+    both (length c.stack % 4 == 0 && nat_le (length c.stack) story.header.stack_size && nat_le 16 (length c.stack)) (nat_le p.kind 3 && is_good below p.fp && is_result_place story (length c.memory) (parts below p.fp) p) height
+    (both (nat_le p.kind 3 && is_good below p.fp) (is_result_place story (length c.memory) (parts below p.fp) p) (both (nat_le p.kind 3) (is_good below p.fp) (le-leb _ _ fit.kind) fit.framed) place)
 
 -- the heap
 rises_from : (bs : List Block) (at size : ℕ) → at ≤ size → IsRising at bs → IsEndedBy size bs → rises at size bs ≡ true
@@ -171,6 +168,10 @@ in_order_same (b ∷ c ∷ bs) at size h =
 word_behind : (front xs : List ℕ) (n : ℕ) → word (front ++ xs) (length front + n) ≡ word xs n
 word_behind front xs n = grind (arith, common_steps)
 
+-- a block as it is written
+abbrev pub bytes_of_block : Block → List ℕ
+bytes_of_block b = bytes_of_word b.0 ++ bytes_of_word b.1
+
 blocks_again : (bs : List Block) (front : List ℕ) → AreWords bs → blocks_from (length bs) (front ++ flat_map bytes_of_block bs) (length front) ≡ bs
 unfolding blocks_from
 blocks_again [] front words = refl
@@ -197,18 +198,17 @@ pub heap_rises : (endmem size : ℕ) (heap : FlatHeap) → IsHeapWithin endmem s
 heap_rises endmem size heap fit = rises_from heap.blocks heap.start size fit.within.start fit.blocks.rises fit.within.ends
 
 heap_by : (story : FlatStory) (size : ℕ) (body : List ℕ) (heap : FlatHeap) → length body ≡ 8 + 8 * length heap.blocks → 0 < length heap.blocks → start_in body ≡ heap.start → count_in body ≡ length heap.blocks → blocks_in body ≡ heap.blocks → ordered_blocks heap.blocks ≡ heap.blocks
-    → is_start story size heap.start ≡ true → are_blocks heap.start size heap.blocks ≡ true → heap_of story size body ≡ Ok heap
-unfolding heap_of is_heap
+    → is_start story size heap.start ≡ true → rises heap.start size heap.blocks ≡ true → heap_of story size body ≡ Ok heap
+unfolding heap_of
 heap_by story size body heap len some start count blocks order begins are =
     let empty : (length body == 0) ≡ false = grind (arith, nat_tests, len) in
     let short : (length body == 8) ≡ false = grind (arith, nat_tests, len, some) in
     let none : has_no_heap body ≡ false = rw (empty, short) refl in
-    let long : nat_le 8 (length body) ≡ true = le-leb _ _ (omega (arith, len)) in
     let whole : nat_eq (length body) (8 + 8 * length heap.blocks) ≡ true = eq-eqb _ _ len in
     let any : nat_lt 0 (length heap.blocks) ≡ true = lt-ltb _ _ some in
-    let counted : has_count body ≡ true = rw count (both (nat_le 8 (length body) && nat_eq (length body) (8 + 8 * length heap.blocks)) (nat_lt 0 (length heap.blocks)) (both (nat_le 8 (length body)) (nat_eq (length body) (8 + 8 * length heap.blocks)) long whole) any) in
-    let test : (has_count body && is_start story size (start_in body) && are_blocks (start_in body) size (blocks_in body)) ≡ true =
-    both (has_count body && is_start story size (start_in body)) (are_blocks (start_in body) size (blocks_in body)) (both (has_count body) (is_start story size (start_in body)) counted (rw start begins)) (rw (start, blocks) are) in
+    let counted : has_count body ≡ true = rw count (both (nat_eq (length body) (8 + 8 * length heap.blocks)) (nat_lt 0 (length heap.blocks)) whole any) in
+    let test : (has_count body && is_start story size (start_in body) && rises (start_in body) size (ordered_blocks (blocks_in body))) ≡ true =
+    both (has_count body && is_start story size (start_in body)) (rises (start_in body) size (ordered_blocks (blocks_in body))) (both (has_count body) (is_start story size (start_in body)) counted (rw start begins)) (rw (start, blocks, order) are) in
     rw (none, test, start, blocks, order) refl
 
 some_again : (story : FlatStory) (size : ℕ) (heap : FlatHeap) → size ≤ ceiling → 0 < length heap.blocks → IsHeapWithin story.header.endmem size heap → heap_of story size (heap_bytes heap) ≡ Ok heap
@@ -217,14 +217,13 @@ some_again story size heap small some fit =
     let n = rises_count heap.blocks heap.start size up in
     let words = rises_words heap.blocks heap.start size small up in
     let order = in_order_same heap.blocks heap.start size up in
-    let are = rising_blocks heap.blocks heap.start size (subst (λ (bs : List Block). rises heap.start size bs ≡ true) (sym order) up) in
     let start = digits heap.start (omega (arith, n, small)) in
     let count = digits (length heap.blocks) (omega (arith, n, small)) in
     let front = bytes_of_word heap.start ++ bytes_of_word (length heap.blocks) in
     let blocks : blocks_in (heap_bytes heap) ≡ heap.blocks = ap (λ (k : ℕ). blocks_from k (heap_bytes heap) 8) count ∙ blocks_again heap.blocks front words in
     heap_by story size (heap_bytes heap) heap (length-heap_bytes heap) some start count blocks order
     (both (nat_eq (heap.start % 256) 0 && nat_le story.header.endmem heap.start) (nat_le heap.start size) (both (nat_eq (heap.start % 256) 0) (nat_le story.header.endmem heap.start) (eq-eqb _ _ fit.whole) (le-leb _ _ (fit.begins some))) (le-leb _ _ fit.within.start))
-    (both (list_all (is_block heap.start size) heap.blocks) (are_apart heap.blocks) are.0 are.1)
+    up
 
 none_again : (story : FlatStory) (size : ℕ) → heap_of story size [] ≡ Ok inactive
 unfolding heap_of
@@ -258,6 +257,14 @@ length-heap_chunks heap true none = rw none refl
 length-heap_chunks heap false none =
     let last : Chunk = record { id = codes "MAll"; body = heap_bytes heap } in
     rw none (ap length (append-nil (bytes_of_chunk last)) ∙ length-bytes_of_chunk last refl ∙ ap chunk_len (length-heap_bytes heap))
+
+-- the chunks of a save
+abbrev pub saved_chunks : FlatStory → Copy → List Chunk
+saved_chunks story copy =
+    record { id = codes "IFhd"; body = take 128 story.bytes } ∷
+    record { id = codes "CMem"; body = memory_bytes story copy.memory } ∷
+    record { id = codes "Stks"; body = copy.stack } ∷
+    heap_chunks copy.heap
 
 pub length-saved_chunks : (story : FlatStory) (c : Copy) (none : Bool) → is_inactive c.heap ≡ none → 128 ≤ length story.bytes
     → 4 + length (flat_map bytes_of_chunk (saved_chunks story c)) ≡ form_len (length (memory_bytes story c.memory)) (length c.stack) (length c.heap.blocks)

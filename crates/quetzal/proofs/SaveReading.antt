@@ -1,14 +1,17 @@
 -- What is read of a save: its exits, and that the copy is fit for the story.
 use Rattle.std.proofs.Common.{◌≡◌, ◌⊎◌, inl, inr, ◌≤◌, ◌<◌, ◌+◌, ◌-◌, ◌*◌, ◌%◌, ℕ, zero, suc, Bool, true, false, List}
-use Rattle.std.proofs.Common.{[], ◌∷◌, length, take, Result, Ok, Err, IsOk, IsTrue, if◌then◌else◌, refl, sym, ap, subst}
+use Rattle.std.proofs.Common.{[], ◌∷◌, ◌++◌, length, take, Result, Ok, Err, IsOk, IsTrue, if◌then◌else◌, refl, sym, ap, subst}
 use Rattle.std.proofs.Common.{◌∙◌, arith, ltb as nat_lt, leb as nat_le, eqb as nat_eq}
 use Rattle.std.specs.Prelude.{◌&&◌}
 use Rattle.std.specs.List.{list_all}
+use Rattle.std.specs.Result.{result_map_both}
 use Rattle.std.proofs.lemmas.Bool.{lt-ltb, leb-true, ltb-true, and_parts, eqb-true}
+use Rattle.std.proofs.lemmas.List.{take_at, length-take}
+use Rattle.zero_runs.specs.declared.faults.RunFault.{RunFault}
 use Rattle.gx_words.specs.Constants.{ceiling}
 use Rattle.gx_words.specs.Results.{◌>>=◌}
 use Rattle.gx_stack.specs.declared.stubs.Stub.{Stub}
-use Rattle.gx_stack.specs.Frames.{IsGood, is_good, has_local, parts}
+use Rattle.gx_stack.specs.Frames.{is_good, has_local, parts}
 use Rattle.gx_stack.specs.Stubs.{stub_below}
 use Rattle.heap_blocks.specs.Heap.{Block, FlatHeap, IsRising, IsEndedBy, block_end, inactive}
 use Rattle.heap_blocks.proofs.Changing.{length-inserted}
@@ -18,14 +21,14 @@ use Rattle.gx_state.specs.Copies.{Copy, IsCopyFor}
 use Rattle.quetzal.specs.declared.faults.SaveFault.{SaveFault}
 use Rattle.quetzal.specs.declared.faults.SaveFault.TheVariants as fault
 use Rattle.quetzal.specs.Faults.{allowed}
-use Rattle.quetzal.specs.Chunks.{Parts, parts_in}
+use Rattle.quetzal.specs.Chunks.{MemoryBody, Parts, parts_in}
 use Rattle.quetzal.specs.Memory.{is_memory_size, size_in, memory_of}
-use Rattle.quetzal.specs.Stacks.{is_stack, is_result_place, has_height}
-use Rattle.quetzal.specs.Blocks.{are_apart, are_blocks, blocks_from, blocks_in, count_in, has_count, has_no_heap}
-use Rattle.quetzal.specs.Blocks.{heap_of, ordered_blocks, is_block, is_heap, is_start, start_in}
-use Rattle.quetzal.specs.Laws.{may_meet, ordered, rises, MayMeet}
+use Rattle.quetzal.specs.Stacks.{is_stack, is_result_place}
+use Rattle.quetzal.specs.Blocks.{blocks_from, blocks_in, count_in, has_count, has_no_heap}
+use Rattle.quetzal.specs.Blocks.{heap_of, ordered_blocks, is_start, rises, start_in}
+use Rattle.quetzal.specs.Laws.{is_block, may_meet, ordered, MayMeet}
 use Rattle.quetzal.specs.Saves.{save_of}
-use Rattle.quetzal.proofs.Sorting.{both, rises_parts, rises_size, order_none, order_rises, order_wanted}
+use Rattle.quetzal.proofs.Sorting.{both, rises_parts, rises_size, order_none, order_wanted}
 
 -- sizes
 pub record Sizes (story : FlatStory) (size : ℕ) : Type 0 where
@@ -45,6 +48,29 @@ rom_there story size good h =
     (omega (arith, good.ramstart_first, good.extstart_first, s.endmem), omega (arith, good.ramstart_first, good.stored_whole))
 
 pub ruleset sizes = (rom_there)
+
+-- memory whole begins as the story does
+begins_by : (front m rest : List ℕ) (n : ℕ) → length front ≡ n → front ++ rest ≡ m → take n m ≡ front
+begins_by front m rest n len is = ap (take n) (sym is) ∙ take_at front rest n len
+
+unpacked_begins : (front m : List ℕ) (n : ℕ) (r : Result (List ℕ) RunFault) → length front ≡ n → result_map_both (λ (ram : List ℕ). front ++ ram) (λ e. fault.Runs) r ≡ Ok m → take n m ≡ front
+unpacked_begins front m n (Ok ram) len is = let e : front ++ ram ≡ m = cc in begins_by front m ram n len e
+unpacked_begins front m n (Err e) len is = absurd cc
+
+plain_begins : (front m bytes : List ℕ) (n : ℕ) (b : Bool) → length front ≡ n → (let r : Result (List ℕ) SaveFault = if b then Ok (front ++ bytes) else Err fault.Runs in r ≡ Ok m) → take n m ≡ front
+plain_begins front m bytes n true len is = let e : front ++ bytes ≡ m = cc in begins_by front m bytes n len e
+plain_begins front m bytes n false len is = absurd cc
+
+memory_by : (story : FlatStory) (memory : MemoryBody) (m : List ℕ) (b : Bool) → memory.is_packed ≡ b → length (take story.header.ramstart story.bytes) ≡ story.header.ramstart → memory_of story memory ≡ Ok m → take story.header.ramstart m ≡ take story.header.ramstart story.bytes
+unfolding memory_of
+memory_by story memory m true packed len is = unpacked_begins (take story.header.ramstart story.bytes) m story.header.ramstart _ len (rw packed at is)
+memory_by story memory m false packed len is = plain_begins (take story.header.ramstart story.bytes) m _ story.header.ramstart _ len (rw packed at is)
+
+pub memory_begins : (story : FlatStory) (memory : MemoryBody) (m : List ℕ) → IsStory story → is_memory_size ceiling story (size_in memory) ≡ true → memory_of story memory ≡ Ok m → take story.header.ramstart m ≡ take story.header.ramstart story.bytes
+memory_begins story memory m good fits is =
+    let there = (rom_there story (size_in memory) good fits).1 in
+    let len : length (take story.header.ramstart story.bytes) ≡ story.header.ramstart = omega (arith, there, length-take story.header.ramstart story.bytes) in
+    memory_by story memory m memory.is_packed refl len is
 
 -- the heap
 in_parts : (bs : List Block) (at size : ℕ) → rises at size bs ≡ true → IsRising at bs × IsEndedBy size bs
@@ -68,18 +94,20 @@ unfolding blocks_from
 length-blocks_from zero body at = refl
 length-blocks_from (suc count) body at = ap suc (length-blocks_from count body (at + 8))
 
+-- what is asked of a chunk that says that there is a heap
+abbrev pub is_heap : FlatStory → ℕ → List ℕ → Bool
+is_heap story size body = has_count body && is_start story size (start_in body) && rises (start_in body) size (ordered_blocks (blocks_in body))
+
 some_within : (story : FlatStory) (size : ℕ) (body : List ℕ) → size ≤ ceiling → is_heap story size body ≡ true → IsHeapWithin story.header.endmem size (record { start = start_in body; blocks = ordered_blocks (blocks_in body) })
-unfolding is_heap
 some_within story size body capped h =
     let start = start_in body in
-    let a = and_parts (has_count body && is_start story size start) (are_blocks start size (blocks_in body)) h in
+    let a = and_parts (has_count body && is_start story size start) (rises start size (ordered_blocks (blocks_in body))) h in
     let b = and_parts (has_count body) (is_start story size start) a.0 in
-    let count : 0 < count_in body = ltb-true 0 (count_in body) (and_parts (nat_le 8 (length body) && nat_eq (length body) (8 + 8 * count_in body)) (nat_lt 0 (count_in body)) b.0).1 in
+    let count : 0 < count_in body = ltb-true 0 (count_in body) (and_parts (nat_eq (length body) (8 + 8 * count_in body)) (nat_lt 0 (count_in body)) b.0).1 in
     let c = and_parts (nat_eq (start % 256) 0 && nat_le story.header.endmem start) (nat_le start size) b.1 in
     let d = and_parts (nat_eq (start % 256) 0) (nat_le story.header.endmem start) c.0 in
-    let blocks = and_parts (list_all (is_block (start_in body) size) (blocks_in body)) (are_apart (blocks_in body)) a.1 in
     let begins = leb-true _ _ c.1 in
-    let up = in_parts (ordered_blocks (blocks_in body)) (start_in body) size (order_rises (blocks_in body) start size begins blocks.0 blocks.1) in
+    let up = in_parts (ordered_blocks (blocks_in body)) (start_in body) size a.1 in
     record {
       blocks = record { rises = up.0; ends = ends_higher (ordered_blocks (blocks_in body)) size 0xFFFFFFFF (omega (arith, capped)) up.1; none = λ none. absurd (omega (arith, none, count, length-ordered_blocks (blocks_in body), length-blocks_from (count_in body) body 8)) };
       begins = λ _. leb-true _ _ d.1;
@@ -111,11 +139,11 @@ unfolding heap_of
 no_heap story size body none = rw none refl
 
 pub no_count : (story : FlatStory) (size : ℕ) (body : List ℕ) → has_no_heap body ≡ false → has_count body ≡ false → heap_of story size body ≡ Err fault.Blocks
-unfolding heap_of is_heap
+unfolding heap_of
 no_count story size body some not = rw (some, not) refl
 
 pub no_start : (story : FlatStory) (size start : ℕ) (body : List ℕ) → start ≡ start_in body → has_no_heap body ≡ false → has_count body ≡ true → is_start story size start ≡ false → heap_of story size body ≡ Err fault.Blocks
-unfolding heap_of is_heap
+unfolding heap_of
 no_start story size start body is some counted not = rw (some, counted, ← is, not) refl
 
 abbrev heap_at : ℕ → Result (List Block) SaveFault → Result FlatHeap SaveFault
@@ -126,15 +154,15 @@ heap_at-fine : (start : ℕ) (r : Result (List Block) SaveFault) → IsOk r → 
 heap_at-fine start (Ok blocks) fine = refl
 heap_at-fine start (Err e) fine = absurd cc
 
-ordered_by : (story : FlatStory) (size start : ℕ) (body : List ℕ) (are : Bool) → are_blocks start size (blocks_in body) ≡ are → start ≡ start_in body → has_no_heap body ≡ false → has_count body ≡ true → is_start story size start ≡ true
+ordered_by : (story : FlatStory) (size start : ℕ) (body : List ℕ) (are : Bool) → rises start size (ordered_blocks (blocks_in body)) ≡ are → start ≡ start_in body → has_no_heap body ≡ false → has_count body ≡ true → is_start story size start ≡ true
     → heap_of story size body ≡ heap_at start (ordered start size (blocks_in body))
-unfolding heap_of is_heap
+unfolding heap_of
 ordered_by story size start body true are is some counted begins = rw (some, counted, ← is, begins, are) refl
 ordered_by story size start body false are is some counted begins = rw (some, counted, ← is, begins, are) refl
 
 module _ (story : FlatStory) (size start : ℕ) (body : List ℕ) (is : start ≡ start_in body) (some : has_no_heap body ≡ false) (counted : has_count body ≡ true) (begins : is_start story size start ≡ true) where
   heap_ordered : heap_of story size body ≡ heap_at start (ordered start size (blocks_in body))
-  heap_ordered = ordered_by story size start body (are_blocks start size (blocks_in body)) refl is some counted begins
+  heap_ordered = ordered_by story size start body (rises start size (ordered_blocks (blocks_in body))) refl is some counted begins
 
   pub heap_given : (blocks : List Block) → ordered start size (blocks_in body) ≡ Ok blocks → heap_of story size body ≡ Ok (record { start = start; blocks = blocks })
   heap_given blocks h = heap_ordered ∙ ap (heap_at start) h
@@ -160,10 +188,10 @@ module _ (story : FlatStory) (size start : ℕ) (body : List ℕ) (is : start �
   heap_wanted within (inl fine) = inl (subst IsOk (sym heap_ordered) (heap_at-fine start (ordered start size (blocks_in body)) fine))
   heap_wanted within (inr meet) = inr (order_fault fault.Blocks meet.0, meeting within meet.1)
 
-pub blocks_wanted : (start size : ℕ) (body : List ℕ) → list_all (is_block start size) (blocks_in body) ≡ true
+pub blocks_wanted : (start size : ℕ) (body : List ℕ) → start ≤ size → list_all (is_block start size) (blocks_in body) ≡ true
     → IsOk (ordered start size (blocks_in body)) ⊎ ((ordered start size (blocks_in body) ≡ Err fault.Blocks) × (1 < count_in body))
-blocks_wanted start size body within =
-    elim (order_wanted start size (blocks_in body) within) [
+blocks_wanted start size body le within =
+    elim (order_wanted start size (blocks_in body) le within) [
       | inl fine ↦ inl fine
       | inr meet ↦ inr (meet.0, omega (arith, meet.1, length-blocks_from (count_in body) body 8))
     ]
@@ -174,27 +202,18 @@ pub record Stacks (story : FlatStory) (size : ℕ) (stack : List ℕ) : Type 0 w
   pub height : length stack ≤ story.header.stack_size
   pub stub : 16 ≤ length stack
   pub kind : (stub_below stack (length stack)).kind ≤ 3
-  pub good : IsGood (take (length stack - 16) stack) (stub_below stack (length stack)).fp
+  pub good : is_good (take (length stack - 16) stack) (stub_below stack (length stack)).fp ≡ true
   pub place : is_result_place story size (parts (take (length stack - 16) stack) (stub_below stack (length stack)).fp) (stub_below stack (length stack)) ≡ true
-
-good_by : (s : List ℕ) (fp : ℕ) → is_good s fp ≡ true → IsGood s fp
-good_by s fp h =
-    let a = and_parts _ _ h in
-    let b = and_parts _ _ a.0 in
-    let c = and_parts _ _ b.0 in
-    let d = and_parts _ _ c.0 in
-    let e = and_parts _ _ d.0 in
-    record { header = leb-true _ _ e.0; begins = eqb-true _ _ e.1; aligned = eqb-true _ _ d.1; locals = leb-true _ _ c.1; order = leb-true _ _ b.1; whole = leb-true _ _ a.1 }
 
 pub stack_parts : (story : FlatStory) (size : ℕ) (stack : List ℕ) → is_stack story size stack ≡ true → Stacks story size stack
 unfolding is_stack
 stack_parts story size stack h =
-    let a = and_parts (has_height story stack) _ h in
+    let a = and_parts _ _ h in
     let b = and_parts _ _ a.0 in
     let c = and_parts _ _ b.0 in
     let d = and_parts _ _ a.1 in
     let e = and_parts _ _ d.0 in
-    record { aligned = eqb-true _ _ c.0; height = leb-true _ _ c.1; stub = leb-true _ _ b.1; kind = leb-true _ _ e.0; good = good_by _ _ e.1; place = d.1 }
+    record { aligned = eqb-true _ _ c.0; height = leb-true _ _ c.1; stub = leb-true _ _ b.1; kind = leb-true _ _ e.0; good = e.1; place = d.1 }
 
 word_by : (story : FlatStory) (size : ℕ) (below : List ℕ) (p : Stub) → is_result_place story size (parts below p.fp) p ≡ true → p.kind ≡ 1 → (story.header.ramstart ≤ p.addr) × (p.addr + 4 ≤ size)
 word_by story size below p h one =

@@ -13,10 +13,10 @@ use Rattle.zero_runs.proofs.PackingTurns.{front_all, front_added, front_joined}
 use Rattle.gx_story.specs.Stories.{FlatStory}
 use Rattle.gx_state.specs.Copies.{Copy}
 use Rattle.quetzal.specs.Memory.{memory_bytes}
-use Rattle.quetzal.specs.Blocks.{bytes_of_block, heap_bytes}
+use Rattle.quetzal.specs.Blocks.{heap_bytes}
 use Rattle.quetzal.specs.Writing.{heap_chunks, saved}
 use Rattle.quetzal.specs.Laws.{form_len}
-use Rattle.quetzal.proofs.ReadingBack.{Small, form_fits, length-heap_bytes, length-saved_chunks}
+use Rattle.quetzal.proofs.ReadingBack.{bytes_of_block, Small, form_fits, length-heap_bytes, length-saved_chunks}
 
 pub blocks_more : (bs : List Block) (i : ℕ) → i < length bs → flat_map bytes_of_block (take (i + 1) bs) ≡ flat_map bytes_of_block (take i bs) ++ bytes_of_block (get_or bs i (0, 0))
 blocks_more bs i lt = ap (flat_map bytes_of_block) (take_more bs i (0, 0) lt) ∙ sym (flat_map_more bytes_of_block [] (take i bs) (get_or bs i (0, 0)))

@@ -9,8 +9,16 @@ use Rattle.std.proofs.lemmas.List.Sums.{sum_by-cons}
 use Rattle.std.proofs.lemmas.List.Sorted.{sum_by-IsPermutation}
 use Rattle.heap_blocks.specs.Heap.{Block, block_end, inserted}
 use Rattle.quetzal.specs.declared.faults.SaveFault.TheVariants as fault
-use Rattle.quetzal.specs.Blocks.{are_apart, are_blocks, ordered_blocks, is_apart, is_block}
-use Rattle.quetzal.specs.Laws.{IsSortedFrom, ordered, rises}
+use Rattle.quetzal.specs.Blocks.{ordered_blocks, rises}
+use Rattle.quetzal.specs.Laws.{IsSortedFrom, is_block, ordered}
+
+-- two blocks that don't meet, and blocks of which no two meet
+abbrev is_apart : Block → Block → Bool
+is_apart a b = nat_le (block_end a) b.0 || nat_le (block_end b) a.0
+
+abbrev are_apart : List Block → Bool
+are_apart [] = true
+are_apart (b ∷ bs) = list_all (is_apart b) bs && are_apart bs
 
 pub both : (x y : Bool) → x ≡ true → y ≡ true → (x && y) ≡ true
 both true true a b = refl
@@ -141,7 +149,7 @@ all_in_order p [] = refl
 all_in_order p (b ∷ bs) = all_inserted p b (ordered_blocks bs) ∙ ap (λ (t : Bool). p b && t) (all_in_order p bs)
 
 -- blocks of a heap rise in order, and only they do
-pub order_rises : (bs : List Block) (start size : ℕ) → start ≤ size → list_all (is_block start size) bs ≡ true → are_apart bs ≡ true → rises start size (ordered_blocks bs) ≡ true
+order_rises : (bs : List Block) (start size : ℕ) → start ≤ size → list_all (is_block start size) bs ≡ true → are_apart bs ≡ true → rises start size (ordered_blocks bs) ≡ true
 unfolding ordered_blocks
 order_rises [] start size le blocks apart = le-leb start size le
 order_rises (b ∷ bs) start size le blocks apart =
@@ -150,7 +158,7 @@ order_rises (b ∷ bs) start size le blocks apart =
     let is = block_parts start size b p.0 in
     rises_inserted (ordered_blocks bs) start size b is.1 is.0 is.2 (all_in_order (is_apart b) bs ∙ q.0) (order_rises bs start size le p.1 q.1)
 
-pub rising_blocks : (bs : List Block) (start size : ℕ) → rises start size (ordered_blocks bs) ≡ true → (list_all (is_block start size) bs ≡ true) × (are_apart bs ≡ true)
+rising_blocks : (bs : List Block) (start size : ℕ) → rises start size (ordered_blocks bs) ≡ true → (list_all (is_block start size) bs ≡ true) × (are_apart bs ≡ true)
 unfolding ordered_blocks
 rising_blocks [] start size h = (refl, refl)
 rising_blocks (b ∷ bs) start size h =
@@ -277,10 +285,8 @@ in_order_is : (bs sorted : List Block) (start size : ℕ) → IsSortedFrom bs so
 in_order_is bs sorted start size from up =
     one_list sorted (ordered_blocks bs) start size up (up_in_order bs) (λ f. sum_by-IsPermutation f bs sorted from.same ∙ sym (sum_in_order f bs))
 
-sorted_rises : (bs sorted : List Block) (start size : ℕ) → IsSortedFrom bs sorted → start ≤ size → are_blocks start size bs ≡ true → rises start size sorted ≡ true
-sorted_rises bs sorted start size from le are =
-    let p = and_parts (list_all (is_block start size) bs) (are_apart bs) are in
-    let up = order_rises bs start size le p.0 p.1 in
+sorted_rises : (bs sorted : List Block) (start size : ℕ) → IsSortedFrom bs sorted → rises start size (ordered_blocks bs) ≡ true → rises start size sorted ≡ true
+sorted_rises bs sorted start size from up =
     let is = one_list (ordered_blocks bs) sorted start size up (up_by sorted from.order) (λ f. sum_in_order f bs ∙ sym (sum_by-IsPermutation f bs sorted from.same)) in
     subst (λ (xs : List Block). rises start size xs ≡ true) is up
 
@@ -291,18 +297,19 @@ not_true false h = refl
 pub order_taken : (bs sorted : List Block) (start size : ℕ) → IsSortedFrom bs sorted → rises start size sorted ≡ true → ordered start size bs ≡ Ok sorted
 order_taken bs sorted start size from up =
     let is = in_order_is bs sorted start size from up in
-    let p = rising_blocks bs start size (subst (λ (xs : List Block). rises start size xs ≡ true) is up) in
-    let are : are_blocks start size bs ≡ true = both (list_all (is_block start size) bs) (are_apart bs) p.0 p.1 in
-    rw are (ap (λ (xs : List Block). Ok xs) (sym is))
+    let ordered_up = subst (λ (xs : List Block). rises start size xs ≡ true) is up in
+    rw ordered_up (ap (λ (xs : List Block). Ok xs) (sym is))
 
-pub order_refused : (bs sorted : List Block) (start size : ℕ) → IsSortedFrom bs sorted → start ≤ size → rises start size sorted ≡ false → ordered start size bs ≡ Err fault.Blocks
-order_refused bs sorted start size from le down =
-    let not : are_blocks start size bs ≡ false = not_true (are_blocks start size bs) (λ are. sym down ∙ sorted_rises bs sorted start size from le are) in
+pub order_refused : (bs sorted : List Block) (start size : ℕ) → IsSortedFrom bs sorted → rises start size sorted ≡ false → ordered start size bs ≡ Err fault.Blocks
+order_refused bs sorted start size from down =
+    let not : rises start size (ordered_blocks bs) ≡ false = not_true (rises start size (ordered_blocks bs)) (λ up. sym down ∙ sorted_rises bs sorted start size from up) in
     rw not refl
 
 -- a block that can't be one of a heap
 pub order_none : (bs : List Block) (start size : ℕ) → list_all (is_block start size) bs ≡ false → ordered start size bs ≡ Err fault.Blocks
-order_none bs start size not = rw not refl
+order_none bs start size not =
+    let down : rises start size (ordered_blocks bs) ≡ false = not_true (rises start size (ordered_blocks bs)) (λ up. sym not ∙ (rising_blocks bs start size up).0) in
+    rw down refl
 
 -- among fewer than two blocks none meet
 either_way : (t : Bool) (n : ℕ) → 1 < n → (t ≡ true) ⊎ ((t ≡ false) × (1 < n))
@@ -314,13 +321,9 @@ apart_or_two [] = inl refl
 apart_or_two (b ∷ []) = inl refl
 apart_or_two (b ∷ c ∷ bs) = either_way (are_apart (b ∷ c ∷ bs)) (length (b ∷ c ∷ bs)) (omega arith)
 
-not_both : (x y : Bool) → y ≡ false → (x && y) ≡ false
-not_both true y h = h
-not_both false y h = refl
-
-pub order_wanted : (start size : ℕ) (bs : List Block) → list_all (is_block start size) bs ≡ true → IsOk (ordered start size bs) ⊎ ((ordered start size bs ≡ Err fault.Blocks) × (1 < length bs))
-order_wanted start size bs within =
+pub order_wanted : (start size : ℕ) (bs : List Block) → start ≤ size → list_all (is_block start size) bs ≡ true → IsOk (ordered start size bs) ⊎ ((ordered start size bs ≡ Err fault.Blocks) × (1 < length bs))
+order_wanted start size bs le within =
     elim (apart_or_two bs) [
-      | inl apart ↦ let are : are_blocks start size bs ≡ true = both (list_all (is_block start size) bs) (are_apart bs) within apart in inl (rw are refl)
-      | inr meet ↦ let not : are_blocks start size bs ≡ false = not_both (list_all (is_block start size) bs) (are_apart bs) meet.0 in inr (rw not refl, meet.1)
+      | inl apart ↦ let up = order_rises bs start size le within apart in inl (rw up refl)
+      | inr meet ↦ let down : rises start size (ordered_blocks bs) ≡ false = not_true (rises start size (ordered_blocks bs)) (λ up. sym meet.0 ∙ (rising_blocks bs start size up).1) in inr (rw down refl, meet.1)
     ]

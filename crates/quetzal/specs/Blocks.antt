@@ -1,8 +1,8 @@
 -- The heap of a save (Glulx 3.1.2, "Contents of the Save File"): its start, the count of its blocks, and the address
 -- and the length of each, in any order.
-use Rattle.std.specs.Prelude.{ℕ, zero, suc, Bool, true, ◌+◌, ◌*◌, ◌%◌, ◌==◌, nat_lt, nat_le, ◌&&◌, ◌||◌, if◌then◌else◌}
+use Rattle.std.specs.Prelude.{ℕ, zero, suc, Bool, ◌+◌, ◌*◌, ◌%◌, ◌==◌, nat_lt, nat_le, ◌&&◌, ◌||◌, if◌then◌else◌}
 use Rattle.std.specs.Prelude.{List, [], ◌∷◌, ◌++◌, length, Result, Ok, Err}
-use Rattle.std.specs.List.{flat_map, list_all}
+use Rattle.std.specs.List.{flat_map}
 use Rattle.gx_words.specs.Numbers.{word, bytes_of_word}
 use Rattle.heap_blocks.specs.Heap.{Block, FlatHeap, block_end, inactive, inserted}
 use Rattle.gx_story.specs.Stories.{FlatStory}
@@ -30,32 +30,16 @@ has_no_heap body = length body == 0 || (length body == heap_header_len && start_
 
 -- as many blocks as are counted, and one at least
 abbrev pub has_count : List ℕ → Bool
-has_count body =
-    nat_le heap_header_len (length body) && length body == heap_header_len
-    + block_len * count_in body && nat_lt 0 (count_in body)
+has_count body = length body == heap_header_len + block_len * count_in body && nat_lt 0 (count_in body)
 
 -- a size at which memory may have ended before the heap began
 abbrev pub is_start : FlatStory → ℕ → ℕ → Bool
 is_start story size start = start % 256 == 0 && nat_le story.header.endmem start && nat_le start size
 
--- a block that isn't empty, between the start and the size
-abbrev pub is_block : ℕ → ℕ → Block → Bool
-is_block start size b = nat_lt 0 b.1 && nat_le start b.0 && nat_le (block_end b) size
-
--- two blocks that don't meet, and blocks of which no two meet
-abbrev pub is_apart : Block → Block → Bool
-is_apart a b = nat_le (block_end a) b.0 || nat_le (block_end b) a.0
-
-abbrev pub are_apart : List Block → Bool
-are_apart [] = true
-are_apart (b ∷ bs) = list_all (is_apart b) bs && are_apart bs
-
-abbrev pub are_blocks : ℕ → ℕ → List Block → Bool
-are_blocks start size bs = list_all (is_block start size) bs && are_apart bs
-
-unfoldable pub is_heap : FlatStory → ℕ → List ℕ → Bool
-is_heap story size body =
-    has_count body && is_start story size (start_in body) && are_blocks (start_in body) size (blocks_in body)
+-- blocks in rising order from an address on, none empty, none past a size, no two that meet
+abbrev pub rises : ℕ → ℕ → List Block → Bool
+rises at size [] = nat_le at size
+rises at size (b ∷ bs) = nat_le at b.0 && nat_lt 0 b.1 && rises (block_end b) size bs
 
 -- blocks by their address
 unfoldable pub ordered_blocks : List Block → List Block
@@ -65,14 +49,14 @@ ordered_blocks (b ∷ bs) = inserted b (ordered_blocks bs)
 -- the heap, if any
 unfoldable pub heap_of : FlatStory → ℕ → List ℕ → Result FlatHeap SaveFault
 heap_of story size body =
+    let start = start_in body in
+    let blocks = ordered_blocks (blocks_in body) in
     if has_no_heap body then Ok inactive else
-    if is_heap story size body then Ok (record { start = start_in body; blocks = ordered_blocks (blocks_in body) }) else
-    Err fault.Blocks
+    if has_count body && is_start story size start && rises start size blocks
+    then Ok (record { start = start; blocks = blocks }) else Err fault.Blocks
 
 -- the body of a heap's chunk as it is written
-abbrev pub bytes_of_block : Block → List ℕ
-bytes_of_block b = bytes_of_word b.0 ++ bytes_of_word b.1
-
 abbrev pub heap_bytes : FlatHeap → List ℕ
 heap_bytes heap =
-    bytes_of_word heap.start ++ (bytes_of_word (length heap.blocks) ++ flat_map bytes_of_block heap.blocks)
+    bytes_of_word heap.start ++ (bytes_of_word (length heap.blocks)
+    ++ flat_map (λ (b : Block). bytes_of_word b.0 ++ bytes_of_word b.1) heap.blocks)

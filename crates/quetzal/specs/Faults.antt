@@ -22,18 +22,10 @@ abbrev pub fault_of : IffFault → SaveFault
 fault_of iff.NoMemory = fault.NoMemory
 fault_of e = fault.Form
 
-abbrev pub of_form : {A : Type 0} → Result A IffFault → Result A SaveFault
-of_form (Ok x) = Ok x
-of_form (Err e) = Err (fault_of e)
-
 -- whatever is wrong with the packed bytes
 abbrev pub fault_of_run : RunFault → SaveFault
 fault_of_run run.NoMemory = fault.NoMemory
 fault_of_run e = fault.Runs
-
-abbrev pub of_runs : {A : Type 0} → Result A RunFault → Result A SaveFault
-of_runs (Ok x) = Ok x
-of_runs (Err e) = Err (fault_of_run e)
 
 -- what a test passes, or else has the fault
 abbrev pub allowed : Bool → SaveFault → Result (Unit {0}) SaveFault

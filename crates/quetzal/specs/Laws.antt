@@ -1,6 +1,6 @@
 -- What contracts say beside the definitions: blocks that are sorted, the lengths of a save, that saves are read back
 -- and that old ones load.
-use Rattle.std.specs.Prelude.{ℕ, Bool, nat_lt, nat_le, ◌&&◌, if◌then◌else◌, List, [], ◌∷◌, Result, Ok, Err, ◌≡◌, ◌≤◌}
+use Rattle.std.specs.Prelude.{ℕ, Bool, nat_lt, nat_le, ◌&&◌, if◌then◌else◌, List, Result, Ok, Err, ◌≡◌, ◌≤◌}
 use Rattle.std.specs.Prelude.{true, ◌+◌, ◌*◌, ◌%◌, ◌==◌}
 use Rattle.std.specs.List.{list_all}
 use Rattle.std.specs.List.Sorted.{IsPermutation, IsNonDecreasingBy}
@@ -8,8 +8,7 @@ use Rattle.heap_blocks.specs.Heap.{Block, block_end}
 use Rattle.gx_story.specs.Stories.{FlatStory}
 use Rattle.quetzal.specs.declared.faults.SaveFault.{SaveFault}
 use Rattle.quetzal.specs.declared.faults.SaveFault.TheVariants as fault
-use Rattle.quetzal.specs.Blocks.{start_in, count_in, blocks_in, has_count, is_start, is_block, are_blocks}
-use Rattle.quetzal.specs.Blocks.{ordered_blocks}
+use Rattle.quetzal.specs.Blocks.{start_in, count_in, blocks_in, has_count, is_start, ordered_blocks, rises}
 use Rattle.gx_words.specs.Results.{◌>>=◌}
 use Rattle.gx_state.specs.Copies.{Copy, IsCopyFor}
 use Rattle.quetzal.specs.Chunks.{parts_in}
@@ -20,16 +19,15 @@ use Rattle.gx_story.specs.Stories.{IsStory}
 use Rattle.quetzal.specs.Constants.{story_start, heap_header_len, block_len}
 use Rattle.quetzal.specs.Writing.{saved}
 
+-- a block that isn't empty, between the start and the size
+abbrev pub is_block : ℕ → ℕ → Block → Bool
+is_block start size b = nat_lt 0 b.1 && nat_le start b.0 && nat_le (block_end b) size
+
 -- nothing else is wrong with the heap, and it has two blocks at least: they may still meet
 unfoldable pub may_meet : FlatStory → ℕ → List ℕ → Bool
 may_meet story size body =
     has_count body && is_start story size (start_in body) && list_all (is_block (start_in body) size) (blocks_in body)
     && nat_lt 1 (count_in body)
-
--- blocks in rising order from an address on, none empty, none past a size, no two that meet
-abbrev pub rises : ℕ → ℕ → List Block → Bool
-rises at size [] = nat_le at size
-rises at size (b ∷ bs) = nat_le at b.0 && nat_lt 0 b.1 && rises (block_end b) size bs
 
 -- the same blocks, by their address
 pub record IsSortedFrom (bs sorted : List Block) : Type 0 where
@@ -38,7 +36,7 @@ pub record IsSortedFrom (bs sorted : List Block) : Type 0 where
 
 -- the blocks in order, where they are blocks of a heap
 abbrev pub ordered : ℕ → ℕ → List Block → Result (List Block) SaveFault
-ordered start size bs = if are_blocks start size bs then Ok (ordered_blocks bs) else Err fault.Blocks
+ordered start size bs = if rises start size (ordered_blocks bs) then Ok (ordered_blocks bs) else Err fault.Blocks
 
 -- the blocks of a save may meet, and nothing else is wrong with its heap
 abbrev pub MayMeet : List ℕ → FlatStory → Type 0

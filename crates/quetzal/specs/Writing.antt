@@ -12,12 +12,9 @@ use Rattle.quetzal.specs.Blocks.{heap_bytes}
 abbrev pub heap_chunks : FlatHeap → List Chunk
 heap_chunks heap = if is_inactive heap then [] else record { id = codes "MAll"; body = heap_bytes heap } ∷ []
 
-abbrev pub saved_chunks : FlatStory → Copy → List Chunk
-saved_chunks story copy =
-    record { id = codes "IFhd"; body = take story_start story.bytes } ∷
-    record { id = codes "CMem"; body = memory_bytes story copy.memory } ∷
-    record { id = codes "Stks"; body = copy.stack } ∷
-    heap_chunks copy.heap
-
 unfoldable pub saved : FlatStory → Copy → List ℕ
-saved story copy = bytes_of_form (codes "IFZS") (saved_chunks story copy)
+saved story copy =
+    bytes_of_form (codes "IFZS")
+    (record { id = codes "IFhd"; body = take story_start story.bytes } ∷
+    record { id = codes "CMem"; body = memory_bytes story copy.memory } ∷
+    record { id = codes "Stks"; body = copy.stack } ∷ heap_chunks copy.heap)

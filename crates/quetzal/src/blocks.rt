@@ -7,8 +7,8 @@ ghost use Rattle.std.specs.List.{list_all};
 ghost use Rattle.gx_words.specs.Numbers.{word};
 ghost use Rattle.quetzal.specs.Relations.{MaySort};
 ghost use Rattle.quetzal.specs.Constants.{block_len};
-ghost use Rattle.quetzal.specs.Blocks.{blocks_in, count_in, has_count, has_no_heap, heap_of, is_block, is_start};
-ghost use Rattle.quetzal.specs.Laws.{IsSortedFrom, may_meet, ordered, rises};
+ghost use Rattle.quetzal.specs.Blocks.{blocks_in, count_in, has_count, has_no_heap, heap_of, is_start, rises};
+ghost use Rattle.quetzal.specs.Laws.{IsSortedFrom, is_block, may_meet, ordered};
 ghost use Rattle.gx_words.specs.Constants.{ceiling};
 ghost use Rattle.gx_state.specs.Sound.{IsHeapWithin};
 ghost use Rattle.quetzal.specs.Views.{heap_from};
@@ -69,6 +69,7 @@ fn has_no_heap(body: &[u8]) -> bool
 }
 
 /// Whether a chunk has as many blocks as it counts, and one at least.
+#[tactic(auto, using(crate::proofs::Listing::uncounted))]
 fn has_count(body: &[u8]) -> bool
     ensures { result ≡ has_count body.now }
 {

@@ -1,12 +1,12 @@
 //! The chunks of a save that are looked at, found without memory.
 //!
 //! The first chunk of each kind counts, in whatever order they come; others are passed over.
-ghost use Rattle.std.specs.Prelude.{◌≡◌, ◌≢◌, ◌≤◌, length, take, IfOk, IfErr};
+ghost use Rattle.std.specs.Prelude.{◌≡◌, ◌≢◌, ◌≤◌, nat_le, true, length, take, IfOk, IfErr};
 ghost use Rattle.std.specs.Str.{bytes_eq};
-ghost use Rattle.std.specs.Option.{option_map};
+ghost use Rattle.std.specs.Option.{option_map, option_map_or};
 ghost use Rattle.gx_words.specs.Results.{Is};
 ghost use Rattle.quetzal.specs.Constants.{size_len, story_start};
-ghost use Rattle.quetzal.specs.Chunks.{body_in, either, begins_with_size, memory_in, needed, parts_in};
+ghost use Rattle.quetzal.specs.Chunks.{body_in, either, memory_in, needed, parts_in};
 ghost use Rattle.quetzal.specs.Views.{memory_body, parts_of};
 
 use crate::SaveFault;
@@ -113,7 +113,8 @@ fn either<'a>(packed: Option<&'a [u8]>, plain: Option<&'a [u8]>) -> Option<Memor
 
 /// Whether a chunk of memory has its size; true where there is no chunk.
 fn begins_with_size(memory: Option<MemoryChunk<'_>>) -> bool
-    ensures { result ≡ begins_with_size (option_map memory_body memory.entry) }
+    ensures { result
+        ≡ option_map_or (λ m. nat_le size_len (length m.body)) (option_map memory_body memory.entry) true }
 {
     match memory {
         Some(chunk) => SIZE_LEN <= chunk.body.len(),

@@ -1,11 +1,11 @@
 //! The memory of a save: its size, and its RAM behind what the story has below it.
 //!
 //! What a chunk claims is looked at before memory is taken for it.
-ghost use Rattle.std.specs.Prelude.{◌≡◌, ◌≢◌, ◌≤◌, length, take, IfOk, IfErr, IsOk, IsTrue, OnOk};
+ghost use Rattle.std.specs.Prelude.{◌≡◌, ◌≢◌, ◌≤◌, length, take, drop, IfOk, IfErr, IsOk, IsTrue, OnOk};
 ghost use Rattle.gx_words.specs.Results.{Gives};
 ghost use Rattle.gx_words.specs.Constants.{ceiling};
 ghost use Rattle.quetzal.specs.Constants.{size_len};
-ghost use Rattle.quetzal.specs.Memory.{ram_bytes, is_memory_size, memory_of, size_in};
+ghost use Rattle.quetzal.specs.Memory.{is_memory_size, memory_of, size_in};
 ghost use Rattle.quetzal.specs.Views.{memory_body};
 
 use crate::SaveFault;
@@ -27,13 +27,13 @@ impl MemoryChunk<'_> {
     /// The bytes behind it.
     fn bytes(&self) -> &[u8]
         requires { size_len ≤ length self.now.body.now }
-        ensures { result.now ≡ ram_bytes (memory_body self.now) }
+        ensures { result.now ≡ drop size_len self.now.body.now }
     {
         &self.body[SIZE_LEN..]
     }
 
     /// Whether the bytes stand for the RAM of a story. Takes no memory.
-    #[tactic(auto, unfolding(crate::specs::Memory::ram_of), using(crate::proofs::SaveReading::sizes))]
+    #[tactic(auto, unfolding(crate::specs::Memory::memory_of), using(crate::proofs::SaveReading::sizes))]
     pub fn check(&self, story: &Story) -> Result<(), SaveFault>
         requires there { size_len ≤ length self.now.body.now }
         requires size { IsTrue (is_memory_size ceiling story.now (size_in (memory_body self.now))) }
@@ -71,7 +71,7 @@ impl MemoryChunk<'_> {
     }
 
     /// Adds the RAM that the bytes stand for behind a story's bytes below RAMSTART.
-    #[tactic(auto, unfolding(crate::specs::Memory::ram_of), using(crate::proofs::SaveReading::sizes))]
+    #[tactic(auto, unfolding(crate::specs::Memory::memory_of), using(crate::proofs::SaveReading::sizes))]
     fn push_ram(&self, story: &Story, memory: &mut Bytes) -> Result<(), SaveFault>
         requires there { size_len ≤ length self.now.body.now }
         requires size { IsTrue (is_memory_size ceiling story.now (size_in (memory_body self.now))) }

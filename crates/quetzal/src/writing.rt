@@ -5,7 +5,9 @@ ghost use Rattle.gx_words.specs.Constants.{ceiling};
 ghost use Rattle.iff_chunks.specs.Writing.{bytes_of_chunk};
 ghost use Rattle.gx_state.specs.Copies.{IsCopyFor};
 ghost use Rattle.quetzal.specs.Memory.{memory_bytes};
-ghost use Rattle.quetzal.specs.Blocks.{bytes_of_block, heap_bytes};
+ghost use Rattle.quetzal.specs.Blocks.{heap_bytes};
+ghost use Rattle.gx_words.specs.Numbers.{bytes_of_word};
+ghost use Rattle.heap_blocks.specs.Heap.{Block};
 ghost use Rattle.quetzal.specs.Saves.{save_of};
 ghost use Rattle.quetzal.specs.Writing.{heap_chunks, saved};
 ghost use Rattle.quetzal.specs.Laws.{chunk_len, form_len};
@@ -153,7 +155,8 @@ fn heap_body(alloc: Global, start: u32, blocks: &[(u32, u32)]) -> Result<Bytes, 
 /// Adds the address and the length of each block.
 #[tactic(auto, using(crate::proofs::SaveWriting::block_facts))]
 fn push_blocks(body: &mut Bytes, blocks: &[(u32, u32)]) -> Result<(), AllocError>
-    ensures { OnOk result (body.new ≡ body.old ++ flat_map bytes_of_block blocks.now) }
+    ensures { OnOk result (body.new
+        ≡ body.old ++ flat_map (λ (b : Block). bytes_of_word b.0 ++ bytes_of_word b.1) blocks.now) }
 {
     for block in blocks {
         body.extend_from_slice(&word_bytes(block.0))?;

@@ -1,8 +1,13 @@
 -- One turn of each loop that writes packed bytes.
-use Rattle.std.proofs.Common.{◌≡◌, ◌≢◌, ◌<◌, ◌≤◌, ◌+◌, ℕ, zero, suc, List, [], ◌∷◌, ◌++◌, append_assoc, length, take, drop, get_or, refl, sym, ap, ◌∙◌, arith, length-append}
+use Rattle.std.proofs.Common.{◌≡◌, ◌≢◌, ◌<◌, ◌≤◌, ◌+◌, ℕ, zero, suc, List, [], ◌∷◌, ◌++◌, append_assoc, length, take, drop, get_or, replicate, refl, sym, ap, ◌∙◌, arith, length-append}
 use Rattle.std.proofs.lemmas.List.{append-nil, take_all, drop_more, drop-drop, drop_all, get_or-drop, length-take}
 use Rattle.std.specs.Int.Bits.{bit_xor}
-use Rattle.zero_runs.specs.Packing.{run, full_pairs, packed_behind, xored}
+use Rattle.std.specs.List.{concat}
+use Rattle.zero_runs.specs.Packing.{run, packed_behind, xored}
+
+-- so many times 00 FF
+abbrev pub full_pairs : ℕ → List ℕ
+full_pairs n = concat (replicate n (0 ∷ 255 ∷ []))
 
 full_pairs_more : (n : ℕ) → full_pairs n ++ 0 ∷ 255 ∷ [] ≡ full_pairs (n + 1)
 full_pairs_more zero = refl

@@ -1,14 +1,26 @@
 -- The laws of packing: what was packed is unpacked again, and what is packed of each list.
-use Rattle.std.proofs.Common.{◌≡◌, ◌≢◌, ◌≤◌, ◌+◌, ◌-◌, ◌*◌, ◌/◌, ◌%◌, ℕ, zero, suc, List, [], ◌∷◌, ◌++◌, append_assoc, length, drop, get_or, replicate, Result, Ok, Err, refl, sym, ap, ◌∙◌, arith, length-append}
+use Rattle.std.proofs.Common.{◌≡◌, ◌≢◌, ◌≤◌, ◌+◌, ◌-◌, ◌*◌, ◌/◌, ◌%◌, ◌==◌, if◌then◌else◌, ℕ, zero, suc, false, List, [], ◌∷◌, ◌++◌, append_assoc, length, drop, get_or, replicate, Result, Ok, Err, refl, sym, ap, ◌∙◌, arith, length-append}
 use Rattle.std.proofs.lemmas.List.{append-nil, replicate-append-replicate}
 use Rattle.std.proofs.lemmas.Bool.{le-ltb}
+use Rattle.std.proofs.lemmas.Bool.Decides.{nat_tests}
 use Rattle.std.specs.Int.Bits.{bit_xor, xor_assoc, xor_self, xor_zero_r}
 use Rattle.gx_words.specs.Results.{◌>>=◌}
 use Rattle.zero_runs.specs.declared.faults.RunFault.{RunFault}
-use Rattle.zero_runs.specs.Packing.{run, last_pair, full_pairs, packed_behind, packed, xored}
-use Rattle.zero_runs.specs.Unpacking.{expand, with_last_zeros, unpacked}
+use Rattle.zero_runs.specs.Packing.{run, packed_behind, packed, xored}
+use Rattle.zero_runs.specs.Unpacking.{expand, unpacked}
 use Rattle.zero_runs.specs.Laws.{before, without_last_zeros}
+use Rattle.zero_runs.proofs.PackingTurns.{full_pairs}
 use Rattle.zero_runs.proofs.UnpackingTurns.{length-xored}
+
+-- at most 256 zeros
+abbrev last_pair : ℕ → List ℕ
+last_pair n = if n == 0 then [] else 0 ∷ (n - 1) ∷ []
+
+pair_some : (n : ℕ) → last_pair (suc n) ≡ 0 ∷ n ∷ []
+pair_some n =
+    let more : (suc n == 0) ≡ false = grind (arith, nat_tests) in
+    let less : suc n - 1 ≡ n = omega arith in
+    rw (more, less) refl
 
 -- a list behind so many zeros
 abbrev behind_zeros : ℕ → Result (List ℕ) RunFault → Result (List ℕ) RunFault
@@ -35,7 +47,7 @@ expand-full_pairs (suc n) m bytes h =
 
 expand-pair : (n : ℕ) (bytes : List ℕ) → expand (last_pair n ++ bytes) ≡ behind_zeros n (expand bytes)
 expand-pair zero bytes = sym (behind_zeros-none (expand bytes))
-expand-pair (suc n) bytes = expand-two n (suc n) bytes (omega arith)
+expand-pair (suc n) bytes = ap (λ (xs : List ℕ). expand (xs ++ bytes)) (pair_some n) ∙ expand-two n (suc n) bytes (omega arith)
 
 expand-run : (n : ℕ) (bytes : List ℕ) → expand (run n ++ bytes) ≡ behind_zeros n (expand bytes)
 unfolding run
@@ -105,7 +117,7 @@ xored-xored (x ∷ xs) old = rw (bit_xor_again x (get_or old 0 0), xored-xored x
 
 -- what was packed over some bytes is unpacked over the same bytes
 pub unpacked-packed : (new old : List ℕ) → unpacked (packed (xored new old)) old (length new) ≡ Ok new
-unfolding unpacked with_last_zeros
+unfolding unpacked
 unpacked-packed new old =
     let few : length (without_last_zeros (xored new old)) ≤ length new = omega (arith, length-without_last_zeros (xored new old), length-xored new old) in
     let test = le-ltb _ _ few in
@@ -119,7 +131,7 @@ length-full_pairs (suc n) = omega (arith, length-full_pairs n)
 
 length-pair : (n : ℕ) → length (last_pair n) ≤ 2 * n
 length-pair zero = omega arith
-length-pair (suc n) = omega arith
+length-pair (suc n) = omega (arith, ap length (pair_some n))
 
 length-run : (n : ℕ) → length (run n) ≤ 2 * n
 unfolding run

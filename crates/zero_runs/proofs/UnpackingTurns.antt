@@ -1,13 +1,13 @@
 -- One turn of each loop that reads packed bytes, and what the parts of unpacking make together.
-use Rattle.std.proofs.Common.{◌≡◌, ◌≢◌, ◌≤◌, ◌+◌, ◌-◌, ℕ, zero, suc, List, [], ◌∷◌, ◌++◌, append_assoc, length, take, drop, min, get_or, replicate, Result, Ok, Err, IsOk, refl, sym, ap, ◌∙◌, inl, inr, arith, length-append}
+use Rattle.std.proofs.Common.{◌≡◌, ◌≢◌, ◌≤◌, ◌+◌, ◌-◌, nat_lt, if◌then◌else◌, ℕ, zero, suc, List, [], ◌∷◌, ◌++◌, append_assoc, length, take, drop, min, get_or, replicate, Result, Ok, Err, IsOk, refl, sym, ap, ◌∙◌, inl, inr, arith, length-append}
 use Rattle.std.proofs.lemmas.List.{append-nil, take-append-drop, length-replicate, drop-drop, get_or-drop, take_min, drop_all, length-take}
 use Rattle.std.proofs.lemmas.Bool.{le-ltb, lt-ltb, cases_lt}
 use Rattle.std.specs.Int.Bits.{bit_xor, xor_zero_l}
 use Rattle.gx_words.specs.Results.{◌>>=◌}
 use Rattle.zero_runs.specs.declared.faults.RunFault.{RunFault}
-use Rattle.zero_runs.specs.declared.faults.RunFault.TheVariants.{Cut}
+use Rattle.zero_runs.specs.declared.faults.RunFault.TheVariants.{Cut, TooMany}
 use Rattle.zero_runs.specs.Packing.{xored}
-use Rattle.zero_runs.specs.Unpacking.{expand, with_last_zeros, unpacked}
+use Rattle.zero_runs.specs.Unpacking.{expand, unpacked}
 use Rattle.zero_runs.specs.Laws.{expanded_len, unpacked_onto}
 use Rattle.zero_runs.proofs.PackingTurns.{front_added}
 
@@ -142,16 +142,19 @@ all_counted n rest t none whole = sym whole ∙ ap (counted n) (expand_end rest 
 
 -- what is in front stays there through two turns
 pub front_chained : (xs ys zs : List ℕ) → take (length xs) ys ≡ xs → take (length ys) zs ≡ ys → take (length xs) zs ≡ xs
-front_chained xs ys zs first then =
-    let split : zs ≡ ys ++ drop (length ys) zs = sym (take-append-drop (length ys) zs) ∙ ap (λ (front : List ℕ). front ++ drop (length ys) zs) then in
+front_chained xs ys zs first second =
+    let split : zs ≡ ys ++ drop (length ys) zs = sym (take-append-drop (length ys) zs) ∙ ap (λ (front : List ℕ). front ++ drop (length ys) zs) second in
     ap (take (length xs)) split ∙ front_added xs ys (drop (length ys) zs) first
+
+-- what was expanded with the zeros that are missing, over the old bytes
+abbrev filled : List ℕ → List ℕ → ℕ → Result (List ℕ) RunFault
+filled xs old size = if nat_lt size (length xs) then Err TooMany else Ok (xored (xs ++ replicate (size - length xs) 0) old)
 
 -- the parts of unpacking onto a list: what was expanded, and the old bytes that are left
 abbrev onto_by : Result (List ℕ) RunFault → List ℕ → List ℕ → ℕ → Result (List ℕ) RunFault
-onto_by r out old size = (r >>= (λ xs. with_last_zeros size xs >>= (λ ys. Ok (xored ys (drop (length out) old))))) >>= (λ added. Ok (out ++ added))
+onto_by r out old size = (r >>= (λ xs. filled xs (drop (length out) old) size)) >>= (λ added. Ok (out ++ added))
 
 few_onto : (out old xs : List ℕ) (size : ℕ) → IsOk (onto_by (Ok xs) out old size) → length xs ≤ size
-unfolding with_last_zeros
 few_onto out old xs size fine =
     elim (cases_lt size (length xs)) [
       | inl more ↦ let test = lt-ltb _ _ more in let h = rw test at fine in absurd cc
@@ -159,7 +162,6 @@ few_onto out old xs size fine =
     ]
 
 filled_onto : (out old xs : List ℕ) (size : ℕ) → length xs ≤ size → onto_by (Ok xs) out old size ≡ Ok (out ++ xored (xs ++ replicate (size - length xs) 0) (drop (length out) old))
-unfolding with_last_zeros
 filled_onto out old xs size few = let test = le-ltb _ _ few in rw test refl
 
 length-behind : (out old xs mid : List ℕ) → behind out old (Ok xs) ≡ Ok mid → length mid ≡ length out + length xs
@@ -225,8 +227,7 @@ behind_none (Err e) = refl
 pub onto_nothing : (packed old : List ℕ) (size : ℕ) → unpacked_onto [] packed old size ≡ unpacked packed old size
 onto_nothing packed old size = behind_none (unpacked packed old size)
 
-accepted : (r : Result (List ℕ) RunFault) (old : List ℕ) (n size : ℕ) → (r >>= λ xs. Ok (length xs)) ≡ Ok n → n ≤ size → IsOk (r >>= λ xs. with_last_zeros size xs >>= λ ys. Ok (xored ys old))
-unfolding with_last_zeros
+accepted : (r : Result (List ℕ) RunFault) (old : List ℕ) (n size : ℕ) → (r >>= λ xs. Ok (length xs)) ≡ Ok n → n ≤ size → IsOk (r >>= λ xs. filled xs old size)
 accepted (Ok xs) old n size len few =
     let f : length xs ≡ n = cc in
     let le : length xs ≤ size = omega arith in
@@ -239,8 +240,7 @@ pub IsOk-unpacked : (bytes old : List ℕ) (n size : ℕ) → expanded_len bytes
 unfolding unpacked
 IsOk-unpacked bytes old n size len few = accepted (expand bytes) old n size len few
 
-length-unpacked-parts : (r : Result (List ℕ) RunFault) (old all : List ℕ) (size : ℕ) → (r >>= λ xs. with_last_zeros size xs >>= λ ys. Ok (xored ys old)) ≡ Ok all → length all ≡ size
-unfolding with_last_zeros
+length-unpacked-parts : (r : Result (List ℕ) RunFault) (old all : List ℕ) (size : ℕ) → (r >>= λ xs. filled xs old size) ≡ Ok all → length all ≡ size
 length-unpacked-parts (Ok xs) old all size is =
     elim (cases_lt size (length xs)) [
       | inl more ↦ let test = lt-ltb _ _ more in let h = rw test at is in absurd cc
@@ -283,5 +283,5 @@ pub ruleset unpacked_parts = (IsOk-unpacked)
 
 -- the definitions that a check of packed bytes opens
 unfoldable pub opened : Unit {0}
-unfolding unpacked with_last_zeros
+unfolding unpacked
 opened = tt

@@ -13,13 +13,8 @@ expand (zero ∷ []) = Err Cut
 expand (zero ∷ more ∷ bytes) = expand bytes >>= λ xs. Ok (replicate (more + 1) 0 ++ xs)
 expand (suc x ∷ bytes) = expand bytes >>= λ xs. Ok (suc x ∷ xs)
 
--- a list with zeros at its end, up to a size
-unfoldable pub with_last_zeros : ℕ → List ℕ → Result (List ℕ) RunFault
-with_last_zeros size xs = if nat_lt size (length xs) then Err TooMany else Ok (xs ++ replicate (size - length xs) 0)
-
--- so many bytes that packed bytes stand for over the old ones
+-- so many bytes that packed bytes stand for over the old ones: zeros that are missing at the end count
 unfoldable pub unpacked : List ℕ → List ℕ → ℕ → Result (List ℕ) RunFault
 unpacked bytes old size = do
   xs ← expand bytes
-  all ← with_last_zeros size xs
-  Ok (xored all old)
+  if nat_lt size (length xs) then Err TooMany else Ok (xored (xs ++ replicate (size - length xs) 0) old)

@@ -1,8 +1,8 @@
 -- A call by what was found: no row, a look that is refused, a call on the object 0, or what the row does.
 use Rattle.std.proofs.Common.{◌≡◌, ◌∙◌, true, false, IsTrue, Ok, sym}
 use Rattle.std.proofs.lemmas.Result.{err_from_is_err_and}
-use Rattle.glk_dispatch.specs.Table.{row_for}
-use Rattle.glk_dispatch.specs.Calls.{looked_at, is_on_none, nothing, gives_nothing, dropping}
+use Rattle.glk_dispatch.specs.Table.{row_for, is_dropped}
+use Rattle.glk_dispatch.specs.Calls.{looked_at, is_on_none, nothing, gives_nothing}
 use Rattle.glk_dispatch.specs.Ready.{done_by, wants_by, call_on, wants_on}
 use Rattle.glk_dispatch.proofs.Ready.{ready_row, words_few}
 use Rattle.glk_dispatch.proofs.Turning.{makes_turn, turn_fits, dropped_turns, look_refused}
@@ -11,7 +11,7 @@ use Rattle.glk_dispatch.proofs.calls.call_found.Goals as goal
 pub returns-in_default-clause-value : goal.returns-in_default-clause-value
 returns-in_default-clause-value g c =
     rw (c.in_default.is, c.answer_turn.ensures)
-    (dropped_turns (IsTrue false) c.call_dropped.result c.args.world.now (dropping c.args.selector)
+    (dropped_turns (IsTrue false) c.call_dropped.result c.args.world.now (is_dropped c.args.selector)
     c.call_dropped.ensures.value)
 
 pub returns-in_default-clause-fits : goal.returns-in_default-clause-fits

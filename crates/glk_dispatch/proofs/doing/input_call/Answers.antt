@@ -25,7 +25,7 @@ pub returns-in-144-clause-value : goal.returns-in-144-clause-value
 unfolding text_calls
 returns-in-144-clause-value g c = rw c.in-144.is
     (never_wants c.get_char.result c.args.world.now c.get_char.new.world
-    (get_char c.args.world.now.scene c.args.state.now.flat 1 c.args.args.now)
+    (get_char 1 c.args.world.now.scene c.args.state.now.flat c.args.args.now)
     c.get_char.ensures.value)
 
 pub returns-in-160-clause-value : goal.returns-in-160-clause-value

@@ -26,7 +26,7 @@ pub returns-in-304-clause-value : goal.returns-in-304-clause-value
 unfolding unicode_calls
 returns-in-304-clause-value g c = rw c.in-304.is
     (never_wants c.get_char.result c.args.world.now c.get_char.new.world
-    (get_char c.args.world.now.scene c.args.state.now.flat 4 c.args.args.now)
+    (get_char 4 c.args.world.now.scene c.args.state.now.flat c.args.args.now)
     c.get_char.ensures.value)
 
 pub returns-in-305-clause-value : goal.returns-in-305-clause-value

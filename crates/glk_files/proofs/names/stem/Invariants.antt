@@ -1,6 +1,7 @@
 use Rattle.std.proofs.Common.{◌≡◌, ◌++◌, drop}
 use Rattle.std.specs.Str.{encode_utf8_all}
-use Rattle.glk_files.specs.Names.{stem_within, stem_of}
+use Rattle.glk_files.specs.Names.{stem_of}
+use Rattle.glk_files.proofs.Stem.{stem_within}
 use Rattle.glk_files.proofs.names.stem.Given as goal
 
 abbrev pub invariant-loop-v : goal.invariant-loop-v

@@ -1,6 +1,6 @@
 use Rattle.std.proofs.Common.{◌≡◌, ◌<◌, ◌⊎◌, true, rules}
 use Rattle.std.proofs.lemmas.Result.{err_from_is_err_and}
-use Rattle.glk_text_calls.specs.Input.{ending_len}
+use Rattle.glk_text_calls.proofs.Reading.{ending_len}
 use Rattle.glk_text_calls.proofs.Gets.{same_buffer, some_kept, some_places, get_unread, get_refused, get_wanted, get_done}
 use Rattle.glk_text_calls.proofs.input.get_chars.Goals as goal
 

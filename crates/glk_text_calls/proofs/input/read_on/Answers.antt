@@ -1,8 +1,7 @@
 use Rattle.std.proofs.Common.{◌≡◌, sym, true, rules, Some, None, Ok}
 use Rattle.std.proofs.lemmas.Result.{err_from_is_err_and}
 use Rattle.glk_streams.specs.Streams as streams
-use Rattle.glk_text_calls.specs.Input.{next_char, ends_line}
-use Rattle.glk_text_calls.proofs.Reading.{counted_all, counted_none, kept_none, counted_stop, kept_stop, reads_fail}
+use Rattle.glk_text_calls.proofs.Reading.{next_char, ends_line, counted_all, counted_none, kept_none, counted_stop, kept_stop, reads_fail}
 use Rattle.glk_text_calls.proofs.input.read_on.Goals as goal
 
 pub returns-in_err-c-clause-value : goal.returns-in_err-c-clause-value

@@ -3,8 +3,7 @@ use Rattle.gx_play.specs.Constants.{most_text}
 use Rattle.gx_session.specs.Devices.{Devices}
 use Rattle.gx_session.proofs.Calling.{called-none, called-as}
 use Rattle.gx_play.specs.declared.command.Job.TheVariants.{Asm}
-use Rattle.gx_play.specs.Outcomes.{text_in_file}
-use Rattle.gx_play.proofs.Outcomes.{outcome_of_text}
+use Rattle.gx_play.proofs.Outcomes.{text_in_file, outcome_of_text}
 use Rattle.gx_play.specs.Reading.{command_seen}
 use Rattle.gx_play.proofs.Dones.{refused-done, asm-told}
 use Rattle.gx_play.proofs.assembling.assemble_file.Goals as goal

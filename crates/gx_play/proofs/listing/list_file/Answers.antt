@@ -3,8 +3,7 @@ use Rattle.gx_words.specs.Constants.{ceiling}
 use Rattle.gx_session.specs.Devices.{Devices}
 use Rattle.gx_session.proofs.Calling.{called-none, called-as}
 use Rattle.gx_play.specs.declared.command.Job.TheVariants.{List as Listing}
-use Rattle.gx_play.specs.Outcomes.{story_in_file}
-use Rattle.gx_play.proofs.Outcomes.{outcome_of_list}
+use Rattle.gx_play.proofs.Outcomes.{story_in_file, outcome_of_list}
 use Rattle.gx_play.specs.Reading.{command_seen}
 use Rattle.gx_play.proofs.Dones.{refused-done, list-told}
 use Rattle.gx_play.proofs.listing.list_file.Goals as goal

@@ -3,8 +3,8 @@ use Rattle.std.proofs.lemmas.Result.{err_from_is_err_and}
 use Rattle.gx_outside.specs.Shelves.{loads, loaded}
 use Rattle.gx_outside.specs.declared.devices.Load.TheVariants.{Missing, TooLong, Found}
 use Rattle.gx_words.specs.Constants.{ceiling}
-use Rattle.gx_play.specs.Outcomes.{story_in_file}
 use Rattle.gx_session.proofs.Calling.{called-one}
+use Rattle.gx_play.proofs.Outcomes.{story_in_file}
 use Rattle.gx_play.proofs.Loads.{loads-refused, loads-missing, loads-long-story, loads-story, loads-no-story}
 use Rattle.gx_play.proofs.loading.load_story.Goals as goal
 

@@ -2,8 +2,8 @@ use Rattle.std.proofs.Common.{Ok, Err, refl}
 use Rattle.std.proofs.lemmas.Result.{err_from_is_err_and}
 use Rattle.gx_outside.specs.Shelves.{loads, loaded}
 use Rattle.gx_outside.specs.declared.devices.Load.TheVariants.{Missing, TooLong, Found}
+use Rattle.gx_play.proofs.Outcomes.{text_in_file}
 use Rattle.gx_play.specs.Constants.{most_text}
-use Rattle.gx_play.specs.Outcomes.{text_in_file}
 use Rattle.gx_session.proofs.Calling.{called-one}
 use Rattle.gx_play.proofs.Loads.{loads-refused, loads-missing, loads-long-text, loads-text}
 use Rattle.gx_play.proofs.loading.load_text.Goals as goal

@@ -10,8 +10,7 @@ use Rattle.gx_play.specs.declared.command.Job.TheVariants.{Play}
 use Rattle.gx_play.specs.declared.loading.Refusal.{Refusal}
 use Rattle.gx_play.specs.declared.loading.Refusal.TheVariants as refusal
 use Rattle.gx_play.specs.Commands.{Command}
-use Rattle.gx_play.specs.Outcomes.{story_in_file}
-use Rattle.gx_play.proofs.Outcomes.{outcome_of_story}
+use Rattle.gx_play.proofs.Outcomes.{story_in_file, outcome_of_story}
 use Rattle.gx_play.specs.FirstLoad.{LoadsFirst}
 use Rattle.gx_play.specs.Statuses.{PlaysStory}
 use Rattle.gx_play.specs.Reading.{command_seen}

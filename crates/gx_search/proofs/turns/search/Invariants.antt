@@ -1,7 +1,6 @@
 -- the search passes all structs so far
 use Rattle.std.proofs.Common.{◌≡◌, ◌≤◌, ◌-◌, Ok}
-use Rattle.gx_search.specs.Searches.{address_of}
-use Rattle.gx_search.specs.Finding.{ArePassed}
+use Rattle.gx_search.specs.Finding.{address_of, ArePassed}
 use Rattle.gx_search.proofs.turns.search.Given as goal
 
 abbrev pub invariant-loop-layout : goal.invariant-loop-layout

@@ -5,7 +5,7 @@ use Rattle.std.specs.List.{filter_map}
 use Rattle.std.specs.Option.{option_to_list}
 use Rattle.gx_outside.specs.Shelves.{Trace}
 use Rattle.gx_session.specs.Devices.{Devices}
-use Rattle.gx_session.specs.Endings.{Store, store_call}
+use Rattle.gx_session.specs.Endings.{store_call}
 use Rattle.gx_session.specs.Finishing.{StoredSome}
 use Rattle.gx_session.proofs.Parts.{named_bytes}
 use Rattle.gx_session.proofs.Calling.{called-none, called-on, called-as}
@@ -30,16 +30,16 @@ returns-in_err-store_file-clause-stores g c =
     let ids : List ℕ = c.as_slice-id-items.result.now in
     let i : ℕ = c.loop-id.id-index in
     let scene = c.args.world.now.scene in
-    let front : List Store = filter_map (named_bytes scene) (take i ids) in
-    let other : List Store = option_to_list (named_bytes scene (get_or ids i 0)) in
-    let rest : List Store = filter_map (named_bytes scene) (drop (i + 1) ids) in
+    let front : List (List ℕ × List ℕ) = filter_map (named_bytes scene) (take i ids) in
+    let other : List (List ℕ × List ℕ) = option_to_list (named_bytes scene (get_or ids i 0)) in
+    let rest : List (List ℕ × List ℕ) = filter_map (named_bytes scene) (drop (i + 1) ids) in
     let why = c.in_err-store_file.field-0.0 in
     rw (p.1, p.2)
     (called-on g.F.Shelf.called c.args.shelf.now c.loop-id.shelf c.store_file.new.shelf _ _ _ c.loop-id.invariant.stored c.in_err-store_file.ensures.stores
     (λ one two before refused.
     inr
     (subst (λ (x : List ℕ). StoredSome (filter_map (named_bytes scene) x) (one ++ two) why) (c.as_slice-id-items.ensures ∙ c.in_ok-ids.ensures.value)
-    (subst (λ (x : List Store). StoredSome x (one ++ two) why) (sym (stores-all scene ids i c.loop-id-test.true)) (stopped-more front other one two why before refused rest)))))
+    (subst (λ (x : List (List ℕ × List ℕ)). StoredSome x (one ++ two) why) (sym (stores-all scene ids i c.loop-id-test.true)) (stopped-more front other one two why before refused rest)))))
 
 pub returns-in_err-store_file-clause-keeps : goal.returns-in_err-store_file-clause-keeps
 returns-in_err-store_file-clause-keeps g c d =
@@ -54,8 +54,8 @@ loop-id-preserved g c =
     let ids : List ℕ = c.as_slice-id-items.result.now in
     let i : ℕ = c.loop-id.id-index in
     let scene = c.args.world.now.scene in
-    let front : List Store = filter_map (named_bytes scene) (take i ids) in
-    let other : List Store = option_to_list (named_bytes scene (get_or ids i 0)) in
+    let front : List (List ℕ × List ℕ) = filter_map (named_bytes scene) (take i ids) in
+    let other : List (List ℕ × List ℕ) = option_to_list (named_bytes scene (get_or ids i 0)) in
     let before : Devices → Devices = λ d. record d { shelf = g.F.Shelf.seen c.args.shelf.now } in
     let mid : Devices → Devices = λ d. record d { shelf = g.F.Shelf.seen c.loop-id.shelf } in
     let now : Devices → Devices = λ d. record d { shelf = g.F.Shelf.seen c.store_file.new.shelf } in

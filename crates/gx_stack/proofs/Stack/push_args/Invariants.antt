@@ -1,5 +1,5 @@
 use Rattle.std.proofs.Common.{◌≡◌, ◌≤◌, ◌+◌, ◌-◌, ◌*◌, ◌++◌, length, drop, vec_len, vec_capacity}
-use Rattle.gx_stack.specs.Frames.{topmost_first}
+use Rattle.gx_stack.proofs.Turns.{topmost_first}
 use Rattle.gx_stack.proofs.Stack.push_args.Given as goal
 
 -- the last arguments are pushed, the last of all deepest

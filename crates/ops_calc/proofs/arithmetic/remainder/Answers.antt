@@ -1,11 +1,12 @@
 use Rattle.std.proofs.Common.{◌≡◌, rules, false}
 use Rattle.std.specs.Prelude.{int_rem}
-use Rattle.ops_calc.specs.Arithmetic.{has_no_quotient, signed, word_of}
+use Rattle.std.specs.Int.{w32, cast_unsigned}
+use Rattle.ops_calc.specs.Arithmetic.{has_no_quotient, signed}
 use Rattle.ops_calc.proofs.Dividing.{remainder_law}
 use Rattle.ops_calc.proofs.arithmetic.remainder.Goals as goal
 
 pub returns-clause-law : goal.returns-clause-law
 returns-clause-law c =
     let test : has_no_quotient c.args.a c.args.b ≡ false = search rules in
-    let is : c.cast_unsigned.result ≡ word_of (int_rem (signed c.args.a) (signed c.args.b)) = search rules in
+    let is : c.cast_unsigned.result ≡ cast_unsigned w32 (int_rem (signed c.args.a) (signed c.args.b)) = search rules in
     remainder_law c.args.a c.args.b c.cast_unsigned.result (search rules) (search rules) test is

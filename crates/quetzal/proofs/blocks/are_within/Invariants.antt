@@ -1,6 +1,7 @@
 use Rattle.std.proofs.Common.{◌≡◌, ◌+◌, ◌-◌, ◌*◌}
 use Rattle.std.specs.List.{list_all}
-use Rattle.quetzal.specs.Blocks.{blocks_from, is_block}
+use Rattle.quetzal.specs.Blocks.{blocks_from}
+use Rattle.quetzal.specs.Laws.{is_block}
 use Rattle.quetzal.proofs.blocks.are_within.Given as goal
 
 abbrev pub invariant-loop-index : goal.invariant-loop-index

@@ -1,5 +1,5 @@
 use Rattle.std.proofs.Common.{◌≡◌, ◌<◌, ◌^◌, drop}
-use Rattle.quetzal.specs.Laws.{rises}
+use Rattle.quetzal.specs.Blocks.{rises}
 use Rattle.quetzal.proofs.blocks.rises.Given as goal
 
 abbrev pub invariant-loop-block : goal.invariant-loop-block

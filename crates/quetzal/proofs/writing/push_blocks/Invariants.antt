@@ -1,6 +1,6 @@
 use Rattle.std.proofs.Common.{◌≡◌, ◌++◌, take}
 use Rattle.std.specs.List.{flat_map}
-use Rattle.quetzal.specs.Blocks.{bytes_of_block}
+use Rattle.quetzal.proofs.ReadingBack.{bytes_of_block}
 use Rattle.quetzal.proofs.writing.push_blocks.Given as goal
 
 abbrev pub invariant-loop-block : goal.invariant-loop-block

@@ -3,7 +3,8 @@ use Rattle.std.proofs.lemmas.List.{get_or_append_left}
 use Rattle.std.proofs.lemmas.List.Sums.{fails_before_first}
 use Rattle.std.proofs.lemmas.Result.{err_from_is_err_and}
 use Rattle.gx_session.specs.Constants.{piece}
-use Rattle.gx_session.specs.Input.{is_line_feed, chars_of}
+use Rattle.gx_session.specs.Input.{is_line_feed}
+use Rattle.gx_session.specs.Lines.{chars_of}
 use Rattle.gx_session.specs.Lines.{HeldLines}
 use Rattle.gx_session.proofs.Counting.{blames-call, well-none, well-on}
 use Rattle.gx_session.proofs.Feeding.{too-long, few-held, takes-held, takes-rest, fails, fails-few, grows, grows-by, read-first}

@@ -1,5 +1,5 @@
 use Rattle.gx_state.proofs.Pairs.{AreRead}
-use Rattle.gx_state.proofs.formats.pairs_end.Given as goal
+use Rattle.gx_state.proofs.formats.format_end.Given as goal
 
 -- the pairs so far are those of the format, and there may be so many more
 abbrev pub invariant-pairs : goal.invariant-pairs

@@ -1,7 +1,6 @@
-use Rattle.std.proofs.Common.{◌≡◌, ◌+◌, ◌≤◌, true, length, arith}
-use Rattle.gx_state.specs.Entry.{is_type}
+use Rattle.std.proofs.Common.{◌≡◌, ◌+◌, ◌≤◌, ◌==◌, ◌||◌, true, length, arith}
 use Rattle.gx_state.proofs.Pairs.{end_past, end_cut, end_format, one_read, reads_fault}
-use Rattle.gx_state.proofs.formats.pairs_end.Goals as goal
+use Rattle.gx_state.proofs.formats.format_end.Goals as goal
 
 pub returns-in_err-width-clause-value : goal.returns-in_err-width-clause-value
 returns-in_err-width-clause-value g c =
@@ -21,5 +20,5 @@ returns-then-width-eq0-clause-format g c =
 pub pairs-preserved : goal.pairs-preserved
 pairs-preserved g c =
     let there : c.pairs.here + 2 ≤ length (g.M.Readable.bytes c.args.memory.now) = omega (arith, c.in_ok-_count.ensures.there) in
-    let known : is_type c.in_ok-width.width ≡ true = grind arith in
+    let known : (c.in_ok-width.width == 1 || c.in_ok-width.width == 2 || c.in_ok-width.width == 4) ≡ true = grind arith in
     one_read _ _ _ _ _ _ c.pairs.invariant c.in_ok-width.ensures.value c.in_ok-_count.ensures.value known (omega arith) there

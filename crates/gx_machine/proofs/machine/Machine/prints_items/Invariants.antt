@@ -1,7 +1,7 @@
 -- the steps so far went on and asked nothing
 use Rattle.std.proofs.Common.{◌≡◌, ◌≤◌, ℕ, None}
 use Rattle.gx_machine.specs.Advancing.{Passes}
-use Rattle.gx_machine.proofs.machine.Machine.prints_apart.Given as goal
+use Rattle.gx_machine.proofs.machine.Machine.prints_items.Given as goal
 
 abbrev pub invariant-loop : goal.invariant-loop
 invariant-loop g l = record {
