@@ -498,7 +498,7 @@ char_event_takes w wide args may = asks_takes w _ may
 pub cancel_takes : (w : Scene) (f : FlatState) (room : ℕ) (args : List ℕ) → (arg args 1 == 0) ≡ false
     → Takes w (events.cancel_line_event w f room args)
 unfolding events.cancel_line_event
-cancel_takes w f room args some = elim (events.asks true (requests.of w.requests (arg args 0))) as (λ b. Takes w
+cancel_takes w f room args some = elim (events.is_for true (requests.of w.requests (arg args 0))) as (λ b. Takes w
     (give f room 0 (arg args 1) (if b then events.event line_event_type (arg args 0) 0 else events.no_event)
     >>= λ reply. answered (if b then events.without_request w (arg args 0) else w) reply)) [
       | true ↦ gives_one w (events.without_request w (arg args 0)) f room 0 (arg args 1) _ _ some

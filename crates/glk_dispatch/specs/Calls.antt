@@ -38,10 +38,8 @@ abbrev pub named : Scene → Class → ℕ → Result (Unit {0}) Fault
 named w class id = if id == 0 || has_object w class id then Ok tt else Err BadGlk
 
 unfoldable pub looked_at : Scene → Selector → List ℕ → Result (Unit {0}) Fault
-looked_at w row args =
-    if nat_lt (length args) row.arguments then Err BadGlk else (do
-      first ← named w row.first (arg args 0)
-      named w row.other (arg args row.other_place))
+looked_at w row args = if nat_lt (length args) row.arguments then Err BadGlk else
+    named w row.first (arg args 0) >>= λ first. named w row.other (arg args row.other_place)
 
 -- a call on the object 0
 abbrev pub is_on_none : Selector → List ℕ → Bool
@@ -49,8 +47,7 @@ is_on_none row args = row.needs_first && arg args 0 == 0
 
 -- It does nothing, and gives 0 to its references: to one for all its words, or to some of one word each.
 unfoldable pub nothing : Scene → FlatState → ℕ → Selector → List ℕ → Outcome Reply
-nothing w f room row args =
-    if row.references == 0 then tells w 0 else
+nothing w f room row args = if row.references == 0 then tells w 0 else
     replying w (if row.references == 1 then give f room 0 (arg args 1) (replicate row.words 0) else
     if row.references == 2 then give_each f room 0 (arg args 1 ∷ arg args 2 ∷ []) (0 ∷ 0 ∷ []) else
     give_each f room 0 (arg args 1 ∷ arg args 2 ∷ arg args 3 ∷ []) (0 ∷ 0 ∷ 0 ∷ []))
@@ -68,29 +65,26 @@ done (turns call) w f room args = call w f room args
 
 -- THE CALL of a selector, by its row; where there is none, arguments are dropped, or there is no such call.
 unfoldable pub glk_call : Scene → FlatState → ℕ → ℕ → List ℕ → Outcome Turn
-glk_call w f room selector args =
-    elim (row_for selector) [
-      | None ↦ if is_dropped selector then as_turn (tells w 0) else Err BadGlk
-      | Some row ↦ do
-        there ← looked_at w row.looks args
-        if is_on_none row.looks args then as_turn (nothing w f room row.looks args) else done row.does w f room args
-    ]
+glk_call w f room selector args = elim (row_for selector) [
+  | None ↦ if is_dropped selector then as_turn (tells w 0) else Err BadGlk
+  | Some row ↦ do
+    there ← looked_at w row.looks args
+    if is_on_none row.looks args then as_turn (nothing w f room row.looks args) else done row.does w f room args
+]
 
 -- ---- where it may want memory
 
 -- a call that does nothing gives to a reference
 abbrev pub gives_nothing : Selector → List ℕ → Bool
-gives_nothing row args =
-    (nat_le 1 row.references && not (arg args 1 == 0)) || (nat_le 2 row.references && not (arg args 2 == 0))
-    || (nat_le 3 row.references && not (arg args 3 == 0))
+gives_nothing row args = (nat_le 1 row.references && not (arg args 1 == 0))
+    || (nat_le 2 row.references && not (arg args 2 == 0)) || (nat_le 3 row.references && not (arg args 3 == 0))
 
 -- the call of a selector that may want memory: one that adds text, writes, pushes, names a file or makes an object
 unfoldable pub grows : Scene → FlatState → ℕ → List ℕ → Bool
-grows w f selector args =
-    elim (row_for selector) [
-      | None ↦ false
-      | Some row ↦ if is_on_none row.looks args then gives_nothing row.looks args else row.wants w f args
-    ]
+grows w f selector args = elim (row_for selector) [
+  | None ↦ false
+  | Some row ↦ if is_on_none row.looks args then gives_nothing row.looks args else row.wants w f args
+]
 
 abbrev pub IsGrowing : Scene → FlatState → ℕ → List ℕ → Type 0
 IsGrowing w f selector args = grows w f selector args ≡ true

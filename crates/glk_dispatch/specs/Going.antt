@@ -18,9 +18,8 @@ use Rattle.glk_event_calls.specs.Events.{select_goes_on, select_goes_on_grow}
 -- with a line for the call that waits for an event, or for a prompt; with a file that was loaded, stored, or removed or
 -- looked for
 abbrev pub resumed : Scene → FlatState → ℕ → WaitingCall → Given → Outcome Reply
-resumed w f room call (given.Line line) =
-    if call.selector == texts.select then select_goes_on w f room call.arguments line
-    else prompt_goes_on w call.arguments line
+resumed w f room call (given.Line line) = if call.selector == texts.select
+    then select_goes_on w f room call.arguments line else prompt_goes_on w call.arguments line
 resumed w f room call (given.Loaded load) = open_goes_on w call.selector call.arguments load
 resumed w f room call given.Stored = close w f room call.arguments
 resumed w f room call (given.Was was) =
@@ -37,9 +36,8 @@ glk_go_on w f room g = go_by w.waiting w f room g
 -- ---- where memory may be wanted
 
 abbrev pub resumed_grow : Scene → FlatState → WaitingCall → Given → Bool
-resumed_grow w f call (given.Line line) =
-    if call.selector == texts.select then select_goes_on_grow w f call.arguments line
-    else not (length line == 0) && is_identifier w.next_id
+resumed_grow w f call (given.Line line) = if call.selector == texts.select
+    then select_goes_on_grow w f call.arguments line else not (length line == 0) && is_identifier w.next_id
 resumed_grow w f call (given.Loaded load) = open_goes_on_grow w call.arguments load
 resumed_grow w f call given.Stored = not (arg call.arguments 1 == 0)
 resumed_grow w f call (given.Was was) = false

@@ -32,20 +32,18 @@ pub record Row : Type 0 where
 -- ---- what it needs
 
 abbrev pub row_with : ℕ → ℕ → Doing → Row
-row_with number arguments does = record {
-  looks = record {
-    number = number;
-    arguments = arguments;
-    first = Plain;
-    needs_first = false;
-    other = Plain;
-    other_place = 0;
-    references = 0;
-    words = 0;
-  };
-  does = does;
-  wants = λ w f args. false;
-}
+row_with number arguments does =
+    let looks : Selector = record {
+      number = number;
+      arguments = arguments;
+      first = Plain;
+      needs_first = false;
+      other = Plain;
+      other_place = 0;
+      references = 0;
+      words = 0;
+    } in
+    record { looks = looks; does = does; wants = λ w f args. false }
 
 abbrev pub on : Class → Row → Row
 on class r = record r { looks = record r.looks { first = class; needs_first = true } }

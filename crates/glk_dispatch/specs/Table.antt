@@ -19,8 +19,7 @@ row_for number = row_in call_table number
 
 -- what isn't done: images, sound, hyperlinks, the clock and others; all arguments drop, and the answer is 0
 abbrev pub is_dropped : ℕ → Bool
-is_dropped number =
-    number == 0x02 || number == 0x49 || is_in_range 0xD4 0xD6 number || is_in_range 0xE0 0x103 number
+is_dropped number = number == 0x02 || number == 0x49 || is_in_range 0xD4 0xD6 number || is_in_range 0xE0 0x103 number
     || is_in_range 0x123 0x124 number || number == 0x13A || number == 0x151 || is_in_range 0x160 0x16F number
 
 -- a row has at most three references of four words at most

@@ -51,9 +51,9 @@ unfoldable pub request_char_event : Bool → Scene → List ℕ → Outcome Repl
 request_char_event wide w args = requested w (record { win = arg args 0; line = false; wide = wide; buf = 0; max = 0 })
 
 -- a window waits for a line, or else for a character
-abbrev pub asks : Bool → Option Request → Bool
-asks line None = false
-asks line (Some r) = if line then r.line else not r.line
+abbrev pub is_for : Bool → Option Request → Bool
+is_for line None = false
+is_for line (Some r) = if line then r.line else not r.line
 
 -- the request of a window is dropped
 abbrev pub without_request : Scene → ℕ → Scene
@@ -61,30 +61,25 @@ without_request w win = record w { requests = requests.removed w.requests win }
 
 -- cancel_char_event
 unfoldable pub cancel_char_event : Scene → List ℕ → Outcome Reply
-cancel_char_event w args =
-    let cancels = asks false (requests.of w.requests (arg args 0)) in
+cancel_char_event w args = let cancels = is_for false (requests.of w.requests (arg args 0)) in
     answered (if cancels then without_request w (arg args 0) else w) (replies 0)
 
 -- cancel_line_event: gives the event of a line of no characters where one was waited for
 unfoldable pub cancel_line_event : Scene → FlatState → ℕ → List ℕ → Outcome Reply
-cancel_line_event w f room args = do
-  let cancels = asks true (requests.of w.requests (arg args 0))
-  reply ← give f room 0 (arg args 1) (if cancels then event line_event_type (arg args 0) 0 else no_event)
-  answered (if cancels then without_request w (arg args 0) else w) reply
+cancel_line_event w f room args = let cancels = is_for true (requests.of w.requests (arg args 0)) in
+    give f room 0 (arg args 1) (if cancels then event line_event_type (arg args 0) 0 else no_event) >>= λ reply.
+    answered (if cancels then without_request w (arg args 0) else w) reply
 
 -- ---- "Events": polling, and waiting
 
 -- select_poll: no event of those that come between two waits is known
 unfoldable pub select_poll : Scene → FlatState → ℕ → List ℕ → Outcome Reply
-select_poll w f room args = do
-  reply ← give f room 0 (arg args 0) no_event
-  answered w reply
+select_poll w f room args = give f room 0 (arg args 0) no_event >>= λ reply. answered w reply
 
 -- select: the place of the event is looked at; with no request nothing could come, else the call waits
 unfoldable pub select : Scene → FlatState → ℕ → List ℕ → Outcome Turn
-select w f room args = do
-  looked ← give f room 0 (arg args 0) no_event
-  Ok (if is_none (requests.oldest w.requests) then (silent w, Stuck) else (silent (waits w texts.select args), Wait))
+select w f room args = give f room 0 (arg args 0) no_event >>= λ looked.
+    Ok (if is_none (requests.oldest w.requests) then (silent w, Stuck) else (silent (waits w texts.select args), Wait))
 
 -- ---- what a line gives to the request that it meets
 
@@ -109,8 +104,7 @@ echoes w r = r.line && streams.has w.streams (echo_for w r)
 -- what is put to it: the characters as they are in the buffer, where one above FF has no place among bytes, and a
 -- line feed
 abbrev pub echoed : Scene → Request → List ℕ → List ℕ
-echoed w r line =
-    let chars = map (λ c. if r.wide then c else latin_of c) (take (line_length r line) line) in
+echoed w r line = let chars = map (λ c. if r.wide then c else latin_of c) (take (line_length r line) line) in
     if echoes w r then chars ++ line_feed ∷ [] else []
 
 -- the places of memory that they use
@@ -127,17 +121,15 @@ looked_at_line w f room at r line = do
 
 -- what is given: the characters in the buffer, the event, and the characters in memory where the echo stream ends
 abbrev pub line_reply : Scene → ℕ → Request → List ℕ → Reply
-line_reply w at r line =
-    let echo = char_writes (echo_places w r line) (echoed w r line) in
+line_reply w at r line = let echo = char_writes (echo_places w r line) (echoed w r line) in
     let writes = char_writes (line_places r line) line ++ writes_for at (event_of r line) ++ echo in
     record { value = 0; pushes = pushes_for at (event_of r line); writes = writes }
 
 -- a line meets a request, which ends
 unfoldable pub met : Scene → FlatState → ℕ → ℕ → Request → List ℕ → Outcome Reply
-met w f room at r line = do
-  looked ← looked_at_line w f room at r line
-  let said = put_chars w (echo_for w r) (echoed w r line)
-  Ok ((line_taken (without_request said.0 r.win), said.1), line_reply w at r line)
+met w f room at r line = looked_at_line w f room at r line >>= λ looked.
+    let said = put_chars w (echo_for w r) (echoed w r line) in
+    Ok ((line_taken (without_request said.0 r.win), said.1), line_reply w at r line)
 
 -- Memory is wanted for the event, the characters in the buffer, and those that are put to the echo stream.
 unfoldable pub met_grows : Scene → ℕ → Request → List ℕ → Bool

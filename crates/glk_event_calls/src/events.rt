@@ -10,7 +10,7 @@ ghost use Rattle.glk_replies.specs.Turns.{IsTurnFor};
 ghost use Rattle.glk_replies.specs.Parts.{IsCharWidth};
 ghost use Rattle.glk_world.specs.World.{arg, MakesCall};
 ghost use Rattle.glk_event_calls.specs.Events.{event, may_ask, requested, request_line_event, request_char_event};
-ghost use Rattle.glk_event_calls.specs.Events.{asks, cancel_char_event, cancel_line_event, select_poll, select};
+ghost use Rattle.glk_event_calls.specs.Events.{is_for, cancel_char_event, cancel_line_event, select_poll, select};
 ghost use Rattle.glk_event_calls.specs.Events.{event_of, line_places, echo_for, echoes, echoed, echo_places};
 ghost use Rattle.glk_event_calls.specs.Events.{looked_at_line, line_reply, met_grows, met, select_goes_on};
 ghost use Rattle.glk_event_calls.specs.Events.{select_goes_on_grow};
@@ -97,7 +97,7 @@ pub fn request_char_event(world: &mut World, wide: bool, args: &[u32]) -> Result
 
 /// Whether it is a request for a line.
 fn is_line(request: Option<Request>) -> bool
-    ensures { result ≡ asks true request }
+    ensures { result ≡ is_for true request }
 {
     match request {
         None => false,
@@ -107,7 +107,7 @@ fn is_line(request: Option<Request>) -> bool
 
 /// Whether it is a request for a character.
 fn is_char(request: Option<Request>) -> bool
-    ensures { result ≡ asks false request }
+    ensures { result ≡ is_for false request }
 {
     match request {
         None => false,

@@ -34,7 +34,6 @@ has_glyphs args = arg args 0 == gestalt_char_output && not (arg args 2 == 0) && 
 
 -- gestalt_ext: a character has one glyph, printable or not
 unfoldable pub gestalt_ext : Scene → FlatState → List ℕ → Outcome Reply
-gestalt_ext w f args = do
-  let place : Places = record { at = arg args 2; width = 4; count = if has_glyphs args then 1 else 0 }
-  writable ← can_lay f place
-  answered w (reply_filling (gestalt_answer (arg args 0) (arg args 1)) place (1 ∷ []))
+gestalt_ext w f args =
+    let place : Places = record { at = arg args 2; width = 4; count = if has_glyphs args then 1 else 0 } in
+    can_lay f place >>= λ writable. answered w (reply_filling (gestalt_answer (arg args 0) (arg args 1)) place (1 ∷ []))

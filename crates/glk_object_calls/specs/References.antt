@@ -7,11 +7,12 @@ use Rattle.gx_outside.specs.declared.devices.Load.TheVariants as of_load
 use Rattle.gx_state.specs.Flat.{FlatState}
 use Rattle.gx_state.specs.declared.effects.Reply.{Reply}
 use Rattle.glk_files.specs.Names.{base_of, suffix_of}
+use Rattle.glk_objects.specs.Objects as objects
 use Rattle.glk_streams.specs.Constants.{write_mode, read_mode, read_write_mode, write_append_mode}
 use Rattle.glk_streams.specs.declared.kinds.FileForm.{FileForm}
 use Rattle.glk_streams.specs.declared.kinds.FileForm.TheVariants as forms
 use Rattle.glk_streams.specs.declared.kinds.StreamKind.TheVariants as kinds
-use Rattle.glk_world.specs.World.{Scene, silent, has_reference, reference_at, next_reference, Outcome, answered, waits}
+use Rattle.glk_world.specs.World.{Scene, silent, has_reference, reference_at, reference_id, Outcome, answered, waits}
 use Rattle.glk_world.specs.World.{arg}
 use Rattle.glk_world.specs.Calls.{is_identifier, new_id, with_reference, without_reference, with_new_stream}
 use Rattle.glk_world.specs.Shown.{show_prompt, line_taken}
@@ -35,9 +36,8 @@ fileref_create_temp w args = created w (codes "gxtemp" ++ decimal w.next_id) (ar
 
 -- fileref_create_by_name: the name is a string of bytes
 unfoldable pub fileref_create_by_name : Scene → FlatState → List ℕ → Outcome Reply
-fileref_create_by_name w f args = do
-  count ← string_length f 1 (arg args 1)
-  created w (base_of (string_chars f 1 (arg args 1) count)) (arg args 0) (arg args 2)
+fileref_create_by_name w f args = string_length f 1 (arg args 1) >>= λ count.
+    created w (base_of (string_chars f 1 (arg args 1) count)) (arg args 0) (arg args 2)
 
 -- fileref_create_by_prompt: a line is the name
 unfoldable pub fileref_create_by_prompt : Scene → List ℕ → Outcome Turn
@@ -51,17 +51,15 @@ prompt_goes_on w args (c ∷ cs) = created (line_taken w) (base_of (c ∷ cs)) (
 
 -- fileref_create_from_fileref: the same name for another usage; 0 for none
 unfoldable pub fileref_create_from_fileref : Scene → List ℕ → Outcome Reply
-fileref_create_from_fileref w args =
-    if has_reference w (arg args 1) then created w (reference_at w (arg args 1)).base (arg args 0) (arg args 2)
-    else tells w 0
+fileref_create_from_fileref w args = if has_reference w (arg args 1)
+    then created w (reference_at w (arg args 1)).base (arg args 0) (arg args 2) else tells w 0
 
 unfoldable pub fileref_destroy : Scene → List ℕ → Outcome Reply
 fileref_destroy w args = answered (without_reference w (arg args 0)) (replies 0)
 
 -- fileref_iterate ("Opaque Objects"): the next file reference and its rock, zeros at the end
 unfoldable pub fileref_iterate : Scene → FlatState → ℕ → List ℕ → Outcome Reply
-fileref_iterate w f room args =
-    let next = next_reference w (arg args 0) in
+fileref_iterate w f room args = let next = objects.next reference_id w.references (arg args 0) in
     replying w (give f room next (arg args 1) ((reference_at w next).rock ∷ []))
 
 unfoldable pub fileref_get_rock : Scene → List ℕ → Outcome Reply
@@ -85,9 +83,8 @@ fileref_does_file_exist w args =
 
 -- the form of the file's characters: in the Unicode form UTF-8 for a text, else four bytes each
 abbrev pub form_for : ℕ → ℕ → FileForm
-form_for selector usage =
-    if selector == selectors.stream_open_file_uni then (if usage / text_mode % 2 == 1 then forms.Utf8 else forms.Wide)
-    else forms.Latin
+form_for selector usage = if selector == selectors.stream_open_file_uni
+    then (if usage / text_mode % 2 == 1 then forms.Utf8 else forms.Wide) else forms.Latin
 
 -- a stream of a file with this content
 unfoldable pub open_with : Scene → ℕ → List ℕ → List ℕ → Outcome Reply

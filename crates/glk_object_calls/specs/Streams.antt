@@ -6,6 +6,7 @@ use Rattle.std.specs.Prelude.{ℕ, ◌==◌, not, if◌then◌else◌, Bool, Lis
 use Rattle.gx_words.specs.Results.{◌>>=◌}
 use Rattle.gx_state.specs.Flat.{FlatState}
 use Rattle.gx_state.specs.declared.effects.Reply.{Reply}
+use Rattle.glk_objects.specs.Objects as objects
 use Rattle.glk_streams.specs.declared.kinds.Stream.{Stream}
 use Rattle.glk_streams.specs.declared.kinds.StreamKind.{StreamKind}
 use Rattle.glk_streams.specs.declared.kinds.StreamKind.TheVariants as kinds
@@ -27,8 +28,7 @@ stream_of w id = streams.stream w.streams id
 
 -- stream_iterate: the next stream and its rock, zeros at the end
 unfoldable pub stream_iterate : Scene → FlatState → ℕ → List ℕ → Outcome Reply
-stream_iterate w f room args =
-    let next = streams.next w.streams (arg args 0) in
+stream_iterate w f room args = let next = objects.next streams.id_of w.streams (arg args 0) in
     replying w (give f room next (arg args 1) ((stream_of w next).rock ∷ []))
 
 unfoldable pub stream_get_rock : Scene → List ℕ → Outcome Reply
@@ -41,8 +41,7 @@ memory_kind args wide = kinds.Memory (arg args 0) (arg args 1) wide
 
 -- stream_open_memory, stream_open_memory_uni; another mode than writing, reading or both is refused
 unfoldable pub stream_open_memory : Scene → List ℕ → Bool → Outcome Reply
-stream_open_memory w args wide =
-    if not (one.allows_mode (memory_kind args wide) (arg args 2)) then tells w 0 else
+stream_open_memory w args wide = if not (one.allows_mode (memory_kind args wide) (arg args 2)) then tells w 0 else
     answered (with_new_stream w (memory_kind args wide) (arg args 2) (arg args 3)) (replies (new_id w))
 
 -- ---- "Closing Streams"
@@ -64,9 +63,8 @@ stored_file w id = if one.writable (stream_of w id) then streams.file_of w.strea
 -- the file is taken out of its stream, which is closed once the file is stored
 abbrev pub closing_by : Option (List ℕ × List ℕ) → Scene → FlatState → ℕ → List ℕ → Outcome Turn
 closing_by None w f room args = as_turn (close w f room args)
-closing_by (Some file) w f room args = do
-  there ← can_give_pair f room (arg args 1)
-  Ok (silent (waits (without_file w (arg args 0)) selectors.stream_close args), Store file.0 file.1)
+closing_by (Some file) w f room args = can_give_pair f room (arg args 1) >>= λ there.
+    Ok (silent (waits (without_file w (arg args 0)) selectors.stream_close args), Store file.0 file.1)
 
 unfoldable pub stream_close : Scene → FlatState → ℕ → List ℕ → Outcome Turn
 stream_close w f room args = closing_by (stored_file w (arg args 0)) w f room args

@@ -4,12 +4,13 @@
 use Rattle.std.specs.Prelude.{ℕ, ◌==◌, if◌then◌else◌, List, [], ◌∷◌, unwrap_or}
 use Rattle.gx_state.specs.Flat.{FlatState}
 use Rattle.gx_state.specs.declared.effects.Reply.{Reply}
+use Rattle.glk_objects.specs.Objects as objects
 use Rattle.glk_windows.specs.declared.tree.Pair.{Pair}
 use Rattle.glk_windows.specs.declared.entries.Entry.{Entry}
-use Rattle.glk_windows.specs.Windows as all
-use Rattle.glk_windows.specs.Windows.{FlatWindows, window_entry}
+use Rattle.glk_windows.specs.Windows as windows
+use Rattle.glk_windows.specs.Windows.{FlatWindows, entry_id, window_entry}
 use Rattle.glk_world.specs.World.{Scene, Outcome, answered, arg}
-use Rattle.glk_world.specs.Calls.{opened_id, with_window, without_window, with_arrangement, window_cleared}
+use Rattle.glk_world.specs.Calls.{can_open, with_window, without_window, with_arrangement, window_cleared}
 use Rattle.glk_world.specs.Calls.{cursor_moved, with_echo}
 use Rattle.glk_replies.specs.Parts.{replies, give, give_each}
 use Rattle.glk_object_calls.specs.Answers.{tells, replying}
@@ -21,15 +22,14 @@ first_window w args = window_entry w.windows.entries (arg args 0)
 
 -- a pair window; other windows are none, with zeros
 abbrev pub pair_at : FlatWindows → ℕ → Pair
-pair_at f win = unwrap_or (all.window_pair f win) (record { first = 0; second = 0; method = 0; size = 0; key = 0 })
+pair_at f win = unwrap_or (windows.window_pair f win) (record { first = 0; second = 0; method = 0; size = 0; key = 0 })
 
 -- ---- "Window Opening, Closing, and Constraints"
 
 -- window_open: 0 where it isn't opened
 unfoldable pub window_open : Scene → List ℕ → Outcome Reply
-window_open w args =
-    answered (with_window w (arg args 0) (arg args 1) (arg args 2) (arg args 3) (arg args 4))
-    (replies (opened_id w (arg args 0) (arg args 1) (arg args 3)))
+window_open w args = answered (with_window w (arg args 0) (arg args 1) (arg args 2) (arg args 3) (arg args 4))
+    (replies (if can_open w (arg args 0) (arg args 1) (arg args 3) then w.next_id else 0))
 
 -- window_close: gives the counts of its stream
 unfoldable pub window_close : Scene → FlatState → ℕ → List ℕ → Outcome Reply
@@ -40,8 +40,7 @@ window_close w f room args =
 
 -- window_get_size: columns and rows
 unfoldable pub window_get_size : Scene → FlatState → ℕ → List ℕ → Outcome Reply
-window_get_size w f room args =
-    let size = all.text_size w.windows (arg args 0) in
+window_get_size w f room args = let size = windows.text_size w.windows (arg args 0) in
     replying w (give_each f room 0 (arg args 1 ∷ arg args 2 ∷ []) (size.0 ∷ size.1 ∷ []))
 
 -- window_set_arrangement: the key 0 leaves the key as it is
@@ -51,8 +50,7 @@ window_set_arrangement w args =
 
 -- window_get_arrangement: method, size and key of a pair window, zeros for other windows
 unfoldable pub window_get_arrangement : Scene → FlatState → ℕ → List ℕ → Outcome Reply
-window_get_arrangement w f room args =
-    let p = pair_at w.windows (arg args 0) in
+window_get_arrangement w f room args = let p = pair_at w.windows (arg args 0) in
     replying w (give_each f room 0 (arg args 1 ∷ arg args 2 ∷ arg args 3 ∷ []) (p.method ∷ p.size ∷ p.key ∷ []))
 
 -- ---- "The Types of Windows"
@@ -72,8 +70,7 @@ window_get_echo_stream w args = tells w (first_window w args).echo
 
 -- window_iterate: the next window and its rock, at the end 0 and 0
 unfoldable pub window_iterate : Scene → FlatState → ℕ → List ℕ → Outcome Reply
-window_iterate w f room args =
-    let win = all.next w.windows (arg args 0) in
+window_iterate w f room args = let win = objects.next entry_id w.windows.entries (arg args 0) in
     replying w (give f room win (arg args 1) ((window_entry w.windows.entries win).rock ∷ []))
 
 unfoldable pub window_get_rock : Scene → List ℕ → Outcome Reply
@@ -84,16 +81,15 @@ window_get_type w args = tells w (first_window w args).kind
 
 -- window_get_parent: the pair above a window, 0 for none
 unfoldable pub window_get_parent : Scene → List ℕ → Outcome Reply
-window_get_parent w args = tells w (all.parent w.windows (arg args 0))
+window_get_parent w args = tells w (windows.parent w.windows (arg args 0))
 
 -- window_get_sibling: the other child of the pair above a window, 0 for none
 unfoldable pub window_get_sibling : Scene → List ℕ → Outcome Reply
-window_get_sibling w args =
-    let above = pair_at w.windows (all.parent w.windows (arg args 0)) in
+window_get_sibling w args = let above = pair_at w.windows (windows.parent w.windows (arg args 0)) in
     tells w (if above.first == arg args 0 then above.second else above.first)
 
 unfoldable pub window_get_root : Scene → Outcome Reply
-window_get_root w = tells w (all.root w.windows)
+window_get_root w = tells w (windows.root w.windows)
 
 unfoldable pub window_clear : Scene → List ℕ → Outcome Reply
 window_clear w args = answered (window_cleared w (arg args 0)) (replies 0)

@@ -85,14 +85,12 @@ can_give_each f [] = Ok tt
 can_give_each f (at ∷ ats) = can_give f at 1 >>= λ there. can_give_each f ats
 
 unfoldable pub pushes_for_each : List ℕ → List ℕ → List ℕ
-pushes_for_each [] words = []
-pushes_for_each (at ∷ ats) [] = []
 pushes_for_each (at ∷ ats) (word ∷ words) = pushes_for at (word ∷ []) ++ pushes_for_each ats words
+pushes_for_each ats words = []
 
 unfoldable pub writes_for_each : List ℕ → List ℕ → List (ℕ × List ℕ)
-writes_for_each [] words = []
-writes_for_each (at ∷ ats) [] = []
 writes_for_each (at ∷ ats) (word ∷ words) = writes_for at (word ∷ []) ++ writes_for_each ats words
+writes_for_each ats words = []
 
 -- one of them is there
 abbrev pub some_given : List ℕ → Bool

@@ -11,16 +11,14 @@ use Rattle.glk_replies.specs.Parts.{numbers_in}
 -- how many characters stand before the first zero, of so many at most
 unfoldable pub count_to_zero : ℕ → ℕ → List ℕ → ℕ → Result ℕ Fault
 count_to_zero zero width memory at = Err BadAddress
-count_to_zero (suc most) width memory at = do
-  c ← number_in width memory at
-  if c == 0 then Ok 0 else (count_to_zero most width memory (at + width) >>= λ count. Ok (count + 1))
+count_to_zero (suc most) width memory at = number_in width memory at >>= λ c.
+    if c == 0 then Ok 0 else (count_to_zero most width memory (at + width) >>= λ count. Ok (count + 1))
 
 -- a string of characters of a width: its first character stands one character behind the address
 unfoldable pub string_length : FlatState → ℕ → ℕ → Result ℕ Fault
-string_length f width at = do
-  kind ← number_in 1 f.memory at
-  if kind == (if width == 1 then c_string else unicode_string)
-      then count_to_zero (length f.memory) width f.memory (at + width) else Err BadString
+string_length f width at = number_in 1 f.memory at >>= λ kind.
+    if kind == (if width == 1 then c_string else unicode_string)
+    then count_to_zero (length f.memory) width f.memory (at + width) else Err BadString
 
 abbrev pub string_chars : FlatState → ℕ → ℕ → ℕ → List ℕ
 string_chars f width at count = numbers_in width f.memory (at + width) count

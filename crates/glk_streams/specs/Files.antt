@@ -39,11 +39,9 @@ bytes_put place bytes = if has_room place bytes then length bytes else 0
 
 -- the character at a position and the position behind it, none at the end
 abbrev pub read_in : FileForm → List ℕ → ℕ → Option (ℕ × ℕ)
-read_in forms.Latin content position =
-    if nat_lt position (length content) then Some (byte content position, position + 1) else None
-read_in forms.Wide content position =
-    if nat_lt position (length content / 4) then Some (word content (4 * position), position + 1) else None
-read_in forms.Utf8 content position = read content position
+read_in forms.Latin content at = if nat_lt at (length content) then Some (byte content at, at + 1) else None
+read_in forms.Wide content at = if nat_lt at (length content / 4) then Some (word content (4 * at), at + 1) else None
+read_in forms.Utf8 content at = read content at
 
 -- the bytes that the bytes of a save take, put as characters: in UTF-8 one from 128 on takes two
 abbrev pub saved_size : FileForm → List ℕ → ℕ

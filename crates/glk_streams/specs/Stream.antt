@@ -29,17 +29,15 @@ place_count at len = if at == 0 then 0 else len
 
 -- the position behind the last character
 abbrev pub end_position : Stream → ℕ
-end_position s =
-    elim s.kind [
-      | kinds.Window _ ↦ 0
-      | kinds.Memory at len _ ↦ if s.mode == write_mode then s.highest else place_count at len
-      | kinds.File _ content form ↦ positions_in form (length content)
-    ]
+end_position s = elim s.kind [
+  | kinds.Window _ ↦ 0
+  | kinds.Memory at len _ ↦ if s.mode == write_mode then s.highest else place_count at len
+  | kinds.File _ content form ↦ positions_in form (length content)
+]
 
 -- a stream as it is opened
 unfoldable pub opened : ℕ → StreamKind → ℕ → ℕ → Stream
-opened id kind mode rock =
-    let new : Stream =
+opened id kind mode rock = let new : Stream =
     record { id = id; kind = kind; mode = mode; rock = rock; position = 0; highest = 0; read = 0; written = 0 } in
     record new { position = if mode == write_append_mode then end_position new else 0 }
 
@@ -47,11 +45,9 @@ opened id kind mode rock =
 -- it ends within the most that a file holds; else it is dropped.
 abbrev pub put_in : StreamKind → Stream → ℕ → Stream
 put_in (kinds.Window win) s c = s
-put_in (kinds.Memory at len wide) s c =
-    if nat_lt s.position (place_count at len)
+put_in (kinds.Memory at len wide) s c = if nat_lt s.position (place_count at len)
     then record s { position = s.position + 1; highest = max s.highest (s.position + 1) } else s
-put_in (kinds.File name content form) s c =
-    let bytes = bytes_of_char form c in
+put_in (kinds.File name content form) s c = let bytes = bytes_of_char form c in
     let place = byte_at form s.position in
     let end = s.position + positions_in form (bytes_put place bytes) in
     record s { kind = kinds.File name (with_bytes content place bytes) form; position = end }
@@ -77,24 +73,18 @@ takes_bytes s count = writable s && takes_bytes_in s.kind s.position count
 
 -- putting a character makes a file longer
 abbrev pub lengthens : StreamKind → Stream → ℕ → Bool
-lengthens (kinds.File _ content form) s c =
-    let end = byte_at form s.position + length (bytes_of_char form c) in
+lengthens (kinds.File _ content form) s c = let end = byte_at form s.position + length (bytes_of_char form c) in
     writable s && nat_le end largest && nat_lt (length content) end
 lengthens _ s c = false
 
 -- The next character and the position behind it, none at the end or where the stream isn't open for reading; `found`
 -- stands at the place of memory.
 unfoldable pub read_next : Stream → ℕ → Option (ℕ × ℕ)
-read_next s found =
-    if not (readable s) then None else elim s.kind [
-      | kinds.Window _ ↦ None
-      | kinds.Memory at len _ ↦ if nat_lt s.position (place_count at len) then Some (found, s.position + 1) else None
-      | kinds.File _ content form ↦ read_in form content s.position
-    ]
-
--- the same from another position
-abbrev pub next_from : Stream → ℕ → ℕ → Option (ℕ × ℕ)
-next_from s position found = read_next (record s { position = position }) found
+read_next s found = if not (readable s) then None else elim s.kind [
+  | kinds.Window _ ↦ None
+  | kinds.Memory at len _ ↦ if nat_lt s.position (place_count at len) then Some (found, s.position + 1) else None
+  | kinds.File _ content form ↦ read_in form content s.position
+]
 
 -- what is left of a file in Latin-1 that is open for reading: its bytes are the characters
 abbrev pub latin_rest_in : StreamKind → ℕ → Option (List ℕ)
@@ -107,10 +97,6 @@ latin_rest s = if readable s then latin_rest_in s.kind s.position else None
 -- so many characters were read, up to a position
 abbrev pub passed : Stream → ℕ → ℕ → Stream
 passed s position count = record s { position = position; read = (s.read + count) % 2 ^ 32 }
-
-abbrev pub char_of : Option (ℕ × ℕ) → Option ℕ
-char_of None = None
-char_of (Some got) = Some got.0
 
 -- a character was read, if there was one
 abbrev pub after_get : Stream → Option (ℕ × ℕ) → Stream
@@ -126,16 +112,14 @@ unfoldable pub positioned : Stream → ℕ → ℕ → Stream
 positioned s pos seek =
     if seek == seek_start then record s { position = clamped 0 pos (end_position s) } else
     if seek == seek_current then record s { position = clamped s.position pos (end_position s) } else
-    if seek == seek_end then record s { position = clamped (end_position s) pos (end_position s) } else
-    s
+    if seek == seek_end then record s { position = clamped (end_position s) pos (end_position s) } else s
 
 abbrev pub no_places : Places
 no_places = record { at = 0; width = 1; count = 0 }
 
 -- the places of memory that so many characters use next
 abbrev pub places_in : StreamKind → ℕ → ℕ → Places
-places_in (kinds.Memory at len wide) position count =
-    let width = if wide then 4 else 1 in
+places_in (kinds.Memory at len wide) position count = let width = if wide then 4 else 1 in
     record { at = at + position * width; width = width; count = min count (place_count at len - position) }
 places_in _ position count = no_places
 

@@ -24,13 +24,6 @@ stream streams id = objects.at id_of no_stream streams id
 abbrev pub with_stream : List Stream → Stream → List Stream
 with_stream streams new = objects.with id_of streams new
 
-abbrev pub all_but : List Stream → ℕ → List Stream
-all_but streams id = objects.all_but id_of streams id
-
--- the least identifier above a number, 0 where there is none
-abbrev pub next : List Stream → ℕ → ℕ
-next streams id = objects.next id_of streams id
-
 -- the name and content of a file stream; the stream that stands for none has no file
 abbrev pub file_of : List Stream → ℕ → Option (List ℕ × List ℕ)
 file_of streams id = file_in (stream streams id).kind

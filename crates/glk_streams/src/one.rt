@@ -1,9 +1,10 @@
 //! One stream: a character is put, or got, or its position moves (Glk 0.7.5, "Streams").
 ghost use Rattle.std.specs.Prelude.{ℕ, ◌≡◌, ◌≢◌, ◌≤◌, ◌<◌, ◌+◌, ◌^◌, not, length, OnErr, OnOk, IfOk, IfSome};
 ghost use Rattle.std.specs.Prelude.{MatchOption, IsTrue, Some, is_some};
+ghost use Rattle.std.specs.Option.{option_map};
 ghost use Rattle.glk_streams.specs.Stream.{readable, writable, allows_mode, opened, window_of, file_in, without_file};
 ghost use Rattle.glk_streams.specs.Stream.{place_count, end_position, after_put, after_puts, takes_bytes, latin_rest};
-ghost use Rattle.glk_streams.specs.Stream.{lengthens, read_next, next_from, passed, char_of, after_get, clamped};
+ghost use Rattle.glk_streams.specs.Stream.{lengthens, read_next, passed, after_get, clamped};
 ghost use Rattle.glk_streams.specs.Stream.{positioned};
 ghost use Rattle.glk_streams.specs.Stream.{is_stored, next_places, fits};
 ghost use Rattle.glk_streams.specs.Sound.{IsSoundKind, IsSoundStream};
@@ -223,7 +224,7 @@ pub fn put_bytes(stream: &mut Stream, bytes: &[u8]) -> Result<bool, AllocError>
 #[tactic(auto, unfolding(crate::specs::Stream::read_next))]
 pub fn next_from(stream: &Stream, position: u32, found: u32) -> Option<(u32, u32)>
     requires { IsSoundStream stream.now }
-    ensures value { result ≡ next_from stream.now position found }
+    ensures value { result ≡ read_next (record stream.now { position = position }) found }
     ensures behind { IfSome result (λ got. got.1 ≤ end_position stream.now) }
 {
     if !readable(stream) {
@@ -278,7 +279,7 @@ pub fn pass(stream: &mut Stream, position: u32, count: u32)
 #[tactic(auto, using(crate::proofs::Sounds::sound_get))]
 pub fn get(stream: &mut Stream, found: u32) -> Option<u32>
     requires { IsSoundStream stream.old }
-    ensures value { result ≡ char_of (read_next stream.old found) }
+    ensures value { result ≡ option_map (λ (got : ℕ × ℕ). got.0) (read_next stream.old found) }
     ensures new { stream.new ≡ after_get stream.old (read_next stream.old found) }
     ensures sound { IsSoundStream stream.new }
     ensures id { stream.new.id ≡ stream.old.id }

@@ -1,9 +1,10 @@
 //! All streams, in order of creation.
 ghost use Rattle.std.specs.Prelude.{ℕ, ◌≡◌, ◌≢◌, ◌≤◌, ◌<◌, ◌+◌, ◌^◌, ◌++◌, ◌∷◌, [], true, false, not, length};
 ghost use Rattle.std.specs.Prelude.{map, Some, is_some, IfOk, IfSome, MatchOption, OnErr, OnOk, IsTrue};
-ghost use Rattle.glk_objects.specs.Objects.{IsAboveAll, IsBelowAll, object_place, met_from};
+ghost use Rattle.std.specs.Option.{option_map};
+ghost use Rattle.glk_objects.specs.Objects.{IsAboveAll, IsBelowAll, object_place, all_but, next, met_from};
 ghost use Rattle.glk_streams.specs.Stream as one;
-ghost use Rattle.glk_streams.specs.Streams.{id_of, has, stream, with_stream, all_but, next, file_of, without_windows};
+ghost use Rattle.glk_streams.specs.Streams.{id_of, has, stream, with_stream, file_of, without_windows};
 ghost use Rattle.glk_streams.specs.Streams.{open_files};
 ghost use Rattle.glk_streams.specs.Sound.{IsSoundKind};
 ghost use Rattle.glk_streams.specs.Constants.{largest};
@@ -59,7 +60,7 @@ impl Streams {
     #[tactic(auto, using(crate::proofs::Lists::places))]
     pub fn remove(&mut self, id: u32)
         requires { IsTrue (has self.old id) }
-        ensures { self.new ≡ all_but self.old id }
+        ensures { self.new ≡ all_but id_of self.old id }
     {
         let at = place(&self.items, id);
         self.items.remove(at);
@@ -90,7 +91,7 @@ impl Streams {
     /// The least identifier above a number, 0 where there is none.
     #[tactic(auto, using(crate::proofs::Lists::places, glk_objects::proofs::Meeting::meets_each))]
     pub fn next(&self, id: u32) -> u32
-        ensures value { result ≡ next self.now id }
+        ensures value { result ≡ next id_of self.now id }
 
         // Going on from one to the next meets each stream once, in order of creation.
         ensures each { IsBelowAll id_of self.now 0 → (more : ℕ)
@@ -256,7 +257,7 @@ impl Streams {
     #[tactic(auto, using(crate::proofs::Lists::places))]
     pub fn get(&mut self, id: u32, found: u32) -> Option<u32>
         requires { IsTrue (has self.old id) }
-        ensures value { result ≡ one.char_of (one.read_next (stream self.old id) found) }
+        ensures value { result ≡ option_map (λ (got : ℕ × ℕ). got.0) (one.read_next (stream self.old id) found) }
         ensures new { self.new ≡ with_stream self.old
             (one.after_get (stream self.old id) (one.read_next (stream self.old id) found)) }
     {
@@ -269,7 +270,7 @@ impl Streams {
     #[tactic(auto, using(crate::proofs::Lists::places))]
     pub fn peek(&self, id: u32, position: u32, found: u32) -> Option<(u32, u32)>
         requires { IsTrue (has self.now id) }
-        ensures value { result ≡ one.next_from (stream self.now id) position found }
+        ensures value { result ≡ one.read_next (record (stream self.now id) { position = position }) found }
         ensures behind { IfSome result (λ got. got.1 ≤ one.end_position (stream self.now id)) }
     {
         one::next_from(&self.items[place(&self.items, id)], position, found)

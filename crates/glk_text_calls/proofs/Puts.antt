@@ -15,8 +15,9 @@ use Rattle.glk_streams.specs.declared.kinds.StreamKind.{StreamKind}
 use Rattle.glk_streams.specs.declared.kinds.StreamKind.TheVariants as kinds
 use Rattle.glk_streams.specs.Stream as one
 use Rattle.glk_streams.specs.Streams as streams
+use Rattle.glk_windows.specs.Constants.{text_buffer}
 use Rattle.glk_world.specs.World.{Scene, FlatWorld, after, on_world, MakesCall}
-use Rattle.glk_world.specs.Putting.{window_of_stream, entry_of, is_text, is_plain_text, put_of, put_chars, put_grows}
+use Rattle.glk_world.specs.Putting.{window_of_stream, entry_of, is_plain_text, put_of, put_chars, put_grows}
 use Rattle.glk_world.specs.Putting.{places_of, chain_end}
 use Rattle.glk_replies.specs.Parts.{IsCharWidth, replies, can_lay, char_writes, numbers_in, reply_filling}
 use Rattle.glk_text_calls.specs.Putting.{put_all, put_grows_one}
@@ -190,8 +191,8 @@ text_there : (w : Scene) (stream : ℕ) → is_plain_text w stream ≡ true → 
 text_there w stream plain =
     let a = streams.has w.streams stream in
     let b = not (window_of_stream w stream == 0) in
-    and_first a b (and_first (a && b) (is_text w stream)
-    (and_first (a && b && is_text w stream) ((entry_of w stream).echo == 0) plain))
+    let text = (entry_of w stream).kind == text_buffer in
+    and_first a b (and_first (a && b) text (and_first (a && b && text) ((entry_of w stream).echo == 0) plain))
 
 -- a character of the text
 pub text_put : (w : FlatWorld) (f : FlatState) (stream c : ℕ) → is_plain_text w.scene stream ≡ true

@@ -56,7 +56,7 @@ count_as n position = Ok (n, position)
 
 -- the next character, and the position behind it
 abbrev pub next_char : FlatState → Places → Stream → ℕ → ℕ → Result (Option (ℕ × ℕ)) Fault
-next_char f p s i position = found_in f p i >>= λ found. Ok (one.next_from s position found)
+next_char f p s i position = found_in f p i >>= λ found. Ok (one.read_next (record s { position = position }) found)
 
 by_found : (found : Result ℕ Fault) (next : ℕ → Option (ℕ × ℕ)) (read : Option (ℕ × ℕ) → Result (List ℕ × ℕ) Fault)
     → (found >>= λ c. read (next c)) ≡ ((found >>= λ c. Ok (next c)) >>= read)
@@ -68,7 +68,7 @@ one_step : (more : ℕ) (stops : Bool) (f : FlatState) (p : Places) (s : Stream)
     ≡ (next_char f p s i position >>= λ next. read_with stops position next (read_on more stops f p s (i + 1)))
 unfolding read_on
 one_step more stops f p s i position =
-    by_found (found_in f p i) (one.next_from s position)
+    by_found (found_in f p i) (one.read_next (record s { position = position }))
     (λ next. read_with stops position next (read_on more stops f p s (i + 1)))
 
 fails_step : (more : ℕ) (stops : Bool) (f : FlatState) (p : Places) (s : Stream) (i position : ℕ) (e : Fault)

@@ -3,6 +3,7 @@
 -- What is read of a memory stream is looked at place by place, so that no place behind the last character matters.
 use Rattle.std.specs.Prelude.{ℕ, zero, suc, ◌+◌, ◌-◌, ◌*◌, ◌==◌, ◌&&◌, not, nat_lt, if◌then◌else◌, Bool, true, false}
 use Rattle.std.specs.Prelude.{List, [], ◌∷◌, ◌++◌, length, Option, Some, None, Result, Ok, Err}
+use Rattle.std.specs.Option.{option_map}
 use Rattle.gx_words.specs.declared.faults.Fault.{Fault}
 use Rattle.gx_words.specs.Results.{◌>>=◌}
 use Rattle.gx_pages.specs.Memory.{number_in}
@@ -16,7 +17,7 @@ use Rattle.glk_streams.specs.Stream as one
 use Rattle.glk_streams.specs.Streams as streams
 use Rattle.glk_world.specs.World.{Scene, silent, Outcome, answered, arg}
 use Rattle.glk_world.specs.Putting.{places_read}
-use Rattle.glk_world.specs.Calls.{got_from, char_got, chars_got}
+use Rattle.glk_world.specs.Calls.{char_got, chars_got}
 use Rattle.glk_text_calls.specs.Constants.{no_character}
 use Rattle.glk_replies.specs.Parts.{replies, can_lay, reply_filling}
 
@@ -39,9 +40,8 @@ read_with stops position (Some got) behind =
 -- the characters that are read where so many more may be, and the position behind them
 unfoldable pub read_on : ℕ → Bool → FlatState → Places → Stream → ℕ → ℕ → Result (List ℕ × ℕ) Fault
 read_on zero stops f p s i position = Ok ([], position)
-read_on (suc more) stops f p s i position = do
-  found ← found_in f p i
-  read_with stops position (one.next_from s position found) (read_on more stops f p s (i + 1))
+read_on (suc more) stops f p s i position = found_in f p i >>= λ found.
+    read_with stops position (one.read_next (record s { position = position }) found) (read_on more stops f p s (i + 1))
 
 -- so many characters at most, of a line up to its end
 abbrev pub reading : Scene → FlatState → ℕ → Bool → ℕ → Result (List ℕ × ℕ) Fault
@@ -63,8 +63,7 @@ get_buffer width w f args = get_chars w f (arg args 0) false (arg args 2) width 
 
 -- get_line_stream: nothing is done for a buffer of no places
 abbrev pub get_line : ℕ → Scene → FlatState → List ℕ → Outcome Reply
-get_line width w f args =
-    if arg args 2 == 0 then answered w (replies 0) else
+get_line width w f args = if arg args 2 == 0 then answered w (replies 0) else
     get_chars w f (arg args 0) true (arg args 2 - 1) width (arg args 1)
 
 -- what stands for a character that was read: in one byte it is a character of Latin-1
@@ -74,10 +73,9 @@ char_answer width (Some c) = if width == 1 then latin_of c else c
 
 -- get_char_stream
 unfoldable pub get_char : ℕ → Scene → FlatState → List ℕ → Outcome Reply
-get_char width w f args = do
-  found ← found_in f (places_read w (arg args 0) 1) 0
-  let char = one.char_of (got_from w (arg args 0) found)
-  Ok (silent (char_got w (arg args 0) found), replies (char_answer width char))
+get_char width w f args = found_in f (places_read w (arg args 0) 1) 0 >>= λ found.
+    let char = option_map (λ (got : ℕ × ℕ). got.0) (one.read_next (streams.stream w.streams (arg args 0)) found) in
+    Ok (silent (char_got w (arg args 0) found), replies (char_answer width char))
 
 -- how many characters were read, and the position behind them
 abbrev pub count_read : Result (List ℕ × ℕ) Fault → Result (ℕ × ℕ) Fault

@@ -22,15 +22,13 @@ put_char w f stream width c = put_all w f stream (char_given width c ∷ [])
 
 -- put_string: a string of bytes or of words; it is looked at even if no stream takes it
 unfoldable pub put_string : Scene → FlatState → ℕ → ℕ → ℕ → Outcome Reply
-put_string w f stream width at = do
-  count ← string_length f width at
-  put_all w f stream (string_chars f width at count)
+put_string w f stream width at =
+    string_length f width at >>= λ count. put_all w f stream (string_chars f width at count)
 
 -- put_buffer: so many bytes or words; they are looked at even if no stream takes them
 unfoldable pub put_buffer : Scene → FlatState → ℕ → ℕ → ℕ → ℕ → Outcome Reply
-put_buffer w f stream width at count = do
-  there ← can_read f at (width * count)
-  put_all w f stream (numbers_in width f.memory at count)
+put_buffer w f stream width at count =
+    can_read f at (width * count) >>= λ there. put_all w f stream (numbers_in width f.memory at count)
 
 -- a character that the program prints, which goes to the current stream (Glulx 3.1.2, "Output")
 unfoldable pub putting : Scene → FlatState → ℕ → Outcome Reply

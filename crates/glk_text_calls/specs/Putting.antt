@@ -11,10 +11,9 @@ use Rattle.glk_replies.specs.Parts.{replies, can_lay, reply_filling}
 -- Characters are put to a stream, and written where it ends in memory, if they may be; a stream that isn't there takes
 -- none.
 unfoldable pub put_all : Scene → FlatState → ℕ → List ℕ → Outcome Reply
-put_all w f stream cs =
-    if not (streams.has w.streams stream) then answered w (replies 0) else (do
-      there ← can_lay f (places_of w stream (length cs))
-      Ok (put_chars w stream cs, reply_filling 0 (places_of w stream (length cs)) cs))
+put_all w f stream cs = if not (streams.has w.streams stream) then answered w (replies 0) else
+    can_lay f (places_of w stream (length cs)) >>= λ there.
+    Ok (put_chars w stream cs, reply_filling 0 (places_of w stream (length cs)) cs)
 
 -- putting one character wants memory where it adds text, makes a file longer or has a place in memory
 abbrev pub put_grows_one : Scene → ℕ → ℕ → Bool

@@ -17,7 +17,8 @@ use Rattle.glk_world.specs.Calls.{chars_got}
 use Rattle.glk_text_calls.specs.Input.{reading, has_read}
 use Rattle.glk_text_calls.specs.Putting.{put_all}
 
--- a stream that takes these bytes: it is there, open for writing and no window's, and has room for all of them
+-- Whether a stream takes these bytes: it is there, it is open for writing, and it has room for all of them, each put as
+-- a character. The stream of a window never has room.
 abbrev pub takes_save : Scene → ℕ → List ℕ → Bool
 takes_save w id bytes =
     let s = streams.stream w.streams id in streams.has w.streams id && one.writable s && one.fits s bytes
@@ -38,12 +39,10 @@ as_bytes chars = if list_all (λ c. nat_lt c 256) chars then Some chars else Non
 -- The bytes from a stream's position to its end, where it then stands. Where it isn't open for reading it stands as it
 -- was.
 unfoldable pub take_rest : Scene → FlatState → ℕ → Result (Said × Option (List ℕ)) Fault
-take_rest w f id =
-    let s = streams.stream w.streams id in
+take_rest w f id = let s = streams.stream w.streams id in
     if streams.has w.streams id && one.readable s then (do
       got ← reading w f id false (rest_len s)
-      Ok (silent (chars_got w id got.1 (length got.0)), as_bytes got.0))
-    else Ok (silent w, None)
+      Ok (silent (chars_got w id got.1 (length got.0)), as_bytes got.0)) else Ok (silent w, None)
 
 -- ---- where memory may be wanted: for a byte that is put or that is read
 

@@ -55,7 +55,7 @@ fn next_char<A: Allocator + Clone>(
     requires at { places.at < 2 ^ 40 }
     ensures value { Reads (λ next. next) result
         (and_then (found_in state.now.flat places i)
-        (λ found. Ok (one.next_from (streams.stream all.now stream) position found))) }
+        (λ found. Ok (one.read_next (record (streams.stream all.now stream) { position = position }) found))) }
     ensures behind { IfOk result (λ next. IfSome next
         (λ got. got.1 ≤ one.end_position (streams.stream all.now stream))) }
 {

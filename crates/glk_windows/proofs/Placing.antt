@@ -4,7 +4,7 @@ use Rattle.std.proofs.Common.{Option, Some, None, unwrap_or, List, [], ◌∷◌
 use Rattle.std.proofs.Common.{◌∙◌, ◌%◌, arith}
 use Rattle.std.proofs.Common.{Result, Ok, Err, OnErr}
 use Rattle.std.specs.List.{filter}
-use Rattle.std.specs.Option.{option_map}
+use Rattle.std.specs.Option.{option_map, option_or}
 use Rattle.std.proofs.lemmas.Bool.Decides.{nat_tests}
 use Rattle.glk_objects.specs.Objects as objects
 use Rattle.glk_objects.specs.Objects.{IsAboveAll}
@@ -14,7 +14,7 @@ use Rattle.glk_windows.specs.declared.tree.Arrangement.{Arrangement}
 use Rattle.glk_windows.specs.declared.entries.Entry.{Entry}
 use Rattle.glk_windows.specs.Constants.{pair_window, blank_window}
 use Rattle.glk_windows.specs.Methods.{direction}
-use Rattle.glk_windows.specs.Tree.{Shape, One, Two, shape_id, ids_in, is_among, or_else, part_from, parent_in, split_in}
+use Rattle.glk_windows.specs.Tree.{Shape, One, Two, shape_id, ids_in, is_among, part_from, parent_in, split_in}
 use Rattle.glk_windows.specs.Tree.{closed_in, unkeyed, rearranged, arranged_in}
 use Rattle.glk_windows.specs.Windows.{FlatWindows, entry_id, no_entry, window_entry, is_openable}
 use Rattle.glk_windows.specs.Changes.{new_entry, leaving, forgetting, left_of, closed_tree}
@@ -551,7 +551,7 @@ part_top : (t : Shape) (win : ℕ) → (shape_id t == win) ≡ true → part_fro
 part_top (One id) win here = rw here refl
 part_top (Two a first second) win here = rw here refl
 
-or_none : {A : Type 0} (x : Option A) → or_else x None ≡ x
+or_none : {A : Type 0} (x : Option A) → option_or x None ≡ x
 or_none None = refl
 or_none (Some x) = refl
 

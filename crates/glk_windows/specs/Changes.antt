@@ -30,15 +30,13 @@ new_entry id kind rock = record { id = id; kind = kind; rock = rock; stream = id
 
 -- the first window, which is the root; a grid window has a grid
 abbrev pub rooted : FlatWindows → ℕ → ℕ → ℕ → FlatWindows
-rooted f kind rock id =
-    let entries = f.entries ++ new_entry id kind rock ∷ [] in
+rooted f kind rock id = let entries = f.entries ++ new_entry id kind rock ∷ [] in
     let grids = if kind == text_grid then f.grids ++ empty_grid id ∷ [] else f.grids in
     record f { entries = entries; tree = Some (One id); grids = grids }
 
 -- a window beside one that is split, and the pair of both, of which the new window is the key
 abbrev pub split_by : FlatWindows → ℕ → ℕ → ℕ → ℕ → ℕ → ℕ → FlatWindows
-split_by f split method size kind rock id =
-    let alone = rooted f kind rock id in
+split_by f split method size kind rock id = let alone = rooted f kind rock id in
     let pair : Arrangement =
     record { id = id + 2; method = method % 256; size = size; key = id; key_is_blank = kind == blank_window } in
     let tree = option_map (λ t. split_in t split pair id) f.tree in
@@ -80,8 +78,7 @@ left_of entries ids =
 
 -- a window is closed, with all windows below it, their pair and their streams
 unfoldable pub window_closed : FlatWindows → ℕ → FlatWindows
-window_closed f win =
-    let ids = leaving f.tree win in
+window_closed f win = let ids = leaving f.tree win in
     let grids = filter (λ g. not (is_among ids g.id)) f.grids in
     fitted (record f { entries = left_of f.entries ids; tree = closed_tree ids f.tree win; grids = grids })
 
@@ -104,8 +101,7 @@ arranged f win method size key =
 
 -- that makes a grid larger
 unfoldable pub arranging_grows : FlatWindows → ℕ → ℕ → ℕ → ℕ → Bool
-arranging_grows f win method size key =
-    if allows_arrangement f win method key
+arranging_grows f win method size key = if allows_arrangement f win method key
     then some_grow (arranged_tree f win method size key) (f.columns, f.rows) f.grids else false
 
 -- ---- text, cursor, echo

@@ -50,10 +50,6 @@ entry f win = if is_window f win then Some (window_entry f.entries win) else Non
 abbrev pub has_text : ℕ → Bool
 has_text kind = kind == text_buffer || kind == text_grid
 
--- the next window above an identifier, 0 for none
-abbrev pub next : FlatWindows → ℕ → ℕ
-next f win = objects.next entry_id f.entries win
-
 -- ---- the tree
 
 abbrev pub root : FlatWindows → ℕ
@@ -110,8 +106,7 @@ is_openable kind = kind == blank_window || kind == text_buffer || kind == text_g
 -- a window may be opened: the first one with split 0, every other one by a split with a method, and so many at most
 -- that aren't pairs
 abbrev pub can_add : FlatWindows → ℕ → ℕ → ℕ → Bool
-can_add f split method kind =
-    not (split == 0 && is_some f.tree) && is_openable kind
+can_add f split method kind = not (split == 0 && is_some f.tree) && is_openable kind
     && nat_lt (count_by (λ e. not (e.kind == pair_window)) f.entries) most_windows && (split == 0 || is_method method)
 
 -- the last identifier that opening a window gives: that of its stream, or of the pair's stream

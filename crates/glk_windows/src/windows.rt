@@ -7,7 +7,7 @@ ghost use Rattle.std.specs.List.Sorted.{IsStrictlyIncreasing};
 ghost use Rattle.glk_objects.specs.Objects as objects;
 ghost use Rattle.glk_windows.specs.Tree.{shape_of, is_among, split_in, arranged_in};
 ghost use Rattle.glk_windows.specs.Grids.{grid_id, empty_grid, sized_to};
-ghost use Rattle.glk_windows.specs.Windows.{tree_of, no_windows, entry_id, is_window, window_entry, entry, next, root};
+ghost use Rattle.glk_windows.specs.Windows.{tree_of, no_windows, entry_id, is_window, window_entry, entry, root};
 ghost use Rattle.glk_windows.specs.Windows.{parent, window, window_pair, sizes_in, sizes, text_size, window_cell};
 ghost use Rattle.glk_windows.specs.Windows.{window_row, is_openable};
 ghost use Rattle.glk_windows.specs.Windows.{can_add, last_given, IsNewId};
@@ -104,7 +104,7 @@ impl Windows {
     /// The least identifier of a window above `win`, 0 where there is none.
     #[tactic(auto, using(glk_objects::proofs::Meeting::meets_each))]
     pub fn next(&self, win: u32) -> u32
-        ensures value { result ≡ next self.now win }
+        ensures value { result ≡ objects.next entry_id self.now.entries win }
 
         // Going on from one to the next meets each window once, in order of creation.
         ensures each { objects.IsBelowAll entry_id self.now.entries 0 → (more : ℕ)

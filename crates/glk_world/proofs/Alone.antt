@@ -13,9 +13,10 @@ use Rattle.glk_streams.specs.declared.kinds.StreamKind.{StreamKind}
 use Rattle.glk_streams.specs.declared.kinds.StreamKind.TheVariants as kinds
 use Rattle.glk_streams.specs.Stream as one
 use Rattle.glk_streams.specs.Streams as streams
+use Rattle.glk_windows.specs.Constants.{text_buffer}
 use Rattle.glk_screen.specs.Texts.{screen_put}
 use Rattle.glk_world.specs.World.{Scene, FlatWorld, Said, after, silent, then_said, is_composed}
-use Rattle.glk_world.specs.Putting.{buffer_put, window_of_stream, entry_of, is_text, is_plain_text, window_put}
+use Rattle.glk_world.specs.Putting.{buffer_put, window_of_stream, entry_of, is_plain_text, window_put}
 use Rattle.glk_world.specs.Putting.{counted, stream_put, echo_of, put_along, put_of, put_chars, grows_along, put_grows}
 use Rattle.glk_world.specs.Putting.{chain_end, places_of, no_places}
 use Rattle.glk_objects.proofs.Found.{has_with, has_below, at_with_here, below_with}
@@ -200,15 +201,16 @@ not_true false h = refl
 pub record IsPlain (w : Scene) (s : ℕ) : Type 0 where
   pub there : streams.has w.streams s ≡ true
   pub own : (window_of_stream w s == 0) ≡ false
-  pub text : is_text w s ≡ true
+  pub text : ((entry_of w s).kind == text_buffer) ≡ true
   pub echo : (entry_of w s).echo ≡ 0
 
 pub plain : (w : Scene) (s : ℕ) → is_plain_text w s ≡ true → IsPlain w s
 plain w s h =
     let own = not (window_of_stream w s == 0) in
     let there = streams.has w.streams s in
-    let all = and_both (there && own && is_text w s) ((entry_of w s).echo == 0) h in
-    let texts = and_both (there && own) (is_text w s) all.0 in
+    let text = (entry_of w s).kind == text_buffer in
+    let all = and_both (there && own && text) ((entry_of w s).echo == 0) h in
+    let texts = and_both (there && own) text all.0 in
     let owns = and_both there own texts.0 in
     record {
       there = owns.0;

@@ -149,7 +149,7 @@ pub ruleset windows_kept = (
 )
 
 pub streams_without : (ss : List Stream) (id n : ℕ) → IsAboveAll streams.id_of ss n
-    → IsAboveAll streams.id_of (streams.all_but ss id) n
+    → IsAboveAll streams.id_of (objects.all_but streams.id_of ss id) n
 streams_without ss id n above = above_without streams.id_of ss id n above
 
 pub streams_gone : (ss : List Stream) (gone : List ℕ) (n : ℕ) → IsAboveAll streams.id_of ss n

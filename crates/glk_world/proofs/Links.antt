@@ -155,12 +155,12 @@ echoes_chosen test (e ∷ es) n below =
 
 -- a stream is closed
 pub linked_without : (es : List Entry) (xs : List Stream) (id n : ℕ) → AreLinked es xs n
-    → AreLinked (map (forgetting (id ∷ [])) es) (streams.all_but xs id) n
+    → AreLinked (map (forgetting (id ∷ [])) es) (objects.all_but streams.id_of xs id) n
 linked_without es xs id n linked = record {
   ranked = (
     linked.ranked.0,
-    ranked_within es (map (forgetting (id ∷ [])) es) xs (streams.all_but xs id) linked.ranked.0
-        (λ s there echo. fewer_edge es (map (forgetting (id ∷ [])) es) xs (streams.all_but xs id) s
+    ranked_within es (map (forgetting (id ∷ [])) es) xs (objects.all_but streams.id_of xs id) linked.ranked.0
+        (λ s there echo. fewer_edge es (map (forgetting (id ∷ [])) es) xs (objects.all_but streams.id_of xs id) s
         (below_without streams.id_of xs 0 id linked.first)
         (λ t is. found.has_without streams.id_of streams.no_stream xs id t is)
         (λ t is. found.at_without streams.id_of streams.no_stream xs id t linked.rises is)

@@ -138,15 +138,15 @@ named_own es xs id mode rock kind above own named =
     }
 
 has_left : (xs : List Stream) (id s : ℕ) → streams.has xs s ≡ true → (s == id) ≡ false
-    → streams.has (streams.all_but xs id) s ≡ true
+    → streams.has (objects.all_but streams.id_of xs id) s ≡ true
 unfolding objects.all_but
 has_left [] id s there other = there
 has_left (x ∷ xs) id s there other = grind (arith, nat_tests, has_left xs id s, there, other)
 
 pub named_without : (es : List Entry) (xs : List Stream) (id n : ℕ) → one.window_of (streams.stream xs id) ≡ 0
-    → AreLinked es xs n → AreNamed es xs → AreNamed (map (forgetting (id ∷ [])) es) (streams.all_but xs id)
+    → AreLinked es xs n → AreNamed es xs → AreNamed (map (forgetting (id ∷ [])) es) (objects.all_but streams.id_of xs id)
 named_without es xs id n own linked named =
-    named_forgotten (id ∷ []) es (streams.all_but xs id) (record {
+    named_forgotten (id ∷ []) es (objects.all_but streams.id_of xs id) (record {
       windows = λ win there. let was = named.windows win there in
           let t = (window_entry es win).stream in
           let some = found.has_below entry_id no_entry es 0 win linked.windows there in

@@ -1,5 +1,5 @@
 -- What the calls that change the world make of a scene (Glk 0.7.5).
-use Rattle.std.specs.Prelude.{ℕ, ◌+◌, ◌==◌, ◌&&◌, nat_le, if◌then◌else◌, Bool, List, [], ◌∷◌, ◌++◌, Option}
+use Rattle.std.specs.Prelude.{ℕ, ◌+◌, ◌==◌, ◌&&◌, nat_le, if◌then◌else◌, Bool, List, [], ◌∷◌, ◌++◌}
 use Rattle.glk_objects.specs.Objects as objects
 use Rattle.glk_streams.specs.Constants.{write_mode}
 use Rattle.glk_streams.specs.declared.kinds.Stream.{Stream}
@@ -8,7 +8,7 @@ use Rattle.glk_streams.specs.declared.kinds.StreamKind.TheVariants as kinds
 use Rattle.glk_streams.specs.Stream as one
 use Rattle.glk_streams.specs.Streams as streams
 use Rattle.glk_windows.specs.Windows.{can_add, last_given, window_entry}
-use Rattle.glk_windows.specs.Changes as windows
+use Rattle.glk_windows.specs.Changes as changes
 use Rattle.glk_events.specs.Requests as requests
 use Rattle.glk_screen.specs.Texts.{screen_cleared, screen_gone}
 use Rattle.glk_world.specs.World.{Scene, reference_id}
@@ -39,10 +39,6 @@ without_reference w id = record w { references = objects.all_but reference_id w.
 abbrev pub can_open : Scene → ℕ → ℕ → ℕ → Bool
 can_open w split method kind = can_add w.windows split method kind && is_identifier (last_given split w.next_id)
 
--- the window's identifier, 0 where it isn't opened
-abbrev pub opened_id : Scene → ℕ → ℕ → ℕ → ℕ
-opened_id w split method kind = if can_open w split method kind then w.next_id else 0
-
 -- the stream of a window, whose identifier is the next
 abbrev pub window_stream : ℕ → Stream
 window_stream win = one.opened (win + 1) (kinds.Window win) write_mode 0
@@ -53,9 +49,8 @@ with_streams all split id =
     if split == 0 then all ++ window_stream id ∷ [] else (all ++ window_stream id ∷ []) ++ window_stream (id + 2) ∷ []
 
 unfoldable pub with_window : Scene → ℕ → ℕ → ℕ → ℕ → ℕ → Scene
-with_window w split method size kind rock =
-    let new = windows.with_new_window w.windows split method size kind rock w.next_id in
-    let all = with_streams w.streams split w.next_id in
+with_window w split method size kind rock = let all = with_streams w.streams split w.next_id in
+    let new = changes.with_new_window w.windows split method size kind rock w.next_id in
     if can_open w split method kind
     then record w { windows = new; streams = all; next_id = last_given split w.next_id + 1 } else w
 
@@ -72,42 +67,38 @@ window_counts w win =
 -- A window is closed with all windows below it and their pair; their streams, requests and texts go too. The current
 -- stream is none where it is gone.
 unfoldable pub without_window : Scene → ℕ → Scene
-without_window w win =
-    let gone = windows.gone w.windows win in
+without_window w win = let gone = changes.gone w.windows win in
     let left = streams.without_windows w.streams gone in
     let current = if streams.has left w.current then w.current else 0 in
-    let closed = record w { windows = windows.window_closed w.windows win; streams = left; current = current } in
+    let closed = record w { windows = changes.window_closed w.windows win; streams = left; current = current } in
     let asked = without_each requests.removed w.requests gone in
     record closed { requests = asked; screen = without_each screen_gone w.screen gone }
 
 unfoldable pub with_arrangement : Scene → ℕ → ℕ → ℕ → ℕ → Scene
-with_arrangement w win method size key = record w { windows = windows.arranged w.windows win method size key }
+with_arrangement w win method size key = record w { windows = changes.arranged w.windows win method size key }
 
 unfoldable pub window_cleared : Scene → ℕ → Scene
-window_cleared w win =
-    record w { windows = windows.cleared_in w.windows win; screen = screen_cleared w.screen win }
+window_cleared w win = record w { windows = changes.cleared_in w.windows win; screen = screen_cleared w.screen win }
 
 unfoldable pub cursor_moved : Scene → ℕ → ℕ → ℕ → Scene
-cursor_moved w win x y = record w { windows = windows.moved_in w.windows win x y }
+cursor_moved w win x y = record w { windows = changes.moved_in w.windows win x y }
 
 -- a window's echo stream, 0 for none; nothing changes where that would lead back to the window
 unfoldable pub with_echo : Scene → ℕ → ℕ → Scene
 with_echo w win stream =
-    if leads_to w stream win then w else record w { windows = windows.with_echo_stream w.windows win stream }
+    if leads_to w stream win then w else record w { windows = changes.with_echo_stream w.windows win stream }
 
 -- ---- streams ("Streams")
 
 unfoldable pub with_new_stream : Scene → StreamKind → ℕ → ℕ → Scene
-with_new_stream w kind mode rock =
-    let all = w.streams ++ one.opened w.next_id kind mode rock ∷ [] in
+with_new_stream w kind mode rock = let all = w.streams ++ one.opened w.next_id kind mode rock ∷ [] in
     if is_identifier w.next_id then record w { streams = all; next_id = w.next_id + 1 } else w
 
 -- a stream is closed; as a current or an echo stream it becomes none
 unfoldable pub without_stream : Scene → ℕ → Scene
-without_stream w id =
-    let left = streams.all_but w.streams id in
+without_stream w id = let left = objects.all_but streams.id_of w.streams id in
     let current = if w.current == id then 0 else w.current in
-    record w { windows = windows.without_echoes w.windows id; streams = left; current = current }
+    record w { windows = changes.without_echoes w.windows id; streams = left; current = current }
 
 -- a file is taken out of its stream, to be stored
 unfoldable pub without_file : Scene → ℕ → Scene
@@ -116,13 +107,10 @@ without_file w id = with_stream w (one.without_file (streams.stream w.streams id
 unfoldable pub repositioned : Scene → ℕ → ℕ → ℕ → Scene
 repositioned w id pos seek = with_stream w (one.positioned (streams.stream w.streams id) pos seek)
 
--- what is got from a stream, and the position behind it
-abbrev pub got_from : Scene → ℕ → ℕ → Option (ℕ × ℕ)
-got_from w id found = one.read_next (streams.stream w.streams id) found
-
 -- so many characters were read from a stream, up to a position
 unfoldable pub chars_got : Scene → ℕ → ℕ → ℕ → Scene
 chars_got w id position count = with_stream w (one.passed (streams.stream w.streams id) position count)
 
+-- the next character was read, if there is one
 unfoldable pub char_got : Scene → ℕ → ℕ → Scene
-char_got w id found = with_stream w (one.after_get (streams.stream w.streams id) (got_from w id found))
+char_got w id found = let s = streams.stream w.streams id in with_stream w (one.after_get s (one.read_next s found))

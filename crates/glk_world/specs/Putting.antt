@@ -23,20 +23,15 @@ window_of_stream w stream = one.window_of (streams.stream w.streams stream)
 abbrev pub entry_of : Scene → ℕ → Entry
 entry_of w stream = window_entry w.windows.entries (window_of_stream w stream)
 
-abbrev pub is_text : Scene → ℕ → Bool
-is_text w stream = (entry_of w stream).kind == text_buffer
-
 -- A character comes to a text buffer: it is text, in UTF-8, or has its place on the composed screen.
 unfoldable pub buffer_put : Scene → ℕ → ℕ → Said
-buffer_put w win c =
-    if is_composed w then silent (record w { screen = screen_put w.screen win c })
+buffer_put w win c = if is_composed w then silent (record w { screen = screen_put w.screen win c })
     else (record w { fresh = c == line_feed }, encode_utf8 c)
 
 -- A character comes to a window as it is shown: a text buffer shows it, a grid has a place for it, and other
 -- windows drop it.
 unfoldable pub window_put : Scene → Entry → ℕ → ℕ → Said
-window_put w entry win c =
-    if entry.kind == text_buffer then buffer_put w win (shown c) else
+window_put w entry win c = if entry.kind == text_buffer then buffer_put w win (shown c) else
     silent (record w { windows = put_to w.windows win (shown c) })
 
 -- the stream of this one's identifier becomes this one
@@ -49,8 +44,7 @@ counted w stream c = with_stream w (one.after_put (streams.stream w.streams stre
 
 -- a character comes to one stream, and to its window if it has one
 unfoldable pub stream_put : Scene → ℕ → ℕ → Said
-stream_put w stream c =
-    if window_of_stream w stream == 0 then silent (counted w stream c) else
+stream_put w stream c = if window_of_stream w stream == 0 then silent (counted w stream c) else
     window_put (counted w stream c) (entry_of w stream) (window_of_stream w stream) c
 
 -- the stream to which what is put to a stream is put after that: its window's echo stream, 0 for none
@@ -60,8 +54,7 @@ echo_of w stream = if window_of_stream w stream == 0 then 0 else (entry_of w str
 -- so many streams at most, one the echo stream of the other
 unfoldable pub put_along : ℕ → Scene → ℕ → ℕ → Said
 put_along zero w stream c = silent w
-put_along (suc n) w stream c =
-    if streams.has w.streams stream
+put_along (suc n) w stream c = if streams.has w.streams stream
     then then_said (stream_put w stream c) (λ more. put_along n more (echo_of w stream) c) else silent w
 
 -- A character is put to a stream, then to its echo stream, and so on. No chain has more streams than there are,
@@ -77,19 +70,17 @@ put_chars w stream (c ∷ cs) = then_said (put_of w stream c) (λ more. put_char
 -- a stream of a text buffer window that has no echo stream
 abbrev pub is_plain_text : Scene → ℕ → Bool
 is_plain_text w stream =
-    streams.has w.streams stream && not (window_of_stream w stream == 0) && is_text w stream
+    streams.has w.streams stream && not (window_of_stream w stream == 0) && (entry_of w stream).kind == text_buffer
     && (entry_of w stream).echo == 0
 
 -- putting to one stream adds text, or makes a file longer
 abbrev pub stream_grows : Scene → ℕ → ℕ → Bool
-stream_grows w stream c =
-    let s = streams.stream w.streams stream in
-    if window_of_stream w stream == 0 then one.lengthens s.kind s c else is_text w stream
+stream_grows w stream c = let s = streams.stream w.streams stream in
+    if window_of_stream w stream == 0 then one.lengthens s.kind s c else (entry_of w stream).kind == text_buffer
 
 unfoldable pub grows_along : ℕ → Scene → ℕ → ℕ → Bool
 grows_along zero w stream c = false
-grows_along (suc n) w stream c =
-    streams.has w.streams stream
+grows_along (suc n) w stream c = streams.has w.streams stream
     && (stream_grows w stream c || grows_along n (stream_put w stream c).0 (echo_of w stream) c)
 
 -- the same for one of the streams to which a character goes
@@ -107,8 +98,7 @@ chain_end w stream = end_along (length w.streams) w stream
 
 -- the places of memory that so many characters put to a stream use; one that isn't open for writing uses none
 abbrev pub places_of : Scene → ℕ → ℕ → Places
-places_of w stream count =
-    let last = streams.stream w.streams (chain_end w stream) in
+places_of w stream count = let last = streams.stream w.streams (chain_end w stream) in
     if one.writable last then one.next_places last count else no_places
 
 -- the places of memory that so many characters got from a stream use; one that isn't open for reading uses none

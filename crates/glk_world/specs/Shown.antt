@@ -22,8 +22,7 @@ kept_rows [] = 0
 kept_rows (row ∷ rows) = if kept_rows rows == 0 && length row == 0 then 0 else kept_rows rows + 1
 
 abbrev pub shown_grid : Grid → ShownGrid
-shown_grid grid =
-    let rows = map trimmed grid.rows in record { id = grid.id; rows = take (kept_rows rows) rows }
+shown_grid grid = let rows = map trimmed grid.rows in record { id = grid.id; rows = take (kept_rows rows) rows }
 
 -- the rows of a grid among those that were shown last, none at first
 abbrev pub last_rows : List ShownGrid → ℕ → List (List ℕ)
@@ -36,20 +35,17 @@ same_rows rows others = pointwise (pointwise (λ c d. c == d)) rows others
 -- a row that isn't blank is shown behind a bar, on a line of its own: behind a line feed where something stands on the
 -- last line
 unfoldable pub said_row : Scene → List ℕ → Said
-said_row w row =
-    let start = if w.fresh then [] else line_feed ∷ [] in
+said_row w row = let start = if w.fresh then [] else line_feed ∷ [] in
     if length row == 0 then silent w else
     (record w { fresh = true }, start ++ (codes "| " ++ (encode_utf8_all (map shown row) ++ line_feed ∷ [])))
 
 -- a grid is shown where it differs from what was shown last
 unfoldable pub said_grid : Scene → ShownGrid → Said
-said_grid w grid =
-    if same_rows grid.rows (last_rows w.shown grid.id) then silent w else said_each said_row w grid.rows
+said_grid w grid = if same_rows grid.rows (last_rows w.shown grid.id) then silent w else said_each said_row w grid.rows
 
 -- the grids at a wait, in order of identifiers
 unfoldable pub show_rows : Scene → Said
-show_rows w =
-    let grids = map shown_grid w.windows.grids in
+show_rows w = let grids = map shown_grid w.windows.grids in
     then_said (said_each said_grid w grids) (λ more. silent (record more { shown = grids }))
 
 -- ---- the composed screen
@@ -67,8 +63,7 @@ is_prompting (Some call) = call.selector == prompt_selector
 
 -- the screen at a wait, and behind it the words of a prompt that waits
 unfoldable pub show_screen : Scene → Said
-show_screen w =
-    let prompt = if is_prompting w.waiting then prompt_words else [] in
+show_screen w = let prompt = if is_prompting w.waiting then prompt_words else [] in
     (record w { last_screen = Some (screen_of w) }, screen_of w ++ prompt)
 
 -- a screen is the one that was shown last
@@ -78,8 +73,7 @@ is_last (Some last) screen = pointwise (λ c d. c == d) last screen
 
 -- At the end of a run: the screen once more, where it differs from the one shown last.
 unfoldable pub end_text : Scene → Said
-end_text w =
-    if is_composed w && not (is_last w.last_screen (screen_of w))
+end_text w = if is_composed w && not (is_last w.last_screen (screen_of w))
     then (record w { last_screen = Some (screen_of w) }, screen_of w) else silent w
 
 -- ---- at a wait
@@ -100,8 +94,7 @@ show_prompt w = if is_composed w then silent w else (record w { fresh = false },
 
 -- a line that was taken, as shown
 unfoldable pub show_line : Scene → List ℕ → Said
-show_line w line =
-    if is_composed w then silent w else
+show_line w line = if is_composed w then silent w else
     (record w { fresh = true }, encode_utf8_all (map shown line) ++ line_feed ∷ [])
 
 -- a line was taken: nothing was shown since then

@@ -115,9 +115,6 @@ has_reference w id = objects.has reference_id w.references id
 abbrev pub reference_at : Scene → ℕ → FileReference
 reference_at w id = objects.at reference_id no_reference w.references id
 
-abbrev pub next_reference : Scene → ℕ → ℕ
-next_reference w id = objects.next reference_id w.references id
-
 -- ---- arguments, and calls that wait
 
 -- an argument, counted from 0; one that isn't there is 0
@@ -126,6 +123,5 @@ arg args i = slice_index args i
 
 -- a call waits with its first three arguments
 abbrev pub waits : Scene → ℕ → List ℕ → Scene
-waits w selector args = record w {
-  waiting = Some (record { selector = selector; arguments = arg args 0 ∷ arg args 1 ∷ arg args 2 ∷ [] });
-}
+waits w selector args = let first = arg args 0 ∷ arg args 1 ∷ arg args 2 ∷ [] in
+    record w { waiting = Some (record { selector = selector; arguments = first }) }

@@ -13,7 +13,7 @@ ghost use Rattle.glk_events.specs.Requests as requests;
 ghost use Rattle.glk_screen.specs.Texts.{screen_gone};
 ghost use Rattle.glk_world.specs.World.{after, silent, has_reference, reference_id};
 ghost use Rattle.glk_world.specs.Shown.{line_taken};
-ghost use Rattle.glk_world.specs.Calls.{is_identifier, new_id, with_reference, without_reference, can_open, opened_id};
+ghost use Rattle.glk_world.specs.Calls.{is_identifier, new_id, with_reference, without_reference, can_open};
 ghost use Rattle.glk_world.specs.Calls.{with_streams, with_window, without_each};
 ghost use Rattle.glk_world.specs.Calls.{window_counts, without_window, with_arrangement, window_cleared};
 ghost use Rattle.glk_world.specs.Calls.{cursor_moved};
@@ -73,7 +73,8 @@ impl World {
         requires { split ≡ 0 ⊎ IsTrue (windows.is_window self.old.scene.windows split) }
         ensures new { OnOk result
             (self.new ≡ after self.old (silent (with_window self.old.scene split method size kind rock))) }
-        ensures value { IfOk result (λ id. id ≡ opened_id self.old.scene split method kind) }
+        ensures value { IfOk result (λ id. id
+            ≡ (if can_open self.old.scene split method kind then self.old.scene.next_id else 0)) }
         ensures memory { OnErr result (IsTrue (can_open self.old.scene split method kind)) }
     {
         let id = self.next_id;

@@ -1,6 +1,7 @@
 //! Characters that are put to streams and got from them (Glk 0.7.5, "Streams" and "Echo Streams").
 ghost use Rattle.std.specs.Prelude.{◌≡◌, ◌≢◌, ◌⊎◌, ℕ, ◌+◌, ◌≤◌, ◌<◌, ◌^◌, [], not, length, true, false, OnOk, OnErr};
 ghost use Rattle.std.specs.Prelude.{IfOk, MatchOption, IsTrue, encode_utf8, ◌==◌};
+ghost use Rattle.std.specs.Option.{option_map};
 ghost use Rattle.glk_objects.specs.Objects.{object_place};
 ghost use Rattle.glk_streams.specs.Stream as one;
 ghost use Rattle.glk_streams.specs.Streams as streams;
@@ -14,7 +15,7 @@ ghost use Rattle.glk_world.specs.Putting.{stream_grows, echo_of, put_along, put_
 ghost use Rattle.glk_world.specs.Putting.{grows_along};
 ghost use Rattle.glk_world.specs.Putting.{put_grows, end_along, chain_end, places_of, places_read, leads_along};
 ghost use Rattle.glk_world.specs.Putting.{leads_to};
-ghost use Rattle.glk_world.specs.Calls.{got_from, chars_got, char_got, with_echo};
+ghost use Rattle.glk_world.specs.Calls.{chars_got, char_got, with_echo};
 
 use crate::{View, World};
 use glk_streams::{NO_PLACES, Places};
@@ -297,7 +298,8 @@ impl World {
     #[tactic(auto, using(crate::proofs::Kept::streams_kept), unfolding(crate::specs::Calls::char_got))]
     pub fn get(&mut self, stream: u32, found: u32) -> Option<u32>
         requires { IsTrue (streams.has self.old.scene.streams stream) }
-        ensures value { result ≡ one.char_of (got_from self.old.scene stream found) }
+        ensures value { result ≡ option_map (λ (got : ℕ × ℕ). got.0)
+            (one.read_next (streams.stream self.old.scene.streams stream) found) }
         ensures new { self.new ≡ after self.old (silent (char_got self.old.scene stream found)) }
     {
         self.streams.get(stream, found)

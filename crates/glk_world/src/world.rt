@@ -1,13 +1,12 @@
 //! The world of a run, and what can be looked at.
 ghost use Rattle.std.specs.Prelude.{ℕ, ◌≡◌, ◌≢◌, ◌≤◌, ◌+◌, [], length, map, IfOk, OnErr, MatchOption, None, true};
 ghost use Rattle.std.specs.Prelude.{false};
-ghost use Rattle.glk_objects.specs.Objects.{met_from};
+ghost use Rattle.glk_objects.specs.Objects.{next, met_from};
 ghost use Rattle.glk_streams.specs.Streams as streams;
-ghost use Rattle.glk_windows.specs.Windows as windows;
 ghost use Rattle.glk_windows.specs.Windows.{entry_id};
 ghost use Rattle.glk_world.specs.declared.views.View.TheVariants as view;
 ghost use Rattle.glk_world.specs.World.{after, silent, empty_world, has_reference, reference_at, reference_id};
-ghost use Rattle.glk_world.specs.World.{next_reference, arg, waits};
+ghost use Rattle.glk_world.specs.World.{arg, waits};
 ghost use Rattle.glk_world.specs.Kept.{flat_call, waiting_of};
 
 use crate::{FileReference, ShownGrid, View};
@@ -183,7 +182,7 @@ impl World {
 
     /// The least identifier of a window above a number, 0 where there is none.
     pub fn next_window(&self, id: u32) -> u32
-        ensures value { result ≡ windows.next self.now.scene.windows id }
+        ensures value { result ≡ next entry_id self.now.scene.windows.entries id }
         // Going on from one to the next meets each window once, in order of creation.
         ensures each { (more : ℕ)
             → met_from entry_id (length self.now.scene.windows.entries + more) self.now.scene.windows.entries 0
@@ -194,7 +193,7 @@ impl World {
 
     /// The same of a stream.
     pub fn next_stream(&self, id: u32) -> u32
-        ensures value { result ≡ streams.next self.now.scene.streams id }
+        ensures value { result ≡ next streams.id_of self.now.scene.streams id }
         ensures each { (more : ℕ)
             → met_from streams.id_of (length self.now.scene.streams + more) self.now.scene.streams 0
             ≡ map streams.id_of self.now.scene.streams }
@@ -205,7 +204,7 @@ impl World {
     /// The same of a file reference.
     #[tactic(auto, using(glk_objects::proofs::Meeting::meets_each))]
     pub fn next_ref(&self, id: u32) -> u32
-        ensures value { result ≡ next_reference self.now.scene id }
+        ensures value { result ≡ next reference_id self.now.scene.references id }
         ensures each { (more : ℕ)
             → met_from reference_id (length self.now.scene.references + more) self.now.scene.references 0
             ≡ map reference_id self.now.scene.references }

@@ -28,8 +28,7 @@ with_writes f dest r = with_value (record f { memory = all_spliced f.memory r.wr
 
 -- the values that a reply pushes, in order, and then its value where that is pushed
 abbrev pub with_pushes : FlatState → Dest → Reply → FlatState
-with_pushes f Push r =
-    let bytes = f.stack.bytes ++ flat_map bytes_of_word r.pushes in
+with_pushes f Push r = let bytes = f.stack.bytes ++ flat_map bytes_of_word r.pushes in
     with_value (record f { stack = record f.stack { bytes = bytes } }) 4 Push r.value
 with_pushes f dest r = record f { stack = record f.stack { bytes = f.stack.bytes ++ flat_map bytes_of_word r.pushes } }
 

@@ -1,5 +1,6 @@
 -- What is recorded of a run by an engine that can go back in it.
-use Rattle.std.specs.Prelude.{ℕ, ◌+◌, List, [], ◌∷◌, Option, Some, None}
+use Rattle.std.specs.Prelude.{ℕ, ◌+◌, List, [], ◌∷◌, Option}
+use Rattle.std.specs.Option.{option_map}
 use Rattle.gx_machine.specs.Machine.{FlatMachine}
 use Rattle.gx_machine.specs.Step.{cost_of}
 
@@ -15,8 +16,7 @@ no_events = record { before = []; after = [] }
 
 -- An event ends that began at this machine. What followed there before is cut off.
 abbrev pub logged : Option Log → FlatMachine → Option Log
-logged None m = None
-logged (Some log) m = Some (record { before = m ∷ log.before; after = [] })
+logged log m = option_map (λ l. record { before = m ∷ l.before; after = [] }) log
 
 -- the units that events took which began at these machines
 unfoldable pub units_of : List FlatMachine → ℕ

@@ -9,8 +9,7 @@ use Rattle.gx_machine.specs.Machine.{FlatMachine, Whole}
 
 -- the copy that the instruction at PC takes once its operands are popped, with the stub of its store operand on top
 unfoldable pub saved_copy : FlatState → Copy
-saved_copy f =
-    option_map_or (λ i. copy_of (cut f i.sp) i.dest i.next) (result_ok (instruction f))
+saved_copy f = option_map_or (λ i. copy_of (cut f i.sp) i.dest i.next) (result_ok (instruction f))
     (record { memory = f.memory; stack = f.stack.bytes; heap = f.heap })
 
 -- A restore: the machine goes back to a copy. Its copies for undo stay.

@@ -8,6 +8,5 @@ use Rattle.gx_machine.specs.Machine.{Whole}
 
 -- the machine before its first step, which keeps no copy, or the fault of entering the start function
 unfoldable pub first_machine : FlatStory → ℕ → Result Whole Fault
-first_machine story depth = do
-  f ← started story
-  Ok (record { machine = record { flat = f; undo = record { copies = []; depth = depth } }; asking = None })
+first_machine story depth = started story >>= λ f.
+    Ok (record { machine = record { flat = f; undo = record { copies = []; depth = depth } }; asking = None })

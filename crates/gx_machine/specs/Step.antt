@@ -51,9 +51,8 @@ asking_of effect = None
 -- One step within a budget.
 unfoldable pub stepped : Whole → ℕ → ℕ → Result ((Whole × ℕ) × Effect) Fault
 stepped m word budget =
-    if nat_lt budget (cost_of m.machine) then Ok ((m, budget), Spent) else (do
-      r ← step_of m.machine word
-      Ok ((record { machine = r.0; asking = asking_of r.1 }, budget - cost_of m.machine), r.1))
+    if nat_lt budget (cost_of m.machine) then Ok ((m, budget), Spent) else step_of m.machine word >>= λ r.
+    Ok ((record { machine = r.0; asking = asking_of r.1 }, budget - cost_of m.machine), r.1)
 
 -- the steps that write memory, resize it or copy it: those of certain instructions, and no item
 abbrev pub IsModeWriting : FlatMachine → Mode → Type 0

@@ -24,8 +24,7 @@ use Rattle.gx_operands.specs.declared.cursor.Cursor.{Cursor}
 
 -- the number at PC in one, two or four bytes, and the address after them
 unfoldable pub opcode : FlatState → Result (ℕ × ℕ) Fault
-opcode f =
-    number_in 1 f.memory f.pc >>= λ first.
+opcode f = number_in 1 f.memory f.pc >>= λ first.
     if nat_lt first 0x80 then Ok (first, f.pc + 1) else
     if nat_lt first 0xC0 then (number_in 2 f.memory f.pc >>= λ number. Ok (number - 0x8000, f.pc + 2)) else
     number_in 4 f.memory f.pc >>= λ number. Ok (number - 0xC0000000, f.pc + 4)
@@ -43,20 +42,13 @@ datum memory p n = number_in n memory p.at >>= λ v. Ok (v, record p { at = p.at
 unfoldable pub load_by : FlatState → ℕ → Addressing → Cursor → Result (ℕ × Cursor) Fault
 load_by f width Zero p = Ok (0, p)
 load_by f width (Constant n) p = datum f.memory p n >>= λ d. Ok (low width (extended n d.0), d.1)
-load_by f width (Memory n) p = do
-  d ← datum f.memory p n
-  v ← number_in width f.memory d.0
-  Ok (v, d.1)
+load_by f width (Memory n) p = datum f.memory p n >>= λ d. number_in width f.memory d.0 >>= λ v. Ok (v, d.1)
 load_by f width Top p =
     lifted (peeked f.stack.bytes (frame_of f) p.popped) >>= λ v. Ok (low width v, record p { popped = p.popped + 1 })
-load_by f width (Local n) p = do
-  d ← datum f.memory p n
-  v ← lifted (local_at f.stack.bytes (frame_of f) d.0 width)
-  Ok (v, d.1)
-load_by f width (Ram n) p = do
-  d ← datum f.memory p n
-  v ← number_in width f.memory (ram_address f d.0)
-  Ok (v, d.1)
+load_by f width (Local n) p =
+    datum f.memory p n >>= λ d. lifted (local_at f.stack.bytes (frame_of f) d.0 width) >>= λ v. Ok (v, d.1)
+load_by f width (Ram n) p =
+    datum f.memory p n >>= λ d. number_in width f.memory (ram_address f d.0) >>= λ v. Ok (v, d.1)
 
 unfoldable pub load : FlatState → ℕ → ℕ → Cursor → Result (ℕ × Cursor) Fault
 load f width nibble p = ok_or (addressing nibble) BadMode >>= λ mode. load_by f width mode p
@@ -86,8 +78,7 @@ unfoldable pub with_operand : FlatState → ℕ → Kind → ℕ → Operands �
 with_operand f width Load nibble o =
     load f width nibble o.cursor >>= λ v. Ok (record o { loads = o.loads ++ v.0 ∷ []; cursor = v.1 })
 with_operand f width Store nibble o =
-    destination f nibble o.cursor >>= λ d.
-    let next : Operands = record o { cursor = d.1 } in
+    destination f nibble o.cursor >>= λ d. let next : Operands = record o { cursor = d.1 } in
     Ok (if o.stored then record next { second = d.0 } else record next { dest = d.0; stored = true })
 
 -- the nibble of an operand's mode: two in a byte, the low one first
@@ -106,8 +97,7 @@ operands f row modes (suc n) i o = operand f row modes i o >>= λ o. operands f 
 -- all operands of a row whose modes stand at an address
 unfoldable pub all_operands : FlatState → Row → ℕ → Result Operands Fault
 all_operands f row modes =
-    let count = row.loads + row.stores in
-    let p : Cursor = record { at = modes + (count + 1) / 2; popped = 0 } in
+    let count = row.loads + row.stores in let p : Cursor = record { at = modes + (count + 1) / 2; popped = 0 } in
     let o : Operands = record { loads = []; dest = dest.Nowhere; second = dest.Nowhere; stored = false; cursor = p } in
     if nat_le p.at (length f.memory) then operands f row modes count 0 o else Err BadAddress
 
@@ -124,9 +114,7 @@ pub record Instruction : Type 0 where
 -- The instruction at PC.
 unfoldable pub instruction : FlatState → Result Instruction Fault
 instruction f =
-    opcode f >>= λ number.
-    ok_or (row_of number.0) BadOpcode >>= λ row.
-    all_operands f row number.1 >>= λ o.
+    opcode f >>= λ number. ok_or (row_of number.0) BadOpcode >>= λ row. all_operands f row number.1 >>= λ o.
     let sp = sp_of f - 4 * o.cursor.popped in
     Ok (record { row = row; loads = o.loads; dest = o.dest; second = o.second; next = o.cursor.at; sp = sp })
 

@@ -8,7 +8,7 @@ use Rattle.std.specs.Cmp.Lexicographic.{slice_cmp}
 use Rattle.std.specs.Ordering.{nat_cmp}
 use Rattle.std.specs.FinMap.{FinMap, code, from_entries, get}
 use Rattle.gx_outside.specs.Files.{Files}
-use Rattle.gx_outside.specs.Outside.{FlatSource, FlatSink, FlatShelf, no_call, raised, counted_call}
+use Rattle.gx_outside.specs.Outside.{FlatSource, FlatSink, FlatShelf, no_call, raised_by, counted_call}
 use Rattle.gx_outside.specs.declared.calls.Calls.{Calls}
 
 -- the numbers of the calls that fail, and the counts
@@ -22,7 +22,7 @@ no_calls fails = record { fails = fails; counts = no_call }
 
 -- the next call's number is among those that fail
 abbrev pub fails_next : HeldCalls → Bool
-fails_next c = list_any (λ n. n == raised c.counts.made) c.fails
+fails_next c = list_any (λ n. n == raised_by 1 c.counts.made) c.fails
 
 -- one more call was made, and wanted memory or didn't
 abbrev pub after_call : HeldCalls → Bool → HeldCalls

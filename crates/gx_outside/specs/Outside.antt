@@ -35,30 +35,21 @@ pub record FlatShelf : Type 0 where
 abbrev pub no_call : Calls
 no_call = record { made = 0; faults = 0; failing = false; wanting = false }
 
--- a count one higher, which stands still at 2^64 - 1
-abbrev pub raised : ℕ → ℕ
-raised count = min (count + 1) (2 ^ 64 - 1)
-
--- the same so many times
+-- a count so much higher, which stands still at 2^64 - 1
 abbrev pub raised_by : ℕ → ℕ → ℕ
-raised_by zero count = count
-raised_by (suc n) count = raised (raised_by n count)
+raised_by more count = min (count + more) (2 ^ 64 - 1)
 
--- The bytes offered in all, once a read has offered so many; they stand still at 2^64 - 1. Then those after so many
--- reads that each offered as many.
-abbrev pub offered_by : ℕ → ℕ → ℕ
-offered_by room offered = min (offered + room) (2 ^ 64 - 1)
-
-abbrev pub offered_in : ℕ → ℕ → ℕ → ℕ
-offered_in zero room offered = offered
-offered_in (suc reads) room offered = offered_by room (offered_in reads room offered)
+-- a count that rises by as much so many times
+abbrev pub raised_times : ℕ → ℕ → ℕ → ℕ
+raised_times zero more count = count
+raised_times (suc n) more count = raised_by more (raised_times n more count)
 
 -- the counts after one more call, which failed or not, and wanted memory or not
 abbrev pub counted_call : Calls → Bool → Bool → Calls
 counted_call c failed wanted =
     record {
-      made = raised c.made;
-      faults = if failed then raised c.faults else c.faults;
+      made = raised_by 1 c.made;
+      faults = if failed then raised_by 1 c.faults else c.faults;
       failing = failed;
       wanting = wanted;
     }
@@ -66,9 +57,9 @@ counted_call c failed wanted =
 -- One more call was made. The failures rose by it where it failed, and stand where it didn't; the device knows
 -- whether it failed, and whether it wanted memory.
 pub record HasCause (before now : Calls) (failed wanted : Bool) : Type 0 where
-  pub made : now.made ≡ raised before.made
+  pub made : now.made ≡ raised_by 1 before.made
   pub later : before.faults ≤ now.faults
-  pub rose : failed ≡ true → now.faults ≡ raised before.faults
+  pub rose : failed ≡ true → now.faults ≡ raised_by 1 before.faults
   pub kept : failed ≡ false → now.faults ≡ before.faults
   pub last : now.failing ≡ failed
   pub want : now.wanting ≡ wanted
@@ -94,9 +85,8 @@ pub record Sends {T E : Type 0} (tells : Bool) (before after bytes : List ℕ) (
 
 -- what `load` hands out is within the bound, whatever stands on the shelf
 abbrev pub IsBounded : ℕ → Load → Type 0
-IsBounded most of_load.Missing = Unit {0}
-IsBounded most of_load.TooLong = Unit {0}
 IsBounded most (of_load.Found bytes) = length bytes ≤ most
+IsBounded most load = Unit {0}
 
 -- the files of other names stand
 abbrev pub KeepsOthers : Files → Files → List ℕ → Type 0

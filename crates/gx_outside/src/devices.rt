@@ -14,9 +14,8 @@ ghost use Rattle.std.specs.Prelude.{◌≡◌, ◌≤◌, length, IfOk};
 ghost use Rattle.gx_outside.specs.Outside.{FlatSource, FlatSink, FlatShelf};
 ghost use Rattle.gx_outside.specs.Reads.{SourceRead, SourceCall, given};
 ghost use Rattle.gx_outside.specs.Sends.{Send, SinkCall};
-ghost use Rattle.gx_outside.specs.Shelves.{Exchange, ShelfCall, loads, stores, removes, looks, answer_as, loaded};
-ghost use Rattle.gx_outside.specs.Shelves.{stored};
-ghost use Rattle.gx_outside.specs.Shelves.{was};
+ghost use Rattle.gx_outside.specs.Shelves.{Exchange, ShelfCall, load_file, store_file, remove_file, find_file};
+ghost use Rattle.gx_outside.specs.Shelves.{answer_as, loaded, was_stored, was_there};
 
 use gx_words::Bytes;
 use std::alloc::{AllocError, AllocFailed};
@@ -122,21 +121,21 @@ pub trait Shelf {
 
     /// The file of a name, if it has at most `most` bytes. No file changes.
     fn load(&mut self, name: &str, most: usize) -> Result<Load, ShelfFault>
-        ensures { called self.old (loads name.now most, answer_as loaded result) self.new };
+        ensures { called self.old (load_file name.now most, answer_as loaded result) self.new };
 
     /// Makes the name hold the bytes. After a refusal the file of this one name is open: it may
     /// be the old one, the new one, a part of the new one, or gone.
     fn store(&mut self, name: &str, bytes: &[u8]) -> Result<(), ShelfFault>
-        ensures { called self.old (stores name.now bytes.now, answer_as (λ _. stored) result) self.new };
+        ensures { called self.old (store_file name.now bytes.now, answer_as (λ _. was_stored) result) self.new };
 
     /// Removes the file of a name, and answers whether there was one. After a refusal the file of
     /// this one name is open.
     fn remove(&mut self, name: &str) -> Result<bool, ShelfFault>
-        ensures { called self.old (removes name.now, answer_as was result) self.new };
+        ensures { called self.old (remove_file name.now, answer_as was_there result) self.new };
 
     /// Whether the name has a file. No file changes.
     fn has(&mut self, name: &str) -> Result<bool, ShelfFault>
-        ensures { called self.old (looks name.now, answer_as was result) self.new };
+        ensures { called self.old (find_file name.now, answer_as was_there result) self.new };
 
     ghost called_so: { (before : Self) (c : Exchange) (now : Self)
         → called before c now → ShelfCall (seen before) c (seen now) };

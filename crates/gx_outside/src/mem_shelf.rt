@@ -5,8 +5,8 @@ ghost use Rattle.std.specs.FinMap.{empty, insert, remove};
 ghost use Rattle.gx_outside.specs.Files.{with_file, no_files};
 ghost use Rattle.gx_outside.specs.Fakes.{no_calls, fails_next, after_call, seen_shelf, files_of};
 ghost use Rattle.gx_outside.specs.Outside.{shelf_cause};
-ghost use Rattle.gx_outside.specs.Shelves.{ShelfCall, AnswerMayWant, load_of, answer_for, loads, stores, removes};
-ghost use Rattle.gx_outside.specs.Shelves.{looks, answer_as, loaded, stored, was};
+ghost use Rattle.gx_outside.specs.Shelves.{ShelfCall, AnswerMayWant, load_of, answer_for, load_file, store_file};
+ghost use Rattle.gx_outside.specs.Shelves.{remove_file, find_file, answer_as, loaded, was_stored, was_there};
 
 use crate::numbered::NumberedCalls;
 use crate::{Load, Shelf, ShelfFault};
@@ -74,8 +74,8 @@ impl MemShelf {
     /// The file of a name, if it has at most `most` bytes.
     fn find(&self, name: &str, most: usize) -> Result<Load, AllocError>
         ensures found { IfOk result (λ load. load ≡ load_of most (files_of self.now.files name.now)) }
-        ensures memory { OnErr result (AnswerMayWant (loads name.now most)
-            (answer_for (files_of self.now.files) (loads name.now most))) }
+        ensures memory { OnErr result (AnswerMayWant (load_file name.now most)
+            (answer_for (files_of self.now.files) (load_file name.now most))) }
     {
         match self.get(name) {
             None => Ok(Load::Missing),
@@ -104,7 +104,7 @@ impl Shelf for MemShelf {
     fn load(&mut self, name: &str, most: usize) -> Result<Load, ShelfFault>
         ensures fails { (shelf_cause result).0 ≡ fails_next self.old.calls }
         ensures calls { self.new ≡ record self.old { calls = after_call self.old.calls (shelf_cause result).1 } }
-        ensures does { ShelfCall (seen_shelf self.old) (loads name.now most, answer_as loaded result)
+        ensures does { ShelfCall (seen_shelf self.old) (load_file name.now most, answer_as loaded result)
             (seen_shelf self.new) }
     {
         if self.calls.begin() {
@@ -121,7 +121,8 @@ impl Shelf for MemShelf {
         ensures calls { self.new.calls ≡ after_call self.old.calls (shelf_cause result).1 }
         ensures ok { OnOk result (self.new.files ≡ insert self.old.files name.now bytes.now) }
         ensures err { OnErr result (self.new.files ≡ self.old.files) }
-        ensures does { ShelfCall (seen_shelf self.old) (stores name.now bytes.now, answer_as (λ _. stored) result)
+        ensures does { ShelfCall (seen_shelf self.old)
+            (store_file name.now bytes.now, answer_as (λ _. was_stored) result)
             (seen_shelf self.new) }
     {
         if self.calls.begin() {
@@ -139,7 +140,8 @@ impl Shelf for MemShelf {
         ensures calls { self.new.calls ≡ after_call self.old.calls false }
         ensures ok { OnOk result (self.new.files ≡ remove self.old.files name.now) }
         ensures err { OnErr result (self.new.files ≡ self.old.files) }
-        ensures does { ShelfCall (seen_shelf self.old) (removes name.now, answer_as was result) (seen_shelf self.new) }
+        ensures does { ShelfCall (seen_shelf self.old) (remove_file name.now, answer_as was_there result)
+            (seen_shelf self.new) }
     {
         if self.calls.begin() {
             return Err(ShelfFault::Failed);
@@ -150,7 +152,8 @@ impl Shelf for MemShelf {
     fn has(&mut self, name: &str) -> Result<bool, ShelfFault>
         ensures fails { is_err result ≡ fails_next self.old.calls }
         ensures calls { self.new ≡ record self.old { calls = after_call self.old.calls false } }
-        ensures does { ShelfCall (seen_shelf self.old) (looks name.now, answer_as was result) (seen_shelf self.new) }
+        ensures does { ShelfCall (seen_shelf self.old) (find_file name.now, answer_as was_there result)
+            (seen_shelf self.new) }
     {
         if self.calls.begin() {
             return Err(ShelfFault::Failed);

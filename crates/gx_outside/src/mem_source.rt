@@ -1,7 +1,7 @@
 //! A source in memory.
 ghost use Rattle.std.specs.Prelude.{◌≡◌, ◌≤◌, ◌++◌, min, length, false, take, drop, is_err, IfOk, OnErr};
 ghost use Rattle.gx_outside.specs.Fakes.{no_calls, fails_next, after_call, seen_source};
-ghost use Rattle.gx_outside.specs.Outside.{offered_by};
+ghost use Rattle.gx_outside.specs.Outside.{raised_by};
 ghost use Rattle.gx_outside.specs.Reads.{SourceCall, given};
 
 use crate::numbered::NumberedCalls;
@@ -65,7 +65,7 @@ impl Source for MemSource {
         ensures fails { is_err result ≡ fails_next self.old.calls }
         ensures calls { self.new.calls ≡ after_call self.old.calls false }
         ensures piece { self.new.piece ≡ self.old.piece }
-        ensures offered { self.new.offered ≡ offered_by (length into.old) self.old.offered }
+        ensures offered { self.new.offered ≡ raised_by (length into.old) self.old.offered }
         ensures count { IfOk result (λ count. count
             ≡ min (min (length into.old) self.old.piece) (length self.old.left)) }
         ensures given { IfOk result (λ count. into.new ≡ take count self.old.left ++ drop count into.old) }

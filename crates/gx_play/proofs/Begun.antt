@@ -13,7 +13,7 @@ use Rattle.gx_session.specs.Devices.{Devices}
 use Rattle.gx_play.specs.declared.command.Job.{Job}
 use Rattle.gx_play.specs.declared.command.Job.TheVariants.{Play, Rewind, Check, Work, Asm, List as Listing}
 use Rattle.gx_play.specs.Commands.{Command}
-use Rattle.gx_play.specs.Outcomes.{CommandOutcome, refused, tells, runs, rewinds, outcome_of}
+use Rattle.gx_play.specs.Outcomes.{CommandOutcome, refused, answers_with, runs, rewinds, outcome_of}
 use Rattle.gx_play.specs.Outcomes.{outcome_of_job, outcome_of_code, outcome_of_listing, outcome_of_start}
 use Rattle.gx_play.proofs.Outcomes.{story_in_file, text_in_file, outcome_of_check, outcome_of_text, outcome_of_list, outcome_of_story}
 use Rattle.gx_play.specs.Answers.{BeginsAfter, IsRewindOf, IsRunOf, IsUnrun, Plays}
@@ -32,7 +32,7 @@ module _ {A : Type 0} (ended : Ended A) (entry exit : Devices) where
   -- A RUN was begun, or none was
   plays-begun : (outcome : CommandOutcome) → Plays outcome entry exit ended → IsRunBegun outcome entry exit ended ⊎ IsUnrun entry exit
   plays-begun (refused status fault at) plays = inr plays.0
-  plays-begun (tells status output) plays = inr plays.0
+  plays-begun (answers_with status output) plays = inr plays.0
   plays-begun (runs seed start) plays = inl plays
   plays-begun (rewinds seed back start) plays = inl plays
 

@@ -12,7 +12,7 @@ use Rattle.gx_session.specs.Devices.{Devices}
 use Rattle.gx_session.specs.Runs.{IsRun, IsSession, Report, report_of}
 use Rattle.gx_session.specs.Session.{final_of, stop_status}
 use Rattle.gx_play.specs.Commands.{Command}
-use Rattle.gx_play.specs.Outcomes.{CommandOutcome, refused, tells, runs, rewinds, outcome_of}
+use Rattle.gx_play.specs.Outcomes.{CommandOutcome, refused, answers_with, runs, rewinds, outcome_of}
 use Rattle.gx_play.specs.Outcomes.{status_of_outcome}
 use Rattle.gx_play.specs.Answers.{IsRunTo, IsRewindOf, SendsOutput, Plays}
 use Rattle.gx_play.specs.Loading.{PlaysOrNot}
@@ -95,7 +95,7 @@ module _ {A : Type 0} (ended : Ended A) (entry exit : Devices) where
 
     outcome-ends : (outcome : CommandOutcome) → Plays outcome entry exit ended → entry.source.tells ≡ true → entry.shelf.tells ≡ true → (ended.status ≡ status_of_outcome outcome) ⊎ (ended.status ≡ status_no_memory)
     outcome-ends (refused status fault at) unbegun source-tells shelf-tells = inl unbegun.1.0.status_is
-    outcome-ends (tells status output) told source-tells shelf-tells = output-ends status output entry.sink exit.sink exit.sends told.1 (λ e. fine.sink (counts.sink.rose e))
+    outcome-ends (answers_with status output) told source-tells shelf-tells = output-ends status output entry.sink exit.sink exit.sends told.1 (λ e. fine.sink (counts.sink.rose e))
     outcome-ends (runs seed start) begun source-tells shelf-tells = some-ends seed start begun.shelf begun.asked ended.machine begun.does.tells begun.run source-tells shelf-tells
     outcome-ends (rewinds seed back start) begun source-tells shelf-tells = tape-ends seed back start begun.shelf begun.asked begun.does.tells begun.run source-tells shelf-tells
 

@@ -6,7 +6,7 @@ use Rattle.gx_outside.specs.Chains.{Chain}
 use Rattle.gx_outside.specs.Outside.{FlatShelf, FlatSink}
 use Rattle.gx_outside.specs.Reads.{SourceCall}
 use Rattle.gx_outside.specs.Sends.{Send, SinkCall}
-use Rattle.gx_outside.specs.Shelves.{loads, Exchange, Trace, ShelfCall}
+use Rattle.gx_outside.specs.Shelves.{load_file, Exchange, Trace, ShelfCall}
 use Rattle.gx_story.specs.Stories.{FlatStory, is_checked}
 use Rattle.gx_asm.specs.declared.faults.AsmFault.{AsmFault}
 use Rattle.gx_asm.specs.declared.faults.ListFault.{ListFault}
@@ -26,7 +26,7 @@ use Rattle.gx_play.specs.declared.loading.Refusal.{Refusal}
 use Rattle.gx_play.specs.Commands.{Command, command_of}
 use Rattle.gx_play.specs.Constants.{most_text}
 use Rattle.gx_play.specs.Jobs.{work_line, check_told}
-use Rattle.gx_play.specs.Outcomes.{CommandOutcome, refused, tells, outcome_of_job}
+use Rattle.gx_play.specs.Outcomes.{CommandOutcome, refused, answers_with, outcome_of_job}
 use Rattle.gx_play.specs.Outcomes.{outcome_of_code, outcome_of_listing}
 use Rattle.gx_play.proofs.Outcomes.{story_in_file, text_in_file, outcome_of_check, outcome_of_text, outcome_of_list}
 use Rattle.gx_play.specs.Answers.{HasNoMachine, IsUnrun, SendsOutput}
@@ -169,8 +169,8 @@ module _ {A : Type 0} (ended : Ended A) where
 
   plays-told : (outcome : CommandOutcome) (entry exit : Devices) → IsUnrun entry exit → JobTells outcome entry.sink exit.sink exit.sends ended → PlaysOrNot outcome entry exit ended
   plays-told (refused status fault at) entry exit unrun told = inl (unrun, told)
-  plays-told (tells status output) entry exit unrun (inl once) = inl (unrun, once)
-  plays-told (tells status output) entry exit unrun (inr nothing) = inr (inr (unrun, nothing))
+  plays-told (answers_with status output) entry exit unrun (inl once) = inl (unrun, once)
+  plays-told (answers_with status output) entry exit unrun (inr nothing) = inr (inr (unrun, nothing))
   plays-told outcome entry exit unrun none = absurd none
 
   -- A JOB that hands no machine back, over the file that was loaded
@@ -204,9 +204,9 @@ module _ {A : Type 0} (ended : Ended A) where
 
   -- JOB WORK
   module _ (number : ℕ) (command : Command) (d : Devices) (before now : FlatSink) (sends : List Send) where
-    work-done : IsTold ended → JobTells (tells status_ended (work_line number)) before now sends ended → BlamesSink before now ended.status → IsJobDone (Work number) command (record d { sink = before; sends = []; asked = [] }) (record d { sink = now; sends = sends; asked = [] }) ended
+    work-done : IsTold ended → JobTells (answers_with status_ended (work_line number)) before now sends ended → BlamesSink before now ended.status → IsJobDone (Work number) command (record d { sink = before; sends = []; asked = [] }) (record d { sink = now; sends = sends; asked = [] }) ended
     work-done t tell blames =
-        told-done (Work number) command d d.shelf d.shelf before now sends [] (d.shelf.files command.story) (tells status_ended (work_line number)) ⊥ (λ plays. plays) (λ _. refl) refl tt refl (omega arith)
+        told-done (Work number) command d d.shelf d.shelf before now sends [] (d.shelf.files command.story) (answers_with status_ended (work_line number)) ⊥ (λ plays. plays) (λ _. refl) refl tt refl (omega arith)
         (blames-none d.shelf.calls d.shelf.calls ⊥ refl (λ e. e)) (λ e. e) t tell blames
 
     pub work-told : SendsOutput status_ended 0 0 0 (work_line number) before now sends ended → BlamesSink before now ended.status → IsJobDone (Work number) command (record d { sink = before; sends = []; asked = [] }) (record d { sink = now; sends = sends; asked = [] }) ended
@@ -259,14 +259,14 @@ module _ {A : Type 0} (ended : Ended A) where
     pub refused-done : (job : Job) (r : Refusal) (l : LoadsFile most defined before now command.story asked (Err r)) → Blames before.calls now.calls (let e : Result X Refusal = Err r in e ≡ Err refusal.Shelf)
         → ((fault : ℕ) → (let e : Result X Refusal = Err r in e ≡ Err (refusal.BadStory fault)) → fault ≤ 7) → HasNoMachine ended (refusal_status r) (refusal_fault r) 0 0
         → ((fault : ℕ) → defined l.file ≡ Err fault → outcome_of_job job command l.file entry ≡ refused status_bad_story fault 0) → (IsLoadable most l.file → JobMayWant job l.file)
-        → LoadsFirst job command l.file ((loads command.story most, l.answer) ∷ []) → IsJobDone job command entry exit ended
+        → LoadsFirst job command l.file ((load_file command.story most, l.answer) ∷ []) → IsJobDone job command entry exit ended
     refused-done job r l count small absent bad may first =
         let which = which-of r absent in
         record {
           file = l.file;
           file_is = l.file_is;
           loads = subst (LoadsFirst job command l.file) (sym l.asked_are) first;
-          plays = not-loaded l.file r (outcome_of_job job command l.file entry) (record { asked = once-asked asked (loads command.story most, l.answer) l.asked_are; source = refl; reads = refl; words = refl }) bad l.gives absent;
+          plays = not-loaded l.file r (outcome_of_job job command l.file entry) (record { asked = once-asked asked (load_file command.story most, l.answer) l.asked_are; source = refl; reads = refl; words = refl }) bad l.gives absent;
           memory = λ e. may (wants l.file r l.gives absent e);
           began = λ e. absurd (grind (arith, which, e));
           counts = record {
@@ -286,22 +286,22 @@ module _ {A : Type 0} (ended : Ended A) where
     pub check-told : (story : FlatStory) (l : LoadsFile ceiling story_in_file before now command.story asked (Ok story)) → Blames before.calls now.calls (let e : Result FlatStory Refusal = Ok story in e ≡ Err refusal.Shelf)
         → SendsOutput (check_told (is_checked story)).0 0 0 0 (check_told (is_checked story)).1 taken took sends ended → IsJobDone Check command (record d { sink = taken; shelf = before; sends = []; asked = [] }) (record d { sink = took; shelf = now; sends = sends; asked = asked }) ended
     check-told story l count once =
-        told-done Check command d before now taken took sends asked l.file (tells (check_told (is_checked story)).0 (check_told (is_checked story)).1) _ (λ plays. plays) l.file_is (ap outcome_of_check l.gives) (loadable l.file story l.gives)
-        (subst (LoadsFirst Check command l.file) (sym l.asked_are) (refl, l.handed)) (once-asked asked (loads command.story ceiling, l.answer) l.asked_are) count (λ e. absurd cc)
+        told-done Check command d before now taken took sends asked l.file (answers_with (check_told (is_checked story)).0 (check_told (is_checked story)).1) _ (λ plays. plays) l.file_is (ap outcome_of_check l.gives) (loadable l.file story l.gives)
+        (subst (LoadsFirst Check command l.file) (sym l.asked_are) (refl, l.handed)) (once-asked asked (load_file command.story ceiling, l.answer) l.asked_are) count (λ e. absurd cc)
         (sent (check_told (is_checked story)).0 (check_told (is_checked story)).1 taken took sends (either (is_checked story)) once) (inl once) blames
 
     pub asm-told : (text : List ℕ) (l : LoadsFile most_text text_in_file before now command.story asked (Ok text)) → Blames before.calls now.calls (let e : Result (List ℕ) Refusal = Ok text in e ≡ Err refusal.Shelf) → (ended.status ≡ status_bad_text → (1 ≤ ended.fault) × (ended.fault ≤ 4))
         → JobTells (outcome_of_code (assembled text)) taken took sends ended → IsJobDone Asm command (record d { sink = taken; shelf = before; sends = []; asked = [] }) (record d { sink = took; shelf = now; sends = sends; asked = asked }) ended
     asm-told text l count number tell =
         told-done Asm command d before now taken took sends asked l.file (outcome_of_code (assembled text)) _ (λ plays. plays) l.file_is (ap outcome_of_text l.gives) (text-loadable l.file text l.gives)
-        (subst (LoadsFirst Asm command l.file) (sym l.asked_are) (refl, l.handed)) (once-asked asked (loads command.story most_text, l.answer) l.asked_are) count (λ e. absurd cc)
+        (subst (LoadsFirst Asm command l.file) (sym l.asked_are) (refl, l.handed)) (once-asked asked (load_file command.story most_text, l.answer) l.asked_are) count (λ e. absurd cc)
         (code-told (assembled text) taken took sends number tell) tell blames
 
     pub list-told : (story : FlatStory) (l : LoadsFile ceiling story_in_file before now command.story asked (Ok story)) → Blames before.calls now.calls (let e : Result FlatStory Refusal = Ok story in e ≡ Err refusal.Shelf) → (ended.status ≡ status_no_listing → (1 ≤ ended.fault) × (ended.fault ≤ 5))
         → JobTells (outcome_of_listing (listed_story story)) taken took sends ended → IsJobDone Listing command (record d { sink = taken; shelf = before; sends = []; asked = [] }) (record d { sink = took; shelf = now; sends = sends; asked = asked }) ended
     list-told story l count number tell =
         told-done Listing command d before now taken took sends asked l.file (outcome_of_listing (listed_story story)) _ (λ plays. plays) l.file_is (ap outcome_of_list l.gives) (loadable l.file story l.gives)
-        (subst (LoadsFirst Listing command l.file) (sym l.asked_are) (refl, l.handed)) (once-asked asked (loads command.story ceiling, l.answer) l.asked_are) count (λ e. absurd cc)
+        (subst (LoadsFirst Listing command l.file) (sym l.asked_are) (refl, l.handed)) (once-asked asked (load_file command.story ceiling, l.answer) l.asked_are) count (λ e. absurd cc)
         (listing-told (listed_story story) taken took sends number tell) tell blames
 
   -- THE WHOLE CALL

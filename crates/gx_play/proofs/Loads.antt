@@ -4,7 +4,7 @@ use Rattle.std.proofs.lemmas.Bool.{lt-ltb, le-ltb, ltb-true, ltb-false}
 use Rattle.std.proofs.lemmas.List.{length-replicate}
 use Rattle.gx_words.specs.Constants.{ceiling}
 use Rattle.gx_outside.specs.Outside.{FlatShelf, IsBounded}
-use Rattle.gx_outside.specs.Shelves.{loads, loaded, load_of, AnswerMayWant, ShelfCall}
+use Rattle.gx_outside.specs.Shelves.{load_file, loaded, load_of, AnswerMayWant, ShelfCall}
 use Rattle.gx_outside.specs.declared.devices.Load.{Load}
 use Rattle.gx_outside.specs.declared.devices.Load.TheVariants.{Missing, TooLong, Found}
 use Rattle.gx_outside.specs.declared.devices.ShelfFault.{ShelfFault}
@@ -71,11 +71,11 @@ found-is : (most : ℕ) (bytes : List ℕ) (file : Option (List ℕ)) → loaded
 found-is most bytes None is = absurd cc
 found-is most bytes (Some there) is = ap (λ (x : List ℕ). Some x) (found-by most bytes there (nat_lt most (length there)) is)
 
-wants-by : (most : ℕ) (name bytes : List ℕ) (b : Bool) → nat_lt most (length bytes) ≡ b → AnswerMayWant (loads name most) (loaded (if b then TooLong else Found bytes)) → length bytes ≤ most
+wants-by : (most : ℕ) (name bytes : List ℕ) (b : Bool) → nat_lt most (length bytes) ≡ b → AnswerMayWant (load_file name most) (loaded (if b then TooLong else Found bytes)) → length bytes ≤ most
 wants-by most name bytes true e may = absurd may
 wants-by most name bytes false e may = may
 
-wants-file : (most : ℕ) (name : List ℕ) (file : Option (List ℕ)) → AnswerMayWant (loads name most) (loaded (load_of most file)) → IsLoadable most file
+wants-file : (most : ℕ) (name : List ℕ) (file : Option (List ℕ)) → AnswerMayWant (load_file name most) (loaded (load_of most file)) → IsLoadable most file
 wants-file most name None may = absurd may
 wants-file most name (Some bytes) may = wants-by most name bytes (nat_lt most (length bytes)) refl may
 
@@ -93,7 +93,7 @@ module _ (most : ℕ) (name : List ℕ) (before now : FlatShelf) where
       (Some longer.0, ap (λ (x : Load). loaded x) (sym (sized most longer.0 true (lt-ltb most (length longer.0) longer.1))))
   some-handed (Found bytes) fits = (Some bytes, ap (λ (x : Load). loaded x) (sym (sized most bytes false (le-ltb most (length bytes) fits))))
 
-  handed-by : (load : Load) (b : Bool) → before.tells ≡ b → ShelfCall before (loads name most, Ok (loaded load)) now → Handed load
+  handed-by : (load : Load) (b : Bool) → before.tells ≡ b → ShelfCall before (load_file name most, Ok (loaded load)) now → Handed load
   handed-by load true tells does = record { file = before.files name; file_is = λ _. refl; handed = (does.files tells).0 }
   handed-by load false tells does =
       let some = some-handed load does.answer in
@@ -101,16 +101,16 @@ module _ (most : ℕ) (name : List ℕ) (before now : FlatShelf) where
 
   module _ {X : Type 0} (defined : Option (List ℕ) → Result X ℕ) where
     -- what the file is then
-    pub loads-load : (load : Load) (result : Result X Refusal) → ShelfCall before (loads name most, Ok (loaded load)) now
+    pub loads-load : (load : Load) (result : Result X Refusal) → ShelfCall before (load_file name most, Ok (loaded load)) now
         → ((file : Option (List ℕ)) → loaded load ≡ loaded (load_of most file) → LoadGives most defined file result)
-        → LoadsFile most defined before now name ((loads name most, Ok (loaded load)) ∷ []) result
+        → LoadsFile most defined before now name ((load_file name most, Ok (loaded load)) ∷ []) result
     loads-load load result does gives =
         let h = handed-by load before.tells refl does in
         record { answer = Ok (loaded load); asked_are = refl; does = does; file = h.file; file_is = h.file_is; handed = h.handed; gives = gives h.file h.handed }
 
     -- the shelf refused
-    refused-by : (f : ShelfFault) (b : Bool) → before.tells ≡ b → ShelfCall before (loads name most, Err f) now
-        → LoadsFile most defined before now name ((loads name most, Err f) ∷ []) (Err (refusal_of_shelf f))
+    refused-by : (f : ShelfFault) (b : Bool) → before.tells ≡ b → ShelfCall before (load_file name most, Err f) now
+        → LoadsFile most defined before now name ((load_file name most, Err f) ∷ []) (Err (refusal_of_shelf f))
     refused-by of_shelf.Failed b tells does = record { answer = Err of_shelf.Failed; asked_are = refl; does = does; file = before.files name; file_is = λ _. refl; handed = tt; gives = tt }
     refused-by of_shelf.NoMemory true tells does = record {
       answer = Err of_shelf.NoMemory;
@@ -123,32 +123,32 @@ module _ (most : ℕ) (name : List ℕ) (before now : FlatShelf) where
     }
     refused-by of_shelf.NoMemory false tells does = record { answer = Err of_shelf.NoMemory; asked_are = refl; does = does; file = Some []; file_is = λ e. absurd cc; handed = tt; gives = omega arith }
 
-    pub loads-refused : (f : ShelfFault) → ShelfCall before (loads name most, Err f) now → LoadsFile most defined before now name ((loads name most, Err f) ∷ []) (Err (refusal_of_shelf f))
+    pub loads-refused : (f : ShelfFault) → ShelfCall before (load_file name most, Err f) now → LoadsFile most defined before now name ((load_file name most, Err f) ∷ []) (Err (refusal_of_shelf f))
     loads-refused f does = refused-by f before.tells refl does
 
     -- there is no file
-    pub loads-missing : defined None ≡ Err no_file → ShelfCall before (loads name most, Ok (loaded Missing)) now
-        → LoadsFile most defined before now name ((loads name most, Ok (loaded Missing)) ∷ []) (Err (refusal.BadStory no_file))
+    pub loads-missing : defined None ≡ Err no_file → ShelfCall before (load_file name most, Ok (loaded Missing)) now
+        → LoadsFile most defined before now name ((load_file name most, Ok (loaded Missing)) ∷ []) (Err (refusal.BadStory no_file))
     loads-missing is does = loads-load Missing (Err (refusal.BadStory no_file)) does (λ file handed. ap defined (missing-is most file handed) ∙ is)
 
 module _ (name : List ℕ) (before now : FlatShelf) where
   -- the story's file is too long
-  pub loads-long-story : ShelfCall before (loads name ceiling, Ok (loaded TooLong)) now
-      → LoadsFile ceiling story_in_file before now name ((loads name ceiling, Ok (loaded TooLong)) ∷ []) (Err (refusal.BadStory (number_of of_story.TooLarge)))
+  pub loads-long-story : ShelfCall before (load_file name ceiling, Ok (loaded TooLong)) now
+      → LoadsFile ceiling story_in_file before now name ((load_file name ceiling, Ok (loaded TooLong)) ∷ []) (Err (refusal.BadStory (number_of of_story.TooLarge)))
   loads-long-story does =
       loads-load ceiling name before now story_in_file TooLong (Err (refusal.BadStory (number_of of_story.TooLarge))) does
       (λ file handed. let long = long-is ceiling file handed in ap story_in_file long.1 ∙ longer-story long.0 long.2)
 
   -- so is the text's
-  pub loads-long-text : ShelfCall before (loads name most_text, Ok (loaded TooLong)) now
-      → LoadsFile most_text text_in_file before now name ((loads name most_text, Ok (loaded TooLong)) ∷ []) (Err (refusal.BadStory (number_of of_story.TooLarge)))
+  pub loads-long-text : ShelfCall before (load_file name most_text, Ok (loaded TooLong)) now
+      → LoadsFile most_text text_in_file before now name ((load_file name most_text, Ok (loaded TooLong)) ∷ []) (Err (refusal.BadStory (number_of of_story.TooLarge)))
   loads-long-text does =
       loads-load most_text name before now text_in_file TooLong (Err (refusal.BadStory (number_of of_story.TooLarge))) does
       (λ file handed. let long = long-is most_text file handed in ap text_in_file long.1 ∙ longer-text long.0 long.2)
 
-  module _ (bytes : List ℕ) (does : ShelfCall before (loads name ceiling, Ok (loaded (Found bytes))) now) where
+  module _ (bytes : List ℕ) (does : ShelfCall before (load_file name ceiling, Ok (loaded (Found bytes))) now) where
     -- the file is a story
-    pub loads-story : (story : FlatStory) → accepted bytes ≡ Ok story → LoadsFile ceiling story_in_file before now name ((loads name ceiling, Ok (loaded (Found bytes))) ∷ []) (Ok story)
+    pub loads-story : (story : FlatStory) → accepted bytes ≡ Ok story → LoadsFile ceiling story_in_file before now name ((load_file name ceiling, Ok (loaded (Found bytes))) ∷ []) (Ok story)
     loads-story story good =
         loads-load ceiling name before now story_in_file (Found bytes) (Ok story) does
         (λ file handed. ap story_in_file (found-is ceiling bytes file handed) ∙ shorter-story bytes does.answer ∙ ap story_or_number good)
@@ -158,14 +158,14 @@ module _ (name : List ℕ) (before now : FlatShelf) where
     bad-story f bad = shorter-story bytes does.answer ∙ ap story_or_number (bad (λ e. cc))
 
     -- it is none
-    pub loads-no-story : (f : StoryFault) → (f ≢ of_story.NoMemory → accepted bytes ≡ Err f) → LoadsFile ceiling story_in_file before now name ((loads name ceiling, Ok (loaded (Found bytes))) ∷ []) (Err (refusal_of_story f))
+    pub loads-no-story : (f : StoryFault) → (f ≢ of_story.NoMemory → accepted bytes ≡ Err f) → LoadsFile ceiling story_in_file before now name ((load_file name ceiling, Ok (loaded (Found bytes))) ∷ []) (Err (refusal_of_story f))
     loads-no-story f bad =
         loads-load ceiling name before now story_in_file (Found bytes) (Err (refusal_of_story f)) does
         (λ file handed. subst (λ (o : Option (List ℕ)). LoadGives ceiling story_in_file o (Err (refusal_of_story f))) (sym (found-is ceiling bytes file handed)) (bad-story f bad))
 
   -- the file is a text
-  pub loads-text : (bytes : List ℕ) → ShelfCall before (loads name most_text, Ok (loaded (Found bytes))) now
-      → LoadsFile most_text text_in_file before now name ((loads name most_text, Ok (loaded (Found bytes))) ∷ []) (Ok bytes)
+  pub loads-text : (bytes : List ℕ) → ShelfCall before (load_file name most_text, Ok (loaded (Found bytes))) now
+      → LoadsFile most_text text_in_file before now name ((load_file name most_text, Ok (loaded (Found bytes))) ∷ []) (Ok bytes)
   loads-text bytes does =
       loads-load most_text name before now text_in_file (Found bytes) (Ok bytes) does
       (λ file handed. ap text_in_file (found-is most_text bytes file handed) ∙ shorter-text bytes does.answer)

@@ -7,7 +7,7 @@ use Rattle.gx_words.specs.Constants.{ceiling}
 use Rattle.gx_words.specs.Faults.{number_of}
 use Rattle.gx_outside.specs.Files.{Files}
 use Rattle.gx_outside.specs.Outside.{FlatShelf}
-use Rattle.gx_outside.specs.Shelves.{Request, loads, loaded, load_of, Answer, Trace, FilesCall, ShelfCall, told_by}
+use Rattle.gx_outside.specs.Shelves.{Request, load_file, loaded, load_of, Answer, Trace, FilesCall, ShelfCall, told_by}
 use Rattle.gx_outside.specs.declared.devices.ShelfFault.{ShelfFault}
 use Rattle.gx_story.specs.Stories.{FlatStory}
 use Rattle.gx_machine.specs.Log.{no_events}
@@ -21,7 +21,7 @@ use Rattle.gx_session.specs.Runs.{IsRun, Report, report_of}
 use Rattle.gx_play.specs.declared.command.Job.{Job}
 use Rattle.gx_play.specs.declared.command.Job.TheVariants.{Play, Rewind}
 use Rattle.gx_play.specs.Commands.{Command}
-use Rattle.gx_play.specs.Outcomes.{CommandOutcome, refused, tells, runs, rewinds, outcome_of_start, outcome_of_job}
+use Rattle.gx_play.specs.Outcomes.{CommandOutcome, refused, answers_with, runs, rewinds, outcome_of_start, outcome_of_job}
 use Rattle.gx_play.specs.Outcomes.{start_for}
 use Rattle.gx_play.proofs.Outcomes.{story_in_file, outcome_of_story}
 use Rattle.gx_play.specs.Answers.{HasNoMachine, IsUnrun, IsUnbegun, IsRunTo, IsRunOf, IsRewindOf, BeginsAfter}
@@ -41,7 +41,7 @@ plays-story job command file entry plays = absurd plays
 
 -- they ask the shelf for the file
 pub first-story : (job : Job) (command : Command) (file : Option (List ℕ)) (answer : Result Answer ShelfFault) (rest : Trace) → PlaysStory job → IfOk answer (λ (a : Answer). a ≡ loaded (load_of ceiling file))
-    → LoadsFirst job command file ((loads command.story ceiling, answer) ∷ rest)
+    → LoadsFirst job command file ((load_file command.story ceiling, answer) ∷ rest)
 first-story Play command file answer rest plays handed = (refl, handed)
 first-story Rewind command file answer rest plays handed = (refl, handed)
 first-story job command file answer rest plays handed = absurd plays
@@ -53,7 +53,7 @@ wants-story Rewind file plays may = may
 wants-story job file plays may = absurd plays
 
 -- a load leaves the files
-load-keeps : (before now : Files) (name : List ℕ) (most : ℕ) (answer : Result Answer ShelfFault) → FilesCall before (loads name most) answer now → now ≡ before
+load-keeps : (before now : Files) (name : List ℕ) (most : ℕ) (answer : Result Answer ShelfFault) → FilesCall before (load_file name most) answer now → now ≡ before
 load-keeps before now name most (Ok a) does = does.1
 load-keeps before now name most (Err of_shelf.Failed) does = does
 load-keeps before now name most (Err of_shelf.NoMemory) does = does.0
@@ -67,7 +67,7 @@ answers-moved start answers entry exit r same run =
       coming = run.coming;
       read = run.read;
       answers = run.answers;
-      answers_are = λ tells. run.answers_are tells ∙ same tells;
+      answers_are = λ answers_with. run.answers_are answers_with ∙ same answers_with;
       session = run.session;
       source_calls = run.source_calls;
       sink_calls = run.sink_calls;
@@ -114,7 +114,7 @@ module _ {A : Type 0} (ended : Ended A) where
 
   -- the shelf of a run is that after the story was loaded
   module _ (entry exit : Devices) (most : ℕ) (name : List ℕ) (answer : Result Answer ShelfFault) (shelf : FlatShelf) (asked : Trace) (none-before : entry.asked ≡ []) (none-sent : entry.sends ≡ [])
-      (asked-are : exit.asked ≡ (loads name most, answer) ∷ asked) (does : ShelfCall entry.shelf (loads name most, answer) shelf) where
+      (asked-are : exit.asked ≡ (load_file name most, answer) ∷ asked) (does : ShelfCall entry.shelf (load_file name most, answer) shelf) where
     abbrev before : Devices
     before = record entry { shelf = shelf }
 
@@ -166,8 +166,8 @@ module _ {A : Type 0} (ended : Ended A) where
 
       unrun : after ≡ before → IsUnrun entry exit
       unrun same =
-          let is : exit.asked ≡ (loads name most, answer) ∷ [] =
-          asked-are ∙ ap (λ (t : Trace). (loads name most, answer) ∷ t) (ap (λ (d : Devices). d.asked) same ∙ none-before) in
+          let is : exit.asked ≡ (load_file name most, answer) ∷ [] =
+          asked-are ∙ ap (λ (t : Trace). (load_file name most, answer) ∷ t) (ap (λ (d : Devices). d.asked) same ∙ none-before) in
           let size : length exit.asked ≡ 1 = ap (λ (t : Trace). length t) is in
           record { asked = omega (arith, size); source = ap (λ (d : Devices). d.source) same; reads = ap (λ (d : Devices). d.reads) same; words = ap (λ (d : Devices). d.words) same }
 
@@ -178,12 +178,12 @@ module _ {A : Type 0} (ended : Ended A) where
       wanted (absent, same) = unbegun status_no_memory 0 0 absent same
 
       begins : (Run : Devices → Devices → Type 0) → Run before after → BeginsAfter entry exit Run
-      begins Run run = record { load = (loads name most, answer); shelf = shelf; asked = asked; asked_are = asked-are; does = does; run = run }
+      begins Run run = record { load = (load_file name most, answer); shelf = shelf; asked = asked; asked_are = asked-are; does = does; run = run }
 
       found : (outcome : CommandOutcome) → StoryPlays outcome before after ended → Comes outcome
       found (refused status fault at) (inl (absent, same)) = inl (unbegun status fault at absent same)
       found (refused status fault at) (inr still) = inr (inr (wanted still))
-      found (tells status output) none = absurd none
+      found (answers_with status output) none = absurd none
       found (runs seed start) (inl run) = inl (begins (λ first last. IsRunOf seed start first last ended) run)
       found (runs seed start) (inr still) = inr (inr (wanted still))
       found (rewinds seed back start) (inl run) = inl (begins (λ first last. IsRewindOf seed back start first last ended) run)

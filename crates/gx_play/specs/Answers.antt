@@ -16,7 +16,7 @@ use Rattle.gx_session.specs.Configurations.{Configuration}
 use Rattle.gx_session.specs.Runs.{IsRun, Report, report_of}
 use Rattle.gx_play.specs.Rewinding.{rewind_line}
 use Rattle.gx_play.specs.Seeds.{devices_for}
-use Rattle.gx_play.specs.Outcomes.{CommandOutcome, refused, tells, runs, rewinds}
+use Rattle.gx_play.specs.Outcomes.{CommandOutcome, refused, answers_with, runs, rewinds}
 use Rattle.rand_core.specs.Stream.{Stream}
 
 -- THE ANSWER without a machine, after so many steps: where none was started, or where a job hands none back.
@@ -40,9 +40,8 @@ AnswersSend (Err of_send.NoMemory) status fault at steps ended = HasNoMachine en
 
 -- The sink was called once, with this output. It took it whole, and this is answered; or it took a front of it.
 abbrev pub SendsOutput : {A : Type 0} → ℕ → ℕ → ℕ → ℕ → List ℕ → FlatSink → FlatSink → List Send → Ended A → Type 0
-SendsOutput status fault at steps output before now sends ended =
-    (answer : Result (Unit {0}) SendFault) × AnswersSend answer status fault at steps ended
-    × (sends ≡ (output, answer) ∷ []) × SinkCall before (output, answer) now
+SendsOutput status fault at steps output before now sends ended = (took : Result (Unit {0}) SendFault)
+    × AnswersSend took status fault at steps ended × (sends ≡ (output, took) ∷ []) × SinkCall before (output, took) now
 
 -- NO RUN WAS BEGUN: nothing was done but to ask for the file, at most once, and to send an output. No input was read
 -- and no random word was drawn.
@@ -60,22 +59,19 @@ IsUnbegun status fault at entry exit ended =
 -- The session from a start was run over these devices up to this report, with the words of the seed or the device's.
 -- Without a seed the device has the words that the run left; with one it wasn't drawn from, and has what it had.
 abbrev pub IsRunTo : Option ℕ → Configuration → Devices → Devices → Report → Type 0
-IsRunTo seed start entry exit r =
-    (left : Stream) × (exit.words ≡ option_map_or (λ number. entry.words) seed left)
+IsRunTo seed start entry exit r = (left : Stream) × (exit.words ≡ option_map_or (λ number. entry.words) seed left)
     × IsRun start (devices_for seed entry) (record exit { words = left }) r
 
 -- It was so, and its machine is handed back.
 abbrev pub IsRunOf : {A : Type 0} → Option ℕ → Configuration → Devices → Devices → Ended A → Type 0
-IsRunOf seed start entry exit ended =
-    IsSomeAnd ended.machine (λ end. IsRunTo seed start entry exit (report_of ended end))
+IsRunOf seed start entry exit ended = IsSomeAnd ended.machine (λ m. IsRunTo seed start entry exit (report_of ended m))
 
 -- After a run that came to its end the line is sent, or memory ran out before; after one that was cut short nothing.
 pub record IsRewound {A : Type 0} (back : ℕ) (r : Report) (before now : FlatSink) (sends : List Send)
     (ended : Ended A) : Type 0 where
-  pub told : r.status < status_shelf_fault
-      → (let line = rewind_line back (record { whole = r.machine; log = unwrap_or r.log no_events }) in
-      SendsOutput r.status r.fault r.at r.steps line before now sends ended
-      ⊎ SendsNothing status_no_memory 0 0 r.steps before now sends ended)
+  pub told : r.status < status_shelf_fault → SendsOutput r.status r.fault r.at r.steps
+      (rewind_line back (record { whole = r.machine; log = unwrap_or r.log no_events })) before now sends ended
+      ⊎ SendsNothing status_no_memory 0 0 r.steps before now sends ended
   pub early : status_shelf_fault ≤ r.status → SendsNothing r.status r.fault r.at r.steps before now sends ended
 
 -- The session was run so, and left this sink after these sends; and then came the line, of a tape with the machine that
@@ -102,7 +98,7 @@ pub record BeginsAfter (entry exit : Devices) (Run : Devices → Devices → Typ
 -- What is answered and left behind is the outcome's.
 abbrev pub Plays : {A : Type 0} → CommandOutcome → Devices → Devices → Ended A → Type 0
 Plays (refused status fault at) entry exit ended = IsUnbegun status fault at entry exit ended
-Plays (tells status output) entry exit ended =
+Plays (answers_with status output) entry exit ended =
     IsUnrun entry exit × SendsOutput status 0 0 0 output entry.sink exit.sink exit.sends ended
 Plays (runs seed start) entry exit ended =
     BeginsAfter entry exit (λ before after. IsRunOf seed start before after ended)

@@ -8,6 +8,7 @@ use Rattle.std.specs.Prelude.{ℕ, ◌-◌, ◌^◌, ◌&&◌, Bool, true, false
 use Rattle.std.specs.Prelude.{nat_le, nat_lt, if◌then◌else◌, fold, option_map, option_and_then}
 use Rattle.std.specs.Char.{is_ascii_digit}
 use Rattle.std.specs.List.{list_all}
+use Rattle.std.specs.Option.{option_map_or}
 use Rattle.std.specs.Str.{bytes_eq}
 use Rattle.std.specs.Str.Parse.{digits_value}
 use Rattle.clap.specs.Words.{App, Kinds, Row, Rule, Text, first_of, fault_of, matches_of, new_app, new_rule, with_rule}
@@ -30,15 +31,10 @@ flag_rule name = record (new_rule name) { long = Some name; action = Some SetTru
 
 -- STORY, which has to be there, and the options
 unfoldable pub player : App
-player =
-    fold with_rule (new_app (codes "gx_player"))
-    (record (new_rule (codes "STORY")) { required = true }
-    ∷ text_rule (codes "steps") (codes "1000000000000000" ∷ [])
-    ∷ text_rule (codes "columns") (codes "80" ∷ [])
-    ∷ text_rule (codes "rows") (codes "24" ∷ [])
-    ∷ text_rule (codes "undo") (codes "16" ∷ [])
-    ∷ text_rule (codes "seed") []
-    ∷ text_rule (codes "back") (codes "0" ∷ [])
+player = fold with_rule (new_app (codes "gx_player")) (record (new_rule (codes "STORY")) { required = true }
+    ∷ text_rule (codes "steps") (codes "1000000000000000" ∷ []) ∷ text_rule (codes "columns") (codes "80" ∷ [])
+    ∷ text_rule (codes "rows") (codes "24" ∷ []) ∷ text_rule (codes "undo") (codes "16" ∷ [])
+    ∷ text_rule (codes "seed") [] ∷ text_rule (codes "back") (codes "0" ∷ [])
     ∷ flag_rule (codes "echo") ∷ flag_rule (codes "screen") ∷ flag_rule (codes "plain")
     ∷ text_rule (codes "job") (codes "play" ∷ []) ∷ [])
 
@@ -59,8 +55,7 @@ pub record Command : Type 0 where
 
 -- the number that one decimal digit or more spell, where it is from the least to the most
 abbrev pub number_spelled : ℕ → ℕ → Text → Option ℕ
-number_spelled least most text =
-    if nat_lt 0 (length text) && (list_all is_ascii_digit text
+number_spelled least most text = if nat_lt 0 (length text) && (list_all is_ascii_digit text
     && (nat_le least (digits_value 10 text) && nat_le (digits_value 10 text) most))
     then Some (digits_value 10 text) else None
 
@@ -91,8 +86,7 @@ view_for screen plain echo job = None
 
 -- a flag is set
 abbrev pub is_set : Option Text → Bool
-is_set None = false
-is_set (Some text) = bytes_eq text (codes "true")
+is_set text = option_map_or (λ t. bytes_eq t (codes "true")) text false
 
 -- one that isn't there makes none of what follows
 infixl 10 ◌>>=◌
@@ -134,5 +128,4 @@ matched_in words = matches_of player words
 
 -- THE COMMAND of the words, and none where they have no matches or a text isn't as it has to be.
 unfoldable pub command_of : List Text → Option Command
-command_of words =
-    if is_empty (faults_of words) then command_in (λ name. first_of name (matched_in words)) else None
+command_of words = if is_empty (faults_of words) then command_in (λ name. first_of name (matched_in words)) else None

@@ -1,7 +1,7 @@
 -- THE ONE LOAD of the file that a command line names, and where memory may be wanted for it.
 use Rattle.std.specs.Prelude.{◌≡◌, ℕ, ◌≤◌, length, List, [], ◌∷◌, Option, IsSomeAnd, IfOk}
 use Rattle.gx_words.specs.Constants.{ceiling}
-use Rattle.gx_outside.specs.Shelves.{loads, loaded, Trace, load_of}
+use Rattle.gx_outside.specs.Shelves.{load_file, loaded, Trace, load_of}
 use Rattle.gx_play.specs.declared.command.Job.{Job}
 use Rattle.gx_play.specs.declared.command.Job.TheVariants.{Work, Asm}
 use Rattle.gx_play.specs.Commands.{Command}
@@ -17,7 +17,7 @@ abbrev pub LoadsFirst : Job → Command → Option (List ℕ) → Trace → Type
 LoadsFirst (Work number) command file asked = asked ≡ []
 LoadsFirst job command file [] = ⊥
 LoadsFirst job command file (load ∷ asked) =
-    (load.0 ≡ loads command.story (most_of job)) × IfOk load.1 (λ answer. answer ≡ loaded (load_of (most_of job) file))
+    (load.0 ≡ load_file command.story (most_of job)) × IfOk load.1 (λ a. a ≡ loaded (load_of (most_of job) file))
 
 -- Once a device was called, memory is wanted in the jobs that load a file only where it is there and isn't too long.
 abbrev pub JobMayWant : Job → Option (List ℕ) → Type 0

@@ -86,15 +86,17 @@
 --
 -- Limits: nothing is said of time, nor of how much memory a run takes; that ample memory suffices is only tested.
 -- Nothing is said of what a terminal makes of the text: the composed screen counts columns by the crate unicode_width.
--- Some definitions are total where no run comes to one of their cases, and no clause here says that none does; these
--- are the ones that a reader meets: `final_in` without moves (gx_session/specs/Session; gx_session/proofs/Finals proves
--- that there are always enough); in gx_session/specs/Moves a turn that is no answer where a call has gone on
--- (`after_given`; a clause of glk_dispatch's `go_on`), one that asks for nothing (`shelf_gives`; `after_turn` there
--- lets only the other six ask), and a step that is Spent by itself (`after_effect`; no row has this effect, and that
--- isn't proved apart); a call that goes on where none waits (`go_by` of glk_dispatch/specs/Going; a `requires` of
--- `go_on`); an answer or a copy where the instruction at PC is none that asks (`answered_row` and `answered_in` of
--- gx_machine/specs/Answer, `saved_copy` of its Saves; `IsPendingAnswer` of its Views, which holds of every machine that
--- has asked); and a fault on the way back to a copy (`restored_to` of gx_state/specs/Copies; gx_state/proofs/Backs).
+-- Some definitions are total where no run comes to one of their cases, and no clause here says that none does. Those
+-- that a reader meets are
+--   - `final_in` without moves (gx_session/specs/Session; its proofs/Finals proves that there are always enough);
+--   - in gx_session/specs/Moves a turn that is no answer where a call has gone on (`after_given`; a clause of
+--     glk_dispatch's `go_on`), one that asks for nothing (`shelf_gives`; `after_turn` there lets only the other six
+--     ask), and a step that is Spent by itself (`after_effect`; no row has this effect, and that isn't proved apart);
+--   - a call that goes on where none waits (`go_by` of glk_dispatch/specs/Going; a `requires` of `go_on`);
+--   - an answer or a copy where the instruction at PC is none that asks (`answered_row` and `answered_in` of
+--     gx_machine/specs/Answer, `saved_copy` of its Saves; `IsPendingAnswer` of its Views holds of every machine that
+--     has asked);
+--   - a fault on the way back to a copy (`restored_to` of gx_state/specs/Copies; gx_state/proofs/Backs).
 -- Status 11 (`status_no_memory`) is a free answer wherever memory may be wanted: before anything is done, whatever the
 -- words are, so that a body that does nothing and answers so meets the contract; once the file was asked for, only
 -- where there is something that may want it (`ComesOut.memory`; `StopsEarly` of gx_session/specs/Runs; `IsRewound` and
@@ -107,7 +109,7 @@
 use Rattle.std.specs.Prelude.{◌≡◌, ◌≢◌, ℕ, List, ◌⊎◌, ◌↔◌, true, Option, None, IsSome, IfSome, IsSomeAnd}
 use Rattle.std.specs.Option.{option_and_then}
 use Rattle.gx_outside.specs.Chains.{Chain}
-use Rattle.gx_outside.specs.Outside.{raised}
+use Rattle.gx_outside.specs.Outside.{raised_by}
 use Rattle.gx_outside.specs.Reads.{SourceCall}
 use Rattle.gx_outside.specs.Sends.{SinkCall}
 use Rattle.gx_outside.specs.Shelves.{ShelfCall}
@@ -138,9 +140,9 @@ pub record ComesOut {A : Type 0} (command : Option Command) (entry exit : Device
 
 -- No count of failures rose. (One that stands at 2^64 - 1 counts as one that rose.)
 pub record HasNoFailure (entry exit : Devices) : Type 0 where
-  pub source : exit.source.calls.faults ≢ raised entry.source.calls.faults
-  pub sink : exit.sink.calls.faults ≢ raised entry.sink.calls.faults
-  pub shelf : exit.shelf.calls.faults ≢ raised entry.shelf.calls.faults
+  pub source : exit.source.calls.faults ≢ raised_by 1 entry.source.calls.faults
+  pub sink : exit.sink.calls.faults ≢ raised_by 1 entry.sink.calls.faults
+  pub shelf : exit.shelf.calls.faults ≢ raised_by 1 entry.shelf.calls.faults
 
 -- THE CONTRACT OF `play`, by what the words of the command line ask for, between what the devices hold at entry and at
 -- exit.

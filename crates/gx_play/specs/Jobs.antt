@@ -33,8 +33,7 @@ check_told false = (status_fault, codes "checksum differs" ++ 10 ∷ [])
 -- the machine that starts the story of a number, where the story is accepted and can be started (every one is and can:
 -- `works` in Headline)
 unfoldable pub work_machine : ℕ → Option Whole
-work_machine number =
-    option_and_then (λ (story : FlatStory). result_ok (first_machine story usual_depth))
+work_machine number = option_and_then (λ (story : FlatStory). result_ok (first_machine story usual_depth))
     (result_ok (accepted (work_story number)))
 
 -- every random word is 0
@@ -43,8 +42,7 @@ zeros = record { u32_after = λ calls. 0; u64_after = λ calls. 0; bytes_after =
 
 -- the start of its run: no input, no text, no files
 abbrev pub work_start : Whole → Configuration
-work_start whole =
-    start_of whole.machine (empty_world view.Rows 80 24)
+work_start whole = start_of whole.machine (empty_world view.Rows 80 24)
     (devices (record { calls = no_call; offered = 0; tells = true; left = [] })
     (record { calls = no_call; tells = true; taken = [] }) (record { calls = no_call; tells = true; files = no_files })
     zeros [] [] []) false (2 ^ 64 - 1) None
@@ -61,8 +59,6 @@ ram_sum_of f = sum_from ((length f.memory - f.story.header.ramstart) / 4) f.memo
 -- THE LINE: the units that were used up to the end of the run, the length of its text, and the sum of its RAM.
 unfoldable pub work_line : ℕ → List ℕ
 work_line number =
-    option_map_or (λ (whole : Whole).
-    let start = work_start whole in
-    let end = (final_of start).configuration in
+    option_map_or (λ (whole : Whole). let start = work_start whole in let end = (final_of start).configuration in
     (decimal (start.left - end.left) ++ 32 ∷ decimal (length end.world.text)
     ++ 32 ∷ decimal (ram_sum_of end.machine.flat)) ++ 10 ∷ []) (work_machine number) []

@@ -4,7 +4,7 @@ use Rattle.std.specs.Prelude.{◌≡◌, ◌≢◌, ◌≤◌, ◌⊎◌, ℕ, t
 use Rattle.std.specs.Prelude.{IfOk}
 use Rattle.gx_outside.specs.Outside.{FlatShelf, FlatSink}
 use Rattle.gx_outside.specs.Sends.{Send}
-use Rattle.gx_outside.specs.Shelves.{loads, loaded, load_of, Answer, Trace, ShelfCall}
+use Rattle.gx_outside.specs.Shelves.{load_file, loaded, load_of, Answer, Trace, ShelfCall}
 use Rattle.gx_outside.specs.declared.devices.ShelfFault.{ShelfFault}
 use Rattle.gx_story.specs.declared.faults.StoryFault.{StoryFault}
 use Rattle.gx_story.specs.Faults.{number_of as story_number_of}
@@ -17,7 +17,7 @@ use Rattle.gx_play.specs.declared.command.Job.{Job}
 use Rattle.gx_play.specs.declared.command.Job.TheVariants.{Play}
 use Rattle.gx_play.specs.declared.loading.Refusal.{Refusal}
 use Rattle.gx_play.specs.Commands.{Command}
-use Rattle.gx_play.specs.Outcomes.{CommandOutcome, refused, tells, runs, rewinds, outcome_of_job}
+use Rattle.gx_play.specs.Outcomes.{CommandOutcome, refused, answers_with, runs, rewinds, outcome_of_job}
 use Rattle.gx_play.specs.Answers.{HasNoMachine, SendsNothing, SendsOutput, IsUnbegun, IsRunOf, IsRewindOf, Plays}
 use Rattle.gx_play.specs.FirstLoad.{LoadsFirst, JobMayWant}
 use Rattle.gx_play.specs.Statuses.{PlaysStory, HasItsParts}
@@ -61,8 +61,8 @@ LoadGives most defined file (Err refusal.NoMemory) = IsLoadable most file
 pub record LoadsFile {X : Type 0} (most : ℕ) (defined : Option (List ℕ) → Result X ℕ) (before now : FlatShelf)
     (name : List ℕ) (asked : Trace) (result : Result X Refusal) : Type 0 where
   pub answer : Result Answer ShelfFault
-  pub asked_are : asked ≡ (loads name most, answer) ∷ []
-  pub does : ShelfCall before (loads name most, answer) now
+  pub asked_are : asked ≡ (load_file name most, answer) ∷ []
+  pub does : ShelfCall before (load_file name most, answer) now
   pub file : Option (List ℕ)
   pub file_is : before.tells ≡ true → file ≡ before.files name
   pub handed : IfOk answer (λ a. a ≡ loaded (load_of most file))
@@ -76,7 +76,7 @@ IsStill entry exit ended = HasNoMachine ended status_no_memory 0 0 0 × (exit �
 abbrev pub StoryPlays : {A : Type 0} → CommandOutcome → Devices → Devices → Ended A → Type 0
 StoryPlays (refused status fault at) entry exit ended =
     (HasNoMachine ended status fault at 0 × (exit ≡ entry)) ⊎ IsStill entry exit ended
-StoryPlays (tells status output) entry exit ended = ⊥
+StoryPlays (answers_with status output) entry exit ended = ⊥
 StoryPlays (runs seed start) entry exit ended = IsRunOf seed start entry exit ended ⊎ IsStill entry exit ended
 StoryPlays (rewinds seed back start) entry exit ended =
     IsRewindOf seed back start entry exit ended ⊎ IsStill entry exit ended
@@ -85,7 +85,7 @@ StoryPlays (rewinds seed back start) entry exit ended =
 -- output is sent, memory may run out.
 abbrev pub JobTells : {A : Type 0} → CommandOutcome → FlatSink → FlatSink → List Send → Ended A → Type 0
 JobTells (refused status fault at) before now sends ended = SendsNothing status fault at 0 before now sends ended
-JobTells (tells status output) before now sends ended =
+JobTells (answers_with status output) before now sends ended =
     SendsOutput status 0 0 0 output before now sends ended ⊎ SendsNothing status_no_memory 0 0 0 before now sends ended
 JobTells outcome before now sends ended = ⊥
 

@@ -36,7 +36,7 @@ pub data CommandOutcome : Type 0 where
   -- a fault and its place
   refused : ℕ → ℕ → ℕ → CommandOutcome
   -- an output is sent, with this status: a line, a story or a listing
-  tells : ℕ → List ℕ → CommandOutcome
+  answers_with : ℕ → List ℕ → CommandOutcome
   -- the session from this configuration to its end, with the words of a seed or of the device
   runs : Option ℕ → Configuration → CommandOutcome
   -- the same, recorded, and then the line of so many units before the end
@@ -45,33 +45,30 @@ pub data CommandOutcome : Type 0 where
 -- what is read in a file of at most so many bytes, or the number of why there is nothing
 abbrev pub in_file : {X : Type 0} → ℕ → (List ℕ → Result X StoryFault) → Option (List ℕ) → Result X ℕ
 in_file most read None = Err no_file
-in_file most read (Some bytes) =
-    if nat_lt most (length bytes) then Err (story_number_of TooLarge)
+in_file most read (Some bytes) = if nat_lt most (length bytes) then Err (story_number_of TooLarge)
     else result_map_both (λ x. x) story_number_of (read bytes)
 
 -- THE JOBS PLAY AND REWIND: the machine of a story runs from its start, with the command's random words, in its view
 -- and on its screen, within its budget. In job rewind the run is recorded.
 abbrev pub start_for : Command → Whole → Option Log → Devices → Configuration
-start_for command whole log entry =
-    start_of whole.machine (empty_world command.view command.columns command.rows) (devices_for command.seed entry)
-    command.echo command.steps log
+start_for command whole log entry = start_of whole.machine (empty_world command.view command.columns command.rows)
+    (devices_for command.seed entry) command.echo command.steps log
 
 -- A start function that can't be entered is a fault at its address.
 abbrev pub outcome_of_start : Job → Command → FlatStory → Devices → Result Whole Fault → CommandOutcome
-outcome_of_start job command story entry (Err fault) =
-    refused status_fault (number_of fault) story.header.start_function
+outcome_of_start job command story entry (Err e) = refused status_fault (number_of e) story.header.start_function
 outcome_of_start Rewind command story entry (Ok whole) =
     rewinds command.seed command.back (start_for command whole (Some no_events) entry)
 outcome_of_start job command story entry (Ok whole) = runs command.seed (start_for command whole None entry)
 
 -- JOB ASM: the story of a text's code. A text isn't understood exactly where no code is spelled by it.
 abbrev pub outcome_of_code : Result (List ℕ) AsmFault → CommandOutcome
-outcome_of_code (Ok code) = tells status_ended (wrapped_code code)
+outcome_of_code (Ok code) = answers_with status_ended (wrapped_code code)
 outcome_of_code (Err fault) = refused status_bad_text (number_in_text fault) (line_in_text fault)
 
 -- JOB LIST: the text of a story's start function, up to the first quit or return.
 abbrev pub outcome_of_listing : Result (List ℕ) ListFault → CommandOutcome
-outcome_of_listing (Ok text) = tells status_ended text
+outcome_of_listing (Ok text) = answers_with status_ended text
 outcome_of_listing (Err fault) = refused status_no_listing (number_in_code fault) (place_in_code fault)
 
 -- THE OUTCOME OF A JOB over the file under the command's name: what is made of its story, or of its text, or the
@@ -81,17 +78,15 @@ outcome_with (Ok held) made = made held
 outcome_with (Err fault) made = refused status_bad_story fault 0
 
 abbrev pub outcome_of_job : Job → Command → Option (List ℕ) → Devices → CommandOutcome
-outcome_of_job (Work number) command file entry = tells status_ended (work_line number)
+outcome_of_job (Work number) command file entry = answers_with status_ended (work_line number)
 outcome_of_job Asm command file entry =
     outcome_with (in_file most_text (λ bytes. Ok bytes) file) (λ text. outcome_of_code (assembled text))
 outcome_of_job Check command file entry =
-    outcome_with (in_file ceiling accepted file)
-    (λ story. let told = check_told (is_checked story) in tells told.0 told.1)
+    outcome_with (in_file ceiling accepted file) (λ s. let t = check_told (is_checked s) in answers_with t.0 t.1)
 outcome_of_job Listing command file entry =
     outcome_with (in_file ceiling accepted file) (λ story. outcome_of_listing (listed_story story))
 -- play and rewind
-outcome_of_job job command file entry =
-    outcome_with (in_file ceiling accepted file)
+outcome_of_job job command file entry = outcome_with (in_file ceiling accepted file)
     (λ story. outcome_of_start job command story entry (first_machine story command.undo))
 
 -- The outcome of a command over what the devices hold, where this file stands under the name.
@@ -103,6 +98,6 @@ outcome_of (Some command) file entry = outcome_of_job command.job command file e
 -- the status of an outcome, where nothing cuts it short
 abbrev pub status_of_outcome : CommandOutcome → ℕ
 status_of_outcome (refused status fault at) = status
-status_of_outcome (tells status output) = status
+status_of_outcome (answers_with status output) = status
 status_of_outcome (runs seed start) = stop_status (final_of start).stop
 status_of_outcome (rewinds seed back start) = stop_status (final_of start).stop

@@ -29,9 +29,8 @@ data_at f w k = modes_at f w + modes_len (operand_count (row_at w.place)) + all_
 -- WHAT A MACHINE SEES at PC: an operand by its index, which has this mode and, where the mode has data, these.
 pub record SeesOperand (f : FlatState) (w : WrittenInstruction) (k : ℕ) : Type 0 where
   pub mode : addressing (nibble f.memory (modes_at f w) k) ≡ Some (get_or w.modes k Zero)
-  pub operand_data : 0 < data_len (get_or w.modes k Zero) → (p : Cursor) → p.at ≡ data_at f w k
-      → (let n = data_len (get_or w.modes k Zero) in
-      let bytes = take n (drop (all_data_len (take k w.modes)) w.operand_data) in
+  pub operand_data : let n = data_len (get_or w.modes k Zero) in 0 < n → (p : Cursor) → p.at ≡ data_at f w k
+      → (let bytes = take n (drop (all_data_len (take k w.modes)) w.operand_data) in
       datum f.memory p n ≡ Ok (number n bytes 0, record p { at = p.at + n }))
 
 -- The instruction: its number, its row, its operands, and no byte of memory more.

@@ -26,8 +26,7 @@ pub record HasItsParts {A : Type 0} (playing handing : Type 0) (ended : Ended A)
   pub no_place : ended.status ≢ status_fault → ended.status ≤ status_no_memory → ended.at ≡ 0
   -- a machine is handed back where one ran, and none where none was started; a fault, a failing shelf and want of
   -- memory may come before
-  pub ran : handing → (ended.status ≡ status_ended)
-      ⊎ ((status_spent ≤ ended.status) × (ended.status ≤ status_output_fault) × (ended.status ≢ status_shelf_fault))
-      → IsSome ended.machine
+  pub ran : handing → (ended.status ≡ status_ended) ⊎ ((status_spent ≤ ended.status)
+      × (ended.status ≤ status_output_fault) × (ended.status ≢ status_shelf_fault)) → IsSome ended.machine
   pub not_run : (ended.status ≡ status_bad_words) ⊎ (ended.status ≡ status_bad_story)
       ⊎ (status_no_memory < ended.status) → ended.machine ≡ None

@@ -1,6 +1,6 @@
 //! Devices for a run that nothing is to come from: no input, no files, no chance. They never fail.
 ghost use Rattle.std.specs.Prelude.{◌≡◌, [], length};
-ghost use Rattle.gx_outside.specs.Outside.{raised};
+ghost use Rattle.gx_outside.specs.Outside.{raised_by};
 ghost use Rattle.gx_outside.specs.Reads.{SourceCall};
 ghost use Rattle.gx_outside.specs.Sends.{SinkCall};
 ghost use Rattle.gx_outside.specs.Shelves.{ShelfCall};
@@ -60,7 +60,7 @@ impl NoFiles {
 
     /// One more call, which wants memory or doesn't.
     fn note(&mut self, wanted: bool)
-        ensures calls { self.new.calls ≡ raised self.old.calls }
+        ensures calls { self.new.calls ≡ raised_by 1 self.old.calls }
         ensures wanting { self.new.wanting ≡ wanted }
     {
         self.calls = self.calls.saturating_add(1);

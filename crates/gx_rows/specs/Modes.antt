@@ -66,20 +66,17 @@ addressing nibble =
     if nibble == local_word then Some (Local 4) else
     if nibble == ram_byte then Some (Ram 1) else
     if nibble == ram_short then Some (Ram 2) else
-    if nibble == ram_word then Some (Ram 4) else
-    None
+    if nibble == ram_word then Some (Ram 4) else None
 
 -- the data of an operand is 1, 2 or 4 bytes, if it has any
 abbrev pub HasWidth : Addressing → Type 0
-HasWidth Zero = Unit {0}
 HasWidth (Constant n) = IsWidth n
 HasWidth (Memory n) = IsWidth n
-HasWidth Top = Unit {0}
 HasWidth (Local n) = IsWidth n
 HasWidth (Ram n) = IsWidth n
+HasWidth mode = Unit {0}
 
 -- the loads of a row stand before its stores, but for one whose store stands first
 abbrev pub kind_of : Row → ℕ → Kind
-kind_of row i =
-    if row.store_first then (if nat_lt i row.stores then Store else Load)
+kind_of row i = if row.store_first then (if nat_lt i row.stores then Store else Load)
     else (if nat_lt i row.loads then Load else Store)

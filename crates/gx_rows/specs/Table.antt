@@ -84,8 +84,7 @@ table =
     -- Memory allocation heap
     row numbers.malloc 1 1 Memory ∷ row numbers.mfree 1 0 Memory ∷
     -- Accelerated functions
-    row numbers.accelfunc 2 0 Game ∷ row numbers.accelparam 2 0 Game ∷
-    []
+    row numbers.accelfunc 2 0 Game ∷ row numbers.accelparam 2 0 Game ∷ []
 
 -- the one row of a number
 unfoldable pub row_of : ℕ → Option Row
@@ -93,8 +92,7 @@ row_of number = find (λ row. row.number == number) table
 
 -- the place of a number's row
 unfoldable pub place_of : ℕ → Option ℕ
-place_of number =
-    let place = position_or_len (λ row. row.number == number) table in
+place_of number = let place = position_or_len (λ row. row.number == number) table in
     if nat_lt place row_count then Some place else None
 
 -- the row at a place of the table

@@ -12,8 +12,7 @@ use Rattle.gx_search.specs.Searches.{Struct, Search, no_probe, with_probe}
 -- The keys of all structs are in memory: that of the last ends there, its address summed without
 -- wrapping. Where there is no struct, or no byte in a key, none has to be.
 abbrev pub has_all_keys : List ℕ → Ask → Bool
-has_all_keys memory ask =
-    ask.count == 0 || ask.key_size == 0 ||
+has_all_keys memory ask = ask.count == 0 || ask.key_size == 0 ||
     nat_le (ask.start + (ask.count - 1) * ask.struct_size + ask.key_offset + ask.key_size) (length memory)
 
 -- the address of the struct of an index
@@ -31,10 +30,8 @@ after_order s below above (Err e) = no_probe (Err e)
 unfoldable pub halving : List ℕ → Ask → ℕ → ℕ → ℕ → Search
 halving memory ask zero low high = no_probe (Ok None)
 halving memory ask (suc left) low high =
-    let index = (low + high) / 2 in
-    let at = struct_at ask index in
-    let below = halving memory ask left low index in
-    let above = halving memory ask left (index + 1) high in
+    let index = (low + high) / 2 in let at = struct_at ask index in
+    let below = halving memory ask left low index in let above = halving memory ask left (index + 1) high in
     let rest = after_order (record { address = at; index = index }) below above (compared memory ask at) in
     if nat_lt low high then with_probe rest else no_probe (Ok None)
 

@@ -28,9 +28,8 @@ is_inside memory at count = count == 0 || nat_le (at + count) (length memory)
 
 -- the key that is looked for
 abbrev pub sought_key : List ℕ → Ask → List ℕ
-sought_key memory ask =
-    if has_option ask key_indirect then take ask.key_size (drop ask.key memory)
-    else bytes_of_number ask.key_size ask.key
+sought_key memory ask = if has_option ask key_indirect
+    then take ask.key_size (drop ask.key memory) else bytes_of_number ask.key_size ask.key
 
 -- the address of the key of the struct at an address, and its bytes
 abbrev pub key_address : Ask → ℕ → ℕ
@@ -41,21 +40,18 @@ key_at memory ask at = take ask.key_size (drop (key_address ask at) memory)
 
 -- all bytes that a probe of the struct at an address looks at are in memory
 abbrev pub can_probe : List ℕ → Ask → ℕ → Bool
-can_probe memory ask at =
-    (not (has_option ask key_indirect) || is_inside memory ask.key ask.key_size)
+can_probe memory ask at = (not (has_option ask key_indirect) || is_inside memory ask.key ask.key_size)
     && is_inside memory (key_address ask at) ask.key_size
 
 -- what the probe of the struct at an address sees: a match counts first, and ZeroKeyTerminates: a key of zeros ends
 -- the search
 unfoldable pub probe : List ℕ → Ask → ℕ → Result Seen Fault
-probe memory ask at =
-    let there = key_at memory ask at in
+probe memory ask at = let there = key_at memory ask at in
     if not (can_probe memory ask at) then Err BadAddress else
     if bytes_eq (sought_key memory ask) there then Ok Match else
     if has_option ask zero_key_terminates && list_all (λ b. b == 0) there then Ok Zero else Ok Other
 
 -- the same for an order of keys, which is that of their first bytes that differ, read as unsigned
 unfoldable pub compared : List ℕ → Ask → ℕ → Result Ordering Fault
-compared memory ask at =
-    if can_probe memory ask at then Ok (slice_cmp nat_cmp (sought_key memory ask) (key_at memory ask at))
-    else Err BadAddress
+compared memory ask at = if can_probe memory ask at
+    then Ok (slice_cmp nat_cmp (sought_key memory ask) (key_at memory ask at)) else Err BadAddress

@@ -45,7 +45,7 @@ use Rattle.gx_session.specs.Reading.{ReadsFew}
 use Rattle.glk_replies.specs.Parts.{replies}
 use Rattle.gx_session.specs.Constants.{failed}
 use Rattle.gx_session.specs.Saving.{is_save_begun, is_restore_begun, saving, restoring}
-use Rattle.gx_session.specs.Configurations.{Configuration, Phase, steps, asks, goes_on, goes, stops}
+use Rattle.gx_session.specs.Configurations.{Configuration, Phase, steps, asks, goes_on, moves_to, stops}
 use Rattle.gx_session.specs.Moves.{after_reply, after_restoring, asking_for, after_turn, after_given}
 use Rattle.gx_session.specs.Moves.{request_of, after_line, given_of, shelf_gives, act_by, after_effect}
 use Rattle.gx_session.specs.Asked.{effect_at, asked, asked_at}
@@ -92,15 +92,8 @@ fault-gives start entry h asking d f result (inr e) early stopped = subst (Event
 
 -- a turn that waits may want memory where what is shown then may
 wait-wants : (log : Option Log) (machine : FlatMachine) (said : Said) (t : Turn) → IsWait t → ShowWants said.0 → TurnWants log machine (said, t)
-wait-wants log machine said turn.Wait is some = some
-wait-wants log machine said turn.Prompt is some = some
 wait-wants log machine said (turn.Answer reply) is some = absurd is
-wait-wants log machine said turn.Stuck is some = absurd is
-wait-wants log machine said (turn.Load name) is some = absurd is
-wait-wants log machine said (turn.Store name bytes) is some = absurd is
-wait-wants log machine said (turn.Remove name) is some = absurd is
-wait-wants log machine said (turn.Has name) is some = absurd is
-wait-wants log machine said turn.Exit is some = absurd is
+wait-wants log machine said t is some = (is, some)
 
 -- an effect that asks is done
 not-spent : (does : Effect) → IsSome (asking_of does) → does ≢ effect.Spent
@@ -246,8 +239,8 @@ module _ {K : Type 0} {sending : SendStep K} (start : Configuration) (entry : Ha
     pub went-on : Follows start entry h d left effect.Went → Going start entry (record h { left = left }) d
     went-on f =
         let g = f.going in
-        let act : act_of (here start entry (record h { machine = f.before; log = f.recorded }) d steps g.now) ≡ goes (stepped-to g.now.past h.log) =
-        f.event ∙ ap (λ (l : Option Log). goes (stepped-to g.now.past l)) (sym f.logs) in
+        let act : act_of (here start entry (record h { machine = f.before; log = f.recorded }) d steps g.now) ≡ moves_to (stepped-to g.now.past h.log) =
+        f.event ∙ ap (λ (l : Option Log). moves_to (stepped-to g.now.past l)) (sym f.logs) in
         record {
           now = moves-on start entry (record h { machine = f.before; log = f.recorded }) d steps g g.now.past steps (record h { left = left }) d (stood f.before f.recorded g.now.past g.now.is_past) g.now.few g.now.reads act
               (saved-of (here start entry (record h { machine = f.before; log = f.recorded }) d steps g.now) effect.Went (f.effect (λ e. cc)) (λ begins. absurd begins));
@@ -268,8 +261,8 @@ module _ {K : Type 0} {sending : SendStep K} (start : Configuration) (entry : Ha
           fewer = i.fewer;
           reads = i.reads;
         } in
-        let act : act_of (here start entry (record h { machine = f.before; log = f.recorded }) d steps g.now) ≡ goes (stepped-to used h.log) =
-        f.event ∙ ap (λ (l : Option Log). goes (stepped-to used l)) (sym f.logs) in
+        let act : act_of (here start entry (record h { machine = f.before; log = f.recorded }) d steps g.now) ≡ moves_to (stepped-to used h.log) =
+        f.event ∙ ap (λ (l : Option Log). moves_to (stepped-to used l)) (sym f.logs) in
         record {
           now = moves-on start entry (record h { machine = f.before; log = f.recorded }) d steps g used steps (record h { left = left; word = None }) d is g.now.few g.now.reads act
               (saved-of (here start entry (record h { machine = f.before; log = f.recorded }) d steps g.now) effect.Drew (f.effect (λ e. cc)) (λ begins. absurd begins));
@@ -324,10 +317,10 @@ module _ {K : Type 0} {sending : SendStep K} (start : Configuration) (entry : Ha
     resumed-past = let i = r.going.now.is_past in record { taken = i.taken; answers = i.answers; answered = i.answered; word = i.word; left = i.left; fewer = i.fewer; reads = i.reads }
 
     -- the configuration after it
-    resumed-act : act_of at ≡ goes (configuration_of r.going.now.past steps resumed-held d)
+    resumed-act : act_of at ≡ moves_to (configuration_of r.going.now.past steps resumed-held d)
     resumed-act =
         r.event
-        ∙ ap (λ (w : FlatWorld). goes (record at { machine = machine; world = w; left = left; log = logged at.log at.machine; phase = steps }))
+        ∙ ap (λ (w : FlatWorld). moves_to (record at { machine = machine; world = w; left = left; log = logged at.log at.machine; phase = steps }))
         (sent-before (concat r.going.now.past.sent) r.world r.said ∙ ap (λ (w : FlatWorld). let x : FlatWorld = record { scene = w.scene; text = concat r.going.now.past.sent ++ w.text } in x) (sym r.moved))
 
     pub resumed-on : Standing start entry resumed-held d steps
@@ -367,8 +360,8 @@ module _ {K : Type 0} {sending : SendStep K} (start : Configuration) (entry : Ha
     -- it asks the shelf
     pub turn-asks : after_turn called w (Ok (r.said, t)) ≡ asking_for called w (after called.world r.said) t → IsInCall start entry h asking d (asks t w)
     turn-asks e =
-        let act : act_of called ≡ goes (configuration_of r.going.now.past (asks t w) h d) =
-        r.event ∙ e ∙ ap (λ (x : FlatWorld). goes (record called { world = x; phase = asks t w })) turned-world in
+        let act : act_of called ≡ moves_to (configuration_of r.going.now.past (asks t w) h d) =
+        r.event ∙ e ∙ ap (λ (x : FlatWorld). moves_to (record called { world = x; phase = asks t w })) turned-world in
         record {
           now = moves-on start entry turning d steps r.going r.going.now.past (asks t w) h d (turn-past h refl refl refl refl) r.going.now.few r.going.now.reads act r.saved;
           asking_is = r.asks ∙ asked-same called (configuration_of r.going.now.past (asks t w) h d) refl refl;
@@ -383,8 +376,8 @@ module _ {K : Type 0} {sending : SendStep K} (start : Configuration) (entry : Ha
         let grids : after (after called.world r.said) (show_grids r.said.0) ≡ record { scene = h'.world.scene; text = concat r.going.now.past.sent ++ h'.world.text } =
         ap (λ (x : Scene). after (after called.world r.said) (show_grids x)) scene ∙ ap (λ (x : FlatWorld). after x (show_grids h.world.scene)) turned-world
         ∙ sent-before (concat r.going.now.past.sent) h.world (show_grids h.world.scene) in
-        let act : act_of called ≡ goes (configuration_of r.going.now.past (asks t w) h' d) =
-        r.event ∙ e ∙ ap (λ (x : FlatWorld). goes (record called { world = x; phase = asks t w })) grids in
+        let act : act_of called ≡ moves_to (configuration_of r.going.now.past (asks t w) h' d) =
+        r.event ∙ e ∙ ap (λ (x : FlatWorld). moves_to (record called { world = x; phase = asks t w })) grids in
         let waits : IsInCall start entry h' asking d (asks t w) = record {
           now = moves-on start entry turning d steps r.going r.going.now.past (asks t w) h' d (turn-past h' refl refl refl refl) r.going.now.few r.going.now.reads act r.saved;
           asking_is = r.asks ∙ asked-same called (configuration_of r.going.now.past (asks t w) h' d) refl refl;
@@ -450,8 +443,8 @@ module _ {K : Type 0} {sending : SendStep K} (start : Configuration) (entry : Ha
           reads = i.reads;
         } in
         let same : m.answers m.asked (request_for q) ≡ answer = ap (λ (f : Trace → Request → Answer). f d.asked (request_for q)) i.answers ∙ told in
-        let act : act_of m ≡ goes (configuration_of p (goes_on (given_of answer) w) h d') =
-        question-gives m w q ∙ ap (λ (a : Answer). goes (record m { asked = m.asked ++ (request_for q, Ok a) ∷ []; phase = goes_on (given_of a) w })) same in
+        let act : act_of m ≡ moves_to (configuration_of p (goes_on (given_of answer) w) h d') =
+        question-gives m w q ∙ ap (λ (a : Answer). moves_to (record m { asked = m.asked ++ (request_for q, Ok a) ∷ []; phase = goes_on (given_of a) w })) same in
         record {
           now = moves-on start entry h d (asks (turn_of q) w) g p (goes_on (given_of answer) w) h d' past g.now.few g.now.reads act (unsaved m (λ e. cc));
           asking_is = asks-is ∙ asked-same m (configuration_of p (goes_on (given_of answer) w) h d') refl refl;
@@ -529,7 +522,7 @@ module _ {K : Type 0} {sending : SendStep K} (start : Configuration) (entry : Ha
           fewer = omega arith;
           reads = r.reads;
         } in
-        let act : act_of asking-at ≡ goes (configuration_of p (goes_on (given.Line chars) w) h' d) = taken-act ∙ shown-line p h.echo in
+        let act : act_of asking-at ≡ moves_to (configuration_of p (goes_on (given.Line chars) w) h' d) = taken-act ∙ shown-line p h.echo in
         let waits : IsInCall start entry h' asking d (goes_on (given.Line chars) w) = record {
           now = moves-on start entry was d-was (asks r.turn w) r.going p (goes_on (given.Line chars) w) h' d past r.few (inr less) act (unsaved asking-at (λ e. cc));
           asking_is = r.asking_is ∙ asked-same asking-at (configuration_of p (goes_on (given.Line chars) w) h' d) refl refl;
@@ -537,10 +530,10 @@ module _ {K : Type 0} {sending : SendStep K} (start : Configuration) (entry : Ha
         subst (λ (x : FlatWorld). IsInCall start entry (record h { world = x }) asking d (goes_on (given.Line chars) w)) (sym shown) waits
       where
         shown-line : (p : History) (b : Bool)
-            → goes (record asking-at { world = if b then after (record { scene = h.world.scene; text = concat p.sent ++ h.world.text }) (show_line h.world.scene chars) else record { scene = h.world.scene; text = concat p.sent ++ h.world.text }; input = h.ahead ++ h.coming; phase = goes_on (given.Line chars) w })
-            ≡ goes (record asking-at { world = (let x : FlatWorld = if b then after h.world (show_line h.world.scene chars) else h.world in record { scene = x.scene; text = concat p.sent ++ x.text }); input = h.ahead ++ h.coming; phase = goes_on (given.Line chars) w })
+            → moves_to (record asking-at { world = if b then after (record { scene = h.world.scene; text = concat p.sent ++ h.world.text }) (show_line h.world.scene chars) else record { scene = h.world.scene; text = concat p.sent ++ h.world.text }; input = h.ahead ++ h.coming; phase = goes_on (given.Line chars) w })
+            ≡ moves_to (record asking-at { world = (let x : FlatWorld = if b then after h.world (show_line h.world.scene chars) else h.world in record { scene = x.scene; text = concat p.sent ++ x.text }); input = h.ahead ++ h.coming; phase = goes_on (given.Line chars) w })
         shown-line p true =
-            ap (λ (x : FlatWorld). goes (record asking-at { world = x; input = h.ahead ++ h.coming; phase = goes_on (given.Line chars) w })) (sent-before (concat p.sent) h.world (show_line h.world.scene chars))
+            ap (λ (x : FlatWorld). moves_to (record asking-at { world = x; input = h.ahead ++ h.coming; phase = goes_on (given.Line chars) w })) (sent-before (concat p.sent) h.world (show_line h.world.scene chars))
         shown-line p false = refl
 
   -- A CHARACTER IS PUT, A CALL IS MADE, A GAME IS SAVED OR RESTORED, A CALL GOES ON
@@ -627,7 +620,7 @@ module _ {K : Type 0} {sending : SendStep K} (start : Configuration) (entry : Ha
 
     -- the machine takes an answer, or goes back to a copy
     pub asking-resumes : (asking : Option Asking) (world : FlatWorld) (said : Said) (machine : FlatMachine) (wanted : Type 0) → asking ≡ asking_of does → world ≡ after h.world said
-        → act_of asking-here ≡ goes (record asking-here { machine = machine; world = after asking-here.world said; left = left; log = logged asking-here.log asking-here.machine; phase = steps })
+        → act_of asking-here ≡ moves_to (record asking-here { machine = machine; world = after asking-here.world said; left = left; log = logged asking-here.log asking-here.machine; phase = steps })
         → (BeginsSave asking-here (Some does) → IsReadBack h.machine.flat) → (wanted → AsksMemory) → Resumes start entry (record h { world = world }) asking d left machine wanted
     asking-resumes asking world said machine wanted asks-is moved e saved takes = record {
       world = h.world;

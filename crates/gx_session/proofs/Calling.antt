@@ -4,7 +4,7 @@ use Rattle.std.proofs.Common.{append_assoc, append-nil, arith}
 use Rattle.gx_outside.specs.Chains.{Chain, IsCalled}
 use Rattle.gx_outside.specs.Files.{Files}
 use Rattle.gx_outside.specs.Outside.{FlatShelf}
-use Rattle.gx_outside.specs.Shelves.{Request, loads, stores, removes, looks, Answer, loaded, stored, Exchange, Trace, AnswerMayWant, answer_for, files_after, told_by, ShelfCall}
+use Rattle.gx_outside.specs.Shelves.{Request, load_file, store_file, remove_file, find_file, Answer, loaded, was_stored, Exchange, Trace, AnswerMayWant, answer_for, files_after, told_by, ShelfCall}
 use Rattle.gx_outside.specs.declared.devices.Load.TheVariants.{Found}
 use Rattle.gx_outside.specs.declared.devices.ShelfFault.{ShelfFault}
 use Rattle.gx_outside.specs.declared.devices.ShelfFault.TheVariants as fault
@@ -127,7 +127,7 @@ answer-in (Ok answer) = answer
 answer-in (Err e) = loaded (Found [])
 
 abbrev replayed : Trace → Trace → Request → Answer
-replayed [] asked r = stored
+replayed [] asked r = was_stored
 replayed (c ∷ trace) [] r = answer-in c.1
 replayed (c ∷ trace) (e ∷ asked) r = replayed trace asked r
 
@@ -136,10 +136,10 @@ replayed-at [] rest c r = refl
 replayed-at (e ∷ asked) rest c r = replayed-at asked rest c r
 
 may-want : (r : Request) → AnswerMayWant r (loaded (Found []))
-may-want (loads name most) = omega arith
-may-want (stores name bytes) = tt
-may-want (removes name) = tt
-may-want (looks name) = tt
+may-want (load_file name most) = omega arith
+may-want (store_file name bytes) = tt
+may-want (remove_file name) = tt
+may-want (find_file name) = tt
 
 replayed-told : (whole asked trace : Trace) → whole ≡ asked ++ trace → AreTold (replayed whole) asked trace
 unfolding answer-in

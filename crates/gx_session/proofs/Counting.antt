@@ -1,6 +1,6 @@
 -- The failures of a device over some calls.
 use Rattle.std.proofs.Common.{◌≡◌, ◌≤◌, ◌⊎◌, inl, inr, Bool, true, false, refl, ap, ◌∙◌, arith}
-use Rattle.gx_outside.specs.Outside.{HasCause, raised}
+use Rattle.gx_outside.specs.Outside.{HasCause, raised_by}
 use Rattle.gx_outside.specs.declared.calls.Calls.{Calls}
 use Rattle.gx_session.specs.Counts.{Blames}
 
@@ -59,7 +59,7 @@ blames-on a b c failed w blames =
     let later : b.faults ≤ c.faults = blames.later in
     record {
       later = omega arith;
-      rose = λ f. blames.rose f ∙ ap raised faults;
+      rose = λ f. blames.rose f ∙ ap (raised_by 1) faults;
       last = blames.last;
       kept = λ f. blames.kept f ∙ faults;
       well = λ f. well-after a b c w.well (blames.well f);

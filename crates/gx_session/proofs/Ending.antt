@@ -11,7 +11,7 @@ use Rattle.gx_outside.specs.Chains.{Chain}
 use Rattle.gx_outside.specs.Outside.{FlatSink, FlatShelf}
 use Rattle.gx_outside.specs.Reads.{SourceRead}
 use Rattle.gx_outside.specs.Sends.{Send, SinkCall}
-use Rattle.gx_outside.specs.Shelves.{Request, stores, Trace}
+use Rattle.gx_outside.specs.Shelves.{Request, store_file, Trace}
 use Rattle.gx_outside.specs.declared.devices.ShelfFault.{ShelfFault}
 use Rattle.gx_outside.specs.declared.devices.ShelfFault.TheVariants as of_shelf
 use Rattle.glk_world.specs.World.{Scene}
@@ -123,14 +123,14 @@ module _ {K : Type 0} {sending : SendStep K} (start : Configuration) (entry : Ha
     no-failures of_shelf.NoMemory = refl
 
     -- one of them was refused
-    some-refused : (fault : ShelfFault) (front rest : List (List ℕ × List ℕ)) (next : List ℕ × List ℕ) → stores_of h.world.scene ≡ front ++ next ∷ rest → asked ≡ map store_call front ++ (stores next.0 next.1, Err fault) ∷ []
+    some-refused : (fault : ShelfFault) (front rest : List (List ℕ × List ℕ)) (next : List ℕ × List ℕ) → stores_of h.world.scene ≡ front ++ next ∷ rest → asked ≡ map store_call front ++ (store_file next.0 next.1, Err fault) ∷ []
         → Early start entry h asking d-now (halt_of_shelf fault)
     some-refused fault front rest next files asked-are =
         let m : Configuration = record (told_all stopped) { asked = stopped.asked ++ map store_call front } in
         let split : stores_of stopped.world.scene ≡ front ++ next ∷ rest = ap stores_of scene-is ∙ files in
-        let call : Trace = (stores next.0 next.1, Err fault) ∷ [] in
-        cut-at start entry d-now h asking (halt_of_shelf fault) None (by_shelf (stores next.0 next.1) fault) m (map whole_send t.past.sent)
-        ((front, next, rest, split, refl, refl), t.asking_is) (shelf-status (stores next.0 next.1) fault) (sym (ap (λ (m : Configuration). m.machine) t.is_end)) (sym (ap (λ (m : Configuration). m.left) t.is_end)) (sym (ap (λ (m : Configuration). m.log) t.is_end))
+        let call : Trace = (store_file next.0 next.1, Err fault) ∷ [] in
+        cut-at start entry d-now h asking (halt_of_shelf fault) None (by_shelf (store_file next.0 next.1) fault) m (map whole_send t.past.sent)
+        ((front, next, rest, split, refl, refl), t.asking_is) (shelf-status (store_file next.0 next.1) fault) (sym (ap (λ (m : Configuration). m.machine) t.is_end)) (sym (ap (λ (m : Configuration). m.left) t.is_end)) (sym (ap (λ (m : Configuration). m.log) t.is_end))
         sent-front (sends-then ∙ none-sent (told_all stopped).sent) t.is_past.taken whole-front
         (ap (λ (x : Trace). d.asked ++ x) asked-are ∙ sym (append_assoc d.asked (map store_call front) call) ∙ ap (λ (x : Trace). (x ++ map store_call front) ++ call) (sym asked-then))
         (λ other.

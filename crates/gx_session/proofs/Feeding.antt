@@ -1,8 +1,8 @@
 -- What comes of a source over parts of a run that follow one another.
-use Rattle.std.proofs.Common.{◌≡◌, ℕ, zero, suc, ◌+◌, ◌<◌, ◌≤◌, ◌-◌, ◌⊎◌, inl, inr, List, [], ◌∷◌, ◌++◌, length, take, drop, Bool, true, false, Result, Ok, Err, IfOk, IfErr, refl, ap, subst, sym, ◌∙◌, arith, append_assoc, append-nil, length-append, length-drop}
+use Rattle.std.proofs.Common.{◌≡◌, ℕ, ◌+◌, ◌<◌, ◌≤◌, ◌-◌, ◌⊎◌, inl, inr, List, [], ◌∷◌, ◌++◌, length, take, drop, Bool, true, false, Result, Ok, Err, IfOk, IfErr, refl, ap, subst, sym, ◌∙◌, arith, append_assoc, append-nil, length-append, length-drop}
 use Rattle.std.proofs.lemmas.Bool.{cases_lt}
 use Rattle.std.specs.List.{AllByRecursion}
-use Rattle.gx_outside.specs.Outside.{FlatSource, raised, raised_by, offered_by, offered_in}
+use Rattle.gx_outside.specs.Outside.{FlatSource, raised_by, raised_times}
 use Rattle.gx_outside.specs.Reads.{SourceRead}
 use Rattle.gx_outside.specs.declared.devices.Failed.{Failed}
 use Rattle.gx_session.specs.declared.lines.NoLine.{NoLine}
@@ -121,20 +121,14 @@ reads-none ended over source coming same =
     let units : spare over ≡ spare ended = ap spare same in
     record { reads = 0; made = refl; offered = refl; few = omega arith }
 
-offered-more : (n k room offered : ℕ) → offered_in n room (offered_in k room offered) ≡ offered_in (n + k) room offered
-offered-more zero k room offered = ap (λ (x : ℕ). offered_in x room offered) (let e : k ≡ 0 + k = omega arith in e)
-offered-more (suc n) k room offered =
-    let more : suc (n + k) ≡ suc n + k = omega arith in
-    ap (offered_by room) (offered-more n k room offered) ∙ ap (λ (x : ℕ). offered_in x room offered) more
-
 pub reads-on : (a b c : Bool) (s t u : FlatSource) (x y z : List ℕ) (more : ℕ) → ReadsFew a b s t x y 0 → ReadsFew b c t u y z more → ReadsFew a c s u x z more
 reads-on a b c s t u x y z more one two =
     let few : one.reads + length y + spare b ≤ length x + spare a + 0 = one.few in
     let few' : two.reads + length z + spare c ≤ length y + spare b + more = two.few in
     record {
       reads = two.reads + one.reads;
-      made = two.made ∙ ap (raised_by two.reads) one.made ∙ raised-more two.reads one.reads s.calls.made;
-      offered = two.offered ∙ ap (offered_in two.reads piece) one.offered ∙ offered-more two.reads one.reads piece s.offered;
+      made = two.made ∙ ap (raised_times two.reads 1) one.made ∙ raised-more two.reads one.reads 1 s.calls.made;
+      offered = two.offered ∙ ap (raised_times two.reads piece) one.offered ∙ raised-more two.reads one.reads piece s.offered;
       few = omega arith;
     }
 
@@ -252,8 +246,8 @@ module _ {S : Type 0} (reading : ReadStep S) (seen : S → FlatSource) (first no
             subst (λ (q : Result (List ℕ) NoLine). Fed reading seen first later before source (λ x y. Takes first later (seen before) (seen source) x y q)) (sym is.0) (takes-none later zero is.1)
 
   -- the source failed, or memory ran out
-  module _ (later : HeldLines) (source' : S) (going : now.ended ≡ false) (tells : (seen source').tells ≡ (seen source).tells) (made : (seen source').calls.made ≡ raised (seen source).calls.made)
-      (offered : (seen source').offered ≡ offered_by piece (seen source).offered) where
+  module _ (later : HeldLines) (source' : S) (going : now.ended ≡ false) (tells : (seen source').tells ≡ (seen source).tells) (made : (seen source').calls.made ≡ raised_by 1 (seen source).calls.made)
+      (offered : (seen source').offered ≡ raised_by piece (seen source).offered) where
     not-over : {C : Type 0} → now.ended ≡ true → C
     not-over e = let g = going in absurd cc
 

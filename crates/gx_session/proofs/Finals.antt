@@ -24,7 +24,7 @@ use Rattle.gx_session.specs.declared.running.Waiting.{Waiting}
 use Rattle.gx_session.specs.Input.{next_line}
 use Rattle.gx_session.specs.Saving.{saving, restoring}
 use Rattle.gx_session.specs.Sending.{pending, is_due}
-use Rattle.gx_session.specs.Configurations.{Configuration, Phase, steps, asks, goes_on, Verdict, goes, stops}
+use Rattle.gx_session.specs.Configurations.{Configuration, Phase, steps, asks, goes_on, Verdict, moves_to, stops}
 use Rattle.gx_session.specs.Moves.{after_reply, after_restoring, after_turn, after_effect}
 use Rattle.gx_session.specs.Moves.{act_by, is_due_by, sends_now, all_sent, move_of}
 use Rattle.gx_session.specs.Session.{RunEnd, end_after, final_in, moves_by, stop_of, next_configuration}
@@ -54,7 +54,7 @@ quiet-sent (goes_on g w) s text = refl
 
 -- a verdict that is nearer to the end
 abbrev Near : ℕ → Verdict → Type 0
-Near n (goes m) = moves_left m < n
+Near n (moves_to m) = moves_left m < n
 Near n (stops s m) = Unit {0}
 
 nearer : (base extra n : ℕ) (b : Bool) → base + extra + 1 < n → base + extra + (if b then 1 else 0) < n
@@ -134,7 +134,7 @@ act-near (goes_on g w) m is =
     given-cases (Near (5 * w.left + 2)) m w (glk_go_on m.world.scene m.machine.flat w.room g)
     (λ said reply. replied-near (5 * w.left + 2) m w.left (Ok (said, reply)) (omega arith)) tt (λ f. tt)
 
-moved-near : (m : Configuration) (b : Bool) → sends_now m ≡ b → Near (moves_left m) (if b then goes (all_sent m) else act_of m)
+moved-near : (m : Configuration) (b : Bool) → sends_now m ≡ b → Near (moves_left m) (if b then moves_to (all_sent m) else act_of m)
 moved-near m true is =
     let before : moves_left m ≡ moves_by m.phase m.left + 1 = ap (λ (b : Bool). moves_by m.phase m.left + (if b then 1 else 0)) is in
     let now : moves_left (all_sent m) ≡ moves_by m.phase m.left + 0 = ap (λ (b : Bool). moves_by m.phase m.left + (if b then 1 else 0)) (quiet-sent m.phase m.sent m.world.text) in
@@ -149,13 +149,13 @@ unfolding move_of
 move-near m = moved-near m (sends_now m) refl
 
 -- A move brings nearer to the end.
-pub goes-nearer : (m m' : Configuration) → move_of m ≡ goes m' → moves_left m' < moves_left m
+pub goes-nearer : (m m' : Configuration) → move_of m ≡ moves_to m' → moves_left m' < moves_left m
 goes-nearer m m' e = subst (Near (moves_left m)) e (move-near m)
 
 -- two ways to go on that agree at the next moment
-agree : (v : Verdict) (f g : Configuration → RunEnd) → ((m : Configuration) → v ≡ goes m → f m ≡ g m) → end_after v f ≡ end_after v g
+agree : (v : Verdict) (f g : Configuration → RunEnd) → ((m : Configuration) → v ≡ moves_to m → f m ≡ g m) → end_after v f ≡ end_after v g
 agree (stops s m) f g same = refl
-agree (goes m) f g same = same m refl
+agree (moves_to m) f g same = same m refl
 
 -- more moves than are left are enough
 enough : (n k : ℕ) (m : Configuration) → moves_left m < n → moves_left m < k → final_in n m ≡ final_in k m
@@ -165,7 +165,7 @@ enough (suc n) (suc k) m h h' =
     agree (move_of m) (final_in n) (final_in k) (λ m' e. let near : moves_left m' < moves_left m = goes-nearer m m' e in enough n k m' (omega arith) (omega arith))
 
 -- The stop stays the same over a move.
-pub stop-stays : (m m' : Configuration) → move_of m ≡ goes m' → stop_of m' ≡ stop_of m
+pub stop-stays : (m m' : Configuration) → move_of m ≡ moves_to m' → stop_of m' ≡ stop_of m
 unfolding stop_of
 stop-stays m m' e =
     let near : moves_left m' < moves_left m = goes-nearer m m' e in
@@ -178,14 +178,14 @@ unfolding stop_of
 stop-comes m m' s e = ap (λ (v : Verdict). end_after v (final_in (moves_left m))) e
 
 -- One more move is one more configuration of the run.
-pub reached-goes : (start m m' : Configuration) (j : ℕ) → run_of start j ≡ Some m → move_of m ≡ goes m' → run_of start (suc j) ≡ Some m'
+pub reached-goes : (start m m' : Configuration) (j : ℕ) → run_of start j ≡ Some m → move_of m ≡ moves_to m' → run_of start (suc j) ≡ Some m'
 reached-goes start m m' j reached e = ap (λ (o : Option Configuration). option_and_then (λ m. next_configuration (move_of m)) o) reached ∙ ap next_configuration e
 
 -- The text that is due is sent, and else what comes next is done.
-pub move-sends : (m : Configuration) → sends_now m ≡ true → move_of m ≡ goes (all_sent m)
+pub move-sends : (m : Configuration) → sends_now m ≡ true → move_of m ≡ moves_to (all_sent m)
 unfolding move_of
-move-sends m is = ap (λ (b : Bool). if b then goes (all_sent m) else act_of m) is
+move-sends m is = ap (λ (b : Bool). if b then moves_to (all_sent m) else act_of m) is
 
 pub move-acts : (m : Configuration) → sends_now m ≡ false → move_of m ≡ act_of m
 unfolding move_of
-move-acts m is = ap (λ (b : Bool). if b then goes (all_sent m) else act_of m) is
+move-acts m is = ap (λ (b : Bool). if b then moves_to (all_sent m) else act_of m) is

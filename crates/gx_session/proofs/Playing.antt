@@ -32,7 +32,7 @@ use Rattle.gx_session.specs.Questions.{AreAnswered, AreTold}
 use Rattle.gx_session.specs.Reading.{IsPartial}
 use Rattle.gx_session.specs.Reading.{spare, ReadsFew}
 use Rattle.gx_session.specs.Sending.{pending, is_due, whole_send}
-use Rattle.gx_session.specs.Configurations.{Configuration, Phase, steps, asks, goes, stops}
+use Rattle.gx_session.specs.Configurations.{Configuration, Phase, steps, asks, moves_to, stops}
 use Rattle.gx_session.specs.Moves.{request_of, move_of, is_due_by, sends_now, all_sent}
 use Rattle.gx_session.specs.Session.{RunEnd, final_of}
 use Rattle.gx_session.specs.Asked.{asked, asked_at}
@@ -168,9 +168,9 @@ module _ {K : Type 0} {sending : SendStep K} (start : Configuration) (entry : Ha
 
     -- the run goes on
     abbrev pub moves-on : (g : Ready start entry h d phase) (p' : History) (phase' : Phase) (h' : HeldRun) (d' : Handed sending) → IsHistory start entry p' h' d' → length h'.ahead < piece → IsRead start.input entry h' d'
-        → act_of (here g.now) ≡ goes (configuration_of p' phase' h' d') → IsSaved (here g.now) → Standing start entry h' d' phase'
+        → act_of (here g.now) ≡ moves_to (configuration_of p' phase' h' d') → IsSaved (here g.now) → Standing start entry h' d' phase'
     moves-on g p' phase' h' d' is few reads act saved =
-        let move : move_of (here g.now) ≡ goes (configuration_of p' phase' h' d') = move-acts (here g.now) g.quiet ∙ act in
+        let move : move_of (here g.now) ≡ moves_to (configuration_of p' phase' h' d') = move-acts (here g.now) g.quiet ∙ act in
         record {
           past = p';
           moves = suc g.now.moves;
@@ -339,8 +339,8 @@ module _ {K : Type 0} {sending : SendStep K} (start : Configuration) (entry : Ha
       sends g true e f =
           let s : SendsAll sending d.sink sink h.world world (Ok tt) = f.many (leb-true enough (length h.world.text) e) in
           let same : configuration_of (with-more g.past) phase h-now d-now ≡ all_sent (here phase g) = still g.past phase s.1 in
-          let move : move_of (here phase g) ≡ goes (configuration_of (with-more g.past) phase h-now d-now) =
-          move-sends (here phase g) (due-now g true e) ∙ ap goes (sym same) in
+          let move : move_of (here phase g) ≡ moves_to (configuration_of (with-more g.past) phase h-now d-now) =
+          move-sends (here phase g) (due-now g true e) ∙ ap moves_to (sym same) in
           let now : Standing start entry h-now d-now phase = record {
             past = with-more g.past;
             moves = suc g.moves;

@@ -21,7 +21,7 @@ use Rattle.gx_session.specs.declared.running.Waiting.{Waiting}
 use Rattle.gx_session.specs.Constants.{failed}
 use Rattle.gx_session.specs.Input.{next_line}
 use Rattle.gx_session.specs.Saving.{saving, restoring}
-use Rattle.gx_session.specs.Configurations.{Configuration, Phase, steps, asks, goes_on, Verdict, goes, stops}
+use Rattle.gx_session.specs.Configurations.{Configuration, Phase, steps, asks, goes_on, Verdict, moves_to, stops}
 use Rattle.gx_session.specs.Moves.{after_reply, after_restoring, after_turn, after_effect}
 use Rattle.gx_session.specs.Moves.{act_by, sends_now, all_sent, move_of}
 use Rattle.gx_session.specs.Standing.{act_of}
@@ -67,7 +67,7 @@ record Quits (m m' : Configuration) : Type 0 where
   units : m'.left + cost_of m.machine ≡ m.left
 
 abbrev Moves : Configuration → Verdict → Type 0
-Moves m (goes m') = Stands m m' ⊎ Ends m m'
+Moves m (moves_to m') = Stands m m' ⊎ Ends m m'
 Moves m (stops s m') = Halts s m m' ⊎ Quits m m'
 
 halted : (s : Stop) (m : Configuration) → Halts s m m
@@ -122,7 +122,7 @@ act-moves (asks t w) m is leaves =
 act-moves (goes_on g w) m is leaves =
     given-cases (Moves m) m w (glk_go_on m.world.scene m.machine.flat w.room g) (λ said reply. replied-moves m w.left (Ok (said, reply)) leaves) (inl (halted stop.Stuck m)) (λ f. inl (halted (stop.Faulted f) m))
 
-move-by : (m : Configuration) (b : Bool) → LeavesUnits m.phase m → Moves m (if b then goes (all_sent m) else act_of m)
+move-by : (m : Configuration) (b : Bool) → LeavesUnits m.phase m → Moves m (if b then moves_to (all_sent m) else act_of m)
 move-by m true leaves = inl (record { machine = refl; log = refl; left = refl; leaves = sent-leaves m.phase leaves })
   where
     sent-leaves : (d : Phase) → LeavesUnits d m → LeavesUnits d (all_sent m)
@@ -339,9 +339,9 @@ module _ (start : Configuration) (begins : start.phase ≡ steps) (none : start.
   recorded (suc j) m at = recorded-next j m (run_of start j) refl (recorded j) at at
 
   -- the stop of a run that has come this far
-  stopped-by : (m : Configuration) (j : ℕ) → run_of start j ≡ Some m → Recorded start j m → stop_of m ≡ stop_of start → ((m' : Configuration) → move_of m ≡ goes m' → IsLastRecord start (stop_of start))
+  stopped-by : (m : Configuration) (j : ℕ) → run_of start j ≡ Some m → Recorded start j m → stop_of m ≡ stop_of start → ((m' : Configuration) → move_of m ≡ moves_to m' → IsLastRecord start (stop_of start))
       → (v : Verdict) → move_of m ≡ v → IsLastRecord start (stop_of start)
-  stopped-by m j at r same on (goes m') e = on m' e
+  stopped-by m j at r same on (moves_to m') e = on m' e
   stopped-by m j at r same on (stops s m') e =
       let none-on : run_of start (suc j) ≡ None = ap (λ (o : Option Configuration). option_and_then (λ x. next_configuration (move_of x)) o) at ∙ ap next_configuration e in
       subst (IsLastRecord start) (sym (stop-comes m m' s e) ∙ same) (stops-so start m j r s m' none-on (subst (Moves m) e (move-moves m r.leaves)))
@@ -368,7 +368,6 @@ shown-last start l = record {
 
 -- The law.
 pub records_places : (start : Configuration) → RecordsRun start
-records_places start = record {
-  at = λ begins none j m at. (recorded start begins none j m at).is;
-  last = λ begins none. shown-last start (stopped start begins none (suc (moves_left start)) start 0 (omega arith) refl (first-recorded start begins none) refl);
-}
+unfolding RecordsRun
+records_places start begins none =
+    ((λ j m at. (recorded start begins none j m at).is), shown-last start (stopped start begins none (suc (moves_left start)) start 0 (omega arith) refl (first-recorded start begins none) refl))

@@ -49,9 +49,9 @@ none-after start n (suc i) low none =
 
 -- a run that stops at this move
 pub saved-all : (start : Configuration) (n : ℕ) (m m' : Configuration) (why : Stop) → run_of start n ≡ Some m → move_of m ≡ stops why m' → SavedBefore start (Some n) → SavedBefore start None
-saved-all start n m m' why reached stop before i m1 m2 reached1 reached2 =
+saved-all start n m m' why reached stop before i m1 reached1 goes-on =
     let none : run_of start (suc n) ≡ None = ap (λ (o : Option Configuration). option_and_then (λ m. next_configuration (move_of m)) o) reached ∙ ap next_configuration stop in
     elim (cases_lt i n) [
       | inl low ↦ before i low m1 reached1
-      | inr high ↦ let later : run_of start (suc i) ≡ None = none-after start (suc n) (suc i) (omega arith) none in cc
+      | inr high ↦ absurd (goes-on (none-after start (suc n) (suc i) (omega arith) none))
     ]

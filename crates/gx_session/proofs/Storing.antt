@@ -5,8 +5,8 @@ use Rattle.std.proofs.lemmas.List.Elements.{filter_map-append}
 use Rattle.std.proofs.lemmas.Grind.{common_steps}
 use Rattle.std.specs.List.{filter_map}
 use Rattle.std.specs.Option.{option_to_list}
-use Rattle.gx_outside.specs.Outside.{raised, raised_by}
-use Rattle.gx_outside.specs.Shelves.{stores, Trace}
+use Rattle.gx_outside.specs.Outside.{raised_by, raised_times}
+use Rattle.gx_outside.specs.Shelves.{store_file, Trace}
 use Rattle.gx_outside.specs.declared.devices.ShelfFault.{ShelfFault}
 use Rattle.glk_world.specs.World.{Scene}
 use Rattle.gx_session.specs.declared.ends.Halt.{Halt}
@@ -16,16 +16,16 @@ use Rattle.gx_session.specs.Finishing.{StoredSome}
 use Rattle.gx_session.proofs.Parts.{named_bytes}
 
 -- more calls
-pub raised-more : (n k count : ℕ) → raised_by n (raised_by k count) ≡ raised_by (n + k) count
-raised-more zero k count = ap (λ (x : ℕ). raised_by x count) (let e : k ≡ 0 + k = omega arith in e)
-raised-more (suc n) k count =
+pub raised-more : (n k step count : ℕ) → raised_times n step (raised_times k step count) ≡ raised_times (n + k) step count
+raised-more zero k step count = ap (λ (x : ℕ). raised_times x step count) (let e : k ≡ 0 + k = omega arith in e)
+raised-more (suc n) k step count =
     let more : suc (n + k) ≡ suc n + k = omega arith in
-    ap raised (raised-more n k count) ∙ ap (λ (x : ℕ). raised_by x count) more
+    ap (raised_by step) (raised-more n k step count) ∙ ap (λ (x : ℕ). raised_times x step count) more
 
 -- more stores, the last of which is refused
 pub stopped-more : (one other : List (List ℕ × List ℕ)) (before asked : Trace) (why : Halt) → before ≡ map store_call one → StoredSome other asked why → (rest : List (List ℕ × List ℕ)) → StoredSome (one ++ other ++ rest) (before ++ asked) why
 stopped-more one other before asked why first second rest =
-    let refused : Trace = (stores second.next.0 second.next.1, Err second.fault) ∷ [] in
+    let refused : Trace = (store_file second.next.0 second.next.1, Err second.fault) ∷ [] in
     record {
       front = one ++ second.front;
       next = second.next;
@@ -58,7 +58,7 @@ module _ (scene : Scene) (ids : List ℕ) (i : ℕ) (here : i < length ids) wher
   stores-all = ap (filter_map (named_bytes scene)) (sym (take-append-drop (i + 1) ids)) ∙ filter_map-append (named_bytes scene) (take (i + 1) ids) (drop (i + 1) ids) ∙ ap (λ (x : List (List ℕ × List ℕ)). x ++ filter_map (named_bytes scene) (drop (i + 1) ids)) stores-front
 
 -- one store is refused
-pub store-refused : (o : Option (List ℕ × List ℕ)) (s : List ℕ × List ℕ) (fault : ShelfFault) → o ≡ Some s → StoredSome (option_to_list o) ((stores s.0 s.1, Err fault) ∷ []) (halt_of_shelf fault)
+pub store-refused : (o : Option (List ℕ × List ℕ)) (s : List ℕ × List ℕ) (fault : ShelfFault) → o ≡ Some s → StoredSome (option_to_list o) ((store_file s.0 s.1, Err fault) ∷ []) (halt_of_shelf fault)
 store-refused o s fault is = record {
   front = [];
   next = s;

@@ -17,7 +17,7 @@ use Rattle.gx_session.specs.declared.ends.Stop.TheVariants as stop
 use Rattle.gx_session.specs.declared.running.Waiting.{Waiting}
 use Rattle.gx_session.specs.Input.{next_line}
 use Rattle.gx_session.specs.Saving.{saving, restoring}
-use Rattle.gx_session.specs.Configurations.{Configuration, Phase, steps, asks, goes_on, Verdict, goes, stops}
+use Rattle.gx_session.specs.Configurations.{Configuration, Phase, steps, asks, goes_on, Verdict, moves_to, stops}
 use Rattle.gx_session.specs.Moves.{after_reply, after_restoring, after_turn, after_effect}
 use Rattle.gx_session.specs.Moves.{act_by, sends_now, all_sent, move_of}
 use Rattle.gx_session.specs.Standing.{act_of}
@@ -34,7 +34,7 @@ front-trans xs ys zs a b = (a.0 ++ b.0, b.1 ∙ ap (λ (x : List ℕ). x ++ b.0)
 
 -- the text of what an event comes to
 abbrev text_in : Verdict → List ℕ
-text_in (goes m) = m.world.text
+text_in (moves_to m) = m.world.text
 text_in (stops s m) = m.world.text
 
 replied-grows : (m : Configuration) (left : ℕ) (r : Result (Said × Reply) Fault) → IsFront m.world.text (text_in (after_reply m left r))
@@ -88,7 +88,7 @@ act-grows (goes_on g w) m =
     given-cases (λ v. IsFront m.world.text (text_in v)) m w (glk_go_on m.world.scene m.machine.flat w.room g)
     (λ said reply. (said.1, refl)) (front-refl m.world.text) (λ f. front-refl m.world.text)
 
-moved-grows : (m : Configuration) (b : Bool) → IsFront m.world.text (text_in (if b then goes (all_sent m) else act_of m))
+moved-grows : (m : Configuration) (b : Bool) → IsFront m.world.text (text_in (if b then moves_to (all_sent m) else act_of m))
 moved-grows m true = front-refl m.world.text
 moved-grows m false = act-grows m.phase m
 
@@ -97,7 +97,7 @@ unfolding move_of
 move-grows m = moved-grows m (sends_now m)
 
 after-grows : (v : Verdict) (on : Configuration → RunEnd) → ((m : Configuration) → IsFront m.world.text (on m).configuration.world.text) → IsFront (text_in v) (end_after v on).configuration.world.text
-after-grows (goes m) on grows = grows m
+after-grows (moves_to m) on grows = grows m
 after-grows (stops s m) on grows = front-refl m.world.text
 
 final_in-grows : (n : ℕ) (m : Configuration) → IsFront m.world.text (final_in n m).configuration.world.text

@@ -40,7 +40,7 @@ use Rattle.gx_session.specs.declared.ends.Stop.TheVariants as stop
 use Rattle.gx_session.specs.declared.running.Waiting.{Waiting}
 use Rattle.gx_session.specs.Input.{next_line}
 use Rattle.gx_session.specs.Saving.{saving, restoring}
-use Rattle.gx_session.specs.Configurations.{Configuration, Phase, steps, asks as asks-for, goes_on, Verdict, goes}
+use Rattle.gx_session.specs.Configurations.{Configuration, Phase, steps, asks as asks-for, goes_on, Verdict, moves_to}
 use Rattle.gx_session.specs.Configurations.{stops}
 use Rattle.gx_session.specs.Moves.{after_reply, after_restoring, after_turn, after_given, after_effect}
 use Rattle.gx_session.specs.Moves.{act_by, sends_now, all_sent, move_of}
@@ -294,7 +294,7 @@ asks-neither m u e neither asks is = refl
 
 -- what a verdict makes of the copies of an asking, or of a move that is no step
 abbrev KeepsUndo : FlatUndo → Verdict → Type 0
-KeepsUndo u (goes m) = u ≡ m.machine.undo
+KeepsUndo u (moves_to m) = u ≡ m.machine.undo
 KeepsUndo u (stops s m) = Unit {0}
 
 replied-undo : (m : Configuration) (left : ℕ) (r : Result (Said × Reply) Fault) → KeepsUndo m.machine.undo (after_reply m left r)
@@ -320,10 +320,10 @@ asked-undo m w t =
 given-undo : (m : Configuration) (w : Waiting) (r : Result (Said × Turn) Fault) → KeepsUndo m.machine.undo (after_given m w r)
 given-undo m w r = given-cases (KeepsUndo m.machine.undo) m w r (λ said reply. replied-undo m w.left (Ok (said, reply))) tt (λ f. tt)
 
-kept-undo : (u : FlatUndo) (v : Verdict) (m' : Configuration) → KeepsUndo u v → v ≡ goes m' → u ≡ m'.machine.undo
+kept-undo : (u : FlatUndo) (v : Verdict) (m' : Configuration) → KeepsUndo u v → v ≡ moves_to m' → u ≡ m'.machine.undo
 kept-undo u v m' keeps e = subst (KeepsUndo u) e keeps
 
-effected-undone : (m : Configuration) (left : ℕ) (machine : FlatMachine) (does : Effect) (m' : Configuration) → after_effect m left (Ok (machine, does)) ≡ goes m'
+effected-undone : (m : Configuration) (left : ℕ) (machine : FlatMachine) (does : Effect) (m' : Configuration) → after_effect m left (Ok (machine, does)) ≡ moves_to m'
     → Undone m.machine machine.undo does (undoing m.machine.flat) → Undone m.machine m'.machine.undo does (undoing m.machine.flat)
 effected-undone m left machine effect.Went m' e is =
     let same : machine.undo ≡ m'.machine.undo = cc in
@@ -351,32 +351,32 @@ record Undid (m : FlatMachine) (u : FlatUndo) (kind : Undoing) : Type 0 where
   does : Effect
   undone : Undone m u does kind
 
-stepped-undid : (m : Configuration) (left word : ℕ) (r : Result (FlatMachine × Effect) Fault) (m' : Configuration) → step_of m.machine word ≡ r → after_effect m left r ≡ goes m' → Undid m.machine m'.machine.undo (undoing m.machine.flat)
+stepped-undid : (m : Configuration) (left word : ℕ) (r : Result (FlatMachine × Effect) Fault) (m' : Configuration) → step_of m.machine word ≡ r → after_effect m left r ≡ moves_to m' → Undid m.machine m'.machine.undo (undoing m.machine.flat)
 stepped-undid m left word (Ok r) m' is e = record { does = r.1; undone = effected-undone m left r.0 r.1 m' e (step-undone m.machine word r.0 r.1 is) }
 stepped-undid m left word (Err f) m' is e = cc
 
-tested-undid : (m : Configuration) (left word : ℕ) (m' : Configuration) (b : Bool) → (if b then stops stop.Spent m else after_effect m left (step_of m.machine word)) ≡ goes m' → Undid m.machine m'.machine.undo (undoing m.machine.flat)
+tested-undid : (m : Configuration) (left word : ℕ) (m' : Configuration) (b : Bool) → (if b then stops stop.Spent m else after_effect m left (step_of m.machine word)) ≡ moves_to m' → Undid m.machine m'.machine.undo (undoing m.machine.flat)
 tested-undid m left word m' true e = cc
 tested-undid m left word m' false e = stepped-undid m left word (step_of m.machine word) m' refl e
 
-step-undid : (m m' : Configuration) → step_from m ≡ goes m' → Undid m.machine m'.machine.undo (undoing m.machine.flat)
+step-undid : (m m' : Configuration) → step_from m ≡ moves_to m' → Undid m.machine m'.machine.undo (undoing m.machine.flat)
 step-undid m m' e = tested-undid m (m.left - cost_of m.machine) (next_u32 m.words).0 m' (nat_lt m.left (cost_of m.machine)) e
 
 stood-undid : (m : FlatMachine) (u : FlatUndo) → m.undo ≡ u → Undid m u neither
 stood-undid m u same = record { does = effect.Went; undone = sym same }
 
-act-undid : (phase : Phase) (m m' : Configuration) → act_by phase m ≡ goes m' → Undid m.machine m'.machine.undo (undoing_next phase m.machine.flat.mode (instruction m.machine.flat))
+act-undid : (phase : Phase) (m m' : Configuration) → act_by phase m ≡ moves_to m' → Undid m.machine m'.machine.undo (undoing_next phase m.machine.flat.mode (instruction m.machine.flat))
 act-undid steps m m' e = step-undid m m' e
 act-undid (asks-for t w) m m' e = stood-undid m.machine m'.machine.undo (kept-undo m.machine.undo (act_by (asks-for t w) m) m' (asked-undo m w t) e)
 act-undid (goes_on g w) m m' e =
     stood-undid m.machine m'.machine.undo (kept-undo m.machine.undo (after_given m w (glk_go_on m.world.scene m.machine.flat w.room g)) m' (given-undo m w (glk_go_on m.world.scene m.machine.flat w.room g)) e)
 
-moved-undid : (m m' : Configuration) (b : Bool) → (if b then goes (all_sent m) else act_of m) ≡ goes m'
+moved-undid : (m m' : Configuration) (b : Bool) → (if b then moves_to (all_sent m) else act_of m) ≡ moves_to m'
     → Undid m.machine m'.machine.undo (if b then neither else undoing_next m.phase m.machine.flat.mode (instruction m.machine.flat))
-moved-undid m m' true e = stood-undid m.machine m'.machine.undo (kept-undo m.machine.undo (goes (all_sent m)) m' refl e)
+moved-undid m m' true e = stood-undid m.machine m'.machine.undo (kept-undo m.machine.undo (moves_to (all_sent m)) m' refl e)
 moved-undid m m' false e = act-undid m.phase m m' e
 
-move-undid : (m m' : Configuration) → move_of m ≡ goes m' → Undid m.machine m'.machine.undo (undoing_move m)
+move-undid : (m m' : Configuration) → move_of m ≡ moves_to m' → Undid m.machine m'.machine.undo (undoing_move m)
 unfolding move_of
 move-undid m m' e = moved-undid m m' (sends_now m) e
 
@@ -404,7 +404,7 @@ lasts-on : (start m m' : Configuration) (j : ℕ) (live : List ℕ) (does : Effe
     → Lasts start (suc j) m'.machine.undo (alive_to start.machine.undo.depth j live kind)
 lasts-on start m m' j live does saves reached now is =
     let c : Copy = copy_of m.machine.flat is.0.dest is.0.next in
-    let first : IsTaken start j c = record { configuration = m; i = is.0; reached = reached; decoded = is.1; copy = refl } in
+    let first : IsTaken start j c = (m, is.0, reached, is.1, refl) in
     let all : AreTaken start (take m.machine.undo.depth (c ∷ m.machine.undo.copies)) (take m.machine.undo.depth (j ∷ live)) =
     taken-take start m.machine.undo.depth (c ∷ m.machine.undo.copies) (j ∷ live) (first, now.taken) in
     let deep : AreTaken start (take m.machine.undo.depth (c ∷ m.machine.undo.copies)) (take start.machine.undo.depth (j ∷ live)) =
@@ -424,8 +424,8 @@ lasts-on start m m' j live does neither reached now is =
       taken = subst (λ (u : FlatUndo). AreTaken start u.copies live) (sym is) now.taken;
     }
 
-pub next-goes : (v : Verdict) (m : Configuration) → next_configuration v ≡ Some m → v ≡ goes m
-next-goes (goes m') m e = cc
+pub next-goes : (v : Verdict) (m : Configuration) → next_configuration v ≡ Some m → v ≡ moves_to m
+next-goes (moves_to m') m e = cc
 next-goes (stops s m') m e = cc
 
 start-is : (start m : Configuration) → Some start ≡ Some m → start ≡ m

@@ -12,9 +12,8 @@ use Rattle.gx_session.specs.Configurations.{Configuration}
 
 -- What the step from here does or asks, where the budget is enough for it and it has no fault.
 abbrev pub effect_at : Configuration → Option Effect
-effect_at m =
-    if nat_lt m.left (cost_of m.machine) then None
-    else option_map (λ (r : FlatMachine × Effect). r.1) (result_ok (step_of m.machine (next_u32 m.words).0))
+effect_at m = if nat_lt m.left (cost_of m.machine) then None else
+    option_map (λ (r : FlatMachine × Effect). r.1) (result_ok (step_of m.machine (next_u32 m.words).0))
 
 -- What the step from here asks, if it has no fault and asks something.
 unfoldable pub asked : Configuration → Option Asking

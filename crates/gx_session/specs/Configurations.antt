@@ -33,7 +33,7 @@ pub record Configuration : Type 0 where
 
 -- What a move comes to: the next configuration, or a stop at one.
 pub data Verdict : Type 0 where
-  goes : Configuration → Verdict
+  moves_to : Configuration → Verdict
   stops : Stop → Configuration → Verdict
 
 -- The first configuration: nothing was taken of what the devices hold, and the shelf answers by its files.

@@ -1,6 +1,6 @@
 -- The calls and the failures of the devices over a run, or a part of one.
 use Rattle.std.specs.Prelude.{◌≡◌, ◌≤◌, ◌⊎◌, ℕ, true, false}
-use Rattle.gx_outside.specs.Outside.{raised}
+use Rattle.gx_outside.specs.Outside.{raised_by}
 use Rattle.gx_outside.specs.declared.calls.Calls.{Calls}
 use Rattle.gx_session.specs.Devices.{Devices}
 use Rattle.gx_session.specs.Constants.{status_shelf_fault, status_input_fault, status_output_fault}
@@ -9,7 +9,7 @@ use Rattle.gx_session.specs.Constants.{status_shelf_fault, status_input_fault, s
 -- Where the run didn't, none did.
 pub record Blames (before now : Calls) (failed : Type 0) : Type 0 where
   pub later : before.faults ≤ now.faults
-  pub rose : failed → now.faults ≡ raised before.faults
+  pub rose : failed → now.faults ≡ raised_by 1 before.faults
   pub last : failed → now.failing ≡ true
   pub kept : (failed → ⊥) → now.faults ≡ before.faults
   pub well : (failed → ⊥) → (now ≡ before) ⊎ (now.failing ≡ false)

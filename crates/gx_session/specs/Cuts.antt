@@ -2,7 +2,7 @@
 use Rattle.std.specs.Prelude.{◌≡◌, ◌≢◌, ℕ, List, [], ◌∷◌, ◌++◌, map, ◌⊎◌, false, true, Option, Some, None, Err}
 use Rattle.gx_machine.specs.declared.askings.Asking.{Asking}
 use Rattle.gx_outside.specs.Sends.{Send}
-use Rattle.gx_outside.specs.Shelves.{Request, stores, Trace, AnswerMayWant}
+use Rattle.gx_outside.specs.Shelves.{Request, store_file, Trace, AnswerMayWant}
 use Rattle.gx_outside.specs.declared.devices.SendFault.{SendFault}
 use Rattle.gx_outside.specs.declared.devices.SendFault.TheVariants as of_send
 use Rattle.gx_outside.specs.declared.devices.ShelfFault.{ShelfFault}
@@ -77,7 +77,7 @@ IsCutAtEnd stopped ended by_memory m =
 IsCutAtEnd stopped ended (by_sink fault) m = (m ≡ ended) × (is_due 1 m.sent m.world.text ≡ true)
 IsCutAtEnd stopped ended (by_shelf r fault) m =
     (front : List (List ℕ × List ℕ)) × (next : List ℕ × List ℕ) × (rest : List (List ℕ × List ℕ))
-    × (stores_of m.world.scene ≡ front ++ next ∷ rest) × (r ≡ stores next.0 next.1)
+    × (stores_of m.world.scene ≡ front ++ next ∷ rest) × (r ≡ store_file next.0 next.1)
     × (m ≡ record (told_all ended) { asked = ended.asked ++ map store_call front })
 IsCutAtEnd stopped ended by_source m = ⊥
 

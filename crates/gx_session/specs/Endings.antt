@@ -4,7 +4,7 @@ use Rattle.std.specs.Prelude.{ℕ, if◌then◌else◌, List, Ok}
 use Rattle.std.specs.List.{filter_map}
 use Rattle.glk_streams.specs.Streams.{file_of, open_files}
 use Rattle.glk_world.specs.World.{Scene}
-use Rattle.gx_outside.specs.Shelves.{Exchange, stores, stored}
+use Rattle.gx_outside.specs.Shelves.{Exchange, store_file, was_stored}
 use Rattle.gx_session.specs.Configurations.{Configuration}
 use Rattle.gx_session.specs.Moves.{all_sent}
 use Rattle.gx_session.specs.Sending.{is_due}
@@ -15,7 +15,7 @@ stores_of scene = filter_map (file_of scene.streams) (open_files scene.streams)
 
 -- the call that stores it
 abbrev pub store_call : List ℕ × List ℕ → Exchange
-store_call s = (stores s.0 s.1, Ok stored)
+store_call s = (store_file s.0 s.1, Ok was_stored)
 
 -- The configuration at the end, once its text is sent.
 abbrev pub told_all : Configuration → Configuration

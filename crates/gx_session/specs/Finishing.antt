@@ -2,7 +2,7 @@
 use Rattle.std.specs.Prelude.{ℕ, ◌≡◌, ◌≢◌, ◌<◌, List, [], ◌∷◌, ◌++◌, map, ◌⊎◌, length, Result, Ok, Err, Option, None}
 use Rattle.gx_machine.specs.declared.askings.Asking.{Asking}
 use Rattle.gx_outside.specs.Outside.{FlatShelf}
-use Rattle.gx_outside.specs.Shelves.{stores, Trace}
+use Rattle.gx_outside.specs.Shelves.{store_file, Trace}
 use Rattle.gx_outside.specs.declared.devices.ShelfFault.{ShelfFault}
 use Rattle.glk_world.specs.World.{Scene}
 use Rattle.gx_session.specs.declared.ends.Stop.{Stop}
@@ -69,7 +69,7 @@ pub record StoredSome (files : List (List ℕ × List ℕ)) (calls : Trace) (why
   pub rest : List (List ℕ × List ℕ)
   pub split : files ≡ front ++ next ∷ rest
   pub fault : ShelfFault
-  pub calls_are : calls ≡ map store_call front ++ (stores next.0 next.1, Err fault) ∷ []
+  pub calls_are : calls ≡ map store_call front ++ (store_file next.0 next.1, Err fault) ∷ []
   pub why_is : why ≡ halt_of_shelf fault
 
 -- how the stores of the ending go, each in one call

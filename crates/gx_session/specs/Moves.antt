@@ -7,7 +7,8 @@
 use Rattle.std.specs.Prelude.{ℕ, ◌-◌, nat_lt, if◌then◌else◌, Bool, false, List, [], ◌∷◌, ◌++◌, Option, Some, None}
 use Rattle.std.specs.Prelude.{Result, Ok, Err}
 use Rattle.gx_words.specs.declared.faults.Fault.{Fault}
-use Rattle.gx_outside.specs.Shelves.{Request, loads, stores, removes, looks, Answer, loaded, stored, was}
+use Rattle.gx_outside.specs.Shelves.{Request, load_file, store_file, remove_file, find_file}
+use Rattle.gx_outside.specs.Shelves.{Answer, loaded, was_stored, was_there}
 use Rattle.gx_state.specs.declared.effects.Effect.{Effect}
 use Rattle.gx_state.specs.declared.effects.Effect.TheVariants as effect
 use Rattle.gx_state.specs.declared.effects.Reply.{Reply}
@@ -34,7 +35,7 @@ use Rattle.gx_session.specs.declared.ends.Stop.TheVariants as stop
 use Rattle.gx_session.specs.Constants.{enough, most_loaded, failed}
 use Rattle.gx_session.specs.declared.running.Waiting.{Waiting}
 use Rattle.rand_core.specs.Stream.{next_u32}
-use Rattle.gx_session.specs.Configurations.{Phase, Configuration, Verdict, steps, asks, goes_on, goes, stops}
+use Rattle.gx_session.specs.Configurations.{Phase, Configuration, Verdict, steps, asks, goes_on, moves_to, stops}
 
 -- the configuration after a step that is done, with the units that it leaves: the event has ended, and is recorded
 abbrev pub event_done : Configuration → FlatMachine → ℕ → Configuration
@@ -44,12 +45,12 @@ event_done m machine left = record m { machine = machine; left = left; log = log
 -- step comes. A fault of the world stops the run before the step.
 abbrev pub after_reply : Configuration → ℕ → Result (Said × Reply) Fault → Verdict
 after_reply m left (Ok r) =
-    goes (record (event_done m (answer_of m.machine r.1) left) { world = after m.world r.0; phase = steps })
+    moves_to (record (event_done m (answer_of m.machine r.1) left) { world = after m.world r.0; phase = steps })
 after_reply m left (Err fault) = stops (stop.Faulted fault) m
 
 -- A Glk call has moved the world on, and then asks a device.
 abbrev pub asking_for : Configuration → Waiting → FlatWorld → Turn → Verdict
-asking_for m w world t = goes (record m { world = world; phase = asks t w })
+asking_for m w world t = moves_to (record m { world = world; phase = asks t w })
 
 -- The turn of a Glk call. At a wait for a line what the view shows then is shown. A call that waits in vain isn't
 -- counted, and one that ends the program is counted and not recorded. Every other turn asks the shelf.
@@ -74,33 +75,32 @@ after_line m w too_long = stops stop.LineTooLong m
 after_line m w none = stops stop.InputEnded m
 after_line m w (line chars rest) =
     let world = if m.echo then after m.world (show_line m.world.scene chars) else m.world in
-    goes (record m { world = world; input = rest; phase = goes_on (given.Line chars) w })
+    moves_to (record m { world = world; input = rest; phase = goes_on (given.Line chars) w })
 
 -- what a call is given for an answer of the shelf
 abbrev pub given_of : Answer → Given
 given_of (loaded load) = given.Loaded load
-given_of stored = given.Stored
-given_of (was b) = given.Was b
+given_of was_stored = given.Stored
+given_of (was_there b) = given.Was b
 
 -- what the shelf is asked for a turn, if it is asked
 abbrev pub request_of : Turn → Option Request
-request_of (turn.Load name) = Some (loads name most_loaded)
-request_of (turn.Store name bytes) = Some (stores name bytes)
-request_of (turn.Remove name) = Some (removes name)
-request_of (turn.Has name) = Some (looks name)
+request_of (turn.Load name) = Some (load_file name most_loaded)
+request_of (turn.Store name bytes) = Some (store_file name bytes)
+request_of (turn.Remove name) = Some (remove_file name)
+request_of (turn.Has name) = Some (find_file name)
 request_of t = None
 
 -- The shelf is asked this, and the call goes on with what it answers. (No run comes here with nothing to ask.)
 abbrev pub shelf_gives : Configuration → Waiting → Option Request → Verdict
 shelf_gives m w None = stops stop.Stuck m
-shelf_gives m w (Some r) =
-    let answer = m.answers m.asked r in
-    goes (record m { asked = m.asked ++ (r, Ok answer) ∷ []; phase = goes_on (given_of answer) w })
+shelf_gives m w (Some r) = let answer = m.answers m.asked r in
+    moves_to (record m { asked = m.asked ++ (r, Ok answer) ∷ []; phase = goes_on (given_of answer) w })
 
 -- A restore: the machine goes back to the copy that was read, or takes the answer of one that fails.
 abbrev pub after_restoring : Configuration → ℕ → Result (Said × Option Copy) Fault → Verdict
 after_restoring m left (Ok (said, Some copy)) =
-    goes (record (event_done m (restored m.machine copy) left) { world = after m.world said; phase = steps })
+    moves_to (record (event_done m (restored m.machine copy) left) { world = after m.world said; phase = steps })
 after_restoring m left (Ok (said, None)) = after_reply m left (Ok (said, replies failed))
 after_restoring m left (Err fault) = stops (stop.Faulted fault) m
 
@@ -108,24 +108,22 @@ after_restoring m left (Err fault) = stops (stop.Faulted fault) m
 -- call goes to Glk, with the machine as before the step; so does a save or a restore; the program ends. (No step by
 -- itself is Spent.) A fault stops the run before the step.
 abbrev pub after_effect : Configuration → ℕ → Result (FlatMachine × Effect) Fault → Verdict
-after_effect m left (Ok (machine, effect.Went)) = goes (event_done m machine left)
-after_effect m left (Ok (machine, effect.Drew)) =
-    goes (record (event_done m machine left) { words = (next_u32 m.words).1 })
-after_effect m left (Ok (machine, effect.Put c)) = after_reply m left (putting m.world.scene m.machine.flat c)
-after_effect m left (Ok (machine, effect.Glk selector args room)) =
+after_effect m left (Ok (now, effect.Went)) = moves_to (event_done m now left)
+after_effect m left (Ok (now, effect.Drew)) = moves_to (record (event_done m now left) { words = (next_u32 m.words).1 })
+after_effect m left (Ok (now, effect.Put c)) = after_reply m left (putting m.world.scene m.machine.flat c)
+after_effect m left (Ok (now, effect.Glk selector args room)) =
     after_turn m (record { room = room; left = left }) (glk_call m.world.scene m.machine.flat room selector args.items)
-after_effect m left (Ok (machine, effect.Save stream)) = after_reply m left (saving m.world.scene m.machine.flat stream)
-after_effect m left (Ok (machine, effect.Restore stream)) =
+after_effect m left (Ok (now, effect.Save stream)) = after_reply m left (saving m.world.scene m.machine.flat stream)
+after_effect m left (Ok (now, effect.Restore stream)) =
     after_restoring m left (restoring m.world.scene m.machine.flat stream)
-after_effect m left (Ok (machine, effect.Quit)) = stops stop.Ended (event_done m machine left)
-after_effect m left (Ok (machine, effect.Spent)) = stops stop.Spent (record m { machine = machine; left = left })
+after_effect m left (Ok (now, effect.Quit)) = stops stop.Ended (event_done m now left)
+after_effect m left (Ok (now, effect.Spent)) = stops stop.Spent (record m { machine = now; left = left })
 after_effect m left (Err fault) = stops (stop.Faulted fault) m
 
 -- What comes next. A step: the budget is spent where it has less left than the step costs; else the step is done with
 -- the next random word. What a device gives for a turn: the source a line, and else the shelf an answer.
 abbrev pub act_by : Phase → Configuration → Verdict
-act_by steps m =
-    if nat_lt m.left (cost_of m.machine) then stops stop.Spent m else
+act_by steps m = if nat_lt m.left (cost_of m.machine) then stops stop.Spent m else
     after_effect m (m.left - cost_of m.machine) (step_of m.machine (next_u32 m.words).0)
 act_by (asks turn.Wait w) m = after_line m w (next_line m.input)
 act_by (asks turn.Prompt w) m = after_line m w (next_line m.input)
@@ -148,4 +146,4 @@ all_sent m = record m { sent = m.sent ++ pending m.sent m.world.text ∷ [] }
 
 -- ONE MOVE: the text is sent where it is due, and else what comes next is done.
 unfoldable pub move_of : Configuration → Verdict
-move_of m = if sends_now m then goes (all_sent m) else act_by m.phase m
+move_of m = if sends_now m then moves_to (all_sent m) else act_by m.phase m

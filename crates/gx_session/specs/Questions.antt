@@ -1,6 +1,7 @@
 -- What the shelf is asked for the turn of a Glk call, and what it answers.
 use Rattle.std.specs.Prelude.{◌≡◌, [], ◌∷◌, ◌++◌, Result, Ok, Err}
-use Rattle.gx_outside.specs.Shelves.{Request, loads, stores, removes, looks, Answer, Trace, AnswerMayWant}
+use Rattle.gx_outside.specs.Shelves.{Request, load_file, store_file, remove_file, find_file}
+use Rattle.gx_outside.specs.Shelves.{Answer, Trace, AnswerMayWant}
 use Rattle.gx_outside.specs.declared.devices.ShelfFault.{ShelfFault}
 use Rattle.gx_outside.specs.declared.devices.ShelfFault.TheVariants as fault
 use Rattle.glk_replies.specs.declared.Turn.{Turn}
@@ -20,10 +21,10 @@ turn_of (asks.Has name) = turn.Has name
 
 -- what the shelf is asked
 abbrev pub request_for : Question → Request
-request_for (asks.Load name) = loads name most_loaded
-request_for (asks.Store name bytes) = stores name bytes
-request_for (asks.Remove name) = removes name
-request_for (asks.Has name) = looks name
+request_for (asks.Load name) = load_file name most_loaded
+request_for (asks.Store name bytes) = store_file name bytes
+request_for (asks.Remove name) = remove_file name
+request_for (asks.Has name) = find_file name
 
 -- It was asked this once, and what it answered is given.
 abbrev pub AsksOnce : Question → Trace → Result Given ShelfFault → Type 0

@@ -6,7 +6,7 @@ use Rattle.std.specs.Prelude.{◌≡◌, ℕ, ◌+◌, ◌<◌, ◌≤◌, ◌�
 use Rattle.std.specs.Prelude.{Result, Ok, Err}
 use Rattle.std.specs.List.{position_or_len, AllByRecursion}
 use Rattle.gx_outside.specs.Chains.{Chain}
-use Rattle.gx_outside.specs.Outside.{FlatSource, raised_by, offered_in}
+use Rattle.gx_outside.specs.Outside.{FlatSource, raised_times}
 use Rattle.gx_outside.specs.Reads.{SourceRead}
 use Rattle.gx_outside.specs.declared.devices.Failed.{Failed}
 use Rattle.gx_session.specs.declared.lines.NoLine.{NoLine}
@@ -94,8 +94,8 @@ spare false = 1
 -- So many reads were made, each of which offered a piece and gave something or said that nothing is left.
 pub record ReadsFew (ended over : Bool) (before now : FlatSource) (coming after : List ℕ) (more : ℕ) : Type 0 where
   pub reads : ℕ
-  pub made : now.calls.made ≡ raised_by reads before.calls.made
-  pub offered : now.offered ≡ offered_in reads piece before.offered
+  pub made : now.calls.made ≡ raised_times reads 1 before.calls.made
+  pub offered : now.offered ≡ raised_times reads piece before.offered
   pub few : reads + length after + spare over ≤ length coming + spare ended + more
 
 -- the read that failed gave nothing

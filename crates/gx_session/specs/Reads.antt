@@ -4,7 +4,7 @@ use Rattle.std.specs.Prelude.{true}
 use Rattle.std.specs.List.{position_or_len, concat, AllByRecursion}
 use Rattle.std.specs.Result.{result_ok}
 use Rattle.gx_outside.specs.Reads.{SourceRead}
-use Rattle.gx_outside.specs.Outside.{FlatSource, raised_by, offered_in}
+use Rattle.gx_outside.specs.Outside.{FlatSource, raised_times}
 use Rattle.gx_session.specs.Constants.{longest_line, piece}
 use Rattle.gx_session.specs.Input.{is_line_feed}
 
@@ -32,7 +32,7 @@ pub record LeavesInput (first input coming : List ℕ) (before now : FlatSource)
   pub few : (long → ⊥) → failures ≡ 0 → length ahead < piece
   pub partial : failures ≢ 0 → (position_or_len is_line_feed ahead ≡ length ahead) × (length ahead < longest_line)
   pub reads : ℕ
-  pub made : now.calls.made ≡ raised_by reads before.calls.made
-  pub offered : now.offered ≡ offered_in reads piece before.offered
+  pub made : now.calls.made ≡ raised_times reads 1 before.calls.made
+  pub offered : now.offered ≡ raised_times reads piece before.offered
   pub few_reads : reads + length coming ≤ length first + 1 + failures
   pub unread : (awaited → ⊥) → failures ≡ 0 → (now ≡ before) ⊎ (length input < length first)

@@ -8,16 +8,15 @@ use Rattle.gx_session.specs.Session.{RunEnd, run_of, final_of}
 
 -- This machine is that of the run at the beginning of an event, before so many moves, when these were recorded, whose
 -- units are those that were used by then.
-pub record BeginsEvent (start : Configuration) (j : ℕ) (machine : FlatMachine)
-    (before : List FlatMachine) : Type 0 where
+pub record BeginsEvent (start : Configuration) (j : ℕ) (machine : FlatMachine) (past : List FlatMachine) : Type 0 where
   pub moves : ℕ
   pub earlier : moves < j
   pub configuration : Configuration
   pub reached : run_of start moves ≡ Some configuration
   pub begins : configuration.phase ≡ steps
   pub machine_is : configuration.machine ≡ machine
-  pub log_is : configuration.log ≡ Some (record { before = before; after = [] })
-  pub units : units_of before + configuration.left ≡ start.left
+  pub log_is : configuration.log ≡ Some (record { before = past; after = [] })
+  pub units : units_of past + configuration.left ≡ start.left
 
 -- The record of a configuration that the run comes to after so many moves: the run has gone back nowhere, the units of
 -- the record are those that the run has used, each machine of it is a place of the run, and the record of each
@@ -43,7 +42,6 @@ pub record IsLastRecord (start : Configuration) (e : RunEnd) : Type 0 where
 
 -- Each machine of the record is that of the run at the beginning of an event, with the units that were used there. So
 -- it is in a run that is recorded from its first event on, at each of its configurations and at its end.
-pub record RecordsRun (start : Configuration) : Type 0 where
-  pub at : start.phase ≡ steps → start.log ≡ Some no_events → (j : ℕ) (m : Configuration) → run_of start j ≡ Some m
-      → IsRecord start j m
-  pub last : start.phase ≡ steps → start.log ≡ Some no_events → IsLastRecord start (final_of start)
+unfoldable pub RecordsRun : Configuration → Type 0
+RecordsRun start = start.phase ≡ steps → start.log ≡ Some no_events
+    → ((j : ℕ) (m : Configuration) → run_of start j ≡ Some m → IsRecord start j m) × IsLastRecord start (final_of start)

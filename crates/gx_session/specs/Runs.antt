@@ -73,8 +73,7 @@ IsSaved m =
 -- So it is of all saves within so many moves, or else of all after which the run goes on.
 abbrev pub SavedBefore : Configuration → Option ℕ → Type 0
 SavedBefore start (Some moves) = (i : ℕ) → i < moves → (m : Configuration) → run_of start i ≡ Some m → IsSaved m
-SavedBefore start None =
-    (i : ℕ) (m next : Configuration) → run_of start i ≡ Some m → run_of start (suc i) ≡ Some next → IsSaved m
+SavedBefore start None = (i : ℕ) (m : Configuration) → run_of start i ≡ Some m → run_of start (suc i) ≢ None → IsSaved m
 
 -- The run came to its end: all text was sent, with the last screen, and all open files were stored. One more random
 -- word may be drawn, which wasn't used.
@@ -144,7 +143,8 @@ pub record IsSession (start : Configuration) (entry exit : Devices) (coming : Li
 -- shelf: with what the source has left, where the source tells it, and with what the shelf's files answer, where the
 -- shelf tells them. The input begins with the bytes that the reads gave. The session's calls of the shelf are those
 -- that were made (`asked_are`), so that its answers are those that the shelf gave. What the devices hold is what the
--- calls made of them.
+-- calls made of them. `undo`, `records` and `saves` are laws: the first two hold with whatever input and answers, not
+-- only with those of this run.
 pub record IsRun (start : Configuration) (entry exit : Devices) (r : Report) : Type 0 where
   pub input : List ℕ
   pub input_is : entry.source.tells ≡ true → input ≡ start.input

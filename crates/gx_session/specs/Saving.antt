@@ -25,26 +25,21 @@ use Rattle.gx_session.specs.Constants.{failed}
 -- A save: the copy of the state is written as a save to the stream; nothing is written where the stream doesn't take
 -- it, and the save has failed.
 unfoldable pub saving : Scene → FlatState → ℕ → Result (Said × Reply) Fault
-saving w f stream =
-    if f.iosys.0 == glk_system then (do
-      r ← put_save w f stream (saved f.story (saved_copy f))
-      Ok (r.0, unwrap_or r.1 (replies failed)))
+saving w f stream = if f.iosys.0 == glk_system then
+    (put_save w f stream (saved f.story (saved_copy f)) >>= λ r. Ok (r.0, unwrap_or r.1 (replies failed)))
     else Ok (silent w, replies failed)
 
 -- A restore: the rest of the stream is taken, and is the copy of a save of the story, or isn't.
 unfoldable pub restoring : Scene → FlatState → ℕ → Result (Said × Option Copy) Fault
-restoring w f stream =
-    if f.iosys.0 == glk_system then (do
-      r ← take_rest w f stream
-      Ok (r.0, option_and_then (λ bytes. result_ok (save_of ceiling bytes f.story)) r.1))
+restoring w f stream = if f.iosys.0 == glk_system then (take_rest w f stream
+    >>= λ r. Ok (r.0, option_and_then (λ bytes. result_ok (save_of ceiling bytes f.story)) r.1))
     else Ok (silent w, None)
 
 -- A save is begun, so that the copy is made, where the stream may take one: it is there, open for writing and no
 -- window's. Whether it has room, and whether its places may be written where it ends in memory, depends on the length
 -- of the save.
 abbrev pub is_save_begun : Scene → FlatState → ℕ → Bool
-is_save_begun w f stream =
-    let s = streams.stream w.streams stream in
+is_save_begun w f stream = let s = streams.stream w.streams stream in
     f.iosys.0 == glk_system && (streams.has w.streams stream && one.writable s && one.window_of s == 0)
 
 -- A stream may hold a save where it is there and open for reading. So a restore is begun: the stream is read.

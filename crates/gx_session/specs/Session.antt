@@ -9,7 +9,7 @@ use Rattle.gx_session.specs.declared.ends.Stop.{Stop}
 use Rattle.gx_session.specs.declared.ends.Stop.TheVariants as stop
 use Rattle.gx_session.specs.Constants.{status_ended, status_fault, status_spent, status_input_ended, status_stuck}
 use Rattle.gx_session.specs.Constants.{status_line_too_long}
-use Rattle.gx_session.specs.Configurations.{Phase, Configuration, Verdict, steps, asks, goes_on, goes, stops}
+use Rattle.gx_session.specs.Configurations.{Phase, Configuration, Verdict, steps, asks, goes_on, moves_to, stops}
 use Rattle.gx_session.specs.Moves.{sends_now, move_of}
 
 -- An end of a run: why it stopped, and where.
@@ -20,7 +20,7 @@ pub record RunEnd : Type 0 where
 -- the end where this move comes first
 abbrev pub end_after : Verdict → (Configuration → RunEnd) → RunEnd
 end_after (stops s m) on = record { stop = s; configuration = m }
-end_after (goes m) on = on m
+end_after (moves_to m) on = on m
 
 -- the end within so many moves
 abbrev pub final_in : ℕ → Configuration → RunEnd
@@ -40,13 +40,12 @@ stop_of m = final_in (suc (moves_by m.phase m.left + (if sends_now m then 1 else
 
 -- THE END OF THE RUN: where it stops, once the last screen is shown, where the screen is composed.
 unfoldable pub final_of : Configuration → RunEnd
-final_of m =
-    let c = (stop_of m).configuration in
+final_of m = let c = (stop_of m).configuration in
     record { stop = (stop_of m).stop; configuration = record c { world = after c.world (end_text c.world.scene) } }
 
 -- the next configuration, if the run goes on
 abbrev pub next_configuration : Verdict → Option Configuration
-next_configuration (goes m) = Some m
+next_configuration (moves_to m) = Some m
 next_configuration (stops s m) = None
 
 -- What stands after so many moves, if the run gets there.

@@ -30,7 +30,7 @@ use Rattle.gx_session.specs.declared.running.Waiting.{Waiting}
 use Rattle.gx_session.specs.Wants.{IsWait, ReplyWants, TurnWants, WantsMemory}
 use Rattle.gx_session.specs.Cuts.{IsLineStop}
 use Rattle.gx_session.specs.Input.{line, next_line}
-use Rattle.gx_session.specs.Configurations.{Configuration, Phase, steps, asks, goes_on, Verdict, goes}
+use Rattle.gx_session.specs.Configurations.{Configuration, Phase, steps, asks, goes_on, Verdict, moves_to}
 use Rattle.gx_session.specs.Moves.{act_by, after_effect, after_turn}
 use Rattle.gx_session.specs.Moves.{after_given, sends_now}
 use Rattle.gx_session.specs.Session.{RunEnd, stop_of, run_of}
@@ -160,7 +160,7 @@ pub record Resumes {K : Type 0} {sending : SendStep K} (start : Configuration) (
   pub moved : h.world ≡ after world said
   pub going : Ready start entry (record h { world = world }) d phase
   pub event : let m = configuration_of going.now.past phase (record h { world = world }) d in
-      act_of m ≡ goes (record m {
+      act_of m ≡ moves_to (record m {
         machine = machine;
         world = after m.world said;
         left = left;

@@ -22,8 +22,7 @@ use Rattle.gx_session.specs.Session.{run_of}
 -- many as the depth; a restoreundo takes the newest, and so does a discardundo. Every other instruction leaves them,
 -- save, restore and hasundo among them.
 abbrev pub alive_by : ℕ → ℕ → List ℕ → Class → ℕ → List ℕ
-alive_by depth j live class.Game number =
-    if number == numbers.saveundo then take depth (j ∷ live) else
+alive_by depth j live class.Game number = if number == numbers.saveundo then take depth (j ∷ live) else
     if number == numbers.restoreundo || number == numbers.discardundo then drop 1 live else live
 alive_by depth j live c number = live
 
@@ -42,12 +41,9 @@ alive start (suc j) =
     (run_of start j) (alive start j)
 
 -- the copy that the saveundo after so many moves takes: of the whole state that it meets
-pub record IsTaken (start : Configuration) (j : ℕ) (c : Copy) : Type 0 where
-  pub configuration : Configuration
-  pub i : Instruction
-  pub reached : run_of start j ≡ Some configuration
-  pub decoded : instruction configuration.machine.flat ≡ Ok i
-  pub copy : c ≡ copy_of configuration.machine.flat i.dest i.next
+abbrev pub IsTaken : Configuration → ℕ → Copy → Type 0
+IsTaken start j c = (m : Configuration) × (i : Instruction) × (run_of start j ≡ Some m)
+    × (instruction m.machine.flat ≡ Ok i) × (c ≡ copy_of m.machine.flat i.dest i.next)
 
 -- the copies, in order, are those that these saveundos took
 abbrev pub AreTaken : Configuration → List Copy → List ℕ → Type 0
@@ -61,6 +57,5 @@ AreTaken start cs js = ⊥
 -- exactly there. A discardundo takes exactly that newest copy away. A restore leaves these copies, so that a
 -- restoreundo after it goes back to a saveundo before it.
 unfoldable pub LastsUndo : Configuration → Type 0
-LastsUndo start =
-    start.machine.undo.copies ≡ [] → (j : ℕ) (m : Configuration) → run_of start j ≡ Some m
+LastsUndo start = start.machine.undo.copies ≡ [] → (j : ℕ) (m : Configuration) → run_of start j ≡ Some m
     → AreTaken start m.machine.undo.copies (alive start j)

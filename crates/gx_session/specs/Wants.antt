@@ -40,9 +40,7 @@ ReplyWants log machine reply = IsSome log ⊎ (HasBytes reply.writes ⊎ IsStore
 -- So it is with the turn of a call. Before a line is awaited, what the view shows then may want memory.
 abbrev pub TurnWants : Option Log → FlatMachine → Said × Turn → Type 0
 TurnWants log machine (said, turn.Answer reply) = ReplyWants log machine reply
-TurnWants log machine (said, turn.Wait) = ShowWants said.0
-TurnWants log machine (said, turn.Prompt) = ShowWants said.0
-TurnWants log machine r = ⊥
+TurnWants log machine (said, t) = IsWait t × ShowWants said.0
 
 -- What this effect asks, where it has no fault: what Glk does for it, where it makes something grow, and the reply. A
 -- machine that is restored takes the memory of the copy. A save that is begun may want memory before its fault is met:
@@ -50,13 +48,11 @@ TurnWants log machine r = ⊥
 abbrev pub AskingWants : Option Log → FlatMachine → Scene → Option Effect → Type 0
 AskingWants log m w (Some (effect.Put c)) =
     IsOkAnd (putting w m.flat c) (λ r. IsTrue (put_grows_one w w.current c) ⊎ ReplyWants log m r.1)
-AskingWants log m w (Some (effect.Glk selector args room)) =
-    IsOkAnd (glk_call w m.flat room selector args.items)
+AskingWants log m w (Some (effect.Glk selector args room)) = IsOkAnd (glk_call w m.flat room selector args.items)
     (λ r. IsGrowing w m.flat selector args.items ⊎ TurnWants log m r)
 AskingWants log m w (Some (effect.Save stream)) =
     IsTrue (is_save_begun w m.flat stream) ⊎ IsOkAnd (saving w m.flat stream) (λ r. ReplyWants log m r.1)
-AskingWants log m w (Some (effect.Restore stream)) =
-    IsOkAnd (restoring w m.flat stream)
+AskingWants log m w (Some (effect.Restore stream)) = IsOkAnd (restoring w m.flat stream)
     (λ r. IsTrue (is_restore_begun w m.flat stream) ⊎ IsSome r.1 ⊎ ReplyWants log m (replies failed))
 AskingWants log m w e = ⊥
 
@@ -64,11 +60,9 @@ AskingWants log m w e = ⊥
 -- else one that has no fault, writes, resizes or copies memory and is within the budget; what a step asks; a wait where
 -- there is input; a call that goes on.
 abbrev pub WantsMemory : Phase → Configuration → Option Asking → Type 0
-WantsMemory steps m asking =
-    ((asking ≡ None) × (IsSome m.log ⊎ (IsStepWriting m.machine m.left
+WantsMemory steps m asking = ((asking ≡ None) × (IsSome m.log ⊎ (IsStepWriting m.machine m.left
     × IsOk (stepped (record { machine = m.machine; asking = None }) (next_u32 m.words).0 m.left))))
     ⊎ ((asking ≡ asked m) × AskingWants m.log m.machine m.world.scene (effect_at m))
 WantsMemory (asks t w) m asking = (asking ≡ asked m) × IsWait t × (0 < length m.input)
-WantsMemory (goes_on g w) m asking =
-    (asking ≡ asked m) × IsOkAnd (glk_go_on m.world.scene m.machine.flat w.room g)
+WantsMemory (goes_on g w) m asking = (asking ≡ asked m) × IsOkAnd (glk_go_on m.world.scene m.machine.flat w.room g)
     (λ r. IsTrue (go_grows m.world.scene m.machine.flat g) ⊎ TurnWants m.log m.machine r)

@@ -6,7 +6,7 @@
 ghost use Rattle.std.specs.Prelude.{◌≡◌, ◌+◌, ◌≤◌, ◌<◌, ℕ, [], length, take, drop, Err, IfOk, IfErr, false};
 ghost use Rattle.std.specs.Prelude.{slice_index};
 ghost use Rattle.std.specs.List.{position_or_len};
-ghost use Rattle.gx_outside.specs.Outside.{HasCause, offered_by};
+ghost use Rattle.gx_outside.specs.Outside.{HasCause, raised_by};
 ghost use Rattle.gx_session.specs.Constants.{longest_line, piece as one_piece};
 ghost use Rattle.gx_session.specs.Input.{is_line_feed};
 ghost use Rattle.gx_session.specs.Lines.{chars_of};
@@ -146,7 +146,7 @@ impl Lines {
         requires short { length self.old.held < longest_line }
         ensures fills { FillsBy S.called S.seen self.old self.new source.old source.new result }
         ensures count { HasCause (S.seen source.old).calls (S.seen source.new).calls (is_failed result) false }
-        ensures offered { (S.seen source.new).offered ≡ offered_by one_piece (S.seen source.old).offered }
+        ensures offered { (S.seen source.new).offered ≡ raised_by one_piece (S.seen source.old).offered }
         ensures tells { (S.seen source.new).tells ≡ (S.seen source.old).tells }
     {
         let mut piece = [0u8; PIECE];

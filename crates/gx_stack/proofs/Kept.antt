@@ -1,5 +1,5 @@
 -- What keeps a frame good: a push, a cut above its values, a put behind its header.
-use Rattle.std.proofs.Common.{◌≡◌, ◌≤◌, ◌<◌, ◌+◌, ◌-◌, ◌%◌, ◌^◌, ℕ, List, ◌++◌, length, take, drop, ◌*◌, arith}
+use Rattle.std.proofs.Common.{◌≡◌, ◌≤◌, ◌<◌, ◌+◌, ◌-◌, ◌%◌, ◌^◌, ℕ, List, ◌++◌, length, take, drop, ◌*◌, arith, refl, subst}
 use Rattle.std.proofs.Common.{length-append}
 use Rattle.std.proofs.lemmas.Grind.{common_steps}
 use Rattle.gx_words.specs.Numbers.{word, spliced}
@@ -7,6 +7,8 @@ use Rattle.gx_stack.specs.declared.frames.Frame.{Frame}
 use Rattle.gx_stack.specs.Formats.{frame, frame_len}
 use Rattle.gx_stack.specs.Held.{IsFormat}
 use Rattle.gx_stack.specs.Frames.{IsGood, IsFrame}
+use Rattle.gx_stack.specs.declared.stubs.Stub.{Stub}
+use Rattle.gx_stack.specs.Stubs.{stub_bytes}
 use Rattle.gx_stack.specs.Values.{turned, turned_top}
 use Rattle.gx_stack.proofs.Pieces.{length-frame, frame_len_read, locals_pos_read}
 
@@ -107,6 +109,28 @@ frame_after_cut xs f n is past there =
 
 pub frame_after_turn : (xs : List ℕ) (f : Frame) (n up : ℕ) → IsFrame xs f → f.values + 4 * n ≤ length xs → IsFrame (turned_top xs n up) f
 frame_after_turn xs f n up is room = frame_after_push (take (length xs - 4 * n) xs) (turned (drop (length xs - 4 * n) xs) (4 * up)) f (frame_after_cut xs f (length xs - 4 * n) is (omega arith) (omega arith))
+
+-- a frame above a stub
+stub_bytes_len : (p : Stub) → length (stub_bytes p) ≡ 16
+unfolding stub_bytes
+stub_bytes_len p = refl
+
+above_stub : (xs : List ℕ) (p : Stub) → length (xs ++ stub_bytes p) ≡ length xs + 16
+above_stub xs p = omega (arith, length-append xs (stub_bytes p), stub_bytes_len p)
+
+pub length-called : (xs : List ℕ) (p : Stub) (format args : List ℕ) → IsFormat format → length ((xs ++ stub_bytes p) ++ frame format args) ≡ length xs + (16 + frame_len format)
+length-called xs p format args is = omega (arith, length-append (xs ++ stub_bytes p) (frame format args), above_stub xs p, length-frame format args is)
+
+pub called_good : (xs : List ℕ) (p : Stub) (format args : List ℕ) → length xs % 4 ≡ 0 → IsFormat format → frame_len format < 2 ^ 32 → IsGood ((xs ++ stub_bytes p) ++ frame format args) (length xs + 16)
+called_good xs p format args whole is fits =
+    let long = above_stub xs p in
+    let aligned : length (xs ++ stub_bytes p) % 4 ≡ 0 = omega (arith, long, whole) in
+    subst (IsGood ((xs ++ stub_bytes p) ++ frame format args)) long (frame_good (xs ++ stub_bytes p) format args aligned is fits)
+
+pub frame_after_call : (xs ys zs : List ℕ) (f : Frame) → IsFrame xs f → IsFrame ((xs ++ ys) ++ zs) f
+frame_after_call xs ys zs f is = frame_after_push (xs ++ ys) zs f (frame_after_push xs ys f is)
+
+pub ruleset called_frames = (called_good, length-called, frame_words, frame_after_call)
 
 pub ruleset entered_frames = (frame_good, frame_len_read, locals_pos_read, length-frame, frame_words, frame_after_push)
 

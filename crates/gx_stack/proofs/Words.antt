@@ -1,5 +1,5 @@
 -- The frame of locals of four bytes alone.
-use Rattle.std.proofs.Common.{◌≡◌, ◌+◌, ◌*◌, ℕ, List, [], ◌∷◌, ◌++◌, refl, ◌∙◌, inr, arith, append_assoc, get_or}
+use Rattle.std.proofs.Common.{◌≡◌, ◌+◌, ◌*◌, ℕ, List, [], ◌∷◌, ◌++◌, refl, ◌∙◌, inr, arith, append_assoc, get_or, sym, ap}
 use Rattle.std.proofs.lemmas.List.{append-nil}
 use Rattle.gx_words.specs.Numbers.{IsWidth, bytes_of_word}
 use Rattle.gx_stack.specs.Formats.{gap, padded, pair_locals, locals, locals_len, frame_len, frame}
@@ -36,7 +36,7 @@ words_len (a ∷ b ∷ c ∷ []) h = absurd (let pairs = h.pairs in omega arith)
 words_len (a ∷ b ∷ c ∷ d ∷ []) h = let words : a ≡ 4 = h.words in rw words (len_of b c d)
 words_len (a ∷ b ∷ c ∷ d ∷ e ∷ format) h = absurd (let pairs = h.pairs in omega arith)
 
-pub words_pushed : (out format args : List ℕ) (len : ℕ) → IsOfWords format → len ≡ frame_len format → (out ++ (bytes_of_word len ++ (0 ∷ 0 ∷ 0 ∷ 12 ∷ 4 ∷ get_or format 1 0 ∷ 0 ∷ 0 ∷ []))) ++ pair_locals 4 (get_or format 1 0) args ≡ out ++ frame format args
+words_pushed : (out format args : List ℕ) (len : ℕ) → IsOfWords format → len ≡ frame_len format → (out ++ (bytes_of_word len ++ (0 ∷ 0 ∷ 0 ∷ 12 ∷ 4 ∷ get_or format 1 0 ∷ 0 ∷ 0 ∷ []))) ++ pair_locals 4 (get_or format 1 0) args ≡ out ++ frame format args
 words_pushed out [] args len h whole = absurd (let pairs = h.pairs in omega arith)
 words_pushed out (a ∷ []) args len h whole = absurd (let pairs = h.pairs in omega arith)
 words_pushed out (a ∷ b ∷ []) args len h whole = absurd (let pairs = h.pairs in omega arith)
@@ -47,4 +47,10 @@ words_pushed out (a ∷ b ∷ c ∷ d ∷ []) args len h whole =
     rw (long, words, frame_of b c d args) (around out (bytes_of_word (12 + 4 * b)) (bytes_of_word 12) (4 ∷ b ∷ 0 ∷ 0 ∷ []) (pair_locals 4 b args))
 words_pushed out (a ∷ b ∷ c ∷ d ∷ e ∷ format) args len h whole = absurd (let pairs = h.pairs in omega arith)
 
-pub ruleset word_frames = (words_len, words_pushed)
+pub words_called : (out called format args : List ℕ) (len : ℕ) → IsOfWords format → len ≡ frame_len format → (out ++ (called ++ (bytes_of_word len ++ (0 ∷ 0 ∷ 0 ∷ 12 ∷ 4 ∷ get_or format 1 0 ∷ 0 ∷ 0 ∷ [])))) ++ pair_locals 4 (get_or format 1 0) args ≡ (out ++ called) ++ frame format args
+words_called out called format args len h whole =
+    let header : List ℕ = bytes_of_word len ++ (0 ∷ 0 ∷ 0 ∷ 12 ∷ 4 ∷ get_or format 1 0 ∷ 0 ∷ 0 ∷ []) in
+    ap (λ (xs : List ℕ). xs ++ pair_locals 4 (get_or format 1 0) args) (sym (append_assoc out called header))
+    ∙ words_pushed (out ++ called) format args len h whole
+
+pub ruleset word_frames = (words_len, words_called)

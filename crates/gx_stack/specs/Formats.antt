@@ -50,6 +50,5 @@ frame_len format = locals_pos format + padded_len (locals_len 0 (pairs_of format
 -- The frame of a format with these arguments in its locals: FrameLen, LocalsPos, the pairs and an
 -- ending pair of zeros, the locals.
 unfoldable pub frame : List ℕ → List ℕ → List ℕ
-frame format args =
-    bytes_of_word (frame_len format) ++ bytes_of_word (locals_pos format)
+frame format args = bytes_of_word (frame_len format) ++ bytes_of_word (locals_pos format)
     ++ padded (pairs_of format ++ 0 ∷ 0 ∷ []) ++ padded (locals 0 (pairs_of format) args)

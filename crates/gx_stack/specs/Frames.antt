@@ -8,8 +8,7 @@ use Rattle.gx_stack.specs.declared.frames.Frame.{Frame}
 
 -- the frame at fp is good
 abbrev pub is_good : List ℕ → ℕ → Bool
-is_good s fp =
-    nat_le (fp + 8) (length s) && fp % 4 == 0 && word s fp % 4 == 0
+is_good s fp = nat_le (fp + 8) (length s) && fp % 4 == 0 && word s fp % 4 == 0
     && nat_le 8 (word s (fp + 4)) && nat_le (word s (fp + 4)) (word s fp) && nat_le (fp + word s fp) (length s)
 
 pub record IsGood (s : List ℕ) (fp : ℕ) : Type 0 where

@@ -12,8 +12,7 @@ stub_bytes p = bytes_of_word p.kind ++ bytes_of_word p.addr ++ bytes_of_word p.p
 
 -- stubs pushed, the first deepest
 unfoldable pub pushed_stubs : FlatStack → List Stub → Result FlatStack StackFault
-pushed_stubs s stubs =
-    if nat_le (length s.bytes + 16 * length stubs) s.limit
+pushed_stubs s stubs = if nat_le (length s.bytes + 16 * length stubs) s.limit
     then Ok (record s { bytes = s.bytes ++ flat_map stub_bytes stubs }) else Err Overflow
 
 -- the stub below a place

@@ -1,7 +1,8 @@
 //! The frame of a locals format (Glulx 3.1.2, "Call Frames" and "Functions").
 //!
 //! Each group of locals begins at the least multiple of its size at or after the end of the group
-//! before, a group of no locals too. The frame is pushed onto a Vec that has the room for it.
+//! before, a group of no locals too. The frame is pushed onto a Vec that has the room for it, and
+//! the stub of its call with it.
 ghost use Rattle.std.specs.Prelude.{◌≡◌, ◌+◌, ◌*◌, ◌%◌, ◌≤◌, ◌<◌, ◌^◌, ◌++◌, [], ◌∷◌, length, drop, vec_len};
 ghost use Rattle.std.specs.Prelude.{vec_capacity, IsTrue};
 ghost use Rattle.gx_words.specs.Numbers.{IsWidth, bytes_of_word};
@@ -9,7 +10,9 @@ ghost use Rattle.gx_stack.specs.Formats.{gap, pair_locals, locals, locals_len, l
 ghost use Rattle.gx_stack.specs.Formats.{padded_len};
 ghost use Rattle.gx_stack.specs.Formats.{frame_len, frame};
 ghost use Rattle.gx_stack.specs.Held.{ArePairs, IsFormat, IsOfWords};
+ghost use Rattle.gx_stack.specs.Stubs.{stub_bytes};
 
+use crate::Stub;
 use crate::room::{push_bytes, push_number, push_word, push_zeros};
 use gx_words::word_bytes;
 
@@ -154,52 +157,71 @@ fn push_header(out: &mut Vec<u8>, pairs: &[u8], len: u32, begin: u32)
     push_zeros(out, gap(4, pairs.len() as u32 + 2));
 }
 
-/// What stands in front of the locals of a format of words: its two lengths, its pair, and the ending one.
+/// A stub, and above it what stands in front of the locals of a format of words: the two lengths, its pair, and the
+/// ending one.
+#[tactic(auto, unfolding(crate::specs::Stubs::stub_bytes))]
 #[inline(always)]
-fn header_of_words(len: u32, count: u8) -> [u8; 12]
-    ensures { result ≡ bytes_of_word len ++ (0 ∷ 0 ∷ 0 ∷ 12 ∷ 4 ∷ count ∷ 0 ∷ 0 ∷ []) }
+fn stub_and_header(stub: &Stub, len: u32, count: u8) -> [u8; 28]
+    ensures { result ≡ stub_bytes stub.now ++ (bytes_of_word len ++ (0 ∷ 0 ∷ 0 ∷ 12 ∷ 4 ∷ count ∷ 0 ∷ 0 ∷ [])) }
 {
-    let [a, b, c, d] = word_bytes(len);
-    [a, b, c, d, 0, 0, 0, 12, 4, count, 0, 0]
+    let [a, b, c, d, e, f, g, h, i, j, k, l, m, n, o, p] = stub.bytes();
+    let [q, r, s, t] = word_bytes(len);
+    [
+        a, b, c, d, e, f, g, h, i, j, k, l, m, n, o, p, q, r, s, t, 0, 0, 0, 12, 4, count, 0, 0,
+    ]
 }
 
-/// Pushes the frame of a format of words, with arguments in its locals; `len` is FrameLen.
+/// Pushes a stub, and above it the frame of a format of words, with arguments in its locals; `len` is FrameLen.
 #[inline(always)]
 #[tactic(auto, using(crate::proofs::Words::word_frames))]
-fn push_words(out: &mut Vec<u8>, format: &[u8], len: u32, args: &[u32])
+fn push_words(out: &mut Vec<u8>, stub: &Stub, format: &[u8], len: u32, args: &[u32])
     requires format { IsOfWords format.now }
     requires len { len ≡ frame_len format.now }
-    requires room { vec_len out.old + len ≤ vec_capacity out.old }
-    ensures items { out.new.items ≡ out.old.items ++ frame format.now args.now }
-    ensures len { vec_len out.new ≡ vec_len out.old + len }
+    requires room { vec_len out.old + (16 + len) ≤ vec_capacity out.old }
+    ensures items { out.new.items ≡ (out.old.items ++ stub_bytes stub.now) ++ frame format.now args.now }
+    ensures len { vec_len out.new ≡ vec_len out.old + (16 + len) }
     ensures room { vec_capacity out.old ≤ vec_capacity out.new }
 {
     let count = format[1];
-    push_bytes(out, &header_of_words(len, count));
+    push_bytes(out, &stub_and_header(stub, len, count));
     push_filled(out, 4, count, args);
 }
 
-/// Pushes the frame of a format, with arguments in its locals; `len` is FrameLen.
-#[inline(always)]
-pub fn push_frame(out: &mut Vec<u8>, format: &[u8], len: u32, args: &[u32])
+/// The same with a format of any locals.
+#[inline(never)]
+fn push_apart(out: &mut Vec<u8>, stub: &Stub, format: &[u8], len: u32, args: &[u32])
     requires format { IsFormat format.now }
     requires len { len ≡ frame_len format.now }
-    requires room { vec_len out.old + len ≤ vec_capacity out.old }
-    ensures items { out.new.items ≡ out.old.items ++ frame format.now args.now }
-    ensures len { vec_len out.new ≡ vec_len out.old + len }
+    requires room { vec_len out.old + (16 + len) ≤ vec_capacity out.old }
+    ensures items { out.new.items ≡ (out.old.items ++ stub_bytes stub.now) ++ frame format.now args.now }
+    ensures len { vec_len out.new ≡ vec_len out.old + (16 + len) }
+    ensures room { vec_capacity out.old ≤ vec_capacity out.new }
+{
+    push_bytes(out, &stub.bytes());
+    push_frame(out, format, len, args);
+}
+
+/// The same, by what the locals are: most often words.
+#[inline(always)]
+pub fn push_call(out: &mut Vec<u8>, stub: &Stub, format: &[u8], len: u32, args: &[u32])
+    requires format { IsFormat format.now }
+    requires len { len ≡ frame_len format.now }
+    requires room { vec_len out.old + (16 + len) ≤ vec_capacity out.old }
+    ensures items { out.new.items ≡ (out.old.items ++ stub_bytes stub.now) ++ frame format.now args.now }
+    ensures len { vec_len out.new ≡ vec_len out.old + (16 + len) }
     ensures room { vec_capacity out.old ≤ vec_capacity out.new }
 {
     if has_words(format) {
-        push_words(out, format, len, args);
+        push_words(out, stub, format, len, args);
     } else {
-        push_pairs(out, format, len, args);
+        push_apart(out, stub, format, len, args);
     }
 }
 
-/// The same pair by pair.
+/// Pushes the frame of a format, with arguments in its locals; `len` is FrameLen.
 #[inline(never)]
 #[tactic(auto, using(crate::proofs::Pieces::frame_pieces))]
-fn push_pairs(out: &mut Vec<u8>, format: &[u8], len: u32, args: &[u32])
+pub fn push_frame(out: &mut Vec<u8>, format: &[u8], len: u32, args: &[u32])
     requires format { IsFormat format.now }
     requires len { len ≡ frame_len format.now }
     requires room { vec_len out.old + len ≤ vec_capacity out.old }

@@ -9,10 +9,11 @@ ghost use Rattle.gx_stack.specs.Held.{IsFormat};
 ghost use Rattle.gx_stack.specs.Laws.{local_places, local_values, numbers_at};
 ghost use Rattle.gx_stack.specs.Frames.{IsGood, has_local, parts, frame_in, IsFrame, KeepsFrames};
 ghost use Rattle.gx_stack.specs.Calls.{with_frame};
+ghost use Rattle.gx_stack.specs.Stubs.{stub_bytes};
 
-use crate::formats::{frame_len, push_frame};
+use crate::formats::{frame_len, push_call, push_frame};
 use crate::room::push_word;
-use crate::{Stack, StackFault};
+use crate::{Stack, StackFault, Stub};
 use gx_words::word_at;
 
 /// Where the parts of a good frame stand on the stack.
@@ -157,6 +158,23 @@ impl Stack {
         ensures size { length self.new.bytes ≡ length self.old.bytes + len }
     {
         push_frame(&mut self.bytes, format, len, args);
+    }
+
+    /// Pushes a stub, and above it the frame of a format where both fit, with arguments in its locals; `len` is its
+    /// FrameLen.
+    #[inline(always)]
+    #[tactic(auto, using(crate::proofs::Kept::called_frames))]
+    pub fn push_call(&mut self, stub: &Stub, format: &[u8], len: u32, args: &[u32])
+        requires format { IsFormat format.now }
+        requires len { len ≡ frame_len format.now }
+        requires room { length self.old.bytes + (16 + len) ≤ self.old.limit }
+        ensures value { self.new ≡ record self.old
+            { bytes = (self.old.bytes ++ stub_bytes stub.now) ++ frame format.now args.now } }
+        ensures good { IsGood self.new.bytes (length self.old.bytes + 16) }
+        ensures keeps { KeepsFrames self.old.bytes self.new.bytes }
+        ensures size { length self.new.bytes ≡ length self.old.bytes + (16 + len) }
+    {
+        push_call(&mut self.bytes, stub, format, len, args);
     }
 
     /// Pushes the arguments of a function of type C0, the first topmost, and their count on top.

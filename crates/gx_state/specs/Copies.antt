@@ -23,8 +23,7 @@ pub record Copy : Type 0 where
 
 -- A copy of the state, with the stub of a store operand on top of its stack.
 abbrev pub copy_of : FlatState → Dest → ℕ → Copy
-copy_of f dest next =
-    record { memory = f.memory; stack = f.stack.bytes ++ stub_bytes (stub_of f dest next); heap = f.heap }
+copy_of f d next = record { memory = f.memory; stack = f.stack.bytes ++ stub_bytes (stub_of f d next); heap = f.heap }
 
 -- the stub on top of a copy's stack
 abbrev pub stub_in : Copy → Stub
@@ -32,13 +31,12 @@ stub_in c = stub_below c.stack (length c.stack)
 
 -- Back at a copy: its stack, its heap, and its memory but for the protected range are laid over the state, its stub is
 -- popped, and -1 is delivered. A copy that is fit for the story has no fault in this. The decoding table, the iosystem,
--- the generator and the protected range stay, which the standard leaves open of the generator.
+-- the generator and the protected range stay. (Of the generator the standard doesn't say whether it does.)
 unfoldable pub restored_to : FlatState → Copy → FlatState
 restored_to f c =
     let memory = put_back_of f.memory c.memory f.protected.0 f.protected.1 in
-    let stack = record f.stack { bytes = c.stack } in
-    let laid = record f { memory = memory; stack = stack; heap = c.heap; mode = Running } in
-    elim (returned laid (length c.stack) 0xFFFFFFFF) [ Ok r ↦ r.0 | Err fault ↦ f ]
+    let laid = record f { memory = memory; stack = record f.stack { bytes = c.stack }; heap = c.heap; mode = Running }
+    in elim (returned laid (length c.stack) 0xFFFFFFFF) [ Ok r ↦ r.0 | Err fault ↦ f ]
 
 -- A copy is fit for a story: its memory is one of the story's, with the same bytes below RAMSTART; its stack is
 -- within the story's limit and has on top a stub that stores, with a good frame below it, and with its word in RAM or

@@ -36,20 +36,13 @@ format_from memory at zero = do
 format_from memory at (suc left) = do
   t ← number_in 1 memory at
   n ← number_in 1 memory (at + 1)
-  if t == 0 then Ok (0 ∷ n ∷ []) else
-      if t == 1 || t == 2 || t == 4
+  if t == 0 then Ok (0 ∷ n ∷ []) else if t == 1 || t == 2 || t == 4
       then (format_from memory (at + 2) left >>= λ rest. Ok (t ∷ n ∷ rest)) else Err BadFunction
-
--- a format behind pairs that were read of it
-abbrev pub behind : List ℕ → Result (List ℕ) Fault → Result (List ℕ) Fault
-behind pairs (Ok rest) = Ok (pairs ++ rest)
-behind pairs (Err fault) = Err fault
 
 -- what an entry pushes: a function of type C0 has its arguments on the stack and their count on top,
 -- one of type C1 has them in its locals
 abbrev pub entry_bytes : ℕ → List ℕ → List ℕ → List ℕ
-entry_bytes kind format args =
-    if kind == stack_function
+entry_bytes kind format args = if kind == stack_function
     then frame format [] ++ flat_map bytes_of_word (reverse args) ++ bytes_of_word (length args) else frame format args
 
 abbrev pub entry_size : ℕ → List ℕ → ℕ → ℕ
@@ -93,3 +86,10 @@ initial story = record {
 -- The state in which a story starts: its start function is entered without arguments.
 unfoldable pub started : FlatStory → Result FlatState Fault
 started story = entered (initial story) 0 [] story.header.start_function []
+
+-- WHAT CONTRACTS SAY
+
+-- a format behind pairs that were read of it
+abbrev pub behind : List ℕ → Result (List ℕ) Fault → Result (List ℕ) Fault
+behind pairs (Ok rest) = Ok (pairs ++ rest)
+behind pairs (Err fault) = Err fault

@@ -40,8 +40,7 @@ frame_of f = parts f.stack.bytes f.fp
 
 -- the fault of a write of so many bytes, one at least, from an address on
 abbrev pub write_fault : FlatState → ℕ → ℕ → Result (Unit {0}) Fault
-write_fault f at count =
-    if nat_lt (length f.memory) (at + count) then Err BadAddress else
+write_fault f at count = if nat_lt (length f.memory) (at + count) then Err BadAddress else
     if nat_lt at f.story.header.ramstart then Err ReadOnly else Ok tt
 
 -- the stack cut to a stack pointer

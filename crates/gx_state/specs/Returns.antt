@@ -34,8 +34,7 @@ pushed_stubs f ps = lifted (stubs.pushed_stubs f.stack ps) >>= λ s. Ok (record 
 
 -- the stub that ends at a stack pointer; its frame has to be good on the stack below it
 unfoldable pub stub_to : List ℕ → ℕ → Result Stub Fault
-stub_to bytes sp =
-    if nat_lt sp 16 then Err BadFrame else
+stub_to bytes sp = if nat_lt sp 16 then Err BadFrame else
     if is_good (take (sp - 16) bytes) (stub_below bytes sp).fp then Ok (stub_below bytes sp) else Err BadFrame
 
 -- back in the frame of a stub that ends at a stack pointer
@@ -71,8 +70,7 @@ delivered f p v =
 
 -- A return of a value with a stack pointer for FramePtr; and whether the program ends, since no stub is left.
 unfoldable pub returned : FlatState → ℕ → ℕ → Result (FlatState × Bool) Fault
-returned f sp v =
-    if sp == 0 then Ok (cut f 0, true) else
+returned f sp v = if sp == 0 then Ok (cut f 0, true) else
     stub_to f.stack.bytes sp >>= λ p. delivered (back f sp p) p v >>= λ h. Ok (h, false)
 
 -- it writes to memory, where the stub says so

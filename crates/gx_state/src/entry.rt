@@ -87,7 +87,6 @@ pub fn function_at<M: Readable>(
 }
 
 /// Pushes what an entry pushes into a function of type C0.
-#[inline(never)]
 #[tactic(auto, unfolding(gx_stack::specs::Calls::with_frame))]
 fn push_stack_entry(stack: &mut Stack, format: &[u8], len: u32, args: &[u32])
     requires format { IsFormat format.now }
@@ -104,7 +103,6 @@ fn push_stack_entry(stack: &mut Stack, format: &[u8], len: u32, args: &[u32])
 
 /// Pushes what an entry pushes.
 #[tactic(auto, unfolding(gx_stack::specs::Calls::with_frame))]
-#[inline(always)]
 fn push_entry(stack: &mut Stack, kind: u32, format: &[u8], len: u32, args: &[u32])
     requires format { IsFormat format.now }
     requires frame { len ≡ frame_len format.now }
@@ -121,7 +119,6 @@ fn push_entry(stack: &mut Stack, kind: u32, format: &[u8], len: u32, args: &[u32
 }
 
 /// Pushes stubs that fit.
-#[inline(never)]
 #[tactic(auto, unfolding(crate::proofs::Opened::fitting_stubs))]
 fn push_several(stack: &mut Stack, stubs: &[Stub])
     requires room { length stack.old.bytes + 16 * length stubs.now ≤ stack.old.limit }
@@ -134,20 +131,38 @@ fn push_several(stack: &mut Stack, stubs: &[Stub])
     }
 }
 
-/// The same, where there is most often one.
+/// Pushes stubs, and above them what an entry pushes.
+#[inline(never)]
+fn push_apart(stack: &mut Stack, stubs: &[Stub], kind: u32, format: &[u8], len: u32, args: &[u32])
+    requires format { IsFormat format.now }
+    requires frame { len ≡ frame_len format.now }
+    requires count { length args.now ≤ 255 }
+    requires room { length stack.old.bytes + 16 * length stubs.now + entry_size kind format.now (length args.now)
+        ≤ stack.old.limit }
+    ensures value { stack.new ≡ record stack.old
+        { bytes = (stack.old.bytes ++ flat_map stub_bytes stubs.now) ++ entry_bytes kind format.now args.now } }
+    ensures good { IsGood stack.new.bytes (length stack.old.bytes + 16 * length stubs.now) }
+{
+    push_several(stack, stubs);
+    push_entry(stack, kind, format, len, args);
+}
+
+/// The same, where there is most often one stub, and the function is of type C1.
 #[inline(always)]
-#[tactic(auto, unfolding(crate::proofs::Opened::fitting_stubs), using(gx_stack::proofs::Pieces::one_stub))]
-fn push_within(stack: &mut Stack, stubs: &[Stub])
-    requires room { length stack.old.bytes + 16 * length stubs.now ≤ stack.old.limit }
-    ensures value { stack.new ≡ record stack.old { bytes = stack.old.bytes ++ flat_map stub_bytes stubs.now } }
-    ensures size { length stack.new.bytes ≡ length stack.old.bytes + 16 * length stubs.now }
+#[tactic(auto, using(gx_stack::proofs::Pieces::one_stub))]
+fn push_called(stack: &mut Stack, stubs: &[Stub], kind: u32, format: &[u8], len: u32, args: &[u32])
+    requires format { IsFormat format.now }
+    requires frame { len ≡ frame_len format.now }
+    requires count { length args.now ≤ 255 }
+    requires room { length stack.old.bytes + 16 * length stubs.now + entry_size kind format.now (length args.now)
+        ≤ stack.old.limit }
+    ensures value { stack.new ≡ record stack.old
+        { bytes = (stack.old.bytes ++ flat_map stub_bytes stubs.now) ++ entry_bytes kind format.now args.now } }
+    ensures good { IsGood stack.new.bytes (length stack.old.bytes + 16 * length stubs.now) }
 {
     match stubs {
-        [stub] => match stack.push_stub(stub) {
-            Ok(()) => {}
-            Err(_) => unreachable!(),
-        },
-        _ => push_several(stack, stubs),
+        [stub] if kind != STACK_FUNCTION => stack.push_call(stub, format, len, args),
+        _ => push_apart(stack, stubs, kind, format, len, args),
     }
 }
 
@@ -176,8 +191,7 @@ pub fn push_call(
     ensures aligned { length stack.new.bytes % 4 ≡ 0 }
 {
     stack.leave_frame(sp);
-    push_within(stack, stubs);
-    push_entry(stack, kind, format, len, args);
+    push_called(stack, stubs, kind, format, len, args);
     let _size = stack.size(); // what holds of every stack
 }
 

@@ -27,31 +27,26 @@ abbrev pub string_of : ℕ → ℕ → Option Printing
 string_of type_byte at =
     if type_byte == c_string then Some (from_start E0 (at + 1)) else
     if type_byte == compressed_string then Some (from_start E1 (at + 1)) else
-    if type_byte == unicode_string then Some (from_start E2 (at + 4)) else
-    None
+    if type_byte == unicode_string then Some (from_start E2 (at + 4)) else None
 
 -- the string at an address
 unfoldable pub string_at : List ℕ → ℕ → Result Printing Fault
-string_at memory at = do
-  type_byte ← number_in 1 memory at
-  ok_or (string_of type_byte at) BadString
+string_at memory at = number_in 1 memory at >>= λ type_byte. ok_or (string_of type_byte at) BadString
 
 -- The call of a function. Where the reference has arguments, their count stands at an address, and
 -- they follow it.
 unfoldable pub call_of : List ℕ → Printing → ℕ → Option ℕ → Result Item Fault
 call_of memory back object None = Ok (Call back object 0 0)
-call_of memory back object (Some count_at) = do
-  count ← number_in 4 memory count_at
-  Ok (Call back object (count_at + 4) count)
+call_of memory back object (Some count_at) =
+    number_in 4 memory count_at >>= λ count. Ok (Call back object (count_at + 4) count)
 
 -- The reference to the object at an address; `back` is the place after it. The count of a string's arguments isn't
 -- looked at.
 unfoldable pub reference : List ℕ → Printing → ℕ → Option ℕ → Result Item Fault
-reference memory back object count_at = do
-  type_byte ← number_in 1 memory object
-  elim (string_of type_byte object) [
-    | Some string ↦ Ok (Sub back (as_inner string))
-    | None ↦
-        if type_byte == stack_function || type_byte == locals_function then call_of memory back object count_at else
-        if nat_le stack_function type_byte && nat_le type_byte last_function then Err BadFunction else Err BadString
-  ]
+reference memory back object count_at = number_in 1 memory object >>= λ type_byte.
+    elim (string_of type_byte object) [
+      | Some string ↦ Ok (Sub back (as_inner string))
+      | None ↦
+          if type_byte == stack_function || type_byte == locals_function then call_of memory back object count_at else
+          if nat_le stack_function type_byte && nat_le type_byte last_function then Err BadFunction else Err BadString
+    ]

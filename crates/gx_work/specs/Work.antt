@@ -30,15 +30,12 @@ code count =
     (0x4C ∷ 0x92 ∷ 0x09 ∷ 0x01 ∷ 0x00 ∷ 0x00 ∷ 0x04 ∷ []) ++  -- astore 0x100 index sum
     (0x10 ∷ 0x19 ∷ 0x09 ∷ 0x00 ∷ 0x01 ∷ 0x00 ∷ []) ++  -- add index 1 index
     (0x2A ∷ 0x39 ∷ 0x01 ∷ 0x00 ∷ []) ++ bytes_of_word count ++ (0xE1 ∷ []) ++  -- jltu index count, to the aload
-    (0x71 ∷ 0x09 ∷ 0x04 ∷ []) ++  -- streamnum sum
-    (0x70 ∷ 0x01 ∷ 0x0A ∷ []) ++  -- streamchar 10
-    (0x81 ∷ 0x20 ∷ [])  -- quit
+    (0x71 ∷ 0x09 ∷ 0x04 ∷ []) ++ (0x70 ∷ 0x01 ∷ 0x0A ∷ []) ++ (0x81 ∷ 0x20 ∷ [])  -- streamnum sum, streamchar 10, quit
 
 -- The bytes before RAM, for so many words of RAM: magic, version 3.1.2, RAMSTART, EXTSTART, ENDMEM, stack size, start
 -- function, no table and checksum; then the code.
 unfoldable pub page : ℕ → ℕ → List ℕ
-page count checksum =
-    let size = 0x100 + 4 * count in
+page count checksum = let size = 0x100 + 4 * count in
     flat_map bytes_of_word (magic ∷ 0x00030102 ∷ 0x100 ∷ size ∷ size ∷ 0x100 ∷ 0x24 ∷ 0 ∷ checksum ∷ [])
     ++ code count ++ replicate 147 0
 

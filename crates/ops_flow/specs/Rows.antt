@@ -73,8 +73,7 @@ catch f i = do
 -- 33 throw (L1 L2): the stack is cut to the token L2, and L1 is returned to the stub there, with PC at the next
 -- instruction; a token is the end of a stub on the stack
 unfoldable pub throw : FlatState → Instruction → Result (FlatState × Effect) Fault
-throw f i =
-    if nat_le 16 (L2 i) && nat_le (L2 i) i.sp && L2 i % 4 == 0
+throw f i = if nat_le 16 (L2 i) && nat_le (L2 i) i.sp && L2 i % 4 == 0
     then (returned (going_to f i.next) (L2 i) (L1 i) >>= λ r. Ok (r.0, Went)) else Err BadToken
 
 -- 34 tailcall (L1 L2): pops L2 arguments, and calls L1 in place of the present function

@@ -39,8 +39,7 @@ gestalt f i = stores f i (gestalt_of (L1 i) (L2 i) f.heap.start)
 
 -- the state once what L1 makes of the next word is stored
 abbrev pub drawn : FlatState → ℕ → Instruction → Result FlatState Fault
-drawn f word i =
-    settled f i.sp 4 i.dest (pick (L1 i) (word_from f.generator word)) >>= λ g.
+drawn f word i = settled f i.sp 4 i.dest (pick (L1 i) (word_from f.generator word)) >>= λ g.
     Ok (record g { generator = after_word f.generator })
 
 -- 110 random (L1 S1): draws a word; S1 = any word for L1 = 0, one from 0 to L1 - 1 for a positive L1, one from
@@ -69,8 +68,7 @@ restart f = restarted f >>= λ g. Ok (g, Went)
 -- 123 save (L1 S1): asks that the game be saved to the Glk stream L1, with the state standing; the stub of S1, which
 -- the save has on top of its stack, needs room; S1 is the answer
 unfoldable pub save : FlatState → Instruction → Result (FlatState × Effect) Fault
-save f i =
-    if nat_lt f.stack.limit (i.sp + 16) then Err Overflow else
+save f i = if nat_lt f.stack.limit (i.sp + 16) then Err Overflow else
     store_fault f 4 i.dest i.sp >>= λ _. Ok (f, Save (L1 i))
 
 -- 124 restore (L1 S1): asks that the game be restored from the Glk stream L1, with the state standing; S1 is the answer
@@ -80,8 +78,7 @@ restore f i = store_fault f 4 i.dest i.sp >>= λ _. Ok (f, Restore (L1 i))
 
 -- 125 saveundo (S1): keeps a copy of the state with the stub of S1, which needs room; S1 = 0
 unfoldable pub saveundo : FlatState → FlatUndo → Instruction → Result ((FlatState × FlatUndo) × Effect) Fault
-saveundo f u i =
-    if nat_lt f.stack.limit (sp_of f + 16) then Err Overflow else
+saveundo f u i = if nat_lt f.stack.limit (sp_of f + 16) then Err Overflow else
     settled f i.sp 4 i.dest 0 >>= λ g. Ok ((going_to g i.next, with_newest u (copy_of f i.dest i.next)), Went)
 
 abbrev pub restored_from : FlatState → FlatUndo → Instruction → List Copy

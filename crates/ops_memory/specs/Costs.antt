@@ -11,8 +11,7 @@ use Rattle.ops_memory.specs.Searching.{search_by}
 
 -- how many probes a row begins
 abbrev pub probes_of : Class → FlatState → Instruction → ℕ
-probes_of class.Memory f i =
-    if i.row.number == numbers.linearsearch then (search_by Linear f i).probes else
+probes_of class.Memory f i = if i.row.number == numbers.linearsearch then (search_by Linear f i).probes else
     if i.row.number == numbers.binarysearch then (search_by Binary f i).probes else
     if i.row.number == numbers.linkedsearch then (search_by Linked f i).probes else 0
 probes_of c f i = 0

@@ -84,9 +84,7 @@ astoreb f i = puts f i 1 (element i 1) (L3 i)
 
 -- 4F astorebit (L1 L2 L3): the bit L2 of the array at L1 = 0 if L3 = 0, else 1
 unfoldable pub astorebit : FlatState → Instruction → Result (FlatState × Effect) Fault
-astorebit f i =
-    let bit = 2 ^ bit_in_byte i in
-    number_in 1 f.memory (byte_of_bit i) >>= λ byte.
+astorebit f i = let bit = 2 ^ bit_in_byte i in number_in 1 f.memory (byte_of_bit i) >>= λ byte.
     puts f i 1 (byte_of_bit i) (if L3 i == 0 then bit_and byte (0xFFFFFFFF - bit) else bit_or byte bit)
 
 -- THE ROW OF AN INSTRUCTION

@@ -1,8 +1,7 @@
 -- The rows that search (Glulx 3.1.2, "Searching"), in the order of their numbers.
 --
 -- A fault in any line leaves the state as it is.
-use Rattle.std.specs.Prelude.{ℕ, Bool, false}
-use Rattle.std.specs.Prelude.{if◌then◌else◌, Option, Some, None, Result}
+use Rattle.std.specs.Prelude.{ℕ, Bool, false, if◌then◌else◌, Option, Some, None, Result}
 use Rattle.gx_words.specs.declared.faults.Fault.{Fault}
 use Rattle.gx_words.specs.Results.{◌>>=◌}
 use Rattle.gx_search.specs.declared.asks.Ask.{Ask}
@@ -21,17 +20,16 @@ use Rattle.ops_memory.specs.declared.searches.Method.TheVariants.{Linear, Binary
 -- what is asked of a row of structs: L1 to L7 are the key, its size, the start, the size of a struct, the count,
 -- the offset of keys and the options
 abbrev pub row_ask : Instruction → Ask
-row_ask i =
-    record {
-      key = L1 i;
-      key_size = L2 i;
-      start = L3 i;
-      struct_size = L4 i;
-      count = L5 i;
-      key_offset = L6 i;
-      next_offset = 0;
-      options = L7 i;
-    }
+row_ask i = record {
+  key = L1 i;
+  key_size = L2 i;
+  start = L3 i;
+  struct_size = L4 i;
+  count = L5 i;
+  key_offset = L6 i;
+  next_offset = 0;
+  options = L7 i;
+}
 
 -- and of a list of structs: L1 to L6 are the key, its size, the start, the offset of keys, that of links, and
 -- the options

@@ -30,19 +30,17 @@ is_size_refused f size = nat_lt ceiling size || not (is_inactive f.heap)
 -- 103 setmemsize (L1 S1): sets the size of memory to L1; S1 = 0, or 1 where it is refused and stays. S1 is
 -- stored in memory of the new size.
 unfoldable pub setmemsize : FlatState → Instruction → Result (FlatState × Effect) Fault
-setmemsize f i =
-    if nat_lt (L1 i) f.story.header.endmem || not (L1 i % 256 == 0) then Err MemSize else
+setmemsize f i = if nat_lt (L1 i) f.story.header.endmem || not (L1 i % 256 == 0) then Err MemSize else
     if is_size_refused f (L1 i) then stores f i 1 else stores (with_size f (L1 i)) i 0
 
 -- BLOCK COPY AND CLEAR
 
 -- The fault of a range that is read, and that of one that is written. A range without a byte touches no address.
 unfoldable pub source_fault : FlatState → ℕ → ℕ → Result (Unit {0}) Fault
-source_fault f at count =
-    if count == 0 then Ok tt else if nat_lt (length f.memory) (at + count) then Err BadAddress else Ok tt
+source_fault f at n = if n == 0 then Ok tt else if nat_lt (length f.memory) (at + n) then Err BadAddress else Ok tt
 
 unfoldable pub target_fault : FlatState → ℕ → ℕ → Result (Unit {0}) Fault
-target_fault f at count = if count == 0 then Ok tt else write_fault f at count
+target_fault f at n = if n == 0 then Ok tt else write_fault f at n
 
 -- 170 mzero (L1 L2): L1 zeros are written at L2
 unfoldable pub mzero : FlatState → Instruction → Result (FlatState × Effect) Fault
@@ -60,9 +58,8 @@ mcopy f i = do
 -- a block of L1 bytes at its place, if there is one, which memory covers; S1, its address, may be stored in it
 abbrev pub allocated : FlatState → Instruction → Option ℕ → Result (FlatState × Effect) Fault
 allocated f i None = stores f i 0
-allocated f i (Some at) = do
-  r ← stores (with_size f (max (length f.memory) (rounded_up (at + L1 i)))) i at
-  Ok (with_block r.0 (length f.memory) at (L1 i), r.1)
+allocated f i (Some at) = stores (with_size f (max (length f.memory) (rounded_up (at + L1 i)))) i at >>= λ r.
+    Ok (with_block r.0 (length f.memory) at (L1 i), r.1)
 
 -- 178 malloc (L1 S1): S1 = the address of a new block of L1 bytes, or 0 where there is no place for it
 unfoldable pub malloc : FlatState → Instruction → Result (FlatState × Effect) Fault

@@ -60,8 +60,7 @@ is_printing_place kind bit = true
 
 -- One step of printing. A place that no string has is the fault of a stub with it.
 unfoldable pub item : FlatState → Printing → Result (FlatState × Effect) Fault
-item f p =
-    if is_printing_place p.kind p.bit
+item f p = if is_printing_place p.kind p.bit
     then (next_item f.memory f.table p >>= λ i. item_printed f p.started i) else Err BadFrame
 
 -- The mode after a character that was put: on behind it.

@@ -28,8 +28,7 @@ use Rattle.gx_rows.specs.Numbers as numbers
 -- it, and whose result is dropped; under Glk it is asked to be put to the current stream, with the state standing;
 -- the null system drops it.
 abbrev pub character_streamed : FlatState → Instruction → ℕ → Result (FlatState × Effect) Fault
-character_streamed f i c =
-    if f.iosys.0 == filter_system
+character_streamed f i c = if f.iosys.0 == filter_system
     then (entered f i.sp (stub_of f Nowhere i.next ∷ []) f.iosys.1 (c ∷ []) >>= λ g. Ok (g, Went)) else
     if f.iosys.0 == glk_system then Ok (f, Put c) else goes f i
 

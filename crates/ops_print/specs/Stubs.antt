@@ -16,20 +16,18 @@ use Rattle.gx_state.specs.Returns.{popped_stub, printing_on}
 -- The stub that resumes a string or number: at a bit of a compressed string, at a digit of a number, at the next
 -- character of another string.
 unfoldable pub resuming : FlatState → Printing → Stub
-resuming f p =
-    elim p.kind [
-      | E0 ↦ record { kind = resume_c_string; addr = 0; pc = p.at; fp = f.fp }
-      | E1 ↦ record { kind = resume_compressed; addr = p.bit; pc = p.at; fp = f.fp }
-      | E2 ↦ record { kind = resume_unicode; addr = 0; pc = p.at; fp = f.fp }
-      | Number ↦ record { kind = resume_number; addr = p.bit; pc = p.at; fp = f.fp }
-    ]
+resuming f p = elim p.kind [
+  | E0 ↦ record { kind = resume_c_string; addr = 0; pc = p.at; fp = f.fp }
+  | E1 ↦ record { kind = resume_compressed; addr = p.bit; pc = p.at; fp = f.fp }
+  | E2 ↦ record { kind = resume_unicode; addr = 0; pc = p.at; fp = f.fp }
+  | Number ↦ record { kind = resume_number; addr = p.bit; pc = p.at; fp = f.fp }
+]
 
 -- The stubs that are pushed, the first deepest, before an inner string is begun or a function is called: that which
 -- goes back to the code, where it was not pushed before, and that of the place to go on at.
 abbrev pub ways_back : FlatState → Bool → Printing → List Stub
-ways_back f started back =
-    let code : Stub = record { kind = resume_code; addr = 0; pc = f.pc; fp = f.fp } in
-    if started then resuming f back ∷ [] else code ∷ resuming f back ∷ []
+ways_back f started back = if started then resuming f back ∷ [] else
+    record { kind = resume_code; addr = 0; pc = f.pc; fp = f.fp } ∷ resuming f back ∷ []
 
 -- The end of a string or number that another string's reference began or a stub resumed: the stub on top is popped, and
 -- the compressed string around it or the code goes on.

@@ -41,7 +41,7 @@ use Rattle.quetzal.specs.Chunks.{MemoryBody, body_in, memory_in, needed, parts_i
 use Rattle.quetzal.specs.Memory.{first_ram, is_memory_size, memory_bytes, memory_of, size_in}
 use Rattle.quetzal.specs.Stacks.{is_result_place, is_stack}
 use Rattle.quetzal.specs.Blocks.{blocks_from, blocks_in, count_in, has_count}
-use Rattle.quetzal.specs.Blocks.{has_no_heap, heap_bytes, heap_of, ordered_blocks, is_start, rises, start_in}
+use Rattle.quetzal.specs.Blocks.{has_no_heap, heap_bytes, heap_of, ordered_blocks, rises, start_in}
 use Rattle.quetzal.specs.Laws.{ReadsBack, chunk_len, form_len}
 use Rattle.quetzal.specs.Writing.{heap_chunks, saved}
 use Rattle.quetzal.proofs.Sorting.{both, rises_by, rises_parts}
@@ -198,7 +198,7 @@ pub heap_rises : (endmem size : ℕ) (heap : FlatHeap) → IsHeapWithin endmem s
 heap_rises endmem size heap fit = rises_from heap.blocks heap.start size fit.within.start fit.blocks.rises fit.within.ends
 
 heap_by : (story : FlatStory) (size : ℕ) (body : List ℕ) (heap : FlatHeap) → length body ≡ 8 + 8 * length heap.blocks → 0 < length heap.blocks → start_in body ≡ heap.start → count_in body ≡ length heap.blocks → blocks_in body ≡ heap.blocks → ordered_blocks heap.blocks ≡ heap.blocks
-    → is_start story size heap.start ≡ true → rises heap.start size heap.blocks ≡ true → heap_of story size body ≡ Ok heap
+    → is_memory_size size story heap.start ≡ true → rises heap.start size heap.blocks ≡ true → heap_of story size body ≡ Ok heap
 unfolding heap_of
 heap_by story size body heap len some start count blocks order begins are =
     let empty : (length body == 0) ≡ false = grind (arith, nat_tests, len) in
@@ -207,8 +207,8 @@ heap_by story size body heap len some start count blocks order begins are =
     let whole : nat_eq (length body) (8 + 8 * length heap.blocks) ≡ true = eq-eqb _ _ len in
     let any : nat_lt 0 (length heap.blocks) ≡ true = lt-ltb _ _ some in
     let counted : has_count body ≡ true = rw count (both (nat_eq (length body) (8 + 8 * length heap.blocks)) (nat_lt 0 (length heap.blocks)) whole any) in
-    let test : (has_count body && is_start story size (start_in body) && rises (start_in body) size (ordered_blocks (blocks_in body))) ≡ true =
-    both (has_count body && is_start story size (start_in body)) (rises (start_in body) size (ordered_blocks (blocks_in body))) (both (has_count body) (is_start story size (start_in body)) counted (rw start begins)) (rw (start, blocks, order) are) in
+    let test : (has_count body && is_memory_size size story (start_in body) && rises (start_in body) size (ordered_blocks (blocks_in body))) ≡ true =
+    both (has_count body && is_memory_size size story (start_in body)) (rises (start_in body) size (ordered_blocks (blocks_in body))) (both (has_count body) (is_memory_size size story (start_in body)) counted (rw start begins)) (rw (start, blocks, order) are) in
     rw (none, test, start, blocks, order) refl
 
 some_again : (story : FlatStory) (size : ℕ) (heap : FlatHeap) → size ≤ ceiling → 0 < length heap.blocks → IsHeapWithin story.header.endmem size heap → heap_of story size (heap_bytes heap) ≡ Ok heap

@@ -25,7 +25,7 @@ use Rattle.quetzal.specs.Chunks.{MemoryBody, Parts, parts_in}
 use Rattle.quetzal.specs.Memory.{is_memory_size, size_in, memory_of}
 use Rattle.quetzal.specs.Stacks.{is_stack, is_result_place}
 use Rattle.quetzal.specs.Blocks.{blocks_from, blocks_in, count_in, has_count, has_no_heap}
-use Rattle.quetzal.specs.Blocks.{heap_of, ordered_blocks, is_start, rises, start_in}
+use Rattle.quetzal.specs.Blocks.{heap_of, ordered_blocks, rises, start_in}
 use Rattle.quetzal.specs.Laws.{is_block, may_meet, ordered, MayMeet}
 use Rattle.quetzal.specs.Saves.{save_of}
 use Rattle.quetzal.proofs.Sorting.{both, rises_parts, rises_size, order_none, order_wanted}
@@ -96,13 +96,13 @@ length-blocks_from (suc count) body at = ap suc (length-blocks_from count body (
 
 -- what is asked of a chunk that says that there is a heap
 abbrev pub is_heap : FlatStory → ℕ → List ℕ → Bool
-is_heap story size body = has_count body && is_start story size (start_in body) && rises (start_in body) size (ordered_blocks (blocks_in body))
+is_heap story size body = has_count body && is_memory_size size story (start_in body) && rises (start_in body) size (ordered_blocks (blocks_in body))
 
 some_within : (story : FlatStory) (size : ℕ) (body : List ℕ) → size ≤ ceiling → is_heap story size body ≡ true → IsHeapWithin story.header.endmem size (record { start = start_in body; blocks = ordered_blocks (blocks_in body) })
 some_within story size body capped h =
     let start = start_in body in
-    let a = and_parts (has_count body && is_start story size start) (rises start size (ordered_blocks (blocks_in body))) h in
-    let b = and_parts (has_count body) (is_start story size start) a.0 in
+    let a = and_parts (has_count body && is_memory_size size story start) (rises start size (ordered_blocks (blocks_in body))) h in
+    let b = and_parts (has_count body) (is_memory_size size story start) a.0 in
     let count : 0 < count_in body = ltb-true 0 (count_in body) (and_parts (nat_eq (length body) (8 + 8 * count_in body)) (nat_lt 0 (count_in body)) b.0).1 in
     let c = and_parts (nat_eq (start % 256) 0 && nat_le story.header.endmem start) (nat_le start size) b.1 in
     let d = and_parts (nat_eq (start % 256) 0) (nat_le story.header.endmem start) c.0 in
@@ -142,7 +142,7 @@ pub no_count : (story : FlatStory) (size : ℕ) (body : List ℕ) → has_no_hea
 unfolding heap_of
 no_count story size body some not = rw (some, not) refl
 
-pub no_start : (story : FlatStory) (size start : ℕ) (body : List ℕ) → start ≡ start_in body → has_no_heap body ≡ false → has_count body ≡ true → is_start story size start ≡ false → heap_of story size body ≡ Err fault.Blocks
+pub no_start : (story : FlatStory) (size start : ℕ) (body : List ℕ) → start ≡ start_in body → has_no_heap body ≡ false → has_count body ≡ true → is_memory_size size story start ≡ false → heap_of story size body ≡ Err fault.Blocks
 unfolding heap_of
 no_start story size start body is some counted not = rw (some, counted, ← is, not) refl
 
@@ -154,13 +154,13 @@ heap_at-fine : (start : ℕ) (r : Result (List Block) SaveFault) → IsOk r → 
 heap_at-fine start (Ok blocks) fine = refl
 heap_at-fine start (Err e) fine = absurd cc
 
-ordered_by : (story : FlatStory) (size start : ℕ) (body : List ℕ) (are : Bool) → rises start size (ordered_blocks (blocks_in body)) ≡ are → start ≡ start_in body → has_no_heap body ≡ false → has_count body ≡ true → is_start story size start ≡ true
+ordered_by : (story : FlatStory) (size start : ℕ) (body : List ℕ) (are : Bool) → rises start size (ordered_blocks (blocks_in body)) ≡ are → start ≡ start_in body → has_no_heap body ≡ false → has_count body ≡ true → is_memory_size size story start ≡ true
     → heap_of story size body ≡ heap_at start (ordered start size (blocks_in body))
 unfolding heap_of
 ordered_by story size start body true are is some counted begins = rw (some, counted, ← is, begins, are) refl
 ordered_by story size start body false are is some counted begins = rw (some, counted, ← is, begins, are) refl
 
-module _ (story : FlatStory) (size start : ℕ) (body : List ℕ) (is : start ≡ start_in body) (some : has_no_heap body ≡ false) (counted : has_count body ≡ true) (begins : is_start story size start ≡ true) where
+module _ (story : FlatStory) (size start : ℕ) (body : List ℕ) (is : start ≡ start_in body) (some : has_no_heap body ≡ false) (counted : has_count body ≡ true) (begins : is_memory_size size story start ≡ true) where
   heap_ordered : heap_of story size body ≡ heap_at start (ordered start size (blocks_in body))
   heap_ordered = ordered_by story size start body (rises start size (ordered_blocks (blocks_in body))) refl is some counted begins
 
@@ -177,10 +177,10 @@ module _ (story : FlatStory) (size start : ℕ) (body : List ℕ) (is : start �
   meeting : list_all (is_block start size) (blocks_in body) ≡ true → 1 < count_in body → may_meet story size body ≡ true
   unfolding may_meet
   meeting within two =
-      let first : is_start story size (start_in body) ≡ true = sym (ap (is_start story size) is) ∙ begins in
+      let first : is_memory_size size story (start_in body) ≡ true = sym (ap (is_memory_size size story) is) ∙ begins in
       let each : list_all (is_block (start_in body) size) (blocks_in body) ≡ true = sym (ap (λ (s : ℕ). list_all (is_block s size) (blocks_in body)) is) ∙ within in
-      both (has_count body && is_start story size (start_in body) && list_all (is_block (start_in body) size) (blocks_in body)) (nat_lt 1 (count_in body))
-      (both (has_count body && is_start story size (start_in body)) (list_all (is_block (start_in body) size) (blocks_in body)) (both (has_count body) (is_start story size (start_in body)) counted first) each)
+      both (has_count body && is_memory_size size story (start_in body) && list_all (is_block (start_in body) size) (blocks_in body)) (nat_lt 1 (count_in body))
+      (both (has_count body && is_memory_size size story (start_in body)) (list_all (is_block (start_in body) size) (blocks_in body)) (both (has_count body) (is_memory_size size story (start_in body)) counted first) each)
       (lt-ltb _ _ two)
 
   pub heap_wanted : list_all (is_block start size) (blocks_in body) ≡ true → IsOk (ordered start size (blocks_in body)) ⊎ ((ordered start size (blocks_in body) ≡ Err fault.Blocks) × (1 < count_in body))

@@ -30,14 +30,11 @@ pub record MemoryBody : Type 0 where
 -- a packed chunk is taken before a plain one
 abbrev pub either : Option (List ℕ) → Option (List ℕ) → Option MemoryBody
 either (Some packed) plain = Some (record { is_packed = true; body = packed })
-either None (Some plain) = Some (record { is_packed = false; body = plain })
-either None None = None
+either None plain = option_map (λ body. record { is_packed = false; body = body }) plain
 
 unfoldable pub memory_in : List ℕ → Result (Option MemoryBody) SaveFault
-memory_in save = do
-  packed ← body_in save (codes "CMem")
-  plain ← body_in save (codes "UMem")
-  Ok (either packed plain)
+memory_in save =
+    body_in save (codes "CMem") >>= λ packed. body_in save (codes "UMem") >>= λ plain. Ok (either packed plain)
 
 -- what is looked at of a save; the heap's chunk is empty where there is none
 pub record Parts : Type 0 where

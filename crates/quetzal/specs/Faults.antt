@@ -1,5 +1,5 @@
 -- The faults of a save: their numbers, what the faults of a form and of packed bytes become, and how a test gives one.
-use Rattle.std.specs.Prelude.{ℕ, Bool, true, false, Result, Ok, Err}
+use Rattle.std.specs.Prelude.{ℕ, Bool, if◌then◌else◌, Result, Ok, Err}
 use Rattle.iff_chunks.specs.declared.faults.IffFault.{IffFault}
 use Rattle.iff_chunks.specs.declared.faults.IffFault.TheVariants as iff
 use Rattle.zero_runs.specs.declared.faults.RunFault.{RunFault}
@@ -29,5 +29,4 @@ fault_of_run e = fault.Runs
 
 -- what a test passes, or else has the fault
 abbrev pub allowed : Bool → SaveFault → Result (Unit {0}) SaveFault
-allowed true e = Ok tt
-allowed false e = Err e
+allowed passes e = if passes then Ok tt else Err e

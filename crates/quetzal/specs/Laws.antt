@@ -8,11 +8,11 @@ use Rattle.heap_blocks.specs.Heap.{Block, block_end}
 use Rattle.gx_story.specs.Stories.{FlatStory}
 use Rattle.quetzal.specs.declared.faults.SaveFault.{SaveFault}
 use Rattle.quetzal.specs.declared.faults.SaveFault.TheVariants as fault
-use Rattle.quetzal.specs.Blocks.{start_in, count_in, blocks_in, has_count, is_start, ordered_blocks, rises}
+use Rattle.quetzal.specs.Blocks.{start_in, count_in, blocks_in, has_count, ordered_blocks, rises}
 use Rattle.gx_words.specs.Results.{◌>>=◌}
 use Rattle.gx_state.specs.Copies.{Copy, IsCopyFor}
 use Rattle.quetzal.specs.Chunks.{parts_in}
-use Rattle.quetzal.specs.Memory.{size_in}
+use Rattle.quetzal.specs.Memory.{is_memory_size, size_in}
 use Rattle.quetzal.specs.Saves.{save_of}
 use Rattle.gx_words.specs.Constants.{ceiling}
 use Rattle.gx_story.specs.Stories.{IsStory}
@@ -26,8 +26,8 @@ is_block start size b = nat_lt 0 b.1 && nat_le start b.0 && nat_le (block_end b)
 -- nothing else is wrong with the heap, and it has two blocks at least: they may still meet
 unfoldable pub may_meet : FlatStory → ℕ → List ℕ → Bool
 may_meet story size body =
-    has_count body && is_start story size (start_in body) && list_all (is_block (start_in body) size) (blocks_in body)
-    && nat_lt 1 (count_in body)
+    has_count body && is_memory_size size story (start_in body) &&
+    list_all (is_block (start_in body) size) (blocks_in body) && nat_lt 1 (count_in body)
 
 -- the same blocks, by their address
 pub record IsSortedFrom (bs sorted : List Block) : Type 0 where

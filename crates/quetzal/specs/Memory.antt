@@ -27,8 +27,7 @@ first_ram story = drop story.header.ramstart story.bytes
 -- plain ones for themselves
 unfoldable pub memory_of : FlatStory → MemoryBody → Result (List ℕ) SaveFault
 memory_of story memory =
-    let bytes = drop size_len memory.body in
-    let count = size_in memory - story.header.ramstart in
+    let bytes = drop size_len memory.body in let count = size_in memory - story.header.ramstart in
     let whole = λ (ram : List ℕ). take story.header.ramstart story.bytes ++ ram in
     if memory.is_packed then result_map_both whole (λ e. fault.Runs) (unpacked bytes (first_ram story) count) else
     if length bytes == count then Ok (whole bytes) else Err fault.Runs

@@ -17,7 +17,6 @@ is_result_place story size frame stub =
 -- words alone, within the story's limit, of which the last are a stub that stores a result, on top of its frame
 unfoldable pub is_stack : FlatStory → ℕ → List ℕ → Bool
 is_stack story size stack =
-    let stub = stub_below stack (length stack) in
-    let below = take (length stack - stub_len) stack in
+    let stub = stub_below stack (length stack) in let below = take (length stack - stub_len) stack in
     length stack % 4 == 0 && nat_le (length stack) story.header.stack_size && nat_le stub_len (length stack) &&
     (nat_le stub.kind to_stack && is_good below stub.fp && is_result_place story size (parts below stub.fp) stub)

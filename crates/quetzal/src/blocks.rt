@@ -7,7 +7,8 @@ ghost use Rattle.std.specs.List.{list_all};
 ghost use Rattle.gx_words.specs.Numbers.{word};
 ghost use Rattle.quetzal.specs.Relations.{MaySort};
 ghost use Rattle.quetzal.specs.Constants.{block_len};
-ghost use Rattle.quetzal.specs.Blocks.{blocks_in, count_in, has_count, has_no_heap, heap_of, is_start, rises};
+ghost use Rattle.quetzal.specs.Blocks.{blocks_in, count_in, has_count, has_no_heap, heap_of, rises};
+ghost use Rattle.quetzal.specs.Memory.{is_memory_size};
 ghost use Rattle.quetzal.specs.Laws.{IsSortedFrom, is_block, may_meet, ordered};
 ghost use Rattle.gx_words.specs.Constants.{ceiling};
 ghost use Rattle.gx_state.specs.Sound.{IsHeapWithin};
@@ -82,7 +83,7 @@ fn has_count(body: &[u8]) -> bool
 
 /// Whether a heap may begin at an address.
 fn is_start(story: &Story, size: u32, start: u32) -> bool
-    ensures { result ≡ is_start story.now size start }
+    ensures { result ≡ is_memory_size size story.now start }
 {
     start % 256 == 0 && story.endmem() <= start && start <= size
 }

@@ -14,8 +14,7 @@ xored (x ∷ xs) old = bit_xor x (slice_index old 0) ∷ xored xs (drop 1 old)
 
 -- a run of zeros: 00 FF for each 256 of them, and for the others, if any, 00 and one less than their number
 unfoldable pub run : ℕ → List ℕ
-run n =
-    concat (replicate (n / 256) (0 ∷ 0xFF ∷ [])) ++ (if n % 256 == 0 then [] else 0 ∷ (n % 256 - 1) ∷ [])
+run n = concat (replicate (n / 256) (0 ∷ 0xFF ∷ [])) ++ (if n % 256 == 0 then [] else 0 ∷ (n % 256 - 1) ∷ [])
 
 -- a list behind so many zeros: a run is written with the byte that ends it
 unfoldable pub packed_behind : ℕ → List ℕ → List ℕ

@@ -15,6 +15,5 @@ expand (suc x ∷ bytes) = expand bytes >>= λ xs. Ok (suc x ∷ xs)
 
 -- so many bytes that packed bytes stand for over the old ones: zeros that are missing at the end count
 unfoldable pub unpacked : List ℕ → List ℕ → ℕ → Result (List ℕ) RunFault
-unpacked bytes old size = do
-  xs ← expand bytes
-  if nat_lt size (length xs) then Err TooMany else Ok (xored (xs ++ replicate (size - length xs) 0) old)
+unpacked bytes old size = expand bytes >>= λ xs.
+    if nat_lt size (length xs) then Err TooMany else Ok (xored (xs ++ replicate (size - length xs) 0) old)

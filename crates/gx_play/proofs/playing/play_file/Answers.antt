@@ -1,7 +1,7 @@
 use Rattle.std.proofs.Common.{◌≡◌, [], ◌∷◌, ◌++◌, Result, Ok, Err, refl, ap, subst, sym, ◌∙◌}
 use Rattle.gx_words.specs.Constants.{ceiling}
 use Rattle.gx_outside.specs.Outside.{FlatShelf}
-use Rattle.gx_outside.specs.Shelves.{loads, Trace}
+use Rattle.gx_outside.specs.Shelves.{load_file, Trace}
 use Rattle.gx_story.specs.Stories.{FlatStory}
 use Rattle.gx_session.specs.Devices.{Devices, devices}
 use Rattle.gx_session.proofs.Calling.{called-none, called-as, called-on, both-as}
@@ -46,7 +46,7 @@ returns-in-Ok g c =
     let command : Command = command_seen c.args.command in
     let job : Job = c.args.command.job in
     let plays = c.requires.plays in
-    let asked : one ++ two ≡ (loads command.story ceiling, l.answer) ∷ two = ap (λ (t : Trace). t ++ two) l.asked_are in
+    let asked : one ++ two ≡ (load_file command.story ceiling, l.answer) ∷ two = ap (λ (t : Trace). t ++ two) l.asked_are in
     let comes = comes-out c.play_story.result entry exit ceiling command.story l.answer shelf two refl refl asked l.does job plays command l.file c.in-Ok.story l.gives played in
     record {
       file = l.file;

@@ -1,6 +1,6 @@
 use Rattle.std.proofs.Common.{Ok, Err}
 use Rattle.std.proofs.lemmas.Result.{err_from_is_err_and}
-use Rattle.gx_outside.specs.Shelves.{stores, stored}
+use Rattle.gx_outside.specs.Shelves.{store_file, was_stored}
 use Rattle.gx_session.proofs.Parts.{named_bytes}
 use Rattle.gx_session.proofs.Calling.{called-none, called-one}
 use Rattle.gx_session.proofs.Storing.{store-refused, stores-none, stores-one}
@@ -14,10 +14,10 @@ pub returns-in_err-store-in-Some-clause-stores : goal.returns-in_err-store-in-So
 returns-in_err-store-in-Some-clause-stores g c =
     let p = err_from_is_err_and c.from_residual.result c.from_residual.ensures.1 in
     rw (p.1, p.2)
-    (called-one g.F.Shelf.called c.args.shelf.now c.store.new.self (stores c.in-Some.name.now c.in-Some.bytes.now, Err c.in_err-store-in-Some.field-0.0) _ c.in_err-store-in-Some.ensures
+    (called-one g.F.Shelf.called c.args.shelf.now c.store.new.self (store_file c.in-Some.name.now c.in-Some.bytes.now, Err c.in_err-store-in-Some.field-0.0) _ c.in_err-store-in-Some.ensures
     (store-refused (named_bytes c.args.world.now.scene c.args.id) (c.in-Some.name.now, c.in-Some.bytes.now) c.in_err-store-in-Some.field-0.0 c.in-Some.ensures))
 
 pub returns-in_ok-store-in-Some-clause-stores : goal.returns-in_ok-store-in-Some-clause-stores
 returns-in_ok-store-in-Some-clause-stores g c =
-    called-one g.F.Shelf.called c.args.shelf.now c.store.new.self (stores c.in-Some.name.now c.in-Some.bytes.now, Ok stored) _ c.in_ok-store-in-Some.ensures
+    called-one g.F.Shelf.called c.args.shelf.now c.store.new.self (store_file c.in-Some.name.now c.in-Some.bytes.now, Ok was_stored) _ c.in_ok-store-in-Some.ensures
     (stores-one (named_bytes c.args.world.now.scene c.args.id) (c.in-Some.name.now, c.in-Some.bytes.now) c.in-Some.ensures)
