@@ -1,20 +1,22 @@
 -- A call goes by the looks of its row, and the objects that a row names are there once its arguments were looked at.
 use Rattle.std.proofs.Common.{◌≡◌, ◌⊎◌, ◌≤◌, ◌==◌, ◌||◌, ◌&&◌, nat_le, ℕ, Bool, true, false, List}
-use Rattle.std.proofs.Common.{if◌then◌else◌, Option, Some, None, refl, subst, inl, inr, arith, Ok, Err}
+use Rattle.std.proofs.Common.{if◌then◌else◌, IsTrue, Option, Some, None, refl, subst, inl, inr, arith, Result, Ok, Err}
 use Rattle.std.specs.Option.{option_map}
 use Rattle.std.proofs.lemmas.Grind.{common_steps}
 use Rattle.std.proofs.lemmas.Bool.Decides.{nat_tests}
+use Rattle.gx_words.specs.declared.faults.Fault.{Fault}
 use Rattle.gx_words.specs.declared.faults.Fault.TheVariants.{BadGlk}
 use Rattle.gx_words.specs.Results.{◌>>=◌}
 use Rattle.gx_state.specs.Flat.{FlatState}
 use Rattle.glk_replies.specs.declared.Turn.{Turn}
-use Rattle.glk_world.specs.World.{Scene, Outcome, arg}
+use Rattle.glk_world.specs.World.{Scene, FlatWorld, MakesCall, Outcome, arg}
 use Rattle.glk_dispatch.specs.declared.table.Class.{Class}
 use Rattle.glk_dispatch.specs.declared.table.Selector.{Selector}
 use Rattle.glk_dispatch.specs.Rows.{Row}
 use Rattle.glk_dispatch.specs.Table.{row_for, is_dropped, selector_fits}
 use Rattle.glk_object_calls.specs.Answers.{tells, as_turn}
 use Rattle.glk_dispatch.specs.Calls.{has_object, named, looked_at, is_on_none, nothing, done, gives_nothing, glk_call, grows}
+use Rattle.glk_dispatch.specs.Calls.{IsGrowing}
 use Rattle.glk_dispatch.specs.Ready.{IsNamed, IsFirst, IsReady, IsReadyBy, done_by, wants_by, call_looked, wants_looked}
 
 -- ---- by the looks
@@ -119,3 +121,11 @@ both false b h = absurd (cc)
 
 pub words_few : (row : Selector) → selector_fits row ≡ true → row.words ≤ 4
 words_few row fits = let b = both (nat_le row.references 3) (nat_le row.words 4) fits in grind (arith, nat_tests, b.1)
+
+-- so a call by its row is that of its selector
+pub called : (looks : Option Selector) (result : Result Turn Fault) (old new : FlatWorld) (f : FlatState)
+    (room selector : ℕ) (args : List ℕ) → looks ≡ option_map (λ row. row.looks) (row_for selector)
+    → MakesCall (IsTrue (wants_looked looks (wants_by (row_for selector) old.scene f args) args)) result old new
+    (call_looked looks (done_by (row_for selector) old.scene f room args) old.scene f room selector args)
+    → MakesCall (IsGrowing old.scene f selector args) result old new (glk_call old.scene f room selector args)
+called looks result old new f room selector args same is = rw (glk_call_is, glk_grows_is) (rw same at is)

@@ -1,5 +1,8 @@
 -- The rows that take a turn, and an answer as a turn.
-use Rattle.std.proofs.Common.{◌≡◌, ◌≢◌, ◌&&◌, not, ℕ, Bool, true, false, if◌then◌else◌, IsTrue, Some, is_some, Result, Ok, Err, refl, subst}
+use Rattle.std.proofs.Common.{◌≡◌, ◌≢◌, ◌&&◌, not, ℕ, Bool, true, false, if◌then◌else◌, IsTrue, List, Option, Some, None, is_some, Result, Ok}
+use Rattle.std.proofs.Common.{Err, refl, subst, ◌==◌, ◌||◌, arith}
+use Rattle.std.proofs.lemmas.Bool.Decides.{nat_tests}
+use Rattle.std.proofs.lemmas.Grind.{common_steps}
 use Rattle.std.proofs.lemmas.List.{append-nil}
 use Rattle.std.specs.Prelude.{IfOk}
 use Rattle.gx_words.specs.declared.faults.Fault.TheVariants.{BadGlk, NoMemory}
@@ -7,7 +10,7 @@ use Rattle.gx_words.specs.Faults.{Reads}
 use Rattle.gx_words.specs.Results.{◌>>=◌}
 use Rattle.gx_state.specs.Flat.{FlatState}
 use Rattle.gx_state.specs.Replies.{IsReply}
-use Rattle.glk_replies.specs.Parts.{replies}
+use Rattle.glk_replies.specs.Parts.{replies, MayWant}
 use Rattle.glk_replies.specs.Turns.{IsTurnFor}
 use Rattle.glk_replies.specs.declared.Turn.{Turn}
 use Rattle.gx_words.specs.declared.faults.Fault.{Fault}
@@ -20,9 +23,10 @@ use Rattle.glk_object_calls.specs.Streams.{stream_close, stored_file}
 use Rattle.glk_object_calls.specs.References.{fileref_create_by_prompt, fileref_delete_file, fileref_does_file_exist}
 use Rattle.glk_event_calls.specs.Events.{select}
 use Rattle.glk_dispatch.specs.declared.table.Class.TheVariants.{Stream, Reference}
-use Rattle.glk_object_calls.specs.Answers.{tells, as_turn}
+use Rattle.glk_object_calls.specs.Answers.{tells, replying, as_turn}
 use Rattle.glk_dispatch.specs.Calls.{answer_turn}
-use Rattle.glk_dispatch.specs.Rows.{row_with, on, giving, taking_turn, wants, is_given, opens_file, turns}
+use Rattle.glk_dispatch.specs.Ready.{wants_by, answer_by}
+use Rattle.glk_dispatch.specs.Rows.{Row, row_with, on, giving, taking_turn, wants, is_given, opens_file, turns}
 use Rattle.glk_dispatch.specs.ObjectCalls.{exits, window_calls, stream_calls}
 use Rattle.glk_dispatch.specs.TextCalls.{text_calls, event_calls, unicode_calls}
 use Rattle.glk_dispatch.specs.Table.{row_for}
@@ -113,3 +117,27 @@ pub may_want : {X : Type 0} (result : Result X Fault) (old new : FlatWorld) (out
     → MakesCall (Unit {0}) result old new outcome → MakesCall (IsTrue true) result old new outcome
 may_want (Ok x) old new outcome is = is
 may_want (Err e) old new outcome is = (is.0, (is.1.0, (λ free. (refl, (is.1.1 free).1))))
+
+-- a selector without a row is no call
+pub no_call : (row : Option Row) (w : FlatWorld) (f : FlatState) (room : ℕ) (args : List ℕ) → row ≡ None
+    → MakesCall {X = Reply} (IsTrue (wants_by row w.scene f args)) (Err BadGlk) w w (answer_by row w.scene f room args)
+no_call row w f room args none = rw none ((λ _. refl), ((λ _. refl), (λ same. absurd (cc))))
+
+-- ---- a call that gives to references
+
+pub gives_some : (wants also : Type 0) (result : Result Reply Fault) (w : FlatWorld) (given : Result Reply Fault)
+    → (wants → also) → MayWant wants (λ reply. reply) result given
+    → MakesCall also result w w (replying w.scene given)
+gives_some wants also (Ok reply) w given more is = rw is (rw (append-nil w.text) refl)
+gives_some wants also (Err e) w (Ok reply) more is =
+    ((λ _. refl), ((λ other. absurd (let h = is.0 other in cc)), (λ none. (more (is.1 none).0, refl))))
+gives_some wants also (Err e) w (Err other) more is =
+    ((λ _. refl), ((λ it. let h = is.0 it in cc), (λ none. (more (is.1 none).0, (is.1 none).1))))
+
+pub one_given : (a : ℕ) → a ≢ 0 → IsTrue (not (a == 0) || false || false)
+one_given a some = grind (arith, nat_tests, common_steps)
+
+pub two_given : (a b : Bool) → IsTrue (a || (b || false)) → IsTrue (a || b || false)
+two_given true b some = refl
+two_given false true some = refl
+two_given false false some = some

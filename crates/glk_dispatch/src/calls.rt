@@ -160,22 +160,6 @@ fn call_found<A: Allocator + Clone>(
     }
 }
 
-/// The call of a selector, by its row.
-fn call_selector<A: Allocator + Clone>(
-    world: &mut World,
-    state: &State<A>,
-    room: u32,
-    selector: u32,
-    args: &[u32],
-) -> Result<Turn, Fault>
-    ensures value { MakesCall (IsGrowing world.old.scene state.now.flat selector args.now) result world.old world.new
-        (glk_call world.old.scene state.now.flat room selector args.now) }
-    ensures fits { IfOk result (IsTurnFor state.now.flat room) }
-{
-    let found = row_of(selector);
-    call_found(found, world, state, room, selector, args)
-}
-
 /// Makes the Glk call of a selector, whose reply may push so many values beside its own store.
 pub fn call<A: Allocator + Clone>(
     world: &mut World,
@@ -199,5 +183,6 @@ pub fn call<A: Allocator + Clone>(
     ensures memory { is_left_out world.old.scene selector args.now ≡ false → result ≡ Err NoMemory
         → TakesMemory world.old.scene (glk_call world.old.scene state.now.flat room selector args.now) }
 {
-    call_selector(world, state, room, selector, args)
+    let found = row_of(selector);
+    call_found(found, world, state, room, selector, args)
 }

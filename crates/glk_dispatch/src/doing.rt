@@ -1,10 +1,12 @@
 //! What the rows of the table do (specs/Table): a line a call, in the order of the table.
 //!
 //! `do_call` has those that take a turn; those that answer at once stand in the lists of the table, a function each.
-ghost use Rattle.std.specs.Prelude.{◌≡◌, false, IfOk, IsTrue};
+ghost use Rattle.std.specs.Prelude.{◌≡◌, ℕ, false, Ok, IfOk, IsTrue};
+ghost use Rattle.gx_state.specs.Flat.{FlatState};
 ghost use Rattle.gx_state.specs.Replies.{IsReply};
 ghost use Rattle.glk_world.specs.World.{MakesCall};
 ghost use Rattle.glk_replies.specs.Turns.{IsTurnFor};
+ghost use Rattle.glk_object_calls.specs.Answers.{tells};
 ghost use Rattle.glk_dispatch.specs.Table.{row_for};
 ghost use Rattle.glk_dispatch.specs.Calls.{answer_turn};
 ghost use Rattle.glk_dispatch.specs.Ready.{IsReadyBy, takes_turn, answer_by, done_by, wants_by, arranging_row};
@@ -42,8 +44,15 @@ use gx_state::{Reply, State};
 use gx_words::Fault;
 use std::alloc::Allocator;
 
+/// A call that only answers 0.
+fn idle(world: &World) -> Reply
+    ensures value { MakesCall ⊥ (Ok result) world.now world.now (tells world.now.scene 0) }
+    ensures fits { (f : FlatState) (room : ℕ) → IsReply f room result }
+{
+    reply(world.alloc(), 0)
+}
+
 /// The calls of the program, of what the library can do, and of windows as they are made and arranged.
-#[tactic(auto, unfolding(crate::specs::ObjectCalls::window_calls))]
 fn arranging_call<A: Allocator + Clone>(
     selector: u32,
     world: &mut World,
@@ -57,7 +66,7 @@ fn arranging_call<A: Allocator + Clone>(
     ensures fits { IfOk result (IsReply state.now.flat room) }
 {
     match selector {
-        TICK => Ok(reply(world.alloc(), 0)),
+        TICK => Ok(idle(world)),
         GESTALT => Ok(gestalt(world, args)),
         GESTALT_EXT => gestalt_ext(world, state, args),
         WINDOW_ITERATE => window_iterate(world, state, room, args),
@@ -73,7 +82,6 @@ fn arranging_call<A: Allocator + Clone>(
 }
 
 /// The calls of what a window has.
-#[tactic(auto, unfolding(crate::specs::ObjectCalls::window_calls))]
 fn window_call<A: Allocator + Clone>(
     selector: u32,
     world: &mut World,
@@ -101,7 +109,6 @@ fn window_call<A: Allocator + Clone>(
 }
 
 /// The calls of streams.
-#[tactic(auto, unfolding(crate::specs::ObjectCalls::stream_calls))]
 fn stream_call<A: Allocator + Clone>(
     selector: u32,
     world: &mut World,
@@ -127,7 +134,6 @@ fn stream_call<A: Allocator + Clone>(
 }
 
 /// The calls of file references.
-#[tactic(auto, unfolding(crate::specs::ObjectCalls::stream_calls))]
 fn reference_call<A: Allocator + Clone>(
     selector: u32,
     world: &mut World,
@@ -152,7 +158,6 @@ fn reference_call<A: Allocator + Clone>(
 }
 
 /// The calls of output.
-#[tactic(auto, unfolding(crate::specs::TextCalls::text_calls))]
 fn output_call<A: Allocator + Clone>(
     selector: u32,
     world: &mut World,
@@ -166,21 +171,21 @@ fn output_call<A: Allocator + Clone>(
     ensures fits { IfOk result (IsReply state.now.flat room) }
 {
     let current = world.current();
+    let first = arg(args, 0);
+    let second = arg(args, 1);
     match selector {
-        PUT_CHAR => put_char(world, state, current, 1, arg(args, 0)),
-        PUT_CHAR_STREAM => put_char(world, state, arg(args, 0), 1, arg(args, 1)),
-        PUT_STRING => put_string(world, state, current, 1, arg(args, 0)),
-        PUT_STRING_STREAM => put_string(world, state, arg(args, 0), 1, arg(args, 1)),
-        PUT_BUFFER => put_buffer(world, state, current, 1, arg(args, 0), arg(args, 1)),
-        PUT_BUFFER_STREAM => put_buffer(world, state, arg(args, 0), 1, arg(args, 1), arg(args, 2)),
-        SET_STYLE => Ok(reply(world.alloc(), 0)),
-        SET_STYLE_STREAM => Ok(reply(world.alloc(), 0)),
+        PUT_CHAR => put_char(world, state, current, 1, first),
+        PUT_CHAR_STREAM => put_char(world, state, first, 1, second),
+        PUT_STRING => put_string(world, state, current, 1, first),
+        PUT_STRING_STREAM => put_string(world, state, first, 1, second),
+        PUT_BUFFER => put_buffer(world, state, current, 1, first, second),
+        PUT_BUFFER_STREAM => put_buffer(world, state, first, 1, second, arg(args, 2)),
+        SET_STYLE | SET_STYLE_STREAM => Ok(idle(world)),
         _ => Err(Fault::BadGlk),
     }
 }
 
 /// The calls of input, the case of characters, styles.
-#[tactic(auto, unfolding(crate::specs::TextCalls::text_calls))]
 fn input_call<A: Allocator + Clone>(
     selector: u32,
     world: &mut World,
@@ -199,16 +204,12 @@ fn input_call<A: Allocator + Clone>(
         GET_BUFFER_STREAM => get_buffer(world, state, 1, args),
         CHAR_TO_LOWER => char_to_case(world, Case::Lower, args),
         CHAR_TO_UPPER => char_to_case(world, Case::Upper, args),
-        STYLEHINT_SET => Ok(reply(world.alloc(), 0)),
-        STYLEHINT_CLEAR => Ok(reply(world.alloc(), 0)),
-        STYLE_DISTINGUISH => Ok(reply(world.alloc(), 0)),
-        STYLE_MEASURE => Ok(reply(world.alloc(), 0)),
+        STYLEHINT_SET | STYLEHINT_CLEAR | STYLE_DISTINGUISH | STYLE_MEASURE => Ok(idle(world)),
         _ => Err(Fault::BadGlk),
     }
 }
 
 /// The calls of events.
-#[tactic(auto, unfolding(crate::specs::TextCalls::event_calls))]
 fn event_call<A: Allocator + Clone>(
     selector: u32,
     world: &mut World,
@@ -232,7 +233,6 @@ fn event_call<A: Allocator + Clone>(
 }
 
 /// The calls of Unicode of the case of characters, and of output.
-#[tactic(auto, unfolding(crate::specs::TextCalls::unicode_calls))]
 fn unicode_output_call<A: Allocator + Clone>(
     selector: u32,
     world: &mut World,
@@ -247,29 +247,23 @@ fn unicode_output_call<A: Allocator + Clone>(
     ensures fits { IfOk result (IsReply state.now.flat room) }
 {
     let current = world.current();
+    let first = arg(args, 0);
+    let second = arg(args, 1);
     match selector {
         BUFFER_TO_LOWER_CASE_UNI => buffer_to_case(world, state, Case::Lower, Case::Lower, args),
         BUFFER_TO_UPPER_CASE_UNI => buffer_to_case(world, state, Case::Upper, Case::Upper, args),
         BUFFER_TO_TITLE_CASE_UNI => buffer_to_case(world, state, Case::Upper, rest_of(args), args),
-        PUT_CHAR_UNI => put_char(world, state, current, 4, arg(args, 0)),
-        PUT_STRING_UNI => put_string(world, state, current, 4, arg(args, 0)),
-        PUT_BUFFER_UNI => put_buffer(world, state, current, 4, arg(args, 0), arg(args, 1)),
-        PUT_CHAR_STREAM_UNI => put_char(world, state, arg(args, 0), 4, arg(args, 1)),
-        PUT_STRING_STREAM_UNI => put_string(world, state, arg(args, 0), 4, arg(args, 1)),
-        PUT_BUFFER_STREAM_UNI => put_buffer(
-            world,
-            state,
-            arg(args, 0),
-            4,
-            arg(args, 1),
-            arg(args, 2),
-        ),
+        PUT_CHAR_UNI => put_char(world, state, current, 4, first),
+        PUT_STRING_UNI => put_string(world, state, current, 4, first),
+        PUT_BUFFER_UNI => put_buffer(world, state, current, 4, first, second),
+        PUT_CHAR_STREAM_UNI => put_char(world, state, first, 4, second),
+        PUT_STRING_STREAM_UNI => put_string(world, state, first, 4, second),
+        PUT_BUFFER_STREAM_UNI => put_buffer(world, state, first, 4, second, arg(args, 2)),
         _ => Err(Fault::BadGlk),
     }
 }
 
 /// The calls of Unicode of input, streams and events, and of the echo of line input.
-#[tactic(auto, unfolding(crate::specs::TextCalls::unicode_calls))]
 fn unicode_input_call<A: Allocator + Clone>(
     selector: u32,
     world: &mut World,
@@ -290,7 +284,7 @@ fn unicode_input_call<A: Allocator + Clone>(
         STREAM_OPEN_MEMORY_UNI => stream_open_memory(world, args, true),
         REQUEST_CHAR_EVENT_UNI => request_char_event(world, true, args),
         REQUEST_LINE_EVENT_UNI => request_line_event(world, true, args),
-        SET_ECHO_LINE_EVENT => Ok(reply(world.alloc(), 0)),
+        SET_ECHO_LINE_EVENT => Ok(idle(world)),
         _ => Err(Fault::BadGlk),
     }
 }

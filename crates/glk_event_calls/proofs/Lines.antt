@@ -1,6 +1,6 @@
 -- What a line gives: how many characters, and where they are written.
 use Rattle.std.proofs.Common.{◌≡◌, ◌≢◌, ◌≤◌, ◌+◌, ◌++◌, ◌==◌, ◌&&◌, ◌||◌, not, ℕ, Bool, true, false, if◌then◌else◌, List, [], ◌∷◌}
-use Rattle.std.proofs.Common.{length, take, map, refl, inl, inr, arith, IsTrue, Result, Ok, Err}
+use Rattle.std.proofs.Common.{length, take, map, refl, sym, ◌∙◌, inl, inr, arith, IsTrue, Result, Ok, Err}
 use Rattle.std.proofs.lemmas.Bool.Decides.{nat_tests}
 use Rattle.std.proofs.lemmas.Grind.{common_steps}
 use Rattle.std.proofs.lemmas.List.{length-append, append-nil}
@@ -12,6 +12,7 @@ use Rattle.gx_state.specs.Flat.{FlatState}
 use Rattle.gx_state.specs.Replies.{IsReply}
 use Rattle.glk_events.specs.declared.requests.Request.{Request}
 use Rattle.glk_events.specs.Requests.{line_length}
+use Rattle.glk_streams.specs.declared.kinds.Places.{Places}
 use Rattle.glk_streams.specs.declared.kinds.Stream.{Stream}
 use Rattle.glk_streams.specs.declared.kinds.StreamKind.{StreamKind}
 use Rattle.glk_streams.specs.declared.kinds.StreamKind.TheVariants as kinds
@@ -19,6 +20,7 @@ use Rattle.glk_streams.specs.Stream as one
 use Rattle.glk_streams.specs.Streams as streams
 use Rattle.glk_world.specs.World.{Scene, FlatWorld, MakesCall}
 use Rattle.glk_world.specs.Putting.{places_of, chain_end}
+use Rattle.glk_replies.specs.Constants.{on_stack}
 use Rattle.glk_replies.specs.Parts.{IsCharWidth, pushes_for, char_writes, writes_for, can_lay, can_give, can_push}
 use Rattle.glk_replies.proofs.Ram.{between_append, laid_in_ram, written_in_ram}
 use Rattle.glk_text.specs.Characters.{latin_of}
@@ -139,3 +141,21 @@ or_last false = refl
 pub echo_grows : (w : Scene) (at : ℕ) (r : Request) (line : List ℕ) → echoes w r ≡ true → met_grows w at r line ≡ true
 unfolding met_grows
 echo_grows w at r line is = rw is (or_last (not (at == 0) || not ((line_places r line).count == 0)))
+
+-- ---- each look was good
+
+pushes_are : (at : ℕ) (r : Request) (line : List ℕ)
+    → (if at == on_stack then 4 else 0) ≡ length (pushes_for at (event_of r line))
+pushes_are at r line = elim (at == on_stack) as (λ b. (if b then 4 else 0) ≡ length (if b then event_of r line else [])) [
+  | true ↦ sym (event_length r line)
+  | false ↦ refl
+]
+
+pub all_looked : (w : Scene) (f : FlatState) (room at : ℕ) (r : Request) (line : List ℕ) (places echo : Places)
+    (pushes : ℕ) → places ≡ line_places r line → can_lay f places ≡ Ok tt → can_give f at 4 ≡ Ok tt
+    → pushes ≡ (if at == on_stack then 4 else 0) → can_push room pushes ≡ Ok tt → echo ≡ echo_places w r line
+    → can_lay f echo ≡ Ok tt → looked_at_line w f room at r line ≡ Ok tt
+unfolding looked_at_line
+all_looked w f room at r line places echo pushes is laid given are pushed ends echoes =
+    let few : length (pushes_for at (event_of r line)) ≡ pushes = sym (are ∙ pushes_are at r line) in
+    rw (← is, laid, given, few, pushed, ← ends) echoes

@@ -141,27 +141,17 @@ pub fn cancel_line_event<A: Allocator + Clone>(
     ensures fits { IfOk result (IsReply state.now.flat room) }
 {
     let win = arg(args, 0);
-    if is_line(world.requests().of(win)) {
-        let reply = give(
-            world.alloc(),
-            state,
-            room,
-            0,
-            arg(args, 1),
-            &event(LINE_EVENT, win, 0),
-        )?;
-        world.drop_request(win);
-        Ok(reply)
+    let cancels = is_line(world.requests().of(win));
+    let event = if cancels {
+        event(LINE_EVENT, win, 0)
     } else {
-        give(
-            world.alloc(),
-            state,
-            room,
-            0,
-            arg(args, 1),
-            &event(NO_EVENT, 0, 0),
-        )
+        event(NO_EVENT, 0, 0)
+    };
+    let reply = give(world.alloc(), state, room, 0, arg(args, 1), &event)?;
+    if cancels {
+        world.drop_request(win);
     }
+    Ok(reply)
 }
 
 /// select_poll: no event.
@@ -268,7 +258,7 @@ fn echo_places(world: &World, request: &Request, line: &[u32], given: Places) ->
 }
 
 /// Looks at all that a line would write for a request; answers the places of the echo stream.
-#[tactic(auto, unfolding(crate::proofs::Opened::looking_at_line))]
+#[tactic(auto, unfolding(crate::specs::Events::looked_at_line))]
 fn looked_at_line<A: Allocator + Clone>(
     world: &World,
     state: &State<A>,
@@ -343,7 +333,7 @@ fn line_reply(
     ensures memory { OnErr result (IsTrue (met_grows world.now.scene at request.now line.now)) }
 {
     let alloc = world.alloc();
-    let mut reply = reply(world.alloc(), 0);
+    let mut reply = reply(alloc, 0);
     lay(alloc, &mut reply.writes, line_places(request, line), line)?;
     add_given(alloc, &mut reply, at, &event_of(request, line))?;
     lay(alloc, &mut reply.writes, places, chars)?;

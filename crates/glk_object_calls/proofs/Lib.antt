@@ -1,4 +1,6 @@
 mod Constants
 pub mod Absent
 pub mod Closing
+pub mod Loading
 pub mod Opened
+pub mod Pairs

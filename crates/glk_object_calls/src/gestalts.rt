@@ -56,14 +56,7 @@ pub fn gestalt(world: &World, args: &[u32]) -> Reply
     reply(world.alloc(), gestalt_of(arg(args, 0), arg(args, 1)))
 }
 
-/// Whether the number of glyphs of a character has a place in the array.
-fn has_glyphs(args: &[u32]) -> bool
-    ensures { result ≡ has_glyphs args.now }
-{
-    arg(args, 0) == CHAR_OUTPUT && arg(args, 2) != 0 && arg(args, 3) != 0
-}
-
-/// That place.
+/// The place in the array of the number of glyphs of a character, if it has one.
 fn glyphs_place(args: &[u32]) -> Places
     ensures value { result ≡ record { at = arg args.now 2; width = 4; count = if has_glyphs args.now then 1 else 0 } }
     ensures at { result.at < 2 ^ 32 }
@@ -73,7 +66,7 @@ fn glyphs_place(args: &[u32]) -> Places
     Places {
         at: u64::from(arg(args, 2)),
         width: 4,
-        count: u32::from(has_glyphs(args)),
+        count: u32::from(arg(args, 0) == CHAR_OUTPUT && arg(args, 2) != 0 && arg(args, 3) != 0),
     }
 }
 
@@ -91,5 +84,5 @@ pub fn gestalt_ext<A: Allocator + Clone>(
     let places = glyphs_place(args);
     can_lay(state, places)?;
     let answer = gestalt_of(arg(args, 0), arg(args, 1));
-    Ok(filled(world.alloc(), answer, places, &[1_u32])?)
+    filled(world.alloc(), answer, places, &[1_u32])
 }

@@ -1,7 +1,7 @@
 //! The calls of file references, and the opening of files (Glk 0.7.5, "File References" and "File Streams";
 //! specs/References).
-ghost use Rattle.std.specs.Prelude.{ℕ, ◌≡◌, ◌≤◌, ◌+◌, ◌==◌, ◌&&◌, ◌||◌, not, Ok, Some, None, if◌then◌else◌, length};
-ghost use Rattle.std.specs.Prelude.{map, codes, decimal, ◌++◌, IfOk, OnErr, OnOk, IsTrue};
+ghost use Rattle.std.specs.Prelude.{ℕ, ◌≡◌, ◌≤◌, ◌+◌, ◌==◌, ◌&&◌, ◌||◌, not, Ok, length};
+ghost use Rattle.std.specs.Prelude.{map, codes, decimal, ◌++◌, IfOk, OnOk, IsTrue};
 ghost use Rattle.gx_outside.specs.Outside.{IsBounded};
 ghost use Rattle.gx_state.specs.Flat.{FlatState};
 ghost use Rattle.gx_state.specs.Replies.{IsReply};
@@ -131,19 +131,6 @@ pub fn prompt_goes_on(world: &mut World, args: &[u32], line: &[u32]) -> Result<R
     }
 }
 
-/// The base name of a file reference, if it is there.
-fn base_of(world: &World, id: u32) -> Result<Option<Name>, AllocError>
-    ensures value { IfOk result
-        (λ base. base ≡ (if has_reference world.now.scene id then Some (reference_at world.now.scene id).base
-        else None)) }
-    ensures memory { OnErr result (IsTrue (has_reference world.now.scene id)) }
-{
-    match world.file_ref(id) {
-        None => Ok(None),
-        Some((base, _, _)) => Ok(Some(Name::from_str(world.alloc(), base)?)),
-    }
-}
-
 /// fileref_create_from_fileref: the same name for another usage.
 #[tactic(auto, unfolding(crate::proofs::Opened::creating_from_fileref))]
 pub fn fileref_create_from_fileref(world: &mut World, args: &[u32]) -> Result<Reply, Fault>
@@ -154,9 +141,12 @@ pub fn fileref_create_from_fileref(world: &mut World, args: &[u32]) -> Result<Re
     if world.next_id() > LAST_IDENTIFIER {
         return Ok(reply(world.alloc(), 0));
     }
-    match base_of(world, arg(args, 1))? {
+    match world.file_ref(arg(args, 1)) {
         None => Ok(reply(world.alloc(), 0)),
-        Some(base) => create(world, base, arg(args, 0), arg(args, 2)),
+        Some((base, _, _)) => {
+            let base = Name::from_str(world.alloc(), base)?;
+            create(world, base, arg(args, 0), arg(args, 2))
+        }
     }
 }
 
@@ -260,29 +250,18 @@ pub fn fileref_does_file_exist(world: &mut World, args: &[u32]) -> Result<Turn, 
     Ok(Turn::Has(name))
 }
 
-/// The usage of a file reference, 0 where there is none.
+/// The form of the characters of a reference's file.
 #[tactic(auto, using(crate::proofs::Absent::no_reference_there))]
-fn usage_of(world: &World, id: u32) -> u32
-    ensures { result ≡ (reference_at world.now.scene id).usage }
+fn form_of(world: &World, selector: u32, id: u32) -> FileForm
+    ensures { result ≡ form_for selector (reference_at world.now.scene id).usage }
 {
-    match world.file_ref(id) {
-        None => 0,
-        Some((_, usage, _)) => usage,
+    if selector != STREAM_OPEN_FILE_UNI {
+        return FileForm::Latin;
     }
-}
-
-/// The form of a file's characters.
-fn form_for(selector: u32, usage: u32) -> FileForm
-    ensures { result ≡ form_for selector usage }
-{
-    if selector == STREAM_OPEN_FILE_UNI {
-        if usage / TEXT_MODE % 2 == 1 {
-            FileForm::Utf8
-        } else {
-            FileForm::Wide
-        }
-    } else {
-        FileForm::Latin
+    match world.file_ref(id) {
+        None => FileForm::Wide,
+        Some((_, usage, _)) if usage / TEXT_MODE % 2 == 1 => FileForm::Utf8,
+        Some(_) => FileForm::Wide,
     }
 }
 
@@ -302,7 +281,7 @@ fn open_with(world: &mut World, selector: u32, args: &[u32], content: Bytes) -> 
     let kind = StreamKind::File {
         name: file_name(world, arg(args, 0))?,
         content,
-        form: form_for(selector, usage_of(world, arg(args, 0))),
+        form: form_of(world, selector, arg(args, 0)),
     };
     let id = world.add_stream(kind, arg(args, 1), arg(args, 2))?;
     Ok(reply(world.alloc(), id))
@@ -319,7 +298,7 @@ pub fn stream_open_file(world: &mut World, selector: u32, args: &[u32]) -> Resul
     match arg(args, 1) {
         WRITE => {
             let empty = Bytes::new(world.alloc());
-            Ok(Turn::Answer(open_with(world, selector, args, empty)?))
+            open_with(world, selector, args, empty).map(Turn::Answer)
         }
         READ | READ_WRITE | WRITE_APPEND => {
             let name = wait_for_file(world, selector, args)?;

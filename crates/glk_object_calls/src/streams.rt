@@ -85,17 +85,6 @@ pub fn stream_open_memory(world: &mut World, args: &[u32], wide: bool) -> Result
     }
 }
 
-/// Closes a stream, unless it is a window's.
-fn drop_stream(world: &mut World, id: u32)
-    requires { IsTrue (streams.has world.old.scene.streams id) }
-    ensures { world.new ≡ after world.old (silent (if one.window_of (stream_of world.old.scene id) == 0
-        then without_stream world.old.scene id else world.old.scene)) }
-{
-    if world.streams().window(id) == 0 {
-        world.remove_stream(id);
-    }
-}
-
 /// What stream_close does once the file is stored: gives the counts, and closes the stream.
 #[tactic(auto, unfolding(crate::specs::Streams::close))]
 pub fn close<A: Allocator + Clone>(
@@ -119,7 +108,9 @@ pub fn close<A: Allocator + Clone>(
         arg(args, 1),
         &[read, written],
     )?;
-    drop_stream(world, id);
+    if world.streams().window(id) == 0 {
+        world.remove_stream(id);
+    }
     Ok(reply)
 }
 
@@ -147,7 +138,7 @@ pub fn stream_close<A: Allocator + Clone>(
 {
     let id = arg(args, 0);
     if !is_stored(world, id) {
-        return Ok(Turn::Answer(close(world, state, room, args)?));
+        return close(world, state, room, args).map(Turn::Answer);
     }
     can_give_pair(state, room, arg(args, 1))?;
     let (name, content) = world.take_file(id);

@@ -15,7 +15,7 @@ ghost use Rattle.glk_object_calls.specs.Windows.{window_iterate, window_get_rock
 ghost use Rattle.glk_object_calls.specs.Windows.{window_get_sibling, window_get_root, window_clear, window_get_stream};
 ghost use Rattle.glk_object_calls.specs.Windows.{set_window};
 
-use glk_replies::{give, give_each, reply};
+use glk_replies::{can_give_pair, give, give_each, reply};
 use glk_windows::{Entry, Pair, Windows};
 use glk_world::{World, arg};
 use gx_state::{Reply, State};
@@ -77,18 +77,10 @@ pub fn window_close<A: Allocator + Clone>(
         (window_close world.old.scene state.now.flat room args.now) }
     ensures fits { IfOk result (IsReply state.now.flat room) }
 {
-    let stream = first_window(world, args).stream;
-    let (read, written) = world.streams().counts(stream);
-    let reply = give(
-        world.alloc(),
-        state,
-        room,
-        0,
-        arg(args, 1),
-        &[read, written],
-    )?;
-    world.remove_window(arg(args, 0))?;
-    Ok(reply)
+    let at = arg(args, 1);
+    can_give_pair(state, room, at)?;
+    let (read, written) = world.remove_window(arg(args, 0))?;
+    give(world.alloc(), state, room, 0, at, &[read, written])
 }
 
 /// window_get_size: the columns and rows of a window with text.
@@ -242,21 +234,6 @@ pub fn window_get_parent(world: &World, args: &[u32]) -> Reply
     reply(world.alloc(), parent(world.windows(), arg(args, 0)))
 }
 
-/// The other child of the pair above a window, 0 for none.
-fn sibling(windows: &Windows, win: u32) -> u32
-    requires { IsTrue (is_window windows.now win) }
-    ensures { result ≡ (if (pair_at windows.now (parent windows.now win)).first == win
-        then (pair_at windows.now (parent windows.now win)).second
-        else (pair_at windows.now (parent windows.now win)).first) }
-{
-    let above = pair_at(windows, parent(windows, win));
-    if above.first == win {
-        above.second
-    } else {
-        above.first
-    }
-}
-
 /// window_get_sibling: the other child of the pair above the window, 0 for none.
 #[tactic(auto, unfolding(crate::specs::Windows::window_get_sibling))]
 pub fn window_get_sibling(world: &World, args: &[u32]) -> Reply
@@ -264,7 +241,13 @@ pub fn window_get_sibling(world: &World, args: &[u32]) -> Reply
     ensures value { MakesCall ⊥ (Ok result) world.now world.now (window_get_sibling world.now.scene args.now) }
     ensures fits { (f : FlatState) (room : ℕ) → IsReply f room result }
 {
-    reply(world.alloc(), sibling(world.windows(), arg(args, 0)))
+    let win = arg(args, 0);
+    let above = pair_at(world.windows(), parent(world.windows(), win));
+    if above.first == win {
+        reply(world.alloc(), above.second)
+    } else {
+        reply(world.alloc(), above.first)
+    }
 }
 
 /// window_get_root: 0 where there is no window.

@@ -32,7 +32,7 @@ pub fn can_give_pair<A: Allocator + Clone>(
 }
 
 /// The reply of a call that gives words to one reference.
-#[tactic(auto, using(crate::proofs::Ram::given_rules), unfolding(crate::proofs::Opened::giving))]
+#[tactic(auto, unfolding(crate::proofs::Opened::giving))]
 pub fn give<A: Allocator + Clone>(
     alloc: Global,
     state: &State<A>,
@@ -45,8 +45,9 @@ pub fn give<A: Allocator + Clone>(
     ensures value { MayWant (at ≢ 0) (λ reply. reply) result (give state.now.flat room value at words.now) }
     ensures fits { IfOk result (IsReply state.now.flat room) }
 {
-    can_give(state, at, words.len())?;
-    fitting(room, pushes(at, words.len()))?;
+    let count = words.len();
+    can_give(state, at, count)?;
+    fitting(room, pushes(at, count))?;
     let mut reply = reply(alloc, value);
     add_given(alloc, &mut reply, at, words)?;
     Ok(reply)
@@ -104,7 +105,7 @@ fn add_each(alloc: Global, reply: &mut Reply, ats: &[u32], words: &[u32]) -> Res
 }
 
 /// The reply of a call that gives a word to each of some references.
-#[tactic(auto, using(crate::proofs::Ram::given_rules), unfolding(crate::proofs::Opened::giving_each))]
+#[tactic(auto, unfolding(crate::proofs::Opened::giving_each))]
 pub fn give_each<A: Allocator + Clone>(
     alloc: Global,
     state: &State<A>,

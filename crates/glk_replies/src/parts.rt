@@ -3,13 +3,13 @@
 //! The looks (`can_read`, `can_lay`, `can_give`, `fitting`) take no memory, and a call makes all of them before it
 //! takes any.
 ghost use Rattle.std.specs.Prelude.{◌≡◌, ◌≢◌, ◌+◌, ◌*◌, ◌==◌, ◌≤◌, ◌<◌, ◌^◌, [], ◌∷◌, ◌++◌, if◌then◌else◌, length};
-ghost use Rattle.std.specs.Prelude.{OnOk, OnErr, IfOk};
+ghost use Rattle.std.specs.Prelude.{OnOk, OnErr, IfOk, Ok};
 ghost use Rattle.gx_words.specs.Constants.{ceiling};
 ghost use Rattle.gx_words.specs.Faults.{Reads};
 ghost use Rattle.gx_words.specs.Numbers.{bytes_of_word};
 ghost use Rattle.gx_state.specs.Flat.{write_fault};
 ghost use Rattle.glk_text.specs.Characters.{latin_of};
-ghost use Rattle.glk_replies.specs.Parts.{replies, IsCharWidth, can_read, numbers_in, chars_bytes, can_lay};
+ghost use Rattle.glk_replies.specs.Parts.{replies, IsCharWidth, can_read, numbers_in, chars_bytes, can_lay, MayWant};
 ghost use Rattle.glk_replies.specs.Parts.{char_writes, reply_filling, can_give, pushes_for, writes_for, can_push};
 
 use glk_streams::Places;
@@ -80,8 +80,7 @@ pub fn can_lay<A: Allocator + Clone>(state: &State<A>, places: Places) -> Result
         state,
         places.at,
         u64::from(places.width) * u64::from(places.count),
-    )?;
-    Ok(())
+    )
 }
 
 /// Whether so many words may be given to a reference.
@@ -234,11 +233,10 @@ pub fn lay<C: Character>(
 }
 
 /// The reply that writes characters to places that may be written.
-pub fn filled(alloc: Global, value: u32, places: Places, chars: &[u32]) -> Result<Reply, AllocError>
+pub fn filled(alloc: Global, value: u32, places: Places, chars: &[u32]) -> Result<Reply, Fault>
     requires at { 0 < places.count → places.at < 2 ^ 32 }
     requires count { places.count ≤ length chars.now }
-    ensures value { IfOk result (λ reply. reply ≡ reply_filling value places chars.now) }
-    ensures memory { OnErr result (0 < places.count) }
+    ensures { MayWant (0 < places.count) (λ reply. reply) result (Ok (reply_filling value places chars.now)) }
 {
     let mut reply = reply(alloc, value);
     lay(alloc, &mut reply.writes, places, chars)?;

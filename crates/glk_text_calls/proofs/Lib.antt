@@ -5,4 +5,3 @@ pub mod Reading
 pub mod Gets
 pub mod Saving
 pub mod Rests
-pub mod Opened

@@ -1,14 +1,14 @@
 -- Characters that are put, and their places.
 use Rattle.std.proofs.Common.{◌≡◌, ◌≢◌, ◌<◌, ◌≤◌, ◌==◌, ◌&&◌, ◌||◌, ◌⊎◌, not, ℕ, Bool, true, false, if◌then◌else◌}
 use Rattle.std.proofs.Common.{List, [], ◌∷◌, length, refl, sym, ap, subst, ◌∙◌, inl, inr, arith, Result, Ok, Err}
-use Rattle.std.proofs.Common.{IsOk, IsTrue}
+use Rattle.std.proofs.Common.{IsOk, IfOk, IsTrue}
 use Rattle.std.proofs.lemmas.Bool.Decides.{nat_tests}
 use Rattle.std.proofs.lemmas.List.{append-nil}
 use Rattle.gx_words.specs.declared.faults.Fault.{Fault}
 use Rattle.gx_words.specs.declared.faults.Fault.TheVariants.{NoMemory}
 use Rattle.gx_state.specs.Flat.{FlatState}
 use Rattle.gx_state.specs.declared.effects.Reply.{Reply}
-use Rattle.gx_state.specs.Replies.{AreInRam, IsReply}
+use Rattle.gx_state.specs.Replies.{IsReply}
 use Rattle.glk_streams.specs.declared.kinds.Places.{Places}
 use Rattle.glk_streams.specs.declared.kinds.Stream.{Stream}
 use Rattle.glk_streams.specs.declared.kinds.StreamKind.{StreamKind}
@@ -19,7 +19,7 @@ use Rattle.glk_windows.specs.Constants.{text_buffer}
 use Rattle.glk_world.specs.World.{Scene, FlatWorld, after, on_world, MakesCall}
 use Rattle.glk_world.specs.Putting.{window_of_stream, entry_of, is_plain_text, put_of, put_chars, put_grows}
 use Rattle.glk_world.specs.Putting.{places_of, chain_end}
-use Rattle.glk_replies.specs.Parts.{IsCharWidth, replies, can_lay, char_writes, numbers_in, reply_filling}
+use Rattle.glk_replies.specs.Parts.{IsCharWidth, replies, can_lay, numbers_in, reply_filling, MayWant}
 use Rattle.glk_text_calls.specs.Putting.{put_all, put_grows_one}
 use Rattle.glk_replies.proofs.Counting.{count_numbers, some_numbers}
 use Rattle.glk_replies.proofs.Ram.{laid_in_ram}
@@ -57,11 +57,6 @@ places_width w stream count =
       | false ↦ inl refl
     ]
 
-pub put_in_ram : (f : FlatState) (w : Scene) (stream count : ℕ) (cs : List ℕ)
-    → (places_of w stream count).count ≤ length cs → can_lay f (places_of w stream count) ≡ Ok tt
-    → AreInRam f (char_writes (places_of w stream count) cs)
-put_in_ram f w stream count cs few ok = laid_in_ram f (places_of w stream count) cs (places_width w stream count) few ok
-
 -- the reply that fills places which were looked at
 pub fits_filling : (f : FlatState) (value : ℕ) (p : Places) (cs : List ℕ) (reply : Reply) → IsCharWidth p.width
     → p.count ≤ length cs → can_lay f p ≡ Ok tt → reply ≡ reply_filling value p cs → (room : ℕ)
@@ -72,12 +67,19 @@ fits_filling f value p cs reply width few lays filled room =
       pushes = omega arith;
     })
 
-pub put_fits : (f : FlatState) (w : Scene) (stream count value : ℕ) (cs : List ℕ) (p : Places) (reply : Reply)
-    → p ≡ places_of w stream count → p.count ≤ length cs → can_lay f p ≡ Ok tt → reply ≡ reply_filling value p cs
-    → (room : ℕ) → IsReply f room reply
-put_fits f w stream count value cs p reply is few lays filled room =
-    fits_filling f value p cs reply (subst (λ (q : Places). IsCharWidth q.width) (sym is) (places_width w stream count))
-    few lays filled room
+pub wanted_fits : (f : FlatState) (value : ℕ) (p : Places) (cs : List ℕ) (wants : Type 0) (r : Result Reply Fault)
+    → IsCharWidth p.width → p.count ≤ length cs → can_lay f p ≡ Ok tt
+    → MayWant wants (λ (reply : Reply). reply) r (Ok (reply_filling value p cs)) → (room : ℕ) → IfOk r (IsReply f room)
+wanted_fits f value p cs wants (Ok reply) width few lays filled room =
+    fits_filling f value p cs reply width few lays (cc) room
+wanted_fits f value p cs wants (Err e) width few lays filled room = tt
+
+pub put_ends_fit : (f : FlatState) (w : Scene) (stream count value : ℕ) (cs : List ℕ) (p : Places)
+    (r : Result Reply Fault) → p ≡ places_of w stream count → p.count ≤ length cs → can_lay f p ≡ Ok tt
+    → MayWant (0 < p.count) (λ (reply : Reply). reply) r (Ok (reply_filling value p cs)) → (room : ℕ)
+    → IfOk r (IsReply f room)
+put_ends_fit f w stream count value cs p r is few lays filled room = wanted_fits f value p cs (0 < p.count) r
+    (subst (λ (q : Places). IsCharWidth q.width) (sym is) (places_width w stream count)) few lays filled room
 
 -- some of them are put
 pub some_put : (w : Scene) (stream count : ℕ) → streams.has w.streams stream ≡ true → 0 < count
@@ -136,6 +138,23 @@ put_filled w now f stream count cs p reply is len there lays made filled =
     let at_reply : reply ≡ reply_filling 0 (places_of w.scene stream count) cs = rw (← is) filled in
     rw (made, at_reply) (put_there w f stream count cs len there at_places)
 
+-- all that is put, or want of memory for its places
+pub put_ends : {wants : Type 0} (w now : FlatWorld) (f : FlatState) (stream count : ℕ) (cs : List ℕ) (p : Places)
+    (r : Result Reply Fault) → (0 < p.count → wants) → p ≡ places_of w.scene stream count → length cs ≡ count
+    → streams.has w.scene.streams stream ≡ true → can_lay f p ≡ Ok tt → now ≡ after w (put_chars w.scene stream cs)
+    → MayWant (0 < p.count) (λ (reply : Reply). reply) r (Ok (reply_filling 0 p cs))
+    → MakesCall wants r w now (put_all w.scene f stream cs)
+put_ends w now f stream count cs p (Ok reply) some is len there lays made filled =
+    put_filled w now f stream count cs p reply is len there lays made (cc)
+put_ends w now f stream count cs p (Err e) some is len there lays made filled =
+    let at_places : can_lay f (places_of w.scene stream count) ≡ Ok tt = rw (← is) lays in (
+      λ other. absurd (let no = filled.0 other in cc),
+      (
+        λ other. absurd (let no = filled.0 other in cc),
+        λ none. (some (filled.1 none).0, put_fine w f stream count cs len there at_places),
+      ),
+    )
+
 -- numbers that were read
 module _ (f : FlatState) (width at count : ℕ) (memory cs : List ℕ) (same : memory ≡ f.memory)
     (read : cs ≡ numbers_in width memory at count) where
@@ -153,14 +172,17 @@ module _ (f : FlatState) (width at count : ℕ) (memory cs : List ℕ) (same : m
   some_read w stream there some = some_put w stream count there
       (omega (arith, some_numbers width at count memory (λ none. some (read ∙ none))))
 
-  pub numbers_filled : (w now : FlatWorld) (stream : ℕ) (p : Places) (reply : Reply)
-      → p ≡ places_of w.scene stream count
-      → streams.has w.scene.streams stream ≡ true → can_lay f p ≡ Ok tt → now ≡ after w (put_chars w.scene stream cs)
-      → reply ≡ reply_filling 0 p cs
-      → on_world w (put_all w.scene f stream (numbers_in width f.memory at count)) ≡ Ok (now, reply)
-  numbers_filled w now stream p reply is there lays made filled =
-      subst (λ (xs : List ℕ). on_world w (put_all w.scene f stream xs) ≡ Ok (now, reply)) read_there
-      (put_filled w now f stream count cs p reply is count_read_there there lays made filled)
+  pub numbers_end : (w now : FlatWorld) (stream : ℕ) (p : Places) (r : Result Reply Fault) → p.count ≤ count
+      → p ≡ places_of w.scene stream count → streams.has w.scene.streams stream ≡ true → can_lay f p ≡ Ok tt
+      → now ≡ after w (put_chars w.scene stream cs)
+      → MayWant (0 < p.count) (λ (reply : Reply). reply) r (Ok (reply_filling 0 p cs))
+      → MakesCall (IsTrue (streams.has w.scene.streams stream && not (count == 0))) r w now
+      (put_all w.scene f stream (numbers_in width f.memory at count))
+  numbers_end w now stream p r few is there lays made filled = subst
+      (λ (xs : List ℕ). MakesCall (IsTrue (streams.has w.scene.streams stream && not (count == 0))) r w now
+      (put_all w.scene f stream xs)) read_there
+      (put_ends w now f stream count cs p r (λ some. some_put w.scene stream count there (omega arith)) is
+      count_read_there there lays made filled)
 
 -- one character
 module _ (w : FlatWorld) (f : FlatState) (stream c : ℕ) (p : Places) (is : p ≡ places_of w.scene stream 1)
@@ -172,16 +194,16 @@ module _ (w : FlatWorld) (f : FlatState) (stream c : ℕ) (p : Places) (is : p �
       let counted : (places_of w.scene stream 1).count == 0 ≡ false = grind (arith, nat_tests, placed) in
       rw (there, counted) (or_last (put_grows w.scene stream c))
 
-  pub one_wanted : (now : FlatWorld) → can_lay f p ≡ Ok tt → IsTrue (put_grows w.scene stream c) ⊎ (0 < p.count)
+  pub one_wanted : (now : FlatWorld) → can_lay f p ≡ Ok tt → IsTrue (put_grows w.scene stream c)
       → MakesCall (IsTrue (put_grows_one w.scene stream c)) (Err NoMemory) w now (put_all w.scene f stream (c ∷ []))
-  one_wanted now lays some = put_wanted w now f stream 1 (c ∷ []) p (grows_one some) is refl there lays
+  one_wanted now lays some = put_wanted w now f stream 1 (c ∷ []) p (grows_one (inl some)) is refl there lays
 
-  pub one_filled : (now : FlatWorld) (reply : Reply) → can_lay f p ≡ Ok tt → now ≡ after w (put_of w.scene stream c)
-      → reply ≡ reply_filling 0 p (c ∷ []) → on_world w (put_all w.scene f stream (c ∷ [])) ≡ Ok (now, reply)
-  one_filled now reply lays made filled =
-      put_filled w now f stream 1 (c ∷ []) p reply is refl there lays (made ∙ sym (puts_one w stream c)) filled
-
-pub ruleset put_rules = (put_in_ram, some_counted)
+  pub one_ends : (now : FlatWorld) (r : Result Reply Fault) → can_lay f p ≡ Ok tt
+      → now ≡ after w (put_of w.scene stream c)
+      → MayWant (0 < p.count) (λ (reply : Reply). reply) r (Ok (reply_filling 0 p (c ∷ [])))
+      → MakesCall (IsTrue (put_grows_one w.scene stream c)) r w now (put_all w.scene f stream (c ∷ []))
+  one_ends now r lays made filled = put_ends w now f stream 1 (c ∷ []) p r (λ some. grows_one (inr some)) is refl there
+      lays (made ∙ sym (puts_one w stream c)) filled
 
 and_first : (a b : Bool) → (a && b) ≡ true → a ≡ true
 and_first true b h = refl

@@ -1,10 +1,13 @@
 -- Characters that are read, one after another.
-use Rattle.std.proofs.Common.{suc, ◌≡◌, ◌<◌, ◌≤◌, ◌+◌, ◌-◌, ◌*◌, ◌==◌, ◌&&◌, ℕ, Bool, true, false, if◌then◌else◌, List, [], ◌∷◌}
+use Rattle.std.proofs.Common.{suc, ◌≡◌, ◌≢◌, nat_lt, nat_le, not, ◌<◌, ◌≤◌, ◌+◌, ◌-◌, ◌*◌, ◌==◌, ◌&&◌, ℕ, Bool, true, false, if◌then◌else◌, List, [], ◌∷◌}
 use Rattle.std.proofs.Common.{◌++◌, append_assoc, length, refl, sym, ap, subst, ◌∙◌, inl, inr, arith, Option, Some}
 use Rattle.std.proofs.Common.{None, Result, Ok, Err, IfSome, MatchOption}
 use Rattle.std.proofs.lemmas.Bool.Decides.{nat_tests}
 use Rattle.std.proofs.lemmas.List.{append-nil, length-append}
 use Rattle.gx_words.specs.Constants.{line_feed}
+use Rattle.gx_words.specs.Numbers.{number}
+use Rattle.gx_words.specs.declared.faults.Fault.TheVariants.{NoMemory, BadAddress}
+use Rattle.gx_pages.specs.Memory.{number_in}
 use Rattle.gx_words.specs.declared.faults.Fault.{Fault}
 use Rattle.gx_words.specs.Results.{◌>>=◌}
 use Rattle.gx_state.specs.Flat.{FlatState}
@@ -14,10 +17,9 @@ use Rattle.glk_streams.specs.Stream as one
 use Rattle.glk_streams.specs.Streams as streams
 use Rattle.glk_world.specs.World.{Scene}
 use Rattle.glk_world.specs.Putting.{places_read, no_places}
-use Rattle.glk_replies.specs.Parts.{IsCharWidth}
+use Rattle.glk_replies.specs.Parts.{IsCharWidth, can_read}
 use Rattle.glk_text_calls.specs.Input.{found_in, read_behind, read_with, read_on, count_read, has_read}
 use Rattle.glk_text_calls.proofs.Puts.{width_of}
-use Rattle.glk_replies.proofs.Ram.{laid_in_ram}
 
 -- ---- places
 
@@ -38,6 +40,56 @@ read_width w stream count =
       | true ↦ width_of (streams.stream w.streams stream) count
       | false ↦ inl refl
     ]
+
+pub width_read : (w : Scene) (stream count : ℕ) (p : Places) → p ≡ places_read w stream count → IsCharWidth p.width
+width_read w stream count p is = subst (λ (q : Places). IsCharWidth q.width) (sym is) (read_width w stream count)
+
+-- ---- the number at a place
+
+refused_by : (test : Bool) (e : Fault) → (if test then Err BadAddress else Ok tt) ≡ (let r : Result (Unit {0}) Fault =
+    Err e in r) → (test ≡ true) × (BadAddress ≡ e)
+refused_by true e is = (refl, cc)
+refused_by false e is = absurd (cc)
+
+out_of_memory : (width end size : ℕ) → (not (width == 0) && nat_lt size end) ≡ true → nat_le end size ≡ false
+out_of_memory width end size out = grind (arith, nat_tests)
+
+number_refused : (f : FlatState) (at width : ℕ) (e : Fault) → can_read f at width ≡ Err e
+    → number_in width f.memory at ≡ Err e
+unfolding can_read number_in
+number_refused f at width e is =
+    let test : Bool = not (width == 0) && nat_lt (length f.memory) (at + width) in
+    let both : (test ≡ true) × (BadAddress ≡ e) = refused_by test e is in
+    rw (out_of_memory width (at + width) (length f.memory) both.0, both.1) refl
+
+number_there : (memory : List ℕ) (at width : ℕ) → at + width ≤ length memory
+    → number_in width memory at ≡ Ok (number width memory at)
+unfolding number_in
+number_there memory at width there =
+    let inside : nat_le (at + width) (length memory) ≡ true = grind (arith, nat_tests) in rw inside refl
+
+place_in : (f : FlatState) (p : Places) (i at : ℕ) (r : Result ℕ Fault) → i < p.count → at ≡ p.at + p.width * i
+    → number_in p.width f.memory at ≡ r → found_in f p i ≡ r
+place_in f p i at r less is found =
+    let here : nat_lt i p.count ≡ true = grind (arith, nat_tests) in
+    rw here (subst (λ (k : ℕ). number_in p.width f.memory k ≡ r) is found)
+
+pub found_refused : (f : FlatState) (p : Places) (i at width : ℕ) (e : Fault) → i < p.count
+    → at ≡ p.at + p.width * i → width ≡ p.width → (can_read f at width ≡ Err e) × (e ≢ NoMemory)
+    → (found_in f p i ≡ Err e) × (e ≢ NoMemory)
+found_refused f p i at width e less is same reads = (
+  place_in f p i at (Err e) less is
+      (number_refused f at p.width e (subst (λ (k : ℕ). can_read f at k ≡ Err e) same reads.0)),
+  reads.1,
+)
+
+pub found_there : (f : FlatState) (p : Places) (i at k found : ℕ) (memory : List ℕ) → i < p.count
+    → at ≡ p.at + p.width * i → at + p.width ≤ length f.memory → k ≡ at → memory ≡ f.memory
+    → found ≡ number p.width memory k → found_in f p i ≡ Ok found
+found_there f p i at k found memory less is there same whole made =
+    let read : found ≡ number p.width f.memory at =
+    made ∙ ap (λ (m : List ℕ). number p.width m k) whole ∙ ap (number p.width f.memory) same in
+    rw read (place_in f p i at (Ok (number p.width f.memory at)) less is (number_there f.memory at p.width there))
 
 -- ---- one turn
 
@@ -114,14 +166,15 @@ pub record IsReading (most : ℕ) (stops : Bool) (f : FlatState) (p : Places) (s
   pub same : read_behind front (read_on (most - i) stops f p s i position) ≡ read_on most stops f p s 0 s.position
   pub within : position ≤ one.end_position s
 
-pub begins : (most : ℕ) (stops : Bool) (f : FlatState) (p : Places) (s : Stream) → s.position ≤ one.end_position s
-    → IsReading most stops f p s 0 s.position (Some [])
-begins most stops f p s within = let e : most - 0 ≡ most = omega arith in record {
+pub begins : (most : ℕ) (stops : Bool) (f : FlatState) (p : Places) (s : Stream) (position : ℕ) (chars : List ℕ)
+    → position ≡ s.position → chars ≡ [] → position ≤ one.end_position s
+    → IsReading most stops f p s 0 position (Some chars)
+begins most stops f p s position chars at none within = let e : most - 0 ≡ most = omega arith in record {
   front = [];
   count = refl;
-  kept = refl;
-  some = λ none. absurd (cc);
-  same = rw e (behind_none (read_on most stops f p s 0 s.position));
+  kept = none;
+  some = λ h. absurd (cc);
+  same = rw (e, at) (behind_none (read_on most stops f p s 0 s.position));
   within = within;
 }
 
@@ -219,9 +272,6 @@ module _ (most : ℕ) (stops : Bool) (f : FlatState) (p : Places) (s : Stream) (
       → ends_line stops c ≡ true → IsKept chars c more → IfSome more (λ cs. all ≡ read_as cs next)
   kept_stop c next more less is ends keeps = (reads_stop c next more less is ends keeps).1
 
-pub ruleset reading_turns =
-    (begins, goes, counted_all, kept_all, counted_none, kept_none, counted_stop, kept_stop, reads_fail)
-
 -- ---- what was read, by its count
 
 abbrev first_of : Result (ℕ × ℕ) Fault → ℕ
@@ -231,10 +281,6 @@ first_of (Err e) = 0
 pub read_fails : (r : Result (List ℕ × ℕ) Fault) (e : Fault) → count_read r ≡ Err e → r ≡ Err e
 read_fails (Ok got) e is = absurd (cc)
 read_fails (Err e') e is = cc
-
-pub same_count : (r : Result (List ℕ × ℕ) Fault) (cs : List ℕ) (n q position : ℕ) → r ≡ Ok (cs, position)
-    → count_read r ≡ Ok (n, q) → length cs ≡ n
-same_count r cs n q position is many = ap first_of (ap count_read (sym is) ∙ many)
 
 pub read_some : (r : Result (List ℕ × ℕ) Fault) (n q : ℕ) → count_read r ≡ Ok (n, q) → 0 < n → has_read r ≡ true
 read_some (Ok got) n q is some = let same : length got.0 ≡ n = ap first_of is in grind (arith, nat_tests)
@@ -253,10 +299,3 @@ ending_length false = refl
 
 pub all_length : (cs : List ℕ) (stops : Bool) → length (cs ++ ending stops) ≡ length cs + ending_len stops
 all_length cs stops = length-append cs (ending stops) ∙ ap (λ n. length cs + n) (ending_length stops)
-
--- what is written lies in RAM
-pub ruleset reply_rules = (laid_in_ram)
-
-pub ruleset reading_rules = (read_width, all_length, same_count)
-
-pub ruleset read_width_rules = (read_width)

@@ -1,10 +1,9 @@
 -- Characters that are bytes.
-use Rattle.std.proofs.Common.{zero, suc, ◌≡◌, ◌<◌, ◌≤◌, ◌&&◌, nat_lt, ℕ, Bool, true, false, List, [], ◌∷◌, ◌++◌, length}
+use Rattle.std.proofs.Common.{zero, suc, ◌≡◌, ◌<◌, ◌≤◌, ◌&&◌, nat_lt, ℕ, Bool, true, false, List, [], ◌∷◌, length}
 use Rattle.std.proofs.Common.{◌≢◌, ◌==◌, get_or, refl, ap, ◌∙◌, arith, Option, Some, None, Result, Ok, Err, IsTrue}
 use Rattle.std.proofs.Common.{IsOk}
 use Rattle.std.specs.List.{list_all}
 use Rattle.std.proofs.lemmas.Bool.Decides.{nat_tests}
-use Rattle.std.proofs.lemmas.List.Folds.{list_all-append}
 use Rattle.gx_words.specs.declared.faults.Fault.{Fault}
 use Rattle.gx_words.specs.Results.{◌>>=◌}
 use Rattle.gx_state.specs.Flat.{FlatState}
@@ -19,10 +18,6 @@ is_byte c = nat_lt c 256
 -- all of them are
 pub all_bytes : (bytes all : List ℕ) → list_all is_byte bytes ≡ true → bytes ≡ all → Some bytes ≡ as_bytes all
 all_bytes bytes all small same = rw (← same, small) refl
-
-pub more_bytes : (bytes : List ℕ) (c : ℕ) → list_all is_byte bytes ≡ true → c < 256
-    → list_all is_byte (bytes ++ c ∷ []) ≡ true
-more_bytes bytes c small less = rw (list_all-append is_byte bytes (c ∷ []), small) (grind (arith, nat_tests))
 
 and_false : (b : Bool) → (b && false) ≡ false
 and_false true = refl

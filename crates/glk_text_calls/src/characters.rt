@@ -1,9 +1,10 @@
 //! The case of characters (Glk 0.7.5, "Upper and Lower Case").
 ghost use Rattle.std.specs.Prelude.{◌≡◌, ℕ, ◌++◌, ◌<◌, ◌==◌, ◌^◌, nat_lt, if◌then◌else◌, map, length};
-ghost use Rattle.std.specs.Prelude.{OnOk, OnErr, IfOk, IsTrue};
+ghost use Rattle.std.specs.Prelude.{OnOk, IfOk, IsTrue, Ok};
 ghost use Rattle.gx_state.specs.Flat.{FlatState};
 ghost use Rattle.gx_state.specs.Replies.{IsReply};
 ghost use Rattle.glk_world.specs.World.{arg, MakesCall};
+ghost use Rattle.glk_replies.specs.Parts.{reply_filling, MayWant};
 ghost use Rattle.glk_text_calls.specs.Characters.{changed, recased, char_to_case, buffer_of, buffer_to_case};
 ghost use Rattle.glk_text_calls.specs.declared.characters.Case.TheVariants.{Lower, Same};
 
@@ -44,18 +45,27 @@ fn push_changed(out: &mut Numbers, case: Case, chars: &[u32]) -> Result<(), Allo
     Ok(())
 }
 
-/// A text whose first character gets one case, and all others another.
-fn recased(alloc: Global, first: Case, others: Case, chars: &[u32]) -> Result<Numbers, AllocError>
-    ensures value { IfOk result (λ text. text ≡ recased first others chars.now) }
-    ensures len { IfOk result (λ text. length text ≡ length chars.now) }
-    ensures memory { OnErr result (0 < length chars.now) }
+/// The reply that writes a text, of which the first character gets one case, and all others another.
+fn recase(
+    alloc: Global,
+    value: u32,
+    places: Places,
+    first: Case,
+    others: Case,
+    chars: &[u32],
+) -> Result<Reply, Fault>
+    requires at { places.at < 2 ^ 32 }
+    requires count { places.count ≡ length chars.now }
+    ensures { MayWant (0 < places.count) (λ reply. reply) result
+        (Ok (reply_filling value places (recased first others chars.now))) }
 {
+    let [c, rest @ ..] = chars else {
+        return filled(alloc, value, places, &[]);
+    };
     let mut text = Numbers::new(alloc);
-    if let [c, rest @ ..] = chars {
-        text.push(changed(first, *c))?;
-        push_changed(&mut text, others, rest)?;
-    }
-    Ok(text)
+    text.push(changed(first, *c))?;
+    push_changed(&mut text, others, rest)?;
+    filled(alloc, value, places, text.as_slice())
 }
 
 /// char_to_lower and char_to_upper: the low eight bits as a character.
@@ -99,8 +109,7 @@ pub fn buffer_to_case<A: Allocator + Clone>(
     can_lay(state, places)?;
     let alloc = world.alloc();
     let chars = numbers_at(alloc, state.memory(), 4, arg(args, 0), places.count)?;
-    let changed = recased(alloc, first, others, chars.as_slice())?;
-    Ok(filled(alloc, arg(args, 2), places, changed.as_slice())?)
+    recase(alloc, arg(args, 2), places, first, others, chars.as_slice())
 }
 
 /// The case of the characters of a title behind the first one.

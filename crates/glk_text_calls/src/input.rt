@@ -3,13 +3,13 @@
 //! Each character is read once, and gathered as it is read. Where memory is wanted for it, it is still read and
 //! counted, so that each fault comes before want of memory.
 ghost use Rattle.std.specs.Prelude.{ℕ, ◌≡◌, ◌⊎◌, ◌+◌, ◌≤◌, ◌<◌, ◌^◌, ◌∷◌, [], ◌++◌, length, not, ◌==◌, ◌&&◌};
-ghost use Rattle.std.specs.Prelude.{if◌then◌else◌, IfOk, IfSome, MatchOption, OnErr, IsTrue, true, Ok, None};
+ghost use Rattle.std.specs.Prelude.{if◌then◌else◌, List, IfOk, IfSome, MatchOption, IsTrue, true, Ok, None};
 ghost use Rattle.gx_words.specs.Faults.{Reads};
 ghost use Rattle.gx_words.specs.Results.{◌>>=◌ as and_then};
 ghost use Rattle.gx_state.specs.Replies.{IsReply};
 ghost use Rattle.glk_streams.specs.Stream as one;
 ghost use Rattle.glk_streams.specs.Streams as streams;
-ghost use Rattle.glk_replies.specs.Parts.{IsCharWidth, can_lay, reply_filling};
+ghost use Rattle.glk_replies.specs.Parts.{IsCharWidth, reply_filling, MayWant};
 ghost use Rattle.glk_world.specs.World.{arg, MakesCall};
 ghost use Rattle.glk_text_calls.specs.Input.{found_in, read_on, count_read, has_read, reading, get_chars};
 ghost use Rattle.glk_text_calls.specs.Input.{get_buffer, get_line, get_buffer_grows, char_answer, get_char};
@@ -21,13 +21,13 @@ use glk_text::latin;
 use glk_world::{World, arg};
 use gx_state::{Reply, State};
 use gx_words::{Fault, LINE_FEED, Numbers};
-use std::alloc::{AllocError, Allocator, Global};
+use std::alloc::{Allocator, Global};
 
 /// What get_char answers at the end of a stream.
 pub const NO_CHARACTER: u32 = 0xFFFF_FFFF;
 
 /// The number at one of the places of a memory stream, which is looked at.
-#[tactic(auto, using(crate::proofs::Reading::places_rules), unfolding(crate::proofs::Opened::finding))]
+#[tactic(auto, using(crate::proofs::Reading::places_rules))]
 fn found_in<A: Allocator + Clone>(state: &State<A>, places: Places, i: u32) -> Result<u32, Fault>
     requires width { IsCharWidth places.width }
     requires at { places.at < 2 ^ 40 }
@@ -93,7 +93,6 @@ fn kept(chars: Option<Numbers>, c: u32) -> Option<Numbers>
 }
 
 /// Reads characters, `most` at most, up to the end of a line where that stops.
-#[tactic(auto, using(crate::proofs::Reading::reading_turns))]
 pub(crate) fn read_on<A: Allocator + Clone>(
     alloc: Global,
     all: &Streams,
@@ -143,40 +142,29 @@ pub(crate) fn read_on<A: Allocator + Clone>(
     })
 }
 
-/// The characters that were read, with what ends a line.
-fn with_ending(chars: Option<Numbers>, stops: bool) -> Result<Numbers, AllocError>
-    ensures value { IfOk result (λ all. MatchOption chars ⊥ (λ cs. all ≡ cs ++ (if stops then 0 ∷ [] else []))) }
-    ensures memory { OnErr result ((chars ≡ None) ⊎ (stops ≡ true)) }
+/// The reply with characters that were read, and a zero behind them where a line ends.
+fn reply_read(
+    alloc: Global,
+    count: u32,
+    buffer: Places,
+    chars: Option<Numbers>,
+    stops: bool,
+) -> Result<Reply, Fault>
+    requires at { buffer.at < 2 ^ 32 }
+    requires count { buffer.count ≡ count + (if stops then 1 else 0) }
+    requires len { IfSome chars (λ cs. length cs ≡ count) }
+    requires some { chars ≡ None → 0 < count }
+    ensures { (cs : List ℕ) → IfSome chars (λ got. got ≡ cs) → MayWant ((0 < count) ⊎ (stops ≡ true)) (λ reply. reply)
+        result (Ok (reply_filling count buffer (cs ++ (if stops then 0 ∷ [] else [])))) }
 {
-    let mut chars = chars.ok_or(AllocError)?;
+    let mut chars = chars.ok_or(Fault::NoMemory)?;
     if stops {
         chars.push(0)?;
     }
-    Ok(chars)
-}
-
-/// The reply with characters in places that were looked at.
-#[tactic(auto, using(crate::proofs::Reading::reply_rules))]
-fn reply_with<A: Allocator + Clone>(
-    world: &World,
-    _state: &State<A>,
-    value: u32,
-    places: Places,
-    chars: &[u32],
-) -> Result<Reply, AllocError>
-    requires looked { can_lay _state.now.flat places ≡ Ok tt }
-    requires width { IsCharWidth places.width }
-    requires at { 0 < places.count → places.at < 2 ^ 32 }
-    requires count { places.count ≤ length chars.now }
-    ensures value { IfOk result (λ reply. reply ≡ reply_filling value places chars.now) }
-    ensures fits { (room : ℕ) → IfOk result (IsReply _state.now.flat room) }
-    ensures memory { OnErr result (0 < places.count) }
-{
-    filled(world.alloc(), value, places, chars)
+    filled(alloc, count, buffer, chars.as_slice())
 }
 
 /// Reads characters into a buffer, and ends a line by a zero.
-#[tactic(auto, using(crate::proofs::Reading::reading_rules))]
 fn get_chars<A: Allocator + Clone>(
     world: &mut World,
     state: &State<A>,
@@ -214,10 +202,8 @@ fn get_chars<A: Allocator + Clone>(
         count: count + u32::from(stops),
     };
     can_lay(state, buffer)?;
-    let chars = with_ending(chars, stops)?;
-    let reply = reply_with(world, state, count, buffer, chars.as_slice())?;
     world.pass(stream, position, count);
-    Ok(reply)
+    reply_read(world.alloc(), count, buffer, chars, stops)
 }
 
 /// get_buffer_stream: characters up to the end of the stream or the buffer.
@@ -284,7 +270,7 @@ fn char_value(width: u32, c: Option<u32>) -> u32
 }
 
 /// get_char_stream: one character.
-#[tactic(auto, using(crate::proofs::Reading::read_width_rules), unfolding(crate::specs::Input::get_char))]
+#[tactic(auto, unfolding(crate::specs::Input::get_char))]
 pub fn get_char<A: Allocator + Clone>(
     world: &mut World,
     state: &State<A>,

@@ -78,7 +78,7 @@ fn put_placed<A: Allocator + Clone>(
     let places = world.places(stream, 1);
     can_lay(state, places)?;
     world.put(stream, c)?;
-    Ok(filled(world.alloc(), 0, places, &[c])?)
+    filled(world.alloc(), 0, places, &[c])
 }
 
 /// put_string: the characters of a string.
@@ -144,7 +144,7 @@ fn put_numbers<A: Allocator + Clone>(
     let numbers = numbers_at(world.alloc(), state.memory(), width, at, count)?;
     let chars = numbers.as_slice();
     world.puts(stream, chars)?;
-    Ok(filled(world.alloc(), 0, places, chars)?)
+    filled(world.alloc(), 0, places, chars)
 }
 
 /// Puts a character that the program prints to the current stream.

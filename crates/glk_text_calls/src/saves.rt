@@ -1,13 +1,14 @@
 //! Saves as the bytes of a stream (Glulx 3.1.2, "Game State"; specs/Saves): they are put as characters, and got from
 //! where the stream stands to its end.
-ghost use Rattle.std.specs.Prelude.{ℕ, ◌≡◌, ◌≢◌, ◌<◌, ◌≤◌, ◌^◌, ◌+◌, [], length, take, drop, IfOk, IfSome};
-ghost use Rattle.std.specs.Prelude.{OnErr, IsTrue, Ok, Some};
+ghost use Rattle.std.specs.Prelude.{ℕ, ◌≡◌, ◌≢◌, ◌<◌, ◌≤◌, ◌^◌, ◌+◌, ◌⊎◌, List, [], length, take, drop, IfOk, IfSome};
+ghost use Rattle.std.specs.Prelude.{OnErr, IsTrue, Ok, Some, None};
 ghost use Rattle.gx_state.specs.Replies.{IsReply};
 ghost use Rattle.glk_streams.specs.Stream as one;
 ghost use Rattle.glk_streams.specs.Streams as streams;
 ghost use Rattle.glk_world.specs.World.{silent, MakesCall};
 ghost use Rattle.glk_world.specs.Putting.{places_read};
 ghost use Rattle.glk_world.specs.Calls.{chars_got};
+ghost use Rattle.glk_replies.specs.Parts.{IsCharWidth, reply_filling, MayWant};
 ghost use Rattle.glk_text_calls.specs.Putting.{put_all};
 ghost use Rattle.glk_text_calls.specs.Saves.{takes_save, put_save, put_save_grows, rest_len, as_bytes, take_rest};
 ghost use Rattle.glk_text_calls.specs.Saves.{take_rest_grows};
@@ -18,7 +19,7 @@ use glk_streams::{Places, Streams};
 use glk_world::World;
 use gx_pages::Pages;
 use gx_state::{Reply, State};
-use gx_words::{Bytes, Fault};
+use gx_words::{Bytes, Fault, Numbers};
 use std::alloc::{AllocError, Allocator, Global};
 
 /// The last character that is a byte.
@@ -33,8 +34,18 @@ fn takes_save(world: &World, stream: u32, bytes: &[u8]) -> bool
     streams.has(stream) && streams.writable(stream) && streams.fits(stream, bytes)
 }
 
+/// The reply that writes bytes as characters to places that may be written.
+fn filled_bytes(alloc: Global, places: Places, bytes: &[u8]) -> Result<Reply, Fault>
+    requires at { 0 < places.count → places.at < 2 ^ 32 }
+    requires count { places.count ≤ length bytes.now }
+    ensures { MayWant (0 < places.count) (λ reply. reply) result (Ok (reply_filling 0 places bytes.now)) }
+{
+    let mut reply = reply(alloc, 0);
+    lay(alloc, &mut reply.writes, places, bytes)?;
+    Ok(reply)
+}
+
 /// Puts bytes to a stream.
-#[tactic(auto, using(crate::proofs::Puts::put_rules), unfolding(crate::proofs::Opened::putting))]
 fn put_bytes<A: Allocator + Clone>(
     world: &mut World,
     state: &State<A>,
@@ -50,9 +61,7 @@ fn put_bytes<A: Allocator + Clone>(
     let places = world.places(stream, bytes.len() as u32);
     can_lay(state, places)?;
     world.put_bytes(stream, bytes)?;
-    let mut reply = reply(world.alloc(), 0);
-    lay(world.alloc(), &mut reply.writes, places, bytes)?;
-    Ok(reply)
+    filled_bytes(world.alloc(), places, bytes)
 }
 
 /// Puts the bytes of a save to a stream that takes them, as characters; None where it doesn't take them.
@@ -98,9 +107,8 @@ fn rest_len(all: &Streams, stream: u32) -> u32
 }
 
 /// Characters as bytes; None where one isn't a byte.
-fn bytes_of(alloc: Global, chars: &[u32]) -> Result<Option<Bytes>, AllocError>
-    ensures value { IfOk result (λ bytes. bytes ≡ as_bytes chars.now) }
-    ensures memory { OnErr result (0 < length chars.now) }
+fn bytes_of(alloc: Global, chars: &[u32]) -> Result<Option<Bytes>, Fault>
+    ensures { MayWant (0 < length chars.now) (λ bytes. bytes) result (Ok (as_bytes chars.now)) }
 {
     let mut bytes = Bytes::new(alloc);
     for c in chars {
@@ -110,6 +118,15 @@ fn bytes_of(alloc: Global, chars: &[u32]) -> Result<Option<Bytes>, AllocError>
         bytes.push(*c as u8)?;
     }
     Ok(Some(bytes))
+}
+
+/// Characters that were read as bytes; None where one isn't a byte.
+fn bytes_read(alloc: Global, chars: Option<Numbers>) -> Result<Option<Bytes>, Fault>
+    ensures { (cs : List ℕ) → IfSome chars (λ got. got ≡ cs) → MayWant ((chars ≡ None) ⊎ (0 < length cs))
+        (λ bytes. bytes) result (Ok (as_bytes cs)) }
+{
+    let chars = chars.ok_or(Fault::NoMemory)?;
+    bytes_of(alloc, chars.as_slice())
 }
 
 /// Whether so many characters, some, all stand in memory as one byte each.
@@ -193,7 +210,6 @@ fn bytes_left<A: Allocator + Clone>(
 /// the stream isn't open for reading.
 ///
 /// The world stands where the stream isn't open for reading, and after a fault but for want of memory.
-#[tactic(auto, using(crate::proofs::Reading::read_width_rules), unfolding(crate::specs::Saves::take_rest))]
 pub fn take_rest<A: Allocator + Clone>(
     world: &mut World,
     state: &State<A>,
@@ -207,19 +223,45 @@ pub fn take_rest<A: Allocator + Clone>(
         return Ok(None);
     }
     let most = rest_len(all, stream);
-    let end = all.end(stream);
     let places = world.places_read(stream, most);
     if let Some(bytes) = bytes_left(world, state, stream, places, most)? {
+        let end = world.streams().end(stream);
         world.pass(stream, end, most);
         return Ok(Some(bytes));
     }
+    take_chars(world, state, stream, places, most)
+}
+
+/// The same of a stream that is open for reading, one character after another.
+fn take_chars<A: Allocator + Clone>(
+    world: &mut World,
+    state: &State<A>,
+    stream: u32,
+    places: Places,
+    most: u32,
+) -> Result<Option<Bytes>, Fault>
+    requires there { IsTrue (streams.has world.old.scene.streams stream) }
+    requires reads { IsTrue (one.readable (streams.stream world.old.scene.streams stream)) }
+    requires most { most ≡ rest_len (streams.stream world.old.scene.streams stream) }
+    requires places { places ≡ places_read world.old.scene stream most }
+    requires width { IsCharWidth places.width }
+    requires at { places.at < 2 ^ 40 }
+    ensures { MakesCall (IsTrue (take_rest_grows world.old.scene state.now.flat stream)) result world.old world.new
+        (take_rest world.old.scene state.now.flat stream) }
+{
     let Reading {
         count,
         position,
         chars,
-    } = read_on(world.alloc(), all, state, stream, places, most, false)?;
-    let chars = chars.ok_or(Fault::NoMemory)?;
-    let bytes = bytes_of(world.alloc(), chars.as_slice())?;
+    } = read_on(
+        world.alloc(),
+        world.streams(),
+        state,
+        stream,
+        places,
+        most,
+        false,
+    )?;
     world.pass(stream, position, count);
-    Ok(bytes)
+    bytes_read(world.alloc(), chars)
 }

@@ -1,7 +1,11 @@
 -- Each call does what its row says; what fits any state or any room fits those of the call.
+use Rattle.std.proofs.Common.{◌≡◌, None, arith}
+use Rattle.std.proofs.lemmas.Bool.Decides.{nat_tests}
+use Rattle.std.proofs.lemmas.Grind.{common_steps}
 use Rattle.glk_object_calls.specs.Windows.{window_close}
 use Rattle.glk_dispatch.specs.ObjectCalls.{window_calls}
-use Rattle.glk_dispatch.proofs.Turning.{may_want}
+use Rattle.glk_dispatch.specs.Ready.{arranging_row}
+use Rattle.glk_dispatch.proofs.Turning.{may_want, no_call}
 use Rattle.glk_dispatch.proofs.doing.arranging_call.Goals as goal
 
 pub returns-in-5-clause-fits : goal.returns-in-5-clause-fits
@@ -64,3 +68,21 @@ returns-in-38-clause-value g c = rw c.in-38.is c.window_set_arrangement.ensures.
 pub returns-in-39-clause-value : goal.returns-in-39-clause-value
 unfolding window_calls
 returns-in-39-clause-value g c = rw c.in-39.is c.window_get_arrangement.ensures.value
+
+pub returns-in_default-clause-value : goal.returns-in_default-clause-value
+unfolding window_calls
+returns-in_default-clause-value g c =
+    let none : arranging_row c.args.selector ≡ None = grind (arith, nat_tests, common_steps) in
+    no_call (arranging_row c.args.selector) c.args.world.now c.args.state.now.flat c.args.room c.args.args.now none
+
+pub window_open-requires : goal.window_open-requires
+unfolding window_calls
+window_open-requires g c = (rw c.in-35.is at c.requires).0
+
+pub window_close-requires : goal.window_close-requires
+unfolding window_calls
+window_close-requires g c = (rw c.in-36.is at c.requires).0
+
+pub returns-in-3-clause-value : goal.returns-in-3-clause-value
+unfolding window_calls
+returns-in-3-clause-value g c = rw c.in-3.is c.idle.ensures.value

@@ -1,7 +1,11 @@
 -- Each call does what its row says; what fits any state or any room fits those of the call.
+use Rattle.std.proofs.Common.{◌≡◌, None, arith}
+use Rattle.std.proofs.lemmas.Bool.Decides.{nat_tests}
+use Rattle.std.proofs.lemmas.Grind.{common_steps}
 use Rattle.glk_object_calls.specs.Streams.{stream_set_position, stream_set_current}
 use Rattle.glk_dispatch.specs.ObjectCalls.{stream_calls}
-use Rattle.glk_dispatch.proofs.Turning.{never_wants}
+use Rattle.glk_dispatch.specs.Ready.{stream_row}
+use Rattle.glk_dispatch.proofs.Turning.{never_wants, no_call}
 use Rattle.glk_dispatch.proofs.doing.stream_call.Goals as goal
 
 pub returns-in-67-clause-fits : goal.returns-in-67-clause-fits
@@ -55,3 +59,17 @@ returns-in-70-clause-value g c = rw c.in-70.is c.stream_get_position.ensures.val
 pub returns-in-72-clause-value : goal.returns-in-72-clause-value
 unfolding stream_calls
 returns-in-72-clause-value g c = rw c.in-72.is c.stream_get_current.ensures.value
+
+pub returns-in_default-clause-value : goal.returns-in_default-clause-value
+unfolding stream_calls
+returns-in_default-clause-value g c =
+    let none : stream_row c.args.selector ≡ None = grind (arith, nat_tests, common_steps) in
+    no_call (stream_row c.args.selector) c.args.world.now c.args.state.now.flat c.args.room c.args.args.now none
+
+pub stream_set_position-requires : goal.stream_set_position-requires
+unfolding stream_calls
+stream_set_position-requires g c = (rw c.in-69.is at c.requires).0
+
+pub stream_get_position-requires : goal.stream_get_position-requires
+unfolding stream_calls
+stream_get_position-requires g c = (rw c.in-70.is at c.requires).0

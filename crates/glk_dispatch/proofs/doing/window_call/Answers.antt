@@ -1,8 +1,12 @@
 -- Each call does what its row says; what fits any state or any room fits those of the call.
+use Rattle.std.proofs.Common.{◌≡◌, None, arith}
+use Rattle.std.proofs.lemmas.Bool.Decides.{nat_tests}
+use Rattle.std.proofs.lemmas.Grind.{common_steps}
 use Rattle.glk_object_calls.specs.Windows.{window_clear, window_move_cursor, window_set_echo_stream}
 use Rattle.glk_object_calls.specs.Windows.{set_window}
 use Rattle.glk_dispatch.specs.ObjectCalls.{window_calls}
-use Rattle.glk_dispatch.proofs.Turning.{never_wants}
+use Rattle.glk_dispatch.specs.Ready.{window_call_row}
+use Rattle.glk_dispatch.proofs.Turning.{never_wants, no_call}
 use Rattle.glk_dispatch.proofs.doing.window_call.Goals as goal
 
 pub returns-in-42-clause-fits : goal.returns-in-42-clause-fits
@@ -79,3 +83,25 @@ returns-in-46-clause-value g c = rw c.in-46.is c.window_get_echo_stream.ensures.
 pub returns-in-48-clause-value : goal.returns-in-48-clause-value
 unfolding window_calls
 returns-in-48-clause-value g c = rw c.in-48.is c.window_get_sibling.ensures.value
+
+pub returns-in_default-clause-value : goal.returns-in_default-clause-value
+unfolding window_calls
+returns-in_default-clause-value g c =
+    let none : window_call_row c.args.selector ≡ None = grind (arith, nat_tests, common_steps) in
+    no_call (window_call_row c.args.selector) c.args.world.now c.args.state.now.flat c.args.room c.args.args.now none
+
+pub window_get_parent-requires : goal.window_get_parent-requires
+unfolding window_calls
+window_get_parent-requires g c = (rw c.in-41.is at c.requires).0
+
+pub window_set_echo_stream-requires-clause-window : goal.window_set_echo_stream-requires-clause-window
+unfolding window_calls
+window_set_echo_stream-requires-clause-window g c = (rw c.in-45.is at c.requires).0
+
+pub window_set_echo_stream-requires-clause-echo : goal.window_set_echo_stream-requires-clause-echo
+unfolding window_calls
+window_set_echo_stream-requires-clause-echo g c = (rw c.in-45.is at c.requires).1
+
+pub window_get_sibling-requires : goal.window_get_sibling-requires
+unfolding window_calls
+window_get_sibling-requires g c = (rw c.in-48.is at c.requires).0

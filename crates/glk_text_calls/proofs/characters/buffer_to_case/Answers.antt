@@ -1,7 +1,7 @@
-use Rattle.std.proofs.Common.{◌≡◌, ◌∙◌, ℕ, List, length, ap, inr, arith, rules}
+use Rattle.std.proofs.Common.{◌≡◌, ◌∙◌, sym, rules}
 use Rattle.std.proofs.lemmas.Result.{err_from_is_err_and}
-use Rattle.glk_text_calls.proofs.Cases.{case_some, case_length, case_unread, case_refused, case_wanted, case_filled}
-use Rattle.glk_text_calls.proofs.Puts.{fits_filling}
+use Rattle.glk_replies.specs.Parts.{numbers_in}
+use Rattle.glk_text_calls.proofs.Cases.{case_count, case_fits, case_unread, case_refused, case_wanted, case_ends}
 use Rattle.glk_text_calls.proofs.characters.buffer_to_case.Goals as goal
 
 pub returns-in_err-can_read-clause-value : goal.returns-in_err-can_read-clause-value
@@ -22,42 +22,36 @@ returns-in_err-chars-clause-value g c =
     rw (p.1, p.2) (case_wanted _ _ _ _ _ _ c.buffer_of-places.ensures.value _
     c.from.ensures c.in_ok-can_read.ensures.value c.in_ok-can_lay.ensures.value _ c.in_err-chars.ensures.memory)
 
-pub returns-in_err-changed-clause-value : goal.returns-in_err-changed-clause-value
-returns-in_err-changed-clause-value g c =
-    let p = err_from_is_err_and c.from_residual-in_err-changed.result c.from_residual-in_err-changed.ensures.1 in
-    let shown : c.as_slice.result.now ≡ c.in_ok-chars.chars = search rules in
-    rw (p.1, p.2) (case_wanted _ _ _ _ _ _ c.buffer_of-places.ensures.value _
-    c.from.ensures c.in_ok-can_read.ensures.value c.in_ok-can_lay.ensures.value _
-    (case_some _ _ _ _ _ (shown ∙ c.in_ok-chars.ensures.value) c.in_err-changed.ensures.memory))
-
-pub returns-in_err-filled-clause-value : goal.returns-in_err-filled-clause-value
-returns-in_err-filled-clause-value g c =
-    let p = err_from_is_err_and c.from_residual-in_err-filled.result c.from_residual-in_err-filled.ensures.1 in
-    rw (p.1, p.2) (case_wanted _ _ _ _ _ _ c.buffer_of-places.ensures.value _
-    c.from.ensures c.in_ok-can_read.ensures.value c.in_ok-can_lay.ensures.value _ c.in_err-filled.ensures.memory)
-
 pub returns-clause-value : goal.returns-clause-value
 returns-clause-value g c =
     let shown : c.as_slice.result.now ≡ c.in_ok-chars.chars = search rules in
-    let recased : c.as_slice-2.result.now ≡ c.in_ok-changed.changed = search rules in
-    case_filled _ _ _ _ _ _ c.buffer_of-places.ensures.value _
-    c.from.ensures c.in_ok-can_read.ensures.value c.in_ok-can_lay.ensures.value _ _ _ _ _ _ c.memory.ensures.value
-    (shown ∙ c.in_ok-chars.ensures.value) (recased ∙ c.in_ok-changed.ensures.value) c.in_ok-filled.ensures.value
+    let read : c.as_slice.result.now
+    ≡ numbers_in 4 c.memory.result.now c.arg.result c.buffer_of-places.result.count =
+    ◌∙◌ {c = numbers_in 4 c.memory.result.now c.arg.result c.buffer_of-places.result.count} shown
+    c.in_ok-chars.ensures.value in
+    case_ends c.args.world.now c.args.state.now.flat c.args.first c.args.others c.args.args.now
+    c.buffer_of-places.result c.buffer_of-places.ensures.value _ c.from.ensures c.in_ok-can_read.ensures.value
+    c.in_ok-can_lay.ensures.value c.memory.result.now c.as_slice.result.now c.recase.result
+    c.arg.result c.arg-2.result c.memory.ensures.value read c.recase.ensures
     (search rules) (search rules)
 
 pub returns-clause-fits : goal.returns-clause-fits
 returns-clause-fits g c =
     let shown : c.as_slice.result.now ≡ c.in_ok-chars.chars = search rules in
-    let recased : c.as_slice-2.result.now ≡ c.in_ok-changed.changed = search rules in
-    let all = case_length _ _ _ _ c.as_slice.result.now c.as_slice-2.result.now (shown ∙ c.in_ok-chars.ensures.value)
-    (ap (λ (cs : List ℕ). length cs) recased ∙ c.in_ok-changed.ensures.len) in
-    fits_filling _ _ _ _ _ (inr c.buffer_of-places.ensures.width) (omega (arith, all)) c.in_ok-can_lay.ensures.value
-    c.in_ok-filled.ensures.value
+    let read : c.as_slice.result.now
+    ≡ numbers_in 4 c.memory.result.now c.arg.result c.buffer_of-places.result.count =
+    ◌∙◌ {c = numbers_in 4 c.memory.result.now c.arg.result c.buffer_of-places.result.count} shown
+    c.in_ok-chars.ensures.value in
+    case_fits c.args.state.now.flat c.arg-2.result c.buffer_of-places.result c.args.first c.args.others 4 c.arg.result
+    c.memory.result.now c.as_slice.result.now read c.recase.result
+    c.buffer_of-places.ensures.width c.in_ok-can_lay.ensures.value c.recase.ensures
 
-pub filled-requires-clause-count : goal.filled-requires-clause-count
-filled-requires-clause-count g c =
+pub recase-requires-clause-count : goal.recase-requires-clause-count
+recase-requires-clause-count g c =
     let shown : c.as_slice.result.now ≡ c.in_ok-chars.chars = search rules in
-    let recased : c.as_slice-2.result.now ≡ c.in_ok-changed.changed = search rules in
-    let all = case_length _ _ _ _ c.as_slice.result.now c.as_slice-2.result.now (shown ∙ c.in_ok-chars.ensures.value)
-    (ap (λ (cs : List ℕ). length cs) recased ∙ c.in_ok-changed.ensures.len) in
-    omega (arith, all)
+    let read : c.as_slice.result.now
+    ≡ numbers_in 4 c.memory.result.now c.arg.result c.buffer_of-places.result.count =
+    ◌∙◌ {c = numbers_in 4 c.memory.result.now c.arg.result c.buffer_of-places.result.count} shown
+    c.in_ok-chars.ensures.value in
+    sym (case_count 4 c.arg.result c.buffer_of-places.result.count c.memory.result.now c.as_slice.result.now
+    read)

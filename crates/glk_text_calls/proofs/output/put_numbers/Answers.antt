@@ -1,10 +1,10 @@
-use Rattle.std.proofs.Common.{◌≡◌, ◌<◌, false, true, arith, rules}
+use Rattle.std.proofs.Common.{◌≡◌, false, true, rules}
 use Rattle.std.proofs.lemmas.Result.{err_from_is_err_and}
 use Rattle.glk_streams.specs.Streams as streams
 use Rattle.glk_replies.specs.Parts.{numbers_in}
 use Rattle.glk_replies.proofs.Counting.{count_numbers}
 use Rattle.glk_text_calls.proofs.Puts.{some_put, put_nowhere, put_refused, put_wanted, few_read, some_read}
-use Rattle.glk_text_calls.proofs.Puts.{numbers_filled, put_fits}
+use Rattle.glk_text_calls.proofs.Puts.{numbers_end, put_ends_fit}
 use Rattle.glk_text_calls.proofs.output.put_numbers.Goals as goal
 
 pub returns-then-not-has-clause-value : goal.returns-then-not-has-clause-value
@@ -41,30 +41,24 @@ returns-in_err-puts-clause-value g c =
     c.in_err-puts.ensures.memory)
     c.places-places.ensures.value (count_numbers _ _ _ _) there c.in_ok-can_lay.ensures.value)
 
-pub returns-in_err-filled-clause-value : goal.returns-in_err-filled-clause-value
-returns-in_err-filled-clause-value g c =
-    let p = err_from_is_err_and c.from_residual-in_err-filled.result c.from_residual-in_err-filled.ensures.1 in
-    let there : streams.has c.args.world.now.scene.streams c.args.stream ≡ true = search rules in
-    let some : 0 < c.args.count = omega (arith, c.in_err-filled.ensures.memory, c.places-places.ensures.count) in
-    rw (p.1, p.2) (put_wanted _ _ _ _ _ _ _
-    (some_put c.args.world.now.scene c.args.stream c.args.count there some) c.places-places.ensures.value
-    (count_numbers _ _ _ _) there c.in_ok-can_lay.ensures.value)
-
 pub returns-clause-value : goal.returns-clause-value
 returns-clause-value g c =
     let there : streams.has c.args.world.now.scene.streams c.args.stream ≡ true = search rules in
     let read : c.as_slice-chars.result.now ≡ numbers_in c.args.width c.memory.result.now c.args.at c.args.count =
     search rules in
-    numbers_filled _ _ _ _ _ _ c.memory.ensures.value read _ _ _ _ _ c.places-places.ensures.value there
-    c.in_ok-can_lay.ensures.value c.in_ok-puts.ensures.ok c.in_ok-filled.ensures.value
+    numbers_end c.args.state.now.flat c.args.width c.args.at c.args.count c.memory.result.now
+    c.as_slice-chars.result.now c.memory.ensures.value read c.args.world.now c.puts.new.self c.args.stream
+    c.places-places.result c.filled.result c.places-places.ensures.count c.places-places.ensures.value there
+    c.in_ok-can_lay.ensures.value c.in_ok-puts.ensures.ok c.filled.ensures
 
 pub returns-clause-fits : goal.returns-clause-fits
 returns-clause-fits g c =
     let read : c.as_slice-chars.result.now ≡ numbers_in c.args.width c.memory.result.now c.args.at c.args.count =
     search rules in
-    put_fits _ _ _ _ _ _ _ _ c.places-places.ensures.value
+    put_ends_fit c.args.state.now.flat c.args.world.now.scene c.args.stream c.args.count 0
+    c.as_slice-chars.result.now c.places-places.result c.filled.result c.places-places.ensures.value
     (few_read c.args.state.now.flat c.args.width _ _ _ _ c.memory.ensures.value read _ c.places-places.ensures.count)
-    c.in_ok-can_lay.ensures.value c.in_ok-filled.ensures.value
+    c.in_ok-can_lay.ensures.value c.filled.ensures
 
 pub filled-requires-clause-count : goal.filled-requires-clause-count
 filled-requires-clause-count g c =

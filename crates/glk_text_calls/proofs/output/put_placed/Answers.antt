@@ -1,7 +1,7 @@
-use Rattle.std.proofs.Common.{◌≡◌, false, true, inl, inr, refl, rules}
+use Rattle.std.proofs.Common.{◌≡◌, false, true, ◌∷◌, [], refl, rules}
 use Rattle.std.proofs.lemmas.Result.{err_from_is_err_and}
 use Rattle.glk_streams.specs.Streams as streams
-use Rattle.glk_text_calls.proofs.Puts.{put_nowhere, put_refused, one_wanted, one_filled, put_fits}
+use Rattle.glk_text_calls.proofs.Puts.{put_nowhere, put_refused, one_wanted, one_ends, put_ends_fit}
 use Rattle.glk_text_calls.proofs.output.put_placed.Goals as goal
 
 pub returns-then-not-has-clause-value : goal.returns-then-not-has-clause-value
@@ -21,22 +21,17 @@ returns-in_err-put-clause-value g c =
     let p = err_from_is_err_and c.from_residual-in_err-put.result c.from_residual-in_err-put.ensures.1 in
     let there : streams.has c.args.world.now.scene.streams c.args.stream ≡ true = search rules in
     rw (p.1, p.2) (one_wanted _ _ _ _ _ c.places-places.ensures.value there _ c.in_ok-can_lay.ensures.value
-    (inl c.in_err-put.ensures.memory))
-
-pub returns-in_err-filled-clause-value : goal.returns-in_err-filled-clause-value
-returns-in_err-filled-clause-value g c =
-    let p = err_from_is_err_and c.from_residual-in_err-filled.result c.from_residual-in_err-filled.ensures.1 in
-    let there : streams.has c.args.world.now.scene.streams c.args.stream ≡ true = search rules in
-    rw (p.1, p.2) (one_wanted _ _ _ _ _ c.places-places.ensures.value there _ c.in_ok-can_lay.ensures.value
-    (inr c.in_err-filled.ensures.memory))
+    c.in_err-put.ensures.memory)
 
 pub returns-clause-value : goal.returns-clause-value
 returns-clause-value g c =
     let there : streams.has c.args.world.now.scene.streams c.args.stream ≡ true = search rules in
-    one_filled _ _ _ _ _ c.places-places.ensures.value there _ _ c.in_ok-can_lay.ensures.value c.in_ok-put.ensures.ok
-    c.in_ok-filled.ensures.value
+    one_ends c.args.world.now c.args.state.now.flat c.args.stream c.args.c c.places-places.result
+    c.places-places.ensures.value there c.put.new.self c.filled.result c.in_ok-can_lay.ensures.value
+    c.in_ok-put.ensures.ok c.filled.ensures
 
 pub returns-clause-fits : goal.returns-clause-fits
 returns-clause-fits g c =
-    put_fits _ _ _ _ _ _ _ _ c.places-places.ensures.value c.places-places.ensures.count c.in_ok-can_lay.ensures.value
-    c.in_ok-filled.ensures.value
+    put_ends_fit c.args.state.now.flat c.args.world.now.scene c.args.stream 1 0 (c.args.c ∷ []) c.places-places.result
+    c.filled.result c.places-places.ensures.value c.places-places.ensures.count c.in_ok-can_lay.ensures.value
+    c.filled.ensures
