@@ -3,6 +3,7 @@
 //! - `numbers` names the instructions' numbers as the standard does.
 //! - `instructions` has the table: one row for each instruction of Glulx 3.1.2 that the machine knows,
 //!   and for hasundo and discardundo, in rising order of number.
+//! - `arms` has `by_row!`, a body's arms over the rows of a class.
 //! - `keys` finds the one row of a key in any table whose keys rise.
 //! - `opcodes` reads the number with which an instruction begins, `modes` has the addressing modes of its operands.
 //! - `capabilities` answers the gestalt selectors.
@@ -12,6 +13,7 @@
 //! crates that carry it out. Nothing here takes memory.
 #![tactic(auto)]
 
+mod arms;
 mod capabilities;
 mod instructions;
 mod keys;

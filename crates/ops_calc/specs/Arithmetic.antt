@@ -5,6 +5,7 @@ use Rattle.std.specs.Prelude.{ℕ, ℤ, ◌+◌, ◌-◌, ◌*◌, ◌/◌, ◌%
 use Rattle.std.specs.Prelude.{Some, None, bit_and, bit_or, bit_xor, int_div, int_rem}
 use Rattle.std.specs.Int.{w32, cast_signed, cast_unsigned, int_shr}
 use Rattle.gx_words.specs.Numbers.{extended}
+use Rattle.ops_calc.specs.Acts as acts
 
 -- a word read as two's complement; `cast_unsigned w32` is the word of such a number
 abbrev pub signed : ℕ → ℤ
@@ -49,19 +50,19 @@ sexb a = extended 1 (a % 2 ^ 8)
 -- The instructions by the low byte of their numbers; None is a division with no quotient.
 unfoldable pub calc : ℕ → ℕ → ℕ → Option ℕ
 calc act a b =
-    if act == 0x10 then Some ((a + b) % 2 ^ 32) else  -- add
-    if act == 0x11 then Some ((a + (2 ^ 32 - b)) % 2 ^ 32) else  -- sub
-    if act == 0x12 then Some (a * b % 2 ^ 32) else  -- mul
-    if act == 0x13 then div a b else
-    if act == 0x14 then mod_ a b else
-    if act == 0x15 then Some (neg a) else
-    if act == 0x18 then Some (bit_and a b) else  -- bitand
-    if act == 0x19 then Some (bit_or a b) else  -- bitor
-    if act == 0x1A then Some (bit_xor a b) else  -- bitxor
-    if act == 0x1B then Some (0xFFFFFFFF - a) else  -- bitnot
-    if act == 0x1C then Some (shiftl a b) else
-    if act == 0x1D then Some (sshiftr a b) else
-    if act == 0x1E then Some (ushiftr a b) else
-    if act == 0x44 then Some (sexs a) else
-    if act == 0x45 then Some (sexb a) else
+    if act == acts.add then Some ((a + b) % 2 ^ 32) else
+    if act == acts.sub then Some ((a + (2 ^ 32 - b)) % 2 ^ 32) else
+    if act == acts.mul then Some (a * b % 2 ^ 32) else
+    if act == acts.div then div a b else
+    if act == acts.mod_ then mod_ a b else
+    if act == acts.neg then Some (neg a) else
+    if act == acts.bitand then Some (bit_and a b) else
+    if act == acts.bitor then Some (bit_or a b) else
+    if act == acts.bitxor then Some (bit_xor a b) else
+    if act == acts.bitnot then Some (0xFFFFFFFF - a) else
+    if act == acts.shiftl then Some (shiftl a b) else
+    if act == acts.sshiftr then Some (sshiftr a b) else
+    if act == acts.ushiftr then Some (ushiftr a b) else
+    if act == acts.sexs then Some (sexs a) else
+    if act == acts.sexb then Some (sexb a) else
     None

@@ -7,6 +7,10 @@ ghost use Rattle.ops_calc.specs.Arithmetic.{calc, has_no_quotient, div, mod_, sh
 ghost use Rattle.ops_calc.specs.Laws.{IsQuotient, IsRemainder};
 ghost use Rattle.ops_calc.specs.Acts.{is_calc};
 
+use crate::acts::{
+    ADD, BITAND, BITNOT, BITOR, BITXOR, DIV, MOD, MUL, NEG, SEXB, SEXS, SHIFTL, SSHIFTR, SUB,
+    USHIFTR,
+};
 use gx_words::{low, signed};
 
 /// What an instruction makes of its operands.
@@ -20,21 +24,21 @@ pub fn calc(act: u8, a: u32, b: u32) -> Option<u32>
     ensures { result ≡ calc act a b }
 {
     match act {
-        0x10 => Some(a.wrapping_add(b)), // add
-        0x11 => Some(a.wrapping_sub(b)), // sub
-        0x12 => Some(a.wrapping_mul(b)), // mul
-        0x13 => quotient(a, b), // div
-        0x14 => remainder(a, b), // mod
-        0x15 => Some(a.wrapping_neg()), // neg
-        0x18 => Some(a & b), // bitand
-        0x19 => Some(a | b), // bitor
-        0x1A => Some(a ^ b), // bitxor
-        0x1B => Some(!a), // bitnot
-        0x1C => Some(shift_left(a, b)), // shiftl
-        0x1D => Some(shift_right_signed(a, b)), // sshiftr
-        0x1E => Some(shift_right(a, b)), // ushiftr
-        0x44 => Some(extend_half(a)), // sexs
-        0x45 => Some(extend_byte(a)), // sexb
+        ADD => Some(a.wrapping_add(b)),
+        SUB => Some(a.wrapping_sub(b)),
+        MUL => Some(a.wrapping_mul(b)),
+        DIV => quotient(a, b),
+        MOD => remainder(a, b),
+        NEG => Some(a.wrapping_neg()),
+        BITAND => Some(a & b),
+        BITOR => Some(a | b),
+        BITXOR => Some(a ^ b),
+        BITNOT => Some(!a),
+        SHIFTL => Some(shift_left(a, b)),
+        SSHIFTR => Some(shift_right_signed(a, b)),
+        USHIFTR => Some(shift_right(a, b)),
+        SEXS => Some(extend_half(a)),
+        SEXB => Some(extend_byte(a)),
         _ => unreachable!(),
     }
 }

@@ -1,5 +1,6 @@
 //! Integer math, the tests of branches and random words, apart from any machine.
 //!
+//! - `acts` has the names of the instructions.
 //! - `arithmetic` has the instructions that turn words into a word (Glulx 3.1.2, "Integer
 //!   Math" and "Moving Data").
 //! - `branches` has the conditions of the branches ("Branches").
@@ -9,6 +10,7 @@
 //! here is its definition for all arguments. Nothing takes memory.
 #![tactic(auto)]
 
+mod acts;
 mod arithmetic;
 mod branches;
 mod random;

@@ -31,10 +31,7 @@ use calls::{call, callf, tailcall};
 use computing::computes;
 use continuations::{catch, throw};
 use gx_operands::{Plan, goes};
-use gx_rows::{
-    CALL, CALLF, CALLFI, CALLFII, CALLFIII, CATCH, Class, JUMPABS, NOP, RETURN, STKCOPY, STKCOUNT,
-    STKPEEK, STKROLL, STKSWAP, TAILCALL, THROW,
-};
+use gx_rows::{Class, by_row};
 use gx_state::{Effect, State};
 use gx_words::Fault;
 use std::alloc::Allocator;
@@ -60,7 +57,7 @@ fn flow<A: Allocator + Clone>(state: &mut State<A>, plan: &Plan) -> Result<Effec
         state.new.flat (flow state.old.flat (instruction_of plan.now)) }
     ensures done { IfOk result IsDone }
 {
-    match plan.row().number {
+    by_row!(Flow, plan.row().number;
         NOP => Ok(goes(state, plan)),
         CALL => call(state, plan),
         RETURN => leave(state, plan.load(0), plan.next),
@@ -68,9 +65,11 @@ fn flow<A: Allocator + Clone>(state: &mut State<A>, plan: &Plan) -> Result<Effec
         THROW => throw(state, plan),
         TAILCALL => tailcall(state, plan),
         JUMPABS => Ok(goes_to(state, plan.sp, plan.load(0))),
-        CALLF | CALLFI | CALLFII | CALLFIII => callf(state, plan),
-        _ => Err(Fault::BadOpcode),
-    }
+        CALLF => callf(state, plan),
+        CALLFI => callf(state, plan),
+        CALLFII => callf(state, plan),
+        CALLFIII => callf(state, plan);
+        Err(Fault::BadOpcode))
 }
 
 /// A row of Stack.
@@ -81,14 +80,13 @@ fn stack<A: Allocator + Clone>(state: &mut State<A>, plan: &Plan) -> Result<Effe
         (stack state.old.flat (instruction_of plan.now)) }
     ensures done { IfOk result IsDone }
 {
-    match plan.row().number {
+    by_row!(Stack, plan.row().number;
         STKCOUNT => stkcount(state, plan),
         STKPEEK => stkpeek(state, plan),
         STKSWAP => stkswap(state, plan),
         STKROLL => stkroll(state, plan),
-        STKCOPY => stkcopy(state, plan),
-        _ => Err(Fault::BadOpcode),
-    }
+        STKCOPY => stkcopy(state, plan);
+        Err(Fault::BadOpcode))
 }
 
 /// Does the row of a plan that `decode` made of this state.

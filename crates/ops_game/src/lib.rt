@@ -29,11 +29,7 @@ mod undos;
 
 use chances::{random, setrandom};
 use gx_operands::{Plan, goes, stores};
-use gx_rows::{
-    ACCELFUNC, ACCELPARAM, DEBUGTRAP, DISCARDUNDO, GESTALT, GETIOSYS, GETSTRINGTBL, HASUNDO,
-    PROTECT, QUIT, RANDOM, RESTART, RESTORE, RESTOREUNDO, SAVE, SAVEUNDO, SETIOSYS, SETRANDOM,
-    SETSTRINGTBL, VERIFY, gestalt as answer_to,
-};
+use gx_rows::{by_row, gestalt as answer_to};
 use gx_state::{Effect, State};
 use gx_undo::Undo;
 use gx_words::Fault;
@@ -120,7 +116,7 @@ pub fn act<A: Allocator + Clone>(
     ensures story { state.new.flat.story ≡ state.old.flat.story }
     ensures copies { AreCopiesFor state.old.flat.story undo.new.copies }
 {
-    match plan.row().number {
+    by_row!(Game, plan.row().number;
         GESTALT => gestalt(state, plan),
         DEBUGTRAP => Err(Fault::DebugTrap),
         RANDOM => random(state, plan, word),
@@ -139,7 +135,7 @@ pub fn act<A: Allocator + Clone>(
         SETSTRINGTBL => Ok(setstringtbl(state, plan)),
         GETIOSYS => getiosys(state, plan),
         SETIOSYS => Ok(setiosys(state, plan)),
-        ACCELFUNC | ACCELPARAM => Ok(goes(state, plan)),
-        _ => Err(Fault::BadOpcode),
-    }
+        ACCELFUNC => Ok(goes(state, plan)),
+        ACCELPARAM => Ok(goes(state, plan));
+        Err(Fault::BadOpcode))
 }

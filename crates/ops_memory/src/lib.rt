@@ -31,17 +31,14 @@ mod sizes;
 
 use arrays::{element, loads, puts};
 use bits::{aloadbit, astorebit};
-use gx_operands::{Plan, settle, stores};
-use gx_rows::{
-    ALOAD, ALOADB, ALOADBIT, ALOADS, ASTORE, ASTOREB, ASTOREBIT, ASTORES, BINARYSEARCH, Class,
-    GETMEMSIZE, LINEARSEARCH, LINKEDSEARCH, MALLOC, MCOPY, MFREE, MZERO, SETMEMSIZE,
-};
+use gx_operands::{Plan, settle};
+use gx_rows::{Class, by_row};
 use gx_state::{Effect, State};
 use gx_words::Fault;
 use heap::{malloc, mfree};
 use ranges::{mcopy, mzero};
 use searches::{Method, searches};
-use sizes::setmemsize;
+use sizes::{getmemsize, setmemsize};
 use std::alloc::Allocator;
 
 /// A row of Copy.
@@ -76,7 +73,7 @@ fn memory<A: Allocator + Clone>(
         (probes_of Class.Memory state.old.flat (instruction_of plan.now))) }
     ensures story { state.new.flat.story ≡ state.old.flat.story }
 {
-    match plan.row().number {
+    by_row!(Memory, plan.row().number;
         ALOAD => loads(state, plan, 4, element(plan, 4)),
         ALOADS => loads(state, plan, 2, element(plan, 2)),
         ALOADB => loads(state, plan, 1, element(plan, 1)),
@@ -85,10 +82,7 @@ fn memory<A: Allocator + Clone>(
         ASTORES => puts(state, plan, 2, element(plan, 2), plan.load(2)),
         ASTOREB => puts(state, plan, 1, element(plan, 1), plan.load(2)),
         ASTOREBIT => astorebit(state, plan),
-        GETMEMSIZE => {
-            let size = state.memory().size();
-            stores(state, plan, size)
-        }
+        GETMEMSIZE => getmemsize(state, plan),
         SETMEMSIZE => setmemsize(state, plan),
         LINEARSEARCH => searches(state, plan, left, Method::Linear),
         BINARYSEARCH => searches(state, plan, left, Method::Binary),
@@ -96,9 +90,8 @@ fn memory<A: Allocator + Clone>(
         MZERO => mzero(state, plan),
         MCOPY => mcopy(state, plan),
         MALLOC => malloc(state, plan),
-        MFREE => mfree(state, plan),
-        _ => Err(Fault::BadOpcode),
-    }
+        MFREE => mfree(state, plan);
+        Err(Fault::BadOpcode))
 }
 
 /// Does the row of a plan that `decode` made of this state.

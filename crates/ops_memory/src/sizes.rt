@@ -15,7 +15,7 @@ ghost use Rattle.gx_state.specs.Stores.{IsMemory, store_fault};
 ghost use Rattle.gx_operands.specs.Instructions.{L1};
 ghost use Rattle.gx_operands.specs.Plans.{instruction_of};
 ghost use Rattle.gx_operands.specs.Stores.{settled};
-ghost use Rattle.ops_memory.specs.Space.{is_size_refused, setmemsize};
+ghost use Rattle.ops_memory.specs.Space.{getmemsize, is_size_refused, setmemsize};
 
 use gx_operands::{Plan, can_store, settle, stores};
 use gx_state::{Dest, Effect, State};
@@ -134,4 +134,16 @@ pub fn setmemsize<A: Allocator + Clone>(state: &mut State<A>, plan: &Plan) -> Re
     resize_with(state, plan, size, 0)?;
     state.set_pc(plan.next);
     Ok(Effect::Went)
+}
+
+/// getmemsize
+#[tactic(auto, unfolding(crate::specs::Space::getmemsize))]
+pub fn getmemsize<A: Allocator + Clone>(state: &mut State<A>, plan: &Plan) -> Result<Effect, Fault>
+    requires { IsHeight state.old.flat plan.now.sp }
+    ensures value { Works (IsMemory plan.now.dest) result state.old.flat state.new.flat
+        (getmemsize state.old.flat (instruction_of plan.now)) }
+    ensures done { IfOk result IsDone }
+{
+    let size = state.memory().size();
+    stores(state, plan, size)
 }

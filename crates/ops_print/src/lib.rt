@@ -23,7 +23,7 @@ mod rows;
 mod stubs;
 
 use gx_operands::Plan;
-use gx_rows::{STREAMCHAR, STREAMNUM, STREAMSTR, STREAMUNICHAR};
+use gx_rows::by_row;
 use gx_state::{Effect, State};
 use gx_words::Fault;
 pub use items::{item, item_and_mode, next_put, pass_item};
@@ -39,11 +39,10 @@ pub fn act<A: Allocator + Clone>(state: &mut State<A>, plan: &Plan) -> Result<Ef
     ensures value { Goes result state.old.flat state.new.flat (row_effect state.old.flat (instruction_of plan.now)) }
     ensures asks { IfOk result (λ effect. IsPutAtMost effect (state.new.flat ≡ state.old.flat)) }
 {
-    match plan.row().number {
+    by_row!(Print, plan.row().number;
         STREAMCHAR => streamchar(state, plan),
         STREAMNUM => Ok(streamnum(state, plan)),
         STREAMSTR => streamstr(state, plan),
-        STREAMUNICHAR => streamunichar(state, plan),
-        _ => Err(Fault::BadOpcode),
-    }
+        STREAMUNICHAR => streamunichar(state, plan);
+        Err(Fault::BadOpcode))
 }
