@@ -14,8 +14,8 @@ use gx_pool::PagePool;
 use gx_session::statuses;
 use rand_chacha::ChaCha20Rng;
 use rand_core::SeedableRng;
-use real::{FolderShelf, StdSink, StdSource};
-use std::io::ErrorKind;
+use real::{FolderShelf, Patient, StdSink, StdSource};
+use std::io::{ErrorKind, Write};
 use std::process::ExitCode;
 use std::random::RandomSource;
 use std::{env, io};
@@ -38,8 +38,8 @@ fn seed(rt: &impl RandomSource) -> [u8; 32] {
 fn play_words(rt: &HostRuntime, words: &[&str]) -> u8 {
     let alloc = rt.alloc();
     let pool = PagePool::new(alloc, MOST_PAGES);
-    let mut source = StdSource::new(rt.reader());
-    let mut sink = StdSink::new(io::writer(rt));
+    let mut source = StdSource::new(Patient::new(rt, rt.reader()));
+    let mut sink = StdSink::new(Patient::new(rt, io::writer(rt)));
     let mut shelf = FolderShelf::new(alloc, rt);
     let mut dice = ChaCha20Rng::from_seed(seed(rt));
     let ended = play(
@@ -53,7 +53,8 @@ fn play_words(rt: &HostRuntime, words: &[&str]) -> u8 {
     );
     if let Ok(line) = ended.line(alloc) {
         if !line.is_empty() {
-            let _ = eprintln!(rt; "{line}");
+            let stderr = rt.stderr();
+            let _ = Patient::new(rt, io::writer(&stderr)).writeln(line.as_str());
         }
     }
     ended.status

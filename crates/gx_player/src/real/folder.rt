@@ -1,7 +1,8 @@
 //! The files of the current folder.
 //!
 //! A store puts a new file in the old one's place, whole or not at all (`replace`). What is read is
-//! what a name leads to, through links too; what is removed is the name.
+//! what a name leads to, through links too; what is removed is the name. A name that is too long for a
+//! file system has a shorter one (`names`), and a call that is interrupted is made again (`patient`).
 //!
 //! What is read is proved for every reader whose bytes std tells: all that it has left, or the answer
 //! that it has more than was asked for. std doesn't say which file a name opens, what is in it, what
@@ -12,13 +13,16 @@ ghost use Rattle.gx_outside.specs.Files.{no_files};
 ghost use Rattle.gx_outside.specs.Outside.{IsBounded, no_call};
 ghost use Rattle.gx_outside.specs.Shelves.{ShelfCall, load_of};
 
+use super::names::FolderName;
+use super::patient::{Patient, uninterrupted};
 use super::replace::replace_file;
 use gx_outside::{Calls, Load, Shelf, ShelfFault};
 use gx_words::Bytes;
 use std::alloc::Global;
-use std::fs::OpenFile;
+use std::fs::{File, OpenFile};
 use std::io::{ErrorKind, Read};
 use std::rt::Files;
+use std::time::Clock;
 use std::{fs, io};
 
 /// The files of the current folder.
@@ -73,17 +77,22 @@ fn read_file<R: Read>(file: &mut R, alloc: Global, most: usize) -> Result<Load, 
 }
 
 /// The file of a name, unless it has more than `most` bytes.
-fn load_file<R: Files>(rt: &R, alloc: Global, name: &str, most: usize) -> Result<Load, ShelfFault>
+fn load_file<R: Files + Clock>(
+    rt: &R,
+    alloc: Global,
+    name: &str,
+    most: usize,
+) -> Result<Load, ShelfFault>
     ensures { IfOk result (IsBounded most) }
 {
-    let mut file = match fs::open(rt, name) {
+    let file = match fs::open(rt, name) {
         Ok(file) => file,
         Err(error) if error.kind() == ErrorKind::NotFound => return Ok(Load::Missing),
         Err(error) => return Err(fault_of(error)),
     };
-    match file.metadata() {
+    match uninterrupted(|| file.metadata()) {
         Ok(attributes) if attributes.len() > most as u64 => Ok(Load::TooLong),
-        Ok(_) => read_file(&mut file, alloc, most),
+        Ok(_) => read_file(&mut Patient::new(rt, file), alloc, most),
         Err(error) => Err(fault_of(error)),
     }
 }
@@ -103,7 +112,7 @@ fn found<T: Drop>(answer: io::Result<T>) -> Result<bool, ShelfFault>
     }
 }
 
-impl<R: Files> Shelf for FolderShelf<'_, R> {
+impl<R: Files<File = File> + Clock> Shelf for FolderShelf<'_, R> {
     ghost seen = { λ s. record { calls = s.calls; tells = false; files = no_files } };
 
     // What a call does is said as far as std tells, which is how it is counted. That a run makes the session's calls
@@ -114,7 +123,8 @@ impl<R: Files> Shelf for FolderShelf<'_, R> {
     ghost called_so = { λ before c now does. does };
 
     fn load(&mut self, name: &str, most: usize) -> Result<Load, ShelfFault> {
-        let loaded = load_file(self.rt, self.alloc, name, most);
+        let own = FolderName::of(name);
+        let loaded = load_file(self.rt, self.alloc, own.as_str(), most);
         self.calls.note(
             matches!(loaded, Err(ShelfFault::Failed)),
             matches!(loaded, Err(ShelfFault::NoMemory)),
@@ -123,7 +133,8 @@ impl<R: Files> Shelf for FolderShelf<'_, R> {
     }
 
     fn store(&mut self, name: &str, bytes: &[u8]) -> Result<(), ShelfFault> {
-        let stored = replace_file(self.rt, self.alloc, name, bytes);
+        let own = FolderName::of(name);
+        let stored = replace_file(self.rt, self.alloc, own.as_str(), bytes);
         self.calls.note(
             stored == Err(ShelfFault::Failed),
             stored == Err(ShelfFault::NoMemory),
@@ -132,7 +143,8 @@ impl<R: Files> Shelf for FolderShelf<'_, R> {
     }
 
     fn remove(&mut self, name: &str) -> Result<bool, ShelfFault> {
-        let removed = found(fs::remove_file(self.rt, name));
+        let own = FolderName::of(name);
+        let removed = found(uninterrupted(|| fs::remove_file(self.rt, own.as_str())));
         self.calls.note(
             removed == Err(ShelfFault::Failed),
             removed == Err(ShelfFault::NoMemory),
@@ -141,7 +153,8 @@ impl<R: Files> Shelf for FolderShelf<'_, R> {
     }
 
     fn has(&mut self, name: &str) -> Result<bool, ShelfFault> {
-        let has = found(fs::metadata(self.rt, name));
+        let own = FolderName::of(name);
+        let has = found(uninterrupted(|| fs::metadata(self.rt, own.as_str())));
         self.calls.note(
             has == Err(ShelfFault::Failed),
             has == Err(ShelfFault::NoMemory),

@@ -3,7 +3,8 @@
 //! The bytes go to a fresh file in the folder of the name, which is synced and then renamed over the
 //! name: whatever fails or ends the program, the name has the old file or the new one. A link under
 //! the name is replaced, and what it leads to stays. What is neither a plain file nor a link is
-//! refused, and so is a plain file that can't be opened for writing.
+//! refused, and so is a plain file that can't be opened for writing. The new file keeps who may use
+//! the old one, and whose that is, where the system lets it be given away.
 //!
 //! A program that is ended in the middle leaves its fresh file, which no later store touches; where
 //! a thousand are left in a folder, nothing more is stored there.
@@ -19,11 +20,13 @@ ghost use Rattle.std.specs.IoError.{error_kind};
 ghost use Rattle.std.specs.Path.{path_buf_bytes, path_parent, path_with_file_name};
 
 use super::folder::fault_of;
+use super::patient::uninterrupted;
 use gx_outside::ShelfFault;
 use std::alloc::{AllocError, Global};
-use std::fs::{Metadata, OpenFile, OpenOptions, Permissions};
+use std::fs::{File, Metadata, OpenFile, OpenOptions, Permissions};
 use std::io::{ErrorKind, Write};
-use std::os::unix::fs::PermissionsExt;
+use std::os::fd::AsFd;
+use std::os::unix::fs::{MetadataExt, PermissionsExt, fchown};
 use std::path::{Path, PathBuf};
 use std::rt::Files;
 use std::{fs, io};
@@ -34,13 +37,21 @@ const FRESH_NAMES: u32 = 1000;
 /// The bits of a mode that say who may read, write and run a file.
 const PERMISSION_BITS: u32 = 0o777;
 
-/// What a new file keeps of what was found under its name: who may use a plain file, and nothing of
-/// a link, or where nothing is. The rest is refused.
-fn kept_of(found: io::Result<Metadata>) -> Result<Option<Permissions>, ShelfFault>
+/// What a new file keeps of a plain file.
+#[derive(Drop)]
+struct Kept {
+    permissions: Permissions,
+    owner: u32,
+    group: u32,
+}
+
+/// What a new file keeps of what was found under its name: whose a plain file is and who may use it,
+/// and nothing of a link, or where nothing is. The rest is refused.
+fn kept_of(found: io::Result<Metadata>) -> Result<Option<Kept>, ShelfFault>
     ensures { MatchResult found
         (λ attributes.
-        (IsFile (file_type attributes) → IsOkAnd result (λ kept. IsSomeAnd kept (λ permissions.
-        permissions_mode permissions ≡ bit_and (metadata_mode attributes) 0o777)))
+        (IsFile (file_type attributes) → IsOkAnd result (λ found. IsSomeAnd found (λ kept.
+        permissions_mode kept.permissions ≡ bit_and (metadata_mode attributes) 0o777)))
         × (IsSymlink (file_type attributes) → result ≡ Ok None)
         × (¬ IsFile (file_type attributes) → ¬ IsSymlink (file_type attributes)
         → result ≡ Err ShelfFault.Failed))
@@ -53,7 +64,11 @@ fn kept_of(found: io::Result<Metadata>) -> Result<Option<Permissions>, ShelfFaul
     match found {
         Ok(attributes) if attributes.is_file() => {
             let mode = attributes.permissions().mode() & PERMISSION_BITS;
-            Ok(Some(Permissions::from_mode(mode)))
+            Ok(Some(Kept {
+                permissions: Permissions::from_mode(mode),
+                owner: attributes.uid(),
+                group: attributes.gid(),
+            }))
         }
         Ok(attributes) if attributes.is_symlink() => Ok(None),
         Ok(_) => Err(ShelfFault::Failed),
@@ -64,8 +79,8 @@ fn kept_of(found: io::Result<Metadata>) -> Result<Option<Permissions>, ShelfFaul
 
 /// What a new file keeps of what stands under its name. A plain file must be open to a writer, so
 /// that one which is protected against writing isn't replaced.
-fn look<R: Files>(rt: &R, name: &str) -> Result<Option<Permissions>, ShelfFault> {
-    let kept = kept_of(fs::symlink_metadata(rt, name))?;
+fn look<R: Files>(rt: &R, name: &str) -> Result<Option<Kept>, ShelfFault> {
+    let kept = kept_of(uninterrupted(|| fs::symlink_metadata(rt, name)))?;
     if kept.is_some() {
         OpenOptions::new()
             .write(true)
@@ -105,17 +120,23 @@ fn create_fresh<R: Files>(
     Err(ShelfFault::Failed)
 }
 
+/// Gives a fresh file what it keeps. What it can't be given it has as any new file.
+fn keep<F: OpenFile + AsFd>(file: &F, kept: Kept) {
+    let _ = uninterrupted(|| fchown(file, None, Some(kept.group)));
+    let _ = uninterrupted(|| fchown(file, Some(kept.owner), None));
+    let _ = file.set_permissions(kept.permissions);
+}
+
 /// Writes all bytes to a fresh file, as far as the disk. Who may use it is settled before it has any.
-fn fill<F: Write + OpenFile>(
+fn fill<F: Write + OpenFile + AsFd>(
     file: &mut F,
-    kept: Option<Permissions>,
+    kept: Option<Kept>,
     bytes: &[u8],
 ) -> io::Result<()>
     ensures { OnOk result (Appends (F.contents file.old) (F.contents file.new) bytes.now) }
 {
-    if let Some(permissions) = kept {
-        // Where they can't be had the new file has those of any new file.
-        let _ = file.set_permissions(permissions);
+    if let Some(kept) = kept {
+        keep(file, kept);
     }
     file.write_all(bytes)?;
     file.sync_all()
@@ -141,7 +162,7 @@ fn sync_folder<R: Files>(rt: &R, name: &str) {
 
 /// Puts a file of these bytes in the place of what stands under the name. What stands there stays,
 /// and the fresh file goes, where any of it fails; once the new file has the name, nothing is undone.
-pub fn replace_file<R: Files>(
+pub fn replace_file<R: Files<File = File>>(
     rt: &R,
     alloc: Global,
     name: &str,
@@ -151,14 +172,14 @@ pub fn replace_file<R: Files>(
     let (fresh, mut file) = create_fresh(rt, alloc, name)?;
     let filled = fill(&mut file, kept, bytes);
     drop(file);
-    let replaced = filled.and_then(|()| fs::rename(rt, &fresh, name));
+    let replaced = filled.and_then(|()| uninterrupted(|| fs::rename(rt, &fresh, name)));
     match replaced {
         Ok(()) => {
             sync_folder(rt, name);
             Ok(())
         }
         Err(error) => {
-            let _ = fs::remove_file(rt, &fresh);
+            let _ = uninterrupted(|| fs::remove_file(rt, &fresh));
             Err(fault_of(error))
         }
     }
