@@ -36,7 +36,8 @@ module _ {T : Type 0} (id_of : T → ℕ) where
         | false ↦ (above.0, above_without xs gone n above.1)
       ]
 
-  pub above_filter : (test : T → Bool) (xs : List T) (n : ℕ) → IsAboveAll id_of xs n → IsAboveAll id_of (filter test xs) n
+  pub above_filter : (test : T → Bool) (xs : List T) (n : ℕ) → IsAboveAll id_of xs n
+      → IsAboveAll id_of (filter test xs) n
   above_filter test [] n above = tt
   above_filter test (x ∷ xs) n above =
       elim (test x) as (λ b. IsAboveAll id_of (if b then x ∷ filter test xs else filter test xs) n) [

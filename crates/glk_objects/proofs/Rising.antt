@@ -36,7 +36,8 @@ module _ {T : Type 0} (id_of : T → ℕ) where
   below_later (x ∷ xs) zero (suc j) d up less within = below_at xs (id_of x) j d up.0 (omega arith)
   below_later (x ∷ xs) (suc i) (suc j) d up less within = below_later xs i j d up.1 (omega arith) (omega arith)
 
-  ordered : (xs : List T) (id : ℕ) → AreRising id_of xs → IsNonDecreasingBy (λ x. ordering_index (nat_cmp (id_of x) id)) xs
+  ordered : (xs : List T) (id : ℕ) → AreRising id_of xs
+      → IsNonDecreasingBy (λ x. ordering_index (nat_cmp (id_of x) id)) xs
   ordered xs id up i j d le within =
       keeps_order (id_of (get_or xs i d)) (id_of (get_or xs j d)) id (grind (arith, below_later xs i j d up))
 
@@ -141,7 +142,8 @@ module _ {T : Type 0} (id_of : T → ℕ) where
   below_end [] id new below less = (less, tt)
   below_end (x ∷ xs) id new below less = (below.0, below_end xs id new below.1 less)
 
-  pub rises_end : (xs : List T) (new : T) → AreRising id_of xs → IsAboveAll id_of xs (id_of new) → AreRising id_of (xs ++ new ∷ [])
+  pub rises_end : (xs : List T) (new : T) → AreRising id_of xs → IsAboveAll id_of xs (id_of new)
+      → AreRising id_of (xs ++ new ∷ [])
   rises_end [] new up above = (tt, tt)
   rises_end (x ∷ xs) new up above = (below_end xs (id_of x) new up.0 above.0, rises_end xs new up.1 above.1)
 
@@ -181,7 +183,8 @@ module _ {T : Type 0} (id_of : T → ℕ) where
         | false ↦ (below_without xs (id_of x) gone up.0, rises_without xs gone up.1)
       ]
 
-  pub below_filter : (test : T → Bool) (xs : List T) (id : ℕ) → IsBelowAll id_of xs id → IsBelowAll id_of (filter test xs) id
+  pub below_filter : (test : T → Bool) (xs : List T) (id : ℕ) → IsBelowAll id_of xs id
+      → IsBelowAll id_of (filter test xs) id
   below_filter test [] id below = tt
   below_filter test (x ∷ xs) id below =
       elim (test x) as (λ b. IsBelowAll id_of (if b then x ∷ filter test xs else filter test xs) id) [

@@ -1,5 +1,7 @@
 -- The bytes of opcodes, and the places of their numbers in the table.
-use Rattle.std.proofs.Common.{◌≡◌, ◌≤◌, ◌<◌, ◌+◌, ◌-◌, ◌*◌, ◌/◌, ◌%◌, ◌^◌, ◌==◌, ◌&&◌, ℕ, zero, suc, Bool, true, false, nat_lt, if◌then◌else◌, List, [], ◌∷◌, ◌++◌, length, take, get_or, refl, sym, ◌∙◌, ap, subst, inl, inr, arith, Some, None, All}
+use Rattle.std.proofs.Common.{◌≡◌, ◌≤◌, ◌<◌, ◌+◌, ◌-◌, ◌*◌, ◌/◌, ◌%◌, ◌^◌, ◌==◌, ◌&&◌, ℕ, zero, suc, Bool, true}
+use Rattle.std.proofs.Common.{false, nat_lt, if◌then◌else◌, List, [], ◌∷◌, ◌++◌, length, take, get_or, refl, sym, ◌∙◌}
+use Rattle.std.proofs.Common.{ap, subst, inl, inr, arith, Some, None, All}
 use Rattle.std.specs.List.{list_all, position_or_len}
 use Rattle.std.proofs.lemmas.Bool.{cases_lt}
 use Rattle.std.proofs.lemmas.Bool.Decides.{nat_tests}
@@ -27,14 +29,16 @@ both : (a b : Bool) → (a && b) ≡ true → (a ≡ true) × (b ≡ true)
 both true b h = (refl, h)
 both false b h = absurd (cc)
 
-within_ok : (p place : ℕ) → (if nat_lt p row_count then Some p else None) ≡ Some place → (p ≡ place) × (place < row_count)
+within_ok : (p place : ℕ) → (if nat_lt p row_count then Some p else None) ≡ Some place
+    → (p ≡ place) × (place < row_count)
 within_ok p place h = grind (arith, nat_tests)
 
 within_is : (p place : ℕ) → p ≡ place → place < row_count → (if nat_lt p row_count then Some p else None) ≡ Some place
 within_is p place is within = grind (arith, nat_tests)
 
 -- the row at the place of a number has that number
-pub place_found : (number place : ℕ) → place_of number ≡ Some place → (place < row_count) × ((row_at place).number ≡ number)
+pub place_found : (number place : ℕ) → place_of number ≡ Some place
+    → (place < row_count) × ((row_at place).number ≡ number)
 unfolding place_of row_at
 place_found number place h =
     let p = position_or_len (λ row. row.number == number) table in
@@ -80,7 +84,8 @@ below m n h = grind (arith, nat_tests)
 pub number_small : (place : ℕ) → place < row_count → (row_at place).number < 0x4000
 unfolding row_at
 number_small place within =
-    let pass = AllPass-from_list_all (λ row. nat_lt row.number 0x4000) table all_small place none (omega (arith, rows_counted)) in
+    let pass = AllPass-from_list_all (λ row. nat_lt row.number 0x4000) table all_small place none
+    (omega (arith, rows_counted)) in
     below _ _ pass
 
 -- ---- opcodes
@@ -126,10 +131,14 @@ spelled_one number h =
     (subst (λ (k : ℕ). spelled number k ≡ number ∷ []) (sym s) (ap (λ (n : ℕ). n ∷ []) b), s)
 
 spelled_two : (number : ℕ) → 0x80 ≤ number → number < 0x4000
-    → (spelled number (shortest number) ≡ ((number + 0x8000) / 256 % 256) ∷ ((number + 0x8000) % 256) ∷ []) × (shortest number ≡ 2)
+    → (spelled number (shortest number) ≡ ((number + 0x8000) / 256 % 256) ∷ ((number + 0x8000) % 256) ∷ [])
+    × (shortest number ≡ 2)
 spelled_two number h k =
-    let s : shortest number ≡ 2 = grind (arith, nat_tests) in
-    (subst (λ (k : ℕ). spelled number k ≡ ((number + 0x8000) / 256 % 256) ∷ ((number + 0x8000) % 256) ∷ []) (sym s) refl, s)
+    let s : shortest number ≡ 2 = grind (arith, nat_tests) in (
+      subst (λ (k : ℕ). spelled number k ≡ ((number + 0x8000) / 256 % 256) ∷ ((number + 0x8000) % 256) ∷ [])
+          (sym s) refl,
+      s,
+    )
 
 pub length-opcode : (number : ℕ) → number < 0x4000 → length (spelled number (shortest number)) ≡ shortest number
 length-opcode number small = elim (cases_lt number 0x80) [
@@ -139,7 +148,8 @@ length-opcode number small = elim (cases_lt number 0x80) [
 
 pub spelled_some : (number size : ℕ) → 0 < length (spelled number size)
 spelled_some number size = some_bytes (size == 1) (size == 2) _ where
-  some_bytes : (one two : Bool) (v : ℕ) → 0 < length (if one then (v % 256) ∷ [] else if two then (v / 2 ^ 8 % 256) ∷ (v % 256) ∷ [] else bytes_of_word v)
+  some_bytes : (one two : Bool) (v : ℕ) → 0
+      < length (if one then (v % 256) ∷ [] else if two then (v / 2 ^ 8 % 256) ∷ (v % 256) ∷ [] else bytes_of_word v)
   some_bytes true two v = omega arith
   some_bytes false true v = omega arith
   some_bytes false false v = omega arith
@@ -151,14 +161,17 @@ read_two number rest h k =
     opcode_two _ _ rest (omega arith) (omega arith) ∙ ap (λ (n : ℕ). Some (n, 2)) value
 
 -- the shortest form of a number is read back
-pub opcode_read : (number : ℕ) (rest : List ℕ) → number < 0x4000 → opcode_of (spelled number (shortest number) ++ rest) ≡ Some (number, shortest number)
+pub opcode_read : (number : ℕ) (rest : List ℕ) → number < 0x4000
+    → opcode_of (spelled number (shortest number) ++ rest) ≡ Some (number, shortest number)
 opcode_read number rest small = elim (cases_lt number 0x80) [
   | inl less ↦
       let one = spelled_one number less in
-      subst (λ (l : List ℕ). opcode_of (l ++ rest) ≡ Some (number, shortest number)) (sym one.0) (opcode_one number rest less ∙ ap (λ (k : ℕ). Some (number, k)) (sym one.1))
+      subst (λ (l : List ℕ). opcode_of (l ++ rest) ≡ Some (number, shortest number)) (sym one.0)
+      (opcode_one number rest less ∙ ap (λ (k : ℕ). Some (number, k)) (sym one.1))
   | inr more ↦
       let two = spelled_two number more small in
-      subst (λ (l : List ℕ). opcode_of (l ++ rest) ≡ Some (number, shortest number)) (sym two.0) (read_two number rest more small ∙ ap (λ (k : ℕ). Some (number, k)) (sym two.1))
+      subst (λ (l : List ℕ). opcode_of (l ++ rest) ≡ Some (number, shortest number)) (sym two.0)
+      (read_two number rest more small ∙ ap (λ (k : ℕ). Some (number, k)) (sym two.1))
 ]
 
 -- what is read in its shortest form stands there
@@ -195,14 +208,17 @@ of_some false p q h = some_pair p q h
 
 of_four : (b : ℕ) (rest : List ℕ) (number size : ℕ) → 0xC0 ≤ b → opcode_of (b ∷ rest) ≡ Some (number, size) → 4 ≡ size
 of_four b rest number size above h =
-    ap (λ (p : ℕ × ℕ). p.1) (of_some (nat_lt (length (b ∷ rest)) 4) (word (b ∷ rest) 0 - 0xC0000000, 4) (number, size) (sym (opcode_four b rest above) ∙ h))
+    ap (λ (p : ℕ × ℕ). p.1) (of_some (nat_lt (length (b ∷ rest)) 4) (word (b ∷ rest) 0 - 0xC0000000, 4) (number, size)
+    (sym (opcode_four b rest above) ∙ h))
 
-not_four : (code : List ℕ) (number size : ℕ) → 4 ≡ size → size ≡ shortest number → number < 0x4000 → IsThere code number size
+not_four : (code : List ℕ) (number size : ℕ) → 4 ≡ size → size ≡ shortest number → number < 0x4000
+    → IsThere code number size
 not_four code number size four short small =
     let below : shortest number < 4 = grind (arith, nat_tests) in
     absurd (omega arith)
 
-pub opcode_there : (code : List ℕ) (number size : ℕ) → All (λ b. b < 256) code → size ≡ shortest number → number < 0x4000 → opcode_of code ≡ Some (number, size) → IsThere code number size
+pub opcode_there : (code : List ℕ) (number size : ℕ) → All (λ b. b < 256) code → size ≡ shortest number
+    → number < 0x4000 → opcode_of code ≡ Some (number, size) → IsThere code number size
 unfolding opcode_of
 opcode_there [] number size bytes short small h = no_opcode [] (number, size) h
 opcode_there (b ∷ []) number size bytes short small h = elim (cases_lt b 0x80) [
@@ -213,9 +229,11 @@ opcode_there (b ∷ []) number size bytes short small h = elim (cases_lt b 0x80)
   ]
 ]
 opcode_there (b ∷ c ∷ rest) number size bytes short small h = elim (cases_lt b 0x80) [
-  | inl less ↦ there (b ∷ c ∷ rest) (b, 1) (number, size) (sym (opcode_one b (c ∷ rest) less) ∙ h) (there_one b (c ∷ rest) less)
+  | inl less ↦ there (b ∷ c ∷ rest) (b, 1) (number, size) (sym (opcode_one b (c ∷ rest) less) ∙ h)
+      (there_one b (c ∷ rest) less)
   | inr more ↦ elim (cases_lt b 0xC0) [
-    | inl below ↦ there (b ∷ c ∷ rest) (b * 256 + c - 0x8000, 2) (number, size) (sym (opcode_two b c rest more below) ∙ h) (there_two b c rest more below (bytes 1 0 (omega arith)))
+    | inl below ↦ there (b ∷ c ∷ rest) (b * 256 + c - 0x8000, 2) (number, size)
+        (sym (opcode_two b c rest more below) ∙ h) (there_two b c rest more below (bytes 1 0 (omega arith)))
     | inr above ↦ not_four (b ∷ c ∷ rest) number size (of_four b (c ∷ rest) number size above h) short small
   ]
 ]

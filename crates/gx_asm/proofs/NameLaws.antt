@@ -1,5 +1,6 @@
 -- The names of the instructions are told apart, and hold no blank and no line feed: seen by looking at the whole table.
-use Rattle.std.proofs.Common.{◌≡◌, ◌<◌, ◌+◌, ◌==◌, ◌&&◌, ℕ, zero, suc, Bool, true, List, [], ◌∷◌, length, get_or, refl, sym, ap, ◌∙◌, inl, inr, arith, Some}
+use Rattle.std.proofs.Common.{◌≡◌, ◌<◌, ◌+◌, ◌==◌, ◌&&◌, ℕ, zero, suc, Bool, true, List, [], ◌∷◌, length, get_or}
+use Rattle.std.proofs.Common.{refl, sym, ap, ◌∙◌, inl, inr, arith, Some}
 use Rattle.std.specs.Str.{bytes_eq}
 use Rattle.std.proofs.lemmas.Bool.{cases_lt, eqb-true, lt-ltb, le-ltb}
 use Rattle.std.proofs.lemmas.List.Sums.{passes_at_first}
@@ -23,21 +24,26 @@ all_stand : stand_from 0 names ≡ true
 unfolding instruction_names
 all_stand = refl
 
-stands : (first i : ℕ) (rest : List (List ℕ)) → stand_from first rest ≡ true → i < length rest → first_named (get_or rest i []) ≡ first + i
+stands : (first i : ℕ) (rest : List (List ℕ)) → stand_from first rest ≡ true → i < length rest
+    → first_named (get_or rest i []) ≡ first + i
 stands first i [] all within = absurd (omega arith)
-stands first zero (name ∷ rest) all within = eqb-true _ _ (both (first_named name == first) (stand_from (first + 1) rest) all).0 ∙ omega arith
+stands first zero (name ∷ rest) all within =
+    eqb-true _ _ (both (first_named name == first) (stand_from (first + 1) rest) all).0 ∙ omega arith
 stands first (suc i) (name ∷ rest) all within =
-    stands (first + 1) i rest (both (first_named name == first) (stand_from (first + 1) rest) all).1 (omega arith) ∙ omega arith
+    stands (first + 1) i rest (both (first_named name == first) (stand_from (first + 1) rest) all).1 (omega arith)
+    ∙ omega arith
 
 -- the name at a place has that place
 pub name_found : (place : ℕ) → place < row_count → place_named (name_at place) ≡ Some place
 unfolding place_named
 name_found place within =
-    let here : first_named (name_at place) ≡ place = stands 0 place names all_stand (omega (arith, names_counted)) ∙ omega arith in
+    let here : first_named (name_at place) ≡ place = stands 0 place names all_stand (omega (arith, names_counted))
+    ∙ omega arith in
     rw (here, lt-ltb place row_count within) refl
 
 -- and a name that has a place stands there
-pub named_there : (name : List ℕ) (place : ℕ) → place_named name ≡ Some place → (place < row_count) × (name_at place ≡ name)
+pub named_there : (name : List ℕ) (place : ℕ) → place_named name ≡ Some place
+    → (place < row_count) × (name_at place ≡ name)
 unfolding place_named
 named_there name place is =
     elim (cases_lt (first_named name) row_count) [

@@ -1,5 +1,7 @@
 -- The nibbles of modes, and the modes of nibbles.
-use Rattle.std.proofs.Common.{◌≡◌, ◌≤◌, ◌<◌, ◌+◌, ◌-◌, ◌*◌, ◌/◌, ◌%◌, ◌==◌, ℕ, Bool, true, false, nat_lt, if◌then◌else◌, List, [], ◌∷◌, length, map, refl, sym, ap, subst, inl, inr, arith, Option, Some, None, Result, Ok, Err}
+use Rattle.std.proofs.Common.{◌≡◌, ◌≤◌, ◌<◌, ◌+◌, ◌-◌, ◌*◌, ◌/◌, ◌%◌, ◌==◌, ℕ, Bool, true, false, nat_lt}
+use Rattle.std.proofs.Common.{if◌then◌else◌, List, [], ◌∷◌, length, map, refl, sym, ap, subst, inl, inr, arith}
+use Rattle.std.proofs.Common.{Option, Some, None, Result, Ok, Err}
 use Rattle.std.specs.Option.{ok_or}
 use Rattle.std.proofs.lemmas.Bool.{cases_lt}
 use Rattle.std.proofs.lemmas.Bool.Decides.{nat_tests}
@@ -12,12 +14,14 @@ use Rattle.gx_rows.specs.declared.modes.Kind.{Kind}
 use Rattle.gx_rows.specs.Modes.{addressing, HasWidth, kind_of}
 use Rattle.gx_asm.specs.declared.faults.ListFault.TheVariants as of_code
 use Rattle.gx_asm.specs.Texts.{required}
-use Rattle.gx_asm.specs.Instructions.{AreModes, operand_count, data_len, all_data_len, fits_kind, nibble_of, packed_nibbles}
+use Rattle.gx_asm.specs.Instructions.{AreModes, operand_count, data_len, all_data_len, fits_kind, nibble_of}
+use Rattle.gx_asm.specs.Instructions.{packed_nibbles}
 use Rattle.gx_asm.specs.Codes.{modes_from, mode_in, nibbles}
 
 -- ---- steps that may fail
 
-pub bind_ok : {A B E : Type 0} (m : Result A E) (f : A → Result B E) (y : B) → (m >>= f) ≡ Ok y → (x : A) × (m ≡ Ok x) × (f x ≡ Ok y)
+pub bind_ok : {A B E : Type 0} (m : Result A E) (f : A → Result B E) (y : B) → (m >>= f) ≡ Ok y
+    → (x : A) × (m ≡ Ok x) × (f x ≡ Ok y)
 bind_ok (Ok x) f y h = (x, refl, h)
 bind_ok (Err e) f y h = absurd (cc)
 
@@ -39,7 +43,8 @@ at_width P one two four n (inr (inr e)) = subst P (sym e) four
 pub addressing_of : (mode : Addressing) → HasWidth mode → addressing (nibble_of mode) ≡ Some mode
 unfolding addressing
 addressing_of Zero has = refl
-addressing_of (Constant n) has = at_width (λ n. addressing (nibble_of (Constant n)) ≡ Some (Constant n)) refl refl refl n has
+addressing_of (Constant n) has = at_width (λ n. addressing (nibble_of (Constant n)) ≡ Some (Constant n)) refl refl
+    refl n has
 addressing_of (Memory n) has = at_width (λ n. addressing (nibble_of (Memory n)) ≡ Some (Memory n)) refl refl refl n has
 addressing_of Top has = refl
 addressing_of (Local n) has = at_width (λ n. addressing (nibble_of (Local n)) ≡ Some (Local n)) refl refl refl n has
@@ -47,7 +52,8 @@ addressing_of (Ram n) has = at_width (λ n. addressing (nibble_of (Ram n)) ≡ S
 
 pub nibble_small : (mode : Addressing) → HasWidth mode → nibble_of mode < 16
 nibble_small Zero has = omega arith
-nibble_small (Constant n) has = at_width (λ n. nibble_of (Constant n) < 16) (omega arith) (omega arith) (omega arith) n has
+nibble_small (Constant n) has = at_width (λ n. nibble_of (Constant n) < 16) (omega arith) (omega arith)
+    (omega arith) n has
 nibble_small (Memory n) has = at_width (λ n. nibble_of (Memory n) < 16) (omega arith) (omega arith) (omega arith) n has
 nibble_small Top has = omega arith
 nibble_small (Local n) has = at_width (λ n. nibble_of (Local n) < 16) (omega arith) (omega arith) (omega arith) n has
@@ -65,7 +71,8 @@ some_same m mode h = cc
 or_else : (n k : ℕ) (b : Bool) (m : Addressing) (others : Option Addressing) (mode : Addressing)
     → (b ≡ true → n ≡ k) → IsOf k m → (others ≡ Some mode → IsOf n mode)
     → (if b then Some m else others) ≡ Some mode → IsOf n mode
-or_else n k true m others mode same here rest is = subst (λ n. IsOf n mode) (sym (same refl)) (subst (IsOf k) (some_same m mode is) here)
+or_else n k true m others mode same here rest is =
+    subst (λ n. IsOf n mode) (sym (same refl)) (subst (IsOf k) (some_same m mode is) here)
 or_else n k false m others mode same here rest is = rest is
 
 pub same_number : (n k : ℕ) → (n == k) ≡ true → n ≡ k
@@ -128,7 +135,8 @@ low_of n m h k = omega arith
 high_of : (n m : ℕ) → n < 16 → m < 16 → (n + 16 * m) / 16 ≡ m
 high_of n m h k = omega arith
 
-pub modes_written : (at : ℕ) (row : Row) (count i : ℕ) (modes : List Addressing) → operand_count row ≡ count → i + length modes ≡ count → AreModes row i modes
+pub modes_written : (at : ℕ) (row : Row) (count i : ℕ) (modes : List Addressing) → operand_count row ≡ count
+    → i + length modes ≡ count → AreModes row i modes
     → modes_from at row i (nibbles (packed_nibbles (map nibble_of modes))) ≡ Ok modes
 unfolding modes_from nibbles packed_nibbles
 modes_written at row count i [] is counted are = refl
@@ -197,7 +205,8 @@ read_two row count i b rest m n others modes low high read same =
       same = rw (whole, read.same) refl;
     })
 
-modes_past : (at : ℕ) (row : Row) (i : ℕ) (n : ℕ) (modes : List Addressing) → operand_count row ≤ i → modes_from at row i (n ∷ []) ≡ Ok modes
+modes_past : (at : ℕ) (row : Row) (i : ℕ) (n : ℕ) (modes : List Addressing) → operand_count row ≤ i
+    → modes_from at row i (n ∷ []) ≡ Ok modes
     → ((n == 0) ≡ true) × ([] ≡ modes)
 unfolding modes_from
 modes_past at row i n modes past h =
@@ -215,7 +224,8 @@ record IsHead (at : ℕ) (row : Row) (i n : ℕ) (rest : List ℕ) (modes : List
   left : modes_from at row (i + 1) rest ≡ Ok others
   same : mode ∷ others ≡ modes
 
-modes_head : (at : ℕ) (row : Row) (i n : ℕ) (rest : List ℕ) (modes : List Addressing) → i < operand_count row → modes_from at row i (n ∷ rest) ≡ Ok modes
+modes_head : (at : ℕ) (row : Row) (i n : ℕ) (rest : List ℕ) (modes : List Addressing) → i < operand_count row
+    → modes_from at row i (n ∷ rest) ≡ Ok modes
     → IsHead at row i n rest modes
 unfolding modes_from
 modes_head at row i n rest modes within h =
@@ -231,14 +241,17 @@ modes_head at row i n rest modes within h =
       same = cc;
     }
 
-joined : (m n : Addressing) (others left modes : List Addressing) → n ∷ others ≡ left → m ∷ left ≡ modes → m ∷ n ∷ others ≡ modes
+joined : (m n : Addressing) (others left modes : List Addressing) → n ∷ others ≡ left → m ∷ left ≡ modes
+    → m ∷ n ∷ others ≡ modes
 joined m n others left modes e f = cc
 
 alone : (m : Addressing) (left modes : List Addressing) → [] ≡ left → m ∷ left ≡ modes → m ∷ [] ≡ modes
 alone m left modes e f = cc
 
-pub modes_read : (at : ℕ) (row : Row) (count i : ℕ) (pairs : List ℕ) (modes : List Addressing) → operand_count row ≡ count → i ≤ count
-    → length pairs ≡ (count - i + 1) / 2 → modes_from at row i (nibbles pairs) ≡ Ok modes → AreRead row count i pairs modes
+pub modes_read : (at : ℕ) (row : Row) (count i : ℕ) (pairs : List ℕ) (modes : List Addressing)
+    → operand_count row ≡ count → i ≤ count
+    → length pairs ≡ (count - i + 1) / 2 → modes_from at row i (nibbles pairs) ≡ Ok modes
+    → AreRead row count i pairs modes
 unfolding modes_from nibbles
 modes_read at row count i [] modes is within long h = read_none row count i modes (omega arith) (cc)
 modes_read at row count i (b ∷ []) modes is within long h =
@@ -247,7 +260,8 @@ modes_read at row count i (b ∷ []) modes is within long h =
       | inl more ↦
           let second = modes_head at row (i + 1) (b / 16) [] first.others (omega arith) first.left in
           let read = modes_read at row count (i + 1 + 1) [] second.others is (omega arith) (omega arith) second.left in
-          read_two row count i b [] first.mode second.mode second.others modes first.is second.is read (joined _ _ _ _ _ second.same first.same)
+          read_two row count i b [] first.mode second.mode second.others modes first.is second.is read
+          (joined _ _ _ _ _ second.same first.same)
       | inr last ↦
           let past = modes_past at row (i + 1) (b / 16) first.others (omega arith) first.left in
           read_one row count i b first.mode modes (omega arith) first.is past.0 (alone _ _ _ past.1 first.same)
@@ -255,8 +269,10 @@ modes_read at row count i (b ∷ []) modes is within long h =
 modes_read at row count i (b ∷ c ∷ rest) modes is within long h =
     let first = modes_head at row i (b % 16) (b / 16 ∷ nibbles (c ∷ rest)) modes (omega arith) h in
     let second = modes_head at row (i + 1) (b / 16) (nibbles (c ∷ rest)) first.others (omega arith) first.left in
-    let read = modes_read at row count (i + 1 + 1) (c ∷ rest) second.others is (omega arith) (omega arith) second.left in
-    read_two row count i b (c ∷ rest) first.mode second.mode second.others modes first.is second.is read (joined _ _ _ _ _ second.same first.same)
+    let read = modes_read at row count (i + 1 + 1) (c ∷ rest) second.others is (omega arith)
+    (omega arith) second.left in
+    read_two row count i b (c ∷ rest) first.mode second.mode second.others modes first.is second.is read
+    (joined _ _ _ _ _ second.same first.same)
 
 -- ---- how long they are
 
@@ -279,7 +295,9 @@ data_len_small Top has = omega arith
 data_len_small (Local n) has = at_width (λ n. n ≤ 4) (omega arith) (omega arith) (omega arith) n has
 data_len_small (Ram n) has = at_width (λ n. n ≤ 4) (omega arith) (omega arith) (omega arith) n has
 
-pub all_data_len_small : (row : Row) (i : ℕ) (modes : List Addressing) → AreModes row i modes → all_data_len modes ≤ 4 * length modes
+pub all_data_len_small : (row : Row) (i : ℕ) (modes : List Addressing) → AreModes row i modes
+    → all_data_len modes ≤ 4 * length modes
 unfolding all_data_len
 all_data_len_small row i [] are = omega arith
-all_data_len_small row i (m ∷ rest) are = omega (arith, data_len_small m are.0, all_data_len_small row (i + 1) rest are.2)
+all_data_len_small row i (m ∷ rest) are =
+    omega (arith, data_len_small m are.0, all_data_len_small row (i + 1) rest are.2)

@@ -10,7 +10,8 @@ use Rattle.std.specs.List.{flat_map}
 use Rattle.gx_words.specs.Constants.{magic, header_len, locals_function, checksum_at, ceiling}
 use Rattle.gx_words.specs.Numbers.{bytes_of_word, spliced, sum_of_words, word}
 use Rattle.gx_story.specs.Stories.{FlatStory, accepted, bare, has_sizes, header, header_at_start, is_checked, is_whole}
-use Rattle.gx_story.proofs.HeaderTests.{stored_story, has_header, has_magic, has_version, is_within_limits, has_stored_part}
+use Rattle.gx_story.proofs.HeaderTests.{stored_story, has_header, has_magic, has_version, is_within_limits}
+use Rattle.gx_story.proofs.HeaderTests.{has_stored_part}
 use Rattle.gx_story.specs.declared.faults.StoryFault.{StoryFault}
 use Rattle.gx_story.specs.declared.headers.Header.{Header}
 use Rattle.gx_asm.specs.Codes.{text_from}
@@ -40,7 +41,12 @@ byte_behind a b after i k is = rw is (after k)
 
 word_before : (n : ℕ) (a b : List ℕ) → Before a b → n < 8 → word a (4 * n) ≡ word b (4 * n)
 word_before n a b before low =
-    rw (before (4 * n) (omega arith), before (4 * n + 1) (omega arith), before (4 * n + 2) (omega arith), before (4 * n + 2 + 1) (omega arith)) refl
+    rw (
+      before (4 * n) (omega arith),
+      before (4 * n + 1) (omega arith),
+      before (4 * n + 2) (omega arith),
+      before (4 * n + 2 + 1) (omega arith),
+    ) refl
 
 word_behind : (n : ℕ) (a b : List ℕ) → Behind a b → 8 < n → word a (4 * n) ≡ word b (4 * n)
 word_behind n a b after high =
@@ -51,7 +57,8 @@ word_behind n a b after high =
     let b3 = byte_behind a b after (4 * n + 2 + 1) (at + 3) (omega arith) in
     rw (b0, b1, b2, b3) refl
 
-by_place : (n : ℕ) (a b : List ℕ) → Before a b → Behind a b → (below above : Bool) → nat_lt n 8 ≡ below → nat_lt 8 n ≡ above
+by_place : (n : ℕ) (a b : List ℕ) → Before a b → Behind a b → (below above : Bool) → nat_lt n 8 ≡ below
+    → nat_lt 8 n ≡ above
     → summed n a ≡ summed n b
 by_place n a b before after true above low high = rw (word_before n a b before (ltb-true n 8 low)) refl
 by_place n a b before after false true low high = rw (word_behind n a b after (ltb-true 8 n high)) refl
@@ -73,7 +80,8 @@ module _ (checksum : ℕ) (code : List ℕ) where
 
   -- what stands before the checksum's word and behind it
   abbrev front : List ℕ
-  front = flat_map bytes_of_word (magic ∷ 0x00030102 ∷ story_len code ∷ story_len code ∷ story_len code ∷ 0x100 ∷ header_len ∷ 0 ∷ [])
+  front = flat_map bytes_of_word (magic ∷ 0x00030102 ∷ story_len code ∷ story_len code ∷ story_len code ∷ 0x100
+      ∷ header_len ∷ 0 ∷ [])
 
   abbrev behind : List ℕ
   behind = locals_function ∷ 0 ∷ 0 ∷ code ++ zeros
@@ -86,7 +94,8 @@ module _ (checksum : ℕ) (code : List ℕ) where
       omega (arith, all, pad)
 
   -- the checksum's word isn't summed up
-  pub story_sum : (n : ℕ) → sum_of_words n (story_with_checksum checksum code) ≡ sum_of_words n (story_with_checksum 0 code)
+  pub story_sum : (n : ℕ) → sum_of_words n (story_with_checksum checksum code)
+      ≡ sum_of_words n (story_with_checksum 0 code)
   unfolding story_with_checksum
   story_sum n =
       let before : Before (story_with_checksum checksum code) (story_with_checksum 0 code) = λ k within.
@@ -98,7 +107,8 @@ module _ (checksum : ℕ) (code : List ℕ) where
       same_sum n (story_with_checksum checksum code) (story_with_checksum 0 code) before after
 
   -- it is put over zeros
-  pub story_put : spliced (story_with_checksum 0 code) checksum_at (bytes_of_word checksum) ≡ story_with_checksum checksum code
+  pub story_put : spliced (story_with_checksum 0 code) checksum_at (bytes_of_word checksum)
+      ≡ story_with_checksum checksum code
   unfolding story_with_checksum
   story_put = refl
 
@@ -126,11 +136,14 @@ pub unsummed_made : (code head first second story : List ℕ) (size : ℕ) → s
 unfolding story_with_checksum
 unsummed_made code head first second story size size_is head_is first_is second_is story_is =
     let front = header_of (story_len code) 0 ++ locals_function ∷ 0 ∷ 0 ∷ [] in
-    let before : second ≡ front ++ code = second_is ∙ ap (λ (b : List ℕ). b ++ code) (first_is ∙ head_is ∙ ap (λ (n : ℕ). header_of n 0 ++ locals_function ∷ 0 ∷ 0 ∷ []) size_is) in
+    let before : second ≡ front ++ code = second_is ∙ ap (λ (b : List ℕ). b ++ code)
+    (first_is ∙ head_is ∙ ap (λ (n : ℕ). header_of n 0 ++ locals_function ∷ 0 ∷ 0 ∷ []) size_is) in
     let len : length second ≡ code_at + length code = ap (λ (b : List ℕ). length b) before ∙ length-append front code in
-    let padding : take (size - length second) (replicate 256 0) ≡ replicate (story_len code - (code_at + length code)) 0 =
+    let padding : take (size - length second) (replicate 256 0)
+    ≡ replicate (story_len code - (code_at + length code)) 0 =
     rw (size_is, len) (take-replicate (story_len code - (code_at + length code)) 256 0 (omega arith)) in
-    story_is ∙ ap (λ (b : List ℕ). second ++ b) padding ∙ ap (λ (b : List ℕ). b ++ replicate (story_len code - (code_at + length code)) 0) before
+    story_is ∙ ap (λ (b : List ℕ). second ++ b) padding
+    ∙ ap (λ (b : List ℕ). b ++ replicate (story_len code - (code_at + length code)) 0) before
 
 -- there is a place for the checksum
 pub checksum_within : (code unsummed : List ℕ) → unsummed ≡ story_with_checksum 0 code → checksum_at ≤ length unsummed
@@ -148,9 +161,11 @@ wrapped_made code unsummed bytes story checksum unsummed_is checksum_is bytes_is
 
 -- ---- that it is accepted
 
-all-passed : {X E : Type 0} (a b c d e f : Bool) (short magic version sizes large cut : E) (x : X) → a ≡ true → b ≡ true → c ≡ true → d ≡ true → e ≡ true → f ≡ true
+all-passed : {X E : Type 0} (a b c d e f : Bool) (short magic version sizes large cut : E) (x : X) → a ≡ true
+    → b ≡ true → c ≡ true → d ≡ true → e ≡ true → f ≡ true
     → (let r : Result X E =
-    if not a then Err short else if not b then Err magic else if not c then Err version else if not d then Err sizes else
+    if not a then Err short else if not b then Err magic else if not c then Err version else if not d then Err sizes
+    else
     if not e then Err large else if not f then Err cut else Ok x in r ≡ Ok x)
 all-passed a b c d e f short magic version sizes large cut x pa pb pc pd pe pf = rw (pa, pb, pc, pd, pe, pf) refl
 
@@ -222,20 +237,23 @@ module _ (code : List ℕ) (few : length code ≤ 0x01000000) where
   unfolding header
   header-is =
       let bytes = wrapped_code code in
-      all-passed (has_header bytes) (has_magic bytes) (has_version (header_at_start bytes)) (has_sizes (header_at_start bytes)) (is_within_limits (header_at_start bytes))
+      all-passed (has_header bytes) (has_magic bytes) (has_version (header_at_start bytes))
+      (has_sizes (header_at_start bytes)) (is_within_limits (header_at_start bytes))
       (has_stored_part (header_at_start bytes) bytes) _ _ _ _ _ _ (header_at_start bytes)
       passes-header passes-magic passes-version passes-sizes passes-limits passes-stored
 
   stored-is : stored_story (header_at_start (wrapped_code code)) (wrapped_code code) ≡ wrapped_story code
   stored-is =
       let len = length-wrapped code in
-      let all : take (story_len code) (wrapped_code code) ≡ wrapped_code code = take_all (story_len code) (wrapped_code code) (omega (arith, len)) in
+      let all : take (story_len code) (wrapped_code code) ≡ wrapped_code code =
+      take_all (story_len code) (wrapped_code code) (omega (arith, len)) in
       ap (λ (h : Header). stored_story h (wrapped_code code)) header_read
       ∙ ap (λ (b : List ℕ). let s : FlatStory = record { header = its_header; bytes = b } in s) all
 
   pub accepts : accepted (wrapped_code code) ≡ Ok (wrapped_story code)
   unfolding bare
-  accepts = is-no-form ∙ rw header-is refl ∙ ap (λ (s : FlatStory). let r : Result FlatStory StoryFault = Ok s in r) stored-is
+  accepts = is-no-form ∙ rw header-is refl
+      ∙ ap (λ (s : FlatStory). let r : Result FlatStory StoryFault = Ok s in r) stored-is
 
 -- ---- its listing
 
@@ -243,7 +261,8 @@ starts : (code : List ℕ) → code_start (wrapped_story code) ≡ Some 39
 unfolding wrapped_code story_with_checksum format_len
 starts code = refl
 
-behind_head : (code : List ℕ) → drop 39 (wrapped_code code) ≡ code ++ replicate (story_len code - (code_at + length code)) 0
+behind_head : (code : List ℕ) → drop 39 (wrapped_code code)
+    ≡ code ++ replicate (story_len code - (code_at + length code)) 0
 unfolding wrapped_code story_with_checksum
 behind_head code = refl
 
@@ -251,8 +270,15 @@ pub listed_back : (code : List ℕ) → IsListedBack code
 unfolding listed_story
 listed_back code = λ text spelled ends.
     let zeros : List ℕ = replicate (story_len code - (code_at + length code)) 0 in
-    let joined : code ++ zeros ≡ flat_map bytes_of spelled.instructions ++ zeros = ap (λ (bytes : List ℕ). bytes ++ zeros) spelled.bytes in
-    let long : length (code ++ zeros) ≤ length (wrapped_code code) = omega (arith, length-append code zeros, length-replicate {A = ℕ} (story_len code - (code_at + length code)) 0, length-wrapped code) in
+    let joined : code ++ zeros ≡ flat_map bytes_of spelled.instructions ++ zeros =
+    ap (λ (bytes : List ℕ). bytes ++ zeros) spelled.bytes in
+    let long : length (code ++ zeros) ≤ length (wrapped_code code) =
+    omega (
+      arith,
+      length-append code zeros,
+      length-replicate {A = ℕ} (story_len code - (code_at + length code)) 0,
+      length-wrapped code,
+    ) in
     rw (starts code, behind_head code)
     (ap (text_from (length (wrapped_code code)) true 39) joined
     ∙ listed_to_end (length (wrapped_code code)) 39 spelled.instructions zeros spelled.each ends (rw joined at long))

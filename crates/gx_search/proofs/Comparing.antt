@@ -1,5 +1,6 @@
 -- One byte of two keys that are compared.
-use Rattle.std.proofs.Common.{◌≡◌, ◌≢◌, inl, inr, ◌==◌, ◌||◌, ◌≤◌, ◌<◌, ◌+◌, ℕ, true, List, length, get_or, take, drop, refl, ap, sym, ◌∙◌, arith}
+use Rattle.std.proofs.Common.{◌≡◌, ◌≢◌, inl, inr, ◌==◌, ◌||◌, ◌≤◌, ◌<◌, ◌+◌, ℕ, true, List, length, get_or, take}
+use Rattle.std.proofs.Common.{drop, refl, ap, sym, ◌∙◌, arith}
 use Rattle.std.specs.Ordering.{nat_cmp, is_eq, ordering_then}
 use Rattle.std.specs.Str.{bytes_eq}
 use Rattle.std.proofs.lemmas.Map.Text.{is_eq-slice_cmp}
@@ -28,7 +29,8 @@ length_bytes m at n there =
 length_number : (n v : ℕ) → (n == 1 || n == 2 || n == 4) ≡ true → length (bytes_of_number n v) ≡ n
 length_number n v width = grind (arith, nat_tests)
 
-pub sought_length : (m : List ℕ) (q : Ask) (at : ℕ) → can_probe m q at ≡ true → has_size q ≡ true → length (sought_key m q) ≡ q.key_size
+pub sought_length : (m : List ℕ) (q : Ask) (at : ℕ) → can_probe m q at ≡ true → has_size q ≡ true
+    → length (sought_key m q) ≡ q.key_size
 sought_length m q at there sized =
     cond_both (has_option q key_indirect) _ _ (λ (key : List ℕ). length key ≡ q.key_size)
     (λ indirect. elim (or_cases _ _ (and_parts _ _ there).0) [
@@ -51,12 +53,14 @@ then_apart x y o apart = grind (arith, nat_tests)
 then_same : (x y : ℕ) (o : Ordering) → x ≡ y → ordering_then (nat_cmp x y) o ≡ o
 then_same x y o same = grind (arith, nat_tests)
 
-pub bytes_apart : (xs ys : List ℕ) (i : ℕ) (o : Ordering) → i < length xs → i < length ys → get_or xs i 0 ≢ get_or ys i 0
+pub bytes_apart : (xs ys : List ℕ) (i : ℕ) (o : Ordering) → i < length xs → i < length ys
+    → get_or xs i 0 ≢ get_or ys i 0
     → slice_cmp nat_cmp (drop i xs) (drop i ys) ≡ o → nat_cmp (get_or xs i 0) (get_or ys i 0) ≡ o
 bytes_apart xs ys i o h k apart whole =
     let first = drop_more xs i 0 h in
     let second = drop_more ys i 0 k in
-    let here : slice_cmp nat_cmp (drop i xs) (drop i ys) ≡ nat_cmp (get_or xs i 0) (get_or ys i 0) = rw (first, second) (then_apart _ _ _ apart) in
+    let here : slice_cmp nat_cmp (drop i xs) (drop i ys) ≡ nat_cmp (get_or xs i 0) (get_or ys i 0) =
+    rw (first, second) (then_apart _ _ _ apart) in
     sym here ∙ whole
 
 pub bytes_same : (xs ys : List ℕ) (i : ℕ) (o : Ordering) → i < length xs → i < length ys → get_or xs i 0 ≡ get_or ys i 0
@@ -64,7 +68,8 @@ pub bytes_same : (xs ys : List ℕ) (i : ℕ) (o : Ordering) → i < length xs �
 bytes_same xs ys i o h k same whole =
     let first = drop_more xs i 0 h in
     let second = drop_more ys i 0 k in
-    let here : slice_cmp nat_cmp (drop i xs) (drop i ys) ≡ slice_cmp nat_cmp (drop (i + 1) xs) (drop (i + 1) ys) = rw (first, second) (then_same _ _ _ same) in
+    let here : slice_cmp nat_cmp (drop i xs) (drop i ys) ≡ slice_cmp nat_cmp (drop (i + 1) xs) (drop (i + 1) ys) =
+    rw (first, second) (then_same _ _ _ same) in
     sym here ∙ whole
 
 -- equal keys have equal last bytes

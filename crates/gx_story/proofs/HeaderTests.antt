@@ -28,7 +28,8 @@ is_within_limits header = nat_le header.endmem ceiling && nat_le header.stack_si
 abbrev pub has_stored_part : Header → List ℕ → Bool
 has_stored_part header bytes = nat_le header.extstart (length bytes)
 
-pub is_story : (header : Header) (bytes : List ℕ) → has_sizes header ≡ true → header.endmem ≤ ceiling → header.stack_size ≤ stack_limit → header.extstart ≤ length bytes → IsStory (stored_story header bytes)
+pub is_story : (header : Header) (bytes : List ℕ) → has_sizes header ≡ true → header.endmem ≤ ceiling
+    → header.stack_size ≤ stack_limit → header.extstart ≤ length bytes → IsStory (stored_story header bytes)
 is_story header bytes sizes memory stack stored =
     let g = and_parts _ _ sizes in
     let f = and_parts _ _ g.0 in

@@ -2,7 +2,10 @@
 use Rattle.std.proofs.Common.{◌≡◌, refl}
 use Rattle.gx_strings.specs.declared.node_types.TheConstants as node
 use Rattle.gx_strings.specs.declared.objects.TheConstants as type
-use Rattle.gx_strings.specs.Constants.{branch, string_terminator, single_character, c_style_string, single_unicode_character, c_style_unicode_string, indirect_reference, double_indirect_reference, indirect_reference_with_arguments, double_indirect_reference_with_arguments, last_function}
+use Rattle.gx_strings.specs.Constants.{branch, string_terminator, single_character, c_style_string}
+use Rattle.gx_strings.specs.Constants.{single_unicode_character, c_style_unicode_string, indirect_reference}
+use Rattle.gx_strings.specs.Constants.{double_indirect_reference, indirect_reference_with_arguments}
+use Rattle.gx_strings.specs.Constants.{double_indirect_reference_with_arguments, last_function}
 
 pub BRANCH_is : node.BRANCH ≡ branch
 BRANCH_is = refl
@@ -31,7 +34,8 @@ DOUBLE_INDIRECT_REFERENCE_is = refl
 pub INDIRECT_REFERENCE_WITH_ARGUMENTS_is : node.INDIRECT_REFERENCE_WITH_ARGUMENTS ≡ indirect_reference_with_arguments
 INDIRECT_REFERENCE_WITH_ARGUMENTS_is = refl
 
-pub DOUBLE_INDIRECT_REFERENCE_WITH_ARGUMENTS_is : node.DOUBLE_INDIRECT_REFERENCE_WITH_ARGUMENTS ≡ double_indirect_reference_with_arguments
+pub DOUBLE_INDIRECT_REFERENCE_WITH_ARGUMENTS_is : node.DOUBLE_INDIRECT_REFERENCE_WITH_ARGUMENTS
+    ≡ double_indirect_reference_with_arguments
 DOUBLE_INDIRECT_REFERENCE_WITH_ARGUMENTS_is = refl
 
 pub LAST_FUNCTION_is : type.LAST_FUNCTION ≡ last_function

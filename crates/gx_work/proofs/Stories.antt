@@ -1,5 +1,6 @@
 -- The sum of a story's words is that of its page and of its RAM.
-use Rattle.std.proofs.Common.{◌≡◌, ◌<◌, ◌≤◌, ◌+◌, ◌*◌, ◌/◌, ◌%◌, ◌^◌, ◌++◌, ℕ, List, length, refl, ap, ◌∙◌, append_assoc, append-nil, arith}
+use Rattle.std.proofs.Common.{◌≡◌, ◌<◌, ◌≤◌, ◌+◌, ◌*◌, ◌/◌, ◌%◌, ◌^◌, ◌++◌, ℕ, List, length, refl, ap, ◌∙◌}
+use Rattle.std.proofs.Common.{append_assoc, append-nil, arith}
 use Rattle.std.proofs.lemmas.List.{length-append}
 use Rattle.gx_words.specs.Numbers.{word, bytes_of_word, bytes_of_number, spliced, sum_of_words}
 use Rattle.gx_words.specs.Constants.{checksum_at}
@@ -10,7 +11,8 @@ use Rattle.gx_work.proofs.Pages.{length-page, page_header, page_put, page_read, 
 use Rattle.gx_work.proofs.Turns.{ram_first, ram_more}
 
 story_sum : (number checksum : ℕ)
-    → sum_of_words (64 + ram_count number) (work_story_with number checksum) ≡ sum_of_words 64 (page (ram_count number) 0) + ram_sum (ram_count number) number
+    → sum_of_words (64 + ram_count number) (work_story_with number checksum)
+    ≡ sum_of_words 64 (page (ram_count number) 0) + ram_sum (ram_count number) number
 unfolding work_story_with
 story_sum number checksum =
     sum_with_ram (ram_count number) number (page (ram_count number) checksum) (length-page (ram_count number) checksum)
@@ -20,13 +22,15 @@ length-story : (number checksum : ℕ) → length (work_story_with number checks
 unfolding work_story_with
 length-story number checksum =
     let count = ram_count number in
-    rw (length-append (page count checksum) (ram count number), length-page count checksum, length-ram count number) refl
+    rw (length-append (page count checksum) (ram count number), length-page count checksum, length-ram count number)
+    refl
 
 pub length-work : (number : ℕ) → length (work_story number) ≡ 0x100 + 4 * ram_count number
 unfolding work_story
 length-work number = length-story number (sum_of_words (64 + ram_count number) (work_story_with number 0) % 2 ^ 32)
 
-checksum_read : (number checksum : ℕ) → checksum < 2 ^ 32 → word (work_story_with number checksum) checksum_at ≡ checksum
+checksum_read : (number checksum : ℕ) → checksum < 2 ^ 32
+    → word (work_story_with number checksum) checksum_at ≡ checksum
 unfolding work_story_with
 checksum_read number checksum fits = page_read (ram_count number) checksum (ram (ram_count number) number) fits
 
@@ -53,7 +57,8 @@ pub made : (number page_part ram_part : ℕ) → page_part ≡ sum_of_words 64 (
     → page (ram_count number) ((page_part + ram_part) % 2 ^ 32) ++ ram (ram_count number) number ≡ work_story number
 unfolding work_story work_story_with
 made number page_part ram_part a b =
-    let sum : (page_part + ram_part) % 2 ^ 32 ≡ sum_of_words (64 + ram_count number) (work_story_with number 0) % 2 ^ 32 = rw (story_sum number 0) (omega arith) in
+    let sum : (page_part + ram_part) % 2 ^ 32 ≡ sum_of_words (64 + ram_count number) (work_story_with number 0) % 2
+    ^ 32 = rw (story_sum number 0) (omega arith) in
     ap (work_story_with number) sum
 
 -- the turns of the loop that adds RAM

@@ -1,5 +1,6 @@
 -- Words in lists of bytes that grow at their end.
-use Rattle.std.proofs.Common.{◌≡◌, ◌<◌, ◌≤◌, ◌+◌, ◌*◌, ◌^◌, ◌++◌, ℕ, zero, suc, List, [], length, get_or, refl, sym, ◌∙◌, append_assoc, arith, false, eqb as nat_eq}
+use Rattle.std.proofs.Common.{◌≡◌, ◌<◌, ◌≤◌, ◌+◌, ◌*◌, ◌^◌, ◌++◌, ℕ, zero, suc, List, [], length, get_or, refl, sym}
+use Rattle.std.proofs.Common.{◌∙◌, append_assoc, arith, false, eqb as nat_eq}
 use Rattle.std.proofs.lemmas.Bool.Decides.{nat_tests}
 use Rattle.std.proofs.lemmas.List.{length-append, get_or-append-add}
 use Rattle.std.proofs.Math.ListN.{get_or-append}
@@ -44,7 +45,10 @@ sum_before (suc n) xs ys within =
 pub length-ram : (n number : ℕ) → length (ram n number) ≡ 4 * n
 unfolding ram
 length-ram zero number = refl
-length-ram (suc n) number = rw (length-append (ram n number) (bytes_of_word (work_word number n)), length-ram n number) (omega arith)
+length-ram (suc n) number = rw (
+  length-append (ram n number) (bytes_of_word (work_word number n)),
+  length-ram n number,
+) (omega arith)
 
 -- RAM behind a page of 64 words
 pub sum_with_ram : (n number : ℕ) (xs : List ℕ) → length xs ≡ 256

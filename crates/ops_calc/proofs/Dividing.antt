@@ -1,6 +1,7 @@
 -- A quotient toward zero has a place in a word, and with its remainder it is a division in the
 -- standard's words.
-use Rattle.std.proofs.Common.{◌≡◌, ◌≢◌, ◌⊎◌, inl, inr, ◌<◌, ◌≤◌, ◌-◌, ◌/◌, ◌^◌, ℕ, zero, suc, false, arith, refl, subst, sym, lit<}
+use Rattle.std.proofs.Common.{◌≡◌, ◌≢◌, ◌⊎◌, inl, inr, ◌<◌, ◌≤◌, ◌-◌, ◌/◌, ◌^◌, ℕ, zero, suc, false, arith, refl}
+use Rattle.std.proofs.Common.{subst, sym, lit<}
 use Rattle.std.proofs.Math.Nat.{div-le_self, div-le_of_le-mul}
 use Rattle.std.proofs.lemmas.Bool.{cases_lt, lt-ltb, le-ltb}
 use Rattle.std.proofs.lemmas.Bool.Decides.{nat_tests}
@@ -29,7 +30,8 @@ division a b some = record {
 
 -- ---- a word by its sign
 
-signed_cases : (v : ℕ) → v < 2 ^ 32 → ((signed v ≡ pos v) × (v < 2 ^ 31)) ⊎ ((signed v ≡ negsuc (2 ^ 32 - suc v)) × (2 ^ 31 ≤ v))
+signed_cases : (v : ℕ) → v < 2 ^ 32 → ((signed v ≡ pos v) × (v < 2 ^ 31))
+    ⊎ ((signed v ≡ negsuc (2 ^ 32 - suc v)) × (2 ^ 31 ≤ v))
 signed_cases v small =
     elim (cases_lt v (2 ^ 31)) [
       | inl low ↦ let test = lt-ltb v (2 ^ 31) low in inl (rw test refl, low)
@@ -47,19 +49,27 @@ negated_fits (suc q) h = record { sfits = omega arith }
 
 both_negative : (m k : ℕ) → m < 2 ^ 31 → (k ≡ 0 → m ≢ 2 ^ 31 - 1) → suc m / suc k < 2 ^ 31
 both_negative m zero small other = omega (arith, div-le_self (suc m) 1, other refl)
-both_negative m (suc k) small other = omega (arith, div-le_of_le-mul (suc (suc k)) {m = suc m} {n = 2 ^ 30} (omega arith))
+both_negative m (suc k) small other = omega
+    (arith, div-le_of_le-mul (suc (suc k)) {m = suc m} {n = 2 ^ 30} (omega arith))
 
-quotient_fits : (a b : ℕ) → a < 2 ^ 32 → b < 2 ^ 32 → has_no_quotient a b ≡ false → FitsSigned w32 (int_div (signed a) (signed b))
+quotient_fits : (a b : ℕ) → a < 2 ^ 32 → b < 2 ^ 32 → has_no_quotient a b ≡ false
+    → FitsSigned w32 (int_div (signed a) (signed b))
 quotient_fits a b p q test =
     let some = divides a b test in
     elim (signed_cases a p) [
       | inl x ↦ let is_a = x.0 in elim (signed_cases b q) [
         | inl y ↦ let is_b = y.0 in rw (is_a, is_b) (record { sfits = omega (arith, div-le_self a b, x.1) })
-        | inr y ↦ let is_b = y.0 in rw (is_a, is_b) (negated_fits (a / suc (2 ^ 32 - suc b)) (omega (arith, div-le_self a (suc (2 ^ 32 - suc b)), x.1)))
+        | inr y ↦ let is_b = y.0 in rw (is_a, is_b)
+            (negated_fits (a / suc (2 ^ 32 - suc b)) (omega (arith, div-le_self a (suc (2 ^ 32 - suc b)), x.1)))
       ]
       | inr x ↦ let is_a = x.0 in elim (signed_cases b q) [
-        | inl y ↦ let is_b = y.0 in rw (is_a, is_b) (negated_fits (suc (2 ^ 32 - suc a) / b) (omega (arith, div-le_self (suc (2 ^ 32 - suc a)) b, x.1)))
-        | inr y ↦ let is_b = y.0 in rw (is_a, is_b) (record { sfits = both_negative (2 ^ 32 - suc a) (2 ^ 32 - suc b) (omega (arith, x.1)) (λ none least. some.1 (omega (arith, x.1)) (omega (arith, y.1))) })
+        | inl y ↦ let is_b = y.0 in rw (is_a, is_b)
+            (negated_fits (suc (2 ^ 32 - suc a) / b) (omega (arith, div-le_self (suc (2 ^ 32 - suc a)) b, x.1)))
+        | inr y ↦ let is_b = y.0 in rw (is_a, is_b)
+            (record {
+              sfits = both_negative (2 ^ 32 - suc a) (2 ^ 32 - suc b) (omega (arith, x.1))
+                  (λ none least. some.1 (omega (arith, x.1)) (omega (arith, y.1)));
+            })
       ]
     ]
 
@@ -70,11 +80,16 @@ divisor_some b q other =
       | inr y ↦ let is_b = y.0 in rw is_b (omega arith)
     ]
 
-pub quotient_law : (a b found : ℕ) → a < 2 ^ 32 → b < 2 ^ 32 → has_no_quotient a b ≡ false → found ≡ cast_unsigned w32 (int_div (signed a) (signed b)) → IsQuotient a b found
+pub quotient_law : (a b found : ℕ) → a < 2 ^ 32 → b < 2 ^ 32 → has_no_quotient a b ≡ false
+    → found ≡ cast_unsigned w32 (int_div (signed a) (signed b)) → IsQuotient a b found
 quotient_law a b found p q test is =
     let back = to_z-of_z w32 (int_div (signed a) (signed b)) (quotient_fits a b p q test) in
     let law = division (signed a) (signed b) (divisor_some b q (divides a b test).0) in
-    rw is (int_rem (signed a) (signed b), subst (λ (z : ℤ). IsDivision (signed a) (signed b) z (int_rem (signed a) (signed b))) (sym back) law)
+    rw is (
+      int_rem (signed a) (signed b),
+      subst
+          (λ (z : ℤ). IsDivision (signed a) (signed b) z (int_rem (signed a) (signed b))) (sym back) law,
+    )
 
 remainder_fits : (a b : ℤ) → FitsSigned w32 a → FitsSigned w32 (int_rem a b)
 remainder_fits a b fits = record { sfits = omega (arith, mag_rem a b, fits.sfits) }
@@ -86,8 +101,13 @@ word_fits v small =
       | inr x ↦ let is = x.0 in rw is (record { sfits = omega (arith, x.1) })
     ]
 
-pub remainder_law : (a b found : ℕ) → a < 2 ^ 32 → b < 2 ^ 32 → has_no_quotient a b ≡ false → found ≡ cast_unsigned w32 (int_rem (signed a) (signed b)) → IsRemainder a b found
+pub remainder_law : (a b found : ℕ) → a < 2 ^ 32 → b < 2 ^ 32 → has_no_quotient a b ≡ false
+    → found ≡ cast_unsigned w32 (int_rem (signed a) (signed b)) → IsRemainder a b found
 remainder_law a b found p q test is =
     let back = to_z-of_z w32 (int_rem (signed a) (signed b)) (remainder_fits (signed a) (signed b) (word_fits a p)) in
     let law = division (signed a) (signed b) (divisor_some b q (divides a b test).0) in
-    rw is (int_div (signed a) (signed b), subst (λ (z : ℤ). IsDivision (signed a) (signed b) (int_div (signed a) (signed b)) z) (sym back) law)
+    rw is (
+      int_div (signed a) (signed b),
+      subst
+          (λ (z : ℤ). IsDivision (signed a) (signed b) (int_div (signed a) (signed b)) z) (sym back) law,
+    )

@@ -10,10 +10,12 @@ pub loop-index-init : goal.loop-index-init
 loop-index-init c = begun _ _ _ _ _ _ _ c.first_page-page.ensures c.put_number.ensures c.in_ok-story.ensures
 
 pub loop-index-preserved : goal.loop-index-preserved
-loop-index-preserved c = grown _ _ _ _ _ _ _ c.loop-index.invariant (c.word_bytes.ensures.bytes ∙ ap bytes_of_word c.work_word.ensures) c.in_ok-extend_from_slice.ensures.ok
+loop-index-preserved c = grown _ _ _ _ _ _ _ c.loop-index.invariant
+    (c.word_bytes.ensures.bytes ∙ ap bytes_of_word c.work_word.ensures) c.in_ok-extend_from_slice.ensures.ok
 
 whole : (c : goal.After-loop-index) → c.loop-index.story ≡ work_story c.args.number
-whole c = done _ _ _ _ _ _ c.first_page-page.ensures c.sum_of_words.ensures c.ram_sum.ensures c.loop-index.invariant c.loop-index-test.false c.loop-index.auto.index-end
+whole c = done _ _ _ _ _ _ c.first_page-page.ensures c.sum_of_words.ensures c.ram_sum.ensures c.loop-index.invariant
+    c.loop-index-test.false c.loop-index.auto.index-end
 
 pub returns-clause-story : goal.returns-clause-story
 returns-clause-story c = whole c

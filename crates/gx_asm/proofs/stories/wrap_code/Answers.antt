@@ -18,7 +18,8 @@ returns-in_err-splice-clause-listed c = listed_back c.args.code.now
 
 made : (c : goal.In_ok-splice) → c.splice.new.self ≡ wrapped_code c.args.code.now
 made c =
-    wrapped_made c.args.code.now c.in_ok-story.story _ c.splice.new.self c.sum_of_words-checksum.result c.in_ok-story.ensures
+    wrapped_made c.args.code.now c.in_ok-story.story _ c.splice.new.self c.sum_of_words-checksum.result
+    c.in_ok-story.ensures
     (rw c.as_slice.ensures at c.sum_of_words-checksum.ensures) c.word_bytes.ensures.bytes c.in_ok-splice.ensures.ok
 
 pub splice-requires : goal.splice-requires

@@ -6,7 +6,8 @@ use Rattle.gx_asm.proofs.texts.assemble.Given as goal
 
 abbrev pub invariant-loop-line : goal.invariant-loop-line
 invariant-loop-line l = record {
-  said : (done : List ℕ) × (behind_code done (code_of (l.number + 1) (slice_split is_line_feed l.rest)) ≡ assembled l.text) × (l.whole ≡ true → l.code ≡ done);
+  said : (done : List ℕ) × (behind_code done (code_of (l.number + 1) (slice_split is_line_feed l.rest))
+      ≡ assembled l.text) × (l.whole ≡ true → l.code ≡ done);
   few : l.number + length l.rest ≤ length l.text;
   some : l.whole ≡ false → 0 < length l.text;
 }

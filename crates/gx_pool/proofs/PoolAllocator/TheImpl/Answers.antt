@@ -15,4 +15,5 @@ allocate-meets g x c =
     let 𝓤 = g.world.𝓤 in
     ensures_more 𝓤 Ty _ _ (λ ty. HasLayout ty c.args.size c.args.align)
     (λ ty answer. sem g.world.𝓛 (block_if_ok (g.B.Allocator.dealloc_token c.args.self.now.alloc) ty answer))
-    (λ answer. sep 𝓤 (fact 𝓤 (MOST_SIZE < c.args.size → IsErr answer)) (fact 𝓤 (MOST_ALIGN < c.args.align → IsErr answer))) c.ghost
+    (λ answer. sep 𝓤 (fact 𝓤 (MOST_SIZE < c.args.size → IsErr answer))
+    (fact 𝓤 (MOST_ALIGN < c.args.align → IsErr answer))) c.ghost

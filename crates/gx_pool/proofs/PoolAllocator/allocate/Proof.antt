@@ -18,7 +18,8 @@ use contract.BorrowLft.{◌⊑◌, ⊑_trans}
 use contract.Monad.{Fun, fact, fact_i}
 use contract.Running.{tables, tables_of}
 use sound.WpLaws.{fm_of, WpFn-mono}
-use types.Run.{stop, fld, addr, lit, no_more, and_then, of_opd, first, branches, skips, exec, switches_on, returns, returns_within, enter}
+use types.Run.{stop, fld, addr, lit, no_more, and_then, of_opd, first, branches, skips, exec, switches_on, returns}
+use types.Run.{returns_within, enter}
 use denote.Exit.{yes}
 use denote.RattleType.{owns}
 use denote.Ref.{shr_vals}
@@ -33,13 +34,17 @@ use denote.Triple.Spec.{triple_of}
 use denote.Triple.Statement.{Triple}
 use denote.Triple.Table.{entered, cited}
 use denote.Triple.Walked.{Stays, stay_dropped, walk_of, ends_at, walked, Goes-dropped, walk_Meets}
-use types.Kit.{‵, raw, ◌⊛◌, ⋆, some, pick, by, at_ret, any_q, Post as After, later, given, learn, ◌$◌, ◌∵◌, !, qed, move, keep, use0, use1, use2, split, join, fsplit, fjoin, suffices, await, done}
-use types.ByLocal.{alloc_all, pass_all, free_all, look_at, get, get_in, get_tag, through, sets, sets_last, lands_as, env}
+use types.Kit.{‵, raw, ◌⊛◌, ⋆, some, pick, by, at_ret, any_q, Post as After, later, given, learn, ◌$◌, ◌∵◌, !, qed}
+use types.Kit.{move, keep, use0, use1, use2, split, join, fsplit, fjoin, suffices, await, done}
+use types.ByLocal.{alloc_all, pass_all, free_all, look_at, get, get_in, get_tag, through, sets, sets_last, lands_as}
+use types.ByLocal.{env}
 use denote.RawPtr.{block_ptr}
 use denote.Builtin.{usize, RefOf}
 use denote.Triple.Call.{calls_at}
-use Rattle.std.proofs.alloc.Calls.{Al, α, seen, Answer, answer_val, Answer-typed, Answer-Ok, Answer-err, takes_key, Takes, at_takes, Answered, Takes-goes, Takes-gives, answers, token, got}
-use Rattle.gx_pool.proofs.Calls.{TallyType, Counts, at_counts, Counts-goes, Counts-gives, Refuses, at_refuses, IsBound, Refuses-goes, Refuses-gives}
+use Rattle.std.proofs.alloc.Calls.{Al, α, seen, Answer, answer_val, Answer-typed, Answer-Ok, Answer-err, takes_key}
+use Rattle.std.proofs.alloc.Calls.{Takes, at_takes, Answered, Takes-goes, Takes-gives, answers, token, got}
+use Rattle.gx_pool.proofs.Calls.{TallyType, Counts, at_counts, Counts-goes, Counts-gives, Refuses, at_refuses}
+use Rattle.gx_pool.proofs.Calls.{IsBound, Refuses-goes, Refuses-gives}
 use Rattle.gx_pool.proofs.tally.Tally.TheLaws.{the_row_laws}
 use Rattle.gx_pool.proofs.tally.Tally.refuses.Symbol as r_sym
 use Rattle.gx_pool.proofs.tally.Tally.refuses.Met as r_met
@@ -76,15 +81,27 @@ module _ (Z : Al) where
   abbrev stayed : Stays ended.signature.params ended.kept
   stayed = (stay_dropped self yes, (stay_dropped (plain (λ _. usize)) yes, (stay_dropped (plain (λ _. usize)) yes, tt)))
 
-module _ (Z : Al) {M : Type 1} {𝓤 : Ura M} (𝓛 : Logic 𝓤) (at_mem : Memory → SProp 𝓤) (run : Routine → Fun 𝓤) (𝓣 : Tables 𝓤 𝓛.H) (tk : Triple 𝓤 (𝓣.C (takes_key Z)) (Takes Z 𝓛 at_mem run)) (kn : Triple 𝓤 (𝓣.C c_sym.name) (Counts 𝓛 at_mem run)) (ka : Triple 𝓤 (𝓣.C r_sym.name) (Refuses 𝓛 at_mem run)) where
+module _ (Z : Al) {M : Type 1} {𝓤 : Ura M} (𝓛 : Logic 𝓤) (at_mem : Memory → SProp 𝓤) (run : Routine → Fun 𝓤)
+    (𝓣 : Tables 𝓤 𝓛.H) (tk : Triple 𝓤 (𝓣.C (takes_key Z)) (Takes Z 𝓛 at_mem run))
+    (kn : Triple 𝓤 (𝓣.C c_sym.name) (Counts 𝓛 at_mem run)) (ka : Triple 𝓤 (𝓣.C r_sym.name) (Refuses 𝓛 at_mem run)) where
   open 𝓛 use {H}
 
   abbrev held : Clauses 𝓤 (ended Z)
   held = F.clauses Z.row Z.g Z.d Z.drops 𝓛 at_mem run
 
-  module _ (κ₁ κ₂ : Lft) (q₁ q₂ : Share) (inn : κ₁ ⊑ κ₂) (r : Bor (wrapper.the_row Z.row).Denot) (n a : ℕ) (τ : Ty) where
+  module _ (κ₁ κ₂ : Lft) (q₁ q₂ : Share) (inn : κ₁ ⊑ κ₂) (r : Bor (wrapper.the_row Z.row).Denot) (n a : ℕ)
+      (τ : Ty) where
     abbrev bound : (walk_of 𝓛 (ended Z) (stayed Z) held).Ghost
-    bound = (((κ₁, (κ₂, tt)), (q₁, (q₂, tt)), (inn, tt), (r, (n, (a, tt))), (shr_vals r, (vint w64 n ∷ [], (vint w64 a ∷ [], tt)))), τ)
+    bound = (
+      (
+        (κ₁, (κ₂, tt)),
+        (q₁, (q₂, tt)),
+        (inn, tt),
+        (r, (n, (a, tt))),
+        (shr_vals r, (vint w64 n ∷ [], (vint w64 a ∷ [], tt))),
+      ),
+      τ,
+    )
 
     abbrev vs : List Val
     vs = vptr r.ref_ptr.0 r.ref_ptr.1 ∷ vint w64 n ∷ vint w64 a ∷ []
@@ -102,43 +119,66 @@ module _ (Z : Al) {M : Type 1} {𝓤 : Ura M} (𝓛 : Logic 𝓤) (at_mem : Memo
     abbrev Aligned : Answer.Denot → Type 0
     Aligned answer = MOST_ALIGN < a → IsErr answer
 
-    exits_ok : (b o : ℕ) → (MOST_SIZE < n → ⊥) → (MOST_ALIGN < a → ⊥) → ent 𝓤 (⋆ 𝓛 (‵ (got (token Z h) τ true b o) ∷ ‵ (flft κ₁ q₁) ∷ (‵ (flft κ₂ q₂) ⊛ ‵ ftrue) ∷ [])) (Post (answer_val true b o))
-    exits_ok b o small packed = qed 𝓛 (‵ (got (token Z h) τ true b o) ∷ ‵ (flft κ₁ q₁) ∷ (‵ (flft κ₂ q₂) ⊛ ‵ ftrue) ∷ []) ∵
-        use0 𝓛 (raw (fact 𝓤 (Aligned (Ok (block_ptr b o))))) (fact_i 𝓤 (Aligned (Ok (block_ptr b o))) (emp 𝓤) (λ above. absurd (packed above))) $
-        use0 𝓛 (raw (fact 𝓤 (Large (Ok (block_ptr b o))))) (fact_i 𝓤 (Large (Ok (block_ptr b o))) (emp 𝓤) (λ above. absurd (small above))) $ move ! (2 ∷ []) $
+    exits_ok : (b o : ℕ) → (MOST_SIZE < n → ⊥) → (MOST_ALIGN < a → ⊥)
+        → ent 𝓤 (⋆ 𝓛 (‵ (got (token Z h) τ true b o) ∷ ‵ (flft κ₁ q₁) ∷ (‵ (flft κ₂ q₂) ⊛ ‵ ftrue) ∷ []))
+        (Post (answer_val true b o))
+    exits_ok b o small packed = qed 𝓛 (‵ (got (token Z h) τ true b o) ∷ ‵ (flft κ₁ q₁) ∷ (‵ (flft κ₂ q₂) ⊛ ‵ ftrue)
+        ∷ []) ∵
+        use0 𝓛 (raw (fact 𝓤 (Aligned (Ok (block_ptr b o)))))
+        (fact_i 𝓤 (Aligned (Ok (block_ptr b o))) (emp 𝓤) (λ above. absurd (packed above))) $
+        use0 𝓛 (raw (fact 𝓤 (Large (Ok (block_ptr b o)))))
+        (fact_i 𝓤 (Large (Ok (block_ptr b o))) (emp 𝓤) (λ above. absurd (small above))) $ move ! (2 ∷ []) $
         -- [the block; the two facts; the tokens]
-        suffices ! _ (ends_at 𝓛 (ended Z) (stayed Z) held bound (answer_val true b o) (Ok (block_ptr b o)) (tt, (tt, (tt, tt))) (tt, (tt, (tt, tt)))) $
-        use0 𝓛 (‵ (Answer.own_val (Ok (block_ptr b o)) (answer_val true b o ∷ []))) (Answer-Ok 𝓛 b o) $ nothing ! $ nothing ! $ fjoin ! $ nothing ! $ fjoin ! $ nothing ! $ fjoin ! $ join ! $
+        suffices ! _ (ends_at 𝓛 (ended Z) (stayed Z) held bound (answer_val true b o) (Ok (block_ptr b o))
+        (tt, (tt, (tt, tt))) (tt, (tt, (tt, tt)))) $
+        use0 𝓛 (‵ (Answer.own_val (Ok (block_ptr b o)) (answer_val true b o ∷ []))) (Answer-Ok 𝓛 b o) $ nothing !
+        $ nothing ! $ fjoin ! $ nothing ! $ fjoin ! $ nothing ! $ fjoin ! $ join ! $
         move ! (4 ∷ 5 ∷ []) $ join ! $ join ! $ done !
 
     exits_err : ent 𝓤 (⋆ 𝓛 (‵ (flft κ₁ q₁) ∷ (‵ (flft κ₂ q₂) ⊛ ‵ ftrue) ∷ [])) (Post (answer_val false 0 0))
     exits_err = qed 𝓛 (‵ (flft κ₁ q₁) ∷ (‵ (flft κ₂ q₂) ⊛ ‵ ftrue) ∷ []) ∵
-        use0 𝓛 (raw (fact 𝓤 (Aligned (Err (record {}))))) (fact_i 𝓤 (Aligned (Err (record {}))) (emp 𝓤) (λ above. refl)) $
-        use0 𝓛 (raw (fact 𝓤 (Large (Err (record {}))))) (fact_i 𝓤 (Large (Err (record {}))) (emp 𝓤) (λ above. refl)) $ nothing ! $
-        suffices ! _ (ends_at 𝓛 (ended Z) (stayed Z) held bound (answer_val false 0 0) (Err (record {})) (tt, (tt, (tt, tt))) (tt, (tt, (tt, tt)))) $
-        use0 𝓛 (‵ (Answer.own_val (Err (record {})) (answer_val false 0 0 ∷ []))) (Answer-err 𝓛) $ nothing ! $ nothing ! $ fjoin ! $ nothing ! $ fjoin ! $ nothing ! $ fjoin ! $ join ! $
+        use0 𝓛 (raw (fact 𝓤 (Aligned (Err (record {})))))
+        (fact_i 𝓤 (Aligned (Err (record {}))) (emp 𝓤) (λ above. refl)) $
+        use0 𝓛 (raw (fact 𝓤 (Large (Err (record {}))))) (fact_i 𝓤 (Large (Err (record {}))) (emp 𝓤) (λ above. refl))
+        $ nothing ! $
+        suffices ! _ (ends_at 𝓛 (ended Z) (stayed Z) held bound (answer_val false 0 0) (Err (record {}))
+        (tt, (tt, (tt, tt))) (tt, (tt, (tt, tt)))) $
+        use0 𝓛 (‵ (Answer.own_val (Err (record {})) (answer_val false 0 0 ∷ []))) (Answer-err 𝓛) $ nothing !
+        $ nothing ! $ fjoin ! $ nothing ! $ fjoin ! $ nothing ! $ fjoin ! $ join ! $
         move ! (4 ∷ 5 ∷ []) $ join ! $ join ! $ done !
 
-    walk : n < 2 ^ 64 → a < 2 ^ 64 → ent 𝓤 ((walk_of 𝓛 (ended Z) (stayed Z) held).pre bound) (WpFn 𝓤 H 𝓣.C 𝓣.Λ (here Z) vs Post)
+    walk : n < 2 ^ 64 → a < 2 ^ 64 → ent 𝓤 ((walk_of 𝓛 (ended Z) (stayed Z) held).pre bound)
+        (WpFn 𝓤 H 𝓣.C 𝓣.Λ (here Z) vs Post)
     walk fn fa =
         let p : ℕ × ℕ = (r.ref_ptr.0, r.ref_ptr.1 + up (align (α Z)) 0) in
         let c : ℕ × ℕ = (r.ref_ptr.0, r.ref_ptr.1 + up 8 (up (align (α Z)) 0 + size (α Z))) in
         let t : TallyType.Denot = r.now.tally in
         let y : (Takes Z 𝓛 at_mem run).Ghost = at_takes Z 𝓛 at_mem run κ₁ q₁ p h n a τ in
         let Said : Type 0 = (capped (size τ) ≡ n) × (capped (align τ) ≡ a) in
-        qed 𝓛 (((‵ (flft κ₁ q₁) ⊛ ‵ (flft κ₂ q₂) ⊛ ‵ ftrue) ⊛ ‵ (owns (types_at (ended Z).signature.params bound.0.0) bound.0.3 bound.0.4)) ∷ (raw (fact 𝓤 (κ₂ ⊑ Z.row.lives)) ⊛ raw (fact 𝓤 Said)) ∷ []) ∵
+        qed 𝓛 (((‵ (flft κ₁ q₁) ⊛ ‵ (flft κ₂ q₂) ⊛ ‵ ftrue) ⊛ ‵
+        (owns (types_at (ended Z).signature.params bound.0.0) bound.0.3 bound.0.4))
+        ∷ (raw (fact 𝓤 (κ₂ ⊑ Z.row.lives)) ⊛ raw (fact 𝓤 Said)) ∷ []) ∵
         move ! (1 ∷ []) $ split ! $ heard ! (κ₂ ⊑ Z.row.lives) (λ le. heard ! Said (λ said.
-        split ! $ split ! $ move ! (2 ∷ []) $ fsplit ! $ fsplit ! $ move ! (1 ∷ []) $ unhide ! $ fsplit ! $ fsplit ! $ use1 𝓛 (‵ (seen Z κ₁ p h)) (id⊢ 𝓤 _) $ move ! (1 ∷ []) $ fsplit ! $ keep ! (0 ∷ 6 ∷ 2 ∷ 7 ∷ []) $
+        split ! $ split ! $ move ! (2 ∷ []) $ fsplit ! $ fsplit ! $ move ! (1 ∷ []) $ unhide ! $ fsplit ! $ fsplit !
+        $ use1 𝓛 (‵ (seen Z κ₁ p h)) (id⊢ 𝓤 _) $ move ! (1 ∷ []) $ fsplit ! $ keep ! (0 ∷ 6 ∷ 2 ∷ 7 ∷ []) $
         -- [the tally; κ₁'s token; the allocator; κ₂'s token]
-        enter ! 𝓣.C 𝓣.Λ (here Z) vs _ $ alloc_all ! (λ l. pass_all ! refl ((tt, tt), ((tt, record { fits = fn }), ((tt, record { fits = fa }), tt))) $
+        enter ! 𝓣.C 𝓣.Λ (here Z) vs _ $ alloc_all !
+        (λ l. pass_all ! refl ((tt, tt), ((tt, record { fits = fn }), ((tt, record { fits = fa }), tt))) $
         let En : Env 𝓤 H = env (here Z).locals l in
         let both : Body = front (after 5 (here Z).body) in
-        let Then : After 𝓤 H = any_q (after_seq 𝓤 H (Wp 𝓤 H 𝓣.C 𝓣.Λ En (after 6 (here Z).body) (at_return 𝓤 H En Post)) (at_return 𝓤 H En Post)) in
+        let Then : After 𝓤 H = any_q (after_seq 𝓤 H
+        (Wp 𝓤 H 𝓣.C 𝓣.Λ En (after 6 (here Z).body) (at_return 𝓤 H En Post)) (at_return 𝓤 H En Post)) in
         sets ! (addr ! (through ! refl (fld ! refl (stop !)))) refl (tt, tt) $
-        use1 𝓛 (‵ (hidden_shr TallyType κ₁ t c.0 c.1)) (id⊢ 𝓤 _) $ shr_dup ! TallyType the_row_laws.shr_laws t c.0 c.1 κ₁ $ move ! (0 ∷ 2 ∷ []) $
-        use2 𝓛 (raw ((Refuses 𝓛 at_mem run).pre (at_refuses 𝓛 at_mem run κ₁ q₁ c t n a))) (Refuses-goes 𝓛 at_mem run κ₁ q₁ c t n a fn fa) $
-        calls_at ! (fm_of 𝓤 H 𝓛.laws 𝓣) (Refuses 𝓛 at_mem run) ka (at_refuses 𝓛 at_mem run κ₁ q₁ c t n a) (and_then ! (get ! refl) (and_then ! (get ! refl) (and_then ! (get ! refl) (no_more !)))) (λ u.
-        use1 𝓛 (later (some (λ (z : Bool). given (u ≡ vbool z) (given (IsBound 𝓛 at_mem run κ₁ q₁ c t n a z) (‵ (flft κ₁ q₁)))))) (Refuses-gives 𝓛 at_mem run κ₁ q₁ c t n a u) $ await ! tt $ pick ! (λ z. learn ! (λ eu. learn ! (λ bounds. lands_as ! eu refl (tt, tt) $
+        use1 𝓛 (‵ (hidden_shr TallyType κ₁ t c.0 c.1)) (id⊢ 𝓤 _)
+        $ shr_dup ! TallyType the_row_laws.shr_laws t c.0 c.1 κ₁ $ move ! (0 ∷ 2 ∷ []) $
+        use2 𝓛 (raw ((Refuses 𝓛 at_mem run).pre (at_refuses 𝓛 at_mem run κ₁ q₁ c t n a)))
+        (Refuses-goes 𝓛 at_mem run κ₁ q₁ c t n a fn fa) $
+        calls_at ! (fm_of 𝓤 H 𝓛.laws 𝓣) (Refuses 𝓛 at_mem run) ka (at_refuses 𝓛 at_mem run κ₁ q₁ c t n a)
+        (and_then ! (get ! refl) (and_then ! (get ! refl) (and_then ! (get ! refl) (no_more !)))) (λ u.
+        use1 𝓛 (later (some (λ (z : Bool). given (u ≡ vbool z)
+        (given (IsBound 𝓛 at_mem run κ₁ q₁ c t n a z) (‵ (flft κ₁ q₁))))))
+        (Refuses-gives 𝓛 at_mem run κ₁ q₁ c t n a u) $ await ! tt
+        $ pick ! (λ z. learn ! (λ eu. learn ! (λ bounds. lands_as ! eu refl (tt, tt) $
         first ! $ branches ! (get ! refl)
         (λ t₁. sets ! (agg ! (no_more !)) refl (tt, tt) $
         sets ! (agg ! (and_then ! (lit ! tt) (and_then ! (get ! refl) (no_more !)))) refl (Answer-typed false 0 0) $
@@ -147,28 +187,42 @@ module _ (Z : Al) {M : Type 1} {𝓤 : Ura M} (𝓛 : Logic 𝓤) (at_mem : Memo
         (λ t₁. skips ! $ exec ! 𝓣.C 𝓣.Λ En (after 3 (here Z).body) (at_ret En Post) $
         -- [κ₁'s token; the tally; the allocator; κ₂'s token]
         sets ! (addr ! (through ! refl (fld ! refl (stop !)))) refl (tt, tt) $ move ! (2 ∷ 0 ∷ []) $
-        use2 𝓛 (raw ((Takes Z 𝓛 at_mem run).pre y)) (Takes-goes Z 𝓛 at_mem run κ₁ q₁ p h (⊑_trans κ₁ κ₂ Z.row.lives inn le) n a τ said.0 said.1 fn fa) $
-        calls_at ! (fm_of 𝓤 H 𝓛.laws 𝓣) (Takes Z 𝓛 at_mem run) tk y (and_then ! (get ! refl) (and_then ! (get ! refl) (and_then ! (get ! refl) (no_more !)))) (λ v.
-        use1 𝓛 (later (raw (Answered Z 𝓛 at_mem run h τ v) ⊛ ‵ (flft κ₁ q₁))) (Takes-gives Z 𝓛 at_mem run κ₁ q₁ p h n a τ v) $ await ! tt $ split ! $
+        use2 𝓛 (raw ((Takes Z 𝓛 at_mem run).pre y))
+        (Takes-goes Z 𝓛 at_mem run κ₁ q₁ p h (⊑_trans κ₁ κ₂ Z.row.lives inn le) n a τ said.0 said.1 fn fa) $
+        calls_at ! (fm_of 𝓤 H 𝓛.laws 𝓣) (Takes Z 𝓛 at_mem run) tk y
+        (and_then ! (get ! refl) (and_then ! (get ! refl) (and_then ! (get ! refl) (no_more !)))) (λ v.
+        use1 𝓛 (later (raw (Answered Z 𝓛 at_mem run h τ v) ⊛ ‵ (flft κ₁ q₁)))
+        (Takes-gives Z 𝓛 at_mem run κ₁ q₁ p h n a τ v) $ await ! tt $ split ! $
         answers Z ! at_mem run h τ v
         (λ b o e. fjoin ! $ lands_as ! e refl (Answer-typed true b o) $
-        first ! $ switches_on ! (get_tag ! (vrt ! refl (fld ! refl (stop !))) (whole !)) $ exec ! 𝓣.C 𝓣.Λ En (arm_body 0 both) Then $
-        sets ! (of_opd ! (get_in ! (vrt ! refl (fld ! refl (stop !))) (in_variant ! 0 0 refl refl (whole !)))) refl (tt, tt) $
+        first ! $ switches_on ! (get_tag ! (vrt ! refl (fld ! refl (stop !))) (whole !)) $ exec ! 𝓣.C 𝓣.Λ En
+        (arm_body 0 both) Then $
+        sets ! (of_opd ! (get_in ! (vrt ! refl (fld ! refl (stop !))) (in_variant ! 0 0 refl refl (whole !)))) refl
+        (tt, tt) $
         -- [the block; κ₁'s token; the tally; κ₂'s token]
         sets ! (addr ! (through ! refl (fld ! refl (stop !)))) refl (tt, tt) $ move ! (2 ∷ 1 ∷ []) $
-        use2 𝓛 (raw ((Counts 𝓛 at_mem run).pre (at_counts 𝓛 at_mem run κ₁ q₁ c t))) (Counts-goes 𝓛 at_mem run κ₁ q₁ c t) $
-        calls_at ! (fm_of 𝓤 H 𝓛.laws 𝓣) (Counts 𝓛 at_mem run) kn (at_counts 𝓛 at_mem run κ₁ q₁ c t) (and_then ! (get ! refl) (no_more !)) (λ w.
-        use1 𝓛 (later (given (w ≡ vunit) (‵ (flft κ₁ q₁)))) (Counts-gives 𝓛 at_mem run κ₁ q₁ c t w) $ await ! tt $ learn ! (λ ew. lands_as ! ew refl (tt, tt) $
+        use2 𝓛 (raw ((Counts 𝓛 at_mem run).pre (at_counts 𝓛 at_mem run κ₁ q₁ c t)))
+        (Counts-goes 𝓛 at_mem run κ₁ q₁ c t) $
+        calls_at ! (fm_of 𝓤 H 𝓛.laws 𝓣) (Counts 𝓛 at_mem run) kn (at_counts 𝓛 at_mem run κ₁ q₁ c t)
+        (and_then ! (get ! refl) (no_more !)) (λ w.
+        use1 𝓛 (later (given (w ≡ vunit) (‵ (flft κ₁ q₁)))) (Counts-gives 𝓛 at_mem run κ₁ q₁ c t w) $ await ! tt
+        $ learn ! (λ ew. lands_as ! ew refl (tt, tt) $
         -- [κ₁'s token; the block; κ₂'s token]
         sets_last ! (agg ! (and_then ! (lit ! tt) (and_then ! (get ! refl) (no_more !)))) refl (Answer-typed true b o) $
-        exec ! 𝓣.C 𝓣.Λ En (after 6 (here Z).body) (at_ret En Post) $ sets ! (of_opd ! (get ! refl)) refl (Answer-typed true b o) $ returns ! (look_at ! 0 refl) $ free_all ! refl $
-        keep ! (1 ∷ 0 ∷ 2 ∷ []) $ by ! (exits_ok b o (λ above. goes_on z t₁ (bounds.0 above)) (λ above. goes_on z t₁ (bounds.1 above))))))
+        exec ! 𝓣.C 𝓣.Λ En (after 6 (here Z).body) (at_ret En Post) $ sets ! (of_opd ! (get ! refl)) refl
+        (Answer-typed true b o) $ returns ! (look_at ! 0 refl) $ free_all ! refl $
+        keep ! (1 ∷ 0 ∷ 2 ∷ []) $ by ! (exits_ok b o (λ above. goes_on z t₁ (bounds.0 above))
+        (λ above. goes_on z t₁ (bounds.1 above))))))
         (λ e. lands_as ! e refl (Answer-typed false 0 0) $
-        first ! $ switches_on ! (get_tag ! (vrt ! refl (fld ! refl (stop !))) (whole !)) $ exec ! 𝓣.C 𝓣.Λ En (arm_body 1 both) Then $
-        sets ! (of_opd ! (get_in ! (vrt ! refl (fld ! refl (stop !))) (in_variant ! 1 0 refl refl (whole !)))) refl (tt, tt) $
+        first ! $ switches_on ! (get_tag ! (vrt ! refl (fld ! refl (stop !))) (whole !)) $ exec ! 𝓣.C 𝓣.Λ En
+        (arm_body 1 both) Then $
+        sets ! (of_opd ! (get_in ! (vrt ! refl (fld ! refl (stop !))) (in_variant ! 1 0 refl refl (whole !)))) refl
+        (tt, tt) $
         -- [κ₁'s token; the tally; κ₂'s token]
-        sets_last ! (agg ! (and_then ! (lit ! tt) (and_then ! (get ! refl) (no_more !)))) refl (Answer-typed false 0 0) $
-        exec ! 𝓣.C 𝓣.Λ En (after 6 (here Z).body) (at_ret En Post) $ sets ! (of_opd ! (get ! refl)) refl (Answer-typed false 0 0) $ returns ! (look_at ! 0 refl) $ free_all ! refl $
+        sets_last ! (agg ! (and_then ! (lit ! tt) (and_then ! (get ! refl) (no_more !)))) refl
+        (Answer-typed false 0 0) $
+        exec ! 𝓣.C 𝓣.Λ En (after 6 (here Z).body) (at_ret En Post) $ sets ! (of_opd ! (get ! refl)) refl
+        (Answer-typed false 0 0) $ returns ! (look_at ! 0 refl) $ free_all ! refl $
         keep ! (0 ∷ 2 ∷ []) $ by ! exits_err))))))))))
 
 pub allocate_spec : {M : Type 1} → stated.statement M
@@ -178,7 +232,22 @@ allocate_spec 𝓤 𝓛 𝓜 𝓡 wired Y L g d d' met _ =
     let A = 𝓛.A in
     let 𝓣 : Tables 𝓤 𝓛.H = tables_of 𝓤 𝓛.H 𝓜 (tables 𝓤 𝓛.H 𝓜 𝓡 𝓡.env) in
     let c = F.clauses Y g d d' 𝓛 𝓜.mem 𝓡.returns in
-    entered 𝓤 𝓛.H (triple_of 𝓛 (F.signature Y) (F.spec Y g d d' 𝓛 𝓜.mem 𝓡.returns)) 𝓣.C 𝓣.Λ (key.name (args Z)) (here Z) (code.unfolded 𝓤 𝓛.H 𝓜 𝓡 wired (Y, tt) d d')
-    (walk_Meets 𝓛 (ended Z) (stayed Z) (Goes-dropped 𝓛 2 (self Z) yes (λ κs x f. refl), (Goes-dropped 𝓛 2 (plain (λ _. usize)) yes (λ κs x f. refl), (Goes-dropped 𝓛 2 (plain (λ _. usize)) yes (λ κs x f. refl), tt))) c (WpFn 𝓤 𝓛.H 𝓣.C 𝓣.Λ (here Z)) (WpFn-mono 𝓤 𝓛.H 𝓛.laws 𝓣 (here Z))
-    (walked 𝓛 (ended Z) (stayed Z) c (WpFn 𝓤 𝓛.H 𝓣.C 𝓣.Λ (here Z)) (λ κs. (shr_vals, (uint_vals w64, (uint_vals w64, tt)))) (λ κs. ((λ r vs s. s.0), (uint_Tells w64, (uint_Tells w64, tt))))
-    (λ κs qs bounds a τ are. walk Z 𝓛 𝓜.mem 𝓡.returns 𝓣 (met.allocate d') (cited 𝓤 𝓛.H _ 𝓜 𝓡 𝓡.env c_sym.name (𝓡.env c_sym.name) refl (c_met.met 𝓤 𝓛 𝓜 𝓡 (code.calls-gx_pool::tally::Tally::lend 𝓡.env wired))) (cited 𝓤 𝓛.H _ 𝓜 𝓡 𝓡.env r_sym.name (𝓡.env r_sym.name) refl (r_met.met 𝓤 𝓛 𝓜 𝓡 (code.calls-gx_pool::tally::Tally::refuses 𝓡.env wired))) κs.0 κs.1.0 qs.0 qs.1.0 bounds.0 a.0 a.1.0 a.1.1.0 τ are.1.0.1 are.1.1.0.1)))
+    entered 𝓤 𝓛.H (triple_of 𝓛 (F.signature Y) (F.spec Y g d d' 𝓛 𝓜.mem 𝓡.returns)) 𝓣.C 𝓣.Λ (key.name (args Z))
+    (here Z) (code.unfolded 𝓤 𝓛.H 𝓜 𝓡 wired (Y, tt) d d')
+    (walk_Meets 𝓛 (ended Z) (stayed Z) (
+      Goes-dropped 𝓛 2 (self Z) yes (λ κs x f. refl),
+      (
+        Goes-dropped 𝓛 2 (plain (λ _. usize)) yes (λ κs x f. refl),
+        (Goes-dropped 𝓛 2 (plain (λ _. usize)) yes (λ κs x f. refl), tt),
+      ),
+    ) c (WpFn 𝓤 𝓛.H 𝓣.C 𝓣.Λ (here Z))
+    (WpFn-mono 𝓤 𝓛.H 𝓛.laws 𝓣 (here Z))
+    (walked 𝓛 (ended Z) (stayed Z) c (WpFn 𝓤 𝓛.H 𝓣.C 𝓣.Λ (here Z))
+    (λ κs. (shr_vals, (uint_vals w64, (uint_vals w64, tt))))
+    (λ κs. ((λ r vs s. s.0), (uint_Tells w64, (uint_Tells w64, tt))))
+    (λ κs qs bounds a τ are. walk Z 𝓛 𝓜.mem 𝓡.returns 𝓣 (met.allocate d')
+    (cited 𝓤 𝓛.H _ 𝓜 𝓡 𝓡.env c_sym.name (𝓡.env c_sym.name) refl
+    (c_met.met 𝓤 𝓛 𝓜 𝓡 (code.calls-gx_pool::tally::Tally::lend 𝓡.env wired)))
+    (cited 𝓤 𝓛.H _ 𝓜 𝓡 𝓡.env r_sym.name (𝓡.env r_sym.name) refl
+    (r_met.met 𝓤 𝓛 𝓜 𝓡 (code.calls-gx_pool::tally::Tally::refuses 𝓡.env wired))) κs.0 κs.1.0 qs.0 qs.1.0 bounds.0
+    a.0 a.1.0 a.1.1.0 τ are.1.0.1 are.1.1.0.1)))

@@ -7,7 +7,9 @@ use Rattle.gx_search.proofs.halves.search_half.Goals.{in-Less, in-Greater}
 
 pub returns-in_err-compared-clause-value : goal.returns-in_err-compared-clause-value
 returns-in_err-compared-clause-value g c =
-    let fault = half_fault c.args.memory.now c.args.ask.now c.args.bound c.loop-low.made c.loop-low.low c.loop-low.high c.middle-index.result c.in_err-compared.field-0.0 c.loop-low.invariant.left c.loop-low-test.true c.middle-index.ensures (search rules) (omega arith) in
+    let fault = half_fault c.args.memory.now c.args.ask.now c.args.bound c.loop-low.made c.loop-low.low
+    c.loop-low.high c.middle-index.result c.in_err-compared.field-0.0 c.loop-low.invariant.left
+    c.loop-low-test.true c.middle-index.ensures (search rules) (omega arith) in
     let same = c.from_residual.ensures in
     grind (arith, common_steps, fault, same)
 
@@ -19,10 +21,12 @@ loop-low-preserved g c =
     elim c.match-branch-2.branch [
       | in-Less w ↦ record {
         within = omega arith;
-        left = rw (w.low-is, w.high-is) (left_less m q _ _ _ c.middle-index.result left c.loop-low-test.true c.middle-index.ensures (search rules));
+        left = rw (w.low-is, w.high-is) (left_less m q _ _ _ c.middle-index.result left c.loop-low-test.true
+            c.middle-index.ensures (search rules));
       }
       | in-Greater w ↦ record {
         within = omega arith;
-        left = rw (w.low-is, w.high-is) (left_greater m q _ _ _ c.middle-index.result left c.loop-low-test.true c.middle-index.ensures (search rules));
+        left = rw (w.low-is, w.high-is) (left_greater m q _ _ _ c.middle-index.result left c.loop-low-test.true
+            c.middle-index.ensures (search rules));
       }
     ]

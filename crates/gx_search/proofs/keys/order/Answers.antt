@@ -11,8 +11,10 @@ returns-then-key-there g c =
     let i = c.loop-i.i in
     let key = sought_length m q c.args.at c.requires.there c.requires.sized in
     let there = key_length m q c.args.at c.requires.there in
-    let apart : get_or (sought_key m q) i 0 ≢ get_or (key_at m q c.args.at) i 0 = λ same. absurd (omega (arith, c.sought_byte-key.ensures, c.key_byte-there.ensures)) in
-    let order = bytes_apart (sought_key m q) (key_at m q c.args.at) i _ (omega arith) (omega arith) apart c.loop-i.invariant in
+    let apart : get_or (sought_key m q) i 0 ≢ get_or (key_at m q c.args.at) i 0 =
+    λ same. absurd (omega (arith, c.sought_byte-key.ensures, c.key_byte-there.ensures)) in
+    let order = bytes_apart (sought_key m q) (key_at m q c.args.at) i _ (omega arith)
+    (omega arith) apart c.loop-i.invariant in
     cc (c.cmp.ensures, c.sought_byte-key.ensures, c.key_byte-there.ensures)
 
 pub loop-i-preserved : goal.loop-i-preserved
@@ -22,5 +24,6 @@ loop-i-preserved g c =
     let i = c.loop-i.i in
     let key = sought_length m q c.args.at c.requires.there c.requires.sized in
     let there = key_length m q c.args.at c.requires.there in
-    let same : get_or (sought_key m q) i 0 ≡ get_or (key_at m q c.args.at) i 0 = omega (arith, c.sought_byte-key.ensures, c.key_byte-there.ensures) in
+    let same : get_or (sought_key m q) i 0 ≡ get_or (key_at m q c.args.at) i 0 =
+    omega (arith, c.sought_byte-key.ensures, c.key_byte-there.ensures) in
     bytes_same (sought_key m q) (key_at m q c.args.at) i _ (omega arith) (omega arith) same c.loop-i.invariant

@@ -6,4 +6,5 @@ use Rattle.gx_search.specs.Keys.{sought_key, key_at}
 use Rattle.gx_search.proofs.keys.order.Given as goal
 
 abbrev pub invariant-loop-i : goal.invariant-loop-i
-invariant-loop-i g l = slice_cmp nat_cmp (drop l.i (sought_key l.memory l.ask)) (drop l.i (key_at l.memory l.ask l.at)) ≡ slice_cmp nat_cmp (sought_key l.memory l.ask) (key_at l.memory l.ask l.at)
+invariant-loop-i g l = slice_cmp nat_cmp (drop l.i (sought_key l.memory l.ask))
+    (drop l.i (key_at l.memory l.ask l.at)) ≡ slice_cmp nat_cmp (sought_key l.memory l.ask) (key_at l.memory l.ask l.at)

@@ -10,6 +10,8 @@ bits-preserved g c =
     let behind : c.args.from + (c.bits.used + 1) ≡ c.args.from + c.bits.used + 1 = omega arith in
     let is = c.bit-one.ensures ∙ ap (λ (b : ℕ). bit b (n % 8)) c.byte.ensures.value in
     record {
-      same = rw behind (further c.args.memory.now c.bits.node c.bits.used n _ c.in_ok-node.node c.bit-one.result c.in_ok-bytes.ensures.value (sym c.from.ensures ∙ c.if-from-ne-BRANCH.false) (omega arith) is c.in_ok-node.ensures ∙ c.bits.invariant.same);
+      same = rw behind (further c.args.memory.now c.bits.node c.bits.used n _ c.in_ok-node.node c.bit-one.result
+          c.in_ok-bytes.ensures.value (sym c.from.ensures ∙ c.if-from-ne-BRANCH.false)
+          (omega arith) is c.in_ok-node.ensures ∙ c.bits.invariant.same);
       bits = inr (omega arith);
     }

@@ -6,7 +6,8 @@ use Rattle.gx_strings.proofs.nodes.walk_in_memory.Given as goal
 
 abbrev pub invariant-bits : goal.invariant-bits
 invariant-bits g l = record {
-  same : walk l.memory l.node l.used (drop (l.from + l.used) (bits l.memory)) ≡ walk l.memory l.root 0 (drop l.from (bits l.memory));
+  same : walk l.memory l.node l.used (drop (l.from + l.used) (bits l.memory))
+      ≡ walk l.memory l.root 0 (drop l.from (bits l.memory));
   bits : (l.used ≡ 0) ⊎ (l.from + l.used ≤ 8 * length l.memory);
 }
 

@@ -6,7 +6,8 @@ use Rattle.iff_chunks.proofs.forms.find_in.Given as goal
 abbrev pub invariant-loop-place : goal.invariant-loop-place
 invariant-loop-place l = record {
   within : l.place ≤ length l.form + 12;
-  rest : found_from l.sought l.found (parts_from (length l.form) l.form l.place) ≡ part_found l.sought (parts_from (length l.form) l.form 12);
+  rest : found_from l.sought l.found (parts_from (length l.form) l.form l.place)
+      ≡ part_found l.sought (parts_from (length l.form) l.form 12);
 }
 
 abbrev pub decreases-loop-place : goal.decreases-loop-place

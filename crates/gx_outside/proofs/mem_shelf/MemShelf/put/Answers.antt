@@ -13,4 +13,5 @@ returns-clause-ok c =
     ∙ ap (λ (s : HeldShelf). record s { files = insert s.files c.args.name.now c.args.bytes.now }) c.self.view_is
 
 pub returns-clause-stored : goal.returns-clause-stored
-returns-clause-stored c = ap (λ (s : HeldShelf). files_of s.files) (returns-clause-ok c) ∙ files_of-insert c.args.self.now.files c.args.name.now c.args.bytes.now
+returns-clause-stored c = ap (λ (s : HeldShelf). files_of s.files) (returns-clause-ok c)
+    ∙ files_of-insert c.args.self.now.files c.args.name.now c.args.bytes.now
