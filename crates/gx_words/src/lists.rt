@@ -87,19 +87,24 @@ impl<T: Drop> Items<T> {
 }
 
 impl Bytes {
-    /// The bytes of a slice.
+    /// The bytes of a slice. No memory is asked for where there are none.
     pub fn from_slice(alloc: Global, bytes: &[u8]) -> Result<Self, AllocError>
-        ensures { IfOk result (λ copy. copy ≡ bytes.now) }
+        ensures value { IfOk result (λ copy. copy ≡ bytes.now) }
+        ensures memory { OnErr result (0 < length bytes.now) }
     {
+        if bytes.is_empty() {
+            return Ok(Items::new(alloc));
+        }
         Ok(Items {
             all: Vec::from_slice(alloc, bytes)?,
         })
     }
 
-    /// Adds the bytes of a slice at the end.
+    /// Adds the bytes of a slice at the end. No memory is asked for where there are none.
     pub fn extend_from_slice(&mut self, bytes: &[u8]) -> Result<(), AllocError>
         ensures ok { OnOk result (self.new ≡ self.old ++ bytes.now) }
         ensures err { OnErr result (self.new ≡ self.old) }
+        ensures memory { OnErr result (0 < length bytes.now) }
     {
         self.all.extend_from_slice(bytes)
     }
@@ -144,10 +149,14 @@ impl Name {
         }
     }
 
-    /// The name that a text spells.
+    /// The name that a text spells. No memory is asked for where it has no character.
     pub fn from_str(alloc: Global, text: &str) -> Result<Self, AllocError>
-        ensures { IfOk result (λ name. name ≡ text.now) }
+        ensures value { IfOk result (λ name. name ≡ text.now) }
+        ensures memory { OnErr result (0 < length text.now) }
     {
+        if text.is_empty() {
+            return Ok(Name::new(alloc));
+        }
         Ok(Name {
             text: String::from_str(alloc, text)?,
         })

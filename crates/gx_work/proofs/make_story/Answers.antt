@@ -7,7 +7,7 @@ use Rattle.gx_work.proofs.Stories.{begun, grown, done, checked, headed, length-w
 use Rattle.gx_work.proofs.make_story.Goals as goal
 
 pub loop-index-init : goal.loop-index-init
-loop-index-init c = begun _ _ _ _ _ _ _ c.first_page-page.ensures c.put_number.ensures c.in_ok-story.ensures
+loop-index-init c = begun _ _ _ _ _ _ _ c.first_page-page.ensures c.put_number.ensures c.in_ok-story.ensures.value
 
 pub loop-index-preserved : goal.loop-index-preserved
 loop-index-preserved c = grown _ _ _ _ _ _ _ c.loop-index.invariant

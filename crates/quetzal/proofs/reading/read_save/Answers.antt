@@ -65,11 +65,11 @@ pub returns-clause-value : goal.returns-clause-value
 returns-clause-value c =
     let fits = sym c.is_memory_size.ensures ∙ c.in_ok-allowed.ensures.passes in
     let stack = sym c.is_stack.ensures ∙ c.in_ok-allowed-2.ensures.passes in
-    rw c.in_ok-stack.ensures (save_taken c.args.bytes.now c.args.story.now (parts_of c.in_ok-parts.parts) c.size-size.result c.in_ok-memory.memory _ c.in_ok-parts.ensures.value c.size-size.ensures fits c.in_ok-memory.ensures.value stack c.in_ok-heap.ensures.value)
+    rw c.in_ok-stack.ensures.value (save_taken c.args.bytes.now c.args.story.now (parts_of c.in_ok-parts.parts) c.size-size.result c.in_ok-memory.memory _ c.in_ok-parts.ensures.value c.size-size.ensures fits c.in_ok-memory.ensures.value stack c.in_ok-heap.ensures.value)
 
 pub returns-clause-sound : goal.returns-clause-sound
 returns-clause-sound c =
     let fits = sym c.is_memory_size.ensures ∙ c.in_ok-allowed.ensures.passes in
     let stack = sym c.is_stack.ensures ∙ c.in_ok-allowed-2.ensures.passes in
     let capped = (size_parts c.args.story.now c.size-size.result fits).capped in
-    rw c.in_ok-stack.ensures (copy_fits c.args.story.now c.size-size.result _ (c.in_ok-memory.ensures.len ∙ sym c.size-size.ensures) c.in_ok-memory.ensures.rom fits stack (c.in_ok-heap.ensures.within capped))
+    rw c.in_ok-stack.ensures.value (copy_fits c.args.story.now c.size-size.result _ (c.in_ok-memory.ensures.len ∙ sym c.size-size.ensures) c.in_ok-memory.ensures.rom fits stack (c.in_ok-heap.ensures.within capped))

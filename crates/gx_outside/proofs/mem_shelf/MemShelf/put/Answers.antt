@@ -9,7 +9,7 @@ returns-clause-ok c =
     ap (λ (files : FilesByName). record { files = files; calls = c.self.inside.calls })
     (by_name-insert _ _ c.self.inside.files c.insert.new.self c.in_ok-insert.ensures.updates
     ∙ ap (λ (name : List ℕ). insert (by_name c.self.inside.files) name c.in_ok-bytes.bytes) c.in_ok-name.ensures.ok
-    ∙ ap (λ (bytes : List ℕ). insert (by_name c.self.inside.files) c.args.name.now bytes) c.in_ok-bytes.ensures)
+    ∙ ap (λ (bytes : List ℕ). insert (by_name c.self.inside.files) c.args.name.now bytes) c.in_ok-bytes.ensures.value)
     ∙ ap (λ (s : HeldShelf). record s { files = insert s.files c.args.name.now c.args.bytes.now }) c.self.view_is
 
 pub returns-clause-stored : goal.returns-clause-stored
