@@ -107,9 +107,10 @@ impl Stack {
         *self.bytes.allocator()
     }
 
-    /// The stack once more, with the same room.
+    /// The stack once more, with the same room. No memory is asked for where that is none.
     pub fn fork(&self, alloc: Global) -> Result<Stack, AllocError>
-        ensures { IfOk result (λ stack. stack ≡ self.now) }
+        ensures value { IfOk result (λ stack. stack ≡ self.now) }
+        ensures memory { OnErr result (0 < self.now.limit) }
     {
         let mut stack = Stack::new(alloc, self.limit)?;
         stack.put_back(&self.bytes);
