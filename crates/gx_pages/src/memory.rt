@@ -155,9 +155,10 @@ impl<A: Allocator> Pages<A> {
         }
     }
 
-    /// All bytes, as a list that is asked for once.
+    /// All bytes, as a list that is asked for once. No memory is asked for where there are none.
     pub fn bytes(&self, alloc: Global) -> Result<Bytes, AllocError>
-        ensures { IfOk result (λ bytes. bytes ≡ self.now) }
+        ensures value { IfOk result (λ bytes. bytes ≡ self.now) }
+        ensures memory { OnErr result (0 < length self.now) }
     {
         let mut bytes = Bytes::with_capacity(alloc, self.size() as usize)?;
         add_to(&self.table, &mut bytes)?;

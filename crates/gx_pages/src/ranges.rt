@@ -95,7 +95,8 @@ fn take_piece<A: Allocator + Clone>(
 
 /// Adds all bytes to a list. After a refusal a part of them may be there.
 pub fn add_to<A: Allocator>(table: &Table<A>, bytes: &mut Bytes) -> Result<(), AllocError>
-    ensures { OnOk result (bytes.new ≡ bytes.old ++ table.now) }
+    ensures ok { OnOk result (bytes.new ≡ bytes.old ++ table.now) }
+    ensures memory { OnErr result (0 < length table.now) }
 {
     let size = table.size() as usize;
     let mut done = 0;
