@@ -8,7 +8,7 @@ use Rattle.std.proofs.lemmas.List.{append-nil, drop-drop}
 use Rattle.glk_screen.specs.Texts.{line_feeds, behind_paragraph, with_char}
 use Rattle.glk_screen.specs.Wrapping.{columns, first_row, rows_from, rows_at, part}
 use Rattle.glk_screen.specs.Laws.{is_fitting, RowsFit, with_chars, behind_paragraphs, last_of, KeepsLast}
-use Rattle.glk_screen.proofs.Paragraphs.{count_push, count_cons, count_behind}
+use Rattle.glk_screen.proofs.Paragraphs.{count_push, count_behind, behind_push}
 use Rattle.glk_screen.proofs.Prefixes.{row_narrow_enough}
 
 -- ---- rows fit
@@ -45,11 +45,6 @@ pub rows_fit : RowsFit
 rows_fit = λ width text some. all_fit width (suc (length text)) text 0
 
 -- ---- the last paragraphs are kept
-
-behind_push : (text : List ℕ) (c : ℕ) → 0 < line_feeds text
-    → behind_paragraph (text ++ c ∷ []) ≡ behind_paragraph text ++ c ∷ []
-behind_push [] c some = absurd (omega arith)
-behind_push (d ∷ ds) c some = grind (arith, nat_tests, count_cons ds d, behind_push ds c)
 
 past_push : (n : ℕ) (text : List ℕ) (c : ℕ) → n ≤ line_feeds text
     → behind_paragraphs n (text ++ c ∷ []) ≡ behind_paragraphs n text ++ c ∷ []

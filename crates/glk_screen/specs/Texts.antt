@@ -1,6 +1,7 @@
 -- The text of buffer windows: what was put to each since it was opened or cleared, and no more of it than its last
 -- 255 paragraphs. A paragraph ends at a line feed, and the last one may be empty.
-use Rattle.std.specs.Prelude.{ℕ, suc, ◌==◌, not, nat_lt, if◌then◌else◌, List, [], ◌∷◌, ◌++◌, map, filter, count_by}
+use Rattle.std.specs.Prelude.{ℕ, suc, ◌==◌, not, nat_lt, if◌then◌else◌, Bool, List, [], ◌∷◌, ◌++◌, length, map, filter}
+use Rattle.std.specs.Prelude.{count_by}
 use Rattle.gx_words.specs.Constants.{line_feed}
 use Rattle.glk_screen.specs.Constants.{most_paragraphs}
 
@@ -22,6 +23,10 @@ unfoldable pub with_char : List ℕ → ℕ → List ℕ
 with_char text c =
     let longer = text ++ c ∷ [] in
     if nat_lt (line_feeds longer) most_paragraphs then longer else behind_paragraph longer
+
+-- that makes the text longer; else its first paragraph goes
+abbrev pub lengthens : List ℕ → ℕ → Bool
+lengthens text c = nat_lt (length text) (length (with_char text c))
 
 -- the text of a window, none where nothing was put to it
 abbrev pub text_of : List FlatText → ℕ → List ℕ

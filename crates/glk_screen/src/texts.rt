@@ -1,7 +1,7 @@
 //! The text of buffer windows.
-ghost use Rattle.std.specs.Prelude.{◌≡◌, ◌≤◌, ◌<◌, ◌^◌, [], length, drop, OnOk, OnErr};
-ghost use Rattle.glk_screen.specs.Texts.{behind_paragraph, text_of, text_index, text_put, text_cleared, screen_put};
-ghost use Rattle.glk_screen.specs.Texts.{screen_cleared, screen_gone};
+ghost use Rattle.std.specs.Prelude.{◌≡◌, ◌≤◌, ◌<◌, ◌^◌, [], ◌∷◌, ◌++◌, length, drop, OnOk, OnErr, IsTrue};
+ghost use Rattle.glk_screen.specs.Texts.{line_feeds, behind_paragraph, lengthens, text_of, text_index, text_put};
+ghost use Rattle.glk_screen.specs.Texts.{text_cleared, screen_put, screen_cleared, screen_gone};
 
 use gx_words::LINE_FEED;
 use std::alloc::{AllocError, Global};
@@ -10,7 +10,8 @@ use std::marker::Model;
 /// So many paragraphs of a window's text are kept at most.
 pub const MOST_PARAGRAPHS: usize = 255;
 
-/// A buffer window's text. What stands before `start` was dropped, and goes once it is the larger part.
+/// A buffer window's text. What stands before `start` was dropped, and goes once it is the larger part or a line feed
+/// wants its room.
 #[derive(Drop)]
 pub(crate) struct Text {
     id: u32,
@@ -62,23 +63,24 @@ impl Text {
         &self.chars[self.start..]
     }
 
-    /// Adds a character at the end, and drops the first paragraph where there is one too many.
+    /// Adds a character at the end. Where that makes one paragraph too many, the first one goes, and no memory is
+    /// wanted.
     fn push(&mut self, c: u32) -> Result<(), AllocError>
         ensures ok { OnOk result (self.new ≡ text_put self.old c) }
         ensures err { OnErr result (self.new ≡ self.old) }
+        ensures memory { OnErr result (IsTrue (lengthens self.old.text c)) }
     {
+        if c == LINE_FEED && self.line_feeds + 1 == MOST_PARAGRAPHS {
+            self.start = turn_over(&mut self.chars, self.start);
+            return Ok(());
+        }
         if self.chars.len() - self.start >= u32::MAX as usize {
             return Err(AllocError);
         }
         self.chars.push(c)?;
-        if c != LINE_FEED {
-            return Ok(());
-        }
-        if self.line_feeds + 1 < MOST_PARAGRAPHS {
+        if c == LINE_FEED {
             self.line_feeds += 1;
-            return Ok(());
         }
-        self.start = drop_paragraph(&mut self.chars, self.start);
         Ok(())
     }
 
@@ -94,18 +96,23 @@ impl Text {
     }
 }
 
-/// Drops the first paragraph of what stands from `start` on. Answers where the rest starts.
-fn drop_paragraph(chars: &mut Vec<u32>, start: usize) -> usize
-    requires { start ≤ length chars.old.items }
-    ensures rest { drop result chars.new.items ≡ behind_paragraph (drop start chars.old.items) }
+/// Drops the first paragraph of what stands from `start` on, and adds a line feed in its room. Answers where the rest
+/// starts.
+fn turn_over(chars: &mut Vec<u32>, start: usize) -> usize
+    requires start { start ≤ length chars.old.items }
+    requires some { 0 < line_feeds (drop start chars.old.items) }
+    ensures rest { drop result chars.new.items ≡ behind_paragraph (drop start chars.old.items) ++ 0x0A ∷ [] }
     ensures within { result ≤ length chars.new.items }
 {
     let start = start + behind_paragraph(&chars[start..]);
-    if start <= chars.len() / 2 {
+    if start <= chars.len() / 2 && chars.len() < chars.capacity() {
+        chars.push_reserved(LINE_FEED);
         return start;
     }
+    let end = chars.len() - start;
     chars.copy_within(start.., 0);
-    chars.truncate(chars.len() - start);
+    chars.truncate(end + 1);
+    chars[end] = LINE_FEED;
     0
 }
 
@@ -191,6 +198,7 @@ impl Screen {
     pub fn put(&mut self, win: u32, c: u32) -> Result<(), AllocError>
         ensures ok { OnOk result (self.new ≡ screen_put self.old win c) }
         ensures err { OnErr result (self.new ≡ self.old) }
+        ensures memory { OnErr result (IsTrue (lengthens (text_of self.old win) c)) }
     {
         let at = place(&self.texts, win);
         if at < self.texts.len() {

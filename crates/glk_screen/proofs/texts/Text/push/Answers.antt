@@ -1,39 +1,70 @@
-use Rattle.std.proofs.Common.{ap, List, ℕ, arith, length-drop}
-use Rattle.glk_screen.specs.Texts.{FlatText}
+use Rattle.std.proofs.Common.{◌≡◌, ◌≢◌, ◌<◌, ◌+◌, ◌++◌, ◌∷◌, [], ap, List, ℕ, drop, arith}
+use Rattle.glk_screen.specs.Texts.{FlatText, line_feeds}
 use Rattle.glk_screen.proofs.Paragraphs.{put_plain, put_feed, put_full, count_full, short_full}
+use Rattle.glk_screen.proofs.Paragraphs.{longer, few_with, on_err}
 use Rattle.glk_screen.proofs.texts.Text.push.Goals as goal
+use Rattle.glk_screen.proofs.texts.Text.push.Goals.{else-c-eq-LINE_FEED-via-else-c-eq-LINE_FEED}
+use Rattle.glk_screen.proofs.texts.Text.push.Goals.{else-c-eq-LINE_FEED-via-then-c-eq-LINE_FEED+else-self-eq-MOST_PARAGRAPHS}
 
-pub returns-then-c-ne-LINE_FEED-clause-ok : goal.returns-then-c-ne-LINE_FEED-clause-ok
-returns-then-c-ne-LINE_FEED-clause-ok c =
-    let text : List ℕ → FlatText = λ t. record { id = c.self.inside.id; text = t } in
-    rw (← c.self.view_is) (ap text (put_plain _ _ _ _ c.in_ok-push.ensures.items c.self.invariant.start
-    c.if-c-ne-LINE_FEED.true (omega arith)))
-
-pub returns-then-self-lt-MOST_PARAGRAPHS-clause-ok : goal.returns-then-self-lt-MOST_PARAGRAPHS-clause-ok
-returns-then-self-lt-MOST_PARAGRAPHS-clause-ok c =
-    let text : List ℕ → FlatText = λ t. record { id = c.self.inside.id; text = t } in
-    rw (← c.self.view_is) (ap text (put_feed _ _ _ _ c.in_ok-push.ensures.items c.self.invariant.start
-    c.if-c-ne-LINE_FEED.false (omega arith)))
-
-pub invariant_of-self-2 : goal.invariant_of-self-2
-invariant_of-self-2 c =
-    let made = c.drop_paragraph-self-inside.ensures.rest in
-    let count =
-    count_full _ _ _ _ c.in_ok-push.ensures.items c.self.invariant.start _ made c.if-c-ne-LINE_FEED.false
-    (omega arith) in
-    let short =
-    short_full _ _ _ _ c.in_ok-push.ensures.items c.self.invariant.start _ made c.if-c-ne-LINE_FEED.false
-    (omega arith) in
-    let long = length-drop c.self.inside.start c.self.inside.chars.items in
+pub invariant_of-self : goal.invariant_of-self
+invariant_of-self c =
+    let text = drop c.self.inside.start c.self.inside.chars.items in
+    let zs = drop c.turn_over-self-inside.result c.turn_over-self-inside.new.chars.items in
+    let made = c.turn_over-self-inside.ensures.rest in
+    let count : line_feeds zs ≡ line_feeds text = count_full text zs made (omega arith) in
+    let short = short_full text zs made (omega arith) in
     record {
-      start = c.drop_paragraph-self-inside.ensures.within;
+      start = c.turn_over-self-inside.ensures.within;
       counted = omega (arith, count);
-      few = omega arith;
-      short = omega (arith, short, long);
+      few = c.self.invariant.few;
+      short = omega (arith, short);
     }
 
-pub returns-clause-ok : goal.returns-clause-ok
-returns-clause-ok c =
+pub returns-then-self-eq-MOST_PARAGRAPHS-clause-ok : goal.returns-then-self-eq-MOST_PARAGRAPHS-clause-ok
+returns-then-self-eq-MOST_PARAGRAPHS-clause-ok c =
     let text : List ℕ → FlatText = λ t. record { id = c.self.inside.id; text = t } in
-    rw (← c.self.view_is) (ap text (put_full _ _ _ _ c.in_ok-push.ensures.items c.self.invariant.start _
-    c.drop_paragraph-self-inside.ensures.rest c.if-c-ne-LINE_FEED.false (omega arith)))
+    rw (← c.self.view_is, c.if-c-eq-LINE_FEED.true) (ap text (put_full _ _ c.turn_over-self-inside.ensures.rest
+    (omega arith)))
+
+pub returns-then-len-self-clause-memory : goal.returns-then-len-self-clause-memory
+returns-then-len-self-clause-memory c =
+    let text = drop c.self.inside.start c.self.inside.chars.items in
+    let other : c.args.c ≡ 0x0A → c.self.inside.line_feeds + 1 ≢ 255 = elim c.else-c-eq-LINE_FEED.branch [
+      | else-c-eq-LINE_FEED-via-then-c-eq-LINE_FEED+else-self-eq-MOST_PARAGRAPHS w ↦
+          λ _. w.if-self-eq-MOST_PARAGRAPHS.false
+      | else-c-eq-LINE_FEED-via-else-c-eq-LINE_FEED w ↦ λ is. absurd (w.if-c-eq-LINE_FEED.false is)
+    ] in
+    rw (← c.self.view_is)
+    (longer text c.args.c (few_with text c.self.inside.line_feeds c.args.c c.self.invariant.counted
+    c.self.invariant.few other))
+
+pub returns-in_err-push-clause-memory : goal.returns-in_err-push-clause-memory
+returns-in_err-push-clause-memory c =
+    let text = drop c.self.inside.start c.self.inside.chars.items in
+    let other : c.args.c ≡ 0x0A → c.self.inside.line_feeds + 1 ≢ 255 = elim c.else-c-eq-LINE_FEED.branch [
+      | else-c-eq-LINE_FEED-via-then-c-eq-LINE_FEED+else-self-eq-MOST_PARAGRAPHS w ↦
+          λ _. w.if-self-eq-MOST_PARAGRAPHS.false
+      | else-c-eq-LINE_FEED-via-else-c-eq-LINE_FEED w ↦ λ is. absurd (w.if-c-eq-LINE_FEED.false is)
+    ] in
+    rw (← c.self.view_is)
+    (on_err c.from_residual.result
+    (longer text c.args.c (few_with text c.self.inside.line_feeds c.args.c c.self.invariant.counted
+    c.self.invariant.few other)))
+
+pub returns-then-c-eq-LINE_FEED-2-clause-ok : goal.returns-then-c-eq-LINE_FEED-2-clause-ok
+returns-then-c-eq-LINE_FEED-2-clause-ok c =
+    let text : List ℕ → FlatText = λ t. record { id = c.self.inside.id; text = t } in
+    let other : c.args.c ≡ 0x0A → c.self.inside.line_feeds + 1 ≢ 255 = elim c.else-c-eq-LINE_FEED.branch [
+      | else-c-eq-LINE_FEED-via-then-c-eq-LINE_FEED+else-self-eq-MOST_PARAGRAPHS w ↦
+          λ _. w.if-self-eq-MOST_PARAGRAPHS.false
+      | else-c-eq-LINE_FEED-via-else-c-eq-LINE_FEED w ↦ λ is. absurd (w.if-c-eq-LINE_FEED.false is)
+    ] in
+    let less = other c.if-c-eq-LINE_FEED-2.true in
+    rw (← c.self.view_is) (ap text (put_feed _ _ _ _ c.in_ok-push.ensures.items c.self.invariant.start
+    c.if-c-eq-LINE_FEED-2.true (omega (arith, less))))
+
+pub returns-else-c-eq-LINE_FEED-2-clause-ok : goal.returns-else-c-eq-LINE_FEED-2-clause-ok
+returns-else-c-eq-LINE_FEED-2-clause-ok c =
+    let text : List ℕ → FlatText = λ t. record { id = c.self.inside.id; text = t } in
+    rw (← c.self.view_is) (ap text (put_plain _ _ _ _ c.in_ok-push.ensures.items c.self.invariant.start
+    c.if-c-eq-LINE_FEED-2.false (omega arith)))
