@@ -4,7 +4,8 @@ use Rattle.gx_rows.specs.declared.numbers.TheConstants as code
 use Rattle.gx_rows.specs.declared.instructions.TheConstants as table
 use Rattle.gx_rows.specs.declared.capabilities.TheConstants as selector
 use Rattle.gx_rows.specs.declared.modes.TheConstants as mode
-use Rattle.gx_rows.specs.Gestalts.{glulx_version, terp_version, resize_mem, undo, io_system, unicode, mem_copy, m_alloc, m_alloc_heap, extended_undo}
+use Rattle.gx_rows.specs.Gestalts.{glulx_version, terp_version, resize_mem, undo, io_system, unicode, mem_copy}
+use Rattle.gx_rows.specs.Gestalts.{m_alloc, m_alloc_heap, extended_undo}
 use Rattle.gx_rows.specs.Table.{row_count}
 use Rattle.gx_rows.specs.Modes as modes
 use Rattle.gx_rows.specs.Numbers as numbers

@@ -1,5 +1,6 @@
 -- Where the numbers stand in the table.
-use Rattle.std.proofs.Common.{◌≡◌, ◌≢◌, ◌≤◌, ◌<◌, ◌+◌, ◌&&◌, ◌==◌, ℕ, zero, suc, Bool, true, false, nat_lt, not, List, [], ◌∷◌, length, slice_index, refl, sym, ◌∙◌, ap, subst, arith, Some, None, option_map}
+use Rattle.std.proofs.Common.{◌≡◌, ◌≢◌, ◌≤◌, ◌<◌, ◌+◌, ◌&&◌, ◌==◌, ℕ, zero, suc, Bool, true, false, nat_lt, not, List}
+use Rattle.std.proofs.Common.{[], ◌∷◌, length, slice_index, refl, sym, ◌∙◌, ap, subst, arith, Some, None, option_map}
 use Rattle.std.specs.List.{list_all, position_or_len, slice_get}
 use Rattle.std.proofs.lemmas.Bool.Decides.{nat_tests}
 use Rattle.std.proofs.lemmas.List.Folds.{find_at}
@@ -33,10 +34,12 @@ fits_by_test row fits = record {
 
 pub fits_at : (place : ℕ) → place < row_count → RowFits (row_at place)
 unfolding row_at
-fits_at place within = fits_by_test _ (AllPass-from_list_all row_fits table all_fit place _ (omega (arith, rows_counted)))
+fits_at place within = fits_by_test _ (AllPass-from_list_all row_fits table all_fit place _
+    (omega (arith, rows_counted)))
 
 -- the row of a number stands at the place of the first that has it
-row_found : (number place : ℕ) → position_or_len (λ row. row.number == number) table ≡ place → row_of number ≡ slice_get table place
+row_found : (number place : ℕ) → position_or_len (λ row. row.number == number) table ≡ place
+    → row_of number ≡ slice_get table place
 unfolding row_of
 row_found number place is = find_at (λ row. row.number == number) table ∙ ap (slice_get table) is
 
@@ -49,42 +52,56 @@ stands first zero (place ∷ places) all within =
     ap (λ (n : ℕ). position_or_len (λ row. row.number == n) table) (omega arith) ∙ same _ _ here.0
 stands first (suc i) (place ∷ places) all within =
     let rest = both (position_or_len (λ row. row.number == first) table == place) (are_places (first + 1) places) all in
-    ap (λ (n : ℕ). position_or_len (λ row. row.number == n) table) (omega arith) ∙ stands (first + 1) i places rest.1 (omega arith)
+    ap (λ (n : ℕ). position_or_len (λ row. row.number == n) table) (omega arith)
+    ∙ stands (first + 1) i places rest.1 (omega arith)
 
 stands_at : (number : ℕ) (places : List ℕ) → are_places 0 places ≡ true → number < length places
     → position_or_len (λ row. row.number == number) table ≡ slice_index places number
-stands_at number places all within = subst (λ (n : ℕ). position_or_len (λ row. row.number == n) table ≡ slice_index places number) (omega arith) (stands 0 number places all within)
+stands_at number places all within = subst
+    (λ (n : ℕ). position_or_len (λ row. row.number == n) table ≡ slice_index places number) (omega arith)
+    (stands 0 number places all within)
 
-pub place_within : (places : List ℕ) (number : ℕ) → are_places 0 places ≡ true → number < length places → slice_index places number ≢ row_count → slice_index places number < row_count
+pub place_within : (places : List ℕ) (number : ℕ) → are_places 0 places ≡ true → number < length places
+    → slice_index places number ≢ row_count → slice_index places number < row_count
 place_within places number all within some =
     let most = prefix_len-le-length (λ row. not (row.number == number)) table in
     omega (arith, rows_counted, most, stands_at number places all within, some)
 
 -- a number that has a place
-pub number_found : (places : List ℕ) (number : ℕ) → are_places 0 places ≡ true → number < length places → slice_index places number ≢ row_count
-    → (option_map row_at (Some (slice_index places number)) ≡ row_of number) × (slice_index places number < row_count) × RowFits (row_at (slice_index places number))
+pub number_found : (places : List ℕ) (number : ℕ) → are_places 0 places ≡ true → number < length places
+    → slice_index places number ≢ row_count
+    → (option_map row_at (Some (slice_index places number)) ≡ row_of number) × (slice_index places number < row_count)
+    × RowFits (row_at (slice_index places number))
 unfolding row_at
 number_found places number all within some =
-    let there = place_within places number all within some in
-    (sym (row_found number (slice_index places number) (stands_at number places all within) ∙ slice_get-get_or table (slice_index places number) _ (omega (arith, rows_counted, there))), there, fits_at _ there)
+    let there = place_within places number all within some in (
+      sym (row_found number (slice_index places number) (stands_at number places all within)
+          ∙ slice_get-get_or table (slice_index places number) _ (omega (arith, rows_counted, there))),
+      there,
+      fits_at _ there,
+    )
 
 -- where it stands
-pub place_found : (places : List ℕ) (number : ℕ) → are_places 0 places ≡ true → number < length places → slice_index places number ≢ row_count
+pub place_found : (places : List ℕ) (number : ℕ) → are_places 0 places ≡ true → number < length places
+    → slice_index places number ≢ row_count
     → Some (slice_index places number) ≡ place_of number
 unfolding place_of
 place_found places number all within some =
     grind (arith, nat_tests, stands_at number places all within, place_within places number all within some)
 
-pub place_missing : (places : List ℕ) (number : ℕ) → are_places 0 places ≡ true → number < length places → slice_index places number ≡ row_count
+pub place_missing : (places : List ℕ) (number : ℕ) → are_places 0 places ≡ true → number < length places
+    → slice_index places number ≡ row_count
     → None ≡ place_of number
 unfolding place_of
 place_missing places number all within none = grind (arith, nat_tests, stands_at number places all within)
 
 -- one that has none
-pub number_missing : (places : List ℕ) (number : ℕ) → are_places 0 places ≡ true → number < length places → slice_index places number ≡ row_count
+pub number_missing : (places : List ℕ) (number : ℕ) → are_places 0 places ≡ true → number < length places
+    → slice_index places number ≡ row_count
     → None ≡ row_of number
 number_missing places number all within none =
-    sym (row_found number row_count (stands_at number places all within ∙ none) ∙ slice_get_past table row_count (omega (arith, rows_counted)))
+    sym (row_found number row_count (stands_at number places all within ∙ none)
+    ∙ slice_get_past table row_count (omega (arith, rows_counted)))
 
 -- one above them all
 too_great : (m n most : ℕ) → nat_lt m most ≡ true → most ≤ n → (m == n) ≡ false
@@ -103,7 +120,8 @@ unfolding are_below
 number_above most number all there =
     let passes = AllPass-from_list_all (λ row. nat_lt row.number most) table all in
     sym (row_found number (length table)
-    (position_or_len_is (λ row. row.number == number) table (length table) (row_at 0) (omega arith) (λ k less. too_great _ number most (passes k _ less) there) (λ less. absurd (omega (arith, less))))
+    (position_or_len_is (λ row. row.number == number) table (length table) (row_at 0) (omega arith)
+    (λ k less. too_great _ number most (passes k _ less) there) (λ less. absurd (omega (arith, less))))
     ∙ slice_get_past table (length table) (omega arith))
 
 pub ruleset places = (place_within, number_found, number_missing, number_above, place_found, place_missing, place_above)

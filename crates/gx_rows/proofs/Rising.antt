@@ -1,5 +1,7 @@
 -- Rows whose keys rise, and what a binary search for a key finds in them.
-use Rattle.std.proofs.Common.{◌≡◌, ◌≢◌, ◌<◌, ◌≤◌, ◌&&◌, ◌==◌, ℕ, zero, suc, Bool, true, false, nat_lt, List, [], ◌∷◌, length, get_or, refl, sym, ◌∙◌, ap, eq-eqb, arith, ◌⊎◌, inl, inr, All, MatchOption, Option, Some, None, Result, Ok, Err}
+use Rattle.std.proofs.Common.{◌≡◌, ◌≢◌, ◌<◌, ◌≤◌, ◌&&◌, ◌==◌, ℕ, zero, suc, Bool, true, false, nat_lt, List, [], ◌∷◌}
+use Rattle.std.proofs.Common.{length, get_or, refl, sym, ◌∙◌, ap, eq-eqb, arith, ◌⊎◌, inl, inr, All, MatchOption}
+use Rattle.std.proofs.Common.{Option, Some, None, Result, Ok, Err}
 use Rattle.std.specs.List.{HoldsAt, find, slice_get, position_or_len}
 use Rattle.std.specs.List.Sorted.{IsNonDecreasingBy, IsBinarySearchResult, IsSearchInRange, IsPartitionPoint}
 use Rattle.std.specs.Ordering.{nat_cmp, ordering_index}
@@ -44,7 +46,8 @@ module _ {T : Type 0} (key_of : T → ℕ) where
       → i < length rest → key_of row < key_of (get_or rest i d)
   first_is_least row [] i d up within = absurd (omega arith)
   first_is_least row (next ∷ rest) zero d up within =
-      let less = (both (nat_lt (key_of row) (key_of next)) (is_rising key_of (next ∷ rest)) up).0 in grind (arith, nat_tests, less)
+      let less = (both (nat_lt (key_of row) (key_of next)) (is_rising key_of (next ∷ rest)) up).0 in
+      grind (arith, nat_tests, less)
   first_is_least row (next ∷ rest) (suc i) d up within =
       let p = both (nat_lt (key_of row) (key_of next)) (is_rising key_of (next ∷ rest)) up in
       let later = first_is_least next rest i d p.1 (omega arith) in grind (arith, nat_tests, p.0, later)
@@ -76,7 +79,9 @@ module _ {T : Type 0} (key_of : T → ℕ) where
   }
 
   none_has : (rows : List T) (key i : ℕ) → is_rising key_of rows ≡ true
-      → (IsNonDecreasingBy (λ row. ordering_index (nat_cmp (key_of row) key)) rows → IsPartitionPoint (λ row. nat_cmp (key_of row) key ≡ Less) (λ row. nat_cmp (key_of row) key ≡ Greater) rows i)
+      → (IsNonDecreasingBy (λ row. ordering_index (nat_cmp (key_of row) key)) rows
+      → IsPartitionPoint (λ row. nat_cmp (key_of row) key ≡ Less)
+      (λ row. nat_cmp (key_of row) key ≡ Greater) rows i)
       → All (λ row. key_of row ≢ key) rows
   none_has rows key i up split j d within same =
       let parts = split (ordered rows key up) in
@@ -101,16 +106,19 @@ module _ {T : Type 0} (key_of : T → ℕ) where
   first_is (row ∷ rest) key None none =
       let rows = row ∷ rest in
       let past : position_or_len (λ row. key_of row == key) rows ≡ length rows =
-      position_or_len_is (λ row. key_of row == key) rows (length rows) row (omega arith) (λ k lt. not_equal _ _ (none k row lt)) (λ lt. absurd (omega (arith, lt))) in
+      position_or_len_is (λ row. key_of row == key) rows (length rows) row (omega arith)
+      (λ k lt. not_equal _ _ (none k row lt)) (λ lt. absurd (omega (arith, lt))) in
       sym (slice_get_past rows (length rows) (omega arith)) ∙ ap (slice_get rows) (sym past)
       ∙ sym (find_at (λ row. key_of row == key) rows)
   first_is [] key (Some i) only = absurd (omega (arith, only.within))
   first_is (row ∷ rest) key (Some i) only =
       let rows = row ∷ rest in
       let before : (k : ℕ) → k < i → (key_of (get_or rows k row) == key) ≡ false =
-      λ k lt. not_equal _ _ (λ same. let e : k ≡ i = only.alone k row (omega (arith, only.within)) same in omega (arith, e)) in
+      λ k lt. not_equal _ _ (λ same. let e : k ≡ i = only.alone k row (omega (arith, only.within)) same in
+      omega (arith, e)) in
       let here : position_or_len (λ row. key_of row == key) rows ≡ i =
-      position_or_len_is (λ row. key_of row == key) rows i row (omega (arith, only.within)) before (λ lt. eq-eqb _ _ (only.here row)) in
+      position_or_len_is (λ row. key_of row == key) rows i row (omega (arith, only.within)) before
+      (λ lt. eq-eqb _ _ (only.here row)) in
       ap (slice_get rows) (sym here) ∙ sym (find_at (λ row. key_of row == key) rows)
 
   pub first : (rows : List T) (key : ℕ) (r : Result ℕ ℕ) → is_rising key_of rows ≡ true

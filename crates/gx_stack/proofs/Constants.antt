@@ -1,7 +1,8 @@
 -- The constants of the code are the definitions' numbers.
 use Rattle.std.proofs.Common.{◌≡◌, refl}
 use Rattle.gx_stack.specs.declared.kinds.TheConstants as kind
-use Rattle.gx_stack.specs.Constants.{to_nowhere, to_memory, to_local, to_stack, resume_compressed, resume_code, resume_number, resume_c_string, resume_unicode}
+use Rattle.gx_stack.specs.Constants.{to_nowhere, to_memory, to_local, to_stack, resume_compressed, resume_code}
+use Rattle.gx_stack.specs.Constants.{resume_number, resume_c_string, resume_unicode}
 
 pub TO_NOWHERE_is : kind.TO_NOWHERE ≡ to_nowhere
 TO_NOWHERE_is = refl

@@ -19,7 +19,8 @@ use Rattle.gx_state.proofs.Kept.{framed_cut, values_cut}
 use Rattle.gx_state.proofs.Backs.{copy_fits, placed}
 
 -- a fit copy with another memory of the same size
-pub fits_again : (story : FlatStory) (c : Copy) (m : List ℕ) (heap : FlatHeap) → IsCopyFor story c → length m ≡ length c.memory → take story.header.ramstart m ≡ take story.header.ramstart story.bytes → heap ≡ c.heap
+pub fits_again : (story : FlatStory) (c : Copy) (m : List ℕ) (heap : FlatHeap) → IsCopyFor story c
+    → length m ≡ length c.memory → take story.header.ramstart m ≡ take story.header.ramstart story.bytes → heap ≡ c.heap
     → IsCopyFor story (record { memory = m; stack = c.stack; heap = heap })
 fits_again story c m heap fit size rom same =
     rw same (record {
@@ -45,7 +46,8 @@ none_added m n is = let none : n - length m ≡ 0 = omega arith in rw none (appe
 pub ruleset whole = (none_added)
 
 -- a place for a word stays one when the stack is cut to a height of the frame
-place_cut : (f : FlatState) (sp : ℕ) (d : Dest) → frame_of (cut f sp) ≡ frame_of f → HasPlaceFor f d → HasPlaceFor (cut f sp) d
+place_cut : (f : FlatState) (sp : ℕ) (d : Dest) → frame_of (cut f sp) ≡ frame_of f → HasPlaceFor f d
+    → HasPlaceFor (cut f sp) d
 place_cut f sp Nowhere same takes = tt
 place_cut f sp (Memory at) same takes = takes
 place_cut f sp (Local at) same takes = subst (λ (frame : Frame). IsTrue (has_local frame at 4)) (sym same) takes
@@ -74,15 +76,26 @@ cut_sound f sp sound height =
     }
 
 -- what a copy of a cut state is, and that it is fit
-pub flat_fits : (f : FlatState) (sp : ℕ) (d : Dest) (next : ℕ) (c : Copy) → IsSound f → IsHeight f sp → sp + 16 ≤ f.stack.limit → stub_in c ≡ stub_of f d next → HasPlaceFor f d → c ≡ copy_of (cut f sp) d next → IsCopyFor f.story c
+pub flat_fits : (f : FlatState) (sp : ℕ) (d : Dest) (next : ℕ) (c : Copy) → IsSound f → IsHeight f sp
+    → sp + 16 ≤ f.stack.limit → stub_in c ≡ stub_of f d next → HasPlaceFor f d → c ≡ copy_of (cut f sp) d next
+    → IsCopyFor f.story c
 flat_fits f sp d next c sound height room on_top takes is =
     let good = sound.framed.good height.live in
     let long : length (take sp f.stack.bytes) ≡ sp = length-take-le sp f.stack.bytes height.there in
     let live : 0 < length (take sp f.stack.bytes) = omega (arith, long, height.values, good.locals, good.order) in
     let same = values_cut f.stack.bytes f.fp sp height.live sound.framed height.values height.there in
-    copy_fits (cut f sp) d next c (cut_sound f sp sound height) live (omega (arith, long, room)) (on_top ∙ sym (stub_cut f sp d next)) (place_cut f sp d same takes) is
+    copy_fits (cut f sp) d next c (cut_sound f sp sound height) live (omega (arith, long, room))
+    (on_top ∙ sym (stub_cut f sp d next)) (place_cut f sp d same takes) is
 
 -- what is laid, named by the copy
-pub laid_as : (f : FlatState) (c : Copy) (p : Stub) (m stack : List ℕ) (heap : FlatHeap) → stack ≡ c.stack → heap ≡ c.heap
-    → (let g : FlatState = record f { memory = m; stack = record f.stack { bytes = take (length stack - 16) stack }; fp = p.fp; pc = p.pc; heap = heap; mode = Running } in g ≡ placed f c p m)
+pub laid_as : (f : FlatState) (c : Copy) (p : Stub) (m stack : List ℕ) (heap : FlatHeap) → stack ≡ c.stack
+    → heap ≡ c.heap
+    → (let g : FlatState = record f {
+      memory = m;
+      stack = record f.stack { bytes = take (length stack - 16) stack };
+      fp = p.fp;
+      pc = p.pc;
+      heap = heap;
+      mode = Running;
+    } in g ≡ placed f c p m)
 laid_as f c p m stack heap same blocks = rw (same, blocks) refl

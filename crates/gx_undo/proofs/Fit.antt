@@ -5,8 +5,11 @@ use Rattle.gx_story.specs.Stories.{FlatStory}
 use Rattle.gx_state.specs.Copies.{Copy, IsCopyFor}
 use Rattle.gx_undo.specs.Undo.{FlatUndo, AreCopiesFor, with_newest, without_newest}
 
-pub fit_with : (story : FlatStory) (u : FlatUndo) (c : Copy) → AreCopiesFor story u.copies → IsCopyFor story c → AreCopiesFor story (with_newest u c).copies
-fit_with story u c all one = All-take (IsCopyFor story) u.depth (c ∷ u.copies) (All-cons (IsCopyFor story) c u.copies one all)
+pub fit_with : (story : FlatStory) (u : FlatUndo) (c : Copy) → AreCopiesFor story u.copies → IsCopyFor story c
+    → AreCopiesFor story (with_newest u c).copies
+fit_with story u c all one = All-take (IsCopyFor story) u.depth (c ∷ u.copies)
+    (All-cons (IsCopyFor story) c u.copies one all)
 
-pub fit_without : (story : FlatStory) (u : FlatUndo) → AreCopiesFor story u.copies → AreCopiesFor story (without_newest u).copies
+pub fit_without : (story : FlatStory) (u : FlatUndo) → AreCopiesFor story u.copies
+    → AreCopiesFor story (without_newest u).copies
 fit_without story u all = All-drop (IsCopyFor story) 1 u.copies all

@@ -5,7 +5,10 @@ use Rattle.gx_words.specs.declared.header.TheConstants as header
 use Rattle.gx_words.specs.declared.iosystems.TheConstants as system
 use Rattle.gx_words.specs.declared.typable.TheConstants as type
 use Rattle.gx_words.specs.declared.characters.TheConstants as character
-use Rattle.gx_words.specs.Constants.{ceiling, stack_limit, magic_at, version_at, ramstart_at, extstart_at, endmem_at, stack_size_at, start_function_at, table_at, checksum_at, header_len, magic, null_system, filter_system, glk_system, stack_function, locals_function, c_string, compressed_string, unicode_string, line_feed}
+use Rattle.gx_words.specs.Constants.{ceiling, stack_limit, magic_at, version_at, ramstart_at, extstart_at, endmem_at}
+use Rattle.gx_words.specs.Constants.{stack_size_at, start_function_at, table_at, checksum_at, header_len, magic}
+use Rattle.gx_words.specs.Constants.{null_system, filter_system, glk_system, stack_function, locals_function}
+use Rattle.gx_words.specs.Constants.{c_string, compressed_string, unicode_string, line_feed}
 
 pub CEILING_is : limit.CEILING ≡ ceiling
 CEILING_is = refl

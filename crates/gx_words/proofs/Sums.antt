@@ -3,7 +3,8 @@ use Rattle.std.proofs.Common.{◌≡◌, ◌+◌, ◌*◌, ℕ, suc, List, refl,
 use Rattle.gx_words.specs.Constants.{checksum_at}
 use Rattle.gx_words.specs.Numbers.{word, sum_of_words}
 
-pub sum_more : (n : ℕ) (bytes : List ℕ) → sum_of_words (n + 1) bytes ≡ sum_of_words n bytes + cond (nat_eq (4 * n) checksum_at) 0 (word bytes (4 * n))
+pub sum_more : (n : ℕ) (bytes : List ℕ) → sum_of_words (n + 1) bytes
+    ≡ sum_of_words n bytes + cond (nat_eq (4 * n) checksum_at) 0 (word bytes (4 * n))
 unfolding sum_of_words
 sum_more n bytes = let e : n + 1 ≡ suc n = omega arith in rw e refl
 

@@ -17,13 +17,15 @@ use Rattle.quetzal.specs.Laws.{OldSavesLoad}
 use Rattle.quetzal.proofs.Sorting.{both}
 
 -- a size under a ceiling is one under a higher one
-size_higher : (old new : ℕ) (story : FlatStory) (size : ℕ) → old ≤ new → is_memory_size old story size ≡ true → is_memory_size new story size ≡ true
+size_higher : (old new : ℕ) (story : FlatStory) (size : ℕ) → old ≤ new → is_memory_size old story size ≡ true
+    → is_memory_size new story size ≡ true
 size_higher old new story size le h =
     let a = and_parts _ _ h in
     both _ _ a.0 (le-leb size new (omega (arith, le, leb-true size old a.1)))
 
 -- a test that is passed may be replaced by another that is
-passed : {A : Type 0} (first then : Bool) (e : SaveFault) (rest : Result A SaveFault) (x : A) → (first ≡ true → then ≡ true) → (allowed first e >>= λ _. rest) ≡ Ok x → (allowed then e >>= λ _. rest) ≡ Ok x
+passed : {A : Type 0} (first then : Bool) (e : SaveFault) (rest : Result A SaveFault) (x : A)
+    → (first ≡ true → then ≡ true) → (allowed first e >>= λ _. rest) ≡ Ok x → (allowed then e >>= λ _. rest) ≡ Ok x
 passed true then e rest x so h = rw (so refl) h
 passed false then e rest x so h = absurd cc
 
@@ -36,9 +38,11 @@ behind_parts ceiling story parts = do
   heap ← heap_of story (size_in parts.memory) parts.heap
   Ok (record { memory = memory; stack = parts.stack; heap = heap })
 
-higher : (old new : ℕ) (story : FlatStory) (r : Result Parts SaveFault) (copy : Copy) → old ≤ new → (r >>= behind_parts old story) ≡ Ok copy → (r >>= behind_parts new story) ≡ Ok copy
+higher : (old new : ℕ) (story : FlatStory) (r : Result Parts SaveFault) (copy : Copy) → old ≤ new
+    → (r >>= behind_parts old story) ≡ Ok copy → (r >>= behind_parts new story) ≡ Ok copy
 higher old new story (Ok parts) copy le h =
-    passed (is_memory_size old story (size_in parts.memory)) (is_memory_size new story (size_in parts.memory)) fault.Size _ copy (size_higher old new story (size_in parts.memory) le) h
+    passed (is_memory_size old story (size_in parts.memory)) (is_memory_size new story (size_in parts.memory))
+    fault.Size _ copy (size_higher old new story (size_in parts.memory) le) h
 higher old new story (Err e) copy le h = absurd cc
 
 pub old_saves_load : OldSavesLoad

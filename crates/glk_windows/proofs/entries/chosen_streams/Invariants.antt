@@ -5,4 +5,5 @@ use Rattle.glk_windows.proofs.entries.chosen_streams.Given as goal
 
 abbrev pub invariant-loop-entry : goal.invariant-loop-entry
 invariant-loop-entry l =
-    l.found ++ map (λ (e : Entry). e.stream) (chosen l.ids (drop l.entry-index l.entries)) ≡ map (λ (e : Entry). e.stream) (chosen l.ids l.entries)
+    l.found ++ map (λ (e : Entry). e.stream) (chosen l.ids (drop l.entry-index l.entries))
+    ≡ map (λ (e : Entry). e.stream) (chosen l.ids l.entries)

@@ -6,7 +6,8 @@ use Rattle.glk_windows.proofs.windows.fit_grids.Given as goal
 
 abbrev pub invariant-loop-at : goal.invariant-loop-at
 invariant-loop-at l = record {
-  done : l.grids.items ≡ map (λ g. sized_to (sizes_in (tree_of l.tree) l.screen g.id) g) (take l.at l.initial.grids.items)
+  done : l.grids.items ≡ map (λ g. sized_to (sizes_in (tree_of l.tree) l.screen g.id) g)
+      (take l.at l.initial.grids.items)
       ++ drop l.at l.initial.grids.items;
   rises : AreRising grid_id l.grids.items;
 }

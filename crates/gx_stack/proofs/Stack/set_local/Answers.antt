@@ -6,6 +6,14 @@ use Rattle.gx_stack.proofs.Stack.set_local.Goals as goal
 
 pub returns-clause-read_back : goal.returns-clause-read_back
 returns-clause-read_back c =
-    let within : c.args.at + c.args.width ≤ c.args.frame.now.values - c.args.frame.now.locals = grind (arith, nat_tests) in
+    let within : c.args.at + c.args.width ≤ c.args.frame.now.values - c.args.frame.now.locals =
+    grind (arith, nat_tests) in
     local_put c.self.inside.bytes.items c.put.new.out.items c.args.frame.now c.args.at c.args.width c.args.v
-    c.put.ensures.items c.requires.width within (grind (arith, c.requires.frame.good.whole, c.requires.frame.values, c.requires.frame.locals, c.requires.frame.good.order))
+    c.put.ensures.items c.requires.width within
+    (grind (
+      arith,
+      c.requires.frame.good.whole,
+      c.requires.frame.values,
+      c.requires.frame.locals,
+      c.requires.frame.good.order,
+    ))

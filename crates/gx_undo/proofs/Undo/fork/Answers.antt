@@ -12,7 +12,8 @@ loop-i-preserved g c =
     let copy = c.in_ok-fork-in-Some.field-0 in
     let copies : c.self.inside.ring.items ≡ undo.copies = ap (λ (u : FlatUndo). u.copies) c.self.view_is in
     let is : slice_get undo.copies i ≡ Some copy =
-    ap (λ (xs : List Copy). slice_get xs i) (sym copies) ∙ sym c.in-Some.ensures ∙ ap (λ (x : Copy). Some x) (sym c.in_ok-fork-in-Some.ensures) in
+    ap (λ (xs : List Copy). slice_get xs i) (sym copies) ∙ sym c.in-Some.ensures
+    ∙ ap (λ (x : Copy). Some x) (sym c.in_ok-fork-in-Some.ensures) in
     let room : length undo.copies ≤ undo.depth = grind arith in
     c.push_back-none.ensures.items
     ∙ ap (λ (b : Buffer Copy). buffer (keep_last b.capacity (b.items ++ copy ∷ [])) b.capacity) c.loop-i.invariant

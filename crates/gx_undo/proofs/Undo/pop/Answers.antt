@@ -10,4 +10,5 @@ pub returns-clause-fit : goal.returns-clause-fit
 returns-clause-fit g c =
     λ story all.
     let held = subst (λ (u : FlatUndo). AreCopiesFor story u.copies) (sym c.self.view_is) all in
-    subst (λ (b : Buffer Copy). AreCopiesFor story b.items) (sym c.pop_front.ensures.items) (fit_without story (flat_of c.self.inside) held)
+    subst (λ (b : Buffer Copy). AreCopiesFor story b.items) (sym c.pop_front.ensures.items)
+    (fit_without story (flat_of c.self.inside) held)

@@ -10,4 +10,5 @@ pub returns-clause-fit : goal.returns-clause-fit
 returns-clause-fit g c =
     λ story all one.
     let held = subst (λ (u : FlatUndo). AreCopiesFor story u.copies) (sym c.self.view_is) all in
-    subst (λ (b : Buffer Copy). AreCopiesFor story b.items) (sym c.push_front-oldest.ensures.items) (fit_with story (flat_of c.self.inside) c.args.copy held one)
+    subst (λ (b : Buffer Copy). AreCopiesFor story b.items) (sym c.push_front-oldest.ensures.items)
+    (fit_with story (flat_of c.self.inside) c.args.copy held one)

@@ -7,5 +7,6 @@ use Rattle.quetzal.proofs.blocks.sort.Goals as goal
 pub returns : goal.returns
 returns c = record {
   same = c.sort_unstable_by_key.ensures.permutation;
-  order = IsNonDecreasingBy-from_sort_by_key (λ (b : Block). b.0) _ c.sort_unstable_by_key.ensures.sorted (λ a r q k. search rules);
+  order = IsNonDecreasingBy-from_sort_by_key (λ (b : Block). b.0) _ c.sort_unstable_by_key.ensures.sorted
+      (λ a r q k. search rules);
 }

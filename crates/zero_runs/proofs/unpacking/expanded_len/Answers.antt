@@ -3,12 +3,21 @@ use Rattle.zero_runs.proofs.UnpackingTurns.{pair_counted, byte_counted, cut_coun
 use Rattle.zero_runs.proofs.unpacking.expanded_len.Goals as goal
 
 pub returns-in_default-split_first-clause-value : goal.returns-in_default-split_first-clause-value
-returns-in_default-split_first-clause-value c = sym (cut_counted _ _ _ _ _ c.in-Some.ensures.cases.0 c.in_default-split_first.ensures.cases c.if-byte-eq0.true c.loop-byte.invariant.whole)
+returns-in_default-split_first-clause-value c =
+    sym (cut_counted _ _ _ _ _ c.in-Some.ensures.cases.0 c.in_default-split_first.ensures.cases c.if-byte-eq0.true
+    c.loop-byte.invariant.whole)
 
 pub loop-byte-preserved-then-byte-eq0 : goal.loop-byte-preserved-then-byte-eq0
 loop-byte-preserved-then-byte-eq0 c = record {
-  few = omega (arith, c.loop-byte.invariant.few, c.in-Some.ensures.cases.1, c.in-Some-split_first.ensures.cases.1, c.from.ensures);
-  whole = rw c.from.ensures (pair_counted _ _ _ _ _ _ _ c.in-Some.ensures.cases.0 c.in-Some-split_first.ensures.cases.0 c.if-byte-eq0.true c.loop-byte.invariant.whole);
+  few = omega (
+    arith,
+    c.loop-byte.invariant.few,
+    c.in-Some.ensures.cases.1,
+    c.in-Some-split_first.ensures.cases.1,
+    c.from.ensures,
+  );
+  whole = rw c.from.ensures (pair_counted _ _ _ _ _ _ _ c.in-Some.ensures.cases.0
+      c.in-Some-split_first.ensures.cases.0 c.if-byte-eq0.true c.loop-byte.invariant.whole);
 }
 
 pub loop-byte-preserved : goal.loop-byte-preserved

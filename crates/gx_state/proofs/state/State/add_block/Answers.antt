@@ -8,7 +8,8 @@ invariant_of-self g c =
     let held = c.self.invariant.sound in
     let block = c.requires.block in
     let least = subst (λ (h : HeldState). h.flat.story.header.endmem ≤ c.args.end) (sym c.self.view_is) block.endmem in
-    let there = subst (λ (h : HeldState). c.args.at + c.args.size ≤ length h.flat.memory) (sym c.self.view_is) block.there in
+    let there = subst (λ (h : HeldState). c.args.at + c.args.size ≤ length h.flat.memory)
+    (sym c.self.view_is) block.there in
     record {
       sound = record {
         story = held.story;
@@ -19,7 +20,8 @@ invariant_of-self g c =
         height = held.height;
         aligned = held.aligned;
         framed = held.framed;
-        heap = heap_entered _ _ _ _ _ _ _ held.heap c.add.ensures.heap c.add.ensures.sound (c.add.ensures.within _ held.heap.within there) block.whole least;
+        heap = heap_entered _ _ _ _ _ _ _ held.heap c.add.ensures.heap c.add.ensures.sound
+            (c.add.ensures.within _ held.heap.within there) block.whole least;
       };
       frame = c.self.invariant.frame;
     }

@@ -5,8 +5,12 @@ use Rattle.gx_state.proofs.state.State.free_block.Goals as goal
 pub invariant_of-self : goal.invariant_of-self
 invariant_of-self g c =
     let held = c.self.invariant.sound in
-    let below : c.self.inside.story.value.header.ramstart ≤ c.self.inside.story.value.header.endmem = omega (arith, held.story.ramstart_first, held.story.extstart_first) in
-    let ended = freed_last c.self.inside.memory c.cut.new.self _ c.self.inside.story.value.header.ramstart c.self.inside.story.value.header.endmem c.args.at c.start-start.result c.self.inside.heap c.free.new.self c.in-Some.last held.size held.rom below held.heap c.in-Some.ensures.change c.if-last.true c.free.ensures.sound c.start-start.ensures c.cut.ensures.value c.cut.ensures.size in
+    let below : c.self.inside.story.value.header.ramstart ≤ c.self.inside.story.value.header.endmem =
+    omega (arith, held.story.ramstart_first, held.story.extstart_first) in
+    let ended = freed_last c.self.inside.memory c.cut.new.self _ c.self.inside.story.value.header.ramstart
+    c.self.inside.story.value.header.endmem c.args.at c.start-start.result c.self.inside.heap c.free.new.self
+    c.in-Some.last held.size held.rom below held.heap c.in-Some.ensures.change c.if-last.true c.free.ensures.sound
+    c.start-start.ensures c.cut.ensures.value c.cut.ensures.size in
     record {
       sound = record {
         story = held.story;
@@ -35,7 +39,8 @@ invariant_of-self-else-last g c =
         height = held.height;
         aligned = held.aligned;
         framed = held.framed;
-        heap = freed_other _ _ c.args.at c.self.inside.heap c.free.new.self c.in-Some.last held.heap c.in-Some.ensures.change c.if-last.false c.free.ensures.sound (c.free.ensures.within _ held.heap.within);
+        heap = freed_other _ _ c.args.at c.self.inside.heap c.free.new.self c.in-Some.last held.heap
+            c.in-Some.ensures.change c.if-last.false c.free.ensures.sound (c.free.ensures.within _ held.heap.within);
       };
       frame = c.self.invariant.frame;
     }

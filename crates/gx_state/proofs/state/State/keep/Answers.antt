@@ -11,4 +11,6 @@ pub returns-clause-fit : goal.returns-clause-fit
 returns-clause-fit g c =
     λ takes.
     let sound = subst (λ (h : HeldState). IsSound h.flat) c.self.view_is c.self.invariant.sound in
-    copy_fits c.args.self.now.flat c.args.dest.now c.args.next _ sound c.requires.live c.requires.room (ap (λ p. stub_below p.stack (length p.stack)) c.in_ok-new.ensures.ok ∙ c.in_ok-stack.ensures.top ∙ c.stub.ensures) takes (grind (arith, take_all))
+    copy_fits c.args.self.now.flat c.args.dest.now c.args.next _ sound c.requires.live c.requires.room
+    (ap (λ p. stub_below p.stack (length p.stack)) c.in_ok-new.ensures.ok ∙ c.in_ok-stack.ensures.top
+    ∙ c.stub.ensures) takes (grind (arith, take_all))

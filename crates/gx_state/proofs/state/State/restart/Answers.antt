@@ -12,7 +12,10 @@ invariant_of-self g c =
     let end : c.endmem.result ≡ story.header.endmem = grind arith in
     let stored = ap length bytes in
     let size = c.in_ok-memory.ensures.size ∙ end in
-    let rom = rom_again c.self.inside.memory c.in_ok-memory.memory c.bytes.result.now story.header.ramstart c.endmem.result _ _ (held.rom ∙ ap (take story.header.ramstart) (sym bytes)) (omega (arith, stored, held.story.stored_whole, held.story.ramstart_first)) (omega (arith, stored, end, held.story.stored_whole, held.story.extstart_first)) c.in_ok-memory.ensures.value in
+    let rom = rom_again c.self.inside.memory c.in_ok-memory.memory c.bytes.result.now story.header.ramstart
+    c.endmem.result _ _ (held.rom ∙ ap (take story.header.ramstart) (sym bytes))
+    (omega (arith, stored, held.story.stored_whole, held.story.ramstart_first))
+    (omega (arith, stored, end, held.story.stored_whole, held.story.extstart_first)) c.in_ok-memory.ensures.value in
     record {
       sound = record {
         story = held.story;
