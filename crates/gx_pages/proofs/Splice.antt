@@ -1,8 +1,13 @@
 -- Bytes written over a part of a list.
-use Rattle.std.proofs.Common.{◌≡◌, ◌⊎◌, inl, inr, ℕ, ◌+◌, ◌-◌, ◌<◌, ◌≤◌, List, [], ◌++◌, length, take, drop, get_or, sym, refl, ap, ◌∙◌, arith, zero-add, replicate, append_assoc, length-append, length-take, length-drop}
-use Rattle.std.proofs.lemmas.List.{take-append-le, drop-append-le, drop-drop, drop-take, drop_all, length-take-le, take-take, take-append-drop, length-replicate, append-nil, replicate-append-replicate}
+use Rattle.std.proofs.Common.{◌≡◌, ◌⊎◌, inl, inr, ℕ, ◌+◌, ◌-◌, ◌<◌, ◌≤◌, List, [], ◌++◌, length, take, drop, get_or}
+use Rattle.std.proofs.Common.{sym, refl, ap, ◌∙◌, arith, zero-add, replicate, append_assoc, length-append}
+use Rattle.std.proofs.Common.{length-take, length-drop}
+use Rattle.std.proofs.lemmas.List.{take-append-le, drop-append-le, drop-drop, drop-take, drop_all, length-take-le}
+use Rattle.std.proofs.lemmas.List.{take-take, take-append-drop, length-replicate, append-nil}
+use Rattle.std.proofs.lemmas.List.{replicate-append-replicate}
 use Rattle.std.proofs.Math.Seq.{take-append-add, drop-append-add, take-add}
-use Rattle.std.proofs.lemmas.List.{take_at, get_or_append_left, get_or-append_right, get_or-take, get_or-drop, get_or_past, get_or-replicate}
+use Rattle.std.proofs.lemmas.List.{take_at, get_or_append_left, get_or-append_right, get_or-take, get_or-drop}
+use Rattle.std.proofs.lemmas.List.{get_or_past, get_or-replicate}
 use Rattle.std.proofs.lemmas.Bool.{cases_lt}
 use Rattle.gx_words.specs.Numbers.{spliced}
 use Rattle.gx_pages.specs.Memory.{put_back_of}
@@ -16,7 +21,8 @@ pub take_before : (xs ys : List ℕ) (at : ℕ) → at ≤ length xs → take at
 take_before xs ys at h = take_at (take at xs) (ys ++ drop (at + length ys) xs) at (length-take-le at xs h)
 
 -- a write that ends before the second list
-pub spliced_front : (xs zs ys : List ℕ) (k : ℕ) → k + length ys ≤ length xs → spliced (xs ++ zs) k ys ≡ spliced xs k ys ++ zs
+pub spliced_front : (xs zs ys : List ℕ) (k : ℕ) → k + length ys ≤ length xs
+    → spliced (xs ++ zs) k ys ≡ spliced xs k ys ++ zs
 spliced_front xs zs ys k h =
     let a : k ≤ length xs = omega arith in
     rw (take-append-le k xs zs a, drop-append-le (k + length ys) xs zs h) (simp append_assoc)
@@ -28,16 +34,20 @@ spliced_back xs zs ys k n e =
     rw (f, e, take-append-add xs zs k, drop-append-add xs zs (k + length ys)) (append_assoc xs (take k zs) _)
 
 -- one write after another, at its end
-pub spliced_more : (xs ys zs : List ℕ) (at n : ℕ) → n ≡ at + length ys → n ≤ length xs → spliced (spliced xs at ys) n zs ≡ spliced xs at (ys ++ zs)
+pub spliced_more : (xs ys zs : List ℕ) (at n : ℕ) → n ≡ at + length ys → n ≤ length xs
+    → spliced (spliced xs at ys) n zs ≡ spliced xs at (ys ++ zs)
 spliced_more xs ys zs at n e h =
-    let t : take at xs ++ (ys ++ drop (at + length ys) xs) ≡ (take at xs ++ ys) ++ drop (at + length ys) xs = sym (append_assoc (take at xs) ys (drop (at + length ys) xs)) in
+    let t : take at xs ++ (ys ++ drop (at + length ys) xs) ≡ (take at xs ++ ys) ++ drop (at + length ys) xs =
+    sym (append_assoc (take at xs) ys (drop (at + length ys) xs)) in
     let l : n ≡ length (take at xs ++ ys) + 0 = simp (length-append, length-take) (omega arith) in
     let m : at + length (ys ++ zs) ≡ at + length ys + (0 + length zs) = simp length-append (omega arith) in
-    let d : drop (at + length (ys ++ zs)) xs ≡ drop (0 + length zs) (drop (at + length ys) xs) = ap (λ k. drop k xs) m ∙ sym (drop-drop (0 + length zs) (at + length ys) xs) in
+    let d : drop (at + length (ys ++ zs)) xs ≡ drop (0 + length zs) (drop (at + length ys) xs) =
+    ap (λ k. drop k xs) m ∙ sym (drop-drop (0 + length zs) (at + length ys) xs) in
     rw t (spliced_back (take at xs ++ ys) (drop (at + length ys) xs) zs 0 n l ∙ rw d (simp append_assoc))
 
 -- one write at the end of a list, and another at the start of the next
-pub spliced_pair : (xs ys es ss : List ℕ) (at : ℕ) → at + length es ≡ length xs → length ss ≤ length ys → spliced xs at es ++ spliced ys 0 ss ≡ spliced (xs ++ ys) at (es ++ ss)
+pub spliced_pair : (xs ys es ss : List ℕ) (at : ℕ) → at + length es ≡ length xs → length ss ≤ length ys
+    → spliced xs at es ++ spliced ys 0 ss ≡ spliced (xs ++ ys) at (es ++ ss)
 spliced_pair xs ys es ss at end few =
     let l : length (spliced xs at es) ≡ length xs = length-spliced xs es at (omega arith) in
     let m : length (xs ++ ys) ≡ length xs + length ys = length-append xs ys in
@@ -46,7 +56,8 @@ spliced_pair xs ys es ss at end few =
     ∙ spliced_more (xs ++ ys) es ss at (length xs) (omega arith) (omega arith)
 
 -- a window that ends before a cut
-pub window_cut : (xs : List ℕ) (from k size : ℕ) → from + k ≤ size → take k (drop from (take size xs)) ≡ take k (drop from xs)
+pub window_cut : (xs : List ℕ) (from k size : ℕ) → from + k ≤ size
+    → take k (drop from (take size xs)) ≡ take k (drop from xs)
 window_cut xs from k size h =
     let e : size ≡ from + (size - from) = omega arith in
     ap (λ m. take k (drop from (take m xs))) e
@@ -54,7 +65,8 @@ window_cut xs from k size h =
     ∙ take-take k (size - from) (drop from xs) (omega arith)
 
 -- a window of a window
-drop_taken : (zs : List ℕ) (from k d n : ℕ) → d + n ≤ k → take n (drop d (take k (drop from zs))) ≡ take n (drop (from + d) zs)
+drop_taken : (zs : List ℕ) (from k d n : ℕ) → d + n ≤ k
+    → take n (drop d (take k (drop from zs))) ≡ take n (drop (from + d) zs)
 drop_taken zs from k d n h =
     let e : k ≡ d + (k - d) = omega arith in
     ap (λ m. take n (drop d (take m (drop from zs)))) e
@@ -63,36 +75,45 @@ drop_taken zs from k d n h =
     ∙ ap (take n) (drop-drop d from zs)
 
 -- a loop that writes ys piece by piece
-pub spliced_step : (xs ts ys : List ℕ) (at done n m : ℕ) → at + length ys ≤ length xs → done + n ≤ length ys → m ≡ n → ts ≡ spliced xs at (take done ys) → spliced ts (at + done) (take m (drop done ys)) ≡ spliced xs at (take (done + n) ys)
+pub spliced_step : (xs ts ys : List ℕ) (at done n m : ℕ) → at + length ys ≤ length xs → done + n ≤ length ys → m ≡ n
+    → ts ≡ spliced xs at (take done ys) → spliced ts (at + done) (take m (drop done ys))
+    ≡ spliced xs at (take (done + n) ys)
 spliced_step xs ts ys at done n m h k e t =
     let l : length (take done ys) ≡ done = simp length-take (omega arith) in
-    rw (t, e, take-add done n ys) (spliced_more xs (take done ys) (take n (drop done ys)) at (at + done) (omega arith) (omega arith))
+    rw (t, e, take-add done n ys) (spliced_more xs (take done ys) (take n (drop done ys)) at (at + done) (omega arith)
+    (omega arith))
 
 -- a loop that takes the bytes of zs from one address up to another, piece by piece
-pub taken_step : (xs ts zs : List ℕ) (from end at n : ℕ) → end ≤ length xs → end ≤ length zs → from ≤ at → at + n ≤ end → ts ≡ spliced xs from (take (at - from) (take (end - from) (drop from zs))) → spliced ts at (take n (drop at zs)) ≡ spliced xs from (take (at + n - from) (take (end - from) (drop from zs)))
+pub taken_step : (xs ts zs : List ℕ) (from end at n : ℕ) → end ≤ length xs → end ≤ length zs → from ≤ at
+    → at + n ≤ end → ts ≡ spliced xs from (take (at - from) (take (end - from) (drop from zs)))
+    → spliced ts at (take n (drop at zs)) ≡ spliced xs from (take (at + n - from) (take (end - from) (drop from zs)))
 taken_step xs ts zs from end at n h k l m made =
     let ys = take (end - from) (drop from zs) in
     let d = at - from in
     let len : length ys ≡ end - from = simp (length-take, length-drop) (omega arith) in
     let here : from + d ≡ at = omega arith in
     let there : at + n - from ≡ d + n = omega arith in
-    let piece : take n (drop d ys) ≡ take n (drop at zs) = drop_taken zs from (end - from) d n (omega arith) ∙ ap (λ k. take n (drop k zs)) here in
+    let piece : take n (drop d ys) ≡ take n (drop at zs) = drop_taken zs from (end - from) d n (omega arith)
+    ∙ ap (λ k. take n (drop k zs)) here in
     ap (λ ps. spliced ts at ps) (sym piece) ∙ ap (λ k. spliced ts k (take n (drop d ys))) (sym here)
     ∙ spliced_step xs ts ys from d n n (omega arith) (omega arith) refl made
     ∙ ap (λ k. spliced xs from (take k ys)) (sym there)
 
-pub get_or-spliced_below : (xs ys : List ℕ) (at k : ℕ) → at + length ys ≤ length xs → k < at → get_or (spliced xs at ys) k 0 ≡ get_or xs k 0
+pub get_or-spliced_below : (xs ys : List ℕ) (at k : ℕ) → at + length ys ≤ length xs → k < at
+    → get_or (spliced xs at ys) k 0 ≡ get_or xs k 0
 get_or-spliced_below xs ys at k h l =
     let m : k < length (take at xs) = simp length-take (omega arith) in
     get_or_append_left (take at xs) _ 0 k m ∙ get_or-take at xs k 0 l
 
-pub get_or-spliced : (xs ys : List ℕ) (at k j : ℕ) → at + length ys ≤ length xs → at + j ≡ k → j < length ys → get_or (spliced xs at ys) k 0 ≡ get_or ys j 0
+pub get_or-spliced : (xs ys : List ℕ) (at k j : ℕ) → at + length ys ≤ length xs → at + j ≡ k → j < length ys
+    → get_or (spliced xs at ys) k 0 ≡ get_or ys j 0
 get_or-spliced xs ys at k j h e l =
     let m : length (take at xs) ≡ at = simp length-take (omega arith) in
     let f : k - at ≡ j = omega arith in
     get_or-append_right (take at xs) _ at k 0 m (omega arith) ∙ rw f (get_or_append_left ys _ 0 j l)
 
-pub get_or-spliced_above : (xs ys : List ℕ) (at k : ℕ) → at + length ys ≤ length xs → at + length ys ≤ k → get_or (spliced xs at ys) k 0 ≡ get_or xs k 0
+pub get_or-spliced_above : (xs ys : List ℕ) (at k : ℕ) → at + length ys ≤ length xs → at + length ys ≤ k
+    → get_or (spliced xs at ys) k 0 ≡ get_or xs k 0
 get_or-spliced_above xs ys at k h l =
     let m : length (take at xs) ≡ at = simp length-take (omega arith) in
     let f : at + length ys + (k - at - length ys) ≡ k = omega arith in
@@ -110,7 +131,8 @@ spliced_same xs ys at e =
     ∙ take-append-drop at xs
 
 -- where the first bytes of a window are these, they may as well be written
-pub spliced_found : (xs ys piece : List ℕ) (at k : ℕ) → piece ≡ take k (drop at xs) → length ys ≤ length piece → take (length ys) piece ≡ ys → xs ≡ spliced xs at ys
+pub spliced_found : (xs ys piece : List ℕ) (at k : ℕ) → piece ≡ take k (drop at xs) → length ys ≤ length piece
+    → take (length ys) piece ≡ ys → xs ≡ spliced xs at ys
 spliced_found xs ys piece at k made h e =
     let l : length piece ≡ length (take k (drop at xs)) = ap (λ (v : List ℕ). length v) made in
     let m : length (take k (drop at xs)) ≤ k = simp length-take (omega arith) in
@@ -123,7 +145,8 @@ spliced_whole xs ys at l z =
     rw z (ap (λ u. ys ++ u) (drop_all (0 + length ys) xs (omega arith)) ∙ append-nil ys)
 
 -- bytes, and zeros from their end on
-pub spliced_all : (xs ys : List ℕ) (n : ℕ) → length xs ≡ n → length ys ≤ n → spliced (spliced xs 0 ys) (length ys) (replicate (n - length ys) 0) ≡ ys ++ replicate (n - length ys) 0
+pub spliced_all : (xs ys : List ℕ) (n : ℕ) → length xs ≡ n → length ys ≤ n
+    → spliced (spliced xs 0 ys) (length ys) (replicate (n - length ys) 0) ≡ ys ++ replicate (n - length ys) 0
 spliced_all xs ys n l h =
     let zs : List ℕ = replicate (n - length ys) 0 in
     let k : length zs ≡ n - length ys = length-replicate {A = ℕ} (n - length ys) 0 in
@@ -133,30 +156,36 @@ spliced_all xs ys n l h =
     ∙ ap (λ u. (ys ++ zs) ++ u) none ∙ append-nil (ys ++ zs)
 
 -- a loop that writes zeros piece by piece
-pub cleared_step : (xs ts : List ℕ) (at done n : ℕ) → at + done ≤ length xs → ts ≡ spliced xs at (replicate done 0) → spliced ts (at + done) (replicate n 0) ≡ spliced xs at (replicate (done + n) 0)
+pub cleared_step : (xs ts : List ℕ) (at done n : ℕ) → at + done ≤ length xs → ts ≡ spliced xs at (replicate done 0)
+    → spliced ts (at + done) (replicate n 0) ≡ spliced xs at (replicate (done + n) 0)
 cleared_step xs ts at done n h t =
     let l : length (replicate {A = ℕ} done 0) ≡ done = length-replicate {A = ℕ} done 0 in
     rw t (spliced_more xs (replicate done 0) (replicate n 0) at (at + done) (omega arith) (omega arith))
     ∙ ap (spliced xs at) (replicate-append-replicate {A = ℕ} done n 0)
 
 -- the bytes of `now` over a part of `kept`
-pub put_back_spliced : (now kept ys : List ℕ) (from n count : ℕ) → from + n ≤ length kept → length ys ≡ n → n ≤ count → (n ≡ count) ⊎ (from + n ≡ length kept) → ((k : ℕ) → k < n → get_or ys k 0 ≡ get_or now (from + k) 0) → spliced kept from ys ≡ put_back_of now kept from count
+pub put_back_spliced : (now kept ys : List ℕ) (from n count : ℕ) → from + n ≤ length kept → length ys ≡ n → n ≤ count
+    → (n ≡ count) ⊎ (from + n ≡ length kept) → ((k : ℕ) → k < n → get_or ys k 0 ≡ get_or now (from + k) 0)
+    → spliced kept from ys ≡ put_back_of now kept from count
 put_back_spliced now kept ys from n count h l c e b =
     let s : length (spliced kept from ys) ≡ length kept = length-spliced kept ys from (omega arith) in
     put_back_from now kept (spliced kept from ys) from count s
     (λ k i j w.
     let f : from + (k - from) ≡ k = omega arith in
     let u : k - from < n = omega arith in
-    get_or-spliced kept ys from k (k - from) (omega arith) f (omega arith) ∙ b (k - from) u ∙ ap (λ m. get_or now m 0) f)
+    get_or-spliced kept ys from k (k - from) (omega arith) f (omega arith) ∙ b (k - from) u
+    ∙ ap (λ m. get_or now m 0) f)
     (λ k i. get_or-spliced_below kept ys from k (omega arith) i)
     (λ k i. get_or-spliced_above kept ys from k (omega arith) (omega arith))
 
 -- the bytes of a list from an address on, with 0 where it doesn't reach
-pub present_at : (zs : List ℕ) (from a m k : ℕ) → length (take a (drop from zs)) ≡ a → (0 < m → length zs ≤ from + a) → k < a + m → get_or (take a (drop from zs) ++ replicate m 0) k 0 ≡ get_or zs (from + k) 0
+pub present_at : (zs : List ℕ) (from a m k : ℕ) → length (take a (drop from zs)) ≡ a → (0 < m → length zs ≤ from + a)
+    → k < a + m → get_or (take a (drop from zs) ++ replicate m 0) k 0 ≡ get_or zs (from + k) 0
 present_at zs from a m k len past h =
     elim (cases_lt k a) [
       | inl below ↦
-          get_or_append_left (take a (drop from zs)) (replicate m 0) 0 k (omega arith) ∙ get_or-take a (drop from zs) k 0 below ∙ get_or-drop from zs k 0
+          get_or_append_left (take a (drop from zs)) (replicate m 0) 0 k (omega arith)
+          ∙ get_or-take a (drop from zs) k 0 below ∙ get_or-drop from zs k 0
       | inr above ↦
           let end : length zs ≤ from + a = past (omega arith) in
           get_or-append_right (take a (drop from zs)) (replicate m 0) a k 0 len above
@@ -165,7 +194,9 @@ present_at zs from a m k len past h =
     ]
 
 -- a slice that is filled piece by piece
-pub copy_step : (to all piece : List ℕ) (done n : ℕ) → done + n ≤ length to → length piece ≡ n → piece ≡ take n (drop done all) → take done to ≡ take done all → take (done + n) (spliced to done piece) ≡ take (done + n) all
+pub copy_step : (to all piece : List ℕ) (done n : ℕ) → done + n ≤ length to → length piece ≡ n
+    → piece ≡ take n (drop done all) → take done to ≡ take done all
+    → take (done + n) (spliced to done piece) ≡ take (done + n) all
 copy_step to all piece done n h l e made =
     let d : length (take done to) ≡ done = simp length-take (omega arith) in
     let f : done + n ≡ length (take done to ++ piece) = omega (arith, length-append (take done to) piece) in
@@ -174,7 +205,11 @@ copy_step to all piece done n h l e made =
     ∙ ap (λ u. u ++ piece) made ∙ ap (λ u. take done all ++ u) e ∙ sym (take-add done n all)
 
 -- the bytes of `now` up to its end over a part of `kept`, and zeros from there on
-pub present_put : (now kept t new : List ℕ) (from there end count : ℕ) → from ≤ there → there ≤ end → end ≤ length kept → end ≤ from + count → (end ≡ from + count) ⊎ (end ≡ length kept) → (from ≡ there) ⊎ (there ≤ length now) → (there ≡ end) ⊎ (length now ≤ there) → t ≡ spliced kept from (take (there - from) (drop from now)) → new ≡ spliced t there (replicate (end - there) 0) → new ≡ put_back_of now kept from count
+pub present_put : (now kept t new : List ℕ) (from there end count : ℕ) → from ≤ there → there ≤ end
+    → end ≤ length kept → end ≤ from + count → (end ≡ from + count) ⊎ (end ≡ length kept) → (from ≡ there)
+    ⊎ (there ≤ length now) → (there ≡ end) ⊎ (length now ≤ there)
+    → t ≡ spliced kept from (take (there - from) (drop from now)) → new ≡ spliced t there (replicate (end - there) 0)
+    → new ≡ put_back_of now kept from count
 present_put now kept t new from there end count h i j k until reach past made cleared =
     let a = there - from in
     let m = end - there in

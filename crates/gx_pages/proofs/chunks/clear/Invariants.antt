@@ -9,7 +9,8 @@ invariant-loop-done g l = record {
   upto : l.done ≤ l.count;
   whole : AllWhole g.C.Chunk.IsWhole l.chunks;
   count : length l.chunks ≡ length l.initial.chunks;
-  made : flat g.C.Chunk.bytes_of l.chunks ≡ spliced (flat g.C.Chunk.bytes_of l.initial.chunks) l.at (replicate l.done 0);
+  made : flat g.C.Chunk.bytes_of l.chunks ≡ spliced (flat g.C.Chunk.bytes_of l.initial.chunks) l.at
+      (replicate l.done 0);
 }
 
 abbrev pub decreases-loop-done : goal.decreases-loop-done

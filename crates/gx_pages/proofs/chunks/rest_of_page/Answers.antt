@@ -7,8 +7,10 @@ rest_of_page-requires-clause-whole g c =
     let P = g.C.Chunk.IsWhole in
     let ps = c.args.chunks.now in
     let d = c.index-chunks-at.result in
-    let i : c.args.at / c.SIZE.result < length ps = place_lt g.C.Chunk.SIZE c.SIZE.result c.args.at _ c.SIZE.ensures g.met.C.Chunk.some c.requires.inside in
-    subst P (sym (c.deref.ensures ∙ ap (λ q. q.value) c.index-chunks-at.is)) (whole_at P ps (c.args.at / c.SIZE.result) d i c.requires.whole)
+    let i : c.args.at / c.SIZE.result < length ps =
+    place_lt g.C.Chunk.SIZE c.SIZE.result c.args.at _ c.SIZE.ensures g.met.C.Chunk.some c.requires.inside in
+    subst P (sym (c.deref.ensures ∙ ap (λ q. q.value) c.index-chunks-at.is))
+    (whole_at P ps (c.args.at / c.SIZE.result) d i c.requires.whole)
 
 pub returns : goal.returns
 returns g c =
@@ -20,7 +22,8 @@ returns g c =
     let k = 256 - at % 256 in
     let j = at % c.SIZE-2.result in
     let same : j % 256 ≡ at % 256 = same_place n c.SIZE-2.result at c.SIZE-2.ensures g.met.C.Chunk.pages in
-    let i : at / c.SIZE.result < length ps = place_lt n c.SIZE.result at _ c.SIZE.ensures g.met.C.Chunk.some c.requires.inside in
+    let i : at / c.SIZE.result < length ps =
+    place_lt n c.SIZE.result at _ c.SIZE.ensures g.met.C.Chunk.some c.requires.inside in
     c.rest_of_page.ensures
     ∙ ap (λ (r : ℕ). take (256 - r) (drop j (b c.deref.result.now))) same
     ∙ ap (λ v. take k (drop j (b v))) (c.deref.ensures ∙ ap (λ q. q.value) c.index-chunks-at.is)

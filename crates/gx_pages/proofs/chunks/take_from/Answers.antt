@@ -10,8 +10,10 @@ loop-at-preserved g c =
     let n = g.C.Chunk.SIZE in
     let ps = c.args.chunks.now in
     let qs = c.args.others.now in
-    let full : length (flat b ps) ≡ n * length ps = length-flat b g.C.Chunk.IsWhole n g.met.C.Chunk.sized ps c.requires.whole in
-    let there : length (flat b qs) ≡ n * length qs = length-flat b g.C.Chunk.IsWhole n g.met.C.Chunk.sized qs c.requires.others in
+    let full : length (flat b ps) ≡ n * length ps =
+    length-flat b g.C.Chunk.IsWhole n g.met.C.Chunk.sized ps c.requires.whole in
+    let there : length (flat b qs) ≡ n * length qs =
+    length-flat b g.C.Chunk.IsWhole n g.met.C.Chunk.sized qs c.requires.others in
     record {
       above = omega arith;
       upto = omega arith;
@@ -19,5 +21,7 @@ loop-at-preserved g c =
       count = c.take_in_one.ensures.count ∙ c.loop-at.invariant.count;
       made =
           c.in_ok-take_in_one.ensures.ok
-          ∙ taken_step (flat b ps) (flat b c.loop-at.chunks) (flat b qs) c.args.from c.args.end c.loop-at.at c.min-count.result (omega (arith, c.requires.inside)) (omega (arith, c.requires.there)) (omega arith) (omega arith) c.loop-at.invariant.made;
+          ∙ taken_step (flat b ps) (flat b c.loop-at.chunks) (flat b qs) c.args.from c.args.end c.loop-at.at
+          c.min-count.result (omega (arith, c.requires.inside)) (omega (arith, c.requires.there)) (omega arith)
+          (omega arith) c.loop-at.invariant.made;
     }

@@ -10,7 +10,8 @@ invariant-loop-at g l = record {
   upto : l.at ≤ l.end;
   whole : AllWhole g.C.Chunk.IsWhole l.chunks;
   count : length l.chunks ≡ length l.initial.chunks;
-  made : flat g.C.Chunk.bytes_of l.chunks ≡ spliced (flat g.C.Chunk.bytes_of l.initial.chunks) l.from (take (l.at - l.from) (take (l.end - l.from) (drop l.from (flat g.C.Chunk.bytes_of l.others))));
+  made : flat g.C.Chunk.bytes_of l.chunks ≡ spliced (flat g.C.Chunk.bytes_of l.initial.chunks) l.from
+      (take (l.at - l.from) (take (l.end - l.from) (drop l.from (flat g.C.Chunk.bytes_of l.others))));
 }
 
 abbrev pub decreases-loop-at : goal.decreases-loop-at

@@ -6,19 +6,24 @@ use Rattle.gx_pages.proofs.chunks.write_in_one.Goals as goal
 pub write_across_in-requires-clause-whole : goal.write_across_in-requires-clause-whole
 write_across_in-requires-clause-whole g c =
     let n = g.C.Chunk.SIZE in
-    let i : c.args.at / c.SIZE.result < length c.args.chunks.now = place_lt n c.SIZE.result c.args.at _ c.SIZE.ensures g.met.C.Chunk.some c.requires.inside in
+    let i : c.args.at / c.SIZE.result < length c.args.chunks.now =
+    place_lt n c.SIZE.result c.args.at _ c.SIZE.ensures g.met.C.Chunk.some c.requires.inside in
     whole_at g.C.Chunk.IsWhole c.args.chunks.now (c.args.at / c.SIZE.result) c.index-chunks-at.result i c.requires.whole
 
 pub returns-clause-whole : goal.returns-clause-whole
 returns-clause-whole g c =
-    AllWhole-set g.C.Chunk.IsWhole c.args.chunks.now (c.args.at / c.SIZE.result) c.write_across_in.new.chunk c.write_across_in.ensures.whole c.requires.whole
+    AllWhole-set g.C.Chunk.IsWhole c.args.chunks.now (c.args.at / c.SIZE.result) c.write_across_in.new.chunk
+    c.write_across_in.ensures.whole c.requires.whole
 
 pub returns-clause-ok : goal.returns-clause-ok
 returns-clause-ok g c =
     let n = g.C.Chunk.SIZE in
-    let i : c.args.at / c.SIZE.result < length c.args.chunks.now = place_lt n c.SIZE.result c.args.at _ c.SIZE.ensures g.met.C.Chunk.some c.requires.inside in
+    let i : c.args.at / c.SIZE.result < length c.args.chunks.now =
+    place_lt n c.SIZE.result c.args.at _ c.SIZE.ensures g.met.C.Chunk.some c.requires.inside in
     on_ok_weaker c.write_across_in.result
-    (λ e. flat-set g.C.Chunk.bytes_of g.C.Chunk.IsWhole n g.met.C.Chunk.sized c.args.chunks.now (c.args.at / c.SIZE.result) (c.args.at % c.SIZE-2.result) c.args.at c.write_across_in.new.chunk c.index-chunks-at.result c.args.bytes.now i
+    (λ e. flat-set g.C.Chunk.bytes_of g.C.Chunk.IsWhole n g.met.C.Chunk.sized c.args.chunks.now
+    (c.args.at / c.SIZE.result) (c.args.at % c.SIZE-2.result) c.args.at c.write_across_in.new.chunk
+    c.index-chunks-at.result c.args.bytes.now i
     (rw c.SIZE-2.ensures c.requires.chunk)
     (place_is n c.SIZE.result c.SIZE-2.result c.args.at c.SIZE.ensures c.SIZE-2.ensures g.met.C.Chunk.some)
     c.requires.whole e)
@@ -27,7 +32,9 @@ returns-clause-ok g c =
 pub returns-clause-err : goal.returns-clause-err
 returns-clause-err g c =
     let n = g.C.Chunk.SIZE in
-    let i : c.args.at / c.SIZE.result < length c.args.chunks.now = place_lt n c.SIZE.result c.args.at _ c.SIZE.ensures g.met.C.Chunk.some c.requires.inside in
+    let i : c.args.at / c.SIZE.result < length c.args.chunks.now =
+    place_lt n c.SIZE.result c.args.at _ c.SIZE.ensures g.met.C.Chunk.some c.requires.inside in
     on_err_weaker c.write_across_in.result
-    (λ e. flat-set_same g.C.Chunk.bytes_of c.args.chunks.now (c.args.at / c.SIZE.result) c.write_across_in.new.chunk c.index-chunks-at.result i e)
+    (λ e. flat-set_same g.C.Chunk.bytes_of c.args.chunks.now (c.args.at / c.SIZE.result) c.write_across_in.new.chunk
+    c.index-chunks-at.result i e)
     c.write_across_in.ensures.err

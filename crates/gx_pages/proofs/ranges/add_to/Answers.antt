@@ -7,7 +7,8 @@ loop-done-preserved g c =
     let xs = c.args.table.now in
     let done = c.loop-done.done in
     let page = c.rest_of_page.result.now in
-    let piece : page ≡ take 256 (drop done xs) = c.rest_of_page.ensures ∙ ap (λ (k : ℕ). take (256 - k) (drop done xs)) c.loop-done.invariant.whole in
+    let piece : page ≡ take 256 (drop done xs) =
+    c.rest_of_page.ensures ∙ ap (λ (k : ℕ). take (256 - k) (drop done xs)) c.loop-done.invariant.whole in
     record {
       upto = omega arith;
       whole = omega arith;

@@ -15,5 +15,6 @@ loop-at-preserved g c =
       made =
           c.in_ok-take_piece.ensures.ok
           ∙ ap (λ (k : ℕ). spliced c.loop-at.table c.loop-at.at (take k (drop c.loop-at.at c.args.other.now))) same
-          ∙ taken_step c.args.table.now c.loop-at.table c.args.other.now c.args.from c.args.end c.loop-at.at n (omega (arith, c.requires.inside)) there (omega arith) (omega arith) c.loop-at.invariant.made;
+          ∙ taken_step c.args.table.now c.loop-at.table c.args.other.now c.args.from c.args.end c.loop-at.at n
+          (omega (arith, c.requires.inside)) there (omega arith) (omega arith) c.loop-at.invariant.made;
     }

@@ -28,7 +28,8 @@ returns-clause-ok g c =
     let full : length (flat leaf_bytes v.items) ≡ 65536 * length v.items = length-leaves v.items c.requires.top.whole in
     let now : c.as_mut_slice.result.now ≡ v.items = c.as_mut_slice.ensures.value in
     let len : length ns ≡ v.len = omega arith in
-    let made : OnOk c.clear.result (flat leaf_bytes ns ≡ spliced (flat leaf_bytes c.as_mut_slice.result.now) size (replicate (c.len.result * 65536 - size) 0)) = c.clear.ensures.ok in
+    let made : OnOk c.clear.result (flat leaf_bytes ns ≡ spliced (flat leaf_bytes c.as_mut_slice.result.now) size
+    (replicate (c.len.result * 65536 - size) 0)) = c.clear.ensures.ok in
     on_ok_weaker c.clear.result
     (λ e. rw (take_at ns _ _ len)
     (e ∙ ap (λ t. spliced (flat leaf_bytes t) size (replicate (c.len.result * 65536 - size) 0)) now

@@ -13,7 +13,10 @@ returns-clause-ok g c =
     let full : length (flat leaf_bytes ps) ≡ 65536 * length ps = length-leaves ps c.requires.top.whole in
     let i : c.append.new.self.items ≡ ts ++ ms = c.in_ok-append.ensures.items in
     rw i (ap (take c.args.size) (flat-append leaf_bytes ts ms)
-    ∙ tail_grown (flat leaf_bytes ps) (flat leaf_bytes ts) (flat leaf_bytes ms) c.args.old c.args.size _ _ (omega (arith, c.requires.top.reach)) c.in_ok-clear_tail.ensures.ok (c.in_ok-more.ensures.zero c.requires.zero) (omega arith) (omega (arith, c.in_ok-more.ensures.count, c.leaves_for.ensures.reach)))
+    ∙ tail_grown (flat leaf_bytes ps) (flat leaf_bytes ts) (flat leaf_bytes ms) c.args.old c.args.size _ _
+    (omega (arith, c.requires.top.reach)) c.in_ok-clear_tail.ensures.ok
+    (c.in_ok-more.ensures.zero c.requires.zero) (omega arith)
+    (omega (arith, c.in_ok-more.ensures.count, c.leaves_for.ensures.reach)))
 
 pub returns-clause-top : goal.returns-clause-top
 returns-clause-top g c =

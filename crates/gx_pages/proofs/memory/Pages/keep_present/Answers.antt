@@ -19,8 +19,10 @@ returns-clause-value g c =
     let end = c.min-end.result in
     let size : length c.self.inside.table ≡ length c.args.self.now = ap (λ (m : List ℕ). length m) c.self.view_is in
     on_ok_weaker c.clear.result
-    (λ e. present_put c.args.self.now c.args.table.now c.take_over.new.table c.clear.new.self from there end c.args.skip.1
+    (λ e. present_put c.args.self.now c.args.table.now c.take_over.new.table c.clear.new.self from there end
+    c.args.skip.1
     (omega arith) (omega arith) (omega arith) (omega arith) (grind arith) (grind arith) (grind arith)
-    (c.in_ok-take_over.ensures.ok ∙ ap (λ (m : List ℕ). spliced c.args.table.now from (take (there - from) (drop from m))) c.self.view_is)
+    (c.in_ok-take_over.ensures.ok ∙ ap (λ (m : List ℕ).
+    spliced c.args.table.now from (take (there - from) (drop from m))) c.self.view_is)
     e)
     c.clear.ensures.ok

@@ -9,5 +9,7 @@ returns-clause-end g c =
     let ys = c.args.end.now in
     let few : length ys ≤ n = omega (arith, g.met.C.Chunk.pages, g.met.C.Chunk.some, c.requires.end) in
     on_ok_weaker c.write_pair_in.result
-    (λ e. flat-set g.C.Chunk.bytes_of g.C.Chunk.IsWhole n g.met.C.Chunk.sized c.args.first.now.chunks 15 (n - length ys) (16 * n - length ys) c.write_pair_in.new.first c.index-first-15.result ys (omega (arith, c.requires.first.count)) (omega arith) (omega arith) c.requires.first.whole e)
+    (λ e. flat-set g.C.Chunk.bytes_of g.C.Chunk.IsWhole n g.met.C.Chunk.sized c.args.first.now.chunks 15
+    (n - length ys) (16 * n - length ys) c.write_pair_in.new.first c.index-first-15.result ys
+    (omega (arith, c.requires.first.count)) (omega arith) (omega arith) c.requires.first.whole e)
     c.write_pair_in.ensures.end

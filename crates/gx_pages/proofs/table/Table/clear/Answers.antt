@@ -25,10 +25,12 @@ returns-clause-ok g c =
     let ns = c.clear.new.chunks in
     let len : length ns ≡ v.len = omega arith in
     let now : c.as_mut_slice.result.now ≡ v.items = c.as_mut_slice.ensures.value in
-    let made : OnOk c.clear.result (flat leaf_bytes ns ≡ spliced (flat leaf_bytes c.as_mut_slice.result.now) c.args.at (replicate c.args.count 0)) = c.clear.ensures.ok in
+    let made : OnOk c.clear.result (flat leaf_bytes ns ≡ spliced (flat leaf_bytes c.as_mut_slice.result.now) c.args.at
+    (replicate c.args.count 0)) = c.clear.ensures.ok in
     on_ok_weaker c.clear.result
     (λ e. rw (with_items_is v ns len)
-    (view_spliced v.items ns c.self.inside.size c.args.at (replicate c.args.count 0) c.args.self.now c.self.invariant c.self.view_is (omega (arith, length-replicate {A = ℕ} c.args.count 0, c.requires))
+    (view_spliced v.items ns c.self.inside.size c.args.at (replicate c.args.count 0) c.args.self.now c.self.invariant
+    c.self.view_is (omega (arith, length-replicate {A = ℕ} c.args.count 0, c.requires))
     (e ∙ ap (λ ps. spliced (flat leaf_bytes ps) c.args.at (replicate c.args.count 0)) now)))
     made
 
@@ -39,4 +41,5 @@ returns-clause-size g c =
     let whole : AllWhole IsLeaf ns = c.clear.ensures.whole in
     let len : length ns ≡ v.len = omega arith in
     rw (with_items_is v ns len)
-    (view_kept v.items ns c.self.inside.size c.args.self.now c.self.invariant (top_kept v.items ns c.self.inside.size c.self.invariant whole (omega arith)) c.self.view_is)
+    (view_kept v.items ns c.self.inside.size c.args.self.now c.self.invariant
+    (top_kept v.items ns c.self.inside.size c.self.invariant whole (omega arith)) c.self.view_is)

@@ -9,7 +9,8 @@ pub returns-clause-size : goal.returns-clause-size
 returns-clause-size g c =
     let all = c.in_ok-leaves.leaves.items in
     let full : length (flat leaf_bytes all) ≡ 65536 * length all = length-leaves all c.in_ok-leaves.ensures.whole in
-    length-take-le c.args.size (flat leaf_bytes all) (omega (arith, c.in_ok-leaves.ensures.count, c.leaves_for.ensures.reach))
+    length-take-le c.args.size (flat leaf_bytes all)
+    (omega (arith, c.in_ok-leaves.ensures.count, c.leaves_for.ensures.reach))
 
 pub returns-clause-zero : goal.returns-clause-zero
 returns-clause-zero g c = λ zero.

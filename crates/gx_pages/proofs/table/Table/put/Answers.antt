@@ -25,10 +25,12 @@ returns-clause-ok g c =
     let ns = c.put.new.chunks in
     let len : length ns ≡ v.len = omega arith in
     let now : c.as_mut_slice.result.now ≡ v.items = c.as_mut_slice.ensures.value in
-    let made : OnOk c.put.result (flat leaf_bytes ns ≡ spliced (flat leaf_bytes c.as_mut_slice.result.now) c.args.at (c.args.bytes.now)) = c.put.ensures.ok in
+    let made : OnOk c.put.result (flat leaf_bytes ns ≡ spliced (flat leaf_bytes c.as_mut_slice.result.now) c.args.at
+    (c.args.bytes.now)) = c.put.ensures.ok in
     on_ok_weaker c.put.result
     (λ e. rw (with_items_is v ns len)
-    (view_spliced v.items ns c.self.inside.size c.args.at (c.args.bytes.now) c.args.self.now c.self.invariant c.self.view_is (c.requires (omega arith))
+    (view_spliced v.items ns c.self.inside.size c.args.at
+    (c.args.bytes.now) c.args.self.now c.self.invariant c.self.view_is (c.requires (omega arith))
     (e ∙ ap (λ ps. spliced (flat leaf_bytes ps) c.args.at (c.args.bytes.now)) now)))
     made
 
@@ -39,4 +41,5 @@ returns-clause-size g c =
     let whole : AllWhole IsLeaf ns = c.put.ensures.whole in
     let len : length ns ≡ v.len = omega arith in
     rw (with_items_is v ns len)
-    (view_kept v.items ns c.self.inside.size c.args.self.now c.self.invariant (top_kept v.items ns c.self.inside.size c.self.invariant whole (omega arith)) c.self.view_is)
+    (view_kept v.items ns c.self.inside.size c.args.self.now c.self.invariant
+    (top_kept v.items ns c.self.inside.size c.self.invariant whole (omega arith)) c.self.view_is)

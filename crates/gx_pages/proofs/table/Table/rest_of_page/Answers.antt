@@ -12,8 +12,11 @@ rest_of_page-requires-clause-whole g c =
 pub returns : goal.returns
 returns g c =
     let v = c.self.inside.leaves in
-    let below : length c.args.self.now ≡ c.self.inside.size = ap (λ (m : List ℕ). length m) (sym c.self.view_is) ∙ length-view v.items c.self.inside.size c.self.invariant in
-    let found : c.rest_of_page.result.now ≡ take (256 - c.args.at % 256) (drop c.args.at (flat leaf_bytes c.as_slice.result.now)) = c.rest_of_page.ensures in
+    let below : length c.args.self.now ≡ c.self.inside.size = ap (λ (m : List ℕ). length m) (sym c.self.view_is)
+    ∙ length-view v.items c.self.inside.size c.self.invariant in
+    let found : c.rest_of_page.result.now ≡ take (256 - c.args.at % 256)
+    (drop c.args.at (flat leaf_bytes c.as_slice.result.now)) = c.rest_of_page.ensures in
     found ∙ ap (λ ps. take (256 - c.args.at % 256) (drop c.args.at (flat leaf_bytes ps))) c.as_slice.ensures.value
-    ∙ sym (window_cut (flat leaf_bytes v.items) c.args.at (256 - c.args.at % 256) c.self.inside.size (omega (arith, c.requires, below, c.self.invariant.sized.whole)))
+    ∙ sym (window_cut (flat leaf_bytes v.items) c.args.at (256 - c.args.at % 256) c.self.inside.size
+    (omega (arith, c.requires, below, c.self.invariant.sized.whole)))
     ∙ ap (λ m. take (256 - c.args.at % 256) (drop c.args.at m)) c.self.view_is

@@ -10,5 +10,6 @@ pub returns-in_err-share-clause-memory : goal.returns-in_err-share-clause-memory
 returns-in_err-share-clause-memory g c =
     let ps = c.self.inside.leaves.items in
     let n = c.self.inside.size in
-    let view : length c.args.self.now ≡ n = ap (λ (m : List ℕ). length m) (sym c.self.view_is) ∙ length-view ps n c.self.invariant in
+    let view : length c.args.self.now ≡ n = ap (λ (m : List ℕ). length m) (sym c.self.view_is)
+    ∙ length-view ps n c.self.invariant in
     on_err_known c.from_residual.result (omega (arith, c.in_err-share.ensures.memory, c.self.invariant.tight))

@@ -25,9 +25,11 @@ returns-clause-ok g c =
     let ns = c.write.new.chunks in
     let len : length ns ≡ v.len = omega arith in
     let now : c.as_mut_slice.result.now ≡ v.items = c.as_mut_slice.ensures.value in
-    let made : OnOk c.write.result (flat leaf_bytes ns ≡ spliced (flat leaf_bytes c.as_mut_slice.result.now) c.args.at (c.args.bytes.now)) = c.write.ensures.ok in
+    let made : OnOk c.write.result (flat leaf_bytes ns ≡ spliced (flat leaf_bytes c.as_mut_slice.result.now) c.args.at
+    (c.args.bytes.now)) = c.write.ensures.ok in
     on_ok_weaker c.write.result
     (λ e. rw (with_items_is v ns len)
-    (view_spliced v.items ns c.self.inside.size c.args.at (c.args.bytes.now) c.args.self.now c.self.invariant c.self.view_is (omega (arith, c.requires.inside))
+    (view_spliced v.items ns c.self.inside.size c.args.at
+    (c.args.bytes.now) c.args.self.now c.self.invariant c.self.view_is (omega (arith, c.requires.inside))
     (e ∙ ap (λ ps. spliced (flat leaf_bytes ps) c.args.at (c.args.bytes.now)) now)))
     made

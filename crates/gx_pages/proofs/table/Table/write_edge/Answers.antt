@@ -13,9 +13,12 @@ returns-then-begins-clause-ok g c =
     let start = c.split_at.result.1.now in
     let k = 256 - at % 256 in
     let there : xs ≡ spliced xs at end = c.begins.ensures c.if-begins.true xs at k c.rest_of_page.ensures in
-    let whole : end ++ start ≡ c.args.bytes.now = ap (λ (u : List ℕ). u ++ start) c.split_at.ensures.front ∙ ap (λ (u : List ℕ). take k c.args.bytes.now ++ u) c.split_at.ensures.back ∙ take-append-drop k c.args.bytes.now in
+    let whole : end ++ start ≡ c.args.bytes.now = ap (λ (u : List ℕ). u ++ start) c.split_at.ensures.front
+    ∙ ap (λ (u : List ℕ). take k c.args.bytes.now ++ u) c.split_at.ensures.back
+    ∙ take-append-drop k c.args.bytes.now in
     on_ok_weaker c.write.result
     (λ e. e ∙ ap (λ (u : List ℕ). spliced u (at + length end) start) there
-    ∙ spliced_more xs end start at (at + length end) (λ i. at + length end) (omega (arith, c.requires.inside, c.split_at.ensures.front_len))
+    ∙ spliced_more xs end start at (at + length end) (λ i. at + length end)
+    (omega (arith, c.requires.inside, c.split_at.ensures.front_len))
     ∙ ap (λ (u : List ℕ). spliced xs at u) whole)
     c.write.ensures.ok
