@@ -75,13 +75,12 @@ job_of story name =
     if bytes_eq name (codes "list") then Some Listing else None
 
 -- HOW THE TEXT IS PUT TOGETHER, by the flags screen, plain and echo, and the job. With `--screen` the screen is
--- composed; that isn't understood with `--plain` or `--echo`, nor in a job other than play and rewind. With `--plain`
--- grids are shown nowhere. Else rows of grids stand behind a bar.
+-- composed; that isn't understood with `--plain` or `--echo`, nor in a job other than play. With `--plain` grids are
+-- shown nowhere. Else rows of grids stand behind a bar.
 abbrev pub view_for : Bool → Bool → Bool → Job → Option View
 view_for false false echo job = Some view.Rows
 view_for false true echo job = Some view.Plain
 view_for true false false Play = Some view.Screen
-view_for true false false Rewind = Some view.Screen
 view_for screen plain echo job = None
 
 -- a flag is set

@@ -187,7 +187,7 @@ fn read_view(screen: bool, plain: bool, echo: bool, job: Job) -> Option<View>
     match (screen, plain) {
         (false, false) => Some(View::Rows),
         (false, true) => Some(View::Plain),
-        (true, false) if !echo && (job == Job::Play || job == Job::Rewind) => Some(View::Screen),
+        (true, false) if !echo && job == Job::Play => Some(View::Screen),
         (true, _) => None,
     }
 }
