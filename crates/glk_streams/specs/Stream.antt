@@ -157,3 +157,7 @@ without_file s = record s { kind = kinds.Memory 0 0 false; position = 0 }
 abbrev pub is_stored : StreamKind → Stream → Bool
 is_stored (kinds.File _ _ _) s = writable s
 is_stored _ s = false
+
+-- the name and content of a file that has to be stored when it is closed
+abbrev pub stored_file : Stream → Option (List ℕ × List ℕ)
+stored_file s = if is_stored s.kind s then file_in s.kind else None

@@ -6,7 +6,7 @@ ghost use Rattle.glk_streams.specs.Stream.{readable, writable, allows_mode, open
 ghost use Rattle.glk_streams.specs.Stream.{place_count, end_position, after_put, after_puts, takes_bytes, latin_rest};
 ghost use Rattle.glk_streams.specs.Stream.{lengthens, read_next, passed, after_get, clamped};
 ghost use Rattle.glk_streams.specs.Stream.{positioned};
-ghost use Rattle.glk_streams.specs.Stream.{is_stored, next_places, fits};
+ghost use Rattle.glk_streams.specs.Stream.{is_stored, stored_file, next_places, fits};
 ghost use Rattle.glk_streams.specs.Sound.{IsSoundKind, IsSoundStream};
 
 use crate::content::{byte_at, positions_in, put_in, read_in, saved_size};
@@ -105,6 +105,18 @@ pub fn is_stored(stream: &Stream) -> bool
     ensures { result ≡ is_stored stream.now.kind stream.now }
 {
     matches!(stream.kind, StreamKind::File { .. }) && writable(stream)
+}
+
+/// The full name and the content of a file that has to be stored when it is closed.
+pub fn stored_file(stream: &Stream) -> Option<(&str, &[u8])>
+    ensures { MatchOption result (stored_file stream.now ≡ None)
+        (λ file. stored_file stream.now ≡ Some (file.0.now, file.1.now)) }
+{
+    if is_stored(stream) {
+        file_in(stream)
+    } else {
+        None
+    }
 }
 
 /// How many places a memory stream has.

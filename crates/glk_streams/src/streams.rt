@@ -1,11 +1,11 @@
 //! All streams, in order of creation.
 ghost use Rattle.std.specs.Prelude.{ℕ, ◌≡◌, ◌≢◌, ◌≤◌, ◌<◌, ◌+◌, ◌^◌, ◌++◌, ◌∷◌, [], true, false, not, length};
-ghost use Rattle.std.specs.Prelude.{map, Some, is_some, IfOk, IfSome, MatchOption, OnErr, OnOk, IsTrue};
+ghost use Rattle.std.specs.Prelude.{map, get_or, Some, is_some, IfOk, IfSome, MatchOption, OnErr, OnOk, IsTrue};
 ghost use Rattle.std.specs.Option.{option_map};
 ghost use Rattle.glk_objects.specs.Objects.{IsAboveAll, IsBelowAll, object_place, all_but, next, met_from};
 ghost use Rattle.glk_streams.specs.Stream as one;
 ghost use Rattle.glk_streams.specs.Streams.{id_of, has, stream, with_stream, file_of, without_windows};
-ghost use Rattle.glk_streams.specs.Streams.{open_files};
+ghost use Rattle.glk_streams.specs.Streams.{no_stream, open_files};
 ghost use Rattle.glk_streams.specs.Sound.{IsSoundKind};
 ghost use Rattle.glk_streams.specs.Constants.{largest};
 
@@ -307,6 +307,16 @@ impl Streams {
         one::file_in(self.items.get(place(&self.items, id))?)
     }
 
+    /// The full name and the content of the file of the stream at a place, where it is open for writing: it is stored
+    /// when it is closed. None for any other stream.
+    pub fn stored_file(&self, at: usize) -> Option<(&str, &[u8])>
+        requires { at < length self.now }
+        ensures { MatchOption result (one.stored_file (get_or self.now at no_stream) ≡ None)
+            (λ file. one.stored_file (get_or self.now at no_stream) ≡ Some (file.0.now, file.1.now)) }
+    {
+        one::stored_file(&self.items[at])
+    }
+
     /// Takes the full name and the content of a file out of its stream, which goes nowhere then.
     #[tactic(auto, using(crate::proofs::Lists::places))]
     pub fn take_file(&mut self, id: u32) -> (Name, Bytes)
@@ -320,7 +330,7 @@ impl Streams {
         one::take_file(&mut self.items[at])
     }
 
-    /// The files that are open for writing, in order of creation: they are stored when they are closed.
+    /// The file streams that are open for writing, in order of creation: their files are stored when they are closed.
     #[tactic(auto, using(crate::proofs::Lists::files))]
     pub fn open_files(&self, alloc: Global) -> Result<Numbers, AllocError>
         ensures value { IfOk result (λ ids. ids ≡ open_files self.now) }

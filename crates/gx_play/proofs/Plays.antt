@@ -79,6 +79,7 @@ answers-moved start answers entry exit r same run =
       report = run.report;
       undo = run.undo;
       records = run.records;
+      stops = run.stops;
       saves = run.saves;
     }
 

@@ -38,7 +38,7 @@ use Rattle.gx_session.specs.declared.questions.Question.TheVariants as asks-for
 use Rattle.gx_session.specs.declared.running.Waiting.{Waiting}
 use Rattle.gx_session.specs.Cuts.{IsLineStop}
 use Rattle.gx_session.specs.Wants.{IsWait, ReplyWants, TurnWants, AskingWants}
-use Rattle.gx_session.specs.Wants.{WantsMemory}
+use Rattle.gx_session.specs.Wants.{LineWants, WantsMemory}
 use Rattle.gx_session.specs.Input.{NextLine, line, next_line}
 use Rattle.gx_session.specs.Questions.{turn_of, request_for}
 use Rattle.gx_session.specs.Reading.{ReadsFew}
@@ -57,7 +57,7 @@ use Rattle.gx_session.proofs.Parts.{AnswerWants, BeginsSave, RestoreWants}
 use Rattle.std.specs.Prelude.{IsOkAnd}
 use Rattle.gx_session.proofs.Calling.{answered-and}
 use Rattle.gx_session.proofs.Steps.{step-does, step-faults, step-asks, step-effect, step-asks-nothing, ok-is, asked-same}
-use Rattle.gx_session.proofs.NextLines.{some-input, shorter-input}
+use Rattle.gx_session.proofs.NextLines.{shorter-input}
 use Rattle.gx_session.proofs.Playing.{here, moves-on, stops-at, wants, wants-line}
 use Rattle.gx_session.proofs.Saved.{unsaved, saved-of}
 use Rattle.rand_core.specs.Stream.{Stream, next_u32}
@@ -500,9 +500,10 @@ module _ {K : Type 0} {sending : SendStep K} (start : Configuration) (entry : Ha
     taken-act = wait-asks asking-at w r.turn r.is_wait ∙ ap (after_line asking-at w) r.taken
 
     -- the showing of the line wants memory
-    pub line-wants : (h' : HeldRun) → h'.machine ≡ h.machine → h'.left ≡ h.left → h'.log ≡ h.log → Early start entry h' asking d halt.NoMemory
-    line-wants h' machine units log =
-        wants-line start entry was d-was (asks r.turn w) r.going h' d.source asking r.is_wait (r.asking_is, r.is_wait, some-input (r.ahead ++ r.coming) chars (h.ahead ++ h.coming) r.taken) machine units log
+    pub line-wants : (h' : HeldRun) → h.echo ≡ true → h'.machine ≡ h.machine → h'.left ≡ h.left → h'.log ≡ h.log → Early start entry h' asking d halt.NoMemory
+    line-wants h' shows machine units log =
+        let shown : LineWants h.echo (line chars (h.ahead ++ h.coming)) = subst (λ (b : Bool). LineWants b (line chars (h.ahead ++ h.coming))) (sym shows) tt in
+        wants-line start entry was d-was (asks r.turn w) r.going h' d.source asking r.is_wait (r.asking_is, r.is_wait, subst (LineWants h.echo) (sym r.taken) shown) machine units log
 
     -- it is shown, where lines are
     pub line-taken : (world : FlatWorld) → world ≡ (if h.echo then after h.world (show_line h.world.scene chars) else h.world) → IsInCall start entry (record h { world = world }) asking d (goes_on (given.Line chars) w)

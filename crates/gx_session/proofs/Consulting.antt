@@ -13,9 +13,9 @@ use Rattle.gx_session.specs.declared.lines.NoLine.{NoLine}
 use Rattle.gx_session.specs.declared.lines.NoLine.TheVariants as no
 use Rattle.gx_session.specs.declared.questions.Question.{Question}
 use Rattle.gx_session.specs.declared.running.Waiting.{Waiting}
-use Rattle.gx_session.specs.Wants.{IsWait}
+use Rattle.gx_session.specs.Wants.{IsWait, LineWants}
 use Rattle.gx_session.specs.Moves.{request_of}
-use Rattle.gx_session.specs.Input.{none, too_long}
+use Rattle.gx_session.specs.Input.{NextLine, none, too_long, line, next_line, HasChars}
 use Rattle.gx_session.specs.Questions.{turn_of, request_for, AreTold}
 use Rattle.gx_session.specs.Reading.{TakesLine, HoldsFew, ReadsFew, failures}
 use Rattle.gx_session.specs.Configurations.{Configuration, asks, goes_on}
@@ -34,6 +34,13 @@ use Rattle.rand_core.specs.Stream.{Stream, next_u32}
 next-word : (word : Option ℕ) (stream a b : Stream) → WordIs word stream a → WordIs word stream b → (next_u32 a).0 ≡ (next_u32 b).0
 next-word None stream a b is is' = ap (λ (s : Stream). (next_u32 s).0) (is ∙ sym is')
 next-word (Some w) stream a b is is' = ap (λ (p : ℕ × Stream). p.0) (is ∙ sym is')
+
+-- a line that has characters may want memory
+chars-want : (echo : Bool) (next : NextLine) → HasChars next → LineWants echo next
+chars-want true (line chars rest) some = tt
+chars-want true none some = absurd some
+chars-want true too_long some = absurd some
+chars-want false next some = some
 
 module _ {K : Type 0} {sending : SendStep K} (start : Configuration) (entry : Handed sending) (h : HeldRun) (asking : Option Asking) (d : Handed sending) (t : Turn) (w : Waiting) (waits : IsInCall start entry h asking d (asks t w)) (world : FlatWorld) (sink : K) where
   abbrev h1 : HeldRun
@@ -111,4 +118,5 @@ module _ {K : Type 0} {sending : SendStep K} (start : Configuration) (entry : Ha
       no-line-came no.TooLong takes reads few =
           line-stops start entry h1 d1 asking w t is ready asks-is stop.LineTooLong too_long h2 source takes.0 refl tt refl takes.1 told (reads-so 0 reads) (λ long. absurd (long refl)) refl
       no-line-came no.Failed takes reads few = unread start entry h1 d1 w t ready h2 source asking is told (reads-so 1 reads) few takes refl refl refl asks-is
-      no-line-came no.NoMemory takes reads few = wants-line start entry h1 d1 (asks t w) ready h2 source asking is (asks-is, is, takes) refl refl refl
+      no-line-came no.NoMemory takes reads few =
+          wants-line start entry h1 d1 (asks t w) ready h2 source asking is (asks-is, is, chars-want h.echo (next_line (h.ahead ++ h.coming)) takes.0) refl refl refl

@@ -21,7 +21,7 @@ use Rattle.gx_session.specs.declared.ends.Halt.{Halt}
 use Rattle.gx_session.specs.declared.ends.Halt.TheVariants as halt
 use Rattle.gx_session.specs.Constants.{status_shelf_fault, status_input_fault, status_output_fault}
 use Rattle.gx_session.specs.Counts.{FailureCounts}
-use Rattle.gx_session.specs.Cuts.{by_memory, by_shelf, cut_status, IsLineStop}
+use Rattle.gx_session.specs.Cuts.{by_shelf, cut_status, IsLineStop}
 use Rattle.gx_session.specs.Devices.{Devices}
 use Rattle.gx_session.specs.Endings.{stores_of, store_call, told_all}
 use Rattle.gx_session.specs.Sending.{whole_send}
@@ -30,10 +30,10 @@ use Rattle.gx_session.specs.Session.{RunEnd, final_of, stop_status, fault_number
 use Rattle.gx_session.specs.Runs.{Report, EndsAt, IsReport, IsSession}
 use Rattle.gx_session.specs.Reads.{LeavesInput}
 use Rattle.gx_session.specs.Holding.{SendStep, Handed, devices_of, HeldRun, configuration_of}
-use Rattle.gx_session.specs.Finishing.{Told, Finished, EndingGives, RunGives, StoredSome, StoresFiles}
+use Rattle.gx_session.specs.Finishing.{Told, Finished, EndingGives, RunGives, StoresAll}
 use Rattle.gx_session.specs.Standing.{Early, halt_status}
 use Rattle.gx_session.specs.Outcomes.{IsStop, halt_of_shelf, Keeps}
-use Rattle.gx_session.proofs.Parts.{IsFront, AreDrawn, AwaitedAt, LongAt, open_files_of, read_failures}
+use Rattle.gx_session.proofs.Parts.{IsFront, AreDrawn, AwaitedAt, LongAt, read_failures}
 use Rattle.gx_session.proofs.Calling.{chain-map}
 use Rattle.gx_session.proofs.Counting.{blames-same}
 use Rattle.gx_session.proofs.Playing.{cut-at, none-sent, none-asked, input-left, words-left}
@@ -95,10 +95,6 @@ module _ {K : Type 0} {sending : SendStep K} (start : Configuration) (entry : Ha
       (input-left start entry h d (AwaitedAt start None) (LongAt start None) (λ short. t.few (λ e. short (refl, t.stop_is ∙ e)))
       (λ other. t.reads (λ is. other (refl, subst IsLineStop (sym t.stop_is) is))) t.is_past.reads t.is_past.left)
 
-  -- a file is open at the end where it is here
-  open-still : open_files_of h.world.scene ≢ [] → open_files_of stopped.world.scene ≢ []
-  open-still some = subst (λ (x : Scene). open_files_of x ≢ []) (sym scene-is) some
-
   -- what the shelf was asked before
   asked-then : (told_all stopped).asked ≡ d.asked
   asked-then = ap (λ (m : Configuration). m.asked) t.is_end
@@ -106,13 +102,6 @@ module _ {K : Type 0} {sending : SendStep K} (start : Configuration) (entry : Ha
   module _ (shelf : FlatShelf) (asked : Trace) where
     abbrev d-now : Handed sending
     d-now = record d { shelf = shelf; asked = d.asked ++ asked }
-
-    -- memory ran out before them
-    listing-wants : asked ≡ [] → open_files_of h.world.scene ≢ [] → Early start entry h asking d-now halt.NoMemory
-    listing-wants none some =
-        cut-at start entry d-now h asking halt.NoMemory None by_memory (told_all stopped) (map whole_send t.past.sent) (inr (refl, open-still some), t.asking_is) refl (sym (ap (λ (m : Configuration). m.machine) t.is_end)) (sym (ap (λ (m : Configuration). m.left) t.is_end)) (sym (ap (λ (m : Configuration). m.log) t.is_end))
-        sent-front (sends-then ∙ none-sent (told_all stopped).sent) t.is_past.taken whole-front
-        (ap (λ (x : Trace). d.asked ++ x) none ∙ append-nil d.asked ∙ sym asked-then ∙ none-asked (told_all stopped).asked) (λ other. input-then) words-are t.saves
 
     shelf-status : (r : Request) (fault : ShelfFault) → halt_status (halt_of_shelf fault) ≡ cut_status (by_shelf r fault)
     shelf-status r of_shelf.Failed = refl
@@ -136,13 +125,9 @@ module _ {K : Type 0} {sending : SendStep K} (start : Configuration) (entry : Ha
         (λ other.
         subst (LeavesInput start.input m.input h.coming entry.source d.source (AwaitedAt start None) (LongAt start None)) (sym (no-failures fault)) input-then) words-are t.saves
 
-    closes-by : (halted : Halt) → ((halted ≡ halt.NoMemory) × (asked ≡ []) × (open_files_of h.world.scene ≢ [])) ⊎ StoredSome (stores_of h.world.scene) asked halted → Early start entry h asking d-now halted
-    closes-by halted (inl none) = subst (Early start entry h asking d-now) (sym none.0) (listing-wants none.1 none.2)
-    closes-by halted (inr s) = subst (Early start entry h asking d-now) (sym s.why_is) (some-refused s.fault s.front s.rest s.next s.split s.calls_are)
-
-    pub closes : (r : Result (Unit {0}) Halt) → StoresFiles h.world.scene asked r → EndingGives start entry h asking d-now why r
+    pub closes : (r : Result (Unit {0}) Halt) → StoresAll (stores_of h.world.scene) asked r → EndingGives start entry h asking d-now why r
     closes (Ok u) s = record { shelf = d.shelf; before = d.asked; told = t; asked_are = ap (λ (x : Trace). d.asked ++ x) s }
-    closes (Err halted) s = closes-by halted s
+    closes (Err halted) s = subst (Early start entry h asking d-now) (sym s.why_is) (some-refused s.fault s.front s.rest s.next s.split s.calls_are)
 
 numbered : (f : Fault) → f ≢ NoMemory → (1 ≤ number_of f) × (number_of f ≤ 16)
 numbered NoMemory other = absurd (other refl)

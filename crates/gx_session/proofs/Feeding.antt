@@ -1,5 +1,5 @@
 -- What comes of a source over parts of a run that follow one another.
-use Rattle.std.proofs.Common.{◌≡◌, ℕ, ◌+◌, ◌<◌, ◌≤◌, ◌-◌, ◌⊎◌, inl, inr, List, [], ◌∷◌, ◌++◌, length, take, drop, Bool, true, false, Result, Ok, Err, IfOk, IfErr, refl, ap, subst, sym, ◌∙◌, arith, append_assoc, append-nil, length-append, length-drop}
+use Rattle.std.proofs.Common.{◌≡◌, ◌≢◌, ℕ, ◌+◌, ◌<◌, ◌≤◌, ◌-◌, ◌⊎◌, inl, inr, List, [], ◌∷◌, ◌++◌, length, take, drop, Bool, true, false, Result, Ok, Err, IfOk, IfErr, refl, ap, subst, sym, ◌∙◌, arith, append_assoc, append-nil, length-append, length-drop}
 use Rattle.std.proofs.lemmas.Bool.{cases_lt}
 use Rattle.std.specs.List.{AllByRecursion}
 use Rattle.gx_outside.specs.Outside.{FlatSource, raised_by, raised_times}
@@ -8,10 +8,10 @@ use Rattle.gx_outside.specs.declared.devices.Failed.{Failed}
 use Rattle.gx_session.specs.declared.lines.NoLine.{NoLine}
 use Rattle.gx_session.specs.declared.lines.NoLine.TheVariants as no
 use Rattle.gx_session.specs.Constants.{longest_line, piece}
-use Rattle.gx_session.specs.Input.{line, next_line}
+use Rattle.gx_session.specs.Input.{NextLine, line, next_line, HasChars}
 use Rattle.gx_session.specs.Lines.{HeldLines, chars_of}
 use Rattle.gx_session.specs.Reading.{IsComing, IsOver, ReadStep, Fed, FillsBy, spare, ReadsFew, Takes, GainsPiece}
-use Rattle.gx_session.specs.Reading.{SayEnd, Fills, HoldsFew, IsPartial}
+use Rattle.gx_session.specs.Reading.{SayEnd, Fills, HoldsFew, IsPartial, TakesLine}
 use Rattle.gx_session.specs.Reads.{bytes_read}
 use Rattle.gx_session.proofs.Calling.{chain-append}
 use Rattle.gx_session.proofs.Storing.{raised-more}
@@ -145,7 +145,7 @@ module _ {S : Type 0} (reading : ReadStep S) (seen : S → FlatSource) (first no
 
   pub few-held : (searched : ℕ) (later : HeldLines) (r : Result (List ℕ) NoLine) → pos now.held < length now.held → searched ≤ pos now.held → length now.held ≤ searched + piece
       → IfOk r (λ chars. (chars ≡ chars_of (take (pos now.held) now.held)) × (later ≡ record now { held = drop (pos now.held + 1) now.held }))
-      → IfErr r (λ e. (e ≡ no.NoMemory) × (later ≡ now)) → HoldsFew later.held r
+      → IfErr r (λ e. (e ≡ no.NoMemory) × (chars_of (take (pos now.held) now.held) ≢ []) × (later ≡ now)) → HoldsFew later.held r
   few-held searched later (Ok chars) here after few ok err =
       let size : length (drop (pos now.held + 1) now.held) ≡ length now.held - (pos now.held + 1) = length-drop (pos now.held + 1) now.held in
       let same : length later.held ≡ length (drop (pos now.held + 1) now.held) = ap (λ (l : HeldLines). length l.held) ok.1 in
@@ -158,15 +158,15 @@ module _ {S : Type 0} (reading : ReadStep S) (seen : S → FlatSource) (first no
       subst (λ (w : List ℕ). ReadsFew first.ended later.ended (seen before) (seen source) x w 0) same
       (reads-on first.ended now.ended later.ended (seen before) (seen source) (seen source) x y y 0 r.reads (reads-none now.ended later.ended (seen source) y ended))
 
-  some-held : (x y : List ℕ) → 0 < length now.held → first.held ++ x ≡ now.held ++ y → 0 < length (first.held ++ x)
-  some-held x y some same =
-      let size : length (first.held ++ x) ≡ length now.held + length y = ap length same ∙ length-append now.held y in
-      omega arith
+  -- memory ran out for the characters of this line, and all stands as it was
+  no-room : (later : HeldLines) (l : NextLine) (x y : List ℕ) → HasChars l → next_line (first.held ++ x) ≡ l → first.held ++ x ≡ now.held ++ y → later ≡ now
+      → TakesLine (first.held ++ x) (later.held ++ y) (let r : Result (List ℕ) NoLine = Err no.NoMemory in r)
+  no-room later l x y some is same stays = (subst HasChars (sym is) some, ap (λ (k : HeldLines). k.held ++ y) stays ∙ sym same)
 
   -- a line that is held
   pub takes-held : (later : HeldLines) (r : Result (List ℕ) NoLine) → pos now.held < length now.held → pos now.held < longest_line
       → IfOk r (λ chars. (chars ≡ chars_of (take (pos now.held) now.held)) × (later ≡ record now { held = drop (pos now.held + 1) now.held }))
-      → IfErr r (λ e. (e ≡ no.NoMemory) × (later ≡ now)) → Fed reading seen first later before source (λ x y. Takes first later (seen before) (seen source) x y r)
+      → IfErr r (λ e. (e ≡ no.NoMemory) × (chars_of (take (pos now.held) now.held) ≢ []) × (later ≡ now)) → Fed reading seen first later before source (λ x y. Takes first later (seen before) (seen source) x y r)
   takes-held later (Ok chars) here short ok err =
       fed-on reading seen first now later before source source (ReadOn first now (seen before) (seen source)) (λ x y. x ≡ y) (λ x y. Takes first later (seen before) (seen source) x y (Ok chars)) fed
       (fed-still reading seen now later source (ap (λ (l : HeldLines). l.ended) ok.1))
@@ -178,9 +178,13 @@ module _ {S : Type 0} (reading : ReadStep S) (seen : S → FlatSource) (first no
       })
   takes-held later (Err e) here short ok err =
       fed-on reading seen first now later before source source (ReadOn first now (seen before) (seen source)) (λ x y. x ≡ y) (λ x y. Takes first later (seen before) (seen source) x y (Err e)) fed
-      (fed-still reading seen now later source (ap (λ (l : HeldLines). l.ended) err.1))
+      (fed-still reading seen now later source (ap (λ (l : HeldLines). l.ended) err.2))
       (λ x y z r same. subst (λ (f : NoLine). Takes first later (seen before) (seen source) x z (Err f)) (sym err.0)
-      (record { line = some-held x y (omega arith) r.same; reads = read-still later (ap (λ (l : HeldLines). l.ended) err.1) x y z r same }))
+      (record {
+        line = no-room later (line (chars_of (take (pos now.held) now.held)) (drop (pos now.held + 1) now.held ++ y)) x z err.1
+            (ap next_line r.same ∙ next-held now.held y here short) (r.same ∙ ap (λ (w : List ℕ). now.held ++ w) same) err.2;
+        reads = read-still later (ap (λ (l : HeldLines). l.ended) err.2) x y z r same;
+      }))
 
   -- the last line, or none
   module _ (over : now.ended ≡ true) (all : pos now.held ≡ length now.held) (short : length now.held < longest_line) where
@@ -221,7 +225,7 @@ module _ {S : Type 0} (reading : ReadStep S) (seen : S → FlatSource) (first no
         })
 
     pub takes-last : (later : HeldLines) (r : Result (List ℕ) NoLine) → 0 < length now.held → IfOk r (λ chars. (chars ≡ chars_of now.held) × (later ≡ record now { held = [] }))
-        → IfErr r (λ e. (e ≡ no.NoMemory) × (later ≡ now)) → Fed reading seen first later before source (λ x y. Takes first later (seen before) (seen source) x y r)
+        → IfErr r (λ e. (e ≡ no.NoMemory) × (chars_of now.held ≢ []) × (later ≡ now)) → Fed reading seen first later before source (λ x y. Takes first later (seen before) (seen source) x y r)
     takes-last later (Ok chars) some ok err =
         fed-as reading seen first later before source (Nothing later) (λ x y. Takes first later (seen before) (seen source) x y (Ok chars)) (nothing-comes later (ap (λ (l : HeldLines). l.ended) ok.1))
         (λ x y e. record {
@@ -231,11 +235,16 @@ module _ {S : Type 0} (reading : ReadStep S) (seen : S → FlatSource) (first no
           reads = e.reads;
         })
     takes-last later (Err f) some ok err =
-        fed-as reading seen first later before source (Nothing later) (λ x y. Takes first later (seen before) (seen source) x y (Err f)) (nothing-comes later (ap (λ (l : HeldLines). l.ended) err.1))
-        (λ x y e. subst (λ (g : NoLine). Takes first later (seen before) (seen source) x y (Err g)) (sym err.0) (record { line = some-held x [] some e.same; reads = e.reads }))
+        fed-as reading seen first later before source (Nothing later) (λ x y. Takes first later (seen before) (seen source) x y (Err f)) (nothing-comes later (ap (λ (l : HeldLines). l.ended) err.2))
+        (λ x y e. subst (λ (g : NoLine). Takes first later (seen before) (seen source) x y (Err g)) (sym err.0)
+        (record {
+          line = no-room later (line (chars_of now.held) []) x y err.1 (ap next_line e.same ∙ next-last now.held all some short)
+              (e.same ∙ ap (λ (w : List ℕ). now.held ++ w) (sym e.none-left)) err.2;
+          reads = e.reads;
+        }))
 
     pub takes-rest : (later : HeldLines) (r : Result (List ℕ) NoLine) → (length now.held ≡ 0 → (r ≡ Err no.Ended) × (later ≡ now)) → IfOk r (λ chars. (chars ≡ chars_of now.held) × (later ≡ record now { held = [] }))
-        → (0 < length now.held → IfErr r (λ e. (e ≡ no.NoMemory) × (later ≡ now))) → Fed reading seen first later before source (λ x y. Takes first later (seen before) (seen source) x y r)
+        → (0 < length now.held → IfErr r (λ e. (e ≡ no.NoMemory) × (chars_of now.held ≢ []) × (later ≡ now))) → Fed reading seen first later before source (λ x y. Takes first later (seen before) (seen source) x y r)
     takes-rest later r nothing ok err = rest-by (cases_lt 0 (length now.held))
       where
         rest-by : (0 < length now.held) ⊎ (length now.held ≤ 0) → Fed reading seen first later before source (λ x y. Takes first later (seen before) (seen source) x y r)
@@ -245,7 +254,7 @@ module _ {S : Type 0} (reading : ReadStep S) (seen : S → FlatSource) (first no
             let is = nothing zero in
             subst (λ (q : Result (List ℕ) NoLine). Fed reading seen first later before source (λ x y. Takes first later (seen before) (seen source) x y q)) (sym is.0) (takes-none later zero is.1)
 
-  -- the source failed, or memory ran out
+  -- the source failed
   module _ (later : HeldLines) (source' : S) (going : now.ended ≡ false) (tells : (seen source').tells ≡ (seen source).tells) (made : (seen source').calls.made ≡ raised_by 1 (seen source).calls.made)
       (offered : (seen source').offered ≡ raised_by piece (seen source).offered) where
     not-over : {C : Type 0} → now.ended ≡ true → C
@@ -260,8 +269,8 @@ module _ {S : Type 0} (reading : ReadStep S) (seen : S → FlatSource) (first no
         let one : spare now.ended ≡ 1 = ap spare going in
         record { reads = 1; made = made; offered = offered; few = omega arith }
 
-    pub fails : (gave : Result (List ℕ) Failed) → reading source (piece, gave) source' → (e : NoLine) → Fills now later (seen source) (seen source') (Err e) gave → Fed reading seen first later before source' (λ x y. Takes first later (seen before) (seen source') x y (Err e))
-    fails (Err f) call no.Failed is =
+    pub fails : (gave : Result (List ℕ) Failed) → reading source (piece, gave) source' → (e : Failed) → Fills now later (seen source) (seen source') (Err e) gave → Fed reading seen first later before source' (λ x y. Takes first later (seen before) (seen source') x y (Err no.Failed))
+    fails (Err f) call e is =
         fed-on reading seen first now later before source source' (ReadOn first now (seen before) (seen source)) (λ x y. x ≡ y) (λ x y. Takes first later (seen before) (seen source') x y (Err no.Failed)) fed
         (record {
           reads = (piece, Err f) ∷ [];
@@ -282,49 +291,11 @@ module _ {S : Type 0} (reading : ReadStep S) (seen : S → FlatSource) (first no
             let over : spare later.ended ≡ 1 = ap (λ (l : HeldLines). spare l.ended) is.0 ∙ ap spare going in
             let size : length y ≡ length z = ap length same in
             reads-on first.ended now.ended later.ended (seen before) (seen source) (seen source') x y z 1 r.reads (one-more later.ended y z 1 (omega arith))
-    fails (Ok got) call no.NoMemory is =
-        let l = is in
-        fed-on reading seen first now later before source source' (ReadOn first now (seen before) (seen source)) (λ x y. x ≡ got ++ y) (λ x y. Takes first later (seen before) (seen source') x y (Err no.NoMemory)) fed
-        (record {
-          reads = (piece, Ok got) ∷ [];
-          chain = (source', call, refl);
-          pieces = (refl, tt);
-          said = either (λ e. not-over e) (λ s. absurd (says-some got l.some s));
-          over = λ o e. absurd (let g = l.going in cc);
-          comes = λ y c. (got ++ y, l.comes y c, refl);
-          given = λ y c. ap (λ (x : List ℕ). x ++ y) (sym (append-nil got));
-        })
-        (λ x y z r same. record { line = lost x y z r.same same; reads = lost-reads x y z r same })
-      where
-        lost : (x y z : List ℕ) → first.held ++ x ≡ now.held ++ y → y ≡ got ++ z → 0 < length (first.held ++ x)
-        lost x y z e same =
-            let some : 0 < length got = is.some in
-            let size : length (first.held ++ x) ≡ length now.held + length y = ap length e ∙ length-append now.held y in
-            let size' : length y ≡ length got + length z = ap length same ∙ length-append got z in
-            omega arith
+    fails (Ok got) call e is = absurd is
 
-        lost-reads : (x y z : List ℕ) → ReadOn first now (seen before) (seen source) x y → y ≡ got ++ z → ReadsFew first.ended later.ended (seen before) (seen source') x z 0
-        lost-reads x y z r same =
-            let some : 0 < length got = is.some in
-            let over : spare later.ended ≡ 1 = ap spare is.going in
-            let size : length y ≡ length got + length z = ap length same ∙ length-append got z in
-            reads-on first.ended now.ended later.ended (seen before) (seen source) (seen source') x y z 0 r.reads (one-more later.ended y z 0 (omega arith))
-    fails (Ok got) call no.Failed is = absurd is
-    fails (Err f) call no.NoMemory is = absurd is
-    fails (Ok got) call no.Ended is = absurd is
-    fails (Err f) call no.Ended is = absurd is
-    fails (Ok got) call no.TooLong is = absurd is
-    fails (Err f) call no.TooLong is = absurd is
-
-    pub fails-few : (gave : Result (List ℕ) Failed) → reading source (piece, gave) source' → (e : NoLine) → Fills now later (seen source) (seen source') (Err e) gave → pos now.held ≡ length now.held → length now.held < longest_line → HoldsFew later.held (let r : Result (List ℕ) NoLine = Err e in r)
-    fails-few (Err f) call no.Failed is all short = subst IsPartial (ap (λ (l : HeldLines). l.held) (sym is.0)) (all, short)
-    fails-few (Ok got) call no.NoMemory is all short = tt
-    fails-few (Ok got) call no.Failed is all short = absurd is
-    fails-few (Err f) call no.NoMemory is all short = tt
-    fails-few (Ok got) call no.Ended is all short = absurd is
-    fails-few (Err f) call no.Ended is all short = absurd is
-    fails-few (Ok got) call no.TooLong is all short = tt
-    fails-few (Err f) call no.TooLong is all short = tt
+    pub fails-few : (gave : Result (List ℕ) Failed) → reading source (piece, gave) source' → (e : Failed) → Fills now later (seen source) (seen source') (Err e) gave → pos now.held ≡ length now.held → length now.held < longest_line → HoldsFew later.held (let r : Result (List ℕ) NoLine = Err no.Failed in r)
+    fails-few (Err f) call e is all short = subst IsPartial (ap (λ (l : HeldLines). l.held) (sym is.0)) (all, short)
+    fails-few (Ok got) call e is all short = absurd is
 
     -- a piece was read
     module _ (got : List ℕ) (call : reading source (piece, Ok got) source') (g : GainsPiece now later (seen source) (seen source') got) where

@@ -28,7 +28,7 @@ use Rattle.gx_session.specs.Configurations.{Configuration, Phase, steps, asks, g
 use Rattle.gx_session.specs.Moves.{after_reply, after_restoring, after_turn, after_effect}
 use Rattle.gx_session.specs.Moves.{act_by, is_due_by, sends_now, all_sent, move_of}
 use Rattle.gx_session.specs.Session.{RunEnd, end_after, final_in, moves_by, stop_of, next_configuration}
-use Rattle.gx_session.specs.Session.{run_of}
+use Rattle.gx_session.specs.Session.{run_of, StopsByMove}
 use Rattle.gx_session.proofs.Parts.{with_all, step_from, moves_left}
 use Rattle.gx_session.specs.Standing.{act_of}
 use Rattle.gx_session.proofs.Cases.{turn-cases, given-cases, line-cases, asking-cases}
@@ -189,3 +189,25 @@ move-sends m is = ap (λ (b : Bool). if b then moves_to (all_sent m) else act_of
 pub move-acts : (m : Configuration) → sends_now m ≡ false → move_of m ≡ act_of m
 unfolding move_of
 move-acts m is = ap (λ (b : Bool). if b then moves_to (all_sent m) else act_of m) is
+
+-- A run comes to its stop by a move: each move before brings it nearer.
+module _ (start : Configuration) where
+  comes-by : (m : Configuration) (j : ℕ) (v : Verdict) → move_of m ≡ v → run_of start j ≡ Some m
+      → stop_of m ≡ stop_of start
+      → ((m' : Configuration) → move_of m ≡ moves_to m' → StopsByMove start) → StopsByMove start
+  comes-by m j (stops s m') e reached same on =
+      let end : record { stop = s; configuration = m' } ≡ stop_of start = sym (stop-comes m m' s e) ∙ same in
+      (j, m, reached, e ∙ ap (λ (x : RunEnd). stops x.stop x.configuration) end)
+  comes-by m j (moves_to m') e reached same on = on m' e
+
+  comes : (n : ℕ) (m : Configuration) (j : ℕ) → moves_left m < n → run_of start j ≡ Some m → stop_of m ≡ stop_of start
+      → StopsByMove start
+  comes zero m j less reached same = absurd (omega arith)
+  comes (suc n) m j less reached same =
+      comes-by m j (move_of m) refl reached same
+      (λ m' e.
+      let near : moves_left m' < moves_left m = goes-nearer m m' e in
+      comes n m' (suc j) (omega arith) (reached-goes start m m' j reached e) (stop-stays m m' e ∙ same))
+
+  pub stops-by-move : StopsByMove start
+  stops-by-move = comes (suc (moves_left start)) start 0 (omega arith) refl refl

@@ -126,6 +126,3 @@ pub shorter-input : (bytes chars rest : List ℕ) → next_line bytes ≡ line c
 shorter-input bytes chars rest e =
     taken-by bytes chars rest (nat_le longest_line (length (before_first is_line_feed bytes))) (length bytes == 0) refl
     (sym (next-by bytes (nat_le longest_line (length (before_first is_line_feed bytes))) (length bytes == 0) refl refl) ∙ e)
-
-pub some-input : (bytes chars rest : List ℕ) → next_line bytes ≡ line chars rest → 0 < length bytes
-some-input bytes chars rest e = let less : length rest < length bytes = shorter-input bytes chars rest e in omega arith

@@ -74,13 +74,6 @@ RestoreWants log machine (Err fault) = ⊥
 abbrev pub may_hold : Scene → ℕ → Bool
 may_hold w stream = streams.has w.streams stream && one.readable (streams.stream w.streams stream)
 
--- the file streams that are open for writing, and the name and the bytes of one
-abbrev pub open_files_of : Scene → List ℕ
-open_files_of scene = streams.open_files scene.streams
-
-abbrev pub named_bytes : Scene → ℕ → Option (List ℕ × List ℕ)
-named_bytes scene id = streams.file_of scene.streams id
-
 -- an answer, if there is one, is a reply that may want memory
 abbrev pub AnswerWants : Option Log → FlatMachine → Result (Said × Reply) Fault → Type 0
 AnswerWants log machine result = IsOkAnd result (λ r. ReplyWants log machine r.1)

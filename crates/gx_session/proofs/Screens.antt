@@ -1,5 +1,5 @@
 -- The last screen of a run.
-use Rattle.std.proofs.Common.{◌≡◌, true, None, inl, Option, refl, ap, subst, sym, ◌∙◌, map}
+use Rattle.std.proofs.Common.{◌≡◌, true, None, Option, refl, ap, subst, sym, ◌∙◌, map}
 use Rattle.std.specs.List.{concat}
 use Rattle.gx_machine.specs.declared.askings.Asking.{Asking}
 use Rattle.glk_world.specs.World.{FlatWorld, after, is_composed}
@@ -110,6 +110,6 @@ module _ {K : Type 0} {sending : SendStep K} (start : Configuration) (entry : Ha
     screen-wants world composed =
         let here : at-stop ≡ (stop_of start).configuration = sym (ap (λ (e : RunEnd). e.configuration) g.is_end) in
         cut-at start entry d (record h { world = world }) asking halt.NoMemory None by_memory at-stop
-        (map whole_send g.past.sent) (inl (here, composed), asks-end) refl refl refl refl (h.world.text, refl) (none-sent g.past.sent)
+        (map whole_send g.past.sent) ((here, composed), asks-end) refl refl refl refl (h.world.text, refl) (none-sent g.past.sent)
         g.is_past.taken shown-by-then (none-asked d.asked) (λ other. input-then)
         (words-left h.word d.words g.past.words g.is_past.word) g.saves

@@ -8,12 +8,13 @@ use Rattle.std.specs.Option.{option_to_list}
 use Rattle.gx_outside.specs.Outside.{raised_by, raised_times}
 use Rattle.gx_outside.specs.Shelves.{store_file, Trace}
 use Rattle.gx_outside.specs.declared.devices.ShelfFault.{ShelfFault}
-use Rattle.glk_world.specs.World.{Scene}
+use Rattle.glk_streams.specs.Stream.{stored_file}
+use Rattle.glk_streams.specs.Streams.{no_stream}
+use Rattle.glk_streams.specs.declared.kinds.Stream.{Stream}
 use Rattle.gx_session.specs.declared.ends.Halt.{Halt}
 use Rattle.gx_session.specs.Endings.{store_call}
 use Rattle.gx_session.specs.Outcomes.{halt_of_shelf}
 use Rattle.gx_session.specs.Finishing.{StoredSome}
-use Rattle.gx_session.proofs.Parts.{named_bytes}
 
 -- more calls
 pub raised-more : (n k step count : ℕ) → raised_times n step (raised_times k step count) ≡ raised_times (n + k) step count
@@ -42,20 +43,31 @@ stopped-more one other before asked why first second rest =
     split : (front back : List (List ℕ × List ℕ)) → one ++ (front ++ back) ++ rest ≡ (one ++ front) ++ (back ++ rest)
     split front back = ap (λ (x : List (List ℕ × List ℕ)). x ++ rest) (sym (append_assoc one front back)) ∙ append_assoc (one ++ front) back rest
 
--- what stands at an identifier, of those of a list
-module _ (scene : Scene) (ids : List ℕ) (i : ℕ) (here : i < length ids) where
-  front-more : take (i + 1) ids ≡ take i ids ++ get_or ids i 0 ∷ []
+-- the files of the streams up to a place, and of all of them
+module _ (streams : List Stream) (i : ℕ) (here : i < length streams) where
+  front-more : take (i + 1) streams ≡ take i streams ++ get_or streams i no_stream ∷ []
   front-more = grind (arith, common_steps)
 
-  pub stores-front : filter_map (named_bytes scene) (take (i + 1) ids) ≡ filter_map (named_bytes scene) (take i ids) ++ option_to_list (named_bytes scene (get_or ids i 0))
-  stores-front = ap (filter_map (named_bytes scene)) front-more ∙ filter_map-append (named_bytes scene) (take i ids) (get_or ids i 0 ∷ []) ∙ ap (λ (x : List (List ℕ × List ℕ)). filter_map (named_bytes scene) (take i ids) ++ x) (one (named_bytes scene (get_or ids i 0)))
+  abbrev at-place : List (List ℕ × List ℕ)
+  at-place = option_to_list (stored_file (get_or streams i no_stream))
+
+  pub stores-front : filter_map stored_file (take (i + 1) streams) ≡ filter_map stored_file (take i streams) ++ at-place
+  stores-front =
+      ap (filter_map stored_file) front-more
+      ∙ filter_map-append stored_file (take i streams) (get_or streams i no_stream ∷ [])
+      ∙ ap (λ (x : List (List ℕ × List ℕ)). filter_map stored_file (take i streams) ++ x)
+      (one (stored_file (get_or streams i no_stream)))
     where
       one : (o : Option (List ℕ × List ℕ)) → filter_map (λ (x : ℕ). o) (0 ∷ []) ≡ option_to_list o
       one None = refl
       one (Some s) = refl
 
-  pub stores-all : filter_map (named_bytes scene) ids ≡ filter_map (named_bytes scene) (take i ids) ++ option_to_list (named_bytes scene (get_or ids i 0)) ++ filter_map (named_bytes scene) (drop (i + 1) ids)
-  stores-all = ap (filter_map (named_bytes scene)) (sym (take-append-drop (i + 1) ids)) ∙ filter_map-append (named_bytes scene) (take (i + 1) ids) (drop (i + 1) ids) ∙ ap (λ (x : List (List ℕ × List ℕ)). x ++ filter_map (named_bytes scene) (drop (i + 1) ids)) stores-front
+  pub stores-all : filter_map stored_file streams
+      ≡ filter_map stored_file (take i streams) ++ at-place ++ filter_map stored_file (drop (i + 1) streams)
+  stores-all =
+      ap (filter_map stored_file) (sym (take-append-drop (i + 1) streams))
+      ∙ filter_map-append stored_file (take (i + 1) streams) (drop (i + 1) streams)
+      ∙ ap (λ (x : List (List ℕ × List ℕ)). x ++ filter_map stored_file (drop (i + 1) streams)) stores-front
 
 -- one store is refused
 pub store-refused : (o : Option (List ℕ × List ℕ)) (s : List ℕ × List ℕ) (fault : ShelfFault) → o ≡ Some s → StoredSome (option_to_list o) ((store_file s.0 s.1, Err fault) ∷ []) (halt_of_shelf fault)

@@ -17,7 +17,6 @@ use Rattle.gx_session.specs.Moves.{request_of, sends_now}
 use Rattle.gx_session.specs.Session.{run_of, stop_of, final_of}
 use Rattle.gx_session.specs.Asked.{asked, asked_at}
 use Rattle.gx_session.specs.Sending.{pending, is_due}
-use Rattle.glk_streams.specs.Streams.{open_files}
 use Rattle.gx_session.specs.Endings.{stores_of, store_call, told_all}
 use Rattle.gx_session.specs.Wants.{IsWait, WantsMemory}
 
@@ -68,12 +67,10 @@ IsCutAt m (by_shelf r fault) asking =
 IsCutAt m by_source asking = (sends_now m ≡ false) × AsksFor m.phase IsWait × (asking ≡ asked m)
 
 -- A run that stopped at one configuration and ended at another is cut short so in its ending, at this one. Memory is
--- wanted only where the last screen is composed, for it, or where files are open, for their list; a send is refused
--- only where text is due, and a store after those in front of it.
+-- wanted only for the last screen, where it is composed; a send is refused only where text is due, and a store after
+-- those in front of it.
 abbrev pub IsCutAtEnd : Configuration → Configuration → RunCut → Configuration → Type 0
-IsCutAtEnd stopped ended by_memory m =
-    ((m ≡ stopped) × (is_composed m.world.scene ≡ true))
-    ⊎ ((m ≡ told_all ended) × (open_files m.world.scene.streams ≢ []))
+IsCutAtEnd stopped ended by_memory m = (m ≡ stopped) × (is_composed m.world.scene ≡ true)
 IsCutAtEnd stopped ended (by_sink fault) m = (m ≡ ended) × (is_due 1 m.sent m.world.text ≡ true)
 IsCutAtEnd stopped ended (by_shelf r fault) m =
     (front : List (List ℕ × List ℕ)) × (next : List ℕ × List ℕ) × (rest : List (List ℕ × List ℕ))

@@ -2,7 +2,7 @@
 -- each file stream that is open for writing is stored, in order of creation.
 use Rattle.std.specs.Prelude.{ℕ, if◌then◌else◌, List, Ok}
 use Rattle.std.specs.List.{filter_map}
-use Rattle.glk_streams.specs.Streams.{file_of, open_files}
+use Rattle.glk_streams.specs.Stream.{stored_file}
 use Rattle.glk_world.specs.World.{Scene}
 use Rattle.gx_outside.specs.Shelves.{Exchange, store_file, was_stored}
 use Rattle.gx_session.specs.Configurations.{Configuration}
@@ -11,7 +11,7 @@ use Rattle.gx_session.specs.Sending.{is_due}
 
 -- what is stored at the end: names, each with the bytes that are stored under it
 abbrev pub stores_of : Scene → List (List ℕ × List ℕ)
-stores_of scene = filter_map (file_of scene.streams) (open_files scene.streams)
+stores_of scene = filter_map stored_file scene.streams
 
 -- the call that stores it
 abbrev pub store_call : List ℕ × List ℕ → Exchange

@@ -1,18 +1,15 @@
 -- The ending of a run. What contracts say.
-use Rattle.std.specs.Prelude.{ℕ, ◌≡◌, ◌≢◌, ◌<◌, List, [], ◌∷◌, ◌++◌, map, ◌⊎◌, length, Result, Ok, Err, Option, None}
+use Rattle.std.specs.Prelude.{ℕ, ◌≡◌, ◌≢◌, ◌<◌, List, [], ◌∷◌, ◌++◌, map, length, Result, Ok, Err, Option, None}
 use Rattle.gx_machine.specs.declared.askings.Asking.{Asking}
 use Rattle.gx_outside.specs.Outside.{FlatShelf}
 use Rattle.gx_outside.specs.Shelves.{store_file, Trace}
 use Rattle.gx_outside.specs.declared.devices.ShelfFault.{ShelfFault}
-use Rattle.glk_world.specs.World.{Scene}
 use Rattle.gx_session.specs.declared.ends.Stop.{Stop}
 use Rattle.gx_session.specs.declared.ends.Stop.TheVariants as stop
 use Rattle.gx_session.specs.declared.ends.Halt.{Halt}
-use Rattle.gx_session.specs.declared.ends.Halt.TheVariants as halt
 use Rattle.gx_session.specs.declared.ends.Next.TheVariants as next
 use Rattle.gx_session.specs.Constants.{piece}
 use Rattle.gx_session.specs.Cuts.{IsLineStop}
-use Rattle.glk_streams.specs.Streams.{open_files}
 use Rattle.gx_session.specs.Endings.{stores_of, store_call, told_all}
 use Rattle.gx_session.specs.Configurations.{Configuration, Phase}
 use Rattle.gx_session.specs.Session.{final_of}
@@ -76,10 +73,3 @@ pub record StoredSome (files : List (List ℕ × List ℕ)) (calls : Trace) (why
 abbrev pub StoresAll : List (List ℕ × List ℕ) → Trace → Result (Unit {0}) Halt → Type 0
 StoresAll files calls (Ok u) = calls ≡ map store_call files
 StoresAll files calls (Err why) = StoredSome files calls why
-
--- and how those of a scene do
-abbrev pub StoresFiles : Scene → Trace → Result (Unit {0}) Halt → Type 0
-StoresFiles scene calls (Ok u) = calls ≡ map store_call (stores_of scene)
--- the list of the files that are open wanted memory, or a store was refused
-StoresFiles scene calls (Err why) =
-    ((why ≡ halt.NoMemory) × (calls ≡ []) × (open_files scene.streams ≢ [])) ⊎ StoredSome (stores_of scene) calls why

@@ -12,7 +12,7 @@ use Rattle.gx_outside.specs.declared.devices.Failed.{Failed}
 use Rattle.gx_session.specs.declared.lines.NoLine.{NoLine}
 use Rattle.gx_session.specs.declared.lines.NoLine.TheVariants as no
 use Rattle.gx_session.specs.Constants.{longest_line, piece}
-use Rattle.gx_session.specs.Input.{is_line_feed, too_long, none, line, next_line}
+use Rattle.gx_session.specs.Input.{is_line_feed, too_long, none, line, next_line, HasChars}
 use Rattle.gx_session.specs.Lines.{HeldLines}
 use Rattle.gx_session.specs.Reads.{bytes_read}
 
@@ -58,7 +58,7 @@ TakesLine old new (Ok chars) = next_line old ≡ line chars new
 TakesLine old new (Err no.Ended) = (next_line old ≡ none) × (new ≡ old)
 TakesLine old new (Err no.TooLong) = (next_line old ≡ too_long) × (new ≡ old)
 TakesLine old new (Err no.Failed) = new ≡ old
-TakesLine old new (Err no.NoMemory) = 0 < length old
+TakesLine old new (Err no.NoMemory) = HasChars (next_line old) × (new ≡ old)
 
 -- No line feed is held, and the bytes are not too many for a line.
 abbrev pub IsPartial : List ℕ → Type 0
@@ -78,12 +78,6 @@ pub record GainsPiece (old new : HeldLines) (before now : FlatSource) (got : Lis
   pub more : new.ended ≡ false → 0 < length got
   pub end : new.ended ≡ true → got ≡ []
   pub over : IsOver new now
-  pub comes : (after : List ℕ) → IsComing new now after → IsComing old before (got ++ after)
-
--- Some bytes were read, and lost for want of memory.
-pub record Loses (old new : HeldLines) (before now : FlatSource) (got : List ℕ) : Type 0 where
-  pub some : 0 < length got
-  pub going : new.ended ≡ false
   pub comes : (after : List ℕ) → IsComing new now after → IsComing old before (got ++ after)
 
 -- One more read may say that nothing is left, until one has.
@@ -110,21 +104,20 @@ pub record Takes (old new : HeldLines) (before now : FlatSource) (coming after :
   pub reads : ReadsFew old.ended new.ended before now coming after (failures result)
 
 -- what a read that gave so does
-abbrev pub Fills : HeldLines → HeldLines → FlatSource → FlatSource → Result (Unit {0}) NoLine → Result (List ℕ) Failed
+abbrev pub Fills : HeldLines → HeldLines → FlatSource → FlatSource → Result (Unit {0}) Failed → Result (List ℕ) Failed
     → Type 0
 Fills old new before now (Ok u) (Ok got) = GainsPiece old new before now got
-Fills old new before now (Err no.Failed) (Err f) = (new ≡ old) × (before.tells ≡ true → now.left ≡ before.left)
-Fills old new before now (Err no.NoMemory) (Ok got) = Loses old new before now got
+Fills old new before now (Err e) (Err f) = (new ≡ old) × (before.tells ≡ true → now.left ≡ before.left)
 Fills old new before now result gave = ⊥
 
 -- A piece was read, in one call.
 pub record FillsBy {S : Type 0} (reading : ReadStep S) (seen : S → FlatSource) (old new : HeldLines) (before now : S)
-    (result : Result (Unit {0}) NoLine) : Type 0 where
+    (result : Result (Unit {0}) Failed) : Type 0 where
   pub gave : Result (List ℕ) Failed
   pub call : reading before (piece, gave) now
   pub fills : Fills old new (seen before) (seen now) result gave
 
 -- the source failed
-abbrev pub is_failed : Result (Unit {0}) NoLine → Bool
-is_failed (Err no.Failed) = true
-is_failed r = false
+abbrev pub is_failed : Result (Unit {0}) Failed → Bool
+is_failed (Ok u) = false
+is_failed (Err f) = true

@@ -29,7 +29,7 @@ use Rattle.gx_session.specs.Endings.{stores_of, store_call, told_all}
 use Rattle.gx_session.specs.Saving.{is_save_begun, SavesReadBack}
 use Rattle.gx_session.specs.Sending.{whole_send}
 use Rattle.gx_session.specs.Configurations.{Configuration, steps}
-use Rattle.gx_session.specs.Session.{RunEnd, run_of, final_of}
+use Rattle.gx_session.specs.Session.{RunEnd, run_of, final_of, StopsByMove}
 use Rattle.gx_session.specs.Moves.{sends_now}
 use Rattle.gx_session.specs.Asked.{effect_at, asked_at}
 use Rattle.gx_session.specs.Session.{stop_status, fault_number, fault_address}
@@ -143,8 +143,8 @@ pub record IsSession (start : Configuration) (entry exit : Devices) (coming : Li
 -- shelf: with what the source has left, where the source tells it, and with what the shelf's files answer, where the
 -- shelf tells them. The input begins with the bytes that the reads gave. The session's calls of the shelf are those
 -- that were made (`asked_are`), so that its answers are those that the shelf gave. What the devices hold is what the
--- calls made of them. `undo`, `records` and `saves` are laws: the first two hold with whatever input and answers, not
--- only with those of this run.
+-- calls made of them. `undo`, `records`, `stops` and `saves` are laws: the first three hold with whatever input and
+-- answers, not only with those of this run.
 pub record IsRun (start : Configuration) (entry exit : Devices) (r : Report) : Type 0 where
   pub input : List ℕ
   pub input_is : entry.source.tells ≡ true → input ≡ start.input
@@ -165,4 +165,6 @@ pub record IsRun (start : Configuration) (entry exit : Devices) (r : Report) : T
       → LastsUndo (record start { input = input; answers = answers })
   pub records : (input : List ℕ) (answers : Trace → Request → Answer)
       → RecordsRun (record start { input = input; answers = answers })
+  pub stops : (input : List ℕ) (answers : Trace → Request → Answer)
+      → StopsByMove (record start { input = input; answers = answers })
   pub saves : SavesReadBack start.machine.flat.story

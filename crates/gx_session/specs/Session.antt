@@ -1,6 +1,6 @@
 -- A session: the machine and the Glk world from a start to the end of the run, move by move.
 -- Where it stops, a screen that is composed is shown once more.
-use Rattle.std.specs.Prelude.{ℕ, suc, zero, ◌+◌, ◌*◌, if◌then◌else◌, Option, Some, None, option_and_then}
+use Rattle.std.specs.Prelude.{◌≡◌, ℕ, suc, zero, ◌+◌, ◌*◌, if◌then◌else◌, Option, Some, None, option_and_then}
 use Rattle.gx_words.specs.Faults.{number_of}
 use Rattle.gx_machine.specs.Machine.{FlatMachine}
 use Rattle.glk_world.specs.World.{after}
@@ -52,6 +52,11 @@ next_configuration (stops s m) = None
 abbrev pub run_of : Configuration → ℕ → Option Configuration
 run_of start zero = Some start
 run_of start (suc j) = option_and_then (λ m. next_configuration (move_of m)) (run_of start j)
+
+-- A run comes to its stop by a move, so many moves after its start.
+abbrev pub StopsByMove : Configuration → Type 0
+StopsByMove start = (moves : ℕ) × (m : Configuration) × (run_of start moves ≡ Some m)
+    × (move_of m ≡ stops (stop_of start).stop (stop_of start).configuration)
 
 -- the status of each stop
 abbrev pub stop_status : Stop → ℕ

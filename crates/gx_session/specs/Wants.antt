@@ -1,6 +1,5 @@
 -- Where memory may be wanted in a move.
-use Rattle.std.specs.Prelude.{◌≡◌, ◌<◌, length, ◌⊎◌, Option, Some, None, IsSome, IsOk, IsOkAnd}
-use Rattle.std.specs.Prelude.{IsTrue}
+use Rattle.std.specs.Prelude.{◌≡◌, ◌⊎◌, Bool, true, Option, Some, None, IsSome, IsOk, IsOkAnd, IsTrue}
 use Rattle.gx_pages.specs.Memory.{HasBytes}
 use Rattle.gx_state.specs.declared.effects.Effect.{Effect}
 use Rattle.gx_state.specs.declared.effects.Effect.TheVariants as effect
@@ -22,6 +21,7 @@ use Rattle.glk_replies.specs.Parts.{replies}
 use Rattle.gx_session.specs.Constants.{failed}
 use Rattle.gx_session.specs.Configurations.{Configuration, Phase, steps, asks, goes_on}
 use Rattle.gx_session.specs.Asked.{effect_at, asked}
+use Rattle.gx_session.specs.Input.{NextLine, line, next_line, HasChars}
 use Rattle.gx_session.specs.Saving.{saving, restoring, is_save_begun, is_restore_begun}
 use Rattle.rand_core.specs.Stream.{next_u32}
 
@@ -56,13 +56,18 @@ AskingWants log m w (Some (effect.Restore stream)) = IsOkAnd (restoring w m.flat
     (λ r. IsTrue (is_restore_begun w m.flat stream) ⊎ IsSome r.1 ⊎ ReplyWants log m (replies failed))
 AskingWants log m w e = ⊥
 
+-- A line that is taken, for its characters; and where lines are shown, for what is shown.
+abbrev pub LineWants : Bool → NextLine → Type 0
+LineWants true (line chars rest) = Unit {0}
+LineWants echo next = HasChars next
+
 -- What comes next may want memory, with a machine that asks this: a step, for the record where the run is recorded, and
--- else one that has no fault, writes, resizes or copies memory and is within the budget; what a step asks; a wait where
--- there is input; a call that goes on.
+-- else one that has no fault, writes, resizes or copies memory and is within the budget; what a step asks; the line that
+-- is taken at a wait; a call that goes on.
 abbrev pub WantsMemory : Phase → Configuration → Option Asking → Type 0
 WantsMemory steps m asking = ((asking ≡ None) × (IsSome m.log ⊎ (IsStepWriting m.machine m.left
     × IsOk (stepped (record { machine = m.machine; asking = None }) (next_u32 m.words).0 m.left))))
     ⊎ ((asking ≡ asked m) × AskingWants m.log m.machine m.world.scene (effect_at m))
-WantsMemory (asks t w) m asking = (asking ≡ asked m) × IsWait t × (0 < length m.input)
+WantsMemory (asks t w) m asking = (asking ≡ asked m) × IsWait t × LineWants m.echo (next_line m.input)
 WantsMemory (goes_on g w) m asking = (asking ≡ asked m) × IsOkAnd (glk_go_on m.world.scene m.machine.flat w.room g)
     (λ r. IsTrue (go_grows m.world.scene m.machine.flat g) ⊎ TurnWants m.log m.machine r)

@@ -1,12 +1,14 @@
 //! A run from its first event to its end.
 ghost use Rattle.std.specs.Prelude.{◌≡◌, ◌≢◌, ◌≤◌, ◌<◌, ◌⊎◌, ◌++◌, ℕ, List, [], None, Ok, Err, IfOk, IfErr};
+ghost use Rattle.std.specs.Prelude.{get_or, length};
 ghost use Rattle.std.specs.Option.{option_to_list};
 ghost use Rattle.gx_state.specs.declared.effects.Effect.TheVariants.{Spent};
 ghost use Rattle.gx_machine.specs.Advancing.{units_left, left_after};
 ghost use Rattle.gx_machine.specs.Step.{asking_of};
 ghost use Rattle.gx_outside.specs.Chains.{IsCalled};
 ghost use Rattle.gx_outside.specs.Shelves.{Trace};
-ghost use Rattle.glk_streams.specs.Streams.{file_of};
+ghost use Rattle.glk_streams.specs.Stream.{stored_file};
+ghost use Rattle.glk_streams.specs.Streams.{no_stream};
 ghost use Rattle.gx_session.specs.declared.ends.Stop.{Stop};
 ghost use Rattle.gx_session.specs.Devices.{Devices, devices};
 ghost use Rattle.gx_session.specs.Questions.{AreTold};
@@ -17,19 +19,21 @@ ghost use Rattle.gx_session.specs.Standing.{Going, Follows, HasStopped};
 ghost use Rattle.gx_session.specs.Outcomes.{EventGives};
 ghost use Rattle.gx_session.specs.Outcomes.{StopGives};
 ghost use Rattle.gx_session.specs.Finishing.{EndingGives};
-ghost use Rattle.gx_session.specs.Finishing.{RunGives, StoresAll, StoresFiles};
+ghost use Rattle.gx_session.specs.Endings.{stores_of};
+ghost use Rattle.gx_session.specs.Finishing.{RunGives, StoresAll};
 ghost use Rattle.gx_session.specs.Outcomes.{IsStop, IsNext, Leads, Keeps};
 
 use crate::ends::{Halt, Next, Stop};
 use crate::running::{Running, Waiting, draw, faulted, flush};
 use crate::saves::{ask_restore, ask_save};
 use crate::turns::{ask_glk, ask_put};
+use glk_streams::Streams;
 use glk_world::World;
 use gx_machine::Engine;
 use gx_outside::{Shelf, Sink, Source};
 use gx_state::Effect;
 use rand_core::Rng;
-use std::alloc::{Allocator, Global};
+use std::alloc::Allocator;
 
 /// Follows the effect of a step that leaves so many units.
 fn follow<A: Allocator + Clone, E: Engine<A>, S: Source, K: Sink, F: Shelf>(
@@ -207,15 +211,16 @@ fn play_events<A: Allocator + Clone, E: Engine<A>, S: Source, K: Sink, F: Shelf,
     }
 }
 
-/// Stores a file stream's file, where it has one.
-fn store_file<F: Shelf>(world: &World, id: u32, shelf: &mut F) -> Result<(), Halt>
+/// Stores the file of the stream at a place, where it is open for writing.
+fn store_file<F: Shelf>(streams: &Streams, at: usize, shelf: &mut F) -> Result<(), Halt>
+    requires { at < length streams.now }
     ensures stores { IsCalled F.called shelf.old shelf.new
-        (λ asked. StoresAll (option_to_list (file_of world.now.scene.streams id)) asked result) }
+        (λ asked. StoresAll (option_to_list (stored_file (get_or streams.now at no_stream))) asked result) }
     ensures keeps { (d : Devices) → Keeps (record d { shelf = F.seen shelf.old })
         (record d { shelf = F.seen shelf.new }) result }
     ensures only { IfErr result (λ halt. (halt ≡ Halt.Shelf) ⊎ (halt ≡ Halt.NoMemory)) }
 {
-    match world.file(id) {
+    match streams.stored_file(at) {
         None => Ok(()),
         Some((name, bytes)) => {
             shelf.store(name, bytes)?;
@@ -224,23 +229,24 @@ fn store_file<F: Shelf>(world: &World, id: u32, shelf: &mut F) -> Result<(), Hal
     }
 }
 
-/// Stores the file of each file stream that is open for writing, in order of creation.
-fn store_files<F: Shelf>(alloc: Global, world: &World, shelf: &mut F) -> Result<(), Halt>
-    ensures stores { IsCalled F.called shelf.old shelf.new (λ asked. StoresFiles world.now.scene asked result) }
+/// Stores the file of each file stream that is open for writing, in order of creation. The streams are gone over one by
+/// one, with no list of those that are stored, so that the stores alone may want memory.
+fn store_files<F: Shelf>(world: &World, shelf: &mut F) -> Result<(), Halt>
+    ensures stores { IsCalled F.called shelf.old shelf.new
+        (λ asked. StoresAll (stores_of world.now.scene) asked result) }
     ensures keeps { (d : Devices) → Keeps (record d { shelf = F.seen shelf.old })
         (record d { shelf = F.seen shelf.new }) result }
     ensures only { IfErr result (λ halt. (halt ≡ Halt.Shelf) ⊎ (halt ≡ Halt.NoMemory)) }
 {
-    let ids = world.open_files(alloc)?;
-    for id in ids.as_slice() {
-        store_file(world, *id, shelf)?;
+    let streams = world.streams();
+    for at in 0..streams.len() {
+        store_file(streams, at, shelf)?;
     }
     Ok(())
 }
 
 /// The ending: the last screen is shown, the pending text is sent, and then the open files are stored.
 fn end<A: Allocator + Clone, E: Engine<A>, K: Sink, F: Shelf>(
-    alloc: Global,
     run: &mut Running<E>,
     output: &mut K,
     shelf: &mut F,
@@ -257,12 +263,11 @@ fn end<A: Allocator + Clone, E: Engine<A>, K: Sink, F: Shelf>(
 {
     run.world.end_text()?;
     flush(&mut run.world, output, 1)?;
-    store_files(alloc, &run.world, shelf)
+    store_files(&run.world, shelf)
 }
 
 /// A whole run: its events, and its ending.
 pub fn play_out<A: Allocator + Clone, E: Engine<A>, S: Source, K: Sink, F: Shelf, R: Rng>(
-    alloc: Global,
     run: &mut Running<E>,
     input: &mut S,
     output: &mut K,
@@ -287,6 +292,6 @@ pub fn play_out<A: Allocator + Clone, E: Engine<A>, S: Source, K: Sink, F: Shelf
         (devices (S.seen input.new) (K.seen output.new) (F.seen shelf.new) (R.stream dice.new) [] [] []) result }
 {
     let stop = play_events(run, input, output, shelf, dice)?;
-    end(alloc, run, output, shelf)?;
+    end(run, output, shelf)?;
     Ok(stop)
 }

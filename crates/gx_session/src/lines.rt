@@ -2,8 +2,10 @@
 //!
 //! The source is read only where no whole line is held, and no more once it has ended. So at most
 //! PIECE - 1 bytes are held beyond the lines that were taken. What was taken is let go before more is
-//! read: fewer than LONGEST + PIECE bytes are kept.
-ghost use Rattle.std.specs.Prelude.{◌≡◌, ◌+◌, ◌≤◌, ◌<◌, ℕ, [], length, take, drop, Err, IfOk, IfErr, false};
+//! read: fewer than LONGEST + PIECE bytes are kept. They lie in the value itself, so that memory is wanted for the
+//! characters of a line alone, and for none where it has none. A line for which memory ran out is still held.
+ghost use Rattle.std.specs.Prelude.{◌≡◌, ◌≢◌, ◌+◌, ◌≤◌, ◌<◌, ℕ, [], length, take, drop, Err, OnErr, IfOk, IfErr};
+ghost use Rattle.std.specs.Prelude.{false};
 ghost use Rattle.std.specs.Prelude.{slice_index};
 ghost use Rattle.std.specs.List.{position_or_len};
 ghost use Rattle.gx_outside.specs.Outside.{HasCause, raised_by};
@@ -13,6 +15,7 @@ ghost use Rattle.gx_session.specs.Lines.{chars_of};
 ghost use Rattle.gx_session.specs.Reading.{Fed, Takes, HoldsFew, HoldsLineFeed, FillsBy, is_failed};
 ghost use Rattle.gx_session.specs.Counts.{Blames};
 
+use arrayvec::ArrayVec;
 use bstr::ByteSlice;
 use glk_text::printable;
 use gx_outside::{Failed, Source};
@@ -25,6 +28,9 @@ pub const LONGEST: usize = 65_536;
 
 /// So many bytes are asked of the source at a time.
 pub const PIECE: usize = 4096;
+
+/// So many bytes can be kept.
+const ROOM: usize = LONGEST + PIECE;
 
 /// Why no line was taken.
 #[derive(Clone, Copy, Debug)]
@@ -63,7 +69,7 @@ impl From<AllocError> for NoLine {
 #[derive(Drop)]
 pub struct Lines {
     alloc: Global,
-    bytes: Vec<u8>,
+    bytes: ArrayVec<u8, ROOM>,
     /// Where the bytes begin that weren't taken.
     at: usize,
     /// The source has said that nothing is left.
@@ -99,7 +105,8 @@ fn line_end(bytes: &[u8], from: usize) -> usize
 
 /// The characters of a line, without those that aren't printable.
 fn read_chars(alloc: Global, line: &[u8]) -> Result<Numbers, AllocError>
-    ensures { IfOk result (λ chars. chars ≡ chars_of line.now) }
+    ensures value { IfOk result (λ chars. chars ≡ chars_of line.now) }
+    ensures memory { OnErr result (chars_of line.now ≢ []) }
 {
     let mut chars = Numbers::new(alloc);
     for c in line.chars() {
@@ -111,7 +118,7 @@ fn read_chars(alloc: Global, line: &[u8]) -> Result<Numbers, AllocError>
 }
 
 /// Lets go of the bytes before a place.
-fn cut_front(bytes: &mut Vec<u8>, at: usize)
+fn cut_front(bytes: &mut ArrayVec<u8, ROOM>, at: usize)
     requires { at ≤ length bytes.old.items }
     ensures { bytes.new.items ≡ drop at bytes.old.items }
 {
@@ -127,7 +134,7 @@ impl Lines {
     {
         Lines {
             alloc,
-            bytes: Vec::new(alloc),
+            bytes: ArrayVec::new(),
             at: 0,
             ended: false,
         }
@@ -141,7 +148,7 @@ impl Lines {
     }
 
     /// Reads one piece of the source, and keeps no more than what is held.
-    fn fill<S: Source>(&mut self, source: &mut S) -> Result<(), NoLine>
+    fn fill<S: Source>(&mut self, source: &mut S) -> Result<(), Failed>
         requires going { self.old.ended ≡ false }
         requires short { length self.old.held < longest_line }
         ensures fills { FillsBy S.called S.seen self.old self.new source.old source.new result }
@@ -157,7 +164,7 @@ impl Lines {
         }
         cut_front(&mut self.bytes, self.at);
         self.at = 0;
-        self.bytes.extend_from_slice(&piece[..count])?;
+        let _fits = self.bytes.try_extend_from_slice(&piece[..count]); // less than a line was kept
         Ok(())
     }
 }
@@ -194,7 +201,8 @@ impl Lines {
         requires { end < length self.old.held }
         ensures ok { IfOk result (λ chars. (chars ≡ chars_of (take end self.old.held))
             × (self.new ≡ record self.old { held = drop (end + 1) self.old.held })) }
-        ensures err { IfErr result (λ none. (none ≡ NoLine.NoMemory) × (self.new ≡ self.old)) }
+        ensures err { IfErr result (λ none.
+            (none ≡ NoLine.NoMemory) × (chars_of (take end self.old.held) ≢ []) × (self.new ≡ self.old)) }
     {
         let chars = read_chars(self.alloc, &self.held()[..end])?;
         self.at += end + 1;
@@ -206,8 +214,8 @@ impl Lines {
         ensures none { length self.old.held ≡ 0 → (result ≡ Err NoLine.Ended) × (self.new ≡ self.old) }
         ensures ok { IfOk result (λ chars. (chars ≡ chars_of self.old.held)
             × (self.new ≡ record self.old { held = [] })) }
-        ensures err { 0 < length self.old.held
-            → IfErr result (λ none. (none ≡ NoLine.NoMemory) × (self.new ≡ self.old)) }
+        ensures err { 0 < length self.old.held → IfErr result (λ none.
+            (none ≡ NoLine.NoMemory) × (chars_of self.old.held ≢ []) × (self.new ≡ self.old)) }
     {
         if self.held().is_empty() {
             return Err(NoLine::Ended);

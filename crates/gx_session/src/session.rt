@@ -87,7 +87,7 @@ pub fn run_on<A: Allocator + Clone, E: Engine<A>, S: Source, K: Sink, F: Shelf, 
         word: None,
         left: steps,
     };
-    let ended = play_out(alloc, &mut run, input, output, shelf, dice);
+    let ended = play_out(&mut run, input, output, shelf, dice);
     let Running {
         engine,
         world: _,

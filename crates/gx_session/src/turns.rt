@@ -1,5 +1,5 @@
 //! The Glk calls of a machine: their turns, and what these ask of the shelf and of the input.
-ghost use Rattle.std.specs.Prelude.{◌≡◌, ◌≤◌, ◌++◌, ℕ, List, Some, IfErr, OnOk, OnErr, if◌then◌else◌};
+ghost use Rattle.std.specs.Prelude.{◌≡◌, ◌≤◌, ◌++◌, ℕ, List, Some, IfErr, OnOk, OnErr, true, if◌then◌else◌};
 ghost use Rattle.gx_outside.specs.Chains.{IsCalled};
 ghost use Rattle.gx_state.specs.declared.effects.Effect.TheVariants.{Put, Glk};
 ghost use Rattle.gx_machine.specs.declared.askings.Asking.TheVariants as asking;
@@ -179,6 +179,7 @@ fn show_line<E>(run: &mut Running<E>, line: &Numbers) -> Result<(), Halt>
         }) }
     ensures err { OnErr result (run.new ≡ record run.old { world = run.new.world }) }
     ensures memory { IfErr result (λ halt. halt ≡ Halt.NoMemory) }
+    ensures echo { OnErr result (run.old.echo ≡ true) }
 {
     if run.echo {
         run.world.show_line(line)?;

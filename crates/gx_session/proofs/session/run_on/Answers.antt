@@ -14,6 +14,7 @@ use Rattle.gx_session.proofs.Feeding.{some-coming, first-over, says-there}
 use Rattle.gx_session.proofs.Playing.{starts}
 use Rattle.gx_session.proofs.Recording.{records_places}
 use Rattle.gx_session.proofs.Undoing.{lasts_undo}
+use Rattle.gx_session.proofs.Finals.{stops-by-move}
 use Rattle.gx_session.proofs.session.run_on.Goals as goal
 
 pub returns-in-Ok : goal.returns-in-Ok
@@ -55,6 +56,7 @@ returns-in-Ok g c =
       report = report-of-stop c.in-Ok.stop last.machine c.in-Ok.ensures.stop;
       undo = λ input answers. lasts_undo (record start { input = input; answers = answers });
       records = λ input answers. records_places (record start { input = input; answers = answers });
+      stops = λ input answers. stops-by-move (record start { input = input; answers = answers });
       saves = c.saves_read_back.ensures;
     } in
     record { trace = fed.reads; chain = fed.chain; holds = record { trace = done.0; chain = done.1; holds = record { trace = asked; chain = plays.chain; holds = run } } })
@@ -98,6 +100,7 @@ returns-in-Err g c =
       report = report-of-halt c.in-Err.halt;
       undo = λ input answers. lasts_undo (record start { input = input; answers = answers });
       records = λ input answers. records_places (record start { input = input; answers = answers });
+      stops = λ input answers. stops-by-move (record start { input = input; answers = answers });
       saves = c.saves_read_back.ensures;
     } in
     record { trace = fed.reads; chain = fed.chain; holds = record { trace = done.0; chain = done.1; holds = record { trace = asked; chain = plays.chain; holds = run } } })

@@ -1,7 +1,8 @@
-use Rattle.std.proofs.Common.{◌≡◌, ◌+◌, ◌<◌, ◌≤◌, ℕ, List, length, take, drop, get_or, IfOk, false, refl, ap, subst, sym, ◌∙◌, arith, length-append}
+use Rattle.std.proofs.Common.{◌≡◌, ◌≢◌, ◌+◌, ◌<◌, ◌≤◌, ℕ, List, [], length, take, drop, get_or, IfOk, IfErr, false, refl, ap, subst, sym, ◌∙◌, arith, length-append}
 use Rattle.std.proofs.lemmas.List.{get_or_append_left}
 use Rattle.std.proofs.lemmas.List.Sums.{fails_before_first}
 use Rattle.std.proofs.lemmas.Result.{err_from_is_err_and}
+use Rattle.gx_session.specs.declared.lines.NoLine.TheVariants as no
 use Rattle.gx_session.specs.Constants.{piece}
 use Rattle.gx_session.specs.Input.{is_line_feed}
 use Rattle.gx_session.specs.Lines.{chars_of}
@@ -32,14 +33,16 @@ returns-then-end-held-clause-takes g c =
     let end : c.line_end-end.result ≡ pos c.loop-self.self.held = c.line_end-end.ensures.is ∙ ap pos c.held.ensures in
     let size : length c.held-in-loop-self.result.now ≡ length c.loop-self.self.held = ap length c.held-in-loop-self.ensures in
     takes-held g.S.Source.called g.S.Source.seen c.args.self.now c.loop-self.self c.args.source.now c.loop-self.source c.loop-self.invariant.fed c.take.new.self c.take.result (omega arith) (omega arith)
-    (subst (λ (n : ℕ). IfOk c.take.result (λ chars. (chars ≡ chars_of (take n c.loop-self.self.held)) × (c.take.new.self ≡ record c.loop-self.self { held = drop (n + 1) c.loop-self.self.held }))) end c.take.ensures.ok) c.take.ensures.err
+    (subst (λ (n : ℕ). IfOk c.take.result (λ chars. (chars ≡ chars_of (take n c.loop-self.self.held)) × (c.take.new.self ≡ record c.loop-self.self { held = drop (n + 1) c.loop-self.self.held }))) end c.take.ensures.ok)
+    (subst (λ (n : ℕ). IfErr c.take.result (λ e. (e ≡ no.NoMemory) × (chars_of (take n c.loop-self.self.held) ≢ []) × (c.take.new.self ≡ c.loop-self.self))) end c.take.ensures.err)
 
 pub returns-then-end-held-clause-few : goal.returns-then-end-held-clause-few
 returns-then-end-held-clause-few g c few =
     let end : c.line_end-end.result ≡ pos c.loop-self.self.held = c.line_end-end.ensures.is ∙ ap pos c.held.ensures in
     let size : length c.held-in-loop-self.result.now ≡ length c.loop-self.self.held = ap length c.held-in-loop-self.ensures in
     few-held g.S.Source.called g.S.Source.seen c.args.self.now c.loop-self.self c.args.source.now c.loop-self.source c.loop-self.invariant.fed c.loop-self.searched c.take.new.self c.take.result (omega arith) (omega (arith, c.line_end-end.ensures.later)) (c.loop-self.invariant.few few)
-    (subst (λ (n : ℕ). IfOk c.take.result (λ chars. (chars ≡ chars_of (take n c.loop-self.self.held)) × (c.take.new.self ≡ record c.loop-self.self { held = drop (n + 1) c.loop-self.self.held }))) end c.take.ensures.ok) c.take.ensures.err
+    (subst (λ (n : ℕ). IfOk c.take.result (λ chars. (chars ≡ chars_of (take n c.loop-self.self.held)) × (c.take.new.self ≡ record c.loop-self.self { held = drop (n + 1) c.loop-self.self.held }))) end c.take.ensures.ok)
+    (subst (λ (n : ℕ). IfErr c.take.result (λ e. (e ≡ no.NoMemory) × (chars_of (take n c.loop-self.self.held) ≢ []) × (c.take.new.self ≡ c.loop-self.self))) end c.take.ensures.err)
 
 pub returns-then-self-clause-takes : goal.returns-then-self-clause-takes
 returns-then-self-clause-takes g c =
