@@ -7,12 +7,14 @@
 //! What is read is proved for every reader whose bytes std tells: all that it has left, or the answer
 //! that it has more than was asked for. std doesn't say which file a name opens, what is in it, what
 //! its metadata tell, what a removal takes away, nor when a call fails; no contract here does either.
+//! What is kept of the last call (`last`) is for whoever is told how a run ended.
 ghost use Rattle.std.specs.Prelude.{◌≡◌, ◌≢◌, ◌↔◌, true, false, Ok, Err, Some, IfOk, IfSome, MatchResult};
 ghost use Rattle.std.specs.IoError.{error_kind};
 ghost use Rattle.gx_outside.specs.Files.{no_files};
-ghost use Rattle.gx_outside.specs.Outside.{IsBounded, no_call};
+ghost use Rattle.gx_outside.specs.Outside.{HasCause, IsBounded, no_call, shelf_cause};
 ghost use Rattle.gx_outside.specs.Shelves.{ShelfCall, load_of};
 
+use super::last::{Act, LastCall};
 use super::names::FolderName;
 use super::patient::{Patient, uninterrupted};
 use super::replace::replace_file;
@@ -31,6 +33,7 @@ pub struct FolderShelf<'a, R> {
     rt: &'a R,
     alloc: Global,
     calls: Calls,
+    last: Option<LastCall>,
 }
 
 impl<'a, R: Files> FolderShelf<'a, R> {
@@ -42,7 +45,30 @@ impl<'a, R: Files> FolderShelf<'a, R> {
             rt,
             alloc,
             calls: Calls::none(),
+            last: None,
         }
+    }
+
+    /// What is known of the last call; None where there was none.
+    pub fn last(&self) -> Option<&LastCall> {
+        self.last.as_ref()
+    }
+
+    /// Counts a call, and keeps its file's name and its error.
+    fn note<T>(&mut self, act: Act, name: &str, answer: io::Result<T>) -> Result<T, ShelfFault>
+        ensures cause { HasCause self.old.calls self.new.calls (shelf_cause result).0 (shelf_cause result).1 }
+        ensures answer { MatchResult answer (λ given. result ≡ Ok given) (λ error.
+            MatchResult result (λ _. ⊥) (λ fault.
+            (fault ≡ ShelfFault.NoMemory) ↔ (error_kind error ≡ ErrorKind.OutOfMemory))) }
+    {
+        let error = answer.as_ref().err().copied();
+        self.last = Some(LastCall::new(self.alloc, act, name, error));
+        let answer = answer.map_err(fault_of);
+        self.calls.note(
+            matches!(answer, Err(ShelfFault::Failed)),
+            matches!(answer, Err(ShelfFault::NoMemory)),
+        );
+        answer
     }
 }
 
@@ -57,7 +83,7 @@ pub(super) fn fault_of(error: io::Error) -> ShelfFault
 }
 
 /// All bytes that a reader has left, unless they are more than `most`.
-fn read_file<R: Read>(file: &mut R, alloc: Global, most: usize) -> Result<Load, ShelfFault>
+fn read_file<R: Read>(file: &mut R, alloc: Global, most: usize) -> io::Result<Load>
     ensures bound { IfOk result (IsBounded most) }
     ensures there { result ≢ Ok Load.Missing }
     ensures whole { IfSome (R.remaining file.old) (λ left. IfOk result (λ load. load ≡ load_of most (Some left))) }
@@ -65,7 +91,7 @@ fn read_file<R: Read>(file: &mut R, alloc: Global, most: usize) -> Result<Load, 
     let mut bytes = Bytes::new(alloc);
     let mut piece = [0u8; 4096];
     'pieces: loop {
-        let count = file.read(&mut piece).map_err(fault_of)?;
+        let count = file.read(&mut piece)?;
         if count == 0 {
             return Ok(Load::Found(bytes));
         }
@@ -77,38 +103,31 @@ fn read_file<R: Read>(file: &mut R, alloc: Global, most: usize) -> Result<Load, 
 }
 
 /// The file of a name, unless it has more than `most` bytes.
-fn load_file<R: Files + Clock>(
-    rt: &R,
-    alloc: Global,
-    name: &str,
-    most: usize,
-) -> Result<Load, ShelfFault>
+fn load_file<R: Files + Clock>(rt: &R, alloc: Global, name: &str, most: usize) -> io::Result<Load>
     ensures { IfOk result (IsBounded most) }
 {
     let file = match fs::open(rt, name) {
         Ok(file) => file,
         Err(error) if error.kind() == ErrorKind::NotFound => return Ok(Load::Missing),
-        Err(error) => return Err(fault_of(error)),
+        Err(error) => return Err(error),
     };
-    match uninterrupted(|| file.metadata()) {
-        Ok(attributes) if attributes.len() > most as u64 => Ok(Load::TooLong),
-        Ok(_) => read_file(&mut Patient::new(rt, file), alloc, most),
-        Err(error) => Err(fault_of(error)),
+    let attributes = uninterrupted(|| file.metadata())?;
+    if attributes.len() > most as u64 {
+        return Ok(Load::TooLong);
     }
+    read_file(&mut Patient::new(rt, file), alloc, most)
 }
 
 /// Whether a call found the file of its name, and false where there is none.
-fn found<T: Drop>(answer: io::Result<T>) -> Result<bool, ShelfFault>
+fn found<T: Drop>(answer: io::Result<T>) -> io::Result<bool>
     ensures { MatchResult answer (λ _. result ≡ Ok true) (λ error.
         (error_kind error ≡ ErrorKind.NotFound → result ≡ Ok false)
-        × (error_kind error ≡ ErrorKind.OutOfMemory → result ≡ Err ShelfFault.NoMemory)
-        × (error_kind error ≢ ErrorKind.NotFound → error_kind error ≢ ErrorKind.OutOfMemory
-        → result ≡ Err ShelfFault.Failed)) }
+        × (error_kind error ≢ ErrorKind.NotFound → result ≡ Err error)) }
 {
     match answer {
         Ok(_) => Ok(true),
         Err(error) if error.kind() == ErrorKind::NotFound => Ok(false),
-        Err(error) => Err(fault_of(error)),
+        Err(error) => Err(error),
     }
 }
 
@@ -125,40 +144,28 @@ impl<R: Files<File = File> + Clock> Shelf for FolderShelf<'_, R> {
     fn load(&mut self, name: &str, most: usize) -> Result<Load, ShelfFault> {
         let own = FolderName::of(name);
         let loaded = load_file(self.rt, self.alloc, own.as_str(), most);
-        self.calls.note(
-            matches!(loaded, Err(ShelfFault::Failed)),
-            matches!(loaded, Err(ShelfFault::NoMemory)),
-        );
+        let loaded = self.note(Act::Read, name, loaded);
+        if let (Ok(load), Some(last)) = (&loaded, &mut self.last) {
+            last.look(load);
+        }
         loaded
     }
 
     fn store(&mut self, name: &str, bytes: &[u8]) -> Result<(), ShelfFault> {
         let own = FolderName::of(name);
         let stored = replace_file(self.rt, self.alloc, own.as_str(), bytes);
-        self.calls.note(
-            stored == Err(ShelfFault::Failed),
-            stored == Err(ShelfFault::NoMemory),
-        );
-        stored
+        self.note(Act::Store, name, stored)
     }
 
     fn remove(&mut self, name: &str) -> Result<bool, ShelfFault> {
         let own = FolderName::of(name);
         let removed = found(uninterrupted(|| fs::remove_file(self.rt, own.as_str())));
-        self.calls.note(
-            removed == Err(ShelfFault::Failed),
-            removed == Err(ShelfFault::NoMemory),
-        );
-        removed
+        self.note(Act::Remove, name, removed)
     }
 
     fn has(&mut self, name: &str) -> Result<bool, ShelfFault> {
         let own = FolderName::of(name);
         let has = found(uninterrupted(|| fs::metadata(self.rt, own.as_str())));
-        self.calls.note(
-            has == Err(ShelfFault::Failed),
-            has == Err(ShelfFault::NoMemory),
-        );
-        has
+        self.note(Act::Find, name, has)
     }
 }

@@ -19,9 +19,7 @@ ghost use Rattle.std.specs.Io.KnownBytes.{Appends};
 ghost use Rattle.std.specs.IoError.{error_kind};
 ghost use Rattle.std.specs.Path.{path_buf_bytes, path_parent, path_with_file_name};
 
-use super::folder::fault_of;
 use super::patient::uninterrupted;
-use gx_outside::ShelfFault;
 use std::alloc::{AllocError, Global};
 use std::fs::{File, Metadata, OpenFile, OpenOptions, Permissions};
 use std::io::{ErrorKind, Write};
@@ -47,19 +45,17 @@ struct Kept {
 
 /// What a new file keeps of what was found under its name: whose a plain file is and who may use it,
 /// and nothing of a link, or where nothing is. The rest is refused.
-fn kept_of(found: io::Result<Metadata>) -> Result<Option<Kept>, ShelfFault>
+fn kept_of(found: io::Result<Metadata>) -> io::Result<Option<Kept>>
     ensures { MatchResult found
         (λ attributes.
         (IsFile (file_type attributes) → IsOkAnd result (λ found. IsSomeAnd found (λ kept.
         permissions_mode kept.permissions ≡ bit_and (metadata_mode attributes) 0o777)))
         × (IsSymlink (file_type attributes) → result ≡ Ok None)
         × (¬ IsFile (file_type attributes) → ¬ IsSymlink (file_type attributes)
-        → result ≡ Err ShelfFault.Failed))
+        → MatchResult result (λ _. ⊥) (λ error. error_kind error ≡ ErrorKind.Other)))
         (λ error.
         (error_kind error ≡ ErrorKind.NotFound → result ≡ Ok None)
-        × (error_kind error ≡ ErrorKind.OutOfMemory → result ≡ Err ShelfFault.NoMemory)
-        × (error_kind error ≢ ErrorKind.NotFound → error_kind error ≢ ErrorKind.OutOfMemory
-        → result ≡ Err ShelfFault.Failed)) }
+        × (error_kind error ≢ ErrorKind.NotFound → result ≡ Err error)) }
 {
     match found {
         Ok(attributes) if attributes.is_file() => {
@@ -71,21 +67,18 @@ fn kept_of(found: io::Result<Metadata>) -> Result<Option<Kept>, ShelfFault>
             }))
         }
         Ok(attributes) if attributes.is_symlink() => Ok(None),
-        Ok(_) => Err(ShelfFault::Failed),
+        Ok(_) => Err(io::Error::other("it is no plain file")),
         Err(error) if error.kind() == ErrorKind::NotFound => Ok(None),
-        Err(error) => Err(fault_of(error)),
+        Err(error) => Err(error),
     }
 }
 
 /// What a new file keeps of what stands under its name. A plain file must be open to a writer, so
 /// that one which is protected against writing isn't replaced.
-fn look<R: Files>(rt: &R, name: &str) -> Result<Option<Kept>, ShelfFault> {
+fn look<R: Files>(rt: &R, name: &str) -> io::Result<Option<Kept>> {
     let kept = kept_of(uninterrupted(|| fs::symlink_metadata(rt, name)))?;
     if kept.is_some() {
-        OpenOptions::new()
-            .write(true)
-            .open(rt, name)
-            .map_err(fault_of)?;
+        OpenOptions::new().write(true).open(rt, name)?;
     }
     Ok(kept)
 }
@@ -100,11 +93,7 @@ fn fresh_name(alloc: Global, name: &str, turn: u32) -> Result<PathBuf, AllocErro
 }
 
 /// A fresh file in the folder of a name, and its own name, where nothing stood.
-fn create_fresh<R: Files>(
-    rt: &R,
-    alloc: Global,
-    name: &str,
-) -> Result<(PathBuf, R::File), ShelfFault> {
+fn create_fresh<R: Files>(rt: &R, alloc: Global, name: &str) -> io::Result<(PathBuf, R::File)> {
     for turn in 0..FRESH_NAMES {
         let fresh = fresh_name(alloc, name, turn)?;
         match OpenOptions::new()
@@ -114,10 +103,10 @@ fn create_fresh<R: Files>(
         {
             Ok(file) => return Ok((fresh, file)),
             Err(error) if error.kind() == ErrorKind::AlreadyExists => {}
-            Err(error) => return Err(fault_of(error)),
+            Err(error) => return Err(error),
         }
     }
-    Err(ShelfFault::Failed)
+    Err(io::Error::other("a thousand stores that were cut off left their files there"))
 }
 
 /// Gives a fresh file what it keeps. What it can't be given it has as any new file.
@@ -167,7 +156,7 @@ pub fn replace_file<R: Files<File = File>>(
     alloc: Global,
     name: &str,
     bytes: &[u8],
-) -> Result<(), ShelfFault> {
+) -> io::Result<()> {
     let kept = look(rt, name)?;
     let (fresh, mut file) = create_fresh(rt, alloc, name)?;
     let filled = fill(&mut file, kept, bytes);
@@ -180,7 +169,7 @@ pub fn replace_file<R: Files<File = File>>(
         }
         Err(error) => {
             let _ = uninterrupted(|| fs::remove_file(rt, &fresh));
-            Err(fault_of(error))
+            Err(error)
         }
     }
 }

@@ -9,6 +9,7 @@ ghost use Rattle.gx_outside.specs.Outside.{no_call};
 ghost use Rattle.gx_outside.specs.Sends.{SinkCall};
 
 use gx_outside::{Calls, SendFault, Sink};
+use std::io;
 use std::io::Write;
 
 /// Standard output, or another writer.
@@ -16,6 +17,7 @@ use std::io::Write;
 pub struct StdSink<W> {
     writer: W,
     calls: Calls,
+    error: Option<io::Error>,
 }
 
 impl<W: Write> StdSink<W> {
@@ -26,7 +28,13 @@ impl<W: Write> StdSink<W> {
         StdSink {
             writer,
             calls: Calls::none(),
+            error: None,
         }
+    }
+
+    /// Why the last send failed; None where none did.
+    pub fn error(&self) -> Option<io::Error> {
+        self.error
     }
 }
 
@@ -50,7 +58,10 @@ impl<W: Write> Sink for StdSink<W> {
         self.calls.note(written.is_err(), false);
         match written {
             Ok(()) => Ok(()),
-            Err(_) => Err(SendFault::Failed),
+            Err(error) => {
+                self.error = Some(error);
+                Err(SendFault::Failed)
+            }
         }
     }
 }

@@ -9,6 +9,7 @@ ghost use Rattle.gx_outside.specs.Outside.{no_call};
 ghost use Rattle.gx_outside.specs.Reads.{SourceCall, given};
 
 use gx_outside::{Calls, Failed, Source};
+use std::io;
 use std::io::Read;
 
 /// Standard input, or another reader.
@@ -17,6 +18,7 @@ pub struct StdSource<I> {
     reader: I,
     calls: Calls,
     offered: u64,
+    error: Option<io::Error>,
 }
 
 impl<I: Read> StdSource<I> {
@@ -29,7 +31,13 @@ impl<I: Read> StdSource<I> {
             reader,
             calls: Calls::none(),
             offered: 0,
+            error: None,
         }
+    }
+
+    /// Why the last read failed; None where none did.
+    pub fn error(&self) -> Option<io::Error> {
+        self.error
     }
 }
 
@@ -55,6 +63,12 @@ impl<I: Read> Source for StdSource<I> {
         self.offered = self.offered.saturating_add(into.len() as u64);
         let count = self.reader.read(into);
         self.calls.note(count.is_err(), false);
-        count.map_err(|_| Failed)
+        match count {
+            Ok(count) => Ok(count),
+            Err(error) => {
+                self.error = Some(error);
+                Err(Failed)
+            }
+        }
     }
 }
