@@ -72,8 +72,8 @@
 -- its stream are read as the very copy that was saved (`SavedBefore` of gx_session/specs/Runs). So are those
 -- of every copy that fits the story; and each save that was one while memory had a lower ceiling, such as 0x04000000,
 -- is restored as the same copy (`SavesReadBack` of gx_session/specs/Saving). And where no count of failures rose the
--- status is the outcome's, or memory ran out (`complete`). Every session comes to its stop by a move, so that `final_in`
--- of gx_session/specs/Session is never left without moves (`StopsByMove` there).
+-- status is the outcome's, or memory ran out (`complete`). Every session comes to its stop by a move, so that
+-- `final_in` of gx_session/specs/Session is never left without moves (`StopsByMove` there).
 --
 -- Premises: that the story's file is the one that the shelf holds is said of a shelf that tells what it holds, as one
 -- in memory does. A real one doesn't, and there the run is that of the bytes that it handed out (`loads`), and the
@@ -85,8 +85,8 @@
 -- is counted, as with the program's own: that the calls here are those that were made rests on `play` being proved for
 -- every source, sink and shelf.
 --
--- Each of the three devices has a trace of its own, and no clause sets a call of one beside a call of another; but their
--- order follows. Any of them may fail at any call, and `play` can't know that a call will fail before it is made. Where
+-- Each of the three devices has a trace of its own, and no clause sets a call of one beside a call of another; but
+-- their order follows. Any of them may fail at any call, and `play` can't know that a call will fail before it is made. Where
 -- one fails the run is cut short at one configuration, and the traces of the other two are those of the session up to
 -- there (`StopsEarly`): no send or store of later is among them, and none of before is missing. So the same calls came
 -- before it where it doesn't fail. A read may be made ahead of what is taken; but it may give all 4,096 bytes, and

@@ -18,22 +18,22 @@ use std::{fmt, io};
 
 /// What is known of a run beside how it ended.
 #[derive(Clone, Copy)]
-pub struct Known<'a> {
-    pub words: &'a [&'a str],
+pub struct Known<'l, 'w, 's> {
+    pub words: &'l [&'w str],
     /// The place of a word that isn't UTF-8, for which there are no words.
     pub unread: Option<usize>,
     /// The last call of the folder.
-    pub last: Option<&'a LastCall>,
+    pub last: Option<&'s LastCall>,
     /// Why the input failed, and why the output did.
     pub input: Option<io::Error>,
     pub output: Option<io::Error>,
 }
 
 /// Why a run ended so, but for what its own line says whole.
-pub fn reason_of<'a, A: Allocator + Clone>(
+pub fn reason_of<'w, 's, A: Allocator + Clone>(
     ended: &Ended<A>,
-    known: &Known<'a>,
-) -> Option<Reason<'a>> {
+    known: &Known<'_, 'w, 's>,
+) -> Option<Reason<'w, 's>> {
     match ended.status {
         statuses::BAD_WORDS => Some(Reason::Words(match known.unread {
             Some(place) => WordsReason::NotUtf8(place),

@@ -32,7 +32,7 @@ pub enum WordsReason<'a> {
     BadWork(Wanted, Shown<'a>),
     #[error("--screen doesn't go with --{0}")]
     NotWithScreen(Shown<'a>),
-    #[error("--screen goes with the jobs play and rewind alone")]
+    #[error("--screen goes with job play alone")]
     NoScreen,
     #[error("the words don't go together")]
     Together,
@@ -112,17 +112,17 @@ pub enum DeviceReason<'a> {
     Output(Cause),
 }
 
-/// Why a run ended as it did.
+/// Why a run ended as it did: of the words, or of what the folder knows.
 #[derive(Clone, Copy, Debug, Error)]
-pub enum Reason<'a> {
+pub enum Reason<'w, 's> {
     #[error(transparent)]
-    Words(WordsReason<'a>),
+    Words(WordsReason<'w>),
     #[error(transparent)]
-    File(FileReason<'a>),
+    File(FileReason<'s>),
     #[error(transparent)]
     Step(StepReason),
     #[error(transparent)]
-    Device(DeviceReason<'a>),
+    Device(DeviceReason<'s>),
     #[error("the system gives no more memory; with fewer states for undo (--undo) a run needs less")]
     NoMemory,
 }

@@ -62,8 +62,8 @@ LineWants true (line chars rest) = Unit {0}
 LineWants echo next = HasChars next
 
 -- What comes next may want memory, with a machine that asks this: a step, for the record where the run is recorded, and
--- else one that has no fault, writes, resizes or copies memory and is within the budget; what a step asks; the line that
--- is taken at a wait; a call that goes on.
+-- else one that has no fault, writes, resizes or copies memory and is within the budget; what a step asks; the line
+-- that is taken at a wait; a call that goes on.
 abbrev pub WantsMemory : Phase → Configuration → Option Asking → Type 0
 WantsMemory steps m asking = ((asking ≡ None) × (IsSome m.log ⊎ (IsStepWriting m.machine m.left
     × IsOk (stepped (record { machine = m.machine; asking = None }) (next_u32 m.words).0 m.left))))
