@@ -11,7 +11,8 @@ use Rattle.glk_events.specs.Requests.{oldest}
 use Rattle.gx_words.specs.declared.faults.Fault.{Fault}
 use Rattle.gx_words.specs.declared.faults.Fault.TheVariants.{BadGlk}
 use Rattle.glk_world.specs.Shown.{show_prompt}
-use Rattle.glk_world.specs.World.{Scene, Said, FlatWorld, MakesCall, silent, after, on_world, Outcome, has_reference, waits}
+use Rattle.glk_world.specs.World.{Scene, Said, FlatWorld, MakesCall, silent, after, on_world, Outcome, has_reference}
+use Rattle.glk_world.specs.World.{waits}
 use Rattle.glk_world.specs.World.{arg}
 use Rattle.glk_world.specs.Calls.{without_file}
 use Rattle.glk_replies.specs.Numbers as selectors
@@ -24,7 +25,8 @@ use Rattle.glk_replies.specs.declared.Given.TheVariants as given
 use Rattle.glk_replies.specs.Turns.{IsGivenFor}
 use Rattle.glk_streams.specs.Constants.{write_mode}
 use Rattle.glk_object_calls.specs.Streams.{stream_close, closing_by, stored_file, close}
-use Rattle.glk_object_calls.specs.References.{stream_open_file, open_with, mode_loads, file_name, fileref_create_by_prompt}
+use Rattle.glk_object_calls.specs.References.{stream_open_file, open_with, mode_loads, file_name}
+use Rattle.glk_object_calls.specs.References.{fileref_create_by_prompt}
 use Rattle.glk_object_calls.specs.References.{fileref_delete_file, fileref_does_file_exist}
 use Rattle.glk_event_calls.specs.Events.{select, no_event}
 use Rattle.glk_dispatch.specs.declared.table.Selector.{Selector}

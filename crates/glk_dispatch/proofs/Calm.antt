@@ -61,14 +61,16 @@ opens w selector args of_load.Missing =
 opens w selector args of_load.TooLong = refl
 opens w selector args (of_load.Found bytes) = refl
 
-resumes : (w : Scene) (f : FlatState) (room : ℕ) (call : WaitingCall) (g : Given) → IsOfFile g → IsLookedBy f room call g
+resumes : (w : Scene) (f : FlatState) (room : ℕ) (call : WaitingCall) (g : Given) → IsOfFile g
+    → IsLookedBy f room call g
     → IsOk (resumed w f room call g)
 resumes w f room call (given.Line line) file looks = absurd file
 resumes w f room call (given.Loaded load) file looks = opens w call.selector call.arguments load
 resumes w f room call given.Stored file looks = closes w f room call.arguments looks
 resumes w f room call (given.Was was) file looks = refl
 
-then_turns : (outcome : Outcome Reply) → IsOk outcome → IsOk {T = Said × Turn} (outcome >>= λ done. Ok (done.0, Answer done.1))
+then_turns : (outcome : Outcome Reply) → IsOk outcome
+    → IsOk {T = Said × Turn} (outcome >>= λ done. Ok (done.0, Answer done.1))
 then_turns (Ok done) is = refl
 then_turns (Err e) is = is
 

@@ -174,7 +174,8 @@ given_one : (at x : ℕ) (words : List ℕ) → (at == 0) ≡ false
     → (has_some (writes_for at (x ∷ words)) || has_some (pushes_for at (x ∷ words))) ≡ true
 given_one at x words some = elim (there_or_not (at == on_stack)) [
   | inl on ↦ second_of_two (has_some (writes_for at (x ∷ words))) (has_some (pushes_for at (x ∷ words))) (rw on refl)
-  | inr off ↦ first_of_two (has_some (writes_for at (x ∷ words))) (has_some (pushes_for at (x ∷ words))) (rw (some, off) refl)
+  | inr off ↦ first_of_two (has_some (writes_for at (x ∷ words))) (has_some (pushes_for at (x ∷ words)))
+      (rw (some, off) refl)
 ]
 
 pub give_some : (f : FlatState) (room value at x : ℕ) (words : List ℕ) (reply : Reply) → (at == 0) ≡ false
@@ -199,17 +200,21 @@ given_each (at ∷ ats) (word ∷ words) enough some =
           let rest = given_each ats words (omega arith) (rw none at some) in
           elim (either (has_some (writes_for_each ats words)) (has_some (pushes_for_each ats words)) rest) [
             | inl is ↦
-                first_of_two writes pushes (some_append (writes_for at (word ∷ [])) (writes_for_each ats words) (inr is))
+                first_of_two writes pushes (some_append (writes_for at (word ∷ [])) (writes_for_each ats words)
+                (inr is))
             | inr is ↦
-                second_of_two writes pushes (some_append (pushes_for at (word ∷ [])) (pushes_for_each ats words) (inr is))
+                second_of_two writes pushes (some_append (pushes_for at (word ∷ [])) (pushes_for_each ats words)
+                (inr is))
           ]
       | inr one ↦
           elim (either (has_some (writes_for at (word ∷ []))) (has_some (pushes_for at (word ∷ [])))
           (given_one at word [] one)) [
             | inl is ↦
-                first_of_two writes pushes (some_append (writes_for at (word ∷ [])) (writes_for_each ats words) (inl is))
+                first_of_two writes pushes (some_append (writes_for at (word ∷ [])) (writes_for_each ats words)
+                (inl is))
             | inr is ↦
-                second_of_two writes pushes (some_append (pushes_for at (word ∷ [])) (pushes_for_each ats words) (inl is))
+                second_of_two writes pushes (some_append (pushes_for at (word ∷ [])) (pushes_for_each ats words)
+                (inl is))
           ]
     ]
 
@@ -265,7 +270,8 @@ reference_more w base usage rock may =
     (nat_lt (length w.references) (length (w.references ++ new ∷ []))) _ _ (longer w.references new))
 
 request_more : (w : Scene) (r : Request) → events.may_ask w r.win ≡ true
-    → is_more w (if events.may_ask w r.win then record w { requests = requests.with_request w.requests r } else w) ≡ true
+    → is_more w (if events.may_ask w r.win then record w { requests = requests.with_request w.requests r } else w)
+    ≡ true
 request_more w r may =
     rw may (or_third (nat_lt (length w.streams) (length w.streams)) (nat_lt (length w.references) (length w.references))
     (nat_lt (length w.requests) (length (w.requests ++ r ∷ [])))
@@ -452,7 +458,8 @@ chars_take w f from stops most width at some =
     let cs : List ℕ × ℕ → List ℕ = λ got. got.0 ++ ending stops in
     behind w (input.reading w f from stops most)
     (λ got. can_lay f (buffer got) >>= λ _. Ok (said got, reply_filling (length got.0) (buffer got) (cs got)))
-    (λ got is. behind w (can_lay f (buffer got)) (λ _. Ok (said got, reply_filling (length got.0) (buffer got) (cs got)))
+    (λ got is. behind w (can_lay f (buffer got))
+    (λ _. Ok (said got, reply_filling (length got.0) (buffer got) (cs got)))
     (λ _ _. fills w (said got) (length got.0) (buffer got) (cs got)
     (some_chars got stops (input.reading w f from stops most) is some)))
 

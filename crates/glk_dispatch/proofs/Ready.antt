@@ -15,7 +15,8 @@ use Rattle.glk_dispatch.specs.declared.table.Selector.{Selector}
 use Rattle.glk_dispatch.specs.Rows.{Row}
 use Rattle.glk_dispatch.specs.Table.{row_for, is_dropped, selector_fits}
 use Rattle.glk_object_calls.specs.Answers.{tells, as_turn}
-use Rattle.glk_dispatch.specs.Calls.{has_object, named, looked_at, is_on_none, nothing, done, gives_nothing, glk_call, grows}
+use Rattle.glk_dispatch.specs.Calls.{has_object, named, looked_at, is_on_none, nothing, done, gives_nothing, glk_call}
+use Rattle.glk_dispatch.specs.Calls.{grows}
 use Rattle.glk_dispatch.specs.Calls.{IsGrowing}
 use Rattle.glk_dispatch.specs.Ready.{IsNamed, IsFirst, IsReady, IsReadyBy, done_by, wants_by, call_looked, wants_looked}
 
@@ -95,7 +96,8 @@ first_there true w class id (inl none) some = absurd (grind (arith, nat_tests, s
 first_there true w class id (inr there) some = there
 first_there false w class id named some = named
 
-pub ready_looks : (w : Scene) (row : Selector) (args : List ℕ) → looked_at w row args ≡ Ok tt → is_on_none row args ≡ false
+pub ready_looks : (w : Scene) (row : Selector) (args : List ℕ) → looked_at w row args ≡ Ok tt
+    → is_on_none row args ≡ false
     → IsReady row w args
 ready_looks w row args ok some = (
   first_there row.needs_first w row.first (arg args 0)

@@ -1,5 +1,6 @@
 -- The rows that take a turn, and an answer as a turn.
-use Rattle.std.proofs.Common.{◌≡◌, ◌≢◌, ◌&&◌, not, ℕ, Bool, true, false, if◌then◌else◌, IsTrue, List, Option, Some, None, is_some, Result, Ok}
+use Rattle.std.proofs.Common.{◌≡◌, ◌≢◌, ◌&&◌, not, ℕ, Bool, true, false, if◌then◌else◌, IsTrue, List, Option, Some}
+use Rattle.std.proofs.Common.{None, is_some, Result, Ok}
 use Rattle.std.proofs.Common.{Err, refl, subst, ◌==◌, ◌||◌, arith}
 use Rattle.std.proofs.lemmas.Bool.Decides.{nat_tests}
 use Rattle.std.proofs.lemmas.Grind.{common_steps}

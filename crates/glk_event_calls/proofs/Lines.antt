@@ -1,5 +1,6 @@
 -- What a line gives: how many characters, and where they are written.
-use Rattle.std.proofs.Common.{◌≡◌, ◌≢◌, ◌≤◌, ◌+◌, ◌++◌, ◌==◌, ◌&&◌, ◌||◌, not, ℕ, Bool, true, false, if◌then◌else◌, List, [], ◌∷◌}
+use Rattle.std.proofs.Common.{◌≡◌, ◌≢◌, ◌≤◌, ◌+◌, ◌++◌, ◌==◌, ◌&&◌, ◌||◌, not, ℕ, Bool, true, false, if◌then◌else◌}
+use Rattle.std.proofs.Common.{List, [], ◌∷◌}
 use Rattle.std.proofs.Common.{length, take, map, refl, sym, ◌∙◌, inl, inr, arith, IsTrue, Result, Ok, Err}
 use Rattle.std.proofs.lemmas.Bool.Decides.{nat_tests}
 use Rattle.std.proofs.lemmas.Grind.{common_steps}
@@ -31,7 +32,8 @@ use Rattle.glk_event_calls.specs.Events.{line_reply, looked_at_line, met, met_gr
 
 echoed_with : (line there : Bool) (r : Request) (chars : List ℕ) → (line && there) ≡ true
     → (if line then line_length r chars else 0) + 1
-    ≡ length (if line && there then map (λ c. if r.wide then c else latin_of c) (take (line_length r chars) chars) ++ line_feed ∷ [] else [])
+    ≡ length (if line && there then map (λ c. if r.wide then c else latin_of c) (take (line_length r chars) chars)
+    ++ line_feed ∷ [] else [])
 echoed_with true true r chars is = grind (arith, common_steps, length-append)
 echoed_with true false r chars is = absurd (cc)
 echoed_with false there r chars is = absurd (cc)
@@ -121,7 +123,8 @@ pub ruleset reply_rules = (reply_fits, append-nil)
 
 -- ---- a line that is refused, and one for which there is no memory
 
-pub met_refused : (wants : Type 0) (w : FlatWorld) (f : FlatState) (room at : ℕ) (r : Request) (line : List ℕ) (e : Fault)
+pub met_refused : (wants : Type 0) (w : FlatWorld) (f : FlatState) (room at : ℕ) (r : Request) (line : List ℕ)
+    (e : Fault)
     → (looked_at_line w.scene f room at r line ≡ Err e) × (e ≢ NoMemory)
     → MakesCall wants (Err e) w w (met w.scene f room at r line)
 unfolding met
@@ -146,10 +149,11 @@ echo_grows w at r line is = rw is (or_last (not (at == 0) || not ((line_places r
 
 pushes_are : (at : ℕ) (r : Request) (line : List ℕ)
     → (if at == on_stack then 4 else 0) ≡ length (pushes_for at (event_of r line))
-pushes_are at r line = elim (at == on_stack) as (λ b. (if b then 4 else 0) ≡ length (if b then event_of r line else [])) [
-  | true ↦ sym (event_length r line)
-  | false ↦ refl
-]
+pushes_are at r line = elim (at == on_stack) as
+    (λ b. (if b then 4 else 0) ≡ length (if b then event_of r line else [])) [
+      | true ↦ sym (event_length r line)
+      | false ↦ refl
+    ]
 
 pub all_looked : (w : Scene) (f : FlatState) (room at : ℕ) (r : Request) (line : List ℕ) (places echo : Places)
     (pushes : ℕ) → places ≡ line_places r line → can_lay f places ≡ Ok tt → can_give f at 4 ≡ Ok tt

@@ -59,7 +59,8 @@ turns wants more old new outcome (Err e) into refused = (
 pub closes_now : (old new : FlatWorld) (f : FlatState) (room : ℕ) (args : List ℕ) (result : Result Reply Fault)
     → is_some (stored_file old.scene (arg args 0)) ≡ false
     → MakesCall (IsTrue (not (arg args 1 == 0))) result old new (close old.scene f room args)
-    → MakesCall (IsTrue (not (arg args 1 == 0) && not (is_some (stored_file old.scene (arg args 0))))) (answering result)
+    → MakesCall (IsTrue (not (arg args 1 == 0) && not (is_some (stored_file old.scene (arg args 0)))))
+    (answering result)
     old new (stream_close old.scene f room args)
 unfolding stream_close
 closes_now old new f room args result none is =
@@ -80,5 +81,6 @@ pub stores : (old taken new : FlatWorld) (f : FlatState) (room id at : ℕ) (arg
     → on_world old (stream_close old.scene f room args) ≡ Ok (new, Store file.0 file.1)
 unfolding stream_close
 stores old taken new f room id at args file of to some is there takes waited =
-    let stored = rw of at (kept (one.writable (stream_of old.scene id)) (streams.file_of old.scene.streams id) file some is)
+    let stored = rw of at (kept (one.writable (stream_of old.scene id))
+    (streams.file_of old.scene.streams id) file some is)
     in rw (waited, takes, stored, ← to, there, append-nil old.text, append-nil old.text) (rw of refl)

@@ -2,7 +2,8 @@
 use Rattle.std.proofs.Common.{◌≡◌, refl}
 use Rattle.glk_object_calls.specs.declared.gestalts.TheConstants as gestalt
 use Rattle.glk_object_calls.specs.declared.references.TheConstants as reference
-use Rattle.glk_object_calls.specs.Constants.{gestalt_version, gestalt_char_input, gestalt_line_input, gestalt_char_output, gestalt_unicode, cannot_print}
+use Rattle.glk_object_calls.specs.Constants.{gestalt_version, gestalt_char_input, gestalt_line_input}
+use Rattle.glk_object_calls.specs.Constants.{gestalt_char_output, gestalt_unicode, cannot_print}
 use Rattle.glk_object_calls.specs.Constants.{exact_print, text_mode}
 
 pub VERSION_is : gestalt.VERSION ≡ gestalt_version

@@ -11,7 +11,8 @@ use Rattle.glk_object_calls.specs.References.{open_with, open_goes_on, open_goes
 use Rattle.glk_object_calls.specs.References.{opening_grows}
 use Rattle.glk_object_calls.proofs.Closing.{answering, turns}
 
-pub begins_empty : (old new : FlatWorld) (selector : ℕ) (args content : List ℕ) (load : Load) (result : Result Reply Fault)
+pub begins_empty : (old new : FlatWorld) (selector : ℕ) (args content : List ℕ) (load : Load)
+    (result : Result Reply Fault)
     → load ≡ Missing → (arg args 1 == read_mode) ≡ false → content ≡ []
     → MakesCall (IsTrue (is_identifier old.scene.next_id)) result old new (open_with old.scene selector args content)
     → MakesCall (IsTrue (open_goes_on_grow old.scene args load)) result old new
@@ -28,4 +29,5 @@ pub written_alone : (old new : FlatWorld) (selector mode : ℕ) (args content : 
     (stream_open_file selector old.scene args)
 unfolding stream_open_file
 written_alone old new selector mode args content result at is none done = rw (sym at ∙ is, ← none)
-    (turns _ _ old new (open_with old.scene selector args content) result (either (is_identifier old.scene.next_id)) done)
+    (turns _ _ old new (open_with old.scene selector args content) result
+    (either (is_identifier old.scene.next_id)) done)

@@ -1,5 +1,6 @@
 -- One turn of the loops over numbers and characters.
-use Rattle.std.proofs.Common.{zero, suc, ap, sym, subst, inl, inr, ◌≡◌, ◌<◌, ◌≤◌, ◌+◌, ◌*◌, ◌==◌, ℕ, List, [], ◌∷◌, ◌++◌}
+use Rattle.std.proofs.Common.{zero, suc, ap, sym, subst, inl, inr, ◌≡◌, ◌<◌, ◌≤◌, ◌+◌, ◌*◌, ◌==◌, ℕ, List, [], ◌∷◌}
+use Rattle.std.proofs.Common.{◌++◌}
 use Rattle.std.proofs.Common.{append_assoc, length, get_or, drop, drop-cons, refl, ◌∙◌, arith, nat_lt, true, Result, Ok}
 use Rattle.std.proofs.Common.{Err, IfOk, if◌then◌else◌}
 use Rattle.std.proofs.lemmas.Grind.{common_steps}

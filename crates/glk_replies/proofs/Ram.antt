@@ -1,6 +1,7 @@
 -- What is written lies in RAM where the looks found no fault.
 use Rattle.std.proofs.Common.{◌≡◌, ◌≤◌, ◌+◌, ◌-◌, ◌*◌, ◌==◌, ◌||◌, if◌then◌else◌, ℕ, true}
-use Rattle.std.proofs.Common.{false, List, [], ◌∷◌, ◌++◌, append_assoc, length, take, refl, sym, subst, ◌∙◌, inl, inr, arith}
+use Rattle.std.proofs.Common.{false, List, [], ◌∷◌, ◌++◌, append_assoc, length, take, refl, sym, subst, ◌∙◌, inl, inr}
+use Rattle.std.proofs.Common.{arith}
 use Rattle.std.proofs.Common.{Ok}
 use Rattle.std.proofs.lemmas.Grind.{common_steps}
 use Rattle.std.proofs.lemmas.Bool.Decides.{nat_tests}
@@ -82,7 +83,10 @@ pushes_fit room pushes is = grind (arith, common_steps, nat_tests)
 pub given_fits : (f : FlatState) (room value at pushes : ℕ) (words : List ℕ) (before reply : Reply)
     → can_give f at (length words) ≡ Ok tt → pushes ≡ (if at == on_stack then length words else 0)
     → can_push room pushes ≡ Ok tt → before ≡ replies value
-    → reply ≡ record before { pushes = before.pushes ++ pushes_for at words; writes = before.writes ++ writes_for at words }
+    → reply ≡ record before {
+      pushes = before.pushes ++ pushes_for at words;
+      writes = before.writes ++ writes_for at words;
+    }
     → IsReply f room reply
 given_fits f room value at pushes words before reply there are fits is same =
     let few : pushes ≡ length (pushes_for at words) = are ∙ pushes_are at words in

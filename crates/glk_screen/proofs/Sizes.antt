@@ -196,7 +196,8 @@ beside_wide width more (row ∷ rows) (other ∷ others) same left right =
       beside_wide width more rows others (omega (arith, same)) parts.1 others_parts.1,
     ) refl
 
-beside_sized : (width more total height : ℕ) (rows others : DrawnRows) → width + more ≡ total → IsSized (width, height) rows
+beside_sized : (width more total height : ℕ) (rows others : DrawnRows) → width + more ≡ total
+    → IsSized (width, height) rows
     → IsSized (more, height) others → IsSized (total, height) (beside rows others)
 beside_sized width more total height rows others sum left right =
     let same = left.count ∙ sym right.count in

@@ -18,7 +18,8 @@ use Rattle.glk_streams.specs.declared.kinds.StreamKind.TheVariants as kinds
 use Rattle.glk_streams.specs.declared.kinds.Stream.{Stream}
 use Rattle.glk_streams.specs.Constants.{largest, seek_start}
 use Rattle.glk_streams.specs.Files.{bytes_of_char, byte_at, positions_in, read_in}
-use Rattle.glk_streams.specs.Stream.{readable, writable, after_put, after_puts, read_next, after_get, positioned, clamped}
+use Rattle.glk_streams.specs.Stream.{readable, writable, after_put, after_puts, read_next, after_get, positioned}
+use Rattle.glk_streams.specs.Stream.{clamped}
 use Rattle.glk_streams.specs.Stream.{end_position}
 use Rattle.glk_streams.specs.Sound.{IsSoundStream}
 use Rattle.glk_streams.specs.Laws.{kept_in, all_bytes, AreWords, got, FileReadsBack}

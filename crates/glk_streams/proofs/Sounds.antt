@@ -53,7 +53,8 @@ put_kind (kinds.Memory at len wide) s c kind position =
       | false ↦ λ is. record { kind = tt; position = position }
     ] refl
 put_kind (kinds.File name content form) s c kind position = record {
-  kind = put_whole content (bytes_of_char form c) (byte_at form s.position) kind (there_in form content s.position position);
+  kind = put_whole content (bytes_of_char form c) (byte_at form s.position) kind
+      (there_in form content s.position position);
   position = put_end form content (bytes_of_char form c) s.position position;
 }
 

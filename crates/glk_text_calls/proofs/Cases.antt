@@ -79,7 +79,8 @@ module _ (w : FlatWorld) (f : FlatState) (first others : Case) (args : List ℕ)
 
         case_filled : (memory chars : List ℕ) (reply : Reply) (at value : ℕ) → memory ≡ f.memory
             → chars ≡ numbers_in 4 memory at p.count
-            → reply ≡ reply_filling value p (recased first others chars) → at ≡ arg args 0 → value ≡ arg args 2 → on_world w made ≡ Ok (w, reply)
+            → reply ≡ reply_filling value p (recased first others chars) → at ≡ arg args 0 → value ≡ arg args 2
+            → on_world w made ≡ Ok (w, reply)
         unfolding buffer_to_case
         case_filled memory chars reply at value unchanged read filled first_arg last_arg =
             let read_there : chars ≡ numbers_in 4 f.memory (arg args 0) p.count =
@@ -99,7 +100,8 @@ module _ (w : FlatWorld) (f : FlatState) (first others : Case) (args : List ℕ)
         pub case_ends : (memory chars : List ℕ) (r : Result Reply Fault) (at value : ℕ) → memory ≡ f.memory
             → chars ≡ numbers_in 4 memory at p.count
             → MayWant (0 < p.count) (λ (reply : Reply). reply) r
-            (Ok (reply_filling value p (recased first others chars))) → at ≡ arg args 0 → value ≡ arg args 2 → MakesCall (IsTrue (nat_lt 0 (buffer_of args).count)) r w w made
+            (Ok (reply_filling value p (recased first others chars))) → at ≡ arg args 0 → value ≡ arg args 2
+            → MakesCall (IsTrue (nat_lt 0 (buffer_of args).count)) r w w made
         case_ends memory chars (Ok reply) at value unchanged read filled first_arg last_arg =
             case_filled memory chars reply at value unchanged read (cc) first_arg last_arg
         case_ends memory chars (Err e) at value unchanged read filled first_arg last_arg = (

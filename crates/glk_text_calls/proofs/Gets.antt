@@ -137,7 +137,8 @@ module _ (w : FlatWorld) (f : FlatState) (stream : ℕ) (stops : Bool) (most wid
           let after_it : now ≡ after w (silent (chars_got w.scene stream q (length all_read.chars))) =
           passed ∙ ap (λ (k : ℕ). after w (silent (chars_got w.scene stream q k))) (sym all_read.count) in
           let made : reply_filling n b text
-          ≡ reply_filling (length all_read.chars) (buffer_for at width (length all_read.chars + ending_len stops)) text =
+          ≡ reply_filling (length all_read.chars) (buffer_for at width (length all_read.chars + ending_len stops))
+          text =
           ap (λ (k : ℕ). reply_filling k b text) (sym all_read.count)
           ∙ ap (λ (k : Places). reply_filling (length all_read.chars) k text) buffer_is in
           rw (reading_is, at_buffer, made, after_it) refl

@@ -1,5 +1,6 @@
 -- Characters that are read, one after another.
-use Rattle.std.proofs.Common.{suc, ◌≡◌, ◌≢◌, nat_lt, nat_le, not, ◌<◌, ◌≤◌, ◌+◌, ◌-◌, ◌*◌, ◌==◌, ◌&&◌, ℕ, Bool, true, false, if◌then◌else◌, List, [], ◌∷◌}
+use Rattle.std.proofs.Common.{suc, ◌≡◌, ◌≢◌, nat_lt, nat_le, not, ◌<◌, ◌≤◌, ◌+◌, ◌-◌, ◌*◌, ◌==◌, ◌&&◌, ℕ, Bool, true}
+use Rattle.std.proofs.Common.{false, if◌then◌else◌, List, [], ◌∷◌}
 use Rattle.std.proofs.Common.{◌++◌, append_assoc, length, refl, sym, ap, subst, ◌∙◌, inl, inr, arith, Option, Some}
 use Rattle.std.proofs.Common.{None, Result, Ok, Err, IfSome, MatchOption}
 use Rattle.std.proofs.lemmas.Bool.Decides.{nat_tests}

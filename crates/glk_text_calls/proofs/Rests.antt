@@ -1,5 +1,6 @@
 -- The rest of a file in Latin-1 or of bytes in memory: the bytes are the characters.
-use Rattle.std.proofs.Common.{zero, suc, ◌≡◌, ◌<◌, ◌≤◌, ◌+◌, ◌-◌, ◌*◌, nat_lt, nat_le, ℕ, Bool, true, false, if◌then◌else◌}
+use Rattle.std.proofs.Common.{zero, suc, ◌≡◌, ◌<◌, ◌≤◌, ◌+◌, ◌-◌, ◌*◌, nat_lt, nat_le, ℕ, Bool, true, false}
+use Rattle.std.proofs.Common.{if◌then◌else◌}
 use Rattle.std.proofs.Common.{List, [], ◌∷◌, length, get_or, take, drop, drop-cons, length-drop, refl, sym, ap, subst}
 use Rattle.std.proofs.Common.{◌∙◌, arith, Some, None, Ok}
 use Rattle.std.specs.List.{list_all}

@@ -20,7 +20,8 @@ use Rattle.glk_world.specs.Putting.{buffer_put, window_of_stream, entry_of, is_p
 use Rattle.glk_world.specs.Putting.{counted, stream_put, echo_of, put_along, put_of, put_chars, grows_along, put_grows}
 use Rattle.glk_world.specs.Putting.{chain_end, places_of, no_places}
 use Rattle.glk_objects.proofs.Found.{has_with, has_below, at_with_here, below_with}
-use Rattle.glk_world.proofs.Ranks.{said_char, nothing_along, stream_put_streams, put_step, put_id, put_window, buffer_put_streams}
+use Rattle.glk_world.proofs.Ranks.{said_char, nothing_along, stream_put_streams, put_step, put_id, put_window}
+use Rattle.glk_world.proofs.Ranks.{buffer_put_streams}
 use Rattle.glk_world.proofs.Turns.{end_here}
 
 -- ---- no stream has the identifier 0
@@ -67,7 +68,8 @@ no_places_in (kinds.Window win) position count some = refl
 no_places_in (kinds.Memory at len wide) position count some = absurd (some refl)
 no_places_in (kinds.File name content form) position count some = absurd (some refl)
 
-pub window_places : (w : Scene) (s count : ℕ) → IsBelowAll streams.id_of w.streams 0 → echo_of w s ≡ 0 → window_of_stream w s ≢ 0
+pub window_places : (w : Scene) (s count : ℕ) → IsBelowAll streams.id_of w.streams 0 → echo_of w s ≡ 0
+    → window_of_stream w s ≢ 0
     → (places_of w s count).count ≡ 0
 unfolding one.next_places
 window_places w s count first echo some =
@@ -123,7 +125,8 @@ own_put w s c none = rw none refl
 own_echo : (w : Scene) (s : ℕ) → window_of_stream w s ≡ 0 → echo_of w s ≡ 0
 own_echo w s none = rw none refl
 
-puts_step : (w : Scene) (s c : ℕ) (cs : List ℕ) → put_chars w s (c ∷ cs) ≡ then_said (put_of w s c) (λ more. put_chars more s cs)
+puts_step : (w : Scene) (s c : ℕ) (cs : List ℕ)
+    → put_chars w s (c ∷ cs) ≡ then_said (put_of w s c) (λ more. put_chars more s cs)
 unfolding put_chars
 puts_step w s c cs = refl
 
@@ -149,7 +152,8 @@ counted_more w s c cs there =
     (ap (λ (x : Stream). streams.with_stream (streams.with_stream w.streams new) (one.after_puts x cs)) found ∙ twice)
 
 -- all that are put to a stream with no window change that stream alone
-pub puts_alone : (w : Scene) (s : ℕ) (cs : List ℕ) → IsBelowAll streams.id_of w.streams 0 → streams.has w.streams s ≡ true
+pub puts_alone : (w : Scene) (s : ℕ) (cs : List ℕ) → IsBelowAll streams.id_of w.streams 0
+    → streams.has w.streams s ≡ true
     → window_of_stream w s ≡ 0 → put_chars w s cs ≡ silent (all_counted w s cs)
 unfolding one.after_puts
 puts_alone w s [] first there none =
@@ -253,7 +257,8 @@ pub plain_window : (w : Scene) (s : ℕ) → is_plain_text w s ≡ true → wind
 plain_window w s h = let is = plain w s h in grind (arith, nat_tests, is.own)
 
 -- the window of a stream that has counted a character, and whether it shows text
-window_counted : (w : Scene) (s c : ℕ) → streams.has w.streams s ≡ true → window_of_stream (counted w s c) s ≡ window_of_stream w s
+window_counted : (w : Scene) (s c : ℕ) → streams.has w.streams s ≡ true
+    → window_of_stream (counted w s c) s ≡ window_of_stream w s
 window_counted w s c there =
     let new = one.after_put (streams.stream w.streams s) c in
     let id : new.id ≡ s =

@@ -16,8 +16,10 @@ use Rattle.glk_world.specs.Kept.{flat_of}
 
 pub closed_world : (w : Inside) (win : ℕ) (gone : List ℕ) (f : FlatWindows) (ss : List Stream) (rs : List Request)
     (ts : List FlatText) (current : ℕ)
-    → gone ≡ windows.gone w.windows win → f ≡ windows.window_closed w.windows win → ss ≡ streams.without_windows w.streams gone
-    → rs ≡ without_each requests.removed w.requests gone → ts ≡ without_each screen_gone w.screen gone → current ≡ (if streams.has ss w.current then w.current else 0)
+    → gone ≡ windows.gone w.windows win → f ≡ windows.window_closed w.windows win
+    → ss ≡ streams.without_windows w.streams gone
+    → rs ≡ without_each requests.removed w.requests gone → ts ≡ without_each screen_gone w.screen gone
+    → current ≡ (if streams.has ss w.current then w.current else 0)
     → flat_of (record w { windows = f; streams = ss; requests = rs; screen = ts; current = current })
     ≡ after (flat_of w) (silent (without_window (flat_of w).scene win))
 unfolding without_window

@@ -177,10 +177,12 @@ module _ (w : Scene) (win stream : ℕ) (rank : ℕ → ℕ) where
   unfolding with_echo_stream
   new_echo s there some = rw some (echoed_entry w.windows.entries win stream (window_of_stream w s) there)
 
-  old_echo : (s : ℕ) → (window_of_stream w s == 0) ≡ false → echo_of w s ≡ (window_entry w.windows.entries (window_of_stream w s)).echo
+  old_echo : (s : ℕ) → (window_of_stream w s == 0) ≡ false
+      → echo_of w s ≡ (window_entry w.windows.entries (window_of_stream w s)).echo
   old_echo s some = rw some refl
 
-  zero_echo : (s : ℕ) → (window_of_stream w s == 0) ≡ true → echo_in (with_echo_stream w.windows win stream).entries w.streams s ≡ 0
+  zero_echo : (s : ℕ) → (window_of_stream w s == 0) ≡ true
+      → echo_in (with_echo_stream w.windows win stream).entries w.streams s ≡ 0
   zero_echo s none = rw none refl
 
   ranked_echoed : (n : ℕ) → AreLinked w.windows.entries w.streams n → IsRanked w.windows.entries w.streams rank
@@ -188,7 +190,8 @@ module _ (w : Scene) (win stream : ℕ) (rank : ℕ → ℕ) where
       → IsRanked (with_echo_stream w.windows win stream).entries w.streams lifted
   ranked_echoed n linked ranked known apart = record {
     falls = λ s there echo. elim (there_or_not (window_of_stream w s == 0)) [
-      | inl none ↦ absurd (no_zero w.streams (echo_in (with_echo_stream w.windows win stream).entries w.streams s) linked.first
+      | inl none ↦ absurd (no_zero w.streams (echo_in (with_echo_stream w.windows win stream).entries w.streams s)
+          linked.first
           (zero_echo s none) echo)
       | inr some ↦ elim (there_or_not (window_of_stream w s == win)) [
         | inl is ↦ let e : echo_in (with_echo_stream w.windows win stream).entries w.streams s ≡ stream =
@@ -213,7 +216,8 @@ linked_echoed w win stream n linked known apart less = record {
     ranked_echoed w win stream linked.ranked.0 n linked linked.ranked.1 known apart,
   );
   echoes =
-      echoes_with w.windows.entries (record (window_entry w.windows.entries win) { echo = stream }) n linked.echoes less;
+      echoes_with w.windows.entries (record (window_entry w.windows.entries win) { echo = stream }) n linked.echoes
+      less;
   rises = linked.rises;
   first = linked.first;
   windows = found.below_with entry_id no_entry w.windows.entries

@@ -23,7 +23,8 @@ use Rattle.glk_windows.specs.Windows.{last_given, IsNewId}
 use Rattle.glk_windows.proofs.Placing.{forgetting_id}
 use Rattle.glk_world.proofs.Turns.{windowless}
 use Rattle.glk_windows.specs.Changes.{fitted, new_entry, rooted, split_by, with_new_window, leaving, chosen}
-use Rattle.glk_windows.specs.Changes.{forgetting, left_of, closed_tree, with_grid_of, put_to, cleared_in, moved_in, with_echo_stream}
+use Rattle.glk_windows.specs.Changes.{forgetting, left_of, closed_tree, with_grid_of, put_to, cleared_in, moved_in}
+use Rattle.glk_windows.specs.Changes.{with_echo_stream}
 use Rattle.glk_windows.specs.Changes.{without_echoes, allows_arrangement, arranged_tree, arranged, window_closed}
 
 pub streams_with : (ss : List Stream) (new : Stream) (n : ℕ) → IsAboveAll streams.id_of ss n
@@ -38,7 +39,8 @@ fitted_new f n new = record {
 
 grid_new : (f : FlatWindows) (win n : ℕ) (g : Grid) → IsNewId f n → IsNewId (with_grid_of f win g) n
 grid_new f win n g new =
-    elim (objects.has grid_id f.grids win) as (λ b. IsNewId (if b then record f { grids = objects.with grid_id f.grids g } else f) n) [
+    elim (objects.has grid_id f.grids win) as
+    (λ b. IsNewId (if b then record f { grids = objects.with grid_id f.grids g } else f) n) [
       | true ↦ record { entries = new.entries; grids = above_with grid_id f.grids g n new.grids }
       | false ↦ new
     ]
@@ -159,7 +161,8 @@ streams_gone ss gone n above = above_filter streams.id_of _ ss n above
 pub streams_more : (ss : List Stream) (n m : ℕ) → IsAboveAll streams.id_of ss n → n ≤ m → IsAboveAll streams.id_of ss m
 streams_more ss n m above le = above_more streams.id_of ss n m above le
 
-pub streams_opened : (ss : List Stream) (id n mode rock : ℕ) (kind : StreamKind) → IsAboveAll streams.id_of ss n → id < n
+pub streams_opened : (ss : List Stream) (id n mode rock : ℕ) (kind : StreamKind) → IsAboveAll streams.id_of ss n
+    → id < n
     → IsAboveAll streams.id_of (ss ++ one.opened id kind mode rock ∷ []) n
 unfolding one.opened
 streams_opened ss id n mode rock kind above less =

@@ -23,7 +23,8 @@ use Rattle.glk_windows.specs.Windows.{grid_at, last_given, IsNewId}
 use Rattle.glk_windows.specs.declared.grid.Grid.{Grid}
 use Rattle.glk_windows.specs.Grids as grids
 use Rattle.glk_windows.specs.Changes.{fitted, new_entry, rooted, split_by, with_new_window, leaving, chosen, forgetting}
-use Rattle.glk_windows.specs.Changes.{window_closed, with_grid_of, cleared_in, moved_in, allows_arrangement, arranged_tree}
+use Rattle.glk_windows.specs.Changes.{window_closed, with_grid_of, cleared_in, moved_in, allows_arrangement}
+use Rattle.glk_windows.specs.Changes.{arranged_tree}
 use Rattle.glk_windows.specs.Changes.{arranged}
 use Rattle.glk_windows.proofs.Placing.{forgetting_id, forgetting_none}
 use Rattle.glk_world.specs.Calls.{window_stream, with_streams}
@@ -224,7 +225,8 @@ new_edge : (es fs : List Entry) (xs : List Stream) (new : Stream) (s : ℕ) → 
     → streams.has (xs ++ new ∷ []) s ≡ true → streams.has (xs ++ new ∷ []) (echo_in fs (xs ++ new ∷ []) s) ≡ true
     → IsEdge es fs xs (xs ++ new ∷ []) s
 new_edge es fs xs new s linked above below old none there echo =
-    let first : IsBelowAll streams.id_of (xs ++ new ∷ []) 0 = below_end streams.id_of xs 0 new linked.first linked.begun in
+    let first : IsBelowAll streams.id_of (xs ++ new ∷ []) 0 =
+    below_end streams.id_of xs 0 new linked.first linked.begun in
     elim (there_or_not (streams.has xs s)) [
       | inl is ↦
           let e = old s is in
@@ -271,7 +273,8 @@ linked_stream es xs new n linked above le none =
         linked.ranked.0,
         ranked_within es es xs (xs ++ new ∷ []) linked.ranked.0 (λ s there echo. new_edge es es xs new s known higher
             (λ t. echo_in_below es xs new.id t known.echoes known.begun)
-            (λ t is. ap (λ (it : Stream). if one.window_of it == 0 then 0 else (window_entry es (one.window_of it)).echo)
+            (λ t is. ap (λ (it : Stream). if one.window_of it == 0 then 0
+            else (window_entry es (one.window_of it)).echo)
             (found.at_end streams.id_of streams.no_stream xs new t is))
             (new_falls_nowhere es xs new higher none) there echo) linked.ranked.1,
       );
@@ -373,7 +376,8 @@ linked_pair es xs kind rock n new above linked =
 
 pub linked_opened : (f : FlatWindows) (xs : List Stream) (split method size kind rock n : ℕ) → IsNewId f n
     → IsAboveAll streams.id_of xs n → AreLinked f.entries xs n
-    → AreLinked (with_new_window f split method size kind rock n).entries (with_streams xs split n) (last_given split n + 1)
+    → AreLinked (with_new_window f split method size kind rock n).entries (with_streams xs split n)
+    (last_given split n + 1)
 unfolding with_new_window
 linked_opened f xs split method size kind rock n new above linked = elim (split == 0) as (λ b.
     AreLinked (fitted (if b then rooted f kind rock n else split_by f split method size kind rock n)).entries

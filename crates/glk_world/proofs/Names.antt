@@ -126,7 +126,8 @@ named_own es xs id mode rock kind above own named =
     record {
       windows = λ win there. let was = named.windows win there in (
         grind (arith, found.has_end streams.id_of streams.no_stream xs new (window_entry es win).stream, was.0),
-        ap one.window_of (found.at_end streams.id_of streams.no_stream xs new (window_entry es win).stream was.0) ∙ was.1,
+        ap one.window_of (found.at_end streams.id_of streams.no_stream xs new (window_entry es win).stream was.0)
+            ∙ was.1,
       );
       streams = λ s there some. elim (there_or_not (streams.has xs s)) [
         | inl is ↦ let same = found.at_end streams.id_of streams.no_stream xs new s is in
@@ -144,7 +145,8 @@ has_left [] id s there other = there
 has_left (x ∷ xs) id s there other = grind (arith, nat_tests, has_left xs id s, there, other)
 
 pub named_without : (es : List Entry) (xs : List Stream) (id n : ℕ) → one.window_of (streams.stream xs id) ≡ 0
-    → AreLinked es xs n → AreNamed es xs → AreNamed (map (forgetting (id ∷ [])) es) (objects.all_but streams.id_of xs id)
+    → AreLinked es xs n → AreNamed es xs → AreNamed (map (forgetting (id ∷ [])) es)
+    (objects.all_but streams.id_of xs id)
 named_without es xs id n own linked named =
     named_forgotten (id ∷ []) es (objects.all_but streams.id_of xs id) (record {
       windows = λ win there. let was = named.windows win there in
@@ -188,7 +190,8 @@ named_more : (es : List Entry) (xs : List Stream) (e : Entry) (new : Stream) →
 named_more es xs e new no_window no_stream own stream named =
     let here : (e.id == e.id) ≡ true = grind (arith, nat_tests) in
     let here' : (new.id == new.id) ≡ true = grind (arith, nat_tests) in
-    let it : window_entry (es ++ e ∷ []) e.id ≡ e = rw (found.at_new entry_id no_entry es e e.id no_window, here) refl in
+    let it : window_entry (es ++ e ∷ []) e.id ≡ e =
+    rw (found.at_new entry_id no_entry es e e.id no_window, here) refl in
     let its : streams.stream (xs ++ new ∷ []) new.id ≡ new =
     rw (found.at_new streams.id_of streams.no_stream xs new new.id no_stream, here') refl in
     record {
@@ -350,7 +353,8 @@ pub named_closed : (f : FlatWindows) (xs : List Stream) (win n : ℕ) (wins : Li
 unfolding window_closed
 named_closed f xs win n wins is linked named =
     let ids = leaving f.tree win in
-    rw is (named_forgotten (map (λ (e : Entry). e.stream) (chosen ids f.entries)) (filter (λ e. not (is_among ids e.id)) f.entries)
+    rw is (named_forgotten (map (λ (e : Entry). e.stream) (chosen ids f.entries))
+    (filter (λ e. not (is_among ids e.id)) f.entries)
     (streams.without_windows xs (map entry_id (chosen ids f.entries))) (named_left f.entries xs ids n linked named))
 
 -- ---- windows and streams after a change, or after want of memory

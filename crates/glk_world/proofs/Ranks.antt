@@ -185,7 +185,8 @@ pub stream_put_streams : (w : Scene) (s c : ℕ) → (stream_put w s c).0.stream
 unfolding stream_put
 stream_put_streams w s c =
     elim (window_of_stream w s == 0) as
-    (λ b. (if b then silent (counted w s c) else window_put (counted w s c) (entry_of w s) (window_of_stream w s) c).0.streams
+    (λ b. (if b then silent (counted w s c)
+    else window_put (counted w s c) (entry_of w s) (window_of_stream w s) c).0.streams
     ≡ (counted w s c).streams) [
       | true ↦ refl
       | false ↦ window_put_streams (counted w s c) (entry_of w s) (window_of_stream w s) c

@@ -12,7 +12,8 @@ unfolding without_each
 drop_none all gone n past = let none : drop n gone ≡ [] = grind (arith, common_steps) in rw none refl
 
 pub drop_more : (all : List Request) (gone : List ℕ) (i d : ℕ) → i < length gone
-    → without_each requests.removed (requests.removed all (get_or gone i d)) (drop (i + 1) gone) ≡ without_each requests.removed all (drop i gone)
+    → without_each requests.removed (requests.removed all (get_or gone i d)) (drop (i + 1) gone)
+    ≡ without_each requests.removed all (drop i gone)
 unfolding without_each
 drop_more all gone i d within = let e : i + 1 ≡ suc i = omega arith in rw (e, drop-cons gone i d) refl
 
@@ -22,7 +23,8 @@ unfolding without_each
 texts_none texts gone n past = let none : drop n gone ≡ [] = grind (arith, common_steps) in rw none refl
 
 pub texts_more : (texts : List FlatText) (gone : List ℕ) (i d : ℕ) → i < length gone
-    → without_each screen_gone (screen_gone texts (get_or gone i d)) (drop (i + 1) gone) ≡ without_each screen_gone texts (drop i gone)
+    → without_each screen_gone (screen_gone texts (get_or gone i d)) (drop (i + 1) gone)
+    ≡ without_each screen_gone texts (drop i gone)
 unfolding without_each
 texts_more texts gone i d within = let e : i + 1 ≡ suc i = omega arith in rw (e, drop-cons gone i d) refl
 

@@ -24,7 +24,8 @@ rows_none w rows n past = let none : drop n rows ≡ [] = grind (arith, common_s
 
 pub rows_more : (w : FlatWorld) (rows : List (List ℕ)) (i : ℕ) (d : List ℕ) → i < length rows
     → after (after w (said_row w.scene (get_or rows i d)))
-    (said_each said_row (said_row w.scene (get_or rows i d)).0 (drop (i + 1) rows)) ≡ after w (said_each said_row w.scene (drop i rows))
+    (said_each said_row (said_row w.scene (get_or rows i d)).0 (drop (i + 1) rows))
+    ≡ after w (said_each said_row w.scene (drop i rows))
 unfolding said_each
 rows_more w rows i d within = let e : i + 1 ≡ suc i = omega arith in rw (e, drop-cons rows i d, append_assoc) refl
 

@@ -8,7 +8,8 @@ use Rattle.glk_streams.specs.declared.kinds.Stream.{Stream}
 use Rattle.glk_streams.specs.Stream as one
 use Rattle.glk_streams.specs.Streams as streams
 use Rattle.glk_world.specs.World.{FlatWorld, Scene, after}
-use Rattle.glk_world.specs.Putting.{window_of_stream, stream_put, stream_grows, echo_of, put_along, grows_along, end_along}
+use Rattle.glk_world.specs.Putting.{window_of_stream, stream_put, stream_grows, echo_of, put_along, grows_along}
+use Rattle.glk_world.specs.Putting.{end_along}
 use Rattle.glk_world.specs.Putting.{leads_along}
 
 -- only the file of a stream with no window grows
@@ -76,7 +77,8 @@ unfolding leads_along
 leads_more w zero s win h there = absurd (omega arith)
 leads_more w (suc n) s win h there = let less : suc n - 1 ≡ n = omega arith in rw (less, there) refl
 
-pub leads_on : (w : Scene) (n s win : ℕ) → 0 < n → streams.has w.streams s ≡ true → (window_of_stream w s == win) ≡ false
+pub leads_on : (w : Scene) (n s win : ℕ) → 0 < n → streams.has w.streams s ≡ true
+    → (window_of_stream w s == win) ≡ false
     → leads_along n w s win ≡ leads_along (n - 1) w (echo_of w s) win
 leads_on w n s win some there other = leads_more w n s win some there ∙ rw other refl
 

@@ -42,42 +42,56 @@ answered_by f reply r = option_map_or (λ i. answered_row i.row.class f i reply)
 
 abbrev copy_by : FlatState → Result Instruction Fault → Copy
 copy_by f r =
-    option_map_or (λ i. copy_of (cut f i.sp) i.dest i.next) (result_ok r) (record { memory = f.memory; stack = f.stack.bytes; heap = f.heap })
+    option_map_or (λ i. copy_of (cut f i.sp) i.dest i.next) (result_ok r)
+    (record { memory = f.memory; stack = f.stack.bytes; heap = f.heap })
 
-by_class : (f : FlatState) (i : Instruction) (c : Class) → f.mode ≡ Running → instruction f ≡ Ok i → i.row.class ≡ c → (reply : Reply) → answered_state f reply ≡ answered_row c f i reply
+by_class : (f : FlatState) (i : Instruction) (c : Class) → f.mode ≡ Running → instruction f ≡ Ok i → i.row.class ≡ c
+    → (reply : Reply) → answered_state f reply ≡ answered_row c f i reply
 unfolding answered_state
 by_class f i c running decoded is reply =
-    ap (answered_in f reply) running ∙ ap (answered_by f reply) decoded ∙ ap (λ (x : Class). answered_row x f i reply) is
+    ap (answered_in f reply) running ∙ ap (answered_by f reply) decoded
+    ∙ ap (λ (x : Class). answered_row x f i reply) is
 
 -- an answer to code leaves the mode
-on_with : (f : FlatState) (sp : ℕ) (dest : Dest) (next : ℕ) (reply : Reply) → f.mode ≡ Running → going_to (replied f sp dest reply) next ≡ resumed_at (replied f sp dest reply) next Running
+on_with : (f : FlatState) (sp : ℕ) (dest : Dest) (next : ℕ) (reply : Reply) → f.mode ≡ Running
+    → going_to (replied f sp dest reply) next ≡ resumed_at (replied f sp dest reply) next Running
 on_with f sp Nowhere next reply running = ap (resumed_at (replied f sp Nowhere reply) next) running
 on_with f sp (Memory at) next reply running = ap (resumed_at (replied f sp (Memory at) reply) next) running
 on_with f sp (Local at) next reply running = ap (resumed_at (replied f sp (Local at) reply) next) running
 on_with f sp Push next reply running = ap (resumed_at (replied f sp Push reply) next) running
 
-pub print_answers : (f : FlatState) (i : Instruction) (reply : Reply) → f.mode ≡ Running → instruction f ≡ Ok i → i.row.class ≡ class.Print
+pub print_answers : (f : FlatState) (i : Instruction) (reply : Reply) → f.mode ≡ Running → instruction f ≡ Ok i
+    → i.row.class ≡ class.Print
     → answered_state f reply ≡ resumed_at (replied f i.sp Nowhere reply) i.next Running
-print_answers f i reply running decoded is = by_class f i class.Print running decoded is reply ∙ on_with f i.sp Nowhere i.next reply running
+print_answers f i reply running decoded is = by_class f i class.Print running decoded is reply
+    ∙ on_with f i.sp Nowhere i.next reply running
 
-pub glk_answers : (f : FlatState) (i : Instruction) (reply : Reply) → f.mode ≡ Running → instruction f ≡ Ok i → i.row.class ≡ class.Glk
+pub glk_answers : (f : FlatState) (i : Instruction) (reply : Reply) → f.mode ≡ Running → instruction f ≡ Ok i
+    → i.row.class ≡ class.Glk
     → answered_state f reply ≡ resumed_at (replied f (i.sp - 4 * L2 i) i.dest reply) i.next Running
-glk_answers f i reply running decoded is = by_class f i class.Glk running decoded is reply ∙ on_with f (i.sp - 4 * L2 i) i.dest i.next reply running
+glk_answers f i reply running decoded is = by_class f i class.Glk running decoded is reply
+    ∙ on_with f (i.sp - 4 * L2 i) i.dest i.next reply running
 
-pub game_answers : (f : FlatState) (i : Instruction) (reply : Reply) → f.mode ≡ Running → instruction f ≡ Ok i → i.row.class ≡ class.Game
+pub game_answers : (f : FlatState) (i : Instruction) (reply : Reply) → f.mode ≡ Running → instruction f ≡ Ok i
+    → i.row.class ≡ class.Game
     → answered_state f reply ≡ resumed_at (replied f i.sp i.dest reply) i.next Running
-game_answers f i reply running decoded is = by_class f i class.Game running decoded is reply ∙ on_with f i.sp i.dest i.next reply running
+game_answers f i reply running decoded is = by_class f i class.Game running decoded is reply
+    ∙ on_with f i.sp i.dest i.next reply running
 
 -- the answer to a character of what is printed
-after_by : (f : FlatState) (p : printings.Printing) → f.mode ≡ Printing p → mode_after f ≡ mode_behind (Printing p) (next_item f.memory f.table p)
+after_by : (f : FlatState) (p : printings.Printing) → f.mode ≡ Printing p
+    → mode_after f ≡ mode_behind (Printing p) (next_item f.memory f.table p)
 unfolding mode_after
 after_by f p is = rw is refl
 
-item_answered : (f : FlatState) (reply : Reply) (m : Mode) → f.mode ≡ m → (m ≡ Running → ⊥) → answered_in f reply m ≡ resumed_at (replied f (sp_of f) Nowhere reply) f.pc (mode_after f)
+item_answered : (f : FlatState) (reply : Reply) (m : Mode) → f.mode ≡ m → (m ≡ Running → ⊥)
+    → answered_in f reply m ≡ resumed_at (replied f (sp_of f) Nowhere reply) f.pc (mode_after f)
 item_answered f reply Running is printing = absurd (printing refl)
-item_answered f reply (Printing p) is printing = ap (resumed_at (replied f (sp_of f) Nowhere reply) f.pc) (sym (after_by f p is))
+item_answered f reply (Printing p) is printing =
+    ap (resumed_at (replied f (sp_of f) Nowhere reply) f.pc) (sym (after_by f p is))
 
-pub item_answers : (f : FlatState) (reply : Reply) → (f.mode ≡ Running → ⊥) → answered_state f reply ≡ resumed_at (replied f (sp_of f) Nowhere reply) f.pc (mode_after f)
+pub item_answers : (f : FlatState) (reply : Reply) → (f.mode ≡ Running → ⊥)
+    → answered_state f reply ≡ resumed_at (replied f (sp_of f) Nowhere reply) f.pc (mode_after f)
 unfolding answered_state
 item_answers f reply printing = item_answered f reply f.mode refl printing
 
@@ -87,10 +101,14 @@ printing_of f Running x h same = cc
 printing_of f (Printing p) x h same = cc
 
 -- the result of what asked is stored where its operand says
-stored_by : (f : FlatState) (i : Instruction) (c : Class) → f.mode ≡ Running → instruction f ≡ Ok i → i.row.class ≡ c → IsStoredBy c i → IsStoredAnswer f
+stored_by : (f : FlatState) (i : Instruction) (c : Class) → f.mode ≡ Running → instruction f ≡ Ok i → i.row.class ≡ c
+    → IsStoredBy c i → IsStoredAnswer f
 unfolding IsStoredAnswer
-stored_by f i c running decoded is stored =
-    (running, subst (λ (r : Result Instruction Fault). IsOkAnd r (λ x. IsStoredBy x.row.class x)) (sym decoded) (subst (λ (x : Class). IsStoredBy x i) (sym is) stored))
+stored_by f i c running decoded is stored = (
+  running,
+  subst (λ (r : Result Instruction Fault). IsOkAnd r (λ x. IsStoredBy x.row.class x)) (sym decoded)
+      (subst (λ (x : Class). IsStoredBy x i) (sym is) stored),
+)
 
 pub done_asks : (e : Effect) → IsDone e → asking_of e ≡ None
 done_asks Went h = refl
@@ -109,7 +127,8 @@ spent_within left probes e ends spent = subst (EndsWithin left probes) spent end
 pub never_spent : (left probes : ℕ) (e : Effect) → IsDone e → e ≡ Spent → left < probes
 never_spent left probes e done spent = absurd (subst IsDone spent done)
 
-pub save_or_done : (old new : FlatState × FlatUndo) (i : Instruction) (e : Effect) → IsSaveAtMost old new i e → e ≡ Spent → ⊥
+pub save_or_done : (old new : FlatState × FlatUndo) (i : Instruction) (e : Effect) → IsSaveAtMost old new i e
+    → e ≡ Spent → ⊥
 save_or_done old new i e asks spent = absurd (subst (IsSaveAtMost old new i) spent asks)
 
 pub put_or_done : (e : Effect) (A : Type 0) → IsPutAtMost e A → e ≡ Spent → ⊥
@@ -126,14 +145,25 @@ within_asks left probes (Restore stream) h = absurd h
 within_asks left probes Quit h = refl
 within_asks left probes Spent h = refl
 
-pub ruleset answers = (print_answers, glk_answers, done_asks, within_asks, spent_within, never_spent, put_or_done, save_or_done)
+pub ruleset answers = (
+  print_answers,
+  glk_answers,
+  done_asks,
+  within_asks,
+  spent_within,
+  never_spent,
+  put_or_done,
+  save_or_done,
+)
 
 -- what is pending after a character was put by code
-pub print_pends : (f g : FlatState) (i : Instruction) → g ≡ f → f.mode ≡ Running → instruction f ≡ Ok i → i.row.class ≡ class.Print → IsHeight f i.sp → sp_of f ≤ f.stack.limit
+pub print_pends : (f g : FlatState) (i : Instruction) → g ≡ f → f.mode ≡ Running → instruction f ≡ Ok i
+    → i.row.class ≡ class.Print → IsHeight f i.sp → sp_of f ≤ f.stack.limit
     → IsPendingAnswer g (record { asking = asking.Put; sp = i.sp; dest = Nowhere; next = i.next; mode = Running })
 unfolding store_fault
 print_pends f g i same running decoded is height fits =
-    subst (λ (h : FlatState). IsPendingAnswer h (record { asking = asking.Put; sp = i.sp; dest = Nowhere; next = i.next; mode = Running })) (sym same)
+    subst (λ (h : FlatState). IsPendingAnswer h
+    (record { asking = asking.Put; sp = i.sp; dest = Nowhere; next = i.next; mode = Running })) (sym same)
     (record {
       height = height;
       stores = refl;
@@ -145,11 +175,13 @@ print_pends f g i same running decoded is height fits =
     })
 
 -- and by what is printed
-pub item_pends : (f g : FlatState) → g ≡ f → (f.mode ≡ Running → ⊥) → 0 < sp_of f → (frame_of f).values ≤ sp_of f → sp_of f % 4 ≡ 0 → sp_of f ≤ f.stack.limit
+pub item_pends : (f g : FlatState) → g ≡ f → (f.mode ≡ Running → ⊥) → 0 < sp_of f → (frame_of f).values ≤ sp_of f
+    → sp_of f % 4 ≡ 0 → sp_of f ≤ f.stack.limit
     → IsPendingAnswer g (record { asking = asking.Put; sp = sp_of f; dest = Nowhere; next = f.pc; mode = mode_after f })
 unfolding store_fault
 item_pends f g same printing live values aligned fits =
-    subst (λ (h : FlatState). IsPendingAnswer h (record { asking = asking.Put; sp = sp_of f; dest = Nowhere; next = f.pc; mode = mode_after f })) (sym same)
+    subst (λ (h : FlatState). IsPendingAnswer h
+    (record { asking = asking.Put; sp = sp_of f; dest = Nowhere; next = f.pc; mode = mode_after f })) (sym same)
     (record {
       height = record { live = live; values = values; there = omega arith; aligned = aligned };
       stores = refl;
@@ -161,9 +193,17 @@ item_pends f g same printing live values aligned fits =
     })
 
 -- what is pending after a Glk call
-pub glk_pends : (f : FlatState) (i : Instruction) (count room : ℕ) → f.mode ≡ Running → instruction f ≡ Ok i → i.row.class ≡ class.Glk → count ≡ L2 i
-    → IsHeight f (i.sp - 4 * count) → store_fault f 4 i.dest (i.sp - 4 * count) ≡ Ok tt → i.sp - 4 * count + 4 * room + result_len i.dest ≤ f.stack.limit
-    → IsPendingAnswer f (record { asking = asking.Glk room; sp = i.sp - 4 * count; dest = i.dest; next = i.next; mode = Running })
+pub glk_pends : (f : FlatState) (i : Instruction) (count room : ℕ) → f.mode ≡ Running → instruction f ≡ Ok i
+    → i.row.class ≡ class.Glk → count ≡ L2 i
+    → IsHeight f (i.sp - 4 * count) → store_fault f 4 i.dest (i.sp - 4 * count) ≡ Ok tt
+    → i.sp - 4 * count + 4 * room + result_len i.dest ≤ f.stack.limit
+    → IsPendingAnswer f (record {
+      asking = asking.Glk room;
+      sp = i.sp - 4 * count;
+      dest = i.dest;
+      next = i.next;
+      mode = Running;
+    })
 glk_pends f i count room running decoded is counted height stores fits = record {
   height = height;
   stores = stores;
@@ -175,20 +215,25 @@ glk_pends f i count room running decoded is counted height stores fits = record 
 }
 
 -- a store that has no fault has its room
-push_fits : (b : Bool) (sp limit : ℕ) → (b ≡ true → sp + 4 ≤ limit) → (let r : Result (Unit {0}) Fault = if b then Ok tt else Err Overflow in r ≡ Ok tt) → sp + 4 ≤ limit
+push_fits : (b : Bool) (sp limit : ℕ) → (b ≡ true → sp + 4 ≤ limit)
+    → (let r : Result (Unit {0}) Fault = if b then Ok tt else Err Overflow in r ≡ Ok tt) → sp + 4 ≤ limit
 push_fits true sp limit holds e = holds refl
 push_fits false sp limit holds e = cc
 
-pub store_fits : (f : FlatState) (d : Dest) (sp : ℕ) → store_fault f 4 d sp ≡ Ok tt → sp ≤ f.stack.limit → sp + result_len d ≤ f.stack.limit
+pub store_fits : (f : FlatState) (d : Dest) (sp : ℕ) → store_fault f 4 d sp ≡ Ok tt → sp ≤ f.stack.limit
+    → sp + result_len d ≤ f.stack.limit
 unfolding store_fault
 store_fits f Nowhere sp stores fits = omega arith
 store_fits f (Memory at) sp stores fits = omega arith
 store_fits f (Local at) sp stores fits = omega arith
-store_fits f Push sp stores fits = push_fits (nat_le (sp + 4) f.stack.limit) sp f.stack.limit (leb-true (sp + 4) f.stack.limit) stores
+store_fits f Push sp stores fits = push_fits (nat_le (sp + 4) f.stack.limit) sp f.stack.limit
+    (leb-true (sp + 4) f.stack.limit) stores
 
 -- what is pending after a save or a restore
-game_pends : (f : FlatState) (i : Instruction) (a : Asking) (above : ℕ) → room_of (Some a) ≡ 0 → (a ≡ asking.Save → above ≡ 16) → (a ≡ asking.Put → ⊥)
-    → f.mode ≡ Running → instruction f ≡ Ok i → i.row.class ≡ class.Game → IsHeight f i.sp → i.sp + above ≤ f.stack.limit → store_fault f 4 i.dest i.sp ≡ Ok tt
+game_pends : (f : FlatState) (i : Instruction) (a : Asking) (above : ℕ) → room_of (Some a) ≡ 0
+    → (a ≡ asking.Save → above ≡ 16) → (a ≡ asking.Put → ⊥)
+    → f.mode ≡ Running → instruction f ≡ Ok i → i.row.class ≡ class.Game → IsHeight f i.sp
+    → i.sp + above ≤ f.stack.limit → store_fault f 4 i.dest i.sp ≡ Ok tt
     → IsPendingAnswer f (record { asking = a; sp = i.sp; dest = i.dest; next = i.next; mode = Running })
 unfolding saved_copy
 game_pends f i a above none stub other running decoded is height fits stores =
@@ -207,15 +252,18 @@ pub save_pends : (f g : FlatState) (u v : FlatUndo) (i : Instruction) → IsAski
     → f.mode ≡ Running → instruction f ≡ Ok i → i.row.class ≡ class.Game → IsHeight f i.sp
     → IsPendingAnswer g (record { asking = asking.Save; sp = i.sp; dest = i.dest; next = i.next; mode = Running })
 save_pends f g u v i asks running decoded is height =
-    subst (λ (x : FlatState × FlatUndo). IsPendingAnswer x.0 (record { asking = asking.Save; sp = i.sp; dest = i.dest; next = i.next; mode = Running })) (sym asks.stands)
+    subst (λ (x : FlatState × FlatUndo). IsPendingAnswer x.0
+    (record { asking = asking.Save; sp = i.sp; dest = i.dest; next = i.next; mode = Running })) (sym asks.stands)
     (game_pends f i asking.Save 16 refl (λ saves. refl) (λ put. cc) running decoded is height asks.room asks.stores)
 
 pub restore_pends : (f g : FlatState) (u v : FlatUndo) (i : Instruction) → IsAsking (f, u) (g, v) i 0
     → f.mode ≡ Running → instruction f ≡ Ok i → i.row.class ≡ class.Game → IsHeight f i.sp
     → IsPendingAnswer g (record { asking = asking.Restore; sp = i.sp; dest = i.dest; next = i.next; mode = Running })
 restore_pends f g u v i asks running decoded is height =
-    subst (λ (x : FlatState × FlatUndo). IsPendingAnswer x.0 (record { asking = asking.Restore; sp = i.sp; dest = i.dest; next = i.next; mode = Running })) (sym asks.stands)
-    (game_pends f i asking.Restore 0 refl (λ saves. absurd cc) (λ put. cc) running decoded is height asks.room asks.stores)
+    subst (λ (x : FlatState × FlatUndo). IsPendingAnswer x.0
+    (record { asking = asking.Restore; sp = i.sp; dest = i.dest; next = i.next; mode = Running })) (sym asks.stands)
+    (game_pends f i asking.Restore 0 refl (λ saves. absurd cc)
+    (λ put. cc) running decoded is height asks.room asks.stores)
 
 -- a character that was put is answered with nothing to push or to write
 pub put_answered : (f : FlatState) (p : Pending) → IsPendingAnswer f p → p.asking ≡ asking.Put
@@ -224,4 +272,5 @@ put_answered f p is asks =
     let none : Reply = record { value = 0; pushes = []; writes = [] } in
     is.answers none
     ∙ ap (λ (d : Dest). resumed_at (replied f p.sp d none) p.next p.mode) (is.puts asks)
-    ∙ ap (λ (b : List ℕ). resumed_at (record f { stack = record f.stack { bytes = b } }) p.next p.mode) (append-nil (take p.sp f.stack.bytes))
+    ∙ ap (λ (b : List ℕ). resumed_at (record f { stack = record f.stack { bytes = b } }) p.next p.mode)
+    (append-nil (take p.sp f.stack.bytes))

@@ -1,5 +1,6 @@
 -- The rows of Copy and Memory within a budget.
-use Rattle.std.proofs.Common.{◌≡◌, ◌⊎◌, inl, inr, ℕ, nat_lt, if◌then◌else◌, Bool, true, false, Result, Ok, Err, IsOk, ap, subst, sym, ◌∙◌, refl}
+use Rattle.std.proofs.Common.{◌≡◌, ◌⊎◌, inl, inr, ℕ, nat_lt, if◌then◌else◌, Bool, true, false, Result, Ok, Err, IsOk}
+use Rattle.std.proofs.Common.{ap, subst, sym, ◌∙◌, refl}
 use Rattle.gx_words.specs.declared.faults.Fault.{Fault}
 use Rattle.gx_words.specs.Faults.{Does}
 use Rattle.gx_rows.specs.declared.instructions.Class.{Class}
@@ -32,27 +33,37 @@ charged-by m left probes true r = refl
 charged-by m left probes false (Ok x) = refl
 charged-by m left probes false (Err fault) = refl
 
-charged-beside : (m : FlatMachine) (left probes : ℕ) (r : Result (FlatState × Effect) Fault) → charged left probes m (with_copies m.undo r) ≡ beside m.undo (charged left probes m.flat r)
+charged-beside : (m : FlatMachine) (left probes : ℕ) (r : Result (FlatState × Effect) Fault)
+    → charged left probes m (with_copies m.undo r) ≡ beside m.undo (charged left probes m.flat r)
 charged-beside m left probes r = charged-by m left probes (nat_lt left probes) r
 
-acted-beside : (m : FlatMachine) (c : Class) (i : Instruction) (left : ℕ) → charged left (probes_of c m.flat i) m (with_copies m.undo (memory.row_effect c m.flat i)) ≡ beside m.undo (acted c m.flat i left)
+acted-beside : (m : FlatMachine) (c : Class) (i : Instruction) (left : ℕ)
+    → charged left (probes_of c m.flat i) m (with_copies m.undo (memory.row_effect c m.flat i))
+    ≡ beside m.undo (acted c m.flat i left)
 unfolding acted
 acted-beside m c i left = charged-beside m left (probes_of c m.flat i) (memory.row_effect c m.flat i)
 
 -- the two classes
-memory-beside : (m : FlatMachine) (c : Class) (word left : ℕ) (i : Instruction) → (c ≡ class.Copy) ⊎ (c ≡ class.Memory) → charged left (probes_of c m.flat i) m (row_effect c m word i) ≡ beside m.undo (acted c m.flat i left)
+memory-beside : (m : FlatMachine) (c : Class) (word left : ℕ) (i : Instruction) → (c ≡ class.Copy)
+    ⊎ (c ≡ class.Memory) → charged left (probes_of c m.flat i) m (row_effect c m word i)
+    ≡ beside m.undo (acted c m.flat i left)
 memory-beside m c word left i (inl is) = rw is (acted-beside m class.Copy i left)
 memory-beside m c word left i (inr is) = rw is (acted-beside m class.Memory i left)
 
-memory-writing : (m : FlatMachine) (c : Class) (i : Instruction) → (c ≡ class.Copy) ⊎ (c ≡ class.Memory) → memory_writes.IsWriting c m.flat i → IsWriting c m i
-memory-writing m c i (inl is) writes = subst (λ (x : Class). IsWriting x m i) (sym is) (subst (λ (x : Class). memory_writes.IsWriting x m.flat i) is writes)
-memory-writing m c i (inr is) writes = subst (λ (x : Class). IsWriting x m i) (sym is) (subst (λ (x : Class). memory_writes.IsWriting x m.flat i) is writes)
+memory-writing : (m : FlatMachine) (c : Class) (i : Instruction) → (c ≡ class.Copy) ⊎ (c ≡ class.Memory)
+    → memory_writes.IsWriting c m.flat i → IsWriting c m i
+memory-writing m c i (inl is) writes = subst (λ (x : Class). IsWriting x m i) (sym is)
+    (subst (λ (x : Class). memory_writes.IsWriting x m.flat i) is writes)
+memory-writing m c i (inr is) writes = subst (λ (x : Class). IsWriting x m i) (sym is)
+    (subst (λ (x : Class). memory_writes.IsWriting x m.flat i) is writes)
 
 -- a call that does it to the state does it to the machine
-does-beside : (A B : Type 0) (f g : FlatState) (u : FlatUndo) (left left' : ℕ) (r : Result Effect Fault) (d : Result ((FlatState × ℕ) × Effect) Fault) (d' : Result ((FlatMachine × ℕ) × Effect) Fault)
+does-beside : (A B : Type 0) (f g : FlatState) (u : FlatUndo) (left left' : ℕ) (r : Result Effect Fault)
+    (d : Result ((FlatState × ℕ) × Effect) Fault) (d' : Result ((FlatMachine × ℕ) × Effect) Fault)
     → d' ≡ beside u d → (A → B)
     → Does {X = Effect} {Y = Effect} {S = FlatState × ℕ} A (λ effect. effect) r (f, left) (g, left') d
-    → Does {X = Effect} {Y = Effect} {S = FlatMachine × ℕ} B (λ effect. effect) r (record { flat = f; undo = u }, left) (record { flat = g; undo = u }, left') d'
+    → Does {X = Effect} {Y = Effect} {S = FlatMachine × ℕ} B (λ effect. effect) r
+    (record { flat = f; undo = u }, left) (record { flat = g; undo = u }, left') d'
 does-beside A B f g u left left' (Ok x) d d' same wants does = same ∙ ap (beside u) does
 does-beside A B f g u left left' (Err fault) d d' same wants does = (
   ap (λ (x : FlatState × ℕ). (record { flat = x.0; undo = u }, x.1)) does.0,
@@ -62,8 +73,12 @@ does-beside A B f g u left left' (Err fault) d d' same wants does = (
   ),
 )
 
-pub memory_does : (m : FlatMachine) (c : Class) (word left left' : ℕ) (i : Instruction) (g : FlatState) (r : Result Effect Fault) → (c ≡ class.Copy) ⊎ (c ≡ class.Memory)
-    → Does {X = Effect} {Y = Effect} {S = FlatState × ℕ} (memory_writes.IsWriting c m.flat i) (λ effect. effect) r (m.flat, left) (g, left') (acted c m.flat i left)
-    → Does {X = Effect} {Y = Effect} {S = FlatMachine × ℕ} (IsWriting c m i) (λ effect. effect) r (m, left) (record { flat = g; undo = m.undo }, left') (charged left (probes_of c m.flat i) m (row_effect c m word i))
+pub memory_does : (m : FlatMachine) (c : Class) (word left left' : ℕ) (i : Instruction) (g : FlatState)
+    (r : Result Effect Fault) → (c ≡ class.Copy) ⊎ (c ≡ class.Memory)
+    → Does {X = Effect} {Y = Effect} {S = FlatState × ℕ} (memory_writes.IsWriting c m.flat i) (λ effect. effect) r
+    (m.flat, left) (g, left') (acted c m.flat i left)
+    → Does {X = Effect} {Y = Effect} {S = FlatMachine × ℕ} (IsWriting c m i) (λ effect. effect) r (m, left)
+    (record { flat = g; undo = m.undo }, left') (charged left (probes_of c m.flat i) m (row_effect c m word i))
 memory_does m c word left left' i g r is does =
-    does-beside (memory_writes.IsWriting c m.flat i) (IsWriting c m i) m.flat g m.undo left left' r (acted c m.flat i left) _ (memory-beside m c word left i is) (memory-writing m c i is) does
+    does-beside (memory_writes.IsWriting c m.flat i) (IsWriting c m i) m.flat g m.undo left left' r
+    (acted c m.flat i left) _ (memory-beside m c word left i is) (memory-writing m c i is) does

@@ -1,5 +1,6 @@
 -- An instruction that begins to print, drops a character, or calls the filter with one.
-use Rattle.std.proofs.Common.{◌≡◌, ◌≤◌, ◌+◌, ◌%◌, ℕ, suc, Bool, true, false, [], ◌∷◌, length, Some, None, Ok, Result, refl, ap, subst, sym, ◌∙◌}
+use Rattle.std.proofs.Common.{◌≡◌, ◌≤◌, ◌+◌, ◌%◌, ℕ, suc, Bool, true, false, [], ◌∷◌, length, Some, None, Ok, Result}
+use Rattle.std.proofs.Common.{refl, ap, subst, sym, ◌∙◌}
 use Rattle.gx_words.specs.declared.faults.Fault.{Fault}
 use Rattle.gx_words.specs.declared.strings.Printing.{Printing}
 use Rattle.gx_words.specs.declared.strings.PrintKind.TheVariants.{Number}
@@ -39,7 +40,8 @@ unfolding row_of table
 string_row = refl
 
 pub started_number : (f g : FlatState) (modes first a : ℕ) (p : Cursor) → opcode f ≡ Ok (numbers.streamnum, modes)
-    → modes + 1 ≤ length f.memory → first ≡ byte f.memory modes → load f 4 (first % 16) (record { at = modes + 1; popped = 0 }) ≡ Ok (a, p)
+    → modes + 1 ≤ length f.memory → first ≡ byte f.memory modes
+    → load f 4 (first % 16) (record { at = modes + 1; popped = 0 }) ≡ Ok (a, p)
     → g ≡ begun_on f (record { kind = Number; at = a; bit = 0; started = false }) p → IsStarted f g
 unfolding streamnum
 started_number f g modes first a p read there is one begun = record {
@@ -49,8 +51,10 @@ started_number f g modes first a p read there is one begun = record {
   goes = rw begun refl;
 }
 
-pub started_string : (f g : FlatState) (modes first a : ℕ) (p : Cursor) (string : Printing) → opcode f ≡ Ok (numbers.streamstr, modes)
-    → modes + 1 ≤ length f.memory → first ≡ byte f.memory modes → load f 4 (first % 16) (record { at = modes + 1; popped = 0 }) ≡ Ok (a, p)
+pub started_string : (f g : FlatState) (modes first a : ℕ) (p : Cursor) (string : Printing)
+    → opcode f ≡ Ok (numbers.streamstr, modes)
+    → modes + 1 ≤ length f.memory → first ≡ byte f.memory modes
+    → load f 4 (first % 16) (record { at = modes + 1; popped = 0 }) ≡ Ok (a, p)
     → string_at f.memory a ≡ Ok string → g ≡ begun_on f string p → IsStarted f g
 unfolding streamstr
 started_string f g modes first a p string read there is one stands begun = record {
@@ -61,7 +65,8 @@ started_string f g modes first a p string read there is one stands begun = recor
 }
 
 pub streamed_char : (f g : FlatState) (modes first a : ℕ) (p : Cursor) → opcode f ≡ Ok (numbers.streamchar, modes)
-    → modes + 1 ≤ length f.memory → first ≡ byte f.memory modes → load f 4 (first % 16) (record { at = modes + 1; popped = 0 }) ≡ Ok (a, p)
+    → modes + 1 ≤ length f.memory → first ≡ byte f.memory modes
+    → load f 4 (first % 16) (record { at = modes + 1; popped = 0 }) ≡ Ok (a, p)
     → streamed_on f (a % 256) p ≡ Ok (g, Went) → IsStarted f g
 unfolding streamchar
 streamed_char f g modes first a p read there is one goes = record {
@@ -72,7 +77,8 @@ streamed_char f g modes first a p read there is one goes = record {
 }
 
 pub streamed_unichar : (f g : FlatState) (modes first a : ℕ) (p : Cursor) → opcode f ≡ Ok (numbers.streamunichar, modes)
-    → modes + 1 ≤ length f.memory → first ≡ byte f.memory modes → load f 4 (first % 16) (record { at = modes + 1; popped = 0 }) ≡ Ok (a, p)
+    → modes + 1 ≤ length f.memory → first ≡ byte f.memory modes
+    → load f 4 (first % 16) (record { at = modes + 1; popped = 0 }) ≡ Ok (a, p)
     → streamed_on f a p ≡ Ok (g, Went) → IsStarted f g
 unfolding streamunichar
 streamed_unichar f g modes first a p read there is one goes = record {
@@ -86,7 +92,8 @@ pub ruleset starts = (started_number, started_string, streamed_char, streamed_un
 
 -- ---- its step
 
-effect_by : (c : Class) (u : FlatUndo) (f g : FlatState) (word : ℕ) (i : Instruction) → c ≡ class.Print → print.row_effect f i ≡ Ok (g, Went)
+effect_by : (c : Class) (u : FlatUndo) (f g : FlatState) (word : ℕ) (i : Instruction) → c ≡ class.Print
+    → print.row_effect f i ≡ Ok (g, Went)
     → row_effect c (record { flat = f; undo = u }) word i ≡ Ok (record { flat = g; undo = u }, Went)
 effect_by c u f g word i is goes =
     ap (λ (d : Class). row_effect d (record { flat = f; undo = u }) word i) is ∙ ap (with_copies u) goes
@@ -94,7 +101,8 @@ effect_by c u f g word i is goes =
 pub started_steps : (f g : FlatState) → IsStarted f g → (u : FlatUndo) (word : ℕ)
     → mode_step (record { flat = f; undo = u }) word Running ≡ Ok (record { flat = g; undo = u }, Went)
 started_steps f g s u word =
-    ap (λ (r : Result Instruction Fault). r >>= (λ (i : Instruction). row_effect i.row.class (record { flat = f; undo = u }) word i)) s.reads
+    ap (λ (r : Result Instruction Fault). r
+    >>= (λ (i : Instruction). row_effect i.row.class (record { flat = f; undo = u }) word i)) s.reads
     ∙ effect_by s.i.row.class u f g word s.i s.prints s.goes
 
 pub started_probes : (f g : FlatState) → IsStarted f g → probes_in f Running ≡ 0
@@ -102,17 +110,22 @@ started_probes f g s = ap (probes_by f) s.reads ∙ ap (λ (d : Class). probes_o
 
 -- ---- steps after steps
 
-then_tried : (word n : ℕ) (a b c : Whole × ℕ) (r : Bool) → Passes word n a None b None → Tries {S = Whole × ℕ} ⊥ (Ok r) b c (stepped b.0 word b.1) → (k : ℕ) × Passes word k a None c None
+then_tried : (word n : ℕ) (a b c : Whole × ℕ) (r : Bool) → Passes word n a None b None
+    → Tries {S = Whole × ℕ} ⊥ (Ok r) b c (stepped b.0 word b.1) → (k : ℕ) × Passes word k a None c None
 then_tried word n a b c true first then = (suc n, (b, None, first, then, refl))
 then_tried word n a b c false first same = (n, subst (λ (x : Whole × ℕ). Passes word n a None x None) (sym same) first)
 
 pub no_passes : (w : Whole) (budget : ℕ) → (word : ℕ) → (n : ℕ) × Passes word n (w, budget) None (w, budget) None
 no_passes w budget word = (0, (refl, refl))
 
-pub tried_alone : (a b : Whole × ℕ) (r : Bool) → ((word : ℕ) → Tries {S = Whole × ℕ} ⊥ (Ok r) a b (stepped a.0 word a.1)) → (word : ℕ) → (n : ℕ) × Passes word n a None b None
+pub tried_alone : (a b : Whole × ℕ) (r : Bool)
+    → ((word : ℕ) → Tries {S = Whole × ℕ} ⊥ (Ok r) a b (stepped a.0 word a.1)) → (word : ℕ)
+    → (n : ℕ) × Passes word n a None b None
 tried_alone a b r tries word = then_tried word 0 a a b r (refl, refl) (tries word)
 
-pub tried_then : (a b c : Whole × ℕ) (r : Bool) → ((word : ℕ) → Tries {S = Whole × ℕ} ⊥ (Ok r) a b (stepped a.0 word a.1)) → ((word : ℕ) → (n : ℕ) × Passes word n b None c None)
+pub tried_then : (a b c : Whole × ℕ) (r : Bool)
+    → ((word : ℕ) → Tries {S = Whole × ℕ} ⊥ (Ok r) a b (stepped a.0 word a.1))
+    → ((word : ℕ) → (n : ℕ) × Passes word n b None c None)
     → (word : ℕ) → (n : ℕ) × Passes word n a None c None
 tried_then a b c r tries passes word =
     let one = tried_alone a b r tries word in

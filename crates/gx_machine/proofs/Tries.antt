@@ -1,5 +1,6 @@
 -- What the quick way does is the machine's step.
-use Rattle.std.proofs.Common.{◌≡◌, ◌≤◌, ◌<◌, ◌==◌, ◌&&◌, ◌||◌, not, ℕ, Bool, true, false, nat_le, refl, ap, subst, sym, ◌∙◌, arith, Result, Ok, Err, IsOk, IsOkAnd}
+use Rattle.std.proofs.Common.{◌≡◌, ◌≤◌, ◌<◌, ◌==◌, ◌&&◌, ◌||◌, not, ℕ, Bool, true, false, nat_le, refl, ap, subst}
+use Rattle.std.proofs.Common.{sym, ◌∙◌, arith, Result, Ok, Err, IsOk, IsOkAnd}
 use Rattle.std.specs.List.{list_all}
 use Rattle.std.specs.Option.{ok_or}
 use Rattle.std.proofs.lemmas.Bool.Decides.{nat_tests}
@@ -21,7 +22,8 @@ use Rattle.gx_undo.specs.Undo.{FlatUndo}
 use Rattle.ops_memory.specs.Costs.{probes_of}
 use Rattle.ops_flow.proofs.Acts.{calc_act, branch_act}
 use Rattle.gx_machine.specs.Machine.{FlatMachine}
-use Rattle.gx_machine.specs.Quick.{Tries, IsPlain, IsQuick, quick_effect, IsQuickWriting, quick_row, IsRowWriting, read_as}
+use Rattle.gx_machine.specs.Quick.{Tries, IsPlain, IsQuick, quick_effect, IsQuickWriting, quick_row, IsRowWriting}
+use Rattle.gx_machine.specs.Quick.{read_as}
 use Rattle.gx_machine.specs.Rows.{row_effect, with_copies, IsWriting}
 use Rattle.gx_machine.specs.Step.{mode_step, probes_in, IsModeWriting}
 use Rattle.gx_machine.proofs.Costs.{probes_by}
@@ -33,7 +35,8 @@ is_plain r = r.width == 4 && not r.store_first
 
 -- a row of at most three loads is no search, and is plain where it isn't a load and a store
 abbrev is_short : Row → Bool
-is_short r = nat_le 4 r.loads || (not (r.number == numbers.linearsearch || r.number == numbers.binarysearch || r.number == numbers.linkedsearch) && (r.loads == 0 || (r.loads == 1 && r.stores == 1) || is_plain r))
+is_short r = nat_le 4 r.loads || (not (r.number == numbers.linearsearch || r.number == numbers.binarysearch ||
+    r.number == numbers.linkedsearch) && (r.loads == 0 || (r.loads == 1 && r.stores == 1) || is_plain r))
 
 all_short : list_all is_short table ≡ true
 unfolding table
@@ -46,7 +49,8 @@ short place within = AllPass-from_list_all is_short table all_short place _ (ome
 plain_by : (r : Row) → is_plain r ≡ true → IsPlain r
 plain_by r is = record { width = grind (arith, nat_tests); in_order = grind (arith, nat_tests) }
 
-pub one_plain : (place : ℕ) → place < row_count → (row_at place).loads ≡ 1 → (row_at place).stores ≡ 0 → IsPlain (row_at place)
+pub one_plain : (place : ℕ) → place < row_count → (row_at place).loads ≡ 1 → (row_at place).stores ≡ 0
+    → IsPlain (row_at place)
 one_plain place within one none = let is = short place within in plain_by (row_at place) (grind (arith, nat_tests))
 
 pub two_plain : (place : ℕ) → place < row_count → (row_at place).loads ≡ 2 → IsPlain (row_at place)
@@ -78,13 +82,16 @@ ordered_by : (c : Class) (first : Bool) → not (is_copy c && first) ≡ true �
 unfolding is_copy
 ordered_by c first is copy = let ordered : not first ≡ true = (rw copy at is) in grind (arith, nat_tests)
 
-pub copy_in_order : (place : ℕ) → place < row_count → (row_at place).class ≡ class.Copy → (row_at place).store_first ≡ false
+pub copy_in_order : (place : ℕ) → place < row_count → (row_at place).class ≡ class.Copy
+    → (row_at place).store_first ≡ false
 unfolding row_at
-copy_in_order place within copy = ordered_by (row_at place).class (row_at place).store_first (AllPass-from_list_all copies_in_order table all_in_order place _ (omega (arith, rows_counted))) copy
+copy_in_order place within copy = ordered_by (row_at place).class (row_at place).store_first
+    (AllPass-from_list_all copies_in_order table all_in_order place _ (omega (arith, rows_counted))) copy
 
 -- ---- a short row begins no probes
 
-no_search : (place : ℕ) → place < row_count → (row_at place).loads ≤ 3 → (f : FlatState) (i : Instruction) → i.row ≡ row_at place → probes_of class.Memory f i ≡ 0
+no_search : (place : ℕ) → place < row_count → (row_at place).loads ≤ 3 → (f : FlatState) (i : Instruction)
+    → i.row ≡ row_at place → probes_of class.Memory f i ≡ 0
 no_search place within few f i is =
     let all = short place within in
     let linear : ((row_at place).number == numbers.linearsearch) ≡ false = grind (arith, nat_tests) in
@@ -106,17 +113,23 @@ by_class class.Glk f i none = refl
 abbrev instruction_by : FlatState → Row → Result Operands Fault → Result Instruction Fault
 instruction_by f row r = r >>= (λ (o : Operands). Ok (read_as f row o))
 
-by_operands : (place : ℕ) → place < row_count → (row_at place).loads ≤ 3 → (f : FlatState) (r : Result Operands Fault) → probes_by f (instruction_by f (row_at place) r) ≡ 0
-by_operands place within few f (Ok o) = by_class (row_at place).class f (read_as f (row_at place) o) (no_search place within few f (read_as f (row_at place) o) refl)
+by_operands : (place : ℕ) → place < row_count → (row_at place).loads ≤ 3 → (f : FlatState) (r : Result Operands Fault)
+    → probes_by f (instruction_by f (row_at place) r) ≡ 0
+by_operands place within few f (Ok o) = by_class (row_at place).class f (read_as f (row_at place) o)
+    (no_search place within few f (read_as f (row_at place) o) refl)
 by_operands place within few f (Err e) = refl
 
-pub instruction_is : (f : FlatState) (number modes : ℕ) (row : Row) → opcode f ≡ Ok (number, modes) → ok_or (row_of number) BadOpcode ≡ Ok row → instruction f ≡ instruction_by f row (all_operands f row modes)
+pub instruction_is : (f : FlatState) (number modes : ℕ) (row : Row) → opcode f ≡ Ok (number, modes)
+    → ok_or (row_of number) BadOpcode ≡ Ok row → instruction f ≡ instruction_by f row (all_operands f row modes)
 unfolding instruction
 instruction_is f number modes row read found = rw (read, found) refl
 
-pub no_probes : (f : FlatState) (number modes place : ℕ) → opcode f ≡ Ok (number, modes) → ok_or (row_of number) BadOpcode ≡ Ok (row_at place) → place < row_count → (row_at place).loads ≤ 3 → probes_in f Running ≡ 0
+pub no_probes : (f : FlatState) (number modes place : ℕ) → opcode f ≡ Ok (number, modes)
+    → ok_or (row_of number) BadOpcode ≡ Ok (row_at place) → place < row_count → (row_at place).loads ≤ 3
+    → probes_in f Running ≡ 0
 no_probes f number modes place read found within few =
-    ap (probes_by f) (instruction_is f number modes (row_at place) read found) ∙ by_operands place within few f (all_operands f (row_at place) modes)
+    ap (probes_by f) (instruction_is f number modes (row_at place) read found)
+    ∙ by_operands place within few f (all_operands f (row_at place) modes)
 
 -- ---- a fault before the row
 
@@ -128,17 +141,20 @@ pub no_number_probes : (f : FlatState) (e : Fault) → opcode f ≡ Err e → pr
 unfolding instruction
 no_number_probes f e fails = rw fails refl
 
-pub no_row : (m : FlatMachine) (word number modes : ℕ) (e : Fault) → opcode m.flat ≡ Ok (number, modes) → ok_or (row_of number) BadOpcode ≡ Err e → mode_step m word Running ≡ Err e
+pub no_row : (m : FlatMachine) (word number modes : ℕ) (e : Fault) → opcode m.flat ≡ Ok (number, modes)
+    → ok_or (row_of number) BadOpcode ≡ Err e → mode_step m word Running ≡ Err e
 unfolding instruction
 no_row m word number modes e read fails = rw (read, fails) refl
 
-pub no_row_probes : (f : FlatState) (number modes : ℕ) (e : Fault) → opcode f ≡ Ok (number, modes) → ok_or (row_of number) BadOpcode ≡ Err e → probes_in f Running ≡ 0
+pub no_row_probes : (f : FlatState) (number modes : ℕ) (e : Fault) → opcode f ≡ Ok (number, modes)
+    → ok_or (row_of number) BadOpcode ≡ Err e → probes_in f Running ≡ 0
 unfolding instruction
 no_row_probes f number modes e read fails = rw (read, fails) refl
 
 -- ---- the row
 
-effect_is : (c : Class) → IsQuick c → (m : FlatMachine) (word : ℕ) (i : Instruction) → row_effect c m word i ≡ with_copies m.undo (quick_effect c m.flat i)
+effect_is : (c : Class) → IsQuick c → (m : FlatMachine) (word : ℕ) (i : Instruction)
+    → row_effect c m word i ≡ with_copies m.undo (quick_effect c m.flat i)
 effect_is class.Calc q m word i = refl
 effect_is class.Branch q m word i = refl
 effect_is class.Flow q m word i = refl
@@ -161,31 +177,40 @@ writing_is class.Game q m i w = absurd q
 writing_is class.Glk q m i w = absurd q
 
 step_by : (m : FlatMachine) (word : ℕ) (row : Row) → IsQuick row.class → (r : Result Operands Fault)
-    → (instruction_by m.flat row r >>= (λ (i : Instruction). row_effect i.row.class m word i)) ≡ with_copies m.undo (r >>= (λ (o : Operands). quick_effect row.class m.flat (read_as m.flat row o)))
+    → (instruction_by m.flat row r >>= (λ (i : Instruction). row_effect i.row.class m word i))
+    ≡ with_copies m.undo (r >>= (λ (o : Operands). quick_effect row.class m.flat (read_as m.flat row o)))
 step_by m word row q (Ok o) = effect_is row.class q m word (read_as m.flat row o)
 step_by m word row q (Err e) = refl
 
-step_is : (m : FlatMachine) (word number modes : ℕ) (row : Row) → opcode m.flat ≡ Ok (number, modes) → ok_or (row_of number) BadOpcode ≡ Ok row → IsQuick row.class
+step_is : (m : FlatMachine) (word number modes : ℕ) (row : Row) → opcode m.flat ≡ Ok (number, modes)
+    → ok_or (row_of number) BadOpcode ≡ Ok row → IsQuick row.class
     → mode_step m word Running ≡ with_copies m.undo (quick_row m.flat row modes)
 step_is m word number modes row read found q =
-    ap (λ (r : Result Instruction Fault). r >>= (λ (i : Instruction). row_effect i.row.class m word i)) (instruction_is m.flat number modes row read found)
+    ap (λ (r : Result Instruction Fault). r >>= (λ (i : Instruction). row_effect i.row.class m word i))
+    (instruction_is m.flat number modes row read found)
     ∙ step_by m word row q (all_operands m.flat row modes)
 
-wants_by : (m : FlatMachine) (row : Row) → IsQuick row.class → (r : Result Operands Fault) → IsOkAnd r (λ o. IsQuickWriting row.class m.flat (read_as m.flat row o)) → IsOkAnd (instruction_by m.flat row r) (λ i. IsWriting i.row.class m i)
+wants_by : (m : FlatMachine) (row : Row) → IsQuick row.class → (r : Result Operands Fault)
+    → IsOkAnd r (λ o. IsQuickWriting row.class m.flat (read_as m.flat row o))
+    → IsOkAnd (instruction_by m.flat row r) (λ i. IsWriting i.row.class m i)
 wants_by m row q (Ok o) w = writing_is row.class q m (read_as m.flat row o) w
 wants_by m row q (Err e) w = absurd w
 
-wants_is : (m : FlatMachine) (number modes : ℕ) (row : Row) → opcode m.flat ≡ Ok (number, modes) → ok_or (row_of number) BadOpcode ≡ Ok row → IsQuick row.class
+wants_is : (m : FlatMachine) (number modes : ℕ) (row : Row) → opcode m.flat ≡ Ok (number, modes)
+    → ok_or (row_of number) BadOpcode ≡ Ok row → IsQuick row.class
     → IsRowWriting m.flat row modes → IsModeWriting m Running
 wants_is m number modes row read found q w =
-    subst (λ (r : Result Instruction Fault). IsOkAnd r (λ i. IsWriting i.row.class m i)) (sym (instruction_is m.flat number modes row read found)) (wants_by m row q (all_operands m.flat row modes) w)
+    subst (λ (r : Result Instruction Fault). IsOkAnd r (λ i. IsWriting i.row.class m i))
+    (sym (instruction_is m.flat number modes row read found)) (wants_by m row q (all_operands m.flat row modes) w)
 
 copies-ok : (u : FlatUndo) (r : Result (FlatState × Effect) Fault) → IsOk r → IsOk (with_copies u r)
 copies-ok u (Ok x) ok = ok
 copies-ok u (Err e) ok = ok
 
-lifted : (A B : Type 0) (f g : FlatState) (u : FlatUndo) (r : Result Bool Fault) (d : Result (FlatState × Effect) Fault) (d' : Result (FlatMachine × Effect) Fault)
-    → d' ≡ with_copies u d → (A → B) → Tries {S = FlatState} A r f g d → Tries {S = FlatMachine} B r (record { flat = f; undo = u }) (record { flat = g; undo = u }) d'
+lifted : (A B : Type 0) (f g : FlatState) (u : FlatUndo) (r : Result Bool Fault)
+    (d : Result (FlatState × Effect) Fault) (d' : Result (FlatMachine × Effect) Fault)
+    → d' ≡ with_copies u d → (A → B) → Tries {S = FlatState} A r f g d
+    → Tries {S = FlatMachine} B r (record { flat = f; undo = u }) (record { flat = g; undo = u }) d'
 lifted A B f g u (Ok true) d d' same wants t = same ∙ ap (with_copies u) t
 lifted A B f g u (Ok false) d d' same wants t = ap (λ (x : FlatState). record { flat = x; undo = u }) t
 lifted A B f g u (Err e) d d' same wants t = (
@@ -196,11 +221,29 @@ lifted A B f g u (Err e) d d' same wants t = (
   ),
 )
 
-pub row_tried : (f g : FlatState) (u : FlatUndo) (word number modes : ℕ) (row : Row) (r : Result Bool Fault) → opcode f ≡ Ok (number, modes) → ok_or (row_of number) BadOpcode ≡ Ok row → IsQuick row.class
+pub row_tried : (f g : FlatState) (u : FlatUndo) (word number modes : ℕ) (row : Row) (r : Result Bool Fault)
+    → opcode f ≡ Ok (number, modes) → ok_or (row_of number) BadOpcode ≡ Ok row → IsQuick row.class
     → Tries {S = FlatState} (IsRowWriting f row modes) r f g (quick_row f row modes)
-    → Tries {S = FlatMachine} (IsModeWriting (record { flat = f; undo = u }) Running) r (record { flat = f; undo = u }) (record { flat = g; undo = u }) (mode_step (record { flat = f; undo = u }) word Running)
+    → Tries {S = FlatMachine} (IsModeWriting (record { flat = f; undo = u }) Running) r
+    (record { flat = f; undo = u }) (record { flat = g; undo = u })
+    (mode_step (record { flat = f; undo = u }) word Running)
 row_tried f g u word number modes row r read found q t =
-    lifted (IsRowWriting f row modes) (IsModeWriting (record { flat = f; undo = u }) Running) f g u r (quick_row f row modes) _
-    (step_is (record { flat = f; undo = u }) word number modes row read found q) (wants_is (record { flat = f; undo = u }) number modes row read found q) t
+    lifted (IsRowWriting f row modes) (IsModeWriting (record { flat = f; undo = u }) Running) f g u r
+    (quick_row f row modes) _
+    (step_is (record { flat = f; undo = u }) word number modes row read found q)
+    (wants_is (record { flat = f; undo = u }) number modes row read found q) t
 
-pub ruleset rows = (calc_act, branch_act, one_plain, two_plain, three_plain, copy_in_order, no_probes, no_number, no_number_probes, no_row, no_row_probes, row_tried)
+pub ruleset rows = (
+  calc_act,
+  branch_act,
+  one_plain,
+  two_plain,
+  three_plain,
+  copy_in_order,
+  no_probes,
+  no_number,
+  no_number_probes,
+  no_row,
+  no_row_probes,
+  row_tried,
+)

@@ -50,7 +50,8 @@ all-options : command_of (words many-options) ≡ Some (record {
 unfolding clap_on_literals command_of faults_of matched_in player
 all-options = refl
 
-most-steps : command_of (words ([] ∷ codes "--steps" ∷ codes "18446744073709551615" ∷ [])) ≡ Some (record (usual []) { steps = 18446744073709551615 })
+most-steps : command_of (words ([] ∷ codes "--steps" ∷ codes "18446744073709551615" ∷ []))
+    ≡ Some (record (usual []) { steps = 18446744073709551615 })
 unfolding clap_on_literals command_of faults_of matched_in player
 most-steps = refl
 
@@ -74,7 +75,8 @@ no-undo : command_of (words (codes "hall.ulx" ∷ codes "--undo" ∷ codes "0" �
 unfolding clap_on_literals command_of faults_of matched_in player
 no-undo = refl
 
-least-undo : command_of (words (codes "hall.ulx" ∷ codes "--undo=1" ∷ [])) ≡ Some (record (usual (codes "hall.ulx")) { undo = 1 })
+least-undo : command_of (words (codes "hall.ulx" ∷ codes "--undo=1" ∷ []))
+    ≡ Some (record (usual (codes "hall.ulx")) { undo = 1 })
 unfolding clap_on_literals command_of faults_of matched_in player
 least-undo = refl
 
@@ -82,7 +84,8 @@ too-much-undo : command_of (words (codes "hall.ulx" ∷ codes "--undo" ∷ codes
 unfolding clap_on_literals command_of faults_of matched_in player
 too-much-undo = refl
 
-least-seed : command_of (words (codes "hall.ulx" ∷ codes "--seed" ∷ codes "0" ∷ [])) ≡ Some (record (usual (codes "hall.ulx")) { seed = Some 0 })
+least-seed : command_of (words (codes "hall.ulx" ∷ codes "--seed" ∷ codes "0" ∷ []))
+    ≡ Some (record (usual (codes "hall.ulx")) { seed = Some 0 })
 unfolding clap_on_literals command_of faults_of matched_in player
 least-seed = refl
 
@@ -94,16 +97,19 @@ no-seed : command_of (words (codes "hall.ulx" ∷ codes "--seed" ∷ codes "x" �
 unfolding clap_on_literals command_of faults_of matched_in player
 no-seed = refl
 
-a-rewind : command_of (words (codes "hall.ulx" ∷ codes "--job" ∷ codes "rewind" ∷ [])) ≡ Some (record (usual (codes "hall.ulx")) { job = Rewind })
+a-rewind : command_of (words (codes "hall.ulx" ∷ codes "--job" ∷ codes "rewind" ∷ []))
+    ≡ Some (record (usual (codes "hall.ulx")) { job = Rewind })
 unfolding clap_on_literals command_of faults_of matched_in player
 a-rewind = refl
 
-most-back : command_of (words (codes "hall.ulx" ∷ codes "--back" ∷ codes "18446744073709551615" ∷ codes "--job=rewind" ∷ []))
+most-back : command_of (words (codes "hall.ulx" ∷ codes "--back" ∷ codes "18446744073709551615" ∷ codes "--job=rewind"
+    ∷ []))
     ≡ Some (record (usual (codes "hall.ulx")) { back = 18446744073709551615; job = Rewind })
 unfolding clap_on_literals command_of faults_of matched_in player
 most-back = refl
 
-too-far-back : command_of (words (codes "hall.ulx" ∷ codes "--back" ∷ codes "18446744073709551616" ∷ codes "--job=rewind" ∷ [])) ≡ None
+too-far-back : command_of (words (codes "hall.ulx" ∷ codes "--back" ∷ codes "18446744073709551616"
+    ∷ codes "--job=rewind" ∷ [])) ≡ None
 unfolding clap_on_literals command_of faults_of matched_in player
 too-far-back = refl
 
@@ -115,7 +121,8 @@ a-dash : command_of (words (codes "-" ∷ [])) ≡ Some (usual (codes "-"))
 unfolding clap_on_literals command_of faults_of matched_in player
 a-dash = refl
 
-most-work : command_of (words (codes "4294967295" ∷ codes "--job" ∷ codes "work" ∷ [])) ≡ Some (record (usual (codes "4294967295")) { job = Work 4294967295 })
+most-work : command_of (words (codes "4294967295" ∷ codes "--job" ∷ codes "work" ∷ []))
+    ≡ Some (record (usual (codes "4294967295")) { job = Work 4294967295 })
 unfolding clap_on_literals command_of faults_of matched_in player
 most-work = refl
 
@@ -123,11 +130,13 @@ too-much-work : command_of (words (codes "4294967296" ∷ codes "--job" ∷ code
 unfolding clap_on_literals command_of faults_of matched_in player
 too-much-work = refl
 
-a-text : command_of (words (codes "hall.txt" ∷ codes "--job" ∷ codes "asm" ∷ [])) ≡ Some (record (usual (codes "hall.txt")) { job = Asm })
+a-text : command_of (words (codes "hall.txt" ∷ codes "--job" ∷ codes "asm" ∷ []))
+    ≡ Some (record (usual (codes "hall.txt")) { job = Asm })
 unfolding clap_on_literals command_of faults_of matched_in player
 a-text = refl
 
-a-listing : command_of (words (codes "--job=list" ∷ codes "hall.ulx" ∷ [])) ≡ Some (record (usual (codes "hall.ulx")) { job = Listing })
+a-listing : command_of (words (codes "--job=list" ∷ codes "hall.ulx" ∷ []))
+    ≡ Some (record (usual (codes "hall.ulx")) { job = Listing })
 unfolding clap_on_literals command_of faults_of matched_in player
 a-listing = refl
 

@@ -1,10 +1,13 @@
 -- An instruction whose bytes stand at PC is seen as the one that was written.
 use Rattle.std.proofs.Common.{nat_lt, None}
-use Rattle.std.proofs.Common.{◌≡◌, ℕ, zero, suc, ◌+◌, ◌-◌, ◌*◌, ◌/◌, ◌%◌, ◌<◌, ◌≤◌, ◌==◌, nat_le, if◌then◌else◌, true, List, [], ◌∷◌, ◌++◌, length, get_or, map, take, drop, inl, inr, Some, Ok, refl, ap, sym, subst, ◌∙◌, arith, length-append, length-drop}
+use Rattle.std.proofs.Common.{◌≡◌, ℕ, zero, suc, ◌+◌, ◌-◌, ◌*◌, ◌/◌, ◌%◌, ◌<◌, ◌≤◌, ◌==◌, nat_le, if◌then◌else◌, true}
+use Rattle.std.proofs.Common.{List, [], ◌∷◌, ◌++◌, length, get_or, map, take, drop, inl, inr, Some, Ok, refl, ap, sym}
+use Rattle.std.proofs.Common.{subst, ◌∙◌, arith, length-append, length-drop}
 use Rattle.std.specs.List.{position_or_len, slice_get}
 use Rattle.std.proofs.lemmas.Bool.{cases_lt, le-leb, le-ltb, lt-ltb}
 use Rattle.std.proofs.lemmas.Bool.Decides.{nat_tests}
-use Rattle.std.proofs.lemmas.List.{length-take, length-take-le, length-map, get_or-take, get_or-drop, get_or-append-add, get_or_append_left, get_or-map, take_all}
+use Rattle.std.proofs.lemmas.List.{length-take, length-take-le, length-map, get_or-take, get_or-drop}
+use Rattle.std.proofs.lemmas.List.{get_or-append-add, get_or_append_left, get_or-map, take_all}
 use Rattle.std.proofs.lemmas.List.Folds.{find_at}
 use Rattle.std.proofs.lemmas.Option.{slice_get-get_or}
 use Rattle.gx_words.specs.Numbers.{IsWidth, byte, number}
@@ -20,7 +23,8 @@ use Rattle.gx_state.specs.Flat.{FlatState}
 use Rattle.gx_operands.specs.declared.cursor.Cursor.{Cursor}
 use Rattle.gx_operands.specs.Instructions.{opcode, nibble, datum}
 use Rattle.gx_asm.specs.Codes.{modes_len}
-use Rattle.gx_asm.specs.Instructions.{WrittenInstruction, IsWritten, AreModes, operand_count, data_len, all_data_len, nibble_of, packed_nibbles, opcode_number, bytes_of}
+use Rattle.gx_asm.specs.Instructions.{WrittenInstruction, IsWritten, AreModes, operand_count, data_len, all_data_len}
+use Rattle.gx_asm.specs.Instructions.{nibble_of, packed_nibbles, opcode_number, bytes_of}
 use Rattle.gx_asm.proofs.BytesOpcodes.{number_small, place_of_row, length-opcode}
 use Rattle.gx_asm.proofs.Nibbles.{addressing_of, nibble_small, length-packed}
 use Rattle.gx_play.specs.Spelling.{modes_at, data_at, SeesInstruction}
@@ -50,7 +54,8 @@ stands memory at bytes is =
     let size : length (take (length bytes) (drop at memory)) ≡ length bytes = ap length is in
     record {
       inside = λ some. omega (arith, size, length-take (length bytes) (drop at memory), length-drop at memory);
-      same = λ i within. sym (get_or-take (length bytes) (drop at memory) i 0 within ∙ get_or-drop at memory i 0) ∙ ap (λ (b : List ℕ). byte b i) is;
+      same = λ i within. sym (get_or-take (length bytes) (drop at memory) i 0 within ∙ get_or-drop at memory i 0)
+          ∙ ap (λ (b : List ℕ). byte b i) is;
     }
 
 -- those in front, and those behind
@@ -73,9 +78,11 @@ behind memory at a b s =
     }
 
 -- a part of them
-within : (memory : List ℕ) (at from count : ℕ) (bytes : List ℕ) → from + count ≤ length bytes → Stands memory at bytes → Stands memory (at + from) (take count (drop from bytes))
+within : (memory : List ℕ) (at from count : ℕ) (bytes : List ℕ) → from + count ≤ length bytes → Stands memory at bytes
+    → Stands memory (at + from) (take count (drop from bytes))
 within memory at from count bytes fits s =
-    let size : length (take count (drop from bytes)) ≡ count = length-take-le count (drop from bytes) (omega (arith, length-drop from bytes)) in
+    let size : length (take count (drop from bytes)) ≡ count =
+    length-take-le count (drop from bytes) (omega (arith, length-drop from bytes)) in
     record {
       inside = λ some. let all = s.inside (omega (arith, size)) in omega (arith, all, size);
       same = λ i inside.
@@ -104,7 +111,13 @@ module _ (memory : List ℕ) (at : ℕ) (bytes : List ℕ) (s : Stands memory at
       (λ size. rw (first (omega (arith, size)), later 1 (omega (arith, size))) refl)
       (λ size.
       let third : at + 2 + 1 ≡ at + 3 = omega arith in
-      rw (third, first (omega (arith, size)), later 1 (omega (arith, size)), later 2 (omega (arith, size)), later 3 (omega (arith, size))) refl)
+      rw (
+        third,
+        first (omega (arith, size)),
+        later 1 (omega (arith, size)),
+        later 2 (omega (arith, size)),
+        later 3 (omega (arith, size)),
+      ) refl)
 
   number-read : (n : ℕ) → IsWidth n → length bytes ≡ n → 0 < n → number_in n memory at ≡ Ok (number n bytes 0)
   unfolding number_in
@@ -124,7 +137,8 @@ row-found place there =
     let n = (row_at place).number in
     let is = place_of_row place there in
     let first = same-place (position_or_len (λ (row : Row). row.number == n) table) place is in
-    find_at (λ (row : Row). row.number == n) table ∙ ap (slice_get table) first ∙ slice_get-get_or table place _ (omega (arith, rows_counted, there))
+    find_at (λ (row : Row). row.number == n) table ∙ ap (slice_get table) first
+    ∙ slice_get-get_or table place _ (omega (arith, rows_counted, there))
 
 -- ---- the number
 
@@ -138,7 +152,8 @@ module _ (f : FlatState) (n : ℕ) where
       let value : (n + 0) % 256 ≡ n = omega (arith, small) in
       rw (read, value, short) refl
 
-  opcode-two : 0x80 ≤ n → n < 0x4000 → Stands f.memory f.pc (spelled n (shortest n)) → opcode f ≡ Ok (n, f.pc + shortest n)
+  opcode-two : 0x80 ≤ n → n < 0x4000 → Stands f.memory f.pc (spelled n (shortest n))
+      → opcode f ≡ Ok (n, f.pc + shortest n)
   unfolding opcode
   opcode-two large small s =
       let long = le-ltb n 0x80 large in
@@ -164,7 +179,8 @@ module _ (f : FlatState) (n : ℕ) where
 
 -- the nibble of an index among those that are packed
 nibble-packed : (ns : List ℕ) (k : ℕ) → ((n i : ℕ) → i < length ns → get_or ns i n < 16) → k < length ns
-    → (if k % 2 == 0 then byte (packed_nibbles ns) (k / 2) % 16 else byte (packed_nibbles ns) (k / 2) / 16) ≡ get_or ns k 0
+    → (if k % 2 == 0 then byte (packed_nibbles ns) (k / 2) % 16 else byte (packed_nibbles ns) (k / 2) / 16)
+    ≡ get_or ns k 0
 unfolding packed_nibbles
 nibble-packed [] k small there = absurd (omega arith)
 nibble-packed (low ∷ []) zero small there = let less = small 0 0 there in omega (arith, less)
@@ -180,15 +196,18 @@ nibble-packed (low ∷ high ∷ rest) (suc zero) small there =
 nibble-packed (low ∷ high ∷ rest) (suc (suc k)) small there =
     let even : suc (suc k) % 2 ≡ k % 2 = omega arith in
     let half : suc (suc k) / 2 ≡ suc (k / 2) = omega arith in
-    rw (even, half) (nibble-packed rest k (λ n i less. small n (suc (suc i)) (omega (arith, less))) (omega (arith, there)))
+    rw (even, half) (nibble-packed rest k (λ n i less. small n (suc (suc i)) (omega (arith, less)))
+    (omega (arith, there)))
 
 -- the modes of a row's operands have widths
-has-width : (row : Row) (i : ℕ) (modes : List Addressing) (k : ℕ) → AreModes row i modes → HasWidth (get_or modes k Zero)
+has-width : (row : Row) (i : ℕ) (modes : List Addressing) (k : ℕ) → AreModes row i modes
+    → HasWidth (get_or modes k Zero)
 has-width row i [] k are = tt
 has-width row i (mode ∷ rest) zero are = are.0
 has-width row i (mode ∷ rest) (suc k) are = has-width row (i + 1) rest k are.2
 
-all-small : (row : Row) (i : ℕ) (modes : List Addressing) (n k : ℕ) → AreModes row i modes → k < length (map nibble_of modes) → get_or (map nibble_of modes) k n < 16
+all-small : (row : Row) (i : ℕ) (modes : List Addressing) (n k : ℕ) → AreModes row i modes
+    → k < length (map nibble_of modes) → get_or (map nibble_of modes) k n < 16
 all-small row i modes n k are there =
     let size = length-map modes nibble_of in
     let less = nibble_small (get_or modes k Zero) (has-width row i modes k are) in
@@ -198,7 +217,8 @@ all-small row i modes n k are there =
 -- ---- the data
 
 -- what stands before an operand's data and they themselves are all there
-data-fits : (modes : List Addressing) (k : ℕ) → k < length modes → all_data_len (take k modes) + data_len (get_or modes k Zero) ≤ all_data_len modes
+data-fits : (modes : List Addressing) (k : ℕ) → k < length modes
+    → all_data_len (take k modes) + data_len (get_or modes k Zero) ≤ all_data_len modes
 unfolding all_data_len
 data-fits [] k there = absurd (omega arith)
 data-fits (mode ∷ rest) zero there = omega arith
@@ -222,42 +242,51 @@ module _ (f : FlatState) (w : WrittenInstruction) (is : IsWritten w) where
   nibbles = map nibble_of w.modes
 
   modes-size : length (packed_nibbles nibbles) ≡ modes_len (operand_count row)
-  modes-size = let size = length-map w.modes nibble_of in let count = is.count in length-packed nibbles ∙ ap (λ (n : ℕ). (n + 1) / 2) (size ∙ count)
+  modes-size = let size = length-map w.modes nibble_of in let count = is.count in
+      length-packed nibbles ∙ ap (λ (n : ℕ). (n + 1) / 2) (size ∙ count)
 
   number-size : length (spelled (opcode_number w) (shortest (opcode_number w))) ≡ shortest (opcode_number w)
   number-size = length-opcode (opcode_number w) (number_small w.place is.place)
 
-  module _ (number-stands : Stands f.memory f.pc (spelled (opcode_number w) (shortest (opcode_number w)))) (modes-stand : Stands f.memory (modes_at f w) (packed_nibbles nibbles))
+  module _ (number-stands : Stands f.memory f.pc (spelled (opcode_number w) (shortest (opcode_number w))))
+      (modes-stand : Stands f.memory (modes_at f w) (packed_nibbles nibbles))
       (data-stand : Stands f.memory (modes_at f w + modes_len (operand_count row)) w.operand_data) where
     mode-seen : (k : ℕ) → k < length w.modes → addressing (nibble f.memory (modes_at f w) k) ≡ Some (mode_at w k)
     mode-seen k there =
         let size = length-map w.modes nibble_of in
         let bytes = length-packed nibbles in
         let byte-is = modes-stand.same (k / 2) (omega (arith, bytes, size, there)) in
-        let packed-is = nibble-packed nibbles k (λ n i less. all-small row 0 w.modes n i is.modes less) (omega (arith, size, there)) in
+        let packed-is = nibble-packed nibbles k (λ n i less. all-small row 0 w.modes n i is.modes less)
+        (omega (arith, size, there)) in
         let mode-is = get_or-map nibble_of w.modes k Zero 0 there in
         let seen : nibble f.memory (modes_at f w) k ≡ nibble_of (mode_at w k) =
         ap (λ (b : ℕ). if k % 2 == 0 then b % 16 else b / 16) byte-is ∙ packed-is ∙ mode-is in
         ap addressing seen ∙ addressing_of (mode_at w k) (has-width row 0 w.modes k is.modes)
 
     data-seen : (k : ℕ) → k < length w.modes → 0 < data_len (mode_at w k) → (p : Cursor) → p.at ≡ data_at f w k
-        → datum f.memory p (data_len (mode_at w k)) ≡ Ok (number (data_len (mode_at w k)) (data_of w k) 0, record p { at = p.at + data_len (mode_at w k) })
+        → datum f.memory p (data_len (mode_at w k))
+        ≡ Ok (number (data_len (mode_at w k)) (data_of w k) 0, record p { at = p.at + data_len (mode_at w k) })
     unfolding datum
     data-seen k there some p place =
         let n = data_len (mode_at w k) in
         let fits = data-fits w.modes k there in
         let all = is.operand_data in
         let room : data_before w k + n ≤ length w.operand_data = omega (arith, fits, all) in
-        let part = within f.memory (modes_at f w + modes_len (operand_count row)) (data_before w k) n w.operand_data room data-stand in
-        let size : length (data_of w k) ≡ n = length-take-le n (drop (data_before w k) w.operand_data) (omega (arith, room, length-drop (data_before w k) w.operand_data)) in
-        let read = number-read f.memory (data_at f w k) (data_of w k) part n (width-of (mode_at w k) (has-width row 0 w.modes k is.modes) some) size some in
+        let part = within f.memory (modes_at f w + modes_len (operand_count row))
+        (data_before w k) n w.operand_data room data-stand in
+        let size : length (data_of w k) ≡ n = length-take-le n (drop (data_before w k) w.operand_data)
+        (omega (arith, room, length-drop (data_before w k) w.operand_data)) in
+        let read = number-read f.memory (data_at f w k) (data_of w k) part n
+        (width-of (mode_at w k) (has-width row 0 w.modes k is.modes) some) size some in
         rw (place, read) refl
 
     end-seen : data_at f w (length w.modes) ≡ f.pc + length (bytes_of w)
     unfolding bytes_of
     end-seen =
-        let whole : data_before w (length w.modes) ≡ all_data_len w.modes = ap all_data_len (take_all (length w.modes) w.modes (omega arith)) in
-        let sizes = length-append (spelled (opcode_number w) (shortest (opcode_number w)) ++ packed_nibbles nibbles) w.operand_data in
+        let whole : data_before w (length w.modes) ≡ all_data_len w.modes =
+        ap all_data_len (take_all (length w.modes) w.modes (omega arith)) in
+        let sizes = length-append (spelled (opcode_number w) (shortest (opcode_number w)) ++ packed_nibbles nibbles)
+        w.operand_data in
         let front = length-append (spelled (opcode_number w) (shortest (opcode_number w))) (packed_nibbles nibbles) in
         let all = is.operand_data in
         omega (arith, whole, sizes, front, all, number-size, modes-size)
@@ -274,10 +303,15 @@ module _ (f : FlatState) (w : WrittenInstruction) (is : IsWritten w) where
   unfolding bytes_of
   decodes stand =
       let number-bytes : List ℕ = spelled (opcode_number w) (shortest (opcode_number w)) in
-      let all : Stands f.memory f.pc ((number-bytes ++ packed_nibbles nibbles) ++ w.operand_data) = stands f.memory f.pc ((number-bytes ++ packed_nibbles nibbles) ++ w.operand_data) stand in
+      let all : Stands f.memory f.pc ((number-bytes ++ packed_nibbles nibbles) ++ w.operand_data) =
+      stands f.memory f.pc ((number-bytes ++ packed_nibbles nibbles) ++ w.operand_data) stand in
       let front = in-front f.memory f.pc (number-bytes ++ packed_nibbles nibbles) w.operand_data all in
-      let place : f.pc + length (number-bytes ++ packed_nibbles nibbles) ≡ modes_at f w + modes_len (operand_count row) =
-      ap (λ (n : ℕ). f.pc + n) (length-append number-bytes (packed_nibbles nibbles)) ∙ omega (arith, number-size, modes-size) in
+      let place : f.pc + length (number-bytes ++ packed_nibbles nibbles)
+      ≡ modes_at f w + modes_len (operand_count row) =
+      ap (λ (n : ℕ). f.pc + n) (length-append number-bytes (packed_nibbles nibbles))
+      ∙ omega (arith, number-size, modes-size) in
       seen (in-front f.memory f.pc number-bytes (packed_nibbles nibbles) front)
-      (subst (λ (n : ℕ). Stands f.memory (f.pc + n) (packed_nibbles nibbles)) number-size (behind f.memory f.pc number-bytes (packed_nibbles nibbles) front))
-      (subst (λ (at : ℕ). Stands f.memory at w.operand_data) place (behind f.memory f.pc (number-bytes ++ packed_nibbles nibbles) w.operand_data all))
+      (subst (λ (n : ℕ). Stands f.memory (f.pc + n) (packed_nibbles nibbles)) number-size
+      (behind f.memory f.pc number-bytes (packed_nibbles nibbles) front))
+      (subst (λ (at : ℕ). Stands f.memory at w.operand_data) place
+      (behind f.memory f.pc (number-bytes ++ packed_nibbles nibbles) w.operand_data all))

@@ -56,7 +56,8 @@ record IsTold {A : Type 0} (ended : Ended A) : Type 0 where
 
 module _ {A : Type 0} (ended : Ended A) where
   -- the parts of an answer that was given before anything ran
-  parts-before : (playing handing : Type 0) (status fault : ℕ) → HasNoMachine ended status fault 0 0 → (status ≡ 1) ⊎ (status ≡ 2) ⊎ (status ≡ 8) ⊎ (status ≡ 11)
+  parts-before : (playing handing : Type 0) (status fault : ℕ) → HasNoMachine ended status fault 0 0
+      → (status ≡ 1) ⊎ (status ≡ 2) ⊎ (status ≡ 8) ⊎ (status ≡ 11)
       → fault ≤ 7 → (status ≢ 2 → fault ≡ 0) → HasItsParts playing handing ended
   parts-before playing handing status fault absent which small none =
       let s = absent.status_is in
@@ -75,7 +76,8 @@ module _ {A : Type 0} (ended : Ended A) where
       }
 
   -- its parts
-  parts-told : (playing handing : Type 0) → (playing → ⊥) → (handing → ⊥) → IsTold ended → HasItsParts playing handing ended
+  parts-told : (playing handing : Type 0) → (playing → ⊥) → (handing → ⊥) → IsTold ended
+      → HasItsParts playing handing ended
   parts-told playing handing idle empty t =
       let s = t.absent.status_is in
       let f = t.absent.fault_is in
@@ -86,8 +88,10 @@ module _ {A : Type 0} (ended : Ended A) where
         played = λ playing. absurd (idle playing);
         story_fault = λ e. absurd (grind (arith, s, which, e));
         run_fault = λ playing _. absurd (idle playing);
-        text_fault = λ e. let range = t.text_fault (sym s ∙ e) in (omega (arith, f, range.0), omega (arith, f, range.1));
-        listing_fault = λ e. let range = t.listing_fault (sym s ∙ e) in (omega (arith, f, range.0), omega (arith, f, range.1));
+        text_fault = λ e. let range = t.text_fault (sym s ∙ e) in
+            (omega (arith, f, range.0), omega (arith, f, range.1));
+        listing_fault = λ e. let range = t.listing_fault (sym s ∙ e) in
+            (omega (arith, f, range.0), omega (arith, f, range.1));
         no_fault = λ _ _ early. f ∙ (t.none (omega (arith, s, early))).0;
         no_place = λ _ early. p ∙ (t.none (omega (arith, s, early))).1;
         ran = λ handing _. absurd (empty handing);
@@ -95,7 +99,8 @@ module _ {A : Type 0} (ended : Ended A) where
       }
 
   -- the parts of a run
-  pub parts-for : (playing : Type 0) (given handing : Type 0) → (handing → given) → HasRunParts given ended → HasItsParts playing handing ended
+  pub parts-for : (playing : Type 0) (given handing : Type 0) → (handing → given) → HasRunParts given ended
+      → HasItsParts playing handing ended
   parts-for playing given handing has p = record {
     status_is = p.status_is;
     played = λ _. p.played tt;
@@ -114,7 +119,8 @@ module _ {A : Type 0} (ended : Ended A) where
   once-asked asked load is = let size : length asked ≡ 1 = ap (λ (t : Trace). length t) is in omega (arith, size)
 
   -- AN OUTPUT that was sent, or a front of it
-  quiet : (status : ℕ) → HasNoMachine ended status 0 0 0 → (status ≡ 0) ⊎ (status ≡ 3) ⊎ (status ≡ 10) ⊎ (status ≡ 11) → IsTold ended
+  quiet : (status : ℕ) → HasNoMachine ended status 0 0 0 → (status ≡ 0) ⊎ (status ≡ 3) ⊎ (status ≡ 10) ⊎ (status ≡ 11)
+      → IsTold ended
   quiet status absent which = record {
     status = status;
     fault = 0;
@@ -126,15 +132,22 @@ module _ {A : Type 0} (ended : Ended A) where
     listing_fault = λ e. absurd (grind (arith, which, e));
   }
 
-  sent : (status : ℕ) (output : List ℕ) (before now : FlatSink) (sends : List Send) → (status ≡ 0) ⊎ (status ≡ 3) → SendsOutput status 0 0 0 output before now sends ended → IsTold ended
+  sent : (status : ℕ) (output : List ℕ) (before now : FlatSink) (sends : List Send) → (status ≡ 0) ⊎ (status ≡ 3)
+      → SendsOutput status 0 0 0 output before now sends ended → IsTold ended
   sent status output before now sends which (Ok done, absent, took, call) = quiet status absent (grind (arith, which))
-  sent status output before now sends which (Err of_send.Failed, absent, took, call) = quiet status_output_fault absent (inr (inr (inl refl)))
-  sent status output before now sends which (Err of_send.NoMemory, absent, took, call) = quiet status_no_memory absent (inr (inr (inr refl)))
+  sent status output before now sends which (Err of_send.Failed, absent, took, call) =
+      quiet status_output_fault absent (inr (inr (inl refl)))
+  sent status output before now sends which (Err of_send.NoMemory, absent, took, call) =
+      quiet status_no_memory absent (inr (inr (inr refl)))
 
   -- a text's code, or its fault
-  code-told : (r : Result (List ℕ) AsmFault) (before now : FlatSink) (sends : List Send) → (ended.status ≡ status_bad_text → (1 ≤ ended.fault) × (ended.fault ≤ 4)) → JobTells (outcome_of_code r) before now sends ended → IsTold ended
-  code-told (Ok code) before now sends number (inl once) = sent status_ended (wrapped_code code) before now sends (inl refl) once
-  code-told (Ok code) before now sends number (inr (absent, same, none)) = quiet status_no_memory absent (inr (inr (inr refl)))
+  code-told : (r : Result (List ℕ) AsmFault) (before now : FlatSink) (sends : List Send)
+      → (ended.status ≡ status_bad_text → (1 ≤ ended.fault) × (ended.fault ≤ 4))
+      → JobTells (outcome_of_code r) before now sends ended → IsTold ended
+  code-told (Ok code) before now sends number (inl once) =
+      sent status_ended (wrapped_code code) before now sends (inl refl) once
+  code-told (Ok code) before now sends number (inr (absent, same, none)) =
+      quiet status_no_memory absent (inr (inr (inr refl)))
   code-told (Err fault) before now sends number (absent, same, none) =
       let range = number absent.status_is in
       let f = absent.fault_is in
@@ -150,9 +163,12 @@ module _ {A : Type 0} (ended : Ended A) where
       }
 
   -- a story's listing, or its fault
-  listing-told : (r : Result (List ℕ) ListFault) (before now : FlatSink) (sends : List Send) → (ended.status ≡ status_no_listing → (1 ≤ ended.fault) × (ended.fault ≤ 5)) → JobTells (outcome_of_listing r) before now sends ended → IsTold ended
+  listing-told : (r : Result (List ℕ) ListFault) (before now : FlatSink) (sends : List Send)
+      → (ended.status ≡ status_no_listing → (1 ≤ ended.fault) × (ended.fault ≤ 5))
+      → JobTells (outcome_of_listing r) before now sends ended → IsTold ended
   listing-told (Ok text) before now sends number (inl once) = sent status_ended text before now sends (inl refl) once
-  listing-told (Ok text) before now sends number (inr (absent, same, none)) = quiet status_no_memory absent (inr (inr (inr refl)))
+  listing-told (Ok text) before now sends number (inr (absent, same, none)) =
+      quiet status_no_memory absent (inr (inr (inr refl)))
   listing-told (Err fault) before now sends number (absent, same, none) =
       let range = number absent.status_is in
       let f = absent.fault_is in
@@ -167,22 +183,27 @@ module _ {A : Type 0} (ended : Ended A) where
         listing_fault = λ _. (omega (arith, f, range.0), omega (arith, f, range.1));
       }
 
-  plays-told : (outcome : CommandOutcome) (entry exit : Devices) → IsUnrun entry exit → JobTells outcome entry.sink exit.sink exit.sends ended → PlaysOrNot outcome entry exit ended
+  plays-told : (outcome : CommandOutcome) (entry exit : Devices) → IsUnrun entry exit
+      → JobTells outcome entry.sink exit.sink exit.sends ended → PlaysOrNot outcome entry exit ended
   plays-told (refused status fault at) entry exit unrun told = inl (unrun, told)
   plays-told (answers_with status output) entry exit unrun (inl once) = inl (unrun, once)
   plays-told (answers_with status output) entry exit unrun (inr nothing) = inr (inr (unrun, nothing))
   plays-told outcome entry exit unrun none = absurd none
 
   -- A JOB that hands no machine back, over the file that was loaded
-  module _ (job : Job) (command : Command) (d : Devices) (before now : FlatShelf) (taken took : FlatSink) (sends : List Send) (asked : Trace) where
+  module _ (job : Job) (command : Command) (d : Devices) (before now : FlatShelf) (taken took : FlatSink)
+      (sends : List Send) (asked : Trace) where
     abbrev at-entry : Devices
     at-entry = record d { sink = taken; shelf = before; sends = []; asked = [] }
 
     abbrev at-exit : Devices
     at-exit = record d { sink = took; shelf = now; sends = sends; asked = asked }
 
-    told-done : (file : Option (List ℕ)) (outcome : CommandOutcome) (failed : Type 0) → (PlaysStory job → ⊥) → (before.tells ≡ true → file ≡ before.files command.story) → outcome_of_job job command file at-entry ≡ outcome
-        → JobMayWant job file → LoadsFirst job command file asked → length asked ≤ 1 → Blames before.calls now.calls failed → (failed → ⊥) → IsTold ended → JobTells outcome taken took sends ended → BlamesSink taken took ended.status
+    told-done : (file : Option (List ℕ)) (outcome : CommandOutcome) (failed : Type 0) → (PlaysStory job → ⊥)
+        → (before.tells ≡ true → file ≡ before.files command.story) → outcome_of_job job command file at-entry ≡ outcome
+        → JobMayWant job file → LoadsFirst job command file asked → length asked ≤ 1
+        → Blames before.calls now.calls failed → (failed → ⊥) → IsTold ended
+        → JobTells outcome taken took sends ended → BlamesSink taken took ended.status
         → IsJobDone job command at-entry at-exit ended
     told-done file outcome failed idle holds is may first few count fine t tell blames =
         let s = t.absent.status_is in
@@ -191,12 +212,16 @@ module _ {A : Type 0} (ended : Ended A) where
           file = file;
           file_is = holds;
           loads = first;
-          plays = subst (λ (o : CommandOutcome). PlaysOrNot o at-entry at-exit ended) (sym is) (plays-told outcome at-entry at-exit (record { asked = few; source = refl; reads = refl; words = refl }) tell);
+          plays = subst (λ (o : CommandOutcome). PlaysOrNot o at-entry at-exit ended) (sym is)
+              (plays-told outcome at-entry at-exit (record { asked = few; source = refl; reads = refl; words = refl })
+              tell);
           memory = λ _. may;
           began = λ e. absurd (grind (arith, s, which, e));
           counts = record {
-            shelf = blames-same before.calls now.calls failed (ended.status ≡ status_shelf_fault) count (λ e. absurd (fine e)) (λ e. absurd (grind (arith, s, which, e)));
-            source = blames-none d.source.calls d.source.calls (ended.status ≡ status_input_fault) refl (λ e. absurd (grind (arith, s, which, e)));
+            shelf = blames-same before.calls now.calls failed (ended.status ≡ status_shelf_fault) count
+                (λ e. absurd (fine e)) (λ e. absurd (grind (arith, s, which, e)));
+            source = blames-none d.source.calls d.source.calls (ended.status ≡ status_input_fault) refl
+                (λ e. absurd (grind (arith, s, which, e)));
             sink = blames;
           };
           parts = parts-told (PlaysStory job) (job ≡ Play) idle (λ is. idle (subst PlaysStory (sym is) tt)) t;
@@ -204,75 +229,116 @@ module _ {A : Type 0} (ended : Ended A) where
 
   -- JOB WORK
   module _ (number : ℕ) (command : Command) (d : Devices) (before now : FlatSink) (sends : List Send) where
-    work-done : IsTold ended → JobTells (answers_with status_ended (work_line number)) before now sends ended → BlamesSink before now ended.status → IsJobDone (Work number) command (record d { sink = before; sends = []; asked = [] }) (record d { sink = now; sends = sends; asked = [] }) ended
+    work-done : IsTold ended → JobTells (answers_with status_ended (work_line number)) before now sends ended
+        → BlamesSink before now ended.status → IsJobDone (Work number) command
+        (record d { sink = before; sends = []; asked = [] }) (record d { sink = now; sends = sends; asked = [] }) ended
     work-done t tell blames =
-        told-done (Work number) command d d.shelf d.shelf before now sends [] (d.shelf.files command.story) (answers_with status_ended (work_line number)) ⊥ (λ plays. plays) (λ _. refl) refl tt refl (omega arith)
+        told-done (Work number) command d d.shelf d.shelf before now sends [] (d.shelf.files command.story)
+        (answers_with status_ended (work_line number)) ⊥ (λ plays. plays) (λ _. refl) refl tt refl (omega arith)
         (blames-none d.shelf.calls d.shelf.calls ⊥ refl (λ e. e)) (λ e. e) t tell blames
 
-    pub work-told : SendsOutput status_ended 0 0 0 (work_line number) before now sends ended → BlamesSink before now ended.status → IsJobDone (Work number) command (record d { sink = before; sends = []; asked = [] }) (record d { sink = now; sends = sends; asked = [] }) ended
-    work-told once blames = work-done (sent status_ended (work_line number) before now sends (inl refl) once) (inl once) blames
+    pub work-told : SendsOutput status_ended 0 0 0 (work_line number) before now sends ended
+        → BlamesSink before now ended.status → IsJobDone (Work number) command
+        (record d { sink = before; sends = []; asked = [] }) (record d { sink = now; sends = sends; asked = [] }) ended
+    work-told once blames = work-done (sent status_ended (work_line number) before now sends (inl refl) once)
+        (inl once) blames
 
-  pub work-unmade : (number : ℕ) (command : Command) (d : Devices) → HasNoMachine ended status_no_memory 0 0 0 → IsJobDone (Work number) command (record d { sends = []; asked = [] }) (record d { sends = []; asked = [] }) ended
+  pub work-unmade : (number : ℕ) (command : Command) (d : Devices) → HasNoMachine ended status_no_memory 0 0 0
+      → IsJobDone (Work number) command (record d { sends = []; asked = [] })
+      (record d { sends = []; asked = [] }) ended
   work-unmade number command d absent =
       let s = absent.status_is in
-      work-done number command d d.sink d.sink [] (quiet status_no_memory absent (inr (inr (inr refl)))) (inr (absent, refl, refl))
-      (blames-none d.sink.calls d.sink.calls (ended.status ≡ status_output_fault) refl (λ e. absurd (omega (arith, s, e))))
+      work-done number command d d.sink d.sink [] (quiet status_no_memory absent (inr (inr (inr refl))))
+      (inr (absent, refl, refl))
+      (blames-none d.sink.calls d.sink.calls (ended.status ≡ status_output_fault) refl
+      (λ e. absurd (omega (arith, s, e))))
 
   -- NOTHING WAS LOADED in a job that loads a file
-  module _ {X : Type 0} (most : ℕ) (defined : Option (List ℕ) → Result X ℕ) (command : Command) (d : Devices) (before now : FlatShelf) (asked : Trace) where
+  module _ {X : Type 0} (most : ℕ) (defined : Option (List ℕ) → Result X ℕ) (command : Command) (d : Devices)
+      (before now : FlatShelf) (asked : Trace) where
     abbrev entry : Devices
     entry = record d { shelf = before; sends = []; asked = [] }
 
     abbrev exit : Devices
     exit = record d { shelf = now; sends = []; asked = asked }
 
-    not-loaded : (file : Option (List ℕ)) (r : Refusal) (outcome : CommandOutcome) → IsUnrun entry exit → ((fault : ℕ) → defined file ≡ Err fault → outcome ≡ refused status_bad_story fault 0) → LoadGives most defined file (Err r) → HasNoMachine ended (refusal_status r) (refusal_fault r) 0 0
+    not-loaded : (file : Option (List ℕ)) (r : Refusal) (outcome : CommandOutcome) → IsUnrun entry exit
+        → ((fault : ℕ) → defined file ≡ Err fault → outcome ≡ refused status_bad_story fault 0)
+        → LoadGives most defined file (Err r) → HasNoMachine ended (refusal_status r) (refusal_fault r) 0 0
         → PlaysOrNot outcome entry exit ended
     not-loaded file (refusal.BadStory fault) outcome unrun bad gives absent =
-        subst (λ (o : CommandOutcome). PlaysOrNot o entry exit ended) (sym (bad fault gives)) (inl (unrun, (absent, refl, refl)))
+        subst (λ (o : CommandOutcome). PlaysOrNot o entry exit ended) (sym (bad fault gives))
+        (inl (unrun, (absent, refl, refl)))
     not-loaded file refusal.Shelf outcome unrun bad gives absent = inr (inl (unrun, (absent, refl, refl)))
     not-loaded file refusal.NoMemory outcome unrun bad gives absent = inr (inr (unrun, (absent, refl, refl)))
 
-    wants : (file : Option (List ℕ)) (r : Refusal) → LoadGives most defined file (Err r) → HasNoMachine ended (refusal_status r) (refusal_fault r) 0 0 → ended.status ≡ status_no_memory → IsLoadable most file
+    wants : (file : Option (List ℕ)) (r : Refusal) → LoadGives most defined file (Err r)
+        → HasNoMachine ended (refusal_status r) (refusal_fault r) 0 0 → ended.status ≡ status_no_memory
+        → IsLoadable most file
     wants file (refusal.BadStory fault) gives absent e = let s = absent.status_is in absurd (omega (arith, s, e))
     wants file refusal.Shelf gives absent e = let s = absent.status_is in absurd (omega (arith, s, e))
     wants file refusal.NoMemory gives absent e = gives
 
-    refusal-parts : (playing handing : Type 0) (r : Refusal) → HasNoMachine ended (refusal_status r) (refusal_fault r) 0 0 → ((fault : ℕ) → (let e : Result X Refusal = Err r in e ≡ Err (refusal.BadStory fault)) → fault ≤ 7) → HasItsParts playing handing ended
-    refusal-parts playing handing (refusal.BadStory fault) absent small = parts-before playing handing status_bad_story fault absent (inr (inl refl)) (small fault refl) (λ e. absurd (e refl))
-    refusal-parts playing handing refusal.Shelf absent small = parts-before playing handing status_shelf_fault 0 absent (inr (inr (inl refl))) (omega arith) (λ _. refl)
-    refusal-parts playing handing refusal.NoMemory absent small = parts-before playing handing status_no_memory 0 absent (inr (inr (inr refl))) (omega arith) (λ _. refl)
+    refusal-parts : (playing handing : Type 0) (r : Refusal)
+        → HasNoMachine ended (refusal_status r) (refusal_fault r) 0 0
+        → ((fault : ℕ) → (let e : Result X Refusal = Err r in e ≡ Err (refusal.BadStory fault)) → fault ≤ 7)
+        → HasItsParts playing handing ended
+    refusal-parts playing handing (refusal.BadStory fault) absent small =
+        parts-before playing handing status_bad_story fault absent (inr (inl refl)) (small fault refl)
+        (λ e. absurd (e refl))
+    refusal-parts playing handing refusal.Shelf absent small =
+        parts-before playing handing status_shelf_fault 0 absent (inr (inr (inl refl))) (omega arith) (λ _. refl)
+    refusal-parts playing handing refusal.NoMemory absent small =
+        parts-before playing handing status_no_memory 0 absent (inr (inr (inr refl))) (omega arith) (λ _. refl)
 
-    refusal-blames : (r : Refusal) → HasNoMachine ended (refusal_status r) (refusal_fault r) 0 0 → Blames before.calls now.calls (let e : Result X Refusal = Err r in e ≡ Err refusal.Shelf)
+    refusal-blames : (r : Refusal) → HasNoMachine ended (refusal_status r) (refusal_fault r) 0 0
+        → Blames before.calls now.calls (let e : Result X Refusal = Err r in e ≡ Err refusal.Shelf)
         → Blames before.calls now.calls (ended.status ≡ status_shelf_fault)
     refusal-blames (refusal.BadStory fault) absent blames =
-        let s = absent.status_is in blames-same before.calls now.calls _ (ended.status ≡ status_shelf_fault) blames (λ e. absurd cc) (λ e. absurd (omega (arith, s, e)))
-    refusal-blames refusal.Shelf absent blames = blames-same before.calls now.calls _ (ended.status ≡ status_shelf_fault) blames (λ _. absent.status_is) (λ _. refl)
+        let s = absent.status_is in blames-same before.calls now.calls _ (ended.status ≡ status_shelf_fault) blames
+        (λ e. absurd cc) (λ e. absurd (omega (arith, s, e)))
+    refusal-blames refusal.Shelf absent blames =
+        blames-same before.calls now.calls _ (ended.status ≡ status_shelf_fault) blames (λ _. absent.status_is)
+        (λ _. refl)
     refusal-blames refusal.NoMemory absent blames =
-        let s = absent.status_is in blames-same before.calls now.calls _ (ended.status ≡ status_shelf_fault) blames (λ e. absurd cc) (λ e. absurd (omega (arith, s, e)))
+        let s = absent.status_is in blames-same before.calls now.calls _ (ended.status ≡ status_shelf_fault) blames
+        (λ e. absurd cc) (λ e. absurd (omega (arith, s, e)))
 
-    which-of : (r : Refusal) → HasNoMachine ended (refusal_status r) (refusal_fault r) 0 0 → (ended.status ≡ 2) ⊎ (ended.status ≡ 8) ⊎ (ended.status ≡ 11)
+    which-of : (r : Refusal) → HasNoMachine ended (refusal_status r) (refusal_fault r) 0 0
+        → (ended.status ≡ 2) ⊎ (ended.status ≡ 8) ⊎ (ended.status ≡ 11)
     which-of (refusal.BadStory fault) absent = inl absent.status_is
     which-of refusal.Shelf absent = inr (inl absent.status_is)
     which-of refusal.NoMemory absent = inr (inr absent.status_is)
 
-    pub refused-done : (job : Job) (r : Refusal) (l : LoadsFile most defined before now command.story asked (Err r)) → Blames before.calls now.calls (let e : Result X Refusal = Err r in e ≡ Err refusal.Shelf)
-        → ((fault : ℕ) → (let e : Result X Refusal = Err r in e ≡ Err (refusal.BadStory fault)) → fault ≤ 7) → HasNoMachine ended (refusal_status r) (refusal_fault r) 0 0
-        → ((fault : ℕ) → defined l.file ≡ Err fault → outcome_of_job job command l.file entry ≡ refused status_bad_story fault 0) → (IsLoadable most l.file → JobMayWant job l.file)
-        → LoadsFirst job command l.file ((load_file command.story most, l.answer) ∷ []) → IsJobDone job command entry exit ended
+    pub refused-done : (job : Job) (r : Refusal) (l : LoadsFile most defined before now command.story asked (Err r))
+        → Blames before.calls now.calls (let e : Result X Refusal = Err r in e ≡ Err refusal.Shelf)
+        → ((fault : ℕ) → (let e : Result X Refusal = Err r in e ≡ Err (refusal.BadStory fault)) → fault ≤ 7)
+        → HasNoMachine ended (refusal_status r) (refusal_fault r) 0 0
+        → ((fault : ℕ) → defined l.file ≡ Err fault → outcome_of_job job command l.file entry
+        ≡ refused status_bad_story fault 0) → (IsLoadable most l.file → JobMayWant job l.file)
+        → LoadsFirst job command l.file ((load_file command.story most, l.answer) ∷ [])
+        → IsJobDone job command entry exit ended
     refused-done job r l count small absent bad may first =
         let which = which-of r absent in
         record {
           file = l.file;
           file_is = l.file_is;
           loads = subst (LoadsFirst job command l.file) (sym l.asked_are) first;
-          plays = not-loaded l.file r (outcome_of_job job command l.file entry) (record { asked = once-asked asked (load_file command.story most, l.answer) l.asked_are; source = refl; reads = refl; words = refl }) bad l.gives absent;
+          plays = not-loaded l.file r (outcome_of_job job command l.file entry)
+              (record {
+                asked = once-asked asked (load_file command.story most, l.answer) l.asked_are;
+                source = refl;
+                reads = refl;
+                words = refl;
+              }) bad l.gives absent;
           memory = λ e. may (wants l.file r l.gives absent e);
           began = λ e. absurd (grind (arith, which, e));
           counts = record {
             shelf = refusal-blames r absent count;
-            source = blames-none d.source.calls d.source.calls (ended.status ≡ status_input_fault) refl (λ e. absurd (grind (arith, which, e)));
-            sink = blames-none d.sink.calls d.sink.calls (ended.status ≡ status_output_fault) refl (λ e. absurd (grind (arith, which, e)));
+            source = blames-none d.source.calls d.source.calls (ended.status ≡ status_input_fault) refl
+                (λ e. absurd (grind (arith, which, e)));
+            sink = blames-none d.sink.calls d.sink.calls (ended.status ≡ status_output_fault) refl
+                (λ e. absurd (grind (arith, which, e)));
           };
           parts = refusal-parts (PlaysStory job) (job ≡ Play) r absent small;
         }
@@ -282,33 +348,56 @@ module _ {A : Type 0} (ended : Ended A) where
   either true = inl refl
   either false = inr refl
 
-  module _ (command : Command) (d : Devices) (before now : FlatShelf) (taken took : FlatSink) (sends : List Send) (asked : Trace) (blames : BlamesSink taken took ended.status) where
-    pub check-told : (story : FlatStory) (l : LoadsFile ceiling story_in_file before now command.story asked (Ok story)) → Blames before.calls now.calls (let e : Result FlatStory Refusal = Ok story in e ≡ Err refusal.Shelf)
-        → SendsOutput (check_told (is_checked story)).0 0 0 0 (check_told (is_checked story)).1 taken took sends ended → IsJobDone Check command (record d { sink = taken; shelf = before; sends = []; asked = [] }) (record d { sink = took; shelf = now; sends = sends; asked = asked }) ended
+  module _ (command : Command) (d : Devices) (before now : FlatShelf) (taken took : FlatSink) (sends : List Send)
+      (asked : Trace) (blames : BlamesSink taken took ended.status) where
+    pub check-told : (story : FlatStory) (l : LoadsFile ceiling story_in_file before now command.story asked
+        (Ok story)) → Blames before.calls now.calls
+        (let e : Result FlatStory Refusal = Ok story in e ≡ Err refusal.Shelf)
+        → SendsOutput (check_told (is_checked story)).0 0 0 0 (check_told (is_checked story)).1 taken took sends ended
+        → IsJobDone Check command (record d { sink = taken; shelf = before; sends = []; asked = [] })
+        (record d { sink = took; shelf = now; sends = sends; asked = asked }) ended
     check-told story l count once =
-        told-done Check command d before now taken took sends asked l.file (answers_with (check_told (is_checked story)).0 (check_told (is_checked story)).1) _ (λ plays. plays) l.file_is (ap outcome_of_check l.gives) (loadable l.file story l.gives)
-        (subst (LoadsFirst Check command l.file) (sym l.asked_are) (refl, l.handed)) (once-asked asked (load_file command.story ceiling, l.answer) l.asked_are) count (λ e. absurd cc)
-        (sent (check_told (is_checked story)).0 (check_told (is_checked story)).1 taken took sends (either (is_checked story)) once) (inl once) blames
+        told-done Check command d before now taken took sends asked l.file
+        (answers_with (check_told (is_checked story)).0 (check_told (is_checked story)).1) _
+        (λ plays. plays) l.file_is (ap outcome_of_check l.gives) (loadable l.file story l.gives)
+        (subst (LoadsFirst Check command l.file) (sym l.asked_are) (refl, l.handed))
+        (once-asked asked (load_file command.story ceiling, l.answer) l.asked_are) count (λ e. absurd cc)
+        (sent (check_told (is_checked story)).0 (check_told (is_checked story)).1 taken took sends
+        (either (is_checked story)) once) (inl once) blames
 
-    pub asm-told : (text : List ℕ) (l : LoadsFile most_text text_in_file before now command.story asked (Ok text)) → Blames before.calls now.calls (let e : Result (List ℕ) Refusal = Ok text in e ≡ Err refusal.Shelf) → (ended.status ≡ status_bad_text → (1 ≤ ended.fault) × (ended.fault ≤ 4))
-        → JobTells (outcome_of_code (assembled text)) taken took sends ended → IsJobDone Asm command (record d { sink = taken; shelf = before; sends = []; asked = [] }) (record d { sink = took; shelf = now; sends = sends; asked = asked }) ended
+    pub asm-told : (text : List ℕ) (l : LoadsFile most_text text_in_file before now command.story asked (Ok text))
+        → Blames before.calls now.calls (let e : Result (List ℕ) Refusal = Ok text in e ≡ Err refusal.Shelf)
+        → (ended.status ≡ status_bad_text → (1 ≤ ended.fault) × (ended.fault ≤ 4))
+        → JobTells (outcome_of_code (assembled text)) taken took sends ended
+        → IsJobDone Asm command (record d { sink = taken; shelf = before; sends = []; asked = [] })
+        (record d { sink = took; shelf = now; sends = sends; asked = asked }) ended
     asm-told text l count number tell =
-        told-done Asm command d before now taken took sends asked l.file (outcome_of_code (assembled text)) _ (λ plays. plays) l.file_is (ap outcome_of_text l.gives) (text-loadable l.file text l.gives)
-        (subst (LoadsFirst Asm command l.file) (sym l.asked_are) (refl, l.handed)) (once-asked asked (load_file command.story most_text, l.answer) l.asked_are) count (λ e. absurd cc)
+        told-done Asm command d before now taken took sends asked l.file (outcome_of_code (assembled text)) _
+        (λ plays. plays) l.file_is (ap outcome_of_text l.gives) (text-loadable l.file text l.gives)
+        (subst (LoadsFirst Asm command l.file) (sym l.asked_are) (refl, l.handed))
+        (once-asked asked (load_file command.story most_text, l.answer) l.asked_are) count (λ e. absurd cc)
         (code-told (assembled text) taken took sends number tell) tell blames
 
-    pub list-told : (story : FlatStory) (l : LoadsFile ceiling story_in_file before now command.story asked (Ok story)) → Blames before.calls now.calls (let e : Result FlatStory Refusal = Ok story in e ≡ Err refusal.Shelf) → (ended.status ≡ status_no_listing → (1 ≤ ended.fault) × (ended.fault ≤ 5))
-        → JobTells (outcome_of_listing (listed_story story)) taken took sends ended → IsJobDone Listing command (record d { sink = taken; shelf = before; sends = []; asked = [] }) (record d { sink = took; shelf = now; sends = sends; asked = asked }) ended
+    pub list-told : (story : FlatStory) (l : LoadsFile ceiling story_in_file before now command.story asked
+        (Ok story)) → Blames before.calls now.calls (let e : Result FlatStory Refusal = Ok story in
+        e ≡ Err refusal.Shelf) → (ended.status ≡ status_no_listing → (1 ≤ ended.fault) × (ended.fault ≤ 5))
+        → JobTells (outcome_of_listing (listed_story story)) taken took sends ended
+        → IsJobDone Listing command (record d { sink = taken; shelf = before; sends = []; asked = [] })
+        (record d { sink = took; shelf = now; sends = sends; asked = asked }) ended
     list-told story l count number tell =
-        told-done Listing command d before now taken took sends asked l.file (outcome_of_listing (listed_story story)) _ (λ plays. plays) l.file_is (ap outcome_of_list l.gives) (loadable l.file story l.gives)
-        (subst (LoadsFirst Listing command l.file) (sym l.asked_are) (refl, l.handed)) (once-asked asked (load_file command.story ceiling, l.answer) l.asked_are) count (λ e. absurd cc)
+        told-done Listing command d before now taken took sends asked l.file (outcome_of_listing (listed_story story))
+        _ (λ plays. plays) l.file_is (ap outcome_of_list l.gives) (loadable l.file story l.gives)
+        (subst (LoadsFirst Listing command l.file) (sym l.asked_are) (refl, l.handed))
+        (once-asked asked (load_file command.story ceiling, l.answer) l.asked_are) count (λ e. absurd cc)
         (listing-told (listed_story story) taken took sends number tell) tell blames
 
   -- THE WHOLE CALL
   module _ (words : List (List ℕ)) (entry : Devices) where
     -- the command line has a command, and its job was done
-    pub played-done : (command : Command) (exit : Devices) → command_of words ≡ Some command → Chain SourceCall entry.source exit.reads exit.source → Chain SinkCall entry.sink exit.sends exit.sink
-        → Chain ShelfCall entry.shelf exit.asked exit.shelf → IsJobDone command.job command entry exit ended → IsPlayed (command_of words) entry exit ended
+    pub played-done : (command : Command) (exit : Devices) → command_of words ≡ Some command
+        → Chain SourceCall entry.source exit.reads exit.source → Chain SinkCall entry.sink exit.sends exit.sink
+        → Chain ShelfCall entry.shelf exit.asked exit.shelf → IsJobDone command.job command entry exit ended
+        → IsPlayed (command_of words) entry exit ended
     played-done command exit is read sent chain done =
         let headline : ComesOut (command_of words) entry exit ended =
         subst (λ (o : Option Command). ComesOut o entry exit ended) (sym is) (record {
@@ -329,7 +418,8 @@ module _ {A : Type 0} (ended : Ended A) where
           undrawn = undrawn ended entry exit (command_of words) headline;
           settled = settled (command_of words) entry;
           counts = done.counts;
-          parts = subst (λ (o : Option Command). HasItsParts (IfSome o (λ (c : Command). PlaysStory c.job)) (IfSome o (λ (c : Command). c.job ≡ Play)) ended) (sym is) done.parts;
+          parts = subst (λ (o : Option Command). HasItsParts (IfSome o (λ (c : Command). PlaysStory c.job))
+              (IfSome o (λ (c : Command). c.job ≡ Play)) ended) (sym is) done.parts;
           works = works;
           spelling = spelling;
         }
@@ -338,18 +428,24 @@ module _ {A : Type 0} (ended : Ended A) where
     no-calls : {S C : Type 0} (step : S → C → S → Type 0) (s : S) (trace : List C) → trace ≡ [] → Chain step s trace s
     no-calls step s trace none = subst (λ (t : List _). Chain step s t s) (sym none) refl
 
-    none-called : (status : ℕ) → ended.status ≡ status → (status ≡ 1) ⊎ (status ≡ 11) → FailureCounts entry entry ended.status
+    none-called : (status : ℕ) → ended.status ≡ status → (status ≡ 1) ⊎ (status ≡ 11)
+        → FailureCounts entry entry ended.status
     none-called status s which = record {
-      shelf = blames-none entry.shelf.calls entry.shelf.calls (ended.status ≡ status_shelf_fault) refl (λ e. absurd (grind (arith, s, which, e)));
-      source = blames-none entry.source.calls entry.source.calls (ended.status ≡ status_input_fault) refl (λ e. absurd (grind (arith, s, which, e)));
-      sink = blames-none entry.sink.calls entry.sink.calls (ended.status ≡ status_output_fault) refl (λ e. absurd (grind (arith, s, which, e)));
+      shelf = blames-none entry.shelf.calls entry.shelf.calls (ended.status ≡ status_shelf_fault) refl
+          (λ e. absurd (grind (arith, s, which, e)));
+      source = blames-none entry.source.calls entry.source.calls (ended.status ≡ status_input_fault) refl
+          (λ e. absurd (grind (arith, s, which, e)));
+      sink = blames-none entry.sink.calls entry.sink.calls (ended.status ≡ status_output_fault) refl
+          (λ e. absurd (grind (arith, s, which, e)));
     }
 
     entry-unrun : entry.asked ≡ [] → IsUnrun entry entry
-    entry-unrun first = let size : length entry.asked ≡ 0 = ap (λ (t : Trace). length t) first in record { asked = omega (arith, size); source = refl; reads = refl; words = refl }
+    entry-unrun first = let size : length entry.asked ≡ 0 = ap (λ (t : Trace). length t) first in
+        record { asked = omega (arith, size); source = refl; reads = refl; words = refl }
 
     -- it has none
-    pub played-none : entry.reads ≡ [] → entry.sends ≡ [] → entry.asked ≡ [] → command_of words ≡ None → HasNoMachine ended status_bad_words 0 0 0 → IsPlayed (command_of words) entry entry ended
+    pub played-none : entry.reads ≡ [] → entry.sends ≡ [] → entry.asked ≡ [] → command_of words ≡ None
+        → HasNoMachine ended status_bad_words 0 0 0 → IsPlayed (command_of words) entry entry ended
     played-none unread unsent first none absent =
         let s = absent.status_is in
         let headline : ComesOut (command_of words) entry entry ended =
@@ -371,12 +467,15 @@ module _ {A : Type 0} (ended : Ended A) where
           undrawn = λ _. refl;
           settled = settled (command_of words) entry;
           counts = none-called status_bad_words s (inl refl);
-          parts = parts-before (IfSome (command_of words) (λ (c : Command). PlaysStory c.job)) (IfSome (command_of words) (λ (c : Command). c.job ≡ Play)) status_bad_words 0 absent (inl refl) (omega arith) (λ _. refl);
+          parts = parts-before (IfSome (command_of words) (λ (c : Command). PlaysStory c.job))
+              (IfSome (command_of words) (λ (c : Command). c.job ≡ Play)) status_bad_words 0 absent (inl refl)
+              (omega arith) (λ _. refl);
           works = works;
           spelling = spelling;
         }
 
-    unread-comes : (o : Option Command) → entry.sends ≡ [] → entry.asked ≡ [] → HasNoMachine ended status_no_memory 0 0 0 → ComesOut o entry entry ended
+    unread-comes : (o : Option Command) → entry.sends ≡ [] → entry.asked ≡ []
+        → HasNoMachine ended status_no_memory 0 0 0 → ComesOut o entry entry ended
     unread-comes None unsent first absent = record {
       file = None;
       file_is = tt;
@@ -393,7 +492,8 @@ module _ {A : Type 0} (ended : Ended A) where
     }
 
     -- memory ran out while the words were read
-    pub played-unread : entry.reads ≡ [] → entry.sends ≡ [] → entry.asked ≡ [] → HasNoMachine ended status_no_memory 0 0 0 → IsPlayed (command_of words) entry entry ended
+    pub played-unread : entry.reads ≡ [] → entry.sends ≡ [] → entry.asked ≡ []
+        → HasNoMachine ended status_no_memory 0 0 0 → IsPlayed (command_of words) entry entry ended
     played-unread unread unsent first absent =
         let s = absent.status_is in
         record {
@@ -407,7 +507,9 @@ module _ {A : Type 0} (ended : Ended A) where
           undrawn = λ _. refl;
           settled = settled (command_of words) entry;
           counts = none-called status_no_memory s (inr refl);
-          parts = parts-before (IfSome (command_of words) (λ (c : Command). PlaysStory c.job)) (IfSome (command_of words) (λ (c : Command). c.job ≡ Play)) status_no_memory 0 absent (inr (inr (inr refl))) (omega arith) (λ _. refl);
+          parts = parts-before (IfSome (command_of words) (λ (c : Command). PlaysStory c.job))
+              (IfSome (command_of words) (λ (c : Command). c.job ≡ Play)) status_no_memory 0 absent
+              (inr (inr (inr refl))) (omega arith) (λ _. refl);
           works = works;
           spelling = spelling;
         }

@@ -22,14 +22,16 @@ texts_matched f = rw (
   first_value-rows f (codes "job"),
 ) refl
 
-command_read : (words : List Text) → is_empty (faults_of words) ≡ true → command_of words ≡ command_in (λ name. first_of name (matched_in words))
+command_read : (words : List Text) → is_empty (faults_of words) ≡ true
+    → command_of words ≡ command_in (λ name. first_of name (matched_in words))
 unfolding command_of
 command_read words quiet = rw quiet refl
 
 pub command_is : (words : List Text) (f : Found) → is_empty (faults_of words) ≡ true → rows_of f ≡ matched_in words
     → command_of words ≡ command_in (first_value f)
 command_is words f quiet same =
-    command_read words quiet ∙ ap (λ (rows : List Row). command_in (λ name. first_of name rows)) (sym same) ∙ sym (texts_matched f)
+    command_read words quiet ∙ ap (λ (rows : List Row). command_in (λ name. first_of name rows)) (sym same)
+    ∙ sym (texts_matched f)
 
 pub no_command : (words : List Text) → is_empty (faults_of words) ≡ false → command_of words ≡ None
 unfolding command_of

@@ -13,7 +13,8 @@ use Rattle.gx_play.specs.Commands.{Command}
 use Rattle.gx_words.specs.Constants.{ceiling}
 use Rattle.gx_play.specs.Constants.{most_text}
 use Rattle.gx_play.specs.Jobs.{check_told}
-use Rattle.gx_play.specs.Outcomes.{CommandOutcome, answers_with, in_file, outcome_with, outcome_of_start, outcome_of_code, outcome_of_listing}
+use Rattle.gx_play.specs.Outcomes.{CommandOutcome, answers_with, in_file, outcome_with, outcome_of_start}
+use Rattle.gx_play.specs.Outcomes.{outcome_of_code, outcome_of_listing}
 
 -- the story in a file, and the text, or the number of why there is none
 abbrev pub story_in_file : Option (List ℕ) → Result FlatStory ℕ
@@ -31,7 +32,8 @@ outcome_of_story job command entry r =
     outcome_with r (λ (story : FlatStory). outcome_of_start job command story entry (first_machine story command.undo))
 
 abbrev pub outcome_of_check : Result FlatStory ℕ → CommandOutcome
-outcome_of_check r = outcome_with r (λ (story : FlatStory). answers_with (check_told (is_checked story)).0 (check_told (is_checked story)).1)
+outcome_of_check r = outcome_with r (λ (story : FlatStory). answers_with (check_told (is_checked story)).0
+    (check_told (is_checked story)).1)
 
 abbrev pub outcome_of_text : Result (List ℕ) ℕ → CommandOutcome
 outcome_of_text r = outcome_with r (λ (text : List ℕ). outcome_of_code (assembled text))

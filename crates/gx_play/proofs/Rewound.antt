@@ -18,19 +18,31 @@ use Rattle.gx_outside.specs.declared.devices.SendFault.TheVariants as of_send
 module _ {A : Type 0} (ended : Ended A) where
   -- THE ANSWER where the line wasn't sent whole
   module _ (sent : Ended A) (line : List ℕ) (r : Report) (before now : FlatSink) (sends : List Send) where
-    pub line-whole : SendsOutput status_ended 0 0 0 line before now sends sent → sent.status ≡ status_ended → HasNoMachine ended r.status r.fault r.at r.steps → SendsLine line r before now sends ended
+    pub line-whole : SendsOutput status_ended 0 0 0 line before now sends sent → sent.status ≡ status_ended
+        → HasNoMachine ended r.status r.fault r.at r.steps → SendsLine line r before now sends ended
     line-whole (Ok done, absent, once, call) is has = inl (Ok done, has, once, call)
-    line-whole (Err of_send.Failed, absent, front, call) is has = let s = absent.status_is in absurd (omega (arith, s, is))
-    line-whole (Err of_send.NoMemory, absent, front, call) is has = let s = absent.status_is in absurd (omega (arith, s, is))
+    line-whole (Err of_send.Failed, absent, front, call) is has = let s = absent.status_is in
+        absurd (omega (arith, s, is))
+    line-whole (Err of_send.NoMemory, absent, front, call) is has = let s = absent.status_is in
+        absurd (omega (arith, s, is))
 
-    pub line-unsent : SendsOutput status_ended 0 0 0 line before now sends sent → sent.status ≢ status_ended → HasNoMachine ended sent.status 0 0 r.steps → SendsLine line r before now sends ended
+    pub line-unsent : SendsOutput status_ended 0 0 0 line before now sends sent → sent.status ≢ status_ended
+        → HasNoMachine ended sent.status 0 0 r.steps → SendsLine line r before now sends ended
     line-unsent (Ok done, absent, took, call) not has = absurd (not absent.status_is)
-    line-unsent (Err of_send.Failed, absent, front, call) not has = inl (Err of_send.Failed, subst (λ (s : ℕ). HasNoMachine ended s 0 0 r.steps) absent.status_is has, front, call)
-    line-unsent (Err of_send.NoMemory, absent, front, call) not has = inl (Err of_send.NoMemory, subst (λ (s : ℕ). HasNoMachine ended s 0 0 r.steps) absent.status_is has, front, call)
+    line-unsent (Err of_send.Failed, absent, front, call) not has =
+        inl (Err of_send.Failed, subst (λ (s : ℕ). HasNoMachine ended s 0 0 r.steps) absent.status_is has, front, call)
+    line-unsent (Err of_send.NoMemory, absent, front, call) not has =
+        inl (
+          Err of_send.NoMemory,
+          subst (λ (s : ℕ). HasNoMachine ended s 0 0 r.steps) absent.status_is has,
+          front,
+          call,
+        )
 
   module _ (back : ℕ) (r : Report) (before now : FlatSink) (sends : List Send) where
     -- after a run that came to its end
-    pub rewound-told : r.status < status_shelf_fault → SendsLine (line_of back r) r before now sends ended → IsRewound back r before now sends ended
+    pub rewound-told : r.status < status_shelf_fault → SendsLine (line_of back r) r before now sends ended
+        → IsRewound back r before now sends ended
     rewound-told early line = record { told = λ _. line; early = λ late. absurd (omega (arith, early, late)) }
 
     below : (status : ℕ) → (status < status_shelf_fault) ⊎ (status_shelf_fault ≤ status)
@@ -44,16 +56,21 @@ module _ {A : Type 0} (ended : Ended A) where
       no_fault = λ _. (refl, refl);
     }
 
-    as-run : (status fault at : ℕ) → HasNoMachine ended status fault at r.steps → IsReport status fault at → IsReport ended.status ended.fault ended.at
+    as-run : (status fault at : ℕ) → HasNoMachine ended status fault at r.steps → IsReport status fault at
+        → IsReport ended.status ended.fault ended.at
     as-run status fault at has report = rw (has.status_is, has.fault_is, has.at_is) report
 
-    line-report : SendsLine (line_of back r) r before now sends ended → IsReport r.status r.fault r.at → IsReport ended.status ended.fault ended.at
+    line-report : SendsLine (line_of back r) r before now sends ended → IsReport r.status r.fault r.at
+        → IsReport ended.status ended.fault ended.at
     line-report (inl (Ok done, has, took, call)) report = as-run r.status r.fault r.at has report
-    line-report (inl (Err of_send.Failed, has, front, call)) report = as-run status_output_fault 0 0 has (quiet status_output_fault (inl refl))
-    line-report (inl (Err of_send.NoMemory, has, front, call)) report = as-run status_no_memory 0 0 has (quiet status_no_memory (inr refl))
+    line-report (inl (Err of_send.Failed, has, front, call)) report =
+        as-run status_output_fault 0 0 has (quiet status_output_fault (inl refl))
+    line-report (inl (Err of_send.NoMemory, has, front, call)) report =
+        as-run status_no_memory 0 0 has (quiet status_no_memory (inr refl))
     line-report (inr (has, same, none)) report = as-run status_no_memory 0 0 has (quiet status_no_memory (inr refl))
 
-    rewound-report : IsRewound back r before now sends ended → IsReport r.status r.fault r.at → IsReport ended.status ended.fault ended.at
+    rewound-report : IsRewound back r before now sends ended → IsReport r.status r.fault r.at
+        → IsReport ended.status ended.fault ended.at
     rewound-report rewound report =
         elim (below r.status) [
           | inl early ↦ line-report (rewound.told early) report
@@ -65,21 +82,28 @@ module _ {A : Type 0} (ended : Ended A) where
 
   -- THE COUNTS over the run and the line
   module _ (back : ℕ) (r : Report) (entry mid exit : Devices) (counts : FailureCounts entry mid r.status) where
-    line-status : (before now : FlatSink) (sends : List Send) → SendsLine (line_of back r) r before now sends ended → (ended.status ≡ r.status) ⊎ (ended.status ≡ 10) ⊎ (ended.status ≡ 11)
+    line-status : (before now : FlatSink) (sends : List Send) → SendsLine (line_of back r) r before now sends ended
+        → (ended.status ≡ r.status) ⊎ (ended.status ≡ 10) ⊎ (ended.status ≡ 11)
     line-status before now sends (inl (Ok done, has, took, call)) = inl has.status_is
     line-status before now sends (inl (Err of_send.Failed, has, front, call)) = inr (inl has.status_is)
     line-status before now sends (inl (Err of_send.NoMemory, has, front, call)) = inr (inr has.status_is)
     line-status before now sends (inr (has, same, none)) = inr (inr has.status_is)
 
-    told-counts : r.status < status_shelf_fault → (ended.status ≡ r.status) ⊎ (ended.status ≡ 10) ⊎ (ended.status ≡ 11) → BlamesSink mid.sink exit.sink ended.status
+    told-counts : r.status < status_shelf_fault → (ended.status ≡ r.status) ⊎ (ended.status ≡ 10)
+        ⊎ (ended.status ≡ 11) → BlamesSink mid.sink exit.sink ended.status
         → FailureCounts entry (record mid { sink = exit.sink }) ended.status
     told-counts early which blames = record {
-      shelf = blames-same entry.shelf.calls mid.shelf.calls _ (ended.status ≡ status_shelf_fault) counts.shelf (λ e. absurd (omega (arith, early, e))) (λ e. absurd (grind (arith, early, which, e)));
-      source = blames-same entry.source.calls mid.source.calls _ (ended.status ≡ status_input_fault) counts.source (λ e. absurd (omega (arith, early, e))) (λ e. absurd (grind (arith, early, which, e)));
-      sink = blames-on entry.sink.calls mid.sink.calls exit.sink.calls (ended.status ≡ status_output_fault) (well-of entry.sink.calls mid.sink.calls _ counts.sink (λ e. omega (arith, early, e))) blames;
+      shelf = blames-same entry.shelf.calls mid.shelf.calls _ (ended.status ≡ status_shelf_fault) counts.shelf
+          (λ e. absurd (omega (arith, early, e))) (λ e. absurd (grind (arith, early, which, e)));
+      source = blames-same entry.source.calls mid.source.calls _ (ended.status ≡ status_input_fault) counts.source
+          (λ e. absurd (omega (arith, early, e))) (λ e. absurd (grind (arith, early, which, e)));
+      sink = blames-on entry.sink.calls mid.sink.calls exit.sink.calls (ended.status ≡ status_output_fault)
+          (well-of entry.sink.calls mid.sink.calls _ counts.sink (λ e. omega (arith, early, e))) blames;
     }
 
-    pub rewound-counts : (sends : List Send) → IsRewound back r mid.sink exit.sink sends ended → (r.status < status_shelf_fault → BlamesSink mid.sink exit.sink ended.status) → FailureCounts entry (record mid { sink = exit.sink }) ended.status
+    pub rewound-counts : (sends : List Send) → IsRewound back r mid.sink exit.sink sends ended
+        → (r.status < status_shelf_fault → BlamesSink mid.sink exit.sink ended.status)
+        → FailureCounts entry (record mid { sink = exit.sink }) ended.status
     rewound-counts sends rewound blames =
         elim (below back r mid.sink exit.sink sends r.status) [
           | inl early ↦ told-counts early (line-status mid.sink exit.sink sends (rewound.told early)) (blames early)

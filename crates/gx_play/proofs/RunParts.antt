@@ -12,7 +12,8 @@ there P None h = absurd h
 there P (Some x) h = refl
 
 -- with the machine, where it is handed back
-pub report-parts : {A : Type 0} (ended : Ended A) (handing : Type 0) → IsReport ended.status ended.fault ended.at → (handing → IsSome ended.machine) → HasRunParts handing ended
+pub report-parts : {A : Type 0} (ended : Ended A) (handing : Type 0) → IsReport ended.status ended.fault ended.at
+    → (handing → IsSome ended.machine) → HasRunParts handing ended
 report-parts ended handing report has =
     let which = report.status_is in
     record {
@@ -29,9 +30,11 @@ report-parts ended handing report has =
     }
 
 module _ {A : Type 0} (ended : Ended A) (start : Configuration) (entry exit : Devices) where
-  reported : (m : Option Whole) → IsSomeAnd m (λ end. IsRun start entry exit (report_of ended end)) → IsReport ended.status ended.fault ended.at
+  reported : (m : Option Whole) → IsSomeAnd m (λ end. IsRun start entry exit (report_of ended end))
+      → IsReport ended.status ended.fault ended.at
   reported None h = absurd h
   reported (Some whole) h = h.report
 
-  pub run-parts : IsSomeAnd ended.machine (λ end. IsRun start entry exit (report_of ended end)) → HasRunParts (Unit {0}) ended
+  pub run-parts : IsSomeAnd ended.machine (λ end. IsRun start entry exit (report_of ended end))
+      → HasRunParts (Unit {0}) ended
   run-parts run = report-parts ended (Unit {0}) (reported ended.machine run) (λ _. there _ ended.machine run)

@@ -11,25 +11,31 @@ use Rattle.gx_play.specs.Outcomes.{outcome_of, refused}
 bad-words : (file : Option (List ℕ)) (d : Devices) → outcome_of None file d ≡ refused status_bad_words 0 0
 bad-words file d = refl
 
-no-such-file : (command : Command) (d : Devices) → outcome_of (Some (record command { job = Play })) None d ≡ refused status_bad_story 0 0
+no-such-file : (command : Command) (d : Devices) → outcome_of (Some (record command { job = Play })) None d
+    ≡ refused status_bad_story 0 0
 no-such-file command d = refl
 
-nothing-to-rewind : (command : Command) (d : Devices) → outcome_of (Some (record command { job = Rewind })) None d ≡ refused status_bad_story 0 0
+nothing-to-rewind : (command : Command) (d : Devices) → outcome_of (Some (record command { job = Rewind })) None d
+    ≡ refused status_bad_story 0 0
 nothing-to-rewind command d = refl
 
-nothing-to-check : (command : Command) (d : Devices) → outcome_of (Some (record command { job = Check })) None d ≡ refused status_bad_story 0 0
+nothing-to-check : (command : Command) (d : Devices) → outcome_of (Some (record command { job = Check })) None d
+    ≡ refused status_bad_story 0 0
 nothing-to-check command d = refl
 
-nothing-to-assemble : (command : Command) (d : Devices) → outcome_of (Some (record command { job = Asm })) None d ≡ refused status_bad_story 0 0
+nothing-to-assemble : (command : Command) (d : Devices) → outcome_of (Some (record command { job = Asm })) None d
+    ≡ refused status_bad_story 0 0
 nothing-to-assemble command d = refl
 
-nothing-to-list : (command : Command) (d : Devices) → outcome_of (Some (record command { job = Listing })) None d ≡ refused status_bad_story 0 0
+nothing-to-list : (command : Command) (d : Devices) → outcome_of (Some (record command { job = Listing })) None d
+    ≡ refused status_bad_story 0 0
 nothing-to-list command d = refl
 
 -- a story of one page with this magic and version
 abbrev page : List ℕ → List ℕ → List ℕ
 page magic version =
-    magic ++ version ++ (0 ∷ 0 ∷ 1 ∷ 0 ∷ 0 ∷ 0 ∷ 1 ∷ 0 ∷ 0 ∷ 0 ∷ 1 ∷ 0 ∷ 0 ∷ 0 ∷ 1 ∷ 0 ∷ 0 ∷ 0 ∷ 0 ∷ 0x24 ∷ 0 ∷ 0 ∷ 0 ∷ 0 ∷ []) ++ replicate 224 0
+    magic ++ version ++ (0 ∷ 0 ∷ 1 ∷ 0 ∷ 0 ∷ 0 ∷ 1 ∷ 0 ∷ 0 ∷ 0 ∷ 1 ∷ 0 ∷ 0 ∷ 0 ∷ 1 ∷ 0 ∷ 0 ∷ 0 ∷ 0 ∷ 0x24 ∷ 0 ∷ 0 ∷ 0
+    ∷ 0 ∷ []) ++ replicate 224 0
 
 abbrev glul : List ℕ
 glul = 0x47 ∷ 0x6C ∷ 0x75 ∷ 0x6C ∷ []

@@ -14,7 +14,8 @@ use Rattle.gx_words.specs.declared.faults.Fault.{Fault}
 use Rattle.gx_story.specs.declared.faults.StoryFault.{StoryFault}
 use Rattle.gx_story.specs.Stories.{FlatStory, accepted, bare, header, header_at_start, has_sizes}
 use Rattle.gx_story.specs.Stories.{is_whole}
-use Rattle.gx_story.proofs.HeaderTests.{stored_story, has_header, has_magic, has_version, is_within_limits, has_stored_part}
+use Rattle.gx_story.proofs.HeaderTests.{stored_story, has_header, has_magic, has_version, is_within_limits}
+use Rattle.gx_story.proofs.HeaderTests.{has_stored_part}
 use Rattle.gx_pages.specs.Memory.{number_in}
 use Rattle.gx_stack.specs.Formats.{locals_len}
 use Rattle.gx_state.specs.Entry.{kind_at, format_from, function_at, entered, started, initial}
@@ -27,9 +28,11 @@ use Rattle.gx_play.specs.Constants.{usual_depth}
 use Rattle.gx_play.specs.Jobs.{work_machine}
 
 -- THE FILE
-all-passed : {X E : Type 0} (a b c d e f : Bool) (short magic version sizes large cut : E) (x : X) → a ≡ true → b ≡ true → c ≡ true → d ≡ true → e ≡ true → f ≡ true
+all-passed : {X E : Type 0} (a b c d e f : Bool) (short magic version sizes large cut : E) (x : X) → a ≡ true
+    → b ≡ true → c ≡ true → d ≡ true → e ≡ true → f ≡ true
     → (let r : Result X E =
-    if not a then Err short else if not b then Err magic else if not c then Err version else if not d then Err sizes else
+    if not a then Err short else if not b then Err magic else if not c then Err version else if not d then Err sizes
+    else
     if not e then Err large else if not f then Err cut else Ok x in r ≡ Ok x)
 all-passed a b c d e f short magic version sizes large cut x pa pb pc pd pe pf = rw (pa, pb, pc, pd, pe, pf) refl
 
@@ -63,7 +66,8 @@ module _ (number : ℕ) where
   itself = grind (arith, nat_tests)
 
   passes-sizes : has_sizes (header_at_start (work_story number)) ≡ true
-  passes-sizes = let h = headed number in rw (h.ramstart, h.extstart, h.endmem, h.stack_size, length-work number, whole, not-below, itself) refl
+  passes-sizes = let h = headed number in
+      rw (h.ramstart, h.extstart, h.endmem, h.stack_size, length-work number, whole, not-below, itself) refl
 
   passes-limits : is_within_limits (header_at_start (work_story number)) ≡ true
   passes-limits = let h = headed number in rw (h.endmem, h.stack_size, length-work number, not-above) refl
@@ -75,7 +79,8 @@ module _ (number : ℕ) where
   unfolding header
   header-is =
       let bytes = work_story number in
-      all-passed (has_header bytes) (has_magic bytes) (has_version (header_at_start bytes)) (has_sizes (header_at_start bytes)) (is_within_limits (header_at_start bytes))
+      all-passed (has_header bytes) (has_magic bytes) (has_version (header_at_start bytes))
+      (has_sizes (header_at_start bytes)) (is_within_limits (header_at_start bytes))
       (has_stored_part (header_at_start bytes) bytes) _ _ _ _ _ _ (header_at_start bytes)
       passes-header passes-magic passes-version passes-sizes passes-limits passes-stored
 
@@ -89,9 +94,11 @@ module _ (number : ℕ) where
 -- THE START FUNCTION: its type and its format are read from the first page
 module _ (count checksum : ℕ) (rest : List ℕ) where
   inside : (at : ℕ) → at < 256 → nat_le (at + 1) (length (page count checksum ++ rest)) ≡ true
-  inside at here = rw (length-append (page count checksum) rest, length-page count checksum) (le-leb (at + 1) (256 + length rest) (omega arith))
+  inside at here = rw (length-append (page count checksum) rest, length-page count checksum)
+      (le-leb (at + 1) (256 + length rest) (omega arith))
 
-  reads : (at v : ℕ) → at < 256 → byte (page count checksum ++ rest) at ≡ v → number_in 1 (page count checksum ++ rest) at ≡ Ok v
+  reads : (at v : ℕ) → at < 256 → byte (page count checksum ++ rest) at ≡ v
+      → number_in 1 (page count checksum ++ rest) at ≡ Ok v
   unfolding number_in
   reads at v here is = rw (inside at here, is) refl
 
@@ -119,7 +126,8 @@ module _ (count checksum : ℕ) (rest : List ℕ) where
   unfolding function_at kind_at format_from locals_len
   function-is = rw (reads-type, reads-locals, reads-count, reads-end, reads-last) refl
 
-starts : (story : FlatStory) (memory : List ℕ) (x : ℕ × List ℕ) → (initial story).memory ≡ memory → story.header.start_function ≡ 0x24 → story.header.stack_size ≡ 0x100
+starts : (story : FlatStory) (memory : List ℕ) (x : ℕ × List ℕ) → (initial story).memory ≡ memory
+    → story.header.start_function ≡ 0x24 → story.header.stack_size ≡ 0x100
     → function_at memory 0x24 0 0 0x100 ≡ Ok x → is_some (result_ok (first_machine story usual_depth)) ≡ true
 unfolding first_machine started entered
 starts story memory x same start stack function = rw (same, start, stack, function) refl
@@ -129,7 +137,8 @@ module _ (number : ℕ) where
   abbrev checksum : ℕ
   checksum = sum_of_words (64 + ram_count number) (work_story_with number 0) % 2 ^ 32
 
-  begins : (zeros : List ℕ) → take (word (work_story number) extstart_at) (work_story number) ++ zeros ≡ page (ram_count number) checksum ++ (ram (ram_count number) number ++ zeros)
+  begins : (zeros : List ℕ) → take (word (work_story number) extstart_at) (work_story number) ++ zeros
+      ≡ page (ram_count number) checksum ++ (ram (ram_count number) number ++ zeros)
   unfolding work_story work_story_with
   begins zeros =
       let h = headed number in
@@ -143,11 +152,16 @@ module _ (number : ℕ) where
       let h = headed number in
       let s : FlatStory = story number in
       let zeros : List ℕ = replicate (s.header.endmem - length s.bytes) 0 in
-      rw (accepts number) (starts s (page (ram_count number) checksum ++ (ram (ram_count number) number ++ zeros)) (0xC1, 4 ∷ 2 ∷ 0 ∷ 0 ∷ []) (begins zeros) h.start_function h.stack_size (function-is (ram_count number) checksum (ram (ram_count number) number ++ zeros)))
+      rw (accepts number) (starts s (page (ram_count number) checksum ++ (ram (ram_count number) number ++ zeros))
+      (0xC1, 4 ∷ 2 ∷ 0 ∷ 0 ∷ []) (begins zeros) h.start_function h.stack_size
+      (function-is (ram_count number) checksum (ram (ram_count number) number ++ zeros)))
 
   -- the machine that was started
-  pub started-by : (bytes : List ℕ) (s : FlatStory) (w : Whole) → bytes ≡ work_story number → accepted bytes ≡ Ok s → first_machine s usual_depth ≡ Ok w → work_machine number ≡ Some w
+  pub started-by : (bytes : List ℕ) (s : FlatStory) (w : Whole) → bytes ≡ work_story number → accepted bytes ≡ Ok s
+      → first_machine s usual_depth ≡ Ok w → work_machine number ≡ Some w
   unfolding work_machine
   started-by bytes s w is accepts-it starts-it =
-      ap (λ (r : Result FlatStory StoryFault). option_and_then (λ (story : FlatStory). result_ok (first_machine story usual_depth)) (result_ok r)) (ap accepted (sym is) ∙ accepts-it)
+      ap (λ (r : Result FlatStory StoryFault).
+      option_and_then (λ (story : FlatStory). result_ok (first_machine story usual_depth)) (result_ok r))
+      (ap accepted (sym is) ∙ accepts-it)
       ∙ ap (λ (r : Result Whole Fault). result_ok r) starts-it

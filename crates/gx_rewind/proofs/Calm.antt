@@ -1,5 +1,6 @@
 -- A step that is done is never said to be spent.
-use Rattle.std.proofs.Common.{◌≡◌, ◌==◌, ◌+◌, ℕ, if◌then◌else◌, Bool, true, false, List, [], ◌∷◌, length, Option, Some, None, Result, Ok, Err, subst}
+use Rattle.std.proofs.Common.{◌≡◌, ◌==◌, ◌+◌, ℕ, if◌then◌else◌, Bool, true, false, List, [], ◌∷◌, length, Option}
+use Rattle.std.proofs.Common.{Some, None, Result, Ok, Err, subst}
 use Rattle.std.specs.Prelude.{max}
 use Rattle.gx_words.specs.declared.faults.Fault.{Fault}
 use Rattle.gx_words.specs.declared.faults.Fault.TheVariants.{BadFrame}
@@ -63,7 +64,8 @@ ended-calm true = tt
 ended-calm false = tt
 
 returns-calm : (f : FlatState) (next v : ℕ) → Calm (flow.returns f next v)
-returns-calm f next v = bind (returned (going_to f next) f.fp v) (λ r. Ok (r.0, if r.1 then Quit else Went)) (λ r. ended-calm r.1)
+returns-calm f next v = bind (returned (going_to f next) f.fp v) (λ r. Ok (r.0, if r.1 then Quit else Went))
+    (λ r. ended-calm r.1)
 
 flow-calm : (f : FlatState) (i : Instruction) → Calm (flow.flow f i)
 unfolding flow.flow flow.call flow.catch flow.throw flow.tailcall flow.callf
@@ -106,18 +108,22 @@ stores-calm f i v = search bind
 found-calm : (f : FlatState) (i : Instruction) (o : Option ℕ) → Calm (space.allocated f i o)
 found-calm f i None = stores-calm f i 0
 found-calm f i (Some at) =
-    kept (stores (with_size f (max (length f.memory) (rounded_up (at + L1 i)))) i at) (λ (g : FlatState). with_block g (length f.memory) at (L1 i))
+    kept (stores (with_size f (max (length f.memory) (rounded_up (at + L1 i)))) i at)
+    (λ (g : FlatState). with_block g (length f.memory) at (L1 i))
     (stores-calm (with_size f (max (length f.memory) (rounded_up (at + L1 i)))) i at)
 
 memory-calm : (f : FlatState) (i : Instruction) → Calm (memory.memory f i)
-unfolding memory.memory memory.aload memory.aloads memory.aloadb memory.aloadbit memory.astore memory.astores memory.astoreb memory.astorebit space.getmemsize space.setmemsize searching.linearsearch searching.binarysearch searching.linkedsearch space.mzero space.mcopy space.malloc space.mfree
+unfolding memory.memory memory.aload memory.aloads memory.aloadb memory.aloadbit memory.astore memory.astores
+    memory.astoreb memory.astorebit space.getmemsize space.setmemsize searching.linearsearch searching.binarysearch
+    searching.linkedsearch space.mzero space.mcopy space.malloc space.mfree
 memory-calm f i = search (bind, choose, found-calm) depth 60
 
 print-calm : (f : FlatState) (i : Instruction) → Calm (print.row_effect f i)
 unfolding print.streamchar print.streamnum print.streamstr print.streamunichar
 print-calm f i = search (bind, choose) depth 40
 
-called-calm : (f : FlatState) (started : Bool) (p : Printing) (at : ℕ) (args : List ℕ) → Calm (items.function_called f started p at args)
+called-calm : (f : FlatState) (started : Bool) (p : Printing) (at : ℕ) (args : List ℕ)
+    → Calm (items.function_called f started p at args)
 unfolding items.function_called
 called-calm f started p at args = search bind
 
@@ -142,14 +148,18 @@ drawing-calm (Seeded pcg) = tt
 
 random-calm : (f : FlatState) (word : ℕ) (i : Instruction) → Calm (game.random f word i)
 unfolding game.random
-random-calm f word i = bind (game.drawn f word i) (λ g. Ok (going_to g i.next, if is_outside f.generator then Drew else Went)) (λ g. drawing-calm f.generator)
+random-calm f word i = bind (game.drawn f word i)
+    (λ g. Ok (going_to g i.next, if is_outside f.generator then Drew else Went)) (λ g. drawing-calm f.generator)
 
-from-calm : (f : FlatState) (u : FlatUndo) (i : Instruction) (copies : List Copy) → Calm (game.restored_from f u i copies)
+from-calm : (f : FlatState) (u : FlatUndo) (i : Instruction) (copies : List Copy)
+    → Calm (game.restored_from f u i copies)
 from-calm f u i [] = search (bind, leaving) depth 20
 from-calm f u i (c ∷ older) = tt
 
 game-calm : (f : FlatState) (u : FlatUndo) (word : ℕ) (i : Instruction) → Calm (game.row_effect f u word i)
-unfolding game.row_effect game.gestalt game.setrandom game.quit game.verify game.restart game.save game.restore game.saveundo game.restoreundo game.protect game.hasundo game.discardundo game.getstringtbl game.setstringtbl game.getiosys game.setiosys
+unfolding game.row_effect game.gestalt game.setrandom game.quit game.verify game.restart game.save game.restore
+    game.saveundo game.restoreundo game.protect game.hasundo game.discardundo game.getstringtbl game.setstringtbl
+    game.getiosys game.setiosys
 game-calm f u word i = search (bind, choose, leaving, random-calm, from-calm) depth 60
 
 glk-calm : (f : FlatState) (i : Instruction) → Calm (glk f i)
@@ -165,23 +175,29 @@ both-calm (Ok r) h = h
 both-calm (Err f) h = tt
 
 row-calm : (c : Class) (m : FlatMachine) (word : ℕ) (i : Instruction) → Calm (row_effect c m word i)
-row-calm class.Calc m word i = copies-calm m.undo (flow.row_effect class.Calc m.flat i) (flow-class-calm class.Calc m.flat i)
-row-calm class.Branch m word i = copies-calm m.undo (flow.row_effect class.Branch m.flat i) (flow-class-calm class.Branch m.flat i)
-row-calm class.Flow m word i = copies-calm m.undo (flow.row_effect class.Flow m.flat i) (flow-class-calm class.Flow m.flat i)
+row-calm class.Calc m word i = copies-calm m.undo (flow.row_effect class.Calc m.flat i)
+    (flow-class-calm class.Calc m.flat i)
+row-calm class.Branch m word i = copies-calm m.undo (flow.row_effect class.Branch m.flat i)
+    (flow-class-calm class.Branch m.flat i)
+row-calm class.Flow m word i = copies-calm m.undo (flow.row_effect class.Flow m.flat i)
+    (flow-class-calm class.Flow m.flat i)
 row-calm class.Copy m word i = copies-calm m.undo (memory.copy m.flat i) (copy-calm m.flat i)
 row-calm class.Memory m word i = copies-calm m.undo (memory.memory m.flat i) (memory-calm m.flat i)
-row-calm class.Stack m word i = copies-calm m.undo (flow.row_effect class.Stack m.flat i) (flow-class-calm class.Stack m.flat i)
+row-calm class.Stack m word i = copies-calm m.undo (flow.row_effect class.Stack m.flat i)
+    (flow-class-calm class.Stack m.flat i)
 row-calm class.Print m word i = copies-calm m.undo (print.row_effect m.flat i) (print-calm m.flat i)
 row-calm class.Game m word i = both-calm (game.row_effect m.flat m.undo word i) (game-calm m.flat m.undo word i)
 row-calm class.Glk m word i = copies-calm m.undo (glk m.flat i) (glk-calm m.flat i)
 
 mode-calm : (m : FlatMachine) (word : ℕ) (mode : Mode) → Calm (mode_step m word mode)
-mode-calm m word mode.Running = bind (instruction m.flat) (λ i. row_effect i.row.class m word i) (λ i. row-calm i.row.class m word i)
+mode-calm m word mode.Running = bind (instruction m.flat) (λ i. row_effect i.row.class m word i)
+    (λ i. row-calm i.row.class m word i)
 mode-calm m word (mode.Printing p) = copies-calm m.undo (items.item m.flat p) (item-calm m.flat p)
 
 step-calm : (m : FlatMachine) (word : ℕ) → Calm (step_of m word)
 unfolding step_of
-step-calm m word = choose (sp_of m.flat == 0) (Err BadFrame) (mode_step m word m.flat.mode) tt (mode-calm m word m.flat.mode)
+step-calm m word = choose (sp_of m.flat == 0) (Err BadFrame) (mode_step m word m.flat.mode) tt
+    (mode-calm m word m.flat.mode)
 
 pub never-spent : (m : FlatMachine) (word : ℕ) (n : FlatMachine) → step_of m word ≡ Ok (n, Spent) → ⊥
 never-spent m word n is = subst (λ (r : Result (FlatMachine × Effect) Fault). Calm r) is (step-calm m word)

@@ -1,5 +1,6 @@
 -- Notes that are looked up in a list that was cut, or has one more at its end.
-use Rattle.std.proofs.Common.{◌≡◌, ◌<◌, ◌≤◌, ◌==◌, ℕ, zero, suc, nat_lt, if◌then◌else◌, Bool, true, false, List, [], ◌∷◌, ◌++◌, length, take, Option, Some, None, refl, ap, sym, ◌∙◌, arith, length-take}
+use Rattle.std.proofs.Common.{◌≡◌, ◌<◌, ◌≤◌, ◌==◌, ℕ, zero, suc, nat_lt, if◌then◌else◌, Bool, true, false, List, []}
+use Rattle.std.proofs.Common.{◌∷◌, ◌++◌, length, take, Option, Some, None, refl, ap, sym, ◌∙◌, arith, length-take}
 use Rattle.std.specs.List.{slice_get}
 use Rattle.std.proofs.lemmas.Option.{slice_get_past}
 use Rattle.std.proofs.lemmas.Bool.{ltb-false, ltb-true}
@@ -31,7 +32,8 @@ none-of : {A : Type 0} (j : ℕ) (t : Option (Taken A)) → index_after j t ≤ 
 none-of j None less = refl
 none-of j (Some t) less = absurd (omega (arith, less))
 
-taken-cut-by : {A : Type 0} (b : Bool) (notes : List (Note A)) (k j u : ℕ) → nat_lt j k ≡ b → index_after j (taken_from notes j u) ≤ k → taken_from (take k notes) j u ≡ taken_from notes j u
+taken-cut-by : {A : Type 0} (b : Bool) (notes : List (Note A)) (k j u : ℕ) → nat_lt j k ≡ b
+    → index_after j (taken_from notes j u) ≤ k → taken_from (take k notes) j u ≡ taken_from notes j u
 taken-cut-by true notes k j u is within = let less = ltb-true j k is in ap (taken_by u) (slice_get-take k notes j less)
 taken-cut-by false notes k j u is within =
     let more = ltb-false j k is in
@@ -40,22 +42,28 @@ taken-cut-by false notes k j u is within =
     ap (taken_by u) (slice_get_past (take k notes) j (omega (arith, more, long))) ∙ sym none
 
 -- the notes before a place, once those from there on are cut off
-pub taken-cut : {A : Type 0} (notes : List (Note A)) (k j u : ℕ) → index_after j (taken_from notes j u) ≤ k → taken_from (take k notes) j u ≡ taken_from notes j u
+pub taken-cut : {A : Type 0} (notes : List (Note A)) (k j u : ℕ) → index_after j (taken_from notes j u) ≤ k
+    → taken_from (take k notes) j u ≡ taken_from notes j u
 taken-cut notes k j u within = taken-cut-by (nat_lt j k) notes k j u refl within
 
 pub taken-past : {A : Type 0} (notes : List (Note A)) (k u : ℕ) → taken_from (take k notes) k u ≡ None
-taken-past notes k u = let long = length-take k notes in ap (taken_by u) (slice_get_past (take k notes) k (omega (arith, long)))
+taken-past notes k u = let long = length-take k notes in
+    ap (taken_by u) (slice_get_past (take k notes) k (omega (arith, long)))
 
 -- one more note, of a later event
-pub taken-push : {A : Type 0} (notes : List (Note A)) (n : Note A) (j u : ℕ) → u < n.units → taken_from (notes ++ n ∷ []) j u ≡ taken_from notes j u
-taken-push [] n zero u less = let other : (n.units == u) ≡ false = grind (arith, nat_tests) in step-on (n.units == u) (Some n.taken) None other
+pub taken-push : {A : Type 0} (notes : List (Note A)) (n : Note A) (j u : ℕ) → u < n.units
+    → taken_from (notes ++ n ∷ []) j u ≡ taken_from notes j u
+taken-push [] n zero u less = let other : (n.units == u) ≡ false = grind (arith, nat_tests) in
+    step-on (n.units == u) (Some n.taken) None other
 taken-push [] n (suc j) u less = refl
 taken-push (x ∷ xs) n zero u less = refl
 taken-push (x ∷ xs) n (suc j) u less = taken-push xs n j u less
 
 -- and its own event
-pub taken-last : {A : Type 0} (notes : List (Note A)) (n : Note A) → taken_from (notes ++ n ∷ []) (length notes) n.units ≡ Some n.taken
-taken-last [] n = let own : (n.units == n.units) ≡ true = grind (arith, nat_tests) in stop-at (n.units == n.units) (Some n.taken) None own
+pub taken-last : {A : Type 0} (notes : List (Note A)) (n : Note A)
+    → taken_from (notes ++ n ∷ []) (length notes) n.units ≡ Some n.taken
+taken-last [] n = let own : (n.units == n.units) ≡ true = grind (arith, nat_tests) in
+    stop-at (n.units == n.units) (Some n.taken) None own
 taken-last (x ∷ xs) n = taken-last xs n
 
 one-more : {A : Type 0} (b : Bool) (t : Taken A) (j n : ℕ) → j < n → index_after j (if b then Some t else None) ≤ n
@@ -67,7 +75,8 @@ shifted j n None less = omega (arith, less)
 shifted j n (Some t) less = omega (arith, less)
 
 -- the place of the next note is within the list
-pub bound : {A : Type 0} (notes : List (Note A)) (j u : ℕ) → j ≤ length notes → index_after j (taken_from notes j u) ≤ length notes
+pub bound : {A : Type 0} (notes : List (Note A)) (j u : ℕ) → j ≤ length notes
+    → index_after j (taken_from notes j u) ≤ length notes
 bound [] zero u within = omega arith
 bound [] (suc j) u within = absurd (omega (arith, within))
 bound (x ∷ xs) zero u within = one-more (x.units == u) x.taken 0 (suc (length xs)) (omega arith)

@@ -1,5 +1,6 @@
 -- A step that draws no word from outside is the same with every word.
-use Rattle.std.proofs.Common.{◌≡◌, ◌≢◌, ◌==◌, ◌⊎◌, inl, inr, ℕ, if◌then◌else◌, Bool, true, false, Result, Ok, Err, refl, ap, subst, ◌∙◌}
+use Rattle.std.proofs.Common.{◌≡◌, ◌≢◌, ◌==◌, ◌⊎◌, inl, inr, ℕ, if◌then◌else◌, Bool, true, false, Result, Ok, Err}
+use Rattle.std.proofs.Common.{refl, ap, subst, ◌∙◌}
 use Rattle.gx_words.specs.declared.faults.Fault.{Fault}
 use Rattle.gx_words.specs.declared.faults.Fault.TheVariants.{BadFrame}
 use Rattle.gx_words.specs.Results.{◌>>=◌}
@@ -31,11 +32,13 @@ HasDrawn (Err f) = Unit {0}
 abbrev IsFree : {X : Type 0} → Result (X × Effect) Fault → Result (X × Effect) Fault → Type 0
 IsFree r s = HasDrawn r ⊎ (s ≡ r)
 
-free-else : {X : Type 0} (b : Bool) (x y y' : Result (X × Effect) Fault) → IsFree y y' → IsFree (if b then x else y) (if b then x else y')
+free-else : {X : Type 0} (b : Bool) (x y y' : Result (X × Effect) Fault) → IsFree y y'
+    → IsFree (if b then x else y) (if b then x else y')
 free-else true x y y' h = inr refl
 free-else false x y y' h = h
 
-free-then : {X : Type 0} (b : Bool) (x x' y : Result (X × Effect) Fault) → IsFree x x' → IsFree (if b then x else y) (if b then x' else y)
+free-then : {X : Type 0} (b : Bool) (x x' y : Result (X × Effect) Fault) → IsFree x x'
+    → IsFree (if b then x else y) (if b then x' else y)
 free-then true x x' y h = h
 free-then false x x' y h = inr refl
 
@@ -43,7 +46,8 @@ leaving-drawn : (u : FlatUndo) (r : Result (FlatState × Effect) Fault) → HasD
 leaving-drawn u (Ok x) h = h
 leaving-drawn u (Err f) h = h
 
-leaving-free : (u : FlatUndo) (r s : Result (FlatState × Effect) Fault) → IsFree r s → IsFree (game.leaving_copies u r) (game.leaving_copies u s)
+leaving-free : (u : FlatUndo) (r s : Result (FlatState × Effect) Fault) → IsFree r s
+    → IsFree (game.leaving_copies u r) (game.leaving_copies u s)
 leaving-free u r s (inl d) = inl (leaving-drawn u r d)
 leaving-free u r s (inr e) = inr (ap (game.leaving_copies u) e)
 
@@ -57,16 +61,19 @@ both-free r s (inr e) = inr (ap with_both e)
 
 -- a random word, by the generator
 abbrev drawn-by : FlatState → Generator → ℕ → Instruction → Result FlatState Fault
-drawn-by f g word i = settled f i.sp 4 i.dest (pick (L1 i) (word_from g word)) >>= (λ (h : FlatState). Ok (record h { generator = after_word g }))
+drawn-by f g word i = settled f i.sp 4 i.dest (pick (L1 i) (word_from g word))
+    >>= (λ (h : FlatState). Ok (record h { generator = after_word g }))
 
 abbrev random-by : FlatState → Generator → ℕ → Instruction → Result (FlatState × Effect) Fault
-random-by f g word i = drawn-by f g word i >>= (λ (h : FlatState). Ok (going_to h i.next, if is_outside g then Drew else Went))
+random-by f g word i = drawn-by f g word i
+    >>= (λ (h : FlatState). Ok (going_to h i.next, if is_outside g then Drew else Went))
 
 draws-by : (r : Result FlatState Fault) (next : ℕ) → HasDrawn (r >>= (λ (h : FlatState). Ok (going_to h next, Drew)))
 draws-by (Ok h) next = refl
 draws-by (Err f) next = tt
 
-free-by : (f : FlatState) (g : Generator) (word : ℕ) (i : Instruction) → IsFree (random-by f g word i) (random-by f g 0 i)
+free-by : (f : FlatState) (g : Generator) (word : ℕ) (i : Instruction)
+    → IsFree (random-by f g word i) (random-by f g 0 i)
 free-by f Outside word i = inl (draws-by (drawn-by f Outside word i) i.next)
 free-by f (Seeded pcg) word i = inr refl
 
@@ -74,14 +81,17 @@ random-free : (f : FlatState) (word : ℕ) (i : Instruction) → IsFree (game.ra
 unfolding game.random
 random-free f word i = free-by f f.generator word i
 
-game-free : (f : FlatState) (u : FlatUndo) (word : ℕ) (i : Instruction) → IsFree (game.row_effect f u word i) (game.row_effect f u 0 i)
+game-free : (f : FlatState) (u : FlatUndo) (word : ℕ) (i : Instruction)
+    → IsFree (game.row_effect f u word i) (game.row_effect f u 0 i)
 unfolding game.row_effect
 game-free f u word i =
     free-else (i.row.number == numbers.gestalt) _ _ _
     (free-else (i.row.number == numbers.debugtrap) _ _ _
-    (free-then (i.row.number == numbers.random) _ _ _ (leaving-free u (game.random f word i) (game.random f 0 i) (random-free f word i))))
+    (free-then (i.row.number == numbers.random) _ _ _
+    (leaving-free u (game.random f word i) (game.random f 0 i) (random-free f word i))))
 
-row-free : (c : Class) (m : FlatMachine) (word : ℕ) (i : Instruction) → IsFree (row_effect c m word i) (row_effect c m 0 i)
+row-free : (c : Class) (m : FlatMachine) (word : ℕ) (i : Instruction)
+    → IsFree (row_effect c m word i) (row_effect c m 0 i)
 row-free class.Calc m word i = inr refl
 row-free class.Branch m word i = inr refl
 row-free class.Flow m word i = inr refl
@@ -89,10 +99,13 @@ row-free class.Copy m word i = inr refl
 row-free class.Memory m word i = inr refl
 row-free class.Stack m word i = inr refl
 row-free class.Print m word i = inr refl
-row-free class.Game m word i = both-free (game.row_effect m.flat m.undo word i) (game.row_effect m.flat m.undo 0 i) (game-free m.flat m.undo word i)
+row-free class.Game m word i = both-free (game.row_effect m.flat m.undo word i) (game.row_effect m.flat m.undo 0 i)
+    (game-free m.flat m.undo word i)
 row-free class.Glk m word i = inr refl
 
-run-free : (m : FlatMachine) (word : ℕ) (r : Result Instruction Fault) → IsFree (r >>= (λ (i : Instruction). row_effect i.row.class m word i)) (r >>= (λ (i : Instruction). row_effect i.row.class m 0 i))
+run-free : (m : FlatMachine) (word : ℕ) (r : Result Instruction Fault)
+    → IsFree (r >>= (λ (i : Instruction). row_effect i.row.class m word i))
+    (r >>= (λ (i : Instruction). row_effect i.row.class m 0 i))
 run-free m word (Ok i) = row-free i.row.class m word i
 run-free m word (Err f) = inr refl
 
@@ -102,11 +115,14 @@ mode-free m word (mode.Printing p) = inr refl
 
 step-free : (m : FlatMachine) (word : ℕ) → IsFree (step_of m word) (step_of m 0)
 unfolding step_of
-step-free m word = free-else (sp_of m.flat == 0) (Err BadFrame) (mode_step m word m.flat.mode) (mode_step m 0 m.flat.mode) (mode-free m word m.flat.mode)
+step-free m word = free-else (sp_of m.flat == 0) (Err BadFrame) (mode_step m word m.flat.mode)
+    (mode_step m 0 m.flat.mode) (mode-free m word m.flat.mode)
 
-same-by : (r s : Result (FlatMachine × Effect) Fault) (n : FlatMachine) (e : Effect) → IsFree r s → r ≡ Ok (n, e) → e ≢ Drew → s ≡ Ok (n, e)
+same-by : (r s : Result (FlatMachine × Effect) Fault) (n : FlatMachine) (e : Effect) → IsFree r s → r ≡ Ok (n, e)
+    → e ≢ Drew → s ≡ Ok (n, e)
 same-by r s n e (inl d) is other = absurd (other (subst (λ (x : Result (FlatMachine × Effect) Fault). HasDrawn x) is d))
 same-by r s n e (inr same) is other = same ∙ is
 
-pub same-step : (m : FlatMachine) (word : ℕ) (n : FlatMachine) (e : Effect) → e ≢ Drew → step_of m word ≡ Ok (n, e) → step_of m 0 ≡ Ok (n, e)
+pub same-step : (m : FlatMachine) (word : ℕ) (n : FlatMachine) (e : Effect) → e ≢ Drew → step_of m word ≡ Ok (n, e)
+    → step_of m 0 ≡ Ok (n, e)
 same-step m word n e other is = same-by (step_of m word) (step_of m 0) n e (step-free m word) is other

@@ -28,7 +28,8 @@ module _ (P : Verdict → Type 0) (m : Configuration) where
   turn-cases w (Ok (said, turn.Stuck)) answers asks waits stuck exits faults = stuck said
   turn-cases w (Ok (said, turn.Prompt)) answers asks waits stuck exits faults = waits said turn.Prompt
   turn-cases w (Ok (said, turn.Load name)) answers asks waits stuck exits faults = asks said (turn.Load name)
-  turn-cases w (Ok (said, turn.Store name bytes)) answers asks waits stuck exits faults = asks said (turn.Store name bytes)
+  turn-cases w (Ok (said, turn.Store name bytes)) answers asks waits stuck exits faults =
+      asks said (turn.Store name bytes)
   turn-cases w (Ok (said, turn.Remove name)) answers asks waits stuck exits faults = asks said (turn.Remove name)
   turn-cases w (Ok (said, turn.Has name)) answers asks waits stuck exits faults = asks said (turn.Has name)
   turn-cases w (Ok (said, turn.Exit)) answers asks waits stuck exits faults = exits said
@@ -36,7 +37,8 @@ module _ (P : Verdict → Type 0) (m : Configuration) where
 
   -- what a call comes to that goes on
   pub given-cases : (w : Waiting) (r : Result (Said × Turn) Fault)
-      → ((said : Said) (reply : Reply) → P (after_reply m w.left (Ok (said, reply)))) → P (stops stop.Stuck m) → ((f : Fault) → P (stops (stop.Faulted f) m)) → P (after_given m w r)
+      → ((said : Said) (reply : Reply) → P (after_reply m w.left (Ok (said, reply)))) → P (stops stop.Stuck m)
+      → ((f : Fault) → P (stops (stop.Faulted f) m)) → P (after_given m w r)
   given-cases w (Ok (said, turn.Answer reply)) answers stuck faults = answers said reply
   given-cases w (Ok (said, turn.Wait)) answers stuck faults = stuck
   given-cases w (Ok (said, turn.Stuck)) answers stuck faults = stuck
@@ -56,7 +58,8 @@ module _ (P : Verdict → Type 0) (m : Configuration) where
   line-cases w (line chars rest) long ended taken = taken chars rest
 
   -- what a device gives
-  pub asking-cases : (w : Waiting) (t : Turn) → P (after_line m w (next_line m.input)) → ((r : Request) → P (shelf_gives m w (Some r))) → P (stops stop.Stuck m) → P (act_by (asks-for t w) m)
+  pub asking-cases : (w : Waiting) (t : Turn) → P (after_line m w (next_line m.input))
+      → ((r : Request) → P (shelf_gives m w (Some r))) → P (stops stop.Stuck m) → P (act_by (asks-for t w) m)
   asking-cases w (turn.Answer reply) lines gives stuck = stuck
   asking-cases w turn.Wait lines gives stuck = lines
   asking-cases w turn.Stuck lines gives stuck = stuck

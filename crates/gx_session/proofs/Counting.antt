@@ -17,7 +17,8 @@ blames-none before now failed same fine =
     }
 
 -- one call was made
-pub blames-call : (before now : Calls) (b wanted : Bool) (failed : Type 0) → HasCause before now b wanted → (failed → b ≡ true) → ((failed → ⊥) → b ≡ false) → Blames before now failed
+pub blames-call : (before now : Calls) (b wanted : Bool) (failed : Type 0) → HasCause before now b wanted
+    → (failed → b ≡ true) → ((failed → ⊥) → b ≡ false) → Blames before now failed
 blames-call before now b wanted failed c then-failed else-fine = record {
   later = c.later;
   rose = λ f. c.rose (then-failed f);
@@ -27,7 +28,8 @@ blames-call before now b wanted failed c then-failed else-fine = record {
 }
 
 -- one thing that failed is another
-pub blames-same : (before now : Calls) (one other : Type 0) → Blames before now one → (one → other) → (other → one) → Blames before now other
+pub blames-same : (before now : Calls) (one other : Type 0) → Blames before now one → (one → other) → (other → one)
+    → Blames before now other
 blames-same before now one other b to from = record {
   later = b.later;
   rose = λ f. b.rose (from f);
@@ -47,7 +49,8 @@ well-none before = record { kept = refl; well = inl refl }
 pub well-of : (before now : Calls) (failed : Type 0) → Blames before now failed → (failed → ⊥) → IsWell before now
 well-of before now failed b fine = record { kept = b.kept fine; well = b.well fine }
 
-well-after : (a b c : Calls) → (b ≡ a) ⊎ (b.failing ≡ false) → (c ≡ b) ⊎ (c.failing ≡ false) → (c ≡ a) ⊎ (c.failing ≡ false)
+well-after : (a b c : Calls) → (b ≡ a) ⊎ (b.failing ≡ false) → (c ≡ b) ⊎ (c.failing ≡ false)
+    → (c ≡ a) ⊎ (c.failing ≡ false)
 well-after a b c (inl e) (inl e') = inl (e' ∙ e)
 well-after a b c (inr e) (inl e') = inr (ap (λ (x : Calls). x.failing) e' ∙ e)
 well-after a b c first (inr e') = inr e'

@@ -1,6 +1,7 @@
 -- What a whole run reports, and its ending.
 use Rattle.std.proofs.Common.{◌≡◌, ◌≢◌, ℕ, ◌+◌, ◌-◌, ◌<◌, ◌≤◌, ◌==◌, if◌then◌else◌, ◌⊎◌, inl, inr, List, [], ◌∷◌, ◌++◌}
-use Rattle.std.proofs.Common.{map, Option, None, Result, Ok, Err, refl, ap, subst, sym, ◌∙◌, arith, append_assoc, append-nil}
+use Rattle.std.proofs.Common.{map, Option, None, Result, Ok, Err, refl, ap, subst, sym, ◌∙◌, arith, append_assoc}
+use Rattle.std.proofs.Common.{append-nil}
 use Rattle.gx_words.specs.declared.faults.Fault.{Fault}
 use Rattle.gx_words.specs.declared.faults.Fault.TheVariants.{NoMemory}
 use Rattle.gx_words.specs.Faults.{number_of}
@@ -55,7 +56,8 @@ status-high halt.Output = omega arith
 status-high halt.NoMemory = omega arith
 
 -- THE STORES OF THE ENDING
-module _ {K : Type 0} {sending : SendStep K} (start : Configuration) (entry : Handed sending) (h : HeldRun) (asking : Option Asking) (d : Handed sending) (why : Stop) (t : Told start entry h asking d why) where
+module _ {K : Type 0} {sending : SendStep K} (start : Configuration) (entry : Handed sending) (h : HeldRun)
+    (asking : Option Asking) (d : Handed sending) (why : Stop) (t : Told start entry h asking d why) where
   abbrev stopped : Configuration
   stopped = (final_of start).configuration
 
@@ -64,7 +66,8 @@ module _ {K : Type 0} {sending : SendStep K} (start : Configuration) (entry : Ha
 
   -- the text is whole
   whole-text : stopped.world.text ≡ concat t.past.sent
-  whole-text = ap (λ (m : Configuration). m.world.text) t.is_end ∙ ap (λ (x : List ℕ). concat t.past.sent ++ x) t.none_left ∙ append-nil (concat t.past.sent)
+  whole-text = ap (λ (m : Configuration). m.world.text) t.is_end
+      ∙ ap (λ (x : List ℕ). concat t.past.sent ++ x) t.none_left ∙ append-nil (concat t.past.sent)
 
   whole-front : IsFront stopped.world.text (final_of start).configuration.world.text
   whole-front = ([], sym (append-nil stopped.world.text))
@@ -80,19 +83,26 @@ module _ {K : Type 0} {sending : SendStep K} (start : Configuration) (entry : Ha
   sends-then = ap (λ (m : Configuration). map whole_send m.sent) (sym t.is_end)
 
   words-are : AreDrawn stopped.words d.words
-  words-are = subst (λ (m : Configuration). AreDrawn m.words d.words) (sym t.is_end) (words-left h.word d.words t.past.words t.is_past.word)
+  words-are = subst (λ (m : Configuration). AreDrawn m.words d.words) (sym t.is_end)
+      (words-left h.word d.words t.past.words t.is_past.word)
 
-  input-are : LeavesInput start.input stopped.input h.coming entry.source d.source (IsLineStop (final_of start).stop) ((final_of start).stop ≡ stop.LineTooLong) 0
+  input-are : LeavesInput start.input stopped.input h.coming entry.source d.source (IsLineStop (final_of start).stop)
+      ((final_of start).stop ≡ stop.LineTooLong) 0
   input-are =
-      subst (λ (m : Configuration). LeavesInput start.input m.input h.coming entry.source d.source (IsLineStop (final_of start).stop) ((final_of start).stop ≡ stop.LineTooLong) 0) (sym t.is_end)
-      (input-left start entry h d (IsLineStop (final_of start).stop) ((final_of start).stop ≡ stop.LineTooLong) (λ short. t.few (λ e. short (t.stop_is ∙ e)))
+      subst (λ (m : Configuration). LeavesInput start.input m.input h.coming entry.source d.source
+      (IsLineStop (final_of start).stop) ((final_of start).stop ≡ stop.LineTooLong) 0) (sym t.is_end)
+      (input-left start entry h d (IsLineStop (final_of start).stop) ((final_of start).stop ≡ stop.LineTooLong)
+      (λ short. t.few (λ e. short (t.stop_is ∙ e)))
       (λ other. t.reads (λ is. other (subst IsLineStop (sym t.stop_is) is))) t.is_past.reads t.is_past.left)
 
   -- where the run is cut short in its ending
-  input-then : LeavesInput start.input stopped.input h.coming entry.source d.source (AwaitedAt start None) (LongAt start None) 0
+  input-then : LeavesInput start.input stopped.input h.coming entry.source d.source (AwaitedAt start None)
+      (LongAt start None) 0
   input-then =
-      subst (λ (m : Configuration). LeavesInput start.input m.input h.coming entry.source d.source (AwaitedAt start None) (LongAt start None) 0) (sym t.is_end)
-      (input-left start entry h d (AwaitedAt start None) (LongAt start None) (λ short. t.few (λ e. short (refl, t.stop_is ∙ e)))
+      subst (λ (m : Configuration). LeavesInput start.input m.input h.coming entry.source d.source
+      (AwaitedAt start None) (LongAt start None) 0) (sym t.is_end)
+      (input-left start entry h d (AwaitedAt start None) (LongAt start None)
+      (λ short. t.few (λ e. short (refl, t.stop_is ∙ e)))
       (λ other. t.reads (λ is. other (refl, subst IsLineStop (sym t.stop_is) is))) t.is_past.reads t.is_past.left)
 
   -- what the shelf was asked before
@@ -103,7 +113,8 @@ module _ {K : Type 0} {sending : SendStep K} (start : Configuration) (entry : Ha
     abbrev d-now : Handed sending
     d-now = record d { shelf = shelf; asked = d.asked ++ asked }
 
-    shelf-status : (r : Request) (fault : ShelfFault) → halt_status (halt_of_shelf fault) ≡ cut_status (by_shelf r fault)
+    shelf-status : (r : Request) (fault : ShelfFault)
+        → halt_status (halt_of_shelf fault) ≡ cut_status (by_shelf r fault)
     shelf-status r of_shelf.Failed = refl
     shelf-status r of_shelf.NoMemory = refl
 
@@ -112,67 +123,142 @@ module _ {K : Type 0} {sending : SendStep K} (start : Configuration) (entry : Ha
     no-failures of_shelf.NoMemory = refl
 
     -- one of them was refused
-    some-refused : (fault : ShelfFault) (front rest : List (List ℕ × List ℕ)) (next : List ℕ × List ℕ) → stores_of h.world.scene ≡ front ++ next ∷ rest → asked ≡ map store_call front ++ (store_file next.0 next.1, Err fault) ∷ []
+    some-refused : (fault : ShelfFault) (front rest : List (List ℕ × List ℕ)) (next : List ℕ × List ℕ)
+        → stores_of h.world.scene ≡ front ++ next ∷ rest
+        → asked ≡ map store_call front ++ (store_file next.0 next.1, Err fault) ∷ []
         → Early start entry h asking d-now (halt_of_shelf fault)
     some-refused fault front rest next files asked-are =
         let m : Configuration = record (told_all stopped) { asked = stopped.asked ++ map store_call front } in
         let split : stores_of stopped.world.scene ≡ front ++ next ∷ rest = ap stores_of scene-is ∙ files in
         let call : Trace = (store_file next.0 next.1, Err fault) ∷ [] in
-        cut-at start entry d-now h asking (halt_of_shelf fault) None (by_shelf (store_file next.0 next.1) fault) m (map whole_send t.past.sent)
-        ((front, next, rest, split, refl, refl), t.asking_is) (shelf-status (store_file next.0 next.1) fault) (sym (ap (λ (m : Configuration). m.machine) t.is_end)) (sym (ap (λ (m : Configuration). m.left) t.is_end)) (sym (ap (λ (m : Configuration). m.log) t.is_end))
+        cut-at start entry d-now h asking (halt_of_shelf fault) None (by_shelf (store_file next.0 next.1) fault) m
+        (map whole_send t.past.sent)
+        ((front, next, rest, split, refl, refl), t.asking_is) (shelf-status (store_file next.0 next.1) fault)
+        (sym (ap (λ (m : Configuration). m.machine) t.is_end)) (sym (ap (λ (m : Configuration). m.left) t.is_end))
+        (sym (ap (λ (m : Configuration). m.log) t.is_end))
         sent-front (sends-then ∙ none-sent (told_all stopped).sent) t.is_past.taken whole-front
-        (ap (λ (x : Trace). d.asked ++ x) asked-are ∙ sym (append_assoc d.asked (map store_call front) call) ∙ ap (λ (x : Trace). (x ++ map store_call front) ++ call) (sym asked-then))
+        (ap (λ (x : Trace). d.asked ++ x) asked-are ∙ sym (append_assoc d.asked (map store_call front) call)
+        ∙ ap (λ (x : Trace). (x ++ map store_call front) ++ call) (sym asked-then))
         (λ other.
-        subst (LeavesInput start.input m.input h.coming entry.source d.source (AwaitedAt start None) (LongAt start None)) (sym (no-failures fault)) input-then) words-are t.saves
+        subst (LeavesInput start.input m.input h.coming entry.source d.source (AwaitedAt start None)
+        (LongAt start None)) (sym (no-failures fault)) input-then) words-are t.saves
 
-    pub closes : (r : Result (Unit {0}) Halt) → StoresAll (stores_of h.world.scene) asked r → EndingGives start entry h asking d-now why r
-    closes (Ok u) s = record { shelf = d.shelf; before = d.asked; told = t; asked_are = ap (λ (x : Trace). d.asked ++ x) s }
-    closes (Err halted) s = subst (Early start entry h asking d-now) (sym s.why_is) (some-refused s.fault s.front s.rest s.next s.split s.calls_are)
+    pub closes : (r : Result (Unit {0}) Halt) → StoresAll (stores_of h.world.scene) asked r
+        → EndingGives start entry h asking d-now why r
+    closes (Ok u) s = record {
+      shelf = d.shelf;
+      before = d.asked;
+      told = t;
+      asked_are = ap (λ (x : Trace). d.asked ++ x) s;
+    }
+    closes (Err halted) s = subst (Early start entry h asking d-now) (sym s.why_is)
+        (some-refused s.fault s.front s.rest s.next s.split s.calls_are)
 
 numbered : (f : Fault) → f ≢ NoMemory → (1 ≤ number_of f) × (number_of f ≤ 16)
 numbered NoMemory other = absurd (other refl)
 numbered f other = (omega arith, omega arith)
 
 -- the statuses of an end, and of a run that was cut short
-pub report-of-stop : (why : Stop) (machine : FlatMachine) → IsStop why → IsReport (stop_status why) (fault_number why) (fault_address why machine)
-report-of-stop stop.Ended machine is = record { status_is = inl refl; fault_is = λ e. absurd (omega arith); no_fault = λ _. (refl, refl) }
-report-of-stop stop.Exited machine is = record { status_is = inl refl; fault_is = λ e. absurd (omega arith); no_fault = λ _. (refl, refl) }
-report-of-stop (stop.Faulted f) machine is = record { status_is = inr (omega arith, omega arith); fault_is = λ _. numbered f is; no_fault = λ other. absurd (other refl) }
-report-of-stop stop.Spent machine is = record { status_is = inr (omega arith, omega arith); fault_is = λ e. absurd (omega arith); no_fault = λ _. (refl, refl) }
-report-of-stop stop.InputEnded machine is = record { status_is = inr (omega arith, omega arith); fault_is = λ e. absurd (omega arith); no_fault = λ _. (refl, refl) }
-report-of-stop stop.Stuck machine is = record { status_is = inr (omega arith, omega arith); fault_is = λ e. absurd (omega arith); no_fault = λ _. (refl, refl) }
-report-of-stop stop.LineTooLong machine is = record { status_is = inr (omega arith, omega arith); fault_is = λ e. absurd (omega arith); no_fault = λ _. (refl, refl) }
+pub report-of-stop : (why : Stop) (machine : FlatMachine) → IsStop why
+    → IsReport (stop_status why) (fault_number why) (fault_address why machine)
+report-of-stop stop.Ended machine is = record {
+  status_is = inl refl;
+  fault_is = λ e. absurd (omega arith);
+  no_fault = λ _. (refl, refl);
+}
+report-of-stop stop.Exited machine is = record {
+  status_is = inl refl;
+  fault_is = λ e. absurd (omega arith);
+  no_fault = λ _. (refl, refl);
+}
+report-of-stop (stop.Faulted f) machine is =
+    record {
+      status_is = inr (omega arith, omega arith);
+      fault_is = λ _. numbered f is;
+      no_fault = λ other. absurd (other refl);
+    }
+report-of-stop stop.Spent machine is = record {
+  status_is = inr (omega arith, omega arith);
+  fault_is = λ e. absurd (omega arith);
+  no_fault = λ _. (refl, refl);
+}
+report-of-stop stop.InputEnded machine is =
+    record {
+      status_is = inr (omega arith, omega arith);
+      fault_is = λ e. absurd (omega arith);
+      no_fault = λ _. (refl, refl);
+    }
+report-of-stop stop.Stuck machine is = record {
+  status_is = inr (omega arith, omega arith);
+  fault_is = λ e. absurd (omega arith);
+  no_fault = λ _. (refl, refl);
+}
+report-of-stop stop.LineTooLong machine is =
+    record {
+      status_is = inr (omega arith, omega arith);
+      fault_is = λ e. absurd (omega arith);
+      no_fault = λ _. (refl, refl);
+    }
 
 pub report-of-halt : (why : Halt) → IsReport (halt_status why) 0 0
-report-of-halt halt.Shelf = record { status_is = inr (omega arith, omega arith); fault_is = λ e. absurd (omega arith); no_fault = λ _. (refl, refl) }
-report-of-halt halt.Input = record { status_is = inr (omega arith, omega arith); fault_is = λ e. absurd (omega arith); no_fault = λ _. (refl, refl) }
-report-of-halt halt.Output = record { status_is = inr (omega arith, omega arith); fault_is = λ e. absurd (omega arith); no_fault = λ _. (refl, refl) }
-report-of-halt halt.NoMemory = record { status_is = inr (omega arith, omega arith); fault_is = λ e. absurd (omega arith); no_fault = λ _. (refl, refl) }
+report-of-halt halt.Shelf = record {
+  status_is = inr (omega arith, omega arith);
+  fault_is = λ e. absurd (omega arith);
+  no_fault = λ _. (refl, refl);
+}
+report-of-halt halt.Input = record {
+  status_is = inr (omega arith, omega arith);
+  fault_is = λ e. absurd (omega arith);
+  no_fault = λ _. (refl, refl);
+}
+report-of-halt halt.Output = record {
+  status_is = inr (omega arith, omega arith);
+  fault_is = λ e. absurd (omega arith);
+  no_fault = λ _. (refl, refl);
+}
+report-of-halt halt.NoMemory = record {
+  status_is = inr (omega arith, omega arith);
+  fault_is = λ e. absurd (omega arith);
+  no_fault = λ _. (refl, refl);
+}
 
 -- the counts of a run that came to its end, and of one that was cut short
-pub counts-of-stop : (entry exit : Devices) (why : Stop) → (let r : Result Stop Halt = Ok why in Keeps entry exit r) → FailureCounts entry exit (stop_status why)
+pub counts-of-stop : (entry exit : Devices) (why : Stop) → (let r : Result Stop Halt = Ok why in Keeps entry exit r)
+    → FailureCounts entry exit (stop_status why)
 counts-of-stop entry exit why k =
     let low : stop_status why < status_shelf_fault = status-low why in
     let r : Result Stop Halt = Ok why in
     record {
-      shelf = blames-same entry.shelf.calls exit.shelf.calls (r ≡ Err halt.Shelf) (stop_status why ≡ status_shelf_fault) k.shelf (λ e. absurd cc) (λ e. absurd (omega arith));
-      source = blames-same entry.source.calls exit.source.calls (r ≡ Err halt.Input) (stop_status why ≡ status_input_fault) k.source (λ e. absurd cc) (λ e. absurd (omega arith));
-      sink = blames-same entry.sink.calls exit.sink.calls (r ≡ Err halt.Output) (stop_status why ≡ status_output_fault) k.sink (λ e. absurd cc) (λ e. absurd (omega arith));
+      shelf = blames-same entry.shelf.calls exit.shelf.calls (r ≡ Err halt.Shelf)
+          (stop_status why ≡ status_shelf_fault) k.shelf (λ e. absurd cc) (λ e. absurd (omega arith));
+      source = blames-same entry.source.calls exit.source.calls (r ≡ Err halt.Input)
+          (stop_status why ≡ status_input_fault) k.source (λ e. absurd cc) (λ e. absurd (omega arith));
+      sink = blames-same entry.sink.calls exit.sink.calls (r ≡ Err halt.Output)
+          (stop_status why ≡ status_output_fault) k.sink (λ e. absurd cc) (λ e. absurd (omega arith));
     }
 
 abbrev halt-of : ℕ → Halt
-halt-of n = if n == status_shelf_fault then halt.Shelf else if n == status_input_fault then halt.Input else if n == status_output_fault then halt.Output else halt.NoMemory
+halt-of n = if n == status_shelf_fault then halt.Shelf else if n == status_input_fault then halt.Input
+    else if n == status_output_fault then halt.Output else halt.NoMemory
 
-pub counts-of-halt : (entry exit : Devices) (why : Halt) → (let r : Result Stop Halt = Err why in Keeps entry exit r) → FailureCounts entry exit (halt_status why)
+pub counts-of-halt : (entry exit : Devices) (why : Halt) → (let r : Result Stop Halt = Err why in Keeps entry exit r)
+    → FailureCounts entry exit (halt_status why)
 counts-of-halt entry exit why k =
     let r : Result Stop Halt = Err why in
     record {
-      shelf = blames-same entry.shelf.calls exit.shelf.calls (r ≡ Err halt.Shelf) (halt_status why ≡ status_shelf_fault) k.shelf (λ e. status-to why halt.Shelf e) (λ e. status-from why halt.Shelf e);
-      source = blames-same entry.source.calls exit.source.calls (r ≡ Err halt.Input) (halt_status why ≡ status_input_fault) k.source (λ e. status-to why halt.Input e) (λ e. status-from why halt.Input e);
-      sink = blames-same entry.sink.calls exit.sink.calls (r ≡ Err halt.Output) (halt_status why ≡ status_output_fault) k.sink (λ e. status-to why halt.Output e) (λ e. status-from why halt.Output e);
+      shelf = blames-same entry.shelf.calls exit.shelf.calls (r ≡ Err halt.Shelf)
+          (halt_status why ≡ status_shelf_fault) k.shelf (λ e. status-to why halt.Shelf e)
+          (λ e. status-from why halt.Shelf e);
+      source = blames-same entry.source.calls exit.source.calls (r ≡ Err halt.Input)
+          (halt_status why ≡ status_input_fault) k.source (λ e. status-to why halt.Input e)
+          (λ e. status-from why halt.Input e);
+      sink = blames-same entry.sink.calls exit.sink.calls (r ≡ Err halt.Output)
+          (halt_status why ≡ status_output_fault) k.sink (λ e. status-to why halt.Output e)
+          (λ e. status-from why halt.Output e);
     }
   where
-    status-to : (why one : Halt) → (let r : Result Stop Halt = Err why in r ≡ Err one) → halt_status why ≡ halt_status one
+    status-to : (why one : Halt) → (let r : Result Stop Halt = Err why in r ≡ Err one)
+        → halt_status why ≡ halt_status one
     status-to why one e = let same : why ≡ one = cc in ap halt_status same
 
     back : (why : Halt) → halt-of (halt_status why) ≡ why
@@ -181,12 +267,18 @@ counts-of-halt entry exit why k =
     back halt.Output = refl
     back halt.NoMemory = refl
 
-    status-from : (why one : Halt) → halt_status why ≡ halt_status one → (let r : Result Stop Halt = Err why in r ≡ Err one)
-    status-from why one e = ap (λ (x : Halt). let r : Result Stop Halt = Err x in r) (sym (back why) ∙ ap halt-of e ∙ back one)
+    status-from : (why one : Halt) → halt_status why ≡ halt_status one
+        → (let r : Result Stop Halt = Err why in r ≡ Err one)
+    status-from why one e = ap (λ (x : Halt). let r : Result Stop Halt = Err x in r)
+        (sym (back why) ∙ ap halt-of e ∙ back one)
 
 -- a run that came to its end, with all text sent and all files stored
-pub ended-at : {K : Type 0} {sending : SendStep K} → (start : Configuration) (entry : Handed sending) (h : HeldRun) (asking : Option Asking) (d : Handed sending) (why : Stop) → h.left ≤ start.left → (f : Finished start entry h asking d why)
-    → (before now : FlatSink) (reads : List SourceRead) → Chain SinkCall before (map whole_send f.told.past.sent) now → EndsAt start (final_of start) (devices_of entry before [] []) (devices_of d now reads (map whole_send f.told.past.sent)) h.coming (record {
+pub ended-at : {K : Type 0} {sending : SendStep K} → (start : Configuration) (entry : Handed sending) (h : HeldRun)
+    (asking : Option Asking) (d : Handed sending) (why : Stop) → h.left ≤ start.left
+    → (f : Finished start entry h asking d why)
+    → (before now : FlatSink) (reads : List SourceRead) → Chain SinkCall before (map whole_send f.told.past.sent) now
+    → EndsAt start (final_of start) (devices_of entry before [] [])
+    (devices_of d now reads (map whole_send f.told.past.sent)) h.coming (record {
       status = stop_status why;
       fault = fault_number why;
       at = fault_address why h.machine;
@@ -206,13 +298,16 @@ ended-at {sending = sending} start entry h asking d why fewer f before now reads
     record {
       status_is = ap stop_status (sym t.stop_is);
       fault_is = ap fault_number (sym t.stop_is);
-      at_is = ap (λ (x : FlatMachine). fault_address why x) machine ∙ ap (λ (x : Stop). fault_address x e.configuration.machine) (sym t.stop_is);
+      at_is = ap (λ (x : FlatMachine). fault_address why x) machine
+          ∙ ap (λ (x : Stop). fault_address x e.configuration.machine) (sym t.stop_is);
       steps_are = omega arith;
       machine_is =
           ap (λ (x : FlatMachine). let w : Whole = record { machine = x; asking = asking } in w) machine
-          ∙ ap (λ (x : Option Asking). let w : Whole = record { machine = e.configuration.machine; asking = x } in w) t.asking_is;
+          ∙ ap (λ (x : Option Asking). let w : Whole = record { machine = e.configuration.machine; asking = x } in w)
+          t.asking_is;
       log_is = sym (ap (λ (m : Configuration). m.log) t.is_end);
-      text_is = λ told. (took-whole before now t.past.sent chain).all told ∙ ap (λ (x : List ℕ). before.taken ++ x) (sym (whole-text start entry h asking d0 why t));
+      text_is = λ told. (took-whole before now t.past.sent chain).all told
+          ∙ ap (λ (x : List ℕ). before.taken ++ x) (sym (whole-text start entry h asking d0 why t));
       sends_are = sends-then start entry h asking d0 why t;
       asked_are =
           f.asked_are ∙ ap (λ (x : Trace). x ++ map store_call (stores_of h.world.scene)) (sym asked-is)
@@ -223,34 +318,52 @@ ended-at {sending = sending} start entry h asking d why fewer f before now reads
     }
 
 -- A whole run is the session, over these calls of the sink.
-module _ {K : Type 0} {sending : SendStep K} (seen : K → FlatSink) (law : (x : K) (c : Send) (y : K) → sending x c y → SinkCall (seen x) c (seen y)) (reads : List SourceRead)
-    (start : Configuration) (entry : Handed sending) (h : HeldRun) (asking : Option Asking) (d : Handed sending) (fewer : h.left ≤ start.left) where
+module _ {K : Type 0} {sending : SendStep K} (seen : K → FlatSink)
+    (law : (x : K) (c : Send) (y : K) → sending x c y → SinkCall (seen x) c (seen y)) (reads : List SourceRead)
+    (start : Configuration) (entry : Handed sending) (h : HeldRun) (asking : Option Asking) (d : Handed sending)
+    (fewer : h.left ≤ start.left) where
   abbrev report-at : ℕ → ℕ → ℕ → Report
-  report-at status fault at = record { status = status; fault = fault; at = at; steps = start.left - h.left; machine = record { machine = h.machine; asking = asking }; log = h.log }
+  report-at status fault at = record {
+    status = status;
+    fault = fault;
+    at = at;
+    steps = start.left - h.left;
+    machine = record { machine = h.machine; asking = asking };
+    log = h.log;
+  }
 
   abbrev IsSessionOver : List Send → Report → Type 0
-  IsSessionOver sends r = IsSession start (devices_of entry (seen entry.sink) [] []) (devices_of d (seen d.sink) reads sends) h.coming r
+  IsSessionOver sends r = IsSession start (devices_of entry (seen entry.sink) [] [])
+      (devices_of d (seen d.sink) reads sends) h.coming r
 
-  seen-so : (sends : List Send) → Chain sending entry.sink sends d.sink → Chain SinkCall (seen entry.sink) sends (seen d.sink)
+  seen-so : (sends : List Send) → Chain sending entry.sink sends d.sink
+      → Chain SinkCall (seen entry.sink) sends (seen d.sink)
   seen-so sends chain = chain-map seen sending SinkCall law entry.sink d.sink sends chain
 
   pub session-of-stop : (why : Stop) → RunGives start entry h asking d (Ok why)
-      → (sends : List Send) × Chain sending entry.sink sends d.sink × IsSessionOver sends (report-at (stop_status why) (fault_number why) (fault_address why h.machine))
+      → (sends : List Send) × Chain sending entry.sink sends d.sink
+      × IsSessionOver sends (report-at (stop_status why) (fault_number why) (fault_address why h.machine))
   session-of-stop why f =
       let low : stop_status why < status_shelf_fault = status-low why in
       let sends : List Send = map whole_send f.told.past.sent in
       let chain : Chain sending entry.sink sends d.sink = f.told.is_past.taken in (
         sends,
         chain,
-        record { ended = λ _. ended-at start entry h asking d why fewer f (seen entry.sink) (seen d.sink) reads (seen-so sends chain); early = λ high. absurd (omega arith) },
+        record {
+          ended = λ _. ended-at start entry h asking d why fewer f (seen entry.sink) (seen d.sink) reads
+              (seen-so sends chain);
+          early = λ high. absurd (omega arith);
+        },
       )
 
   pub session-of-halt : (why : Halt) → RunGives start entry h asking d (Err why)
-      → (sends : List Send) × Chain sending entry.sink sends d.sink × IsSessionOver sends (report-at (halt_status why) 0 0)
+      → (sends : List Send) × Chain sending entry.sink sends d.sink
+      × IsSessionOver sends (report-at (halt_status why) 0 0)
   session-of-halt why early =
       let high : status_shelf_fault ≤ halt_status why = status-high why in
       let e = early.stops fewer (seen entry.sink) (seen d.sink) reads in
-      let front = takes-front (seen entry.sink) (seen d.sink) e.configuration e.sent_of e.cut early.sends e.sends_are (seen-so early.sends early.chain) in (
+      let front = takes-front (seen entry.sink) (seen d.sink) e.configuration e.sent_of e.cut early.sends e.sends_are
+      (seen-so early.sends early.chain) in (
         early.sends,
         early.chain,
         record { ended = λ low. absurd (omega arith); early = λ _. (e, front) },

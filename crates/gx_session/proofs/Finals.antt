@@ -1,5 +1,7 @@
 -- Moves bring a session nearer to its stop, which stays the same.
-use Rattle.std.proofs.Common.{◌≡◌, ℕ, suc, zero, ◌+◌, ◌-◌, ◌*◌, ◌<◌, ◌≤◌, nat_lt, if◌then◌else◌, Bool, true, false, List, [], ◌∷◌, ◌++◌, length, length-append, length-drop, Option, Some, None, Result, Ok, Err, refl, ap, subst, sym, ◌∙◌, arith, option_and_then}
+use Rattle.std.proofs.Common.{◌≡◌, ℕ, suc, zero, ◌+◌, ◌-◌, ◌*◌, ◌<◌, ◌≤◌, nat_lt, if◌then◌else◌, Bool, true, false}
+use Rattle.std.proofs.Common.{List, [], ◌∷◌, ◌++◌, length, length-append, length-drop, Option, Some, None, Result, Ok}
+use Rattle.std.proofs.Common.{Err, refl, ap, subst, sym, ◌∙◌, arith, option_and_then}
 use Rattle.std.proofs.lemmas.Bool.{ltb-false, lt-leb}
 use Rattle.std.proofs.lemmas.List.Folds.{concat-append}
 use Rattle.std.specs.List.{concat}
@@ -42,9 +44,11 @@ at-most-one false = omega arith
 none-due : (enough : ℕ) (s : List (List ℕ)) (text : List ℕ) → 0 < enough → is_due enough (with_all s text) text ≡ false
 none-due enough s text some =
     let size : length (concat (with_all s text)) ≡ length (concat s) + (length (pending s text) + 0) =
-    ap length (concat-append s (pending s text ∷ [])) ∙ length-append (concat s) (pending s text ++ []) ∙ ap (λ (n : ℕ). length (concat s) + n) (length-append (pending s text) []) in
+    ap length (concat-append s (pending s text ∷ [])) ∙ length-append (concat s) (pending s text ++ [])
+    ∙ ap (λ (n : ℕ). length (concat s) + n) (length-append (pending s text) []) in
     let rest : length (pending s text) ≡ length text - length (concat s) = length-drop (length (concat s)) text in
-    let none : length (pending (with_all s text) text) ≡ length text - length (concat (with_all s text)) = length-drop (length (concat (with_all s text))) text in
+    let none : length (pending (with_all s text) text) ≡ length text - length (concat (with_all s text)) =
+    length-drop (length (concat (with_all s text))) text in
     lt-leb enough (length (pending (with_all s text) text)) (omega arith)
 
 pub quiet-sent : (phase : Phase) (s : List (List ℕ)) (text : List ℕ) → is_due_by phase (with_all s text) text ≡ false
@@ -62,18 +66,23 @@ nearer base extra n b less =
     let few : (if b then 1 else 0) ≤ 1 = at-most-one b in
     omega arith
 
-replied-near : (n : ℕ) (m : Configuration) (left : ℕ) (r : Result (Said × Reply) Fault) → 5 * left + 1 < n → Near n (after_reply m left r)
+replied-near : (n : ℕ) (m : Configuration) (left : ℕ) (r : Result (Said × Reply) Fault) → 5 * left + 1 < n
+    → Near n (after_reply m left r)
 replied-near n m left (Ok r) less =
-    let few : (if is_due enough_text m.sent (m.world.text ++ r.0.1) then 1 else 0) ≤ 1 = at-most-one (is_due enough_text m.sent (m.world.text ++ r.0.1)) in
+    let few : (if is_due enough_text m.sent (m.world.text ++ r.0.1) then 1 else 0) ≤ 1 =
+    at-most-one (is_due enough_text m.sent (m.world.text ++ r.0.1)) in
     omega arith
 replied-near n m left (Err f) less = tt
 
-restored-near : (n : ℕ) (m : Configuration) (left : ℕ) (r : Result (Said × Option Copy) Fault) → 5 * left + 1 < n → Near n (after_restoring m left r)
+restored-near : (n : ℕ) (m : Configuration) (left : ℕ) (r : Result (Said × Option Copy) Fault) → 5 * left + 1 < n
+    → Near n (after_restoring m left r)
 restored-near n m left (Ok (said, Some copy)) less =
-    let few : (if is_due enough_text m.sent (m.world.text ++ said.1) then 1 else 0) ≤ 1 = at-most-one (is_due enough_text m.sent (m.world.text ++ said.1)) in
+    let few : (if is_due enough_text m.sent (m.world.text ++ said.1) then 1 else 0) ≤ 1 =
+    at-most-one (is_due enough_text m.sent (m.world.text ++ said.1)) in
     omega arith
 restored-near n m left (Ok (said, None)) less =
-    let few : (if is_due enough_text m.sent (m.world.text ++ said.1) then 1 else 0) ≤ 1 = at-most-one (is_due enough_text m.sent (m.world.text ++ said.1)) in
+    let few : (if is_due enough_text m.sent (m.world.text ++ said.1) then 1 else 0) ≤ 1 =
+    at-most-one (is_due enough_text m.sent (m.world.text ++ said.1)) in
     omega arith
 restored-near n m left (Err f) less = tt
 
@@ -82,7 +91,8 @@ asks-near n w b less =
     let few : (if b then 1 else 0) ≤ 1 = at-most-one b in
     omega arith
 
-turned-near : (n : ℕ) (m : Configuration) (w : Waiting) (r : Result (Said × Turn) Fault) → 5 * w.left + 4 < n → Near n (after_turn m w r)
+turned-near : (n : ℕ) (m : Configuration) (w : Waiting) (r : Result (Said × Turn) Fault) → 5 * w.left + 4 < n
+    → Near n (after_turn m w r)
 turned-near n m w r less =
     turn-cases (Near n) m w r (λ said reply. replied-near n m w.left (Ok (said, reply)) (omega arith))
     (λ said t. asks-near n w (is_due 1 m.sent (m.world.text ++ said.1)) less)
@@ -95,24 +105,33 @@ went-near n left b less =
     omega arith
 
 -- a step that leaves so many units
-effected-near : (n : ℕ) (m : Configuration) (left : ℕ) (machine : FlatMachine) (does : Effect) → m.phase ≡ steps → 5 * left + 4 < n → Near n (after_effect m left (Ok (machine, does)))
+effected-near : (n : ℕ) (m : Configuration) (left : ℕ) (machine : FlatMachine) (does : Effect) → m.phase ≡ steps
+    → 5 * left + 4 < n → Near n (after_effect m left (Ok (machine, does)))
 effected-near n m left machine effect.Went is less =
-    subst (λ (d : Phase). moves_by d left + (if is_due_by d m.sent m.world.text then 1 else 0) < n) (sym is) (went-near n left (is_due enough_text m.sent m.world.text) less)
+    subst (λ (d : Phase). moves_by d left + (if is_due_by d m.sent m.world.text then 1 else 0) < n) (sym is)
+    (went-near n left (is_due enough_text m.sent m.world.text) less)
 effected-near n m left machine effect.Drew is less =
-    subst (λ (d : Phase). moves_by d left + (if is_due_by d m.sent m.world.text then 1 else 0) < n) (sym is) (went-near n left (is_due enough_text m.sent m.world.text) less)
-effected-near n m left machine (effect.Put c) is less = replied-near n m left (putting m.world.scene m.machine.flat c) (omega arith)
+    subst (λ (d : Phase). moves_by d left + (if is_due_by d m.sent m.world.text then 1 else 0) < n) (sym is)
+    (went-near n left (is_due enough_text m.sent m.world.text) less)
+effected-near n m left machine (effect.Put c) is less =
+    replied-near n m left (putting m.world.scene m.machine.flat c) (omega arith)
 effected-near n m left machine (effect.Glk selector args room) is less =
-    turned-near n m (record { room = room; left = left }) (glk_call m.world.scene m.machine.flat room selector args.items) less
-effected-near n m left machine (effect.Save stream) is less = replied-near n m left (saving m.world.scene m.machine.flat stream) (omega arith)
-effected-near n m left machine (effect.Restore stream) is less = restored-near n m left (restoring m.world.scene m.machine.flat stream) (omega arith)
+    turned-near n m (record { room = room; left = left })
+    (glk_call m.world.scene m.machine.flat room selector args.items) less
+effected-near n m left machine (effect.Save stream) is less =
+    replied-near n m left (saving m.world.scene m.machine.flat stream) (omega arith)
+effected-near n m left machine (effect.Restore stream) is less =
+    restored-near n m left (restoring m.world.scene m.machine.flat stream) (omega arith)
 effected-near n m left machine effect.Quit is less = tt
 effected-near n m left machine effect.Spent is less = tt
 
-stepped-near : (n : ℕ) (m : Configuration) (left : ℕ) (r : Result (FlatMachine × Effect) Fault) → m.phase ≡ steps → 5 * left + 4 < n → Near n (after_effect m left r)
+stepped-near : (n : ℕ) (m : Configuration) (left : ℕ) (r : Result (FlatMachine × Effect) Fault) → m.phase ≡ steps
+    → 5 * left + 4 < n → Near n (after_effect m left r)
 stepped-near n m left (Ok r) is less = effected-near n m left r.0 r.1 is less
 stepped-near n m left (Err f) is less = tt
 
-tested-near : (m : Configuration) (cost : ℕ) (r : Result (FlatMachine × Effect) Fault) (b : Bool) → m.phase ≡ steps → nat_lt m.left cost ≡ b → 1 ≤ cost
+tested-near : (m : Configuration) (cost : ℕ) (r : Result (FlatMachine × Effect) Fault) (b : Bool) → m.phase ≡ steps
+    → nat_lt m.left cost ≡ b → 1 ≤ cost
     → Near (5 * m.left) (if b then stops stop.Spent m else after_effect m (m.left - cost) r)
 tested-near m cost r true phase is positive = tt
 tested-near m cost r false phase is positive =
@@ -121,7 +140,8 @@ tested-near m cost r false phase is positive =
 
 step-near : (m : Configuration) → m.phase ≡ steps → Near (5 * m.left) (step_from m)
 step-near m is =
-    tested-near m (cost_of m.machine) (step_of m.machine (next_u32 m.words).0) (nat_lt m.left (cost_of m.machine)) is refl (cost-positive m.machine)
+    tested-near m (cost_of m.machine) (step_of m.machine (next_u32 m.words).0)
+    (nat_lt m.left (cost_of m.machine)) is refl (cost-positive m.machine)
 
 -- what comes next
 act-near : (phase : Phase) (m : Configuration) → m.phase ≡ phase → Near (moves_by phase m.left) (act_by phase m)
@@ -134,13 +154,17 @@ act-near (goes_on g w) m is =
     given-cases (Near (5 * w.left + 2)) m w (glk_go_on m.world.scene m.machine.flat w.room g)
     (λ said reply. replied-near (5 * w.left + 2) m w.left (Ok (said, reply)) (omega arith)) tt (λ f. tt)
 
-moved-near : (m : Configuration) (b : Bool) → sends_now m ≡ b → Near (moves_left m) (if b then moves_to (all_sent m) else act_of m)
+moved-near : (m : Configuration) (b : Bool) → sends_now m ≡ b
+    → Near (moves_left m) (if b then moves_to (all_sent m) else act_of m)
 moved-near m true is =
-    let before : moves_left m ≡ moves_by m.phase m.left + 1 = ap (λ (b : Bool). moves_by m.phase m.left + (if b then 1 else 0)) is in
-    let now : moves_left (all_sent m) ≡ moves_by m.phase m.left + 0 = ap (λ (b : Bool). moves_by m.phase m.left + (if b then 1 else 0)) (quiet-sent m.phase m.sent m.world.text) in
+    let before : moves_left m ≡ moves_by m.phase m.left + 1 =
+    ap (λ (b : Bool). moves_by m.phase m.left + (if b then 1 else 0)) is in
+    let now : moves_left (all_sent m) ≡ moves_by m.phase m.left + 0 =
+    ap (λ (b : Bool). moves_by m.phase m.left + (if b then 1 else 0)) (quiet-sent m.phase m.sent m.world.text) in
     omega arith
 moved-near m false is =
-    let before : moves_left m ≡ moves_by m.phase m.left + 0 = ap (λ (b : Bool). moves_by m.phase m.left + (if b then 1 else 0)) is in
+    let before : moves_left m ≡ moves_by m.phase m.left + 0 =
+    ap (λ (b : Bool). moves_by m.phase m.left + (if b then 1 else 0)) is in
     let same : moves_by m.phase m.left ≡ moves_left m = omega arith in
     subst (λ (n : ℕ). Near n (act_of m)) same (act-near m.phase m refl)
 
@@ -153,7 +177,8 @@ pub goes-nearer : (m m' : Configuration) → move_of m ≡ moves_to m' → moves
 goes-nearer m m' e = subst (Near (moves_left m)) e (move-near m)
 
 -- two ways to go on that agree at the next moment
-agree : (v : Verdict) (f g : Configuration → RunEnd) → ((m : Configuration) → v ≡ moves_to m → f m ≡ g m) → end_after v f ≡ end_after v g
+agree : (v : Verdict) (f g : Configuration → RunEnd) → ((m : Configuration) → v ≡ moves_to m → f m ≡ g m)
+    → end_after v f ≡ end_after v g
 agree (stops s m) f g same = refl
 agree (moves_to m) f g same = same m refl
 
@@ -162,24 +187,30 @@ enough : (n k : ℕ) (m : Configuration) → moves_left m < n → moves_left m <
 enough zero k m h h' = absurd (omega arith)
 enough (suc n) zero m h h' = absurd (omega arith)
 enough (suc n) (suc k) m h h' =
-    agree (move_of m) (final_in n) (final_in k) (λ m' e. let near : moves_left m' < moves_left m = goes-nearer m m' e in enough n k m' (omega arith) (omega arith))
+    agree (move_of m) (final_in n) (final_in k)
+    (λ m' e. let near : moves_left m' < moves_left m = goes-nearer m m' e in
+    enough n k m' (omega arith) (omega arith))
 
 -- The stop stays the same over a move.
 pub stop-stays : (m m' : Configuration) → move_of m ≡ moves_to m' → stop_of m' ≡ stop_of m
 unfolding stop_of
 stop-stays m m' e =
     let near : moves_left m' < moves_left m = goes-nearer m m' e in
-    let at_move : final_in (suc (moves_left m)) m ≡ final_in (moves_left m) m' = ap (λ (v : Verdict). end_after v (final_in (moves_left m))) e in
+    let at_move : final_in (suc (moves_left m)) m ≡ final_in (moves_left m) m' =
+    ap (λ (v : Verdict). end_after v (final_in (moves_left m))) e in
     enough (suc (moves_left m')) (moves_left m) m' (omega arith) near ∙ sym at_move
 
 -- A move that stops comes to it.
-pub stop-comes : (m m' : Configuration) (s : Stop) → move_of m ≡ stops s m' → stop_of m ≡ record { stop = s; configuration = m' }
+pub stop-comes : (m m' : Configuration) (s : Stop) → move_of m ≡ stops s m'
+    → stop_of m ≡ record { stop = s; configuration = m' }
 unfolding stop_of
 stop-comes m m' s e = ap (λ (v : Verdict). end_after v (final_in (moves_left m))) e
 
 -- One more move is one more configuration of the run.
-pub reached-goes : (start m m' : Configuration) (j : ℕ) → run_of start j ≡ Some m → move_of m ≡ moves_to m' → run_of start (suc j) ≡ Some m'
-reached-goes start m m' j reached e = ap (λ (o : Option Configuration). option_and_then (λ m. next_configuration (move_of m)) o) reached ∙ ap next_configuration e
+pub reached-goes : (start m m' : Configuration) (j : ℕ) → run_of start j ≡ Some m → move_of m ≡ moves_to m'
+    → run_of start (suc j) ≡ Some m'
+reached-goes start m m' j reached e = ap (λ (o : Option Configuration).
+    option_and_then (λ m. next_configuration (move_of m)) o) reached ∙ ap next_configuration e
 
 -- The text that is due is sent, and else what comes next is done.
 pub move-sends : (m : Configuration) → sends_now m ≡ true → move_of m ≡ moves_to (all_sent m)

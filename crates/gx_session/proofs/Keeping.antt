@@ -6,7 +6,8 @@ use Rattle.gx_session.specs.declared.ends.Halt.TheVariants as halt
 use Rattle.gx_session.specs.Counts.{Blames}
 use Rattle.gx_session.specs.Devices.{Devices}
 use Rattle.gx_session.specs.Outcomes.{Keeps}
-use Rattle.gx_session.proofs.Counting.{IsWell, blames-none, blames-same, well-none, well-of, well-and, blames-well, blames-on, blames-call}
+use Rattle.gx_session.proofs.Counting.{IsWell, blames-none, blames-same, well-none, well-of, well-and, blames-well}
+use Rattle.gx_session.proofs.Counting.{blames-on, blames-call}
 
 -- two errors
 pub err-is : {T : Type 0} (e f : Halt) → (let r : Result T Halt = Err e in r ≡ Err f) → e ≡ f
@@ -36,11 +37,14 @@ stays-none d = record {
 
 pub stays-of : {T : Type 0} (a b : Devices) (x : T) → (let r : Result T Halt = Ok x in Keeps a b r) → Stays a b
 stays-of {T} a b x k = record {
-  sink = well-of a.sink.calls b.sink.calls (let r : Result T Halt = Ok x in r ≡ Err halt.Output) k.sink (no-err x halt.Output);
+  sink = well-of a.sink.calls b.sink.calls (let r : Result T Halt = Ok x in r ≡ Err halt.Output) k.sink
+      (no-err x halt.Output);
   sink_tells = k.sink_tells;
-  source = well-of a.source.calls b.source.calls (let r : Result T Halt = Ok x in r ≡ Err halt.Input) k.source (no-err x halt.Input);
+  source = well-of a.source.calls b.source.calls (let r : Result T Halt = Ok x in r ≡ Err halt.Input) k.source
+      (no-err x halt.Input);
   source_tells = k.source_tells;
-  shelf = well-of a.shelf.calls b.shelf.calls (let r : Result T Halt = Ok x in r ≡ Err halt.Shelf) k.shelf (no-err x halt.Shelf);
+  shelf = well-of a.shelf.calls b.shelf.calls (let r : Result T Halt = Ok x in r ≡ Err halt.Shelf) k.shelf
+      (no-err x halt.Shelf);
   shelf_tells = k.shelf_tells;
 }
 
@@ -56,26 +60,35 @@ keeps-after a b c r s k = record {
 }
 
 -- the same with another answer that blames the same device
-pub keeps-same : {T U : Type 0} (a b : Devices) (r : Result T Halt) (q : Result U Halt) → ((e : Halt) → r ≡ Err e → q ≡ Err e) → ((e : Halt) → q ≡ Err e → r ≡ Err e) → Keeps a b r → Keeps a b q
+pub keeps-same : {T U : Type 0} (a b : Devices) (r : Result T Halt) (q : Result U Halt)
+    → ((e : Halt) → r ≡ Err e → q ≡ Err e) → ((e : Halt) → q ≡ Err e → r ≡ Err e) → Keeps a b r → Keeps a b q
 keeps-same a b r q to from k = record {
-  sink = blames-same a.sink.calls b.sink.calls (r ≡ Err halt.Output) (q ≡ Err halt.Output) k.sink (to halt.Output) (from halt.Output);
+  sink = blames-same a.sink.calls b.sink.calls (r ≡ Err halt.Output) (q ≡ Err halt.Output) k.sink (to halt.Output)
+      (from halt.Output);
   sink_tells = k.sink_tells;
-  source = blames-same a.source.calls b.source.calls (r ≡ Err halt.Input) (q ≡ Err halt.Input) k.source (to halt.Input) (from halt.Input);
+  source = blames-same a.source.calls b.source.calls (r ≡ Err halt.Input) (q ≡ Err halt.Input) k.source
+      (to halt.Input) (from halt.Input);
   source_tells = k.source_tells;
-  shelf = blames-same a.shelf.calls b.shelf.calls (r ≡ Err halt.Shelf) (q ≡ Err halt.Shelf) k.shelf (to halt.Shelf) (from halt.Shelf);
+  shelf = blames-same a.shelf.calls b.shelf.calls (r ≡ Err halt.Shelf) (q ≡ Err halt.Shelf) k.shelf (to halt.Shelf)
+      (from halt.Shelf);
   shelf_tells = k.shelf_tells;
 }
 
-pub keeps-ok : {T U : Type 0} (a b : Devices) (x : T) (y : U) → (let r : Result T Halt = Ok x in Keeps a b r) → (let q : Result U Halt = Ok y in Keeps a b q)
+pub keeps-ok : {T U : Type 0} (a b : Devices) (x : T) (y : U) → (let r : Result T Halt = Ok x in Keeps a b r)
+    → (let q : Result U Halt = Ok y in Keeps a b q)
 keeps-ok {T} {U} a b x y k =
-    keeps-same a b (let r : Result T Halt = Ok x in r) (let q : Result U Halt = Ok y in q) (λ e same. absurd (no-err x e same)) (λ e same. absurd (no-err y e same)) k
+    keeps-same a b (let r : Result T Halt = Ok x in r) (let q : Result U Halt = Ok y in q)
+    (λ e same. absurd (no-err x e same)) (λ e same. absurd (no-err y e same)) k
 
-pub keeps-err : {T U : Type 0} (a b : Devices) (f : Halt) → (let r : Result T Halt = Err f in Keeps a b r) → (let q : Result U Halt = Err f in Keeps a b q)
+pub keeps-err : {T U : Type 0} (a b : Devices) (f : Halt) → (let r : Result T Halt = Err f in Keeps a b r)
+    → (let q : Result U Halt = Err f in Keeps a b q)
 keeps-err {T} {U} a b f k =
-    keeps-same a b (let r : Result T Halt = Err f in r) (let q : Result U Halt = Err f in q) (λ e same. ap (λ (x : Halt). let q : Result U Halt = Err x in q) (err-is {T = T} f e same))
+    keeps-same a b (let r : Result T Halt = Err f in r) (let q : Result U Halt = Err f in q)
+    (λ e same. ap (λ (x : Halt). let q : Result U Halt = Err x in q) (err-is {T = T} f e same))
     (λ e same. ap (λ (x : Halt). let r : Result T Halt = Err x in r) (err-is {T = U} f e same)) k
 
-not-memory : {T : Type 0} (r : Result T Halt) (e : Halt) → IfErr r (λ x. x ≡ halt.NoMemory) → e ≢ halt.NoMemory → r ≡ Err e → ⊥
+not-memory : {T : Type 0} (r : Result T Halt) (e : Halt) → IfErr r (λ x. x ≡ halt.NoMemory) → e ≢ halt.NoMemory
+    → r ≡ Err e → ⊥
 not-memory (Ok x) e only other same = no-err x e same
 not-memory {T} (Err f) e only other same = other (sym (err-is {T = T} f e same) ∙ only)
 
@@ -90,51 +103,66 @@ keeps-none d r only = record {
   shelf_tells = refl;
 }
 
-not-other : {T : Type 0} (r : Result T Halt) (one e : Halt) → IfErr r (λ x. (x ≡ one) ⊎ (x ≡ halt.NoMemory)) → e ≢ one → e ≢ halt.NoMemory → r ≡ Err e → ⊥
+not-other : {T : Type 0} (r : Result T Halt) (one e : Halt) → IfErr r (λ x. (x ≡ one) ⊎ (x ≡ halt.NoMemory)) → e ≢ one
+    → e ≢ halt.NoMemory → r ≡ Err e → ⊥
 not-other (Ok x) one e only other other' same = no-err x e same
 not-other {T} (Err f) one e (inl is) other other' same = other (sym (err-is {T = T} f e same) ∙ is)
 not-other {T} (Err f) one e (inr is) other other' same = other' (sym (err-is {T = T} f e same) ∙ is)
 
 -- the sink alone was called
-pub keeps-sink : {T : Type 0} (d : Devices) (before now : FlatSink) (r : Result T Halt) → Blames before.calls now.calls (r ≡ Err halt.Output) → now.tells ≡ before.tells
-    → IfErr r (λ x. (x ≡ halt.Output) ⊎ (x ≡ halt.NoMemory)) → Keeps (record d { sink = before }) (record d { sink = now }) r
+pub keeps-sink : {T : Type 0} (d : Devices) (before now : FlatSink) (r : Result T Halt)
+    → Blames before.calls now.calls (r ≡ Err halt.Output) → now.tells ≡ before.tells
+    → IfErr r (λ x. (x ≡ halt.Output) ⊎ (x ≡ halt.NoMemory))
+    → Keeps (record d { sink = before }) (record d { sink = now }) r
 keeps-sink d before now r blames tells only = record {
   sink = blames;
   sink_tells = tells;
-  source = blames-none d.source.calls d.source.calls (r ≡ Err halt.Input) refl (not-other r halt.Output halt.Input only (λ e. cc) (λ e. cc));
+  source = blames-none d.source.calls d.source.calls (r ≡ Err halt.Input) refl
+      (not-other r halt.Output halt.Input only (λ e. cc) (λ e. cc));
   source_tells = refl;
-  shelf = blames-none d.shelf.calls d.shelf.calls (r ≡ Err halt.Shelf) refl (not-other r halt.Output halt.Shelf only (λ e. cc) (λ e. cc));
+  shelf = blames-none d.shelf.calls d.shelf.calls (r ≡ Err halt.Shelf) refl
+      (not-other r halt.Output halt.Shelf only (λ e. cc) (λ e. cc));
   shelf_tells = refl;
 }
 
 -- so was the source
-pub keeps-source : {T : Type 0} (d : Devices) (before now : FlatSource) (r : Result T Halt) → Blames before.calls now.calls (r ≡ Err halt.Input) → now.tells ≡ before.tells
-    → IfErr r (λ x. (x ≡ halt.Input) ⊎ (x ≡ halt.NoMemory)) → Keeps (record d { source = before }) (record d { source = now }) r
+pub keeps-source : {T : Type 0} (d : Devices) (before now : FlatSource) (r : Result T Halt)
+    → Blames before.calls now.calls (r ≡ Err halt.Input) → now.tells ≡ before.tells
+    → IfErr r (λ x. (x ≡ halt.Input) ⊎ (x ≡ halt.NoMemory))
+    → Keeps (record d { source = before }) (record d { source = now }) r
 keeps-source d before now r blames tells only = record {
-  sink = blames-none d.sink.calls d.sink.calls (r ≡ Err halt.Output) refl (not-other r halt.Input halt.Output only (λ e. cc) (λ e. cc));
+  sink = blames-none d.sink.calls d.sink.calls (r ≡ Err halt.Output) refl
+      (not-other r halt.Input halt.Output only (λ e. cc) (λ e. cc));
   sink_tells = refl;
   source = blames;
   source_tells = tells;
-  shelf = blames-none d.shelf.calls d.shelf.calls (r ≡ Err halt.Shelf) refl (not-other r halt.Input halt.Shelf only (λ e. cc) (λ e. cc));
+  shelf = blames-none d.shelf.calls d.shelf.calls (r ≡ Err halt.Shelf) refl
+      (not-other r halt.Input halt.Shelf only (λ e. cc) (λ e. cc));
   shelf_tells = refl;
 }
 
 -- so was the shelf
-pub keeps-shelf : {T : Type 0} (d : Devices) (before now : FlatShelf) (r : Result T Halt) → Blames before.calls now.calls (r ≡ Err halt.Shelf) → now.tells ≡ before.tells
-    → IfErr r (λ x. (x ≡ halt.Shelf) ⊎ (x ≡ halt.NoMemory)) → Keeps (record d { shelf = before }) (record d { shelf = now }) r
+pub keeps-shelf : {T : Type 0} (d : Devices) (before now : FlatShelf) (r : Result T Halt)
+    → Blames before.calls now.calls (r ≡ Err halt.Shelf) → now.tells ≡ before.tells
+    → IfErr r (λ x. (x ≡ halt.Shelf) ⊎ (x ≡ halt.NoMemory))
+    → Keeps (record d { shelf = before }) (record d { shelf = now }) r
 keeps-shelf d before now r blames tells only = record {
-  sink = blames-none d.sink.calls d.sink.calls (r ≡ Err halt.Output) refl (not-other r halt.Shelf halt.Output only (λ e. cc) (λ e. cc));
+  sink = blames-none d.sink.calls d.sink.calls (r ≡ Err halt.Output) refl
+      (not-other r halt.Shelf halt.Output only (λ e. cc) (λ e. cc));
   sink_tells = refl;
-  source = blames-none d.source.calls d.source.calls (r ≡ Err halt.Input) refl (not-other r halt.Shelf halt.Input only (λ e. cc) (λ e. cc));
+  source = blames-none d.source.calls d.source.calls (r ≡ Err halt.Input) refl
+      (not-other r halt.Shelf halt.Input only (λ e. cc) (λ e. cc));
   source_tells = refl;
   shelf = blames;
   shelf_tells = tells;
 }
 
 -- one call of the shelf that didn't fail
-pub stays-shelf : (d : Devices) (before now : FlatShelf) → HasCause before.calls now.calls false false → now.tells ≡ before.tells → Stays (record d { shelf = before }) (record d { shelf = now })
+pub stays-shelf : (d : Devices) (before now : FlatShelf) → HasCause before.calls now.calls false false
+    → now.tells ≡ before.tells → Stays (record d { shelf = before }) (record d { shelf = now })
 stays-shelf d before now cause tells =
-    let none : Blames before.calls now.calls ⊥ = blames-call before.calls now.calls false false ⊥ cause (λ e. absurd e) (λ e. refl) in
+    let none : Blames before.calls now.calls ⊥ =
+    blames-call before.calls now.calls false false ⊥ cause (λ e. absurd e) (λ e. refl) in
     record {
       sink = well-none d.sink.calls;
       sink_tells = refl;
@@ -167,7 +195,8 @@ keeps-still {T} a b x s =
     }
 
 -- calls of the source that didn't fail
-pub stays-source : (d : Devices) (before now : FlatSource) → IsWell before.calls now.calls → now.tells ≡ before.tells → Stays (record d { source = before }) (record d { source = now })
+pub stays-source : (d : Devices) (before now : FlatSource) → IsWell before.calls now.calls → now.tells ≡ before.tells
+    → Stays (record d { source = before }) (record d { source = now })
 stays-source d before now well tells = record {
   sink = well-none d.sink.calls;
   sink_tells = refl;

@@ -19,22 +19,33 @@ use Rattle.gx_session.specs.Outcomes.{EventGives}
 use Rattle.gx_session.proofs.Asking.{line-wants, line-taken}
 
 -- what a call awaits is the same once a line is shown
-pub awaits-shown : (w : FlatWorld) (chars : List ℕ) (g : Given) (b : Bool) → Awaits w.scene g → Awaits (if b then after w (show_line w.scene chars) else w).scene g
+pub awaits-shown : (w : FlatWorld) (chars : List ℕ) (g : Given) (b : Bool) → Awaits w.scene g
+    → Awaits (if b then after w (show_line w.scene chars) else w).scene g
 awaits-shown w chars g true is = awaits-line w.scene chars g is
 awaits-shown w chars g false is = is
 
-module _ {K : Type 0} {sending : SendStep K} {E : Type 0} (whole : E → Whole) (log : E → Option Log) (old mid : Running E) (coming chars : List ℕ) (w : Waiting) (start : Configuration) (entry d : Handed sending)
+module _ {K : Type 0} {sending : SendStep K} {E : Type 0} (whole : E → Whole) (log : E → Option Log)
+    (old mid : Running E) (coming chars : List ℕ) (w : Waiting) (start : Configuration) (entry d : Handed sending)
     (r : TakesInput start entry (held_by whole log old coming) (asking_in whole old) d chars w) where
   -- the showing wants memory
-  pub line-refused : (e : Halt) → e ≡ halt.NoMemory → old.echo ≡ true → mid ≡ record old { world = mid.world } → EventGives start entry (held_by whole log mid coming) (asking_in whole mid) d (Err e)
+  pub line-refused : (e : Halt) → e ≡ halt.NoMemory → old.echo ≡ true → mid ≡ record old { world = mid.world }
+      → EventGives start entry (held_by whole log mid coming) (asking_in whole mid) d (Err e)
   line-refused e memory shows same =
-      subst (λ (x : Halt). EventGives start entry (held_by whole log mid coming) (asking_in whole mid) d (Err x)) (sym memory)
-      (subst (λ (x : Running E). EventGives start entry (held_by whole log x coming) (asking_in whole x) d (Err halt.NoMemory)) (sym same)
-      (line-wants start entry (held_by whole log old coming) d (asking_in whole old) w chars r (held_by whole log (record old { world = mid.world }) coming) shows refl refl refl))
+      subst (λ (x : Halt). EventGives start entry (held_by whole log mid coming) (asking_in whole mid) d (Err x))
+      (sym memory)
+      (subst (λ (x : Running E). EventGives start entry (held_by whole log x coming) (asking_in whole x) d
+      (Err halt.NoMemory)) (sym same)
+      (line-wants start entry (held_by whole log old coming) d (asking_in whole old) w chars r
+      (held_by whole log (record old { world = mid.world }) coming) shows refl refl refl))
 
   -- it is shown
-  pub line-shown : mid ≡ record old { world = if old.echo then after old.world (show_line old.world.scene chars) else old.world }
+  pub line-shown : mid ≡ record old {
+    world = if old.echo then after old.world (show_line old.world.scene chars)
+        else old.world;
+  }
       → IsInCall start entry (held_by whole log mid coming) (asking_in whole mid) d (goes_on (given.Line chars) w)
   line-shown same =
-      subst (λ (x : Running E). IsInCall start entry (held_by whole log x coming) (asking_in whole x) d (goes_on (given.Line chars) w)) (sym same)
-      (line-taken start entry (held_by whole log old coming) d (asking_in whole old) w chars r (if old.echo then after old.world (show_line old.world.scene chars) else old.world) refl)
+      subst (λ (x : Running E). IsInCall start entry (held_by whole log x coming) (asking_in whole x) d
+      (goes_on (given.Line chars) w)) (sym same)
+      (line-taken start entry (held_by whole log old coming) d (asking_in whole old) w chars r
+      (if old.echo then after old.world (show_line old.world.scene chars) else old.world) refl)

@@ -1,5 +1,7 @@
 -- Each machine of the record of a run is a place of the run.
-use Rattle.std.proofs.Common.{◌≡◌, ◌≢◌, ℕ, zero, suc, ◌+◌, ◌-◌, ◌<◌, ◌≤◌, ◌⊎◌, inl, inr, nat_lt, if◌then◌else◌, Bool, true, false, List, [], ◌∷◌, ◌++◌, Option, Some, None, option_and_then, Result, Ok, Err, refl, ap, subst, sym, ◌∙◌, arith, append_assoc}
+use Rattle.std.proofs.Common.{◌≡◌, ◌≢◌, ℕ, zero, suc, ◌+◌, ◌-◌, ◌<◌, ◌≤◌, ◌⊎◌, inl, inr, nat_lt, if◌then◌else◌, Bool}
+use Rattle.std.proofs.Common.{true, false, List, [], ◌∷◌, ◌++◌, Option, Some, None, option_and_then, Result, Ok, Err}
+use Rattle.std.proofs.Common.{refl, ap, subst, sym, ◌∙◌, arith, append_assoc}
 use Rattle.std.proofs.lemmas.Bool.{ltb-false, cases_lt}
 use Rattle.gx_words.specs.declared.faults.Fault.{Fault}
 use Rattle.gx_state.specs.declared.effects.Effect.{Effect}
@@ -73,37 +75,49 @@ Moves m (stops s m') = Halts s m m' ⊎ Quits m m'
 halted : (s : Stop) (m : Configuration) → Halts s m m
 halted s m = record { log = refl; left = λ a b. refl }
 
-replied-moves : (m : Configuration) (left : ℕ) (r : Result (Said × Reply) Fault) → left + cost_of m.machine ≡ m.left → Moves m (after_reply m left r)
+replied-moves : (m : Configuration) (left : ℕ) (r : Result (Said × Reply) Fault) → left + cost_of m.machine ≡ m.left
+    → Moves m (after_reply m left r)
 replied-moves m left (Ok r) units = inr (record { phase = refl; log = refl; units = units })
 replied-moves m left (Err f) units = inl (halted (stop.Faulted f) m)
 
-restored-moves : (m : Configuration) (left : ℕ) (r : Result (Said × Option Copy) Fault) → left + cost_of m.machine ≡ m.left → Moves m (after_restoring m left r)
+restored-moves : (m : Configuration) (left : ℕ) (r : Result (Said × Option Copy) Fault)
+    → left + cost_of m.machine ≡ m.left → Moves m (after_restoring m left r)
 restored-moves m left (Ok (said, Some copy)) units = inr (record { phase = refl; log = refl; units = units })
 restored-moves m left (Ok (said, None)) units = replied-moves m left (Ok (said, replies failed)) units
 restored-moves m left (Err f) units = inl (halted (stop.Faulted f) m)
 
-turned-moves : (m : Configuration) (w : Waiting) (r : Result (Said × Turn) Fault) → w.left + cost_of m.machine ≡ m.left → Moves m (after_turn m w r)
+turned-moves : (m : Configuration) (w : Waiting) (r : Result (Said × Turn) Fault)
+    → w.left + cost_of m.machine ≡ m.left → Moves m (after_turn m w r)
 turned-moves m w r units =
     turn-cases (Moves m) m w r (λ said reply. replied-moves m w.left (Ok (said, reply)) units)
-    (λ said t. inl (record { machine = refl; log = refl; left = refl; leaves = units })) (λ said t. inl (record { machine = refl; log = refl; left = refl; leaves = units }))
-    (λ said. inl (record { log = refl; left = λ a b. refl })) (λ said. inl (record { log = refl; left = λ a b. absurd (a refl) })) (λ f. inl (halted (stop.Faulted f) m))
+    (λ said t. inl (record { machine = refl; log = refl; left = refl; leaves = units }))
+    (λ said t. inl (record { machine = refl; log = refl; left = refl; leaves = units }))
+    (λ said. inl (record { log = refl; left = λ a b. refl }))
+    (λ said. inl (record { log = refl; left = λ a b. absurd (a refl) })) (λ f. inl (halted (stop.Faulted f) m))
 
-effected-moves : (m : Configuration) (left : ℕ) (machine : FlatMachine) (does : Effect) → m.phase ≡ steps → left + cost_of m.machine ≡ m.left → Moves m (after_effect m left (Ok (machine, does)))
+effected-moves : (m : Configuration) (left : ℕ) (machine : FlatMachine) (does : Effect) → m.phase ≡ steps
+    → left + cost_of m.machine ≡ m.left → Moves m (after_effect m left (Ok (machine, does)))
 effected-moves m left machine effect.Went is units = inr (record { phase = is; log = refl; units = units })
 effected-moves m left machine effect.Drew is units = inr (record { phase = is; log = refl; units = units })
-effected-moves m left machine (effect.Put c) is units = replied-moves m left (putting m.world.scene m.machine.flat c) units
+effected-moves m left machine (effect.Put c) is units =
+    replied-moves m left (putting m.world.scene m.machine.flat c) units
 effected-moves m left machine (effect.Glk selector args room) is units =
-    turned-moves m (record { room = room; left = left }) (glk_call m.world.scene m.machine.flat room selector args.items) units
-effected-moves m left machine (effect.Save stream) is units = replied-moves m left (saving m.world.scene m.machine.flat stream) units
-effected-moves m left machine (effect.Restore stream) is units = restored-moves m left (restoring m.world.scene m.machine.flat stream) units
+    turned-moves m (record { room = room; left = left })
+    (glk_call m.world.scene m.machine.flat room selector args.items) units
+effected-moves m left machine (effect.Save stream) is units =
+    replied-moves m left (saving m.world.scene m.machine.flat stream) units
+effected-moves m left machine (effect.Restore stream) is units =
+    restored-moves m left (restoring m.world.scene m.machine.flat stream) units
 effected-moves m left machine effect.Quit is units = inr (record { log = refl; units = units })
 effected-moves m left machine effect.Spent is units = inl (record { log = refl; left = λ a b. absurd (b refl) })
 
-stepped-moves : (m : Configuration) (left : ℕ) (r : Result (FlatMachine × Effect) Fault) → m.phase ≡ steps → left + cost_of m.machine ≡ m.left → Moves m (after_effect m left r)
+stepped-moves : (m : Configuration) (left : ℕ) (r : Result (FlatMachine × Effect) Fault) → m.phase ≡ steps
+    → left + cost_of m.machine ≡ m.left → Moves m (after_effect m left r)
 stepped-moves m left (Ok r) is units = effected-moves m left r.0 r.1 is units
 stepped-moves m left (Err f) is units = inl (halted (stop.Faulted f) m)
 
-tested-moves : (m : Configuration) (r : Result (FlatMachine × Effect) Fault) (b : Bool) → m.phase ≡ steps → nat_lt m.left (cost_of m.machine) ≡ b
+tested-moves : (m : Configuration) (r : Result (FlatMachine × Effect) Fault) (b : Bool) → m.phase ≡ steps
+    → nat_lt m.left (cost_of m.machine) ≡ b
     → Moves m (if b then stops stop.Spent m else after_effect m (m.left - cost_of m.machine) r)
 tested-moves m r true is less = inl (halted stop.Spent m)
 tested-moves m r false is less =
@@ -117,12 +131,16 @@ act-moves : (phase : Phase) (m : Configuration) → m.phase ≡ phase → Leaves
 act-moves steps m is leaves = step-moves m is
 act-moves (asks t w) m is leaves =
     asking-cases (Moves m) m w t
-    (line-cases (Moves m) m w (next_line m.input) (inl (halted stop.LineTooLong m)) (inl (halted stop.InputEnded m)) (λ chars rest. inl (record { machine = refl; log = refl; left = refl; leaves = leaves })))
+    (line-cases (Moves m) m w (next_line m.input) (inl (halted stop.LineTooLong m)) (inl (halted stop.InputEnded m))
+    (λ chars rest. inl (record { machine = refl; log = refl; left = refl; leaves = leaves })))
     (λ r. inl (record { machine = refl; log = refl; left = refl; leaves = leaves })) (inl (halted stop.Stuck m))
 act-moves (goes_on g w) m is leaves =
-    given-cases (Moves m) m w (glk_go_on m.world.scene m.machine.flat w.room g) (λ said reply. replied-moves m w.left (Ok (said, reply)) leaves) (inl (halted stop.Stuck m)) (λ f. inl (halted (stop.Faulted f) m))
+    given-cases (Moves m) m w (glk_go_on m.world.scene m.machine.flat w.room g)
+    (λ said reply. replied-moves m w.left (Ok (said, reply)) leaves) (inl (halted stop.Stuck m))
+    (λ f. inl (halted (stop.Faulted f) m))
 
-move-by : (m : Configuration) (b : Bool) → LeavesUnits m.phase m → Moves m (if b then moves_to (all_sent m) else act_of m)
+move-by : (m : Configuration) (b : Bool) → LeavesUnits m.phase m
+    → Moves m (if b then moves_to (all_sent m) else act_of m)
 move-by m true leaves = inl (record { machine = refl; log = refl; left = refl; leaves = sent-leaves m.phase leaves })
   where
     sent-leaves : (d : Phase) → LeavesUnits d m → LeavesUnits d (all_sent m)
@@ -154,7 +172,8 @@ record Recorded (start : Configuration) (j : ℕ) (m : Configuration) : Type 0 w
   leaves : LeavesUnits m.phase m
 
 -- so it is after more moves
-place-on : (start : Configuration) (j : ℕ) (machine : FlatMachine) (before : List FlatMachine) → BeginsEvent start j machine before → BeginsEvent start (suc j) machine before
+place-on : (start : Configuration) (j : ℕ) (machine : FlatMachine) (before : List FlatMachine)
+    → BeginsEvent start j machine before → BeginsEvent start (suc j) machine before
 place-on start j machine before p = record {
   moves = p.moves;
   earlier = let less : p.moves < j = p.earlier in omega arith;
@@ -172,13 +191,15 @@ last-or-before i j less = elim (cases_lt j i) [ inl more ↦ inr (omega arith) |
 
 -- the record of a configuration is this one, but for the newest machines of it
 abbrev IsEarlierRecord : Configuration → Log → Type 0
-IsEarlierRecord c log = (own : Log) × (c.log ≡ Some own) × (newer : List FlatMachine) × (log.before ≡ newer ++ own.before)
+IsEarlierRecord c log = (own : Log) × (c.log ≡ Some own) × (newer : List FlatMachine)
+    × (log.before ≡ newer ++ own.before)
 
 whole-end : (c : Configuration) (log : Log) → c.log ≡ Some log → IsEarlierRecord c log
 whole-end c log is = (log, is, [], refl)
 
 -- the machine of an event that ends here is a place
-began-place : (start : Configuration) (j : ℕ) (m : Configuration) (log : Log) → m.log ≡ Some log → log.after ≡ [] → units_of log.before + m.left ≡ start.left → Began start j m → BeginsEvent start (suc j) m.machine log.before
+began-place : (start : Configuration) (j : ℕ) (m : Configuration) (log : Log) → m.log ≡ Some log → log.after ≡ []
+    → units_of log.before + m.left ≡ start.left → Began start j m → BeginsEvent start (suc j) m.machine log.before
 began-place start j m log is none units b = record {
   moves = b.moves;
   earlier = let less : b.moves ≤ j = b.by_now in omega arith;
@@ -186,7 +207,8 @@ began-place start j m log is none units b = record {
   reached = b.reached;
   begins = b.begins;
   machine_is = b.machine;
-  log_is = b.log ∙ is ∙ ap (λ (ms : List FlatMachine). Some (let l : Log = record { before = log.before; after = ms } in l)) none;
+  log_is = b.log ∙ is ∙ ap (λ (ms : List FlatMachine).
+      Some (let l : Log = record { before = log.before; after = ms } in l)) none;
   units = ap (λ (n : ℕ). units_of log.before + n) b.left ∙ units;
 }
 
@@ -207,28 +229,38 @@ module _ (start m : Configuration) (j : ℕ) (r : Recorded start j m) where
       let all = units-more m.machine here.before in
       omega arith
 
-  places-here : (newer : List FlatMachine) (machine : FlatMachine) (before : List FlatMachine) → here.before ≡ newer ++ machine ∷ before → BeginsEvent start (suc j) machine before
+  places-here : (newer : List FlatMachine) (machine : FlatMachine) (before : List FlatMachine)
+      → here.before ≡ newer ++ machine ∷ before → BeginsEvent start (suc j) machine before
   places-here newer machine before e = place-on start j machine before (r.is.places newer machine before e)
 
-  places-longer : (newer : List FlatMachine) (machine : FlatMachine) (before : List FlatMachine) → m.machine ∷ here.before ≡ newer ++ machine ∷ before → BeginsEvent start (suc j) machine before
+  places-longer : (newer : List FlatMachine) (machine : FlatMachine) (before : List FlatMachine)
+      → m.machine ∷ here.before ≡ newer ++ machine ∷ before → BeginsEvent start (suc j) machine before
   places-longer [] machine before e =
       let same : m.machine ≡ machine = cc in
       let rest : here.before ≡ before = cc in
       subst (λ (x : FlatMachine). BeginsEvent start (suc j) x before) same
-      (subst (λ (x : List FlatMachine). BeginsEvent start (suc j) m.machine x) rest (began-place start j m here r.is.log_is r.is.none_after r.is.units r.began))
+      (subst (λ (x : List FlatMachine). BeginsEvent start (suc j) m.machine x) rest
+      (began-place start j m here r.is.log_is r.is.none_after r.is.units r.began))
   places-longer (x ∷ newer) machine before e =
       let rest : here.before ≡ newer ++ machine ∷ before = cc in
       places-here newer machine before rest
 
   -- the record of an earlier configuration is an end of a longer one
-  ends-before : (log : Log) (newer : List FlatMachine) → log.before ≡ newer ++ here.before → (i : ℕ) (c : Configuration) → i ≤ j → run_of start i ≡ Some c → IsEarlierRecord c log
+  ends-before : (log : Log) (newer : List FlatMachine) → log.before ≡ newer ++ here.before
+      → (i : ℕ) (c : Configuration) → i ≤ j → run_of start i ≡ Some c → IsEarlierRecord c log
   ends-before log newer more i c few at =
-      let e = r.is.ends i c few at in
-      (e.0, e.1, newer ++ e.2, more ∙ ap (λ (ms : List FlatMachine). newer ++ ms) e.3 ∙ sym (append_assoc newer e.2 e.0.before))
+      let e = r.is.ends i c few at in (
+        e.0,
+        e.1,
+        newer ++ e.2,
+        more ∙ ap (λ (ms : List FlatMachine). newer ++ ms) e.3
+            ∙ sym (append_assoc newer e.2 e.0.before),
+      )
 
   -- the run goes on
   module _ (m' : Configuration) (reached : run_of start (suc j) ≡ Some m') where
-    ends-on : (log : Log) (newer : List FlatMachine) → log.before ≡ newer ++ here.before → m'.log ≡ Some log → (i : ℕ) (c : Configuration) → (i ≤ j) ⊎ (i ≡ suc j) → run_of start i ≡ Some c → IsEarlierRecord c log
+    ends-on : (log : Log) (newer : List FlatMachine) → log.before ≡ newer ++ here.before → m'.log ≡ Some log
+        → (i : ℕ) (c : Configuration) → (i ≤ j) ⊎ (i ≡ suc j) → run_of start i ≡ Some c → IsEarlierRecord c log
     ends-on log newer more is i c (inl few) at = ends-before log newer more i c few at
     ends-on log newer more is i c (inr last) at =
         let same : c ≡ m' = some-is c m' (sym at ∙ ap (run_of start) last ∙ reached) in
@@ -263,17 +295,29 @@ module _ (start m : Configuration) (j : ℕ) (r : Recorded start j m) where
         none_after = refl;
         units = longer-units m'.left s.units;
         places = places-longer;
-        ends = λ i c few at. ends-on longer (m.machine ∷ []) refl (longer-is m'.log s.log) i c (last-or-before i j few) at;
+        ends = λ i c few at. ends-on longer (m.machine ∷ []) refl (longer-is m'.log s.log) i c
+            (last-or-before i j few) at;
       };
-      began = record { moves = suc j; by_now = omega arith; configuration = m'; reached = reached; begins = s.phase; machine = refl; log = refl; left = refl };
+      began = record {
+        moves = suc j;
+        by_now = omega arith;
+        configuration = m';
+        reached = reached;
+        begins = s.phase;
+        machine = refl;
+        log = refl;
+        left = refl;
+      };
       leaves = subst (λ (d : Phase). LeavesUnits d m') (sym s.phase) tt;
     }
 
   -- the run stops
   module _ (s : Stop) (m' : Configuration) (none-on : run_of start (suc j) ≡ None) where
-    ends-last : (log : Log) (newer : List FlatMachine) → log.before ≡ newer ++ here.before → (i : ℕ) (c : Configuration) → (i ≤ j) ⊎ (i ≡ suc j) → run_of start i ≡ Some c → IsEarlierRecord c log
+    ends-last : (log : Log) (newer : List FlatMachine) → log.before ≡ newer ++ here.before
+        → (i : ℕ) (c : Configuration) → (i ≤ j) ⊎ (i ≡ suc j) → run_of start i ≡ Some c → IsEarlierRecord c log
     ends-last log newer more i c (inl few) at = ends-before log newer more i c few at
-    ends-last log newer more i c (inr last) at = let none : None ≡ Some c = sym none-on ∙ ap (run_of start) (sym last) ∙ at in absurd cc
+    ends-last log newer more i c (inr last) at = let none : None ≡ Some c = sym none-on ∙ ap (run_of start) (sym last)
+        ∙ at in absurd cc
 
     stops-so : Halts s m m' ⊎ Quits m m' → IsLastRecord start (record { stop = s; configuration = m' })
     stops-so (inl h) = record {
@@ -305,7 +349,8 @@ module _ (start m : Configuration) (j : ℕ) (r : Recorded start j m) where
 
 -- the first configuration
 module _ (start : Configuration) (begins : start.phase ≡ steps) (none : start.log ≡ Some no_events) where
-  none-before : (newer : List FlatMachine) (machine : FlatMachine) (before : List FlatMachine) → [] ≡ newer ++ machine ∷ before → ⊥
+  none-before : (newer : List FlatMachine) (machine : FlatMachine) (before : List FlatMachine)
+      → [] ≡ newer ++ machine ∷ before → ⊥
   none-before [] machine before e = cc
   none-before (x ∷ newer) machine before e = cc
 
@@ -323,12 +368,23 @@ module _ (start : Configuration) (begins : start.phase ≡ steps) (none : start.
       places = λ newer machine before e. absurd (none-before newer machine before e);
       ends = first-end;
     };
-    began = record { moves = 0; by_now = omega arith; configuration = start; reached = refl; begins = begins; machine = refl; log = refl; left = refl };
+    began = record {
+      moves = 0;
+      by_now = omega arith;
+      configuration = start;
+      reached = refl;
+      begins = begins;
+      machine = refl;
+      log = refl;
+      left = refl;
+    };
     leaves = subst (λ (d : Phase). LeavesUnits d start) (sym begins) tt;
   }
 
-  recorded-next : (j : ℕ) (m' : Configuration) (o : Option Configuration) → run_of start j ≡ o → ((m : Configuration) → run_of start j ≡ Some m → Recorded start j m)
-      → option_and_then (λ m. next_configuration (move_of m)) o ≡ Some m' → run_of start (suc j) ≡ Some m' → Recorded start (suc j) m'
+  recorded-next : (j : ℕ) (m' : Configuration) (o : Option Configuration) → run_of start j ≡ o
+      → ((m : Configuration) → run_of start j ≡ Some m → Recorded start j m)
+      → option_and_then (λ m. next_configuration (move_of m)) o ≡ Some m' → run_of start (suc j) ≡ Some m'
+      → Recorded start (suc j) m'
   recorded-next j m' None at before e reached = cc
   recorded-next j m' (Some m) at before e reached =
       let r : Recorded start j m = before m at in
@@ -339,21 +395,27 @@ module _ (start : Configuration) (begins : start.phase ≡ steps) (none : start.
   recorded (suc j) m at = recorded-next j m (run_of start j) refl (recorded j) at at
 
   -- the stop of a run that has come this far
-  stopped-by : (m : Configuration) (j : ℕ) → run_of start j ≡ Some m → Recorded start j m → stop_of m ≡ stop_of start → ((m' : Configuration) → move_of m ≡ moves_to m' → IsLastRecord start (stop_of start))
+  stopped-by : (m : Configuration) (j : ℕ) → run_of start j ≡ Some m → Recorded start j m → stop_of m ≡ stop_of start
+      → ((m' : Configuration) → move_of m ≡ moves_to m' → IsLastRecord start (stop_of start))
       → (v : Verdict) → move_of m ≡ v → IsLastRecord start (stop_of start)
   stopped-by m j at r same on (moves_to m') e = on m' e
   stopped-by m j at r same on (stops s m') e =
-      let none-on : run_of start (suc j) ≡ None = ap (λ (o : Option Configuration). option_and_then (λ x. next_configuration (move_of x)) o) at ∙ ap next_configuration e in
-      subst (IsLastRecord start) (sym (stop-comes m m' s e) ∙ same) (stops-so start m j r s m' none-on (subst (Moves m) e (move-moves m r.leaves)))
+      let none-on : run_of start (suc j) ≡ None =
+      ap (λ (o : Option Configuration). option_and_then (λ x. next_configuration (move_of x)) o) at
+      ∙ ap next_configuration e in
+      subst (IsLastRecord start) (sym (stop-comes m m' s e) ∙ same)
+      (stops-so start m j r s m' none-on (subst (Moves m) e (move-moves m r.leaves)))
 
-  stopped : (n : ℕ) (m : Configuration) (j : ℕ) → moves_left m < n → run_of start j ≡ Some m → Recorded start j m → stop_of m ≡ stop_of start → IsLastRecord start (stop_of start)
+  stopped : (n : ℕ) (m : Configuration) (j : ℕ) → moves_left m < n → run_of start j ≡ Some m → Recorded start j m
+      → stop_of m ≡ stop_of start → IsLastRecord start (stop_of start)
   stopped zero m j less at r same = absurd (omega arith)
   stopped (suc n) m j less at r same =
       stopped-by m j at r same
       (λ m' e.
       let near : moves_left m' < moves_left m = goes-nearer m m' e in
       let reached : run_of start (suc j) ≡ Some m' = reached-goes start m m' j at e in
-      stopped n m' (suc j) (omega arith) reached (moves-on start m j r m' reached (subst (Moves m) e (move-moves m r.leaves))) (stop-stays m m' e ∙ same))
+      stopped n m' (suc j) (omega arith) reached
+      (moves-on start m j r m' reached (subst (Moves m) e (move-moves m r.leaves))) (stop-stays m m' e ∙ same))
       (move_of m) refl
 
 -- the last screen is no matter of the record
@@ -363,11 +425,21 @@ shown-last start l = record {
   moves = l.moves;
   left = l.left;
   left_is = l.left_is;
-  is = record { log = l.is.log; log_is = l.is.log_is; none_after = l.is.none_after; units = l.is.units; places = l.is.places; ends = l.is.ends };
+  is = record {
+    log = l.is.log;
+    log_is = l.is.log_is;
+    none_after = l.is.none_after;
+    units = l.is.units;
+    places = l.is.places;
+    ends = l.is.ends;
+  };
 }
 
 -- The law.
 pub records_places : (start : Configuration) → RecordsRun start
 unfolding RecordsRun
-records_places start begins none =
-    ((λ j m at. (recorded start begins none j m at).is), shown-last start (stopped start begins none (suc (moves_left start)) start 0 (omega arith) refl (first-recorded start begins none) refl))
+records_places start begins none = (
+  (λ j m at. (recorded start begins none j m at).is),
+  shown-last start (stopped start begins none (suc (moves_left start)) start 0 (omega arith) refl
+      (first-recorded start begins none) refl),
+)

@@ -41,7 +41,8 @@ asks-same stop.InputEnded m m' machine words = asked-same m m' machine words
 asks-same stop.Stuck m m' machine words = asked-same m m' machine words
 asks-same stop.LineTooLong m m' machine words = asked-same m m' machine words
 
-module _ {K : Type 0} {sending : SendStep K} (start : Configuration) (entry : Handed sending) (h : HeldRun) (d : Handed sending) (asking : Option Asking) (why : Stop) where
+module _ {K : Type 0} {sending : SendStep K} (start : Configuration) (entry : Handed sending) (h : HeldRun)
+    (d : Handed sending) (asking : Option Asking) (why : Stop) where
   module _ (g : HasStopped start entry h asking d why) where
     abbrev at-stop : Configuration
     at-stop = configuration_of g.past g.phase h d
@@ -97,7 +98,8 @@ module _ {K : Type 0} {sending : SendStep K} (start : Configuration) (entry : Ha
         subst (λ (e : RunEnd). IsFront e.configuration.world.text (final_of start).configuration.world.text) g.is_end
         (last-grows start)
 
-    input-then : LeavesInput start.input at-stop.input h.coming entry.source d.source (AwaitedAt start None) (LongAt start None) 0
+    input-then : LeavesInput start.input at-stop.input h.coming entry.source d.source (AwaitedAt start None)
+        (LongAt start None) 0
     input-then =
         input-left start entry h d (AwaitedAt start None) (LongAt start None)
         (λ short. g.few (λ e. short (refl, stop-is ∙ e)))
@@ -110,6 +112,7 @@ module _ {K : Type 0} {sending : SendStep K} (start : Configuration) (entry : Ha
     screen-wants world composed =
         let here : at-stop ≡ (stop_of start).configuration = sym (ap (λ (e : RunEnd). e.configuration) g.is_end) in
         cut-at start entry d (record h { world = world }) asking halt.NoMemory None by_memory at-stop
-        (map whole_send g.past.sent) ((here, composed), asks-end) refl refl refl refl (h.world.text, refl) (none-sent g.past.sent)
+        (map whole_send g.past.sent) ((here, composed), asks-end) refl refl refl refl (h.world.text, refl)
+        (none-sent g.past.sent)
         g.is_past.taken shown-by-then (none-asked d.asked) (λ other. input-then)
         (words-left h.word d.words g.past.words g.is_past.word) g.saves

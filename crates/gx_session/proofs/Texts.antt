@@ -1,5 +1,6 @@
 -- The text of a session grows.
-use Rattle.std.proofs.Common.{ℕ, suc, zero, ◌-◌, nat_lt, if◌then◌else◌, List, [], ◌++◌, Bool, true, false, Option, Some, None, Result, Ok, Err, ◌≡◌, refl, ap, subst, sym, ◌∙◌, append_assoc, append-nil}
+use Rattle.std.proofs.Common.{ℕ, suc, zero, ◌-◌, nat_lt, if◌then◌else◌, List, [], ◌++◌, Bool, true, false, Option}
+use Rattle.std.proofs.Common.{Some, None, Result, Ok, Err, ◌≡◌, refl, ap, subst, sym, ◌∙◌, append_assoc, append-nil}
 use Rattle.gx_words.specs.declared.faults.Fault.{Fault}
 use Rattle.gx_state.specs.declared.effects.Effect.{Effect}
 use Rattle.gx_state.specs.declared.effects.Effect.TheVariants as effect
@@ -37,44 +38,55 @@ abbrev text_in : Verdict → List ℕ
 text_in (moves_to m) = m.world.text
 text_in (stops s m) = m.world.text
 
-replied-grows : (m : Configuration) (left : ℕ) (r : Result (Said × Reply) Fault) → IsFront m.world.text (text_in (after_reply m left r))
+replied-grows : (m : Configuration) (left : ℕ) (r : Result (Said × Reply) Fault)
+    → IsFront m.world.text (text_in (after_reply m left r))
 replied-grows m left (Ok r) = (r.0.1, refl)
 replied-grows m left (Err f) = front-refl m.world.text
 
-restored-grows : (m : Configuration) (left : ℕ) (r : Result (Said × Option Copy) Fault) → IsFront m.world.text (text_in (after_restoring m left r))
+restored-grows : (m : Configuration) (left : ℕ) (r : Result (Said × Option Copy) Fault)
+    → IsFront m.world.text (text_in (after_restoring m left r))
 restored-grows m left (Ok (said, Some copy)) = (said.1, refl)
 restored-grows m left (Ok (said, None)) = (said.1, refl)
 restored-grows m left (Err f) = front-refl m.world.text
 
-turned-grows : (m : Configuration) (w : Waiting) (r : Result (Said × Turn) Fault) → IsFront m.world.text (text_in (after_turn m w r))
+turned-grows : (m : Configuration) (w : Waiting) (r : Result (Said × Turn) Fault)
+    → IsFront m.world.text (text_in (after_turn m w r))
 turned-grows m w r =
     turn-cases (λ v. IsFront m.world.text (text_in v)) m w r (λ said reply. (said.1, refl)) (λ said t. (said.1, refl))
     (λ said t. (said.1 ++ (show_grids said.0).1, append_assoc m.world.text said.1 (show_grids said.0).1))
     (λ said. (said.1, refl)) (λ said. (said.1, refl)) (λ f. front-refl m.world.text)
 
-effected-grows : (m : Configuration) (left : ℕ) (machine : FlatMachine) (does : Effect) → IsFront m.world.text (text_in (after_effect m left (Ok (machine, does))))
+effected-grows : (m : Configuration) (left : ℕ) (machine : FlatMachine) (does : Effect)
+    → IsFront m.world.text (text_in (after_effect m left (Ok (machine, does))))
 effected-grows m left machine effect.Went = front-refl m.world.text
 effected-grows m left machine effect.Drew = front-refl m.world.text
 effected-grows m left machine (effect.Put c) = replied-grows m left (putting m.world.scene m.machine.flat c)
-effected-grows m left machine (effect.Glk selector args room) = turned-grows m (record { room = room; left = left }) (glk_call m.world.scene m.machine.flat room selector args.items)
+effected-grows m left machine (effect.Glk selector args room) =
+    turned-grows m (record { room = room; left = left })
+    (glk_call m.world.scene m.machine.flat room selector args.items)
 effected-grows m left machine (effect.Save stream) = replied-grows m left (saving m.world.scene m.machine.flat stream)
-effected-grows m left machine (effect.Restore stream) = restored-grows m left (restoring m.world.scene m.machine.flat stream)
+effected-grows m left machine (effect.Restore stream) =
+    restored-grows m left (restoring m.world.scene m.machine.flat stream)
 effected-grows m left machine effect.Quit = front-refl m.world.text
 effected-grows m left machine effect.Spent = front-refl m.world.text
 
-stepped-grows : (m : Configuration) (left : ℕ) (r : Result (FlatMachine × Effect) Fault) → IsFront m.world.text (text_in (after_effect m left r))
+stepped-grows : (m : Configuration) (left : ℕ) (r : Result (FlatMachine × Effect) Fault)
+    → IsFront m.world.text (text_in (after_effect m left r))
 stepped-grows m left (Ok r) = effected-grows m left r.0 r.1
 stepped-grows m left (Err f) = front-refl m.world.text
 
-tested-grows : (m : Configuration) (left : ℕ) (r : Result (FlatMachine × Effect) Fault) (b : Bool) → IsFront m.world.text (text_in (if b then stops stop.Spent m else after_effect m left r))
+tested-grows : (m : Configuration) (left : ℕ) (r : Result (FlatMachine × Effect) Fault) (b : Bool)
+    → IsFront m.world.text (text_in (if b then stops stop.Spent m else after_effect m left r))
 tested-grows m left r true = front-refl m.world.text
 tested-grows m left r false = stepped-grows m left r
 
 step-grows : (m : Configuration) → IsFront m.world.text (text_in (step_from m))
-step-grows m = tested-grows m (m.left - cost_of m.machine) (step_of m.machine (next_u32 m.words).0) (nat_lt m.left (cost_of m.machine))
+step-grows m = tested-grows m (m.left - cost_of m.machine) (step_of m.machine (next_u32 m.words).0)
+    (nat_lt m.left (cost_of m.machine))
 
 -- a line that is shown
-shown-grows : (m : Configuration) (chars : List ℕ) (b : Bool) → IsFront m.world.text (if b then after m.world (show_line m.world.scene chars) else m.world).text
+shown-grows : (m : Configuration) (chars : List ℕ) (b : Bool)
+    → IsFront m.world.text (if b then after m.world (show_line m.world.scene chars) else m.world).text
 shown-grows m chars true = ((show_line m.world.scene chars).1, refl)
 shown-grows m chars false = front-refl m.world.text
 
@@ -82,13 +94,15 @@ act-grows : (phase : Phase) (m : Configuration) → IsFront m.world.text (text_i
 act-grows steps m = step-grows m
 act-grows (asks t w) m =
     asking-cases (λ v. IsFront m.world.text (text_in v)) m w t
-    (line-cases (λ v. IsFront m.world.text (text_in v)) m w (next_line m.input) (front-refl m.world.text) (front-refl m.world.text) (λ chars rest. shown-grows m chars m.echo))
+    (line-cases (λ v. IsFront m.world.text (text_in v)) m w (next_line m.input) (front-refl m.world.text)
+    (front-refl m.world.text) (λ chars rest. shown-grows m chars m.echo))
     (λ r. front-refl m.world.text) (front-refl m.world.text)
 act-grows (goes_on g w) m =
     given-cases (λ v. IsFront m.world.text (text_in v)) m w (glk_go_on m.world.scene m.machine.flat w.room g)
     (λ said reply. (said.1, refl)) (front-refl m.world.text) (λ f. front-refl m.world.text)
 
-moved-grows : (m : Configuration) (b : Bool) → IsFront m.world.text (text_in (if b then moves_to (all_sent m) else act_of m))
+moved-grows : (m : Configuration) (b : Bool)
+    → IsFront m.world.text (text_in (if b then moves_to (all_sent m) else act_of m))
 moved-grows m true = front-refl m.world.text
 moved-grows m false = act-grows m.phase m
 
@@ -96,7 +110,9 @@ move-grows : (m : Configuration) → IsFront m.world.text (text_in (move_of m))
 unfolding move_of
 move-grows m = moved-grows m (sends_now m)
 
-after-grows : (v : Verdict) (on : Configuration → RunEnd) → ((m : Configuration) → IsFront m.world.text (on m).configuration.world.text) → IsFront (text_in v) (end_after v on).configuration.world.text
+after-grows : (v : Verdict) (on : Configuration → RunEnd)
+    → ((m : Configuration) → IsFront m.world.text (on m).configuration.world.text)
+    → IsFront (text_in v) (end_after v on).configuration.world.text
 after-grows (moves_to m) on grows = grows m
 after-grows (stops s m) on grows = front-refl m.world.text
 

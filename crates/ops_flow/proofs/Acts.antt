@@ -27,13 +27,15 @@ all_fit = refl
 
 fits : (place : ℕ) → place < row_count → act_fits (row_at place).class (row_at place).act ≡ true
 unfolding row_at
-fits place within = AllPass-from_list_all (λ (r : Row). act_fits r.class r.act) table all_fit place _ (omega (arith, rows_counted))
+fits place within = AllPass-from_list_all (λ (r : Row). act_fits r.class r.act) table all_fit place _
+    (omega (arith, rows_counted))
 
 pub calc_act : (place : ℕ) → place < row_count → (row_at place).class ≡ class.Calc → is_calc (row_at place).act ≡ true
 unfolding act_fits
 calc_act place within is = subst (λ (c : Class). act_fits c (row_at place).act ≡ true) is (fits place within)
 
-pub branch_act : (place : ℕ) → place < row_count → (row_at place).class ≡ class.Branch → is_branch (row_at place).act ≡ true
+pub branch_act : (place : ℕ) → place < row_count → (row_at place).class ≡ class.Branch
+    → is_branch (row_at place).act ≡ true
 unfolding act_fits
 branch_act place within is = subst (λ (c : Class). act_fits c (row_at place).act ≡ true) is (fits place within)
 

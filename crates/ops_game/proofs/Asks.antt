@@ -19,7 +19,8 @@ effect_done old new i (Restore stream) done = absurd done
 effect_done old new i Quit done = tt
 effect_done old new i Spent done = done
 
-pub result_done : (old new : FlatState × FlatUndo) (i : Instruction) (r : Result Effect Fault) → IfOk r IsDone → IfOk r (IsSaveAtMost old new i)
+pub result_done : (old new : FlatState × FlatUndo) (i : Instruction) (r : Result Effect Fault) → IfOk r IsDone
+    → IfOk r (IsSaveAtMost old new i)
 result_done old new i (Ok e) done = effect_done old new i e done
 result_done old new i (Err fault) done = tt
 

@@ -35,29 +35,36 @@ done_within left probes (Err fault) done = tt
 
 -- ---- a search, by what is found within the budget
 
-pub at_charged : (m : Method) (f : FlatState) (i : Instruction) (left address index probes : ℕ) → found_within left (search_by m f i) ≡ Ok (At address index probes)
-    → charged left (search_by m f i).probes f (searches m f i) ≡ lowered left probes (stores f i (if is_indexed m i then index else address))
+pub at_charged : (m : Method) (f : FlatState) (i : Instruction) (left address index probes : ℕ)
+    → found_within left (search_by m f i) ≡ Ok (At address index probes)
+    → charged left (search_by m f i).probes f (searches m f i)
+    ≡ lowered left probes (stores f i (if is_indexed m i then index else address))
 at_charged m f i left address index probes is =
     let told = is_answer left (search_by m f i) (Ok (At address index probes)) is in
     rw (told.0, told.1, le-ltb left probes told.2) refl
 
-pub none_charged : (m : Method) (f : FlatState) (i : Instruction) (left probes : ℕ) → found_within left (search_by m f i) ≡ Ok (Nothing probes)
-    → charged left (search_by m f i).probes f (searches m f i) ≡ lowered left probes (stores f i (if is_indexed m i then 0xFFFFFFFF else 0))
+pub none_charged : (m : Method) (f : FlatState) (i : Instruction) (left probes : ℕ)
+    → found_within left (search_by m f i) ≡ Ok (Nothing probes)
+    → charged left (search_by m f i).probes f (searches m f i)
+    ≡ lowered left probes (stores f i (if is_indexed m i then 0xFFFFFFFF else 0))
 none_charged m f i left probes is =
     let told = is_answer left (search_by m f i) (Ok (Nothing probes)) is in
     rw (told.0, told.1, le-ltb left probes told.2) refl
 
-pub more_charged : (m : Method) (f : FlatState) (i : Instruction) (left : ℕ) → found_within left (search_by m f i) ≡ Ok More
+pub more_charged : (m : Method) (f : FlatState) (i : Instruction) (left : ℕ)
+    → found_within left (search_by m f i) ≡ Ok More
     → charged left (search_by m f i).probes f (searches m f i) ≡ Ok ((f, left), Spent)
 more_charged m f i left is = rw (lt-ltb left _ (is_answer left (search_by m f i) (Ok More) is)) refl
 
-pub fault_charged : (m : Method) (f : FlatState) (i : Instruction) (left : ℕ) (e : Fault) → found_within left (search_by m f i) ≡ Err e
+pub fault_charged : (m : Method) (f : FlatState) (i : Instruction) (left : ℕ) (e : Fault)
+    → found_within left (search_by m f i) ≡ Err e
     → charged left (search_by m f i).probes f (searches m f i) ≡ Err e
 fault_charged m f i left e is =
     let told = is_answer left (search_by m f i) (Err e) is in
     rw (le-ltb left _ told.1, told.0) refl
 
-pub at_within : (left address index probes : ℕ) (s : Search) → found_within left s ≡ Ok (At address index probes) → probes ≤ left
+pub at_within : (left address index probes : ℕ) (s : Search) → found_within left s ≡ Ok (At address index probes)
+    → probes ≤ left
 at_within left address index probes s is = (is_answer left s (Ok (At address index probes)) is).2
 
 pub none_within : (left probes : ℕ) (s : Search) → found_within left s ≡ Ok (Nothing probes) → probes ≤ left
@@ -67,8 +74,10 @@ pub more_within : (left : ℕ) (s : Search) → found_within left s ≡ Ok More 
 more_within left s is = is_answer left s (Ok More) is
 
 -- a search that ends begins no more probes than the budget has
-pub at_enough : (left address index probes : ℕ) (s : Search) → found_within left s ≡ Ok (At address index probes) → s.probes ≤ left
-at_enough left address index probes s is = let told = is_answer left s (Ok (At address index probes)) is in omega (arith, told.1, told.2)
+pub at_enough : (left address index probes : ℕ) (s : Search) → found_within left s ≡ Ok (At address index probes)
+    → s.probes ≤ left
+at_enough left address index probes s is = let told = is_answer left s (Ok (At address index probes)) is in
+    omega (arith, told.1, told.2)
 
 pub none_enough : (left probes : ℕ) (s : Search) → found_within left s ≡ Ok (Nothing probes) → s.probes ≤ left
 none_enough left probes s is = let told = is_answer left s (Ok (Nothing probes)) is in omega (arith, told.1, told.2)
@@ -76,4 +85,16 @@ none_enough left probes s is = let told = is_answer left s (Ok (Nothing probes))
 pub fault_enough : (left : ℕ) (e : Fault) (s : Search) → found_within left s ≡ Err e → s.probes ≤ left
 fault_enough left e s is = (is_answer left s (Err e) is).1
 
-pub ruleset charges = (at_enough, none_enough, fault_enough, at_charged, none_charged, more_charged, fault_charged, at_within, none_within, more_within, done_within)
+pub ruleset charges = (
+  at_enough,
+  none_enough,
+  fault_enough,
+  at_charged,
+  none_charged,
+  more_charged,
+  fault_charged,
+  at_within,
+  none_within,
+  more_within,
+  done_within,
+)

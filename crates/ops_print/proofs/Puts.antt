@@ -30,62 +30,81 @@ either false h k = k
 past : (b : Bool) (x y : Result (FlatState × Effect) Fault) → b ≡ false → Quiet y → Quiet (if b then x else y)
 past b x y not h = subst (λ (c : Bool). Quiet (if c then x else y)) (sym not) h
 
-each : {A : Type 0} (r : Result A Fault) {f : A → Result (FlatState × Effect) Fault} → ((x : A) → Quiet (f x)) → Quiet (r >>= f)
+each : {A : Type 0} (r : Result A Fault) {f : A → Result (FlatState × Effect) Fault} → ((x : A) → Quiet (f x))
+    → Quiet (r >>= f)
 each (Ok x) h = h x
 each (Err fault) h = record { is = tt }
 
 -- ---- what the items do
 
-called : (f : FlatState) (started : Bool) (back : Printing) (at : ℕ) (args : List ℕ) → Quiet (function_called f started back at args)
+called : (f : FlatState) (started : Bool) (back : Printing) (at : ℕ) (args : List ℕ)
+    → Quiet (function_called f started back at args)
 unfolding function_called
-called f started back at args = each (entered f (sp_of f) (ways_back f started back) at args) (λ g. record { is = refl })
+called f started back at args = each (entered f (sp_of f) (ways_back f started back) at args)
+    (λ g. record { is = refl })
 
 ended : (f : FlatState) (started : Bool) → Quiet (item_printed f started End)
 unfolding item_printed
 ended f started = either started (each (inner_ended f) (λ g. record { is = refl })) (record { is = refl })
 
 -- a character under another system than Glk
-dropped : (f : FlatState) (started : Bool) (c : ℕ) (next : Printing) → (f.iosys.0 == glk_system) ≡ false → Quiet (character_printed f started c next)
+dropped : (f : FlatState) (started : Bool) (c : ℕ) (next : Printing) → (f.iosys.0 == glk_system) ≡ false
+    → Quiet (character_printed f started c next)
 unfolding character_printed
 dropped f started c next other =
-    either (f.iosys.0 == filter_system) (called f started next f.iosys.1 _) (past (f.iosys.0 == glk_system) _ _ other (record { is = refl }))
+    either (f.iosys.0 == filter_system) (called f started next f.iosys.1 _)
+    (past (f.iosys.0 == glk_system) _ _ other (record { is = refl }))
 
 true_is_not_false : true ≡ false → ⊥
 true_is_not_false same = cc
 
 -- an item that is neither a character nor the end, or that is printed under another system than Glk
-other : (f : FlatState) (started : Bool) (i : Item) → is_char_or_end (Ok i) ≡ false ⊎ ((f.iosys.0 == glk_system) ≡ false) → Quiet (item_printed f started i)
+other : (f : FlatState) (started : Bool) (i : Item) → is_char_or_end (Ok i) ≡ false
+    ⊎ ((f.iosys.0 == glk_system) ≡ false) → Quiet (item_printed f started i)
 unfolding item_printed
 other f started (Char c next) (inl plain) = absurd (true_is_not_false plain)
 other f started (Char c next) (inr system) = dropped f started c next system
 other f started (Sub back inner) h = each (pushed_stubs f (ways_back f started back)) (λ g. record { is = refl })
-other f started (Call back at args_at count) h = each (words_in f.memory args_at (min count 256)) (λ args. called f started back at args)
+other f started (Call back at args_at count) h =
+    each (words_in f.memory args_at (min count 256)) (λ args. called f started back at args)
 other f started End (inl plain) = absurd (true_is_not_false plain)
 other f started End (inr system) = ended f started
 
 -- ---- a step of printing
 
-step : (f : FlatState) (p : Printing) (r : Result Item Fault) → is_char_or_end r ≡ false ⊎ ((f.iosys.0 == glk_system) ≡ false) → Quiet (r >>= item_printed f p.started)
+step : (f : FlatState) (p : Printing) (r : Result Item Fault)
+    → is_char_or_end r ≡ false ⊎ ((f.iosys.0 == glk_system) ≡ false) → Quiet (r >>= item_printed f p.started)
 step f p (Ok i) h = other f p.started i h
 step f p (Err fault) h = record { is = tt }
 
-printed-is : (f : FlatState) (p : Printing) → f.mode ≡ mode.Printing p → Quiet (item f p) → IfOk (printed f) (λ r. is_put r.1 ≡ false)
+printed-is : (f : FlatState) (p : Printing) → f.mode ≡ mode.Printing p → Quiet (item f p)
+    → IfOk (printed f) (λ r. is_put r.1 ≡ false)
 printed-is f p mode h = (subst (λ (m : Mode). Quiet (item_by f m)) (sym mode) h).is
 
-pub quiet_item : (f : FlatState) (p : Printing) → f.mode ≡ mode.Printing p → is_char_or_end (next_item f.memory f.table p) ≡ false → IfOk (printed f) (λ r. is_put r.1 ≡ false)
+pub quiet_item : (f : FlatState) (p : Printing) → f.mode ≡ mode.Printing p
+    → is_char_or_end (next_item f.memory f.table p) ≡ false → IfOk (printed f) (λ r. is_put r.1 ≡ false)
 unfolding item
-quiet_item f p mode none = printed-is f p mode (either (is_printing_place p.kind p.bit) (step f p (next_item f.memory f.table p) (inl none)) (record { is = tt }))
+quiet_item f p mode none = printed-is f p mode
+    (either (is_printing_place p.kind p.bit) (step f p (next_item f.memory f.table p) (inl none)) (record { is = tt }))
 
-pub quiet_system : (f : FlatState) (p : Printing) → f.mode ≡ mode.Printing p → (f.iosys.0 == glk_system) ≡ false → IfOk (printed f) (λ r. is_put r.1 ≡ false)
+pub quiet_system : (f : FlatState) (p : Printing) → f.mode ≡ mode.Printing p → (f.iosys.0 == glk_system) ≡ false
+    → IfOk (printed f) (λ r. is_put r.1 ≡ false)
 unfolding item
-quiet_system f p mode system = printed-is f p mode (either (is_printing_place p.kind p.bit) (step f p (next_item f.memory f.table p) (inr system)) (record { is = tt }))
+quiet_system f p mode system = printed-is f p mode
+    (either (is_printing_place p.kind p.bit) (step f p (next_item f.memory f.table p) (inr system))
+    (record { is = tt }))
 
-pub quiet_place : (f : FlatState) (p : Printing) → f.mode ≡ mode.Printing p → is_printing_place p.kind p.bit ≡ false → IfOk (printed f) (λ r. is_put r.1 ≡ false)
+pub quiet_place : (f : FlatState) (p : Printing) → f.mode ≡ mode.Printing p → is_printing_place p.kind p.bit ≡ false
+    → IfOk (printed f) (λ r. is_put r.1 ≡ false)
 unfolding item
 quiet_place f p mode place = printed-is f p mode (past (is_printing_place p.kind p.bit) _ _ place (record { is = tt }))
 
-pub quiet_end : (f : FlatState) (p : Printing) → f.mode ≡ mode.Printing p → next_item f.memory f.table p ≡ Ok End → IfOk (printed f) (λ r. is_put r.1 ≡ false)
+pub quiet_end : (f : FlatState) (p : Printing) → f.mode ≡ mode.Printing p → next_item f.memory f.table p ≡ Ok End
+    → IfOk (printed f) (λ r. is_put r.1 ≡ false)
 unfolding item
-quiet_end f p mode is = printed-is f p mode (either (is_printing_place p.kind p.bit) (subst (λ (r : Result Item Fault). Quiet (r >>= item_printed f p.started)) (sym is) (ended f p.started)) (record { is = tt }))
+quiet_end f p mode is = printed-is f p mode
+    (either (is_printing_place p.kind p.bit)
+    (subst (λ (r : Result Item Fault). Quiet (r >>= item_printed f p.started)) (sym is) (ended f p.started))
+    (record { is = tt }))
 
 pub ruleset quiet = (quiet_item, quiet_system, quiet_place, quiet_end)

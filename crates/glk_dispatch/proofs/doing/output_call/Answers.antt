@@ -48,7 +48,8 @@ returns-in-131-clause-value g c =
 pub returns-in-132-clause-value : goal.returns-in-132-clause-value
 unfolding text_calls
 returns-in-132-clause-value g c =
-    rw c.in-132.is (rw (c.current-current.ensures, c.arg-first.ensures, c.arg-second.ensures) at c.put_buffer.ensures.value)
+    rw c.in-132.is (rw (c.current-current.ensures, c.arg-first.ensures, c.arg-second.ensures) at
+    c.put_buffer.ensures.value)
 
 pub returns-in-133-clause-value : goal.returns-in-133-clause-value
 unfolding text_calls

@@ -59,7 +59,8 @@ returns-in-297-clause-value g c =
 pub returns-in-298-clause-value : goal.returns-in-298-clause-value
 unfolding unicode_calls
 returns-in-298-clause-value g c =
-    rw c.in-298.is (rw (c.current-current.ensures, c.arg-first.ensures, c.arg-second.ensures) at c.put_buffer.ensures.value)
+    rw c.in-298.is (rw (c.current-current.ensures, c.arg-first.ensures, c.arg-second.ensures) at
+    c.put_buffer.ensures.value)
 
 pub returns-in-299-clause-value : goal.returns-in-299-clause-value
 unfolding unicode_calls

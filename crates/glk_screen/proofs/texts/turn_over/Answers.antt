@@ -22,5 +22,6 @@ returns-clause-rest c =
     (rw c.deref.ensures.value at c.behind_paragraph.ensures.within) in
     let old = sym c.deref.ensures.len ∙ ap length c.deref.ensures.value in
     moved_and_set _ _ _ _ _ _ _ (omega (arith, more)) within old
-    (ap (λ (n : ℕ). n - (c.args.start + c.behind_paragraph.result)) c.len-2.ensures) c.copy_within.ensures.items c.truncate.ensures.items
+    (ap (λ (n : ℕ). n - (c.args.start + c.behind_paragraph.result)) c.len-2.ensures) c.copy_within.ensures.items
+    c.truncate.ensures.items
     ∙ ap (λ (r : List ℕ). r ++ 0x0A ∷ []) (start_past xs c.args.start c.behind_paragraph.result rest)

@@ -2,7 +2,8 @@ use Rattle.std.proofs.Common.{◌≡◌, ◌≤◌, sym, true, false, rules, Som
 use Rattle.std.proofs.lemmas.Result.{err_from_is_err_and}
 use Rattle.glk_streams.specs.Stream as one
 use Rattle.glk_streams.specs.Streams as streams
-use Rattle.glk_text_calls.proofs.Reading.{next_char, ends_line, begins, goes, counted_all, kept_all, counted_none, kept_none, counted_stop, kept_stop, reads_fail}
+use Rattle.glk_text_calls.proofs.Reading.{next_char, ends_line, begins, goes, counted_all, kept_all, counted_none}
+use Rattle.glk_text_calls.proofs.Reading.{kept_none, counted_stop, kept_stop, reads_fail}
 use Rattle.glk_text_calls.proofs.input.read_on.Goals as goal
 
 pub returns-in_err-c-clause-value : goal.returns-in_err-c-clause-value
@@ -34,7 +35,8 @@ returns-then-ends_line-clause-value g c =
     let s = streams.stream c.args.all.now c.args.stream in
     let some : next_char c.args.state.now.flat c.args.places s c.loop-i.i c.loop-i.position
     ≡ Ok (Some (c.in-Some.c, c.in-Some.next)) = search rules in
-    let ends : ends_line c.args.stops c.in-Some.c ≡ true = sym {b = ends_line c.args.stops c.in-Some.c} c.if-ends_line.ensures in
+    let ends : ends_line c.args.stops c.in-Some.c ≡ true =
+    sym {b = ends_line c.args.stops c.in-Some.c} c.if-ends_line.ensures in
     counted_stop c.args.most c.args.stops c.args.state.now.flat c.args.places s c.loop-i.i c.loop-i.position
     c.loop-i.chars c.loop-i.invariant c.in-Some.c c.in-Some.next c.kept-chars.result c.loop-i-test.true some ends
     c.kept-chars.ensures
@@ -44,7 +46,8 @@ returns-then-ends_line-clause-chars g c =
     let s = streams.stream c.args.all.now c.args.stream in
     let some : next_char c.args.state.now.flat c.args.places s c.loop-i.i c.loop-i.position
     ≡ Ok (Some (c.in-Some.c, c.in-Some.next)) = search rules in
-    let ends : ends_line c.args.stops c.in-Some.c ≡ true = sym {b = ends_line c.args.stops c.in-Some.c} c.if-ends_line.ensures in
+    let ends : ends_line c.args.stops c.in-Some.c ≡ true =
+    sym {b = ends_line c.args.stops c.in-Some.c} c.if-ends_line.ensures in
     kept_stop c.args.most c.args.stops c.args.state.now.flat c.args.places s c.loop-i.i c.loop-i.position c.loop-i.chars
     c.loop-i.invariant c.in-Some.c c.in-Some.next c.kept-chars.result c.loop-i-test.true some ends
     c.kept-chars.ensures
@@ -66,7 +69,8 @@ loop-i-preserved g c =
     let s = streams.stream c.args.all.now c.args.stream in
     let some : next_char c.args.state.now.flat c.args.places s c.loop-i.i c.loop-i.position
     ≡ Ok (Some (c.in-Some.c, c.in-Some.next)) = search rules in
-    let on : ends_line c.args.stops c.in-Some.c ≡ false = sym {b = ends_line c.args.stops c.in-Some.c} c.if-ends_line.ensures in
+    let on : ends_line c.args.stops c.in-Some.c ≡ false =
+    sym {b = ends_line c.args.stops c.in-Some.c} c.if-ends_line.ensures in
     let within : c.in-Some.next ≤ one.end_position s = search rules in
     goes c.args.most c.args.stops c.args.state.now.flat c.args.places s c.loop-i.i c.loop-i.position
     c.loop-i.chars c.loop-i.invariant c.in-Some.c c.in-Some.next c.kept-chars.result c.loop-i-test.true some on

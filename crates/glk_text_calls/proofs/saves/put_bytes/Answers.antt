@@ -12,7 +12,8 @@ returns-in_err-can_lay-clause-value g c =
 pub returns-in_err-put_bytes-clause-value : goal.returns-in_err-put_bytes-clause-value
 returns-in_err-put_bytes-clause-value g c =
     let p = err_from_is_err_and c.from_residual-in_err-put_bytes.result c.from_residual-in_err-put_bytes.ensures.1 in
-    rw (p.1, p.2) (put_wanted {wants = c.args.bytes.now ≢ []} _ _ _ _ _ _ _ c.in_err-put_bytes.ensures.memory c.places-places.ensures.value
+    rw (p.1, p.2) (put_wanted {wants = c.args.bytes.now ≢ []} _ _ _ _ _ _ _ c.in_err-put_bytes.ensures.memory
+    c.places-places.ensures.value
     (omega (arith, c.requires.few)) c.requires.there c.in_ok-can_lay.ensures.value)
 
 pub returns-clause-value : goal.returns-clause-value

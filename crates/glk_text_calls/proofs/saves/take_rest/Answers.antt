@@ -17,4 +17,5 @@ returns-in_err-bytes g c =
 
 pub take_chars-requires-clause-width : goal.take_chars-requires-clause-width
 take_chars-requires-clause-width g c = width_read
-    c.args.world.now.scene c.args.stream c.rest_len-most.result c.places_read-places.result c.places_read-places.ensures.value
+    c.args.world.now.scene c.args.stream c.rest_len-most.result c.places_read-places.result
+    c.places_read-places.ensures.value

@@ -4,4 +4,5 @@ use Rattle.glk_world.specs.Calls.{without_each}
 use Rattle.glk_world.proofs.objects.drop_texts.Given as goal
 
 abbrev pub invariant-loop-win : goal.invariant-loop-win
-invariant-loop-win l = without_each screen_gone l.screen (drop l.win-index l.gone) ≡ without_each screen_gone l.fn.screen l.gone
+invariant-loop-win l = without_each screen_gone l.screen (drop l.win-index l.gone)
+    ≡ without_each screen_gone l.fn.screen l.gone

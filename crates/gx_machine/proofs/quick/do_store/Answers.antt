@@ -5,4 +5,5 @@ use Rattle.gx_machine.proofs.quick.do_store.Goals as goal
 
 pub returns-in-Memory-clause-value : goal.returns-in-Memory-clause-value
 returns-in-Memory-clause-value g c =
-    size_stored _ _ _ _ _ _ _ c.in-Memory.is c.if-row-eq-GETMEMSIZE.true (c.size-size.ensures.value ∙ ap length c.memory.ensures.value) c.store_on.ensures.value
+    size_stored _ _ _ _ _ _ _ c.in-Memory.is c.if-row-eq-GETMEMSIZE.true
+    (c.size-size.ensures.value ∙ ap length c.memory.ensures.value) c.store_on.ensures.value

@@ -9,4 +9,7 @@ pub returns-in_err-set_local-in-Local-clause-value : goal.returns-in_err-set_loc
 returns-in_err-set_local-in-Local-clause-value g c =
     let p = err_from_is_err_and c.from_residual.result c.from_residual.ensures.1 in
     let e = c.in_err-set_local-in-Local.ensures.value in
-    rw (p.1, p.2, c.in-Local.is) (ap (λ (h : HeldState). h.flat) e.0, ((λ given. no_local _ _ _ _ _ _ e.1), (λ none. absurd (e.2 none))))
+    rw (p.1, p.2, c.in-Local.is) (
+      ap (λ (h : HeldState). h.flat) e.0,
+      ((λ given. no_local _ _ _ _ _ _ e.1), (λ none. absurd (e.2 none))),
+    )

@@ -11,7 +11,9 @@ returns-clause-pends g c =
     let f = c.args.state.now.flat in
     let sp = c.args.plan.now.sp - 4 * c.load-count.result in
     let stores : store_fault f 4 c.args.plan.now.dest sp ≡ Ok tt = c.in_ok-can_store.ensures in
-    let limit : c.limit-limit.result ≡ f.stack.limit = c.limit-limit.ensures.value ∙ ap (λ (s : FlatStack). s.limit) c.stack.ensures.value in
+    let limit : c.limit-limit.result ≡ f.stack.limit =
+    c.limit-limit.ensures.value ∙ ap (λ (s : FlatStack). s.limit) c.stack.ensures.value in
     let below : sp ≤ f.stack.limit = omega (arith, c.in_ok-args.ensures.below.there, c.stack.ensures.sound.height) in
     let fits = (rw limit at c.room_above-room.ensures.fits) (store_fits f c.args.plan.now.dest sp stores below) in
-    glk_pends f (instruction_of c.args.plan.now) c.load-count.result c.room_above-room.result c.requires.running c.requires.decoded c.requires.class c.load-count.ensures c.in_ok-args.ensures.below stores fits
+    glk_pends f (instruction_of c.args.plan.now) c.load-count.result c.room_above-room.result c.requires.running
+    c.requires.decoded c.requires.class c.load-count.ensures c.in_ok-args.ensures.below stores fits

@@ -14,5 +14,7 @@ returns-clause-pends g c =
     let sound = c.stack.ensures.sound in
     let values : (frame_of f).values ≤ sp_of f = (sound.framed.good c.requires.live).whole in
     rw (c.put_pending.ensures, c.size-sp.ensures.value, c.stack.ensures.value, c.pc.ensures)
-    (subst (λ (m : Mode). IsPendingAnswer f (record { asking = asking.Put; sp = sp_of f; dest = Nowhere; next = f.pc; mode = m })) c.in_ok-c.ensures.mode
-    (item_pends f f refl (printing_of f f.mode _ c.in_ok-c.ensures.value) c.requires.live values sound.aligned sound.height))
+    (subst (λ (m : Mode). IsPendingAnswer f
+    (record { asking = asking.Put; sp = sp_of f; dest = Nowhere; next = f.pc; mode = m })) c.in_ok-c.ensures.mode
+    (item_pends f f refl (printing_of f f.mode _ c.in_ok-c.ensures.value) c.requires.live values sound.aligned
+    sound.height))

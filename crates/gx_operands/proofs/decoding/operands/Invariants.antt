@@ -6,7 +6,8 @@ use Rattle.gx_operands.proofs.decoding.operands.Given as goal
 
 abbrev pub invariant-loop-i : goal.invariant-loop-i
 invariant-loop-i g l = record {
-  same : operands l.state.flat l.row l.modes (l.count - l.i) l.i (operands_of l.plan) ≡ operands l.fn.state.flat l.fn.row l.modes l.count 0 (operands_of l.fn.plan);
+  same : operands l.state.flat l.row l.modes (l.count - l.i) l.i (operands_of l.plan)
+      ≡ operands l.fn.state.flat l.fn.row l.modes l.count 0 (operands_of l.fn.plan);
   room : length l.plan.loads.items ≤ l.i;
   row : l.plan.row ≡ l.fn.plan.row;
   popped : HasValues l.state.flat l.plan.popped;

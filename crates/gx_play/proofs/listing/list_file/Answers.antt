@@ -14,7 +14,9 @@ returns-in-Err g c =
     (called-as g.F.Shelf.called c.args.shelf.now c.load_story.new.shelf _ _ c.in-Err.ensures.value
     (λ asked l d.
     let e : Devices = record d { sink = g.K.Sink.seen c.args.output.now } in
-    refused-done c.without_story.result ceiling story_in_file (command_seen c.args.command) e (g.F.Shelf.seen c.args.shelf.now) (g.F.Shelf.seen c.load_story.new.shelf) asked Listing c.in-Err.refusal l c.in-Err.ensures.count c.in-Err.ensures.fault c.without_story.ensures
+    refused-done c.without_story.result ceiling story_in_file (command_seen c.args.command) e
+    (g.F.Shelf.seen c.args.shelf.now) (g.F.Shelf.seen c.load_story.new.shelf) asked Listing c.in-Err.refusal l
+    c.in-Err.ensures.count c.in-Err.ensures.fault c.without_story.ensures
     (λ fault bad. ap outcome_of_list bad) (λ x. x) (refl, l.handed)))
 
 pub returns-in-Ok : goal.returns-in-Ok
@@ -24,5 +26,7 @@ returns-in-Ok g c =
     (λ sends told.
     called-as g.F.Shelf.called c.args.shelf.now c.load_story.new.shelf _ _ c.in-Ok.ensures.value
     (λ asked l d.
-    list-told c.send_listing.result (command_seen c.args.command) d (g.F.Shelf.seen c.args.shelf.now) (g.F.Shelf.seen c.load_story.new.shelf) (g.K.Sink.seen c.args.output.now) (g.K.Sink.seen c.send_listing.new.output) sends asked
+    list-told c.send_listing.result (command_seen c.args.command) d (g.F.Shelf.seen c.args.shelf.now)
+    (g.F.Shelf.seen c.load_story.new.shelf) (g.K.Sink.seen c.args.output.now)
+    (g.K.Sink.seen c.send_listing.new.output) sends asked
     t.blames c.in-Ok.story l c.in-Ok.ensures.count t.number told))

@@ -14,8 +14,10 @@ returns-clause-rewound g c =
     called-as g.K.Sink.called c.args.output.now c.send_output-sent.new.output _ _ c.send_output-sent.ensures.sends
     (λ sends told.
     rewound-told c.after_run-else-sent-eq-ENDED.result c.args.back r before now sends (omega (arith, early))
-    (line-unsent c.after_run-else-sent-eq-ENDED.result c.send_output-sent.result (line_of c.args.back r) r before now sends
-    (rw (c.as_bytes.ensures.value, c.in-Ok.ensures) at told) c.if-sent-eq-ENDED.false c.after_run-else-sent-eq-ENDED.ensures))
+    (line-unsent c.after_run-else-sent-eq-ENDED.result c.send_output-sent.result
+    (line_of c.args.back r) r before now sends
+    (rw (c.as_bytes.ensures.value, c.in-Ok.ensures) at told) c.if-sent-eq-ENDED.false
+    c.after_run-else-sent-eq-ENDED.ensures))
 
 pub returns-then-status-ge-SHELF_FAULT-clause-rewound : goal.returns-then-status-ge-SHELF_FAULT-clause-rewound
 returns-then-status-ge-SHELF_FAULT-clause-rewound g c =
@@ -27,7 +29,10 @@ pub returns-in_default-clause-rewound : goal.returns-in_default-clause-rewound
 returns-in_default-clause-rewound g c =
     let below = c.if-status-ge-SHELF_FAULT.false in
     called-none g.K.Sink.called c.args.output.now _
-    (record { told = λ _. inr (c.after_run-in_default.ensures, refl, refl); early = λ late. absurd (omega (arith, below, late)) })
+    (record {
+      told = λ _. inr (c.after_run-in_default.ensures, refl, refl);
+      early = λ late. absurd (omega (arith, below, late));
+    })
 
 pub returns-then-sent-eq-ENDED-clause-rewound : goal.returns-then-sent-eq-ENDED-clause-rewound
 returns-then-sent-eq-ENDED-clause-rewound g c =
@@ -38,5 +43,7 @@ returns-then-sent-eq-ENDED-clause-rewound g c =
     called-as g.K.Sink.called c.args.output.now c.send_output-sent.new.output _ _ c.send_output-sent.ensures.sends
     (λ sends told.
     rewound-told c.after_run-then-sent-eq-ENDED.result c.args.back r before now sends (omega (arith, early))
-    (line-whole c.after_run-then-sent-eq-ENDED.result c.send_output-sent.result (line_of c.args.back r) r before now sends
-    (rw (c.as_bytes.ensures.value, c.in-Ok.ensures) at told) c.if-sent-eq-ENDED.true c.after_run-then-sent-eq-ENDED.ensures))
+    (line-whole c.after_run-then-sent-eq-ENDED.result c.send_output-sent.result
+    (line_of c.args.back r) r before now sends
+    (rw (c.as_bytes.ensures.value, c.in-Ok.ensures) at told) c.if-sent-eq-ENDED.true
+    c.after_run-then-sent-eq-ENDED.ensures))

@@ -47,4 +47,5 @@ returns c =
     let words = map (λ w. w.now) c.args.words.now in
     let P : App → Type 0 = λ a. HasKind (fault_of a words) c.in-Err.error in
     let h : HasKind (fault_of player words) c.in-Err.error = subst P app (c.in-Err.ensures.kinds (free_app _ app)) in
-    no_command words (has_some (fault_of player words) c.in-Err.error (λ e. c.in_default.not-OutOfMemory (c.kind.ensures ∙ e)) h)
+    no_command words (has_some (fault_of player words) c.in-Err.error
+    (λ e. c.in_default.not-OutOfMemory (c.kind.ensures ∙ e)) h)

@@ -13,4 +13,5 @@ invariant_of-result g c = record {
 }
 
 pub returns : goal.returns
-returns g c = ap (λ (log : Log). let t : FlatTape = record { whole = c.args.machine; log = log } in t) (logged c.in_ok-book.book c.args.machine.machine no_events c.in_ok-book.ensures)
+returns g c = ap (λ (log : Log). let t : FlatTape = record { whole = c.args.machine; log = log } in t)
+    (logged c.in_ok-book.book c.args.machine.machine no_events c.in_ok-book.ensures)

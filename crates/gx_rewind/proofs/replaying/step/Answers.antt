@@ -9,7 +9,8 @@ wanted-requires g c = wants-quiet g.row.A.Denot c.args.spot.now.machine _ _ _ c.
 
 pub overflow_sub-spot : goal.overflow_sub-spot
 overflow_sub-spot g c =
-    left-within c.args.spot.now.units c.args.limit c.step.new.budget c.args.spot.now.machine c.step.new.self _ c.in-Ok.effect c.in_default.not-Spent c.in-Ok.ensures.step
+    left-within c.args.spot.now.units c.args.limit c.step.new.budget c.args.spot.now.machine c.step.new.self _
+    c.in-Ok.effect c.in_default.not-Spent c.in-Ok.ensures.step
 
 pub returns-in-Spent : goal.returns-in-Spent
 returns-in-Spent g c =
@@ -18,4 +19,5 @@ returns-in-Spent g c =
 
 pub returns-in_ok-settle-in_default : goal.returns-in_ok-settle-in_default
 returns-in_ok-settle-in_default g c =
-    step-made g.row.A.Denot c.args.spot.now c.args.limit c.step.new.budget c.step.new.self c.settle.new.machine c.in-Ok.effect c.requires.before c.in-Ok.ensures.step c.in_default.not-Spent c.in_ok-settle-in_default.ensures
+    step-made g.row.A.Denot c.args.spot.now c.args.limit c.step.new.budget c.step.new.self c.settle.new.machine
+    c.in-Ok.effect c.requires.before c.in-Ok.ensures.step c.in_default.not-Spent c.in_ok-settle-in_default.ensures

@@ -22,7 +22,8 @@ returns-in_err-end_text-clause-plays g c =
     let now : Handed g.K.Sink.called = record d { sink = c.args.output.now; shelf = g.F.Shelf.seen c.args.shelf.now } in
     let h : HeldRun = held_by g.E.Engine.whole g.E.Engine.log c.args.run.now coming in
     let asking = asking_in g.E.Engine.whole c.args.run.now in
-    asked-none now (λ (e : Handed g.K.Sink.called). Early start entry (record h { world = c.end_text.new.self }) asking e halt.NoMemory)
+    asked-none now (λ (e : Handed g.K.Sink.called).
+    Early start entry (record h { world = c.end_text.new.self }) asking e halt.NoMemory)
     (screen-wants start entry h now asking why done c.end_text.new.self c.in_err-end_text.ensures.memory)))
 
 pub returns-in_err-flush-clause-plays : goal.returns-in_err-flush-clause-plays
@@ -36,7 +37,8 @@ returns-in_err-flush-clause-plays g c =
     let h : HeldRun = held_by g.E.Engine.whole g.E.Engine.log c.args.run.now coming in
     let asking = asking_in g.E.Engine.whole c.args.run.now in
     asked-none (record now { sink = c.flush.new.output })
-    (λ (e : Handed g.K.Sink.called). Early start entry (record h { world = c.flush.new.world }) asking e c.in_err-flush.field-0.0)
+    (λ (e : Handed g.K.Sink.called). Early start entry
+    (record h { world = c.flush.new.world }) asking e c.in_err-flush.field-0.0)
     (cut-end start entry (record h { world = world }) now c.flush.new.world c.flush.new.output asking why
     (screen-shown start entry h now asking why done world c.in_ok-end_text.ensures.ok)
     c.in_err-flush.field-0.0 c.in_err-flush.ensures.only c.in_err-flush.ensures.sends)))
@@ -59,8 +61,12 @@ pub returns-clause-keeps : goal.returns-clause-keeps
 returns-clause-keeps g c d =
     let a : Devices = record d { sink = g.K.Sink.seen c.args.output.now; shelf = g.F.Shelf.seen c.args.shelf.now } in
     let b : Devices = record d { sink = g.K.Sink.seen c.flush.new.output; shelf = g.F.Shelf.seen c.args.shelf.now } in
-    let e : Devices = record d { sink = g.K.Sink.seen c.flush.new.output; shelf = g.F.Shelf.seen c.store_files.new.shelf } in
+    let e : Devices = record d {
+      sink = g.K.Sink.seen c.flush.new.output;
+      shelf = g.F.Shelf.seen c.store_files.new.shelf;
+    } in
     let ok : Result (Unit {0}) Halt = Ok tt in
     keeps-after a b e c.store_files.result
-    (stays-of {T = Unit {0}} a b tt (keeps-sink a (g.K.Sink.seen c.args.output.now) (g.K.Sink.seen c.flush.new.output) ok c.in_ok-flush.ensures.count c.in_ok-flush.ensures.tells tt))
+    (stays-of {T = Unit {0}} a b tt (keeps-sink a (g.K.Sink.seen c.args.output.now)
+    (g.K.Sink.seen c.flush.new.output) ok c.in_ok-flush.ensures.count c.in_ok-flush.ensures.tells tt))
     (c.store_files.ensures.keeps (record d { sink = g.K.Sink.seen c.flush.new.output }))

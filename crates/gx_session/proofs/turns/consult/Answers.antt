@@ -24,8 +24,10 @@ returns-in_err-flush-clause-plays g c =
     let h : HeldRun = held_by g.E.Engine.whole g.E.Engine.log c.args.run.now coming in
     let asking = asking_in g.E.Engine.whole c.args.run.now in
     asked-none (record now { sink = c.flush.new.output })
-    (λ (e : Handed g.K.Sink.called). Early start entry (record h { world = c.flush.new.world }) asking e c.in_err-flush.field-0.0)
-    (text-refused start entry h asking now (turn_of c.args.question) c.args.wait waits c.flush.new.world c.flush.new.output
+    (λ (e : Handed g.K.Sink.called). Early start entry
+    (record h { world = c.flush.new.world }) asking e c.in_err-flush.field-0.0)
+    (text-refused start entry h asking now (turn_of c.args.question) c.args.wait waits c.flush.new.world
+    c.flush.new.output
     c.in_err-flush.field-0.0 c.in_err-flush.ensures.only c.in_err-flush.ensures.sends)))
 
 pub returns-in_err-given-clause-plays : goal.returns-in_err-given-clause-plays
@@ -40,8 +42,10 @@ returns-in_err-given-clause-plays g c =
     let shelf = g.F.Shelf.seen c.ask.new.shelf in
     let exit : Handed g.K.Sink.called = record now { sink = c.flush.new.output; shelf = shelf } in
     let fault = c.in_err-given.field-0.0 in
-    subst (λ (t : Trace). Early start entry (record h { world = c.flush.new.world }) asking (record exit { asked = d.asked ++ t }) (halt_of_shelf fault)) (sym once)
-    (shelf-refused start entry h asking now (turn_of c.args.question) c.args.wait waits c.flush.new.world c.flush.new.output c.in_ok-flush.ensures.sends
+    subst (λ (t : Trace). Early start entry (record h { world = c.flush.new.world }) asking
+    (record exit { asked = d.asked ++ t }) (halt_of_shelf fault)) (sym once)
+    (shelf-refused start entry h asking now (turn_of c.args.question) c.args.wait waits c.flush.new.world
+    c.flush.new.output c.in_ok-flush.ensures.sends
     shelf c.args.question refl fault (subst (AreTold start.answers d.asked) once told))))
 
 pub returns-clause-plays : goal.returns-clause-plays
@@ -55,11 +59,15 @@ returns-clause-plays g c =
     let shelf = g.F.Shelf.seen c.ask.new.shelf in
     let mid : Handed g.K.Sink.called = record now { sink = c.flush.new.output; shelf = shelf } in
     let answered =
-    shelf-answered start entry h asking now (turn_of c.args.question) c.args.wait waits c.flush.new.world c.flush.new.output c.in_ok-flush.ensures.sends
+    shelf-answered start entry h asking now (turn_of c.args.question) c.args.wait waits c.flush.new.world
+    c.flush.new.output c.in_ok-flush.ensures.sends
     shelf c.args.question refl once.0 (subst (AreTold start.answers d.asked) once.1 told) in
     c.go_on.ensures.plays coming start entry (record mid { asked = d.asked ++ calls })
-    (subst (λ (t : Trace). IsInCall start entry h1 asking (record mid { asked = d.asked ++ t }) (goes_on c.in_ok-given.given c.args.wait)) (sym once.1)
-    (subst (λ (x : Given). IsInCall start entry h1 asking (record mid { asked = d.asked ++ (request_for c.args.question, Ok once.0) ∷ [] }) (goes_on x c.args.wait)) (sym once.2) answered)))
+    (subst (λ (t : Trace). IsInCall start entry h1 asking (record mid { asked = d.asked ++ t })
+    (goes_on c.in_ok-given.given c.args.wait)) (sym once.1)
+    (subst (λ (x : Given). IsInCall start entry h1 asking
+    (record mid { asked = d.asked ++ (request_for c.args.question, Ok once.0) ∷ [] }) (goes_on x c.args.wait))
+    (sym once.2) answered)))
 
 pub returns-clause-keeps : goal.returns-clause-keeps
 returns-clause-keeps g c d =
@@ -69,5 +77,8 @@ returns-clause-keeps g c d =
     let f : Devices = record d { sink = g.K.Sink.seen c.go_on.new.output; shelf = g.F.Shelf.seen c.ask.new.shelf } in
     let ok : Result (Unit {0}) Halt = Ok tt in
     keeps-after a b f c.go_on.result
-    (stays-of {T = Unit {0}} a b tt (keeps-sink a (g.K.Sink.seen c.args.output.now) (g.K.Sink.seen c.flush.new.output) ok c.in_ok-flush.ensures.count c.in_ok-flush.ensures.tells tt))
-    (keeps-after b e f c.go_on.result (stays-shelf b (g.F.Shelf.seen c.args.shelf.now) (g.F.Shelf.seen c.ask.new.shelf) c.in_ok-given.ensures.cause c.in_ok-given.ensures.tells) (c.go_on.ensures.keeps (record d { shelf = g.F.Shelf.seen c.ask.new.shelf })))
+    (stays-of {T = Unit {0}} a b tt (keeps-sink a (g.K.Sink.seen c.args.output.now)
+    (g.K.Sink.seen c.flush.new.output) ok c.in_ok-flush.ensures.count c.in_ok-flush.ensures.tells tt))
+    (keeps-after b e f c.go_on.result (stays-shelf b (g.F.Shelf.seen c.args.shelf.now)
+    (g.F.Shelf.seen c.ask.new.shelf) c.in_ok-given.ensures.cause c.in_ok-given.ensures.tells)
+    (c.go_on.ensures.keeps (record d { shelf = g.F.Shelf.seen c.ask.new.shelf })))

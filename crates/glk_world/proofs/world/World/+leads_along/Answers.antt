@@ -14,6 +14,7 @@ returns-else-window-win t c =
     let there : streams.has scene.streams c.args.stream ≡ true = sym c.has.ensures ∙ c.if-not-has.false in
     let apart = c.if-window-win.false in
     let window = c.window.ensures in
-    let other : (window_of_stream scene c.args.stream == c.args.win) ≡ false = grind (arith, nat_tests, apart, window) in
+    let other : (window_of_stream scene c.args.stream == c.args.win) ≡ false =
+    grind (arith, nat_tests, apart, window) in
     c.leads_along.ensures ∙ rw (c.echo_of.ensures, ← c.self.view_is)
     (sym (leads_on scene c.args.left c.args.stream c.args.win some there other))

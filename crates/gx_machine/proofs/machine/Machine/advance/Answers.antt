@@ -47,7 +47,8 @@ pub loop-self-preserved : goal.loop-self-preserved
 loop-self-preserved g c =
     let went = rw c.in-Ok-Went.field-0-is at c.in-Ok-Went.ensures.step in
     let same : c.put_next.new.self ≡ c.passes-passed.new.self = c.in-None.ensures.none refl in
-    let passed = subst (λ (x : Whole). (n : ℕ) × Passes c.args.word n (c.loop-self.self, c.loop-self.budget) None (x, c.passes-passed.new.budget) None) (sym same) (c.in_ok-passed.ensures.value c.args.word) in
+    let passed = subst (λ (x : Whole). (n : ℕ) × Passes c.args.word n (c.loop-self.self, c.loop-self.budget) None
+    (x, c.passes-passed.new.budget) None) (sym same) (c.in_ok-passed.ensures.value c.args.word) in
     let before = c.loop-self.invariant.passes in
     let all = joined c.args.word before.0 passed.0 _ _ _ None None None before.1 passed.1 in
     record {
@@ -58,7 +59,8 @@ loop-self-preserved g c =
 pub returns-in_default : goal.returns-in_default
 returns-in_default g c =
     let same : c.put_next.new.self ≡ c.passes-passed.new.self = c.in-None.ensures.none refl in
-    let passed = subst (λ (x : Whole). (n : ℕ) × Passes c.args.word n (c.loop-self.self, c.loop-self.budget) None (x, c.passes-passed.new.budget) None) (sym same) (c.in_ok-passed.ensures.value c.args.word) in
+    let passed = subst (λ (x : Whole). (n : ℕ) × Passes c.args.word n (c.loop-self.self, c.loop-self.budget) None
+    (x, c.passes-passed.new.budget) None) (sym same) (c.in_ok-passed.ensures.value c.args.word) in
     let before = c.loop-self.invariant.passes in
     let all = joined c.args.word before.0 passed.0 _ _ _ None None None before.1 passed.1 in
     record {
@@ -74,7 +76,8 @@ returns-in_default g c =
 pub returns-in_default-2 : goal.returns-in_default-2
 returns-in_default-2 g c =
     let same : c.put_next.new.self ≡ c.passes-passed.new.self = c.in-None.ensures.none refl in
-    let passed = subst (λ (x : Whole). (n : ℕ) × Passes c.args.word n (c.loop-self.self, c.loop-self.budget) None (x, c.passes-passed.new.budget) None) (sym same) (c.in_ok-passed.ensures.value c.args.word) in
+    let passed = subst (λ (x : Whole). (n : ℕ) × Passes c.args.word n (c.loop-self.self, c.loop-self.budget) None
+    (x, c.passes-passed.new.budget) None) (sym same) (c.in_ok-passed.ensures.value c.args.word) in
     let before = c.loop-self.invariant.passes in
     let all = joined c.args.word before.0 passed.0 _ _ _ None None None before.1 passed.1 in
     record {

@@ -15,14 +15,28 @@ pub returns-clause-value : goal.returns-clause-value
 returns-clause-value g c =
     let w : Whole = whole_of c.self.inside in
     let some : 1 ≤ c.args.budget = omega (arith, c.if-budget-eq0.false) in
-    subst (λ (x : Whole). IfSome c.next_put.result (λ n. (word : ℕ) → stepped x word c.args.budget ≡ Ok ((record { machine = record { flat = c.self.inside.state.flat; undo = c.self.inside.undo }; asking = option_map (λ (p : Pending). p.asking) c.next_put.new.pending }, c.args.budget - 1), Put n)))
+    subst (λ (x : Whole). IfSome c.next_put.result
+    (λ n. (word : ℕ) → stepped x word c.args.budget
+    ≡ Ok (
+      (
+        record {
+          machine = record { flat = c.self.inside.state.flat; undo = c.self.inside.undo };
+          asking = option_map (λ (p : Pending). p.asking) c.next_put.new.pending;
+        },
+        c.args.budget - 1,
+      ),
+      Put n,
+    )))
     c.self.view_is
-    (puts_ok w c.args.budget c.next_put.new.pending c.next_put.result some c.next_put.ensures.live c.next_put.ensures.value c.next_put.ensures.probes c.next_put.ensures.asks)
+    (puts_ok w c.args.budget c.next_put.new.pending c.next_put.result some c.next_put.ensures.live
+    c.next_put.ensures.value c.next_put.ensures.probes c.next_put.ensures.asks)
 
 pub returns-clause-rest : goal.returns-clause-rest
 returns-clause-rest g c =
     let w : Whole = whole_of c.self.inside in
     let some : 1 ≤ c.args.budget = omega (arith, c.if-budget-eq0.false) in
-    subst (λ (x : Whole). c.next_put.result ≡ None → x.machine.flat.mode ≢ Running → (word : ℕ) → IfOk (stepped x word c.args.budget) (λ r. is_put r.1 ≡ false))
+    subst (λ (x : Whole). c.next_put.result ≡ None → x.machine.flat.mode ≢ Running → (word : ℕ)
+    → IfOk (stepped x word c.args.budget) (λ r. is_put r.1 ≡ false))
     c.self.view_is
-    (λ none printing word. prints_rest w word c.args.budget some c.next_put.ensures.live printing (c.next_put.ensures.rest none printing))
+    (λ none printing word. prints_rest w word c.args.budget some c.next_put.ensures.live printing
+    (c.next_put.ensures.rest none printing))

@@ -18,6 +18,18 @@ returns-then-start-clause-value g c =
     let asks : w.asking ≡ None = subst (λ (x : Whole). x.asking ≡ None) (sym c.self.view_is) c.requires.asks in
     let started = c.start.ensures.value c.if-start.true in
     let free = started_probes w.machine.flat c.start.new.state.flat started in
-    λ word. subst (λ (x : Whole). stepped x word c.args.budget.now ≡ Ok ((record { machine = record { flat = c.start.new.state.flat; undo = c.self.inside.undo }; asking = w.asking }, c.args.budget.now - 1), Went))
+    λ word. subst (λ (x : Whole). stepped x word c.args.budget.now
+    ≡ Ok (
+      (
+        record {
+          machine = record { flat = c.start.new.state.flat; undo = c.self.inside.undo };
+          asking = w.asking;
+        },
+        c.args.budget.now - 1,
+      ),
+      Went,
+    ))
     c.self.view_is
-    (pass_ok w word c.args.budget.now (record { flat = c.start.new.state.flat; undo = c.self.inside.undo }) c.requires.some live running asks free (started_steps w.machine.flat c.start.new.state.flat started c.self.inside.undo word))
+    (pass_ok w word c.args.budget.now (record { flat = c.start.new.state.flat; undo = c.self.inside.undo })
+    c.requires.some live running asks free
+    (started_steps w.machine.flat c.start.new.state.flat started c.self.inside.undo word))

@@ -22,7 +22,12 @@ loop-self-preserved g c = record {
       let all = joined word before.0 passed.0 _ _ _ None None None before.1 passed.1 in
       let printed = c.passes_printing.ensures.value word in
       joined word all.0 printed.0 _ _ _ None None None all.1 printed.1;
-  no_more = omega (arith, c.passes_printing.ensures.no_more, c.in_ok-passes_running.ensures.no_more, c.loop-self.invariant.no_more);
+  no_more = omega (
+    arith,
+    c.passes_printing.ensures.no_more,
+    c.in_ok-passes_running.ensures.no_more,
+    c.loop-self.invariant.no_more,
+  );
 }
 
 pub returns-then-not-passes_printing-clause-value : goal.returns-then-not-passes_printing-clause-value

@@ -9,7 +9,8 @@ loop-preserved g c =
     let went = rw c.loop-test.true at c.pass_printing.ensures.value in
     record {
       none = c.pass_printing.ensures.asks;
-      passes = λ word. let before = c.loop.invariant.passes word in (suc before.0, ((c.loop.self, c.loop.budget), None, before.1, went word, refl));
+      passes = λ word. let before = c.loop.invariant.passes word in
+          (suc before.0, ((c.loop.self, c.loop.budget), None, before.1, went word, refl));
       no_more = omega (arith, c.pass_printing.ensures.no_more, c.loop.invariant.no_more);
     }
 
@@ -17,5 +18,8 @@ pub returns-clause-value : goal.returns-clause-value
 returns-clause-value g c =
     let same = rw c.loop-test.false at c.pass_printing.ensures.value in
     λ word.
-    let before = c.loop.invariant.passes word in
-    (before.0, subst (λ (x : Whole × ℕ). Passes word before.0 (c.args.self.now, c.args.budget.now) None x None) (sym (same word)) before.1)
+    let before = c.loop.invariant.passes word in (
+      before.0,
+      subst (λ (x : Whole × ℕ). Passes word before.0 (c.args.self.now, c.args.budget.now) None x None)
+          (sym (same word)) before.1,
+    )

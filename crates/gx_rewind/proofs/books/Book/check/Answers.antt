@@ -13,4 +13,5 @@ returns-clause-book g c =
     c.spare.ensures.book c.args.machine.now.machine log
     (like-book b _ c.args.machine.now.machine log book refl refl refl refl refl
     (rw c.in_ok-push.ensures.items
-    (All-append (IsHeld b.notes.items b.opening b.end) b.checkpoints.items (_ ∷ []) book.checkpoints (one-held (IsHeld b.notes.items b.opening b.end) _ one))))
+    (All-append (IsHeld b.notes.items b.opening b.end) b.checkpoints.items (_ ∷ []) book.checkpoints
+    (one-held (IsHeld b.notes.items b.opening b.end) _ one))))

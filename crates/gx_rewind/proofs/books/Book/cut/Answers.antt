@@ -8,5 +8,6 @@ returns-clause-book g c =
     λ m log book.
     let within = rw c.as_slice.ensures.value at c.until-count.ensures.within in
     let before = rw c.as_slice.ensures.value at c.until-count.ensures.before in
-    cut-book c.args.self.now _ c.until-count.result m log book (near-by c.args.self.now.checkpoints.items c.until-count.result c.args.self.now.units within before)
+    cut-book c.args.self.now _ c.until-count.result m log book
+    (near-by c.args.self.now.checkpoints.items c.until-count.result c.args.self.now.units within before)
     refl c.truncate.ensures.items c.truncate-2.ensures.items refl refl refl

@@ -12,7 +12,8 @@ returns-in-Ok g c =
     rw c.in-Ok.is (λ old new none steps log book.
     let h = has-advanced c.args.word _ (old, c.args.start) c.args.budget (new, c.args.left) steps in
     let asks = passed-asks c.args.word h.count old h.before c.args.start c.args.budget None None none h.passes in
-    let p = c.passed.ensures.book c.args.word h.count c.args.start c.args.budget old h.before log none refl h.passes book in
+    let p = c.passed.ensures.book c.args.word h.count c.args.start c.args.budget old h.before log none refl h.passes
+    book in
     let d = c.did.ensures h.before new c.args.budget c.args.left p.0 p.2 asks h.step refl h.stands in (
       d.last,
       d.book,
@@ -33,7 +34,8 @@ returns-in_default g c =
     rw c.in_default.is (λ old new none steps log book.
     let h = has-advanced c.args.word _ (old, c.args.start) c.args.budget (new, c.args.left) steps in
     let asks = passed-asks c.args.word h.count old h.before c.args.start c.args.budget None None none h.passes in
-    let p = c.passed.ensures.book c.args.word h.count c.args.start c.args.budget old h.before log none refl h.passes book in
+    let p = c.passed.ensures.book c.args.word h.count c.args.start c.args.budget old h.before log none refl h.passes
+    book in
     let same : new ≡ h.before = ap (λ (x : Whole × ℕ). x.0) h.step.0 in (
       p.0,
       subst (λ (x : Whole). IsBook c.passed.new.self x.machine p.0) (sym same) p.2,

@@ -11,8 +11,10 @@ invariant-loop-self g l = record {
   within : l.searched ≤ length l.self.held;
   before : (k : ℕ) → k < l.searched → is_line_feed (get_or l.self.held k 0) ≡ false;
   few : length l.initial.self.held < piece → length l.self.held ≤ l.searched + piece;
-  fed : Fed g.S.Source.called g.S.Source.seen l.initial.self l.self l.initial.source l.source (ReadOn l.initial.self l.self (g.S.Source.seen l.initial.source) (g.S.Source.seen l.source));
-  whole : HoldsLineFeed l.initial.self.held → (g.S.Source.seen l.source ≡ g.S.Source.seen l.initial.source) × (l.self ≡ l.initial.self);
+  fed : Fed g.S.Source.called g.S.Source.seen l.initial.self l.self l.initial.source l.source
+      (ReadOn l.initial.self l.self (g.S.Source.seen l.initial.source) (g.S.Source.seen l.source));
+  whole : HoldsLineFeed l.initial.self.held → (g.S.Source.seen l.source ≡ g.S.Source.seen l.initial.source)
+      × (l.self ≡ l.initial.self);
   count : IsWell (g.S.Source.seen l.initial.source).calls (g.S.Source.seen l.source).calls;
   tells : (g.S.Source.seen l.source).tells ≡ (g.S.Source.seen l.initial.source).tells;
 }
