@@ -86,11 +86,11 @@
 -- every source, sink and shelf.
 --
 -- Each of the three devices has a trace of its own, and no clause sets a call of one beside a call of another; but
--- their order follows. Any of them may fail at any call, and `play` can't know that a call will fail before it is made. Where
--- one fails the run is cut short at one configuration, and the traces of the other two are those of the session up to
--- there (`StopsEarly`): no send or store of later is among them, and none of before is missing. So the same calls came
--- before it where it doesn't fail. A read may be made ahead of what is taken; but it may give all 4,096 bytes, and
--- fewer are held then (`LeavesInput`), so that none is made before its line is awaited.
+-- their order follows. Any of them may fail at any call, and `play` can't know that a call will fail before it is
+-- made. Where one fails the run is cut short at one configuration, and the traces of the other two are those of the
+-- session up to there (`StopsEarly`): no send or store of later is among them, and none of before is missing. So the
+-- same calls came before it where it doesn't fail. A read may be made ahead of what is taken; but it may give all
+-- 4,096 bytes, and fewer are held then (`LeavesInput`), so that none is made before its line is awaited.
 --
 -- Limits: nothing is said of time, nor of how much memory a run takes; that ample memory suffices is only tested.
 -- Nothing is said of what a terminal makes of the text: the composed screen counts columns by the crate unicode_width.
