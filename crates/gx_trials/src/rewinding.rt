@@ -2,7 +2,7 @@
 //!
 //! A run that came to its own end is made again with `--job rewind`, which has to show the same text, end the same way
 //! and tell the place it went back to. That is compared with the run of job play that has so many units fewer. Runs of
-//! many steps and of much memory aren't made again, nor those that are given few pages or a sink that fails.
+//! many steps and of much memory aren't made again, nor those with `--screen`, of few pages or of a sink that fails.
 use crate::runs::{Devices, MOST_PAGES, Told, run};
 use anyhow::{Context, Result, bail, ensure};
 use gx_session::statuses;
@@ -111,6 +111,16 @@ fn compare_back<S: Again>(
     Ok(units)
 }
 
+/// Whether a word asks for the composed screen, which job rewind doesn't show.
+fn has_screen(words: &[&str]) -> bool {
+    for word in words {
+        if *word == "--screen" {
+            return true;
+        }
+    }
+    false
+}
+
 /// Plays the story on a tape and goes back: by nothing, by one unit, by half of them, and by more than there are.
 pub fn compare_rewound<S: Again>(
     alloc: Global,
@@ -125,6 +135,10 @@ pub fn compare_rewound<S: Again>(
         || told.steps > MOST_STEPS
         || left.memory.len() > MOST_BYTES
     {
+        return Ok(());
+    }
+    let words = story.command_line(alloc)?;
+    if has_screen(words.as_slice()) {
         return Ok(());
     }
     let end = compare_back(alloc, story, told, shown, 0, None)?;
