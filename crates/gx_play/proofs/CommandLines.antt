@@ -165,8 +165,7 @@ text-alone-in-check : command_of (words (codes "hall.ulx" ∷ codes "--plain" �
 unfolding clap_on_literals command_of faults_of matched_in player
 text-alone-in-check = refl
 
-the-screen-in-rewind : command_of (words (codes "hall.ulx" ∷ codes "--screen" ∷ codes "--job=rewind" ∷ []))
-    ≡ Some (record (usual (codes "hall.ulx")) { view = view.Screen; job = Rewind })
+the-screen-in-rewind : command_of (words (codes "hall.ulx" ∷ codes "--screen" ∷ codes "--job=rewind" ∷ [])) ≡ None
 unfolding clap_on_literals command_of faults_of matched_in player
 the-screen-in-rewind = refl
 
