@@ -1,5 +1,5 @@
 -- What each call comes to where it may want memory: something that takes some.
-use Rattle.std.proofs.Common.{◌≡◌, ◌≤◌, ◌+◌, ◌-◌, ◌*◌, ◌==◌, ◌||◌, ◌&&◌, not, nat_lt, ℕ}
+use Rattle.std.proofs.Common.{◌≡◌, ◌≢◌, ◌≤◌, ◌+◌, ◌-◌, ◌*◌, ◌==◌, ◌||◌, ◌&&◌, not, nat_lt, ℕ}
 use Rattle.std.proofs.Common.{Bool, true}
 use Rattle.std.proofs.Common.{false}
 use Rattle.std.proofs.Common.{if◌then◌else◌, List, [], ◌∷◌, ◌++◌, length, Option, Some, None}
@@ -22,12 +22,13 @@ use Rattle.glk_windows.specs.Changes.{some_grow, arranging_grows}
 use Rattle.glk_events.specs.declared.requests.Request.{Request}
 use Rattle.glk_events.specs.Requests as requests
 use Rattle.glk_world.specs.World.{Scene, Said, silent, Outcome, answered}
-use Rattle.glk_world.specs.World.{is_composed}
+use Rattle.glk_world.specs.World.{is_composed, is_wrapping, then_said}
 use Rattle.glk_world.specs.World.{has_reference, reference_at, arg, waits}
 use Rattle.glk_world.specs.Calls.{is_identifier, new_id, with_reference, with_new_stream, with_window, with_streams}
 use Rattle.glk_world.specs.Calls.{can_open, without_stream}
 use Rattle.glk_world.specs.Calls.{chars_got, window_stream, with_arrangement}
-use Rattle.glk_world.specs.Shown.{show_prompt}
+use Rattle.glk_world.specs.Shown.{show_prompt, prompt_words, wrapped_text, row_let_go}
+use Rattle.glk_screen.proofs.WrapLaws.{let_go_some}
 use Rattle.glk_world.specs.declared.references.FileReference.{FileReference}
 use Rattle.glk_files.specs.Names.{base_of}
 use Rattle.glk_replies.specs.Strings.{string_length, string_chars}
@@ -323,12 +324,23 @@ loading_takes w selector args r true other some is =
     asked w r (silent (waits w selector args), turn.Load (reference.file_name w (arg args 0))) refl is
 loading_takes w selector args r false other some is = absurd (let e = rw other at some in cc)
 
+there_some : (xs : List ℕ) → xs ≢ [] → has_some xs ≡ true
+there_some [] some = absurd (some refl)
+there_some (x ∷ xs) some = refl
+
+-- the words of a prompt, wrapped or not
+words_some : (b : Bool) (w : Scene)
+    → has_some (if b then then_said (wrapped_text (record w { fresh = false }) prompt_words) row_let_go
+    else (record w { fresh = false }, prompt_words)).1 ≡ true
+words_some true w = there_some _ (let_go_some w.row _ _)
+words_some false w = refl
+
 pub prompt_takes : (w : Scene) (args : List ℕ) (r : Said × Turn) → is_composed w ≡ false
     → reference.fileref_create_by_prompt w args ≡ Ok r → takes_some w r ≡ true
 unfolding reference.fileref_create_by_prompt show_prompt
 prompt_takes w args r beside is =
     let shown : Said = show_prompt w in
-    let text : has_some shown.1 ≡ true = rw beside refl in
+    let text : has_some shown.1 ≡ true = rw beside (words_some (is_wrapping w) w) in
     subst (λ (x : Said × Turn). takes_some w x ≡ true)
     (let e : ((waits shown.0 selectors.fileref_create_by_prompt args, shown.1), turn.Prompt) ≡ r = (cc) in e)
     (takes_by_text w ((waits shown.0 selectors.fileref_create_by_prompt args, shown.1), turn.Prompt) text)

@@ -7,3 +7,5 @@ pub mod Cuts
 pub mod Turns
 pub mod Holding
 pub mod Sizes
+pub mod Flowing
+pub mod WrapLaws

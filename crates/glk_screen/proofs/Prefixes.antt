@@ -106,7 +106,7 @@ blank_step None true n at below is = grind (arith, is)
 blank_step None false n at below is = cc
 blank_step (Some k) b n at below is = let e : suc k ≡ at = cc in omega (arith, e, below k refl)
 
-blank_below : (text : List ℕ) (at : ℕ) → last_blank text ≡ Some at → at < length text
+pub blank_below : (text : List ℕ) (at : ℕ) → last_blank text ≡ Some at → at < length text
 blank_below [] at is = cc
 blank_below (c ∷ cs) at is = blank_step (last_blank cs) (c == 0x20) (length cs) at (blank_below cs) is
 

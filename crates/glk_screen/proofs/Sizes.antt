@@ -16,11 +16,11 @@ use Rattle.glk_windows.specs.Windows.{FlatWindows, grid_at}
 use Rattle.glk_windows.specs.Grids.{fit}
 use Rattle.glk_windows.specs.Constants.{text_buffer, text_grid}
 use Rattle.glk_screen.specs.Texts.{FlatText, text_of}
-use Rattle.glk_screen.specs.Wrapping.{width_of, columns_of, columns, wrapped, rows_at}
+use Rattle.glk_screen.specs.Wrapping.{width_of, drawn_columns, columns_of, columns, wrapped, rows_at}
 use Rattle.glk_screen.specs.Screen.{DrawnRows, blank_row, blank_rows, drawn_char, is_drawn, drawn_row, bottom_rows}
 use Rattle.glk_screen.specs.Screen.{text_rows, buffer_rows, drawn_cell, grid_row, grid_rows, window_type, window_rows}
 use Rattle.glk_screen.specs.Screen.{beside, put_together, part_rows, screen_rows}
-use Rattle.glk_screen.specs.Laws.{is_fitting, drawn_columns, is_wide, IsSized, ScreenIsFilled}
+use Rattle.glk_screen.specs.Laws.{is_fitting, is_wide, IsSized, ScreenIsFilled}
 use Rattle.glk_screen.proofs.Holding.{rows_fit}
 use Rattle.glk_screen.proofs.Turns.{fit_length}
 

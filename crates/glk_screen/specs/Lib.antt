@@ -1,6 +1,8 @@
 pub mod Constants
 pub mod Texts
 pub mod Wrapping
+pub mod Wrapper
+pub mod HeldRow
 pub mod Rows
 pub mod Screen
 pub mod Stored

@@ -2,6 +2,7 @@
 use Rattle.std.specs.Prelude.{ℕ, List, refl}
 use Rattle.std.specs.Coded.{Coded, code_by, coded_list, coded×, coded_ℕ}
 use Rattle.glk_screen.specs.Texts.{FlatText}
+use Rattle.glk_screen.specs.Wrapper.{FlatWrapper}
 
 abbrev pub text_code : Coded FlatText
 text_code =
@@ -10,3 +11,8 @@ text_code =
 
 abbrev pub screen_code : Coded (List FlatText)
 screen_code = coded_list text_code
+
+abbrev pub wrapper_code : Coded FlatWrapper
+wrapper_code =
+    code_by (ℕ × (ℕ × List ℕ)) (coded× coded_ℕ (coded× coded_ℕ (coded_list coded_ℕ))) (λ w. (w.limit, (w.gone, w.row)))
+    (λ p. record { limit = p.0; gone = p.1.0; row = p.1.1 }) (λ _. refl)

@@ -14,6 +14,11 @@ use Rattle.unicode_width.specs.Width.{char_width}
 unfoldable pub width_of : ℕ → ℕ
 width_of c = unwrap_or (char_width false (as_scalar c)) 0
 
+-- the columns of a text, each character as it is
+abbrev pub drawn_columns : List ℕ → ℕ
+drawn_columns [] = 0
+drawn_columns (c ∷ cs) = width_of c + drawn_columns cs
+
 -- in a window of so many columns a question mark stands for a character of three columns, and of two in one column
 abbrev pub is_replaced : ℕ → ℕ → Bool
 is_replaced width c = width_of c == 3 || (width_of c == 2 && width == 1)

@@ -1,5 +1,5 @@
 //! What holds of the definitions of this crate.
-ghost use Rattle.glk_screen.specs.Laws.{RowsFit, ScreenIsFilled, KeepsLast};
+ghost use Rattle.glk_screen.specs.Laws.{RowsFit, ScreenIsFilled, KeepsLast, WrappingKeeps};
 
 /// No row of a text is wider than the window for which the text was wrapped.
 pub fn rows_fit()
@@ -14,4 +14,9 @@ pub fn screen_is_filled()
 /// What a window keeps of the characters that were put to it is their last 255 paragraphs.
 pub fn last_paragraphs_are_kept()
     ensures { KeepsLast }
+{}
+
+/// A text that is wrapped as it comes loses nothing, and has no row that is too wide.
+pub fn wrapping_keeps()
+    ensures { WrappingKeeps }
 {}

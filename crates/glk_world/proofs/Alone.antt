@@ -16,12 +16,11 @@ use Rattle.glk_streams.specs.Streams as streams
 use Rattle.glk_windows.specs.Constants.{text_buffer}
 use Rattle.glk_screen.specs.Texts.{screen_put}
 use Rattle.glk_world.specs.World.{Scene, FlatWorld, Said, after, silent, then_said, is_composed}
-use Rattle.glk_world.specs.Putting.{buffer_put, window_of_stream, entry_of, is_plain_text, window_put}
+use Rattle.glk_world.specs.Putting.{said_char, buffer_put, window_of_stream, entry_of, is_plain_text, window_put}
 use Rattle.glk_world.specs.Putting.{counted, stream_put, echo_of, put_along, put_of, put_chars, grows_along, put_grows}
 use Rattle.glk_world.specs.Putting.{chain_end, places_of, no_places}
 use Rattle.glk_objects.proofs.Found.{has_with, has_below, at_with_here, below_with}
-use Rattle.glk_world.proofs.Ranks.{said_char, nothing_along, stream_put_streams, put_step, put_id, put_window}
-use Rattle.glk_world.proofs.Ranks.{buffer_put_streams}
+use Rattle.glk_world.proofs.Ranks.{nothing_along, stream_put_streams, put_step, put_id, put_window, buffer_put_streams}
 use Rattle.glk_world.proofs.Turns.{end_here}
 
 -- ---- no stream has the identifier 0

@@ -15,12 +15,10 @@ use Rattle.glk_windows.specs.Windows.{FlatWindows, grid_at}
 use Rattle.glk_windows.specs.Grids as grids
 use Rattle.glk_windows.specs.Changes.{put_to}
 use Rattle.glk_windows.specs.Constants.{text_buffer}
-use Rattle.std.specs.Char.{encode_utf8}
-use Rattle.gx_words.specs.Constants.{line_feed}
 use Rattle.glk_text.specs.Characters.{shown}
 use Rattle.glk_screen.specs.Texts.{screen_put}
 use Rattle.glk_world.specs.World.{Scene, Said, silent, then_said, is_composed}
-use Rattle.glk_world.specs.Putting.{buffer_put, window_of_stream, entry_of, window_put, counted, stream_put}
+use Rattle.glk_world.specs.Putting.{said_char, buffer_put, window_of_stream, entry_of, window_put, counted, stream_put}
 use Rattle.glk_world.specs.Putting.{echo_of, put_along, put_of, end_along, chain_end}
 use Rattle.glk_world.specs.Chains.{echo_in, IsRanked}
 use Rattle.glk_objects.proofs.Found.{has_with, at_with, at_with_here}
@@ -142,10 +140,6 @@ entries_put f win c =
       | true ↦ refl
       | false ↦ refl
     ]
-
--- a character of the text
-abbrev pub said_char : Scene → ℕ → Said
-said_char w c = (record w { fresh = c == line_feed }, encode_utf8 c)
 
 pub buffer_put_streams : (w : Scene) (win c : ℕ) → (buffer_put w win c).0.streams ≡ w.streams
 unfolding buffer_put

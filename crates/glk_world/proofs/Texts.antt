@@ -6,6 +6,8 @@ use Rattle.std.proofs.lemmas.List.{append-nil}
 use Rattle.std.specs.Char.{encode_utf8}
 use Rattle.std.specs.Str.{encode_utf8_all}
 use Rattle.glk_text.specs.Characters.{shown}
+use Rattle.glk_screen.specs.Wrapper.{FlatWrapper, wrapped_char, wrapped_chars}
+use Rattle.glk_screen.proofs.Flowing.{grown}
 use Rattle.glk_world.specs.declared.grids.ShownGrid.{ShownGrid}
 use Rattle.glk_world.specs.World.{FlatWorld, after, silent, said_each}
 use Rattle.glk_world.specs.Putting.{put_of, put_chars}
@@ -76,3 +78,64 @@ unfolding put_chars
 puts_more w stream cs i d within = let e : i + 1 ≡ suc i = omega arith in rw (e, drop-cons cs i d, append_assoc) refl
 
 pub ruleset puts_turns = (puts_none, puts_more, some_within)
+
+-- characters that are wrapped one after another
+pub wrap_none : (row : FlatWrapper) (cs : List ℕ) (n : ℕ) → length cs ≤ n → (wrapped_chars row (drop n cs)).1 ≡ row
+unfolding wrapped_chars
+wrap_none row cs n past = let none : drop n cs ≡ [] = grind (arith, common_steps) in rw none refl
+
+pub wrap_said : (row : FlatWrapper) (cs : List ℕ) (n : ℕ) (out : List ℕ) → length cs ≤ n
+    → out ++ encode_utf8_all (wrapped_chars row (drop n cs)).0 ≡ out
+unfolding wrapped_chars
+wrap_said row cs n out past = let none : drop n cs ≡ [] = grind (arith, common_steps) in rw none (append-nil out)
+
+pub wrap_more : (row : FlatWrapper) (cs : List ℕ) (i d : ℕ) → i < length cs
+    → (wrapped_chars (wrapped_char row (get_or cs i d)).1 (drop (i + 1) cs)).1 ≡ (wrapped_chars row (drop i cs)).1
+unfolding wrapped_chars
+wrap_more row cs i d within = let e : i + 1 ≡ suc i = omega arith in rw (e, drop-cons cs i d) refl
+
+pub wrap_grown : (row : FlatWrapper) (cs : List ℕ) (i d : ℕ) (out : List ℕ) → i < length cs
+    → (out ++ encode_utf8_all (wrapped_char row (get_or cs i d)).0)
+    ++ encode_utf8_all (wrapped_chars (wrapped_char row (get_or cs i d)).1 (drop (i + 1) cs)).0
+    ≡ out ++ encode_utf8_all (wrapped_chars row (drop i cs)).0
+unfolding wrapped_chars
+wrap_grown row cs i d out within = let e : i + 1 ≡ suc i = omega arith in
+    rw (e, drop-cons cs i d) (grown out (wrapped_char row (get_or cs i d)).0
+    (wrapped_chars (wrapped_char row (get_or cs i d)).1 (drop (suc i) cs)).0)
+
+pub ruleset wrap_turns = (wrap_none, wrap_said, wrap_more, wrap_grown)
+
+-- the same as they are shown, and a line feed
+abbrev pub with_line : List ℕ → List ℕ
+with_line cs = map shown cs ++ 0x0A ∷ []
+
+line_end : (row : FlatWrapper) (cs : List ℕ) (n : ℕ) → length cs ≤ n → with_line (drop n cs) ≡ 0x0A ∷ []
+line_end row cs n past = let none : drop n cs ≡ [] = grind (arith, common_steps) in rw none refl
+
+pub line_none : (row : FlatWrapper) (cs : List ℕ) (n : ℕ) → length cs ≤ n
+    → (wrapped_chars row (with_line (drop n cs))).1 ≡ (wrapped_char row 0x0A).1
+unfolding wrapped_chars
+line_none row cs n past = rw (line_end row cs n past) refl
+
+pub line_said : (row : FlatWrapper) (cs : List ℕ) (n : ℕ) (out : List ℕ) → length cs ≤ n
+    → out ++ encode_utf8_all (wrapped_chars row (with_line (drop n cs))).0
+    ≡ out ++ encode_utf8_all (wrapped_char row 0x0A).0
+unfolding wrapped_chars
+line_said row cs n out past = rw (line_end row cs n past, append-nil) refl
+
+pub line_more : (row : FlatWrapper) (cs : List ℕ) (i d : ℕ) → i < length cs
+    → (wrapped_chars (wrapped_char row (shown (get_or cs i d))).1 (with_line (drop (i + 1) cs))).1
+    ≡ (wrapped_chars row (with_line (drop i cs))).1
+unfolding wrapped_chars
+line_more row cs i d within = let e : i + 1 ≡ suc i = omega arith in rw (e, drop-cons cs i d) refl
+
+pub line_grown : (row : FlatWrapper) (cs : List ℕ) (i d : ℕ) (out : List ℕ) → i < length cs
+    → (out ++ encode_utf8_all (wrapped_char row (shown (get_or cs i d))).0)
+    ++ encode_utf8_all (wrapped_chars (wrapped_char row (shown (get_or cs i d))).1 (with_line (drop (i + 1) cs))).0
+    ≡ out ++ encode_utf8_all (wrapped_chars row (with_line (drop i cs))).0
+unfolding wrapped_chars
+line_grown row cs i d out within = let e : i + 1 ≡ suc i = omega arith in
+    rw (e, drop-cons cs i d) (grown out (wrapped_char row (shown (get_or cs i d))).0
+    (wrapped_chars (wrapped_char row (shown (get_or cs i d))).1 (with_line (drop (suc i) cs))).0)
+
+pub ruleset line_turns = (line_none, line_said, line_more, line_grown)

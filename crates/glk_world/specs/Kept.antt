@@ -31,6 +31,7 @@ flat_of w = record {
     requests = w.requests;
     current = w.current;
     next_id = w.next_id;
+    row = w.row;
     fresh = w.fresh;
     waiting = waiting_of w.waiting;
   };

@@ -1,6 +1,7 @@
 -- A character is put to a stream (Glk 0.7.5, "Streams" and "Echo Streams").
 use Rattle.std.specs.Prelude.{ℕ, zero, suc, ◌==◌, ◌&&◌, ◌||◌, not, if◌then◌else◌, Bool, false, List, [], ◌∷◌, length}
 use Rattle.std.specs.Prelude.{encode_utf8}
+use Rattle.std.specs.Str.{encode_utf8_all}
 use Rattle.gx_words.specs.Constants.{line_feed}
 use Rattle.glk_text.specs.Characters.{shown}
 use Rattle.glk_streams.specs.declared.kinds.Places.{Places}
@@ -13,7 +14,8 @@ use Rattle.glk_windows.specs.declared.entries.Entry.{Entry}
 use Rattle.glk_windows.specs.Windows.{window_entry}
 use Rattle.glk_windows.specs.Changes.{put_to}
 use Rattle.glk_screen.specs.Texts.{screen_put}
-use Rattle.glk_world.specs.World.{Scene, Said, silent, then_said, is_composed}
+use Rattle.glk_screen.specs.Wrapper.{FlatWrapper, wrapped_char}
+use Rattle.glk_world.specs.World.{Scene, Said, silent, then_said, is_composed, is_wrapping}
 
 -- the window of a stream, 0 for none
 abbrev pub window_of_stream : Scene → ℕ → ℕ
@@ -23,10 +25,20 @@ window_of_stream w stream = one.window_of (streams.stream w.streams stream)
 abbrev pub entry_of : Scene → ℕ → Entry
 entry_of w stream = window_entry w.windows.entries (window_of_stream w stream)
 
--- A character comes to a text buffer: it is text, in UTF-8, or has its place on the composed screen.
+-- what a character is to the text: the present row after it, and what is added in UTF-8, which a view that wraps may
+-- hold back
+unfoldable pub flowed : Scene → ℕ → FlatWrapper × List ℕ
+flowed w c = let wrapped = wrapped_char w.row c in
+    if is_wrapping w then (wrapped.1, encode_utf8_all wrapped.0) else (w.row, encode_utf8 c)
+
+-- a character of the text
+abbrev pub said_char : Scene → ℕ → Said
+said_char w c = (record w { row = (flowed w c).0; fresh = c == line_feed }, (flowed w c).1)
+
+-- A character comes to a text buffer: it is text, or has its place on the composed screen.
 unfoldable pub buffer_put : Scene → ℕ → ℕ → Said
-buffer_put w win c = if is_composed w then silent (record w { screen = screen_put w.screen win c })
-    else (record w { fresh = c == line_feed }, encode_utf8 c)
+buffer_put w win c =
+    if is_composed w then silent (record w { screen = screen_put w.screen win c }) else said_char w c
 
 -- A character comes to a window as it is shown: a text buffer shows it, a grid has a place for it, and other
 -- windows drop it.

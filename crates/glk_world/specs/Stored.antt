@@ -13,7 +13,8 @@ use Rattle.glk_events.specs.declared.requests.Request.{Request}
 use Rattle.glk_world.specs.declared.references.FileReference.{FileReference}
 use Rattle.glk_world.specs.declared.grids.ShownGrid.{ShownGrid}
 use Rattle.glk_screen.specs.Texts.{FlatText}
-use Rattle.glk_screen.specs.Stored.{screen_code}
+use Rattle.glk_screen.specs.Wrapper.{FlatWrapper}
+use Rattle.glk_screen.specs.Stored.{screen_code, wrapper_code}
 use Rattle.glk_world.specs.declared.views.View.{View}
 use Rattle.glk_world.specs.declared.views.View.TheVariants as view
 use Rattle.glk_world.specs.World.{WaitingCall, Scene, FlatWorld}
@@ -107,14 +108,20 @@ abbrev pub view_number : View → ℕ
 view_number view.Rows = 0
 view_number view.Plain = 1
 view_number view.Screen = 2
+view_number view.WrappedRows = 3
+view_number view.WrappedPlain = 4
 
 abbrev pub view_from : ℕ → View
-view_from n = if n == 0 then view.Rows else if n == 1 then view.Plain else view.Screen
+view_from n =
+    if n == 0 then view.Rows else if n == 1 then view.Plain else if n == 2 then view.Screen else
+    if n == 3 then view.WrappedRows else view.WrappedPlain
 
 abbrev pub view_back : (v : View) → view_from (view_number v) ≡ v
 view_back view.Rows = refl
 view_back view.Plain = refl
 view_back view.Screen = refl
+view_back view.WrappedRows = refl
+view_back view.WrappedPlain = refl
 
 abbrev pub view_code : Coded View
 view_code = code_by ℕ coded_ℕ view_number view_from view_back
@@ -123,14 +130,14 @@ abbrev pub scene_code : Coded Scene
 scene_code =
     code_by (FlatWindows × (View × (List ShownGrid ×
     (List FlatText × (Option (List ℕ) ×
-    (List Stream × (List FileReference × (List Request × (ℕ × (ℕ × (Bool × Option WaitingCall)))))))))))
+    (List Stream × (List FileReference × (List Request × (ℕ × (ℕ × (FlatWrapper × (Bool × Option WaitingCall))))))))))))
     (coded× windows_code (coded× view_code
     (coded× (coded_list shown_code)
     (coded× screen_code (coded× (coded_option (coded_list coded_ℕ))
     (coded× (coded_list stream_code)
     (coded× (coded_list reference_code)
     (coded× (coded_list request_code)
-    (coded× coded_ℕ (coded× coded_ℕ (coded× coded_bool (coded_option call_code))))))))))))
+    (coded× coded_ℕ (coded× coded_ℕ (coded× wrapper_code (coded× coded_bool (coded_option call_code)))))))))))))
     (λ w. (
       w.windows,
       (
@@ -143,7 +150,7 @@ scene_code =
               w.last_screen,
               (
                 w.streams,
-                (w.references, (w.requests, (w.current, (w.next_id, (w.fresh, w.waiting))))),
+                (w.references, (w.requests, (w.current, (w.next_id, (w.row, (w.fresh, w.waiting)))))),
               ),
             ),
           ),
@@ -161,8 +168,9 @@ scene_code =
       requests = p.1.1.1.1.1.1.1.0;
       current = p.1.1.1.1.1.1.1.1.0;
       next_id = p.1.1.1.1.1.1.1.1.1.0;
-      fresh = p.1.1.1.1.1.1.1.1.1.1.0;
-      waiting = p.1.1.1.1.1.1.1.1.1.1.1;
+      row = p.1.1.1.1.1.1.1.1.1.1.0;
+      fresh = p.1.1.1.1.1.1.1.1.1.1.1.0;
+      waiting = p.1.1.1.1.1.1.1.1.1.1.1.1;
     }) (λ _. refl)
 
 abbrev pub world_code : Coded FlatWorld

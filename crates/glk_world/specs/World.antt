@@ -8,6 +8,7 @@ use Rattle.glk_streams.specs.declared.kinds.Stream.{Stream}
 use Rattle.glk_windows.specs.Windows.{FlatWindows, no_windows}
 use Rattle.glk_events.specs.declared.requests.Request.{Request}
 use Rattle.glk_screen.specs.Texts.{FlatText}
+use Rattle.glk_screen.specs.Wrapper.{FlatWrapper, no_row}
 use Rattle.glk_world.specs.declared.references.FileReference.{FileReference}
 use Rattle.glk_world.specs.declared.grids.ShownGrid.{ShownGrid}
 use Rattle.glk_world.specs.declared.views.View.{View}
@@ -30,6 +31,7 @@ pub record Scene : Type 0 where
   pub requests : List Request
   pub current : ℕ  -- the current stream, 0 for none
   pub next_id : ℕ  -- the identifier of the next object
+  pub row : FlatWrapper  -- for a view that wraps: the present row of text
   pub fresh : Bool  -- nothing was shown since the last line feed or the last line that was taken
   pub waiting : Option WaitingCall
 
@@ -79,7 +81,22 @@ said_each say w (x ∷ xs) = then_said (say w x) (λ more. said_each say more xs
 
 -- the screen is composed, and no text stands beside it
 abbrev pub is_composed : Scene → Bool
-is_composed w = elim w.view [ view.Rows ↦ false | view.Plain ↦ false | view.Screen ↦ true ]
+is_composed w = elim w.view [
+  | view.Rows ↦ false
+  | view.Plain ↦ false
+  | view.Screen ↦ true
+  | view.WrappedRows ↦ false
+  | view.WrappedPlain ↦ false
+]
+
+-- text is wrapped
+abbrev pub wraps : View → Bool
+wraps view.WrappedRows = true
+wraps view.WrappedPlain = true
+wraps v = false
+
+abbrev pub is_wrapping : Scene → Bool
+is_wrapping w = wraps w.view
 
 -- the world before any call, on a screen of so many columns and rows
 abbrev pub empty_world : View → ℕ → ℕ → FlatWorld
@@ -95,6 +112,7 @@ empty_world v columns rows = record {
     requests = [];
     current = 0;
     next_id = 1;
+    row = no_row columns;
     fresh = true;
     waiting = None;
   };

@@ -213,6 +213,7 @@ impl World {
     pub fn line_taken(&mut self)
         ensures { self.new ≡ after self.old (silent (line_taken self.old.scene)) }
     {
+        self.row.restart();
         self.fresh = true;
     }
 }

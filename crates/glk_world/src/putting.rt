@@ -1,6 +1,6 @@
 //! Characters that are put to streams and got from them (Glk 0.7.5, "Streams" and "Echo Streams").
 ghost use Rattle.std.specs.Prelude.{◌≡◌, ◌≢◌, ◌⊎◌, ℕ, ◌+◌, ◌≤◌, ◌<◌, ◌^◌, [], not, length, true, false, OnOk, OnErr};
-ghost use Rattle.std.specs.Prelude.{IfOk, MatchOption, IsTrue, encode_utf8, ◌==◌};
+ghost use Rattle.std.specs.Prelude.{IfOk, MatchOption, IsTrue};
 ghost use Rattle.std.specs.Option.{option_map};
 ghost use Rattle.glk_objects.specs.Objects.{object_place};
 ghost use Rattle.glk_streams.specs.Stream as one;
@@ -9,7 +9,7 @@ ghost use Rattle.glk_windows.specs.Windows as windows;
 ghost use Rattle.glk_windows.specs.Windows.{window_entry};
 ghost use Rattle.glk_windows.specs.Constants.{text_buffer};
 ghost use Rattle.glk_world.specs.World.{after, silent};
-ghost use Rattle.glk_world.specs.Putting.{buffer_put, window_of_stream, window_put};
+ghost use Rattle.glk_world.specs.Putting.{said_char, buffer_put, window_of_stream, window_put};
 ghost use Rattle.glk_world.specs.Putting.{stream_put};
 ghost use Rattle.glk_world.specs.Putting.{stream_grows, echo_of, put_along, put_of, put_chars, is_plain_text};
 ghost use Rattle.glk_world.specs.Putting.{grows_along};
@@ -228,12 +228,16 @@ impl World {
         }
     }
 
-    /// Adds a character to the text.
+    /// Adds a character to the text, by way of the row where text is wrapped.
+    #[tactic(auto, unfolding(crate::specs::Putting::flowed))]
     fn show(&mut self, c: char) -> Result<(), AllocError>
-        ensures { OnOk result
-            (self.new ≡ after self.old (record self.old.scene { fresh = c == LINE_FEED }, encode_utf8 c)) }
+        ensures { OnOk result (self.new ≡ after self.old (said_char self.old.scene c)) }
     {
-        self.text.push(c)?;
+        if self.view.wraps() {
+            self.row.put(&mut self.text, c)?;
+        } else {
+            self.text.push(c)?;
+        }
         self.fresh = u32::from(c) == LINE_FEED;
         Ok(())
     }

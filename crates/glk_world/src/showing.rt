@@ -3,13 +3,16 @@ ghost use Rattle.std.specs.Prelude.{◌≡◌, ◌≢◌, ◌++◌, ◌∷◌, [
 ghost use Rattle.std.specs.Option.{option_map};
 ghost use Rattle.std.specs.Str.{encode_utf8_all};
 ghost use Rattle.glk_text.specs.Characters.{shown};
+ghost use Rattle.glk_screen.specs.Wrapper.{wrapped_chars};
 ghost use Rattle.glk_world.specs.World.{after, said_each, is_composed};
 ghost use Rattle.glk_world.specs.Naming.{IsWholeScene};
 ghost use Rattle.glk_world.specs.Shown.{said_row, said_grid, show_rows, screen_of, is_prompting};
-ghost use Rattle.glk_world.specs.Shown.{show_screen, is_last, end_text, show_grids, ShowWants, show_prompt, show_line};
+ghost use Rattle.glk_world.specs.Shown.{show_screen, is_last, screen_again, row_let_go, IsHeld, end_text, EndWants};
+ghost use Rattle.glk_world.specs.Shown.{show_grids, ShowWants, show_prompt, show_line};
 
 use crate::grids::{shown_grids, was_shown};
 use crate::{ShownGrid, View, World};
+use glk_screen::Wrapper;
 use glk_text::show;
 use gx_words::Numbers;
 use std::alloc::AllocError;
@@ -35,6 +38,11 @@ impl World {
             View::Rows => self.show_rows(),
             View::Plain => Ok(()),
             View::Screen => self.show_screen(size),
+            View::WrappedRows => {
+                self.let_go()?;
+                self.show_rows()
+            }
+            View::WrappedPlain => self.let_go(),
         }
     }
 
@@ -85,15 +93,33 @@ impl World {
         }
     }
 
-    /// At the end of a run: shows the composed screen once more, where it differs from the one shown last.
+    /// Lets go what is held of the present row.
+    fn let_go(&mut self) -> Result<(), AllocError>
+        ensures ok { OnOk result (self.new ≡ after self.old (row_let_go self.old.scene)) }
+        ensures memory { OnErr result (IsHeld self.old.scene) }
+    {
+        self.row.let_go(&mut self.text)
+    }
+
+    /// At the end of a run: shows the composed screen once more, where it differs from the one shown last; or lets go
+    /// what is held.
     #[tactic(auto, using(crate::proofs::Texts::silences), unfolding(crate::specs::Shown::end_text))]
     pub fn end_text(&mut self) -> Result<(), AllocError>
         ensures ok { OnOk result (self.new ≡ after self.old (end_text self.old.scene)) }
-        ensures memory { OnErr result (IsTrue (is_composed self.old.scene)) }
+        ensures memory { OnErr result (EndWants self.old.scene) }
     {
-        if self.view != View::Screen {
-            return Ok(());
+        match self.view {
+            View::Rows | View::Plain => Ok(()),
+            View::Screen => self.show_last(),
+            View::WrappedRows | View::WrappedPlain => self.let_go(),
         }
+    }
+
+    /// Shows the composed screen once more, where it differs from the one shown last.
+    #[tactic(auto, using(crate::proofs::Texts::silences))]
+    fn show_last(&mut self) -> Result<(), AllocError>
+        ensures { OnOk result (self.new ≡ after self.old (screen_again self.old.scene)) }
+    {
         let screen = self.compose(self.windows.size())?;
         if !is_last(&self.last_screen, &screen) {
             self.text.push_str(&screen)?;
@@ -149,6 +175,7 @@ impl World {
         }
         self.text.push_str("| ")?;
         push_line(&mut self.text, row)?;
+        self.row.restart();
         self.fresh = true;
         Ok(())
     }
@@ -162,9 +189,12 @@ impl World {
         if self.view == View::Screen {
             return Ok(());
         }
-        self.text.push_str(PROMPT_WORDS)?;
         self.fresh = false;
-        Ok(())
+        if self.view.wraps() {
+            wrap_bytes(&mut self.row, &mut self.text, PROMPT_WORDS.as_bytes())?;
+            return self.let_go();
+        }
+        self.text.push_str(PROMPT_WORDS)
     }
 
     /// Shows a line that was taken, unless the screen is composed.
@@ -176,10 +206,38 @@ impl World {
         if self.view == View::Screen {
             return Ok(());
         }
-        push_line(&mut self.text, line.as_slice())?;
         self.fresh = true;
-        Ok(())
+        if self.view.wraps() {
+            return wrap_line(&mut self.row, &mut self.text, line.as_slice());
+        }
+        push_line(&mut self.text, line.as_slice())
     }
+}
+
+/// Wraps the bytes as characters.
+#[tactic(auto, using(crate::proofs::Texts::wrap_turns))]
+fn wrap_bytes(row: &mut Wrapper, text: &mut String, bytes: &[u8]) -> Result<(), AllocError>
+    ensures row { OnOk result (row.new ≡ (wrapped_chars row.old bytes.now).1) }
+    ensures text { OnOk result
+        (string_bytes text.new ≡ string_bytes text.old ++ encode_utf8_all (wrapped_chars row.old bytes.now).0) }
+{
+    for byte in bytes {
+        row.put(text, char::from(*byte))?;
+    }
+    Ok(())
+}
+
+/// Wraps characters as they are shown and a line feed.
+#[tactic(auto, using(crate::proofs::Texts::line_turns))]
+fn wrap_line(row: &mut Wrapper, text: &mut String, chars: &[u32]) -> Result<(), AllocError>
+    ensures row { OnOk result (row.new ≡ (wrapped_chars row.old (map shown chars.now ++ 0x0A ∷ [])).1) }
+    ensures text { OnOk result (string_bytes text.new ≡ string_bytes text.old
+        ++ encode_utf8_all (wrapped_chars row.old (map shown chars.now ++ 0x0A ∷ [])).0) }
+{
+    for c in chars {
+        row.put(text, show(*c))?;
+    }
+    row.put(text, '\n')
 }
 
 /// Whether a screen is the one that was shown last.

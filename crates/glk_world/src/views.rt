@@ -1,4 +1,6 @@
 //! How the text that a story shows is put together.
+ghost use Rattle.std.specs.Prelude.{◌≡◌};
+ghost use Rattle.glk_world.specs.World.{wraps};
 
 /// What is shown of windows.
 #[derive(Clone, Copy, Debug, PartialEq, Eq)]
@@ -9,4 +11,17 @@ pub enum View {
     Plain,
     /// The whole screen at each wait, each window at its place.
     Screen,
+    /// As with `Rows`, where text that isn't a grid's is wrapped.
+    WrappedRows,
+    /// As with `Plain`, where text is wrapped.
+    WrappedPlain,
+}
+
+impl View {
+    /// Whether text is wrapped.
+    pub fn wraps(self) -> bool
+        ensures { result ≡ wraps self }
+    {
+        matches!(self, View::WrappedRows | View::WrappedPlain)
+    }
 }

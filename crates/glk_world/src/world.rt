@@ -13,7 +13,7 @@ use crate::{FileReference, ShownGrid, View};
 use arrayvec::ArrayVec;
 use glk_events::Requests;
 use glk_objects::{next, place};
-use glk_screen::Screen;
+use glk_screen::{Screen, Wrapper};
 use glk_streams::Streams;
 use glk_windows::Windows;
 use gx_words::Numbers;
@@ -50,6 +50,8 @@ pub struct World {
     pub(crate) requests: Requests,
     pub(crate) current: u32,
     pub(crate) next_id: u32,
+    /// The present row of text, where it is wrapped.
+    pub(crate) row: Wrapper,
     pub(crate) fresh: bool,
     pub(crate) waiting: Option<Waiting>,
     pub(crate) text: String,
@@ -99,6 +101,24 @@ impl World {
         World::viewed(alloc, View::Screen, columns, rows)
     }
 
+    /// Rows of grids are shown behind a bar, and text is wrapped.
+    pub fn wrapped(alloc: Global, columns: u32, rows: u32) -> World
+        requires columns { (1 ≤ columns) × (columns ≤ 255) }
+        requires rows { (1 ≤ rows) × (rows ≤ 255) }
+        ensures { result ≡ empty_world view.WrappedRows columns rows }
+    {
+        World::viewed(alloc, View::WrappedRows, columns, rows)
+    }
+
+    /// Grids are shown nowhere, and text is wrapped.
+    pub fn wrapped_plain(alloc: Global, columns: u32, rows: u32) -> World
+        requires columns { (1 ≤ columns) × (columns ≤ 255) }
+        requires rows { (1 ≤ rows) × (rows ≤ 255) }
+        ensures { result ≡ empty_world view.WrappedPlain columns rows }
+    {
+        World::viewed(alloc, View::WrappedPlain, columns, rows)
+    }
+
     fn viewed(alloc: Global, view: View, columns: u32, rows: u32) -> World
         requires columns { (1 ≤ columns) × (columns ≤ 255) }
         requires rows { (1 ≤ rows) × (rows ≤ 255) }
@@ -116,6 +136,7 @@ impl World {
             requests: Requests::new(alloc),
             current: 0,
             next_id: 1,
+            row: Wrapper::new(alloc, columns),
             fresh: true,
             waiting: None,
             text: String::new(alloc),

@@ -169,6 +169,20 @@ the-screen-in-rewind : command_of (words (codes "hall.ulx" ∷ codes "--screen" 
 unfolding clap_on_literals command_of faults_of matched_in player
 the-screen-in-rewind = refl
 
+wrapped-text : command_of (words (codes "hall.ulx" ∷ codes "--wrap" ∷ codes "--echo" ∷ []))
+    ≡ Some (record (usual (codes "hall.ulx")) { echo = true; view = view.WrappedRows })
+unfolding clap_on_literals command_of faults_of matched_in player
+wrapped-text = refl
+
+wrapped-text-alone : command_of (words (codes "hall.ulx" ∷ codes "--plain" ∷ codes "--wrap" ∷ codes "--job=check" ∷ []))
+    ≡ Some (record (usual (codes "hall.ulx")) { view = view.WrappedPlain; job = Check })
+unfolding clap_on_literals command_of faults_of matched_in player
+wrapped-text-alone = refl
+
+wrapped-screen : command_of (words (codes "hall.ulx" ∷ codes "--screen" ∷ codes "--wrap" ∷ [])) ≡ None
+unfolding clap_on_literals command_of faults_of matched_in player
+wrapped-screen = refl
+
 both-views : command_of (words (codes "hall.ulx" ∷ codes "--screen" ∷ codes "--plain" ∷ [])) ≡ None
 unfolding clap_on_literals command_of faults_of matched_in player
 both-views = refl

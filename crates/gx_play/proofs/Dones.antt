@@ -2,6 +2,7 @@
 use Rattle.std.proofs.Common.{◌≡◌, ◌≢◌, ℕ, ◌≤◌, ◌⊎◌, inl, inr, Bool, true, false, List, [], ◌∷◌, Option, Some, None}
 use Rattle.std.proofs.Common.{IfSome, length, Result, Ok, Err, refl, ap, subst, sym, ◌∙◌, arith}
 use Rattle.gx_words.specs.Constants.{ceiling}
+use Rattle.glk_screen.proofs.WrapLaws.{wrapping_keeps}
 use Rattle.gx_outside.specs.Chains.{Chain}
 use Rattle.gx_outside.specs.Outside.{FlatShelf, FlatSink}
 use Rattle.gx_outside.specs.Reads.{SourceCall}
@@ -422,6 +423,7 @@ module _ {A : Type 0} (ended : Ended A) where
               (IfSome o (λ (c : Command). c.job ≡ Play)) ended) (sym is) done.parts;
           works = works;
           spelling = spelling;
+          wrapping = wrapping_keeps;
         }
 
     -- no device was called
@@ -472,6 +474,7 @@ module _ {A : Type 0} (ended : Ended A) where
               (omega arith) (λ _. refl);
           works = works;
           spelling = spelling;
+          wrapping = wrapping_keeps;
         }
 
     unread-comes : (o : Option Command) → entry.sends ≡ [] → entry.asked ≡ []
@@ -512,4 +515,5 @@ module _ {A : Type 0} (ended : Ended A) where
               (inr (inr (inr refl))) (omega arith) (λ _. refl);
           works = works;
           spelling = spelling;
+          wrapping = wrapping_keeps;
         }

@@ -1,5 +1,5 @@
 -- The command line: gx_player STORY [--steps N] [--columns N] [--rows N] [--undo N] [--seed N] [--back N] [--echo]
--- [--screen | --plain] [--job JOB].
+-- [--screen | [--plain] [--wrap]] [--job JOB].
 --
 -- The words are those of one simple command of clap, the program's name first, so `--steps N` and `--steps=N` are
 -- alike, options stand before or after STORY, and after `--` every word is STORY. A question for help is no command. N
@@ -36,6 +36,7 @@ player = fold with_rule (new_app (codes "gx_player")) (record (new_rule (codes "
     ∷ text_rule (codes "rows") (codes "24" ∷ []) ∷ text_rule (codes "undo") (codes "16" ∷ [])
     ∷ text_rule (codes "seed") [] ∷ text_rule (codes "back") (codes "0" ∷ [])
     ∷ flag_rule (codes "echo") ∷ flag_rule (codes "screen") ∷ flag_rule (codes "plain")
+    ∷ flag_rule (codes "wrap")
     ∷ text_rule (codes "job") (codes "play" ∷ []) ∷ [])
 
 -- WHAT A COMMAND LINE ASKS FOR: the name of the file, the budget of the run, the size of the screen, how many copies
@@ -74,14 +75,16 @@ job_of story name =
     if bytes_eq name (codes "asm") then Some Asm else
     if bytes_eq name (codes "list") then Some Listing else None
 
--- HOW THE TEXT IS PUT TOGETHER, by the flags screen, plain and echo, and the job. With `--screen` the screen is
--- composed; that isn't understood with `--plain` or `--echo`, nor in a job other than play. With `--plain` grids are
--- shown nowhere. Else rows of grids stand behind a bar.
-abbrev pub view_for : Bool → Bool → Bool → Job → Option View
-view_for false false echo job = Some view.Rows
-view_for false true echo job = Some view.Plain
-view_for true false false Play = Some view.Screen
-view_for screen plain echo job = None
+-- HOW THE TEXT IS PUT TOGETHER, by the flags screen, plain, wrap and echo, and the job. With `--screen` the screen is
+-- composed; that isn't understood with `--plain`, `--wrap` or `--echo`, nor in a job other than play. With `--plain`
+-- grids are shown nowhere. Else rows of grids stand behind a bar. With `--wrap` all other text is wrapped.
+abbrev pub view_for : Bool → Bool → Bool → Bool → Job → Option View
+view_for false false false echo job = Some view.Rows
+view_for false true false echo job = Some view.Plain
+view_for false false true echo job = Some view.WrappedRows
+view_for false true true echo job = Some view.WrappedPlain
+view_for true false false false Play = Some view.Screen
+view_for screen plain wrap echo job = None
 
 -- a flag is set
 abbrev pub is_set : Option Text → Bool
@@ -103,7 +106,8 @@ command_in under = do
   seed ← seed_of (under (codes "seed"))
   back ← under (codes "back") >>= number_spelled 0 (2 ^ 64 - 1)
   job ← under (codes "job") >>= job_of story
-  view ← view_for (is_set (under (codes "screen"))) (is_set (under (codes "plain"))) (is_set (under (codes "echo"))) job
+  view ← view_for (is_set (under (codes "screen"))) (is_set (under (codes "plain"))) (is_set (under (codes "wrap")))
+      (is_set (under (codes "echo"))) job
   Some (record {
     story = story;
     steps = steps;

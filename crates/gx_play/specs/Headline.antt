@@ -38,7 +38,7 @@
 -- in these jobs is then `refused`).
 --
 -- The text of a session is that of the view that the command line chooses (`view_for` in specs/Commands; what each view
--- shows is said in glk_world/specs/Shown), and all of this holds with each of the three:
+-- shows is said in glk_world/specs/Shown and Putting), and all of this holds with each of them:
 --
 -- - As usual it is what is put to text buffer windows, in that order, with the prompts for names of files, and with
 --   `--echo` the lines that are taken; and before a line is awaited the rows of each grid that has changed, each row
@@ -47,6 +47,13 @@
 -- - With `--screen` it is the whole screen, composed of all windows (`composed` in glk_screen/specs/Screen): at each
 --   wait for a line, with the prompt behind it where a name is asked for, and at the end once more, where it differs
 --   from the screen that was shown last (`final_of` of gx_session/specs/Session). Nothing else is text then.
+-- - With `--wrap`, beside `--plain` or not, all of that text but the rows of grids is cut into rows of the screen's
+--   columns as it comes (`wrapped_char` in glk_screen/specs/Wrapper). A row that isn't full is held back, and is no
+--   text before it is full or ends, or a wait, a prompt or the end of the run lets it go. Whatever characters come,
+--   what is let go and what is held is these characters, but for the breaks: each took the place of one blank, or was
+--   added between two characters. And no row is wider, but for one that a single character makes so (`wrapping`). That
+--   the characters which come are those of the same run without `--wrap` is not said: that no definition of a Glk call
+--   looks at the present row is seen by reading them.
 --
 -- The random words are the device's, or with `--seed` those of specs/Seeds. Then the device isn't drawn from at all, in
 -- any job and whatever the end (`undrawn`), and the outcome is the same over any other words that it might hold
@@ -115,6 +122,7 @@
 -- Loading, Reading and Silent are no part of it: they are what the contracts of the parts of `play` need.
 use Rattle.std.specs.Prelude.{◌≡◌, ◌≢◌, ℕ, List, ◌⊎◌, ◌↔◌, true, Option, None, IsSome, IfSome, IsSomeAnd}
 use Rattle.std.specs.Option.{option_and_then}
+use Rattle.glk_screen.specs.Laws.{WrappingKeeps}
 use Rattle.gx_outside.specs.Chains.{Chain}
 use Rattle.gx_outside.specs.Outside.{raised_by}
 use Rattle.gx_outside.specs.Reads.{SourceCall}
@@ -174,3 +182,4 @@ pub record IsPlayed {A : Type 0} (command : Option Command) (entry exit : Device
   pub parts : HasItsParts (IfSome command (λ c. PlaysStory c.job)) (IfSome command (λ c. c.job ≡ Play)) ended
   pub works : (number : ℕ) → IsSome (work_machine number)
   pub spelling : IsSpelling
+  pub wrapping : WrappingKeeps

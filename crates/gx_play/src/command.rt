@@ -1,9 +1,9 @@
 //! The command line: what its words ask for.
 //!
-//! `gx_player STORY [--steps N] [--columns N] [--rows N] [--undo N] [--seed N] [--back N] [--echo]
-//! [--screen | --plain] [--job JOB]`, read as specs/Commands has it: a command exactly where the words match, each text
-//! is as it has to be and the flags go together. All options are looked at in every job. Reading takes memory, so that
-//! want of memory may come for any words.
+//! `gx_player STORY [--steps N] [--columns N] [--rows N] [--undo N] [--seed N] [--back N] [--echo] [--screen |
+//! [--plain] [--wrap]] [--job JOB]`, read as specs/Commands has it: a command exactly where the words match, each
+//! text is as it has to be and the flags go together. All options are looked at in every job. Reading takes memory,
+//! so that want of memory may come for any words.
 ghost use Rattle.std.specs.Prelude.{◌≡◌, ◌≤◌, Some, map, MatchResult, IfOk, IfSome, option_map};
 ghost use Rattle.std.specs.Char.{is_ascii_digit};
 ghost use Rattle.std.specs.List.{list_all};
@@ -72,6 +72,8 @@ impl Command<'_> {
             View::Rows => World::new(alloc, self.columns, self.rows),
             View::Plain => World::plain(alloc, self.columns, self.rows),
             View::Screen => World::screened(alloc, self.columns, self.rows),
+            View::WrappedRows => World::wrapped(alloc, self.columns, self.rows),
+            View::WrappedPlain => World::wrapped_plain(alloc, self.columns, self.rows),
         }
     }
 }
@@ -125,6 +127,7 @@ fn read_matches<'a>(matches: &ArgMatches<'a>) -> Option<Command<'a>>
     let view = read_view(
         is_set(matches, "screen"),
         is_set(matches, "plain"),
+        is_set(matches, "wrap"),
         echo,
         job,
     )?;
@@ -181,14 +184,16 @@ fn read_job(story: &str, name: &str) -> Option<Job>
 }
 
 /// How the text is put together; None where the flags don't go together in this job.
-fn read_view(screen: bool, plain: bool, echo: bool, job: Job) -> Option<View>
-    ensures { result ≡ view_for screen plain echo job }
+fn read_view(screen: bool, plain: bool, wrap: bool, echo: bool, job: Job) -> Option<View>
+    ensures { result ≡ view_for screen plain wrap echo job }
 {
-    match (screen, plain) {
-        (false, false) => Some(View::Rows),
-        (false, true) => Some(View::Plain),
-        (true, false) if !echo && job == Job::Play => Some(View::Screen),
-        (true, _) => None,
+    match (screen, plain, wrap) {
+        (false, false, false) => Some(View::Rows),
+        (false, true, false) => Some(View::Plain),
+        (false, false, true) => Some(View::WrappedRows),
+        (false, true, true) => Some(View::WrappedPlain),
+        (true, false, false) if !echo && job == Job::Play => Some(View::Screen),
+        (true, _, _) => None,
     }
 }
 

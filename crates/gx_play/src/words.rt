@@ -1,5 +1,5 @@
-//! The words of the command line, matched by `clap` with one simple command: STORY and ten options,
-//! which are texts and three flags. What the texts are worth, and which flags go together, is no matter here.
+//! The words of the command line, matched by `clap` with one simple command: STORY and eleven options,
+//! which are texts and four flags. What the texts are worth, and which flags go together, is no matter here.
 //!
 //! Why the words have no matches isn't told: a question for help is a faulty command line like any
 //! other.
@@ -42,6 +42,7 @@ fn player<'a>(alloc: Global) -> Result<Command<'a>, AllocError>
     let echo = flag_arg(alloc, "echo");
     let screen = flag_arg(alloc, "screen");
     let plain = flag_arg(alloc, "plain");
+    let wrap = flag_arg(alloc, "wrap");
     let job = text_arg(alloc, "job", "play");
     let with_story = Command::new(alloc, "gx_player").arg(story)?;
     let with_steps = with_story.arg(steps)?;
@@ -53,7 +54,8 @@ fn player<'a>(alloc: Global) -> Result<Command<'a>, AllocError>
     let with_echo = with_back.arg(echo)?;
     let with_screen = with_echo.arg(screen)?;
     let with_plain = with_screen.arg(plain)?;
-    with_plain.arg(job)
+    let with_wrap = with_plain.arg(wrap)?;
+    with_wrap.arg(job)
 }
 
 /// STORY, which has to be there.

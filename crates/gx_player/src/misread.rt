@@ -127,7 +127,9 @@ impl<'a> Reading<'a> {
             return WordsReason::BadWork(WORK, Shown(story));
         }
         if self.has("screen") {
-            let other = ["plain", "echo"].into_iter().find(|it| self.has(it));
+            let other = ["plain", "wrap", "echo"]
+                .into_iter()
+                .find(|it| self.has(it));
             return match other {
                 Some(name) => WordsReason::NotWithScreen(Shown(name)),
                 None => WordsReason::NoScreen,

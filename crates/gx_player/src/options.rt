@@ -40,7 +40,7 @@ pub const WORK: Wanted = Wanted::Number {
 };
 
 /// How many options there are.
-pub const OPTION_COUNT: usize = 10;
+pub const OPTION_COUNT: usize = 11;
 
 const OPTIONS: [CommandOption; OPTION_COUNT] = [
     ("steps", Some(ANY)),
@@ -53,6 +53,7 @@ const OPTIONS: [CommandOption; OPTION_COUNT] = [
     ("echo", None),
     ("screen", None),
     ("plain", None),
+    ("wrap", None),
 ];
 
 /// All options.

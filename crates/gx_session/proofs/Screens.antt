@@ -2,8 +2,8 @@
 use Rattle.std.proofs.Common.{◌≡◌, true, None, Option, refl, ap, subst, sym, ◌∙◌, map}
 use Rattle.std.specs.List.{concat}
 use Rattle.gx_machine.specs.declared.askings.Asking.{Asking}
-use Rattle.glk_world.specs.World.{FlatWorld, after, is_composed}
-use Rattle.glk_world.specs.Shown.{end_text}
+use Rattle.glk_world.specs.World.{FlatWorld, after}
+use Rattle.glk_world.specs.Shown.{end_text, EndWants}
 use Rattle.gx_session.specs.declared.ends.Stop.{Stop}
 use Rattle.gx_session.specs.declared.ends.Stop.TheVariants as stop
 use Rattle.gx_session.specs.declared.ends.Halt.TheVariants as halt
@@ -107,12 +107,12 @@ module _ {K : Type 0} {sending : SendStep K} (start : Configuration) (entry : Ha
         g.is_past.reads g.is_past.left
 
     -- it wants memory
-    pub screen-wants : (world : FlatWorld) → is_composed h.world.scene ≡ true
+    pub screen-wants : (world : FlatWorld) → EndWants h.world.scene
         → Early start entry (record h { world = world }) asking d halt.NoMemory
-    screen-wants world composed =
+    screen-wants world wants =
         let here : at-stop ≡ (stop_of start).configuration = sym (ap (λ (e : RunEnd). e.configuration) g.is_end) in
         cut-at start entry d (record h { world = world }) asking halt.NoMemory None by_memory at-stop
-        (map whole_send g.past.sent) ((here, composed), asks-end) refl refl refl refl (h.world.text, refl)
+        (map whole_send g.past.sent) ((here, wants), asks-end) refl refl refl refl (h.world.text, refl)
         (none-sent g.past.sent)
         g.is_past.taken shown-by-then (none-asked d.asked) (λ other. input-then)
         (words-left h.word d.words g.past.words g.is_past.word) g.saves

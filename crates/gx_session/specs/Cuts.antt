@@ -7,7 +7,7 @@ use Rattle.gx_outside.specs.declared.devices.SendFault.{SendFault}
 use Rattle.gx_outside.specs.declared.devices.SendFault.TheVariants as of_send
 use Rattle.gx_outside.specs.declared.devices.ShelfFault.{ShelfFault}
 use Rattle.gx_outside.specs.declared.devices.ShelfFault.TheVariants as of_shelf
-use Rattle.glk_world.specs.World.{is_composed}
+use Rattle.glk_world.specs.Shown.{EndWants}
 use Rattle.glk_replies.specs.declared.Turn.{Turn}
 use Rattle.gx_session.specs.declared.ends.Stop.{Stop}
 use Rattle.gx_session.specs.declared.ends.Stop.TheVariants as stop
@@ -67,10 +67,10 @@ IsCutAt m (by_shelf r fault) asking =
 IsCutAt m by_source asking = (sends_now m ≡ false) × AsksFor m.phase IsWait × (asking ≡ asked m)
 
 -- A run that stopped at one configuration and ended at another is cut short so in its ending, at this one. Memory is
--- wanted only for the last screen, where it is composed; a send is refused only where text is due, and a store after
--- those in front of it.
+-- wanted only for what the view shows at the end; a send is refused only where text is due, and a store after those in
+-- front of it.
 abbrev pub IsCutAtEnd : Configuration → Configuration → RunCut → Configuration → Type 0
-IsCutAtEnd stopped ended by_memory m = (m ≡ stopped) × (is_composed m.world.scene ≡ true)
+IsCutAtEnd stopped ended by_memory m = (m ≡ stopped) × EndWants m.world.scene
 IsCutAtEnd stopped ended (by_sink fault) m = (m ≡ ended) × (is_due 1 m.sent m.world.text ≡ true)
 IsCutAtEnd stopped ended (by_shelf r fault) m =
     (front : List (List ℕ × List ℕ)) × (next : List ℕ × List ℕ) × (rest : List (List ℕ × List ℕ))

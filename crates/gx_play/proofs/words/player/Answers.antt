@@ -28,5 +28,7 @@ returns c =
     ∙ ap₂ with_rule eight c.flag_arg-screen.ensures.rule in
     let ten = c.in_ok-with_plain.ensures.shape c.flag_arg-plain.ensures.global
     ∙ ap₂ with_rule nine c.flag_arg-plain.ensures.rule in
-    IfOk-weaker c.arg-11.result _ _
-    (λ m h. h.shape c.text_arg-job.ensures.global ∙ ap₂ with_rule ten c.text_arg-job.ensures.rule) c.arg-11.ensures
+    let eleven = c.in_ok-with_wrap.ensures.shape c.flag_arg-wrap.ensures.global
+    ∙ ap₂ with_rule ten c.flag_arg-wrap.ensures.rule in
+    IfOk-weaker c.arg-12.result _ _
+    (λ m h. h.shape c.text_arg-job.ensures.global ∙ ap₂ with_rule eleven c.text_arg-job.ensures.rule) c.arg-12.ensures
