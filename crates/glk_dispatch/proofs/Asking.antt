@@ -30,7 +30,7 @@ use Rattle.glk_object_calls.specs.References.{fileref_create_by_prompt}
 use Rattle.glk_object_calls.specs.References.{fileref_delete_file, fileref_does_file_exist}
 use Rattle.glk_event_calls.specs.Events.{select, no_event}
 use Rattle.glk_dispatch.specs.declared.table.Selector.{Selector}
-use Rattle.glk_dispatch.specs.Rows.{Doing, answers, turns, Row}
+use Rattle.glk_dispatch.specs.CallRows.{Doing, answers, turns, CallRow}
 use Rattle.glk_dispatch.specs.ObjectCalls.{exits, window_calls, stream_calls}
 use Rattle.glk_dispatch.specs.TextCalls.{text_calls, event_calls, unicode_calls}
 use Rattle.glk_dispatch.specs.Table.{call_table, row_in, row_for, is_dropped}
@@ -209,7 +209,7 @@ module _ (f : FlatState) (room : ℕ) where
   AskAnd (answers call) looks rest = rest
   AskAnd (turns call) looks rest = Asks call looks × rest
 
-  abbrev AllAsk : List Row → Type 0
+  abbrev AllAsk : List CallRow → Type 0
   AllAsk [] = Unit {0}
   AllAsk (row ∷ rows) = AskAnd row.does row.looks (AllAsk rows)
 
@@ -246,7 +246,7 @@ module _ (f : FlatState) (room : ℕ) where
   rest_ask (answers call) looks rest all = all
   rest_ask (turns call) looks rest all = all.1
 
-  row_asks : (number : ℕ) (rows : List Row) (row : Row) → AllAsk rows → row_in rows number ≡ Some row
+  row_asks : (number : ℕ) (rows : List CallRow) (row : CallRow) → AllAsk rows → row_in rows number ≡ Some row
       → Asks (done row.does) row.looks
   row_asks number [] row all is = absurd (cc)
   row_asks number (one ∷ rows) row all is = elim (one.looks.number == number) as
@@ -258,13 +258,13 @@ module _ (f : FlatState) (room : ℕ) where
 
   -- ---- of the call
 
-  on_none : (none : Bool) (w : Scene) (row : Row) (args : List ℕ) (r : Said × Turn) → is_on_none row.looks args ≡ none
+  on_none : (none : Bool) (w : Scene) (row : CallRow) (args : List ℕ) (r : Said × Turn) → is_on_none row.looks args ≡ none
       → looked_at w row.looks args ≡ Ok tt → Asks (done row.does) row.looks
       → (if none then as_turn (nothing w f room row.looks args) else done row.does w f room args) ≡ Ok r → IsAsked r
   on_none true w row args r same ok asks is = answered_asks (nothing w f room row.looks args) r is
   on_none false w row args r same ok asks is = asks w args r (ready_looks w row.looks args ok same) is
 
-  on_looks : (look : Result (Unit {0}) Fault) (w : Scene) (row : Row) (args : List ℕ) (r : Said × Turn)
+  on_looks : (look : Result (Unit {0}) Fault) (w : Scene) (row : CallRow) (args : List ℕ) (r : Said × Turn)
       → looked_at w row.looks args ≡ look → Asks (done row.does) row.looks
       → (look >>= λ _. if is_on_none row.looks args then as_turn (nothing w f room row.looks args)
       else done row.does w f room args) ≡ Ok r → IsAsked r
@@ -276,7 +276,7 @@ module _ (f : FlatState) (room : ℕ) where
   then_dropped true w r is = answered_asks (tells w 0) r is
   then_dropped false w r is = absurd (cc)
 
-  found_asks : (found : Option Row) (w : Scene) (selector : ℕ) (args : List ℕ) (r : Said × Turn)
+  found_asks : (found : Option CallRow) (w : Scene) (selector : ℕ) (args : List ℕ) (r : Said × Turn)
       → row_in call_table selector ≡ found → call_by found w f room selector args ≡ Ok r → IsAsked r
   found_asks None w selector args r same is = then_dropped (is_dropped selector) w r is
   found_asks (Some row) w selector args r same is =

@@ -10,7 +10,7 @@ use Rattle.glk_replies.specs.Numbers as selectors
 use Rattle.glk_replies.specs.TextNumbers as texts
 use Rattle.gx_state.specs.Flat.{FlatState}
 use Rattle.glk_world.specs.World.{Scene}
-use Rattle.glk_dispatch.specs.Rows.{Doing, answers, turns, Row}
+use Rattle.glk_dispatch.specs.CallRows.{Doing, answers, turns, CallRow}
 use Rattle.glk_dispatch.specs.ObjectCalls.{window_calls, stream_calls}
 use Rattle.glk_dispatch.specs.TextCalls.{text_calls, event_calls, unicode_calls}
 use Rattle.glk_dispatch.specs.Table.{call_table, row_in, row_for}
@@ -22,20 +22,20 @@ use Rattle.glk_dispatch.specs.Ready.{reference_row, output_row, input_row, event
 use Rattle.glk_dispatch.specs.Ready.{unicode_input_row}
 
 -- rows of other selectors
-abbrev others : ℕ → List Row → Type 0
+abbrev others : ℕ → List CallRow → Type 0
 others number rows = row_in rows number ≡ None
 
 both : (a b : Bool) → (a && b) ≡ true → (a ≡ true) × (b ≡ true)
 both true b h = (refl, h)
 both false b h = absurd (cc)
 
-abbrev below : ℕ → Row → Bool
+abbrev below : ℕ → CallRow → Bool
 below bound row = nat_lt row.looks.number bound
 
-abbrev from : ℕ → Row → Bool
+abbrev from : ℕ → CallRow → Bool
 from bound row = nat_le bound row.looks.number
 
-below_are_others : (number bound : ℕ) (rows : List Row) → list_all (below bound) rows ≡ true → bound ≤ number
+below_are_others : (number bound : ℕ) (rows : List CallRow) → list_all (below bound) rows ≡ true → bound ≤ number
     → others number rows
 below_are_others number bound [] all reached = refl
 below_are_others number bound (row ∷ rows) all reached =
@@ -43,7 +43,7 @@ below_are_others number bound (row ∷ rows) all reached =
     let other : (row.looks.number == number) ≡ false = grind (arith, nat_tests, b.0, reached) in
     rw other (below_are_others number bound rows b.1 reached)
 
-above_are_others : (number bound : ℕ) (rows : List Row) → list_all (from bound) rows ≡ true → number < bound
+above_are_others : (number bound : ℕ) (rows : List CallRow) → list_all (from bound) rows ≡ true → number < bound
     → others number rows
 above_are_others number bound [] all until = refl
 above_are_others number bound (row ∷ rows) all until =
@@ -51,27 +51,27 @@ above_are_others number bound (row ∷ rows) all until =
     let other : (row.looks.number == number) ≡ false = grind (arith, nat_tests, b.0, until) in
     rw other (above_are_others number bound rows b.1 until)
 
-or_none : (a : Option Row) → option_or a None ≡ a
+or_none : (a : Option CallRow) → option_or a None ≡ a
 or_none None = refl
 or_none (Some row) = refl
 
-behind : (number : ℕ) (rows more : List Row) → others number rows → row_in (rows ++ more) number ≡ row_in more number
+behind : (number : ℕ) (rows more : List CallRow) → others number rows → row_in (rows ++ more) number ≡ row_in more number
 behind number rows more none =
     find-append (λ row. row.looks.number == number) rows more ∙ ap (λ found. option_or found (row_in more number)) none
 
-before : (number : ℕ) (rows more : List Row) → others number more → row_in (rows ++ more) number ≡ row_in rows number
+before : (number : ℕ) (rows more : List CallRow) → others number more → row_in (rows ++ more) number ≡ row_in rows number
 before number rows more none =
     find-append (λ row. row.looks.number == number) rows more
     ∙ (ap (λ found. option_or (row_in rows number) found) none ∙ or_none (row_in rows number))
 
 -- what stands behind each list
-abbrev behind_windows : List Row
+abbrev behind_windows : List CallRow
 behind_windows = stream_calls ++ (text_calls ++ (event_calls ++ unicode_calls))
 
-abbrev behind_streams : List Row
+abbrev behind_streams : List CallRow
 behind_streams = text_calls ++ (event_calls ++ unicode_calls)
 
-abbrev behind_texts : List Row
+abbrev behind_texts : List CallRow
 behind_texts = event_calls ++ unicode_calls
 
 not_windows : (number : ℕ) → selectors.stream_iterate ≤ number → row_for number ≡ row_in behind_windows number
@@ -100,7 +100,7 @@ true_or_false true = inl refl
 true_or_false false = inr refl
 
 -- a row that takes a turn has one of the numbers of those
-abbrev is_known : Row → Bool
+abbrev is_known : CallRow → Bool
 is_known row = answers_at_once row.does || takes_turn row.looks.number
 
 same_number : (a b : ℕ) → (a == b) ≡ true → takes_turn a ≡ takes_turn b
@@ -114,7 +114,7 @@ not_the_turn a b turn none = elim (true_or_false (a == b)) [
 ]
 
 -- a row that is left out has another number
-left_out : (within : ℕ → Bool) (number : ℕ) (row : Row) → is_known row ≡ true → takes_turn number ≡ false
+left_out : (within : ℕ → Bool) (number : ℕ) (row : CallRow) → is_known row ≡ true → takes_turn number ≡ false
     → within number ≡ true → (within row.looks.number && answers_at_once row.does) ≡ false
     → (row.looks.number == number) ≡ false
 left_out within number row known none inside out = elim (true_or_false (row.looks.number == number)) [
@@ -126,14 +126,14 @@ left_out within number row known none inside out = elim (true_or_false (row.look
   | inr other ↦ other
 ]
 
-at_once_row : (stays : Bool) (number : ℕ) (row : Row) (rest more : List Row)
+at_once_row : (stays : Bool) (number : ℕ) (row : CallRow) (rest more : List CallRow)
     → (stays ≡ false → (row.looks.number == number) ≡ false) → row_in rest number ≡ row_in more number
     → row_in (row ∷ rest) number ≡ row_in (if stays then row ∷ more else more) number
 at_once_row true number row rest more other same =
-    ap (λ (r : Option Row). if row.looks.number == number then Some row else r) same
+    ap (λ (r : Option CallRow). if row.looks.number == number then Some row else r) same
 at_once_row false number row rest more other same = rw (other refl) same
 
-at_once : (within : ℕ → Bool) (number : ℕ) (rows : List Row) → list_all is_known rows ≡ true
+at_once : (within : ℕ → Bool) (number : ℕ) (rows : List CallRow) → list_all is_known rows ≡ true
     → takes_turn number ≡ false → within number ≡ true → row_in rows number ≡ row_in (answering within rows) number
 at_once within number [] all none inside = refl
 at_once within number (row ∷ rows) all none inside =
@@ -141,12 +141,12 @@ at_once within number (row ∷ rows) all none inside =
     at_once_row (within row.looks.number && answers_at_once row.does) number row rows (answering within rows)
     (left_out within number row b.0 none inside) (at_once within number rows b.1 none inside)
 
-once_below : (bound number : ℕ) (rows : List Row) → list_all is_known rows ≡ true → takes_turn number ≡ false
+once_below : (bound number : ℕ) (rows : List CallRow) → list_all is_known rows ≡ true → takes_turn number ≡ false
     → number < bound → row_in rows number ≡ row_in (answering_below bound rows) number
 once_below bound number rows all none until =
     at_once (λ n. nat_lt n bound) number rows all none (grind (arith, nat_tests, until))
 
-once_from : (bound number : ℕ) (rows : List Row) → list_all is_known rows ≡ true → takes_turn number ≡ false
+once_from : (bound number : ℕ) (rows : List CallRow) → list_all is_known rows ≡ true → takes_turn number ≡ false
     → bound ≤ number → row_in rows number ≡ row_in (answering_from bound rows) number
 once_from bound number rows all none reached =
     at_once (λ n. nat_le bound n) number rows all none (grind (arith, nat_tests, reached))
@@ -158,7 +158,7 @@ row_answers (answers call) at number w f room args known here none = refl
 row_answers (turns call) at number w f room args known here none =
     absurd (let same = same_number at number here in cc)
 
-rows_answer : (number : ℕ) (rows : List Row) (w : Scene) (f : FlatState) (room : ℕ) (args : List ℕ)
+rows_answer : (number : ℕ) (rows : List CallRow) (w : Scene) (f : FlatState) (room : ℕ) (args : List ℕ)
     → list_all is_known rows ≡ true → takes_turn number ≡ false
     → done_by (row_in rows number) w f room args ≡ as_turn (answer_by (row_in rows number) w f room args)
 rows_answer number [] w f room args all none = refl

@@ -43,7 +43,7 @@ use Rattle.glk_replies.specs.declared.Turn.{Turn}
 use Rattle.glk_replies.specs.declared.Turn.TheVariants as turn
 use Rattle.glk_object_calls.specs.Answers.{as_turn}
 use Rattle.glk_dispatch.specs.Calls.{done, is_on_none}
-use Rattle.glk_dispatch.specs.Rows.{Row}
+use Rattle.glk_dispatch.specs.CallRows.{CallRow}
 use Rattle.glk_dispatch.specs.Memory.{has_some, gives_some, turn_takes, is_more, takes_some, is_left_out}
 use Rattle.glk_object_calls.specs.Gestalts.{gestalt_ext, has_glyphs}
 use Rattle.glk_object_calls.specs.Windows as window
@@ -358,7 +358,7 @@ exist_takes w args r is = asked w r _ refl is
 -- ---- the calls, row by row
 
 -- what a call takes, beside where it may want memory
-abbrev pub Law : Row → Type 0
+abbrev pub Law : CallRow → Type 0
 Law row =
     (w : Scene) (f : FlatState) (room : ℕ) (args : List ℕ) (r : Said × Turn)
     → is_left_out w row.looks.number args ≡ false → is_on_none row.looks args ≡ false → row.wants w f args ≡ true

@@ -21,7 +21,7 @@ use Rattle.glk_dispatch.specs.declared.table.Selector.{Selector}
 use Rattle.glk_object_calls.specs.Answers.{as_turn}
 use Rattle.glk_dispatch.specs.Calls.{done, looked_at, is_on_none, nothing, gives_nothing, glk_call, grows, IsGrowing}
 use Rattle.glk_dispatch.proofs.Ready.{call_by, grows_by}
-use Rattle.glk_dispatch.specs.Rows.{Row}
+use Rattle.glk_dispatch.specs.CallRows.{CallRow}
 use Rattle.glk_dispatch.specs.ObjectCalls.{window_calls, stream_calls}
 use Rattle.glk_dispatch.specs.TextCalls.{text_calls, event_calls, unicode_calls}
 use Rattle.glk_dispatch.specs.Table.{call_table, row_in, row_for}
@@ -38,7 +38,7 @@ use Rattle.glk_dispatch.proofs.Memory.{closing_takes}
 
 -- ---- over the table
 
-abbrev AllLaw : List Row → Type 0
+abbrev AllLaw : List CallRow → Type 0
 AllLaw [] = Unit {0}
 AllLaw (row ∷ rows) = Law row × AllLaw rows
 
@@ -305,7 +305,7 @@ unicode_laws = (
   ),
 )
 
-all_append : (rows more : List Row) → AllLaw rows → AllLaw more → AllLaw (rows ++ more)
+all_append : (rows more : List CallRow) → AllLaw rows → AllLaw more → AllLaw (rows ++ more)
 all_append [] more laws rest = rest
 all_append (row ∷ rows) more laws rest = (laws.0, all_append rows more laws.1 rest)
 
@@ -315,14 +315,14 @@ table_laws =
     (all_append stream_calls _ stream_laws
     (all_append text_calls _ text_laws (all_append event_calls _ event_laws unicode_laws)))
 
-row_law : (number : ℕ) (rows : List Row) (row : Row) → AllLaw rows → row_in rows number ≡ Some row
+row_law : (number : ℕ) (rows : List CallRow) (row : CallRow) → AllLaw rows → row_in rows number ≡ Some row
     → (Law row) × ((row.looks.number == number) ≡ true)
 row_law number [] row all is = absurd (cc)
 row_law number (first ∷ rows) row all is =
     elim (there_or_not (first.looks.number == number)) [
       | inl here ↦
           let same : first ≡ row = (let e = rw here at is in cc) in
-          subst (λ (x : Row). (Law x) × ((x.looks.number == number) ≡ true)) same (all.0, here)
+          subst (λ (x : CallRow). (Law x) × ((x.looks.number == number) ≡ true)) same (all.0, here)
       | inr other ↦ row_law number rows row all.1 (rw other at is)
     ]
 
@@ -334,7 +334,7 @@ words_given : list_all gives_words (map (λ row. row.looks) call_table) ≡ true
 unfolding window_calls stream_calls text_calls event_calls unicode_calls
 words_given = refl
 
-row_words : (number : ℕ) (rows : List Row) (row : Row) → list_all gives_words (map (λ row. row.looks) rows) ≡ true
+row_words : (number : ℕ) (rows : List CallRow) (row : CallRow) → list_all gives_words (map (λ row. row.looks) rows) ≡ true
     → row_in rows number ≡ Some row → gives_words row.looks ≡ true
 row_words number [] row all is = absurd (cc)
 row_words number (first ∷ rows) row all is =
@@ -342,7 +342,7 @@ row_words number (first ∷ rows) row all is =
     elim (there_or_not (first.looks.number == number)) [
       | inl here ↦
           let same : first ≡ row = (let e = rw here at is in cc) in
-          subst (λ (x : Row). gives_words x.looks ≡ true) same parts.0
+          subst (λ (x : CallRow). gives_words x.looks ≡ true) same parts.0
       | inr other ↦ row_words number rows row parts.1 (rw other at is)
     ]
 
@@ -388,7 +388,7 @@ nothing_takes w f room row args words some =
     (λ any. behind w _ (λ reply. answered w reply)
     (λ reply is. gives w (silent w) reply (zeros_given f room row args reply words any some is)))
 
-on_row : (none : Bool) (w : Scene) (f : FlatState) (room : ℕ) (row : Row) (args : List ℕ) (r : Said × Turn) → Law row
+on_row : (none : Bool) (w : Scene) (f : FlatState) (room : ℕ) (row : CallRow) (args : List ℕ) (r : Said × Turn) → Law row
     → is_on_none row.looks args ≡ none → gives_words row.looks ≡ true
     → is_left_out w row.looks.number args ≡ false
     → (if none then gives_nothing row.looks args else row.wants w f args) ≡ true
@@ -402,7 +402,7 @@ behind_looks : (look : Result (Unit {0}) Fault) (w : Scene) (does : Outcome Turn
 behind_looks (Ok _) w does r takes is = takes is
 behind_looks (Err e) w does r takes is = absurd (cc)
 
-found_takes : (found : Option Row) (w : Scene) (f : FlatState) (room selector : ℕ) (args : List ℕ) (r : Said × Turn)
+found_takes : (found : Option CallRow) (w : Scene) (f : FlatState) (room selector : ℕ) (args : List ℕ) (r : Said × Turn)
     → row_in call_table selector ≡ found → is_left_out w selector args ≡ false → grows_by found w f args ≡ true
     → call_by found w f room selector args ≡ Ok r → takes_some w r ≡ true
 found_takes None w f room selector args r same within wants is = absurd (cc)

@@ -12,7 +12,7 @@ use Rattle.glk_replies.specs.declared.Turn.{Turn}
 use Rattle.glk_world.specs.World.{Scene, FlatWorld, MakesCall, Outcome, arg}
 use Rattle.glk_dispatch.specs.declared.table.Class.{Class}
 use Rattle.glk_dispatch.specs.declared.table.Selector.{Selector}
-use Rattle.glk_dispatch.specs.Rows.{Row}
+use Rattle.glk_dispatch.specs.CallRows.{CallRow}
 use Rattle.glk_dispatch.specs.Table.{row_for, is_dropped, selector_fits}
 use Rattle.glk_object_calls.specs.Answers.{tells, as_turn}
 use Rattle.glk_dispatch.specs.Calls.{has_object, named, looked_at, is_on_none, nothing, done, gives_nothing, glk_call}
@@ -23,7 +23,7 @@ use Rattle.glk_dispatch.specs.Ready.{IsNamed, IsFirst, IsReady, IsReadyBy, done_
 -- ---- by the looks
 
 -- a call by its row, and where it may want memory
-abbrev pub call_by : Option Row → Scene → FlatState → ℕ → ℕ → List ℕ → Outcome Turn
+abbrev pub call_by : Option CallRow → Scene → FlatState → ℕ → ℕ → List ℕ → Outcome Turn
 call_by found w f room selector args =
     elim found [
       | None ↦ if is_dropped selector then as_turn (tells w 0) else Err BadGlk
@@ -32,20 +32,20 @@ call_by found w f room selector args =
         if is_on_none row.looks args then as_turn (nothing w f room row.looks args) else done row.does w f room args
     ]
 
-abbrev pub grows_by : Option Row → Scene → FlatState → List ℕ → Bool
+abbrev pub grows_by : Option CallRow → Scene → FlatState → List ℕ → Bool
 grows_by found w f args =
     elim found [
       | None ↦ false
       | Some row ↦ if is_on_none row.looks args then gives_nothing row.looks args else row.wants w f args
     ]
 
-call_is : (found : Option Row) (w : Scene) (f : FlatState) (room selector : ℕ) (args : List ℕ)
+call_is : (found : Option CallRow) (w : Scene) (f : FlatState) (room selector : ℕ) (args : List ℕ)
     → call_by found w f room selector args
     ≡ call_looked (option_map (λ row. row.looks) found) (done_by found w f room args) w f room selector args
 call_is None w f room selector args = refl
 call_is (Some row) w f room selector args = refl
 
-grows_is : (found : Option Row) (w : Scene) (f : FlatState) (args : List ℕ)
+grows_is : (found : Option CallRow) (w : Scene) (f : FlatState) (args : List ℕ)
     → grows_by found w f args ≡ wants_looked (option_map (λ row. row.looks) found) (wants_by found w f args) args
 grows_is None w f args = refl
 grows_is (Some row) w f args = refl
@@ -105,7 +105,7 @@ ready_looks w row args ok some = (
   zero_or w row.other (arg args row.other_place) (other_named w row args ok),
 )
 
-by_row : (found : Option Row) (row : Selector) (w : Scene) (args : List ℕ)
+by_row : (found : Option CallRow) (row : Selector) (w : Scene) (args : List ℕ)
     → option_map (λ row. row.looks) found ≡ Some row → IsReady row w args → IsReadyBy found w args
 by_row None row w args is ready = tt
 by_row (Some found) row w args is ready = let same : row ≡ found.looks = (cc) in

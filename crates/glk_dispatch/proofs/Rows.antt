@@ -6,7 +6,7 @@ use Rattle.std.proofs.lemmas.List.Sums.{AllPass-from_list_all}
 use Rattle.std.proofs.lemmas.Option.{slice_get-get_or}
 use Rattle.std.specs.Option.{option_and_then, option_map}
 use Rattle.glk_dispatch.specs.declared.table.Selector.{Selector}
-use Rattle.glk_dispatch.specs.Rows.{Row}
+use Rattle.glk_dispatch.specs.CallRows.{CallRow}
 use Rattle.glk_dispatch.specs.ObjectCalls.{window_calls, stream_calls}
 use Rattle.glk_dispatch.specs.TextCalls.{text_calls, event_calls, unicode_calls}
 use Rattle.glk_dispatch.specs.Table.{call_table, row_in, row_for, selector_fits}
@@ -15,7 +15,7 @@ abbrev pub looks : List Selector
 looks = map (λ row. row.looks) call_table
 
 -- the looks of a row are found by its number
-found_looks : (number : ℕ) (rows : List Row) → find (λ looks. looks.number == number) (map (λ row. row.looks) rows)
+found_looks : (number : ℕ) (rows : List CallRow) → find (λ looks. looks.number == number) (map (λ row. row.looks) rows)
     ≡ option_map (λ row. row.looks) (row_in rows number)
 found_looks number [] = refl
 found_looks number (row ∷ rows) =

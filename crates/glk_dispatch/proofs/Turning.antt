@@ -27,7 +27,7 @@ use Rattle.glk_dispatch.specs.declared.table.Class.TheVariants.{Stream, Referenc
 use Rattle.glk_object_calls.specs.Answers.{tells, replying, as_turn}
 use Rattle.glk_dispatch.specs.Calls.{answer_turn}
 use Rattle.glk_dispatch.specs.Ready.{wants_by, answer_by}
-use Rattle.glk_dispatch.specs.Rows.{Row, row_with, on, giving, taking_turn, wants, is_given, opens_file, turns}
+use Rattle.glk_dispatch.specs.CallRows.{CallRow, row_with, on, giving, taking_turn, wants, is_given, opens_file, turns}
 use Rattle.glk_dispatch.specs.ObjectCalls.{exits, window_calls, stream_calls}
 use Rattle.glk_dispatch.specs.TextCalls.{text_calls, event_calls, unicode_calls}
 use Rattle.glk_dispatch.specs.Table.{row_for}
@@ -120,7 +120,7 @@ may_want (Ok x) old new outcome is = is
 may_want (Err e) old new outcome is = (is.0, (is.1.0, (λ free. (refl, (is.1.1 free).1))))
 
 -- a selector without a row is no call
-pub no_call : (row : Option Row) (w : FlatWorld) (f : FlatState) (room : ℕ) (args : List ℕ) → row ≡ None
+pub no_call : (row : Option CallRow) (w : FlatWorld) (f : FlatState) (room : ℕ) (args : List ℕ) → row ≡ None
     → MakesCall {X = Reply} (IsTrue (wants_by row w.scene f args)) (Err BadGlk) w w (answer_by row w.scene f room args)
 no_call row w f room args none = rw none ((λ _. refl), ((λ _. refl), (λ same. absurd (cc))))
 

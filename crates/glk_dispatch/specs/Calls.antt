@@ -21,7 +21,7 @@ use Rattle.glk_object_calls.specs.Answers.{tells, replying, as_turn}
 use Rattle.glk_dispatch.specs.declared.table.Class.{Class}
 use Rattle.glk_dispatch.specs.declared.table.Class.TheVariants.{Plain, Window, Stream, Reference}
 use Rattle.glk_dispatch.specs.declared.table.Selector.{Selector}
-use Rattle.glk_dispatch.specs.Rows.{Doing, answers, turns}
+use Rattle.glk_dispatch.specs.CallRows.{Doing, answers, turns}
 use Rattle.glk_dispatch.specs.Table.{row_for, is_dropped}
 
 -- ---- the looks at arguments

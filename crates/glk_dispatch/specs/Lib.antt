@@ -1,5 +1,5 @@
 pub mod Turns
-pub mod Rows
+pub mod CallRows
 pub mod ObjectCalls
 pub mod TextCalls
 pub mod Table

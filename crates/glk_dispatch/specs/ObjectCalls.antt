@@ -21,8 +21,8 @@ use Rattle.glk_object_calls.specs.References.{fileref_create_temp, fileref_creat
 use Rattle.glk_object_calls.specs.References.{fileref_create_from_fileref, fileref_destroy, fileref_iterate}
 use Rattle.glk_object_calls.specs.References.{fileref_get_rock, fileref_delete_file, fileref_does_file_exist}
 use Rattle.glk_dispatch.specs.declared.table.Class.TheVariants.{Window, Stream, Reference}
-use Rattle.glk_dispatch.specs.Rows.{Row, row_with, on, maybe_on, naming, giving, plain, looking, taking_turn, idles}
-use Rattle.glk_dispatch.specs.Rows.{wants, is_given, opens_file, opens_memory, answers, turns}
+use Rattle.glk_dispatch.specs.CallRows.{CallRow, row_with, on, maybe_on, naming, giving, plain, looking, taking_turn, idles}
+use Rattle.glk_dispatch.specs.CallRows.{wants, is_given, opens_file, opens_memory, answers, turns}
 
 -- glk_exit ("Exiting Your Program")
 abbrev pub exits : Scene → List ℕ → Outcome Turn
@@ -36,7 +36,7 @@ abbrev makes : Scene → FlatState → List ℕ → Bool
 makes w f args = is_identifier w.next_id
 
 -- the program, what the library can do, windows
-unfoldable pub window_calls : List Row
+unfoldable pub window_calls : List CallRow
 window_calls =
     row_with selectors.exit 0 (taking_turn exits) ∷
     row_with selectors.tick 0 (plain idles) ∷
@@ -65,7 +65,7 @@ window_calls =
     on Window (row_with selectors.window_get_sibling 1 (plain window_get_sibling)) ∷ []
 
 -- streams and file references
-unfoldable pub stream_calls : List Row
+unfoldable pub stream_calls : List CallRow
 stream_calls =
     wants (is_given 1) (maybe_on Stream (row_with selectors.stream_iterate 2 (answers stream_iterate))) ∷
     on Stream (row_with selectors.stream_get_rock 1 (plain stream_get_rock)) ∷

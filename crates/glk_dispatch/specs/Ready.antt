@@ -12,7 +12,7 @@ use Rattle.glk_replies.specs.declared.Turn.{Turn}
 use Rattle.glk_object_calls.specs.Answers.{tells, as_turn}
 use Rattle.glk_dispatch.specs.declared.table.Class.{Class}
 use Rattle.glk_dispatch.specs.declared.table.Selector.{Selector}
-use Rattle.glk_dispatch.specs.Rows.{Doing, answers, turns, Row}
+use Rattle.glk_dispatch.specs.CallRows.{Doing, answers, turns, CallRow}
 use Rattle.glk_dispatch.specs.ObjectCalls.{window_calls, stream_calls}
 use Rattle.glk_dispatch.specs.TextCalls.{text_calls, event_calls, unicode_calls}
 use Rattle.glk_dispatch.specs.Table.{row_in, is_dropped}
@@ -34,16 +34,16 @@ IsFirst false w class id = IsNamed w class id
 abbrev pub IsReady : Selector → Scene → List ℕ → Type 0
 IsReady row w args = IsFirst row.needs_first w row.first (arg args 0) × IsNamed w row.other (arg args row.other_place)
 
-abbrev pub IsReadyBy : Option Row → Scene → List ℕ → Type 0
+abbrev pub IsReadyBy : Option CallRow → Scene → List ℕ → Type 0
 IsReadyBy None w args = Unit {0}
 IsReadyBy (Some row) w args = IsReady row.looks w args
 
 -- what a row does, and where it may want memory; no row is no call
-abbrev pub done_by : Option Row → Scene → FlatState → ℕ → List ℕ → Outcome Turn
+abbrev pub done_by : Option CallRow → Scene → FlatState → ℕ → List ℕ → Outcome Turn
 done_by None w f room args = Err BadGlk
 done_by (Some row) w f room args = done row.does w f room args
 
-abbrev pub wants_by : Option Row → Scene → FlatState → List ℕ → Bool
+abbrev pub wants_by : Option CallRow → Scene → FlatState → List ℕ → Bool
 wants_by None w f args = false
 wants_by (Some row) w f args = row.wants w f args
 
@@ -62,44 +62,44 @@ answers_at_once (answers call) = true
 answers_at_once (turns call) = false
 
 -- the rows of a list that answer at once, of some selectors
-abbrev pub answering : (ℕ → Bool) → List Row → List Row
+abbrev pub answering : (ℕ → Bool) → List CallRow → List CallRow
 answering within [] = []
 answering within (row ∷ rows) =
     if within row.looks.number && answers_at_once row.does then row ∷ answering within rows else answering within rows
 
 -- below a selector, and from it on
-abbrev pub answering_below : ℕ → List Row → List Row
+abbrev pub answering_below : ℕ → List CallRow → List CallRow
 answering_below bound rows = answering (λ number. nat_lt number bound) rows
 
-abbrev pub answering_from : ℕ → List Row → List Row
+abbrev pub answering_from : ℕ → List CallRow → List CallRow
 answering_from bound rows = answering (λ number. nat_le bound number) rows
 
 -- those of a selector, in the groups in which the code does them
-abbrev pub arranging_row : ℕ → Option Row
+abbrev pub arranging_row : ℕ → Option CallRow
 arranging_row selector = row_in (answering_below selectors.window_get_type window_calls) selector
 
-abbrev pub window_call_row : ℕ → Option Row
+abbrev pub window_call_row : ℕ → Option CallRow
 window_call_row selector = row_in (answering_from selectors.window_get_type window_calls) selector
 
-abbrev pub stream_row : ℕ → Option Row
+abbrev pub stream_row : ℕ → Option CallRow
 stream_row selector = row_in (answering_below selectors.fileref_create_temp stream_calls) selector
 
-abbrev pub reference_row : ℕ → Option Row
+abbrev pub reference_row : ℕ → Option CallRow
 reference_row selector = row_in (answering_from selectors.fileref_create_temp stream_calls) selector
 
-abbrev pub output_row : ℕ → Option Row
+abbrev pub output_row : ℕ → Option CallRow
 output_row selector = row_in (answering_below texts.get_char_stream text_calls) selector
 
-abbrev pub input_row : ℕ → Option Row
+abbrev pub input_row : ℕ → Option CallRow
 input_row selector = row_in (answering_from texts.get_char_stream text_calls) selector
 
-abbrev pub event_row : ℕ → Option Row
+abbrev pub event_row : ℕ → Option CallRow
 event_row selector = row_in (answering_from texts.select event_calls) selector
 
-abbrev pub unicode_output_row : ℕ → Option Row
+abbrev pub unicode_output_row : ℕ → Option CallRow
 unicode_output_row selector = row_in (answering_below texts.get_char_stream_uni unicode_calls) selector
 
-abbrev pub unicode_input_row : ℕ → Option Row
+abbrev pub unicode_input_row : ℕ → Option CallRow
 unicode_input_row selector = row_in (answering_from texts.get_char_stream_uni unicode_calls) selector
 
 -- what such a row answers
@@ -107,7 +107,7 @@ abbrev pub row_answer : Doing → Scene → FlatState → ℕ → List ℕ → O
 row_answer (answers call) w f room args = call w f room args
 row_answer (turns call) w f room args = Err BadGlk
 
-abbrev pub answer_by : Option Row → Scene → FlatState → ℕ → List ℕ → Outcome Reply
+abbrev pub answer_by : Option CallRow → Scene → FlatState → ℕ → List ℕ → Outcome Reply
 answer_by None w f room args = Err BadGlk
 answer_by (Some row) w f room args = row_answer row.does w f room args
 

@@ -2,19 +2,19 @@
 use Rattle.std.specs.Prelude.{◌==◌, ◌&&◌, ◌||◌, nat_le, ℕ, Bool, List, ◌++◌, Option, find}
 use Rattle.std.specs.Int.{is_in_range}
 use Rattle.glk_dispatch.specs.declared.table.Selector.{Selector}
-use Rattle.glk_dispatch.specs.Rows.{Row}
+use Rattle.glk_dispatch.specs.CallRows.{CallRow}
 use Rattle.glk_dispatch.specs.ObjectCalls.{window_calls, stream_calls}
 use Rattle.glk_dispatch.specs.TextCalls.{text_calls, event_calls, unicode_calls}
 
 -- in rising order of selector
-abbrev pub call_table : List Row
+abbrev pub call_table : List CallRow
 call_table = window_calls ++ (stream_calls ++ (text_calls ++ (event_calls ++ unicode_calls)))
 
 -- the one row of a selector
-abbrev pub row_in : List Row → ℕ → Option Row
+abbrev pub row_in : List CallRow → ℕ → Option CallRow
 row_in rows number = find (λ row. row.looks.number == number) rows
 
-unfoldable pub row_for : ℕ → Option Row
+unfoldable pub row_for : ℕ → Option CallRow
 row_for number = row_in call_table number
 
 -- what isn't done: images, sound, hyperlinks, the clock and others; all arguments drop, and the answer is 0

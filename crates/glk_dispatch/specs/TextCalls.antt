@@ -16,15 +16,15 @@ use Rattle.glk_text_calls.specs.Characters.{char_to_case, buffer_to_case, buffer
 use Rattle.glk_event_calls.specs.Events.{may_ask, request_line_event, request_char_event, cancel_line_event}
 use Rattle.glk_event_calls.specs.Events.{cancel_char_event, select_poll, select}
 use Rattle.glk_dispatch.specs.declared.table.Class.TheVariants.{Window, Stream}
-use Rattle.glk_dispatch.specs.Rows.{Row, row_with, on, giving, plain, looking, idles, wants, is_given, opens_file}
-use Rattle.glk_dispatch.specs.Rows.{opens_memory, answers, turns}
+use Rattle.glk_dispatch.specs.CallRows.{CallRow, row_with, on, giving, plain, looking, idles, wants, is_given, opens_file}
+use Rattle.glk_dispatch.specs.CallRows.{opens_memory, answers, turns}
 
 -- for a request of a window
 abbrev requests : Scene → FlatState → List ℕ → Bool
 requests w f args = may_ask w (arg args 0)
 
 -- the case of a buffer's characters, where it has some: of the first, and of all others
-abbrev changes_case : ℕ → ℕ → Case → (List ℕ → Case) → Row
+abbrev changes_case : ℕ → ℕ → Case → (List ℕ → Case) → CallRow
 changes_case number arguments first others =
     wants (λ w f args. nat_lt 0 (buffer_of args).count)
     (row_with number arguments (looking (λ w f args. buffer_to_case w f first (others args) args)))
@@ -38,26 +38,26 @@ abbrev first : Scene → List ℕ → ℕ
 first w args = arg args 0
 
 -- a character of a width, at a place of the arguments
-abbrev puts_char : ℕ → ℕ → (Scene → List ℕ → ℕ) → ℕ → ℕ → Row
+abbrev puts_char : ℕ → ℕ → (Scene → List ℕ → ℕ) → ℕ → ℕ → CallRow
 puts_char number arguments stream width at =
     wants (λ w f args. put_grows_one w (stream w args) (char_given width (arg args at)))
     (row_with number arguments (looking (λ w f args. put_char w f (stream w args) width (arg args at))))
 
 -- a string of a width
-abbrev puts_string : ℕ → ℕ → (Scene → List ℕ → ℕ) → ℕ → ℕ → Row
+abbrev puts_string : ℕ → ℕ → (Scene → List ℕ → ℕ) → ℕ → ℕ → CallRow
 puts_string number arguments stream width at =
     wants (λ w f args. streams.has w.streams (stream w args) && has_length (string_length f width (arg args at)))
     (row_with number arguments (looking (λ w f args. put_string w f (stream w args) width (arg args at))))
 
 -- a buffer of a width, and behind it its count
-abbrev puts_buffer : ℕ → ℕ → (Scene → List ℕ → ℕ) → ℕ → ℕ → ℕ → Row
+abbrev puts_buffer : ℕ → ℕ → (Scene → List ℕ → ℕ) → ℕ → ℕ → ℕ → CallRow
 puts_buffer number arguments stream width at count =
     wants (λ w f args. streams.has w.streams (stream w args) && not (arg args count == 0))
     (row_with number arguments
     (looking (λ w f args. put_buffer w f (stream w args) width (arg args at) (arg args count))))
 
 -- output, input, the case of characters, styles
-unfoldable pub text_calls : List Row
+unfoldable pub text_calls : List CallRow
 text_calls =
     puts_char texts.put_char 1 current 1 0 ∷
     on Stream (puts_char texts.put_char_stream 2 first 1 1) ∷
@@ -78,7 +78,7 @@ text_calls =
     on Window (row_with texts.style_measure 4 (plain idles)) ∷ []
 
 -- events
-unfoldable pub event_calls : List Row
+unfoldable pub event_calls : List CallRow
 event_calls =
     row_with texts.select 1 (turns select) ∷
     wants (is_given 0) (row_with texts.select_poll 1 (answers select_poll)) ∷
@@ -88,7 +88,7 @@ event_calls =
     on Window (row_with texts.cancel_char_event 1 (plain cancel_char_event)) ∷ []
 
 -- the calls of Unicode, and the echo of line input
-unfoldable pub unicode_calls : List Row
+unfoldable pub unicode_calls : List CallRow
 unicode_calls =
     changes_case texts.buffer_to_lower_case_uni 3 case.Lower (λ args. case.Lower) ∷
     changes_case texts.buffer_to_upper_case_uni 3 case.Upper (λ args. case.Upper) ∷

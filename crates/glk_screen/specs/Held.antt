@@ -9,7 +9,7 @@ abbrev pub flat_of : Inside → FlatText
 flat_of t = record { id = t.id; text = drop t.start t.chars.items }
 
 -- what is kept is short enough, has so many line feeds, and one paragraph more
-pub record IsKept (t : Inside) : Type 0 where
+pub record TextsInvariant (t : Inside) : Type 0 where
   pub start : t.start ≤ length t.chars.items
   pub counted : t.line_feeds ≡ line_feeds (drop t.start t.chars.items)
   pub few : t.line_feeds < most_paragraphs

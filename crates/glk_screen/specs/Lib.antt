@@ -3,7 +3,7 @@ pub mod Texts
 pub mod Wrapping
 pub mod Wrapper
 pub mod HeldRow
-pub mod Rows
+pub mod ScreenRows
 pub mod Screen
 pub mod Stored
 pub mod Held

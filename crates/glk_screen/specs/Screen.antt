@@ -14,7 +14,7 @@ use Rattle.glk_windows.specs.Tree.{Shape, One, Two, first_area, second_area}
 use Rattle.glk_windows.specs.Windows.{FlatWindows, entry, grid_at}
 use Rattle.glk_screen.specs.Texts.{FlatText, text_of}
 use Rattle.glk_screen.specs.Wrapping.{width_of, is_replaced, columns_of, columns, wrapped, rows_at}
-use Rattle.glk_screen.specs.Rows.{trimmed}
+use Rattle.glk_screen.specs.ScreenRows.{trimmed}
 
 -- rows of a window
 abbrev pub DrawnRows : Type 0

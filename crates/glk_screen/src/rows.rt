@@ -1,6 +1,6 @@
 //! A row without its trailing blanks.
 ghost use Rattle.std.specs.Prelude.{◌≡◌, ◌≤◌, length};
-ghost use Rattle.glk_screen.specs.Rows.{kept};
+ghost use Rattle.glk_screen.specs.ScreenRows.{kept};
 
 use glk_windows::BLANK;
 

@@ -29,11 +29,11 @@ impl Model for Text {
 
     ghost coded = { text_code };
 
-    ghost use Rattle.glk_screen.specs.Held.{flat_of, IsKept};
+    ghost use Rattle.glk_screen.specs.Held.{flat_of, TextsInvariant};
 
     ghost view = { flat_of };
 
-    ghost invariant = { IsKept };
+    ghost invariant = { TextsInvariant };
 }
 
 impl Text {

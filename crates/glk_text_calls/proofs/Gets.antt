@@ -17,7 +17,7 @@ use Rattle.glk_world.specs.Calls.{chars_got}
 use Rattle.gx_state.specs.Replies.{IsReply}
 use Rattle.glk_replies.specs.Parts.{IsCharWidth, can_lay, reply_filling, MayWant}
 use Rattle.glk_text_calls.specs.Input.{read_on, reading, count_read, has_read, get_chars}
-use Rattle.glk_text_calls.specs.Saves.{as_bytes, rest_len, take_rest, take_rest_grows}
+use Rattle.glk_text_calls.specs.PuttingSaves.{as_bytes, rest_len, take_rest, take_rest_grows}
 use Rattle.glk_text_calls.proofs.Reading.{read_as, read_fails, read_some, ending, ending_len, all_length}
 use Rattle.glk_text_calls.proofs.Puts.{wanted_fits}
 

@@ -179,11 +179,11 @@ begins most stops f p s position chars at none within = let e : most - 0 ≡ mos
   within = within;
 }
 
-abbrev IsKept : Option (List ℕ) → ℕ → Option (List ℕ) → Type 0
-IsKept chars c more = IfSome more (λ cs. MatchOption chars ⊥ (λ before. cs ≡ before ++ c ∷ []))
+abbrev IsPushed : Option (List ℕ) → ℕ → Option (List ℕ) → Type 0
+IsPushed chars c more = IfSome more (λ cs. MatchOption chars ⊥ (λ before. cs ≡ before ++ c ∷ []))
 
 more_kept : (chars more : Option (List ℕ)) (front : List ℕ) (c : ℕ) → IfSome chars (λ cs. cs ≡ front)
-    → IsKept chars c more → IfSome more (λ cs. cs ≡ front ++ c ∷ [])
+    → IsPushed chars c more → IfSome more (λ cs. cs ≡ front ++ c ∷ [])
 more_kept chars None front c is keeps = tt
 more_kept None (Some cs) front c is keeps = absurd keeps
 more_kept (Some before) (Some cs) front c is keeps = keeps ∙ ap (λ (xs : List ℕ). xs ++ c ∷ []) is
@@ -202,7 +202,7 @@ module _ (most : ℕ) (stops : Bool) (f : FlatState) (p : Places) (s : Stream) (
   rest_is less = ap (λ n. read_on n stops f p s i position) (sym (fewer most i less))
 
   pub goes : (c next : ℕ) (more : Option (List ℕ)) → i < most → next_char f p s i position ≡ Ok (Some (c, next))
-      → ends_line stops c ≡ false → IsKept chars c more → next ≤ one.end_position s
+      → ends_line stops c ≡ false → IsPushed chars c more → next ≤ one.end_position s
       → IsReading most stops f p s (i + 1) next more
   goes c next more less is on keeps within = record {
     front = before.front ++ c ∷ [];
@@ -242,7 +242,7 @@ module _ (most : ℕ) (stops : Bool) (f : FlatState) (p : Places) (s : Stream) (
       (all_is (sym (rest_is less) ∙ none_step (most - (i + 1)) stops f p s i position is))
 
   reads_stop : (c next : ℕ) (more : Option (List ℕ)) → i < most → next_char f p s i position ≡ Ok (Some (c, next))
-      → ends_line stops c ≡ true → IsKept chars c more
+      → ends_line stops c ≡ true → IsPushed chars c more
       → (count_read all ≡ count_as (i + 1) next) × IfSome more (λ cs. all ≡ read_as cs next)
   reads_stop c next more less is ends keeps = ended (before.front ++ c ∷ []) (i + 1) next more (one_longer c)
       (more_kept chars more before.front c before.kept keeps)
@@ -266,11 +266,11 @@ module _ (most : ℕ) (stops : Bool) (f : FlatState) (p : Places) (s : Stream) (
   kept_none less is = (reads_none less is).1
 
   pub counted_stop : (c next : ℕ) (more : Option (List ℕ)) → i < most → next_char f p s i position ≡ Ok (Some (c, next))
-      → ends_line stops c ≡ true → IsKept chars c more → count_read all ≡ count_as (i + 1) next
+      → ends_line stops c ≡ true → IsPushed chars c more → count_read all ≡ count_as (i + 1) next
   counted_stop c next more less is ends keeps = (reads_stop c next more less is ends keeps).0
 
   pub kept_stop : (c next : ℕ) (more : Option (List ℕ)) → i < most → next_char f p s i position ≡ Ok (Some (c, next))
-      → ends_line stops c ≡ true → IsKept chars c more → IfSome more (λ cs. all ≡ read_as cs next)
+      → ends_line stops c ≡ true → IsPushed chars c more → IfSome more (λ cs. all ≡ read_as cs next)
   kept_stop c next more less is ends keeps = (reads_stop c next more less is ends keeps).1
 
 -- ---- what was read, by its count

@@ -20,7 +20,7 @@ use Rattle.glk_world.specs.World.{Scene, silent}
 use Rattle.glk_world.specs.Putting.{places_read, no_places}
 use Rattle.glk_world.specs.Calls.{chars_got}
 use Rattle.glk_text_calls.specs.Input.{read_behind, read_on, reading}
-use Rattle.glk_text_calls.specs.Saves.{as_bytes, rest_len, take_rest, take_rest_grows}
+use Rattle.glk_text_calls.specs.PuttingSaves.{as_bytes, rest_len, take_rest, take_rest_grows}
 use Rattle.glk_text_calls.proofs.Reading.{read_as, next_char, go_step}
 use Rattle.glk_text_calls.proofs.Saving.{is_byte}
 

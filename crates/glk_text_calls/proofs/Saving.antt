@@ -10,7 +10,7 @@ use Rattle.gx_state.specs.Flat.{FlatState}
 use Rattle.gx_state.specs.declared.effects.Reply.{Reply}
 use Rattle.glk_world.specs.World.{FlatWorld, Outcome, on_world, MakesCall}
 use Rattle.glk_text_calls.specs.Putting.{put_all}
-use Rattle.glk_text_calls.specs.Saves.{as_bytes, takes_save, put_save, put_save_grows}
+use Rattle.glk_text_calls.specs.PuttingSaves.{as_bytes, takes_save, put_save, put_save_grows}
 
 abbrev pub is_byte : ℕ → Bool
 is_byte c = nat_lt c 256

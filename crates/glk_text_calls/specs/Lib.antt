@@ -3,4 +3,4 @@ pub mod Putting
 pub mod Output
 pub mod Input
 pub mod Characters
-pub mod Saves
+pub mod PuttingSaves

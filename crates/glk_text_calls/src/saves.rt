@@ -10,8 +10,8 @@ ghost use Rattle.glk_world.specs.Putting.{places_read};
 ghost use Rattle.glk_world.specs.Calls.{chars_got};
 ghost use Rattle.glk_replies.specs.Parts.{IsCharWidth, reply_filling, MayWant};
 ghost use Rattle.glk_text_calls.specs.Putting.{put_all};
-ghost use Rattle.glk_text_calls.specs.Saves.{takes_save, put_save, put_save_grows, rest_len, as_bytes, take_rest};
-ghost use Rattle.glk_text_calls.specs.Saves.{take_rest_grows};
+ghost use Rattle.glk_text_calls.specs.PuttingSaves.{takes_save, put_save, put_save_grows, rest_len, as_bytes, take_rest};
+ghost use Rattle.glk_text_calls.specs.PuttingSaves.{take_rest_grows};
 
 use crate::input::{Reading, read_on};
 use glk_replies::{can_lay, lay, reply};

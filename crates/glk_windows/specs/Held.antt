@@ -15,7 +15,7 @@ flat_of w = record {
 }
 
 -- identifiers rise in both lists, and each window has its place in the tree
-pub record IsKept (w : Inside) : Type 0 where
+pub record WindowsInvariant (w : Inside) : Type 0 where
   pub entries : AreRising entry_id w.entries.items
   pub grids : AreRising grid_id w.grids.items
   pub placed : ArePlaced w.entries.items (tree_of w.tree)

@@ -17,11 +17,11 @@ pub const BLANK: u32 = 0x20;
 
 /// One row of cells.
 #[derive(Drop)]
-pub struct Row {
+pub struct GridRow {
     cells: Vec<u32>,
 }
 
-impl Model for Row {
+impl Model for GridRow {
     ghost use Rattle.std.specs.Prelude.{List, ℕ};
 
     ghost Value = { List ℕ };
@@ -29,12 +29,12 @@ impl Model for Row {
     ghost view = { λ row. row.cells.items };
 }
 
-impl Row {
+impl GridRow {
     /// A row of no cells.
-    fn new(alloc: Global) -> Row
+    fn new(alloc: Global) -> GridRow
         ensures { result ≡ [] }
     {
-        Row {
+        GridRow {
             cells: Vec::new(alloc),
         }
     }
@@ -74,7 +74,7 @@ impl Row {
 /// The rows of a grid, from the top down.
 #[derive(Drop)]
 pub struct Rows {
-    all: Vec<Row>,
+    all: Vec<GridRow>,
 }
 
 impl Model for Rows {
@@ -142,21 +142,21 @@ impl Rows {
 
 /// So many rows: the first ones, filled up with empty ones.
 #[tactic(auto, using(crate::proofs::Fitting::fill_more))]
-fn fit_count(alloc: Global, rows: &mut Vec<Row>, count: usize) -> Result<(), AllocError>
+fn fit_count(alloc: Global, rows: &mut Vec<GridRow>, count: usize) -> Result<(), AllocError>
     ensures ok { OnOk result (rows.new.items ≡ fit count [] rows.old.items) }
     ensures grows { OnErr result (length rows.old.items < count) }
 {
     rows.truncate(count);
     for y in rows.len()..count {
         let _y = y; // its bound is known once it is read
-        rows.push(Row::new(alloc))?;
+        rows.push(GridRow::new(alloc))?;
     }
     Ok(())
 }
 
 /// Fits each row to so many cells.
 #[tactic(auto, using(crate::proofs::Fitting::fit_more))]
-fn fit_each(rows: &mut Vec<Row>, columns: usize) -> Result<(), AllocError>
+fn fit_each(rows: &mut Vec<GridRow>, columns: usize) -> Result<(), AllocError>
     ensures ok { OnOk result (rows.new.items ≡ map (fit columns BLANK) rows.old.items) }
     ensures grows { OnErr result (IsTrue (list_any (λ row. nat_lt (length row) columns) rows.old.items)) }
 {
@@ -167,7 +167,7 @@ fn fit_each(rows: &mut Vec<Row>, columns: usize) -> Result<(), AllocError>
 }
 
 #[tactic(auto, using(crate::proofs::Fitting::clear_more))]
-fn clear_each(rows: &mut [Row])
+fn clear_each(rows: &mut [GridRow])
     ensures { rows.new ≡ map (λ row. replicate (length row) BLANK) rows.old }
 {
     for y in 0..rows.len() {

@@ -50,11 +50,11 @@ impl Model for Windows {
 
     ghost coded = { windows_code };
 
-    ghost use Rattle.glk_windows.specs.Held.{flat_of, IsKept};
+    ghost use Rattle.glk_windows.specs.Held.{flat_of, WindowsInvariant};
 
     ghost view = { flat_of };
 
-    ghost invariant = { IsKept };
+    ghost invariant = { WindowsInvariant };
 }
 
 impl Windows {

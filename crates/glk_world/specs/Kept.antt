@@ -40,7 +40,7 @@ flat_of w = record {
 
 -- The next identifier is above all that were given, none of them is 0, no chain of echo streams comes back to where it
 -- was, and windows and streams name each other.
-pub record IsKept (w : Inside) : Type 0 where
+pub record WorldInvariant (w : Inside) : Type 0 where
   pub windows : IsNewId w.windows w.next_id
   pub streams : IsAboveAll streams.id_of w.streams w.next_id
   pub references : AreRising reference_id w.references.items

@@ -7,7 +7,7 @@ use Rattle.glk_objects.specs.Objects as objects
 use Rattle.gx_words.specs.Constants.{line_feed}
 use Rattle.glk_text.specs.Characters.{shown}
 use Rattle.glk_windows.specs.declared.grid.Grid.{Grid}
-use Rattle.glk_screen.specs.Rows.{trimmed}
+use Rattle.glk_screen.specs.ScreenRows.{trimmed}
 use Rattle.glk_screen.specs.Screen.{composed}
 use Rattle.glk_screen.specs.Wrapper.{wrapped_chars, let_go, restarted}
 use Rattle.glk_world.specs.declared.grids.ShownGrid.{ShownGrid}

@@ -1,6 +1,6 @@
 //! Grids as they are shown: rows without trailing blanks, without trailing empty rows.
 ghost use Rattle.std.specs.Prelude.{◌≡◌, ◌≢◌, ◌≤◌, [], length, map, take, IfOk, OnErr};
-ghost use Rattle.glk_screen.specs.Rows.{trimmed};
+ghost use Rattle.glk_screen.specs.ScreenRows.{trimmed};
 ghost use Rattle.glk_world.specs.Shown.{kept_rows, shown_grid, last_rows, same_rows};
 
 use glk_objects::{Object, first_place};

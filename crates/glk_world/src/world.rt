@@ -65,11 +65,11 @@ impl Model for World {
 
     ghost coded = { world_code };
 
-    ghost use Rattle.glk_world.specs.Kept.{flat_of, IsKept};
+    ghost use Rattle.glk_world.specs.Kept.{flat_of, WorldInvariant};
 
     ghost view = { flat_of };
 
-    ghost invariant = { IsKept };
+    ghost invariant = { WorldInvariant };
 }
 
 impl World {

@@ -32,7 +32,7 @@ use Rattle.gx_undo.specs.Undo.{FlatUndo}
 use Rattle.gx_machine.specs.declared.askings.Asking.{Asking}
 use Rattle.gx_machine.specs.declared.machine.Pending.{Pending}
 use Rattle.gx_machine.specs.declared.askings.Asking.TheVariants as asking
-use Rattle.gx_machine.specs.Saves.{saved_copy}
+use Rattle.gx_machine.specs.SavedCopies.{saved_copy}
 use Rattle.gx_machine.specs.Step.{asking_of, room_of}
 use Rattle.gx_machine.specs.Views.{IsPendingAnswer, result_len, resumed_at}
 

@@ -10,12 +10,12 @@ use Rattle.gx_state.specs.declared.effects.Effect.TheVariants.{Spent}
 use Rattle.gx_state.specs.Flat.{FlatState}
 use Rattle.gx_undo.specs.Undo.{FlatUndo}
 use Rattle.gx_operands.specs.Instructions.{Instruction}
-use Rattle.ops_memory.specs.Rows as memory
+use Rattle.ops_memory.specs.MemoryRows as memory
 use Rattle.ops_memory.specs.Writes as memory_writes
 use Rattle.ops_memory.specs.Costs.{probes_of}
 use Rattle.ops_memory.specs.Charges.{lowered, charged, acted}
 use Rattle.gx_machine.specs.Machine.{FlatMachine}
-use Rattle.gx_machine.specs.Rows.{row_effect, with_copies, IsWriting}
+use Rattle.gx_machine.specs.MachineRows.{row_effect, with_copies, IsWriting}
 
 -- what a row makes of a state and a budget, beside copies that stay
 abbrev beside : FlatUndo → Result ((FlatState × ℕ) × Effect) Fault → Result ((FlatMachine × ℕ) × Effect) Fault

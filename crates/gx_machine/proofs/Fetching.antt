@@ -10,7 +10,7 @@ use Rattle.gx_state.specs.declared.modes.Dest.{Dest}
 use Rattle.gx_state.specs.Flat.{FlatState}
 use Rattle.gx_state.specs.Stores.{IsMemory}
 use Rattle.gx_operands.specs.declared.cursor.Cursor.{Cursor}
-use Rattle.ops_memory.specs.Rows.{memory, aloadbit}
+use Rattle.ops_memory.specs.MemoryRows.{memory, aloadbit}
 use Rattle.ops_memory.specs.Space.{getmemsize}
 use Rattle.gx_machine.specs.Quick.{Tries, IsReadWriting, read_effect, stored_on}
 

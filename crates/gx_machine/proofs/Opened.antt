@@ -2,8 +2,8 @@
 use Rattle.gx_stack.specs.Calls as calls
 use Rattle.gx_state.specs.Calls.{pushed, pushed_all, with_local}
 use Rattle.gx_state.specs.Stores.{store_fault}
-use Rattle.ops_flow.specs.Rows.{computes, jumps, flow, callf}
-use Rattle.ops_memory.specs.Rows.{memory, copy, aload, aloads, aloadb, astore, astores, astoreb}
+use Rattle.ops_flow.specs.FlowRows.{computes, jumps, flow, callf}
+use Rattle.ops_memory.specs.MemoryRows.{memory, copy, aload, aloads, aloadb, astore, astores, astoreb}
 
 -- a store in a local, on both levels
 unfoldable pub setting_local : Unit {0}

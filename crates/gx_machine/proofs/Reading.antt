@@ -9,8 +9,8 @@ use Rattle.gx_words.specs.Results.{◌>>=◌}
 use Rattle.gx_rows.specs.declared.instructions.Class.TheVariants as class
 use Rattle.gx_rows.specs.declared.instructions.Row.{Row}
 use Rattle.ops_calc.specs.Arithmetic.{calc}
-use Rattle.ops_flow.specs.Rows.{computes}
-use Rattle.ops_memory.specs.Rows.{copy}
+use Rattle.ops_flow.specs.FlowRows.{computes}
+use Rattle.ops_memory.specs.MemoryRows.{copy}
 use Rattle.gx_state.specs.declared.effects.Effect.{Effect}
 use Rattle.gx_state.specs.Stores.{IsMemory}
 use Rattle.gx_state.specs.declared.modes.Dest.{Dest}

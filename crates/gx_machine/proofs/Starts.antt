@@ -19,13 +19,13 @@ use Rattle.gx_operands.specs.declared.cursor.Cursor.{Cursor}
 use Rattle.gx_operands.specs.Instructions.{Instruction, opcode, load}
 use Rattle.gx_undo.specs.Undo.{FlatUndo}
 use Rattle.ops_memory.specs.Costs.{probes_of}
-use Rattle.ops_print.specs.Rows.{streamchar, streamunichar, streamnum, streamstr}
-use Rattle.ops_print.specs.Rows as print
+use Rattle.ops_print.specs.PrintRows.{streamchar, streamunichar, streamnum, streamstr}
+use Rattle.ops_print.specs.PrintRows as print
 use Rattle.gx_machine.specs.Quick.{Tries, read_as, operands_read}
 use Rattle.gx_machine.specs.Advancing.{Passes}
 use Rattle.gx_machine.specs.Machine.{Whole}
 use Rattle.gx_machine.specs.Starts.{IsStarted, begun_on, streamed_on}
-use Rattle.gx_machine.specs.Rows.{row_effect, with_copies}
+use Rattle.gx_machine.specs.MachineRows.{row_effect, with_copies}
 use Rattle.gx_machine.specs.Step.{mode_step, probes_in, stepped}
 use Rattle.gx_machine.proofs.Costs.{probes_by}
 use Rattle.gx_machine.proofs.Passing.{joined}

@@ -21,7 +21,7 @@ use Rattle.gx_machine.specs.declared.askings.Asking.{Asking}
 use Rattle.gx_machine.specs.declared.askings.Asking.TheVariants as asking
 use Rattle.gx_machine.specs.declared.machine.Pending.{Pending}
 use Rattle.gx_machine.specs.Machine.{FlatMachine, Whole}
-use Rattle.gx_machine.specs.Rows.{with_copies}
+use Rattle.gx_machine.specs.MachineRows.{with_copies}
 use Rattle.gx_machine.specs.Step.{asking_of, cost_of, mode_step, probes_in, step_of, stepped, IsModeWriting}
 use Rattle.gx_machine.specs.Step.{IsStepWriting}
 

@@ -18,11 +18,11 @@ use Rattle.gx_operands.specs.declared.cursor.Cursor.{Cursor}
 use Rattle.gx_operands.specs.Instructions.{Operands, Instruction, opcode, instruction, load}
 use Rattle.gx_undo.specs.Undo.{FlatUndo}
 use Rattle.ops_memory.specs.Costs.{probes_of}
-use Rattle.ops_print.specs.Rows.{streamchar, streamunichar}
-use Rattle.ops_print.specs.Rows as print
+use Rattle.ops_print.specs.PrintRows.{streamchar, streamunichar}
+use Rattle.ops_print.specs.PrintRows as print
 use Rattle.gx_machine.specs.declared.askings.Asking.TheVariants as asking
 use Rattle.gx_machine.specs.Quick.{IsStreamed, read_as, operands_read}
-use Rattle.gx_machine.specs.Rows.{row_effect, with_copies}
+use Rattle.gx_machine.specs.MachineRows.{row_effect, with_copies}
 use Rattle.gx_machine.specs.Step.{mode_step, probes_in}
 use Rattle.gx_machine.proofs.Costs.{probes_by}
 use Rattle.gx_machine.specs.Views.{IsPendingAnswer}

@@ -24,7 +24,7 @@ use Rattle.ops_flow.proofs.Acts.{calc_act, branch_act}
 use Rattle.gx_machine.specs.Machine.{FlatMachine}
 use Rattle.gx_machine.specs.Quick.{Tries, IsPlain, IsQuick, quick_effect, IsQuickWriting, quick_row, IsRowWriting}
 use Rattle.gx_machine.specs.Quick.{read_as}
-use Rattle.gx_machine.specs.Rows.{row_effect, with_copies, IsWriting}
+use Rattle.gx_machine.specs.MachineRows.{row_effect, with_copies, IsWriting}
 use Rattle.gx_machine.specs.Step.{mode_step, probes_in, IsModeWriting}
 use Rattle.gx_machine.proofs.Costs.{probes_by}
 

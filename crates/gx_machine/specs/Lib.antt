@@ -1,5 +1,5 @@
 pub mod Machine
-pub mod Rows
+pub mod MachineRows
 pub mod Step
 pub mod Log
 pub mod Advancing
@@ -7,5 +7,5 @@ pub mod Quick
 pub mod Starts
 pub mod Answer
 pub mod Start
-pub mod Saves
+pub mod SavedCopies
 pub mod Views

@@ -24,11 +24,11 @@ use Rattle.gx_operands.specs.Stores.{settled, goes_to}
 use Rattle.gx_machine.specs.Machine.{Whole}
 use Rattle.gx_machine.specs.Step.{stepped, IsStepWriting}
 use Rattle.gx_machine.specs.Advancing.{Passes}
-use Rattle.ops_flow.specs.Rows as flow
+use Rattle.ops_flow.specs.FlowRows as flow
 use Rattle.ops_flow.specs.Writes as flow_writes
-use Rattle.ops_memory.specs.Rows as memory
+use Rattle.ops_memory.specs.MemoryRows as memory
 use Rattle.ops_memory.specs.Writes as memory_writes
-use Rattle.ops_print.specs.Rows as print
+use Rattle.ops_print.specs.PrintRows as print
 
 -- How a try ends: it is done as defined, and the machine goes on; or nothing is done, whatever it may be; or it has
 -- a fault, and all stands.

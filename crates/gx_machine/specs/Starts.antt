@@ -16,7 +16,7 @@ use Rattle.gx_state.specs.Flat.{FlatState, cut}
 use Rattle.gx_operands.specs.declared.cursor.Cursor.{Cursor}
 use Rattle.gx_operands.specs.Instructions.{Instruction, going_to, instruction}
 use Rattle.gx_machine.specs.Quick.{sp_after, called_on, jumped_on}
-use Rattle.ops_print.specs.Rows as print
+use Rattle.ops_print.specs.PrintRows as print
 
 -- the instruction at PC prints, and the machine goes on
 pub record IsStarted (f g : FlatState) : Type 0 where

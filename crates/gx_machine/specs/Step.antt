@@ -17,7 +17,7 @@ use Rattle.ops_print.specs.Items.{item}
 use Rattle.gx_machine.specs.declared.askings.Asking.{Asking}
 use Rattle.gx_machine.specs.declared.askings.Asking.TheVariants as asking
 use Rattle.gx_machine.specs.Machine.{FlatMachine, Whole}
-use Rattle.gx_machine.specs.Rows.{row_effect, with_copies, IsWriting}
+use Rattle.gx_machine.specs.MachineRows.{row_effect, with_copies, IsWriting}
 
 -- the probes that the instruction at PC begins; only a search has some
 abbrev pub probes_in : FlatState → Mode → ℕ

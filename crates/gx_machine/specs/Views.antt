@@ -14,7 +14,7 @@ use Rattle.gx_machine.specs.declared.machine.Pending.{Pending}
 use Rattle.gx_machine.specs.declared.machine.Machine.TheInside.{Inside}
 use Rattle.gx_machine.specs.Answer.{answered_state, replied, IsStoredAnswer}
 use Rattle.gx_machine.specs.Machine.{FlatMachine, Whole}
-use Rattle.gx_machine.specs.Saves.{saved_copy}
+use Rattle.gx_machine.specs.SavedCopies.{saved_copy}
 use Rattle.gx_machine.specs.Step.{room_of}
 
 abbrev pub whole_of : {A : Type 0} → Inside A → Whole

@@ -8,7 +8,7 @@ ghost use Rattle.gx_state.specs.Copies.{IsCopyFor};
 ghost use Rattle.ops_print.specs.Asks.{is_put};
 ghost use Rattle.gx_machine.specs.Machine.{Whole};
 ghost use Rattle.gx_machine.specs.Answer.{IsStoredAnswer, answered_whole, AnswersAsking};
-ghost use Rattle.gx_machine.specs.Saves.{restored_whole, saved_copy};
+ghost use Rattle.gx_machine.specs.SavedCopies.{restored_whole, saved_copy};
 ghost use Rattle.gx_machine.specs.Step.{stepped};
 ghost use Rattle.gx_machine.specs.Log.{Log, logged};
 ghost use Rattle.gx_machine.specs.Advancing.{units_left, Advances};

@@ -14,7 +14,7 @@ ghost use Rattle.gx_undo.specs.Undo.{most_undo};
 ghost use Rattle.gx_machine.specs.declared.askings.Asking.TheVariants as asking;
 ghost use Rattle.gx_machine.specs.Answer.{answered_state, with_writes, with_pushes, IsStoredAnswer, answered_whole};
 ghost use Rattle.gx_machine.specs.Answer.{AnswersAsking};
-ghost use Rattle.gx_machine.specs.Saves.{restored_whole, saved_copy};
+ghost use Rattle.gx_machine.specs.SavedCopies.{restored_whole, saved_copy};
 ghost use Rattle.gx_machine.specs.Step.{room_of, asking_of, stepped, IsStepWriting};
 ghost use Rattle.gx_machine.specs.Quick.{Tries, PassesUntil};
 ghost use Rattle.gx_machine.specs.Start.{first_machine};

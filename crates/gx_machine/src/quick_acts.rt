@@ -8,7 +8,7 @@ ghost use Rattle.gx_state.specs.Flat.{cut, sp_of};
 ghost use Rattle.gx_state.specs.Returns.{IsReturnWriting};
 ghost use Rattle.gx_state.specs.Stores.{IsMemory};
 ghost use Rattle.gx_operands.specs.Plans.{HasValues};
-ghost use Rattle.ops_flow.specs.Rows.{branches, returns};
+ghost use Rattle.ops_flow.specs.FlowRows.{branches, returns};
 ghost use Rattle.gx_machine.specs.Quick.{Tries, read_effect, IsReadWriting};
 ghost use Rattle.gx_machine.specs.Quick.{sp_after, stored_on, computed_on, fetched_on, called_on, jumped_on};
 ghost use Rattle.ops_calc.specs.Acts as acts;

@@ -9,15 +9,15 @@ ghost use Rattle.gx_state.specs.Flat.{FlatState, sp_of, IsHeight};
 ghost use Rattle.gx_operands.specs.Instructions.{instruction};
 ghost use Rattle.gx_operands.specs.Plans.{instruction_of};
 ghost use Rattle.gx_undo.specs.Undo.{FlatUndo, AreCopiesFor};
-ghost use Rattle.ops_game.specs.Rows as game;
+ghost use Rattle.ops_game.specs.GameRows as game;
 ghost use Rattle.ops_game.specs.Writes as game_writes;
 ghost use Rattle.ops_memory.specs.Costs.{probes_of};
 ghost use Rattle.ops_memory.specs.Charges.{charged, IsAfforded};
-ghost use Rattle.ops_print.specs.Rows as print;
+ghost use Rattle.ops_print.specs.PrintRows as print;
 ghost use Rattle.ops_print.specs.Asks.{printed, is_put};
 ghost use Rattle.gx_machine.specs.declared.askings.Asking.TheVariants as asking;
 ghost use Rattle.gx_machine.specs.Quick.{Tries};
-ghost use Rattle.gx_machine.specs.Rows.{room_above, glk, row_effect, IsWriting};
+ghost use Rattle.gx_machine.specs.MachineRows.{room_above, glk, row_effect, IsWriting};
 ghost use Rattle.gx_machine.specs.Step.{asking_of, mode_step, probes_in, IsModeWriting};
 ghost use Rattle.gx_machine.specs.Views.{IsPendingAnswer, result_len, machine_with};
 

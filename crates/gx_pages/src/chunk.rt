@@ -39,7 +39,7 @@ pub trait Chunk: Drop {
 }
 
 /// A chunk that a node may have 16 of.
-pub trait Part: Chunk {
+pub trait Child: Chunk {
     ghost use Rattle.std.specs.Prelude.{◌≤◌};
 
     ghost small: { Self.SIZE ≤ 4096 };

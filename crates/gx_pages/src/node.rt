@@ -3,7 +3,7 @@
 ghost use Rattle.std.specs.Prelude.{◌≡◌, ◌*◌, replicate, IfOk};
 ghost use Rattle.gx_pages.specs.Chunks.{AreSixteen, flat};
 
-use crate::chunk::{Chunk, Page, Part, Writable, write_pair_in};
+use crate::chunk::{Chunk, Page, Child, Writable, write_pair_in};
 use crate::chunks::{owners, put, rest_of_page, take_from, write, write_in_one, write_over_edge};
 use std::alloc::{AllocError, Allocator, Global};
 use std::rc::Rc;
@@ -34,7 +34,7 @@ impl<C: Drop, P: Allocator> Clone for Node<C, P> {
     }
 }
 
-impl<C: Part, P: Allocator> Chunk for Node<C, P> {
+impl<C: Child, P: Allocator> Chunk for Node<C, P> {
     ghost use Rattle.std.specs.Prelude.{◌*◌};
     ghost use Rattle.gx_pages.specs.Chunks.{AreSixteen, flat};
     ghost use Rattle.gx_pages.specs.Nodes.{sixteen_pages, sixteen_some, length-sixteen};
@@ -59,7 +59,7 @@ impl<C: Part, P: Allocator> Chunk for Node<C, P> {
     ghost sized = { λ node whole. length-sixteen C.bytes_of C.IsWhole C.SIZE C.sized node.chunks whole };
 }
 
-impl<A: Allocator, P: Allocator + Clone, C: Part + Writable<A, P>> Writable<A, Global>
+impl<A: Allocator, P: Allocator + Clone, C: Child + Writable<A, P>> Writable<A, Global>
     for Node<C, P> {
     ghost use Rattle.gx_pages.specs.Nodes.{clones_flat, sixteen_cloned};
 
@@ -110,13 +110,13 @@ impl<A: Allocator, P: Allocator + Clone, C: Part + Writable<A, P>> Writable<A, G
     ghost whole_copied = { λ node copy copied. sixteen_cloned C.IsWhole node.chunks copy.chunks copied };
 }
 
-impl<A: Allocator> Part for Group<A> {
+impl<A: Allocator> Child for Group<A> {
     ghost use Rattle.std.proofs.Common.{rules};
 
     ghost small = { Prim.search rules };
 }
 
-impl<C: Part, P: Allocator> Node<C, P> {
+impl<C: Child, P: Allocator> Node<C, P> {
     /// A node whose chunks are all one.
     pub fn filled(alloc: Global, chunk: &Rc<C, P>) -> Result<Node<C, P>, AllocError>
         requires { C.IsWhole chunk.now.value }

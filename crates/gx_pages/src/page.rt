@@ -1,7 +1,7 @@
 //! A page of memory: 256 bytes.
 ghost use Rattle.std.specs.Prelude.{◌≡◌, true, ◌≤◌, length, replicate, IfOk};
 
-use crate::chunk::{Chunk, Page, Part, Writable, write_to};
+use crate::chunk::{Chunk, Page, Child, Writable, write_to};
 use gx_words::splice;
 use std::alloc::{AllocError, Allocator};
 use std::rc::Rc;
@@ -31,7 +31,7 @@ impl Chunk for [u8; 256] {
     ghost sized = { λ x whole. whole };
 }
 
-impl Part for [u8; 256] {
+impl Child for [u8; 256] {
     ghost use Rattle.std.proofs.Common.{rules};
 
     ghost small = { Prim.search rules };

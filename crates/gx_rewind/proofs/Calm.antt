@@ -25,15 +25,15 @@ use Rattle.gx_strings.specs.declared.items.Item.TheVariants.{Char, Sub, Call, En
 use Rattle.ops_calc.specs.declared.random.Generator.{Generator}
 use Rattle.ops_calc.specs.declared.random.Generator.TheVariants.{Outside, Seeded}
 use Rattle.ops_calc.specs.Generator.{is_outside}
-use Rattle.ops_flow.specs.Rows as flow
-use Rattle.ops_memory.specs.Rows as memory
+use Rattle.ops_flow.specs.FlowRows as flow
+use Rattle.ops_memory.specs.MemoryRows as memory
 use Rattle.ops_memory.specs.Searching as searching
 use Rattle.ops_memory.specs.Space as space
 use Rattle.ops_print.specs.Items as items
-use Rattle.ops_print.specs.Rows as print
-use Rattle.ops_game.specs.Rows as game
+use Rattle.ops_print.specs.PrintRows as print
+use Rattle.ops_game.specs.GameRows as game
 use Rattle.gx_machine.specs.Machine.{FlatMachine}
-use Rattle.gx_machine.specs.Rows.{glk, row_effect, with_copies}
+use Rattle.gx_machine.specs.MachineRows.{glk, row_effect, with_copies}
 use Rattle.gx_machine.proofs.Games.{with_both}
 use Rattle.gx_machine.specs.Step.{mode_step, step_of}
 

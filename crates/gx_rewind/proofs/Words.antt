@@ -18,9 +18,9 @@ use Rattle.gx_undo.specs.Undo.{FlatUndo}
 use Rattle.ops_calc.specs.declared.random.Generator.{Generator}
 use Rattle.ops_calc.specs.declared.random.Generator.TheVariants.{Outside, Seeded}
 use Rattle.ops_calc.specs.Generator.{pick, word_from, after_word, is_outside}
-use Rattle.ops_game.specs.Rows as game
+use Rattle.ops_game.specs.GameRows as game
 use Rattle.gx_machine.specs.Machine.{FlatMachine}
-use Rattle.gx_machine.specs.Rows.{row_effect}
+use Rattle.gx_machine.specs.MachineRows.{row_effect}
 use Rattle.gx_machine.proofs.Games.{with_both}
 use Rattle.gx_machine.specs.Step.{mode_step, step_of}
 

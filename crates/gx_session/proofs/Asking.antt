@@ -37,7 +37,7 @@ use Rattle.gx_session.specs.declared.ends.Next.{Next}
 use Rattle.gx_session.specs.Constants.{piece}
 use Rattle.gx_session.specs.declared.questions.Question.{Question}
 use Rattle.gx_session.specs.declared.questions.Question.TheVariants as asks-for
-use Rattle.gx_session.specs.declared.running.Waiting.{Waiting}
+use Rattle.gx_session.specs.declared.running.GlkWait.{GlkWait}
 use Rattle.gx_session.specs.Cuts.{IsLineStop}
 use Rattle.gx_session.specs.Wants.{IsWait, ReplyWants, TurnWants, AskingWants}
 use Rattle.gx_session.specs.Wants.{LineWants, WantsMemory}
@@ -130,14 +130,14 @@ request-is (asks-for.Store name bytes) = refl
 request-is (asks-for.Remove name) = refl
 request-is (asks-for.Has name) = refl
 
-pub question-gives : (m : Configuration) (w : Waiting) (q : Question)
+pub question-gives : (m : Configuration) (w : GlkWait) (q : Question)
     → act_by (asks (turn_of q) w) m ≡ shelf_gives m w (Some (request_for q))
 question-gives m w (asks-for.Load name) = refl
 question-gives m w (asks-for.Store name bytes) = refl
 question-gives m w (asks-for.Remove name) = refl
 question-gives m w (asks-for.Has name) = refl
 
-pub question-turns : (m : Configuration) (w : Waiting) (said : Said) (q : Question)
+pub question-turns : (m : Configuration) (w : GlkWait) (said : Said) (q : Question)
     → after_turn m w (Ok (said, turn_of q)) ≡ asking_for m w (after m.world said) (turn_of q)
 question-turns m w said (asks-for.Load name) = refl
 question-turns m w said (asks-for.Store name bytes) = refl
@@ -162,7 +162,7 @@ takes-fine : {X : Type 0} (G : Type 0) (P : X → Type 0) (r : Result X Fault) (
 takes-fine {X} G P r x e takes = subst (λ (y : Result X Fault). IsOkAnd y (λ x. G ⊎ P x)) (sym e) (inr takes)
 
 -- a turn that waits
-pub wait-asks : (m : Configuration) (w : Waiting) (t : Turn) → IsWait t
+pub wait-asks : (m : Configuration) (w : GlkWait) (t : Turn) → IsWait t
     → act_by (asks t w) m ≡ after_line m w (next_line m.input)
 wait-asks m w turn.Wait is = refl
 wait-asks m w turn.Prompt is = refl
@@ -174,7 +174,7 @@ wait-asks m w (turn.Remove name) is = absurd is
 wait-asks m w (turn.Has name) is = absurd is
 wait-asks m w turn.Exit is = absurd is
 
-pub wait-turns : (m : Configuration) (w : Waiting) (said : Said) (t : Turn) → IsWait t
+pub wait-turns : (m : Configuration) (w : GlkWait) (said : Said) (t : Turn) → IsWait t
     → after_turn m w (Ok (said, t)) ≡ asking_for m w (after (after m.world said) (show_grids said.0)) t
 wait-turns m w said turn.Wait is = refl
 wait-turns m w said turn.Prompt is = refl
@@ -419,7 +419,7 @@ module _ {K : Type 0} {sending : SendStep K} (start : Configuration) (entry : Ha
         (subst (WantsMemory r.phase at) (sym same) (r.memory wants-it)) stands units log coming
 
   -- THE TURN OF A CALL
-  module _ (asking : Option Asking) (w : Waiting) (t : Turn) (r : TakesTurn start entry h asking d w t) where
+  module _ (asking : Option Asking) (w : GlkWait) (t : Turn) (r : TakesTurn start entry h asking d w t) where
     abbrev pub turning : HeldRun
     turning = record h { world = r.world }
 
@@ -528,12 +528,12 @@ module _ {K : Type 0} {sending : SendStep K} (start : Configuration) (entry : Ha
         (r.memory (wait-wants h.log h.machine r.said t is (subst ShowWants (sym scene) some))) machine units log coming
 
   -- A call goes on.
-  abbrev pub on-ready : (asking : Option Asking) (g : Given) (w : Waiting)
+  abbrev pub on-ready : (asking : Option Asking) (g : Given) (w : GlkWait)
       → IsInCall start entry h asking d (goes_on g w) → Ready start entry h d (goes_on g w)
   on-ready asking g w waits = record { now = waits.now; quiet = refl }
 
   -- THE SHELF HAS ANSWERED
-  module _ (asking : Option Asking) (w : Waiting) (q : Question) (g : Ready start entry h d (asks (turn_of q) w))
+  module _ (asking : Option Asking) (w : GlkWait) (q : Question) (g : Ready start entry h d (asks (turn_of q) w))
       (shelf : FlatShelf) where
     pub shelf-answers : (answer : Answer) → start.answers d.asked (request_for q) ≡ answer
         → asking ≡ asked (here start entry h d (asks (turn_of q) w) g.now)
@@ -565,7 +565,7 @@ module _ {K : Type 0} {sending : SendStep K} (start : Configuration) (entry : Ha
         }
 
   -- A LINE IS AWAITED
-  module _ (asking : Option Asking) (w : Waiting) (t : Turn) (is : IsWait t) (g : Ready start entry h d (asks t w))
+  module _ (asking : Option Asking) (w : GlkWait) (t : Turn) (is : IsWait t) (g : Ready start entry h d (asks t w))
       (asks-is : asking ≡ asked (here start entry h d (asks t w) g.now)) where
     abbrev awaiting : Configuration
     awaiting = here start entry h d (asks t w) g.now
@@ -609,7 +609,7 @@ module _ {K : Type 0} {sending : SendStep K} (start : Configuration) (entry : Ha
         (asks-is ∙ sym at ∙ ap (asked_at why) (sym same-configuration))
 
   -- A LINE WAS TAKEN
-  module _ (asking : Option Asking) (w : Waiting) (chars : List ℕ) (r : TakesInput start entry h asking d chars w) where
+  module _ (asking : Option Asking) (w : GlkWait) (chars : List ℕ) (r : TakesInput start entry h asking d chars w) where
     abbrev was : HeldRun
     was = record h { ahead = r.ahead; coming = r.coming; over = r.over }
 
@@ -699,7 +699,7 @@ module _ {K : Type 0} {sending : SendStep K} (start : Configuration) (entry : Ha
         a.event ∙ ap (λ (e : Effect). after_effect asking-here left (Ok (h.machine, e))) is
         ∙ ap (after_reply asking-here left) (subst (λ (x : FlatState). putting h.world.scene x c ≡ r) same e)
 
-    pub call-does : (selector : ℕ) (args : ArrayVec ℕ) (xs : List ℕ) (w : Waiting) (flat : FlatState)
+    pub call-does : (selector : ℕ) (args : ArrayVec ℕ) (xs : List ℕ) (w : GlkWait) (flat : FlatState)
         (r : Result (Said × Turn) Fault) → does ≡ effect.Glk selector args w.room → left ≡ w.left
         → flat ≡ h.machine.flat → xs ≡ args.items → glk_call h.world.scene flat w.room selector xs ≡ r
         → act_of asking-here ≡ after_turn asking-here w r
@@ -745,7 +745,7 @@ module _ {K : Type 0} {sending : SendStep K} (start : Configuration) (entry : Ha
         (λ r. ReplyWants h.log h.machine r.1) (putting h.world.scene h.machine.flat c) (said, reply)
         (subst (λ (x : FlatState). putting h.world.scene x c ≡ Ok (said, reply)) same e) takes)
 
-    pub call-grows : (selector : ℕ) (args : ArrayVec ℕ) (xs : List ℕ) (w : Waiting) (flat : FlatState)
+    pub call-grows : (selector : ℕ) (args : ArrayVec ℕ) (xs : List ℕ) (w : GlkWait) (flat : FlatState)
         → does ≡ effect.Glk selector args w.room → flat ≡ h.machine.flat → xs ≡ args.items
         → IsGrowing h.world.scene flat selector xs
         → IsOk (on_world h.world (glk_call h.world.scene flat w.room selector xs)) → AsksMemory
@@ -760,7 +760,7 @@ module _ {K : Type 0} {sending : SendStep K} (start : Configuration) (entry : Ha
         (subst (λ (ys : List ℕ). IsGrowing h.world.scene h.machine.flat selector ys) listed
         (subst (λ (x : FlatState). IsGrowing h.world.scene x selector xs) same grows)))
 
-    pub call-takes : (selector : ℕ) (args : ArrayVec ℕ) (xs : List ℕ) (w : Waiting) (flat : FlatState) (said : Said)
+    pub call-takes : (selector : ℕ) (args : ArrayVec ℕ) (xs : List ℕ) (w : GlkWait) (flat : FlatState) (said : Said)
         (t : Turn) → does ≡ effect.Glk selector args w.room → flat ≡ h.machine.flat → xs ≡ args.items
         → glk_call h.world.scene flat w.room selector xs ≡ Ok (said, t) → TurnWants h.log h.machine (said, t)
         → AsksMemory
@@ -837,7 +837,7 @@ module _ {K : Type 0} {sending : SendStep K} (start : Configuration) (entry : Ha
       memory = λ x. asking-wants asking asks-is (takes x);
     }
 
-    pub call-turns : (asking : Option Asking) (world : FlatWorld) (said : Said) (w : Waiting) (t : Turn)
+    pub call-turns : (asking : Option Asking) (world : FlatWorld) (said : Said) (w : GlkWait) (t : Turn)
         → asking ≡ asking_of does → world ≡ after h.world said
         → act_of asking-here ≡ after_turn asking-here w (Ok (said, t))
         → (BeginsSave asking-here (Some does) → ⊥) → (TurnWants h.log h.machine (said, t) → AsksMemory)
@@ -853,7 +853,7 @@ module _ {K : Type 0} {sending : SendStep K} (start : Configuration) (entry : Ha
       memory = λ x. asking-wants asking asks-is (takes x);
     }
 
-  module _ (asking : Option Asking) (g : Given) (w : Waiting) (waits : IsInCall start entry h asking d (goes_on g w))
+  module _ (asking : Option Asking) (g : Given) (w : GlkWait) (waits : IsInCall start entry h asking d (goes_on g w))
     where
       abbrev pub going-on : Configuration
       going-on = here start entry h d (goes_on g w) waits.now
@@ -896,7 +896,7 @@ module _ {K : Type 0} {sending : SendStep K} (start : Configuration) (entry : Ha
       }
 
   -- it is answered
-  pub given-answers : (asking : Option Asking) (w : Waiting) (t : Turn) (reply : Reply) → t ≡ turn.Answer reply
+  pub given-answers : (asking : Option Asking) (w : GlkWait) (t : Turn) (reply : Reply) → t ≡ turn.Answer reply
       → GoesOn start entry h asking d w t → ResumesWithReply start entry h asking d w.left reply
   given-answers asking w t reply is r = record {
     world = r.world;

@@ -8,7 +8,7 @@ use Rattle.glk_world.specs.Shown.{show_grids}
 use Rattle.glk_replies.specs.declared.Turn.{Turn}
 use Rattle.glk_replies.specs.declared.Turn.TheVariants as turn
 use Rattle.gx_session.specs.declared.ends.Stop.TheVariants as stop
-use Rattle.gx_session.specs.declared.running.Waiting.{Waiting}
+use Rattle.gx_session.specs.declared.running.GlkWait.{GlkWait}
 use Rattle.gx_session.specs.Input.{NextLine, too_long, none, line, next_line}
 use Rattle.gx_session.specs.Configurations.{Configuration, Verdict, asks as asks-for, stops}
 use Rattle.gx_session.specs.Moves.{after_reply, asking_for, after_turn, after_given, after_line}
@@ -16,7 +16,7 @@ use Rattle.gx_session.specs.Moves.{shelf_gives, act_by}
 
 module _ (P : Verdict → Type 0) (m : Configuration) where
   -- a turn
-  pub turn-cases : (w : Waiting) (r : Result (Said × Turn) Fault)
+  pub turn-cases : (w : GlkWait) (r : Result (Said × Turn) Fault)
       → ((said : Said) (reply : Reply) → P (after_reply m w.left (Ok (said, reply))))
       → ((said : Said) (t : Turn) → P (asking_for m w (after m.world said) t))
       → ((said : Said) (t : Turn) → P (asking_for m w (after (after m.world said) (show_grids said.0)) t))
@@ -36,7 +36,7 @@ module _ (P : Verdict → Type 0) (m : Configuration) where
   turn-cases w (Err f) answers asks waits stuck exits faults = faults f
 
   -- what a call comes to that goes on
-  pub given-cases : (w : Waiting) (r : Result (Said × Turn) Fault)
+  pub given-cases : (w : GlkWait) (r : Result (Said × Turn) Fault)
       → ((said : Said) (reply : Reply) → P (after_reply m w.left (Ok (said, reply)))) → P (stops stop.Stuck m)
       → ((f : Fault) → P (stops (stop.Faulted f) m)) → P (after_given m w r)
   given-cases w (Ok (said, turn.Answer reply)) answers stuck faults = answers said reply
@@ -51,14 +51,14 @@ module _ (P : Verdict → Type 0) (m : Configuration) where
   given-cases w (Err f) answers stuck faults = faults f
 
   -- a line
-  pub line-cases : (w : Waiting) (l : NextLine) → P (stops stop.LineTooLong m) → P (stops stop.InputEnded m)
+  pub line-cases : (w : GlkWait) (l : NextLine) → P (stops stop.LineTooLong m) → P (stops stop.InputEnded m)
       → ((chars rest : List ℕ) → P (after_line m w (line chars rest))) → P (after_line m w l)
   line-cases w too_long long ended taken = long
   line-cases w none long ended taken = ended
   line-cases w (line chars rest) long ended taken = taken chars rest
 
   -- what a device gives
-  pub asking-cases : (w : Waiting) (t : Turn) → P (after_line m w (next_line m.input))
+  pub asking-cases : (w : GlkWait) (t : Turn) → P (after_line m w (next_line m.input))
       → ((r : Request) → P (shelf_gives m w (Some r))) → P (stops stop.Stuck m) → P (act_by (asks-for t w) m)
   asking-cases w (turn.Answer reply) lines gives stuck = stuck
   asking-cases w turn.Wait lines gives stuck = lines

@@ -13,7 +13,7 @@ use Rattle.gx_session.specs.declared.ends.Stop.TheVariants as stop
 use Rattle.gx_session.specs.declared.lines.NoLine.{NoLine}
 use Rattle.gx_session.specs.declared.lines.NoLine.TheVariants as no
 use Rattle.gx_session.specs.declared.questions.Question.{Question}
-use Rattle.gx_session.specs.declared.running.Waiting.{Waiting}
+use Rattle.gx_session.specs.declared.running.GlkWait.{GlkWait}
 use Rattle.gx_session.specs.Wants.{IsWait, LineWants}
 use Rattle.gx_session.specs.Moves.{request_of}
 use Rattle.gx_session.specs.Input.{NextLine, none, too_long, line, next_line, HasChars}
@@ -45,7 +45,7 @@ chars-want true too_long some = absurd some
 chars-want false next some = some
 
 module _ {K : Type 0} {sending : SendStep K} (start : Configuration) (entry : Handed sending) (h : HeldRun)
-    (asking : Option Asking) (d : Handed sending) (t : Turn) (w : Waiting)
+    (asking : Option Asking) (d : Handed sending) (t : Turn) (w : GlkWait)
     (waits : IsInCall start entry h asking d (asks t w)) (world : FlatWorld) (sink : K) where
   abbrev h1 : HeldRun
   h1 = record h { world = world }

@@ -22,7 +22,7 @@ use Rattle.glk_text_calls.specs.Output.{putting}
 use Rattle.gx_session.specs.declared.ends.Stop.{Stop}
 use Rattle.gx_session.specs.declared.ends.Stop.TheVariants as stop
 use Rattle.gx_session.specs.Constants.{enough as enough_text}
-use Rattle.gx_session.specs.declared.running.Waiting.{Waiting}
+use Rattle.gx_session.specs.declared.running.GlkWait.{GlkWait}
 use Rattle.gx_session.specs.Input.{next_line}
 use Rattle.gx_session.specs.Saving.{saving, restoring}
 use Rattle.gx_session.specs.Sending.{pending, is_due}
@@ -86,12 +86,12 @@ restored-near n m left (Ok (said, None)) less =
     omega arith
 restored-near n m left (Err f) less = tt
 
-asks-near : (n : ℕ) (w : Waiting) (b : Bool) → 5 * w.left + 4 < n → 5 * w.left + 3 + (if b then 1 else 0) < n
+asks-near : (n : ℕ) (w : GlkWait) (b : Bool) → 5 * w.left + 4 < n → 5 * w.left + 3 + (if b then 1 else 0) < n
 asks-near n w b less =
     let few : (if b then 1 else 0) ≤ 1 = at-most-one b in
     omega arith
 
-turned-near : (n : ℕ) (m : Configuration) (w : Waiting) (r : Result (Said × Turn) Fault) → 5 * w.left + 4 < n
+turned-near : (n : ℕ) (m : Configuration) (w : GlkWait) (r : Result (Said × Turn) Fault) → 5 * w.left + 4 < n
     → Near n (after_turn m w r)
 turned-near n m w r less =
     turn-cases (Near n) m w r (λ said reply. replied-near n m w.left (Ok (said, reply)) (omega arith))

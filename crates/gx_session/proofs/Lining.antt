@@ -11,7 +11,7 @@ use Rattle.glk_dispatch.proofs.Awaited.{awaits-line}
 use Rattle.gx_session.specs.declared.ends.Halt.{Halt}
 use Rattle.gx_session.specs.declared.ends.Halt.TheVariants as halt
 use Rattle.gx_session.specs.declared.running.Running.{Running}
-use Rattle.gx_session.specs.declared.running.Waiting.{Waiting}
+use Rattle.gx_session.specs.declared.running.GlkWait.{GlkWait}
 use Rattle.gx_session.specs.Configurations.{Configuration, goes_on}
 use Rattle.gx_session.specs.Holding.{SendStep, Handed, held_by, asking_in}
 use Rattle.gx_session.specs.Standing.{IsInCall, TakesInput}
@@ -25,7 +25,7 @@ awaits-shown w chars g true is = awaits-line w.scene chars g is
 awaits-shown w chars g false is = is
 
 module _ {K : Type 0} {sending : SendStep K} {E : Type 0} (whole : E → Whole) (log : E → Option Log)
-    (old mid : Running E) (coming chars : List ℕ) (w : Waiting) (start : Configuration) (entry d : Handed sending)
+    (old mid : Running E) (coming chars : List ℕ) (w : GlkWait) (start : Configuration) (entry d : Handed sending)
     (r : TakesInput start entry (held_by whole log old coming) (asking_in whole old) d chars w) where
   -- the showing wants memory
   pub line-refused : (e : Halt) → e ≡ halt.NoMemory → old.echo ≡ true → mid ≡ record old { world = mid.world }

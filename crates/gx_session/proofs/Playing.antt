@@ -23,7 +23,7 @@ use Rattle.gx_session.specs.declared.ends.Stop.TheVariants as stop
 use Rattle.gx_session.specs.declared.ends.Halt.{Halt}
 use Rattle.gx_session.specs.declared.ends.Halt.TheVariants as halt
 use Rattle.gx_session.specs.Constants.{piece, enough as enough_text}
-use Rattle.gx_session.specs.declared.running.Waiting.{Waiting}
+use Rattle.gx_session.specs.declared.running.GlkWait.{GlkWait}
 use Rattle.gx_session.specs.Cuts.{RunCut, by_memory, by_sink, by_shelf, by_source, cut_status, IsCutShort, AsksFor}
 use Rattle.gx_session.specs.Cuts.{IsLineStop, asking_between, refused_sends, refused_requests}
 use Rattle.gx_session.specs.Wants.{IsWait, WantsMemory}
@@ -260,7 +260,7 @@ module _ {K : Type 0} {sending : SendStep K} (start : Configuration) (entry : Ha
     wants-line g h' source asking waiting is machine left log =
         wants-by g h' source asking (λ other. absurd (other waiting)) is machine left log
 
-  module _ (w : Waiting) (turn : Turn) where
+  module _ (w : GlkWait) (turn : Turn) where
     -- the shelf refused
     refused-by : (g : Ready start entry h d (asks turn w)) (shelf : FlatShelf) (r : Request) (fault : ShelfFault)
         (asking : Option Asking) → request_of turn ≡ Some r

@@ -19,7 +19,7 @@ use Rattle.glk_text_calls.specs.Output.{putting}
 use Rattle.glk_replies.specs.Parts.{replies}
 use Rattle.gx_session.specs.declared.ends.Stop.{Stop}
 use Rattle.gx_session.specs.declared.ends.Stop.TheVariants as stop
-use Rattle.gx_session.specs.declared.running.Waiting.{Waiting}
+use Rattle.gx_session.specs.declared.running.GlkWait.{GlkWait}
 use Rattle.gx_session.specs.Constants.{failed}
 use Rattle.gx_session.specs.Input.{next_line}
 use Rattle.gx_session.specs.Saving.{saving, restoring}
@@ -86,7 +86,7 @@ restored-moves m left (Ok (said, Some copy)) units = inr (record { phase = refl;
 restored-moves m left (Ok (said, None)) units = replied-moves m left (Ok (said, replies failed)) units
 restored-moves m left (Err f) units = inl (halted (stop.Faulted f) m)
 
-turned-moves : (m : Configuration) (w : Waiting) (r : Result (Said × Turn) Fault)
+turned-moves : (m : Configuration) (w : GlkWait) (r : Result (Said × Turn) Fault)
     → w.left + cost_of m.machine ≡ m.left → Moves m (after_turn m w r)
 turned-moves m w r units =
     turn-cases (Moves m) m w r (λ said reply. replied-moves m w.left (Ok (said, reply)) units)

@@ -13,7 +13,7 @@ use Rattle.gx_story.specs.Stories.{FlatStory}
 use Rattle.gx_state.specs.Copies.{Copy}
 use Rattle.gx_state.specs.Flat.{FlatState}
 use Rattle.gx_state.specs.declared.effects.Reply.{Reply}
-use Rattle.gx_machine.specs.Saves.{saved_copy}
+use Rattle.gx_machine.specs.SavedCopies.{saved_copy}
 use Rattle.glk_streams.specs.declared.kinds.Stream.{Stream}
 use Rattle.glk_streams.specs.declared.kinds.StreamKind.{StreamKind}
 use Rattle.glk_streams.specs.declared.kinds.StreamKind.TheVariants as kinds
@@ -24,9 +24,9 @@ use Rattle.glk_world.proofs.Texts.{nothing_said}
 use Rattle.glk_replies.specs.Parts.{replies}
 use Rattle.glk_text_calls.specs.Putting.{put_all}
 use Rattle.glk_text_calls.specs.Input.{reading, has_read}
-use Rattle.glk_text_calls.specs.Saves.{put_save, put_save_grows, rest_len, take_rest, take_rest_grows}
-use Rattle.quetzal.specs.Saves.{save_of}
-use Rattle.quetzal.specs.Writing.{saved}
+use Rattle.glk_text_calls.specs.PuttingSaves.{put_save, put_save_grows, rest_len, take_rest, take_rest_grows}
+use Rattle.quetzal.specs.ReadingSaves.{copy_in_save}
+use Rattle.quetzal.specs.Writing.{save_bytes}
 use Rattle.quetzal.specs.declared.faults.SaveFault.{SaveFault}
 use Rattle.quetzal.specs.declared.faults.SaveFault.TheVariants as of_save
 use Rattle.gx_session.specs.Outcomes.{MaySave, Refuses}
@@ -61,11 +61,11 @@ saved-by w r false is = cc
 
 -- a save that is put
 pub saving-is : (w : FlatWorld) (f : FlatState) (stream : ℕ) (bytes : List ℕ) → (f.iosys.0 == glk_system) ≡ true
-    → bytes ≡ saved f.story (saved_copy f)
+    → bytes ≡ save_bytes f.story (saved_copy f)
     → on_world w (saving w.scene f stream) ≡ with_reply (on_world w (put_save w.scene f stream bytes))
 unfolding saving
 saving-is w f stream bytes glk is =
-    saved-by w (put_save w.scene f stream (saved f.story (saved_copy f))) (f.iosys.0 == glk_system) glk
+    saved-by w (put_save w.scene f stream (save_bytes f.story (saved_copy f))) (f.iosys.0 == glk_system) glk
     ∙ ap (λ (x : List ℕ). with_reply (on_world w (put_save w.scene f stream x))) (sym is)
 
 -- a window takes no save
@@ -103,14 +103,14 @@ not-put w f stream bytes none =
 
 not-saved : (w : FlatWorld) (f : FlatState) (stream : ℕ) (glk takes : Bool) → (glk && takes) ≡ false
     → may_take w.scene stream ≡ takes
-    → on_world w (if glk then (put_save w.scene f stream (saved f.story (saved_copy f))
+    → on_world w (if glk then (put_save w.scene f stream (save_bytes f.story (saved_copy f))
     >>= (λ x. Ok (x.0, unwrap_or x.1 (replies failed)))) else Ok (silent w.scene, replies failed))
     ≡ Ok (w, replies failed)
 not-saved w f stream false takes none is = ap (λ (x : FlatWorld). Ok (x, replies failed)) (nothing_said w)
 not-saved w f stream true takes none is =
-    replied-on w (put_save w.scene f stream (saved f.story (saved_copy f)))
+    replied-on w (put_save w.scene f stream (save_bytes f.story (saved_copy f)))
     ∙ ap (λ (r : Result (Said × Option Reply) Fault). with_reply (on_world w r))
-    (not-put w.scene f stream (saved f.story (saved_copy f)) (is ∙ none))
+    (not-put w.scene f stream (save_bytes f.story (saved_copy f)) (is ∙ none))
     ∙ ap (λ (x : FlatWorld). Ok (x, replies failed)) (nothing_said w)
 
 -- one that isn't begun
@@ -134,7 +134,7 @@ answer_of (Err e) = Err e
 
 pub save-by : (w w' : FlatWorld) (f f' : FlatState) → f' ≡ f
     → (stream : ℕ) (bytes : List ℕ) (r : Result (Option Reply) Fault)
-    → is_save_begun w.scene f stream ≡ true → bytes ≡ saved f.story (saved_copy f)
+    → is_save_begun w.scene f stream ≡ true → bytes ≡ save_bytes f.story (saved_copy f)
     → MayLose (IsTrue (put_save_grows w.scene stream bytes)) (λ reply. reply) r w w'
     (on_world w (put_save w.scene f' stream bytes))
     → MaySave (IsTrue (is_save_begun w.scene f stream)) (answer_of r) w w' (on_world w (saving w.scene f stream))
@@ -155,7 +155,7 @@ save-by w w' f f' same stream bytes (Err e) begun is put = (
 
 -- the copy that was read, if any
 abbrev pub copy_in : FlatStory → Option (List ℕ) → Option Copy
-copy_in story read = option_and_then (λ bytes. result_ok (save_of ceiling bytes story)) read
+copy_in story read = option_and_then (λ bytes. result_ok (copy_in_save ceiling bytes story)) read
 
 abbrev pub with_copy : FlatStory → Result (FlatWorld × Option (List ℕ)) Fault → Result (FlatWorld × Option Copy) Fault
 with_copy story (Ok r) = Ok (r.0, copy_in story r.1)
@@ -256,13 +256,13 @@ module _ (w w' : FlatWorld) (f f' : FlatState) (same : f' ≡ f) (stream : ℕ)
     )
 
     -- it is the save of a copy
-    pub read-found : (copy : Copy) → save_of ceiling bytes f.story ≡ Ok copy
+    pub read-found : (copy : Copy) → copy_in_save ceiling bytes f.story ≡ Ok copy
         → on_world w (restoring w.scene f stream) ≡ Ok (w', Some copy)
     read-found copy is = read-is (Some bytes) (Some copy) (ap result_ok is) took
 
     -- it is none, or the reading wants memory
     pub unread : (e : SaveFault) (result : Result (Option Copy) Fault)
-        → (e ≢ of_save.NoMemory → save_of ceiling bytes f.story ≡ Err e) → Refuses e result
+        → (e ≢ of_save.NoMemory → copy_in_save ceiling bytes f.story ≡ Err e) → Refuses e result
         → MayLose (IsTrue (is_restore_begun w.scene f stream)) (λ copy. copy) result w w'
         (on_world w (restoring w.scene f stream))
     unread e result gave (inl memory) = subst

@@ -15,7 +15,7 @@ use Rattle.glk_dispatch.specs.Calls.{glk_call}
 use Rattle.glk_dispatch.specs.Going.{glk_go_on}
 use Rattle.glk_text_calls.specs.Output.{putting}
 use Rattle.gx_session.specs.declared.ends.Stop.TheVariants as stop
-use Rattle.gx_session.specs.declared.running.Waiting.{Waiting}
+use Rattle.gx_session.specs.declared.running.GlkWait.{GlkWait}
 use Rattle.gx_session.specs.Input.{next_line}
 use Rattle.gx_session.specs.Saving.{saving, restoring}
 use Rattle.gx_session.specs.Configurations.{Configuration, Phase, steps, asks, goes_on, Verdict, moves_to, stops}
@@ -49,7 +49,7 @@ restored-grows m left (Ok (said, Some copy)) = (said.1, refl)
 restored-grows m left (Ok (said, None)) = (said.1, refl)
 restored-grows m left (Err f) = front-refl m.world.text
 
-turned-grows : (m : Configuration) (w : Waiting) (r : Result (Said × Turn) Fault)
+turned-grows : (m : Configuration) (w : GlkWait) (r : Result (Said × Turn) Fault)
     → IsFront m.world.text (text_in (after_turn m w r))
 turned-grows m w r =
     turn-cases (λ v. IsFront m.world.text (text_in v)) m w r (λ said reply. (said.1, refl)) (λ said t. (said.1, refl))

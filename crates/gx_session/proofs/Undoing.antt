@@ -21,16 +21,16 @@ use Rattle.gx_undo.specs.Undo.{FlatUndo, with_newest, without_newest}
 use Rattle.gx_operands.specs.Instructions.{Instruction, instruction, going_to}
 use Rattle.gx_operands.specs.Stores.{settled, goes as row-goes}
 use Rattle.ops_print.specs.Items.{item}
-use Rattle.ops_flow.specs.Rows as flow
-use Rattle.ops_memory.specs.Rows as memory
-use Rattle.ops_print.specs.Rows as print
+use Rattle.ops_flow.specs.FlowRows as flow
+use Rattle.ops_memory.specs.MemoryRows as memory
+use Rattle.ops_print.specs.PrintRows as print
 use Rattle.gx_machine.specs.Machine.{FlatMachine}
 use Rattle.gx_machine.specs.Answer.{answer_of}
-use Rattle.gx_machine.specs.Saves as whole
-use Rattle.gx_machine.specs.Rows.{row_effect, glk, with_copies}
+use Rattle.gx_machine.specs.SavedCopies as whole
+use Rattle.gx_machine.specs.MachineRows.{row_effect, glk, with_copies}
 use Rattle.gx_machine.proofs.Games.{with_both}
 use Rattle.gx_machine.specs.Step.{cost_of, step_of, mode_step}
-use Rattle.ops_game.specs.Rows as game
+use Rattle.ops_game.specs.GameRows as game
 use Rattle.glk_world.specs.World.{Said}
 use Rattle.glk_replies.specs.declared.Turn.{Turn}
 use Rattle.glk_dispatch.specs.Calls.{glk_call}
@@ -39,7 +39,7 @@ use Rattle.glk_text_calls.specs.Output.{putting}
 use Rattle.glk_replies.specs.Parts.{replies}
 use Rattle.gx_session.specs.Constants.{failed}
 use Rattle.gx_session.specs.declared.ends.Stop.TheVariants as stop
-use Rattle.gx_session.specs.declared.running.Waiting.{Waiting}
+use Rattle.gx_session.specs.declared.running.GlkWait.{GlkWait}
 use Rattle.gx_session.specs.Input.{next_line}
 use Rattle.gx_session.specs.Saving.{saving, restoring}
 use Rattle.gx_session.specs.Configurations.{Configuration, Phase, steps, asks as asks-for, goes_on, Verdict, moves_to}
@@ -378,18 +378,18 @@ back-undo m left (Ok (said, Some copy)) = refl
 back-undo m left (Ok (said, None)) = replied-undo m left (Ok (said, replies failed))
 back-undo m left (Err f) = tt
 
-turned-undo : (m : Configuration) (w : Waiting) (r : Result (Said × Turn) Fault)
+turned-undo : (m : Configuration) (w : GlkWait) (r : Result (Said × Turn) Fault)
     → KeepsUndo m.machine.undo (after_turn m w r)
 turned-undo m w r =
     turn-cases (KeepsUndo m.machine.undo) m w r (λ said reply. replied-undo m w.left (Ok (said, reply)))
     (λ said t. refl) (λ said t. refl) (λ said. tt) (λ said. tt) (λ f. tt)
 
-asked-undo : (m : Configuration) (w : Waiting) (t : Turn) → KeepsUndo m.machine.undo (act_by (asks-for t w) m)
+asked-undo : (m : Configuration) (w : GlkWait) (t : Turn) → KeepsUndo m.machine.undo (act_by (asks-for t w) m)
 asked-undo m w t =
     asking-cases (KeepsUndo m.machine.undo) m w t
     (line-cases (KeepsUndo m.machine.undo) m w (next_line m.input) tt tt (λ chars rest. refl)) (λ r. refl) tt
 
-given-undo : (m : Configuration) (w : Waiting) (r : Result (Said × Turn) Fault)
+given-undo : (m : Configuration) (w : GlkWait) (r : Result (Said × Turn) Fault)
     → KeepsUndo m.machine.undo (after_given m w r)
 given-undo m w r = given-cases (KeepsUndo m.machine.undo) m w r
     (λ said reply. replied-undo m w.left (Ok (said, reply))) tt (λ f. tt)

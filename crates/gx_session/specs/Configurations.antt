@@ -8,14 +8,14 @@ use Rattle.glk_replies.specs.declared.Turn.{Turn}
 use Rattle.glk_replies.specs.declared.Given.{Given}
 use Rattle.gx_session.specs.Devices.{Devices}
 use Rattle.gx_session.specs.declared.ends.Stop.{Stop}
-use Rattle.gx_session.specs.declared.running.Waiting.{Waiting}
+use Rattle.gx_session.specs.declared.running.GlkWait.{GlkWait}
 use Rattle.rand_core.specs.Stream.{Stream}
 
 -- What comes next.
 pub data Phase : Type 0 where
   steps : Phase  -- a step of the machine
-  asks : Turn → Waiting → Phase  -- a device is asked for what the turn of a Glk call says
-  goes_on : Given → Waiting → Phase  -- the call goes on with what it was given
+  asks : Turn → GlkWait → Phase  -- a device is asked for what the turn of a Glk call says
+  goes_on : Given → GlkWait → Phase  -- the call goes on with what it was given
 
 -- What stands after some moves.
 pub record Configuration : Type 0 where

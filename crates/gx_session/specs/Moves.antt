@@ -15,7 +15,7 @@ use Rattle.gx_state.specs.declared.effects.Reply.{Reply}
 use Rattle.gx_state.specs.Copies.{Copy}
 use Rattle.gx_machine.specs.Machine.{FlatMachine}
 use Rattle.gx_machine.specs.Log.{logged}
-use Rattle.gx_machine.specs.Saves.{restored}
+use Rattle.gx_machine.specs.SavedCopies.{restored}
 use Rattle.gx_machine.specs.Answer.{answer_of}
 use Rattle.gx_machine.specs.Step.{cost_of, step_of}
 use Rattle.glk_world.specs.World.{FlatWorld, Said, after}
@@ -33,7 +33,7 @@ use Rattle.gx_session.specs.Input.{NextLine, too_long, none, line, next_line}
 use Rattle.gx_session.specs.Sending.{pending, is_due}
 use Rattle.gx_session.specs.declared.ends.Stop.TheVariants as stop
 use Rattle.gx_session.specs.Constants.{enough, most_loaded, failed}
-use Rattle.gx_session.specs.declared.running.Waiting.{Waiting}
+use Rattle.gx_session.specs.declared.running.GlkWait.{GlkWait}
 use Rattle.rand_core.specs.Stream.{next_u32}
 use Rattle.gx_session.specs.Configurations.{Phase, Configuration, Verdict, steps, asks, goes_on, moves_to, stops}
 
@@ -49,12 +49,12 @@ after_reply m left (Ok r) =
 after_reply m left (Err fault) = stops (stop.Faulted fault) m
 
 -- A Glk call has moved the world on, and then asks a device.
-abbrev pub asking_for : Configuration → Waiting → FlatWorld → Turn → Verdict
+abbrev pub asking_for : Configuration → GlkWait → FlatWorld → Turn → Verdict
 asking_for m w world t = moves_to (record m { world = world; phase = asks t w })
 
 -- The turn of a Glk call. At a wait for a line what the view shows then is shown. A call that waits in vain isn't
 -- counted, and one that ends the program is counted and not recorded. Every other turn asks the shelf.
-abbrev pub after_turn : Configuration → Waiting → Result (Said × Turn) Fault → Verdict
+abbrev pub after_turn : Configuration → GlkWait → Result (Said × Turn) Fault → Verdict
 after_turn m w (Ok (said, turn.Answer reply)) = after_reply m w.left (Ok (said, reply))
 after_turn m w (Ok (said, turn.Wait)) = asking_for m w (after (after m.world said) (show_grids said.0)) turn.Wait
 after_turn m w (Ok (said, turn.Stuck)) = stops stop.Stuck (record m { world = after m.world said })
@@ -64,13 +64,13 @@ after_turn m w (Ok (said, t)) = asking_for m w (after m.world said) t
 after_turn m w (Err fault) = stops (stop.Faulted fault) m
 
 -- A call that went on with what it was given has an answer, or a fault. (It has no further turn.)
-abbrev pub after_given : Configuration → Waiting → Result (Said × Turn) Fault → Verdict
+abbrev pub after_given : Configuration → GlkWait → Result (Said × Turn) Fault → Verdict
 after_given m w (Ok (said, turn.Answer reply)) = after_reply m w.left (Ok (said, reply))
 after_given m w (Ok (said, t)) = stops stop.Stuck m
 after_given m w (Err fault) = stops (stop.Faulted fault) m
 
 -- A line is taken, and shown where lines are, if there is one.
-abbrev pub after_line : Configuration → Waiting → NextLine → Verdict
+abbrev pub after_line : Configuration → GlkWait → NextLine → Verdict
 after_line m w too_long = stops stop.LineTooLong m
 after_line m w none = stops stop.InputEnded m
 after_line m w (line chars rest) =
@@ -92,7 +92,7 @@ request_of (turn.Has name) = Some (find_file name)
 request_of t = None
 
 -- The shelf is asked this, and the call goes on with what it answers. (No run comes here with nothing to ask.)
-abbrev pub shelf_gives : Configuration → Waiting → Option Request → Verdict
+abbrev pub shelf_gives : Configuration → GlkWait → Option Request → Verdict
 shelf_gives m w None = stops stop.Stuck m
 shelf_gives m w (Some r) = let answer = m.answers m.asked r in
     moves_to (record m { asked = m.asked ++ (r, Ok answer) ∷ []; phase = goes_on (given_of answer) w })

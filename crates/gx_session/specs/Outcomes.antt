@@ -7,9 +7,9 @@ use Rattle.gx_state.specs.declared.effects.Reply.{Reply}
 use Rattle.gx_state.specs.Copies.{Copy}
 use Rattle.gx_state.specs.Flat.{FlatState}
 use Rattle.gx_words.specs.Constants.{ceiling}
-use Rattle.gx_machine.specs.Saves.{saved_copy}
-use Rattle.quetzal.specs.Saves.{save_of}
-use Rattle.quetzal.specs.Writing.{saved}
+use Rattle.gx_machine.specs.SavedCopies.{saved_copy}
+use Rattle.quetzal.specs.ReadingSaves.{copy_in_save}
+use Rattle.quetzal.specs.Writing.{save_bytes}
 use Rattle.gx_machine.specs.declared.askings.Asking.{Asking}
 use Rattle.gx_machine.specs.Machine.{FlatMachine, Whole}
 use Rattle.gx_machine.specs.Answer.{answer_of}
@@ -128,7 +128,7 @@ MaySave begun (Err e) old new defined = (e ≢ NoMemory → (new ≡ old) × (de
 
 -- What is saved of a state is read back as it was.
 abbrev pub IsReadBack : FlatState → Type 0
-IsReadBack f = save_of ceiling (saved f.story (saved_copy f)) f.story ≡ Ok (saved_copy f)
+IsReadBack f = copy_in_save ceiling (save_bytes f.story (saved_copy f)) f.story ≡ Ok (saved_copy f)
 
 -- What it is to a restore that a save is refused: there is no copy, unless memory ran out.
 abbrev pub Refuses : SaveFault → Result (Option Copy) Fault → Type 0

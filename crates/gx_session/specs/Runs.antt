@@ -5,7 +5,7 @@ use Rattle.std.specs.List.{concat}
 use Rattle.gx_words.specs.Constants.{ceiling}
 use Rattle.gx_machine.specs.Machine.{Whole}
 use Rattle.gx_machine.specs.Log.{Log}
-use Rattle.gx_machine.specs.Saves.{saved_copy}
+use Rattle.gx_machine.specs.SavedCopies.{saved_copy}
 use Rattle.gx_outside.specs.Chains.{Chain}
 use Rattle.gx_outside.specs.Outside.{FlatSink}
 use Rattle.gx_outside.specs.Reads.{SourceCall}
@@ -13,8 +13,8 @@ use Rattle.gx_outside.specs.Sends.{SinkCall}
 use Rattle.gx_outside.specs.Shelves.{Request, Answer, Trace, ShelfCall}
 use Rattle.gx_outside.specs.declared.devices.SendFault.TheVariants as of_send
 use Rattle.gx_state.specs.declared.effects.Effect.TheVariants as effect
-use Rattle.quetzal.specs.Saves.{save_of}
-use Rattle.quetzal.specs.Writing.{saved}
+use Rattle.quetzal.specs.ReadingSaves.{copy_in_save}
+use Rattle.quetzal.specs.Writing.{save_bytes}
 use Rattle.gx_session.specs.declared.ended.Ended.{Ended}
 use Rattle.gx_session.specs.Constants.{status_ended, status_fault, status_shelf_fault, status_no_memory}
 use Rattle.gx_session.specs.Constants.{status_input_fault}
@@ -68,7 +68,7 @@ IsSaved m =
     let f = m.machine.flat in
     m.phase ≡ steps → sends_now m ≡ false → (stream : ℕ) → effect_at m ≡ Some (effect.Save stream)
     → IsTrue (is_save_begun m.world.scene f stream)
-    → save_of ceiling (saved f.story (saved_copy f)) f.story ≡ Ok (saved_copy f)
+    → copy_in_save ceiling (save_bytes f.story (saved_copy f)) f.story ≡ Ok (saved_copy f)
 
 -- So it is of all saves within so many moves, or else of all after which the run goes on.
 abbrev pub SavedBefore : Configuration → Option ℕ → Type 0

@@ -12,27 +12,27 @@ use Rattle.gx_story.specs.Stories.{FlatStory}
 use Rattle.gx_state.specs.declared.effects.Reply.{Reply}
 use Rattle.gx_state.specs.Copies.{Copy, IsCopyFor}
 use Rattle.gx_state.specs.Flat.{FlatState}
-use Rattle.gx_machine.specs.Saves.{saved_copy}
+use Rattle.gx_machine.specs.SavedCopies.{saved_copy}
 use Rattle.glk_streams.specs.Stream as one
 use Rattle.glk_streams.specs.Streams as streams
 use Rattle.glk_world.specs.World.{Scene, Said, silent}
 use Rattle.glk_replies.specs.Parts.{replies}
-use Rattle.glk_text_calls.specs.Saves.{put_save, take_rest}
-use Rattle.quetzal.specs.Saves.{save_of}
-use Rattle.quetzal.specs.Writing.{saved}
+use Rattle.glk_text_calls.specs.PuttingSaves.{put_save, take_rest}
+use Rattle.quetzal.specs.ReadingSaves.{copy_in_save}
+use Rattle.quetzal.specs.Writing.{save_bytes}
 use Rattle.gx_session.specs.Constants.{failed}
 
 -- A save: the copy of the state is written as a save to the stream; nothing is written where the stream doesn't take
 -- it, and the save has failed.
 unfoldable pub saving : Scene → FlatState → ℕ → Result (Said × Reply) Fault
 saving w f stream = if f.iosys.0 == glk_system then
-    (put_save w f stream (saved f.story (saved_copy f)) >>= λ r. Ok (r.0, unwrap_or r.1 (replies failed)))
+    (put_save w f stream (save_bytes f.story (saved_copy f)) >>= λ r. Ok (r.0, unwrap_or r.1 (replies failed)))
     else Ok (silent w, replies failed)
 
 -- A restore: the rest of the stream is taken, and is the copy of a save of the story, or isn't.
 unfoldable pub restoring : Scene → FlatState → ℕ → Result (Said × Option Copy) Fault
 restoring w f stream = if f.iosys.0 == glk_system then (take_rest w f stream
-    >>= λ r. Ok (r.0, option_and_then (λ bytes. result_ok (save_of ceiling bytes f.story)) r.1))
+    >>= λ r. Ok (r.0, option_and_then (λ bytes. result_ok (copy_in_save ceiling bytes f.story)) r.1))
     else Ok (silent w, None)
 
 -- A save is begun, so that the copy is made, where the stream may take one: it is there, open for writing and no
@@ -50,6 +50,6 @@ is_restore_begun w f stream =
 -- THE ROUND TRIP: each copy that is fit for the story is read back as it was saved. And each save that was a copy while
 -- memory had a lower ceiling, such as 0x04000000, is restored as the same copy.
 pub record SavesReadBack (story : FlatStory) : Type 0 where
-  pub round_trip : (copy : Copy) → IsCopyFor story copy → save_of ceiling (saved story copy) story ≡ Ok copy
-  pub old_saves : (old : ℕ) (save : List ℕ) (copy : Copy) → old ≤ ceiling → save_of old save story ≡ Ok copy
-      → save_of ceiling save story ≡ Ok copy
+  pub round_trip : (copy : Copy) → IsCopyFor story copy → copy_in_save ceiling (save_bytes story copy) story ≡ Ok copy
+  pub old_saves : (old : ℕ) (save : List ℕ) (copy : Copy) → old ≤ ceiling → copy_in_save old save story ≡ Ok copy
+      → copy_in_save ceiling save story ≡ Ok copy

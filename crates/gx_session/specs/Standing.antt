@@ -9,7 +9,7 @@ use Rattle.gx_state.specs.Copies.{Copy}
 use Rattle.gx_machine.specs.declared.askings.Asking.{Asking}
 use Rattle.gx_machine.specs.Machine.{FlatMachine}
 use Rattle.gx_machine.specs.Answer.{answer_of}
-use Rattle.gx_machine.specs.Saves.{restored}
+use Rattle.gx_machine.specs.SavedCopies.{restored}
 use Rattle.gx_machine.specs.Step.{asking_of}
 use Rattle.gx_machine.specs.Log.{Log, logged}
 use Rattle.gx_machine.specs.Advancing.{logged_by}
@@ -26,7 +26,7 @@ use Rattle.gx_session.specs.declared.ends.Halt.{Halt}
 use Rattle.gx_session.specs.declared.ends.Halt.TheVariants as halt
 use Rattle.gx_session.specs.Constants.{status_shelf_fault, status_input_fault, status_output_fault, status_no_memory}
 use Rattle.gx_session.specs.Constants.{piece}
-use Rattle.gx_session.specs.declared.running.Waiting.{Waiting}
+use Rattle.gx_session.specs.declared.running.GlkWait.{GlkWait}
 use Rattle.gx_session.specs.Wants.{IsWait, ReplyWants, TurnWants, WantsMemory}
 use Rattle.gx_session.specs.Cuts.{IsLineStop}
 use Rattle.gx_session.specs.Input.{line, next_line}
@@ -75,7 +75,7 @@ pub record IsInCall {K : Type 0} {sending : SendStep K} (start : Configuration) 
 
 -- A line was taken at a wait.
 pub record TakesInput {K : Type 0} {sending : SendStep K} (start : Configuration) (entry : Handed sending) (h : HeldRun)
-    (asking : Option Asking) (d : Handed sending) (chars : List ℕ) (w : Waiting) : Type 0 where
+    (asking : Option Asking) (d : Handed sending) (chars : List ℕ) (w : GlkWait) : Type 0 where
   -- the wait, and what was held and read before
   pub turn : Turn
   pub ahead : List ℕ
@@ -185,7 +185,7 @@ GoesBack start entry h asking d left copy = Resumes start entry h asking d left 
 
 -- A Glk call has come to a turn from a configuration of the run.
 pub record TakesTurn {K : Type 0} {sending : SendStep K} (start : Configuration) (entry : Handed sending) (h : HeldRun)
-    (asking : Option Asking) (d : Handed sending) (w : Waiting) (turn : Turn) : Type 0 where
+    (asking : Option Asking) (d : Handed sending) (w : GlkWait) (turn : Turn) : Type 0 where
   pub world : FlatWorld
   pub said : Said
   pub moved : h.world ≡ after world said
@@ -199,7 +199,7 @@ pub record TakesTurn {K : Type 0} {sending : SendStep K} (start : Configuration)
 
 -- A Glk call that went on has come to a turn from a configuration of the run.
 pub record GoesOn {K : Type 0} {sending : SendStep K} (start : Configuration) (entry : Handed sending) (h : HeldRun)
-    (asking : Option Asking) (d : Handed sending) (w : Waiting) (turn : Turn) : Type 0 where
+    (asking : Option Asking) (d : Handed sending) (w : GlkWait) (turn : Turn) : Type 0 where
   pub world : FlatWorld
   pub said : Said
   pub given : Given

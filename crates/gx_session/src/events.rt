@@ -24,7 +24,7 @@ ghost use Rattle.gx_session.specs.Finishing.{RunGives, StoresAll};
 ghost use Rattle.gx_session.specs.Outcomes.{IsStop, IsNext, Leads, Keeps};
 
 use crate::ends::{Halt, Next, Stop};
-use crate::running::{Running, Waiting, draw, faulted, flush};
+use crate::running::{Running, GlkWait, draw, faulted, flush};
 use crate::saves::{ask_restore, ask_save};
 use crate::turns::{ask_glk, ask_put};
 use glk_streams::Streams;
@@ -89,7 +89,7 @@ fn follow<A: Allocator + Clone, E: Engine<A>, S: Source, K: Sink, F: Shelf>(
             shelf,
             selector,
             &args,
-            Waiting { room, left },
+            GlkWait { room, left },
         ),
         Effect::Save(stream) => ask_save(run, output, stream, left),
         Effect::Restore(stream) => ask_restore(run, output, stream, left),

@@ -50,7 +50,7 @@ pub struct Running<E> {
 
 /// A Glk call that waits.
 #[derive(Clone, Copy)]
-pub struct Waiting {
+pub struct GlkWait {
     /// How many values its answer may push beside its own store.
     pub room: u32,
     /// The units of the budget that are left once it is answered.

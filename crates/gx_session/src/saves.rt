@@ -8,7 +8,7 @@ ghost use Rattle.gx_state.specs.Replies.{IsReply};
 ghost use Rattle.gx_state.specs.declared.effects.Effect.TheVariants as effect;
 ghost use Rattle.gx_machine.specs.declared.askings.Asking.TheVariants as asking;
 ghost use Rattle.gx_machine.specs.Advancing.{left_after};
-ghost use Rattle.gx_machine.specs.Saves.{restored};
+ghost use Rattle.gx_machine.specs.SavedCopies.{restored};
 ghost use Rattle.gx_machine.specs.Step.{asking_of};
 ghost use Rattle.glk_streams.specs.Stream as one;
 ghost use Rattle.glk_streams.specs.Streams as all;

@@ -25,7 +25,7 @@ ghost use Rattle.gx_session.specs.Outcomes.{Leads, Keeps, without_line};
 use crate::ends::{Halt, Next, Stop};
 use crate::lines::NoLine;
 use crate::questions::Question;
-use crate::running::{Running, Waiting, answer, answer_put, faulted, flush};
+use crate::running::{Running, GlkWait, answer, answer_put, faulted, flush};
 use arrayvec::ArrayVec;
 use glk_dispatch::{Given, Turn};
 use gx_machine::Engine;
@@ -91,7 +91,7 @@ fn take_answer<A: Allocator + Clone, E: Engine<A>, K: Sink>(
     run: &mut Running<E>,
     output: &mut K,
     turn: Turn,
-    wait: Waiting,
+    wait: GlkWait,
 ) -> Result<Next, Halt>
     requires asks { (E.whole run.old.engine).asking ≡ Some (asking.Glk wait.room) }
     requires answered { IsAnswered turn }
@@ -119,7 +119,7 @@ fn go_on<A: Allocator + Clone, E: Engine<A>, K: Sink>(
     run: &mut Running<E>,
     output: &mut K,
     given: Given,
-    wait: Waiting,
+    wait: GlkWait,
 ) -> Result<Next, Halt>
     requires asks { (E.whole run.old.engine).asking ≡ Some (asking.Glk wait.room) }
     requires awaits { Awaits run.old.world.scene given }
@@ -147,7 +147,7 @@ fn consult<A: Allocator + Clone, E: Engine<A>, K: Sink, F: Shelf>(
     output: &mut K,
     shelf: &mut F,
     question: Question,
-    wait: Waiting,
+    wait: GlkWait,
 ) -> Result<Next, Halt>
     requires asks { (E.whole run.old.engine).asking ≡ Some (asking.Glk wait.room) }
     requires awaits { (given : Given) → IsGivenFor (turn_of question) given → Awaits run.old.world.scene given }
@@ -192,7 +192,7 @@ fn take_line<A: Allocator + Clone, E: Engine<A>, K: Sink>(
     run: &mut Running<E>,
     output: &mut K,
     line: Numbers,
-    wait: Waiting,
+    wait: GlkWait,
 ) -> Result<Next, Halt>
     requires asks { (E.whole run.old.engine).asking ≡ Some (asking.Glk wait.room) }
     requires awaits { Awaits run.old.world.scene (given.Line line) }
@@ -229,7 +229,7 @@ fn await_line<A: Allocator + Clone, E: Engine<A>, S: Source, K: Sink>(
     run: &mut Running<E>,
     input: &mut S,
     output: &mut K,
-    wait: Waiting,
+    wait: GlkWait,
 ) -> Result<Next, Halt>
     requires asks { (E.whole run.old.engine).asking ≡ Some (asking.Glk wait.room) }
     requires awaits { (line : List ℕ) → Awaits run.old.world.scene (given.Line line) }
@@ -258,7 +258,7 @@ fn wait_for_line<A: Allocator + Clone, E: Engine<A>, S: Source, K: Sink>(
     run: &mut Running<E>,
     input: &mut S,
     output: &mut K,
-    wait: Waiting,
+    wait: GlkWait,
 ) -> Result<Next, Halt>
     requires asks { (E.whole run.old.engine).asking ≡ Some (asking.Glk wait.room) }
     requires awaits { (line : List ℕ) → Awaits run.old.world.scene (given.Line line) }
@@ -286,7 +286,7 @@ fn take_turn<A: Allocator + Clone, E: Engine<A>, S: Source, K: Sink, F: Shelf>(
     output: &mut K,
     shelf: &mut F,
     turn: Turn,
-    wait: Waiting,
+    wait: GlkWait,
 ) -> Result<Next, Halt>
     requires asks { (E.whole run.old.engine).asking ≡ Some (asking.Glk wait.room) }
     requires awaits { (given : Given) → IsGivenFor turn given → Awaits run.old.world.scene given }
@@ -338,7 +338,7 @@ pub fn ask_glk<A: Allocator + Clone, E: Engine<A>, S: Source, K: Sink, F: Shelf>
     shelf: &mut F,
     selector: u32,
     args: &ArrayVec<u32, 8>,
-    wait: Waiting,
+    wait: GlkWait,
 ) -> Result<Next, Halt>
     requires asks { (E.whole run.old.engine).asking ≡ asking_of (Glk selector args.now wait.room) }
     requires fewer { wait.left ≤ run.old.left }

@@ -24,6 +24,6 @@ abbrev pub held_of : {A : Type 0} → Inside A → HeldState
 held_of s = record { flat = flat_of s; spare = s.heap.spare }
 
 -- the present frame is at hand
-pub record IsKept {A : Type 0} (s : Inside A) : Type 0 where
+pub record StateInvariant {A : Type 0} (s : Inside A) : Type 0 where
   pub sound : IsSound (flat_of s)
   pub frame : 0 < length s.stack.bytes → IsFrame s.stack.bytes s.frame

@@ -47,11 +47,11 @@ impl<A: Allocator + Clone> Model for State<A> {
 
     ghost Value = { HeldState };
 
-    ghost use Rattle.gx_state.specs.Views.{held_of, IsKept};
+    ghost use Rattle.gx_state.specs.Views.{held_of, StateInvariant};
 
     ghost view = { held_of };
 
-    ghost invariant = { IsKept };
+    ghost invariant = { StateInvariant };
 }
 
 impl<A: Allocator + Clone> State<A> {

@@ -11,6 +11,6 @@ abbrev pub held_of : Inside → HeldHeap
 held_of h = record { heap = flat_of h; spare = vec_capacity h.blocks - vec_len h.blocks }
 
 -- the heap is sound, and how many of its first blocks leave no gap is as it is kept
-pub record IsKept (h : Inside) : Type 0 where
+pub record HeapInvariant (h : Inside) : Type 0 where
   pub sound : IsSound (flat_of h)
   pub gapless : h.gapless ≡ gapless h.start h.blocks.items

@@ -37,11 +37,11 @@ impl Model for Heap {
 
     ghost Value = { HeldHeap };
 
-    ghost use Rattle.heap_blocks.specs.Sound.{held_of, IsKept};
+    ghost use Rattle.heap_blocks.specs.Sound.{held_of, HeapInvariant};
 
     ghost view = { held_of };
 
-    ghost invariant = { IsKept };
+    ghost invariant = { HeapInvariant };
 }
 
 impl Heap {

@@ -25,7 +25,7 @@ use Rattle.gx_state.specs.Returns.{stub_of, pushed_stubs, returned, stub_to}
 use Rattle.gx_state.specs.Calls.{with_word}
 use Rattle.gx_state.specs.Stores.{store_fault, with_value, stored}
 use Rattle.gx_operands.specs.Instructions.{Instruction, going_to, L1}
-use Rattle.ops_flow.specs.Rows.{branches, catch}
+use Rattle.ops_flow.specs.FlowRows.{branches, catch}
 use Rattle.ops_flow.specs.Catches.{with_stub, lasting}
 use Rattle.ops_flow.proofs.Opened.{pushing_stub}
 

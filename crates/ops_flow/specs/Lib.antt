@@ -1,3 +1,3 @@
-pub mod Rows
+pub mod FlowRows
 pub mod Writes
 pub mod Catches

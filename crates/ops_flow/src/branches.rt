@@ -8,7 +8,7 @@ ghost use Rattle.gx_state.specs.Calls.{with_word};
 ghost use Rattle.gx_state.specs.Allowed.{IsWordInRam};
 ghost use Rattle.gx_operands.specs.Instructions.{going_to};
 ghost use Rattle.gx_operands.specs.Plans.{instruction_of};
-ghost use Rattle.ops_flow.specs.Rows.{returns, branches, jumps};
+ghost use Rattle.ops_flow.specs.FlowRows.{returns, branches, jumps};
 ghost use Rattle.ops_flow.specs.Writes.{IsBranchWriting, IsWriting};
 
 use crate::goes_to;

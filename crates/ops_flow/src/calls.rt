@@ -4,7 +4,7 @@ ghost use Rattle.gx_state.specs.Flat.{IsHeight};
 ghost use Rattle.gx_state.specs.Relations.{Goes};
 ghost use Rattle.gx_state.specs.Replies.{IsDone};
 ghost use Rattle.gx_operands.specs.Plans.{instruction_of};
-ghost use Rattle.ops_flow.specs.Rows.{calls, call, callf, tailcall};
+ghost use Rattle.ops_flow.specs.FlowRows.{calls, call, callf, tailcall};
 
 use arrayvec::ArrayVec;
 use gx_operands::{Plan, arguments};

@@ -5,7 +5,7 @@ ghost use Rattle.gx_state.specs.Relations.{Works};
 ghost use Rattle.gx_state.specs.Replies.{IsDone};
 ghost use Rattle.gx_state.specs.Stores.{IsMemory};
 ghost use Rattle.gx_operands.specs.Plans.{instruction_of};
-ghost use Rattle.ops_flow.specs.Rows.{computes};
+ghost use Rattle.ops_flow.specs.FlowRows.{computes};
 
 use gx_operands::{Plan, stores};
 use gx_rows::Class;

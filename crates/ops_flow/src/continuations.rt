@@ -8,7 +8,7 @@ ghost use Rattle.gx_state.specs.Returns.{IsReturnWriting};
 ghost use Rattle.gx_state.specs.Stores.{IsMemory, store_fault, with_value};
 ghost use Rattle.gx_operands.specs.Instructions.{L1, L2};
 ghost use Rattle.gx_operands.specs.Plans.{instruction_of};
-ghost use Rattle.ops_flow.specs.Rows.{catch, throw};
+ghost use Rattle.ops_flow.specs.FlowRows.{catch, throw};
 ghost use Rattle.ops_flow.specs.Catches.{with_stub, lasting};
 ghost use Rattle.ops_flow.specs.Writes.{IsBranchWriting};
 

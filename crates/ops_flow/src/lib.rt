@@ -16,7 +16,7 @@ ghost use Rattle.gx_state.specs.Replies.{IsDone};
 ghost use Rattle.gx_state.specs.Stores.{IsMemory};
 ghost use Rattle.gx_operands.specs.Plans.{instruction_of};
 ghost use Rattle.gx_operands.specs.Stores.{goes_to};
-ghost use Rattle.ops_flow.specs.Rows.{flow, stack, row_effect};
+ghost use Rattle.ops_flow.specs.FlowRows.{flow, stack, row_effect};
 ghost use Rattle.ops_flow.specs.Writes.{IsWriting};
 
 mod branches;

@@ -7,7 +7,7 @@ ghost use Rattle.gx_state.specs.Relations.{Goes, Works};
 ghost use Rattle.gx_state.specs.Replies.{IsDone};
 ghost use Rattle.gx_state.specs.Stores.{IsMemory};
 ghost use Rattle.gx_operands.specs.Plans.{instruction_of};
-ghost use Rattle.ops_flow.specs.Rows.{stkcount, stkpeek, stkswap, stkroll, stkcopy};
+ghost use Rattle.ops_flow.specs.FlowRows.{stkcount, stkpeek, stkswap, stkroll, stkcopy};
 
 use gx_operands::{Plan, stores, values_to};
 use gx_state::{Effect, State};

@@ -12,7 +12,7 @@ use Rattle.gx_state.specs.Copies.{Copy, restored_to}
 use Rattle.gx_state.specs.Allowed.{HasPlaceFor}
 use Rattle.gx_state.specs.declared.effects.Effect.TheVariants.{Went}
 use Rattle.gx_operands.specs.Instructions.{Instruction}
-use Rattle.ops_game.specs.Rows.{leaving_copies, restored_from}
+use Rattle.ops_game.specs.GameRows.{leaving_copies, restored_from}
 use Rattle.gx_undo.specs.Undo.{FlatUndo, with_newest, without_newest}
 
 -- a store that has no fault has a place for its word

@@ -21,7 +21,7 @@ use Rattle.gx_state.specs.Stores.{IsMemory, store_fault, with_value, stored}
 use Rattle.gx_operands.specs.Instructions.{Instruction}
 use Rattle.gx_operands.specs.Stores.{with_settled, settled}
 use Rattle.ops_game.specs.Pairs.{beside_memory, both_fault, memory_word, pushed_bytes}
-use Rattle.ops_game.specs.Rows.{both_stored}
+use Rattle.ops_game.specs.GameRows.{both_stored}
 
 -- ---- the second's fault after the first
 

@@ -9,7 +9,7 @@ ghost use Rattle.gx_state.specs.Replies.{IsDone};
 ghost use Rattle.gx_state.specs.Stores.{IsMemory};
 ghost use Rattle.gx_operands.specs.Plans.{instruction_of};
 ghost use Rattle.ops_calc.specs.Generator.{is_outside};
-ghost use Rattle.ops_game.specs.Rows.{drawn, random, setrandom};
+ghost use Rattle.ops_game.specs.GameRows.{drawn, random, setrandom};
 
 use gx_operands::{Plan, can_store, goes, settle};
 use gx_state::{Dest, Effect, State};

@@ -18,7 +18,7 @@ ghost use Rattle.gx_state.specs.Replies.{IsDone};
 ghost use Rattle.gx_state.specs.Stores.{IsMemory};
 ghost use Rattle.gx_operands.specs.Plans.{instruction_of};
 ghost use Rattle.gx_undo.specs.Undo.{AreCopiesFor};
-ghost use Rattle.ops_game.specs.Rows.{gestalt, quit, verify, restart, protect, row_effect};
+ghost use Rattle.ops_game.specs.GameRows.{gestalt, quit, verify, restart, protect, row_effect};
 ghost use Rattle.ops_game.specs.Asks.{IsSaveAtMost};
 ghost use Rattle.ops_game.specs.Writes.{IsWriting};
 

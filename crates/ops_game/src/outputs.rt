@@ -11,7 +11,7 @@ ghost use Rattle.gx_state.specs.Sound.{IsSound};
 ghost use Rattle.gx_state.specs.Stores.{IsMemory};
 ghost use Rattle.gx_operands.specs.Plans.{instruction_of};
 ghost use Rattle.ops_game.specs.Pairs.{beside_memory, both_fault, memory_word};
-ghost use Rattle.ops_game.specs.Rows.{both_stored, getiosys, getstringtbl, setiosys, setstringtbl};
+ghost use Rattle.ops_game.specs.GameRows.{both_stored, getiosys, getstringtbl, setiosys, setstringtbl};
 
 use gx_operands::{Plan, can_store, goes, settle, store, stores};
 use gx_state::{Dest, Effect, State};

@@ -6,7 +6,7 @@ ghost use Rattle.gx_words.specs.Faults.{Reads};
 ghost use Rattle.gx_state.specs.Flat.{IsHeight};
 ghost use Rattle.gx_operands.specs.Plans.{instruction_of};
 ghost use Rattle.gx_undo.specs.Undo.{FlatUndo};
-ghost use Rattle.ops_game.specs.Rows.{restore, save};
+ghost use Rattle.ops_game.specs.GameRows.{restore, save};
 ghost use Rattle.ops_game.specs.Asks.{IsSaveAtMost};
 
 use gx_operands::{Plan, can_store};

@@ -9,7 +9,7 @@ ghost use Rattle.gx_state.specs.Replies.{IsDone};
 ghost use Rattle.gx_state.specs.Stores.{IsMemory};
 ghost use Rattle.gx_operands.specs.Plans.{instruction_of};
 ghost use Rattle.gx_undo.specs.Undo.{AreCopiesFor};
-ghost use Rattle.ops_game.specs.Rows.{discardundo, hasundo, restoreundo, saveundo};
+ghost use Rattle.ops_game.specs.GameRows.{discardundo, hasundo, restoreundo, saveundo};
 
 use gx_operands::{Plan, can_store, goes, settle, stores};
 use gx_state::{Effect, State};

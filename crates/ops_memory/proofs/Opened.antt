@@ -1,5 +1,5 @@
 -- The definitions that the proof of a row of Memory opens.
-use Rattle.ops_memory.specs.Rows.{memory, aload, aloads, aloadb, astore, astores, astoreb}
+use Rattle.ops_memory.specs.MemoryRows.{memory, aload, aloads, aloadb, astore, astores, astoreb}
 use Rattle.ops_memory.specs.Searching.{linearsearch, binarysearch, linkedsearch}
 use Rattle.ops_memory.specs.Space.{getmemsize}
 

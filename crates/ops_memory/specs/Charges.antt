@@ -9,7 +9,7 @@ use Rattle.gx_state.specs.declared.effects.Effect.TheVariants.{Spent}
 use Rattle.gx_state.specs.Replies.{IsDone}
 use Rattle.gx_state.specs.Flat.{FlatState}
 use Rattle.gx_operands.specs.Instructions.{Instruction}
-use Rattle.ops_memory.specs.Rows.{row_effect}
+use Rattle.ops_memory.specs.MemoryRows.{row_effect}
 use Rattle.ops_memory.specs.Costs.{probes_of}
 
 -- the budget is lowered by probes

@@ -6,7 +6,7 @@ ghost use Rattle.gx_state.specs.Relations.{Works};
 ghost use Rattle.gx_state.specs.Replies.{IsDone};
 ghost use Rattle.gx_state.specs.Stores.{IsMemory};
 ghost use Rattle.gx_operands.specs.Plans.{instruction_of};
-ghost use Rattle.ops_memory.specs.Rows.{element, loads, puts};
+ghost use Rattle.ops_memory.specs.MemoryRows.{element, loads, puts};
 
 use gx_operands::{Plan, settle, stores};
 use gx_state::{Dest, Effect, State};

@@ -5,7 +5,7 @@ ghost use Rattle.gx_state.specs.Relations.{Works};
 ghost use Rattle.gx_state.specs.Replies.{IsDone};
 ghost use Rattle.gx_state.specs.Stores.{IsMemory};
 ghost use Rattle.gx_operands.specs.Plans.{instruction_of};
-ghost use Rattle.ops_memory.specs.Rows.{aloadbit, astorebit, byte_of_bit, bit_in_byte};
+ghost use Rattle.ops_memory.specs.MemoryRows.{aloadbit, astorebit, byte_of_bit, bit_in_byte};
 
 use crate::arrays::puts;
 use gx_operands::{Plan, stores};

@@ -17,7 +17,7 @@ ghost use Rattle.gx_state.specs.Relations.{Works};
 ghost use Rattle.gx_state.specs.Replies.{IsDone};
 ghost use Rattle.gx_state.specs.Stores.{IsMemory};
 ghost use Rattle.gx_operands.specs.Plans.{instruction_of};
-ghost use Rattle.ops_memory.specs.Rows.{copy, memory};
+ghost use Rattle.ops_memory.specs.MemoryRows.{copy, memory};
 ghost use Rattle.ops_memory.specs.Costs.{probes_of};
 ghost use Rattle.ops_memory.specs.Charges.{charged, acted, EndsWithin, IsAfforded};
 ghost use Rattle.ops_memory.specs.Writes.{IsWriting};

@@ -14,7 +14,7 @@ ghost use Rattle.std.specs.Prelude.{◌≡◌, IfOk};
 ghost use Rattle.gx_state.specs.Flat.{IsHeight};
 ghost use Rattle.gx_state.specs.Relations.{Goes};
 ghost use Rattle.gx_operands.specs.Plans.{instruction_of};
-ghost use Rattle.ops_print.specs.Rows.{row_effect};
+ghost use Rattle.ops_print.specs.PrintRows.{row_effect};
 ghost use Rattle.ops_print.specs.Asks.{IsPutAtMost};
 
 mod arguments;

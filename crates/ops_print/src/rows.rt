@@ -3,8 +3,8 @@ ghost use Rattle.std.specs.Prelude.{◌≡◌, Ok, IfOk};
 ghost use Rattle.gx_state.specs.Flat.{IsHeight};
 ghost use Rattle.gx_state.specs.Relations.{Goes};
 ghost use Rattle.gx_operands.specs.Plans.{instruction_of};
-ghost use Rattle.ops_print.specs.Rows.{character_streamed, printing_begun, streamchar, streamnum, streamstr};
-ghost use Rattle.ops_print.specs.Rows.{streamunichar};
+ghost use Rattle.ops_print.specs.PrintRows.{character_streamed, printing_begun, streamchar, streamnum, streamstr};
+ghost use Rattle.ops_print.specs.PrintRows.{streamunichar};
 ghost use Rattle.ops_print.specs.Asks.{IsPutAtMost};
 
 use gx_operands::{Plan, goes};

@@ -12,7 +12,7 @@ use Rattle.quetzal.specs.Chunks.{Parts, parts_in}
 use Rattle.quetzal.specs.Memory.{is_memory_size, size_in, memory_of}
 use Rattle.quetzal.specs.Stacks.{is_stack}
 use Rattle.quetzal.specs.Blocks.{heap_of}
-use Rattle.quetzal.specs.Saves.{save_of}
+use Rattle.quetzal.specs.ReadingSaves.{copy_in_save}
 use Rattle.quetzal.specs.Laws.{OldSavesLoad}
 use Rattle.quetzal.proofs.Sorting.{both}
 
@@ -46,5 +46,5 @@ higher old new story (Ok parts) copy le h =
 higher old new story (Err e) copy le h = absurd cc
 
 pub old_saves_load : OldSavesLoad
-unfolding save_of
+unfolding copy_in_save
 old_saves_load old new save story copy le h = higher old new story (parts_in save story) copy le h

@@ -43,7 +43,7 @@ use Rattle.quetzal.specs.Stacks.{is_result_place, is_stack}
 use Rattle.quetzal.specs.Blocks.{blocks_from, blocks_in, count_in, has_count}
 use Rattle.quetzal.specs.Blocks.{has_no_heap, heap_bytes, heap_of, ordered_blocks, rises, start_in}
 use Rattle.quetzal.specs.Laws.{ReadsBack, chunk_len, form_len}
-use Rattle.quetzal.specs.Writing.{heap_chunks, saved}
+use Rattle.quetzal.specs.Writing.{heap_chunks, save_bytes}
 use Rattle.quetzal.proofs.Sorting.{both, rises_by, rises_parts}
 use Rattle.quetzal.proofs.SaveReading.{save_taken}
 
@@ -419,10 +419,10 @@ is_form story c s =
 
 -- what is written is read back
 pub reads_back : ReadsBack
-unfolding saved
+unfolding save_bytes
 reads_back story c good fit =
     let s = small story c good fit in
-    let save = saved story c in
+    let save = save_bytes story c in
     let all = iff.reads_back (codes "IFZS") (saved_chunks story c) (is_form story c s) in
     let find : (id : List ℕ) → body_in save id ≡ Ok (first_body id (saved_chunks story c)) =
     λ id. body_written save id (saved_chunks story c) all in

@@ -28,7 +28,7 @@ use Rattle.quetzal.specs.Stacks.{is_stack, is_result_place}
 use Rattle.quetzal.specs.Blocks.{blocks_from, blocks_in, count_in, has_count, has_no_heap}
 use Rattle.quetzal.specs.Blocks.{heap_of, ordered_blocks, rises, start_in}
 use Rattle.quetzal.specs.Laws.{is_block, may_meet, ordered, MayMeet}
-use Rattle.quetzal.specs.Saves.{save_of}
+use Rattle.quetzal.specs.ReadingSaves.{copy_in_save}
 use Rattle.quetzal.proofs.Sorting.{both, rises_parts, rises_size, order_none, order_wanted}
 
 -- sizes
@@ -319,8 +319,8 @@ pub ruleset copies = (copy_fits)
 
 -- the exits
 pub parts_refused : (save : List ℕ) (story : FlatStory) (e : SaveFault) → parts_in save story ≡ Err e
-    → save_of ceiling save story ≡ Err e
-unfolding save_of
+    → copy_in_save ceiling save story ≡ Err e
+unfolding copy_in_save
 parts_refused save story e h = rw h refl
 
 pub not_allowed : (passes : Bool) (e given : SaveFault)
@@ -329,14 +329,14 @@ not_allowed true e given h = absurd cc
 not_allowed false e given h = (refl, cc)
 
 pub size_refused : (save : List ℕ) (story : FlatStory) (p : Parts) (size : ℕ) → parts_in save story ≡ Ok p
-    → size ≡ size_in p.memory → is_memory_size ceiling story size ≡ false → save_of ceiling save story ≡ Err fault.Size
-unfolding save_of
+    → size ≡ size_in p.memory → is_memory_size ceiling story size ≡ false → copy_in_save ceiling save story ≡ Err fault.Size
+unfolding copy_in_save
 size_refused save story p size h is not = rw (h, ← is, not) refl
 
 pub memory_refused : (save : List ℕ) (story : FlatStory) (p : Parts) (size : ℕ) (e : SaveFault)
     → parts_in save story ≡ Ok p → size ≡ size_in p.memory → is_memory_size ceiling story size ≡ true
-    → memory_of story p.memory ≡ Err e → save_of ceiling save story ≡ Err e
-unfolding save_of
+    → memory_of story p.memory ≡ Err e → copy_in_save ceiling save story ≡ Err e
+unfolding copy_in_save
 memory_refused save story p size e h is fits not = rw (h, ← is, fits, not) refl
 
 -- what comes behind the memory
@@ -347,9 +347,9 @@ behind memory stacks stack heap = memory
 
 pub save_by : (save : List ℕ) (story : FlatStory) (p : Parts) (size : ℕ) → parts_in save story ≡ Ok p
     → size ≡ size_in p.memory → is_memory_size ceiling story size ≡ true
-    → save_of ceiling save story ≡ behind (memory_of story p.memory) (is_stack story size p.stack) p.stack
+    → copy_in_save ceiling save story ≡ behind (memory_of story p.memory) (is_stack story size p.stack) p.stack
     (heap_of story size p.heap)
-unfolding save_of
+unfolding copy_in_save
 save_by save story p size h is fits = rw (h, ← is, fits) refl
 
 pub stack_refused : (memory : Result (List ℕ) SaveFault) (stack : List ℕ) (heap : Result FlatHeap SaveFault)
@@ -388,6 +388,6 @@ meet_by save story p size h is meet = rw (h, ← is) (ap (λ (t : Bool). Ok t) m
 pub save_taken : (save : List ℕ) (story : FlatStory) (p : Parts) (size : ℕ) (memory : List ℕ) (heap : FlatHeap)
     → parts_in save story ≡ Ok p → size ≡ size_in p.memory → is_memory_size ceiling story size ≡ true
     → memory_of story p.memory ≡ Ok memory → is_stack story size p.stack ≡ true → heap_of story size p.heap ≡ Ok heap
-    → save_of ceiling save story ≡ Ok (record { memory = memory; stack = p.stack; heap = heap })
+    → copy_in_save ceiling save story ≡ Ok (record { memory = memory; stack = p.stack; heap = heap })
 save_taken save story p size memory heap h is fits ram stack there =
     save_by save story p size h is fits ∙ rw (ram, stack, there) refl

@@ -14,7 +14,7 @@ use Rattle.gx_story.specs.Stories.{FlatStory}
 use Rattle.gx_state.specs.Copies.{Copy}
 use Rattle.quetzal.specs.Memory.{memory_bytes}
 use Rattle.quetzal.specs.Blocks.{heap_bytes}
-use Rattle.quetzal.specs.Writing.{heap_chunks, saved}
+use Rattle.quetzal.specs.Writing.{heap_chunks, save_bytes}
 use Rattle.quetzal.specs.Laws.{form_len}
 use Rattle.quetzal.proofs.ReadingBack.{bytes_of_block, Small, form_fits, length-heap_bytes, length-saved_chunks}
 
@@ -67,8 +67,8 @@ pub form_written : (story : FlatStory) (c : Copy) (front out : List ℕ) → Sma
     → out ≡ (((front ++ bytes_of_chunk (record { id = codes "IFhd"; body = take 128 story.bytes })) ++ bytes_of_chunk
     (record { id = codes "CMem"; body = memory_bytes story c.memory })) ++ bytes_of_chunk
     (record { id = codes "Stks"; body = c.stack })) ++ flat_map bytes_of_chunk (heap_chunks c.heap)
-    → out ≡ saved story c
-unfolding saved bytes_of_form
+    → out ≡ save_bytes story c
+unfolding save_bytes bytes_of_form
 form_written story c front out s begins is =
     let first = bytes_of_chunk (record { id = codes "IFhd"; body = take 128 story.bytes }) in
     let second = bytes_of_chunk (record { id = codes "CMem"; body = memory_bytes story c.memory }) in

@@ -13,11 +13,11 @@ use Rattle.gx_words.specs.Results.{◌>>=◌}
 use Rattle.gx_state.specs.Copies.{Copy, IsCopyFor}
 use Rattle.quetzal.specs.Chunks.{parts_in}
 use Rattle.quetzal.specs.Memory.{is_memory_size, size_in}
-use Rattle.quetzal.specs.Saves.{save_of}
+use Rattle.quetzal.specs.ReadingSaves.{copy_in_save}
 use Rattle.gx_words.specs.Constants.{ceiling}
 use Rattle.gx_story.specs.Stories.{IsStory}
 use Rattle.quetzal.specs.Constants.{story_start, heap_header_len, block_len}
-use Rattle.quetzal.specs.Writing.{saved}
+use Rattle.quetzal.specs.Writing.{save_bytes}
 
 -- a block that isn't empty, between the start and the size
 abbrev pub is_block : ℕ → ℕ → Block → Bool
@@ -46,7 +46,7 @@ MayMeet save story = (parts_in save story >>= λ parts. Ok (may_meet story (size
 abbrev pub OldSavesLoad : Type 0
 OldSavesLoad =
     (old new : ℕ) (save : List ℕ) (story : FlatStory) (copy : Copy)
-    → old ≤ new → save_of old save story ≡ Ok copy → save_of new save story ≡ Ok copy
+    → old ≤ new → copy_in_save old save story ≡ Ok copy → copy_in_save new save story ≡ Ok copy
 
 -- the lengths of a chunk and of a form from its kind on, by those of their parts
 abbrev pub chunk_len : ℕ → ℕ
@@ -61,4 +61,4 @@ form_len memory stack blocks =
 abbrev pub ReadsBack : Type 0
 ReadsBack =
     (story : FlatStory) (copy : Copy) → IsStory story → IsCopyFor story copy
-    → save_of ceiling (saved story copy) story ≡ Ok copy
+    → copy_in_save ceiling (save_bytes story copy) story ≡ Ok copy

@@ -5,7 +5,7 @@ pub mod Views
 pub mod Memory
 pub mod Stacks
 pub mod Blocks
-pub mod Saves
+pub mod ReadingSaves
 pub mod Writing
 pub mod Laws
 pub mod Relations

@@ -12,8 +12,8 @@ use Rattle.quetzal.specs.Blocks.{heap_bytes}
 abbrev pub heap_chunks : FlatHeap → List Chunk
 heap_chunks heap = if is_inactive heap then [] else record { id = codes "MAll"; body = heap_bytes heap } ∷ []
 
-unfoldable pub saved : FlatStory → Copy → List ℕ
-saved story copy = bytes_of_form (codes "IFZS")
+unfoldable pub save_bytes : FlatStory → Copy → List ℕ
+save_bytes story copy = bytes_of_form (codes "IFZS")
     (record { id = codes "IFhd"; body = take story_start story.bytes } ∷
     record { id = codes "CMem"; body = memory_bytes story copy.memory } ∷
     record { id = codes "Stks"; body = copy.stack } ∷ heap_chunks copy.heap)

@@ -5,7 +5,7 @@ ghost use Rattle.std.specs.Prelude.{IfOk};
 ghost use Rattle.gx_words.specs.Constants.{ceiling};
 ghost use Rattle.gx_state.specs.Copies.{IsCopyFor};
 ghost use Rattle.quetzal.specs.Relations.{MaySort};
-ghost use Rattle.quetzal.specs.Saves.{save_of};
+ghost use Rattle.quetzal.specs.ReadingSaves.{copy_in_save};
 ghost use Rattle.quetzal.specs.Laws.{MayMeet};
 
 use crate::SaveFault;
@@ -26,7 +26,7 @@ use std::alloc::Global;
 /// sorted to see whether two of them meet; where memory for that is refused, it isn't seen.
 #[tactic(auto, using(crate::proofs::SaveReading::parts_refused))]
 pub fn read_save(alloc: Global, bytes: &[u8], story: &Story) -> Result<FlatCopy, SaveFault>
-    ensures value { MaySort (MayMeet bytes.now story.now) (λ copy. copy) result (save_of ceiling bytes.now story.now) }
+    ensures value { MaySort (MayMeet bytes.now story.now) (λ copy. copy) result (copy_in_save ceiling bytes.now story.now) }
     ensures sound { IfOk result (λ copy. IsCopyFor story.now copy) }
 {
     let parts = Parts::find(bytes, story)?;

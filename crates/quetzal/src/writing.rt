@@ -8,8 +8,8 @@ ghost use Rattle.quetzal.specs.Memory.{memory_bytes};
 ghost use Rattle.quetzal.specs.Blocks.{heap_bytes};
 ghost use Rattle.gx_words.specs.Numbers.{bytes_of_word};
 ghost use Rattle.heap_blocks.specs.Heap.{Block};
-ghost use Rattle.quetzal.specs.Saves.{save_of};
-ghost use Rattle.quetzal.specs.Writing.{heap_chunks, saved};
+ghost use Rattle.quetzal.specs.ReadingSaves.{copy_in_save};
+ghost use Rattle.quetzal.specs.Writing.{heap_chunks, save_bytes};
 ghost use Rattle.quetzal.specs.Laws.{chunk_len, form_len};
 
 use crate::blocks::{BLOCK_LEN, HEAP_HEADER_LEN};
@@ -64,8 +64,8 @@ fn fill_up(out: &mut Bytes, len: usize) -> Result<(), AllocError>
 /// The save of a copy. It is read back as the same copy. The list of its bytes is asked for once.
 pub fn write_save(alloc: Global, copy: &FlatCopy, story: &Story) -> Result<Bytes, AllocError>
     requires { IsCopyFor story.now copy.now }
-    ensures value { IfOk result (λ save. save ≡ saved story.now copy.now) }
-    ensures read_back { IfOk result (λ save. save_of ceiling save story.now ≡ Ok copy.now) }
+    ensures value { IfOk result (λ save. save ≡ save_bytes story.now copy.now) }
+    ensures read_back { IfOk result (λ save. copy_in_save ceiling save story.now ≡ Ok copy.now) }
 {
     let stored = story.bytes();
     let memory = memory_body(alloc, copy.memory.as_slice(), story)?;

@@ -2,7 +2,7 @@ use Rattle.std.proofs.Common.{◌≡◌, ◌∙◌, ℕ, List, take, drop, ap, r
 use Rattle.glk_streams.specs.Stream as one
 use Rattle.glk_streams.specs.Streams as streams
 use Rattle.glk_world.proofs.Alone.{on_err}
-use Rattle.glk_text_calls.specs.Saves.{as_bytes}
+use Rattle.glk_text_calls.specs.PuttingSaves.{as_bytes}
 use Rattle.glk_text_calls.proofs.Rests.{latin_taken, latin_grows, found_taken, found_grows}
 use Rattle.glk_text_calls.proofs.saves.bytes_left.Goals as goal
 

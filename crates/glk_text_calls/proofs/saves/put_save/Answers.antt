@@ -1,6 +1,6 @@
 use Rattle.std.proofs.Common.{◌≡◌, true, rules}
 use Rattle.std.proofs.lemmas.Result.{err_from_is_err_and}
-use Rattle.glk_text_calls.specs.Saves.{takes_save}
+use Rattle.glk_text_calls.specs.PuttingSaves.{takes_save}
 use Rattle.glk_text_calls.proofs.Saving.{save_taken, save_refused}
 use Rattle.glk_text_calls.proofs.saves.put_save.Goals as goal
 

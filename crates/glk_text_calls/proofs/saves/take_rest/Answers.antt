@@ -1,6 +1,6 @@
 use Rattle.std.proofs.Common.{rules}
 use Rattle.std.proofs.lemmas.Result.{err_from_is_err_and}
-use Rattle.glk_text_calls.specs.Saves.{take_rest}
+use Rattle.glk_text_calls.specs.PuttingSaves.{take_rest}
 use Rattle.glk_text_calls.proofs.Reading.{width_read}
 use Rattle.glk_text_calls.proofs.Gets.{rest_lost}
 use Rattle.glk_text_calls.proofs.saves.take_rest.Goals as goal

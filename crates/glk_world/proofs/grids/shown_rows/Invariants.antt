@@ -1,5 +1,5 @@
 use Rattle.std.proofs.Common.{◌≡◌, map, take}
-use Rattle.glk_screen.specs.Rows.{trimmed}
+use Rattle.glk_screen.specs.ScreenRows.{trimmed}
 use Rattle.glk_world.proofs.grids.shown_rows.Given as goal
 
 abbrev pub invariant-loop-y : goal.invariant-loop-y

@@ -3,7 +3,7 @@ use Rattle.gx_state.specs.Copies.{Copy}
 use Rattle.gx_state.specs.declared.effects.Effect.TheVariants.{Restore}
 use Rattle.gx_state.specs.declared.effects.Reply.{Reply}
 use Rattle.gx_machine.specs.Answer.{answer_of}
-use Rattle.gx_machine.specs.Saves.{restored}
+use Rattle.gx_machine.specs.SavedCopies.{restored}
 use Rattle.glk_replies.specs.Parts.{replies}
 use Rattle.gx_session.specs.Constants.{failed}
 use Rattle.gx_session.specs.Wants.{ReplyWants}

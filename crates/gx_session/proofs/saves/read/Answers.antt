@@ -4,7 +4,7 @@ use Rattle.std.proofs.lemmas.Result.{err_from_is_err_and}
 use Rattle.gx_words.specs.Constants.{ceiling, glk_system}
 use Rattle.gx_story.specs.Stories.{FlatStory}
 use Rattle.gx_state.specs.Flat.{FlatState}
-use Rattle.quetzal.specs.Saves.{save_of}
+use Rattle.quetzal.specs.ReadingSaves.{copy_in_save}
 use Rattle.gx_session.proofs.Saving.{restoring-fails, read-refused, read-is, read-found, unread}
 use Rattle.gx_session.proofs.saves.read.Goals as goal
 
@@ -41,9 +41,9 @@ returns-in-Ok-clause-value g c =
     let f = (g.E.Engine.whole c.args.engine.now).machine.flat in
     let system : c.iosys.result.0 ≡ f.iosys.0 =
     ap (λ (x : ℕ × ℕ). x.0) c.iosys.ensures ∙ ap (λ (x : FlatState). x.iosys.0) c.state.ensures in
-    let same : save_of ceiling c.in-Some.bytes f.story ≡ save_of ceiling c.as_slice.result.now c.story.result.now =
-    ap (λ (x : List ℕ). save_of ceiling x f.story) (sym c.as_slice.ensures)
-    ∙ ap (λ (s : FlatStory). save_of ceiling c.as_slice.result.now s) (sym c.story.ensures) in
+    let same : copy_in_save ceiling c.in-Some.bytes f.story ≡ copy_in_save ceiling c.as_slice.result.now c.story.result.now =
+    ap (λ (x : List ℕ). copy_in_save ceiling x f.story) (sym c.as_slice.ensures)
+    ∙ ap (λ (s : FlatStory). copy_in_save ceiling c.as_slice.result.now s) (sym c.story.ensures) in
     read-found c.args.world.now c.take_rest.new.world f c.state-2.result.now.flat c.state-2.ensures c.args.stream
     (eq-eqb f.iosys.0 glk_system (sym system ∙ c.if-iosys-ne-GLK_SYSTEM.false))
     c.in-Some.bytes (rw c.in-Some.is at c.in_ok-bytes.ensures) c.in-Ok.copy (same ∙ c.in-Ok.ensures.value)
@@ -53,9 +53,9 @@ returns-clause-value g c =
     let f = (g.E.Engine.whole c.args.engine.now).machine.flat in
     let system : c.iosys.result.0 ≡ f.iosys.0 =
     ap (λ (x : ℕ × ℕ). x.0) c.iosys.ensures ∙ ap (λ (x : FlatState). x.iosys.0) c.state.ensures in
-    let same : save_of ceiling c.in-Some.bytes f.story ≡ save_of ceiling c.as_slice.result.now c.story.result.now =
-    ap (λ (x : List ℕ). save_of ceiling x f.story) (sym c.as_slice.ensures)
-    ∙ ap (λ (s : FlatStory). save_of ceiling c.as_slice.result.now s) (sym c.story.ensures) in
+    let same : copy_in_save ceiling c.in-Some.bytes f.story ≡ copy_in_save ceiling c.as_slice.result.now c.story.result.now =
+    ap (λ (x : List ℕ). copy_in_save ceiling x f.story) (sym c.as_slice.ensures)
+    ∙ ap (λ (s : FlatStory). copy_in_save ceiling c.as_slice.result.now s) (sym c.story.ensures) in
     unread c.args.world.now c.take_rest.new.world f c.state-2.result.now.flat c.state-2.ensures c.args.stream
     (eq-eqb f.iosys.0 glk_system (sym system ∙ c.if-iosys-ne-GLK_SYSTEM.false))
     c.in-Some.bytes (rw c.in-Some.is at c.in_ok-bytes.ensures) c.in-Err.fault c.refused.result

@@ -1,5 +1,5 @@
 use Rattle.std.proofs.lemmas.Result.{err_from_is_err_and}
-use Rattle.gx_machine.specs.Saves.{restored}
+use Rattle.gx_machine.specs.SavedCopies.{restored}
 use Rattle.gx_session.proofs.Answering.{give-early, flush-early, flush-on}
 use Rattle.gx_session.proofs.saves.resume.Goals as goal
 

@@ -4,8 +4,8 @@ use Rattle.gx_state.specs.Flat.{FlatState}
 use Rattle.gx_state.specs.declared.effects.Reply.{Reply}
 use Rattle.gx_state.specs.Copies.{Copy}
 use Rattle.gx_story.specs.Stories.{FlatStory}
-use Rattle.gx_machine.specs.Saves.{saved_copy}
-use Rattle.quetzal.specs.Writing.{saved}
+use Rattle.gx_machine.specs.SavedCopies.{saved_copy}
+use Rattle.quetzal.specs.Writing.{save_bytes}
 use Rattle.gx_session.specs.Saving.{is_save_begun}
 use Rattle.gx_session.proofs.Saving.{saving-fails, save-by}
 use Rattle.gx_session.proofs.saves.save.Goals as goal
@@ -26,10 +26,10 @@ returns-in_err-reply-clause-value g c =
     let begun : is_save_begun c.args.world.now.scene f c.args.stream ≡ true =
     ap (λ (x : FlatState). is_save_begun c.args.world.now.scene x c.args.stream) (sym c.state.ensures)
     ∙ sym c.is_begun.ensures ∙ c.if-not-is_begun.false in
-    let is : c.as_slice.result.now ≡ saved f.story (saved_copy f) =
+    let is : c.as_slice.result.now ≡ save_bytes f.story (saved_copy f) =
     c.as_slice.ensures ∙ c.in_ok-bytes.ensures.value
-    ∙ ap (λ (s : FlatStory). saved s c.in_ok-copy.copy) c.story.ensures
-    ∙ ap (λ (x : Copy). saved f.story x) c.in_ok-copy.ensures.value in
+    ∙ ap (λ (s : FlatStory). save_bytes s c.in_ok-copy.copy) c.story.ensures
+    ∙ ap (λ (x : Copy). save_bytes f.story x) c.in_ok-copy.ensures.value in
     rw (p.1, p.2)
     (save-by c.args.world.now c.put_save.new.world f c.state-2.result.now.flat c.state-2.ensures c.args.stream
     c.as_slice.result.now (Err c.in_err-reply.field-0.0) begun is c.in_err-reply.ensures.value)
@@ -40,10 +40,10 @@ returns-in-Some-clause-value g c =
     let begun : is_save_begun c.args.world.now.scene f c.args.stream ≡ true =
     ap (λ (x : FlatState). is_save_begun c.args.world.now.scene x c.args.stream) (sym c.state.ensures)
     ∙ sym c.is_begun.ensures ∙ c.if-not-is_begun.false in
-    let is : c.as_slice.result.now ≡ saved f.story (saved_copy f) =
+    let is : c.as_slice.result.now ≡ save_bytes f.story (saved_copy f) =
     c.as_slice.ensures ∙ c.in_ok-bytes.ensures.value
-    ∙ ap (λ (s : FlatStory). saved s c.in_ok-copy.copy) c.story.ensures
-    ∙ ap (λ (x : Copy). saved f.story x) c.in_ok-copy.ensures.value in
+    ∙ ap (λ (s : FlatStory). save_bytes s c.in_ok-copy.copy) c.story.ensures
+    ∙ ap (λ (x : Copy). save_bytes f.story x) c.in_ok-copy.ensures.value in
     save-by c.args.world.now c.put_save.new.world f c.state-2.result.now.flat c.state-2.ensures c.args.stream
     c.as_slice.result.now (Ok (Some c.in-Some.reply)) begun is (rw c.in-Some.is at c.in_ok-reply.ensures.value)
 
@@ -53,10 +53,10 @@ returns-clause-value g c =
     let begun : is_save_begun c.args.world.now.scene f c.args.stream ≡ true =
     ap (λ (x : FlatState). is_save_begun c.args.world.now.scene x c.args.stream) (sym c.state.ensures)
     ∙ sym c.is_begun.ensures ∙ c.if-not-is_begun.false in
-    let is : c.as_slice.result.now ≡ saved f.story (saved_copy f) =
+    let is : c.as_slice.result.now ≡ save_bytes f.story (saved_copy f) =
     c.as_slice.ensures ∙ c.in_ok-bytes.ensures.value
-    ∙ ap (λ (s : FlatStory). saved s c.in_ok-copy.copy) c.story.ensures
-    ∙ ap (λ (x : Copy). saved f.story x) c.in_ok-copy.ensures.value in
+    ∙ ap (λ (s : FlatStory). save_bytes s c.in_ok-copy.copy) c.story.ensures
+    ∙ ap (λ (x : Copy). save_bytes f.story x) c.in_ok-copy.ensures.value in
     save-by c.args.world.now c.put_save.new.world f c.state-2.result.now.flat c.state-2.ensures c.args.stream
     c.as_slice.result.now (Ok None) begun is (rw c.in-None.is at c.in_ok-reply.ensures.value)
     ∙ ap (λ (r : Reply). Ok (c.put_save.new.world, r)) (sym c.failed-in-None.ensures)

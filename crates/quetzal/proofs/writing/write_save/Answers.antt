@@ -4,8 +4,8 @@ use Rattle.std.proofs.lemmas.List.{length-take}
 use Rattle.gx_words.specs.Constants.{ceiling}
 use Rattle.gx_state.specs.Copies.{Copy}
 use Rattle.quetzal.specs.Memory.{memory_bytes}
-use Rattle.quetzal.specs.Saves.{save_of}
-use Rattle.quetzal.specs.Writing.{saved}
+use Rattle.quetzal.specs.ReadingSaves.{copy_in_save}
+use Rattle.quetzal.specs.Writing.{save_bytes}
 use Rattle.quetzal.proofs.ReadingBack.{Small, small, reads_back}
 use Rattle.quetzal.proofs.SaveWriting.{form_written, len_fits}
 use Rattle.quetzal.proofs.writing.write_save.Goals as goal
@@ -64,7 +64,7 @@ returns-clause-value c =
     let s = subst (Small c.args.story.now) (sym c.copy.view_is)
     (small c.args.story.now c.args.copy.now c.bytes-stored.ensures.sound c.requires) in
     let memory = c.in_ok-memory.ensures ∙ ap (memory_bytes c.args.story.now) c.as_slice.ensures in
-    subst (λ (x : Copy). c.push_heap.new.out ≡ saved c.args.story.now x) c.copy.view_is
+    subst (λ (x : Copy). c.push_heap.new.out ≡ save_bytes c.args.story.now x) c.copy.view_is
     (form_written c.args.story.now _ c.extend_from_slice-3.new.self c.push_heap.new.out s
     (rw (
       c.in_ok-extend_from_slice-3.ensures.ok,
@@ -91,5 +91,5 @@ returns-clause-value c =
     ) refl))
 
 pub returns-clause-read_back : goal.returns-clause-read_back
-returns-clause-read_back c = ap (λ save. save_of ceiling save c.args.story.now) (returns-clause-value c)
+returns-clause-read_back c = ap (λ save. copy_in_save ceiling save c.args.story.now) (returns-clause-value c)
     ∙ reads_back c.args.story.now c.args.copy.now c.bytes-stored.ensures.sound c.requires

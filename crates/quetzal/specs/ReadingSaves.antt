@@ -12,8 +12,8 @@ use Rattle.quetzal.specs.Blocks.{heap_of}
 use Rattle.quetzal.specs.declared.faults.SaveFault.{SaveFault}
 use Rattle.quetzal.specs.declared.faults.SaveFault.TheVariants as fault
 
-unfoldable pub save_of : ℕ → List ℕ → FlatStory → Result Copy SaveFault
-save_of ceiling save story = do
+unfoldable pub copy_in_save : ℕ → List ℕ → FlatStory → Result Copy SaveFault
+copy_in_save ceiling save story = do
   parts ← parts_in save story
   _ ← allowed (is_memory_size ceiling story (size_in parts.memory)) fault.Size
   memory ← memory_of story parts.memory

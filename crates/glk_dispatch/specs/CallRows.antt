@@ -24,14 +24,14 @@ pub data Doing : Type 0 where
   answers : (Scene → FlatState → ℕ → List ℕ → Outcome Reply) → Doing
   turns : (Scene → FlatState → ℕ → List ℕ → Outcome Turn) → Doing
 
-pub record Row : Type 0 where
+pub record CallRow : Type 0 where
   pub looks : Selector  -- its number, and what it needs of its arguments
   pub does : Doing
   pub wants : Scene → FlatState → List ℕ → Bool  -- where it may want memory
 
 -- ---- what it needs
 
-abbrev pub row_with : ℕ → ℕ → Doing → Row
+abbrev pub row_with : ℕ → ℕ → Doing → CallRow
 row_with number arguments does =
     let looks : Selector = record {
       number = number;
@@ -45,18 +45,18 @@ row_with number arguments does =
     } in
     record { looks = looks; does = does; wants = λ w f args. false }
 
-abbrev pub on : Class → Row → Row
+abbrev pub on : Class → CallRow → CallRow
 on class r = record r { looks = record r.looks { first = class; needs_first = true } }
 
-abbrev pub maybe_on : Class → Row → Row
+abbrev pub maybe_on : Class → CallRow → CallRow
 maybe_on class r = record r { looks = record r.looks { first = class } }
 
 -- the argument at a place, counted from 0
-abbrev pub naming : Class → ℕ → Row → Row
+abbrev pub naming : Class → ℕ → CallRow → CallRow
 naming class place r = record r { looks = record r.looks { other = class; other_place = place } }
 
 -- so many references of so many words each, from the second argument on
-abbrev pub giving : ℕ → ℕ → Row → Row
+abbrev pub giving : ℕ → ℕ → CallRow → CallRow
 giving references words r = record r { looks = record r.looks { references = references; words = words } }
 
 -- ---- what it does
@@ -79,7 +79,7 @@ idles w args = tells w 0
 
 -- ---- where it may want memory
 
-abbrev pub wants : (Scene → FlatState → List ℕ → Bool) → Row → Row
+abbrev pub wants : (Scene → FlatState → List ℕ → Bool) → CallRow → CallRow
 wants grows r = record r { wants = grows }
 
 -- for a reference that is given something: the argument at a place isn't 0
@@ -89,13 +89,13 @@ is_given place w f args = not (arg args place == 0)
 -- ---- the same in two widths of characters
 
 -- stream_open_file and its Unicode form, by the selector
-abbrev pub opens_file : ℕ → Row
+abbrev pub opens_file : ℕ → CallRow
 opens_file selector =
     wants (λ w f args. opening_grows w args)
     (on Reference (row_with selector 3 (taking_turn (stream_open_file selector))))
 
 -- stream_open_memory and its Unicode form
-abbrev pub opens_memory : ℕ → Bool → Row
+abbrev pub opens_memory : ℕ → Bool → CallRow
 opens_memory selector wide =
     wants (λ w f args. one.allows_mode (memory_kind args wide) (arg args 2) && is_identifier w.next_id)
     (row_with selector 4 (plain (λ w args. stream_open_memory w args wide)))

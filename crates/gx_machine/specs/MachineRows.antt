@@ -12,12 +12,12 @@ use Rattle.gx_state.specs.Flat.{FlatState}
 use Rattle.gx_state.specs.Stores.{store_fault}
 use Rattle.gx_operands.specs.Instructions.{Instruction, L1, L2}
 use Rattle.gx_operands.specs.Arguments.{arguments}
-use Rattle.ops_flow.specs.Rows as flow
+use Rattle.ops_flow.specs.FlowRows as flow
 use Rattle.ops_flow.specs.Writes as flow_writes
-use Rattle.ops_memory.specs.Rows as memory
+use Rattle.ops_memory.specs.MemoryRows as memory
 use Rattle.ops_memory.specs.Writes as memory_writes
-use Rattle.ops_print.specs.Rows as print
-use Rattle.ops_game.specs.Rows as game
+use Rattle.ops_print.specs.PrintRows as print
+use Rattle.ops_game.specs.GameRows as game
 use Rattle.ops_game.specs.Writes as game_writes
 use Rattle.gx_undo.specs.Undo.{FlatUndo}
 use Rattle.gx_machine.specs.Machine.{FlatMachine}
