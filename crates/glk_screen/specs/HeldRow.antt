@@ -8,7 +8,7 @@ abbrev pub flat_of : Inside → FlatWrapper
 flat_of w = record { limit = w.limit; gone = w.gone; row = w.chars.items }
 
 -- its columns are counted, and few
-pub record TextsInvariant (w : Inside) : Type 0 where
+pub record WrapperInvariant (w : Inside) : Type 0 where
   pub counted : w.columns ≡ w.gone + drawn_columns w.chars.items
   pub few : w.columns ≤ w.limit + 3
   pub limit : w.limit ≤ 255

@@ -36,11 +36,11 @@ impl Model for Wrapper {
 
     ghost coded = { wrapper_code };
 
-    ghost use Rattle.glk_screen.specs.HeldRow.{flat_of, TextsInvariant};
+    ghost use Rattle.glk_screen.specs.HeldRow.{flat_of, WrapperInvariant};
 
     ghost view = { flat_of };
 
-    ghost invariant = { TextsInvariant };
+    ghost invariant = { WrapperInvariant };
 }
 
 impl Wrapper {
