@@ -3,7 +3,7 @@
 ghost use Rattle.std.specs.Prelude.{◌≡◌, ◌*◌, replicate, IfOk};
 ghost use Rattle.gx_pages.specs.Chunks.{AreSixteen, flat};
 
-use crate::chunk::{Chunk, Page, Child, Writable, write_pair_in};
+use crate::chunk::{Child, Chunk, Page, Writable, write_pair_in};
 use crate::chunks::{owners, put, rest_of_page, take_from, write, write_in_one, write_over_edge};
 use std::alloc::{AllocError, Allocator, Global};
 use std::rc::Rc;

@@ -1,7 +1,7 @@
 //! A page of memory: 256 bytes.
 ghost use Rattle.std.specs.Prelude.{◌≡◌, true, ◌≤◌, length, replicate, IfOk};
 
-use crate::chunk::{Chunk, Page, Child, Writable, write_to};
+use crate::chunk::{Child, Chunk, Page, Writable, write_to};
 use gx_words::splice;
 use std::alloc::{AllocError, Allocator};
 use std::rc::Rc;

@@ -24,7 +24,7 @@ ghost use Rattle.gx_session.specs.Finishing.{RunGives, StoresAll};
 ghost use Rattle.gx_session.specs.Outcomes.{IsStop, IsNext, Leads, Keeps};
 
 use crate::ends::{Halt, Next, Stop};
-use crate::running::{Running, GlkWait, draw, faulted, flush};
+use crate::running::{GlkWait, Running, draw, faulted, flush};
 use crate::saves::{ask_restore, ask_save};
 use crate::turns::{ask_glk, ask_put};
 use glk_streams::Streams;

@@ -25,7 +25,7 @@ ghost use Rattle.gx_session.specs.Outcomes.{Leads, Keeps, without_line};
 use crate::ends::{Halt, Next, Stop};
 use crate::lines::NoLine;
 use crate::questions::Question;
-use crate::running::{Running, GlkWait, answer, answer_put, faulted, flush};
+use crate::running::{GlkWait, Running, answer, answer_put, faulted, flush};
 use arrayvec::ArrayVec;
 use glk_dispatch::{Given, Turn};
 use gx_machine::Engine;
