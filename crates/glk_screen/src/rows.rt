@@ -5,7 +5,7 @@ ghost use Rattle.glk_screen.specs.ScreenRows.{kept};
 use glk_windows::BLANK;
 
 /// How many cells of a row are left without its trailing blanks.
-#[tactic(auto, unfolding(crate::specs::Rows::kept))]
+#[tactic(auto, unfolding(crate::specs::ScreenRows::kept))]
 pub fn kept(row: &[u32]) -> usize
     ensures value { result ≡ kept row.now }
     ensures within { result ≤ length row.now }

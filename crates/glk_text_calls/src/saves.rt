@@ -67,7 +67,7 @@ fn put_bytes<A: Allocator + Clone>(
 /// Puts the bytes of a save to a stream that takes them, as characters; None where it doesn't take them.
 ///
 /// The world stands where none is answered, and after a fault but for want of memory.
-#[tactic(auto, unfolding(crate::specs::Saves::put_save))]
+#[tactic(auto, unfolding(crate::specs::PuttingSaves::put_save))]
 pub fn put_save<A: Allocator + Clone>(
     world: &mut World,
     state: &State<A>,

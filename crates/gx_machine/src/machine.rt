@@ -538,7 +538,7 @@ impl<A: Allocator + Clone> Machine<A> {
     }
 
     /// Goes back to a copy, for the restore which the last step asked: nothing is pending then.
-    #[tactic(auto, unfolding(crate::specs::Saves::restored))]
+    #[tactic(auto, unfolding(crate::specs::SavedCopies::restored))]
     pub fn restore_copy(&mut self, copy: &FlatCopy) -> Result<(), AllocError>
         requires asks { self.old.asking ≡ Some Asking.Restore }
         requires fit { IsCopyFor self.old.machine.flat.story copy.now }

@@ -35,7 +35,7 @@ use ops_calc::{calc, test};
 use std::alloc::Allocator;
 
 /// aloadbit: a bit of an array, by its signed number.
-#[tactic(auto, unfolding(ops_memory::specs::Rows::memory, ops_memory::specs::Rows::aloadbit))]
+#[tactic(auto, unfolding(ops_memory::specs::MemoryRows::memory, ops_memory::specs::MemoryRows::aloadbit))]
 fn fetch_bit<A: Allocator + Clone>(
     state: &mut State<A>,
     row: &Row,
@@ -127,7 +127,7 @@ fn do_three<A: Allocator + Clone>(
 
 /// Does a row of two loads.
 #[inline(always)]
-#[tactic(auto, unfolding(ops_flow::specs::Rows::jumps))]
+#[tactic(auto, unfolding(ops_flow::specs::FlowRows::jumps))]
 fn do_two<A: Allocator + Clone>(
     state: &mut State<A>,
     row: &Row,
@@ -178,7 +178,7 @@ fn do_one_and_store<A: Allocator + Clone>(
 
 /// Does a row of one load.
 #[inline(always)]
-#[tactic(auto, unfolding(ops_flow::specs::Rows::jumps, ops_flow::specs::Rows::flow))]
+#[tactic(auto, unfolding(ops_flow::specs::FlowRows::jumps, ops_flow::specs::FlowRows::flow))]
 fn do_one<A: Allocator + Clone>(
     state: &mut State<A>,
     row: &Row,
@@ -220,7 +220,7 @@ fn mode_pair<A: Allocator + Clone, const ROM: bool>(
 
 /// Does a row of three loads and a store.
 #[inline(always)]
-#[tactic(auto, unfolding(ops_flow::specs::Rows::flow, ops_flow::specs::Rows::callf))]
+#[tactic(auto, unfolding(ops_flow::specs::FlowRows::flow, ops_flow::specs::FlowRows::callf))]
 fn do_three_and_store<A: Allocator + Clone>(
     state: &mut State<A>,
     row: &Row,
@@ -245,7 +245,7 @@ fn do_three_and_store<A: Allocator + Clone>(
 
 /// Does a row of a store alone.
 #[inline(always)]
-#[tactic(auto, unfolding(ops_memory::specs::Rows::memory, ops_memory::specs::Space::getmemsize))]
+#[tactic(auto, unfolding(ops_memory::specs::MemoryRows::memory, ops_memory::specs::Space::getmemsize))]
 fn do_store<A: Allocator + Clone>(
     state: &mut State<A>,
     row: &Row,
@@ -548,7 +548,7 @@ fn one<A: Allocator + Clone, const ROM: bool>(
 
 /// Does the row of no operands that does nothing.
 #[inline(always)]
-#[tactic(auto, unfolding(ops_flow::specs::Rows::flow), using(crate::proofs::Reading::none_read))]
+#[tactic(auto, unfolding(ops_flow::specs::FlowRows::flow), using(crate::proofs::Reading::none_read))]
 fn none<A: Allocator + Clone>(state: &mut State<A>, row: &Row, modes: u32) -> Result<bool, Fault>
     requires live { 0 < sp_of state.old.flat }
     requires quick { IsQuick row.now.class }

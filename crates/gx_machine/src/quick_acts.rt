@@ -188,7 +188,7 @@ pub(crate) fn call<A: Allocator + Clone>(
 
 /// call: the arguments are popped. It stands apart, since it has a list of them.
 #[inline(never)]
-#[tactic(auto, unfolding(ops_flow::specs::Rows::flow, ops_flow::specs::Rows::call))]
+#[tactic(auto, unfolding(ops_flow::specs::FlowRows::flow, ops_flow::specs::FlowRows::call))]
 pub(crate) fn call_popped<A: Allocator + Clone>(
     state: &mut State<A>,
     row: &Row,

@@ -45,7 +45,7 @@ fn room_above(limit: u32, sp: u32, dest: &Dest) -> u32
 }
 
 /// glk: asks for a call.
-#[tactic(auto, unfolding(crate::specs::Rows::glk), using(crate::proofs::Answers::answers))]
+#[tactic(auto, unfolding(crate::specs::MachineRows::glk), using(crate::proofs::Answers::answers))]
 fn glk<A: Allocator + Clone>(
     state: &State<A>,
     plan: &Plan,

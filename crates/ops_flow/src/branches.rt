@@ -89,7 +89,7 @@ fn branch<A: Allocator + Clone>(
 }
 
 /// A row of Branch.
-#[tactic(auto, unfolding(crate::specs::Rows::jumps), using(crate::proofs::Acts::acts))]
+#[tactic(auto, unfolding(crate::specs::FlowRows::jumps), using(crate::proofs::Acts::acts))]
 pub fn jumps<A: Allocator + Clone>(state: &mut State<A>, plan: &Plan) -> Result<Effect, Fault>
     requires sp { IsHeight state.old.flat plan.now.sp }
     requires class { (instruction_of plan.now).row.class ≡ Class.Branch }

@@ -30,7 +30,7 @@ fn calls<A: Allocator + Clone>(
 }
 
 /// call: the arguments are popped.
-#[tactic(auto, unfolding(crate::specs::Rows::call))]
+#[tactic(auto, unfolding(crate::specs::FlowRows::call))]
 pub fn call<A: Allocator + Clone>(state: &mut State<A>, plan: &Plan) -> Result<Effect, Fault>
     requires { IsHeight state.old.flat plan.now.sp }
     ensures value { Goes result state.old.flat state.new.flat (call state.old.flat (instruction_of plan.now)) }
@@ -42,7 +42,7 @@ pub fn call<A: Allocator + Clone>(state: &mut State<A>, plan: &Plan) -> Result<E
 }
 
 /// callf, callfi, callfii and callfiii: the arguments are operands.
-#[tactic(auto, unfolding(crate::specs::Rows::callf))]
+#[tactic(auto, unfolding(crate::specs::FlowRows::callf))]
 pub fn callf<A: Allocator + Clone>(state: &mut State<A>, plan: &Plan) -> Result<Effect, Fault>
     requires { IsHeight state.old.flat plan.now.sp }
     ensures value { Goes result state.old.flat state.new.flat (callf state.old.flat (instruction_of plan.now)) }
@@ -53,7 +53,7 @@ pub fn callf<A: Allocator + Clone>(state: &mut State<A>, plan: &Plan) -> Result<
 }
 
 /// tailcall: the called function takes the place of the present one.
-#[tactic(auto, unfolding(crate::specs::Rows::tailcall))]
+#[tactic(auto, unfolding(crate::specs::FlowRows::tailcall))]
 pub fn tailcall<A: Allocator + Clone>(state: &mut State<A>, plan: &Plan) -> Result<Effect, Fault>
     requires { IsHeight state.old.flat plan.now.sp }
     ensures value { Goes result state.old.flat state.new.flat (tailcall state.old.flat (instruction_of plan.now)) }

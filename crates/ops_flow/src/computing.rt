@@ -15,7 +15,7 @@ use ops_calc::calc;
 use std::alloc::Allocator;
 
 /// A row of Calc: arithmetic, bits, sign extensions.
-#[tactic(auto, unfolding(crate::specs::Rows::computes), using(crate::proofs::Acts::acts))]
+#[tactic(auto, unfolding(crate::specs::FlowRows::computes), using(crate::proofs::Acts::acts))]
 pub fn computes<A: Allocator + Clone>(state: &mut State<A>, plan: &Plan) -> Result<Effect, Fault>
     requires sp { IsHeight state.old.flat plan.now.sp }
     requires class { (instruction_of plan.now).row.class ≡ Class.Calc }

@@ -120,7 +120,7 @@ pub fn catch<A: Allocator + Clone>(state: &mut State<A>, plan: &Plan) -> Result<
 }
 
 /// throw: the token is looked at on the stack that the pops leave.
-#[tactic(auto, unfolding(crate::specs::Rows::throw))]
+#[tactic(auto, unfolding(crate::specs::FlowRows::throw))]
 pub fn throw<A: Allocator + Clone>(state: &mut State<A>, plan: &Plan) -> Result<Effect, Fault>
     requires { IsHeight state.old.flat plan.now.sp }
     ensures value { Works (IsReturnWriting state.old.flat (L2 (instruction_of plan.now))) result state.old.flat

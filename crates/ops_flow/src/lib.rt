@@ -50,7 +50,7 @@ fn goes_to<A: Allocator + Clone>(state: &mut State<A>, sp: u32, pc: u32) -> Effe
 }
 
 /// A row of Flow.
-#[tactic(auto, unfolding(crate::specs::Rows::flow), using(crate::proofs::Relations::relations))]
+#[tactic(auto, unfolding(crate::specs::FlowRows::flow), using(crate::proofs::Relations::relations))]
 fn flow<A: Allocator + Clone>(state: &mut State<A>, plan: &Plan) -> Result<Effect, Fault>
     requires { IsHeight state.old.flat plan.now.sp }
     ensures value { Works (IsWriting Class.Flow state.old.flat (instruction_of plan.now)) result state.old.flat
@@ -73,7 +73,7 @@ fn flow<A: Allocator + Clone>(state: &mut State<A>, plan: &Plan) -> Result<Effec
 }
 
 /// A row of Stack.
-#[tactic(auto, unfolding(crate::specs::Rows::stack), using(crate::proofs::Relations::relations))]
+#[tactic(auto, unfolding(crate::specs::FlowRows::stack), using(crate::proofs::Relations::relations))]
 fn stack<A: Allocator + Clone>(state: &mut State<A>, plan: &Plan) -> Result<Effect, Fault>
     requires { IsHeight state.old.flat plan.now.sp }
     ensures value { Works (IsMemory plan.now.dest) result state.old.flat state.new.flat

@@ -15,7 +15,7 @@ use gx_words::{Fault, signed, word_at};
 use std::alloc::Allocator;
 
 /// stkcount: how many values the frame has.
-#[tactic(auto, unfolding(crate::specs::Rows::stkcount))]
+#[tactic(auto, unfolding(crate::specs::FlowRows::stkcount))]
 pub fn stkcount<A: Allocator + Clone>(state: &mut State<A>, plan: &Plan) -> Result<Effect, Fault>
     requires { IsHeight state.old.flat plan.now.sp }
     ensures value { Works (IsMemory plan.now.dest) result state.old.flat state.new.flat
@@ -27,7 +27,7 @@ pub fn stkcount<A: Allocator + Clone>(state: &mut State<A>, plan: &Plan) -> Resu
 }
 
 /// stkpeek: a value by its number from the top.
-#[tactic(auto, unfolding(crate::specs::Rows::stkpeek))]
+#[tactic(auto, unfolding(crate::specs::FlowRows::stkpeek))]
 pub fn stkpeek<A: Allocator + Clone>(state: &mut State<A>, plan: &Plan) -> Result<Effect, Fault>
     requires { IsHeight state.old.flat plan.now.sp }
     ensures value { Works (IsMemory plan.now.dest) result state.old.flat state.new.flat
@@ -43,7 +43,7 @@ pub fn stkpeek<A: Allocator + Clone>(state: &mut State<A>, plan: &Plan) -> Resul
 }
 
 /// stkswap: exchanges the top two values.
-#[tactic(auto, unfolding(crate::specs::Rows::stkswap, gx_state::proofs::Opened::swapping))]
+#[tactic(auto, unfolding(crate::specs::FlowRows::stkswap, gx_state::proofs::Opened::swapping))]
 pub fn stkswap<A: Allocator + Clone>(state: &mut State<A>, plan: &Plan) -> Result<Effect, Fault>
     requires { IsHeight state.old.flat plan.now.sp }
     ensures value { Goes result state.old.flat state.new.flat (stkswap state.old.flat (instruction_of plan.now)) }
@@ -62,7 +62,7 @@ pub fn stkswap<A: Allocator + Clone>(state: &mut State<A>, plan: &Plan) -> Resul
 }
 
 /// stkroll: moves the top values round.
-#[tactic(auto, unfolding(crate::specs::Rows::stkroll, gx_state::specs::Flat::rolled, gx_stack::specs::Values::rolled))]
+#[tactic(auto, unfolding(crate::specs::FlowRows::stkroll, gx_state::specs::Flat::rolled, gx_stack::specs::Values::rolled))]
 pub fn stkroll<A: Allocator + Clone>(state: &mut State<A>, plan: &Plan) -> Result<Effect, Fault>
     requires { IsHeight state.old.flat plan.now.sp }
     ensures value { Goes result state.old.flat state.new.flat (stkroll state.old.flat (instruction_of plan.now)) }
@@ -82,7 +82,7 @@ pub fn stkroll<A: Allocator + Clone>(state: &mut State<A>, plan: &Plan) -> Resul
 }
 
 /// stkcopy: pushes the top values again.
-#[tactic(auto, unfolding(crate::specs::Rows::stkcopy, gx_state::specs::Flat::copied, gx_stack::specs::Values::copied))]
+#[tactic(auto, unfolding(crate::specs::FlowRows::stkcopy, gx_state::specs::Flat::copied, gx_stack::specs::Values::copied))]
 pub fn stkcopy<A: Allocator + Clone>(state: &mut State<A>, plan: &Plan) -> Result<Effect, Fault>
     requires { IsHeight state.old.flat plan.now.sp }
     ensures value { Goes result state.old.flat state.new.flat (stkcopy state.old.flat (instruction_of plan.now)) }

@@ -80,7 +80,7 @@ fn draw_word<A: Allocator + Clone>(
 }
 
 /// random
-#[tactic(auto, unfolding(crate::specs::Rows::random))]
+#[tactic(auto, unfolding(crate::specs::GameRows::random))]
 pub fn random<A: Allocator + Clone>(
     state: &mut State<A>,
     plan: &Plan,
@@ -98,7 +98,7 @@ pub fn random<A: Allocator + Clone>(
 }
 
 /// setrandom
-#[tactic(auto, unfolding(crate::specs::Rows::setrandom))]
+#[tactic(auto, unfolding(crate::specs::GameRows::setrandom))]
 pub fn setrandom<A: Allocator + Clone>(state: &mut State<A>, plan: &Plan) -> Effect
     requires { IsHeight state.old.flat plan.now.sp }
     ensures value { setrandom state.old.flat (instruction_of plan.now) ≡ Ok (state.new.flat, result) }

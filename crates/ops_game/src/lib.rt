@@ -39,7 +39,7 @@ use std::alloc::Allocator;
 use undos::{discardundo, hasundo, restoreundo, saveundo};
 
 /// gestalt
-#[tactic(auto, unfolding(crate::specs::Rows::gestalt))]
+#[tactic(auto, unfolding(crate::specs::GameRows::gestalt))]
 fn gestalt<A: Allocator + Clone>(state: &mut State<A>, plan: &Plan) -> Result<Effect, Fault>
     requires { IsHeight state.old.flat plan.now.sp }
     ensures value { Works (IsMemory plan.now.dest) result state.old.flat state.new.flat
@@ -51,7 +51,7 @@ fn gestalt<A: Allocator + Clone>(state: &mut State<A>, plan: &Plan) -> Result<Ef
 }
 
 /// quit
-#[tactic(auto, unfolding(crate::specs::Rows::quit))]
+#[tactic(auto, unfolding(crate::specs::GameRows::quit))]
 fn quit<A: Allocator + Clone>(state: &mut State<A>, plan: &Plan) -> Effect
     requires { IsHeight state.old.flat plan.now.sp }
     ensures value { quit state.old.flat (instruction_of plan.now) ≡ Ok (state.new.flat, result) }
@@ -64,7 +64,7 @@ fn quit<A: Allocator + Clone>(state: &mut State<A>, plan: &Plan) -> Effect
 }
 
 /// verify
-#[tactic(auto, unfolding(crate::specs::Rows::verify))]
+#[tactic(auto, unfolding(crate::specs::GameRows::verify))]
 fn verify<A: Allocator + Clone>(state: &mut State<A>, plan: &Plan) -> Result<Effect, Fault>
     requires { IsHeight state.old.flat plan.now.sp }
     ensures value { Works (IsMemory plan.now.dest) result state.old.flat state.new.flat
@@ -76,7 +76,7 @@ fn verify<A: Allocator + Clone>(state: &mut State<A>, plan: &Plan) -> Result<Eff
 }
 
 /// restart
-#[tactic(auto, unfolding(crate::specs::Rows::restart))]
+#[tactic(auto, unfolding(crate::specs::GameRows::restart))]
 fn restart<A: Allocator + Clone>(state: &mut State<A>) -> Result<Effect, Fault>
     ensures value { Works (Unit {0}) result state.old.flat state.new.flat (restart state.old.flat) }
     ensures done { IfOk result IsDone }
@@ -86,7 +86,7 @@ fn restart<A: Allocator + Clone>(state: &mut State<A>) -> Result<Effect, Fault>
 }
 
 /// protect
-#[tactic(auto, unfolding(crate::specs::Rows::protect))]
+#[tactic(auto, unfolding(crate::specs::GameRows::protect))]
 fn protect<A: Allocator + Clone>(state: &mut State<A>, plan: &Plan) -> Effect
     requires { IsHeight state.old.flat plan.now.sp }
     ensures value { protect state.old.flat (instruction_of plan.now) ≡ Ok (state.new.flat, result) }
@@ -99,7 +99,7 @@ fn protect<A: Allocator + Clone>(state: &mut State<A>, plan: &Plan) -> Effect
 
 /// Does the row of a plan that `decode` made of this state. `word` is the random word from outside
 /// that the step may use.
-#[tactic(auto, unfolding(crate::specs::Rows::row_effect), using(crate::proofs::Asks::asks))]
+#[tactic(auto, unfolding(crate::specs::GameRows::row_effect), using(crate::proofs::Asks::asks))]
 pub fn act<A: Allocator + Clone>(
     state: &mut State<A>,
     plan: &Plan,

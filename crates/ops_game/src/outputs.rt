@@ -19,7 +19,7 @@ use gx_words::{FILTER_SYSTEM, Fault, GLK_SYSTEM, NULL_SYSTEM};
 use std::alloc::Allocator;
 
 /// getstringtbl
-#[tactic(auto, unfolding(crate::specs::Rows::getstringtbl))]
+#[tactic(auto, unfolding(crate::specs::GameRows::getstringtbl))]
 pub fn getstringtbl<A: Allocator + Clone>(
     state: &mut State<A>,
     plan: &Plan,
@@ -34,7 +34,7 @@ pub fn getstringtbl<A: Allocator + Clone>(
 }
 
 /// setstringtbl
-#[tactic(auto, unfolding(crate::specs::Rows::setstringtbl))]
+#[tactic(auto, unfolding(crate::specs::GameRows::setstringtbl))]
 pub fn setstringtbl<A: Allocator + Clone>(state: &mut State<A>, plan: &Plan) -> Effect
     requires { IsHeight state.old.flat plan.now.sp }
     ensures value { setstringtbl state.old.flat (instruction_of plan.now) ≡ Ok (state.new.flat, result) }
@@ -46,7 +46,7 @@ pub fn setstringtbl<A: Allocator + Clone>(state: &mut State<A>, plan: &Plan) -> 
 }
 
 /// setiosys
-#[tactic(auto, unfolding(crate::specs::Rows::setiosys))]
+#[tactic(auto, unfolding(crate::specs::GameRows::setiosys))]
 pub fn setiosys<A: Allocator + Clone>(state: &mut State<A>, plan: &Plan) -> Effect
     requires { IsHeight state.old.flat plan.now.sp }
     ensures value { setiosys state.old.flat (instruction_of plan.now) ≡ Ok (state.new.flat, result) }
@@ -64,7 +64,7 @@ pub fn setiosys<A: Allocator + Clone>(state: &mut State<A>, plan: &Plan) -> Effe
 }
 
 /// getiosys
-#[tactic(auto, unfolding(crate::specs::Rows::getiosys))]
+#[tactic(auto, unfolding(crate::specs::GameRows::getiosys))]
 pub fn getiosys<A: Allocator + Clone>(state: &mut State<A>, plan: &Plan) -> Result<Effect, Fault>
     requires { IsHeight state.old.flat plan.now.sp }
     ensures value { Works (IsMemory plan.now.dest ⊎ IsMemory plan.now.second) result state.old.flat state.new.flat

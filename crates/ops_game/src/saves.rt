@@ -15,7 +15,7 @@ use gx_words::Fault;
 use std::alloc::Allocator;
 
 /// save
-#[tactic(auto, unfolding(crate::specs::Rows::save))]
+#[tactic(auto, unfolding(crate::specs::GameRows::save))]
 pub fn save<A: Allocator + Clone>(state: &State<A>, plan: &Plan) -> Result<Effect, Fault>
     requires { IsHeight state.now.flat plan.now.sp }
     ensures value { Reads (λ effect. (state.now.flat, effect)) result (save state.now.flat (instruction_of plan.now)) }
@@ -31,7 +31,7 @@ pub fn save<A: Allocator + Clone>(state: &State<A>, plan: &Plan) -> Result<Effec
 }
 
 /// restore
-#[tactic(auto, unfolding(crate::specs::Rows::restore))]
+#[tactic(auto, unfolding(crate::specs::GameRows::restore))]
 pub fn restore<A: Allocator + Clone>(state: &State<A>, plan: &Plan) -> Result<Effect, Fault>
     requires { IsHeight state.now.flat plan.now.sp }
     ensures value { Reads (λ effect. (state.now.flat, effect)) result

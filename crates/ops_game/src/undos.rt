@@ -46,7 +46,7 @@ pub fn saveundo<A: Allocator + Clone>(
 }
 
 /// restoreundo
-#[tactic(auto, unfolding(crate::specs::Rows::restoreundo), using(crate::proofs::Copies::copies))]
+#[tactic(auto, unfolding(crate::specs::GameRows::restoreundo), using(crate::proofs::Copies::copies))]
 pub fn restoreundo<A: Allocator + Clone>(
     state: &mut State<A>,
     plan: &Plan,
@@ -75,7 +75,7 @@ pub fn restoreundo<A: Allocator + Clone>(
 }
 
 /// hasundo
-#[tactic(auto, unfolding(crate::specs::Rows::hasundo))]
+#[tactic(auto, unfolding(crate::specs::GameRows::hasundo))]
 pub fn hasundo<A: Allocator + Clone>(
     state: &mut State<A>,
     plan: &Plan,
@@ -91,7 +91,7 @@ pub fn hasundo<A: Allocator + Clone>(
 }
 
 /// discardundo
-#[tactic(auto, unfolding(crate::specs::Rows::discardundo))]
+#[tactic(auto, unfolding(crate::specs::GameRows::discardundo))]
 pub fn discardundo<A: Allocator + Clone>(
     state: &mut State<A>,
     plan: &Plan,

@@ -51,7 +51,7 @@ fn with_bit(byte: u32, k: u32, value: u32) -> u32
 }
 
 /// aloadbit
-#[tactic(auto, unfolding(crate::specs::Rows::aloadbit))]
+#[tactic(auto, unfolding(crate::specs::MemoryRows::aloadbit))]
 pub fn aloadbit<A: Allocator + Clone>(state: &mut State<A>, plan: &Plan) -> Result<Effect, Fault>
     requires { IsHeight state.old.flat plan.now.sp }
     ensures value { Works (IsMemory plan.now.dest) result state.old.flat state.new.flat
@@ -63,7 +63,7 @@ pub fn aloadbit<A: Allocator + Clone>(state: &mut State<A>, plan: &Plan) -> Resu
 }
 
 /// astorebit
-#[tactic(auto, unfolding(crate::specs::Rows::astorebit))]
+#[tactic(auto, unfolding(crate::specs::MemoryRows::astorebit))]
 pub fn astorebit<A: Allocator + Clone>(state: &mut State<A>, plan: &Plan) -> Result<Effect, Fault>
     requires { IsHeight state.old.flat plan.now.sp }
     ensures value { Works (Unit {0}) result state.old.flat state.new.flat

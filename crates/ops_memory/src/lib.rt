@@ -42,7 +42,7 @@ use sizes::{getmemsize, setmemsize};
 use std::alloc::Allocator;
 
 /// A row of Copy.
-#[tactic(auto, unfolding(crate::specs::Rows::copy))]
+#[tactic(auto, unfolding(crate::specs::MemoryRows::copy))]
 fn copy<A: Allocator + Clone>(state: &mut State<A>, plan: &Plan) -> Result<Effect, Fault>
     requires { IsHeight state.old.flat plan.now.sp }
     ensures value { Works (IsMemory plan.now.dest) result state.old.flat state.new.flat

@@ -53,7 +53,7 @@ fn begin_printing<A: Allocator + Clone>(
 }
 
 /// streamchar: the low eight bits.
-#[tactic(auto, unfolding(crate::specs::Rows::streamchar))]
+#[tactic(auto, unfolding(crate::specs::PrintRows::streamchar))]
 pub fn streamchar<A: Allocator + Clone>(state: &mut State<A>, plan: &Plan) -> Result<Effect, Fault>
     requires { IsHeight state.old.flat plan.now.sp }
     ensures value { Goes result state.old.flat state.new.flat (streamchar state.old.flat (instruction_of plan.now)) }
@@ -63,7 +63,7 @@ pub fn streamchar<A: Allocator + Clone>(state: &mut State<A>, plan: &Plan) -> Re
 }
 
 /// streamnum: its digits follow, an item each.
-#[tactic(auto, unfolding(crate::specs::Rows::streamnum))]
+#[tactic(auto, unfolding(crate::specs::PrintRows::streamnum))]
 pub fn streamnum<A: Allocator + Clone>(state: &mut State<A>, plan: &Plan) -> Effect
     requires { IsHeight state.old.flat plan.now.sp }
     ensures value { streamnum state.old.flat (instruction_of plan.now) ≡ Ok (state.new.flat, result) }
@@ -80,7 +80,7 @@ pub fn streamnum<A: Allocator + Clone>(state: &mut State<A>, plan: &Plan) -> Eff
 }
 
 /// streamstr: `BadAddress` or `BadString` by the string's type; its items follow.
-#[tactic(auto, unfolding(crate::specs::Rows::streamstr))]
+#[tactic(auto, unfolding(crate::specs::PrintRows::streamstr))]
 pub fn streamstr<A: Allocator + Clone>(state: &mut State<A>, plan: &Plan) -> Result<Effect, Fault>
     requires { IsHeight state.old.flat plan.now.sp }
     ensures value { Goes result state.old.flat state.new.flat (streamstr state.old.flat (instruction_of plan.now)) }
@@ -91,7 +91,7 @@ pub fn streamstr<A: Allocator + Clone>(state: &mut State<A>, plan: &Plan) -> Res
 }
 
 /// streamunichar: all 32 bits.
-#[tactic(auto, unfolding(crate::specs::Rows::streamunichar))]
+#[tactic(auto, unfolding(crate::specs::PrintRows::streamunichar))]
 pub fn streamunichar<A: Allocator + Clone>(
     state: &mut State<A>,
     plan: &Plan,
