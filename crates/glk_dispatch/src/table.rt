@@ -12,7 +12,7 @@ use gx_rows::{Keyed, find_row};
 
 /// What an argument names.
 #[derive(Clone, Copy)]
-pub enum ObjectClass {
+pub enum Class {
     /// No object.
     Plain,
     Window,
@@ -27,11 +27,11 @@ pub struct Selector {
     /// How many arguments it needs.
     pub arguments: u8,
     /// What the first argument names.
-    pub first: ObjectClass,
+    pub first: Class,
     /// Whether the call does nothing where the first argument is 0.
     pub needs_first: bool,
     /// What another argument names, and which that is, counted from 0.
-    pub other: ObjectClass,
+    pub other: Class,
     pub other_place: u8,
     /// How many arguments from the second on are references that are given 0 where nothing is done, and the words of
     /// each.
@@ -66,8 +66,8 @@ macro_rules! rows {
 }
 
 macro_rules! class {
-    () => { ObjectClass::Plain };
-    ($class:ident) => { ObjectClass::$class };
+    () => { Class::Plain };
+    ($class:ident) => { Class::$class };
 }
 
 macro_rules! needs_first {
