@@ -108,8 +108,8 @@
 --     ask), and a step that is Spent by itself (`after_effect`; no row has this effect, and that isn't proved apart);
 --   - a call that goes on where none waits (`go_by` of glk_dispatch/specs/Going; a `requires` of `go_on`);
 --   - an answer or a copy where the instruction at PC is none that asks (`answered_row` and `answered_in` of
---     gx_machine/specs/Answer, `saved_copy` of its Saves; `IsPendingAnswer` of its Views holds of every machine that
---     has asked);
+--     gx_machine/specs/Answer, `saved_copy` of its SavedCopies; `IsPendingAnswer` of its Views holds of every machine
+--     that has asked);
 --   - a fault on the way back to a copy (`restored_to` of gx_state/specs/Copies; gx_state/proofs/Backs).
 -- Status 11 (`status_no_memory`) is a free answer wherever memory may be wanted: before anything is done, whatever the
 -- words are, so that a body that does nothing and answers so meets the contract; once the file was asked for, only
