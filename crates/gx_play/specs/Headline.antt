@@ -76,9 +76,10 @@
 -- are three exceptions: a line that was awaited and is too long; one in which the source failed (then fewer than
 -- 65,536; `LeavesInput` of gx_session/specs/Reads); and one in which memory was wanted, of which nothing is said.
 --
--- The status blames a device exactly if a call of it failed in this run, which was then its last one (`counts`). If no
--- count of failures rose, the status is the outcome's, or memory ran out (`complete`). Every session comes to its stop
--- by a move, so that `final_in` of gx_session/specs/Session is never left without moves (`StopsByMove` there).
+-- The status blames a device exactly if a call of it failed in this run, which was then its last one (`counts`). If the
+-- source and the shelf tell what they hold and no count of failures rose, the status is the outcome's, or memory ran
+-- out (`complete`). Every session comes to its stop by a move, so that `final_in` of gx_session/specs/Session is never
+-- left without moves (`StopsByMove` there).
 --
 -- Each restoreundo of the session goes back to the newest saveundo that was neither used, nor discarded, nor dropped as
 -- the oldest (`LastsUndo` of gx_session/specs/Undoing), whatever was restored from files in between. The protected
