@@ -18,7 +18,7 @@ fn compare(alloc: Global, code: &[u8], wanted: Result<&str, ListFault>) -> Resul
     Ok(())
 }
 
-/// Instructions with no operand, with three, and with one of four bytes.
+/// Instructions with no operand, with three, and with one of four bytes; a code goes on after a quit.
 pub fn texts(alloc: Global) -> Result<()> {
     compare(alloc, &[], Ok(""))?;
     compare(
@@ -28,8 +28,8 @@ pub fn texts(alloc: Global) -> Result<()> {
     )?;
     compare(
         alloc,
-        &[0x70, 0x03, 0, 0, 0, 0x48, 0x81, 0x20],
-        Ok("streamchar #00000048\nquit\n"),
+        &[0x70, 0x03, 0, 0, 0, 0x48, 0x81, 0x20, 0x00],
+        Ok("streamchar #00000048\nquit\nnop\n"),
     )
 }
 
