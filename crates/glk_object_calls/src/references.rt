@@ -208,12 +208,9 @@ fn file_name(world: &World, id: u32) -> Result<Name, AllocError>
     requires { IsTrue (has_reference world.now.scene id) }
     ensures { IfOk result (λ name. name ≡ file_name world.now.scene id) }
 {
-    match world.file_ref(id) {
+    match world.reference(id) {
         None => Ok(Name::new(world.alloc())),
-        Some((base, usage, _)) => {
-            let base = Name::from_str(world.alloc(), base)?;
-            full_name(world.alloc(), &base, usage)
-        }
+        Some(reference) => full_name(world.alloc(), &reference.base, reference.usage),
     }
 }
 

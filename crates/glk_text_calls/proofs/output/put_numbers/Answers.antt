@@ -1,6 +1,7 @@
 use Rattle.std.proofs.Common.{◌≡◌, false, true, rules}
 use Rattle.std.proofs.lemmas.Result.{err_from_is_err_and}
 use Rattle.glk_streams.specs.Streams as streams
+use Rattle.glk_world.specs.Putting.{takes_chars}
 use Rattle.glk_replies.specs.Parts.{numbers_in}
 use Rattle.glk_replies.proofs.Counting.{count_numbers}
 use Rattle.glk_text_calls.proofs.Puts.{some_put, put_nowhere, put_refused, put_wanted, few_read, some_read}
@@ -25,30 +26,33 @@ pub returns-in_err-numbers-clause-value : goal.returns-in_err-numbers-clause-val
 returns-in_err-numbers-clause-value g c =
     let p = err_from_is_err_and c.from_residual-in_err-numbers.result c.from_residual-in_err-numbers.ensures.1 in
     let there : streams.has c.args.world.now.scene.streams c.args.stream ≡ true = search rules in
+    let takes : takes_chars c.args.world.now.scene c.args.stream ≡ true = search rules in
     rw (p.1, p.2) (put_wanted _ _ _ _ _ _ _
-    (some_put c.args.world.now.scene c.args.stream c.args.count there c.in_err-numbers.ensures.memory)
+    (some_put c.args.world.now.scene c.args.stream c.args.count there takes c.in_err-numbers.ensures.memory)
     c.places-places.ensures.value (count_numbers _ _ _ _) there c.in_ok-can_lay.ensures.value)
 
 pub returns-in_err-puts-clause-value : goal.returns-in_err-puts-clause-value
 returns-in_err-puts-clause-value g c =
     let p = err_from_is_err_and c.from_residual-in_err-puts.result c.from_residual-in_err-puts.ensures.1 in
     let there : streams.has c.args.world.now.scene.streams c.args.stream ≡ true = search rules in
+    let takes : takes_chars c.args.world.now.scene c.args.stream ≡ true = search rules in
     let read : c.as_slice-chars.result.now ≡ numbers_in c.args.width c.memory.result.now c.args.at c.args.count =
     search rules in
     rw (p.1, p.2) (put_wanted _ _ _ _ _ _ _
     (some_read c.args.state.now.flat c.args.width c.args.at c.args.count c.memory.result.now
-    c.as_slice-chars.result.now c.memory.ensures.value read c.args.world.now.scene c.args.stream there
+    c.as_slice-chars.result.now c.memory.ensures.value read c.args.world.now.scene c.args.stream there takes
     c.in_err-puts.ensures.memory)
     c.places-places.ensures.value (count_numbers _ _ _ _) there c.in_ok-can_lay.ensures.value)
 
 pub returns-clause-value : goal.returns-clause-value
 returns-clause-value g c =
     let there : streams.has c.args.world.now.scene.streams c.args.stream ≡ true = search rules in
+    let takes : takes_chars c.args.world.now.scene c.args.stream ≡ true = search rules in
     let read : c.as_slice-chars.result.now ≡ numbers_in c.args.width c.memory.result.now c.args.at c.args.count =
     search rules in
     numbers_end c.args.state.now.flat c.args.width c.args.at c.args.count c.memory.result.now
     c.as_slice-chars.result.now c.memory.ensures.value read c.args.world.now c.puts.new.self c.args.stream
-    c.places-places.result c.filled.result c.places-places.ensures.count c.places-places.ensures.value there
+    c.places-places.result c.filled.result c.places-places.ensures.count c.places-places.ensures.value there takes
     c.in_ok-can_lay.ensures.value c.in_ok-puts.ensures.ok c.filled.ensures
 
 pub returns-clause-fits : goal.returns-clause-fits
