@@ -225,7 +225,7 @@ fn wait_for_file(world: &mut World, selector: u32, args: &[u32]) -> Result<Name,
     Ok(name)
 }
 
-/// fileref_delete_file: asks that the file be removed. Its name is made, so that memory may always be wanted.
+/// fileref_delete_file: asks that the file be removed. The question owns the name, so that memory may always be wanted.
 #[tactic(auto, unfolding(crate::specs::References::fileref_delete_file))]
 pub fn fileref_delete_file(world: &mut World, args: &[u32]) -> Result<Turn, Fault>
     requires { IsTrue (has_reference world.old.scene (arg args.now 0)) }

@@ -1,6 +1,6 @@
 -- A stream that takes no characters: what is put to it grows nowhere, and has no place in memory.
-use Rattle.std.proofs.Common.{zero, suc, ◌≡◌, ◌==◌, ◌||◌, ◌&&◌, not, ℕ, Bool, true, false, if◌then◌else◌, List, length}
-use Rattle.std.proofs.Common.{refl, sym, ap, ◌∙◌, arith, ◌⊎◌, inl, inr, IsTrue}
+use Rattle.std.proofs.Common.{zero, suc, ◌≡◌, ◌+◌, ◌%◌, ◌^◌, ◌==◌, ◌||◌, not, ℕ, Bool, true, false, if◌then◌else◌, List, length}
+use Rattle.std.proofs.Common.{refl, sym, ap, ◌∙◌, arith, IsTrue}
 use Rattle.std.proofs.lemmas.Bool.Decides.{nat_tests}
 use Rattle.glk_objects.specs.Objects.{IsBelowAll}
 use Rattle.glk_objects.proofs.Places.{id_at}
@@ -15,8 +15,8 @@ use Rattle.glk_windows.specs.Constants.{text_buffer, text_grid}
 use Rattle.glk_windows.specs.declared.entries.Entry.{Entry}
 use Rattle.glk_windows.specs.Windows.{window_entry}
 use Rattle.glk_world.specs.World.{Scene}
-use Rattle.glk_world.specs.Putting.{window_of_stream, entry_of, counted, stream_put, echo_of, put_along, put_of}
-use Rattle.glk_world.specs.Putting.{stream_grows, grows_along, put_grows, places_of, no_places, takes_chars}
+use Rattle.glk_world.specs.Putting.{window_of_stream, entry_of, stream_put, echo_of, put_of}
+use Rattle.glk_world.specs.Putting.{stream_grows, grows_along, put_grows, places_of, takes_chars}
 use Rattle.glk_world.proofs.Ranks.{nothing_along, put_id, put_window, stream_put_streams, stream_put_entries}
 use Rattle.glk_world.proofs.Alone.{none_at_0, some_streams, put_alone, end_alone, window_places}
 

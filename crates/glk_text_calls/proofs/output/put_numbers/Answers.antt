@@ -1,11 +1,12 @@
-use Rattle.std.proofs.Common.{◌≡◌, false, true, rules}
+use Rattle.std.proofs.Common.{◌≡◌, false, true, refl, rules}
 use Rattle.std.proofs.lemmas.Result.{err_from_is_err_and}
 use Rattle.glk_streams.specs.Streams as streams
-use Rattle.glk_world.specs.Putting.{takes_chars}
-use Rattle.glk_replies.specs.Parts.{numbers_in}
+use Rattle.glk_world.specs.World.{after}
+use Rattle.glk_world.specs.Putting.{put_chars, takes_chars}
+use Rattle.glk_replies.specs.Parts.{replies, numbers_in}
 use Rattle.glk_replies.proofs.Counting.{count_numbers}
 use Rattle.glk_text_calls.proofs.Puts.{some_put, put_nowhere, put_refused, put_wanted, few_read, some_read}
-use Rattle.glk_text_calls.proofs.Puts.{numbers_end, put_ends_fit}
+use Rattle.glk_text_calls.proofs.Puts.{numbers_end, put_ends_fit, put_filled, nothing_filled}
 use Rattle.glk_text_calls.proofs.output.put_numbers.Goals as goal
 
 pub returns-then-not-has-clause-value : goal.returns-then-not-has-clause-value
@@ -21,6 +22,19 @@ returns-in_err-can_lay-clause-value g c =
     put_refused _ _ _ _ _ _ _ c.places-places.ensures.value (count_numbers _ _ _ _) there
     c.in_err-can_lay.ensures.value
     )
+
+pub returns-then-not-takes-clause-value : goal.returns-then-not-takes-clause-value
+returns-then-not-takes-clause-value g c =
+    let w = c.args.world.now in
+    let cs = numbers_in c.args.width c.args.state.now.flat.memory c.args.at c.args.count in
+    let there : streams.has w.scene.streams c.args.stream ≡ true = search rules in
+    let unseen : takes_chars w.scene c.args.stream ≡ false = search rules in
+    let made : c.put_unseen.new.world ≡ after w (put_chars w.scene c.args.stream cs) = search rules in
+    let none : c.places-places.result.count ≡ 0 =
+    rw c.places-places.ensures.value (c.takes.ensures.places (rw unseen refl) c.args.count) in
+    rw c.reply.ensures (put_filled w c.put_unseen.new.world c.args.state.now.flat c.args.stream c.args.count cs
+    c.places-places.result (replies 0) c.places-places.ensures.value (count_numbers _ _ _ _) there
+    c.in_ok-can_lay.ensures.value made (nothing_filled c.places-places.result cs none))
 
 pub returns-in_err-numbers-clause-value : goal.returns-in_err-numbers-clause-value
 returns-in_err-numbers-clause-value g c =

@@ -1,4 +1,4 @@
-use Rattle.std.proofs.Common.{◌≡◌, ◌+◌, not, true, false, length, subst, refl, IsTrue, OnErr, OnOk}
+use Rattle.std.proofs.Common.{◌≡◌, ◌+◌, not, length, subst, IsTrue, OnErr, OnOk, rules}
 use Rattle.glk_world.specs.World.{FlatWorld, after}
 use Rattle.glk_world.specs.Putting.{put_along, put_of, put_grows, takes_chars}
 use Rattle.glk_world.specs.Kept.{flat_of}
@@ -20,7 +20,9 @@ returns-clause-takes c =
     IsTrue (put_grows w.scene c.args.stream c.args.c) → IsTrue (takes_chars w.scene c.args.stream) in
     let takes = subst P c.self.view_is
     (takes_grown (flat_of c.self.inside).scene c.args.stream c.args.c c.self.invariant.links.first) in
-    err_by c.put_along.result (returns-clause-memory c) takes
+    let grows : OnErr c.put_along.result (IsTrue (put_grows c.args.self.now.scene c.args.stream c.args.c)) =
+    search rules in
+    err_by c.put_along.result grows takes
 
 pub returns-clause-stays : goal.returns-clause-stays
 returns-clause-stays c =
@@ -28,4 +30,7 @@ returns-clause-stays c =
     → IsTrue (not (takes_chars (put_of w.scene c.args.stream c.args.c).0 c.args.stream)) in
     let stays = subst P c.self.view_is
     (stays_unseen (flat_of c.self.inside).scene c.args.stream c.args.c c.self.invariant.links.first) in
-    on_ok_by c.put_along.result (returns-clause-ok c) (λ made none. rw made (stays none))
+    let ok : OnOk c.put_along.result
+    (c.put_along.new.self ≡ after c.args.self.now (put_of c.args.self.now.scene c.args.stream c.args.c)) =
+    search rules in
+    on_ok_by c.put_along.result ok (λ made none. rw made (stays none))
