@@ -46,9 +46,6 @@ abbrev pub takes_in : List Entry → List Stream → ℕ → Bool
 takes_in entries all s =
     takes_by entries (one.window_of (streams.stream all s)) (streams.stream all s).mode
 
-takes_same : (w : Scene) (s : ℕ) → takes_chars w s ≡ takes_in w.windows.entries w.streams s
-takes_same w s = refl
-
 takes_put : (w : Scene) (s c : ℕ) → streams.has w.streams s ≡ true
     → takes_chars (stream_put w s c).0 s ≡ takes_chars w s
 takes_put w s c there =
