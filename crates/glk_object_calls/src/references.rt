@@ -284,7 +284,8 @@ fn open_with(world: &mut World, selector: u32, args: &[u32], content: Bytes) -> 
     Ok(reply(world.alloc(), id))
 }
 
-/// stream_open_file, stream_open_file_uni: a file that isn't for writing alone is loaded first.
+/// stream_open_file, stream_open_file_uni: a file that isn't for writing alone is loaded first. Where no identifier is
+/// left nothing is asked, and no name is made.
 #[tactic(auto, unfolding(crate::specs::References::stream_open_file))]
 pub fn stream_open_file(world: &mut World, selector: u32, args: &[u32]) -> Result<Turn, Fault>
     requires { IsTrue (has_reference world.old.scene (arg args.now 0)) }
@@ -292,6 +293,9 @@ pub fn stream_open_file(world: &mut World, selector: u32, args: &[u32]) -> Resul
         (stream_open_file selector world.old.scene args.now) }
     ensures fits { (f : FlatState) (room : ℕ) → IfOk result (IsTurnFor f room) }
 {
+    if world.next_id() > LAST_IDENTIFIER {
+        return Ok(Turn::Answer(reply(world.alloc(), 0)));
+    }
     match arg(args, 1) {
         WRITE => {
             let empty = Bytes::new(world.alloc());
